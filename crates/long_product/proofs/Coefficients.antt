@@ -1,0 +1,70 @@
+-- Coefficients of products modulo m: their terms, and the words of the sums.
+use Rattle.std.proofs.Common.{◌≡◌, ℕ, suc, ◌+◌, ◌-◌, ◌*◌, ◌/◌, ◌%◌, ◌<◌, ◌≤◌, List, length, get_or, sym, ◌∙◌, ap, arith}
+use Rattle.std.proofs.Math.Nat.{mul-le-mul}
+use Rattle.std.proofs.lemmas.List.{get_or_past}
+use Rattle.num_modular.specs.Sums.{sum_below}
+use Rattle.num_modular.specs.NumberLaws.{sum_below-suc, sum_below-same, sum_below-mul, residue_of, mod_add, mod_mul, mod_refl}
+use Rattle.num_modular.specs.SumLaws.{tail}
+
+-- the high words are reduced first
+pub folded : (m low high top : ℕ) → top ≡ (high + low / 18446744073709551616) % m
+    → (top * 18446744073709551616 + low % 18446744073709551616) % m ≡ (low + high * 18446744073709551616) % m
+folded m low high top is =
+    let b : ℕ = 18446744073709551616 in
+    let whole : (high + low / b) * b + low % b ≡ low + high * b = omega arith in
+    ap (λ t. (t * b + low % b) % m) is
+    ∙ (mod_add (mod_mul (residue_of (high + low / b)) (mod_refl b)) (mod_refl (low % b))).same
+    ∙ ap (λ v. v % m) whole
+
+no_terms : (n : ℕ) → sum_below n (λ i. 0) ≡ 0
+no_terms n = sum_below-mul n 0 (λ i. 0) ∙ omega arith
+
+-- the terms of which the second factor has no coefficient
+pub no_front : (xs ys : List ℕ) (e n : ℕ) → (0 < n → n + length ys ≤ e + 1)
+    → sum_below n (λ i. get_or xs i 0 * get_or ys (e - i) 0) ≡ 0
+no_front xs ys e n few =
+    sum_below-same n (λ i. get_or xs i 0 * get_or ys (e - i) 0) (λ i. 0)
+    (λ i l. ap (λ v. get_or xs i 0 * v) (get_or_past ys (e - i) 0 (let f = few (omega arith) in omega arith))
+    ∙ omega arith)
+    ∙ no_terms n
+
+-- the terms of which the first has none
+pub no_back : (xs ys : List ℕ) (e n : ℕ) → n ≤ e + 1 → (n < e + 1 → length xs ≤ n)
+    → sum_below n (λ i. get_or xs i 0 * get_or ys (e - i) 0)
+    ≡ sum_below (e + 1) (λ i. get_or xs i 0 * get_or ys (e - i) 0)
+no_back xs ys e n few past =
+    let f = λ (i : ℕ). get_or xs i 0 * get_or ys (e - i) 0 in
+    let whole : n + (e + 1 - n) ≡ e + 1 = omega arith in
+    sym (ap (λ k. sum_below k f) (sym whole)
+    ∙ tail n (e + 1 - n) f (λ i l within.
+    ap (λ v. v * get_or ys (e - i) 0) (get_or_past xs i 0 (let p = past (omega arith) in omega arith)) ∙ omega arith))
+
+-- one term more
+pub more_terms : (low high i x y : ℕ) (f : ℕ → ℕ) → f i ≡ x * y
+    → low + high * 18446744073709551616 ≡ sum_below i f
+    → low + x * y % 18446744073709551616 + (high + x * y / 18446744073709551616) * 18446744073709551616
+    ≡ sum_below (i + 1) f
+more_terms low high i x y f is before =
+    let e : i + 1 ≡ suc i = omega arith in
+    let s = ap (λ n. sum_below n f) e ∙ sum_below-suc i f in
+    omega (arith, s, is, before)
+
+-- the high word of a product
+pub high_word : (x y : ℕ) → x < 18446744073709551616 → y < 18446744073709551616
+    → x * y / 18446744073709551616 ≤ 18446744073709551615
+high_word x y l k =
+    let a : x ≤ 18446744073709551615 = omega (arith, l) in
+    let b : y ≤ 18446744073709551615 = omega (arith, k) in
+    let m = mul-le-mul a b in
+    omega (arith, m)
+
+-- a residue and c times another
+pub folded_residues : (m c a b r s : ℕ) → r ≡ a % m → s ≡ b % m → (r + c * s) % m ≡ (a + c * b) % m
+folded_residues m c a b r s is_a is_b =
+    ap (λ v. (v + c * s) % m) is_a ∙ ap (λ v. (a % m + c * v) % m) is_b
+    ∙ (mod_add (residue_of a) (mod_mul (mod_refl c) (residue_of b))).same
+
+-- .. and c times a number whose factor is reduced
+pub reduced_factor : (m a t p both : ℕ) → both ≡ p % m → (a + t * both) % m ≡ (a + t * p) % m
+reduced_factor m a t p both is =
+    ap (λ v. (a + t * v) % m) is ∙ (mod_add (mod_refl a) (mod_mul (mod_refl t) (residue_of p))).same

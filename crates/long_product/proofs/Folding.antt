@@ -1,0 +1,120 @@
+-- Products of polynomials modulo X^n - c by the coefficients of the whole product.
+use Rattle.std.proofs.Common.{◌≡◌, ℕ, zero, suc, ◌+◌, ◌-◌, ◌*◌, ◌%◌, ◌<◌, ◌≤◌, List, length, get_or}
+use Rattle.std.proofs.Common.{cond, eqb, ◌||◌, sym, ◌∙◌, ap, arith, inl, inr}
+use Rattle.std.proofs.lemmas.Bool.{cases_lt}
+use Rattle.std.proofs.lemmas.Bool.Decides.{eqb_tells}
+use Rattle.std.proofs.lemmas.List.{get_or_past}
+use Rattle.num_modular.specs.Sums.{sum_below}
+use Rattle.num_modular.specs.NumberLaws.{sum_below-zero, sum_below-suc, sum_below-same, sum_below-mul}
+use Rattle.num_modular.specs.SumLaws.{single, tail}
+use Rattle.num_modular.specs.Transforms.{cyclic_product}
+use Rattle.num_modular.specs.PlanProducts.{coefficient, product_modulo}
+use Rattle.long_product.specs.Polynomials.{product_sum, folded_entry}
+
+no_terms : (n : ℕ) (f : ℕ → ℕ) → ((i : ℕ) → i < n → f i ≡ 0) → sum_below n f ≡ 0
+no_terms n f none = sum_below-same n f (λ i. 0) none ∙ sum_below-mul n 0 (λ i. 0) ∙ omega arith
+
+both_sums : (n : ℕ) (f g : ℕ → ℕ) → sum_below n (λ i. f i + g i) ≡ sum_below n f + sum_below n g
+both_sums zero f g =
+    let s = sum_below-zero (λ i. f i + g i) in
+    let a = sum_below-zero f in
+    let b = sum_below-zero g in
+    omega (arith, s, a, b)
+both_sums (suc n) f g =
+    let i = both_sums n f g in
+    let s = sum_below-suc n (λ i. f i + g i) in
+    let a = sum_below-suc n f in
+    let b = sum_below-suc n g in
+    omega (arith, i, s, a, b)
+
+-- a term at its place ..
+here : (s e v : ℕ) → s ≡ e → cond (eqb s e) v 0 ≡ v
+here s e v is = elim (eqb_tells s e) [ inl p ↦ rw p.0 (omega arith) | inr p ↦ absurd (p.1 is) ]
+
+-- .. and elsewhere
+elsewhere : (s e v : ℕ) → (s ≡ e → v ≡ 0) → cond (eqb s e) v 0 ≡ 0
+elsewhere s e v none = elim (eqb_tells s e) [
+  | inl p ↦ let z = none p.1 in rw p.0 z
+  | inr p ↦ rw p.0 (omega arith)
+]
+
+-- the terms of x i
+row : (n s i : ℕ) (x y : ℕ → ℕ) → ((j : ℕ) → n ≤ j → y j ≡ 0) → i ≤ s
+    → sum_below n (λ j. cond (eqb (i + j) s) (x i * y j) 0) ≡ x i * y (s - i)
+row n s i x y few within =
+    let at : i + (s - i) ≡ s = omega arith in
+    elim (cases_lt (s - i) n) [
+      | inl l ↦
+          single n (s - i) (λ j. cond (eqb (i + j) s) (x i * y j) 0) l
+          (λ j k other. elsewhere (i + j) s (x i * y j) (λ e. absurd (other (omega arith))))
+          ∙ here (i + (s - i)) s (x i * y (s - i)) at
+      | inr l ↦
+          no_terms n (λ j. cond (eqb (i + j) s) (x i * y j) 0)
+          (λ j k. elsewhere (i + j) s (x i * y j) (λ e. absurd (omega arith)))
+          ∙ sym (ap (λ v. x i * v) (few (s - i) l) ∙ omega arith)
+    ]
+
+-- a coefficient of the product is the sum of the terms at its place
+pub coefficient_sum : (n s : ℕ) (x y : ℕ → ℕ) → ((i : ℕ) → n ≤ i → x i ≡ 0) → ((j : ℕ) → n ≤ j → y j ≡ 0)
+    → coefficient n x y s ≡ sum_below (s + 1) (λ i. x i * y (s - i))
+coefficient_sum n s x y few_x few_y =
+    let f = λ (i : ℕ). sum_below n (λ j. cond (eqb (i + j) s) (x i * y j) 0) in
+    let g = λ (i : ℕ). x i * y (s - i) in
+    elim (cases_lt (s + 1) n) [
+      | inl l ↦
+          let whole : n ≡ s + 1 + (n - (s + 1)) = omega arith in
+          ap (λ k. sum_below k f) whole
+          ∙ tail (s + 1) (n - (s + 1)) f (λ i a b. no_terms n (λ j. cond (eqb (i + j) s) (x i * y j) 0)
+          (λ j k. elsewhere (i + j) s (x i * y j) (λ e. absurd (omega arith))))
+          ∙ sum_below-same (s + 1) f g (λ i k. row n s i x y few_y (omega arith))
+      | inr l ↦
+          let whole : s + 1 ≡ n + (s + 1 - n) = omega arith in
+          sum_below-same n f g (λ i k. row n s i x y few_y (omega arith))
+          ∙ sym (ap (λ k. sum_below k g) whole
+          ∙ tail n (s + 1 - n) g (λ i a b. ap (λ v. v * y (s - i)) (few_x i a) ∙ omega arith))
+    ]
+
+-- a place is e or e + n, but not both
+both_tests : (n s e v : ℕ) → 0 < n → cond (eqb s e || eqb s (e + n)) v 0 ≡ cond (eqb s e) v 0 + cond (eqb s (e + n)) v 0
+both_tests n s e v some = elim (eqb_tells s e) [
+  | inl p ↦ elim (eqb_tells s (e + n)) [
+    | inl q ↦ let a = p.1 in let b = q.1 in absurd (omega arith)
+    | inr q ↦ rw (p.0, q.0) (omega arith)
+  ]
+  | inr p ↦ elim (eqb_tells s (e + n)) [
+    | inl q ↦ rw (p.0, q.0) (omega arith)
+    | inr q ↦ rw (p.0, q.0) (omega arith)
+  ]
+]
+
+-- modulo X^n - 1 the product is the cyclic one
+cyclic : (m n e : ℕ) (x y : ℕ → ℕ) → 0 < n → product_modulo m n 1 x y e ≡ cyclic_product m n x y e
+cyclic m n e x y some =
+    let f = λ (i j : ℕ). cond (eqb (i + j) e) (x i * y j) 0 in
+    let h = λ (i j : ℕ). cond (eqb (i + j) (e + n)) (x i * y j) 0 in
+    let row = λ (t : ℕ → ℕ → ℕ) (i : ℕ). sum_below n (λ j. t i j) in
+    let o : 1 * coefficient n x y (e + n) ≡ coefficient n x y (e + n) = omega arith in
+    let sums = sum_below-same n (λ i. sum_below n (λ j. cond (eqb (i + j) e || eqb (i + j) (e + n)) (x i * y j) 0))
+    (λ i. row f i + row h i)
+    (λ i l. sum_below-same n (λ j. cond (eqb (i + j) e || eqb (i + j) (e + n)) (x i * y j) 0) (λ j. f i j + h i j)
+    (λ j k. both_tests n (i + j) e (x i * y j) some)
+    ∙ both_sums n (λ j. f i j) (λ j. h i j))
+    ∙ both_sums n (row f) (row h) in
+    ap (λ v. (coefficient n x y e + v) % m) o ∙ ap (λ v. v % m) (sym sums)
+
+-- an entry of the product modulo X^n - c ..
+pub folded_modulo : (m c n e : ℕ) (xs ys : List ℕ) → length xs ≡ n → length ys ≡ n
+    → folded_entry m c n xs ys e ≡ product_modulo m n c (λ i. get_or xs i 0) (λ j. get_or ys j 0) e
+folded_modulo m c n e xs ys left right =
+    let x = λ (i : ℕ). get_or xs i 0 in
+    let y = λ (j : ℕ). get_or ys j 0 in
+    let at = λ (s : ℕ). coefficient_sum n s x y (λ i l. get_or_past xs i 0 (omega arith))
+    (λ j l. get_or_past ys j 0 (omega arith)) in
+    sym (ap (λ v. (v + c * coefficient n x y (e + n)) % m) (at e)
+    ∙ ap (λ v. (product_sum xs ys e + c * v) % m) (at (e + n)))
+
+-- .. and of the cyclic product
+pub folded_cyclic : (m n e : ℕ) (xs ys : List ℕ) → 0 < n → length xs ≡ n → length ys ≡ n
+    → folded_entry m 1 n xs ys e ≡ cyclic_product m n (λ i. get_or xs i 0) (λ j. get_or ys j 0) e
+folded_cyclic m n e xs ys some left right =
+    folded_modulo m 1 n e xs ys left right ∙ cyclic m n e (λ i. get_or xs i 0) (λ j. get_or ys j 0) some

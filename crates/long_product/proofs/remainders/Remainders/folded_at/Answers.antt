@@ -1,0 +1,9 @@
+use Rattle.std.proofs.Common.{◌∙◌, arith}
+use Rattle.long_product.proofs.Coefficients.{folded_residues}
+use Rattle.long_product.proofs.remainders.Remainders.folded_at.Goals as goal
+
+pub returns : goal.returns
+returns c = λ x y h k.
+    c.nrem.ensures
+    ∙ folded_residues c.args.self.now.modulus c.args.c x y c.of-value.result c.of-past.result (c.of-value.ensures x h)
+    (c.of-past.ensures y (k (omega arith)))

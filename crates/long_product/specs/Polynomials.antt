@@ -1,0 +1,30 @@
+-- Products of polynomials modulo m, by their coefficients. The names are the library's own words.
+use Rattle.std.specs.Prelude.{◌≡◌, ℕ, ◌+◌, ◌-◌, ◌*◌, ◌%◌, ◌≤◌, List, slice_index}
+use Rattle.num_modular.specs.Sums.{sum_below}
+
+-- coefficient e of the product of two polynomials: the sum of x i * y j over i + j = e
+-- (Knuth, The Art of Computer Programming, volume 2, section 4.6)
+abbrev pub product_sum : List ℕ → List ℕ → ℕ → ℕ
+product_sum xs ys e = sum_below (e + 1) (λ i. slice_index xs i * slice_index ys (e - i))
+
+-- the same modulo m
+abbrev pub product_entry : ℕ → List ℕ → List ℕ → ℕ → ℕ
+product_entry m xs ys e = product_sum xs ys e % m
+
+-- coefficient e of the product modulo m and modulo X^n - c, where it has at most 2n coefficients
+abbrev pub folded_entry : ℕ → ℕ → ℕ → List ℕ → List ℕ → ℕ → ℕ
+folded_entry m c n xs ys e = (product_sum xs ys e + c * product_sum xs ys (e + n)) % m
+
+-- m is a modulus, and a list has one place for each coefficient of the product of polynomials with so many: one fewer
+-- than both have together, and none where one has none
+pub record FitsProduct (m xs ys places : ℕ) : Type 0 where
+  pub modulus : 1 ≤ m
+  pub some : 1 ≤ xs → 1 ≤ ys → places + 1 ≡ xs + ys
+  pub none_left : xs ≡ 0 → places ≡ 0
+  pub none_right : ys ≡ 0 → places ≡ 0
+
+-- m is a modulus, and both factors of a cyclic product and the product have equally many entries
+pub record FitsCyclic (m xs ys places : ℕ) : Type 0 where
+  pub modulus : 1 ≤ m
+  pub left : xs ≡ places
+  pub right : ys ≡ places

@@ -1,0 +1,177 @@
+//! Residue number systems of any number of moduli and of any range: numbers by their digits in the mixed radix of the
+//! moduli.
+
+mod words;
+
+use crate::{ModularCoreOps, ModularUnaryOps};
+use core::cmp::Ordering;
+
+/// A residue number system of any number of moduli above 0, any two of which are coprime, with the inverses by which its
+/// digits are computed, in a list of the caller: for each modulus that of the product of those before it.
+///
+/// Source: Garner, "The residue number system"; Knuth, The Art of Computer Programming, volume 2, section 4.3.2, (24) and
+/// (25).
+///
+/// # Examples
+///
+/// ```
+/// use num_modular::applications::residue_numbers::mixed_radix::System;
+///
+/// let mut inverses = [0; 3];
+/// let system = System::new(&[3, 5, 7], &mut inverses).unwrap();
+/// let mut digits = [0; 3];
+/// system.digits(&[2, 3, 2], &mut digits);
+/// assert_eq!(digits, [2, 2, 1]); // 23 = 2 + 2 * 3 + 1 * 3 * 5
+/// ```
+#[must_use]
+pub struct System<'a> {
+    moduli: &'a [u64],
+    inverses: &'a [u64],
+}
+
+// The product of the first moduli, modulo m.
+#[inline]
+fn product_modulo(m: u64, moduli: &[u64], count: usize) -> u64 {
+    let mut product = 1 % m;
+    for entry in moduli[..count].iter() {
+        product = product.mulm(*entry, &m);
+    }
+    product
+}
+
+// Writes the inverses. Returns whether the moduli are above 0 and coprime.
+fn fill_inverses(moduli: &[u64], inverses: &mut [u64]) -> bool {
+    for place in 0..moduli.len() {
+        let m = moduli[place];
+        if m == 0 {
+            return false;
+        }
+        match product_modulo(m, moduli, place).invm(&m) {
+            Some(inverse) => inverses[place] = inverse,
+            None => return false,
+        }
+    }
+    true
+}
+
+// The number that the first digits denote, modulo m, by Horner's rule.
+#[inline]
+fn number_modulo(m: u64, moduli: &[u64], digits: &[u64], count: usize) -> u64 {
+    let mut number = 0;
+    let mut place = count;
+    while place > 0 {
+        place -= 1;
+        number = number.mulm(moduli[place], &m).addm(digits[place], &m);
+    }
+    number
+}
+
+impl<'a> System<'a> {
+    /// The system of these moduli; it fills the list of inverses. `None` exactly where a modulus is 0, two have a common
+    /// divisor above 1, or the lists have different lengths; where the moduli are at fault, some entries may then be
+    /// written.
+    ///
+    /// # Examples
+    ///
+    /// ```
+    /// use num_modular::applications::residue_numbers::mixed_radix::System;
+    ///
+    /// assert!(System::new(&[3, 5, 7], &mut [0; 3]).is_some());
+    /// assert!(System::new(&[4, 6], &mut [0; 2]).is_none()); // 2 divides both
+    /// ```
+    #[inline]
+    pub fn new(moduli: &'a [u64], inverses: &'a mut [u64]) -> Option<Self> {
+        if inverses.len() != moduli.len() || !fill_inverses(moduli, inverses) {
+            return None;
+        }
+        Some(System { moduli, inverses })
+    }
+
+    /// Writes the digits, in the mixed radix of the moduli, of the only number below their product that has these
+    /// residues: the number is digit 0, plus digit 1 times modulus 0, plus digit 2 times moduli 0 and 1, and so on. It takes
+    /// about n²/2 products for n moduli.
+    ///
+    /// # Preconditions
+    ///
+    /// Each modulus has a residue below it (`are_reduced` of `num_modular::residues` tells) and room for a
+    /// digit. This isn't tested: outside it the call panics, or returns no meaningful result.
+    ///
+    /// # Examples
+    ///
+    /// ```
+    /// use num_modular::applications::residue_numbers::mixed_radix::System;
+    ///
+    /// let mut inverses = [0; 2];
+    /// let system = System::new(&[10, 7], &mut inverses).unwrap();
+    /// let mut digits = [0; 2];
+    /// system.digits(&[4, 5], &mut digits);
+    /// assert_eq!(digits, [4, 5]); // 54
+    /// ```
+    pub fn digits(&self, residues: &[u64], digits: &mut [u64]) {
+        let moduli = self.moduli;
+        for place in 0..moduli.len() {
+            let m = moduli[place];
+            let known = number_modulo(m, moduli, digits, place);
+            let difference = residues[place].subm(known, &m);
+            digits[place] = difference.mulm(self.inverses[place], &m);
+        }
+    }
+
+    /// How the numbers compare that two lists of digits denote.
+    ///
+    /// # Preconditions
+    ///
+    /// Each modulus has a left digit and a right one below it. This isn't tested: outside it the call
+    /// panics, or returns no meaningful result.
+    ///
+    /// # Examples
+    ///
+    /// ```
+    /// use num_modular::applications::residue_numbers::mixed_radix::System;
+    /// use std::cmp::Ordering;
+    ///
+    /// let mut inverses = [0; 3];
+    /// let system = System::new(&[3, 5, 7], &mut inverses).unwrap();
+    /// assert_eq!(system.compare(&[2, 2, 1], &[0, 3, 1]), Ordering::Less); // 23 and 24
+    /// ```
+    #[inline]
+    pub fn compare(&self, left: &[u64], right: &[u64]) -> Ordering {
+        let mut place = self.moduli.len();
+        while place > 0 {
+            place -= 1;
+            if left[place] < right[place] {
+                return Ordering::Less;
+            }
+            if left[place] > right[place] {
+                return Ordering::Greater;
+            }
+        }
+        Ordering::Equal
+    }
+
+    /// Writes the residues of the number that digits in the mixed radix denote.
+    ///
+    /// # Preconditions
+    ///
+    /// Each modulus has a digit and room for a residue. This isn't tested: outside it the call panics, or
+    /// returns no meaningful result.
+    ///
+    /// # Examples
+    ///
+    /// ```
+    /// use num_modular::applications::residue_numbers::mixed_radix::System;
+    ///
+    /// let mut inverses = [0; 3];
+    /// let system = System::new(&[3, 5, 7], &mut inverses).unwrap();
+    /// let mut residues = [0; 3];
+    /// system.residues(&[2, 2, 1], &mut residues);
+    /// assert_eq!(residues, [2, 3, 2]); // 23
+    /// ```
+    #[inline]
+    pub fn residues(&self, digits: &[u64], residues: &mut [u64]) {
+        let moduli = self.moduli;
+        for place in 0..moduli.len() {
+            residues[place] = number_modulo(moduli[place], moduli, digits, moduli.len());
+        }
+    }
+}
