@@ -1,6 +1,8 @@
 -- Products of polynomials modulo m, by their coefficients. The names are the library's own words.
 use Rattle.std.specs.Prelude.{◌≡◌, ℕ, ◌+◌, ◌-◌, ◌*◌, ◌%◌, ◌≤◌, List, slice_index}
 use Rattle.num_modular.specs.Sums.{sum_below}
+use Rattle.long_product.specs.Room.{HasRoomFrom}
+use Rattle.long_product.specs.declared.polynomials.TheConstants.{LEAST_TRANSFORMED}
 
 -- coefficient e of the product of two polynomials: the sum of x i * y j over i + j = e
 -- (Knuth, The Art of Computer Programming, volume 2, section 4.6)
@@ -28,3 +30,7 @@ pub record FitsCyclic (m xs ys places : ℕ) : Type 0 where
   pub modulus : 1 ≤ m
   pub left : xs ≡ places
   pub right : ys ≡ places
+
+-- there is room for the product of polynomials with so many coefficients
+abbrev pub HasProductRoom : ℕ → ℕ → ℕ → ℕ → Type 0
+HasProductRoom xs ys words table = HasRoomFrom LEAST_TRANSFORMED xs ys (xs + ys) words table
