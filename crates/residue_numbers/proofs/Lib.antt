@@ -1,2 +1,3 @@
+mod Combinations
 mod Encodings
 mod Runs

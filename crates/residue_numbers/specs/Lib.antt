@@ -1,1 +1,2 @@
+pub mod Combinations
 pub mod Systems

@@ -1,11 +1,11 @@
 //! Residue number systems of up to eight moduli, over `num_modular::residues`. `ResidueSystem` tests its moduli once,
 //! computes on encodings, and runs lists of commands on them. `from_remainders` returns the number with two given
-//! remainders.
+//! remainders, and `combine` the one for moduli that may have common divisors.
 #![tactic(auto)]
 
 mod commands;
 mod remainders;
 mod system;
 
-pub use remainders::from_remainders;
+pub use remainders::{combine, from_remainders};
 pub use system::ResidueSystem;
