@@ -1,3 +1,5 @@
 mod Combinations
 mod Encodings
+mod MixedRadix
 mod Runs
+mod Words

@@ -1,2 +1,3 @@
 pub mod Combinations
+pub mod MixedRadix
 pub mod Systems
