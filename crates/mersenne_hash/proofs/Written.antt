@@ -14,7 +14,18 @@ first_written number xs x v some is k none =
     ap (λ k. get_or (map number (slice_set xs 0 x)) k 0) first ∙ entry_written number (λ m f. f) 0 xs 0 x some ∙ is
     ∙ ap v (sym first)
 
--- and the one after those so far
+-- the one after the first i
+pub next_written : {T : Type 0} (number : T → ℕ) (xs : List T) (i : ℕ) (x : T) (v : ℕ → ℕ) → i < length xs
+    → ((k : ℕ) → k < i → get_or (map number xs) k 0 ≡ v k) → number x ≡ v i
+    → (k : ℕ) → k < i + 1 → get_or (map number (slice_set xs i x)) k 0 ≡ v k
+next_written number xs i x v below held is k l = elim (cases_eq k i) [
+  | inl e ↦
+      ap (λ k. get_or (map number (slice_set xs i x)) k 0) e ∙ entry_written number (λ m f. f) 0 xs i x below ∙ is
+      ∙ ap v (sym e)
+  | inr other ↦ entry_kept number (λ m f. f) 0 xs i k x other ∙ held k (omega (arith, l, other))
+]
+
+-- and the one after those up to i
 pub more_written : {T : Type 0} (number : T → ℕ) (xs : List T) (i : ℕ) (x : T) (v : ℕ → ℕ) → i + 1 < length xs
     → ((k : ℕ) → k ≤ i → get_or (map number xs) k 0 ≡ v k) → number x ≡ v (i + 1)
     → (k : ℕ) → k ≤ i + 1 → get_or (map number (slice_set xs (i + 1) x)) k 0 ≡ v k

@@ -1,6 +1,7 @@
 -- Hashes of texts at several bases (Dietzfelbinger, Gil, Matias and Pippenger, "Polynomial hash functions are
 -- reliable", 1992).
-use Rattle.std.specs.Prelude.{◌≡◌, ◌≢◌, ℕ, ◌+◌, ◌%◌, ◌<◌, ◌≤◌, List, ◌∷◌, length, slice_index, All}
+use Rattle.std.specs.Prelude.{◌≡◌, ◌≢◌, ℕ, ◌+◌, ◌-◌, ◌*◌, ◌%◌, ◌<◌, ◌≤◌, List, ◌∷◌, length, slice_index, slice_range}
+use Rattle.std.specs.Prelude.{All}
 use Rattle.num_modular.specs.Sums.{polynomial_highest_first}
 use Rattle.num_modular.specs.Mersenne.{mersenne}
 
@@ -25,3 +26,18 @@ abbrev pub FewCollisionsOfAnyLengths : Type 0
 FewCollisionsOfAnyLengths = (s t : List ℕ) (n : ℕ) (x : ℕ → ℕ) → length s ≤ n → length t ≤ n → AreApart (n + 1) x
     → All (λ c. c < mersenne 61 1) s → All (λ c. c < mersenne 61 1) t
     → ((i : ℕ) → i < n + 1 → hash_of (1 ∷ s) (x i) ≡ hash_of (1 ∷ t) (x i)) → s ≡ t
+
+-- at this position stands a part of the text that has the pattern's hash at the base, but isn't the pattern
+pub record IsFalseHit (text pattern : List ℕ) (base at : ℕ) : Type 0 where
+  pub within : at + length pattern ≤ length text
+  pub same_hash : hash_of (slice_range text at (at + length pattern)) base ≡ hash_of pattern base
+  pub other : slice_range text at (at + length pattern) ≢ pattern
+
+-- a search in a text of N symbols below 2^61 - 1 for a pattern of L meets such a part at no more than
+-- (N - L + 1)·(L - 1) different bases: for each of the N - L + 1 positions, at fewer than L (Karp and Rabin,
+-- "Efficient randomized pattern-matching algorithms", 1987, bound the same union over the positions)
+abbrev pub FewFalseHits : Type 0
+FewFalseHits = (text pattern : List ℕ) (n : ℕ) (x at : ℕ → ℕ) → AreApart n x
+    → All (λ c. c < mersenne 61 1) text → All (λ c. c < mersenne 61 1) pattern
+    → ((i : ℕ) → i < n → IsFalseHit text pattern (x i) (at i))
+    → n ≤ (length text - length pattern + 1) * (length pattern - 1)

@@ -1,2 +1,3 @@
 pub mod Collisions
 pub mod Occurrences
+pub mod Patterns

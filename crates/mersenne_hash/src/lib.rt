@@ -1,5 +1,5 @@
 //! Hashes of texts, over `num_modular::hashes`: at how many bases two texts can have the same hash, and the hashes of
-//! parts (`prefixes`).
+//! parts, by which several patterns are searched at once (`prefixes`).
 #![tactic(auto)]
 
 pub mod prefixes;
@@ -10,6 +10,7 @@ ghost use Rattle.num_modular.specs.Integers.{residue_of};
 ghost use Rattle.num_modular.specs.Mersenne.{mersenne};
 ghost use Rattle.num_modular.specs.Primes.{IsPrime};
 ghost use Rattle.mersenne_hash.specs.Collisions.{hash_of, AreApart, FewCollisions, FewCollisionsOfAnyLengths};
+ghost use Rattle.mersenne_hash.specs.Collisions.{FewFalseHits};
 
 use num_modular::ModularInteger;
 use num_modular::hashes::{Hash, base, hash};
@@ -21,13 +22,18 @@ use num_modular::laws::{polynomial_laws, prime_laws, range_laws};
 /// symbols have the same hash at no more than n bases, also where their lengths differ. The hash of two texts, one after
 /// the other, follows from theirs.
 ///
+/// A search in N bytes for a pattern of L bytes, as by `find`, meets a part that has the pattern's hash but isn't the
+/// pattern at no more than (N - L + 1)·(L - 1) of the bases.
+///
 /// Source: Pocklington, "The determination of the prime or composite nature of large numbers by Fermat's theorem";
-/// Dietzfelbinger, Gil, Matias and Pippenger, "Polynomial hash functions are reliable". The proof uses the law of
-/// polynomials `num_modular::laws::polynomial_laws`.
+/// Dietzfelbinger, Gil, Matias and Pippenger, "Polynomial hash functions are reliable"; for a search Karp and Rabin,
+/// "Efficient randomized pattern-matching algorithms". The proof uses the law of polynomials
+/// `num_modular::laws::polynomial_laws`.
 pub fn collision_laws()
     ensures prime { IsPrime (mersenne 61 1) }
     ensures few { FewCollisions }
     ensures lengths { FewCollisionsOfAnyLengths }
+    ensures search { FewFalseHits }
     ensures joined { (s t : List ℕ) (x : ℕ) →
         hash_of (s ++ t) x ≡ (hash_of s x * x ^ length t + hash_of t x) % mersenne 61 1 }
 {
@@ -60,9 +66,9 @@ pub fn length_hash(base: Hash, text: &[u8]) -> Hash
     value
 }
 
-/// Whether two texts have the same hash at each of the bases. For texts of equal length n and at least n different
-/// bases that is whether the texts are equal. Where both texts are at hand `==` is faster: this is the comparison of two
-/// parties that exchange hashes alone.
+/// Whether two texts have the same hash at each of the bases. For texts of equal length n that is whether they are equal,
+/// if there are at least n bases and no two of all the bases are congruent modulo 2^61 - 1. Where both texts are at hand
+/// `==` is faster: this is the comparison of two parties that exchange hashes alone.
 ///
 /// # Examples
 ///

@@ -1,5 +1,7 @@
 //! The hashes of all beginnings of a text, from which that of any part takes one product.
 
+mod searches;
+
 ghost use Rattle.std.specs.Prelude.{◌≡◌, ℕ, ◌+◌, ◌%◌, ◌^◌, ◌≤◌, map, length, slice_index, slice_range, MatchOption};
 ghost use Rattle.num_modular.specs.Integers.{residue_of};
 ghost use Rattle.num_modular.specs.Mersenne.{mersenne};
@@ -10,6 +12,7 @@ ghost use Rattle.mersenne_hash.specs.Occurrences.{IsSearchFrom};
 use num_modular::ModularInteger;
 use num_modular::hashes::{Hash, hash};
 use num_modular::laws::{range_laws, residue_laws};
+pub use searches::Patterns;
 
 /// A text, a base, and the hashes of the text's beginnings at that base with the powers of the base, in lists of the
 /// caller.

@@ -5,6 +5,7 @@ use Rattle.num_modular.specs.Mersenne.{mersenne}
 use Rattle.num_modular.specs.NumberLaws.{mod_add, mod_mul, mod_refl, residue_of}
 use Rattle.num_modular.specs.Sums.{polynomial_highest_first}
 use Rattle.mersenne_hash.proofs.Concatenations.{polynomial_of_joined, polynomial_behind_zeros}
+use Rattle.mersenne_hash.proofs.FalseHits.{few_false_hits}
 use Rattle.mersenne_hash.proofs.Lengths.{marked, same_texts}
 use Rattle.mersenne_hash.proofs.Primality.{modulus_prime}
 use Rattle.mersenne_hash.proofs.collision_laws.Goals as goal
@@ -43,3 +44,6 @@ pub returns-clause-joined : goal.returns-clause-joined
 returns-clause-joined c s t x =
     ap (λ v. v % mersenne 61 1) (polynomial_of_joined c.range_laws.ensures.horner s t x)
     ∙ sym (mod_add (mod_mul (residue_of _) (mod_refl (x ^ length t))) (residue_of _)).same
+
+pub returns-clause-search : goal.returns-clause-search
+returns-clause-search c = few_false_hits (returns-clause-few c)

@@ -1,0 +1,231 @@
+//! Searches for several patterns of one length at once.
+
+ghost use Rattle.std.specs.Prelude.{◌≡◌, ℕ, ◌+◌, ◌*◌, ◌<◌, ◌≤◌, ◌↔◌, IsTrue, map, length, slice_index, MatchOption};
+ghost use Rattle.std.specs.Prelude.{slice_range};
+ghost use Rattle.num_modular.specs.Integers.{residue_of};
+ghost use Rattle.num_modular.specs.Hashes.{StandsAt};
+ghost use Rattle.mersenne_hash.specs.Collisions.{hash_of};
+ghost use Rattle.mersenne_hash.specs.Patterns.{pattern_of, IsFirstPattern, IsNextPattern};
+
+use crate::prefixes::PrefixHashes;
+use num_modular::hashes::{Hash, hash};
+
+/// Patterns of one length, a base, and the patterns' hashes at that base, in a list of the caller.
+///
+/// # Examples
+///
+/// ```
+/// use num_modular::applications::mersenne_hash::prefixes::{Patterns, PrefixHashes};
+/// use num_modular::hashes::base;
+///
+/// let base = base(123_456_789);
+/// let (mut hashes, mut powers) = ([base; 12], [base; 12]);
+/// let text = PrefixHashes::new(base, b"abracadabra", &mut hashes, &mut powers).unwrap();
+/// let mut hashes = [base; 2];
+/// let patterns = Patterns::new(base, 3, b"cadbra", &mut hashes).unwrap(); // cad and bra
+/// assert_eq!(text.find_any_from(&patterns, 0), Some((1, 1)));
+/// assert_eq!(text.find_any_from(&patterns, 2), Some((4, 0)));
+/// assert_eq!(text.find_any_from(&patterns, 9), None);
+/// ```
+#[derive(Drop)]
+pub struct Patterns<'a> {
+    base: Hash,
+    size: usize,
+    symbols: &'a [u8],
+    hashes: &'a [Hash],
+    pub ghost whole: { length symbols.now ≡ length hashes.now * size },
+    pub ghost hashed: { (k : ℕ) → k < length hashes.now → slice_index (map residue_of hashes.now) k
+        ≡ hash_of (pattern_of symbols.now size k) (residue_of base) },
+}
+
+// Whether a list of this length has that many patterns of this size.
+fn is_whole(symbols: usize, count: usize, size: usize) -> bool
+    ensures { IsTrue result ↔ (symbols ≡ count * size) }
+{
+    match count.checked_mul(size) {
+        Some(product) => product == symbols,
+        None => false,
+    }
+}
+
+// Writes the hash of each pattern.
+fn fill_hashes(base: Hash, size: usize, symbols: &[u8], hashes: &mut [Hash])
+    requires { length symbols.now ≡ length hashes.old * size }
+    ensures entries { length hashes.new ≡ length hashes.old }
+    ensures hashed { (k : ℕ) → k < length hashes.old → slice_index (map residue_of hashes.new) k
+        ≡ hash_of (pattern_of symbols.now size k) (residue_of base) }
+{
+    'patterns: for k in 0..hashes.len() {
+        let start = k * size;
+        hashes[k] = hash(base, &symbols[start..start + size]);
+    }
+}
+
+// Whether the pattern occurs in the text at a position. The bytes are compared only where the hashes of the window
+// and of the pattern are equal.
+fn is_hit(text: &[u8], at: usize, window: Hash, pattern: &[u8], wanted: Hash) -> bool
+    requires within { at + length pattern.now ≤ length text.now }
+    requires alike { slice_range text.now at (at + length pattern.now) ≡ pattern.now →
+        residue_of window ≡ residue_of wanted }
+    ensures { IsTrue result ↔ StandsAt text.now pattern.now at }
+{
+    window == wanted && &text[at..at + pattern.len()] == pattern
+}
+
+impl<'a> Patterns<'a> {
+    /// The patterns of this size that stand one after the other in `symbols`, as many as there are entries for hashes,
+    /// which it fills. `None` exactly where the length of `symbols` isn't that many times the size. It takes one product
+    /// for each symbol.
+    ///
+    /// # Examples
+    ///
+    /// ```
+    /// use num_modular::applications::mersenne_hash::prefixes::Patterns;
+    /// use num_modular::hashes::base;
+    ///
+    /// let base = base(1000);
+    /// assert!(Patterns::new(base, 2, b"abcd", &mut [base; 2]).is_some());
+    /// assert!(Patterns::new(base, 3, b"abcd", &mut [base; 2]).is_none());
+    /// ```
+    pub fn new(base: Hash, size: usize, symbols: &'a [u8], hashes: &'a mut [Hash]) -> Option<Self>
+        ensures { let n = length hashes.old in
+            MatchOption result (length symbols.now ≡ n * size → ⊥)
+            (λ made. (made.base ≡ base) × (made.size ≡ size) × (made.symbols.now ≡ symbols.now) × (length made.hashes.now ≡ n)) }
+    {
+        if !is_whole(symbols.len(), hashes.len(), size) {
+            return None;
+        }
+        fill_hashes(base, size, symbols, hashes);
+        Some(Patterns {
+            base,
+            size,
+            symbols,
+            hashes,
+        })
+    }
+
+    /// The base of the hashes.
+    ///
+    /// # Examples
+    ///
+    /// ```
+    /// use num_modular::applications::mersenne_hash::prefixes::Patterns;
+    /// use num_modular::hashes::base;
+    ///
+    /// let mut hashes = [base(2); 2];
+    /// assert_eq!(Patterns::new(base(1000), 2, b"abcd", &mut hashes).unwrap().base(), base(1000));
+    /// ```
+    pub fn base(&self) -> Hash
+        ensures { result ≡ self.now.base }
+    {
+        self.base
+    }
+}
+
+impl<'a> PrefixHashes<'a> {
+    /// The number of the first pattern that occurs at a position; `None` exactly where none occurs there. Condition: the
+    /// bases of the text and of the patterns are the same.
+    ///
+    /// The result is right for every base, because the bytes are compared where the hashes are equal.
+    ///
+    /// # Examples
+    ///
+    /// ```
+    /// use num_modular::applications::mersenne_hash::prefixes::{Patterns, PrefixHashes};
+    /// use num_modular::hashes::base;
+    ///
+    /// let base = base(1000);
+    /// let (mut hashes, mut powers) = ([base; 5], [base; 5]);
+    /// let text = PrefixHashes::new(base, b"abab", &mut hashes, &mut powers).unwrap();
+    /// let mut hashes = [base; 2];
+    /// let patterns = Patterns::new(base, 2, b"baab", &mut hashes).unwrap();
+    /// assert_eq!(text.pattern_at(&patterns, 0), Some(1));
+    /// assert_eq!(text.pattern_at(&patterns, 3), None);
+    /// ```
+    pub fn pattern_at(&self, patterns: &Patterns<'_>, at: usize) -> Option<usize>
+        requires { patterns.now.base ≡ self.now.base }
+        ensures { let n = length patterns.now.hashes.now in
+            MatchOption result (IsFirstPattern self.now.text.now patterns.now.symbols.now patterns.now.size n at n)
+            (λ k. (k < n) × IsFirstPattern self.now.text.now patterns.now.symbols.now patterns.now.size n at k) }
+    {
+        let size = patterns.size;
+        if at > self.text.len() || self.text.len() - at < size {
+            return None;
+        }
+        let window = self.substring_hash(at, at + size);
+        'patterns: for k in 0..patterns.hashes.len() {
+            let start = k * size;
+            let pattern = &patterns.symbols[start..start + size];
+            if is_hit(self.text, at, window, pattern, patterns.hashes[k]) {
+                return Some(k);
+            }
+        }
+        None
+    }
+
+    /// The first position from `from` on where one of the patterns occurs, and the number of the first of them that does;
+    /// `None` exactly where none occurs there. So the next one is found from the position after it. Condition: the bases
+    /// of the text and of the patterns are the same.
+    ///
+    /// Source: Karp and Rabin, "Efficient randomized pattern-matching algorithms", section 4.
+    ///
+    /// # Examples
+    ///
+    /// ```
+    /// use num_modular::applications::mersenne_hash::prefixes::{Patterns, PrefixHashes};
+    /// use num_modular::hashes::base;
+    ///
+    /// let base = base(1000);
+    /// let (mut hashes, mut powers) = ([base; 5], [base; 5]);
+    /// let text = PrefixHashes::new(base, b"abab", &mut hashes, &mut powers).unwrap();
+    /// let mut hashes = [base; 2];
+    /// let patterns = Patterns::new(base, 2, b"bbba", &mut hashes).unwrap();
+    /// assert_eq!(text.find_any_from(&patterns, 0), Some((1, 1)));
+    /// assert_eq!(text.find_any_from(&patterns, 2), None);
+    /// ```
+    pub fn find_any_from(&self, patterns: &Patterns<'_>, from: usize) -> Option<(usize, usize)>
+        requires { patterns.now.base ≡ self.now.base }
+        ensures { let n = length patterns.now.hashes.now in
+            let symbols = patterns.now.symbols.now in
+            MatchOption result ((i k : ℕ) → from ≤ i → k < n →
+            StandsAt self.now.text.now (pattern_of symbols patterns.now.size k) i → ⊥)
+            (λ found. IsNextPattern self.now.text.now symbols patterns.now.size n from found.0 found.1) }
+    {
+        'places: for at in from..self.text.len() + 1 {
+            if let Some(k) = self.pattern_at(patterns, at) {
+                return Some((at, k));
+            }
+        }
+        None
+    }
+
+    /// Writes for each position of the list, from 0 on, the number of the first pattern that occurs there, or the count
+    /// of the patterns where none does. Condition: the bases of the text and of the patterns are the same.
+    ///
+    /// # Examples
+    ///
+    /// ```
+    /// use num_modular::applications::mersenne_hash::prefixes::{Patterns, PrefixHashes};
+    /// use num_modular::hashes::base;
+    ///
+    /// let base = base(1000);
+    /// let (mut hashes, mut powers) = ([base; 5], [base; 5]);
+    /// let text = PrefixHashes::new(base, b"abab", &mut hashes, &mut powers).unwrap();
+    /// let mut hashes = [base; 2];
+    /// let patterns = Patterns::new(base, 2, b"baab", &mut hashes).unwrap();
+    /// let mut found = [9; 4];
+    /// text.find_all(&patterns, &mut found);
+    /// assert_eq!(found, [1, 0, 1, 2]);
+    /// ```
+    pub fn find_all(&self, patterns: &Patterns<'_>, found: &mut [usize])
+        requires { patterns.now.base ≡ self.now.base }
+        ensures { (i : ℕ) → i < length found.old →
+            IsFirstPattern self.now.text.now patterns.now.symbols.now patterns.now.size (length patterns.now.hashes.now) i
+            (slice_index found.new i) }
+    {
+        let count = patterns.hashes.len();
+        'places: for at in 0..found.len() {
+            found[at] = self.pattern_at(patterns, at).unwrap_or(count);
+        }
+    }
+}
