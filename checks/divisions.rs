@@ -52,7 +52,7 @@ macro_rules! reducers {
     ($($type:ty: $word:ty;)*) => {$(
         reducers! {
             $type, $word: new transform check modulus residue is_zero add add_in_place dbl sub sub_in_place neg mul
-            mul_in_place mul_difference inv sqr pow
+            mul_in_place mul_difference add_products inv sqr pow
         }
     )*};
     ($type:ty, $word:ty: $($name:ident)*) => {
