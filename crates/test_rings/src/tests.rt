@@ -14,6 +14,7 @@ mod factors;
 mod fixed;
 mod hostile;
 mod integers;
+mod lists;
 mod modrun;
 mod plan_callers;
 mod plan_rows;

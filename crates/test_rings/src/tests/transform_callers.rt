@@ -7,8 +7,8 @@ ghost use Rattle.modular_reduced.specs.Values.{values_of, HoldValues};
 ghost use Rattle.modular_transform.specs.Transforms.{Suits};
 
 use modular_reduced::reducer::Reducer;
-use modular_transform::inverse::scale;
 use modular_transform::laws::transform_laws;
+use modular_transform::lists::scale_list;
 use modular_transform::transform::ntt;
 use modular_word::ring_word::RingWord;
 
@@ -29,5 +29,5 @@ pub fn there_and_back<T: RingWord, R: Reducer<T>>(r: &R, xs: &mut [T], g: &T, in
     transform_laws();
     ntt(r, xs, g);
     ntt(r, xs, inverse);
-    scale(r, xs, part);
+    scale_list(r, xs, part);
 }

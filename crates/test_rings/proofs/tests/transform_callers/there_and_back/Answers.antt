@@ -30,7 +30,7 @@ returns g c = record {
       let z = λ (j : ℕ). get_or (values_of number value m c.ntt-2.new.xs) j 0 in
       let first : length c.ntt.new.xs ≡ n = c.ntt.auto.xs in
       let second : length c.ntt-2.new.xs ≡ length c.ntt.new.xs = c.ntt-2.auto.xs in
-      let third : length c.scale.new.xs ≡ length c.ntt-2.new.xs = c.scale.auto.xs in
+      let third : length c.scale_list.new.xs ≡ length c.ntt-2.new.xs = c.scale_list.auto.xs in
       let within : i < n = omega arith in
       let v_is : value m (number (get_or c.args.xs.now i d)) ≡ x i =
       sym (get_or-map (λ f. value m (number f)) c.args.xs.now i d 0 within) in
@@ -43,6 +43,6 @@ returns g c = record {
       let restored : (z i * part) % m ≡ x i =
       ap (λ v. (v * part) % m) back ∙ (laws.restored m w h part n i x c.requires.inverse c.requires.part
       c.requires.suits within).same ∙ mod-eq_of_lt small in
-      subst (λ v. Represents g.R.Reducer.form m (number (get_or c.scale.new.xs i d)) v) restored
-      (c.scale.ensures.entries.each i d l);
+      subst (λ v. Represents g.R.Reducer.form m (number (get_or c.scale_list.new.xs i d)) v) restored
+      (c.scale_list.ensures.entries.each i d l);
 }
