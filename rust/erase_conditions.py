@@ -45,6 +45,12 @@ LOOKS = {
     ("transform", "ntt_counted"): (LENGTH, CHECKED, (EVERY, "r.check(g) && root_fits(r, g, xs.len())")),
     ("convolution", "convolve"): (EQUAL, LENGTH, (DEBUG, CHECKED[1] + " && ys.iter().all(|y| r.check(y))"), SUITS),
     ("inverse", "intt"): (LENGTH, CHECKED, SUITS),
+    **{
+        ("lists", name): (EQUAL, (DEBUG, "xs.iter().chain(ys.iter()).all(|x| r.check(x))"))
+        for name in ("add_lists", "sub_lists", "multiply_lists", "dot_product")
+    },
+    ("lists", "scale_list"): ((DEBUG, "r.check(factor) && xs.iter().all(|x| r.check(x))"),),
+    **{(file, "add_products"): (EQUAL,) for file in ("reducer", "odd_ring", "montgomery")},
     ("ring", "run"): (
         (DEBUG, "all_checked(r, regs)"),
         (DEBUG, "commands.iter().all(|c| commands_fit(&[c.command()], regs.len()))"),
