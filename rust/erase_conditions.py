@@ -40,6 +40,8 @@ PLAN_SPLITS = (EVERY, "self.splits(xs.len(), b, last)")
 PLAN_PAIR_ROOM = (DEBUG, "xs.iter().chain(ys.iter()).all(|x| self.modulus.has_room(*x))")
 EQUAL = (EVERY, "ys.len() == xs.len()")
 MESSAGE = (EVERY, "message.len() <= word.len()")
+COUNTED = "{0}.len() == self.moduli.len()"
+REDUCED = COUNTED + " && crate::residues::are_reduced(self.moduli, {0})"
 DIVISOR = ((EVERY, "d != 0"),)
 LOOKS = {
     ("transform", "ntt_counted"): (LENGTH, CHECKED, (EVERY, "r.check(g) && root_fits(r, g, xs.len())")),
@@ -84,6 +86,12 @@ LOOKS = {
         (EVERY, "crate::additions::may_be_system(moduli)"),
         (EVERY, "residues.len() >= moduli.len() && are_reduced(moduli, residues)"),
     ),
+    **{("prefixes/searches", name): ((EVERY, "patterns.base == self.base"),) for name in ("pattern_at", "find_any_from", "find_all")},
+    ("mixed_radix", "digits"): ((EVERY, f"{REDUCED.format('residues')} && {COUNTED.format('digits')}"),),
+    ("mixed_radix", "compare"): ((EVERY, f"{REDUCED.format('left')} && {REDUCED.format('right')}"),),
+    ("mixed_radix", "residues"): ((EVERY, f"{COUNTED.format('digits')} && {COUNTED.format('residues')}"),),
+    ("mixed_radix/words", "encode"): ((EVERY, COUNTED.format("residues")),),
+    ("mixed_radix/words", "words"): ((EVERY, f"{COUNTED.format('digits')} && words.len() >= self.moduli.len()"),),
     ("erasure/powers", "encode_by_transform"): (
         (EVERY, "word.len().is_power_of_two()"),
         (DEBUG, "r.check(g) && message.iter().all(|x| r.check(x))"),
