@@ -2,5 +2,6 @@
 
 pub use crate::commands::{AsCommand, RingCommand, RunEnd, all_checked, commands_fit, run};
 pub use crate::transforms::{
-    convolve, find_root, intt, invert_each, load_forms, ntt, ntt_counted, root_fits, unload_forms,
+    add_lists, convolve, dot_product, find_root, intt, invert_each, load_forms, multiply_lists,
+    ntt, ntt_counted, root_fits, scale_list, sub_lists, unload_forms,
 };

@@ -1,5 +1,5 @@
 //! Hashes of texts, over `num_modular::hashes`: at how many bases two texts can have the same hash, and the hashes of
-//! parts (`prefixes`).
+//! parts, by which several patterns are searched at once (`prefixes`).
 
 pub mod prefixes;
 
@@ -28,9 +28,9 @@ pub fn length_hash(base: Hash, text: &[u8]) -> Hash {
     value
 }
 
-/// Whether two texts have the same hash at each of the bases. For texts of equal length n and at least n different
-/// bases that is whether the texts are equal. Where both texts are at hand `==` is faster: this is the comparison of two
-/// parties that exchange hashes alone.
+/// Whether two texts have the same hash at each of the bases. For texts of equal length n that is whether they are equal,
+/// if there are at least n bases and no two of all the bases are congruent modulo 2^61 - 1. Where both texts are at hand
+/// `==` is faster: this is the comparison of two parties that exchange hashes alone.
 ///
 /// # Examples
 ///

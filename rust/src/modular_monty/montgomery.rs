@@ -207,6 +207,19 @@ impl<T: ReducerWord> Reducer<T> for Montgomery<T> {
         self.mul(&difference, factor)
     }
 
+    #[track_caller]
+    fn add_products(&self, sum: T, xs: &[T], ys: &[T]) -> T {
+        assert!(ys.len() == xs.len(), "the lists must have the same length: {} and {}", xs.len(), ys.len());
+        if self.twos == 0 {
+            return self.odd.add_products(sum, xs, ys);
+        }
+        let mut total = sum;
+        for i in 0..xs.len() {
+            total = self.add(&total, &self.mul(&xs[i], &ys[i]));
+        }
+        total
+    }
+
     // The form of the inverse of the value.
     #[inline]
     fn inv(&self, f: T) -> Option<T> {

@@ -1,6 +1,7 @@
 //! Odd moduli by Montgomery's representation: the reducer that every reducer of this crate is an alias of or
 //! contains, over any type that holds an odd modulus and reduces by it.
 
+use crate::modular_monty::list_products::{block, reduced_products};
 use crate::modular_monty::neg_mod_inv::neginv;
 use crate::modular_prim::below::{add_below, branchless_sub_below, dbl_below, neg_below, sub_below};
 use crate::modular_prim::reducer_word::ReducerWord;
@@ -223,6 +224,21 @@ impl<T: ReducerWord, M: OddModulus<T>> Reducer<T> for OddRing<T, M> {
     fn mul_difference(&self, a: &T, b: &T, factor: &T) -> T {
         let difference = branchless_sub_below(*a, *b, self.kept.modulus());
         self.kept.reduced(difference.product(*factor))
+    }
+
+    // Products are added as whole numbers and reduced once a block.
+    #[track_caller]
+    fn add_products(&self, sum: T, xs: &[T], ys: &[T]) -> T {
+        assert!(ys.len() == xs.len(), "the lists must have the same length: {} and {}", xs.len(), ys.len());
+        let mut total = sum;
+        let mut from = 0;
+        while from < xs.len() {
+            let to = from + block::<T>().min(xs.len() - from);
+            let reduced = reduced_products(self, xs, ys, from, to);
+            total = add_below(total, reduced, self.kept.modulus());
+            from = to;
+        }
+        total
     }
 
     // The form of the inverse of the value.

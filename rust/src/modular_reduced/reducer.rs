@@ -288,6 +288,34 @@ pub trait Reducer<T>: Sized {
         self.mul(&difference, factor)
     }
 
+    /// The form of `sum` plus the products of two lists, entry by entry, modulo m.
+    ///
+    /// A reducer may override it with a body that reduces once for many products.
+    ///
+    /// # Panics
+    ///
+    /// Panics unless the lists have the same length.
+    ///
+    /// # Examples
+    ///
+    /// ```
+    /// use num_modular::{Montgomery, Reducer};
+    ///
+    /// let ring = Montgomery::<u64>::new(97);
+    /// let [x, y, z] = [90, 2, 10].map(|n| ring.transform(n));
+    /// assert_eq!(ring.residue(ring.add_products(z, &[x, y], &[y, z])), 16); // 10 + 180 + 20 - 2 * 97
+    /// ```
+    #[inline]
+    #[track_caller]
+    fn add_products(&self, sum: T, xs: &[T], ys: &[T]) -> T {
+        assert!(ys.len() == xs.len(), "the lists must have the same length: {} and {}", xs.len(), ys.len());
+        let mut total = sum;
+        for i in 0..xs.len() {
+            total = self.add(&total, &self.mul(&xs[i], &ys[i]));
+        }
+        total
+    }
+
     /// The form of the inverse modulo m; `None` exactly where there is none.
     ///
     /// # Preconditions

@@ -1,24 +1,17 @@
 //! The cyclic product of two lists, by transforms.
 
 use crate::modular_transform::inverse::{length_form, transform_back};
+use crate::modular_transform::lists::multiply_lists;
 use crate::modular_transform::transform::ntt;
 use crate::modular_reduced::reducer::Reducer;
 use crate::modular_word::ring_word::RingWord;
-
-// Multiplies each entry of xs by the entry of ys with the same index.
-#[inline]
-fn multiply_each<T: RingWord, R: Reducer<T>>(r: &R, xs: &mut [T], ys: &[T]) {
-    for i in 0..xs.len() {
-        xs[i] = r.mul(&xs[i], &ys[i]);
-    }
-}
 
 // Replaces xs by the cyclic product and ys by its transform, given a root g and an inverse of the length.
 #[inline]
 fn multiply<T: RingWord, R: Reducer<T>>(r: &R, xs: &mut [T], ys: &mut [T], g: &T, part: &T) {
     ntt(r, xs, g);
     ntt(r, ys, g);
-    multiply_each(r, xs, ys);
+    multiply_lists(r, xs, ys);
     transform_back(r, xs, g, part);
 }
 

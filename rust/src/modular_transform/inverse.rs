@@ -1,22 +1,10 @@
 //! The inverse of the transform, in place.
 
+use crate::modular_transform::lists::scale_list;
 use crate::modular_transform::order::mirror;
 use crate::modular_transform::transform::ntt;
 use crate::modular_reduced::reducer::Reducer;
 use crate::modular_word::ring_word::RingWord;
-
-/// Multiplies each entry by a factor.
-///
-/// # Preconditions
-///
-/// The entries and the factor are checked forms. This isn't tested: outside it the call panics, or
-/// returns no meaningful result.
-#[inline]
-pub fn scale<T: RingWord, R: Reducer<T>>(r: &R, xs: &mut [T], factor: &T) {
-    for entry in xs.iter_mut() {
-        *entry = r.mul(&*entry, factor);
-    }
-}
 
 // The form of n, a power of two, by doubling 1, because n may not fit a word.
 #[inline]
@@ -34,7 +22,7 @@ pub(crate) fn length_form<T: RingWord, R: Reducer<T>>(r: &R, n: usize) -> T {
 pub(crate) fn transform_back<T: RingWord, R: Reducer<T>>(r: &R, xs: &mut [T], g: &T, part: &T) {
     ntt(r, xs, g);
     mirror(xs);
-    scale(r, xs, part);
+    scale_list(r, xs, part);
 }
 
 /// Undoes `ntt`: replaces the entries by those whose transform by g they are. Returns false, with the entries

@@ -1,4 +1,4 @@
-//! Conversion of lists of words to lists of forms, and back.
+//! Lists of forms: conversion from words and back, sums, differences and products entry by entry.
 
 use crate::modular_reduced::reducer::Reducer;
 use crate::modular_word::ring_word::RingWord;
@@ -51,4 +51,144 @@ pub fn unload_forms<T: RingWord, R: Reducer<T>>(r: &R, forms: &[T], words: &mut 
     for i in 0..words.len() {
         words[i] = r.residue(forms[i]);
     }
+}
+
+/// Adds to each entry of xs the entry of ys with the same index.
+///
+/// # Panics
+///
+/// Panics unless the lists have the same length. A debug build also panics unless all entries are
+/// checked forms. A release build doesn't test that, and outside it panics, or returns no meaningful
+/// result.
+///
+/// # Examples
+///
+/// ```
+/// use num_modular::ring::add_lists;
+/// use num_modular::{Reducer, Vanilla};
+///
+/// let ring = Vanilla::<u64>::new(&97);
+/// let mut xs = [90, 2];
+/// add_lists(&ring, &mut xs, &[10, 3]);
+/// assert_eq!(xs, [3, 5]);
+/// ```
+#[inline]
+#[track_caller]
+pub fn add_lists<T: RingWord, R: Reducer<T>>(r: &R, xs: &mut [T], ys: &[T]) {
+    assert!(ys.len() == xs.len(), "the lists must have the same length: {} and {}", xs.len(), ys.len());
+    debug_assert!(xs.iter().chain(ys.iter()).all(|x| r.check(x)), "all entries must be checked forms");
+    for i in 0..xs.len() {
+        xs[i] = r.add(&xs[i], &ys[i]);
+    }
+}
+
+/// Subtracts from each entry of xs the entry of ys with the same index.
+///
+/// # Panics
+///
+/// Panics unless the lists have the same length. A debug build also panics unless all entries are
+/// checked forms. A release build doesn't test that, and outside it panics, or returns no meaningful
+/// result.
+///
+/// # Examples
+///
+/// ```
+/// use num_modular::ring::sub_lists;
+/// use num_modular::{Reducer, Vanilla};
+///
+/// let ring = Vanilla::<u64>::new(&97);
+/// let mut xs = [90, 2];
+/// sub_lists(&ring, &mut xs, &[10, 3]);
+/// assert_eq!(xs, [80, 96]);
+/// ```
+#[inline]
+#[track_caller]
+pub fn sub_lists<T: RingWord, R: Reducer<T>>(r: &R, xs: &mut [T], ys: &[T]) {
+    assert!(ys.len() == xs.len(), "the lists must have the same length: {} and {}", xs.len(), ys.len());
+    debug_assert!(xs.iter().chain(ys.iter()).all(|x| r.check(x)), "all entries must be checked forms");
+    for i in 0..xs.len() {
+        xs[i] = r.sub(&xs[i], &ys[i]);
+    }
+}
+
+/// Multiplies each entry of xs by the entry of ys with the same index.
+///
+/// # Panics
+///
+/// Panics unless the lists have the same length. A debug build also panics unless all entries are
+/// checked forms. A release build doesn't test that, and outside it panics, or returns no meaningful
+/// result.
+///
+/// # Examples
+///
+/// ```
+/// use num_modular::ring::multiply_lists;
+/// use num_modular::{Reducer, Vanilla};
+///
+/// let ring = Vanilla::<u64>::new(&97);
+/// let mut xs = [90, 2];
+/// multiply_lists(&ring, &mut xs, &[10, 3]);
+/// assert_eq!(xs, [27, 6]); // 900 - 9 * 97
+/// ```
+#[inline]
+#[track_caller]
+pub fn multiply_lists<T: RingWord, R: Reducer<T>>(r: &R, xs: &mut [T], ys: &[T]) {
+    assert!(ys.len() == xs.len(), "the lists must have the same length: {} and {}", xs.len(), ys.len());
+    debug_assert!(xs.iter().chain(ys.iter()).all(|x| r.check(x)), "all entries must be checked forms");
+    for i in 0..xs.len() {
+        xs[i] = r.mul(&xs[i], &ys[i]);
+    }
+}
+
+/// Multiplies each entry by one factor.
+///
+/// # Panics
+///
+/// A debug build panics unless the factor and all entries are checked forms. A release build doesn't
+/// test that, and outside it panics, or returns no meaningful result.
+///
+/// # Examples
+///
+/// ```
+/// use num_modular::ring::scale_list;
+/// use num_modular::{Reducer, Vanilla};
+///
+/// let ring = Vanilla::<u64>::new(&97);
+/// let mut xs = [90, 2];
+/// scale_list(&ring, &mut xs, &10);
+/// assert_eq!(xs, [27, 20]); // 900 - 9 * 97
+/// ```
+#[inline]
+#[cfg_attr(debug_assertions, track_caller)]
+pub fn scale_list<T: RingWord, R: Reducer<T>>(r: &R, xs: &mut [T], factor: &T) {
+    debug_assert!(r.check(factor) && xs.iter().all(|x| r.check(x)), "the factor and all entries must be checked forms");
+    for entry in xs.iter_mut() {
+        *entry = r.mul(&*entry, factor);
+    }
+}
+
+/// The form of the sum of the products of two lists, entry by entry: that of 0 for lists without entries. A reducer may
+/// reduce once for many products.
+///
+/// # Panics
+///
+/// Panics unless the lists have the same length. A debug build also panics unless all entries are
+/// checked forms. A release build doesn't test that, and outside it panics, or returns no meaningful
+/// result.
+///
+/// # Examples
+///
+/// ```
+/// use num_modular::ring::dot_product;
+/// use num_modular::{Reducer, Vanilla};
+///
+/// let ring = Vanilla::<u64>::new(&97);
+/// assert_eq!(dot_product(&ring, &[90, 2], &[10, 3]), 33); // 900 + 6 - 9 * 97
+/// ```
+#[inline]
+#[track_caller]
+pub fn dot_product<T: RingWord, R: Reducer<T>>(r: &R, xs: &[T], ys: &[T]) -> T {
+    assert!(ys.len() == xs.len(), "the lists must have the same length: {} and {}", xs.len(), ys.len());
+    debug_assert!(xs.iter().chain(ys.iter()).all(|x| r.check(x)), "all entries must be checked forms");
+    r.add_products(r.transform(T::zero()), xs, ys)
 }

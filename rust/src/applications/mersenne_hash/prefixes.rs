@@ -1,7 +1,10 @@
 //! The hashes of all beginnings of a text, from which that of any part takes one product.
 
+mod searches;
+
 use crate::ModularInteger;
 use crate::hashes::{Hash, hash};
+pub use searches::Patterns;
 
 /// A text, a base, and the hashes of the text's beginnings at that base with the powers of the base, in lists of the
 /// caller.

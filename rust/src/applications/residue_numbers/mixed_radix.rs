@@ -91,10 +91,10 @@ impl<'a> System<'a> {
     /// residues: the number is digit 0, plus digit 1 times modulus 0, plus digit 2 times moduli 0 and 1, and so on. It takes
     /// about n²/2 products for n moduli.
     ///
-    /// # Preconditions
+    /// # Panics
     ///
-    /// Each modulus has a residue below it (`are_reduced` of `num_modular::residues` tells) and room for a
-    /// digit. This isn't tested: outside it the call panics, or returns no meaningful result.
+    /// Panics unless each modulus has a residue below it (`are_reduced` of `num_modular::residues` tells)
+    /// and room for a digit.
     ///
     /// # Examples
     ///
@@ -107,7 +107,9 @@ impl<'a> System<'a> {
     /// system.digits(&[4, 5], &mut digits);
     /// assert_eq!(digits, [4, 5]); // 54
     /// ```
+    #[track_caller]
     pub fn digits(&self, residues: &[u64], digits: &mut [u64]) {
+        assert!(residues.len() == self.moduli.len() && crate::residues::are_reduced(self.moduli, residues) && digits.len() == self.moduli.len(), "each modulus must have a residue below it and room for a digit");
         let moduli = self.moduli;
         for place in 0..moduli.len() {
             let m = moduli[place];
@@ -119,10 +121,9 @@ impl<'a> System<'a> {
 
     /// How the numbers compare that two lists of digits denote.
     ///
-    /// # Preconditions
+    /// # Panics
     ///
-    /// Each modulus has a left digit and a right one below it. This isn't tested: outside it the call
-    /// panics, or returns no meaningful result.
+    /// Panics unless each modulus has a left digit and a right one below it.
     ///
     /// # Examples
     ///
@@ -135,7 +136,9 @@ impl<'a> System<'a> {
     /// assert_eq!(system.compare(&[2, 2, 1], &[0, 3, 1]), Ordering::Less); // 23 and 24
     /// ```
     #[inline]
+    #[track_caller]
     pub fn compare(&self, left: &[u64], right: &[u64]) -> Ordering {
+        assert!(left.len() == self.moduli.len() && crate::residues::are_reduced(self.moduli, left) && right.len() == self.moduli.len() && crate::residues::are_reduced(self.moduli, right), "each modulus must have a left digit and a right one below it");
         let mut place = self.moduli.len();
         while place > 0 {
             place -= 1;
@@ -151,10 +154,9 @@ impl<'a> System<'a> {
 
     /// Writes the residues of the number that digits in the mixed radix denote.
     ///
-    /// # Preconditions
+    /// # Panics
     ///
-    /// Each modulus has a digit and room for a residue. This isn't tested: outside it the call panics, or
-    /// returns no meaningful result.
+    /// Panics unless each modulus has a digit and room for a residue.
     ///
     /// # Examples
     ///
@@ -168,7 +170,9 @@ impl<'a> System<'a> {
     /// assert_eq!(residues, [2, 3, 2]); // 23
     /// ```
     #[inline]
+    #[track_caller]
     pub fn residues(&self, digits: &[u64], residues: &mut [u64]) {
+        assert!(digits.len() == self.moduli.len() && residues.len() == self.moduli.len(), "each modulus must have a digit and room for a residue");
         let moduli = self.moduli;
         for place in 0..moduli.len() {
             residues[place] = number_modulo(moduli[place], moduli, digits, moduli.len());

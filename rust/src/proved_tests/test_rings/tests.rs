@@ -14,6 +14,7 @@ mod factors;
 mod fixed;
 mod hostile;
 mod integers;
+mod lists;
 mod plan_callers;
 mod plan_rows;
 mod plan_values;

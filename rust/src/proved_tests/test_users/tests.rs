@@ -20,6 +20,7 @@ mod lattices;
 mod long_products;
 mod loops;
 mod paths;
+mod polynomials;
 mod prepared_codes;
 mod reducers;
 mod residues;

@@ -104,10 +104,9 @@ impl<'a> PrefixHashes<'a> {
     ///
     /// The result is right for every base, because the bytes are compared where the hashes are equal.
     ///
-    /// # Preconditions
+    /// # Panics
     ///
-    /// The bases of the text and of the patterns are the same. This isn't tested: outside it the call
-    /// panics, or returns no meaningful result.
+    /// Panics unless the bases of the text and of the patterns are the same.
     ///
     /// # Examples
     ///
@@ -123,7 +122,9 @@ impl<'a> PrefixHashes<'a> {
     /// assert_eq!(text.pattern_at(&patterns, 0), Some(1));
     /// assert_eq!(text.pattern_at(&patterns, 3), None);
     /// ```
+    #[track_caller]
     pub fn pattern_at(&self, patterns: &Patterns<'_>, at: usize) -> Option<usize> {
+        assert!(patterns.base == self.base, "the bases of the text and of the patterns must be the same");
         let size = patterns.size;
         if at > self.text.len() || self.text.len() - at < size {
             return None;
@@ -144,10 +145,9 @@ impl<'a> PrefixHashes<'a> {
     ///
     /// Source: Karp and Rabin, "Efficient randomized pattern-matching algorithms", section 4.
     ///
-    /// # Preconditions
+    /// # Panics
     ///
-    /// The bases of the text and of the patterns are the same. This isn't tested: outside it the call
-    /// panics, or returns no meaningful result.
+    /// Panics unless the bases of the text and of the patterns are the same.
     ///
     /// # Examples
     ///
@@ -164,7 +164,9 @@ impl<'a> PrefixHashes<'a> {
     /// assert_eq!(text.find_any_from(&patterns, 2), None);
     /// ```
     #[inline]
+    #[track_caller]
     pub fn find_any_from(&self, patterns: &Patterns<'_>, from: usize) -> Option<(usize, usize)> {
+        assert!(patterns.base == self.base, "the bases of the text and of the patterns must be the same");
         for at in from..self.text.len() + 1 {
             if let Some(k) = self.pattern_at(patterns, at) {
                 return Some((at, k));
@@ -176,10 +178,9 @@ impl<'a> PrefixHashes<'a> {
     /// Writes for each position of the list, from 0 on, the number of the first pattern that occurs there, or the count
     /// of the patterns where none does.
     ///
-    /// # Preconditions
+    /// # Panics
     ///
-    /// The bases of the text and of the patterns are the same. This isn't tested: outside it the call
-    /// panics, or returns no meaningful result.
+    /// Panics unless the bases of the text and of the patterns are the same.
     ///
     /// # Examples
     ///
@@ -197,7 +198,9 @@ impl<'a> PrefixHashes<'a> {
     /// assert_eq!(found, [1, 0, 1, 2]);
     /// ```
     #[inline]
+    #[track_caller]
     pub fn find_all(&self, patterns: &Patterns<'_>, found: &mut [usize]) {
+        assert!(patterns.base == self.base, "the bases of the text and of the patterns must be the same");
         let count = patterns.hashes.len();
         for (at, entry) in found.iter_mut().enumerate() {
             *entry = self.pattern_at(patterns, at).unwrap_or(count);

@@ -1,7 +1,7 @@
 //! Callers of transforms, proved from their contracts and the public laws alone; no test runs them.
 
 use crate::modular_reduced::reducer::Reducer;
-use crate::modular_transform::inverse::scale;
+use crate::modular_transform::lists::scale_list;
 use crate::modular_transform::transform::ntt;
 use crate::modular_word::ring_word::RingWord;
 
@@ -10,5 +10,5 @@ use crate::modular_word::ring_word::RingWord;
 pub fn there_and_back<T: RingWord, R: Reducer<T>>(r: &R, xs: &mut [T], g: &T, inverse: &T, part: &T) {
     ntt(r, xs, g);
     ntt(r, xs, inverse);
-    scale(r, xs, part);
+    scale_list(r, xs, part);
 }

@@ -14,8 +14,8 @@ fn take_forms<T: RingWord, R: Reducer<T>>(r: &R, xs: &mut [T]) {
     }
 }
 
-// Whether the entries are the forms of residues.
-fn are_forms<T: RingWord, R: Reducer<T>>(r: &R, xs: &[T], residues: &[T]) -> bool {
+/// Whether the entries are the forms of residues.
+pub fn are_forms<T: RingWord, R: Reducer<T>>(r: &R, xs: &[T], residues: &[T]) -> bool {
     for i in 0..xs.len() {
         if i >= residues.len() || xs[i] != r.transform(residues[i]) {
             return false;

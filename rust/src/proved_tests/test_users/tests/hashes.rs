@@ -1,7 +1,7 @@
 //! Hashes and searches, with known values from other sources.
 
 use super::assert_at;
-use crate::applications::mersenne_hash::prefixes::PrefixHashes;
+use crate::applications::mersenne_hash::prefixes::{Patterns, PrefixHashes};
 use crate::applications::mersenne_hash::{length_hash, same_hashes};
 use crate::ModularInteger;
 use crate::hashes::{Hash, base, find, hash, moved};
@@ -149,4 +149,41 @@ fn hashes_that_know_lengths() {
     check!(rt, 2; length_hash(b, b"\x00a") != length_hash(b, b"a"));
     check!(rt, 3; length_hash(b, b"") == base(1));
     check!(rt, 4; length_hash(base(1000), &[2, 3]).residue() == 1_002_003);
+}
+
+// The places from which bra, cad and abr are searched in "abracadabra", and the first position with the pattern there.
+const SEARCHES_OF_THREE: &[(usize, Option<(usize, usize)>)] = &[
+    (0, Some((0, 2))),
+    (1, Some((1, 0))),
+    (2, Some((4, 1))),
+    (5, Some((7, 2))),
+    (8, Some((8, 0))),
+    (9, None),
+    (12, None),
+];
+
+#[test]
+fn several_patterns() {
+    let rt = crate::runtime::HostRuntime;
+    for n in [0, 1, 256, 1000003, 2305843009213693950] {
+        let base = base(n);
+        let (mut hashes, mut powers) = ([base; 12], [base; 12]);
+        let mut few = [base; 3];
+        let text = match PrefixHashes::new(base, b"abracadabra", &mut hashes, &mut powers) { Some(it) => it, None => {
+            return assert_at(&rt, false, &n);
+        } };
+        let patterns = match Patterns::new(base, 3, b"bracadabr", &mut few) { Some(it) => it, None => {
+            return assert_at(&rt, false, &n);
+        } };
+        for (from, hit) in SEARCHES_OF_THREE {
+            assert_at(&rt, text.find_any_from(&patterns, *from) == *hit, from);
+        }
+        let mut found = [9; 12];
+        text.find_all(&patterns, &mut found);
+        assert_at(&rt, found == [2, 0, 3, 3, 1, 3, 3, 2, 0, 3, 3, 3], &n);
+        assert_at(&rt, text.pattern_at(&patterns, 4) == Some(1), &n);
+        assert_at(&rt, text.pattern_at(&patterns, 11).is_none(), &n);
+    }
+    check!(&rt, 1; Patterns::new(base(2), 3, b"abcde", &mut [base(2); 2]).is_none());
+    check!(&rt, 2; Patterns::new(base(2), 0, b"", &mut [base(2); 2]).is_some());
 }

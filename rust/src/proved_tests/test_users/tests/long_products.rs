@@ -9,8 +9,8 @@ const NONE: Factor<u64> = Factor {
     quotient: 0,
 };
 
-// The steps of a linear congruential generator, which another program can compute too.
-fn digits_from<const N: usize>(seed: u64) -> [u64; N] {
+/// The steps of a linear congruential generator, which another program can compute too.
+pub fn digits_from<const N: usize>(seed: u64) -> [u64; N] {
     let mut digits = [0; N];
     let mut digit = seed;
     for place in digits.iter_mut() {
