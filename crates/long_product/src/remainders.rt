@@ -31,7 +31,7 @@ impl Remainders {
     }
 
     // The number with these residues, modulo the modulus.
-    fn of(&self, first: u64, second: u64, third: u64) -> u64
+    fn remainder(&self, first: u64, second: u64, third: u64) -> u64
         requires first { first < FIRST }
         requires second { second < SECOND }
         requires third { third < THIRD }
@@ -64,11 +64,11 @@ impl Remainders {
             (slice_index seconds.now (e + n)) (slice_index thirds.now (e + n)))
             → result ≡ (x + c * y) % self.now.modulus }
     {
-        let value = self.of(firsts[e], seconds[e], thirds[e]);
+        let value = self.remainder(firsts[e], seconds[e], thirds[e]);
         if c == 0 {
             return value;
         }
-        let past = self.of(firsts[e + n], seconds[e + n], thirds[e + n]);
+        let past = self.remainder(firsts[e + n], seconds[e + n], thirds[e + n]);
         nrem(value as u128 + c as u128 * past as u128, self.modulus)
     }
 }

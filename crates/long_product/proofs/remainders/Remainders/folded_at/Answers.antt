@@ -5,5 +5,5 @@ use Rattle.long_product.proofs.remainders.Remainders.folded_at.Goals as goal
 pub returns : goal.returns
 returns c = λ x y h k.
     c.nrem.ensures
-    ∙ folded_residues c.args.self.now.modulus c.args.c x y c.of-value.result c.of-past.result (c.of-value.ensures x h)
-    (c.of-past.ensures y (k (omega arith)))
+    ∙ folded_residues c.args.self.now.modulus c.args.c x y c.remainder-value.result c.remainder-past.result (c.remainder-value.ensures x h)
+    (c.remainder-past.ensures y (k (omega arith)))

@@ -1,6 +1,6 @@
 use Rattle.std.proofs.Common.{◌+◌, ◌*◌, ◌%◌, ◌∙◌, ap}
 use Rattle.long_product.proofs.Coefficients.{reduced_factor}
-use Rattle.long_product.proofs.remainders.Remainders.of.Goals as goal
+use Rattle.long_product.proofs.remainders.Remainders.remainder.Goals as goal
 
 pub returns : goal.returns
 returns c = λ x h.
