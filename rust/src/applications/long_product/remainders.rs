@@ -25,7 +25,7 @@ impl Remainders {
 
     // The number with these residues, modulo the modulus.
     #[inline]
-    fn of(&self, first: u64, second: u64, third: u64) -> u64 {
+    fn remainder(&self, first: u64, second: u64, third: u64) -> u64 {
         let (second, third) = self.garner.mixed_digits(first, second, third);
         let low = first as u128 + second as u128 * FIRST as u128;
         nrem(low + third as u128 * self.both as u128, self.modulus)
@@ -41,11 +41,11 @@ impl Remainders {
         n: usize,
         e: usize,
     ) -> u64 {
-        let value = self.of(firsts[e], seconds[e], thirds[e]);
+        let value = self.remainder(firsts[e], seconds[e], thirds[e]);
         if c == 0 {
             return value;
         }
-        let past = self.of(firsts[e + n], seconds[e + n], thirds[e + n]);
+        let past = self.remainder(firsts[e + n], seconds[e + n], thirds[e + n]);
         nrem(value as u128 + c as u128 * past as u128, self.modulus)
     }
 }
