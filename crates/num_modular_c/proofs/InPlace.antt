@@ -31,3 +31,11 @@ loaded m value words forms same each =
     same_number_lists _ _ (omega (arith, one, other, same))
     (λ k l.
     each k (omega (arith, one, same, l)) ∙ sym (get_or-map (λ x. x % m) words k 0 0 (omega (arith, one, same, l))))
+
+-- words that were unloaded are the values of the forms
+pub unloaded : (m : ℕ) (value : ℕ → ℕ → ℕ) (forms words : List ℕ) → length words ≡ length forms
+    → ((i : ℕ) → i < length words → get_or (map (λ x. x) words) i 0 ≡ get_or (values_of (λ f. f) value m forms) i 0)
+    → words ≡ values_of (λ f. f) value m forms
+unloaded m value forms words same each =
+    same_number_lists _ _ (same ∙ sym (length-map forms (λ f. value m f)))
+    (λ k l. sym (get_or-map (λ x. x) words k 0 0 l) ∙ each k l)

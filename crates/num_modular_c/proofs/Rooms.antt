@@ -10,7 +10,7 @@ pub left : (part others back room : ℕ) → part + others ≤ room → back + p
 left part others back room enough split = omega arith
 
 -- room for n points, s symbols and three lists of k
-pub restore_rooms : (n s k room : ℕ) → n + s + 3 * k ≤ room → n + (s + (k + (k + (k + 0)))) ≤ room
+pub restore_rooms : (n s k room : ℕ) → n + s + 3 * k ≤ room → n + (s + (k + (k + k))) ≤ room
 restore_rooms n s k room enough = omega arith
 
 -- room for a correction: n points, s symbols, a message of k symbols, its word, and the scratch room of `correct`
@@ -25,6 +25,10 @@ correct_room s k l room same enough = omega arith
 -- a list as long as one that isn't empty isn't empty
 pub some_left : (k l : ℕ) → l ≡ k → 1 ≤ k → 0 < l
 some_left k l same some = omega arith
+
+-- a list has room for another one as long
+pub same_room : (k l : ℕ) → k ≡ l → k ≤ l
+same_room k l same = omega arith
 
 -- the code of an error isn't zero
 pub not_zero : (code : ℕ) → 1 ≤ code → code ≡ 0 → ⊥

@@ -39,3 +39,6 @@ returns-clause-bad_argument c is none = absurd (none (c.if-not-fits_correct.ensu
 
 pub returns-clause-bad_context : goal.returns-clause-bad_context
 returns-clause-bad_context c none = absurd (none c.in-Some.ensures.1)
+
+pub corrected-requires : goal.corrected-requires
+corrected-requires c = c.if-not-fits_correct.ensures.0 refl

@@ -37,3 +37,6 @@ returns-clause-bad_argument c is none = absurd (none (c.if-not-fits_encode.ensur
 
 pub returns-clause-bad_context : goal.returns-clause-bad_context
 returns-clause-bad_context c none = absurd (none c.in-Some.ensures.1)
+
+pub shared-requires : goal.shared-requires
+shared-requires c = c.if-not-fits_encode.ensures.0 refl

@@ -71,7 +71,7 @@ pub split_at_mut-forms-requires : goal.split_at_mut-forms-requires
 split_at_mut-forms-requires g c =
     let two = left _ _ _ _ (restore_rooms _ _ _ _ c.requires.scratch) c.split_at_mut-xs.ensures.back_len in
     let four = left _ _ _ _ (left _ _ _ _ two c.split_at_mut-ys.ensures.back_len) c.split_at_mut-chosen.ensures.back_len in
-    fits _ _ _ (left _ _ _ _ four c.split_at_mut-weights.ensures.back_len)
+    left _ _ _ _ four c.split_at_mut-weights.ensures.back_len
 
 pub load_from-requires : goal.load_from-requires
 load_from-requires g c = c.split_at_mut-xs.ensures.front_len

@@ -1,4 +1,4 @@
-use Rattle.std.proofs.Common.{◌∙◌, length, arith, refl, subst, sym}
+use Rattle.std.proofs.Common.{◌<◌, ◌∙◌, length, refl, subst, sym}
 use Rattle.std.proofs.lemmas.Bool.{false≢true}
 use Rattle.num_modular.specs.Transforms.{Suits}
 use Rattle.num_modular_c.proofs.SameTerms.{same_transform}
@@ -7,8 +7,9 @@ use Rattle.num_modular_c.proofs.transforms.transformed.Goals as goal
 pub returns-clause-did : goal.returns-clause-did
 returns-clause-did g c suits = (
   refl,
-  λ j l. c.unload.ensures j (omega arith) ∙ c.ntt.ensures.values j (omega arith)
-      ∙ same_transform _ j c.transform-g.ensures.value (omega arith) (λ i k. c.load.ensures.values i (omega arith)),
+  λ j l. c.unload.ensures j (subst (λ n. j < n) (sym (c.ntt.auto.xs ∙ c.load.auto.xs)) l)
+      ∙ c.ntt.ensures.values j (subst (λ n. j < n) (sym c.load.auto.xs) l)
+      ∙ same_transform _ j c.transform-g.ensures.value c.load.auto.xs (λ i k. c.load.ensures.values i k),
 )
 
 pub root_fits-requires : goal.root_fits-requires

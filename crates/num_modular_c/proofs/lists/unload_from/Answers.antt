@@ -1,0 +1,16 @@
+use Rattle.std.proofs.Common.{◌<◌, ◌∙◌, subst}
+use Rattle.num_modular_c.proofs.InPlace.{unloaded}
+use Rattle.num_modular_c.proofs.Rooms.{same_room}
+use Rattle.num_modular_c.proofs.lists.unload_from.Goals as goal
+
+pub unload_forms-requires-clause-checked : goal.unload_forms-requires-clause-checked
+unload_forms-requires-clause-checked g c = c.requires.checked
+
+pub unload_forms-requires-clause-within : goal.unload_forms-requires-clause-within
+unload_forms-requires-clause-within g c = same_room _ _ c.requires.room
+
+pub returns : goal.returns
+returns g c =
+    unloaded _ g.R.Reducer.value c.args.forms.now c.unload_forms.new.words
+    (c.unload_forms.auto.words ∙ c.requires.room)
+    (λ i l. c.unload_forms.ensures.values i (subst (λ n. i < n) c.unload_forms.auto.words l))
