@@ -1,5 +1,4 @@
-use Rattle.std.proofs.Common.{◌≡◌, ◌<◌, ◌∙◌, ◌%◌, ap, map, subst, refl, arith}
-use Rattle.std.proofs.lemmas.Bool.{false≢true}
+use Rattle.std.proofs.Common.{◌≡◌, ◌∙◌, ◌%◌, ap, map, refl, arith}
 use Rattle.std.proofs.lemmas.List.{length-map}
 use Rattle.num_modular.specs.Ring.{value_at, values_of}
 use Rattle.num_modular_c.specs.Commands.{ring_command_of}
@@ -12,7 +11,7 @@ use Rattle.num_modular_c.proofs.runs.carry_out.Goals.{After-load}
 start : (g : _) (c : After-load g)
     → values_of (λ f. f) g.R.Reducer.value (g.R.Reducer.modulus c.args.r.now) c.load.new.xs
     ≡ map (λ x. x % g.R.Reducer.modulus c.args.r.now) c.args.registers.now
-start g c = loaded _ g.R.Reducer.value c.args.registers.now c.load.new.xs c.load.auto.xs c.load.ensures.values
+start g c = loaded _ g.R.Reducer.value c.args.registers.now c.load.new.xs (omega arith) c.load.ensures.values
 
 pub returns-in-Done-clause-did : goal.returns-in-Done-clause-did
 returns-in-Done-clause-did g c all none =
@@ -23,7 +22,7 @@ returns-in-Done-clause-did g c all none =
       refl,
       record {
         carried_out = refl;
-        values = λ n l. c.unload.ensures n (subst (λ k. n < k) c.unload.auto.xs l)
+        values = λ n l. c.unload.ensures n (omega arith)
             ∙ (rw (start g at, wholes_same c.args.commands.now, c.in-Done.is) at c.run-end.ensures.residues n (omega arith))
             ∙ ap (λ k. value_at m residues commands k n) (length-map c.args.commands.now ring_command_of);
       },
@@ -50,26 +49,7 @@ returns-in-NoInverse-clause-no_inverse g c stop all is =
       refl,
       record {
         carried_out = same;
-        values = λ n l. c.unload.ensures n (subst (λ k. n < k) c.unload.auto.xs l)
+        values = λ n l. c.unload.ensures n (omega arith)
             ∙ (rw (start g at, wholes_same c.args.commands.now, told) at c.run-end.ensures.residues n (omega arith));
       },
     )
-
-pub returns-then-not-are_admitted-clause-did : goal.returns-then-not-are_admitted-clause-did
-returns-then-not-are_admitted-clause-did g c all none = absurd (false≢true (c.if-not-are_admitted.ensures.1 all))
-
-pub returns-then-not-are_admitted-clause-no_inverse : goal.returns-then-not-are_admitted-clause-no_inverse
-returns-then-not-are_admitted-clause-no_inverse g c stop all is =
-    absurd (false≢true (c.if-not-are_admitted.ensures.1 all))
-
-pub returns-then-not-are_admitted-clause-bad_argument : goal.returns-then-not-are_admitted-clause-bad_argument
-returns-then-not-are_admitted-clause-bad_argument g c none = ((refl, refl), refl)
-
-pub run-end-requires-clause-checked : goal.run-end-requires-clause-checked
-run-end-requires-clause-checked g c = c.load.ensures.checked
-
-pub returns-in-Done-clause-bad_argument : goal.returns-in-Done-clause-bad_argument
-returns-in-Done-clause-bad_argument g c none = absurd (none (c.if-not-are_admitted.ensures.0 refl))
-
-pub returns-in-NoInverse-clause-bad_argument : goal.returns-in-NoInverse-clause-bad_argument
-returns-in-NoInverse-clause-bad_argument g c none = absurd (none (c.if-not-are_admitted.ensures.0 refl))

@@ -1,4 +1,4 @@
-use Rattle.std.proofs.Common.{◌<◌, ◌∙◌, length, subst, sym}
+use Rattle.std.proofs.Common.{◌∙◌, length, arith, subst, sym}
 use Rattle.num_modular.specs.Inverses.{HasInverse}
 use Rattle.num_modular.specs.Transforms.{Suits}
 use Rattle.num_modular_c.proofs.SameTerms.{same_transform, same_product}
@@ -8,18 +8,15 @@ pub returns : goal.returns
 returns g c =
     let equal = c.requires.equal in
     let m = g.R.Reducer.modulus c.args.r.now in
-    let kept = c.load.auto.xs in
-    let kept_ys = c.convolve-always.auto.ys ∙ c.load-2.auto.xs ∙ equal in
-    let done = c.convolve-always.ensures.inverse.1 (subst (λ n. HasInverse m n) (sym kept) c.requires.inverse) in
+    let done = c.convolve-always.ensures.inverse.1 (subst (λ n. HasInverse m n) (omega arith) c.requires.inverse) in
     record {
-      product = λ e l. c.unload.ensures e (subst (λ n. e < n) (sym (c.convolve-always.auto.xs ∙ kept)) l)
-          ∙ c.convolve-always.ensures.values done e (subst (λ n. e < n) (sym kept) l)
-          ∙ same_product _ e kept (λ i k. c.load.ensures.values i k)
-          (λ j k. c.load-2.ensures.values j (subst (λ n. j < n) (sym equal) k));
-      transformed = λ j l. c.unload-2.ensures j (subst (λ n. j < n) (sym kept_ys) l)
-          ∙ c.convolve-always.ensures.transformed_values done j (subst (λ n. j < n) (sym kept) l)
-          ∙ same_transform _ j c.transform-g.ensures.value kept
-          (λ i k. c.load-2.ensures.values i (subst (λ n. i < n) (sym equal) k));
+      product = λ e l. c.unload.ensures e (omega arith) ∙ c.convolve-always.ensures.values done e (omega arith)
+          ∙ same_product _ e (omega arith) (λ i k. c.load.ensures.values i (omega arith))
+          (λ j k. c.load-2.ensures.values j (omega arith));
+      transformed =
+          λ j l. c.unload-2.ensures j (omega arith) ∙ c.convolve-always.ensures.transformed_values done j (omega arith)
+          ∙ same_transform _ j c.transform-g.ensures.value (omega arith)
+          (λ i k. c.load-2.ensures.values i (omega arith));
     }
 
 pub convolve-always-requires-clause-checked_xs : goal.convolve-always-requires-clause-checked_xs
