@@ -4,10 +4,12 @@
 //! moduli.
 #![tactic(auto)]
 
+mod combination;
 mod commands;
 pub mod mixed_radix;
 mod remainders;
 mod system;
 
-pub use remainders::{combine, from_remainders};
+pub use combination::combine;
+pub use remainders::from_remainders;
 pub use system::ResidueSystem;

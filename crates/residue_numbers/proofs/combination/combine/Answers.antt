@@ -5,7 +5,7 @@ use Rattle.num_modular.specs.Divisors.{IsGreatestCommonDivisor}
 use Rattle.num_modular.specs.Inverses.{HasInverse}
 use Rattle.residue_numbers.proofs.Combinations.{parts_of, coprime_parts, combined, divides_exactly}
 use Rattle.residue_numbers.proofs.Combinations.{same_exactly, same_of_common}
-use Rattle.residue_numbers.proofs.remainders.combine.Goals as goal
+use Rattle.residue_numbers.proofs.combination.combine.Goals as goal
 
 pub returns-then-difference-divisor-ne0-clause-number : goal.returns-then-difference-divisor-ne0-clause-number
 returns-then-difference-divisor-ne0-clause-number c x common =

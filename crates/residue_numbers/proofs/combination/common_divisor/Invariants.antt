@@ -1,6 +1,6 @@
 use Rattle.std.proofs.Common.{ℕ}
 use Rattle.std.specs.Int.{IsGcd}
-use Rattle.residue_numbers.proofs.remainders.common_divisor.Given as goal
+use Rattle.residue_numbers.proofs.combination.common_divisor.Given as goal
 
 -- the greatest common divisor of the two numbers is that of those before
 abbrev pub invariant-steps : goal.invariant-steps

@@ -2,7 +2,7 @@ use Rattle.std.proofs.Common.{◌≡◌, arith}
 use Rattle.std.proofs.lemmas.Nat.Gcd.{IsGcd-from_zero, IsGcd-from_mod}
 use Rattle.num_modular.specs.Divisors.{gcd}
 use Rattle.residue_numbers.proofs.Combinations.{euclid_is}
-use Rattle.residue_numbers.proofs.remainders.common_divisor.Goals as goal
+use Rattle.residue_numbers.proofs.combination.common_divisor.Goals as goal
 
 pub steps-preserved : goal.steps-preserved
 steps-preserved c g is = c.steps.invariant g (IsGcd-from_mod c.steps.divisor c.steps.rest g is)
