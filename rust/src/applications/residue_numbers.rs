@@ -3,10 +3,12 @@
 //! remainders, and `combine` the one for moduli that may have common divisors. `mixed_radix` has systems of any number of
 //! moduli.
 
+mod combination;
 mod commands;
 pub mod mixed_radix;
 mod remainders;
 mod system;
 
-pub use remainders::{combine, from_remainders};
+pub use combination::combine;
+pub use remainders::from_remainders;
 pub use system::ResidueSystem;
