@@ -4,7 +4,7 @@ ghost use Rattle.std.specs.Prelude.{◌≡◌, ℕ, ◌+◌, ◌*◌, ◌/◌, �
 ghost use Rattle.modular_folds.specs.Folds.{fold_of, folds, IsFewFolds, IsFolding};
 
 use crate::fold_word::FoldWord;
-use modular_prim::below::reduced_once;
+use modular_prim::below::{reduced_once, sum_once};
 use modular_word::path_word::PathWord;
 use modular_word::ring_word::RingWord;
 
@@ -246,20 +246,6 @@ impl FoldedWord for u64 {
         };
         let (rest, borrowed) = <u64 as PathWord>::split(sum.wrapping_sub(m as u128));
         if borrowed == 0 { rest } else { sum as u64 }
-    }
-}
-
-// The residue of a + b, below m. Condition: b is at most m, and the sum below 2m.
-pub(crate) fn sum_once<T: PathWord>(a: T, b: T, m: T) -> T
-    requires most { T.number b ≤ T.number m }
-    requires twice { T.number a + T.number b < 2 * T.number m }
-    ensures { T.number result ≡ (T.number a + T.number b) % T.number m }
-{
-    let gap = m.minus(b);
-    if a.is_below(gap) {
-        a.plus(b)
-    } else {
-        a.minus(gap)
     }
 }
 

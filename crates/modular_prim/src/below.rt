@@ -1,6 +1,6 @@
 //! Sums, differences, doubles and negatives modulo m of words below m, without a division.
 
-ghost use Rattle.std.specs.Prelude.{◌≡◌, ℕ, ◌+◌, ◌*◌, ◌%◌, ◌<◌, pos, ◌-ℤ◌, neg_ℤ};
+ghost use Rattle.std.specs.Prelude.{◌≡◌, ℕ, ◌+◌, ◌*◌, ◌%◌, ◌<◌, ◌≤◌, pos, ◌-ℤ◌, neg_ℤ};
 ghost use Rattle.modular_word.specs.Residues.{residue};
 
 use modular_word::path_word::PathWord;
@@ -28,12 +28,22 @@ pub fn add_below<T: PathWord>(a: T, b: T, m: T) -> T
     if T::bits() < 64 {
         sum_by_carry(a, b, m)
     } else {
-        let gap = m.minus(b);
-        if a.is_below(gap) {
-            a.plus(b)
-        } else {
-            a.minus(gap)
-        }
+        sum_once(a, b, m)
+    }
+}
+
+/// The residue of a + b, below m. Conditions: b is at most m, and the sum below 2m.
+pub fn sum_once<T: PathWord>(a: T, b: T, m: T) -> T
+    requires most { T.number b ≤ T.number m }
+    requires twice { T.number a + T.number b < 2 * T.number m }
+    ensures value { T.number result ≡ (T.number a + T.number b) % T.number m }
+    ensures below { T.number result < T.number m }
+{
+    let gap = m.minus(b);
+    if a.is_below(gap) {
+        a.plus(b)
+    } else {
+        a.minus(gap)
     }
 }
 
