@@ -1,7 +1,7 @@
 //! Reduction by folds, for every modulus near a power of two and both widths of dividends.
 
 use crate::modular_folds::fold_word::FoldWord;
-use crate::modular_prim::below::reduced_once;
+use crate::modular_prim::below::{reduced_once, sum_once};
 use crate::modular_word::path_word::PathWord;
 
 // One fold at the bit p: the part above it times c, plus the part below it; and 1, or 0 where the part above is 0.
@@ -212,17 +212,6 @@ impl FoldedWord for u64 {
         };
         let (rest, borrowed) = <u64 as PathWord>::split(sum.wrapping_sub(m as u128));
         if borrowed == 0 { rest } else { sum as u64 }
-    }
-}
-
-// The residue of a + b, below m. Condition: b is at most m, and the sum below 2m.
-#[inline]
-pub(crate) fn sum_once<T: PathWord>(a: T, b: T, m: T) -> T {
-    let gap = m.minus(b);
-    if a.is_below(gap) {
-        a.plus(b)
-    } else {
-        a.minus(gap)
     }
 }
 

@@ -27,12 +27,23 @@ pub fn add_below<T: PathWord>(a: T, b: T, m: T) -> T {
     if T::bits() < 64 {
         sum_by_carry(a, b, m)
     } else {
-        let gap = m.minus(b);
-        if a.is_below(gap) {
-            a.plus(b)
-        } else {
-            a.minus(gap)
-        }
+        sum_once(a, b, m)
+    }
+}
+
+/// The residue of a + b, below m.
+///
+/// # Preconditions
+///
+/// b is at most m, and the sum below 2m. This isn't tested: outside it the call panics, or returns no
+/// meaningful result.
+#[inline]
+pub fn sum_once<T: PathWord>(a: T, b: T, m: T) -> T {
+    let gap = m.minus(b);
+    if a.is_below(gap) {
+        a.plus(b)
+    } else {
+        a.minus(gap)
     }
 }
 
