@@ -55,7 +55,7 @@ LOOKS = {
     **{(file, "add_products"): (EQUAL,) for file in ("reducer", "odd_ring", "montgomery")},
     ("ring", "run"): (
         (DEBUG, "all_checked(r, regs)"),
-        (DEBUG, "commands.iter().all(|c| commands_fit(&[c.command()], regs.len()))"),
+        (DEBUG, "commands_fit(commands, regs.len())"),
     ),
     ("plan", "plan"): (
         (RETURN, "table.is_empty()"),

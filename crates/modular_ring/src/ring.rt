@@ -239,10 +239,12 @@ fn command_fits<T: RingWord>(command: &RingCommand<T>, len: usize) -> bool
 /// assert!(commands_fit(&commands, 3));
 /// assert!(!commands_fit(&commands, 2));
 /// ```
-pub fn commands_fit<T: RingWord>(commands: &[RingCommand<T>], len: usize) -> bool
-    ensures { IsTrue result ↔ All (IsFit len) commands.now }
+pub fn commands_fit<T: RingWord, C: AsCommand<T>>(commands: &[C], len: usize) -> bool
+    ensures { IsTrue result ↔ All (λ c. IsFit len (C.command c)) commands.now }
 {
-    commands.iter().all(|command| command_fits(command, len))
+    commands
+        .iter()
+        .all(|command| command_fits(&command.command(), len))
 }
 
 /// Whether each register holds a checked form of the reducer.

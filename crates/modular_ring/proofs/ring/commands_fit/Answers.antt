@@ -5,6 +5,6 @@ use Rattle.modular_ring.proofs.ring.commands_fit.Goals as goal
 
 pub returns : goal.returns
 returns g c =
-    let told : IsTrue c.all.result ↔ All (IsFit {T = g.row.T.Denot} c.args.len) c.args.commands.now =
+    let told : IsTrue c.all.result ↔ All (λ it. IsFit c.args.len (g.C.AsCommand.command it)) c.args.commands.now =
     grind (arith, common_steps) in
     told
