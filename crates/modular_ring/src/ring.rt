@@ -414,13 +414,13 @@ fn carry_out<T: RingWord, R: Reducer<T>, C: AsCommand<T>>(
             write(regs, last, dst, form);
             true
         }
-        _ => match computed_form(r, regs, command) {
-            Some(form) => {
-                write(regs, last, destination(&read), form);
-                true
-            }
-            None => false,
-        },
+        _ => {
+            let Some(form) = computed_form(r, regs, command) else {
+                return false;
+            };
+            write(regs, last, destination(&read), form);
+            true
+        }
     }
 }
 

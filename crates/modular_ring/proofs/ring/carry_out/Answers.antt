@@ -1,4 +1,4 @@
-use Rattle.std.proofs.Common.{◌≡◌, ℕ, ◌+◌, ◌*◌, ◌%◌, ◌<◌, ◌-ℤ◌, pos, List, Some, length, get_or, refl, ap, sym, subst, ◌∙◌}
+use Rattle.std.proofs.Common.{◌≡◌, ℕ, ◌+◌, ◌*◌, ◌%◌, ◌-ℤ◌, pos, List, Some, length, get_or, refl, ap, sym, subst, ◌∙◌}
 use Rattle.std.proofs.Math.ListN.{set}
 use Rattle.modular_word.specs.Residues.{residue}
 use Rattle.modular_ring.specs.declared.ring.RingCommand.{RingCommand}
@@ -121,7 +121,7 @@ pub returns-in-Some-clause-values : goal.returns-in-Some-clause-values
 returns-in-Some-clause-values g c done v holds =
     let number = g.T.RingWord.number in
     let m = g.R.Reducer.modulus c.args.r.now in
-    rw (c.write-in-Some.ensures.written, c.destination.ensures.value, c.command-read.ensures) (after_found number g.R.Reducer.form
+    rw (c.write-in_default.ensures.written, c.destination.ensures.value, c.command-read.ensures) (after_found number g.R.Reducer.form
     (g.R.Reducer.modulus c.args.r.now) c.args.regs.now v (whole number (g.C.AsCommand.command c.args.command.now)) c.in-Some.form _ refl holds
     (destination_below number (length c.args.regs.now) (g.C.AsCommand.command c.args.command.now) c.requires.fit) (c.in-Some.ensures v holds))
 
@@ -132,10 +132,10 @@ returns-in-Some-clause-missing g c v holds = (
       (whole g.T.RingWord.number (g.C.AsCommand.command c.args.command.now)) c.in-Some.form (c.in-Some.ensures v holds) lacks),
 )
 
-pub returns-in-None-clause-missing : goal.returns-in-None-clause-missing
-returns-in-None-clause-missing g c v holds = (
+pub returns-in_default-computed_form-clause-missing : goal.returns-in_default-computed_form-clause-missing
+returns-in_default-computed_form-clause-missing g c v holds = (
   λ e. lacks_here g.T.RingWord.number g.R.Reducer.form (g.R.Reducer.modulus c.args.r.now) v
-      (whole g.T.RingWord.number (g.C.AsCommand.command c.args.command.now)) (c.in-None.ensures v holds),
+      (whole g.T.RingWord.number (g.C.AsCommand.command c.args.command.now)) (c.in_default-computed_form.ensures v holds),
   λ lacks. refl,
 )
 
@@ -146,6 +146,6 @@ computed_form-requires g c = record {
   other = subst (λ w. Combines w → ⊥) c.command-read.ensures (neither c.command-read.result c.in_default.not-Add c.in_default.not-Sub c.in_default.not-Mul);
 }
 
-pub write-requires-in-Some : goal.write-requires-in-Some
-write-requires-in-Some g c =
+pub write-requires-in_default : goal.write-requires-in_default
+write-requires-in_default g c =
     c.destination.ensures.within (length c.args.regs.now) (rw (sym c.command-read.ensures) at c.requires.fit)
