@@ -1,6 +1,6 @@
 -- Polynomial hashes and searches (Karp and Rabin, "Efficient randomized pattern-matching algorithms",
 -- IBM Journal of Research and Development 31, 1987).
-use Rattle.std.specs.Prelude.{◌≡◌, ℕ, ◌+◌, ◌*◌, ◌^◌, ◌<◌, ◌≤◌, List, [], ◌∷◌, length, slice_range}
+use Rattle.std.specs.Prelude.{◌≡◌, ℕ, ◌+◌, ◌<◌, ◌≤◌, List, length, slice_range}
 use Rattle.std.specs.Prelude.{Option, MatchOption}
 
 -- the pattern occurs in the text at the position i
