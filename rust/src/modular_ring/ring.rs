@@ -218,8 +218,10 @@ fn command_fits<T: RingWord>(command: &RingCommand<T>, len: usize) -> bool {
 /// assert!(!commands_fit(&commands, 2));
 /// ```
 #[inline]
-pub fn commands_fit<T: RingWord>(commands: &[RingCommand<T>], len: usize) -> bool {
-    commands.iter().all(|command| command_fits(command, len))
+pub fn commands_fit<T: RingWord, C: AsCommand<T>>(commands: &[C], len: usize) -> bool {
+    commands
+        .iter()
+        .all(|command| command_fits(&command.command(), len))
 }
 
 /// Whether each register holds a checked form of the reducer.
@@ -351,13 +353,13 @@ fn carry_out<T: RingWord, R: Reducer<T>, C: AsCommand<T>>(
             write(regs, last, dst, form);
             true
         }
-        _ => match computed_form(r, regs, command) {
-            Some(form) => {
-                write(regs, last, destination(&read), form);
-                true
-            }
-            None => false,
-        },
+        _ => {
+            let form = match computed_form(r, regs, command) { Some(it) => it, None => {
+                return false;
+            } };
+            write(regs, last, destination(&read), form);
+            true
+        }
     }
 }
 
@@ -394,7 +396,7 @@ pub fn run<T: RingWord, R: Reducer<T>, C: AsCommand<T>>(
     commands: &[C],
 ) -> RunEnd {
     debug_assert!(all_checked(r, regs), "each register must hold a checked form");
-    debug_assert!(commands.iter().all(|c| commands_fit(&[c.command()], regs.len())), "each register number must be below the number of registers");
+    debug_assert!(commands_fit(commands, regs.len()), "each register number must be below the number of registers");
     let mut last = unwritten(regs);
     for (at, command) in commands.iter().enumerate() {
         if !carry_out(r, regs, &mut last, command) {
