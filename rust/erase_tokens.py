@@ -169,10 +169,14 @@ def matched(tokens, at, pattern):
 
 
 def rewrite(tokens, pattern, new):
-    """Writes `new` in place of what matches a pattern; the pattern's names stand in it for what they stand for there."""
+    """Writes `new` in place of what matches a pattern; the pattern's names stand in it for what they stand for there. Where
+    `new` is empty, an item goes with the comments right above it, and an attribute leaves them."""
     for at in range(len(tokens) - 2, -1, -1):
         if found := matched(tokens, at, pattern):
             parts, end = found
+            if not new:
+                cut(tokens, at, end, tokens[at].text != "#")
+                continue
             put = lexed(tokens[at].lead + re.sub(r"\$(\w+)", lambda it: text_of(parts[it[1]]).strip(), new))
             put[-1].asked = any(it.asked for it in tokens[at:end])
             tokens[at:end] = put
