@@ -3,7 +3,7 @@
 Rattle's words and reducers are copied. The Rust crate's traits ask for nothing that their methods don't need, and its integers
 clone what they read of a reference. So the body that needs more is moved to the implementations, which have it.
 """
-from erase_tokens import beyond, cut, header, lexed, put_attribute, rewrite, stands, traits
+from erase_tokens import backwards, beyond, cut, header, lexed, put_attribute, rewrite, stands, traits
 
 BOUNDS = "T : RingWord , R : Reducer < T > + Copy".split()
 CLONED = (  # what a body copies of a reference
@@ -50,19 +50,20 @@ def loosen_traits(tokens):
 
 def add_members(tokens):
     """The members of `Reducer` that each implementation has: `pow`, and the modulus for a message."""
-    for at in range(len(tokens) - 1, -1, -1):
-        if tokens[at].text == "impl" and tokens[at].kind == "name" and (found := header(tokens, at)) and found[0] == "Reducer":
-            named = next(it for it in range(at, found[1]) if tokens[it].text == "Reducer" and stands(tokens, it + 3, [">", "for"]))
-            closed = beyond(tokens, found[1]) - 1
+    for at in backwards(tokens, "impl"):
+        name, body = header(tokens, at) or ("", at)
+        if name == "Reducer":
+            named = next(it for it in range(at, body) if tokens[it].text == "Reducer" and stands(tokens, it + 3, [">", "for"]))
+            closed = beyond(tokens, body) - 1
             tokens[closed:closed] = lexed(IMPLEMENTED.replace("WORD", tokens[named + 2].text))
 
 
 def loosen_integers(tokens):
     """Integers over any reducer: the bounds that their operations need, and clones of what they read of a reference."""
-    for at in range(len(tokens) - 1, -1, -1):
-        if tokens[at].text == "impl" and stands(tokens, at + 2, BOUNDS) and (found := header(tokens, at)):
-            if found[0] in ("Copy", "Clone"):
-                cut(tokens, at, beyond(tokens, found[1]), True)
+    for at in backwards(tokens, "impl"):
+        name, body = header(tokens, at) or ("", at)
+        if name in ("Copy", "Clone") and stands(tokens, at + 2, BOUNDS):
+            cut(tokens, at, beyond(tokens, body), True)
     for at in range(len(tokens) - 1, -1, -1):
         if stands(tokens, at, ["pub", "struct", "ReducedInt"]):
             put_attribute(tokens, at, "#[derive(Clone, Copy)]")

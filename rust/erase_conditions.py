@@ -10,7 +10,7 @@ from collections import defaultdict
 from dataclasses import dataclass
 
 from erase_tokens import (
-    Unknown, beginning, beyond, body_of, header, lexed, parameters, put_attribute, stands, traits,
+    Unknown, attached, backwards, beginning, beyond, body_of, header, lexed, parameters, past_angles, put_attribute, stands, traits,
 )
 
 SENTENCE = re.compile(r"\s?\bConditions?(?: of [^:.]*)?:\s+(.+?)\.(?=\s|$)\s?", re.S)
@@ -165,11 +165,10 @@ class Function:
 def functions(tokens):
     """The functions of a file, the last first."""
     blocks = [(body, beyond(tokens, body), tokens[name].text, True) for name, _, body, _ in traits(tokens)]
-    for at, it in enumerate(tokens):
-        if it.text == "impl" and it.kind == "name" and (found := header(tokens, at)):
-            blocks.append((found[1], beyond(tokens, found[1]), found[0], False))
-    for at in range(len(tokens) - 2, -1, -1):
-        if tokens[at].text == "fn" and tokens[at + 1].kind == "name":
+    impls = [header(tokens, at) or ("", at) for at in backwards(tokens, "impl")]
+    blocks += [(body, beyond(tokens, body), name, False) for name, body in reversed(impls) if name]
+    for at in backwards(tokens, "fn"):
+        if tokens[at + 1].kind == "name":
             trait, declared = next(((it[2], it[3]) for it in reversed(blocks) if it[0] < at < it[1]), ("", False))
             yield Function(at, body_of(tokens, at), trait, declared)
 
@@ -182,15 +181,6 @@ def first_of(tokens, at):
         while tokens[first].text != "#":
             first -= 1
     return first
-
-
-def attached(lead):
-    """How many characters stand before the comments right above an item."""
-    lines = lead.split("\n")
-    count = 0
-    while count + 1 < len(lines) and re.match(r"\s*//(?!!)", lines[-2 - count]):
-        count += 1
-    return len("\n".join(lines[: len(lines) - 1 - count])) + (count < len(lines) - 1)
 
 
 def condition(lead):
@@ -304,7 +294,7 @@ def with_subject(part, names):
 
 def arguments(tokens, it):
     """The names of the parameters of a function that are words or lists of words, but for the modulus."""
-    opened = beyond(tokens, it.at + 2) if tokens[it.at + 2].text == "<" else it.at + 2
+    opened = past_angles(tokens, it.at + 2)
     parts = [[x.text for x in part if x.text != "mut"] for part in parameters(tokens[opened : beyond(tokens, opened)])]
     return [part[0] for part in parts if part[1:2] == [":"] and part[0] != "m" and part[-1] in ("T", "]") and "T" in part]
 
@@ -368,8 +358,7 @@ def without_laws(tokens):
 
 def makes(tokens, at):
     """Whether the function at `at` makes a value whose type has a condition."""
-    opened = beyond(tokens, at + 2) if tokens[at + 2].text == "<" else at + 2
-    closed = beyond(tokens, opened)
+    closed = beyond(tokens, past_angles(tokens, at + 2))
     return tokens[closed].text == "->" and tokens[closed + 1].text in MADE
 
 

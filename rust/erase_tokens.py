@@ -37,12 +37,14 @@ class Token:
 
 
 # ------------------------------------------------------------------------------------------------ reading
+def attached(lead):
+    """Where the comments begin that stand right above an item; the module's own docs don't count."""
+    return re.search(r"(?:^[ \t]*//(?!!).*\n)*.*\Z", lead, re.M).start()
+
+
 def without_attached(lead):
-    """What comes before an item, without the comments that stand right above it; the module's own docs stay."""
-    lines = lead.split("\n")
-    while len(lines) > 1 and re.match(r"\s*//(?!!)", lines[-2]):
-        del lines[-2]
-    return "\n".join(lines)
+    """What comes before an item, without the comments that stand right above it."""
+    return lead[: attached(lead)] + lead[lead.rfind("\n") + 1 :]
 
 
 def joined(first, second):
@@ -114,6 +116,11 @@ def next_of(tokens, at, *words):
     return next(it for it in range(at, len(tokens)) if tokens[it].text in words)
 
 
+def backwards(tokens, *words):
+    """The indexes of the tokens that are one of these words, the last first, so that what stands behind may be changed."""
+    return (at for at in range(len(tokens) - 1, -1, -1) if tokens[at].text in words)
+
+
 def beyond(tokens, at):
     """The index behind what the bracket at `at` opens, angle brackets too."""
     pairs = {"<": ">", "(": ")", "{": "}", "[": "]"}
@@ -123,6 +130,11 @@ def beyond(tokens, at):
         at += 1
         if depth == 0:
             return at
+
+
+def past_angles(tokens, at):
+    """The index behind the angle brackets that open at `at`; the same where none do."""
+    return beyond(tokens, at) if tokens[at].text == "<" else at
 
 
 def parameters(tokens):
@@ -186,7 +198,7 @@ def traits(tokens):
     """Each trait: the indexes of its name, of its bounds and of its body, and its parameters."""
     for at, it in enumerate(tokens):
         if it.text == "trait" and tokens[at + 1].kind == "name":
-            bounds = beyond(tokens, at + 2) if tokens[at + 2].text == "<" else at + 2
+            bounds = past_angles(tokens, at + 2)
             body = next_of(tokens, bounds, "{")
             yield at + 1, bounds, body, parameters(tokens[at + 2 : bounds]) if bounds > at + 2 else []
 
@@ -205,22 +217,16 @@ def cut(tokens, begin, end, item):
 
 def header(tokens, at):
     """The trait's name and the index of the body of the impl at `at`; None where it is of no trait."""
-    at = beyond(tokens, at + 1) if tokens[at + 1].text == "<" else at + 1
-    name = None
+    at, name = past_angles(tokens, at + 1), None
     while tokens[at].text not in ("for", "{", "!"):
-        if tokens[at].text == "<":
-            at = beyond(tokens, at)
-            continue
         name = tokens[at].text if tokens[at].kind == "name" else name
-        at += 1
-    if tokens[at].text != "for":
-        return None
-    return name, next_of(tokens, at, "{")
+        at = past_angles(tokens, at + 1)
+    return (name, next_of(tokens, at, "{")) if tokens[at].text == "for" else None
 
 
 def body_of(tokens, at):
     """The index of the body of the function at `at`, or of the semicolon in its place."""
-    body = beyond(tokens, at + 2) if tokens[at + 2].text == "<" else at + 2
+    body = past_angles(tokens, at + 2)
     while tokens[body].text not in ("{", ";"):
         body = beyond(tokens, body) if tokens[body].text in ("(", "[") else body + 1
     return body

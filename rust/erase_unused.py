@@ -4,7 +4,9 @@ from dataclasses import dataclass
 
 from erase_conditions import first_of
 from libraries import leaves
-from erase_tokens import Token, Unknown, beyond, body_of, cut, lexed, next_of, parameters, put_attribute, stands, traits
+from erase_tokens import (
+    Token, Unknown, backwards, beyond, body_of, cut, lexed, next_of, parameters, past_angles, put_attribute, stands, traits,
+)
 
 LAWS = "laws"  # a module of this name has what only proofs and tests call
 WIDTH = 100  # of an import
@@ -204,9 +206,9 @@ def take_unused_imports(tokens, known):
 
 def name_unread(tokens):
     """A parameter that only ghost text reads is read once."""
-    for at in range(len(tokens) - 2, -1, -1):
-        if tokens[at].text == "fn" and tokens[at + 1].kind == "name" and tokens[body := body_of(tokens, at)].text == "{":
-            opened = beyond(tokens, at + 2) if tokens[at + 2].text == "<" else at + 2
+    for at in backwards(tokens, "fn"):
+        if tokens[at + 1].kind == "name" and tokens[body := body_of(tokens, at)].text == "{":
+            opened = past_angles(tokens, at + 2)
             end = beyond(tokens, body)
             inside = " ".join(it.text for it in tokens[body:end])
             for part in reversed(parameters(tokens[opened : beyond(tokens, opened)])):
