@@ -148,7 +148,7 @@ def wrappers(files):
             lead = tokens[at].lead
             if stands(tokens, at, f'{MARK} pub extern "C" fn'.split()):
                 tokens[at : at + 11] = lexed(f"{lead}pub fn")
-            elif str(path) == "lib" and tokens[at].text == "mod" and tokens[at + 2].text == ";":
+            elif path == "lib" and tokens[at].text == "mod" and tokens[at + 2].text == ";":
                 tokens[at].lead = " "
                 tokens[at:at] = lexed(f"{lead}pub")
     return HEAD + "\n" + "\n".join(texts)

@@ -104,22 +104,19 @@ def take_laws(files):
     names = set()
     while True:
         found = set()
-        for files_of_crate in files.values():
-            for tokens in files_of_crate.values():
-                for at in reversed(list(law_functions(tokens))):
-                    found.add(tokens[at + 1].text)
-                    cut(tokens, first_of(tokens, at), body_of(tokens, at) + 2, True)
+        for tokens in files.values():
+            for at in reversed(list(law_functions(tokens))):
+                found.add(tokens[at + 1].text)
+                cut(tokens, first_of(tokens, at), body_of(tokens, at) + 2, True)
         if not found:
             break
         names |= found
-        for files_of_crate in files.values():
-            for tokens in files_of_crate.values():
-                without_calls(tokens, names)
-                filter_imports(tokens, lambda _, name: name not in names)
-    for crate, files_of_crate in files.items():
-        for path, tokens in files_of_crate.items():
-            if lost := next((it.text for it in tokens if it.kind == "name" and it.text in names), None):
-                raise Unknown(f"crates/{crate}/src/{path}.rt: the law {lost} is used there, but in no statement of its own")
+        for tokens in files.values():
+            without_calls(tokens, names)
+            filter_imports(tokens, lambda _, name: name not in names)
+    for (crate, path), tokens in files.items():
+        if lost := next((it.text for it in tokens if it.kind == "name" and it.text in names), None):
+            raise Unknown(f"crates/{crate}/src/{path}.rt: the law {lost} is used there, but in no statement of its own")
 
 
 def has_nothing(tokens):
@@ -134,13 +131,12 @@ def has_nothing(tokens):
 
 def take_empty_modules(files):
     """Takes the modules away that have nothing left."""
-    for files_of_crate in files.values():
-        for path in [path for path, tokens in files_of_crate.items() if has_nothing(tokens)]:
-            del files_of_crate[path]
-            above = path.parent if path.parent in files_of_crate else next(it for it in files_of_crate if str(it) == "lib")
-            tokens = files_of_crate[above]
-            at = next(at for at in range(len(tokens)) if stands(tokens, at, ["mod", path.name, ";"]))
-            cut(tokens, first_of(tokens, at), at + 3, True)
+    for crate, path in [key for key, tokens in files.items() if has_nothing(tokens)]:
+        del files[crate, path]
+        above, _, name = path.rpartition("/")
+        tokens = files[crate, above if (crate, above) in files else "lib"]
+        at = next(at for at in backwards(tokens, "mod") if stands(tokens, at, ["mod", name, ";"]))
+        cut(tokens, first_of(tokens, at), at + 3, True)
 
 
 # ------------------------------------------------------------------------------------------------ traits
@@ -222,13 +218,11 @@ def name_unread(tokens):
 def mark_tests(files):
     """Marks what only tests call, so that only they compile it. `files`: the tokens of the library by crate and path."""
     lost = set(OF_TESTS)
-    for crate, files_of_crate in files.items():
-        for path, tokens in files_of_crate.items():
-            file = crate if str(path) == "lib" else f"{crate}/{path}"
-            for at in range(len(tokens) - 2, -1, -1):
-                key = file, tokens[at + 1].text
-                if tokens[at].text in ("mod", "fn") and key in OF_TESTS or stands(tokens, at, ["mod", LAWS, ";"]):
-                    put_attribute(tokens, first_of(tokens, at), "#[cfg(test)]")
-                    lost.discard(key)
+    for (crate, path), tokens in files.items():
+        for at in backwards(tokens, "mod", "fn"):
+            key = crate if path == "lib" else f"{crate}/{path}", tokens[at + 1].text
+            if key in OF_TESTS or stands(tokens, at, ["mod", LAWS, ";"]):
+                put_attribute(tokens, first_of(tokens, at), "#[cfg(test)]")
+                lost.discard(key)
     if lost:
         raise Unknown(f"only tests should call these, which aren't there: {sorted(lost)}")
