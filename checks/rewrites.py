@@ -60,12 +60,12 @@ def parted(code):
 def looped(code):
     """The code of the crate, whose loops over the entries of a list are made loops over places, `_place_` where the entry's
     place has no name."""
-    pattern = rf"for (?:\( (\w+) , entry \)|entry) in (\w+) (?:\[ \. \. (.*?) \] )?\. iter(_mut)? \( \) (?:\. enumerate \( \) )?({BLOCK})"
+    pattern = rf"for (?:\( (\w+) , entry \)|entry) in (\w+) (?:\[ \. \. (.*?) \] )?\. iter(?:_mut)? \( \) (?:\. enumerate \( \) )?({BLOCK})"
     while found := re.search(pattern, code):
-        place, named, until, changed, block = found.groups()
+        place, named, until, block = found.groups()
         place = place or "_place_"
         block = block.replace("* entry ", f"{named} [ {place} ] ").replace("entry . ", f"{named} [ {place} ] . ")
-        block = re.sub(r"\bentry\b", f"& {named} [ {place} ]" if not changed else f"& mut {named} [ {place} ]", block)
+        block = re.sub(r"\bentry\b", f"& {named} [ {place} ]", block)
         until = until or f"{named} . len ( )"
         code = f"{code[: found.start()]}for {place} in 0 . . {until} {block}{code[found.end() :]}"
     return code

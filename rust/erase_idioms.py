@@ -2,7 +2,7 @@
 import re
 from types import SimpleNamespace
 
-from erase_tokens import beyond, lexed, matched, stands, text_of
+from erase_tokens import backwards, beyond, lexed, matched, stands, text_of
 
 PLACE = "entry"  # the entry of a list in a loop
 ASCII = {("b'0'", "b'9'"): "is_ascii_digit()", ("b'A'", "b'Z'"): "is_ascii_uppercase()"}
@@ -10,7 +10,7 @@ ASCII = {("b'0'", "b'9'"): "is_ascii_digit()", ("b'A'", "b'Z'"): "is_ascii_upper
 
 def loops_over_lists(tokens):
     """A loop over the places of one list, which it names in no other way, is one over its entries (needless_range_loop)."""
-    for at in range(len(tokens) - 4, -1, -1):
+    for at in backwards(tokens, "for"):
         if not (found := matched(tokens, at, "for $index in 0 . . $until.. $block{}")):
             continue
         parts, end = found
@@ -23,16 +23,12 @@ def loops_over_lists(tokens):
         named = lists.pop()
         if inside.count(named) != len(places):
             continue
-        assigned = [x for x in places if tokens[x + 4].text == "=" and tokens[x + 5].text != "="]
-        borrowed = [x for x in places if stands(tokens, x - 2, ["&", "mut"])]
-        is_changed = bool(assigned or borrowed)
+        is_changed = any(tokens[x + 4].text == "=" and tokens[x + 5].text != "=" for x in places)
         whole = stands(until, 0, [named, ".", "len", "(", ")"]) and len(until) == 5
         for x in reversed(places):
             lead = tokens[x].lead
             if not is_changed and tokens[x - 1].text == "&":
                 tokens[x - 1 : x + 4] = lexed(tokens[x - 1].lead + PLACE)
-            elif borrowed and x in borrowed:
-                tokens[x - 2 : x + 4] = lexed(tokens[x - 2].lead + PLACE)
             else:
                 star = "" if tokens[x + 4].text == "." else "*"
                 tokens[x : x + 4] = lexed(f"{lead}{star}{PLACE}")
