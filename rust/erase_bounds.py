@@ -53,9 +53,9 @@ def add_members(tokens):
     for at in backwards(tokens, "impl"):
         name, body = header(tokens, at) or ("", at)
         if name == "Reducer":
-            named = next(it for it in range(at, body) if tokens[it].text == "Reducer" and stands(tokens, it + 3, [">", "for"]))
+            word = next(tokens[it].text for it in range(at, body) if stands(tokens, it + 1, [">", "for"]))
             closed = beyond(tokens, body) - 1
-            tokens[closed:closed] = lexed(IMPLEMENTED.replace("WORD", tokens[named + 2].text))
+            tokens[closed:closed] = lexed(IMPLEMENTED.replace("WORD", word))
 
 
 def loosen_integers(tokens):

@@ -10,7 +10,8 @@ from collections import defaultdict
 from dataclasses import dataclass
 
 from erase_tokens import (
-    Unknown, attached, backwards, beginning, beyond, body_of, header, lexed, parameters, past_angles, put_attribute, stands, traits,
+    Unknown, attached, backwards, beginning, beyond, body_of, header, lexed, parameters, past_angles, put_attribute, stands,
+    traits,
 )
 
 SENTENCE = re.compile(r"\s?\bConditions?(?: of [^:.]*)?:\s+(.+?)\.(?=\s|$)\s?", re.S)

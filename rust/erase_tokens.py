@@ -117,7 +117,7 @@ def next_of(tokens, at, *words):
 
 
 def backwards(tokens, *words):
-    """The indexes of the tokens that are one of these words, the last first, so that what stands behind may be changed."""
+    """The indexes of the tokens that are one of these words, the last first: what stands behind may be changed."""
     return (at for at in range(len(tokens) - 1, -1, -1) if tokens[at].text in words)
 
 
@@ -181,8 +181,8 @@ def matched(tokens, at, pattern):
 
 
 def rewrite(tokens, pattern, new):
-    """Writes `new` in place of what matches a pattern; the pattern's names stand in it for what they stand for there. Where
-    `new` is empty, an item goes with the comments right above it, and an attribute leaves them."""
+    """Writes `new` in place of what matches a pattern; the pattern's names stand in it for what they stand for there.
+    Where `new` is empty, an item goes with the comments right above it, and an attribute leaves them."""
     for at in range(len(tokens) - 2, -1, -1):
         if found := matched(tokens, at, pattern):
             parts, end = found

@@ -5,7 +5,8 @@ from dataclasses import dataclass
 from erase_conditions import first_of
 from libraries import leaves
 from erase_tokens import (
-    Token, Unknown, backwards, beyond, body_of, cut, lexed, next_of, parameters, past_angles, put_attribute, stands, traits,
+    Token, Unknown, backwards, beyond, body_of, cut, lexed, next_of, parameters, past_angles, put_attribute, stands,
+    traits,
 )
 
 LAWS = "laws"  # a module of this name has what only proofs and tests call
@@ -71,23 +72,15 @@ def filter_imports(tokens, keeps, public=True):
 
 
 # ------------------------------------------------------------------------------------------------ laws
-def free_functions(tokens):
-    """The indexes of `fn` of the functions that stand in no other item."""
-    at, found = 0, []
-    while at < len(tokens):
-        if tokens[at].text == "fn" and at + 1 < len(tokens) and tokens[at + 1].kind == "name":
-            found.append(at)
-            at = body_of(tokens, at)
-        at = beyond(tokens, at) if tokens[at].text == "{" else at + 1
-    return found
-
-
-def law_functions(tokens):
-    """The indexes of those of them that return nothing and have no body: their contracts state laws."""
-    for at in free_functions(tokens):
-        body = body_of(tokens, at)
-        if tokens[body - 1].text == ")" and stands(tokens, body, ["{", "}"]):
-            yield at
+def laws(tokens):
+    """Where each function in no other item begins and ends that returns nothing and has an empty body, and its name, the
+    last first: its contract states a law."""
+    for at in backwards(tokens, "fn"):
+        if tokens[at + 1].kind == "name":
+            body, first = body_of(tokens, at), first_of(tokens, at)
+            is_free = not tokens[first].lead.rpartition("\n")[2]  # at the margin
+            if is_free and tokens[body - 1].text == ")" and stands(tokens, body, ["{", "}"]):
+                yield first, body + 2, tokens[at + 1].text
 
 
 def without_calls(tokens, names):
@@ -105,9 +98,9 @@ def take_laws(files):
     while True:
         found = set()
         for tokens in files.values():
-            for at in reversed(list(law_functions(tokens))):
-                found.add(tokens[at + 1].text)
-                cut(tokens, first_of(tokens, at), body_of(tokens, at) + 2, True)
+            for first, end, name in laws(tokens):
+                found.add(name)
+                cut(tokens, first, end, True)
         if not found:
             break
         names |= found
@@ -150,9 +143,7 @@ def take_markers(tokens, markers):
         elif tokens[at].text in markers and tokens[at].kind == "name" and tokens[at - 1].text in (":", "+"):
             if markers[tokens[at].text]:
                 tokens[at].text = markers[tokens[at].text]
-            elif tokens[at - 1].text == "+":
-                del tokens[at - 1 : at + 1]
-            elif tokens[at + 1].text == "+":
+            elif tokens[at - 1].text == ":" and tokens[at + 1].text == "+":
                 tokens[at + 2].lead = tokens[at].lead
                 del tokens[at : at + 2]
             else:
