@@ -60,7 +60,8 @@ def parted(code):
 def looped(code):
     """The code of the crate, whose loops over the entries of a list are made loops over places, `_place_` where the entry's
     place has no name."""
-    pattern = rf"for (?:\( (\w+) , entry \)|entry) in (\w+) (?:\[ \. \. (.*?) \] )?\. iter(?:_mut)? \( \) (?:\. enumerate \( \) )?({BLOCK})"
+    pattern = r"for (?:\( (\w+) , entry \)|entry) in (\w+) (?:\[ \. \. (.*?) \] )?\. iter(?:_mut)? \( \) "
+    pattern += rf"(?:\. enumerate \( \) )?({BLOCK})"
     while found := re.search(pattern, code):
         place, named, until, block = found.groups()
         place = place or "_place_"
