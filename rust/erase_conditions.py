@@ -136,9 +136,8 @@ FOUND = defaultdict(set)
 TRACKED, TRACKED_IN_DEBUG = "#[track_caller]", "#[cfg_attr(debug_assertions, track_caller)]"
 SHORT = ("modular_word/", "modular_prim/", "modular_symbols/reference_operations", "modular_reduced/reduced_int/operations")
 BETWEEN = (
-    (TRACKED_IN_DEBUG, r"modular_reduced/reduced_int/.*\.(Add|Sub|Mul|Div)(Assign)?\.\w+|modular_prim/residues\.\.reduced_unless"),
-    (TRACKED_IN_DEBUG, r"modular_prim/exact\.DivExact(Assign)?\.\w+|modular_prim/exact\.\.assign_exact"),
-    (TRACKED_IN_DEBUG, r"modular_(barrett|monty)/.*\.DivExact(Assign)?\.\w+"),
+    r"modular_reduced/reduced_int/.*\.(Add|Sub|Mul|Div)(Assign)?\.\w+|modular_prim/residues\.\.reduced_unless"
+    r"|modular_prim/exact\.\.assign_exact|modular_(prim/exact|barrett/.*|monty/.*)\.DivExact(Assign)?\.\w+"
 )
 # Whose condition is tested by what they call: the kinds of the parts, and the names of a file's functions or of a trait's.
 TESTED_BELOW = (
@@ -155,8 +154,9 @@ VERBS = {"is": "be", "are": "be", "has": "have", "have": "have", "suits": "suit"
 
 @dataclass
 class Function:
-    """A function: where its `fn` and its body stand, and of which trait it is, as declared or implemented."""
+    """A function: its name, where its `fn` and its body stand, and of which trait it is, as declared or implemented."""
 
+    name: str
     at: int
     body: int
     trait: str
@@ -171,7 +171,7 @@ def functions(tokens):
     for at in backwards(tokens, "fn"):
         if tokens[at + 1].kind == "name":
             trait, declared = next(((it[2], it[3]) for it in reversed(blocks) if it[0] < at < it[1]), ("", False))
-            yield Function(at, body_of(tokens, at), trait, declared)
+            yield Function(tokens[at + 1].text, at, body_of(tokens, at), trait, declared)
 
 
 def first_of(tokens, at):
@@ -202,7 +202,7 @@ def conditions_of_traits(files):
         for it in functions(tokens):
             words = condition(tokens[first_of(tokens, it.at)].lead)
             if it.declared and tokens[it.body].asked and (words or it.trait in found):
-                found[it.trait, tokens[it.at + 1].text] = words or found[it.trait]
+                found[it.trait, it.name] = words or found[it.trait]
     return found
 
 
@@ -245,16 +245,11 @@ def say(tokens, it, words):
             tokens[closed:closed] = lexed(f", {message}")
 
 
-def in_crate(file):
-    """The path of a file in its crate."""
-    return file.partition("/")[2]
-
-
 def put_looks(tokens, it, file):
     """Puts the tests of the table at the beginning of a body."""
     if tokens[it.body].text == ";":
         return
-    key = next((key for key in ((file, tokens[it.at + 1].text), (in_crate(file), tokens[it.at + 1].text)) if key in LOOKS), None)
+    key = next((key for key in ((file, it.name), (file.partition("/")[2], it.name)) if key in LOOKS), None)
     FOUND[key].add(file)
     for macro, test, *before in reversed(LOOKS.get(key, ())):
         at = it.body + 1
@@ -276,7 +271,7 @@ def how_tested(tokens, it, file, words):
     kinds = ["assert" if tokens[at].text == "unreachable" else tokens[at].text for at in tests_of(tokens, it)]
     parts = words.split("; ")
     if not kinds:
-        names = [f"{place}.{tokens[it.at + 1].text}" for place in (it.trait, file)]
+        names = [f"{place}.{it.name}" for place in (it.trait, file)]
         kinds = next((kinds for kinds, pattern in TESTED_BELOW if any(re.fullmatch(pattern, name) for name in names)), [])
     if len(kinds) != len(parts):
         parts, kinds = [words.replace("; ", ", and ")], kinds[:1] or [""]
@@ -373,32 +368,23 @@ def tests_itself(tokens, it):
     """Whether a function tests something in every build, or hands on to one that makes its value."""
     body = "".join(x.text for x in tokens[it.body : beyond(tokens, it.body)])
     kinds = {tokens[at].text for at in tests_of(tokens, it)}
-    return EVERY in kinds or any(call in body for call in MADE_BY.get(tokens[it.at + 1].text, ()))
+    return EVERY in kinds or any(call in body for call in MADE_BY.get(it.name, ()))
 
 
-def mark_callers(tokens, it, file, parts):
-    """A panic names the place of the call; in a release build not where a call costs little more than its test."""
-    every, debug, _ = parts
-    if every or debug:
+def mark_callers(tokens, it, file, every=(), debug=()):
+    """A panic names the place of the call; in a release build not where a call costs little more than its test. So do what
+    tests something, and what stands between that and a call."""
+    is_between = tokens[it.body].text != ";" and re.fullmatch(BETWEEN, f"{file}.{it.trait}.{it.name}")
+    if every or debug or is_between:
         is_short = not every or file.startswith(SHORT)
         put_attribute(tokens, beginning(tokens, it.at), TRACKED_IN_DEBUG if is_short else TRACKED)
-
-
-def mark_between(tokens, file):
-    """What stands between a call and the function that tests its condition."""
-    for it in functions(tokens):
-        name = f"{file}.{it.trait}.{tokens[it.at + 1].text}"
-        attribute = next((attribute for attribute, pattern in BETWEEN if re.fullmatch(pattern, name)), None)
-        if attribute and tokens[it.body].text != ";":
-            put_attribute(tokens, beginning(tokens, it.at), attribute)
 
 
 def state_conditions(tokens, file, traits):
     """Messages, tests and docs of the conditions of a file; what is lacking is returned."""
     lacking = []
-    mark_between(tokens, file)
     for it in [] if file.endswith("/tests") else functions(tokens):
-        first, name = first_of(tokens, it.at), tokens[it.at + 1].text
+        first, name = first_of(tokens, it.at), it.name
         words = condition(tokens[first].lead) or traits.get((it.trait, name))
         asked = tokens[it.body].asked
         put_looks(tokens, it, file)
@@ -408,6 +394,7 @@ def state_conditions(tokens, file, traits):
                 lacking.append(f"{file}.rt: {name} tests a condition that no sentence states")
             elif asked and is_public(tokens, it):
                 lacking.append(f"{file}.rt: {name} has a `requires`, and its docs no sentence `Condition: ..`")
+            mark_callers(tokens, it, file)
             continue
         parts = how_tested(tokens, it, file, words)
         say(tokens, it, words)
@@ -416,5 +403,5 @@ def state_conditions(tokens, file, traits):
             say_in_docs(tokens, first, [[with_subject(part, names) for part in kind] for kind in parts])
         if asked and is_public(tokens, it) and not it.declared and makes(tokens, it.at) and not tests_itself(tokens, it):
             lacking.append(f"{file}.rt: {name} makes a value, and doesn't test its condition with `prove!`")
-        mark_callers(tokens, it, file, parts)
+        mark_callers(tokens, it, file, *parts[:2])
     return lacking
