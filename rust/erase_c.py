@@ -51,22 +51,11 @@ STRUCTS = {}  # the module of each struct
 LENT = {}  # the fields of each struct that holds a list
 
 
-def read_structs(path, code):
-    """Notes the structs of a module."""
-    for name, lent, fields in STRUCT.findall(code):
-        STRUCTS[name] = path
-        if lent:
-            LENT[name] = typed(fields)
-
-
-def path_of(kind):
-    if kind not in STRUCTS:
-        raise Unknown(f"the type {kind} is no struct of the functions for C")
-    return f"{STRUCTS[kind]}::{kind}"
-
-
 def full(kind):
-    return kind if kind in PLAIN else f"c::{path_of(kind)}"
+    """A type by its path."""
+    if kind not in PLAIN and kind not in STRUCTS:
+        raise Unknown(f"the type {kind} is no struct of the functions for C")
+    return kind if kind in PLAIN else f"c::{STRUCTS[kind]}::{kind}"
 
 
 def set_apart(own, reference, is_list, kind):
@@ -140,7 +129,9 @@ def wrappers(files):
     """The text of capi/src/lib.rs; the functions themselves become safe ones."""
     codes = {path: " ".join(it.text for it in tokens) for path, tokens in files.items()}
     for path, code in codes.items():
-        read_structs(path, code)
+        for name, lent, fields in STRUCT.findall(code):
+            STRUCTS[name] = path
+            LENT.update({name: typed(fields)} if lent else {})
     texts = [lent_struct(name) for name in LENT]
     texts += [wrapper(path, name, found) for path, code in codes.items() for name, found in exports(code)]
     for path, tokens in files.items():
