@@ -18,8 +18,6 @@ def closing(text, at):
     """Where the bracket closes that opens at `at`."""
     pair, depth = {"{": "}", "(": ")", "<": ">"}[text[at]], 0
     for index in range(at, len(text)):
-        if text[index] == ">" and text[index - 1] in "-=":
-            continue
         depth += (text[index] == text[at]) - (text[index] == pair)
         if depth == 0:
             return index
