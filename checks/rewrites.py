@@ -4,7 +4,7 @@ import re
 
 from libraries import leaves
 
-BLOCK = r"\{ (?:[^{}]|\{(?:[^{}]|\{(?:[^{}]|\{(?:[^{}]|\{[^{}]*\})*\})*\})*\})*\}"
+BLOCK = r"\{(?:[^{}]|\{(?:[^{}]|\{(?:[^{}]|\{(?:[^{}]|\{[^{}]*\})*\})*\})*\})*\}"
 PLAIN = r"(?:(?! [;{}] ).)+?"  # tokens of one expression without blocks
 USE = re.compile(r'(?:# \[ cfg \( (?:test|target_pointer_width = "64") \) \] )?(?<= )(pub (?:\( crate \) )?)?use ([^;]*) ; ')
 LAW = re.compile(r"(?<= )(?:# \[ [^\]]* \] )*(?:pub (?:\( crate \) )?)?fn (\w+) (?:< [^{()]* > )?\( (?:[^{}()]* )?\) \{ \} ")
