@@ -1,7 +1,8 @@
-/* FLINT's word-sized calls, in the steps of the functions of crates/modular_bench that stand beside them, and its
- * products, values and interpolations of polynomials. */
+/* FLINT's word-sized calls, in the steps of the functions of crates/modular_bench that stand beside them, its products,
+ * values and interpolations of polynomials, and its lists of words. */
 #include <flint/flint.h>
 #include <flint/nmod_poly.h>
+#include <flint/nmod_vec.h>
 #include <flint/ulong_extras.h>
 #include <time.h>
 
@@ -146,4 +147,29 @@ void peer_flint_restore(ulong p, const ulong *points, const ulong *symbols, slon
     for (slong i = 0; i < k; i++)
         word[lost + i] = symbols[i];
     nmod_poly_clear(polynomial);
+}
+
+/* xs + ys, xs - ys, the products of the entries, xs times the first of ys, and the dot product, which becomes the
+ * first of xs: by the operation's number. */
+void peer_flint_list(int operation, ulong m, ulong *xs, const ulong *ys, slong n)
+{
+    nmod_t modulus;
+    nmod_init(&modulus, m);
+    switch (operation) {
+    case 0:
+        _nmod_vec_add(xs, xs, ys, n, modulus);
+        break;
+    case 1:
+        _nmod_vec_sub(xs, xs, ys, n, modulus);
+        break;
+    case 2:
+        for (slong i = 0; i < n; i++)
+            xs[i] = nmod_mul(xs[i], ys[i], modulus);
+        break;
+    case 3:
+        _nmod_vec_scalar_mul_nmod(xs, xs, n, ys[0], modulus);
+        break;
+    default:
+        xs[0] = _nmod_vec_dot(xs, ys, n, modulus, _nmod_vec_dot_bound_limbs(n, modulus));
+    }
 }

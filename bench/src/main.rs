@@ -30,6 +30,8 @@ mod report;
 mod runs;
 mod transforms;
 mod users;
+#[cfg(feature = "peers")]
+mod word_lists;
 
 use lines::{Moduli, Table};
 use measure::{FIRST, SECOND, agree, best, operands};
@@ -162,7 +164,10 @@ fn beside_crate() -> Option<Report> {
 fn beside_peers() -> Option<Report> {
     (peers::agree() && erasure::agree()).then(|| Report {
         machine: format!("{}, and FLINT {}", machine(), peers::version()),
-        tables: [peers::measured(), erasure::measured(), codes::measured()].into_iter().chain(codes::beside_libfec()).collect(),
+        tables: [peers::measured(), word_lists::measured(), erasure::measured(), codes::measured()]
+            .into_iter()
+            .chain(codes::beside_libfec())
+            .collect(),
         growth: Vec::new(),
     })
 }
