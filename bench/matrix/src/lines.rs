@@ -89,7 +89,7 @@ macro_rules! library {
                 step(lines, "inv, then add", place, all(forms), |r, x, y| r.add(&r.inv(x).unwrap_or(x), &y), see);
                 step(lines, "pow 13, then add", place, all(forms), |r, x, y| r.add(&r.pow(x, &13), &y), see);
                 step(lines, "pow, then add", place, (r.clone(), start(&forms), forms), |r, x, y| r.add(&r.pow(x, &!y), &y), see);
-                step(lines, "transform, then mul", place, all(forms), |r, x, y| r.mul(&r.transform(x), &y), see);
+                step(lines, "transform, then mul", place, all(forms), |r, x, y| r.mul(&r.transform(x ^ y), &y), see);
                 integers::<R>(lines, place, m, words);
             }
 
@@ -106,7 +106,7 @@ macro_rules! library {
                 step(lines, "ReducedInt square, then +", place, all(&of), |_, x, y| x.square() + y, see::<R>);
                 step(lines, "ReducedInt neg, then +", place, all(&of), |_, x, y| -x + y, see::<R>);
                 step(lines, "ReducedInt ==, then -", place, all(&of), |_, x, y| if x == y { y } else { x - y }, see::<R>);
-                step(lines, "ReducedInt residue, convert", place, all(&of), |_, x, y| y.convert(x.residue()), see::<R>);
+                step(lines, "ReducedInt residue, convert", place, all(&of), |_, x, y| y.convert(x.residue() ^ *y.repr()), see::<R>);
                 step(lines, "ReducedInt pow 13, then +", place, all(&of), |_, x, y| x.pow(&13) + y, see::<R>);
             }
 
