@@ -178,7 +178,7 @@ module _ {w b m i square : ℕ} (r : IsOddRing w b m i square) where
       (e ∙ sym (mod-eq_of_lt (positive r)) ∙ ap (λ v. v % m) (let z : 0 ≡ 0 * b = omega arith in z)
       ∙ ap (λ v. (v * b) % m) (sym e))
 
-  zero_value : montgomery_value w m 0 ≡ 0
+  pub zero_value : montgomery_value w m 0 ≡ 0
   zero_value = (zero_made refl).value ∙ mod-eq_of_lt (positive r)
 
   -- and of no other value

@@ -260,6 +260,29 @@ module _ {w b m s k i square : ℕ} (r : IsSplitRing w b m s k i square) where
       subst (Made w m h)
       (ap (λ n. residue m (pos n -ℤ pos v)) (ap (split_value w m) e ∙ zero_value) ∙ ap (residue m) minus)
 
+  -- for an odd modulus, what stands for the double modulo the odd part is the form of the double
+  pub odd_double_made : s ≡ 0 → {f h : ℕ} → Checked w m f
+      → odd.Stands w k h ((2 * montgomery_value w k f) % k) → Made w m h ((2 * split_value w m f) % m)
+  odd_double_made e {f} {h} is of =
+      let v = montgomery_value w k f in
+      let twice : 2 * v ≡ v + v = omega arith in
+      double_made f
+      (operation_made (λ x y. x + y) same_sum is is (all_high s f e) (all_high s f e)
+      (subst (λ n. odd.Stands w k h (n % k)) twice of) refl (joined_none s h _ e))
+
+  -- and so for the negative
+  pub odd_negative_made : s ≡ 0 → {f h : ℕ} → Checked w m f
+      → odd.Stands w k h (residue k (neg_ℤ (pos (montgomery_value w k f))))
+      → Made w m h (residue m (neg_ℤ (pos (split_value w m f))))
+  odd_negative_made e {f} {h} is of =
+      let v = montgomery_value w k f in
+      let minus : neg_ℤ (pos v) ≡ pos 0 -ℤ pos v = omega (arith, ints) in
+      let less : residue k (neg_ℤ (pos v)) ≡ residue k (pos (montgomery_value w k 0) -ℤ pos v) =
+      ap (residue k) minus ∙ ap (λ n. residue k (pos n -ℤ pos v)) (sym (odd.zero_value r.odd)) in
+      negative_made f refl
+      (difference_made 0 (below_is_form 0 (modulus_positive r)) is (all_high s 0 e) (all_high s f e)
+      (subst (odd.Stands w k h) less of) (none_low s _ _ e) (joined_none s h 0 e))
+
   -- for an odd modulus, what is its value modulo the odd part is its value
   pub odd_value_made : s ≡ 0 → {f u : ℕ} → odd.Stands w k f u → ValueAnswered (split_form w) (split_value w) m f u
   odd_value_made e {f} {u} of =

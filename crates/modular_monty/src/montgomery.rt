@@ -201,6 +201,9 @@ impl<T: ReducerWord> Reducer<T> for Montgomery<T> {
     }
 
     fn dbl(&self, f: T) -> T {
+        if self.twos == 0 {
+            return self.odd.dbl(f);
+        }
         self.add(&f, &f)
     }
 
@@ -213,6 +216,9 @@ impl<T: ReducerWord> Reducer<T> for Montgomery<T> {
     }
 
     fn neg(&self, f: T) -> T {
+        if self.twos == 0 {
+            return self.odd.neg(f);
+        }
         self.sub(&T::zero(), &f)
     }
 
