@@ -1,6 +1,6 @@
 //! Reduction by folds, for every modulus near a power of two and both widths of dividends.
 
-ghost use Rattle.std.specs.Prelude.{◌≡◌, ℕ, ◌+◌, ◌*◌, ◌/◌, ◌%◌, ◌^◌, ◌<◌, ◌≤◌};
+ghost use Rattle.std.specs.Prelude.{◌≡◌, ℕ, ◌+◌, ◌*◌, ◌/◌, ◌%◌, ◌^◌, ◌<◌, ◌≤◌, IsTrue};
 ghost use Rattle.modular_folds.specs.Folds.{fold_of, folds, IsFewFolds, IsFolding};
 
 use crate::fold_word::FoldWord;
@@ -175,6 +175,23 @@ fn reduced_short(v: u64, p: u32, c: u32, m: u32) -> u32
     }
 }
 
+// Whether folds in straight-line code reduce a double word: c is at most a fourth of 2^p, and v at most a product of
+// two numbers below 2^p. For c = 1 two folds with comparisons take less time.
+#[inline(always)]
+fn folds_in_line<V: FoldWord>(v: V, p: u32, c: V, m: V) -> bool
+    requires folding { IsFolding V.width p (V.number c) (V.number m) }
+    requires inside { p < V.width }
+    ensures small { IsTrue result → 4 * V.number c ≤ 2 ^ p }
+    ensures product { IsTrue result → V.number v / 2 ^ p < 2 ^ p }
+{
+    let mask = m.plus(c.minus(V::one()));
+    if c == V::one() || mask.is_below(v.shift_right(p)) {
+        false
+    } else {
+        c.shift_right(p - 2).is_zero_word()
+    }
+}
+
 /// A word whose double words can be folded: u32 or u64.
 pub trait FoldedWord: PathWord {
     /// A word below 2^p that is congruent to a double word modulo m, and the number of folds at the bit p by c that
@@ -192,6 +209,13 @@ pub trait FoldedWord: PathWord {
         requires small { 4 * Self.number c ≤ 2 ^ p }
         requires product { Self.double_number v / 2 ^ p < 2 ^ p }
         ensures { Self.number result ≡ Self.double_number v % Self.number m };
+
+    /// Whether `reduce_in_line` reduces a double word, and takes less time than folds with comparisons. Condition: folds
+    /// at the bit p by c reduce modulo m.
+    fn is_in_line(v: Self::Double, p: u32, c: Self, m: Self) -> bool
+        requires { IsFolding Self.width p (Self.number c) (Self.number m) }
+        ensures small { IsTrue result → 4 * Self.number c ≤ 2 ^ p }
+        ensures product { IsTrue result → Self.double_number v / 2 ^ p < 2 ^ p };
 
     /// The residue of a + b, where m is at most 2^p. Conditions: b is at most m, and the sum below 2m.
     ///
@@ -214,6 +238,10 @@ impl FoldedWord for u32 {
         reduced_short(fold_in_line(v, p, c as u64, m as u64), p, c, m)
     }
 
+    fn is_in_line(v: u64, p: u32, c: u32, m: u32) -> bool {
+        folds_in_line(v, p, c as u64, m as u64)
+    }
+
     fn sum_of_parts(a: u32, b: u32, p: u32, m: u32) -> u32 {
         if p < 32 {
             reduced_once(a + b, m)
@@ -233,6 +261,10 @@ impl FoldedWord for u64 {
     fn reduce_in_line(v: u128, p: u32, c: u64, m: u64) -> u64 {
         let m = m as u128;
         reduced_last(fold_in_line(v, p, c as u128, m), m) as u64
+    }
+
+    fn is_in_line(v: u128, p: u32, c: u64, m: u64) -> bool {
+        folds_in_line(v, p, c as u128, m as u128)
     }
 
     // The borrow of a difference of double words chooses. LLVM vectorizes products in independent chains, and a
@@ -263,6 +295,21 @@ pub fn reduce_by_folds<T: FoldedWord>(v: T::Double, p: u32, c: T, m: T) -> (T, u
 {
     let (rest, count) = T::fold_double(v, p, c, m);
     (sum_once(rest, T::zero(), m), count)
+}
+
+/// v modulo m, by folds: without further comparisons where v is at most a product of two numbers below 2^p, and that is
+/// faster. Condition: m is 2^p - c and more than half of 2^p, and p is at most the width of the words.
+///
+/// Source: Handbook of Applied Cryptography, algorithm 14.47.
+pub fn reduce_double_word<T: FoldedWord>(v: T::Double, p: u32, c: T, m: T) -> T
+    requires { IsFolding T.width p (T.number c) (T.number m) }
+    ensures { T.number result ≡ T.double_number v % T.number m }
+{
+    if T::is_in_line(v, p, c, m) {
+        T::reduce_in_line(v, p, c, m)
+    } else {
+        reduce_by_folds(v, p, c, m).0
+    }
 }
 
 /// A number below 2^p takes no folds. Where c is below 2^p and v = hi·2^p + lo isn't, v takes one fold more than

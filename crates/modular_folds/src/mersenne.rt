@@ -7,7 +7,7 @@ ghost use Rattle.modular_folds.specs.Mersenne.{IsMersenneRange, IsMersenne, mers
 ghost use Rattle.modular_folds.specs.MersenneLaws.{mersenne_canonical};
 ghost use Rattle.std.proofs.Common.{lit≤, refl};
 
-use crate::folds::reduce_by_folds;
+use crate::folds::{reduce_by_folds, reduce_double_word};
 use crate::products::{reduce_product, reduce_word};
 use crate::rings::{FoldModulus, FoldRing};
 use modular_reduced::reducer::Reducer;
@@ -95,7 +95,7 @@ impl<const P: u8, const K: u32> FoldRing<u32, Mersenne32<P, K>> {
         requires { IsMersenneRange 32 P K }
         ensures { result ≡ v % mersenne P K }
     {
-        Self::reduce_counted(v).0
+        reduce_double_word(v, P as u32, K, Self::fixed_modulus())
     }
 
     /// The residue of a double word, and the number of folds that make it less than 2^P. Condition: the parameters
@@ -231,7 +231,7 @@ impl<const P: u8, const K: u64> FoldRing<u64, Mersenne64<P, K>> {
         requires { IsMersenneRange 64 P K }
         ensures { result ≡ v % mersenne P K }
     {
-        Self::reduce_counted(v).0
+        reduce_double_word(v, P as u32, K, Self::fixed_modulus())
     }
 
     /// The residue of a double word, and the number of folds that make it less than 2^P. Condition: the parameters

@@ -8,7 +8,7 @@ ghost use Rattle.modular_folds.specs.Solinas.{IsTrinomialRange, IsTrinomial};
 ghost use Rattle.modular_folds.specs.Solinas.{IsLowTrinomial, trinomial, trinomial_factor};
 ghost use Rattle.modular_folds.specs.SolinasLaws.{trinomial_canonical};
 
-use crate::folds::{FoldedWord, reduce_by_folds};
+use crate::folds::{FoldedWord, reduce_by_folds, reduce_double_word};
 use crate::products::{reduce_product, reduce_word};
 use crate::rings::{FoldModulus, FoldRing};
 use modular_prim::plain_word::PlainWord;
@@ -327,7 +327,11 @@ impl<T: TrinomialWord, F: Trinomial> FoldRing<T, TrinomialModulus<T, F>> {
         requires { IsTrinomialRange T.width F.p1 F.p2 F.k }
         ensures { T.number result ≡ T.double_number v % trinomial F.p1 F.p2 F.k }
     {
-        Self::reduce_counted(v).0
+        if is_low(F::p1(), F::p2(), F::k()) {
+            Self::remainder(v)
+        } else {
+            reduce_double_word(v, F::p1() as u32, Self::factor(), Self::fixed_modulus())
+        }
     }
 
     // The residue of a double word, by a division.

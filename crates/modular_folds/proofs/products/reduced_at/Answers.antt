@@ -1,0 +1,16 @@
+use Rattle.modular_folds.proofs.FoldBounds.{once_below, once_above}
+use Rattle.modular_folds.proofs.WordTests.{not_below}
+use Rattle.modular_folds.proofs.products.reduced_at.Goals as goal
+
+pub returns-then-p-bits : goal.returns-then-p-bits
+returns-then-p-bits g c = c.reduced_once.ensures.value
+
+pub returns-then-is_below : goal.returns-then-is_below
+returns-then-is_below g c =
+    once_below (g.T.RingWord.number c.args.m) _ (c.is_below.ensures.below.0 c.if-is_below.true)
+
+pub returns-else-is_below : goal.returns-else-is_below
+returns-else-is_below g c =
+    let n = g.T.RingWord.number in
+    let more = not_below c.is_below.ensures.below c.if-is_below.false in
+    (once_above (n c.args.m) (n c.args.x) _ more c.requires c.minus.ensures.value).0
