@@ -1,5 +1,5 @@
--- Luhn's check digit (ISO/IEC 7812-1, annex B; Luhn, US patent 2,950,048). Places are counted from the right; that of
--- the check digit is 0.
+-- Luhn's check digit (H. P. Luhn, "Computer for verifying numbers", US patent 2,950,048, 1960; ISO/IEC 7812-1, annex B).
+-- Places are counted from the right; that of the check digit is 0.
 use Rattle.std.specs.Prelude.{◌≡◌, ◌≢◌, ◌↔◌, ◌⊎◌, ℕ, suc, ◌+◌, ◌-◌, ◌*◌, ◌/◌, ◌%◌, ◌<◌, ◌≤◌, ◌==◌, if◌then◌else◌}
 use Rattle.std.specs.Prelude.{List, All, length, slice_index}
 use Rattle.num_modular.specs.Sums.{sum_below}

@@ -1,5 +1,6 @@
--- Texts of symbols as people write them, by the numbers of their characters in ASCII. The words are the library's own.
--- ISO 2108 has hyphens or spaces in an ISBN, and ISO 3297 a hyphen in an ISSN.
+-- Texts of symbols as people write them, by the numbers of their characters in ASCII (ANSI X3.4, 1986). ISO 2108 has
+-- hyphens or spaces in an ISBN, and ISO 3297 a hyphen in an ISSN; that one may stand between any two symbols is this
+-- library's own definition.
 use Rattle.std.specs.Prelude.{◌≡◌, ℕ, suc, ◌-◌, ◌<◌, ◌≤◌, ◌⊎◌, if◌then◌else◌, nat_eq, nat_lt}
 use Rattle.std.specs.Prelude.{List, [], ◌∷◌, All, length, slice_index, take}
 use Rattle.std.specs.List.{flat_map}
