@@ -367,28 +367,23 @@ has_one m positive =
 
 -- the pairs (1, 0) and (0, 1)
 pub first_pairs : (m k c d : ℕ) (x y h g n e : ℕ → ℕ) → 0 < m → 1 ≤ k → h 0 ≡ 1 % m → ((l : ℕ) → 0 < l → h l ≡ 0)
-    → g 0 ≡ 0 % m → ((l : ℕ) → 0 < l → g l ≡ 0) → n 0 ≡ 0 % m → ((l : ℕ) → 0 < l → n l ≡ 0)
+    → ((l : ℕ) → g l ≡ 0) → ((l : ℕ) → n l ≡ 0)
     → e 0 ≡ 1 % m → ((l : ℕ) → 0 < l → e l ≡ 0) → AreKeyPairs m k c d 0 0 (k - 1) x y h g n e
-first_pairs m k c d x y h g n e positive some h_one h_none g_none g_zero n_none n_zero e_one e_none =
+first_pairs m k c d x y h g n e positive some h_one h_none g_none n_none e_one e_none =
     let one : HasInverse m (1 % m) = has_one m positive in
-    let all : (f : ℕ → ℕ) → f 0 ≡ 0 % m → ((l : ℕ) → 0 < l → f l ≡ 0) → (l : ℕ) → Congruent m (f l) 0 =
-    λ f first rest l. elim (cases_eq l 0) [
-      | inl s ↦ mod_trans (mod_of_eq (ap f s ∙ first)) (residue_of 0)
-      | inr other ↦ mod_of_eq (rest l (omega arith))
-    ] in
     record {
       first = λ b. record {
         solves = λ j l. absurd (omega arith);
         leads = record {
           numerator_behind = λ l b. mod_of_eq (h_none l (omega arith));
-          locator_behind = λ l b. all g g_none g_zero l;
+          locator_behind = λ l b. mod_of_eq (g_none l);
           unit = inl (0, omega arith, subst (HasInverse m) (sym h_one) one);
         };
       };
       second = λ b. record {
         solves = λ j l. absurd (omega arith);
         leads = record {
-          numerator_behind = λ l b. all n n_none n_zero l;
+          numerator_behind = λ l b. mod_of_eq (n_none l);
           locator_behind = λ l b. mod_of_eq (e_none l (omega arith));
           unit = inr (0, omega arith, subst (HasInverse m) (sym e_one) one);
         };

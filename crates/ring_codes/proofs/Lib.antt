@@ -5,6 +5,7 @@ pub mod Lagrange
 pub mod NearPairs
 pub mod NearestWords
 pub mod NewtonForms
+pub mod Pairs
 pub mod RootPowers
 pub mod Secrecy
 mod Singleton

@@ -4,7 +4,7 @@ use Rattle.std.proofs.Common.{◌≡◌, ◌≢◌, ℕ, zero, suc, ◌+◌, ◌
 use Rattle.std.proofs.Common.{ap, sym, ◌∙◌, arith, inl, inr, subst, mod-eq_of_lt}
 use Rattle.std.proofs.Math.Nat.{mod-mod, zero-mod}
 use Rattle.std.proofs.lemmas.Bool.{cases_eq, cases_lt}
-use Rattle.std.proofs.Common.{List, [], ◌∷◌, length, get_or, set, All, get_or-set_same, get_or-set_other}
+use Rattle.std.proofs.Common.{List, [], ◌∷◌, length, take, get_or, set, All, get_or-set_same, get_or-set_other, length-take-le}
 use Rattle.num_modular.specs.Callers.{same_coefficients, entry, entry_at, held_entry, IsForm, IsCheckedFormOf, HoldBelow}
 use Rattle.num_modular.specs.Congruence.{Congruent}
 use Rattle.num_modular.specs.Inverses.{IsInverse, HasInverse}
@@ -17,7 +17,8 @@ use Rattle.ring_codes.proofs.Distances.{Selection, selected, counted, counted_sa
 use Rattle.ring_codes.proofs.KeyPairs.{shifted-values}
 use Rattle.ring_codes.proofs.NearestWords.{combined, unit_alike, no_value}
 use Rattle.ring_codes.proofs.NewtonForms.{has_of_residue}
-use Rattle.ring_codes.proofs.Symbols.{fit_same, same_forms}
+use Rattle.ring_codes.proofs.Counts.{fit_front}
+use Rattle.ring_codes.proofs.Symbols.{entry_front, fit_same, same_forms}
 use Rattle.ring_codes.specs.Erasure.{IsEncoding, distance}
 use Rattle.ring_codes.specs.KeyEquations.{shifted, Solves, Leads, IsKeyPair, IsQuotient, AreQuotients}
 
@@ -178,6 +179,33 @@ distance_front k (suc n) a b l = elim (cases_eq k (suc n)) [
 pub distance_same : (n : ℕ) (a b d : ℕ → ℕ) → ((i : ℕ) → i < n → b i ≡ d i) → distance n a b ≡ distance n a d
 distance_same n a b d same =
     sum_below-same n (λ i. counted (a i) (b i)) (λ i. counted (a i) (d i)) (λ i l. ap (counted (a i)) (same i l))
+
+-- the errors at the first points are those of the lists cut there
+pub distance_taken : {T : Type 0} (number : T → ℕ) (value : ℕ → ℕ → ℕ) (m count k : ℕ) (X Y : List T) (sent : ℕ → ℕ)
+    → count ≤ length X → length Y ≡ length X
+    → distance (length (take count X)) (entry number value m (take count Y))
+    (λ j. polynomial k sent (entry number value m (take count X) j) % m)
+    ≤ distance (length X) (entry number value m Y) (λ j. polynomial k sent (entry number value m X j) % m)
+distance_taken number value m count k X Y sent within each =
+    let x = entry number value m X in let y = entry number value m Y in
+    let xs = entry number value m (take count X) in let ys = entry number value m (take count Y) in
+    let word : (ℕ → ℕ) → ℕ → ℕ = λ x j. polynomial k sent (x j) % m in
+    let alike = sum_below-same count (λ i. counted (ys i) (word xs i)) (λ i. counted (y i) (word x i))
+    (λ i l. ap (λ v. counted v (word xs i)) (entry_front number value m Y count i l (omega (arith, within, each)))
+    ∙ ap (λ a. counted (y i) (polynomial k sent a % m)) (entry_front number value m X count i l within)) in
+    let front = distance_front count (length X) y (word x) within in
+    subst (λ n. distance n ys (word xs) ≤ distance (length X) y (word x)) (sym (length-take-le count X within))
+    (omega (arith, alike, front))
+
+-- .. and these points fit where all do
+pub fit_taken : {T : Type 0} (number : T → ℕ) (value : ℕ → ℕ → ℕ) (m count : ℕ) (X : List T) → count ≤ length X
+    → HaveUnitDifferences m (length X) (entry number value m X)
+    → HaveUnitDifferences m (length (take count X)) (entry number value m (take count X))
+fit_taken number value m count X within fit =
+    let x = entry number value m X in let xs = entry number value m (take count X) in
+    subst (λ n. HaveUnitDifferences m n xs) (sym (length-take-le count X within))
+    (fit_same m count x xs (λ i l. sym (entry_front number value m X count i l within))
+    (fit_front m (length X) count x within fit))
 
 -- the chosen points and the quotients so far, as forms in two lists
 pub record Found {T : Type 0} (number : T → ℕ) (form value : ℕ → ℕ → ℕ) (m n k : ℕ) (x numerator locator : ℕ → ℕ)

@@ -46,8 +46,7 @@ fn locate<T: RingWord, R: Reducer<T>>(
     ensures fault { let m = R.modulus r.now in IfErr result (λ e. IsFault m (length places.now) (length points.now)
         (entry T.number R.value m points.now) places.now e) }
     ensures places { IsOk result → ArePlaces (length places.now) (length points.now) places.now }
-    ensures checked { IsOk result →
-        All (λ f. IsForm R.form R.value (R.modulus r.now) (T.number f)) located.new }
+    ensures checked { IsOk result → All (λ f. IsForm R.form R.value (R.modulus r.now) (T.number f)) located.new }
     ensures located { let m = R.modulus r.now in IsOk result → (i : ℕ) → i < length places.now →
         entry T.number R.value m located.new i ≡ entry T.number R.value m points.now (slice_index places.now i) }
     ensures fit { let m = R.modulus r.now in IsOk result →
@@ -122,35 +121,14 @@ fn decode<T: RingWord, R: Reducer<T>>(
 {
     let k = message.len();
     let half = (points.len() - k) / 2;
-    let (first_numerator, rest) = scratch.split_at_mut(half + k);
-    let (first_locator, rest) = rest.split_at_mut(half + 1);
-    let (second_numerator, rest) = rest.split_at_mut(half + k);
-    let (second_locator, rest) = rest.split_at_mut(half + 1);
     let count = k + 2 * half;
-    match solve(
-        r,
-        points,
-        symbols,
-        count,
-        k,
-        first_numerator,
-        first_locator,
-        second_numerator,
-        second_locator,
-    ) {
+    let points = &points[..count];
+    let symbols = &symbols[..count];
+    let (first, rest) = scratch.split_at_mut(count + 1);
+    let (second, rest) = rest.split_at_mut(count + 1);
+    match solve(r, points, symbols, k, first, second, half + k) {
         Err(a) => Err(a),
-        Ok(found) => divide_lighter(
-            r,
-            points,
-            count,
-            found,
-            first_numerator,
-            first_locator,
-            second_numerator,
-            second_locator,
-            rest,
-            message,
-        ),
+        Ok(weights) => divide_lighter(r, points, weights, first, second, half + k, rest, message),
     }
 }
 

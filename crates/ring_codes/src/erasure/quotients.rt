@@ -1,7 +1,7 @@
 //! The message from a pair that solves the key equation: the quotients N(x)/E(x) at k points are its values there.
 
 ghost use Rattle.std.specs.Prelude.{◌≡◌, ◌≢◌, ℕ, ◌+◌, ◌*◌, ◌%◌, ◌<◌, ◌≤◌};
-ghost use Rattle.std.specs.Prelude.{All, IsTrue, IfOk, IfErr, length, MatchOption};
+ghost use Rattle.std.specs.Prelude.{All, IsTrue, IfOk, IfErr, length, take, drop, MatchOption};
 ghost use Rattle.num_modular.specs.Congruence.{Congruent};
 ghost use Rattle.num_modular.specs.Entries.{entry};
 ghost use Rattle.num_modular.specs.Forms.{IsForm};
@@ -49,11 +49,10 @@ pub fn quotient<T: RingWord, R: Reducer<T>>(
 
 /// Writes the first k points at which E(x) has an inverse, and the quotients N(x)/E(x) there, k being the number of the
 /// places for them. Returns false where there are fewer. Where E(x) isn't 0 and has no inverse modulo m, it returns
-/// that number. Conditions: all are checked forms; there are at least `count` points; k is from 1 to `count`.
+/// that number. Conditions: all are checked forms; k is at least 1 and at most the number of points.
 pub fn divide<T: RingWord, R: Reducer<T>>(
     r: &R,
     points: &[T],
-    count: usize,
     numerator: &[T],
     locator: &[T],
     chosen: &mut [T],
@@ -62,9 +61,8 @@ pub fn divide<T: RingWord, R: Reducer<T>>(
     requires points { All (λ f. IsForm R.form R.value (R.modulus r.now) (T.number f)) points.now }
     requires numerator { All (λ f. IsForm R.form R.value (R.modulus r.now) (T.number f)) numerator.now }
     requires locator { All (λ f. IsForm R.form R.value (R.modulus r.now) (T.number f)) locator.now }
-    requires within { count ≤ length points.now }
     requires some { 0 < length chosen.old }
-    requires few { length chosen.old ≤ count }
+    requires few { length chosen.old ≤ length points.now }
     requires equal { length values.old ≡ length chosen.old }
     ensures inverse { IfErr result (λ a. IsWithoutInverse (R.modulus r.now) (T.number a)) }
     ensures checked_chosen { IfOk result (λ b. IsTrue b →
@@ -74,15 +72,16 @@ pub fn divide<T: RingWord, R: Reducer<T>>(
     ensures quotients { let m = R.modulus r.now in
         let n = polynomial (length numerator.now) (entry T.number R.value m numerator.now) in
         let e = polynomial (length locator.now) (entry T.number R.value m locator.now) in
-        IfOk result (λ b. IsTrue b → AreQuotients m count (length chosen.old) (entry T.number R.value m points.now) n e
-        (entry T.number R.value m chosen.new) (entry T.number R.value m values.new)) }
+        IfOk result (λ b. IsTrue b → AreQuotients m (length points.now) (length chosen.old)
+        (entry T.number R.value m points.now) n e (entry T.number R.value m chosen.new) (entry T.number R.value m values.new)) }
     ensures zeros { let m = R.modulus r.now in
         let e = polynomial (length locator.now) (entry T.number R.value m locator.now) in
         IfOk result (λ b. (IsTrue b → ⊥) → (HasInverse m 0 → ⊥)
-        × (distance count (λ j. e (entry T.number R.value m points.now j) % m) (λ j. 0) < length chosen.old)) }
+        × (distance (length points.now) (λ j. e (entry T.number R.value m points.now j) % m) (λ j. 0)
+        < length chosen.old)) }
 {
     let mut found = 0;
-    'points: for i in 0..count {
+    'points: for i in 0..points.len() {
         match quotient(r, &points[i], numerator, locator) {
             Err(a) => return Err(a),
             Ok(None) => continue,
@@ -99,42 +98,43 @@ pub fn divide<T: RingWord, R: Reducer<T>>(
     Ok(false)
 }
 
-/// Writes the message whose values are the quotients of a pair. Returns false where fewer than k quotients exist.
-/// Conditions: those of `divide`; there are three places of scratch for each symbol of the message, whose contents are
-/// ignored; the points fit.
+/// Writes the message whose values are the quotients of a pair: one list, whose first `split` coefficients are its
+/// numerator's. Returns false where fewer than k quotients exist. Conditions: those of `divide`; the numerator is within
+/// the pair; there are three places of scratch for each symbol of the message, whose contents are ignored; the points fit.
 pub fn divide_pair<T: RingWord, R: Reducer<T>>(
     r: &R,
     points: &[T],
-    count: usize,
-    numerator: &[T],
-    locator: &[T],
+    pair: &[T],
+    split: usize,
     scratch: &mut [T],
     message: &mut [T],
 ) -> Result<bool, T>
     requires points { All (λ f. IsForm R.form R.value (R.modulus r.now) (T.number f)) points.now }
-    requires numerator { All (λ f. IsForm R.form R.value (R.modulus r.now) (T.number f)) numerator.now }
-    requires locator { All (λ f. IsForm R.form R.value (R.modulus r.now) (T.number f)) locator.now }
-    requires within { count ≤ length points.now }
+    requires pair { All (λ f. IsForm R.form R.value (R.modulus r.now) (T.number f)) pair.now }
+    requires split { split ≤ length pair.now }
     requires some { 0 < length message.old }
-    requires few { length message.old ≤ count }
+    requires few { length message.old ≤ length points.now }
     requires room { 3 * length message.old ≤ length scratch.old }
-    requires fit { let m = R.modulus r.now in HaveUnitDifferences m count (entry T.number R.value m points.now) }
+    requires fit { let m = R.modulus r.now in
+        HaveUnitDifferences m (length points.now) (entry T.number R.value m points.now) }
     ensures inverse { IfErr result (λ a. IsWithoutInverse (R.modulus r.now) (T.number a)) }
     ensures checked { IfOk result (λ b. IsTrue b →
         All (λ f. IsForm R.form R.value (R.modulus r.now) (T.number f)) message.new) }
     ensures message { let m = R.modulus r.now in
-        let k = length message.old in let x = entry T.number R.value m points.now in
-        IfOk result (λ b. (c d u : ℕ) (y sent : ℕ → ℕ) → length numerator.now ≡ c → length locator.now ≡ d → 1 ≤ d →
-        d + k ≡ c + 1 → c ≤ count → u < 2 * c →
-        IsKeyPair m k c d count u x y (entry T.number R.value m numerator.now) (entry T.number R.value m locator.now) →
-        distance count y (λ j. polynomial k sent (x j) % m) + c ≤ count →
+        let k = length message.old in let s = length points.now in let x = entry T.number R.value m points.now in
+        IfOk result (λ b. (d u : ℕ) (y sent : ℕ → ℕ) → length pair.now ≡ split + d → 1 ≤ d →
+        d + k ≡ split + 1 → split ≤ s → u < 2 * split → IsKeyPair m k split d s u x y
+        (entry T.number R.value m (take split pair.now)) (entry T.number R.value m (drop split pair.now)) →
+        distance s y (λ j. polynomial k sent (x j) % m) + split ≤ s →
         IsTrue b × ((i : ℕ) → i < k → entry T.number R.value m message.new i ≡ sent i % m)) }
 {
     let k = message.len();
     let (chosen, rest) = scratch.split_at_mut(k);
     let (values, rest) = rest.split_at_mut(k);
     let weights = &mut rest[..k];
-    match divide(r, points, count, numerator, locator, chosen, values) {
+    let numerator = &pair[..split];
+    let locator = &pair[split..];
+    match divide(r, points, numerator, locator, chosen, values) {
         Err(a) => Err(a),
         Ok(false) => Ok(false),
         Ok(true) => Ok(interpolate(r, chosen, values, weights, message)),
@@ -147,58 +147,39 @@ pub fn divide_pair<T: RingWord, R: Reducer<T>>(
 pub fn divide_lighter<T: RingWord, R: Reducer<T>>(
     r: &R,
     points: &[T],
-    count: usize,
     pair_weights: (usize, usize),
-    first_numerator: &[T],
-    first_locator: &[T],
-    second_numerator: &[T],
-    second_locator: &[T],
+    first: &[T],
+    second: &[T],
+    split: usize,
     scratch: &mut [T],
     message: &mut [T],
 ) -> Result<bool, T>
     requires points { All (λ f. IsForm R.form R.value (R.modulus r.now) (T.number f)) points.now }
-    requires first_numerator { All (λ f. IsForm R.form R.value (R.modulus r.now) (T.number f)) first_numerator.now }
-    requires first_locator { All (λ f. IsForm R.form R.value (R.modulus r.now) (T.number f)) first_locator.now }
-    requires second_numerator { All (λ f. IsForm R.form R.value (R.modulus r.now) (T.number f)) second_numerator.now }
-    requires second_locator { All (λ f. IsForm R.form R.value (R.modulus r.now) (T.number f)) second_locator.now }
-    requires within { count ≤ length points.now }
+    requires first { All (λ f. IsForm R.form R.value (R.modulus r.now) (T.number f)) first.now }
+    requires second { All (λ f. IsForm R.form R.value (R.modulus r.now) (T.number f)) second.now }
+    requires first_split { split ≤ length first.now }
+    requires second_split { split ≤ length second.now }
     requires some { 0 < length message.old }
-    requires few { length message.old ≤ count }
+    requires few { length message.old ≤ length points.now }
     requires room { 3 * length message.old ≤ length scratch.old }
-    requires fit { let m = R.modulus r.now in HaveUnitDifferences m count (entry T.number R.value m points.now) }
+    requires fit { let m = R.modulus r.now in
+        HaveUnitDifferences m (length points.now) (entry T.number R.value m points.now) }
     ensures inverse { IfErr result (λ a. IsWithoutInverse (R.modulus r.now) (T.number a)) }
     ensures checked { IfOk result (λ b. IsTrue b →
         All (λ f. IsForm R.form R.value (R.modulus r.now) (T.number f)) message.new) }
     ensures message { let m = R.modulus r.now in
-        let k = length message.old in let x = entry T.number R.value m points.now in
-        IfOk result (λ b. (c d : ℕ) (y sent : ℕ → ℕ) → length first_numerator.now ≡ c → length first_locator.now ≡ d →
-        length second_numerator.now ≡ c → length second_locator.now ≡ d → 1 ≤ d → d + k ≡ c + 1 → c ≤ count →
-        pair_weights.0 + pair_weights.1 < 2 * c →
-        AreKeyPairs m k c d count pair_weights.0 pair_weights.1 x y
-        (entry T.number R.value m first_numerator.now) (entry T.number R.value m first_locator.now)
-        (entry T.number R.value m second_numerator.now) (entry T.number R.value m second_locator.now) →
-        distance count y (λ j. polynomial k sent (x j) % m) + c ≤ count →
+        let k = length message.old in let s = length points.now in let x = entry T.number R.value m points.now in
+        IfOk result (λ b. (d : ℕ) (y sent : ℕ → ℕ) → length first.now ≡ split + d → length second.now ≡ split + d →
+        1 ≤ d → d + k ≡ split + 1 → split ≤ s → pair_weights.0 + pair_weights.1 < 2 * split →
+        AreKeyPairs m k split d s pair_weights.0 pair_weights.1 x y
+        (entry T.number R.value m (take split first.now)) (entry T.number R.value m (drop split first.now))
+        (entry T.number R.value m (take split second.now)) (entry T.number R.value m (drop split second.now)) →
+        distance s y (λ j. polynomial k sent (x j) % m) + split ≤ s →
         IsTrue b × ((i : ℕ) → i < k → entry T.number R.value m message.new i ≡ sent i % m)) }
 {
     if pair_weights.0 <= pair_weights.1 {
-        divide_pair(
-            r,
-            points,
-            count,
-            first_numerator,
-            first_locator,
-            scratch,
-            message,
-        )
+        divide_pair(r, points, first, split, scratch, message)
     } else {
-        divide_pair(
-            r,
-            points,
-            count,
-            second_numerator,
-            second_locator,
-            scratch,
-            message,
-        )
+        divide_pair(r, points, second, split, scratch, message)
     }
 }

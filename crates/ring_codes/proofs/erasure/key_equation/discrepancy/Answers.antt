@@ -1,31 +1,45 @@
-use Rattle.num_modular.specs.Callers.{◌+◌, ◌*◌, entry, subst, length}
+use Rattle.std.proofs.Common.{All, sym, take, drop, length-take-le, length-drop}
+use Rattle.std.proofs.lemmas.List.Elements.{All-take, All-drop}
+use Rattle.num_modular.specs.Callers.{◌≡◌, ◌+◌, ◌*◌, IsForm, entry, subst, arith, length}
 use Rattle.num_modular.specs.Congruence.{Congruent}
 use Rattle.num_modular.specs.Polynomials.{polynomial}
+use Rattle.ring_codes.proofs.Pairs.{rest_whole}
 use Rattle.ring_codes.proofs.KeyPairs.{discrepancy_value}
 use Rattle.ring_codes.proofs.erasure.key_equation.discrepancy.Goals as goal
 
 pub returns-clause-value : goal.returns-clause-value
-returns-clause-value g c cn d is_c is_d =
+returns-clause-value g c d whole =
     let ring = g.R.Reducer in let m = ring.modulus c.args.r.now in let number = g.T.RingWord.number in
     let positive = (g.met.R.Reducer.canonical c.args.r.now).positive in
+    let pair = c.args.pair.now in let split = c.args.split in
     let x = ring.value m (number c.args.point.now) in
     let y = ring.value m (number c.args.symbol.now) in
-    let n = entry number ring.value m c.args.numerator.now in
-    let e = entry number ring.value m c.args.locator.now in
+    let n = entry number ring.value m (take split pair) in
+    let e = entry number ring.value m (drop split pair) in
     let v = ring.value m (number c.sub.result) in
+    let left = length-drop split pair in
+    let front : length (take split pair) ≡ split = length-take-le split pair c.requires.within in
+    let back : length (drop split pair) ≡ d = omega (arith, left, whole) in
     let one = discrepancy_value m _ _ _ _ _ _ _ positive c.evaluate-value.ensures.value c.evaluate-located.ensures.value
     c.mul-product.ensures.value c.sub.ensures.value in
-    subst (λ k. Congruent m (v + y * polynomial d e x) (polynomial k n x)) is_c
-    (subst (λ k. Congruent m (v + y * polynomial k e x) (polynomial (length c.args.numerator.now) n x)) is_d one)
+    subst (λ k. Congruent m (v + y * polynomial d e x) (polynomial k n x)) front
+    (subst (λ k. Congruent m (v + y * polynomial k e x) (polynomial (length (take split pair)) n x)) back
+    (subst (λ xs. Congruent m (v + y * polynomial (length xs) (entry number ring.value m xs) x)
+    (polynomial (length (take split pair)) n x)) (rest_whole pair split) one))
 
 pub evaluate-value-requires-clause-coefficients : goal.evaluate-value-requires-clause-coefficients
-evaluate-value-requires-clause-coefficients g c = c.requires.numerator
+evaluate-value-requires-clause-coefficients g c =
+    let ring = g.R.Reducer in let m = ring.modulus c.args.r.now in
+    All-take (λ f. IsForm ring.form ring.value m (g.T.RingWord.number f)) c.args.split c.args.pair.now c.requires.pair
 
 pub evaluate-value-requires-clause-point : goal.evaluate-value-requires-clause-point
 evaluate-value-requires-clause-point g c = c.requires.point
 
 pub evaluate-located-requires-clause-coefficients : goal.evaluate-located-requires-clause-coefficients
-evaluate-located-requires-clause-coefficients g c = c.requires.locator
+evaluate-located-requires-clause-coefficients g c =
+    let ring = g.R.Reducer in let m = ring.modulus c.args.r.now in
+    subst (λ xs. All (λ f. IsForm ring.form ring.value m (g.T.RingWord.number f)) xs) (sym (rest_whole c.args.pair.now c.args.split))
+    (All-drop (λ f. IsForm ring.form ring.value m (g.T.RingWord.number f)) c.args.split c.args.pair.now c.requires.pair)
 
 pub evaluate-located-requires-clause-point : goal.evaluate-located-requires-clause-point
 evaluate-located-requires-clause-point g c = c.requires.point

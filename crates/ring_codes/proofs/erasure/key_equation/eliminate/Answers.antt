@@ -2,7 +2,7 @@ use Rattle.num_modular.specs.Callers.{◌*◌, ◌%◌, ◌∙◌, ap, arith}
 use Rattle.num_modular.specs.Callers.{entry, entry_at, entry_read, form_read, forms_written, done_none, done_more}
 use Rattle.num_modular.specs.NumberLaws.{mod_of_eq, mod_trans, residue_of}
 use Rattle.ring_codes.proofs.NewtonForms.{subtracted}
-use Rattle.num_modular.specs.Callers.{◌<◌, ◌-◌, sym, subst}
+use Rattle.num_modular.specs.Callers.{◌<◌, sym, subst}
 use borrow.Author.Count.{falls}
 use Rattle.std.proofs.Math.Nat.{le_of_lt}
 use Rattle.ring_codes.proofs.erasure.key_equation.eliminate.Goals as goal

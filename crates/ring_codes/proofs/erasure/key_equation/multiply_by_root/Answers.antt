@@ -4,7 +4,7 @@ use Rattle.num_modular.specs.Callers.{entry, entry_read, form_read, forms_writte
 use Rattle.num_modular.specs.NumberLaws.{mod_of_eq, mod_trans}
 use Rattle.ring_codes.proofs.KeyPairs.{shifted_none, shifted_next}
 use Rattle.ring_codes.proofs.NewtonForms.{subtracted}
-use Rattle.num_modular.specs.Callers.{◌<◌, ◌-◌, subst}
+use Rattle.num_modular.specs.Callers.{◌<◌, subst}
 use borrow.Author.Count.{falls}
 use Rattle.ring_codes.proofs.erasure.key_equation.multiply_by_root.Goals as goal
 

@@ -1,30 +1,55 @@
-use Rattle.num_modular.specs.Callers.{entry_past, arith}
+use Rattle.std.proofs.Common.{drop, All, subst, sym, ◌≡◌, ◌+◌, ◌∙◌, length}
+use Rattle.std.proofs.lemmas.List.Elements.{All-take, All-drop, All-append}
+use Rattle.num_modular.specs.Callers.{IsForm, entry, entry_past, arith}
+use Rattle.ring_codes.specs.KeyEquations.{IsKeyPair}
 use Rattle.ring_codes.proofs.KeyPairs.{raised}
+use Rattle.ring_codes.proofs.Pairs.{joined_pair}
 use Rattle.ring_codes.proofs.erasure.key_equation.raise.Goals as goal
 
 pub returns-clause-pair : goal.returns-clause-pair
-returns-clause-pair g c cn d k i u x y is_c is_d lengths room at pair =
+returns-clause-pair g c d k i u x y whole lengths room at pair =
     let ring = g.R.Reducer in let m = ring.modulus c.args.r.now in let number = g.T.RingWord.number in
-    raised m k cn d i u _ x y _ _ _ _ lengths room at
+    let split = c.args.split in let list = c.args.pair.now in
+    let front = c.split_at_mut-numerator.result.0.now in let back = c.split_at_mut-numerator.result.1.now in
+    let is_c : length front ≡ split = c.split_at_mut-numerator.ensures.front_len in
+    let is_d : length back ≡ d = omega (arith, c.split_at_mut-numerator.ensures.back_len, whole) in
+    let parts : IsKeyPair m k split d i u x y (entry number ring.value m front) (entry number ring.value m back) =
+    subst (λ b. IsKeyPair m k split d i u x y (entry number ring.value m front) (entry number ring.value m b))
+    (sym c.split_at_mut-numerator.ensures.back)
+    (subst (λ a. IsKeyPair m k split d i u x y (entry number ring.value m a) (entry number ring.value m (drop split list)))
+    (sym c.split_at_mut-numerator.ensures.front) pair) in
+    let long_c = c.multiply_by_root.auto.coefficients in let long_d = c.multiply_by_root-2.auto.coefficients in
+    joined_pair number ring.value m k split d (i + 1) (u + 2) x y c.multiply_by_root.new.coefficients
+    c.multiply_by_root-2.new.coefficients (long_c ∙ is_c)
+    (raised m k split d i u _ x y _ _ _ _ lengths room at
     (λ l b. c.multiply_by_root.ensures.product l (omega (arith, b, is_c)))
     (λ l b. c.multiply_by_root-2.ensures.product l (omega (arith, b, is_d)))
-    (λ l b. entry_past number ring.value m c.multiply_by_root.new.coefficients l (omega (arith, b, is_c)))
-    (λ l b. entry_past number ring.value m c.multiply_by_root-2.new.coefficients l (omega (arith, b, is_d))) pair
+    (λ l b. entry_past number ring.value m c.multiply_by_root.new.coefficients l (omega (arith, b, is_c, long_c)))
+    (λ l b. entry_past number ring.value m c.multiply_by_root-2.new.coefficients l (omega (arith, b, is_d, long_d))) parts)
+
+pub split_at_mut-numerator-requires : goal.split_at_mut-numerator-requires
+split_at_mut-numerator-requires g c = c.requires.within
 
 pub multiply_by_root-requires-clause-point : goal.multiply_by_root-requires-clause-point
 multiply_by_root-requires-clause-point g c = c.requires.point
 
 pub multiply_by_root-requires-clause-coefficients : goal.multiply_by_root-requires-clause-coefficients
-multiply_by_root-requires-clause-coefficients g c = c.requires.numerator
+multiply_by_root-requires-clause-coefficients g c =
+    let ring = g.R.Reducer in let m = ring.modulus c.args.r.now in
+    subst (λ xs. All (λ f. IsForm ring.form ring.value m (g.T.RingWord.number f)) xs) (sym c.split_at_mut-numerator.ensures.front)
+    (All-take (λ f. IsForm ring.form ring.value m (g.T.RingWord.number f)) c.args.split c.args.pair.now c.requires.pair)
 
 pub multiply_by_root-requires-2-clause-point : goal.multiply_by_root-requires-2-clause-point
 multiply_by_root-requires-2-clause-point g c = c.requires.point
 
 pub multiply_by_root-requires-2-clause-coefficients : goal.multiply_by_root-requires-2-clause-coefficients
-multiply_by_root-requires-2-clause-coefficients g c = c.requires.locator
+multiply_by_root-requires-2-clause-coefficients g c =
+    let ring = g.R.Reducer in let m = ring.modulus c.args.r.now in
+    subst (λ xs. All (λ f. IsForm ring.form ring.value m (g.T.RingWord.number f)) xs) (sym c.split_at_mut-numerator.ensures.back)
+    (All-drop (λ f. IsForm ring.form ring.value m (g.T.RingWord.number f)) c.args.split c.args.pair.now c.requires.pair)
 
-pub returns-clause-checked_numerator : goal.returns-clause-checked_numerator
-returns-clause-checked_numerator g c = c.multiply_by_root.ensures.checked
-
-pub returns-clause-checked_locator : goal.returns-clause-checked_locator
-returns-clause-checked_locator g c = c.multiply_by_root-2.ensures.checked
+pub returns-clause-checked : goal.returns-clause-checked
+returns-clause-checked g c =
+    let ring = g.R.Reducer in let m = ring.modulus c.args.r.now in
+    All-append (λ f. IsForm ring.form ring.value m (g.T.RingWord.number f)) c.multiply_by_root.new.coefficients
+    c.multiply_by_root-2.new.coefficients c.multiply_by_root.ensures.checked c.multiply_by_root-2.ensures.checked

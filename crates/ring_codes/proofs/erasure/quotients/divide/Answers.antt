@@ -6,7 +6,7 @@ use Rattle.ring_codes.specs.KeyEquations.{IsQuotient}
 use Rattle.ring_codes.proofs.NearPairs.{found_none, found_kept, found_more, found_all, zeros_kept, zeros_more, none_counted}
 use Rattle.num_modular.specs.Callers.{refl}
 use Rattle.std.proofs.lemmas.Bool.{false≢true}
-use Rattle.std.proofs.Math.Nat.{le_of_lt, le_trans}
+use Rattle.std.proofs.Math.Nat.{le_of_lt}
 use borrow.Author.Count.{falls}
 use Rattle.num_modular.specs.Callers.{◌≡◌, held_forms}
 use Rattle.ring_codes.specs.Erasure.{distance}
@@ -31,7 +31,7 @@ points-preserved-in-Ok-None g c =
     let e = polynomial (length c.args.locator.now) (entry number ring.value m c.args.locator.now) in
     let few = so_far.1 in
     let none = rw c.in-Ok-None.field-0-is at c.in-Ok-None.ensures.quotient in
-    let point = entry_read number ring.value m c.args.points.now i _ (omega (arith, c.requires.within)) c.index-points-i.is in (
+    let point = entry_read number ring.value m c.args.points.now i _ (omega arith) c.index-points-i.is in (
       so_far.0,
       omega (arith, few),
       λ l. none.1,
@@ -47,7 +47,7 @@ points-preserved g c =
     let p = polynomial (length c.args.numerator.now) (entry number ring.value m c.args.numerator.now) in
     let e = polynomial (length c.args.locator.now) (entry number ring.value m c.args.locator.now) in
     let few = so_far.1 in let below = so_far.0 in
-    let within : i < length points = omega (arith, c.requires.within) in
+    let within : i < length points = omega arith in
     let is = rw c.in-Ok-Some.field-0-is at c.in-Ok-Some.ensures.quotient in
     let point = entry_read number ring.value m points i _ within c.index-points-i.is in
     let point_again = entry_read number ring.value m points i _ within c.index-points-i-in-Ok-Some.is in
@@ -74,7 +74,7 @@ returns-then-found-chosen-clause-quotients g c t =
     let p = polynomial (length c.args.numerator.now) (entry number ring.value m c.args.numerator.now) in
     let e = polynomial (length c.args.locator.now) (entry number ring.value m c.args.locator.now) in
     let few = so_far.1 in let below = so_far.0 in
-    let within : i < length points = omega (arith, c.requires.within) in
+    let within : i < length points = omega arith in
     let is = rw c.in-Ok-Some.field-0-is at c.in-Ok-Some.ensures.quotient in
     let point = entry_read number ring.value m points i _ within c.index-points-i.is in
     let point_again = entry_read number ring.value m points i _ within c.index-points-i-in-Ok-Some.is in
@@ -86,26 +86,26 @@ returns-then-found-chosen-clause-quotients g c t =
     c.index-points-i-in-Ok-Some.result c.in-Ok-Some.value (omega (arith, below)) (omega (arith, below, equal)) so_far.4 form point_again
     is.0 (subst (λ a. IsQuotient m (p a) (e a) (ring.value m (number c.in-Ok-Some.value))) point is.1) in
     let last = c.if-found-chosen.true in
-    found_all number ring.form ring.value m (i + 1) (c.points.found + 1) _ c.args.count x p e _ _ (omega (arith, last, same))
+    found_all number ring.form ring.value m (i + 1) (c.points.found + 1) _ (length c.args.points.now) x p e _ _ (omega (arith, last, same))
     last (omega (arith, last, same, same_values, equal)) (omega arith) more
 
 pub offset_bounds-points-i : goal.offset_bounds-points-i
-offset_bounds-points-i g c = le_of_lt (le_trans c.points-test.true c.requires.within)
+offset_bounds-points-i g c = le_of_lt (c.points-test.true)
 
 pub bounds-points-i : goal.bounds-points-i
-bounds-points-i g c = le_trans c.points-test.true c.requires.within
+bounds-points-i g c = c.points-test.true
 
 pub offset_bounds-points-i-in-Ok-Some : goal.offset_bounds-points-i-in-Ok-Some
-offset_bounds-points-i-in-Ok-Some g c = le_of_lt (le_trans c.points-test.true c.requires.within)
+offset_bounds-points-i-in-Ok-Some g c = le_of_lt (c.points-test.true)
 
 pub bounds-points-i-in-Ok-Some : goal.bounds-points-i-in-Ok-Some
-bounds-points-i-in-Ok-Some g c = le_trans c.points-test.true c.requires.within
+bounds-points-i-in-Ok-Some g c = c.points-test.true
 
 pub quotient-requires-clause-point : goal.quotient-requires-clause-point
 quotient-requires-clause-point g c =
     let ring = g.R.Reducer in let m = ring.modulus c.args.r.now in
     form_read g.T.RingWord.number ring.form ring.value m c.args.points.now c.points.i _ c.requires.points
-    (le_trans c.points-test.true c.requires.within) c.index-points-i.is
+    (c.points-test.true) c.index-points-i.is
 
 pub quotient-requires-clause-numerator : goal.quotient-requires-clause-numerator
 quotient-requires-clause-numerator g c = c.requires.numerator
@@ -165,7 +165,7 @@ returns-then-found-chosen-clause-checked_values g c t =
     let points = c.args.points.now in let x = entry number ring.value m points in
     let p = polynomial (length c.args.numerator.now) (entry number ring.value m c.args.numerator.now) in
     let e = polynomial (length c.args.locator.now) (entry number ring.value m c.args.locator.now) in
-    let below = so_far.0 in let within : i < length points = le_trans c.points-test.true c.requires.within in
+    let below = so_far.0 in let within : i < length points = c.points-test.true in
     let is = rw c.in-Ok-Some.field-0-is at c.in-Ok-Some.ensures.quotient in
     let point = entry_read number ring.value m points i _ within c.index-points-i.is in
     let point_again = entry_read number ring.value m points i _ within c.index-points-i-in-Ok-Some.is in
@@ -186,7 +186,7 @@ returns-then-found-chosen-clause-checked_chosen g c t =
     let points = c.args.points.now in let x = entry number ring.value m points in
     let p = polynomial (length c.args.numerator.now) (entry number ring.value m c.args.numerator.now) in
     let e = polynomial (length c.args.locator.now) (entry number ring.value m c.args.locator.now) in
-    let below = so_far.0 in let within : i < length points = le_trans c.points-test.true c.requires.within in
+    let below = so_far.0 in let within : i < length points = c.points-test.true in
     let is = rw c.in-Ok-Some.field-0-is at c.in-Ok-Some.ensures.quotient in
     let point = entry_read number ring.value m points i _ within c.index-points-i.is in
     let point_again = entry_read number ring.value m points i _ within c.index-points-i-in-Ok-Some.is in
@@ -206,7 +206,7 @@ returns-clause-zeros g c h =
     let x = entry number ring.value m c.args.points.now in
     let e = polynomial (length c.args.locator.now) (entry number ring.value m c.args.locator.now) in
     let below = c.points.invariant.0 in let few = c.requires.few in let zeros = c.points.invariant.3 in
-    let all : c.points.i ≡ c.args.count = omega arith in (
+    let all : c.points.i ≡ length c.args.points.now = omega arith in (
       c.points.invariant.2 (omega (arith, below, few)),
       subst (λ n. distance n (λ j. e (x j) % m) (λ j. 0) < length c.args.chosen.now) all (omega (arith, zeros, below)),
     )

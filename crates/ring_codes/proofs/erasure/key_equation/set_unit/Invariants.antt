@@ -1,5 +1,5 @@
 use Rattle.num_modular.specs.Callers.{HoldBelow}
-use Rattle.ring_codes.proofs.erasure.key_equation.set_constant.Given as goal
+use Rattle.ring_codes.proofs.erasure.key_equation.set_unit.Given as goal
 
 -- the coefficients so far are 0
 abbrev pub invariant-coefficients : goal.invariant-coefficients

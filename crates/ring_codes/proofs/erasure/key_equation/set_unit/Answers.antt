@@ -1,17 +1,16 @@
-use Rattle.num_modular.specs.Callers.{◌≢◌, ◌∙◌, arith, inl, inr, length}
+use Rattle.num_modular.specs.Callers.{◌∙◌, arith, inl, inr, length}
 use Rattle.num_modular.specs.Callers.{entry_past, entry_kept, held_entry}
 use Rattle.std.proofs.lemmas.Bool.{cases_lt}
 use Rattle.num_modular.specs.Callers.{◌<◌, ◌≤◌, ◌%◌, ap, sym, subst, hold_more, held_forms, forms_written, entry_written}
 use borrow.Author.Count.{falls}
 use Rattle.ring_codes.proofs.Counts.{zero_mod}
-use Rattle.ring_codes.proofs.erasure.key_equation.set_constant.Goals as goal
+use Rattle.ring_codes.proofs.erasure.key_equation.set_unit.Goals as goal
 
 pub returns-clause-others : goal.returns-clause-others
-returns-clause-others g c i l =
+returns-clause-others g c i other =
     let ring = g.R.Reducer in let m = ring.modulus c.args.r.now in let number = g.T.RingWord.number in
     let list = c.coefficients.coefficients in
-    let other : i ≢ 0 = omega arith in
-    entry_kept number ring.value m list 0 i _ other
+    entry_kept number ring.value m list c.args.place i _ other
     ∙ elim (cases_lt i (length list)) [
       | inl b ↦ held_entry number ring.form ring.value m list (λ k. 0) c.coefficients.i i c.coefficients.invariant
           (omega arith) b
@@ -36,19 +35,20 @@ coefficients-preserved g c =
     c.transform-zero.ensures.checked
     (c.transform-zero.ensures.value ∙ ap (λ v. v % m) c.zero.ensures ∙ zero_mod m)
 
-pub bounds-coefficients-0 : goal.bounds-coefficients-0
-bounds-coefficients-0 g c = subst (λ n. 0 < n) (sym c.coefficients.auto.coefficients) c.requires.some
+pub bounds-coefficients-place : goal.bounds-coefficients-place
+bounds-coefficients-place g c = subst (λ n. c.args.place < n) (sym c.coefficients.auto.coefficients) c.requires
 
 pub returns-clause-checked : goal.returns-clause-checked
 returns-clause-checked g c =
     let ring = g.R.Reducer in let m = ring.modulus c.args.r.now in let number = g.T.RingWord.number in
     let list = c.coefficients.coefficients in
     let all : length list ≤ c.coefficients.i = subst (λ n. n ≤ c.coefficients.i) (sym c.coefficients.auto.coefficients) c.coefficients-test.false in
-    forms_written number ring.form ring.value m list 0 c.args.constant.now c.requires.constant
+    forms_written number ring.form ring.value m list c.args.place _ c.transform-one.ensures.checked
     (held_forms number ring.form ring.value m list (λ k. 0) c.coefficients.i c.coefficients.invariant all)
 
-pub returns-clause-constant : goal.returns-clause-constant
-returns-clause-constant g c =
+pub returns-clause-one : goal.returns-clause-one
+returns-clause-one g c =
     let ring = g.R.Reducer in let m = ring.modulus c.args.r.now in let number = g.T.RingWord.number in
-    entry_written number ring.value m c.coefficients.coefficients 0 c.args.constant.now
-    (subst (λ n. 0 < n) (sym c.coefficients.auto.coefficients) c.requires.some)
+    entry_written number ring.value m c.coefficients.coefficients c.args.place _
+    (subst (λ n. c.args.place < n) (sym c.coefficients.auto.coefficients) c.requires)
+    ∙ c.transform-one.ensures.value ∙ ap (λ v. v % m) c.one.ensures
