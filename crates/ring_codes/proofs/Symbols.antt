@@ -1,6 +1,7 @@
 -- Symbols of words, as entries of lists of forms.
 use Rattle.std.proofs.Common.{◌≡◌, ℕ, ◌<◌, ◌≤◌, List, [], ◌∷◌, length, take, get_or, All, pos, ◌-ℤ◌, sym, ◌∙◌, ap, subst, arith}
 use Rattle.std.proofs.Common.{◌+◌, ◌-◌, ◌++◌, drop, length-append, length-drop, ◌↔◌, Bool, true, false, not, IsTrue, refl}
+use Rattle.std.proofs.Common.{◌≢◌, Option, Some, None, is_some, MatchOption}
 use Rattle.std.proofs.lemmas.Bool.{false≢true}
 use Rattle.std.proofs.lemmas.List.{get_or-take, length-take-le}
 use Rattle.num_modular.specs.Callers.{IsForm, HasInverse, entry, entry_at}
@@ -64,6 +65,15 @@ told_same b false P is f tells = absurd (false≢true (sym f ∙ is))
 
 pub told_other : (b e : Bool) (P : Type 0) → b ≡ not e → b ≡ true → (IsTrue e ↔ P) → P → ⊥
 told_other b e P is t tells p = false≢true (sym (is ∙ ap not (tells.1 p)) ∙ t)
+
+-- whether an index of a place was found
+pub index_tells : (places : List ℕ) (count place : ℕ) (found : Option ℕ) (b : Bool)
+    → MatchOption found ((j : ℕ) → j < count → get_or places j 0 ≢ place)
+    (λ j. (j < count) × (get_or places j 0 ≡ place))
+    → b ≡ is_some found → IsTrue b ↔ ((j : ℕ) × (j < count) × (get_or places j 0 ≡ place))
+index_tells places count place None b h e =
+    ((λ t. let wrong : false ≡ true = sym e ∙ t in cc), λ there. absurd (h there.0 there.1 there.2))
+index_tells places count place (Some j) b h e = ((λ t. (j, h.0, h.1)), λ there. e)
 
 -- entries that were read at other places
 pub entry_chosen : {T : Type 0} (number : T → ℕ) (value : ℕ → ℕ → ℕ) (m : ℕ) (forms chosen : List T) (i p : ℕ)

@@ -41,6 +41,7 @@ use num_modular::{Reducer, RingWord};
 pub use powers::{encode_by_plan, encode_by_transform, fill_powers, root_laws};
 pub use prepared::PreparedCode;
 pub use secrets::{ShareError, recover, recover_correct, secrecy_laws, share};
+use words::index_of;
 pub use words::restore_word;
 
 /// Why a message can't be restored.
@@ -184,8 +185,7 @@ pub fn interpolate<T: RingWord, R: Reducer<T>>(
     requires weights { length weights.old ≡ length coefficients.old }
     ensures fit { let m = R.modulus r.now in
         IsTrue result ↔ HaveUnitDifferences m (length coefficients.old) (entry T.number R.value m points.now) }
-    ensures checked { IsTrue result →
-        All (λ f. IsForm R.form R.value (R.modulus r.now) (T.number f)) coefficients.new }
+    ensures checked { IsTrue result → All (λ f. IsForm R.form R.value (R.modulus r.now) (T.number f)) coefficients.new }
     ensures values { let m = R.modulus r.now in IsTrue result →
         IsEncoding m (length coefficients.old) (length coefficients.old) (entry T.number R.value m points.now)
         (entry T.number R.value m coefficients.new) (entry T.number R.value m values.now) }
@@ -243,8 +243,7 @@ pub fn is_codeword<T: RingWord, R: Reducer<T>>(
     ensures message { let m = R.modulus r.now in IsTrue result →
         IsEncoding m (length message.old) (length points.now) (entry T.number R.value m points.now)
         (entry T.number R.value m message.new) (entry T.number R.value m word.now) }
-    ensures checked { IsTrue result →
-        All (λ f. IsForm R.form R.value (R.modulus r.now) (T.number f)) message.new }
+    ensures checked { IsTrue result → All (λ f. IsForm R.form R.value (R.modulus r.now) (T.number f)) message.new }
 {
     if !interpolate(r, points, word, weights, message) {
         return false;
@@ -291,15 +290,13 @@ pub fn encode_systematic<T: RingWord, R: Reducer<T>>(
     requires coefficients { length coefficients.old ≡ length message.now }
     ensures fit { let m = R.modulus r.now in
         IsTrue result ↔ HaveUnitDifferences m (length message.now) (entry T.number R.value m points.now) }
-    ensures checked { IsTrue result →
-        All (λ f. IsForm R.form R.value (R.modulus r.now) (T.number f)) word.new }
+    ensures checked { IsTrue result → All (λ f. IsForm R.form R.value (R.modulus r.now) (T.number f)) word.new }
     ensures encoding { let m = R.modulus r.now in IsTrue result →
         IsEncoding m (length message.now) (length points.now) (entry T.number R.value m points.now)
         (entry T.number R.value m coefficients.new) (entry T.number R.value m word.new) }
     ensures systematic { let m = R.modulus r.now in IsTrue result → (i : ℕ) → i < length message.now →
         entry T.number R.value m word.new i ≡ entry T.number R.value m message.now i }
-    ensures forms { IsTrue result →
-        All (λ f. IsForm R.form R.value (R.modulus r.now) (T.number f)) coefficients.new }
+    ensures forms { IsTrue result → All (λ f. IsForm R.form R.value (R.modulus r.now) (T.number f)) coefficients.new }
     ensures unchanged { (IsTrue result → ⊥) → word.new ≡ word.old }
 {
     if !interpolate(r, points, message, weights, coefficients) {
@@ -307,19 +304,6 @@ pub fn encode_systematic<T: RingWord, R: Reducer<T>>(
     }
     encode(r, points, coefficients, word);
     true
-}
-
-// Whether the place at an index also occurs at a lower index.
-fn occurs_before(places: &[usize], at: usize) -> bool
-    requires { at < length places.now }
-    ensures { IsTrue result ↔ ((j : ℕ) × (j < at) × (slice_index places.now j ≡ slice_index places.now at)) }
-{
-    'indices: for j in 0..at {
-        if places[j] == places[at] {
-            return true;
-        }
-    }
-    false
 }
 
 // Copies the points at the first places, as many as `chosen` holds.
@@ -338,7 +322,7 @@ fn choose<T: RingWord>(points: &[T], places: &[usize], chosen: &mut [T]) -> Resu
         if place >= points.len() {
             return Err(RestoreError::PlaceOutOfRange);
         }
-        if occurs_before(places, i) {
+        if index_of(places, i, place).is_some() {
             return Err(RestoreError::PlaceTwice);
         }
         chosen[i] = points[place];
@@ -384,8 +368,7 @@ pub fn restore<T: RingWord, R: Reducer<T>>(
         (λ i. entry T.number R.value m points.now (slice_index places.now i))) }
     ensures fault { let m = R.modulus r.now in IfErr result (λ e. IsFault m (length message.old) (length points.now)
         (entry T.number R.value m points.now) places.now e) }
-    ensures checked { IsOk result →
-        All (λ f. IsForm R.form R.value (R.modulus r.now) (T.number f)) message.new }
+    ensures checked { IsOk result → All (λ f. IsForm R.form R.value (R.modulus r.now) (T.number f)) message.new }
     ensures symbols { let m = R.modulus r.now in IsOk result →
         IsEncoding m (length message.old) (length message.old)
         (λ i. entry T.number R.value m points.now (slice_index places.now i))

@@ -10,8 +10,8 @@ ghost use Rattle.ring_codes.specs.Erasure.{IsEncoding, IsErasureCodeword, ArePla
 use super::{RestoreError, evaluate, restore};
 use num_modular::{Reducer, RingWord};
 
-// An index below `count` of a place in the list; `None` exactly where there is none.
-fn index_of(places: &[usize], count: usize, place: usize) -> Option<usize>
+/// An index below `count` of a place in the list; `None` exactly where there is none. Condition: the list has so many.
+pub fn index_of(places: &[usize], count: usize, place: usize) -> Option<usize>
     requires { count ≤ length places.now }
     ensures { MatchOption result ((j : ℕ) → j < count → slice_index places.now j ≢ place)
         (λ j. (j < count) × (slice_index places.now j ≡ place)) }
@@ -121,10 +121,8 @@ pub fn restore_word<T: RingWord, R: Reducer<T>>(
         (λ i. entry T.number R.value m points.now (slice_index places.now i))) }
     ensures fault { let m = R.modulus r.now in IfErr result (λ e. IsFault m (length message.old) (length points.now)
         (entry T.number R.value m points.now) places.now e) }
-    ensures checked { IsOk result →
-        All (λ f. IsForm R.form R.value (R.modulus r.now) (T.number f)) word.new }
-    ensures forms { IsOk result →
-        All (λ f. IsForm R.form R.value (R.modulus r.now) (T.number f)) message.new }
+    ensures checked { IsOk result → All (λ f. IsForm R.form R.value (R.modulus r.now) (T.number f)) word.new }
+    ensures forms { IsOk result → All (λ f. IsForm R.form R.value (R.modulus r.now) (T.number f)) message.new }
     ensures encoding { let m = R.modulus r.now in IsOk result →
         IsEncoding m (length message.old) (length points.now) (entry T.number R.value m points.now)
         (entry T.number R.value m message.new) (entry T.number R.value m word.new) }

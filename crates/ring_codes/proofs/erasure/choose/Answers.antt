@@ -4,6 +4,7 @@ use Rattle.std.proofs.lemmas.List.{get_or_read}
 use borrow.Author.Rules.{scaled_Fits}
 use borrow.Author.Count.{falls}
 use Rattle.std.proofs.Math.Nat.{le_of_lt, le_trans}
+use Rattle.ring_codes.proofs.Symbols.{index_tells}
 use Rattle.ring_codes.proofs.erasure.choose.Goals as goal
 
 pub returns-then-places-chosen-clause-places : goal.returns-then-places-chosen-clause-places
@@ -27,15 +28,15 @@ returns-then-place-points-clause-chosen g c t = absurd (false≢true t)
 pub returns-then-place-points-clause-fault : goal.returns-then-place-points-clause-fault
 returns-then-place-points-clause-fault g c m x = (c.places.i, omega arith, c.if-place-points.true)
 
-pub returns-then-occurs_before-clause-places : goal.returns-then-occurs_before-clause-places
-returns-then-occurs_before-clause-places g c t = absurd (false≢true t)
+pub returns-then-is_some-clause-places : goal.returns-then-is_some-clause-places
+returns-then-is_some-clause-places g c t = absurd (false≢true t)
 
-pub returns-then-occurs_before-clause-chosen : goal.returns-then-occurs_before-clause-chosen
-returns-then-occurs_before-clause-chosen g c t = absurd (false≢true t)
+pub returns-then-is_some-clause-chosen : goal.returns-then-is_some-clause-chosen
+returns-then-is_some-clause-chosen g c t = absurd (false≢true t)
 
-pub returns-then-occurs_before-clause-fault : goal.returns-then-occurs_before-clause-fault
-returns-then-occurs_before-clause-fault g c m x =
-    let twice = c.occurs_before.ensures.0 c.if-occurs_before.true in
+pub returns-then-is_some-clause-fault : goal.returns-then-is_some-clause-fault
+returns-then-is_some-clause-fault g c m x =
+    let twice = (index_tells _ _ _ _ _ c.index_of.ensures c.is_some.ensures).0 c.if-is_some.true in
     (twice.0, c.places.i, twice.1, omega arith, twice.2)
 
 pub places-preserved : goal.places-preserved
@@ -44,8 +45,8 @@ places-preserved g c =
     let chosen = c.places.chosen in let so_far = c.places.invariant in let x = c.index-points-place.result in (
       below_more _ _ so_far.0 c.if-place-points.false,
       λ k j b l same. elim (cases_eq j i) [
-        | inl e ↦ false≢true (sym c.if-occurs_before.false
-            ∙ c.occurs_before.ensures.1 (k, omega arith, same ∙ ap (slice_index places) e))
+        | inl e ↦ false≢true (sym c.if-is_some.false
+            ∙ (index_tells _ _ _ _ _ c.index_of.ensures c.is_some.ensures).1 (k, omega arith, same ∙ ap (slice_index places) e))
         | inr other ↦ so_far.1 k j b (omega arith) same
       ],
       λ k d l. elim (cases_eq k i) [
@@ -84,5 +85,5 @@ bounds-points-place g c = c.if-place-points.false
 pub places-smaller : goal.places-smaller
 places-smaller g c = falls _ _ c.places-test.true
 
-pub occurs_before-requires : goal.occurs_before-requires
-occurs_before-requires g c = le_trans c.places-test.true c.if-places-chosen.false
+pub index_of-requires : goal.index_of-requires
+index_of-requires g c = le_of_lt (le_trans c.places-test.true c.if-places-chosen.false)
