@@ -219,8 +219,7 @@ fn fill_weights<T: RingWord, R: Reducer<T>>(
     requires weights { length weights.old ≡ length points.now }
     ensures fit { let m = R.modulus r.now in
         IsTrue result ↔ HaveUnitDifferences m (length points.now) (entry T.number R.value m points.now) }
-    ensures checked { IsTrue result →
-        All (λ f. IsForm R.form R.value (R.modulus r.now) (T.number f)) weights.new }
+    ensures checked { IsTrue result → All (λ f. IsForm R.form R.value (R.modulus r.now) (T.number f)) weights.new }
     ensures inverses { let m = R.modulus r.now in let x = entry T.number R.value m points.now in
         IsTrue result → (i : ℕ) → i < length points.now →
         IsInverse m (product_but m (length points.now) x i (x i)) (entry T.number R.value m weights.new i) }

@@ -82,8 +82,7 @@ pub fn share<T: RingWord, R: Reducer<T>>(
         × HaveUnitDifferences m (length points.now) (entry T.number R.value m points.now)) }
     ensures fault { let m = R.modulus r.now in
         IfErr result (λ e. IsShareFault m (length points.now) (entry T.number R.value m points.now) e) }
-    ensures checked { IsOk result →
-        All (λ f. IsForm R.form R.value (R.modulus r.now) (T.number f)) shares.new }
+    ensures checked { IsOk result → All (λ f. IsForm R.form R.value (R.modulus r.now) (T.number f)) shares.new }
     ensures encoding { let m = R.modulus r.now in IsOk result →
         IsEncoding m (length coefficients.now) (length points.now) (entry T.number R.value m points.now)
         (entry T.number R.value m coefficients.now) (entry T.number R.value m shares.new) }
@@ -144,8 +143,7 @@ pub fn recover<T: RingWord, R: Reducer<T>>(
         ((i : ℕ) → i < length coefficients.old →
         entry T.number R.value m shares.now i ≡ word (slice_index places.now i)) →
         R.value m (T.number secret) ≡ original 0 % m) }
-    ensures forms { IsOk result →
-        All (λ f. IsForm R.form R.value (R.modulus r.now) (T.number f)) coefficients.new }
+    ensures forms { IsOk result → All (λ f. IsForm R.form R.value (R.modulus r.now) (T.number f)) coefficients.new }
     ensures coefficients { let m = R.modulus r.now in IsOk result → (original word : ℕ → ℕ) →
         IsEncoding m (length coefficients.old) (length points.now) (entry T.number R.value m points.now)
         original word →
@@ -212,8 +210,7 @@ pub fn recover_correct<T: RingWord, R: Reducer<T>>(
         (entry T.number R.value m coefficients.new) (entry T.number R.value m word.new)
         × IsNear (length coefficients.old) places.now (entry T.number R.value m shares.now)
         (entry T.number R.value m word.new) }
-    ensures forms { IsOk result →
-        All (λ f. IsForm R.form R.value (R.modulus r.now) (T.number f)) coefficients.new }
+    ensures forms { IsOk result → All (λ f. IsForm R.form R.value (R.modulus r.now) (T.number f)) coefficients.new }
     ensures shares { IsOk result → All (λ f. IsForm R.form R.value (R.modulus r.now) (T.number f)) word.new }
     ensures fault { let m = R.modulus r.now in IfErr result (λ e. IsPlaceFault m (length coefficients.old)
         (length points.now) (entry T.number R.value m points.now) places.now e) }

@@ -2,7 +2,7 @@ use Rattle.num_modular.specs.Callers.{◌≡◌, ℕ, ◌<◌, ◌∙◌, ap, ar
 use Rattle.num_modular.specs.Callers.{entry, entry_past, held_entry}
 use Rattle.num_modular.specs.Transforms.{transform}
 use Rattle.ring_codes.proofs.RootPowers.{value_by_transform}
-use Rattle.num_modular.specs.Callers.{◌≤◌, ◌-◌, sym, subst, held_forms}
+use Rattle.num_modular.specs.Callers.{◌≤◌, sym, subst, held_forms}
 use Rattle.num_modular.specs.Callers.{◌%◌, IsForm, entry_read, form_read, hold_more}
 use Rattle.ring_codes.proofs.Counts.{zero_mod}
 use borrow.Author.Count.{falls}

@@ -5,7 +5,7 @@ use Rattle.std.proofs.lemmas.Nat.{mod-mul-add, div-mul-add}
 use borrow.Author.Rules.{scaled_Fits}
 use Rattle.ring_codes.specs.Prepared.{product_but}
 use Rattle.ring_codes.proofs.Lagrange.{row_within}
-use Rattle.num_modular.specs.Callers.{◌<◌, ◌-◌, subst, form_read}
+use Rattle.num_modular.specs.Callers.{◌<◌, subst, form_read}
 use borrow.Author.Count.{falls}
 use Rattle.std.proofs.Math.Nat.{le_of_lt}
 use Rattle.ring_codes.proofs.erasure.prepared.fill_rows.Goals as goal

@@ -3,7 +3,7 @@ use Rattle.num_modular.specs.Callers.{entry, entry_read}
 use Rattle.std.proofs.Common.{add-one}
 use Rattle.num_modular.specs.NumberLaws.{mod_of_eq, mod_trans, residue_of, mod_add, sum_below-zero, sum_below-suc}
 use Rattle.num_modular.specs.Sums.{sum_below}
-use Rattle.num_modular.specs.Callers.{◌-◌, form_read}
+use Rattle.num_modular.specs.Callers.{form_read}
 use borrow.Author.Count.{falls}
 use Rattle.std.proofs.Math.Nat.{le_of_lt}
 use Rattle.ring_codes.proofs.erasure.prepared.row_value.Goals as goal

@@ -1,6 +1,6 @@
 use Rattle.std.proofs.lemmas.Bool.{false≢true}
 use Rattle.num_modular.specs.Callers.{entry_read, form_read, ◌∙◌, refl, arith}
-use Rattle.num_modular.specs.Callers.{◌<◌, ◌-◌, sym, subst}
+use Rattle.num_modular.specs.Callers.{◌<◌, sym, subst}
 use Rattle.ring_codes.proofs.erasure.secrets.recover_correct.Goals as goal
 
 pub returns-in-Ok-clause-checked : goal.returns-in-Ok-clause-checked

@@ -1,6 +1,5 @@
 use Rattle.std.proofs.lemmas.Bool.{false≢true}
 use Rattle.num_modular.specs.Callers.{refl}
-use Rattle.num_modular.specs.Callers.{◌-◌}
 use Rattle.ring_codes.proofs.erasure.secrets.share.Goals as goal
 
 pub returns-then-not-have_inverses-clause-accepted : goal.returns-then-not-have_inverses-clause-accepted

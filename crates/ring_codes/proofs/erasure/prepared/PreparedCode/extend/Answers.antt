@@ -3,7 +3,7 @@ use Rattle.num_modular.specs.Callers.{entry, held_entry}
 use Rattle.num_modular.specs.Sums.{sum_below}
 use Rattle.ring_codes.proofs.Lagrange.{fit_known, message_of, value_from_row}
 use Rattle.ring_codes.proofs.Symbols.{entry_below}
-use Rattle.num_modular.specs.Callers.{◌<◌, ◌≤◌, ◌-◌, sym, subst, hold_more, held_forms}
+use Rattle.num_modular.specs.Callers.{◌<◌, ◌≤◌, sym, subst, hold_more, held_forms}
 use borrow.Author.Count.{falls}
 use Rattle.ring_codes.proofs.Counts.{row_fits}
 use Rattle.ring_codes.proofs.erasure.prepared.PreparedCode.extend.Goals as goal

@@ -5,7 +5,7 @@ use Rattle.num_modular.specs.Callers.{entry, entry_read, form_read}
 use Rattle.num_modular.specs.Sums.{sum_below}
 use Rattle.ring_codes.proofs.Lagrange.{fit_known, message_of, value_from_row}
 use Rattle.ring_codes.proofs.Symbols.{entry_below, same_forms, told_same, told_other}
-use Rattle.num_modular.specs.Callers.{◌-◌, subst}
+use Rattle.num_modular.specs.Callers.{subst}
 use borrow.Author.Count.{falls}
 use Rattle.std.proofs.Math.Nat.{le_of_lt}
 use Rattle.ring_codes.proofs.Counts.{row_fits}

@@ -3,7 +3,7 @@ use Rattle.num_modular.specs.Callers.{entry}
 use Rattle.num_modular.specs.NumberLaws.{mod_of_eq, mod_refl, residue_of, mod_trans, mod_mul}
 use Rattle.ring_codes.specs.Prepared.{product_but}
 use Rattle.ring_codes.proofs.Lagrange.{rows_from}
-use Rattle.num_modular.specs.Callers.{◌-◌, arith}
+use Rattle.num_modular.specs.Callers.{arith}
 use Rattle.std.proofs.lemmas.Bool.{false≢true}
 use Rattle.ring_codes.proofs.erasure.prepared.PreparedCode.new.Goals as goal
 
