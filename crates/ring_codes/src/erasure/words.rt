@@ -24,36 +24,7 @@ pub fn index_of(places: &[usize], count: usize, place: usize) -> Option<usize>
     None
 }
 
-// The symbol at a place: the kept one, or the value of the message at the point.
-fn symbol_at<T: RingWord, R: Reducer<T>>(
-    r: &R,
-    points: &[T],
-    message: &[T],
-    places: &[usize],
-    symbols: &[T],
-    place: usize,
-) -> T
-    requires points { All (λ f. IsForm R.form R.value (R.modulus r.now) (T.number f)) points.now }
-    requires message { All (λ f. IsForm R.form R.value (R.modulus r.now) (T.number f)) message.now }
-    requires symbols { All (λ f. IsForm R.form R.value (R.modulus r.now) (T.number f)) symbols.now }
-    requires pairs { length symbols.now ≡ length places.now }
-    requires enough { length message.now ≤ length places.now }
-    requires within { place < length points.now }
-    requires kept { let m = R.modulus r.now in IsEncoding m (length message.now) (length message.now)
-        (λ i. entry T.number R.value m points.now (slice_index places.now i))
-        (entry T.number R.value m message.now) (entry T.number R.value m symbols.now) }
-    ensures checked { IsForm R.form R.value (R.modulus r.now) (T.number result) }
-    ensures value { let m = R.modulus r.now in R.value m (T.number result)
-        ≡ polynomial (length message.now) (entry T.number R.value m message.now)
-        (entry T.number R.value m points.now place) % m }
-{
-    match index_of(places, message.len(), place) {
-        Some(j) => symbols[j],
-        None => evaluate(r, message, &points[place]),
-    }
-}
-
-// Writes the word of a message, some of whose symbols were kept.
+// Writes the word of a message: the kept symbols, and the values of the message at the other points.
 fn fill_word<T: RingWord, R: Reducer<T>>(
     r: &R,
     points: &[T],
@@ -77,7 +48,10 @@ fn fill_word<T: RingWord, R: Reducer<T>>(
         (entry T.number R.value m message.now) (entry T.number R.value m word.new) }
 {
     'points: for i in 0..points.len() {
-        word[i] = symbol_at(r, points, message, places, symbols, i);
+        word[i] = match index_of(places, message.len(), i) {
+            Some(j) => symbols[j],
+            None => evaluate(r, message, &points[i]),
+        };
     }
 }
 

@@ -1,24 +1,16 @@
 use Rattle.num_modular.specs.Callers.{◌%◌, length, arith, entry, hold_more, held_forms, held_entry}
 use Rattle.num_modular.specs.Polynomials.{polynomial}
 use borrow.Author.Rules.{scaled_Fits}
+use Rattle.num_modular.specs.Callers.{entry_read, form_read, ap}
+use Rattle.std.proofs.Math.Nat.{le_of_lt, le_trans}
 use borrow.Author.Count.{falls}
 use Rattle.num_modular.specs.Callers.{◌<◌, subst, sym, ◌∙◌}
+use Rattle.num_modular.specs.Callers.{ℕ, IsCheckedFormOf}
 use Rattle.ring_codes.proofs.erasure.words.fill_word.Goals as goal
+use Rattle.ring_codes.proofs.erasure.words.fill_word.Goals.{in-Some, in-None}
 
 pub points-init : goal.points-init
 points-init g c = record { each = λ k d l. absurd (omega arith) }
-
-pub symbol_at-requires-clause-kept : goal.symbol_at-requires-clause-kept
-symbol_at-requires-clause-kept g c = c.requires.kept
-
-pub points-preserved : goal.points-preserved
-points-preserved g c =
-    let ring = g.R.Reducer in let m = ring.modulus c.args.r.now in let number = g.T.RingWord.number in
-    let message = c.args.message.now in
-    hold_more number ring.form ring.value m c.points.word c.points.i c.symbol_at.result
-    (λ i. polynomial (length message) (entry number ring.value m message)
-    (entry number ring.value m c.args.points.now i) % m)
-    (omega arith) c.points.invariant c.symbol_at.ensures.checked c.symbol_at.ensures.value
 
 pub returns-clause-checked : goal.returns-clause-checked
 returns-clause-checked g c =
@@ -32,21 +24,6 @@ returns-clause-encoding g c =
           (omega arith) (omega arith);
     }
 
-pub symbol_at-requires-clause-points : goal.symbol_at-requires-clause-points
-symbol_at-requires-clause-points g c = c.requires.points
-
-pub symbol_at-requires-clause-message : goal.symbol_at-requires-clause-message
-symbol_at-requires-clause-message g c = c.requires.message
-
-pub symbol_at-requires-clause-symbols : goal.symbol_at-requires-clause-symbols
-symbol_at-requires-clause-symbols g c = c.requires.symbols
-
-pub symbol_at-requires-clause-pairs : goal.symbol_at-requires-clause-pairs
-symbol_at-requires-clause-pairs g c = c.requires.pairs
-
-pub symbol_at-requires-clause-enough : goal.symbol_at-requires-clause-enough
-symbol_at-requires-clause-enough g c = c.requires.enough
-
 pub offset_bounds-word-i : goal.offset_bounds-word-i
 offset_bounds-word-i g c = scaled_Fits _ _ _ c.points-test.true c.well_formed.1.0.1
 
@@ -56,5 +33,54 @@ bounds-word-i g c = subst (λ n. c.points.i < n) (sym (c.points.auto.word ∙ c.
 pub points-smaller : goal.points-smaller
 points-smaller g c = falls _ _ c.points-test.true
 
-pub symbol_at-requires-clause-within : goal.symbol_at-requires-clause-within
-symbol_at-requires-clause-within g c = c.points-test.true
+pub points-preserved : goal.points-preserved
+points-preserved g c =
+    let ring = g.R.Reducer in let m = ring.modulus c.args.r.now in let number = g.T.RingWord.number in
+    let message = c.args.message.now in let i = c.points.i in
+    let word : ℕ → ℕ =
+    λ a. polynomial (length message) (entry number ring.value m message) a % m in
+    let points = entry number ring.value m c.args.points.now in
+    let held : IsCheckedFormOf ring.form ring.value m (number c.match-index_of.word) (word (points i)) =
+    elim c.match-index_of.branch [
+      | in-Some w ↦ rw w.word-is (record {
+        checked = form_read number ring.form ring.value m c.args.symbols.now w.in-Some.j _ c.requires.symbols
+            (omega (arith, w.in-Some.ensures.0, c.requires.pairs, c.requires.enough)) w.index-symbols-j.is;
+        same = entry_read number ring.value m c.args.symbols.now w.in-Some.j _
+            (omega (arith, w.in-Some.ensures.0, c.requires.pairs, c.requires.enough)) w.index-symbols-j.is
+            ∙ c.requires.kept.symbol w.in-Some.j w.in-Some.ensures.0
+            ∙ ap (λ p. word (points p)) w.in-Some.ensures.1;
+      })
+      | in-None w ↦ rw w.word-is (record {
+        checked = w.evaluate.ensures.checked;
+        same = w.evaluate.ensures.value
+            ∙ ap word (entry_read number ring.value m c.args.points.now i _ c.points-test.true w.index-points-i.is);
+      })
+    ] in
+    hold_more number ring.form ring.value m c.points.word i _ (λ i. word (points i)) (omega arith) c.points.invariant
+    held.checked held.same
+
+pub index_of-requires : goal.index_of-requires
+index_of-requires g c = c.requires.enough
+
+pub evaluate-requires-clause-coefficients : goal.evaluate-requires-clause-coefficients
+evaluate-requires-clause-coefficients g c = c.requires.message
+
+pub evaluate-requires-clause-point : goal.evaluate-requires-clause-point
+evaluate-requires-clause-point g c =
+    let ring = g.R.Reducer in let m = ring.modulus c.args.r.now in let number = g.T.RingWord.number in
+    form_read number ring.form ring.value m c.args.points.now c.points.i _ c.requires.points
+    c.points-test.true c.index-points-i.is
+
+pub bounds-symbols-j : goal.bounds-symbols-j
+bounds-symbols-j g c =
+    subst (λ n. c.in-Some.j < n) (sym c.requires.pairs) (le_trans c.in-Some.ensures.0 c.requires.enough)
+
+pub offset_bounds-symbols-j : goal.offset_bounds-symbols-j
+offset_bounds-symbols-j g c =
+    le_of_lt (subst (λ n. c.in-Some.j < n) (sym c.requires.pairs) (le_trans c.in-Some.ensures.0 c.requires.enough))
+
+pub bounds-points-i : goal.bounds-points-i
+bounds-points-i g c = c.points-test.true
+
+pub offset_bounds-points-i : goal.offset_bounds-points-i
+offset_bounds-points-i g c = le_of_lt c.points-test.true
