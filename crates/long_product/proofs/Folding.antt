@@ -11,10 +11,10 @@ use Rattle.num_modular.specs.Transforms.{cyclic_product}
 use Rattle.num_modular.specs.PlanProducts.{coefficient, product_modulo}
 use Rattle.long_product.specs.Polynomials.{product_sum, folded_entry}
 
-no_terms : (n : ℕ) (f : ℕ → ℕ) → ((i : ℕ) → i < n → f i ≡ 0) → sum_below n f ≡ 0
+pub no_terms : (n : ℕ) (f : ℕ → ℕ) → ((i : ℕ) → i < n → f i ≡ 0) → sum_below n f ≡ 0
 no_terms n f none = sum_below-same n f (λ i. 0) none ∙ sum_below-mul n 0 (λ i. 0) ∙ omega arith
 
-both_sums : (n : ℕ) (f g : ℕ → ℕ) → sum_below n (λ i. f i + g i) ≡ sum_below n f + sum_below n g
+pub both_sums : (n : ℕ) (f g : ℕ → ℕ) → sum_below n (λ i. f i + g i) ≡ sum_below n f + sum_below n g
 both_sums zero f g =
     let s = sum_below-zero (λ i. f i + g i) in
     let a = sum_below-zero f in

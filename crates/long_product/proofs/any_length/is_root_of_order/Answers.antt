@@ -1,0 +1,44 @@
+use Rattle.std.proofs.Common.{◌≡◌, ℕ, ◌+◌, ◌-◌, ◌%◌, ◌^◌, ◌<◌, ◌≤◌, ◌↔◌, IsTrue, ◌∙◌, sym, subst, arith}
+use Rattle.num_modular.specs.Inverses.{HasInverse}
+use Rattle.long_product.proofs.Bluestein.{step_more}
+use Rattle.long_product.proofs.RootsOfOrder.{first_power, units_none, units_more, root_found, root_unit}
+use Rattle.long_product.proofs.RootsOfOrder.{inversion_tells}
+use Rattle.long_product.proofs.any_length.is_root_of_order.Goals as goal
+
+pub exponents-init : goal.exponents-init
+exponents-init c = record {
+  power = c.nrem-power.ensures ∙ first_power c.args.m c.args.g;
+  units = units_none c.args.m c.args.g c.nrem-differences.result (omega arith) c.nrem-differences.ensures;
+}
+
+pub exponents-preserved : goal.exponents-preserved
+exponents-preserved c =
+    let d = c.exponents._done in
+    let before = c.exponents.invariant in
+    record {
+      power = step_more c.args.m c.args.g d c.exponents.power c.residue_of_product-power.result before.power
+          c.residue_of_product-power.ensures;
+      units = units_more c.args.m c.args.g d c.exponents.power c.exponents.differences c.nrem-difference.result
+          c.residue_of_product-differences.result (omega arith) c.inverse_product_laws.ensures.both before.power
+          c.nrem-difference.ensures c.residue_of_product-differences.ensures before.units;
+    }
+
+pub returns-then-power-one : goal.returns-then-power-one
+returns-then-power-one c =
+    let m = c.args.m in
+    let g = c.args.g in
+    let a = c.exponents.differences in
+    let modulus : 1 ≤ m = omega arith in
+    let one = c.if-power-one.true ∙ c.nrem-one.ensures in
+    let done : c.exponents._done ≡ c.args.n = omega arith in
+    let power = subst (λ n. c.exponents.power ≡ g ^ n % m) done c.exponents.invariant.power in
+    let units = subst (λ n. HasInverse m a ↔ ((e : ℕ) → 1 ≤ e → e < n → HasInverse m (g ^ e + (m - 1)))) done
+    c.exponents.invariant.units in
+    let tells = inversion_tells m a c.invm.result c.invm.ensures in (
+      λ t. (
+        modulus,
+        root_found m g c.args.n c.exponents.power a modulus (omega arith) power units one
+            (tells.1 (subst IsTrue c.is_some.ensures t)),
+      ),
+      λ h. subst IsTrue (sym c.is_some.ensures) (tells.0 (root_unit m g c.args.n a h.0 units h.1)),
+    )
