@@ -66,7 +66,8 @@ fn join_first<T: PlainWord, F: PlanEntry<T>, M: JoinSteps<T>>(
     }
 }
 
-// All stages. The result is the number of blocks times the list whose remainders the entries are, below the bound.
+// All stages. Where the entries are the remainders of a polynomial, they become its coefficients times the number of
+// blocks, up to multiples of m and below the bound.
 fn join_stages<T: PlainWord, F: PlanEntry<T>, M: JoinSteps<T>>(
     m: &M,
     xs: &mut [T],
@@ -180,11 +181,12 @@ fn join_scaled_by<T: PlainWord, F: PlanEntry<T>, M: JoinSteps<T>>(
 
 /// Joins the blocks of `last` entries into block b of the tree of remainders, which undoes `split` but for a
 /// factor: where the entries are the remainders of a polynomial modulo X^last - c, as `split` computes them, entry
-/// i becomes its coefficient x_i times the number of blocks, modulo m.
+/// i becomes its coefficient x_i times the number count of blocks, modulo m.
 ///
-/// The table is the plan by g that they were split by, or a longer one. Conditions: the entries are below 4m; the
-/// number of entries is `last` times a power of two, and the table has (b + 1)·count/2 entries or more (`splits`
-/// tells); the table's entries are factors modulo m.
+/// The table must be the plan (`plan`) by which they were split, or a longer one that begins with it: with other
+/// factors modulo m, the results are below m and meaningless. Conditions: the entries are below 4m; the number of
+/// entries is `last` times a power of two, and the table has (b + 1)·count/2 entries or more (`splits` tells); the
+/// table's entries are factors modulo m.
 ///
 /// Each pass over the list does two stages where two are left.
 ///
@@ -226,9 +228,9 @@ pub fn join<T: PlainWord, F: PlanEntry<T>>(
 }
 
 /// Joins the blocks as `join` does and multiplies each coefficient by a factor. With the inverse modulo m of the
-/// number of blocks as the factor, the results are the coefficients themselves. Conditions: the entries are below
-/// 4m; the number of entries is `last` times a power of two, and the table has (b + 1)·count/2 entries or more
-/// (`splits` tells); the table's entries are factors modulo m; w is a factor modulo m.
+/// number of blocks as the factor, the results are the coefficients themselves. The table must be a plan, as for
+/// `join`. Conditions: the entries are below 4m; the number of entries is `last` times a power of two, and the table has
+/// (b + 1)·count/2 entries or more (`splits` tells); the table's entries are factors modulo m; w is a factor modulo m.
 ///
 /// # Examples
 ///

@@ -152,7 +152,8 @@ fn multiply_pairs<T: PlainWord, F: PlanEntry<T>>(
 
 /// Multiplies the blocks of `last` entries of the two lists, below block b of the tree of remainders, as
 /// polynomials modulo X^last - c, with the constants c of `split`. So the products of two lists of remainders are
-/// the remainders of a product. For `last` = 1 entries of equal index are multiplied.
+/// the remainders of a product. For `last` = 1 entries of equal index are multiplied. The table must be the plan by
+/// which the lists were split: with other factors modulo m, the results are below m and meaningless.
 ///
 /// Conditions: `last` is 1 or 2; the lists have the same length, a multiple of `last`; the entries of xs are below m;
 /// the table's entries are factors modulo m, and there are (b + 1)·count/2 of them or more, count being the number
