@@ -10,21 +10,21 @@ use Rattle.std.proofs.lemmas.Bool.{cases_lt}
 use Rattle.std.proofs.lemmas.List.{get_or-set_same, get_or-set_other}
 use Rattle.modular_word.specs.Divisors.{Coprime, gcd}
 use Rattle.modular_word.specs.Inverses.{IsInverse, HasInverse}
-use Rattle.modular_ring.specs.Systems.{product_below, IsSystem}
+use Rattle.modular_ring.specs.Systems.{range_below, IsSystem}
 
 -- the product of no moduli
-pub product_none : (ms : List ℕ) → product_below 0 ms ≡ 1
-unfolding product_below
+pub product_none : (ms : List ℕ) → range_below 0 ms ≡ 1
+unfolding range_below
 product_none ms = refl
 
 -- the product with one more modulus
-pub product_more : (n : ℕ) (ms : List ℕ) → product_below (n + 1) ms ≡ product_below n ms * get_or ms n 0
-unfolding product_below
-product_more n ms = ap (λ k. product_below k ms) (add-one n)
+pub product_more : (n : ℕ) (ms : List ℕ) → range_below (n + 1) ms ≡ range_below n ms * get_or ms n 0
+unfolding range_below
+product_more n ms = ap (λ k. range_below k ms) (add-one n)
 
 -- each modulus divides the product
-pub divides : (n j : ℕ) (ms : List ℕ) → j < n → (k : ℕ) × (product_below n ms ≡ get_or ms j 0 * k)
-unfolding product_below
+pub divides : (n j : ℕ) (ms : List ℕ) → j < n → (k : ℕ) × (range_below n ms ≡ get_or ms j 0 * k)
+unfolding range_below
 divides zero j ms h = absurd (omega arith)
 divides (suc n) j ms h =
     ⊎_elim
@@ -33,21 +33,21 @@ divides (suc n) j ms h =
     (k * get_or ms n 0, let f = ap (λ p. p * get_or ms n 0) e in omega (arith, f)))
     (λ (b : n ≤ j).
     let here : j ≡ n = omega arith in
-    (product_below n ms, let f = ap (λ i. product_below n ms * get_or ms i 0) here in omega (arith, f)))
+    (range_below n ms, let f = ap (λ i. range_below n ms * get_or ms i 0) here in omega (arith, f)))
     (cases_lt j n)
 
 -- products grow
 pub grows : (n k : ℕ) (ms : List ℕ) → ((i : ℕ) → i < k → 0 < get_or ms i 0) → n ≤ k
-    → product_below n ms ≤ product_below k ms
-unfolding product_below
-grows n zero ms positive h = let e : n ≡ 0 = omega arith in omega (arith, ap (λ i. product_below i ms) e)
+    → range_below n ms ≤ range_below k ms
+unfolding range_below
+grows n zero ms positive h = let e : n ≡ 0 = omega arith in omega (arith, ap (λ i. range_below i ms) e)
 grows n (suc k) ms positive h =
     ⊎_elim
-    (λ (b : k < n). let e : n ≡ suc k = omega arith in omega (arith, ap (λ i. product_below i ms) e))
+    (λ (b : k < n). let e : n ≡ suc k = omega arith in omega (arith, ap (λ i. range_below i ms) e))
     (λ (b : n ≤ k).
     let before = grows n k ms (λ i l. positive i (omega arith)) b in
     let one : 1 ≤ get_or ms k 0 = positive k (omega arith) in
-    omega (arith, before, mul-le-mul_left (product_below k ms) one))
+    omega (arith, before, mul-le-mul_left (range_below k ms) one))
     (cases_lt k n)
 
 -- congruent numbers differ by multiples of m
@@ -87,14 +87,14 @@ unit_one m positive = (1 % m, record { below = mod-lt 1 positive; one = mul-mod_
 
 -- the product of moduli has an inverse modulo m if each of them has one
 pub unit_of_all : (m n : ℕ) (ms : List ℕ) → 0 < m → ((j : ℕ) → j < n → HasInverse m (get_or ms j 0))
-    → HasInverse m (product_below n ms)
-unfolding product_below
+    → HasInverse m (range_below n ms)
+unfolding range_below
 unit_of_all m zero ms positive each = unit_one m positive
 unit_of_all m (suc n) ms positive each =
     product_unit m _ _ positive (unit_of_all m n ms positive (λ j h. each j (omega arith))) (each n (omega arith))
 
 -- if the product of moduli has an inverse modulo m, each of them has one
-pub each_of_unit : (m n j : ℕ) (ms : List ℕ) → 0 < m → HasInverse m (product_below n ms) → j < n
+pub each_of_unit : (m n j : ℕ) (ms : List ℕ) → 0 < m → HasInverse m (range_below n ms) → j < n
     → HasInverse m (get_or ms j 0)
 each_of_unit m n j ms positive unit h =
     let (k, e) = divides n j ms h in
@@ -157,7 +157,7 @@ only_digit range m x v d (i, inverse) is same h k =
 -- in a system the product of the moduli before one has an inverse modulo it, by the laws of divisors and of inverses
 pub unit_here : (ms : List ℕ) (n : ℕ) → ((a m : ℕ) → 0 < m → Coprime a m ↔ (gcd a m ≡ 1))
     → ((m a : ℕ) → 0 < m → HasInverse m a ↔ (gcd a m ≡ 1))
-    → IsSystem ms → n < length ms → HasInverse (get_or ms n 0) (product_below n ms)
+    → IsSystem ms → n < length ms → HasInverse (get_or ms n 0) (range_below n ms)
 unit_here ms n coprime exists system h =
     let m = get_or ms n 0 in
     let positive : 0 < m = system.positive n h in
@@ -165,14 +165,14 @@ unit_here ms n coprime exists system h =
     (exists m (get_or ms j 0) positive).1 ((coprime (get_or ms j 0) m positive).0 (system.coprime n j l h)))
 
 -- and the product with it is a word
-pub next_fits : (ms : List ℕ) (n range : ℕ) → range ≡ product_below n ms → IsSystem ms → n < length ms
+pub next_fits : (ms : List ℕ) (n range : ℕ) → range ≡ range_below n ms → IsSystem ms → n < length ms
     → range * get_or ms n 0 < 2 ^ 128
 next_fits ms n range e system h =
-    let whole : range * get_or ms n 0 ≡ product_below (n + 1) ms =
+    let whole : range * get_or ms n 0 ≡ range_below (n + 1) ms =
     ap (λ k. k * get_or ms n 0) e ∙ sym (product_more n ms) in
-    let most : product_below (n + 1) ms ≤ product_below (length ms) ms =
+    let most : range_below (n + 1) ms ≤ range_below (length ms) ms =
     grows (n + 1) (length ms) ms system.positive (omega arith) in
-    let fits : product_below (length ms) ms < 2 ^ 128 = system.fits in
+    let fits : range_below (length ms) ms < 2 ^ 128 = system.fits in
     omega (arith, whole, most, fits)
 
 -- modulo 1, every number is 0

@@ -3,14 +3,14 @@
 use Rattle.std.specs.Prelude.{◌≡◌, ℕ, zero, suc, ◌*◌, ◌%◌, ◌^◌, ◌<◌, List, length, slice_index}
 use Rattle.modular_word.specs.Divisors.{Coprime}
 
--- the product of the first n moduli
-unfoldable pub product_below : ℕ → List ℕ → ℕ
-product_below zero moduli = 1
-product_below (suc n) moduli = product_below n moduli * slice_index moduli n
+-- the range of the first n moduli, which is their product
+unfoldable pub range_below : ℕ → List ℕ → ℕ
+range_below zero moduli = 1
+range_below (suc n) moduli = range_below n moduli * slice_index moduli n
 
--- the product of all moduli: the numbers below it have different residues
+-- the range of all moduli: the numbers below it have different residues
 abbrev pub range_of : List ℕ → ℕ
-range_of moduli = product_below (length moduli) moduli
+range_of moduli = range_below (length moduli) moduli
 
 -- the moduli are above 0, any two are coprime, and their product fits a word of 128 bits
 pub record IsSystem (moduli : List ℕ) : Type 0 where

@@ -7,24 +7,24 @@ use Rattle.std.proofs.lemmas.List.{get_or-set_other, get_or-set_same}
 use Rattle.num_modular.specs.Divisors.{Coprime}
 use Rattle.num_modular.specs.Inverses.{HasInverse}
 use Rattle.num_modular.specs.NumberLaws.{sum_below-zero, sum_below-suc, sum_below-same}
-use Rattle.num_modular.specs.Systems.{product_below}
+use Rattle.num_modular.specs.Systems.{range_below}
 use Rattle.num_modular.specs.SystemLaws.{product_none, product_more, unit_of_all, within}
 use Rattle.residue_numbers.specs.MixedRadix.{IsCoprimeSystem, mixed_below}
 
 -- one more digit
 pub mixed_none : (ms ds : List ℕ) → mixed_below 0 ms ds ≡ 0
-mixed_none ms ds = sum_below-zero (λ i. get_or ds i 0 * product_below i ms)
+mixed_none ms ds = sum_below-zero (λ i. get_or ds i 0 * range_below i ms)
 
-pub mixed_more : (n : ℕ) (ms ds : List ℕ) → mixed_below (n + 1) ms ds ≡ mixed_below n ms ds + get_or ds n 0 * product_below n ms
+pub mixed_more : (n : ℕ) (ms ds : List ℕ) → mixed_below (n + 1) ms ds ≡ mixed_below n ms ds + get_or ds n 0 * range_below n ms
 mixed_more n ms ds =
-    ap (λ k. mixed_below k ms ds) (add-one n) ∙ sum_below-suc n (λ i. get_or ds i 0 * product_below i ms)
+    ap (λ k. mixed_below k ms ds) (add-one n) ∙ sum_below-suc n (λ i. get_or ds i 0 * range_below i ms)
 
 -- digits that are equal denote equal numbers
 pub mixed_same : (n : ℕ) (ms ds es : List ℕ) → ((i : ℕ) → i < n → get_or ds i 0 ≡ get_or es i 0)
     → mixed_below n ms ds ≡ mixed_below n ms es
 mixed_same n ms ds es same =
-    sum_below-same n (λ i. get_or ds i 0 * product_below i ms) (λ i. get_or es i 0 * product_below i ms)
-    (λ i l. ap (λ d. d * product_below i ms) (same i l))
+    sum_below-same n (λ i. get_or ds i 0 * range_below i ms) (λ i. get_or es i 0 * range_below i ms)
+    (λ i l. ap (λ d. d * range_below i ms) (same i l))
 
 -- a write of a digit leaves the number of those before it
 pub mixed_before : (n d : ℕ) (ms ds : List ℕ) → mixed_below n ms (set ds n d) ≡ mixed_below n ms ds
@@ -33,23 +33,23 @@ mixed_before n d ms ds =
 
 -- and adds its part
 pub mixed_written : (n d : ℕ) (ms ds : List ℕ) → n < length ds
-    → mixed_below (n + 1) ms (set ds n d) ≡ mixed_below n ms ds + product_below n ms * d
+    → mixed_below (n + 1) ms (set ds n d) ≡ mixed_below n ms ds + range_below n ms * d
 mixed_written n d ms ds room =
     let whole = mixed_more n ms (set ds n d) in
     let before = mixed_before n d ms ds in
-    let here = ap (λ k. k * product_below n ms) (get_or-set_same ds n d 0 room) in
+    let here = ap (λ k. k * range_below n ms) (get_or-set_same ds n d 0 room) in
     omega (arith, whole, before, here)
 
 -- digits below the moduli denote a number below their product
 pub mixed_within : (n : ℕ) (ms ds : List ℕ) → ((i : ℕ) → i < n → get_or ds i 0 < get_or ms i 0)
-    → mixed_below n ms ds < product_below n ms
+    → mixed_below n ms ds < range_below n ms
 mixed_within zero ms ds below = let e = mixed_none ms ds in let f = product_none ms in omega (arith, e, f)
 mixed_within (suc n) ms ds below =
     let one = add-one n in
     let before = mixed_within n ms ds (λ i l. below i (omega arith)) in
-    let inside = within (product_below n ms) (get_or ms n 0) (mixed_below n ms ds) (get_or ds n 0) before (below n (omega arith)) in
+    let inside = within (range_below n ms) (get_or ms n 0) (mixed_below n ms ds) (get_or ds n 0) before (below n (omega arith)) in
     let number = ap (λ k. mixed_below k ms ds) (sym one) ∙ mixed_more n ms ds in
-    let range = ap (λ k. product_below k ms) (sym one) ∙ product_more n ms in
+    let range = ap (λ k. range_below k ms) (sym one) ∙ product_more n ms in
     omega (arith, inside, number, range)
 
 -- the first digit from the top that differs decides
@@ -67,19 +67,19 @@ mixed_less (suc n) k ms ds es inside below less same =
     elim (cases_lt k n) [
       | inl l ↦
           let before = mixed_less n k ms ds es l below less (λ i h m. same i h (omega arith)) in
-          let top = ap (λ d. d * product_below n ms) (same n l (omega arith)) in
+          let top = ap (λ d. d * range_below n ms) (same n l (omega arith)) in
           omega (arith, before, top, left, right)
       | inr h ↦
           let here : n ≡ k = omega arith in
           let inside = mixed_within n ms ds (λ i l. below i (omega (arith, l, here))) in
           let digits = subst (λ i. get_or ds i 0 < get_or es i 0) (sym here) less in
-          let lower_is = lower (product_below n ms) (mixed_below n ms ds) (mixed_below n ms es) _ _ inside digits in
+          let lower_is = lower (range_below n ms) (mixed_below n ms ds) (mixed_below n ms es) _ _ inside digits in
           omega (arith, lower_is, left, right)
     ]
 
 -- in a system the product of the moduli before one has an inverse modulo it
 pub unit_at : (ms : List ℕ) (n : ℕ) → ((m a : ℕ) → 0 < m → HasInverse m a ↔ Coprime a m)
-    → IsCoprimeSystem ms → n < length ms → HasInverse (get_or ms n 0) (product_below n ms)
+    → IsCoprimeSystem ms → n < length ms → HasInverse (get_or ms n 0) (range_below n ms)
 unit_at ms n coprime system h =
     let m = get_or ms n 0 in
     let positive : 0 < m = system.positive n h in

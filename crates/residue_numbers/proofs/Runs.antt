@@ -21,7 +21,7 @@ use Rattle.num_modular.specs.declared.ring.RunEnd.TheVariants.{Done}
 use Rattle.num_modular.specs.Ring.{whole, destination_of, outcome, value_after}
 use Rattle.num_modular.specs.Ring.{value_at, LacksInverse, IsStop, carried_out}
 use Rattle.num_modular.specs.Stops.{inverted_by, NeedsInverse}
-use Rattle.num_modular.specs.Systems.{product_below, range_of, IsSystem, AreResidues}
+use Rattle.num_modular.specs.Systems.{range_below, range_of, IsSystem, AreResidues}
 use Rattle.num_modular.specs.SystemLaws.{divides, keeps, unit_of_all}
 use Rattle.residue_numbers.proofs.Encodings.{remainder_within, sum_within, product_within}
 use Rattle.residue_numbers.proofs.Encodings.{difference_within, range_positive}
@@ -146,18 +146,18 @@ turned : Laws → (m a : ℕ) → 0 < m → 0 < a → HasInverse m a → HasInve
 turned laws m a positive above unit = (laws.coprime a m above).1 (swapped ((laws.coprime m a positive).0 unit))
 
 -- a number with an inverse modulo each modulus has one modulo their product
-unit_above : Laws → (n : ℕ) (moduli : List ℕ) (a : ℕ) → 0 < a → 0 < product_below n moduli
+unit_above : Laws → (n : ℕ) (moduli : List ℕ) (a : ℕ) → 0 < a → 0 < range_below n moduli
     → ((i : ℕ) → i < n → 0 < get_or moduli i 0)
-    → ((i : ℕ) → i < n → HasInverse (get_or moduli i 0) a) → HasInverse (product_below n moduli) a
+    → ((i : ℕ) → i < n → HasInverse (get_or moduli i 0) a) → HasInverse (range_below n moduli) a
 unit_above laws n moduli a above wide positive each =
-    turned laws a (product_below n moduli) above wide
+    turned laws a (range_below n moduli) above wide
     (unit_of_all a n moduli above (λ i h. turned laws (get_or moduli i 0) a (positive i h) above (each i h)))
 
-pub unit_of_product : Laws → (n : ℕ) (moduli : List ℕ) (a : ℕ) → 0 < product_below n moduli
+pub unit_of_product : Laws → (n : ℕ) (moduli : List ℕ) (a : ℕ) → 0 < range_below n moduli
     → ((i : ℕ) → i < n → 0 < get_or moduli i 0)
-    → ((i : ℕ) → i < n → HasInverse (get_or moduli i 0) a) → HasInverse (product_below n moduli) a
+    → ((i : ℕ) → i < n → HasInverse (get_or moduli i 0) a) → HasInverse (range_below n moduli) a
 unit_of_product laws n moduli a wide positive each =
-    let range = product_below n moduli in
+    let range = range_below n moduli in
     let b = a + range * 1 in
     let above : 0 < b = omega (arith, wide) in
     let one : range ≡ range * 1 = omega arith in
@@ -171,16 +171,16 @@ unit_of_product laws n moduli a wide positive each =
 
 -- where each inverse is there modulo each modulus, it is there modulo their product
 units_below : Laws → (n : ℕ) (moduli start : List ℕ) (starts : ℕ → List ℕ) (commands : List (RingCommand ℕ))
-    → ((i : ℕ) → i < n → IsFactor (product_below n moduli) (get_or moduli i 0)) → 0 < product_below n moduli
+    → ((i : ℕ) → i < n → IsFactor (range_below n moduli) (get_or moduli i 0)) → 0 < range_below n moduli
     → ((i r : ℕ) → i < n → get_or start r 0 % get_or moduli i 0 ≡ get_or (starts i) r 0)
     → ((i j r : ℕ) → i < n → NeedsInverse commands j r
     → HasInverse (get_or moduli i 0) (value_at (get_or moduli i 0) (starts i) commands j r))
     → (count j r : ℕ) → j < count → NeedsInverse commands j r
-    → HasInverse (product_below n moduli) (value_at (product_below n moduli) start commands j r)
+    → HasInverse (range_below n moduli) (value_at (range_below n moduli) start commands j r)
 units_below laws n moduli start starts commands factors wide begin units zero j r h needs = absurd (omega (arith, h))
 units_below laws n moduli start starts commands factors wide begin units (suc count) j r h needs =
     let before = units_below laws n moduli start starts commands factors wide begin units count in
-    let range = product_below n moduli in
+    let range = range_below n moduli in
     unit_of_product laws n moduli (value_at range start commands j r) wide (λ i l. (factors i l).positive)
     (λ i l.
     let m = get_or moduli i 0 in
@@ -189,12 +189,12 @@ units_below laws n moduli start starts commands factors wide begin units (suc co
     (laws.has_residue m (value_at range start commands j r)).0 (subst (HasInverse m) (sym same) (units i j r l needs)))
 
 pub units_above : Laws → (n : ℕ) (moduli start : List ℕ) (starts : ℕ → List ℕ) (commands : List (RingCommand ℕ))
-    → ((i : ℕ) → i < n → IsFactor (product_below n moduli) (get_or moduli i 0)) → 0 < product_below n moduli
+    → ((i : ℕ) → i < n → IsFactor (range_below n moduli) (get_or moduli i 0)) → 0 < range_below n moduli
     → ((i r : ℕ) → i < n → get_or start r 0 % get_or moduli i 0 ≡ get_or (starts i) r 0)
     → ((i j r : ℕ) → i < n → NeedsInverse commands j r
     → HasInverse (get_or moduli i 0) (value_at (get_or moduli i 0) (starts i) commands j r))
     → (j r : ℕ) → NeedsInverse commands j r
-    → HasInverse (product_below n moduli) (value_at (product_below n moduli) start commands j r)
+    → HasInverse (range_below n moduli) (value_at (range_below n moduli) start commands j r)
 units_above laws n moduli start starts commands factors wide begin units j r needs =
     units_below laws n moduli start starts commands factors wide begin units (suc j) j r (omega arith) needs
 

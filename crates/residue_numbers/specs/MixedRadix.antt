@@ -3,7 +3,7 @@
 use Rattle.std.specs.Prelude.{ℕ, ◌*◌, ◌<◌, List, length, slice_index}
 use Rattle.num_modular.specs.Divisors.{Coprime}
 use Rattle.num_modular.specs.Sums.{sum_below, polynomial}
-use Rattle.num_modular.specs.Systems.{product_below}
+use Rattle.num_modular.specs.Systems.{range_below}
 
 -- the moduli are above 0, and any two are coprime
 pub record IsCoprimeSystem (moduli : List ℕ) : Type 0 where
@@ -12,7 +12,7 @@ pub record IsCoprimeSystem (moduli : List ℕ) : Type 0 where
 
 -- the number that the first n digits denote: digit i counts the product of the moduli before modulus i
 abbrev pub mixed_below : ℕ → List ℕ → List ℕ → ℕ
-mixed_below n moduli digits = sum_below n (λ i. slice_index digits i * product_below i moduli)
+mixed_below n moduli digits = sum_below n (λ i. slice_index digits i * range_below i moduli)
 
 -- and all of them
 abbrev pub mixed_number : List ℕ → List ℕ → ℕ

@@ -1,7 +1,7 @@
 use Rattle.std.proofs.Common.{◌≡◌, ℕ, ◌+◌, ◌*◌, ◌%◌, ◌<◌, List, length, get_or, arith, ap, sym, subst, ◌∙◌, below_more}
 use Rattle.std.proofs.Math.Nat.{mod-eq_of_lt}
 use Rattle.modular_word.specs.Inverses.{HasInverse}
-use Rattle.modular_ring.specs.Systems.{product_below}
+use Rattle.modular_ring.specs.Systems.{range_below}
 use Rattle.modular_ring.specs.SystemLaws.{product_none, product_more, divides, keeps, within}
 use Rattle.modular_ring.specs.SystemLaws.{only_digit, unit_here, next_fits, modulo_one}
 use Rattle.modular_ring.proofs.residues.decode.Goals as goal
@@ -74,7 +74,7 @@ returns-clause-only c x below are =
     let ms : List ℕ = c.args.moduli.now in
     let full : c.moduli.place ≡ length ms = omega arith in
     let inside : x < c.moduli.range =
-    subst (λ n. x < n) (sym (c.moduli.invariant.range ∙ ap (λ n. product_below n ms) full)) below in
+    subst (λ n. x < n) (sym (c.moduli.invariant.range ∙ ap (λ n. range_below n ms) full)) below in
     sym (mod-eq_of_lt inside) ∙ c.moduli.invariant.only x (λ i h. sym (are.each i (omega arith)))
 
 pub bounds-moduli-place : goal.bounds-moduli-place
@@ -90,7 +90,7 @@ pub returns-clause-below : goal.returns-clause-below
 returns-clause-below c =
     let ms : List ℕ = c.args.moduli.now in
     let full : c.moduli.place ≡ length ms = omega arith in
-    subst (λ n. c.moduli.number < n) (c.moduli.invariant.range ∙ ap (λ n. product_below n ms) full)
+    subst (λ n. c.moduli.number < n) (c.moduli.invariant.range ∙ ap (λ n. range_below n ms) full)
     c.moduli.invariant.below
 
 pub returns-clause-number : goal.returns-clause-number

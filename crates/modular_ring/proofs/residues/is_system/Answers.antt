@@ -3,7 +3,7 @@ use Rattle.std.proofs.Common.{arith, rules, lit<, ap, sym, subst, ◌∙◌, ref
 use Rattle.std.proofs.lemmas.Bool.{false≢true}
 use Rattle.modular_word.specs.Divisors.{Coprime}
 use Rattle.modular_word.specs.Inverses.{HasInverse}
-use Rattle.modular_ring.specs.Systems.{product_below}
+use Rattle.modular_ring.specs.Systems.{range_below}
 use Rattle.modular_ring.specs.SystemLaws.{product_none, product_more, each_of_unit, unit_here, next_fits}
 use Rattle.modular_ring.proofs.residues.is_system.Goals as goal
 use Rattle.modular_ring.proofs.residues.is_system.Goals.{then-modulus-eq0-via-then-modulus-eq0}
@@ -73,7 +73,7 @@ returns c =
         positive = λ i h. c.moduli.invariant.positive i (subst (λ n. i < n) (sym full) h);
         coprime = λ i j h k. c.moduli.invariant.coprime i j h (subst (λ n. i < n) (sym full) k);
         fits = subst (λ n. n < 2 ^ 128)
-            (c.moduli.invariant.range ∙ ap (λ n. product_below n ms) full) c.moduli.invariant.fits;
+            (c.moduli.invariant.range ∙ ap (λ n. range_below n ms) full) c.moduli.invariant.fits;
       }),
       λ system. refl,
     )

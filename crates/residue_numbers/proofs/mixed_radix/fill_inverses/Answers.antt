@@ -3,7 +3,7 @@ use Rattle.std.proofs.lemmas.Bool.{false≢true}
 use Rattle.std.proofs.lemmas.List.{length-set}
 use Rattle.num_modular.specs.Divisors.{Coprime}
 use Rattle.num_modular.specs.Inverses.{IsInverse}
-use Rattle.num_modular.specs.Systems.{product_below}
+use Rattle.num_modular.specs.Systems.{range_below}
 use Rattle.num_modular.specs.SystemLaws.{each_of_unit, set_more}
 use Rattle.residue_numbers.proofs.MixedRadix.{unit_at}
 use Rattle.residue_numbers.proofs.mixed_radix.fill_inverses.Goals as goal
@@ -13,7 +13,7 @@ returns-in-None-clause-exactly c = (
   (λ t. absurd (false≢true t)),
   λ system.
       let ms : List ℕ = c.args.moduli.now in let place : ℕ = c.moduli.place in
-      let (x, inverse) = (c.inverse_laws.ensures.has_residue (get_or ms place 0) (product_below place ms)).1
+      let (x, inverse) = (c.inverse_laws.ensures.has_residue (get_or ms place 0) (range_below place ms)).1
       (unit_at ms place c.inverse_laws.ensures.coprime system c.moduli-test.true) in
       absurd (c.in-None.ensures x
       (subst (λ k. IsInverse (get_or ms place 0) k x) (sym c.product_modulo.ensures) inverse)),
@@ -26,7 +26,7 @@ moduli-preserved c =
     let x : ℕ = c.in-Some.inverse in
     let before = c.moduli.invariant in
     let positive : 0 < m = omega arith in
-    let is = (c.inverse_laws.ensures.residue m (product_below place ms) x).0
+    let is = (c.inverse_laws.ensures.residue m (range_below place ms) x).0
     (subst (λ k. IsInverse m k x) c.product_modulo.ensures c.in-Some.ensures) in
     record {
       entries = length-set c.moduli.inverses place x ∙ before.entries;
@@ -37,6 +37,6 @@ moduli-preserved c =
           (λ j h. (c.inverse_laws.ensures.coprime m (get_or ms j 0) positive).0
           (each_of_unit m place j ms positive (x, is) h))
           i k j h;
-      inverted = set_more c.moduli.inverses place x (λ i r. IsInverse (get_or ms i 0) (product_below i ms) r)
+      inverted = set_more c.moduli.inverses place x (λ i r. IsInverse (get_or ms i 0) (range_below i ms) r)
           (omega (arith, before.entries)) before.inverted is;
     }

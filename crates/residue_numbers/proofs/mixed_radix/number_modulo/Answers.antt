@@ -1,5 +1,5 @@
 use Rattle.std.proofs.Common.{◌≡◌, ℕ, ◌+◌, ◌-◌, ◌*◌, ◌%◌, List, get_or, arith, ap, ◌∙◌}
-use Rattle.num_modular.specs.Systems.{product_below}
+use Rattle.num_modular.specs.Systems.{range_below}
 use Rattle.num_modular.specs.SystemLaws.{product_none, product_more}
 use Rattle.residue_numbers.specs.MixedRadix.{mixed_below}
 use Rattle.residue_numbers.proofs.MixedRadix.{mixed_none, mixed_more}
@@ -14,13 +14,13 @@ digits-preserved c =
     let above = c.digits.invariant.above in
     let high : ℕ = above.0 in
     let one : place ≡ next + 1 = omega arith in
-    let range = ap (λ k. product_below k ms) one ∙ product_more next ms in
+    let range = ap (λ k. range_below k ms) one ∙ product_more next ms in
     let number = ap (λ k. mixed_below k ms ds) one ∙ mixed_more next ms ds in
     record {
       within = omega (arith, c.digits.invariant.within);
       above = (
         high * m + d,
-        one_lower (mixed_below n ms ds) (mixed_below next ms ds) (mixed_below place ms ds) (product_below next ms) m d high
+        one_lower (mixed_below n ms ds) (mixed_below next ms ds) (mixed_below place ms ds) (range_below next ms) m d high
             (above.1 ∙ ap (λ r. mixed_below place ms ds + r * high) range) number,
         c.addm-number.ensures
             ∙ one_lower_modulo c.args.m c.digits.number high m d c.mulm.result above.2 c.mulm.ensures,
@@ -34,6 +34,6 @@ returns c =
     let high : ℕ = above.0 in
     let none : c.digits.place ≡ 0 = omega arith in
     let number = ap (λ k. mixed_below k ms ds) none ∙ mixed_none ms ds in
-    let range = ap (λ k. product_below k ms * high) none ∙ ap (λ r. r * high) (product_none ms) in
+    let range = ap (λ k. range_below k ms * high) none ∙ ap (λ r. r * high) (product_none ms) in
     let whole : high ≡ mixed_below c.args.count ms ds = omega (arith, above.1, number, range) in
     above.2 ∙ ap (λ k. k % c.args.m) whole

@@ -1,7 +1,7 @@
 use Rattle.std.proofs.Common.{◌≡◌, ℕ, ◌+◌, ◌*◌, ◌%◌, ◌<◌, List, length, get_or, set, arith, ap, sym, subst, ◌∙◌, below_more}
 use Rattle.std.proofs.Math.Nat.{mod-eq_of_lt, mod-lt}
 use Rattle.std.proofs.lemmas.List.{length-set}
-use Rattle.num_modular.specs.Systems.{product_below}
+use Rattle.num_modular.specs.Systems.{range_below}
 use Rattle.num_modular.specs.SystemLaws.{product_none, product_more, divides, keeps, only_digit, modulo_one, set_more}
 use Rattle.residue_numbers.specs.MixedRadix.{mixed_below}
 use Rattle.residue_numbers.proofs.MixedRadix.{mixed_none, mixed_written, mixed_within, digit_gives}
@@ -32,7 +32,7 @@ moduli-preserved c =
     let before = c.moduli.invariant in
     let inside = c.moduli-test.true in
     let room : place < length ds = omega (arith, before.entries, inside) in
-    let range = product_below place ms in
+    let range = range_below place ms in
     let number = mixed_below place ms ds in
     let positive : 0 < m = self.coprime.positive place inside in
     let is = self.inverted place inside in
@@ -69,6 +69,6 @@ pub returns-clause-only : goal.returns-clause-only
 returns-clause-only c x below are =
     let ms : List ℕ = c.args.self.now.moduli.now in
     let full : c.moduli.place ≡ length ms = omega arith in
-    sym (mod-eq_of_lt below) ∙ ap (λ n. x % product_below n ms) (sym full)
+    sym (mod-eq_of_lt below) ∙ ap (λ n. x % range_below n ms) (sym full)
     ∙ c.moduli.invariant.only x (λ i h. sym (are.each i (omega arith)))
     ∙ ap (λ n. mixed_below n ms c.moduli.digits) full

@@ -1,5 +1,5 @@
 use Rattle.std.proofs.Common.{◌≡◌, ℕ, ◌%◌, ◌<◌, get_or, length}
-use Rattle.num_modular.specs.Systems.{product_below}
+use Rattle.num_modular.specs.Systems.{range_below}
 use Rattle.residue_numbers.specs.MixedRadix.{mixed_below}
 use Rattle.residue_numbers.proofs.mixed_radix.System.digits.Given as goal
 
@@ -10,5 +10,5 @@ invariant-moduli l = record {
   below : (i : ℕ) → i < l.place → get_or l.digits i 0 < get_or l.moduli i 0;
   each : (i : ℕ) → i < l.place → mixed_below l.place l.moduli l.digits % get_or l.moduli i 0 ≡ get_or l.residues i 0;
   only : (x : ℕ) → ((i : ℕ) → i < l.place → x % get_or l.moduli i 0 ≡ get_or l.residues i 0)
-      → x % product_below l.place l.moduli ≡ mixed_below l.place l.moduli l.digits;
+      → x % range_below l.place l.moduli ≡ mixed_below l.place l.moduli l.digits;
 }
