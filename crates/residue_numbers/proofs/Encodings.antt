@@ -1,6 +1,6 @@
 -- Remainders modulo a product, seen modulo a factor of it: sums, differences and products of encodings.
 use Rattle.std.proofs.Common.{◌≡◌, ℕ, ◌+◌, ◌*◌, ◌/◌, ◌%◌, ◌<◌, List, get_or, length}
-use Rattle.std.proofs.Common.{sym, ap, subst, ◌∙◌, arith, pos, ◌-ℤ◌, ℤ}
+use Rattle.std.proofs.Common.{sym, ap, ◌∙◌, arith, pos, ◌-ℤ◌, ℤ}
 use Rattle.std.proofs.Math.Nat.{div-add-mod, mod-eq_of_lt, mod-mod, mod-add-mod, add-mod-mod}
 use Rattle.std.proofs.lemmas.Nat.{mul-mod}
 use Rattle.num_modular.specs.Residues.{IsResidue, residue}
