@@ -1,0 +1,47 @@
+//! Callers of transforms by a plan.
+
+ghost use Rattle.std.specs.Prelude.{◌≡◌, ◌*◌, ◌/◌, ◌<◌, ◌≤◌, All, length};
+ghost use Rattle.std.specs.Int.{IsPowerOfTwo};
+ghost use Rattle.modular_barrett.specs.Factors.{AllFactors};
+
+use modular_barrett::planned::{Factor, PlannedModulus};
+use modular_plan_passes::entry::PlanEntry;
+use modular_plan_transforms::plan::Plan;
+use modular_plan_transforms::transform::ntt_planned;
+use modular_prim::plain_word::PlainWord;
+use modular_word::path_word::PathWord;
+
+/// Replaces a list by its transform by a plan where the plan is for as many entries. Condition: the entries are below 4m.
+pub fn transform_where_it_fits<T: PlainWord, F: PlanEntry<T>>(plan: &Plan<T, F>, xs: &mut [T])
+    requires { All (λ x. T.number x < 4 * T.number plan.now.modulus.modulus) xs.old }
+{
+    if plan.fits(xs.len()) {
+        plan.transform(xs);
+    }
+}
+
+/// The transforms of two lists of equal length, each by the table of its own modulus.
+pub fn modulo_each<T: PlainWord>(
+    m: &PlannedModulus<T>,
+    table: &[Factor<T>],
+    xs: &mut [T],
+    n: &PlannedModulus<T>,
+    other: &[Factor<T>],
+    ys: &mut [T],
+)
+    requires entries { All (λ x. T.number x < 4 * T.number m.now.modulus) xs.old }
+    requires factors { AllFactors T.base (T.number m.now.modulus)
+        (λ f. T.number f.value) (λ f. T.number f.quotient) table.now }
+    requires other_entries { All (λ y. T.number y < 4 * T.number n.now.modulus) ys.old }
+    requires other_factors { AllFactors T.base (T.number n.now.modulus)
+        (λ f. T.number f.value) (λ f. T.number f.quotient) other.now }
+    requires equal { length ys.old ≡ length xs.old }
+    requires count { IsPowerOfTwo (length xs.old) }
+    requires within { length xs.old / 2 ≤ length table.now }
+    requires other_within { length xs.old / 2 ≤ length other.now }
+    ensures below { All (λ x. T.number x < T.number m.now.modulus) xs.new }
+    ensures other_below { All (λ y. T.number y < T.number n.now.modulus) ys.new }
+{
+    ntt_planned(m, xs, table);
+    ntt_planned(n, ys, other);
+}
