@@ -25,5 +25,5 @@ abbrev pub value_of : ℕ → ℕ → ℕ
 value_of m f = split_value 64 m f
 
 -- f is the form of v modulo m
-abbrev pub IsFormOf : ℕ → ℕ → ℕ → Type 0
-IsFormOf m f v = IsMontgomeryForm m f × (value_of m f ≡ v)
+abbrev pub IsMontgomeryFormOf : ℕ → ℕ → ℕ → Type 0
+IsMontgomeryFormOf m f v = IsMontgomeryForm m f × (value_of m f ≡ v)

@@ -4,7 +4,7 @@ ghost use Rattle.std.specs.Prelude.{◌≡◌, ◌+◌, ◌*◌, ◌%◌, ◌^�
 ghost use Rattle.num_modular.specs.Inverses.{HasInverse, IsInverse};
 ghost use Rattle.num_modular.specs.Residues.{residue};
 ghost use Rattle.num_modular_c.specs.Codes.{Did, Refused};
-ghost use Rattle.num_modular_c.specs.Contexts.{IsMontgomery, IsMontgomeryForm, IsFormOf, value_of};
+ghost use Rattle.num_modular_c.specs.Contexts.{IsMontgomery, IsMontgomeryForm, IsMontgomeryFormOf, value_of};
 
 use crate::codes::{NM_BAD_ARGUMENT, NM_BAD_CONTEXT, NM_NO_INVERSE, NM_OK};
 use num_modular::{Montgomery, Reducer};
@@ -59,7 +59,7 @@ pub extern "C" fn nm_montgomery(m: u64, context: &mut NmMontgomery) -> u32
 #[unsafe(no_mangle)]
 pub extern "C" fn nm_montgomery_transform(context: &NmMontgomery, n: u64, form: &mut u64) -> u32
     ensures did { let m = context.now.modulus in
-        IsMontgomery context.now → Did result (IsFormOf m form.new (n % m)) }
+        IsMontgomery context.now → Did result (IsMontgomeryFormOf m form.new (n % m)) }
     ensures bad_context { (IsMontgomery context.now → ⊥) → Refused NM_BAD_CONTEXT result form.old form.new }
 {
     let Some(ring) = reducer(context) else {
@@ -93,7 +93,7 @@ pub extern "C" fn nm_montgomery_residue(context: &NmMontgomery, form: u64, value
 #[unsafe(no_mangle)]
 pub extern "C" fn nm_montgomery_add(context: &NmMontgomery, a: u64, b: u64, sum: &mut u64) -> u32
     ensures did { let m = context.now.modulus in IsMontgomery context.now → a < m → b < m
-        → Did result (IsFormOf m sum.new ((value_of m a + value_of m b) % m)) }
+        → Did result (IsMontgomeryFormOf m sum.new ((value_of m a + value_of m b) % m)) }
     ensures bad_argument { let m = context.now.modulus in
         IsMontgomery context.now → ((a < m) × (b < m) → ⊥)
         → Refused NM_BAD_ARGUMENT result sum.old sum.new }
@@ -118,7 +118,7 @@ pub extern "C" fn nm_montgomery_sub(
     difference: &mut u64,
 ) -> u32
     ensures did { let m = context.now.modulus in IsMontgomery context.now → a < m → b < m
-        → Did result (IsFormOf m difference.new (residue m (pos (value_of m a) -ℤ pos (value_of m b)))) }
+        → Did result (IsMontgomeryFormOf m difference.new (residue m (pos (value_of m a) -ℤ pos (value_of m b)))) }
     ensures bad_argument { let m = context.now.modulus in
         IsMontgomery context.now → ((a < m) × (b < m) → ⊥)
         → Refused NM_BAD_ARGUMENT result difference.old difference.new }
@@ -143,7 +143,7 @@ pub extern "C" fn nm_montgomery_mul(
     product: &mut u64,
 ) -> u32
     ensures did { let m = context.now.modulus in IsMontgomery context.now → a < m → b < m
-        → Did result (IsFormOf m product.new ((value_of m a * value_of m b) % m)) }
+        → Did result (IsMontgomeryFormOf m product.new ((value_of m a * value_of m b) % m)) }
     ensures bad_argument { let m = context.now.modulus in
         IsMontgomery context.now → ((a < m) × (b < m) → ⊥)
         → Refused NM_BAD_ARGUMENT result product.old product.new }
@@ -169,7 +169,7 @@ pub extern "C" fn nm_montgomery_pow(
     power: &mut u64,
 ) -> u32
     ensures did { let m = context.now.modulus in IsMontgomery context.now → form < m
-        → Did result (IsFormOf m power.new (value_of m form ^ exponent % m)) }
+        → Did result (IsMontgomeryFormOf m power.new (value_of m form ^ exponent % m)) }
     ensures bad_argument { let m = context.now.modulus in
         IsMontgomery context.now → m ≤ form → Refused NM_BAD_ARGUMENT result power.old power.new }
     ensures bad_context { (IsMontgomery context.now → ⊥) → Refused NM_BAD_CONTEXT result power.old power.new }
