@@ -3,11 +3,12 @@ use Rattle.std.proofs.Common.{◌≡◌, ℕ, suc, ◌+◌, ◌-◌, ◌*◌, �
 use Rattle.std.proofs.Math.Nat.{mul-le-mul}
 use Rattle.std.proofs.lemmas.List.{get_or_past}
 use Rattle.num_modular.specs.Sums.{sum_below}
-use Rattle.num_modular.specs.NumberLaws.{sum_below-suc, sum_below-same, sum_below-mul, residue_of, mod_add, mod_mul, mod_refl}
+use Rattle.num_modular.specs.NumberLaws.{sum_below-suc, sum_below-same, sum_below-mul}
+use Rattle.num_modular.specs.NumberLaws.{residue_of, mod_add, mod_mul, mod_refl}
 use Rattle.num_modular.specs.SumLaws.{tail}
 
 -- the high words are reduced first
-pub folded : (m low high top : ℕ) → top ≡ (high + low / 18446744073709551616) % m
+folded : (m low high top : ℕ) → top ≡ (high + low / 18446744073709551616) % m
     → (top * 18446744073709551616 + low % 18446744073709551616) % m ≡ (low + high * 18446744073709551616) % m
 folded m low high top is =
     let b : ℕ = 18446744073709551616 in
@@ -15,6 +16,19 @@ folded m low high top is =
     ap (λ t. (t * b + low % b) % m) is
     ∙ (mod_add (mod_mul (residue_of (high + low / b)) (mod_refl b)) (mod_refl (low % b))).same
     ∙ ap (λ v. v % m) whole
+
+-- three words are reduced one by one
+pub by_words : (m low high top middle r : ℕ)
+    → top ≡ (high + low / 18446744073709551616) / 18446744073709551616 % m
+    → middle ≡ (top * 18446744073709551616 + (high + low / 18446744073709551616) % 18446744073709551616) % m
+    → r ≡ (middle * 18446744073709551616 + low % 18446744073709551616) % m
+    → r ≡ (low + high * 18446744073709551616) % m
+by_words m low high top middle r top_is middle_is is =
+    let upper = high + low / 18446744073709551616 in
+    let none : 0 + upper / 18446744073709551616 ≡ upper / 18446744073709551616 = omega arith in
+    let same : upper + 0 * 18446744073709551616 ≡ upper = omega arith in
+    is ∙ folded m low high middle
+    (middle_is ∙ folded m upper 0 top (top_is ∙ ap (λ v. v % m) (sym none)) ∙ ap (λ v. v % m) same)
 
 no_terms : (n : ℕ) → sum_below n (λ i. 0) ≡ 0
 no_terms n = sum_below-mul n 0 (λ i. 0) ∙ omega arith
@@ -64,7 +78,17 @@ folded_residues m c a b r s is_a is_b =
     ap (λ v. (v + c * s) % m) is_a ∙ ap (λ v. (a % m + c * v) % m) is_b
     ∙ (mod_add (residue_of a) (mod_mul (mod_refl c) (residue_of b))).same
 
--- .. and c times a number whose factor is reduced
-pub reduced_factor : (m a t p both : ℕ) → both ≡ p % m → (a + t * both) % m ≡ (a + t * p) % m
-reduced_factor m a t p both is =
-    ap (λ v. (a + t * v) % m) is ∙ (mod_add (mod_refl a) (mod_mul (mod_refl t) (residue_of p))).same
+-- .. and sums of products whose second factors are reduced
+pub reduced_factors : (m a s t p q f g : ℕ) → f ≡ p % m → g ≡ q % m
+    → (a + s * f + t * g) % m ≡ (a + s * p + t * q) % m
+reduced_factors m a s t p q f g is_f is_g =
+    ap (λ v. (a + s * v + t * g) % m) is_f ∙ ap (λ v. (a + s * (p % m) + t * v) % m) is_g
+    ∙ (mod_add (mod_add (mod_refl a) (mod_mul (mod_refl s) (residue_of p))) (mod_mul (mod_refl t) (residue_of q))).same
+
+-- .. and a product whose first factor is reduced
+pub reduced_product : (m p q f r : ℕ) → f ≡ p % m → r ≡ f * q % m → r ≡ p * q % m
+reduced_product m p q f r is_f is =
+    is ∙ ap (λ v. v * q % m) is_f ∙ (mod_mul (residue_of p) (mod_refl q)).same
+
+pub same_remainder : (m a b : ℕ) → a ≡ b → a % m ≡ b % m
+same_remainder m a b is = ap (λ v. v % m) is

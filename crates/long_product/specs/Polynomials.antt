@@ -1,7 +1,8 @@
 -- Products of polynomials modulo m, by their coefficients. The names are the library's own words.
-use Rattle.std.specs.Prelude.{◌≡◌, ℕ, ◌+◌, ◌-◌, ◌*◌, ◌%◌, ◌≤◌, List, slice_index}
+use Rattle.std.specs.Prelude.{◌≡◌, ℕ, ◌+◌, ◌-◌, ◌*◌, ◌%◌, ◌<◌, ◌≤◌, List, slice_index}
 use Rattle.num_modular.specs.Sums.{sum_below}
 use Rattle.long_product.specs.Room.{HasRoomFrom}
+use Rattle.long_product.specs.declared.primes.TheConstants.{FIRST, SECOND}
 use Rattle.long_product.specs.declared.polynomials.TheConstants.{LEAST_TRANSFORMED}
 
 -- coefficient e of the product of two polynomials: the sum of x i * y j over i + j = e
@@ -16,6 +17,13 @@ product_entry m xs ys e = product_sum xs ys e % m
 -- coefficient e of the product modulo m and modulo X^n - c, where it has at most 2n coefficients
 abbrev pub folded_entry : ℕ → ℕ → ℕ → List ℕ → List ℕ → ℕ → ℕ
 folded_entry m c n xs ys e = (product_sum xs ys e + c * product_sum xs ys (e + n)) % m
+
+-- the product of the first `count` primes, from 1 to 3, is above each coefficient of the product
+pub record ArePrimesFor (count : ℕ) (xs ys : List ℕ) : Type 0 where
+  pub some : 1 ≤ count
+  pub most : count ≤ 3
+  pub one : count ≡ 1 → (e : ℕ) → product_sum xs ys e < FIRST
+  pub two : count ≡ 2 → (e : ℕ) → product_sum xs ys e < FIRST * SECOND
 
 -- m is a modulus, and a list has one place for each coefficient of the product of polynomials with so many: one fewer
 -- than both have together, and none where one has none

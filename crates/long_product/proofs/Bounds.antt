@@ -1,0 +1,99 @@
+-- Bounds of sums of products: of coefficients, and of what is reduced.
+use Rattle.std.proofs.Common.{◌≡◌, ℕ, zero, suc, ◌+◌, ◌-◌, ◌*◌, ◌/◌, ◌<◌, ◌≤◌, All, List, length, get_or, ◌∙◌, ap}
+use Rattle.std.proofs.Common.{arith, subst, inl, inr}
+use Rattle.std.proofs.Math.Nat.{mul-le-mul, mul-le-mul_right, mul-div-le}
+use Rattle.std.proofs.lemmas.Bool.{cases_lt}
+use Rattle.std.proofs.lemmas.List.{get_or_past}
+use Rattle.num_modular.specs.Sums.{sum_below}
+use Rattle.num_modular.specs.NumberLaws.{sum_below-suc}
+use Rattle.num_modular.specs.SumLaws.{bounded}
+use Rattle.long_product.specs.Polynomials.{product_sum}
+use Rattle.long_product.proofs.Coefficients.{no_back}
+
+-- a residue and the product of a word with another
+pub folded_fits : (m c a b : ℕ) → a < m → b < m → c < 18446744073709551616 → a + c * b < m * 18446744073709551616
+folded_fits m c a b less other word =
+    let few : b ≤ m - 1 = omega arith in
+    let most : c ≤ 18446744073709551615 = omega arith in
+    let l : c * b ≤ 18446744073709551615 * (m - 1) = mul-le-mul most few in
+    omega (arith, l, less)
+
+-- Garner's digits, with residues in place of the products of primes
+pub combination_fits : (m first second third f g : ℕ) → first < 1152921092289986561 → second < 1152920989210771457
+    → third < 1152920933376196609 → f < m → g < m → first + second * f + third * g < m * 18446744073709551616
+combination_fits m first second third f g a b c less other =
+    let few : f ≤ m - 1 = omega arith in
+    let few_too : g ≤ m - 1 = omega arith in
+    let most : second ≤ 1152920989210771456 = omega arith in
+    let most_too : third ≤ 1152920933376196608 = omega arith in
+    let k : second * f ≤ 1152920989210771456 * (m - 1) = mul-le-mul most few in
+    let l : third * g ≤ 1152920933376196608 * (m - 1) = mul-le-mul most_too few_too in
+    omega (arith, k, l, a, less)
+
+-- what is at most a quotient, times the divisor
+pub times_divisor : (x n t : ℕ) → x ≤ n / t → t * x ≤ n
+times_divisor x n t few =
+    let whole = mul-div-le n t in
+    let l : t * x ≤ t * (n / t) = mul-le-mul (let e : t ≤ t = omega arith in e) few in
+    omega (arith, whole, l)
+
+-- a coefficient of a list, or 0 after it
+pub coefficient_at_most : (xs : List ℕ) (s i : ℕ) → All (λ x. x ≤ s) xs → get_or xs i 0 ≤ s
+coefficient_at_most xs s i few = elim (cases_lt i (length xs)) [
+  | inl l ↦ few i 0 l
+  | inr l ↦ let z = get_or_past xs i 0 l in omega (arith, z)
+]
+
+-- a term
+term_at_most : (xs ys : List ℕ) (s t e i : ℕ) → All (λ x. x ≤ s) xs → All (λ y. y ≤ t) ys
+    → get_or xs i 0 * get_or ys (e - i) 0 ≤ s * t
+term_at_most xs ys s t e i few other =
+    mul-le-mul (coefficient_at_most xs s i few) (coefficient_at_most ys t (e - i) other)
+
+-- after terms of 0, some that are at most b
+bounded_after : (a d b : ℕ) (f : ℕ → ℕ) → ((i : ℕ) → i < a → f i ≡ 0) → ((i : ℕ) → f i ≤ b)
+    → sum_below (a + d) f ≤ d * b
+bounded_after a zero b f none few =
+    let e : a + 0 ≡ a = omega arith in
+    let same = ap (λ n. sum_below n f) e in
+    let z = bounded a 0 f (λ i l. let n = none i l in omega (arith, n)) in
+    omega (arith, same, z)
+bounded_after a (suc d) b f none few =
+    let e : a + suc d ≡ suc (a + d) = omega arith in
+    let s = ap (λ n. sum_below n f) e ∙ sum_below-suc (a + d) f in
+    let i = bounded_after a d b f none few in
+    let l = few (a + d) in
+    omega (arith, s, i, l)
+
+-- no coefficient of a product is a sum of more terms than a factor has coefficients
+pub sum_by_left : (xs ys : List ℕ) (s t e : ℕ) → All (λ x. x ≤ s) xs → All (λ y. y ≤ t) ys
+    → product_sum xs ys e ≤ length xs * (s * t)
+sum_by_left xs ys s t e few other =
+    let f = λ (i : ℕ). get_or xs i 0 * get_or ys (e - i) 0 in
+    let term = λ (i : ℕ). term_at_most xs ys s t e i few other in
+    elim (cases_lt (length xs) (e + 1)) [
+      | inl l ↦
+          let whole = no_back xs ys e (length xs) (omega arith) (λ k. omega arith) in
+          subst (λ v. v ≤ length xs * (s * t)) whole (bounded (length xs) (s * t) f (λ i k. term i))
+      | inr l ↦
+          let b = bounded (e + 1) (s * t) f (λ i k. term i) in
+          let m = mul-le-mul_right (s * t) l in
+          omega (arith, b, m)
+    ]
+
+pub sum_by_right : (xs ys : List ℕ) (s t e : ℕ) → All (λ x. x ≤ s) xs → All (λ y. y ≤ t) ys
+    → product_sum xs ys e ≤ length ys * (s * t)
+sum_by_right xs ys s t e few other =
+    let f = λ (i : ℕ). get_or xs i 0 * get_or ys (e - i) 0 in
+    let term = λ (i : ℕ). term_at_most xs ys s t e i few other in
+    elim (cases_lt (length ys) (e + 1)) [
+      | inl l ↦
+          let whole : e + 1 - length ys + length ys ≡ e + 1 = omega arith in
+          subst (λ n. sum_below n f ≤ length ys * (s * t)) whole
+          (bounded_after (e + 1 - length ys) (length ys) (s * t) f
+          (λ i k. ap (λ v. get_or xs i 0 * v) (get_or_past ys (e - i) 0 (omega arith)) ∙ omega arith) term)
+      | inr l ↦
+          let b = bounded (e + 1) (s * t) f (λ i k. term i) in
+          let m = mul-le-mul_right (s * t) l in
+          omega (arith, b, m)
+    ]

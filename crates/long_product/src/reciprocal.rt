@@ -1,0 +1,46 @@
+//! Remainders modulo any m of up to 64 bits, by a reciprocal that is computed once.
+
+ghost use Rattle.std.specs.Prelude.{◌≡◌, ◌+◌, ◌*◌, ◌%◌, ◌^◌, ◌<◌, ◌≤◌};
+
+use num_modular::{PreMulInv2by1, Reducer};
+
+/// m, shifted until its top bit is set, with the reciprocal of that. Condition: m is at least 1.
+pub(crate) fn reciprocal_of(m: u64) -> PreMulInv2by1<u64>
+    requires { 1 ≤ m }
+    ensures { ⟦<PreMulInv2by1<u64> as Reducer<u64>>⟧.modulus result ≡ m }
+{
+    Reducer::new(&m)
+}
+
+/// The remainder of a double word modulo m, by the reciprocal: shifted as m is, it has the remainder shifted. Condition: the
+/// double word is below m·2^64.
+///
+/// Source: Möller and Granlund, "Improved division by invariant integers", section 1.
+pub(crate) fn remainder(by: &PreMulInv2by1<u64>, t: u128) -> u64
+    requires { t < ⟦<PreMulInv2by1<u64> as Reducer<u64>>⟧.modulus by.now * 2 ^ 64 }
+    ensures value { result ≡ t % ⟦<PreMulInv2by1<u64> as Reducer<u64>>⟧.modulus by.now }
+    ensures below { result < ⟦<PreMulInv2by1<u64> as Reducer<u64>>⟧.modulus by.now }
+{
+    let shift = by.shift();
+    let (_, rest) = by.divider().div_rem_2by1(t << shift);
+    rest >> shift
+}
+
+/// The remainder of low + high·2^64, word by word from the top. Conditions: low is below 2^127, and high below 2^126.
+pub(crate) fn remainder_of_sum(by: &PreMulInv2by1<u64>, low: u128, high: u128) -> u64
+    requires low { low < 2 ^ 127 }
+    requires high { high < 2 ^ 126 }
+    ensures value { result ≡ (low + high * 18446744073709551616) % ⟦<PreMulInv2by1<u64> as Reducer<u64>>⟧.modulus by.now }
+    ensures below { result < ⟦<PreMulInv2by1<u64> as Reducer<u64>>⟧.modulus by.now }
+{
+    let upper = high + low / 18446744073709551616;
+    let top = remainder(by, upper / 18446744073709551616);
+    let middle = remainder(
+        by,
+        top as u128 * 18446744073709551616 + upper % 18446744073709551616,
+    );
+    remainder(
+        by,
+        middle as u128 * 18446744073709551616 + low % 18446744073709551616,
+    )
+}
