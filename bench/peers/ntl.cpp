@@ -35,6 +35,13 @@ void peer_ntl_set(const unsigned long *xs, const unsigned long *ys, long n)
     second.normalize();
 }
 
+// The same modulo a p of at most 60 bits.
+void peer_ntl_set_modulo(unsigned long p, const unsigned long *xs, const unsigned long *ys, long n)
+{
+    zz_p::init(p);
+    peer_ntl_set(xs, ys, n);
+}
+
 void peer_ntl_multiply() { mul(product, first, second); }
 
 unsigned long peer_ntl_coefficient(long i) { return rep(coeff(product, i)); }

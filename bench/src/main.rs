@@ -25,6 +25,8 @@ mod original;
 mod peers;
 #[cfg(feature = "peers")]
 mod plans;
+#[cfg(feature = "peers")]
+mod polynomials;
 mod port;
 mod report;
 mod runs;
@@ -174,12 +176,13 @@ fn beside_peers() -> Option<Report> {
 
 #[cfg(feature = "peers")]
 fn plans_beside_peers() -> Option<Report> {
-    if !plans::agree() || !long_products::agree() || !lattices::agree() {
+    if !plans::agree() || !long_products::agree() || !polynomials::agree() || !lattices::agree() {
         return None;
     }
     let (ntl, flint, gmp) = (plans::version(), peers::version(), long_products::version());
     let mut tables = plans::measured();
     tables.push(long_products::measured());
+    tables.push(polynomials::measured());
     tables.push(lattices::measured());
     Some(Report { machine: format!("{}, NTL {ntl}, FLINT {flint} and GMP {gmp}", machine()), tables, growth: Vec::new() })
 }
