@@ -17,18 +17,19 @@ folded m low high top is =
     ∙ (mod_add (mod_mul (residue_of (high + low / b)) (mod_refl b)) (mod_refl (low % b))).same
     ∙ ap (λ v. v % m) whole
 
--- three words are reduced one by one
-pub by_words : (m low high top middle r : ℕ)
-    → top ≡ (high + low / 18446744073709551616) / 18446744073709551616 % m
-    → middle ≡ (top * 18446744073709551616 + (high + low / 18446744073709551616) % 18446744073709551616) % m
-    → r ≡ (middle * 18446744073709551616 + low % 18446744073709551616) % m
+-- two words are reduced one by one ..
+pub by_words : (m t top r : ℕ) → top ≡ t / 18446744073709551616 % m
+    → r ≡ (top * 18446744073709551616 + t % 18446744073709551616) % m → r ≡ t % m
+by_words m t top r top_is is =
+    let none : 0 + t / 18446744073709551616 ≡ t / 18446744073709551616 = omega arith in
+    let same : t + 0 * 18446744073709551616 ≡ t = omega arith in
+    is ∙ folded m t 0 top (top_is ∙ ap (λ v. v % m) (sym none)) ∙ ap (λ v. v % m) same
+
+-- .. and a sum of words, by its upper ones
+pub by_upper_words : (m low high upper r : ℕ) → upper ≡ (high + low / 18446744073709551616) % m
+    → r ≡ (upper * 18446744073709551616 + low % 18446744073709551616) % m
     → r ≡ (low + high * 18446744073709551616) % m
-by_words m low high top middle r top_is middle_is is =
-    let upper = high + low / 18446744073709551616 in
-    let none : 0 + upper / 18446744073709551616 ≡ upper / 18446744073709551616 = omega arith in
-    let same : upper + 0 * 18446744073709551616 ≡ upper = omega arith in
-    is ∙ folded m low high middle
-    (middle_is ∙ folded m upper 0 top (top_is ∙ ap (λ v. v % m) (sym none)) ∙ ap (λ v. v % m) same)
+by_upper_words m low high upper r upper_is is = is ∙ folded m low high upper upper_is
 
 no_terms : (n : ℕ) → sum_below n (λ i. 0) ≡ 0
 no_terms n = sum_below-mul n 0 (λ i. 0) ∙ omega arith

@@ -26,21 +26,32 @@ pub(crate) fn remainder(by: &PreMulInv2by1<u64>, t: u128) -> u64
     rest >> shift
 }
 
-/// The remainder of low + high·2^64, word by word from the top. Conditions: low is below 2^127, and high below 2^126.
+// The remainder of a double word; one that is below m is its own. Condition: it is below 2^127.
+fn remainder_of_double(by: &PreMulInv2by1<u64>, t: u128) -> u64
+    requires { t < 2 ^ 127 }
+    ensures value { result ≡ t % ⟦<PreMulInv2by1<u64> as Reducer<u64>>⟧.modulus by.now }
+    ensures below { result < ⟦<PreMulInv2by1<u64> as Reducer<u64>>⟧.modulus by.now }
+{
+    if t < by.modulus() as u128 {
+        return t as u64;
+    }
+    let top = remainder(by, t / 18446744073709551616);
+    remainder(
+        by,
+        top as u128 * 18446744073709551616 + t % 18446744073709551616,
+    )
+}
+
+/// The remainder of low + high·2^64, from the top. Conditions: low is below 2^127, and high below 2^126.
 pub(crate) fn remainder_of_sum(by: &PreMulInv2by1<u64>, low: u128, high: u128) -> u64
     requires low { low < 2 ^ 127 }
     requires high { high < 2 ^ 126 }
     ensures value { result ≡ (low + high * 18446744073709551616) % ⟦<PreMulInv2by1<u64> as Reducer<u64>>⟧.modulus by.now }
     ensures below { result < ⟦<PreMulInv2by1<u64> as Reducer<u64>>⟧.modulus by.now }
 {
-    let upper = high + low / 18446744073709551616;
-    let top = remainder(by, upper / 18446744073709551616);
-    let middle = remainder(
-        by,
-        top as u128 * 18446744073709551616 + upper % 18446744073709551616,
-    );
+    let upper = remainder_of_double(by, high + low / 18446744073709551616);
     remainder(
         by,
-        middle as u128 * 18446744073709551616 + low % 18446744073709551616,
+        upper as u128 * 18446744073709551616 + low % 18446744073709551616,
     )
 }
