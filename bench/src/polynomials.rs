@@ -3,9 +3,9 @@
 use crate::measure::Random;
 use crate::plans::{best, repeated, with_room};
 use crate::report::Rows;
-use erased::applications::long_product::polynomials::{multiply, room};
-use erased::applications::long_product::{Plans, fill_plans};
-use erased::plans::Factor;
+use ::erased::applications::long_product::polynomials::{multiply, room};
+use ::erased::applications::long_product::{Plans, fill_plans};
+use ::erased::plans::Factor;
 
 /// Moduli of 30, 60 and 63 bits. NTL's word-sized ones have at most 60.
 const MODULI: [(&str, u64); 3] = [("10^9 + 7", 1_000_000_007), ("2^60 - 93", (1 << 60) - 93), ("2^63 - 25", (1 << 63) - 25)];
