@@ -133,6 +133,18 @@ fn reduced_short(v: u64, p: u32, c: u32, m: u32) -> u32 {
     }
 }
 
+// Whether folds in straight-line code reduce a double word: c is at most a fourth of 2^p, and v at most a product of
+// two numbers below 2^p. For c = 1 two folds with comparisons take less time.
+#[inline(always)]
+fn folds_in_line<V: FoldWord>(v: V, p: u32, c: V, m: V) -> bool {
+    let mask = m.plus(c.minus(V::one()));
+    if c == V::one() || mask.is_below(v.shift_right(p)) {
+        false
+    } else {
+        c.shift_right(p - 2).is_zero_word()
+    }
+}
+
 /// A word whose double words can be folded: u32 or u64.
 pub trait FoldedWord: Sized + PathWord {
     /// A word below 2^p that is congruent to a double word modulo m, and the number of folds at the bit p by c that
@@ -153,6 +165,14 @@ pub trait FoldedWord: Sized + PathWord {
     /// panics, or returns no meaningful result.
     #[must_use]
     fn reduce_in_line(v: Self::Double, p: u32, c: Self, m: Self) -> Self;
+
+    /// Whether `reduce_in_line` reduces a double word, and takes less time than folds with comparisons.
+    ///
+    /// # Preconditions
+    ///
+    /// Folds at the bit p by c reduce modulo m. This isn't tested: outside it the call panics, or returns
+    /// no meaningful result.
+    fn is_in_line(v: Self::Double, p: u32, c: Self, m: Self) -> bool;
 
     /// The residue of a + b, where m is at most 2^p.
     ///
@@ -179,6 +199,11 @@ impl FoldedWord for u32 {
     }
 
     #[inline]
+    fn is_in_line(v: u64, p: u32, c: u32, m: u32) -> bool {
+        folds_in_line(v, p, c as u64, m as u64)
+    }
+
+    #[inline]
     fn sum_of_parts(a: u32, b: u32, p: u32, m: u32) -> u32 {
         if p < 32 {
             reduced_once(a + b, m)
@@ -199,6 +224,11 @@ impl FoldedWord for u64 {
     fn reduce_in_line(v: u128, p: u32, c: u64, m: u64) -> u64 {
         let m = m as u128;
         reduced_last(fold_in_line(v, p, c as u128, m), m) as u64
+    }
+
+    #[inline]
+    fn is_in_line(v: u128, p: u32, c: u64, m: u64) -> bool {
+        folds_in_line(v, p, c as u128, m as u128)
     }
 
     // The borrow of a difference of double words chooses. LLVM vectorizes products in independent chains, and a
@@ -229,4 +259,22 @@ impl FoldedWord for u64 {
 pub fn reduce_by_folds<T: FoldedWord>(v: T::Double, p: u32, c: T, m: T) -> (T, u32) {
     let (rest, count) = T::fold_double(v, p, c, m);
     (sum_once(rest, T::zero(), m), count)
+}
+
+/// v modulo m, by folds: without further comparisons where v is at most a product of two numbers below 2^p, and that is
+/// faster.
+///
+/// Source: Handbook of Applied Cryptography, algorithm 14.47.
+///
+/// # Preconditions
+///
+/// m is 2^p - c and more than half of 2^p, and p is at most the width of the words. This isn't tested:
+/// outside it the call panics, or returns no meaningful result.
+#[inline]
+pub fn reduce_double_word<T: FoldedWord>(v: T::Double, p: u32, c: T, m: T) -> T {
+    if T::is_in_line(v, p, c, m) {
+        T::reduce_in_line(v, p, c, m)
+    } else {
+        reduce_by_folds(v, p, c, m).0
+    }
 }

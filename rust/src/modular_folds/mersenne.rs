@@ -1,6 +1,6 @@
 //! The reducers of the moduli 2^P - K.
 
-use crate::modular_folds::folds::reduce_by_folds;
+use crate::modular_folds::folds::{reduce_by_folds, reduce_double_word};
 use crate::modular_folds::products::{reduce_product, reduce_word};
 use crate::modular_folds::rings::{FoldModulus, FoldRing};
 use crate::modular_reduced::reducer::Reducer;
@@ -98,7 +98,7 @@ impl<const P: u8, const K: u32> FoldRing<u32, Mersenne32<P, K>> {
     #[inline]
     #[track_caller]
     pub fn reduce_double(v: u64) -> u32 {
-        Self::reduce_counted(v).0
+        reduce_double_word(v, P as u32, K, Self::fixed_modulus())
     }
 
     /// The residue of a double word, and the number of folds that make it less than 2^P.
@@ -241,7 +241,7 @@ impl<const P: u8, const K: u64> FoldRing<u64, Mersenne64<P, K>> {
     #[inline]
     #[track_caller]
     pub fn reduce_double(v: u128) -> u64 {
-        Self::reduce_counted(v).0
+        reduce_double_word(v, P as u32, K, Self::fixed_modulus())
     }
 
     /// The residue of a double word, and the number of folds that make it less than 2^P.

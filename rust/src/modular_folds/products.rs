@@ -82,6 +82,19 @@ fn fold_word<T: PathWord>(v: T, p: u32, c: T) -> T {
     }
 }
 
+// x modulo m, after folds at the bit p. Where that leaves the word as it is, the comparison with m needn't wait for a
+// difference. Condition: x is below 2m.
+#[inline(always)]
+fn reduced_at<T: PathWord>(x: T, p: u32, m: T) -> T {
+    if p < T::bits() {
+        reduced_once(x, m)
+    } else if x.is_below(m) {
+        x
+    } else {
+        x.minus(m)
+    }
+}
+
 /// v modulo m.
 ///
 /// Where one fold makes every word less than 2m, no double word is folded and v isn't compared. The choice depends
@@ -93,10 +106,10 @@ fn fold_word<T: PathWord>(v: T, p: u32, c: T) -> T {
 ///
 /// m is 2^p - c and more than half of 2^p, and p is at most the width of the words. This isn't tested:
 /// outside it the call panics, or returns no meaningful result.
-#[inline]
+#[inline(always)]
 pub fn reduce_word<T: FoldedWord>(v: T, p: u32, c: T, m: T) -> T {
     if is_once(p, c) {
-        reduced_once(fold_word(v, p, c), m)
+        reduced_at(fold_word(v, p, c), p, m)
     } else {
         reduce_by_folds(T::merge(v, T::zero()), p, c, m).0
     }

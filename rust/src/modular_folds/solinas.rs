@@ -1,6 +1,6 @@
 //! The reducers of the moduli 2^P1 - 2^P2 + K.
 
-use crate::modular_folds::folds::{FoldedWord, reduce_by_folds};
+use crate::modular_folds::folds::{FoldedWord, reduce_by_folds, reduce_double_word};
 use crate::modular_folds::products::{reduce_product, reduce_word};
 use crate::modular_folds::rings::{FoldModulus, FoldRing};
 use crate::modular_prim::plain_word::PlainWord;
@@ -297,7 +297,11 @@ impl<T: TrinomialWord, F: Trinomial> FoldRing<T, TrinomialModulus<T, F>> {
     #[inline]
     #[track_caller]
     pub fn reduce_double(v: T::Double) -> T {
-        Self::reduce_counted(v).0
+        if is_low(F::p1(), F::p2(), F::k()) {
+            Self::remainder(v)
+        } else {
+            reduce_double_word(v, F::p1() as u32, Self::factor(), Self::fixed_modulus())
+        }
     }
 
     // The residue of a double word, by a division.

@@ -174,6 +174,9 @@ impl<T: ReducerWord> Reducer<T> for Montgomery<T> {
 
     #[inline]
     fn dbl(&self, f: T) -> T {
+        if self.twos == 0 {
+            return self.odd.dbl(f);
+        }
         self.add(&f, &f)
     }
 
@@ -187,6 +190,9 @@ impl<T: ReducerWord> Reducer<T> for Montgomery<T> {
 
     #[inline]
     fn neg(&self, f: T) -> T {
+        if self.twos == 0 {
+            return self.odd.neg(f);
+        }
         self.sub(&T::zero(), &f)
     }
 

@@ -103,10 +103,12 @@ pub const fn convolves(length: usize, factors: usize, b: usize, last: usize) -> 
 }
 
 /// Replaces xs by the product of two polynomials modulo X^n - c, and ys by the remainders of the second as `split`
-/// computes them, c being the power of g by the reversed bits of b and n the length of the lists. Returns false,
-/// with both lists unchanged, exactly where the number n/last of blocks has no inverse modulo m.
+/// computes them. Here n is the length of the lists, the table is the plan by g (`plan`), and c is the power of g by
+/// the reversed bits of b. Returns false, with both lists unchanged, exactly where the number n/last of blocks has no
+/// inverse modulo m.
 ///
-/// So b = 0 gives the cyclic product, and b = 1 that modulo X^n + 1.
+/// So b = 0 gives the cyclic product, and b = 1 that modulo X^n + 1. The table must be the plan by some g: with other
+/// factors modulo m, the results are below m and meaningless.
 /// No memory is allocated.
 ///
 /// Source: Bernstein, "Multidigit multiplication for mathematicians", section 2: split both lists, multiply the
@@ -157,7 +159,7 @@ pub fn convolve_block<T: PlainWord, F: PlanEntry<T>>(
 
 /// Replaces xs by the cyclic product of xs and ys, as `convolve_block` for b = 0: entry e becomes the sum of
 /// x_i·y_j modulo m over i + j = e or e + n. Returns false, with both lists unchanged, exactly where the number
-/// n/last of blocks has no inverse modulo m.
+/// n/last of blocks has no inverse modulo m. The table must be a plan, as for `convolve_block`.
 ///
 /// # Panics
 ///
@@ -189,7 +191,8 @@ pub fn convolve_planned<T: PlainWord, F: PlanEntry<T>>(
 
 /// Replaces xs by the product of xs and ys modulo X^n + 1, as `convolve_block` for b = 1: entry e becomes the sum
 /// of x_i·y_j modulo m over i + j = e, less that over i + j = e + n. Returns false, with both lists unchanged,
-/// exactly where the number n/last of blocks has no inverse modulo m.
+/// exactly where the number n/last of blocks has no inverse modulo m. The table must be a plan, as for
+/// `convolve_block`.
 ///
 /// # Panics
 ///

@@ -46,7 +46,8 @@ fn join_first<T: PlainWord, F: PlanEntry<T>, M: JoinSteps<T>>(
     }
 }
 
-// All stages. The result is the number of blocks times the list whose remainders the entries are, below the bound.
+// All stages. Where the entries are the remainders of a polynomial, they become its coefficients times the number of
+// blocks, up to multiples of m and below the bound.
 #[inline]
 fn join_stages<T: PlainWord, F: PlanEntry<T>, M: JoinSteps<T>>(
     m: &M,
@@ -124,9 +125,10 @@ fn join_scaled_by<T: PlainWord, F: PlanEntry<T>, M: JoinSteps<T>>(
 
 /// Joins the blocks of `last` entries into block b of the tree of remainders, which undoes `split` but for a
 /// factor: where the entries are the remainders of a polynomial modulo X^last - c, as `split` computes them, entry
-/// i becomes its coefficient x_i times the number of blocks, modulo m.
+/// i becomes its coefficient x_i times the number count of blocks, modulo m.
 ///
-/// The table is the plan by g that they were split by, or a longer one.
+/// The table must be the plan (`plan`) by which they were split, or a longer one that begins with it: with other
+/// factors modulo m, the results are below m and meaningless.
 ///
 /// Each pass over the list does two stages where two are left.
 ///
@@ -172,7 +174,8 @@ pub fn join<T: PlainWord, F: PlanEntry<T>>(
 }
 
 /// Joins the blocks as `join` does and multiplies each coefficient by a factor. With the inverse modulo m of the
-/// number of blocks as the factor, the results are the coefficients themselves.
+/// number of blocks as the factor, the results are the coefficients themselves. The table must be a plan, as for
+/// `join`.
 ///
 /// # Panics
 ///

@@ -100,7 +100,8 @@ fn multiply_pairs<T: PlainWord, F: PlanEntry<T>>(
 
 /// Multiplies the blocks of `last` entries of the two lists, below block b of the tree of remainders, as
 /// polynomials modulo X^last - c, with the constants c of `split`. So the products of two lists of remainders are
-/// the remainders of a product. For `last` = 1 entries of equal index are multiplied.
+/// the remainders of a product. For `last` = 1 entries of equal index are multiplied. The table must be the plan by
+/// which the lists were split: with other factors modulo m, the results are below m and meaningless.
 ///
 /// # Preconditions
 ///

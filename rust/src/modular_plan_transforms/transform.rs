@@ -7,7 +7,9 @@ use crate::modular_prim::plain_word::PlainWord;
 use crate::modular_transform::order::reverse_places;
 
 /// The transform of n entries in place, in natural order: entry j becomes the sum over i of x_i·h^(i·j) modulo m, below
-/// m. h is the root of the plan, or, where the plan is for more entries, the power of it that suits n entries.
+/// m. Here the table is the plan by a root g (`plan`), and h is g, or, where the plan is for more entries, the power of
+/// g that suits n entries. The table must be a plan: with other factors modulo m, the results are below m and
+/// meaningless.
 ///
 /// Source: `split`, and a reversal of the bits of the indexes.
 ///

@@ -51,8 +51,9 @@ pub fn nm_plan_check(plan: &NmPlan) -> u32 {
     nm_plan_fits(plan.modulus, plan.root, plan.table)
 }
 
-/// Replaces the n words by their transform: entry j is the sum of x_i·h^(i·j) modulo m. h is the plan's root, or, where
-/// the plan is for more words, the power of it that suits n words.
+/// Replaces the n words by their transform: where the table is the plan by g, entry j is the sum of x_i·h^(i·j) modulo m.
+/// h is g, or, where the plan is for more words, the power of g that suits n words. `nm_plan_make` writes a plan whose
+/// table is the plan by its root modulo m, and `nm_plan_check` returns `NM_OK` for no other.
 ///
 /// Factors that are no plan give meaningless words below m. `NM_BAD_ARGUMENT`: as for `nm_ntt_planned`.
 ///

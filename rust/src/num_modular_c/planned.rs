@@ -41,8 +41,8 @@ fn split_code(m: u64, words: &[u64], table: &[NmFactor], b: usize, last: usize) 
     }
 }
 
-/// Replaces the n words by their transform by a plan: entry j is the sum of x_i·h^(i·j) modulo m. h is the root of
-/// the plan, or, where the plan is for more words, the power of it that suits n words.
+/// Replaces the n words by their transform: where the table is the plan by g, entry j is the sum of x_i·h^(i·j) modulo m.
+/// h is g, or, where the plan is for more words, the power of g that suits n words.
 ///
 /// `NM_BAD_ARGUMENT`: m is 0 or above 2^62, a word isn't below 4m, n is no power of two or above twice the length
 /// of the table. `NM_BAD_CONTEXT`: an entry of the table isn't a factor modulo m with its quotient. Where the table
@@ -57,8 +57,8 @@ pub fn nm_ntt_planned(m: u64, xs: &mut [u64], table: &[NmFactor]) -> u32 {
 }
 
 /// Splits block b of the tree of remainders into blocks of `last` words, in place: word i of block j
-/// becomes the sum over k of x_(k·last + i)·c^k modulo m, c being the power of the plan's root by the
-/// reversed bits of b·count + j, and count the number of blocks.
+/// becomes the sum over k of x_(k·last + i)·c^k modulo m. Here the table is the plan by g, count is the number of blocks,
+/// and c is the power of g by the reversed bits of b·count + j.
 ///
 /// `NM_BAD_ARGUMENT`: m is 0 or above 2^62, a word isn't below 4m, n is no power of two times `last`, or the table
 /// has fewer than (b + 1)·(count/2) entries. `NM_BAD_CONTEXT`: as for `nm_ntt_planned`.

@@ -31,6 +31,7 @@ use crate::{Reducer, RingWord};
 pub use powers::{encode_by_plan, encode_by_transform, fill_powers};
 pub use prepared::PreparedCode;
 pub use secrets::{ShareError, recover, recover_correct, share};
+use words::index_of;
 pub use words::restore_word;
 
 /// Why a message can't be restored.
@@ -255,17 +256,6 @@ pub fn encode_systematic<T: RingWord, R: Reducer<T>>(
     true
 }
 
-// Whether the place at an index also occurs at a lower index.
-#[inline]
-fn occurs_before(places: &[usize], at: usize) -> bool {
-    for j in 0..at {
-        if places[j] == places[at] {
-            return true;
-        }
-    }
-    false
-}
-
 // Copies the points at the first places, as many as `chosen` holds.
 fn choose<T: RingWord>(points: &[T], places: &[usize], chosen: &mut [T]) -> Result<(), RestoreError> {
     if places.len() < chosen.len() {
@@ -276,7 +266,7 @@ fn choose<T: RingWord>(points: &[T], places: &[usize], chosen: &mut [T]) -> Resu
         if place >= points.len() {
             return Err(RestoreError::PlaceOutOfRange);
         }
-        if occurs_before(places, i) {
+        if index_of(places, i, place).is_some() {
             return Err(RestoreError::PlaceTwice);
         }
         chosen[i] = points[place];

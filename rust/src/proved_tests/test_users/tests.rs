@@ -8,6 +8,7 @@ macro_rules! check {
     };
 }
 
+mod any_length;
 mod check_symbols;
 mod correction;
 mod decimal_digits;

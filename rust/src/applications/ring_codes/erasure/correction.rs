@@ -77,35 +77,14 @@ fn decode<T: RingWord, R: Reducer<T>>(
 ) -> Result<bool, T> {
     let k = message.len();
     let half = (points.len() - k) / 2;
-    let (first_numerator, rest) = scratch.split_at_mut(half + k);
-    let (first_locator, rest) = rest.split_at_mut(half + 1);
-    let (second_numerator, rest) = rest.split_at_mut(half + k);
-    let (second_locator, rest) = rest.split_at_mut(half + 1);
     let count = k + 2 * half;
-    match solve(
-        r,
-        points,
-        symbols,
-        count,
-        k,
-        first_numerator,
-        first_locator,
-        second_numerator,
-        second_locator,
-    ) {
+    let points = &points[..count];
+    let symbols = &symbols[..count];
+    let (first, rest) = scratch.split_at_mut(count + 1);
+    let (second, rest) = rest.split_at_mut(count + 1);
+    match solve(r, points, symbols, k, first, second, half + k) {
         Err(a) => Err(a),
-        Ok(found) => divide_lighter(
-            r,
-            points,
-            count,
-            found,
-            first_numerator,
-            first_locator,
-            second_numerator,
-            second_locator,
-            rest,
-            message,
-        ),
+        Ok(weights) => divide_lighter(r, points, weights, first, second, half + k, rest, message),
     }
 }
 

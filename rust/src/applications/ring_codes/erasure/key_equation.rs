@@ -1,6 +1,7 @@
 //! Pairs of polynomials that solve the key equation: N(x) = y·E(x) at the points x with the symbols y.
 //!
-//! A pair is its numerator N and its locator E, each by its coefficients, the constant first.
+//! A pair is one list: the coefficients of its numerator N, the constant first, and from the index `split` on those of
+//! its locator E.
 
 use super::evaluate;
 use crate::{Reducer, RingWord};
@@ -9,18 +10,18 @@ use crate::{Reducer, RingWord};
 ///
 /// # Preconditions
 ///
-/// All are checked forms. This isn't tested: outside it the call panics, or returns no meaningful
-/// result.
+/// Point, symbol and pair are checked forms, and the numerator is within the pair. This isn't tested:
+/// outside it the call panics, or returns no meaningful result.
 #[inline]
 pub fn discrepancy<T: RingWord, R: Reducer<T>>(
     r: &R,
     point: &T,
     symbol: &T,
-    numerator: &[T],
-    locator: &[T],
+    pair: &[T],
+    split: usize,
 ) -> T {
-    let value = evaluate(r, numerator, point);
-    let located = evaluate(r, locator, point);
+    let value = evaluate(r, &pair[..split], point);
+    let located = evaluate(r, &pair[split..], point);
     let product = r.mul(symbol, &located);
     r.sub(&value, &product)
 }
@@ -61,29 +62,31 @@ pub fn eliminate<T: RingWord, R: Reducer<T>>(
     }
 }
 
-/// Writes the coefficients of a constant.
+/// Writes 1 at a place, and 0 elsewhere.
 ///
 /// # Preconditions
 ///
-/// It is a checked form, and there is a place for it. This isn't tested: outside it the call panics, or
-/// returns no meaningful result.
+/// There is such a place. This isn't tested: outside it the call panics, or returns no meaningful
+/// result.
 #[inline]
-pub fn set_constant<T: RingWord, R: Reducer<T>>(r: &R, constant: &T, coefficients: &mut [T]) {
+pub fn set_unit<T: RingWord, R: Reducer<T>>(r: &R, place: usize, coefficients: &mut [T]) {
     let zero = r.transform(T::zero());
+    let one = r.transform(T::one());
     for entry in coefficients.iter_mut() {
         *entry = zero;
     }
-    coefficients[0] = *constant;
+    coefficients[place] = one;
 }
 
 /// Multiplies a pair by X - x.
 ///
 /// # Preconditions
 ///
-/// Point, numerator and locator are checked forms. This isn't tested: outside it the call panics, or
-/// returns no meaningful result.
+/// Point and pair are checked forms, and the numerator is within the pair. This isn't tested: outside
+/// it the call panics, or returns no meaningful result.
 #[inline]
-pub fn raise<T: RingWord, R: Reducer<T>>(r: &R, point: &T, numerator: &mut [T], locator: &mut [T]) {
+pub fn raise<T: RingWord, R: Reducer<T>>(r: &R, point: &T, pair: &mut [T], split: usize) {
+    let (numerator, locator) = pair.split_at_mut(split);
     multiply_by_root(r, point, numerator);
     multiply_by_root(r, point, locator);
 }
@@ -93,30 +96,23 @@ pub fn raise<T: RingWord, R: Reducer<T>>(r: &R, point: &T, numerator: &mut [T], 
 ///
 /// # Preconditions
 ///
-/// All are checked forms, p isn't 0, and both pairs have as many coefficients. This isn't tested:
-/// outside it the call panics, or returns no meaningful result.
+/// All are checked forms, p isn't 0, both pairs have as many coefficients, and the numerators are
+/// within them. This isn't tested: outside it the call panics, or returns no meaningful result.
+#[inline]
 pub fn reduce<T: RingWord, R: Reducer<T>>(
     r: &R,
     point: &T,
     pivot_discrepancy: &T,
-    pivot_numerator: &mut [T],
-    pivot_locator: &mut [T],
+    pivot: &mut [T],
     discrepancy: &T,
-    numerator: &mut [T],
-    locator: &mut [T],
+    other: &mut [T],
+    split: usize,
 ) -> Result<(), T> {
     match r.inv(*pivot_discrepancy) {
         None => Err(r.residue(*pivot_discrepancy)),
         Some(_) => {
-            eliminate(
-                r,
-                pivot_discrepancy,
-                numerator,
-                discrepancy,
-                pivot_numerator,
-            );
-            eliminate(r, pivot_discrepancy, locator, discrepancy, pivot_locator);
-            raise(r, point, pivot_numerator, pivot_locator);
+            eliminate(r, pivot_discrepancy, other, discrepancy, pivot);
+            raise(r, point, pivot, split);
             Ok(())
         }
     }
@@ -127,41 +123,39 @@ pub fn reduce<T: RingWord, R: Reducer<T>>(
 ///
 /// # Preconditions
 ///
-/// All are checked forms, and both pairs have as many coefficients. This isn't tested: outside it the
-/// call panics, or returns no meaningful result.
+/// All are checked forms, both pairs have as many coefficients, and the numerators are within them.
+/// This isn't tested: outside it the call panics, or returns no meaningful result.
 pub fn advance<T: RingWord, R: Reducer<T>>(
     r: &R,
     point: &T,
     symbol: &T,
-    first_numerator: &mut [T],
-    first_locator: &mut [T],
-    second_numerator: &mut [T],
-    second_locator: &mut [T],
+    first: &mut [T],
+    second: &mut [T],
+    split: usize,
     weights: (usize, usize),
 ) -> Result<(usize, usize), T> {
-    let first = discrepancy(r, point, symbol, first_numerator, first_locator);
-    let second = discrepancy(r, point, symbol, second_numerator, second_locator);
-    if r.is_zero(&first) {
-        if r.is_zero(&second) {
+    let first_discrepancy = discrepancy(r, point, symbol, first, split);
+    let second_discrepancy = discrepancy(r, point, symbol, second, split);
+    if r.is_zero(&first_discrepancy) {
+        if r.is_zero(&second_discrepancy) {
             return Ok(weights);
         }
-        raise(r, point, second_numerator, second_locator);
+        raise(r, point, second, split);
         return Ok((weights.0, weights.1 + 1));
     }
-    if r.is_zero(&second) {
-        raise(r, point, first_numerator, first_locator);
+    if r.is_zero(&second_discrepancy) {
+        raise(r, point, first, split);
         return Ok((weights.0 + 1, weights.1));
     }
     if weights.0 <= weights.1 {
         match reduce(
             r,
             point,
-            &first,
-            first_numerator,
-            first_locator,
-            &second,
-            second_numerator,
-            second_locator,
+            &first_discrepancy,
+            first,
+            &second_discrepancy,
+            second,
+            split,
         ) {
             Err(a) => Err(a),
             Ok(()) => Ok((weights.0 + 1, weights.1)),
@@ -170,12 +164,11 @@ pub fn advance<T: RingWord, R: Reducer<T>>(
         match reduce(
             r,
             point,
-            &second,
-            second_numerator,
-            second_locator,
-            &first,
-            first_numerator,
-            first_locator,
+            &second_discrepancy,
+            second,
+            &first_discrepancy,
+            first,
+            split,
         ) {
             Err(a) => Err(a),
             Ok(()) => Ok((weights.0, weights.1 + 1)),
@@ -183,49 +176,32 @@ pub fn advance<T: RingWord, R: Reducer<T>>(
     }
 }
 
-/// Finds two pairs that solve the key equation at the first `count` points, and returns their weights, of which one is
-/// small: they add up to at most count + k - 1. The pairs at the start are (1, 0) and (0, 1), with the weights 0 and
-/// k - 1.
-/// What the lists of coefficients hold before
-/// is ignored.
+/// Finds two pairs that solve the key equation at s points, and returns their weights, of which one is small: they add
+/// up to at most s + k - 1. The pairs at the start are (1, 0) and (0, 1), with the weights 0 and k - 1.
+/// What the pairs hold before is ignored.
 ///
 /// Source: Kötter, "On algebraic decoding of algebraic-geometric and cyclic codes"; without division, as Berlekamp,
 /// "Bounded distance + 1 soft-decision Reed-Solomon decoding".
 ///
 /// # Preconditions
 ///
-/// Points and symbols are checked forms, at least `count` each, and k is at least 1, and both
-/// numerators have as many coefficients, the locators k - 1 fewer, but one at least. This isn't tested:
+/// Points and symbols are checked forms, and each point has its symbol, and k is at least 1, and both
+/// numerators have `split` coefficients, the locators k - 1 fewer, but one at least. This isn't tested:
 /// outside it the call panics, or returns no meaningful result.
 pub fn solve<T: RingWord, R: Reducer<T>>(
     r: &R,
     points: &[T],
     symbols: &[T],
-    count: usize,
     k: usize,
-    first_numerator: &mut [T],
-    first_locator: &mut [T],
-    second_numerator: &mut [T],
-    second_locator: &mut [T],
+    first: &mut [T],
+    second: &mut [T],
+    split: usize,
 ) -> Result<(usize, usize), T> {
-    let zero = r.transform(T::zero());
-    let one = r.transform(T::one());
-    set_constant(r, &one, first_numerator);
-    set_constant(r, &zero, first_locator);
-    set_constant(r, &zero, second_numerator);
-    set_constant(r, &one, second_locator);
+    set_unit(r, 0, first);
+    set_unit(r, split, second);
     let mut weights = (0, k - 1);
-    for i in 0..count {
-        match advance(
-            r,
-            &points[i],
-            &symbols[i],
-            first_numerator,
-            first_locator,
-            second_numerator,
-            second_locator,
-            weights,
-        ) {
+    for i in 0..points.len() {
+        match advance(r, &points[i], &symbols[i], first, second, split, weights) {
             Err(a) => return Err(a),
             Ok(w) => weights = w,
         }

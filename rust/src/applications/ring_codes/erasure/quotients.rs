@@ -38,19 +38,18 @@ pub fn quotient<T: RingWord, R: Reducer<T>>(
 ///
 /// # Preconditions
 ///
-/// All are checked forms, and there are at least `count` points, and k is from 1 to `count`. This isn't
-/// tested: outside it the call panics, or returns no meaningful result.
+/// All are checked forms, and k is at least 1 and at most the number of points. This isn't tested:
+/// outside it the call panics, or returns no meaningful result.
 pub fn divide<T: RingWord, R: Reducer<T>>(
     r: &R,
     points: &[T],
-    count: usize,
     numerator: &[T],
     locator: &[T],
     chosen: &mut [T],
     values: &mut [T],
 ) -> Result<bool, T> {
     let mut found = 0;
-    for entry in points[..count].iter() {
+    for entry in points.iter() {
         match quotient(r, entry, numerator, locator) {
             Err(a) => return Err(a),
             Ok(None) => continue,
@@ -67,19 +66,19 @@ pub fn divide<T: RingWord, R: Reducer<T>>(
     Ok(false)
 }
 
-/// Writes the message whose values are the quotients of a pair. Returns false where fewer than k quotients exist.
+/// Writes the message whose values are the quotients of a pair: one list, whose first `split` coefficients are its
+/// numerator's. Returns false where fewer than k quotients exist.
 ///
 /// # Preconditions
 ///
-/// The conditions of `divide` hold, and there are three places of scratch for each symbol of the
-/// message, whose contents are ignored, and the points fit. This isn't tested: outside it the call
-/// panics, or returns no meaningful result.
+/// The conditions of `divide` hold, and the numerator is within the pair, and there are three places of
+/// scratch for each symbol of the message, whose contents are ignored, and the points fit. This isn't
+/// tested: outside it the call panics, or returns no meaningful result.
 pub fn divide_pair<T: RingWord, R: Reducer<T>>(
     r: &R,
     points: &[T],
-    count: usize,
-    numerator: &[T],
-    locator: &[T],
+    pair: &[T],
+    split: usize,
     scratch: &mut [T],
     message: &mut [T],
 ) -> Result<bool, T> {
@@ -87,7 +86,9 @@ pub fn divide_pair<T: RingWord, R: Reducer<T>>(
     let (chosen, rest) = scratch.split_at_mut(k);
     let (values, rest) = rest.split_at_mut(k);
     let weights = &mut rest[..k];
-    match divide(r, points, count, numerator, locator, chosen, values) {
+    let numerator = &pair[..split];
+    let locator = &pair[split..];
+    match divide(r, points, numerator, locator, chosen, values) {
         Err(a) => Err(a),
         Ok(false) => Ok(false),
         Ok(true) => Ok(interpolate(r, chosen, values, weights, message)),
@@ -105,34 +106,16 @@ pub fn divide_pair<T: RingWord, R: Reducer<T>>(
 pub fn divide_lighter<T: RingWord, R: Reducer<T>>(
     r: &R,
     points: &[T],
-    count: usize,
     pair_weights: (usize, usize),
-    first_numerator: &[T],
-    first_locator: &[T],
-    second_numerator: &[T],
-    second_locator: &[T],
+    first: &[T],
+    second: &[T],
+    split: usize,
     scratch: &mut [T],
     message: &mut [T],
 ) -> Result<bool, T> {
     if pair_weights.0 <= pair_weights.1 {
-        divide_pair(
-            r,
-            points,
-            count,
-            first_numerator,
-            first_locator,
-            scratch,
-            message,
-        )
+        divide_pair(r, points, first, split, scratch, message)
     } else {
-        divide_pair(
-            r,
-            points,
-            count,
-            second_numerator,
-            second_locator,
-            scratch,
-            message,
-        )
+        divide_pair(r, points, second, split, scratch, message)
     }
 }

@@ -3,29 +3,18 @@
 use super::{RestoreError, evaluate, restore};
 use crate::{Reducer, RingWord};
 
-// An index below `count` of a place in the list; `None` exactly where there is none.
+/// An index below `count` of a place in the list; `None` exactly where there is none.
+///
+/// # Preconditions
+///
+/// The list has so many. This isn't tested: outside it the call panics, or returns no meaningful
+/// result.
 #[inline]
-fn index_of(places: &[usize], count: usize, place: usize) -> Option<usize> {
+pub fn index_of(places: &[usize], count: usize, place: usize) -> Option<usize> {
     (0..count).find(|&j| places[j] == place)
 }
 
-// The symbol at a place: the kept one, or the value of the message at the point.
-#[inline]
-fn symbol_at<T: RingWord, R: Reducer<T>>(
-    r: &R,
-    points: &[T],
-    message: &[T],
-    places: &[usize],
-    symbols: &[T],
-    place: usize,
-) -> T {
-    match index_of(places, message.len(), place) {
-        Some(j) => symbols[j],
-        None => evaluate(r, message, &points[place]),
-    }
-}
-
-// Writes the word of a message, some of whose symbols were kept.
+// Writes the word of a message: the kept symbols, and the values of the message at the other points.
 #[inline]
 fn fill_word<T: RingWord, R: Reducer<T>>(
     r: &R,
@@ -35,8 +24,11 @@ fn fill_word<T: RingWord, R: Reducer<T>>(
     symbols: &[T],
     word: &mut [T],
 ) {
-    for (i, entry) in word[..points.len()].iter_mut().enumerate() {
-        *entry = symbol_at(r, points, message, places, symbols, i);
+    for i in 0..points.len() {
+        word[i] = match index_of(places, message.len(), i) {
+            Some(j) => symbols[j],
+            None => evaluate(r, message, &points[i]),
+        };
     }
 }
 

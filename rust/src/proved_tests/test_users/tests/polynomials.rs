@@ -141,12 +141,17 @@ fn a_square_of_ones() {
     check!(&rt, 2; multiply_plain(97, &ones, &ones, &mut out) && is_square_of_ones(&out));
 }
 
-// Whether transforms and sums agree.
-fn agree<F: PlanEntry<u64>>(m: u64, k: usize, plans: &Plans<F>) -> bool {
-    let (xs, ys) = (digits_from::<500>(1), digits_from::<500>(2));
+// Whether transforms and sums agree, for coefficients that are words divided by a number: so they need three primes,
+// two or one.
+fn agree<F: PlanEntry<u64>>(m: u64, by: u64, k: usize, plans: &Plans<F>) -> bool {
+    let (mut xs, mut ys) = (digits_from::<500>(1), digits_from::<500>(2));
     let (mut left, mut right, mut words) = ([7; 999], [7; 999], [7; 4096]);
-    if k > 500 || k < 1 {
+    if k > 500 || k < 1 || by == 0 {
         return false;
+    }
+    for i in 0..500 {
+        xs[i] /= by;
+        ys[i] /= by;
     }
     let ys = &ys[..k];
     multiply(m, &xs, ys, &mut left[..499 + k], &mut words, plans)
@@ -157,11 +162,15 @@ fn agree<F: PlanEntry<u64>>(m: u64, k: usize, plans: &Plans<F>) -> bool {
 fn all_agree<F: PlanEntry<u64>>(a: &mut [F], b: &mut [F], c: &mut [F]) -> bool {
     match fill_plans(a, b, c) {
         Some(plans) => {
-            agree(GREATEST, 500, &plans)
-                && agree(M, 401, &plans)
-                && agree(2, 200, &plans)
-                && agree(1, 199, &plans)
-                && agree(9223372036854775783, 500, &plans)
+            agree(GREATEST, 1, 500, &plans)
+                && agree(M, 1, 401, &plans)
+                && agree(2, 1, 200, &plans)
+                && agree(1, 1, 199, &plans)
+                && agree(9223372036854775783, 1, 500, &plans)
+                && agree(M, 17179869184, 500, &plans)
+                && agree(GREATEST, 64, 500, &plans)
+                && agree(M, 1099511627776, 500, &plans)
+                && agree(97, 72057594037927936, 300, &plans)
         }
         None => false,
     }

@@ -1,0 +1,257 @@
+//! Transforms of any length modulo any m of up to 64 bits, by Bluestein's method.
+
+use crate::applications::long_product::plans::Plans;
+use crate::applications::long_product::polynomials;
+use crate::ModularUnaryOps;
+use crate::plans::PlanEntry;
+use crate::word::w64::nrem;
+
+/// The least number of entries for which the transform is computed by a product of polynomials; for fewer it is
+/// computed by the sums.
+pub const LEAST_CONVOLVED: usize = 16;
+
+/// The number of words, and of factors of each of the three tables, for a transform of n entries. Both are 0 where n
+/// is below `LEAST_CONVOLVED`; else the words are 6·n more than `polynomials::room(n, 2n - 1)` returns, and the factors
+/// are as many.
+///
+/// # Preconditions
+///
+/// 3·n is at most 2^32. This isn't tested: outside it the call panics, or returns no meaningful result.
+///
+/// # Examples
+///
+/// ```
+/// use num_modular::applications::long_product::{any_length, polynomials};
+///
+/// let (words, factors) = polynomials::room(1000, 1999);
+/// assert_eq!(any_length::room(1000), (6 * 1000 + words, factors));
+/// assert_eq!(any_length::room(7), (0, 0));
+/// ```
+#[inline]
+pub fn room(n: usize) -> (usize, usize) {
+    if n < LEAST_CONVOLVED {
+        return (0, 0);
+    }
+    let (words, table) = polynomials::room(n, 2 * n - 1);
+    (6 * n + words, table)
+}
+
+// Whether m is a modulus, as many entries are read as written, and there is room.
+#[inline]
+fn fits(m: u64, n: usize, places: usize, words: usize, table: usize) -> bool {
+    if m == 0 || places != n {
+        return false;
+    }
+    if n < LEAST_CONVOLVED {
+        return true;
+    }
+    words >= 6 * n && polynomials::has_room(n, 2 * n - 1, words - 6 * n, table)
+}
+
+// The residue of x·y.
+#[inline]
+fn residue_of_product(m: u64, x: u64, y: u64) -> u64 {
+    nrem(x as u128 * y as u128, m)
+}
+
+// Writes first·g^C(k, 2) modulo m, C(k, 2) being the binomial coefficient, to each place k.
+fn write_powers(m: u64, first: u64, g: u64, out: &mut [u64]) {
+    let mut power = nrem(first as u128, m);
+    let mut step = nrem(1, m);
+    for entry in out.iter_mut() {
+        *entry = power;
+        power = residue_of_product(m, power, step);
+        step = residue_of_product(m, step, g);
+    }
+}
+
+// Writes the products of the entries, modulo m.
+#[inline]
+fn write_products(m: u64, xs: &[u64], ys: &[u64], out: &mut [u64]) {
+    for i in 0..out.len() {
+        out[i] = residue_of_product(m, xs[i], ys[i]);
+    }
+}
+
+// part times the sum of x_i·w^i, modulo m, by Horner's rule.
+#[inline]
+fn scaled_value(m: u64, part: u64, w: u64, xs: &[u64]) -> u64 {
+    let n = xs.len();
+    let mut sum = 0;
+    for i in 0..n {
+        sum = nrem(sum as u128 * w as u128 + xs[n - 1 - i] as u128, m);
+    }
+    residue_of_product(m, part, sum)
+}
+
+// Writes part times the entries of the transform by g, by the sums.
+#[inline]
+fn fill_plain(m: u64, part: u64, g: u64, xs: &[u64], out: &mut [u64]) {
+    let mut power = nrem(1, m);
+    for entry in out.iter_mut() {
+        *entry = scaled_value(m, part, power, xs);
+        power = residue_of_product(m, power, g);
+    }
+}
+
+// The same by a product of polynomials, given an inverse h of g. The terms of entry j have the power of g to
+// i·j = C(i + j, 2) - C(i, 2) - C(j, 2).
+fn fill_convolved<F: PlanEntry<u64>>(
+    m: u64,
+    part: u64,
+    g: u64,
+    h: u64,
+    xs: &[u64],
+    out: &mut [u64],
+    words: &mut [u64],
+    plans: &Plans<F>,
+) {
+    let n = xs.len();
+    let (own, scratch) = words.split_at_mut(6 * n);
+    let (weights, own) = own.split_at_mut(n);
+    let (powers, own) = own.split_at_mut(2 * n - 1);
+    let (sums, _spare) = own.split_at_mut(3 * n - 2);
+    write_powers(m, 1, h, weights);
+    write_powers(m, part, g, powers);
+    write_products(m, xs, weights, out);
+    out.reverse();
+    let _done = polynomials::multiply(m, out, powers, sums, scratch, plans);
+    let (_before, sums) = sums.split_at(n - 1);
+    write_products(m, sums, weights, out);
+}
+
+// The same, by the sums or by a product of polynomials.
+#[inline]
+fn fill<F: PlanEntry<u64>>(
+    m: u64,
+    part: u64,
+    g: u64,
+    h: u64,
+    xs: &[u64],
+    out: &mut [u64],
+    words: &mut [u64],
+    plans: &Plans<F>,
+) {
+    if xs.len() < LEAST_CONVOLVED {
+        fill_plain(m, part, g, xs, out);
+        return;
+    }
+    fill_convolved(m, part, g, h, xs, out, words, plans);
+}
+
+/// Writes the transform by g of the n numbers xs modulo m to `out`: entry j is the sum of x_i·g^(i·j) over i from 0
+/// to n - 1, modulo m. n may be any number, and m needn't be prime. `words` has unspecified contents afterwards.
+/// Returns false, with both lists unchanged, exactly where m is 0, the lengths of xs and `out` differ, g has no inverse
+/// modulo m, or, for n from `LEAST_CONVOLVED` on, 3·n - 1 is above 2^32, or `words` or a plan's table is shorter than
+/// `room(n)` returns. g and the numbers may be any words. No memory is allocated.
+///
+/// The transform can be undone, by `intt`, where g is a root of order n (`is_root_of_order` tells).
+///
+/// Source: Bluestein, "A linear filtering approach to the computation of discrete Fourier transform", with binomial
+/// coefficients in place of halves of squares, so that no square root of g is needed: i·j = C(i + j, 2) - C(i, 2) -
+/// C(j, 2), because C(i + j, 2) counts the pairs among i and j things, i·j of them with one of each.
+///
+/// # Examples
+///
+/// ```
+/// use num_modular::applications::long_product::any_length::ntt;
+/// use num_modular::applications::long_product::fill_plans;
+/// use num_modular::plans::Factor;
+///
+/// let mut tables = [[Factor::<u64>::ZERO; 1]; 3];
+/// let [first, second, third] = &mut tables;
+/// let plans = fill_plans(first, second, third).unwrap();
+/// let mut out = [0; 3];
+/// assert!(ntt(7, 2, &[1, 2, 3], &mut out, &mut [], &plans));
+/// assert_eq!(out, [6, 3, 1]); // 1 + 2 + 3, 1 + 4 + 12 and 1 + 8 + 48
+/// ```
+pub fn ntt<F: PlanEntry<u64>>(
+    m: u64,
+    g: u64,
+    xs: &[u64],
+    out: &mut [u64],
+    words: &mut [u64],
+    plans: &Plans<F>,
+) -> bool {
+    if !fits(m, xs.len(), out.len(), words.len(), plans.factors()) {
+        return false;
+    }
+    match g.invm(&m) {
+        Some(inverse) => {
+            fill(m, 1, g, inverse, xs, out, words, plans);
+            true
+        }
+        None => false,
+    }
+}
+
+/// Writes the inverse transform by g of the n numbers xs modulo m to `out`: entry j is the sum of x_i·g^(-i·j) over i
+/// from 0 to n - 1, divided by n, modulo m. Where g is a root of order n (`is_root_of_order` tells), it undoes `ntt`.
+/// Returns false as `ntt` does, and where n has no inverse modulo m.
+///
+/// Source: that of `ntt`; for the inverse von zur Gathen and Gerhard, Modern Computer Algebra, theorem 8.11.
+///
+/// # Examples
+///
+/// ```
+/// use num_modular::applications::long_product::any_length::intt;
+/// use num_modular::applications::long_product::fill_plans;
+/// use num_modular::plans::Factor;
+///
+/// let mut tables = [[Factor::<u64>::ZERO; 1]; 3];
+/// let [first, second, third] = &mut tables;
+/// let plans = fill_plans(first, second, third).unwrap();
+/// let mut out = [0; 3];
+/// assert!(intt(7, 2, &[6, 3, 1], &mut out, &mut [], &plans));
+/// assert_eq!(out, [1, 2, 3]);
+/// ```
+pub fn intt<F: PlanEntry<u64>>(
+    m: u64,
+    g: u64,
+    xs: &[u64],
+    out: &mut [u64],
+    words: &mut [u64],
+    plans: &Plans<F>,
+) -> bool {
+    if !fits(m, xs.len(), out.len(), words.len(), plans.factors()) {
+        return false;
+    }
+    match (g.invm(&m), (xs.len() as u64).invm(&m)) {
+        (Some(inverse), Some(part)) => {
+            fill(m, part, inverse, g, xs, out, words, plans);
+            true
+        }
+        _ => false,
+    }
+}
+
+/// Whether g is a root of unity of order n modulo m, for which `intt` undoes `ntt`: m and n are at least 1, g^n is 1
+/// modulo m, and g^d - 1 has an inverse modulo m for each d from 1 to n - 1. Modulo a prime m these are the g of
+/// order n. It takes 2·n products and one inverse.
+///
+/// Source: von zur Gathen and Gerhard, Modern Computer Algebra, section 8.2: a product has an inverse exactly where all
+/// factors have.
+///
+/// # Examples
+///
+/// ```
+/// use num_modular::applications::long_product::any_length::is_root_of_order;
+///
+/// assert!(is_root_of_order(7, 2, 3));
+/// assert!(!is_root_of_order(7, 6, 6)); // 6^2 is 1
+/// assert!(!is_root_of_order(15, 4, 2)); // 3 divides 4 - 1 and 15
+/// ```
+pub fn is_root_of_order(m: u64, g: u64, n: usize) -> bool {
+    if m == 0 || n == 0 {
+        return false;
+    }
+    let mut power = nrem(g as u128, m);
+    let mut differences = nrem(1, m);
+    for _done in 1..n {
+        let difference = nrem(power as u128 + (m - 1) as u128, m);
+        differences = residue_of_product(m, differences, difference);
+        power = residue_of_product(m, power, g);
+    }
+    let one = nrem(1, m);
+    power == one && differences.invm(&m).is_some()
+}
