@@ -1,3 +1,4 @@
+pub mod DoubleWords
 pub mod Multiplier
 pub mod Quotients
 pub mod ScaledLemmas

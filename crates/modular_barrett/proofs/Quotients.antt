@@ -53,6 +53,13 @@ pub record IsProduct (m product r : ℕ) : Type 0 where
   pub below : r < 2 * m
   pub congruent : Congruent m r product
 
+pub left_less : (m product whole r : ℕ) → IsNear m product whole → r + whole * m ≡ product → IsProduct m product r
+left_less m product whole r near_it e =
+    record {
+      below = omega (arith, near_it.close, e);
+      congruent = record { same = sym (add-mul-mod_self_right r whole m) ∙ ap (λ v. v % m) e };
+    }
+
 pub left_over : (b m product whole p t r : ℕ) → 0 < b → 2 * m ≤ b → IsNear m product whole → p ≡ product % b
     → t ≡ (whole * m) % b → r < b → (r + t) % b ≡ p
     → IsProduct m product r
@@ -67,13 +74,7 @@ left_over b m product whole p t r some room near_it is_p is_t fits e =
     add-mod rest t b ∙ ap (λ v. (rest % b + v) % b) (t_fits ∙ is_t) ∙ sym (add-mod rest (whole * m) b)
     ∙ ap (λ v. v % b) s ∙ sym is_p in
     let same : r ≡ rest = mod_cancel b r rest t fits small (e ∙ sym again) in
-    record {
-      below = omega arith;
-      congruent = record {
-        same = sym (add-mul-mod_self_right r whole m)
-            ∙ ap (λ v. v % m) (let k : r + whole * m ≡ product = omega arith in k);
-      };
-    }
+    left_less m product whole r near_it (omega (arith, same, s))
 
 -- a part of 2 ^ w
 pub part : (k w b f : ℕ) → b ≡ 2 ^ w → k ≤ w → f ≡ 2 ^ (w - k) → 2 ^ k * f ≡ b

@@ -3,6 +3,7 @@
 
 mod computed;
 pub mod exact;
+pub mod lanes;
 pub mod normalized;
 pub mod one_by_one;
 pub mod planned;

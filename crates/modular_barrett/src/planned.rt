@@ -5,6 +5,7 @@ ghost use Rattle.modular_word.specs.Congruence.{Congruent};
 ghost use Rattle.modular_word.specs.Reciprocals.{IsReciprocal};
 ghost use Rattle.modular_barrett.specs.Factors.{IsFactorOf};
 
+use crate::lanes::reduced;
 use modular_prim::below::reduced_once;
 use modular_prim::plain_word::PlainWord;
 use modular_prim::reciprocal::invert_word;
@@ -192,6 +193,32 @@ impl<T: PlainWord> PlannedModulus<T> {
         T::zero().wrapping_sub(w.quotient.wrapping_mul(self.modulus))
     }
 
+    // `times`, by the low words of products.
+    fn times_by_words(&self, x: T, w: &Factor<T>) -> T
+        requires { IsFactorOf T.base T.number (T.number self.now.modulus) w.now }
+        ensures below { T.number result < 2 * T.number self.now.modulus }
+        ensures congruent { Congruent (T.number self.now.modulus) (T.number result)
+            (T.number x * T.number w.now.value) }
+    {
+        let (_, whole) = T::split(x.product(w.quotient));
+        let product = x.wrapping_mul(w.value);
+        product.wrapping_sub(whole.wrapping_mul(self.modulus))
+    }
+
+    // `times`, by a sum of double words whose low word it is, with B - m in place of -m, B being the base. The vector
+    // instructions that every x86-64 processor has multiply words of 32 bits into double words alone.
+    fn times_by_double_words(&self, x: T, w: &Factor<T>) -> T
+        requires { IsFactorOf T.base T.number (T.number self.now.modulus) w.now }
+        ensures below { T.number result < 2 * T.number self.now.modulus }
+        ensures congruent { Congruent (T.number self.now.modulus) (T.number result)
+            (T.number x * T.number w.now.value) }
+    {
+        let (_, whole) = T::split(x.product(w.quotient));
+        let minus = T::zero().wrapping_sub(self.modulus);
+        let (low, _) = T::split(T::double_plus(x.product(w.value), whole.product(minus)));
+        low
+    }
+
     /// A number below 2m that is congruent to the product of any word x with a factor. Condition: the factor is a
     /// residue modulo m.
     ///
@@ -214,9 +241,11 @@ impl<T: PlainWord> PlannedModulus<T> {
         ensures congruent { Congruent (T.number self.now.modulus) (T.number result)
             (T.number x * T.number w.now.value) }
     {
-        let (_, whole) = T::split(x.product(w.quotient));
-        let product = x.wrapping_mul(w.value);
-        product.wrapping_sub(whole.wrapping_mul(self.modulus))
+        if T::bits() == 32 {
+            self.times_by_double_words(x, w)
+        } else {
+            self.times_by_words(x, w)
+        }
     }
 
     /// The residue of the product of any word x with a factor, below m. Condition: the factor is a residue modulo m.
@@ -233,7 +262,7 @@ impl<T: PlainWord> PlannedModulus<T> {
         requires { IsFactorOf T.base T.number (T.number self.now.modulus) w.now }
         ensures { T.number result ≡ (T.number x * T.number w.now.value) % T.number self.now.modulus }
     {
-        reduced_once(self.times(x, w), self.modulus)
+        reduced(self.times(x, w), self.modulus)
     }
 
     /// The residue of the product of a word x with any word y, below m, computed by the reciprocal. Condition: x is
@@ -327,6 +356,6 @@ impl<T: PlainWord> PlannedModulus<T> {
         requires { T.number x < 4 * T.number self.now.modulus }
         ensures { T.number result ≡ T.number x % T.number self.now.modulus }
     {
-        reduced_once(reduced_once(x, self.twice()), self.modulus)
+        reduced(reduced(x, self.twice()), self.modulus)
     }
 }

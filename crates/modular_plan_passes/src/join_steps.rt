@@ -8,9 +8,9 @@ ghost use Rattle.modular_plan_passes.specs.Splits.{AreFourBelow, AreFactorsOf};
 ghost use Rattle.std.proofs.Common.{le_refl, mul-le-mul_right, lit≤};
 
 use crate::bounded::Bounded;
+use modular_barrett::lanes::reduced;
 use modular_barrett::planned::{Factor, PlannedModulus};
 use modular_barrett::roomy::RoomyModulus;
-use modular_prim::below::reduced_once;
 use modular_prim::plain_word::PlainWord;
 use modular_word::path_word::PathWord;
 use modular_word::ring_word::RingWord;
@@ -138,13 +138,13 @@ impl<T: PlainWord> JoinSteps<T> for PlannedModulus<T> {
     }
 
     fn lowered(&self, x: T) -> T {
-        reduced_once(x, self.twice())
+        reduced(x, self.twice())
     }
 
     fn pair(&self, x: T, y: T, v: &Factor<T>) -> (T, T) {
         let twice = self.twice();
         let (sum, product) = gather(self, x, y, twice, v);
-        (reduced_once(sum, twice), product)
+        (reduced(sum, twice), product)
     }
 
     fn four(
@@ -166,8 +166,8 @@ impl<T: PlainWord> JoinSteps<T> for PlannedModulus<T> {
 
     fn four_by_one(&self, x: T, y: T, z: T, t: T, v: &Factor<T>, s: &Factor<T>) -> (T, T, T, T) {
         let twice = self.twice();
-        let e = reduced_once(x.plus(y), twice);
-        let f = reduced_once(x.plus(twice.minus(y)), twice);
+        let e = reduced(x.plus(y), twice);
+        let f = reduced(x.plus(twice.minus(y)), twice);
         let (g, h) = self.pair(z, t, v);
         let (a, c) = scaled_pair(self, e, g, twice, s);
         let (b, d) = scaled_pair(self, f, h, twice, s);
@@ -179,7 +179,7 @@ impl<T: PlainWord> JoinSteps<T> for PlannedModulus<T> {
     }
 
     fn residue(&self, x: T) -> T {
-        reduced_once(x, self.modulus)
+        reduced(x, self.modulus)
     }
 
     ghost some = { λ m. m.some };
@@ -206,7 +206,7 @@ impl<T: PlainWord> JoinSteps<T> for RoomyModulus<T> {
     fn pair(&self, x: T, y: T, v: &Factor<T>) -> (T, T) {
         let fourfold = self.fourfold();
         let (sum, product) = gather(&self.planned, x, y, fourfold, v);
-        (reduced_once(sum, fourfold), product)
+        (reduced(sum, fourfold), product)
     }
 
     fn four(
@@ -226,7 +226,7 @@ impl<T: PlainWord> JoinSteps<T> for RoomyModulus<T> {
         let (g, h) = gather(m, z, t, fourfold, v);
         let (a, c) = gather(m, e, g, eightfold, w);
         let (b, d) = gather(m, f, h, m.twice(), w);
-        (reduced_once(reduced_once(a, eightfold), fourfold), b, c, d)
+        (reduced(reduced(a, eightfold), fourfold), b, c, d)
     }
 
     fn four_by_one(&self, x: T, y: T, z: T, t: T, v: &Factor<T>, s: &Factor<T>) -> (T, T, T, T) {

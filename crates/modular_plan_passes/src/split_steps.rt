@@ -7,9 +7,9 @@ ghost use Rattle.modular_plan_passes.specs.Splits.{AreFourBelow, AreFactorsOf};
 ghost use Rattle.modular_plan_passes.specs.Steps.{IsPairSplit, IsFourSplit};
 
 use crate::bounded::Bounded;
+use modular_barrett::lanes::reduced;
 use modular_barrett::planned::{Factor, PlannedModulus};
 use modular_barrett::roomy::RoomyModulus;
-use modular_prim::below::reduced_once;
 use modular_prim::plain_word::PlainWord;
 use modular_word::path_word::PathWord;
 use modular_word::ring_word::RingWord;
@@ -101,7 +101,7 @@ fn pair_by_one<T: PlainWord>(m: &PlannedModulus<T>, x: T, y: T) -> (T, T)
         (T.number result.0) (T.number result.1) }
 {
     let twice = m.twice();
-    sum_and_difference(reduced_once(x, twice), reduced_once(y, twice), twice)
+    sum_and_difference(reduced(x, twice), reduced(y, twice), twice)
 }
 
 // Entries stay below 4m.
@@ -109,7 +109,7 @@ impl<T: PlainWord> SplitSteps<T> for PlannedModulus<T> {
     ghost modulus = { λ m. T.number m.modulus };
 
     fn pair(&self, x: T, y: T, w: &Factor<T>) -> (T, T) {
-        spread(self, reduced_once(x, self.twice()), y, w)
+        spread(self, reduced(x, self.twice()), y, w)
     }
 
     fn four(
@@ -151,7 +151,7 @@ impl<T: PlainWord> SplitSteps<T> for RoomyModulus<T> {
     ghost modulus = { λ m. T.number m.planned.modulus };
 
     fn pair(&self, x: T, y: T, w: &Factor<T>) -> (T, T) {
-        spread(&self.planned, reduced_once(x, self.eightfold()), y, w)
+        spread(&self.planned, reduced(x, self.eightfold()), y, w)
     }
 
     fn four(
@@ -165,7 +165,7 @@ impl<T: PlainWord> SplitSteps<T> for RoomyModulus<T> {
         v: &Factor<T>,
     ) -> (T, T, T, T) {
         let m = &self.planned;
-        let (e, g) = spread(m, reduced_once(x, self.eightfold()), z, w);
+        let (e, g) = spread(m, reduced(x, self.eightfold()), z, w);
         let (f, h) = spread(m, y, t, w);
         let (a, b) = spread(m, e, f, u);
         let (c, d) = spread(m, g, h, v);
@@ -179,7 +179,7 @@ impl<T: PlainWord> SplitSteps<T> for RoomyModulus<T> {
         let (f, h) = sum_and_difference(y, t, fourfold);
         let (a, b) = sum_and_difference(e, f, eightfold);
         let (c, d) = spread(&self.planned, g, h, v);
-        (reduced_once(a, eightfold), reduced_once(b, eightfold), c, d)
+        (reduced(a, eightfold), reduced(b, eightfold), c, d)
     }
 
     fn residue(&self, x: T) -> T {

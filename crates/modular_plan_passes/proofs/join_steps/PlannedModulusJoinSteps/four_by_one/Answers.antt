@@ -24,12 +24,12 @@ returns-clause-four g c =
     let is_rest = c.minus.ensures.value in
     let apart : difference + y ≡ x + bound = omega (arith, is_difference, is_rest) in
     let low = joined_pair_up_to 1 x y sum difference _ _
-    (reduced_by_multiple _ _ bound none c.reduced_once-e.ensures.value)
-    (reduced_by_multiple _ _ bound none c.reduced_once-f.ensures.value)
+    (reduced_by_multiple _ _ bound none c.reduced-e.ensures.value)
+    (reduced_by_multiple _ _ bound none c.reduced-f.ensures.value)
     (joined_by_one x y bound sum difference none c.plus.ensures apart) in
     λ v is_v. record {
-      e = n c.reduced_once-e.result * s;
-      f = n c.reduced_once-f.result * s;
+      e = n c.reduced-e.result * s;
+      f = n c.reduced-f.result * s;
       g = n high.result.0 * s;
       h = n high.result.1 * s;
       low = joined_pair_scaled 1 x y _ _ s low;

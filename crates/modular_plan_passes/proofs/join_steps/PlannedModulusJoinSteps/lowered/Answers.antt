@@ -4,4 +4,4 @@ use Rattle.modular_plan_passes.proofs.join_steps.PlannedModulusJoinSteps.lowered
 pub returns-clause-congruent : goal.returns-clause-congruent
 returns-clause-congruent g c =
     let bound = g.T.RingWord.number c.twice.result in
-    reduced_by_multiple _ _ bound (multiple_is_none 2 bound c.twice.ensures) c.reduced_once.ensures.value
+    reduced_by_multiple _ _ bound (multiple_is_none 2 bound c.twice.ensures) c.reduced.ensures.value

@@ -10,5 +10,5 @@ returns-clause-pair g c =
     let bound = g.T.RingWord.number c.twice-twice.result in
     λ w inverse.
     joined_pair_reduced w _ _ _ _ _
-    (reduced_by_multiple _ _ bound (multiple_is_none 2 bound c.twice-twice.ensures) c.reduced_once.ensures.value)
+    (reduced_by_multiple _ _ bound (multiple_is_none 2 bound c.twice-twice.ensures) c.reduced.ensures.value)
     (c.gather-sum.ensures.pair w inverse)

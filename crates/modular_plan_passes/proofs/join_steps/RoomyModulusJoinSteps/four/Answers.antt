@@ -42,7 +42,7 @@ gather-b-requires g c = record {
 
 pub returns : goal.returns
 returns g c = record {
-  below = (let below = c.reduced_once-2.ensures.below in
+  below = (let below = c.reduced-2.ensures.below in
       let fourfold = c.fourfold-fourfold.ensures in
       record {
         first = omega (arith, below, fourfold);
@@ -56,9 +56,9 @@ returns g c = record {
       let fourfold = n c.fourfold-fourfold.result in
       let eightfold = n c.eightfold-eightfold.result in
       let once = reduced_by_multiple _ _ eightfold (multiple_is_none 8 eightfold c.eightfold-eightfold.ensures)
-      c.reduced_once.ensures.value in
+      c.reduced.ensures.value in
       let again = reduced_by_multiple _ _ fourfold (multiple_is_none 4 fourfold c.fourfold-fourfold.ensures)
-      c.reduced_once-2.ensures.value in
+      c.reduced-2.ensures.value in
       λ w u v inverses. record {
         e = n low.result.0;
         f = n low.result.1;

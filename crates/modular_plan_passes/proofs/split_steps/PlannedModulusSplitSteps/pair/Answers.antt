@@ -5,6 +5,6 @@ use Rattle.modular_plan_passes.proofs.split_steps.PlannedModulusSplitSteps.pair.
 pub returns-clause-pair : goal.returns-clause-pair
 returns-clause-pair g c =
     let n = g.T.RingWord.number in
-    pair_along (n c.args.w.now.value) (n c.args.x) (n c.args.y) (n c.reduced_once.result) (n c.args.y) _ _
-    (reduced_by 2 (n c.args.x) _ _ c.reduced_once.ensures.value c.twice.ensures) (mod_refl (n c.args.y))
+    pair_along (n c.args.w.now.value) (n c.args.x) (n c.args.y) (n c.reduced.result) (n c.args.y) _ _
+    (reduced_by 2 (n c.args.x) _ _ c.reduced.ensures.value c.twice.ensures) (mod_refl (n c.args.y))
     c.spread.ensures.pair

@@ -7,15 +7,15 @@ use Rattle.modular_plan_passes.proofs.split_steps.RoomyModulusSplitSteps.four.Go
 pub returns : goal.returns
 returns g c = record {
   below = record {
-    first = omega (arith, c.spread-a.ensures.below, c.spread-e.ensures.below, c.reduced_once.ensures.below, c.eightfold.ensures);
-    second = omega (arith, c.spread-a.ensures.most, c.spread-e.ensures.below, c.reduced_once.ensures.below, c.eightfold.ensures);
-    third = omega (arith, c.spread-c.ensures.below, c.spread-e.ensures.most, c.reduced_once.ensures.below, c.eightfold.ensures);
-    fourth = omega (arith, c.spread-c.ensures.most, c.spread-e.ensures.most, c.reduced_once.ensures.below, c.eightfold.ensures);
+    first = omega (arith, c.spread-a.ensures.below, c.spread-e.ensures.below, c.reduced.ensures.below, c.eightfold.ensures);
+    second = omega (arith, c.spread-a.ensures.most, c.spread-e.ensures.below, c.reduced.ensures.below, c.eightfold.ensures);
+    third = omega (arith, c.spread-c.ensures.below, c.spread-e.ensures.most, c.reduced.ensures.below, c.eightfold.ensures);
+    fourth = omega (arith, c.spread-c.ensures.most, c.spread-e.ensures.most, c.reduced.ensures.below, c.eightfold.ensures);
   };
   four = (let n = g.T.RingWord.number in
       let w = n c.args.w.now.value in
-      let outer = pair_along w (n c.args.x) (n c.args.z) (n c.reduced_once.result) (n c.args.z) _ _
-      (reduced_by 8 (n c.args.x) _ _ c.reduced_once.ensures.value c.eightfold.ensures) (mod_refl (n c.args.z))
+      let outer = pair_along w (n c.args.x) (n c.args.z) (n c.reduced.result) (n c.args.z) _ _
+      (reduced_by 8 (n c.args.x) _ _ c.reduced.ensures.value c.eightfold.ensures) (mod_refl (n c.args.z))
       c.spread-e.ensures.pair in
       four_of_pairs w (n c.args.u.now.value) (n c.args.v.now.value) refl refl refl refl
       outer c.spread-f.ensures.pair c.spread-a.ensures.pair c.spread-c.ensures.pair);
@@ -25,7 +25,7 @@ pub spread-e-requires : goal.spread-e-requires
 spread-e-requires g c =
     let room = c.args.self.now.room in
     let some = c.args.self.now.planned.some in
-    let x = c.reduced_once.ensures.below in
+    let x = c.reduced.ensures.below in
     let eight = c.eightfold.ensures in
     record { room = omega (arith, room, some, x, eight); factor = c.requires.factors.whole }
 
@@ -40,7 +40,7 @@ pub spread-a-requires : goal.spread-a-requires
 spread-a-requires g c =
     let room = c.args.self.now.room in
     let some = c.args.self.now.planned.some in
-    let x = c.reduced_once.ensures.below in
+    let x = c.reduced.ensures.below in
     let eight = c.eightfold.ensures in
     let e = c.spread-e.ensures.below in
     record { room = omega (arith, room, some, x, eight, e); factor = c.requires.factors.low }
@@ -49,7 +49,7 @@ pub spread-c-requires : goal.spread-c-requires
 spread-c-requires g c =
     let room = c.args.self.now.room in
     let some = c.args.self.now.planned.some in
-    let x = c.reduced_once.ensures.below in
+    let x = c.reduced.ensures.below in
     let eight = c.eightfold.ensures in
     let e = c.spread-e.ensures.most in
     record { room = omega (arith, room, some, x, eight, e); factor = c.requires.factors.high }

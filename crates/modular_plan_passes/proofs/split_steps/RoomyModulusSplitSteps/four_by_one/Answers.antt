@@ -14,8 +14,8 @@ returns-clause-four g c =
     four_of_pairs 1 1 (n c.args.v.now.value) refl refl refl refl
     (pair_by_one 4 _ _ _ _ _ four outer.ensures.sum outer.ensures.difference)
     (pair_by_one 4 _ _ _ _ _ four inner.ensures.sum inner.ensures.difference)
-    (pair_up_to 1 _ _ _ _ _ _ (reduced_by 8 (n low.result.0) _ _ c.reduced_once.ensures.value eight)
-    (reduced_by 8 (n low.result.1) _ _ c.reduced_once-2.ensures.value eight)
+    (pair_up_to 1 _ _ _ _ _ _ (reduced_by 8 (n low.result.0) _ _ c.reduced.ensures.value eight)
+    (reduced_by 8 (n low.result.1) _ _ c.reduced-2.ensures.value eight)
     (pair_by_one 8 _ _ _ _ _ eight low.ensures.sum low.ensures.difference))
     c.spread-c.ensures.pair
 
