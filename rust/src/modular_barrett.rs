@@ -2,6 +2,7 @@
 
 pub(crate) mod computed;
 pub mod exact;
+pub mod lanes;
 pub mod normalized;
 pub mod one_by_one;
 pub mod planned;

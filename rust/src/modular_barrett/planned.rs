@@ -1,5 +1,6 @@
 //! Products by factors with a precomputed quotient, modulo an m that is at most a quarter of the base.
 
+use crate::modular_barrett::lanes::reduced;
 use crate::modular_prim::below::reduced_once;
 use crate::modular_prim::plain_word::PlainWord;
 use crate::modular_prim::reciprocal::invert_word;
@@ -180,6 +181,23 @@ impl<T: PlainWord> PlannedModulus<T> {
         T::zero().wrapping_sub(w.quotient.wrapping_mul(self.modulus))
     }
 
+    // `times`, by the low words of products.
+    #[inline]
+    fn times_by_words(&self, x: T, w: &Factor<T>) -> T {
+        let (_, whole) = T::split(x.product(w.quotient));
+        let product = x.wrapping_mul(w.value);
+        product.wrapping_sub(whole.wrapping_mul(self.modulus))
+    }
+
+    // `times`, by a sum of double words whose low word it is, with B - m in place of -m, B being the base. The vector
+    // instructions that every x86-64 processor has multiply words of 32 bits into double words alone.
+    fn times_by_double_words(&self, x: T, w: &Factor<T>) -> T {
+        let (_, whole) = T::split(x.product(w.quotient));
+        let minus = T::zero().wrapping_sub(self.modulus);
+        let (low, _) = T::split(T::double_plus(x.product(w.value), whole.product(minus)));
+        low
+    }
+
     /// A number below 2m that is congruent to the product of any word x with a factor.
     ///
     /// It takes the high word of one product and the low words of two.
@@ -202,9 +220,11 @@ impl<T: PlainWord> PlannedModulus<T> {
     /// ```
     #[inline]
     pub fn times(&self, x: T, w: &Factor<T>) -> T {
-        let (_, whole) = T::split(x.product(w.quotient));
-        let product = x.wrapping_mul(w.value);
-        product.wrapping_sub(whole.wrapping_mul(self.modulus))
+        if T::bits() == 32 {
+            self.times_by_double_words(x, w)
+        } else {
+            self.times_by_words(x, w)
+        }
     }
 
     /// The residue of the product of any word x with a factor, below m.
@@ -224,7 +244,7 @@ impl<T: PlainWord> PlannedModulus<T> {
     /// ```
     #[inline]
     pub fn product(&self, x: T, w: &Factor<T>) -> T {
-        reduced_once(self.times(x, w), self.modulus)
+        reduced(self.times(x, w), self.modulus)
     }
 
     /// The residue of the product of a word x with any word y, below m, computed by the reciprocal.
@@ -319,6 +339,6 @@ impl<T: PlainWord> PlannedModulus<T> {
     /// ```
     #[inline]
     pub fn residue(&self, x: T) -> T {
-        reduced_once(reduced_once(x, self.twice()), self.modulus)
+        reduced(reduced(x, self.twice()), self.modulus)
     }
 }

@@ -1,9 +1,9 @@
 //! The steps of a pass of `join`, by how much greater than the modulus words may be.
 
 use crate::modular_plan_passes::bounded::Bounded;
+use crate::modular_barrett::lanes::reduced;
 use crate::modular_barrett::planned::{Factor, PlannedModulus};
 use crate::modular_barrett::roomy::RoomyModulus;
-use crate::modular_prim::below::reduced_once;
 use crate::modular_prim::plain_word::PlainWord;
 
 /// A modulus m by which pairs and fours of entries are joined. Between two passes the entries stay below a bound, a
@@ -95,14 +95,14 @@ impl<T: PlainWord> JoinSteps<T> for PlannedModulus<T> {
 
     #[inline]
     fn lowered(&self, x: T) -> T {
-        reduced_once(x, self.twice())
+        reduced(x, self.twice())
     }
 
     #[inline]
     fn pair(&self, x: T, y: T, v: &Factor<T>) -> (T, T) {
         let twice = self.twice();
         let (sum, product) = gather(self, x, y, twice, v);
-        (reduced_once(sum, twice), product)
+        (reduced(sum, twice), product)
     }
 
     fn four(
@@ -124,8 +124,8 @@ impl<T: PlainWord> JoinSteps<T> for PlannedModulus<T> {
 
     fn four_by_one(&self, x: T, y: T, z: T, t: T, v: &Factor<T>, s: &Factor<T>) -> (T, T, T, T) {
         let twice = self.twice();
-        let e = reduced_once(x.plus(y), twice);
-        let f = reduced_once(x.plus(twice.minus(y)), twice);
+        let e = reduced(x.plus(y), twice);
+        let f = reduced(x.plus(twice.minus(y)), twice);
         let (g, h) = self.pair(z, t, v);
         let (a, c) = scaled_pair(self, e, g, twice, s);
         let (b, d) = scaled_pair(self, f, h, twice, s);
@@ -139,7 +139,7 @@ impl<T: PlainWord> JoinSteps<T> for PlannedModulus<T> {
 
     #[inline]
     fn residue(&self, x: T) -> T {
-        reduced_once(x, self.modulus)
+        reduced(x, self.modulus)
     }
 }
 
@@ -159,7 +159,7 @@ impl<T: PlainWord> JoinSteps<T> for RoomyModulus<T> {
     fn pair(&self, x: T, y: T, v: &Factor<T>) -> (T, T) {
         let fourfold = self.fourfold();
         let (sum, product) = gather(&self.planned, x, y, fourfold, v);
-        (reduced_once(sum, fourfold), product)
+        (reduced(sum, fourfold), product)
     }
 
     fn four(
@@ -179,7 +179,7 @@ impl<T: PlainWord> JoinSteps<T> for RoomyModulus<T> {
         let (g, h) = gather(m, z, t, fourfold, v);
         let (a, c) = gather(m, e, g, eightfold, w);
         let (b, d) = gather(m, f, h, m.twice(), w);
-        (reduced_once(reduced_once(a, eightfold), fourfold), b, c, d)
+        (reduced(reduced(a, eightfold), fourfold), b, c, d)
     }
 
     fn four_by_one(&self, x: T, y: T, z: T, t: T, v: &Factor<T>, s: &Factor<T>) -> (T, T, T, T) {

@@ -1,9 +1,9 @@
 //! The steps of a pass of `split`, by how much greater than the modulus words may be.
 
 use crate::modular_plan_passes::bounded::Bounded;
+use crate::modular_barrett::lanes::reduced;
 use crate::modular_barrett::planned::{Factor, PlannedModulus};
 use crate::modular_barrett::roomy::RoomyModulus;
-use crate::modular_prim::below::reduced_once;
 use crate::modular_prim::plain_word::PlainWord;
 
 /// A modulus m by which pairs and fours of entries are split. Between two passes the entries stay below the limit, a
@@ -69,14 +69,14 @@ fn sum_and_difference<T: PlainWord>(x: T, y: T, bound: T) -> (T, T) {
 #[inline]
 fn pair_by_one<T: PlainWord>(m: &PlannedModulus<T>, x: T, y: T) -> (T, T) {
     let twice = m.twice();
-    sum_and_difference(reduced_once(x, twice), reduced_once(y, twice), twice)
+    sum_and_difference(reduced(x, twice), reduced(y, twice), twice)
 }
 
 // Entries stay below 4m.
 impl<T: PlainWord> SplitSteps<T> for PlannedModulus<T> {
     #[inline]
     fn pair(&self, x: T, y: T, w: &Factor<T>) -> (T, T) {
-        spread(self, reduced_once(x, self.twice()), y, w)
+        spread(self, reduced(x, self.twice()), y, w)
     }
 
     fn four(
@@ -114,7 +114,7 @@ impl<T: PlainWord> SplitSteps<T> for PlannedModulus<T> {
 impl<T: PlainWord> SplitSteps<T> for RoomyModulus<T> {
     #[inline]
     fn pair(&self, x: T, y: T, w: &Factor<T>) -> (T, T) {
-        spread(&self.planned, reduced_once(x, self.eightfold()), y, w)
+        spread(&self.planned, reduced(x, self.eightfold()), y, w)
     }
 
     fn four(
@@ -128,7 +128,7 @@ impl<T: PlainWord> SplitSteps<T> for RoomyModulus<T> {
         v: &Factor<T>,
     ) -> (T, T, T, T) {
         let m = &self.planned;
-        let (e, g) = spread(m, reduced_once(x, self.eightfold()), z, w);
+        let (e, g) = spread(m, reduced(x, self.eightfold()), z, w);
         let (f, h) = spread(m, y, t, w);
         let (a, b) = spread(m, e, f, u);
         let (c, d) = spread(m, g, h, v);
@@ -142,7 +142,7 @@ impl<T: PlainWord> SplitSteps<T> for RoomyModulus<T> {
         let (f, h) = sum_and_difference(y, t, fourfold);
         let (a, b) = sum_and_difference(e, f, eightfold);
         let (c, d) = spread(&self.planned, g, h, v);
-        (reduced_once(a, eightfold), reduced_once(b, eightfold), c, d)
+        (reduced(a, eightfold), reduced(b, eightfold), c, d)
     }
 
     #[inline]
