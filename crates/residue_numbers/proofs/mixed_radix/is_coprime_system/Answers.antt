@@ -1,0 +1,46 @@
+use Rattle.std.proofs.Common.{◌≡◌, ℕ, ◌<◌, List, get_or, sym, ◌∙◌, below_more, true, false, Option, Some, None, is_some, MatchOption, ap, not}
+use Rattle.std.proofs.lemmas.Bool.{false≢true}
+use Rattle.num_modular.specs.Divisors.{Coprime}
+use Rattle.num_modular.specs.Inverses.{IsInverse, HasInverse}
+use Rattle.num_modular.specs.Systems.{product_below}
+use Rattle.num_modular.specs.SystemLaws.{each_of_unit}
+use Rattle.residue_numbers.proofs.MixedRadix.{unit_at}
+use Rattle.residue_numbers.proofs.mixed_radix.is_coprime_system.Goals as goal
+
+-- what the test of an option tells
+none_is : (m w : ℕ) (o : Option ℕ) → MatchOption o (0 < m → HasInverse m w → ⊥) (λ x. (0 < m) × IsInverse m w x)
+    → is_some o ≡ false → 0 < m → HasInverse m w → ⊥
+none_is m w None h e = h
+none_is m w (Some x) h e = absurd (false≢true (sym e))
+
+some_is : (m w : ℕ) (o : Option ℕ) → MatchOption o (0 < m → HasInverse m w → ⊥) (λ x. (0 < m) × IsInverse m w x)
+    → is_some o ≡ true → (x : ℕ) × (0 < m) × IsInverse m w x
+some_is m w None h e = absurd (false≢true e)
+some_is m w (Some x) h e = (x, h.0, h.1)
+
+pub returns-then-is_none : goal.returns-then-is_none
+returns-then-is_none c = (
+  (λ t. absurd (false≢true t)),
+  λ system.
+      let ms : List ℕ = c.args.moduli.now in let place : ℕ = c.moduli.place in
+      absurd (none_is (get_or ms place 0) (product_below place ms) c.inverse_at.result c.inverse_at.ensures (c.is_none.ensures ∙ ap not c.if-is_none.true)
+      (system.positive place c.moduli-test.true)
+      (unit_at ms place c.inverse_laws.ensures.coprime system c.moduli-test.true)),
+)
+
+pub moduli-preserved : goal.moduli-preserved
+moduli-preserved c =
+    let ms : List ℕ = c.args.moduli.now in let place : ℕ = c.moduli.place in
+    let m = get_or ms place 0 in
+    let before = c.moduli.invariant in
+    let found = some_is m (product_below place ms) c.inverse_at.result c.inverse_at.ensures (c.is_none.ensures ∙ ap not c.if-is_none.false) in
+    let positive : 0 < m = found.1 in
+    record {
+      positive = below_more (λ i. 0 < get_or ms i 0) place before.positive positive;
+      coprime = λ i j h k.
+          below_more (λ i. (j : ℕ) → j < i → Coprime (get_or ms j 0) (get_or ms i 0)) place
+          (λ i l j h. before.coprime i j h l)
+          (λ j h. (c.inverse_laws.ensures.coprime m (get_or ms j 0) positive).0
+          (each_of_unit m place j ms positive (found.0, found.2) h))
+          i k j h;
+    }
