@@ -2,4 +2,5 @@ mod Combinations
 mod Encodings
 mod MixedRadix
 mod Runs
+mod Signs
 mod Words

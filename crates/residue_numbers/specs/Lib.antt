@@ -1,3 +1,4 @@
 pub mod Combinations
 pub mod MixedRadix
+pub mod Signs
 pub mod Systems

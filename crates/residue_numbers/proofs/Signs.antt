@@ -1,0 +1,135 @@
+-- Signs of numbers by their digits: where a number lies in the range, and the integer that it represents.
+use Rattle.std.proofs.Common.{◌≡◌, ◌≢◌, ℕ, ◌+◌, ◌*◌, ◌/◌, ◌%◌, ◌<◌, ◌≤◌, ◌↔◌, Bool, true, false, IsTrue, arith, ap, sym, refl, ◌∙◌}
+use Rattle.std.proofs.Common.{ℤ, pos, ◌-ℤ◌, ◌<ℤ◌, if◌then◌else◌, inl, inr}
+use Rattle.std.proofs.Math.Nat.{mul-le-mul_left}
+use Rattle.std.proofs.lemmas.Bool.{cases_lt, lt-ltb, le-ltb, ltb-true, false≢true}
+use Rattle.std.proofs.Math.Bool.{beq}
+use Rattle.std.proofs.Math.Dec.{ltb}
+use Rattle.std.proofs.lemmas.Int.{ints, by_lt_z}
+use Rattle.std.specs.Ordering.{MatchOrdering}
+use Rattle.std.specs.declared.cmp.Ordering.{Ordering}
+use Rattle.std.specs.declared.cmp.Ordering.TheVariants.{Less, Equal, Greater}
+use Rattle.residue_numbers.specs.Signs.{signed_number}
+
+-- the top digits are the halves of odd moduli: the next one is too
+pub half_more : (x low before p q m d range : ℕ) → 2 * x + p ≡ 2 * low + range → low ≡ before + d * q → p ≡ q * m
+    → m ≡ 2 * d + 1 → 2 * x + q ≡ 2 * before + range
+half_more x low before p q m d range e f g h = let k = ap (λ n. q * n) h in omega (arith, e, f, g, k)
+
+-- a digit at least half of its modulus
+half_above : (x low before p q m d range : ℕ) → 2 * x + p ≡ 2 * low + range → low ≡ before + d * q → p ≡ q * m
+    → m ≤ 2 * d → range ≤ 2 * x
+half_above x low before p q m d range e f g h = let k = mul-le-mul_left q h in omega (arith, e, f, g, k)
+
+-- a digit below half
+half_below : (x low before p q m d range : ℕ) → 2 * x + p ≡ 2 * low + range → low ≡ before + d * q → p ≡ q * m
+    → before < q → 2 * d + 2 ≤ m → 2 * x < range
+half_below x low before p q m d range e f g l h = let k = mul-le-mul_left q h in omega (arith, e, f, g, l, k)
+
+-- all digits are halves
+half_of_none : (x low p range : ℕ) → 2 * x + p ≡ 2 * low + range → low ≡ 0 → p ≡ 1 → 2 * x < range
+half_of_none x low p range e f g = omega (arith, e, f, g)
+
+-- what a number represents below half of the range, and from there on
+signed_low : (range x : ℕ) → 2 * x < range → signed_number range x ≡ pos x
+signed_low range x h = ap (λ b. if b then pos x else pos x -ℤ pos range) (lt-ltb (2 * x) range h)
+
+signed_high : (range x : ℕ) → range ≤ 2 * x → signed_number range x ≡ pos x -ℤ pos range
+signed_high range x h = ap (λ b. if b then pos x else pos x -ℤ pos range) (le-ltb (2 * x) range h)
+
+-- it is negative exactly there
+negative_high : (range x : ℕ) → x < range → range ≤ 2 * x → signed_number range x <ℤ pos 0
+negative_high range x h high = let e = signed_high range x high in omega (arith, ints, e, h)
+
+high_of_negative : (range x : ℕ) → signed_number range x <ℤ pos 0 → range ≤ 2 * x
+high_of_negative range x negative = elim (cases_lt (2 * x) range) [
+  | inl low ↦ let e = signed_low range x low in absurd (omega (arith, ints, e, negative))
+  | inr high ↦ high
+]
+
+-- a number that represents a negative one is below one that doesn't
+pub less_of_signs : (range x y : ℕ) → signed_number range x <ℤ pos 0 → (signed_number range y <ℤ pos 0 → ⊥)
+    → signed_number range x <ℤ signed_number range y
+less_of_signs range x y negative other = by_lt_z (signed_number range y) (pos 0) (λ wrong. absurd (other wrong))
+    (λ h. omega (arith, ints, h, negative))
+
+same_bool : (l r : Bool) → beq l r ≡ true → l ≡ r
+same_bool true true e = refl
+same_bool true false e = sym e
+same_bool false true e = e
+same_bool false false e = refl
+
+-- the sign by the top digit that isn't the half of its modulus
+pub sign_here : (x low before p q m d range : ℕ) → 2 * x + p ≡ 2 * low + range → low ≡ before + d * q → p ≡ q * m
+    → before < q → x < range → d ≢ m / 2 → IsTrue (ltb (m / 2) d) ↔ (signed_number range x <ℤ pos 0)
+sign_here x low before p q m d range e f g l h other = elim (cases_lt (m / 2) d) [
+  | inl above ↦
+      let high = half_above x low before p q m d range e f g (omega (arith, above)) in
+      ((λ t. negative_high range x h high), λ negative. lt-ltb (m / 2) d above)
+  | inr most ↦
+      let below : d < m / 2 = omega (arith, most, other) in
+      let low_is = half_below x low before p q m d range e f g l (omega (arith, below)) in (
+        (λ t. let wrong = ltb-true (m / 2) d t in absurd (omega (arith, wrong, most))),
+        λ negative. let wrong = high_of_negative range x negative in absurd (omega (arith, wrong, low_is)),
+      )
+]
+
+-- by the half of an even modulus
+pub sign_even : (x low before p q m d range : ℕ) → 2 * x + p ≡ 2 * low + range → low ≡ before + d * q → p ≡ q * m
+    → x < range → d ≡ m / 2 → m % 2 ≡ 0 → IsTrue true ↔ (signed_number range x <ℤ pos 0)
+sign_even x low before p q m d range e f g h half even =
+    let high = half_above x low before p q m d range e f g (omega (arith, half, even)) in
+    ((λ t. negative_high range x h high), λ negative. refl)
+
+-- by digits that are all halves
+pub sign_none : (x low p range : ℕ) → 2 * x + p ≡ 2 * low + range → low ≡ 0 → p ≡ 1
+    → IsTrue false ↔ (signed_number range x <ℤ pos 0)
+sign_none x low p range e f g =
+    let low_is = half_of_none x low p range e f g in (
+      (λ t. absurd (false≢true t)),
+      λ negative. let wrong = high_of_negative range x negative in absurd (omega (arith, wrong, low_is)),
+    )
+
+low_of_other : (range x : ℕ) → x < range → (signed_number range x <ℤ pos 0 → ⊥) → 2 * x < range
+low_of_other range x h other = elim (cases_lt (2 * x) range) [
+  | inl low ↦ low
+  | inr high ↦ absurd (other (negative_high range x h high))
+]
+
+-- numbers on one side compare as what they represent
+ordered : (o : Ordering) (x y : ℕ) (v w : ℤ) → (x < y → v <ℤ w) → (x ≡ y → v ≡ w) → (y < x → w <ℤ v)
+    → MatchOrdering o (x < y) (x ≡ y) (y < x) → MatchOrdering o (v <ℤ w) (v ≡ w) (w <ℤ v)
+ordered Less x y v w less equal greater h = less h
+ordered Equal x y v w less equal greater h = equal h
+ordered Greater x y v w less equal greater h = greater h
+
+ordered_low : (o : Ordering) (range x y : ℕ) → 2 * x < range → 2 * y < range
+    → MatchOrdering o (x < y) (x ≡ y) (y < x)
+    → MatchOrdering o (signed_number range x <ℤ signed_number range y) (signed_number range x ≡ signed_number range y)
+    (signed_number range y <ℤ signed_number range x)
+ordered_low o range x y h k =
+    let e = signed_low range x h in
+    let f = signed_low range y k in
+    ordered o x y (signed_number range x) (signed_number range y) (λ l. omega (arith, ints, e, f, l))
+    (ap (signed_number range)) (λ l. omega (arith, ints, e, f, l))
+
+ordered_high : (o : Ordering) (range x y : ℕ) → range ≤ 2 * x → range ≤ 2 * y
+    → MatchOrdering o (x < y) (x ≡ y) (y < x)
+    → MatchOrdering o (signed_number range x <ℤ signed_number range y) (signed_number range x ≡ signed_number range y)
+    (signed_number range y <ℤ signed_number range x)
+ordered_high o range x y h k =
+    let e = signed_high range x h in
+    let f = signed_high range y k in
+    ordered o x y (signed_number range x) (signed_number range y) (λ l. omega (arith, ints, e, f, l))
+    (ap (signed_number range)) (λ l. omega (arith, ints, e, f, l))
+
+pub ordered_alike : (l r : Bool) (o : Ordering) (range x y : ℕ) → x < range → y < range
+    → IsTrue l ↔ (signed_number range x <ℤ pos 0) → IsTrue r ↔ (signed_number range y <ℤ pos 0) → beq l r ≡ true
+    → MatchOrdering o (x < y) (x ≡ y) (y < x)
+    → MatchOrdering o (signed_number range x <ℤ signed_number range y) (signed_number range x ≡ signed_number range y)
+    (signed_number range y <ℤ signed_number range x)
+ordered_alike true r o range x y h k left right alike compared =
+    ordered_high o range x y (high_of_negative range x (left.0 refl)) (high_of_negative range y (right.0 (sym (same_bool true r alike)))) compared
+ordered_alike false r o range x y h k left right alike compared =
+    ordered_low o range x y (low_of_other range x h (λ n. false≢true (left.1 n)))
+    (low_of_other range y k (λ n. false≢true (same_bool false r alike ∙ right.1 n))) compared
