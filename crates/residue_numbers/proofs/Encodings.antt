@@ -46,11 +46,15 @@ difference_within is_residue sum range m k x y a b e wide positive p q =
     let small : s < m = (is_residue m (pos a -ℤ pos b) positive).below in
     sym (mod-eq_of_lt small) ∙ same
 
--- the range of a system is above 0
-pub range_positive : (moduli : List ℕ) → IsSystem moduli → 0 < range_of moduli
-range_positive moduli system =
+-- the moduli are above 0
+abbrev pub ArePositive : List ℕ → Type 0
+ArePositive moduli = (i : ℕ) → i < length moduli → 0 < get_or moduli i 0
+
+-- so their product is
+pub range_positive : (moduli : List ℕ) → ArePositive moduli → 0 < range_of moduli
+range_positive moduli positive =
     let one = product_none moduli in
-    let most = grows 0 (length moduli) moduli system.positive (omega arith) in
+    let most = grows 0 (length moduli) moduli positive (omega arith) in
     omega (arith, one, most)
 
 pub sum_encoded : (moduli left right sums : List ℕ) (x y : ℕ)
@@ -83,6 +87,6 @@ difference_encoded is_residue sum moduli left right differences x y system each 
       let m = get_or moduli i 0 in
       let (k, e) = divides (length moduli) i moduli h in
       each i h ∙ difference_within is_residue sum (range_of moduli) m k x y (get_or left i 0) (get_or right i 0) e
-      (range_positive moduli system) (system.positive i h)
+      (range_positive moduli system.positive) (system.positive i h)
       (sym (ap (λ n. n % m) (p.each i h) ∙ mod-mod x m)) (sym (ap (λ n. n % m) (q.each i h) ∙ mod-mod y m));
 }

@@ -1,3 +1,4 @@
+mod Columns
 mod Combinations
 mod Encodings
 mod MixedRadix

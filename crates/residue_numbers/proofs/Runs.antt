@@ -21,10 +21,10 @@ use Rattle.num_modular.specs.declared.ring.RunEnd.TheVariants.{Done}
 use Rattle.num_modular.specs.Ring.{whole, destination_of, outcome, value_after}
 use Rattle.num_modular.specs.Ring.{value_at, LacksInverse, IsStop, carried_out}
 use Rattle.num_modular.specs.Stops.{inverted_by, NeedsInverse}
-use Rattle.num_modular.specs.Systems.{range_below, range_of, IsSystem, AreResidues}
+use Rattle.num_modular.specs.Systems.{product_below, range_of, AreResidues}
 use Rattle.num_modular.specs.SystemLaws.{divides, keeps, unit_of_all}
 use Rattle.residue_numbers.proofs.Encodings.{remainder_within, sum_within, product_within}
-use Rattle.residue_numbers.proofs.Encodings.{difference_within, range_positive}
+use Rattle.residue_numbers.proofs.Encodings.{difference_within, range_positive, ArePositive}
 
 -- the laws that are taken from the library's calls
 pub record Laws : Type 0 where
@@ -45,7 +45,7 @@ pub record IsFactor (range m : ℕ) : Type 0 where
 negative_is : (n : ℕ) → pos 0 -ℤ pos n ≡ neg_ℤ (pos n)
 negative_is n = +ℤ_idl (neg_ℤ (pos n))
 
-inverse_within : {range m : ℕ} (f : IsFactor range m) (x a i : ℕ) → x % m ≡ a
+pub inverse_within : {range m : ℕ} (f : IsFactor range m) (x a i : ℕ) → x % m ≡ a
     → IsInverse range x i → IsInverse m a (i % m)
 inverse_within {range} {m} f x a i p inverse = record {
   below = mod-lt i f.positive;
@@ -169,37 +169,29 @@ unit_of_product laws n moduli a wide positive each =
     (subst (HasInverse m) (sym (keeps range m k a 1 e)) ((laws.has_residue m a).1 (each i h)))) in
     (laws.has_residue range a).0 (subst (HasInverse range) alike ((laws.has_residue range b).1 unit))
 
--- where each inverse is there modulo each modulus, it is there modulo their product
-units_below : Laws → (n : ℕ) (moduli start : List ℕ) (starts : ℕ → List ℕ) (commands : List (RingCommand ℕ))
-    → ((i : ℕ) → i < n → IsFactor (range_below n moduli) (get_or moduli i 0)) → 0 < range_below n moduli
+-- where each inverse before a command is there modulo each modulus, it is there modulo their product
+pub units_below : Laws → (n : ℕ) (moduli start : List ℕ) (starts : ℕ → List ℕ) (commands : List (RingCommand ℕ))
+    → ((i : ℕ) → i < n → IsFactor (product_below n moduli) (get_or moduli i 0)) → 0 < product_below n moduli
     → ((i r : ℕ) → i < n → get_or start r 0 % get_or moduli i 0 ≡ get_or (starts i) r 0)
-    → ((i j r : ℕ) → i < n → NeedsInverse commands j r
+    → (count : ℕ)
+    → ((i j r : ℕ) → i < n → j < count → NeedsInverse commands j r
     → HasInverse (get_or moduli i 0) (value_at (get_or moduli i 0) (starts i) commands j r))
-    → (count j r : ℕ) → j < count → NeedsInverse commands j r
-    → HasInverse (range_below n moduli) (value_at (range_below n moduli) start commands j r)
-units_below laws n moduli start starts commands factors wide begin units zero j r h needs = absurd (omega (arith, h))
-units_below laws n moduli start starts commands factors wide begin units (suc count) j r h needs =
-    let before = units_below laws n moduli start starts commands factors wide begin units count in
-    let range = range_below n moduli in
+    → (j r : ℕ) → j < count → NeedsInverse commands j r
+    → HasInverse (product_below n moduli) (value_at (product_below n moduli) start commands j r)
+units_below laws n moduli start starts commands factors wide begin zero units j r h needs = absurd (omega (arith, h))
+units_below laws n moduli start starts commands factors wide begin (suc count) units j r h needs =
+    let before = units_below laws n moduli start starts commands factors wide begin count
+    (λ i k q l b. units i k q l (omega (arith, b))) in
+    let range = product_below n moduli in
     unit_of_product laws n moduli (value_at range start commands j r) wide (λ i l. (factors i l).positive)
     (λ i l.
     let m = get_or moduli i 0 in
     let same = values_within laws (factors i l) start (starts i) commands j (λ q. begin i q l)
     (λ k q b. before k q (omega (arith, h, b))) r in
-    (laws.has_residue m (value_at range start commands j r)).0 (subst (HasInverse m) (sym same) (units i j r l needs)))
-
-pub units_above : Laws → (n : ℕ) (moduli start : List ℕ) (starts : ℕ → List ℕ) (commands : List (RingCommand ℕ))
-    → ((i : ℕ) → i < n → IsFactor (range_below n moduli) (get_or moduli i 0)) → 0 < range_below n moduli
-    → ((i r : ℕ) → i < n → get_or start r 0 % get_or moduli i 0 ≡ get_or (starts i) r 0)
-    → ((i j r : ℕ) → i < n → NeedsInverse commands j r
-    → HasInverse (get_or moduli i 0) (value_at (get_or moduli i 0) (starts i) commands j r))
-    → (j r : ℕ) → NeedsInverse commands j r
-    → HasInverse (range_below n moduli) (value_at (range_below n moduli) start commands j r)
-units_above laws n moduli start starts commands factors wide begin units j r needs =
-    units_below laws n moduli start starts commands factors wide begin units (suc j) j r (omega arith) needs
+    (laws.has_residue m (value_at range start commands j r)).0 (subst (HasInverse m) (sym same) (units i j r l h needs)))
 
 -- a list of which each inverse is there has no stop
-lacks_none : (m : ℕ) (v : ℕ → ℕ) (read : Option (RingCommand ℕ)) → IsSomeAnd read (LacksInverse m v)
+pub lacks_none : (m : ℕ) (v : ℕ → ℕ) (read : Option (RingCommand ℕ)) → IsSomeAnd read (LacksInverse m v)
     → ((r : ℕ) → IsSomeAnd read (λ command. inverted_by command ≡ Some r) → HasInverse m (v r)) → ⊥
 lacks_none m v None h unit = h
 lacks_none m v (Some (Inv dst a)) h unit = h (unit a refl)
@@ -242,16 +234,16 @@ needs_whole number commands j r h =
 abbrev pub starts : ℕ → List ℕ → List ℕ
 starts m numbers = map (λ n. n % m) numbers
 
-begins : (m : ℕ) (numbers : List ℕ) → 0 < m → (r : ℕ) → get_or numbers r 0 % m ≡ get_or (starts m numbers) r 0
+pub begins : (m : ℕ) (numbers : List ℕ) → 0 < m → (r : ℕ) → get_or numbers r 0 % m ≡ get_or (starts m numbers) r 0
 begins m numbers positive r =
     sym (subst (λ d. get_or (starts m numbers) r d ≡ get_or numbers r 0 % m) (mod-eq_of_lt positive)
     (get_or-map (λ n. n % m) numbers r 0))
 
-factor : (moduli : List ℕ) → IsSystem moduli → (i : ℕ) → i < length moduli
+pub factor : (moduli : List ℕ) → ArePositive moduli → (i : ℕ) → i < length moduli
     → IsFactor (range_of moduli) (get_or moduli i 0)
-factor moduli system i h =
+factor moduli positive i h =
     let (k, e) = divides (length moduli) i moduli h in
-    record { times = k; is = e; wide = range_positive moduli system; positive = system.positive i h }
+    record { times = k; is = e; wide = range_positive moduli positive; positive = positive i h }
 
 -- where a list has no stop, each inverse is there
 abbrev pub EachInverse : Type 0
@@ -260,30 +252,30 @@ EachInverse = (m : ℕ) (start : List ℕ) (commands : List (RingCommand ℕ))
     → (i r : ℕ) → NeedsInverse commands i r → HasInverse m (value_at m start (map (whole (λ n. n)) commands) i r)
 
 -- where the list has no stop modulo any modulus, each inverse is there modulo the range
-units_whole : Laws → EachInverse → (moduli numbers : List ℕ) (commands : List (RingCommand ℕ)) → IsSystem moduli
+units_whole : Laws → EachInverse → (moduli numbers : List ℕ) (commands : List (RingCommand ℕ)) → ArePositive moduli
     → ((i : ℕ) → i < length moduli → (at : ℕ)
     → IsStop (get_or moduli i 0) (starts (get_or moduli i 0) numbers) (map (whole (λ n. n)) commands) at → ⊥)
     → (j r : ℕ) → NeedsInverse (map (whole (λ n. n)) commands) j r
     → HasInverse (range_of moduli) (value_at (range_of moduli) numbers (map (whole (λ n. n)) commands) j r)
-units_whole laws each moduli numbers commands system never =
-    units_above laws (length moduli) moduli numbers (λ i. starts (get_or moduli i 0) numbers)
+units_whole laws each moduli numbers commands positive never j r needs =
+    units_below laws (length moduli) moduli numbers (λ i. starts (get_or moduli i 0) numbers)
     (map (whole (λ n. n)) commands)
-    (factor moduli system) (range_positive moduli system)
-    (λ i r h. begins (get_or moduli i 0) numbers (system.positive i h) r)
-    (λ i j r h needs. each (get_or moduli i 0) (starts (get_or moduli i 0) numbers) commands (never i h) j r
-    (needs_whole (λ n. n) commands j r needs))
+    (factor moduli positive) (range_positive moduli positive)
+    (λ i r h. begins (get_or moduli i 0) numbers (positive i h) r) (suc j)
+    (λ i k q h b needs. each (get_or moduli i 0) (starts (get_or moduli i 0) numbers) commands (never i h) k q
+    (needs_whole (λ n. n) commands k q needs)) j r (omega arith) needs
 
 -- so it has none modulo the range
-pub never_whole : Laws → EachInverse → (moduli numbers : List ℕ) (commands : List (RingCommand ℕ)) → IsSystem moduli
+pub never_whole : Laws → EachInverse → (moduli numbers : List ℕ) (commands : List (RingCommand ℕ)) → ArePositive moduli
     → ((i : ℕ) → i < length moduli → (at : ℕ)
     → IsStop (get_or moduli i 0) (starts (get_or moduli i 0) numbers) (map (whole (λ n. n)) commands) at → ⊥)
     → (at : ℕ) → IsStop (range_of moduli) numbers (map (whole (λ n. n)) commands) at → ⊥
-never_whole laws each moduli numbers commands system never =
-    no_stop (units_whole laws each moduli numbers commands system never)
+never_whole laws each moduli numbers commands positive never =
+    no_stop (units_whole laws each moduli numbers commands positive never)
 
 -- and leaves the residues of the value modulo the range
 pub residues_whole : Laws → EachInverse
-    → (moduli numbers residues : List ℕ) (commands : List (RingCommand ℕ)) (register : ℕ) → IsSystem moduli
+    → (moduli numbers residues : List ℕ) (commands : List (RingCommand ℕ)) (register : ℕ) → ArePositive moduli
     → ((i : ℕ) → i < length moduli → (at : ℕ)
     → IsStop (get_or moduli i 0) (starts (get_or moduli i 0) numbers) (map (whole (λ n. n)) commands) at → ⊥)
     → ((i : ℕ) → i < length moduli → get_or residues i 0
@@ -291,24 +283,24 @@ pub residues_whole : Laws → EachInverse
     (length (map (whole (λ n. n)) commands)) register)
     → AreResidues moduli residues (value_at (range_of moduli) numbers (map (whole (λ n. n)) commands)
     (length (map (whole (λ n. n)) commands)) register)
-residues_whole laws each moduli numbers residues commands register system never left = record {
+residues_whole laws each moduli numbers residues commands register positive never left = record {
   each = λ i h.
       let wholes = map (whole (λ n. n)) commands in
-      left i h ∙ sym (values_within laws (factor moduli system i h) numbers
+      left i h ∙ sym (values_within laws (factor moduli positive i h) numbers
       (starts (get_or moduli i 0) numbers) wholes (length wholes)
-      (begins (get_or moduli i 0) numbers (system.positive i h))
-      (λ j r b needs. units_whole laws each moduli numbers commands system never j r needs) register);
+      (begins (get_or moduli i 0) numbers (positive i h))
+      (λ j r b needs. units_whole laws each moduli numbers commands positive never j r needs) register);
 }
 
 -- a list without a stop modulo the range has none modulo a modulus
-pub never_within : Laws → EachInverse → (moduli numbers : List ℕ) (commands : List (RingCommand ℕ)) → IsSystem moduli
+pub never_within : Laws → EachInverse → (moduli numbers : List ℕ) (commands : List (RingCommand ℕ)) → ArePositive moduli
     → ((at : ℕ) → IsStop (range_of moduli) numbers (map (whole (λ n. n)) commands) at → ⊥)
     → (i : ℕ) → i < length moduli → (at : ℕ)
     → IsStop (get_or moduli i 0) (starts (get_or moduli i 0) numbers) (map (whole (λ n. n)) commands) at → ⊥
-never_within laws each moduli numbers commands system never i h =
-    no_stop (units_within laws (factor moduli system i h) numbers (starts (get_or moduli i 0) numbers)
+never_within laws each moduli numbers commands positive never i h =
+    no_stop (units_within laws (factor moduli positive i h) numbers (starts (get_or moduli i 0) numbers)
     (map (whole (λ n. n)) commands)
-    (begins (get_or moduli i 0) numbers (system.positive i h))
+    (begins (get_or moduli i 0) numbers (positive i h))
     (λ j r needs. each (range_of moduli) numbers commands never j r (needs_whole (λ n. n) commands j r needs)))
 
 -- the registers that are loaded hold checked forms

@@ -1,4 +1,5 @@
 pub mod Combinations
 pub mod MixedRadix
+pub mod Registers
 pub mod Signs
 pub mod Systems

@@ -34,7 +34,7 @@ returns-in-None-clause-done c =
       (λ t. absurd (false≢true t)),
       λ never. c.in-None.ensures.done.1
           (never_within laws c.stop_laws.ensures.each c.args.self.now.moduli.now c.args.numbers.now c.args.commands.now
-          c.args.self.now.small.system never c.moduli.place c.moduli-test.true),
+          c.args.self.now.small.system.positive never c.moduli.place c.moduli-test.true),
     )
 
 pub returns-in-None-clause-residues : goal.returns-in-None-clause-residues
@@ -51,7 +51,7 @@ returns-clause-done c =
       has_residue = c.inverse_laws.ensures.has_residue;
     } in (
       (λ t. never_whole laws c.stop_laws.ensures.each c.args.self.now.moduli.now c.args.numbers.now c.args.commands.now
-          c.args.self.now.small.system (λ i h. c.moduli.invariant.done i (omega arith))),
+          c.args.self.now.small.system.positive (λ i h. c.moduli.invariant.done i (omega arith))),
       λ never. refl,
     )
 
@@ -67,5 +67,5 @@ returns-clause-residues c t =
     } in
     residues_whole laws c.stop_laws.ensures.each c.args.self.now.moduli.now c.args.numbers.now c.moduli.residues
     c.args.commands.now c.args.register
-    c.args.self.now.small.system (λ i h. c.moduli.invariant.done i (omega arith))
+    c.args.self.now.small.system.positive (λ i h. c.moduli.invariant.done i (omega arith))
     (λ i h. c.moduli.invariant.left i (omega arith))
