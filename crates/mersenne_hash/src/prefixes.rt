@@ -12,7 +12,7 @@ ghost use Rattle.mersenne_hash.specs.Occurrences.{IsSearchFrom};
 use num_modular::ModularInteger;
 use num_modular::hashes::{Hash, hash};
 use num_modular::laws::{range_laws, residue_laws};
-pub use searches::Patterns;
+pub use searches::{Patterns, are_pattern_lengths};
 
 /// A text, a base, and the hashes of the text's beginnings at that base with the powers of the base, in lists of the
 /// caller.

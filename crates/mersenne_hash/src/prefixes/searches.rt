@@ -38,8 +38,17 @@ pub struct Patterns<'a> {
         ≡ hash_of (pattern_of symbols.now size k) (residue_of base) },
 }
 
-// Whether a list of this length has that many patterns of this size.
-fn is_whole(symbols: usize, count: usize, size: usize) -> bool
+/// Whether `Patterns::new` accepts a list of this length, for that many patterns of this size: it is their product.
+///
+/// # Examples
+///
+/// ```
+/// use num_modular::applications::mersenne_hash::prefixes::are_pattern_lengths;
+///
+/// assert!(are_pattern_lengths(6, 2, 3));
+/// assert!(!are_pattern_lengths(7, 2, 3));
+/// ```
+pub fn are_pattern_lengths(symbols: usize, count: usize, size: usize) -> bool
     ensures { IsTrue result ↔ (symbols ≡ count * size) }
 {
     match count.checked_mul(size) {
@@ -77,6 +86,9 @@ impl<'a> Patterns<'a> {
     /// which it fills. `None` exactly where the length of `symbols` isn't that many times the size. It takes one product
     /// for each symbol.
     ///
+    /// After `None` the hashes are what they were: the lengths are tested, by `are_pattern_lengths`, before one is written. No
+    /// clause says so, because the result borrows them; a caller that has to prove it calls the test first.
+    ///
     /// # Examples
     ///
     /// ```
@@ -92,7 +104,7 @@ impl<'a> Patterns<'a> {
             MatchOption result (length symbols.now ≡ n * size → ⊥)
             (λ made. (made.base ≡ base) × (made.size ≡ size) × (made.symbols.now ≡ symbols.now) × (length made.hashes.now ≡ n)) }
     {
-        if !is_whole(symbols.len(), hashes.len(), size) {
+        if !are_pattern_lengths(symbols.len(), hashes.len(), size) {
             return None;
         }
         fill_hashes(base, size, symbols, hashes);
