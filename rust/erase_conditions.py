@@ -91,6 +91,18 @@ LOOKS = {
     ("mixed_radix", "digits"): ((EVERY, f"{REDUCED.format('residues')} && {COUNTED.format('digits')}"),),
     ("mixed_radix", "compare"): ((EVERY, f"{REDUCED.format('left')} && {REDUCED.format('right')}"),),
     ("mixed_radix", "residues"): ((EVERY, f"{COUNTED.format('digits')} && {COUNTED.format('residues')}"),),
+    ("mixed_radix/extension", "residue_modulo"): ((EVERY, f"m > 0 && {COUNTED.format('digits')}"),),
+    ("mixed_radix/extension", "extend"): (
+        (EVERY, f"{REDUCED.format('residues')} && {COUNTED.format('digits')}"),
+        (EVERY, "moduli.iter().all(|m| *m > 0) && extended.len() == moduli.len()"),
+    ),
+    ("mixed_radix/signs", "is_negative"): ((EVERY, REDUCED.format("digits")),),
+    ("mixed_radix/signs", "compare_signed"): ((EVERY, f"{REDUCED.format('left')} && {REDUCED.format('right')}"),),
+    ("mixed_radix/runs", "run"): (
+        (EVERY, "self.has_moduli_of(reducers)"),
+        (DEBUG, "commands.iter().all(|c| crate::ring::commands_fit(&[c.command()], forms.len()))"),
+        (EVERY, "inputs.len() == forms.len() * reducers.len() && registers.len() == inputs.len()"),
+    ),
     ("mixed_radix/words", "encode"): ((EVERY, COUNTED.format("residues")),),
     ("mixed_radix/words", "words"): ((EVERY, f"{COUNTED.format('digits')} && words.len() >= self.moduli.len()"),),
     ("erasure/powers", "encode_by_transform"): (
