@@ -1,7 +1,9 @@
 //! Hashes and searches, with known values from other sources.
 
+ghost use Rattle.std.specs.Prelude.{◌≡◌, ◌*◌, ◌↔◌, IsTrue, length};
+
 use super::assert_at;
-use mersenne_hash::prefixes::{Patterns, PrefixHashes};
+use mersenne_hash::prefixes::{Patterns, PrefixHashes, are_pattern_lengths};
 use mersenne_hash::{length_hash, same_hashes};
 use num_modular::ModularInteger;
 use num_modular::hashes::{Hash, base, find, hash, moved};
@@ -180,4 +182,26 @@ fn several_patterns(rt: HostRuntime) {
     }
     check!(&rt, 1; Patterns::new(base(2), 3, b"abcde", &mut [base(2); 2]).is_none());
     check!(&rt, 2; Patterns::new(base(2), 0, b"", &mut [base(2); 2]).is_some());
+}
+
+// Makes patterns. Returns false, with the hashes unchanged, exactly where the symbols aren't as many as they have.
+fn makes(base: Hash, size: usize, symbols: &[u8], hashes: &mut [Hash]) -> bool
+    ensures suits { IsTrue result ↔ (length symbols.now ≡ length hashes.old * size) }
+    ensures unchanged { (IsTrue result → ⊥) → hashes.new ≡ hashes.old }
+{
+    if !are_pattern_lengths(symbols.len(), hashes.len(), size) {
+        return false;
+    }
+    match Patterns::new(base, size, symbols, hashes) {
+        Some(_) => true,
+        None => false,
+    }
+}
+
+#[test]
+fn refused_patterns(rt: HostRuntime) {
+    let rt = &rt;
+    let mut hashes = [base(2); 2];
+    check!(rt, 1; !makes(base(1000), 3, b"abcde", &mut hashes) && hashes == [base(2); 2]);
+    check!(rt, 2; makes(base(1000), 2, b"abcd", &mut hashes) && hashes == [hash(base(1000), b"ab"), hash(base(1000), b"cd")]);
 }
