@@ -21,7 +21,7 @@ use Rattle.num_modular.specs.declared.ring.RunEnd.TheVariants.{Done}
 use Rattle.num_modular.specs.Ring.{whole, destination_of, outcome, value_after}
 use Rattle.num_modular.specs.Ring.{value_at, LacksInverse, IsStop, carried_out}
 use Rattle.num_modular.specs.Stops.{inverted_by, NeedsInverse}
-use Rattle.num_modular.specs.Systems.{product_below, range_of, AreResidues}
+use Rattle.num_modular.specs.Systems.{range_below, range_of, AreResidues}
 use Rattle.num_modular.specs.SystemLaws.{divides, keeps, unit_of_all}
 use Rattle.residue_numbers.proofs.Encodings.{remainder_within, sum_within, product_within}
 use Rattle.residue_numbers.proofs.Encodings.{difference_within, range_positive, ArePositive}
@@ -171,18 +171,18 @@ unit_of_product laws n moduli a wide positive each =
 
 -- where each inverse before a command is there modulo each modulus, it is there modulo their product
 pub units_below : Laws → (n : ℕ) (moduli start : List ℕ) (starts : ℕ → List ℕ) (commands : List (RingCommand ℕ))
-    → ((i : ℕ) → i < n → IsFactor (product_below n moduli) (get_or moduli i 0)) → 0 < product_below n moduli
+    → ((i : ℕ) → i < n → IsFactor (range_below n moduli) (get_or moduli i 0)) → 0 < range_below n moduli
     → ((i r : ℕ) → i < n → get_or start r 0 % get_or moduli i 0 ≡ get_or (starts i) r 0)
     → (count : ℕ)
     → ((i j r : ℕ) → i < n → j < count → NeedsInverse commands j r
     → HasInverse (get_or moduli i 0) (value_at (get_or moduli i 0) (starts i) commands j r))
     → (j r : ℕ) → j < count → NeedsInverse commands j r
-    → HasInverse (product_below n moduli) (value_at (product_below n moduli) start commands j r)
+    → HasInverse (range_below n moduli) (value_at (range_below n moduli) start commands j r)
 units_below laws n moduli start starts commands factors wide begin zero units j r h needs = absurd (omega (arith, h))
 units_below laws n moduli start starts commands factors wide begin (suc count) units j r h needs =
     let before = units_below laws n moduli start starts commands factors wide begin count
     (λ i k q l b. units i k q l (omega (arith, b))) in
-    let range = product_below n moduli in
+    let range = range_below n moduli in
     unit_of_product laws n moduli (value_at range start commands j r) wide (λ i l. (factors i l).positive)
     (λ i l.
     let m = get_or moduli i 0 in

@@ -4,7 +4,7 @@ mod searches;
 
 use crate::ModularInteger;
 use crate::hashes::{Hash, hash};
-pub use searches::Patterns;
+pub use searches::{Patterns, are_pattern_lengths};
 
 /// A text, a base, and the hashes of the text's beginnings at that base with the powers of the base, in lists of the
 /// caller.

@@ -1,6 +1,9 @@
 //! Residue number systems of any number of moduli and of any range: numbers by their digits in the mixed radix of the
 //! moduli.
 
+mod extension;
+mod runs;
+mod signs;
 mod words;
 
 use crate::{ModularCoreOps, ModularUnaryOps};
@@ -39,24 +42,53 @@ fn product_modulo(m: u64, moduli: &[u64], count: usize) -> u64 {
     product
 }
 
-// Writes the inverses. Returns whether the moduli are above 0 and coprime.
-fn fill_inverses(moduli: &[u64], inverses: &mut [u64]) -> bool {
+// The inverse of the product of the moduli before one, modulo that one; `None` exactly where that one is 0 or there is no
+// inverse.
+#[inline]
+fn inverse_at(moduli: &[u64], place: usize) -> Option<u64> {
+    let m = moduli[place];
+    if m == 0 {
+        return None;
+    }
+    product_modulo(m, moduli, place).invm(&m)
+}
+
+/// Whether each modulus is above 0 and any two are coprime. `System::new` accepts exactly these moduli, with a list of as
+/// many entries. It takes about n²/2 products for n moduli.
+///
+/// # Examples
+///
+/// ```
+/// use num_modular::applications::residue_numbers::mixed_radix::is_coprime_system;
+///
+/// assert!(is_coprime_system(&[3, 5, 7]));
+/// assert!(!is_coprime_system(&[6, 35, 10])); // 2 divides 6 and 10
+/// ```
+#[inline]
+pub fn is_coprime_system(moduli: &[u64]) -> bool {
     for place in 0..moduli.len() {
-        let m = moduli[place];
-        if m == 0 {
+        if inverse_at(moduli, place).is_none() {
             return false;
-        }
-        match product_modulo(m, moduli, place).invm(&m) {
-            Some(inverse) => inverses[place] = inverse,
-            None => return false,
         }
     }
     true
 }
 
+// Writes the inverses. Condition: the moduli are above 0 and coprime in pairs.
+#[inline]
+#[track_caller]
+fn fill_inverses(moduli: &[u64], inverses: &mut [u64]) {
+    for (place, entry) in inverses[..moduli.len()].iter_mut().enumerate() {
+        match inverse_at(moduli, place) {
+            Some(inverse) => *entry = inverse,
+            None => panic!("the moduli must be above 0 and coprime in pairs"),
+        }
+    }
+}
+
 // The number that the first digits denote, modulo m, by Horner's rule.
 #[inline]
-fn number_modulo(m: u64, moduli: &[u64], digits: &[u64], count: usize) -> u64 {
+pub(crate) fn number_modulo(m: u64, moduli: &[u64], digits: &[u64], count: usize) -> u64 {
     let mut number = 0;
     let mut place = count;
     while place > 0 {
@@ -66,10 +98,20 @@ fn number_modulo(m: u64, moduli: &[u64], digits: &[u64], count: usize) -> u64 {
     number
 }
 
+// Writes the residues, modulo moduli of another list, of the number that digits denote.
+#[inline]
+pub(crate) fn write_residues(moduli: &[u64], digits: &[u64], others: &[u64], residues: &mut [u64]) {
+    for place in 0..others.len() {
+        residues[place] = number_modulo(others[place], moduli, digits, moduli.len());
+    }
+}
+
 impl<'a> System<'a> {
     /// The system of these moduli; it fills the list of inverses. `None` exactly where a modulus is 0, two have a common
-    /// divisor above 1, or the lists have different lengths; where the moduli are at fault, some entries may then be
-    /// written.
+    /// divisor above 1, or the lists have different lengths.
+    ///
+    /// After `None` the list holds what it held: the moduli are tested, by `is_coprime_system`, before an entry is written.
+    /// No clause says so, because the result borrows the list; a caller that has to prove it calls the test first.
     ///
     /// # Examples
     ///
@@ -81,9 +123,10 @@ impl<'a> System<'a> {
     /// ```
     #[inline]
     pub fn new(moduli: &'a [u64], inverses: &'a mut [u64]) -> Option<Self> {
-        if inverses.len() != moduli.len() || !fill_inverses(moduli, inverses) {
+        if inverses.len() != moduli.len() || !is_coprime_system(moduli) {
             return None;
         }
+        fill_inverses(moduli, inverses);
         Some(System { moduli, inverses })
     }
 
@@ -173,9 +216,6 @@ impl<'a> System<'a> {
     #[track_caller]
     pub fn residues(&self, digits: &[u64], residues: &mut [u64]) {
         assert!(digits.len() == self.moduli.len() && residues.len() == self.moduli.len(), "each modulus must have a digit and room for a residue");
-        let moduli = self.moduli;
-        for place in 0..moduli.len() {
-            residues[place] = number_modulo(moduli[place], moduli, digits, moduli.len());
-        }
+        write_residues(self.moduli, digits, self.moduli, residues);
     }
 }

@@ -24,6 +24,7 @@ mod paths;
 mod polynomials;
 mod prepared_codes;
 mod reducers;
+mod residue_systems;
 mod residues;
 
 use std::fmt::Debug;

@@ -1,7 +1,7 @@
 use Rattle.std.proofs.Common.{ℕ, List, get_or, arith, ◌∙◌}
 use Rattle.std.proofs.lemmas.List.{length-set}
 use Rattle.num_modular.specs.Inverses.{IsInverse}
-use Rattle.num_modular.specs.Systems.{product_below}
+use Rattle.num_modular.specs.Systems.{range_below}
 use Rattle.num_modular.specs.SystemLaws.{set_more}
 use Rattle.residue_numbers.proofs.MixedRadix.{unit_at}
 use Rattle.residue_numbers.proofs.mixed_radix.fill_inverses.Goals as goal
@@ -13,7 +13,7 @@ moduli-preserved c =
     let before = c.moduli.invariant in
     record {
       entries = length-set c.moduli.inverses place x ∙ before.entries;
-      inverted = set_more c.moduli.inverses place x (λ i r. IsInverse (get_or ms i 0) (product_below i ms) r)
+      inverted = set_more c.moduli.inverses place x (λ i r. IsInverse (get_or ms i 0) (range_below i ms) r)
           (omega (arith, before.entries)) before.inverted c.in-Some.ensures.1;
     }
 

@@ -7,5 +7,5 @@ use Rattle.residue_numbers.proofs.mixed_radix.fill_inverses.Given as goal
 abbrev pub invariant-moduli : goal.invariant-moduli
 invariant-moduli l = record {
   entries : length l.inverses ≡ length l.moduli;
-  inverted : (i : ℕ) → i < l.place → IsInverse (get_or l.moduli i 0) (product_below i l.moduli) (get_or l.inverses i 0);
+  inverted : (i : ℕ) → i < l.place → IsInverse (get_or l.moduli i 0) (range_below i l.moduli) (get_or l.inverses i 0);
 }

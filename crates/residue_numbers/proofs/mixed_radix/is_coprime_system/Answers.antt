@@ -2,7 +2,7 @@ use Rattle.std.proofs.Common.{◌≡◌, ℕ, ◌<◌, List, get_or, sym, ◌∙
 use Rattle.std.proofs.lemmas.Bool.{false≢true}
 use Rattle.num_modular.specs.Divisors.{Coprime}
 use Rattle.num_modular.specs.Inverses.{IsInverse, HasInverse}
-use Rattle.num_modular.specs.Systems.{product_below}
+use Rattle.num_modular.specs.Systems.{range_below}
 use Rattle.num_modular.specs.SystemLaws.{each_of_unit}
 use Rattle.residue_numbers.proofs.MixedRadix.{unit_at}
 use Rattle.residue_numbers.proofs.mixed_radix.is_coprime_system.Goals as goal
@@ -23,7 +23,7 @@ returns-then-is_none c = (
   (λ t. absurd (false≢true t)),
   λ system.
       let ms : List ℕ = c.args.moduli.now in let place : ℕ = c.moduli.place in
-      absurd (none_is (get_or ms place 0) (product_below place ms) c.inverse_at.result c.inverse_at.ensures (c.is_none.ensures ∙ ap not c.if-is_none.true)
+      absurd (none_is (get_or ms place 0) (range_below place ms) c.inverse_at.result c.inverse_at.ensures (c.is_none.ensures ∙ ap not c.if-is_none.true)
       (system.positive place c.moduli-test.true)
       (unit_at ms place c.inverse_laws.ensures.coprime system c.moduli-test.true)),
 )
@@ -33,7 +33,7 @@ moduli-preserved c =
     let ms : List ℕ = c.args.moduli.now in let place : ℕ = c.moduli.place in
     let m = get_or ms place 0 in
     let before = c.moduli.invariant in
-    let found = some_is m (product_below place ms) c.inverse_at.result c.inverse_at.ensures (c.is_none.ensures ∙ ap not c.if-is_none.false) in
+    let found = some_is m (range_below place ms) c.inverse_at.result c.inverse_at.ensures (c.is_none.ensures ∙ ap not c.if-is_none.false) in
     let positive : 0 < m = found.1 in
     record {
       positive = below_more (λ i. 0 < get_or ms i 0) place before.positive positive;

@@ -28,9 +28,18 @@ pub struct Patterns<'a> {
     hashes: &'a [Hash],
 }
 
-// Whether a list of this length has that many patterns of this size.
+/// Whether `Patterns::new` accepts a list of this length, for that many patterns of this size: it is their product.
+///
+/// # Examples
+///
+/// ```
+/// use num_modular::applications::mersenne_hash::prefixes::are_pattern_lengths;
+///
+/// assert!(are_pattern_lengths(6, 2, 3));
+/// assert!(!are_pattern_lengths(7, 2, 3));
+/// ```
 #[inline]
-fn is_whole(symbols: usize, count: usize, size: usize) -> bool {
+pub fn are_pattern_lengths(symbols: usize, count: usize, size: usize) -> bool {
     match count.checked_mul(size) {
         Some(product) => product == symbols,
         None => false,
@@ -58,6 +67,9 @@ impl<'a> Patterns<'a> {
     /// which it fills. `None` exactly where the length of `symbols` isn't that many times the size. It takes one product
     /// for each symbol.
     ///
+    /// After `None` the hashes are what they were: the lengths are tested, by `are_pattern_lengths`, before one is written. No
+    /// clause says so, because the result borrows them; a caller that has to prove it calls the test first.
+    ///
     /// # Examples
     ///
     /// ```
@@ -70,7 +82,7 @@ impl<'a> Patterns<'a> {
     /// ```
     #[inline]
     pub fn new(base: Hash, size: usize, symbols: &'a [u8], hashes: &'a mut [Hash]) -> Option<Self> {
-        if !is_whole(symbols.len(), hashes.len(), size) {
+        if !are_pattern_lengths(symbols.len(), hashes.len(), size) {
             return None;
         }
         fill_hashes(base, size, symbols, hashes);

@@ -1,7 +1,7 @@
 //! Hashes and searches, with known values from other sources.
 
 use super::assert_at;
-use crate::applications::mersenne_hash::prefixes::{Patterns, PrefixHashes};
+use crate::applications::mersenne_hash::prefixes::{Patterns, PrefixHashes, are_pattern_lengths};
 use crate::applications::mersenne_hash::{length_hash, same_hashes};
 use crate::ModularInteger;
 use crate::hashes::{Hash, base, find, hash, moved};
@@ -186,4 +186,24 @@ fn several_patterns() {
     }
     check!(&rt, 1; Patterns::new(base(2), 3, b"abcde", &mut [base(2); 2]).is_none());
     check!(&rt, 2; Patterns::new(base(2), 0, b"", &mut [base(2); 2]).is_some());
+}
+
+// Makes patterns. Returns false, with the hashes unchanged, exactly where the symbols aren't as many as they have.
+fn makes(base: Hash, size: usize, symbols: &[u8], hashes: &mut [Hash]) -> bool {
+    if !are_pattern_lengths(symbols.len(), hashes.len(), size) {
+        return false;
+    }
+    match Patterns::new(base, size, symbols, hashes) {
+        Some(_) => true,
+        None => false,
+    }
+}
+
+#[test]
+fn refused_patterns() {
+    let rt = crate::runtime::HostRuntime;
+    let rt = &rt;
+    let mut hashes = [base(2); 2];
+    check!(rt, 1; !makes(base(1000), 3, b"abcde", &mut hashes) && hashes == [base(2); 2]);
+    check!(rt, 2; makes(base(1000), 2, b"abcd", &mut hashes) && hashes == [hash(base(1000), b"ab"), hash(base(1000), b"cd")]);
 }
