@@ -418,6 +418,42 @@ NM_CHECK uint32_t nm_product(const uint64_t *xs, size_t n, const uint64_t *ys, s
                              size_t places, uint64_t *words, size_t words_length, nm_factor_t *factors,
                              size_t factors_length);
 
+/* --- Products of polynomials modulo any m, by their coefficients, the lowest first. ---
+ *
+ * m may be any word but 0, coefficients may be any words, and the results are below m. No root is needed. Where both factors
+ * have at least 200 coefficients the product is computed by transforms, in the scratch lists words and factors, else by the
+ * sums. The scratch lists have unspecified contents afterwards. */
+
+/* The lengths of the two scratch lists for factors of n and k coefficients: 0 where one has fewer than 200, else 4 * e
+ * words and 3 * e / 2 factors, e being the least power of two that is at least n + k. NM_BAD_ARGUMENT: n + k is above
+ * 2^32. */
+NM_CHECK uint32_t nm_polynomial_room(size_t n, size_t k, size_t *words, size_t *factors);
+
+/* The product: coefficient e is the sum of x_i * y_j modulo m over i + j = e. NM_BAD_ARGUMENT: m is 0; places isn't
+ * n + k - 1, or isn't 0 where n or k is; or both factors have at least 200 coefficients, and n + k is above 2^32 or a
+ * scratch list is shorter than nm_polynomial_room writes. */
+NM_CHECK uint32_t nm_polynomial_multiply(uint64_t m, const uint64_t *xs, size_t n, const uint64_t *ys, size_t k,
+                                         uint64_t *out, size_t places, uint64_t *words, size_t words_length,
+                                         nm_factor_t *factors, size_t factors_length);
+
+/* The square. The codes are those of nm_polynomial_multiply for xs and xs. */
+NM_CHECK uint32_t nm_polynomial_square(uint64_t m, const uint64_t *xs, size_t n, uint64_t *out, size_t places,
+                                       uint64_t *words, size_t words_length, nm_factor_t *factors,
+                                       size_t factors_length);
+
+/* The cyclic product, for any n: entry e is the sum of x_i * y_j modulo m over i + j = e or e + n. NM_BAD_ARGUMENT: m is
+ * 0; k or places isn't n; or n is at least 200, and n + n is above 2^32 or a scratch list is shorter than
+ * nm_polynomial_room writes for n and n. */
+NM_CHECK uint32_t nm_polynomial_multiply_cyclic(uint64_t m, const uint64_t *xs, size_t n, const uint64_t *ys, size_t k,
+                                                uint64_t *out, size_t places, uint64_t *words, size_t words_length,
+                                                nm_factor_t *factors, size_t factors_length);
+
+/* The product modulo X^n + 1: entry e is the sum of x_i * y_j over i + j = e, less that over i + j = e + n, modulo m. The
+ * codes are those of nm_polynomial_multiply_cyclic. */
+NM_CHECK uint32_t nm_polynomial_multiply_negacyclic(uint64_t m, const uint64_t *xs, size_t n, const uint64_t *ys,
+                                                    size_t k, uint64_t *out, size_t places, uint64_t *words,
+                                                    size_t words_length, nm_factor_t *factors, size_t factors_length);
+
 #ifdef __cplusplus
 }
 #endif

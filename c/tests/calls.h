@@ -61,6 +61,7 @@ void plan_rows(void);
 void plan_value_rows(void);
 void erasure_rows(void);
 void user_rows(void);
+void polynomial_rows(void);
 void sharing_rows(void);
 void read_only_rows(void);
 

@@ -24,6 +24,7 @@ int main(void) {
     plan_value_rows();
     erasure_rows();
     user_rows();
+    polynomial_rows();
     sharing_rows();
     read_only_rows();
     printf("%d passed, %d failed\n", passed, failed);

@@ -183,6 +183,24 @@ static void user_refusals(void) {
     REFUSES(NM_BAD_ARGUMENT, nm_product(digits, 400, digits, 400, words, 800, words + 800, 2, factors, 1));
 }
 
+/* modulo 0, of other lengths, and without room */
+static void polynomial_refusals(void) {
+    static const uint64_t xs[200] = {9};
+    uint64_t *scratch = words + 500;
+    nm_factor_t *factors = (nm_factor_t *)(words + 900);
+    REFUSES(CAUGHT, nm_polynomial_multiply(7, xs, 2, xs, 2, words, 3, NULL, 0, NULL, 0));
+    REFUSES(NM_BAD_ARGUMENT, nm_polynomial_room((size_t)UINT64_C(4294967297), 0, (size_t *)words, (size_t *)words + 1));
+    REFUSES(NM_BAD_ARGUMENT, nm_polynomial_multiply(0, xs, 2, xs, 2, words, 3, scratch, 2, factors, 1));
+    REFUSES(NM_BAD_ARGUMENT, nm_polynomial_multiply(7, xs, 2, xs, 2, words, 4, scratch, 2, factors, 1));
+    REFUSES(NM_BAD_ARGUMENT, nm_polynomial_multiply(7, xs, 200, xs, 200, words, 399, scratch, 2, factors, 1));
+    REFUSES(NM_BAD_ARGUMENT, nm_polynomial_square(0, xs, 2, words, 3, scratch, 2, factors, 1));
+    REFUSES(NM_BAD_ARGUMENT, nm_polynomial_square(7, xs, 200, words, 399, scratch, 2, factors, 1));
+    REFUSES(NM_BAD_ARGUMENT, nm_polynomial_multiply_cyclic(7, xs, 3, xs, 2, words, 3, scratch, 2, factors, 1));
+    REFUSES(NM_BAD_ARGUMENT, nm_polynomial_multiply_cyclic(7, xs, 200, xs, 200, words, 200, scratch, 2, factors, 1));
+    REFUSES(NM_BAD_ARGUMENT, nm_polynomial_multiply_negacyclic(7, xs, 3, xs, 2, words, 3, scratch, 2, factors, 1));
+    REFUSES(NM_BAD_ARGUMENT, nm_polynomial_multiply_negacyclic(7, xs, 200, xs, 200, words, 200, scratch, 2, factors, 1));
+}
+
 void read_only_rows(void) {
     nm_montgomery_t ring, changed;
     struct sigaction handler = {.sa_handler = on_write}, old;
@@ -204,6 +222,7 @@ void read_only_rows(void) {
     plan_value_refusals();
     erasure_refusals(&ring, &changed);
     user_refusals();
+    polynomial_refusals();
     sigaction(SIGSEGV, &old, NULL);
     munmap(words, size);
 }

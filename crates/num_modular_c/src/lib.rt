@@ -13,6 +13,7 @@ mod plain;
 mod plan_value;
 mod planned;
 mod plans;
+mod polynomials;
 mod runs;
 mod solinas;
 mod symbols;

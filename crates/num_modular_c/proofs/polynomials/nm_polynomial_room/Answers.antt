@@ -1,0 +1,30 @@
+use Rattle.std.proofs.Common.{ℕ, ◌+◌, ◌/◌, ◌≤◌, refl, arith}
+use Rattle.long_product.specs.Polynomials.{HasProductRoom}
+use Rattle.num_modular_c.proofs.polynomials.nm_polynomial_room.Goals as goal
+
+-- 2^34 words and tables of 2^31 factors are room for all
+greatest : (n k : ℕ) → n + k ≤ 4294967296 → HasProductRoom n k 17179869184 2147483648
+greatest n k few = record {
+  places = refl;
+  scratch = λ a b. (few, (4294967296, (32, refl), few, omega arith, omega arith));
+}
+
+pub overflow_mul-factors : goal.overflow_mul-factors
+overflow_mul-factors c =
+    let few : c.args.n + c.args.k ≤ 4294967296 = omega arith in
+    let most = ((c.room-needed.ensures 17179869184 2147483648).0 (greatest c.args.n c.args.k few)).1 in
+    omega (arith, most)
+
+pub returns-clause-did : goal.returns-clause-did
+returns-clause-did c few = (
+  refl,
+  λ w f. (
+    λ h.
+        let needed = (c.room-needed.ensures w (f / 3)).0 h in
+        let factors = needed.1 in
+        (needed.0, omega (arith, factors)),
+    λ h.
+        let factors = h.1 in
+        (c.room-needed.ensures w (f / 3)).1 (h.0, omega (arith, factors)),
+  ),
+)

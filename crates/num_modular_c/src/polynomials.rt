@@ -1,0 +1,140 @@
+//! Products of polynomials modulo any m, by their coefficients, the lowest first.
+
+ghost use Rattle.std.specs.Prelude.{◌≡◌, ℕ, ◌+◌, ◌-◌, ◌/◌, ◌^◌, ◌<◌, ◌≤◌, ◌↔◌, length, slice_index};
+ghost use Rattle.long_product.specs.Polynomials.{product_entry, FitsProduct, FitsCyclic, HasProductRoom};
+ghost use Rattle.num_modular.specs.PlanProducts.{product_modulo};
+ghost use Rattle.num_modular.specs.Transforms.{cyclic_product};
+ghost use Rattle.num_modular_c.specs.Codes.{Did, BothRefused};
+
+use crate::codes::{NM_BAD_ARGUMENT, NM_OK};
+use crate::plans::NmFactor;
+use long_product::MOST_PLACES;
+use long_product::polynomials::{
+    multiply_cyclic_once, multiply_negacyclic_once, multiply_once, room,
+};
+
+/// Writes the lengths of the two scratch lists of the products of polynomials with n and k coefficients: 0 where one has
+/// fewer than `LEAST_TRANSFORMED` of `long_product::polynomials`, else 4·e words and 3·e/2 factors, e being the least
+/// power of two that is at least n + k. `NM_BAD_ARGUMENT`: n + k is above 2^32.
+#[unsafe(no_mangle)]
+pub extern "C" fn nm_polynomial_room(
+    n: usize,
+    k: usize,
+    words: &mut usize,
+    factors: &mut usize,
+) -> u32
+    ensures did { n + k ≤ 2 ^ 32 → Did result ((w f : ℕ) → HasProductRoom n k w (f / 3)
+        ↔ ((words.new ≤ w) × (factors.new ≤ f))) }
+    ensures bad_argument { 2 ^ 32 < n + k → BothRefused NM_BAD_ARGUMENT result words.old words.new
+        factors.old factors.new }
+{
+    if n > MOST_PLACES || k > MOST_PLACES - n {
+        return NM_BAD_ARGUMENT;
+    }
+    let (needed, table) = room(n, k);
+    *words = needed;
+    *factors = 3 * table;
+    NM_OK
+}
+
+/// Writes the coefficients of the product of the polynomials xs and ys modulo m: coefficient e is the sum of x_i·y_j over
+/// i + j = e, modulo m. The scratch lists `words` and `factors` have unspecified contents afterwards.
+/// `NM_BAD_ARGUMENT`: m is 0; `out` hasn't one place for each coefficient, one fewer than xs and ys together, or none
+/// where one of them is empty; or a scratch list is shorter than `nm_polynomial_room` writes, or that refuses, unless xs
+/// or ys has fewer than `LEAST_TRANSFORMED` coefficients.
+#[unsafe(no_mangle)]
+pub extern "C" fn nm_polynomial_multiply(
+    m: u64,
+    xs: &[u64],
+    ys: &[u64],
+    out: &mut [u64],
+    words: &mut [u64],
+    factors: &mut [NmFactor],
+) -> u32
+    ensures did { let n = length xs.now in let k = length ys.now in FitsProduct m n k (length out.old)
+        → HasProductRoom n k (length words.old) (length factors.old / 3)
+        → Did result ((e : ℕ) → e < length out.old → slice_index out.new e ≡ product_entry m xs.now ys.now e) }
+    ensures bad_argument { let n = length xs.now in let k = length ys.now in
+        (FitsProduct m n k (length out.old) → HasProductRoom n k (length words.old) (length factors.old / 3) → ⊥)
+        → BothRefused NM_BAD_ARGUMENT result out.old out.new words.old words.new × (factors.new ≡ factors.old) }
+{
+    if multiply_once(m, xs, ys, out, words, factors) {
+        NM_OK
+    } else {
+        NM_BAD_ARGUMENT
+    }
+}
+
+/// Writes the coefficients of the square of the polynomial xs modulo m. The code is that of `nm_polynomial_multiply` with
+/// xs for both factors.
+#[unsafe(no_mangle)]
+pub extern "C" fn nm_polynomial_square(
+    m: u64,
+    xs: &[u64],
+    out: &mut [u64],
+    words: &mut [u64],
+    factors: &mut [NmFactor],
+) -> u32
+    ensures did { let n = length xs.now in FitsProduct m n n (length out.old)
+        → HasProductRoom n n (length words.old) (length factors.old / 3)
+        → Did result ((e : ℕ) → e < length out.old → slice_index out.new e ≡ product_entry m xs.now xs.now e) }
+    ensures bad_argument { let n = length xs.now in
+        (FitsProduct m n n (length out.old) → HasProductRoom n n (length words.old) (length factors.old / 3) → ⊥)
+        → BothRefused NM_BAD_ARGUMENT result out.old out.new words.old words.new × (factors.new ≡ factors.old) }
+{
+    nm_polynomial_multiply(m, xs, xs, out, words, factors)
+}
+
+/// Writes the cyclic product of the n numbers xs and the n numbers ys modulo m, for any n: entry e is the sum of x_i·y_j
+/// over i + j = e or e + n, modulo m. The scratch lists `words` and `factors` have unspecified contents afterwards.
+/// `NM_BAD_ARGUMENT`: m is 0; the three lengths differ; or n is at least `LEAST_TRANSFORMED` and above 2^31, or a scratch
+/// list is shorter than `nm_polynomial_room` writes for n and n.
+#[unsafe(no_mangle)]
+pub extern "C" fn nm_polynomial_multiply_cyclic(
+    m: u64,
+    xs: &[u64],
+    ys: &[u64],
+    out: &mut [u64],
+    words: &mut [u64],
+    factors: &mut [NmFactor],
+) -> u32
+    ensures did { let n = length out.old in FitsCyclic m (length xs.now) (length ys.now) n
+        → HasProductRoom (length xs.now) (length ys.now) (length words.old) (length factors.old / 3)
+        → Did result ((e : ℕ) → e < n →
+        slice_index out.new e ≡ cyclic_product m n (slice_index xs.now) (slice_index ys.now) e) }
+    ensures bad_argument { let n = length xs.now in let k = length ys.now in (FitsCyclic m n k (length out.old)
+        → HasProductRoom n k (length words.old) (length factors.old / 3) → ⊥)
+        → BothRefused NM_BAD_ARGUMENT result out.old out.new words.old words.new × (factors.new ≡ factors.old) }
+{
+    if multiply_cyclic_once(m, xs, ys, out, words, factors) {
+        NM_OK
+    } else {
+        NM_BAD_ARGUMENT
+    }
+}
+
+/// Writes the product modulo X^n + 1 of the n numbers xs and the n numbers ys, modulo m, for any n: entry e is the sum of
+/// x_i·y_j over i + j = e, less that over i + j = e + n. The codes are those of `nm_polynomial_multiply_cyclic`.
+#[unsafe(no_mangle)]
+pub extern "C" fn nm_polynomial_multiply_negacyclic(
+    m: u64,
+    xs: &[u64],
+    ys: &[u64],
+    out: &mut [u64],
+    words: &mut [u64],
+    factors: &mut [NmFactor],
+) -> u32
+    ensures did { let n = length out.old in FitsCyclic m (length xs.now) (length ys.now) n
+        → HasProductRoom (length xs.now) (length ys.now) (length words.old) (length factors.old / 3)
+        → Did result ((e : ℕ) → e < n →
+        slice_index out.new e ≡ product_modulo m n (m - 1) (slice_index xs.now) (slice_index ys.now) e) }
+    ensures bad_argument { let n = length xs.now in let k = length ys.now in (FitsCyclic m n k (length out.old)
+        → HasProductRoom n k (length words.old) (length factors.old / 3) → ⊥)
+        → BothRefused NM_BAD_ARGUMENT result out.old out.new words.old words.new × (factors.new ≡ factors.old) }
+{
+    if multiply_negacyclic_once(m, xs, ys, out, words, factors) {
+        NM_OK
+    } else {
+        NM_BAD_ARGUMENT
+    }
+}
