@@ -418,6 +418,19 @@ NM_CHECK uint32_t nm_product(const uint64_t *xs, size_t n, const uint64_t *ys, s
                              size_t places, uint64_t *words, size_t words_length, nm_factor_t *factors,
                              size_t factors_length);
 
+/* --- Hashes of the parts of a text, each by one product. --- */
+
+/* Entry k of hashes becomes nm_hash of the first k of the n bytes at the base x, and entry k of powers x to the power k
+ * modulo 2^61 - 1. NM_BAD_ARGUMENT: k or l, the lengths of the lists, isn't n + 1. */
+NM_CHECK uint32_t nm_prefix_hashes(uint64_t x, const uint8_t *text, size_t n, uint64_t *hashes, size_t k,
+                                   uint64_t *powers, size_t l);
+
+/* nm_hash of the bytes from number from up to, and without, number to of a text, by what nm_prefix_hashes wrote of it. Two
+ * parts with different hashes are different; of equal hashes see nm_find. NM_BAD_ARGUMENT: from is above to, or to isn't
+ * below k and l. Of lists that nm_prefix_hashes didn't write, the result has no meaning. */
+NM_CHECK uint32_t nm_substring_hash(const uint64_t *hashes, size_t k, const uint64_t *powers, size_t l, size_t from,
+                                    size_t to, uint64_t *hash);
+
 /* --- Products of polynomials modulo any m, by their coefficients, the lowest first. ---
  *
  * m may be any word but 0, coefficients may be any words, and the results are below m. No root is needed. Where both factors

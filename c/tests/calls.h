@@ -62,6 +62,7 @@ void plan_value_rows(void);
 void erasure_rows(void);
 void user_rows(void);
 void polynomial_rows(void);
+void prefix_rows(void);
 void sharing_rows(void);
 void read_only_rows(void);
 

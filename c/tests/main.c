@@ -25,6 +25,7 @@ int main(void) {
     erasure_rows();
     user_rows();
     polynomial_rows();
+    prefix_rows();
     sharing_rows();
     read_only_rows();
     printf("%d passed, %d failed\n", passed, failed);

@@ -201,6 +201,16 @@ static void polynomial_refusals(void) {
     REFUSES(NM_BAD_ARGUMENT, nm_polynomial_multiply_negacyclic(7, xs, 200, xs, 200, words, 200, scratch, 2, factors, 1));
 }
 
+static void prefix_refusals(void) {
+    static const uint8_t text[3] = {1, 2, 3};
+    uint64_t *others = words + 8;
+    REFUSES(CAUGHT, nm_prefix_hashes(10, text, 3, words, 4, others, 4));
+    REFUSES(NM_BAD_ARGUMENT, nm_prefix_hashes(10, text, 3, words, 3, others, 4));
+    REFUSES(NM_BAD_ARGUMENT, nm_prefix_hashes(10, text, 3, words, 4, others, 5));
+    REFUSES(NM_BAD_ARGUMENT, nm_substring_hash(words, 4, words, 4, 2, 1, others));
+    REFUSES(NM_BAD_ARGUMENT, nm_substring_hash(words, 4, words, 4, 1, 4, others));
+}
+
 void read_only_rows(void) {
     nm_montgomery_t ring, changed;
     struct sigaction handler = {.sa_handler = on_write}, old;
@@ -223,6 +233,7 @@ void read_only_rows(void) {
     erasure_refusals(&ring, &changed);
     user_refusals();
     polynomial_refusals();
+    prefix_refusals();
     sigaction(SIGSEGV, &old, NULL);
     munmap(words, size);
 }

@@ -1,8 +1,8 @@
-mod Concatenations
+pub mod Concatenations
 mod Counting
 mod FalseHits
 mod Lengths
-mod Parts
+pub mod Parts
 mod Patterns
 mod Primality
-mod Written
+pub mod Written

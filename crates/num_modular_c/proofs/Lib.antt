@@ -1,4 +1,5 @@
 pub mod Division
+pub mod HashLists
 pub mod InPlace
 pub mod Moved
 pub mod PlannedProducts

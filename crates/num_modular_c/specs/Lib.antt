@@ -4,4 +4,5 @@ pub mod Transforms
 pub mod Commands
 pub mod Systems
 pub mod Plans
+pub mod Prefixes
 pub mod Erasure

@@ -14,6 +14,7 @@ mod plan_value;
 mod planned;
 mod plans;
 mod polynomials;
+mod prefixes;
 mod runs;
 mod solinas;
 mod symbols;
