@@ -12,6 +12,8 @@ pub mod plain;
 pub mod plan_value;
 pub mod planned;
 pub mod plans;
+pub mod polynomials;
+pub mod prefixes;
 pub mod runs;
 pub mod solinas;
 pub mod symbols;

@@ -449,6 +449,108 @@ pub unsafe extern "C" fn nm_plan_fits(
 }
 
 #[no_mangle]
+pub unsafe extern "C" fn nm_polynomial_room(
+    n: usize,
+    k: usize,
+    words: &mut usize,
+    factors: &mut usize,
+) -> u32 {
+    c::polynomials::nm_polynomial_room(n, k, words, factors)
+}
+
+#[no_mangle]
+pub unsafe extern "C" fn nm_polynomial_multiply(
+    m: u64,
+    xs: *const u64,
+    xs_length: usize,
+    ys: *const u64,
+    ys_length: usize,
+    out: *mut u64,
+    out_length: usize,
+    words: *mut u64,
+    words_length: usize,
+    factors: *mut c::plans::NmFactor,
+    factors_length: usize,
+) -> u32 {
+    c::polynomials::nm_polynomial_multiply(m, list(xs, xs_length), list(ys, ys_length), list_mut(out, out_length), list_mut(words, words_length), list_mut(factors, factors_length))
+}
+
+#[no_mangle]
+pub unsafe extern "C" fn nm_polynomial_square(
+    m: u64,
+    xs: *const u64,
+    xs_length: usize,
+    out: *mut u64,
+    out_length: usize,
+    words: *mut u64,
+    words_length: usize,
+    factors: *mut c::plans::NmFactor,
+    factors_length: usize,
+) -> u32 {
+    c::polynomials::nm_polynomial_square(m, list(xs, xs_length), list_mut(out, out_length), list_mut(words, words_length), list_mut(factors, factors_length))
+}
+
+#[no_mangle]
+pub unsafe extern "C" fn nm_polynomial_multiply_cyclic(
+    m: u64,
+    xs: *const u64,
+    xs_length: usize,
+    ys: *const u64,
+    ys_length: usize,
+    out: *mut u64,
+    out_length: usize,
+    words: *mut u64,
+    words_length: usize,
+    factors: *mut c::plans::NmFactor,
+    factors_length: usize,
+) -> u32 {
+    c::polynomials::nm_polynomial_multiply_cyclic(m, list(xs, xs_length), list(ys, ys_length), list_mut(out, out_length), list_mut(words, words_length), list_mut(factors, factors_length))
+}
+
+#[no_mangle]
+pub unsafe extern "C" fn nm_polynomial_multiply_negacyclic(
+    m: u64,
+    xs: *const u64,
+    xs_length: usize,
+    ys: *const u64,
+    ys_length: usize,
+    out: *mut u64,
+    out_length: usize,
+    words: *mut u64,
+    words_length: usize,
+    factors: *mut c::plans::NmFactor,
+    factors_length: usize,
+) -> u32 {
+    c::polynomials::nm_polynomial_multiply_negacyclic(m, list(xs, xs_length), list(ys, ys_length), list_mut(out, out_length), list_mut(words, words_length), list_mut(factors, factors_length))
+}
+
+#[no_mangle]
+pub unsafe extern "C" fn nm_prefix_hashes(
+    x: u64,
+    text: *const u8,
+    text_length: usize,
+    hashes: *mut u64,
+    hashes_length: usize,
+    powers: *mut u64,
+    powers_length: usize,
+) -> u32 {
+    c::prefixes::nm_prefix_hashes(x, list(text, text_length), list_mut(hashes, hashes_length), list_mut(powers, powers_length))
+}
+
+#[no_mangle]
+pub unsafe extern "C" fn nm_substring_hash(
+    hashes: *const u64,
+    hashes_length: usize,
+    powers: *const u64,
+    powers_length: usize,
+    from: usize,
+    to: usize,
+    hash: &mut u64,
+) -> u32 {
+    c::prefixes::nm_substring_hash(list(hashes, hashes_length), list(powers, powers_length), from, to, hash)
+}
+
+#[no_mangle]
 pub unsafe extern "C" fn nm_solinas_root_fits(root: u64, n: usize) -> u32 {
     c::solinas::nm_solinas_root_fits(root, n)
 }

@@ -3,7 +3,8 @@
 use super::assert_at;
 use super::long_products::digits_from;
 use crate::applications::long_product::polynomials::{
-    multiply, multiply_cyclic, multiply_negacyclic, multiply_plain, room, square,
+    multiply, multiply_cyclic, multiply_cyclic_once, multiply_negacyclic, multiply_negacyclic_once,
+    multiply_once, multiply_plain, room, square,
 };
 use crate::applications::long_product::{Plans, fill_plans};
 use crate::plans::{Factor, PlanEntry};
@@ -82,6 +83,23 @@ fn have_products<F: PlanEntry<u64>>(a: &mut [F], b: &mut [F], c: &mut [F]) -> bo
     }
 }
 
+// The products with plans for one product, which short lists don't need.
+fn has_products_once(kind: Kind, row: &Row) -> bool {
+    let &(m, xs, ys, known) = row;
+    let mut room = [7; 8];
+    if known.len() > 8 {
+        return false;
+    }
+    let out = &mut room[..known.len()];
+    let none: &mut [Factor<u64>] = &mut [];
+    let done = match kind {
+        Kind::Plain => multiply_once(m, xs, ys, out, &mut [], none),
+        Kind::Cyclic => multiply_cyclic_once(m, xs, ys, out, &mut [], none),
+        Kind::Negacyclic => multiply_negacyclic_once(m, xs, ys, out, &mut [], none),
+    };
+    done && *out == *known
+}
+
 fn is_plain_product(row: &Row) -> bool {
     let &(m, xs, ys, known) = row;
     let mut room = [7; 8];
@@ -97,6 +115,20 @@ fn products_by_the_sums() {
     let rt = crate::runtime::HostRuntime;
     for row in PRODUCTS {
         assert_at(&rt, is_plain_product(row), row);
+    }
+}
+
+#[test]
+fn products_once() {
+    let rt = crate::runtime::HostRuntime;
+    for row in PRODUCTS {
+        assert_at(&rt, has_products_once(Kind::Plain, row), row);
+    }
+    for row in CYCLIC {
+        assert_at(&rt, has_products_once(Kind::Cyclic, row), row);
+    }
+    for row in NEGACYCLIC {
+        assert_at(&rt, has_products_once(Kind::Negacyclic, row), row);
     }
 }
 
