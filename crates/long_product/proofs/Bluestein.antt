@@ -23,6 +23,10 @@ choose_none = sum_below-zero (λ i. i)
 pub choose_more : (k : ℕ) → choose_two (k + 1) ≡ choose_two k + k
 choose_more k = let e : k + 1 ≡ suc k = omega arith in ap choose_two e ∙ sum_below-suc k (λ i. i)
 
+-- a remainder modulo the same number, by another name
+pub same_modulus : (a m x v : ℕ) → a ≡ m → v ≡ x % a → v ≡ x % m
+same_modulus a m x v same is = is ∙ ap (λ m. x % m) same
+
 -- one more place is written
 pub written_more : (f : ℕ → ℕ) (out : List ℕ) (k v : ℕ) → k < length out
     → ((i : ℕ) → i < k → get_or out i 0 ≡ f i) → v ≡ f k
@@ -32,14 +36,23 @@ written_more f out k v within before here i l = elim (cases_eq i k) [
   | inr ne ↦ get_or-set_other out k i v 0 ne ∙ before i (omega arith)
 ]
 
+pub below_more : (m : ℕ) (out : List ℕ) (k v : ℕ) → k < length out
+    → ((i : ℕ) → i < k → get_or out i 0 < m) → v < m → (i : ℕ) → i < k + 1 → get_or (set out k v) i 0 < m
+below_more m out k v within before here i l = elim (cases_eq i k) [
+  | inl e ↦ subst (λ w. w < m) (sym (ap (λ j. get_or (set out k v) j 0) e ∙ get_or-set_same out k v 0 within)) here
+  | inr ne ↦ subst (λ w. w < m) (sym (get_or-set_other out k i v 0 ne)) (before i (omega arith))
+]
+
 -- the powers of g, and of g to binomial coefficients, one after the other
 pub step_none : (m g : ℕ) → 1 % m ≡ g ^ 0 % m
 step_none m g = ap (λ v. v % m) (sym (pow-zero g))
 
-pub step_more : (m g k step v : ℕ) → step ≡ g ^ k % m → v ≡ (step * g) % m → v ≡ g ^ (k + 1) % m
+pub step_more : (m g k step v : ℕ) → step ≡ g ^ k % m → v ≡ (g * step) % m → v ≡ g ^ (k + 1) % m
 step_more m g k step v is_step is_v =
     let e : k + 1 ≡ suc k = omega arith in
-    is_v ∙ ap (λ s. (s * g) % m) is_step ∙ (mod_mul (residue_of (g ^ k)) (mod_refl g)).same
+    let swapped : g * step ≡ step * g = omega arith in
+    is_v ∙ ap (λ v. v % m) swapped ∙ ap (λ s. (s * g) % m) is_step
+    ∙ (mod_mul (residue_of (g ^ k)) (mod_refl g)).same
     ∙ ap (λ v. v % m) (sym (ap (λ i. g ^ i) e ∙ pow-suc g k))
 
 pub power_none : (m first g : ℕ) → first % m ≡ (first * g ^ choose_two 0) % m

@@ -1,6 +1,6 @@
 //! Transforms of any length modulo any m of up to 64 bits, by Bluestein's method.
 
-ghost use Rattle.std.specs.Prelude.{◌≡◌, ℕ, ◌+◌, ◌-◌, ◌*◌, ◌%◌, ◌^◌, ◌<◌, ◌≤◌, ◌↔◌, IsTrue, length, slice_index};
+ghost use Rattle.std.specs.Prelude.{◌≡◌, ℕ, ◌+◌, ◌-◌, ◌*◌, ◌%◌, ◌^◌, ◌<◌, ◌≤◌, ◌↔◌, IsTrue, All, length, slice_index};
 ghost use Rattle.num_modular.specs.Inverses.{IsInverse, HasInverse};
 ghost use Rattle.num_modular.specs.Sums.{sum_below};
 ghost use Rattle.num_modular.specs.Transforms.{transform};
@@ -9,10 +9,10 @@ ghost use Rattle.long_product.specs.AnyLength.{HasTransformRoom, FitsTransform};
 
 use crate::plans::Plans;
 use crate::polynomials;
-use num_modular::ModularUnaryOps;
+use crate::reciprocal::{reciprocal_of, remainder};
 use num_modular::laws::{inverse_laws, inverse_product_laws};
 use num_modular::plans::PlanEntry;
-use num_modular::word::w64::nrem;
+use num_modular::{ModularUnaryOps, PreMulInv2by1, Reducer};
 
 /// The least number of entries for which the transform is computed by a product of polynomials; for fewer it is
 /// computed by the sums.
@@ -56,52 +56,54 @@ fn fits(m: u64, n: usize, places: usize, words: usize, table: usize) -> bool
     words >= 6 * n && polynomials::has_room(n, 2 * n - 1, words - 6 * n, table)
 }
 
-// The residue of x·y.
-fn residue_of_product(m: u64, x: u64, y: u64) -> u64
-    requires { 1 ≤ m }
-    ensures { result ≡ (x * y) % m }
+// The residue of x·y. Condition: y is a residue.
+fn residue_of_product(by: &PreMulInv2by1<u64>, x: u64, y: u64) -> u64
+    requires { y < ⟦<PreMulInv2by1<u64> as Reducer<u64>>⟧.modulus by.now }
+    ensures value { result ≡ (x * y) % ⟦<PreMulInv2by1<u64> as Reducer<u64>>⟧.modulus by.now }
+    ensures below { result < ⟦<PreMulInv2by1<u64> as Reducer<u64>>⟧.modulus by.now }
 {
-    nrem(x as u128 * y as u128, m)
+    remainder(by, x as u128 * y as u128)
 }
 
 // Writes first·g^C(k, 2) modulo m, C(k, 2) being the binomial coefficient, to each place k.
-fn write_powers(m: u64, first: u64, g: u64, out: &mut [u64])
-    requires { 1 ≤ m }
-    ensures { (k : ℕ) → k < length out.old → slice_index out.new k ≡ (first * g ^ choose_two k) % m }
+fn write_powers(by: &PreMulInv2by1<u64>, first: u64, g: u64, out: &mut [u64])
+    ensures powers { (k : ℕ) → k < length out.old →
+        slice_index out.new k ≡ (first * g ^ choose_two k) % ⟦<PreMulInv2by1<u64> as Reducer<u64>>⟧.modulus by.now }
+    ensures below { All (λ v. v < ⟦<PreMulInv2by1<u64> as Reducer<u64>>⟧.modulus by.now) out.new }
 {
-    let mut power = nrem(first as u128, m);
-    let mut step = nrem(1, m);
+    let mut power = remainder(by, first as u128);
+    let mut step = remainder(by, 1);
     'powers: for k in 0..out.len() {
         out[k] = power;
-        power = residue_of_product(m, power, step);
-        step = residue_of_product(m, step, g);
+        power = residue_of_product(by, power, step);
+        step = residue_of_product(by, g, step);
     }
 }
 
-// Writes the products of the entries, modulo m.
-fn write_products(m: u64, xs: &[u64], ys: &[u64], out: &mut [u64])
-    requires modulus { 1 ≤ m }
+// Writes the products of the entries, modulo m. Condition: the entries of ys are residues.
+fn write_products(by: &PreMulInv2by1<u64>, xs: &[u64], ys: &[u64], out: &mut [u64])
+    requires below { All (λ y. y < ⟦<PreMulInv2by1<u64> as Reducer<u64>>⟧.modulus by.now) ys.now }
     requires left { length out.old ≤ length xs.now }
     requires right { length out.old ≤ length ys.now }
     ensures { (i : ℕ) → i < length out.old →
-        slice_index out.new i ≡ (slice_index xs.now i * slice_index ys.now i) % m }
+        slice_index out.new i ≡ (slice_index xs.now i * slice_index ys.now i) % ⟦<PreMulInv2by1<u64> as Reducer<u64>>⟧.modulus by.now }
 {
     'entries: for i in 0..out.len() {
-        out[i] = residue_of_product(m, xs[i], ys[i]);
+        out[i] = residue_of_product(by, xs[i], ys[i]);
     }
 }
 
 // part times the sum of x_i·w^i, modulo m, by Horner's rule.
-fn scaled_value(m: u64, part: u64, w: u64, xs: &[u64]) -> u64
-    requires { 1 ≤ m }
-    ensures { result ≡ (part * sum_below (length xs.now) (λ i. slice_index xs.now i * w ^ i)) % m }
+fn scaled_value(by: &PreMulInv2by1<u64>, part: u64, w: u64, xs: &[u64]) -> u64
+    ensures { result ≡
+        (part * sum_below (length xs.now) (λ i. slice_index xs.now i * w ^ i)) % ⟦<PreMulInv2by1<u64> as Reducer<u64>>⟧.modulus by.now }
 {
     let n = xs.len();
     let mut sum = 0;
     'terms: for i in 0..n {
-        sum = nrem(sum as u128 * w as u128 + xs[n - 1 - i] as u128, m);
+        sum = remainder(by, sum as u128 * w as u128 + xs[n - 1 - i] as u128);
     }
-    residue_of_product(m, part, sum)
+    residue_of_product(by, part, sum)
 }
 
 // Writes part times the entries of the transform by g, by the sums.
@@ -110,10 +112,11 @@ fn fill_plain(m: u64, part: u64, g: u64, xs: &[u64], out: &mut [u64])
     ensures { (j : ℕ) → j < length out.old →
         slice_index out.new j ≡ scaled_transform m part g (length xs.now) (slice_index xs.now) j }
 {
-    let mut power = nrem(1, m);
+    let by = reciprocal_of(m);
+    let mut power = remainder(&by, 1);
     'entries: for j in 0..out.len() {
-        out[j] = scaled_value(m, part, power, xs);
-        power = residue_of_product(m, power, g);
+        out[j] = scaled_value(&by, part, power, xs);
+        power = residue_of_product(&by, g, power);
     }
 }
 
@@ -135,18 +138,19 @@ fn fill_convolved<F: PlanEntry<u64>>(
     ensures { (j : ℕ) → j < length out.old →
         slice_index out.new j ≡ scaled_transform m part g (length xs.now) (slice_index xs.now) j }
 {
+    let by = reciprocal_of(m);
     let n = xs.len();
     let (own, scratch) = words.split_at_mut(6 * n);
     let (weights, own) = own.split_at_mut(n);
     let (powers, own) = own.split_at_mut(2 * n - 1);
     let (sums, _spare) = own.split_at_mut(3 * n - 2);
-    write_powers(m, 1, h, weights);
-    write_powers(m, part, g, powers);
-    write_products(m, xs, weights, out);
+    write_powers(&by, 1, h, weights);
+    write_powers(&by, part, g, powers);
+    write_products(&by, xs, weights, out);
     out.reverse();
     let _done = polynomials::multiply(m, out, powers, sums, scratch, plans);
     let (_before, sums) = sums.split_at(n - 1);
-    write_products(m, sums, weights, out);
+    write_products(&by, sums, weights, out);
 }
 
 // The same, by the sums or by a product of polynomials.
@@ -298,14 +302,15 @@ pub fn is_root_of_order(m: u64, g: u64, n: usize) -> bool
         return false;
     }
     inverse_product_laws();
-    let mut power = nrem(g as u128, m);
-    let mut differences = nrem(1, m);
+    let by = reciprocal_of(m);
+    let mut power = remainder(&by, g as u128);
+    let one = remainder(&by, 1);
+    let mut differences = one;
     'exponents: for _done in 1..n {
-        let difference = nrem(power as u128 + (m - 1) as u128, m);
-        differences = residue_of_product(m, differences, difference);
-        power = residue_of_product(m, power, g);
+        let difference = remainder(&by, power as u128 + (m - 1) as u128);
+        differences = residue_of_product(&by, differences, difference);
+        power = residue_of_product(&by, g, power);
     }
-    let one = nrem(1, m);
     power == one && differences.invm(&m).is_some()
 }
 

@@ -1,7 +1,7 @@
 use Rattle.std.proofs.Common.{◌≡◌, ◌+◌, ◌-◌, ◌*◌, ◌%◌, length, get_or, arith, ◌∙◌, ap}
 use Rattle.std.proofs.lemmas.List.{get_or-drop}
 use Rattle.long_product.specs.Polynomials.{product_entry}
-use Rattle.long_product.proofs.Bluestein.{entry_convolved, same_room}
+use Rattle.long_product.proofs.Bluestein.{same_modulus, entry_convolved, same_room}
 use Rattle.long_product.proofs.any_length.fill_convolved.Goals as goal
 
 pub returns : goal.returns
@@ -10,6 +10,7 @@ returns g c = λ j l.
     let long = c.requires.long in
     let equal = c.requires.fits.equal in
     let m = c.args.m in
+    let same = c.reciprocal_of-by.ensures in
     let ws = c.write_powers.new.out in
     let bs = c.write_powers-2.new.out in
     let us = c.write_products.new.out in
@@ -30,13 +31,13 @@ returns g c = λ j l.
     ) in
     let s = ap (λ us. product_entry m us bs (n - 1 + j)) c.reverse.ensures.after in
     let t = c.multiply-done.ensures.product done (n - 1 + j) (omega arith) in
-    let k = c.write_products-2.ensures j (omega arith) in
+    let k = same_modulus _ m _ _ same (c.write_products-2.ensures j (omega arith)) in
     entry_convolved m c.args.part c.args.g c.args.h n j (get_or sums (n - 1 + j) 0)
     (get_or c.write_products-2.new.out j 0)
     c.args.xs.now ws us bs c.requires.inverse lu (omega arith)
-    (λ k l. c.write_powers.ensures k (omega arith))
-    (λ k l. c.write_powers-2.ensures k (omega arith))
-    (λ i l. c.write_products.ensures i (omega arith))
+    (λ k l. same_modulus _ m _ _ same (c.write_powers.ensures.powers k (omega arith)))
+    (λ k l. same_modulus _ m _ _ same (c.write_powers-2.ensures.powers k (omega arith)))
+    (λ i l. same_modulus _ m _ _ same (c.write_products.ensures i (omega arith)))
     (t ∙ s)
     (k ∙ ap (λ v. (v * get_or ws j 0) % m)
     (ap (λ rest. get_or rest j 0) c.split_at.ensures.back ∙ get_or-drop (n - 1) sums j 0))

@@ -1,18 +1,30 @@
-use Rattle.std.proofs.Common.{ℕ, length, get_or, arith}
+use Rattle.std.proofs.Common.{ℕ, ◌<◌, length, get_or, subst, ◌∙◌, arith}
 use Rattle.long_product.specs.AnyLength.{scaled_transform}
-use Rattle.long_product.proofs.Bluestein.{written_more, entry_summed, step_more}
+use Rattle.long_product.proofs.Bluestein.{same_modulus, written_more, entry_summed, step_none, step_more}
 use Rattle.long_product.proofs.any_length.fill_plain.Goals as goal
+
+pub entries-init : goal.entries-init
+entries-init c =
+    let same = c.reciprocal_of-by.ensures in
+    record {
+      written = λ i l. absurd (omega arith);
+      power = same_modulus _ c.args.m _ _ same c.remainder-power.ensures.value ∙ step_none c.args.m c.args.g;
+      residue = subst (λ m. c.remainder-power.result < m) same c.remainder-power.ensures.below;
+    }
 
 pub entries-preserved : goal.entries-preserved
 entries-preserved c =
     let before = c.entries.invariant in
+    let m = c.args.m in
     let n = length c.args.xs.now in
     let x = λ (k : ℕ). get_or c.args.xs.now k 0 in
+    let same = c.reciprocal_of-by.ensures in
     record {
-      written = written_more (λ i. scaled_transform c.args.m c.args.part c.args.g n x i) c.entries.out c.entries.j
+      written = written_more (λ i. scaled_transform m c.args.part c.args.g n x i) c.entries.out c.entries.j
           c.scaled_value.result (omega arith) before.written
-          (entry_summed c.args.m c.args.part c.args.g n c.entries.j c.entries.power c.scaled_value.result x before.power
-          c.scaled_value.ensures);
-      power = step_more c.args.m c.args.g c.entries.j c.entries.power c.residue_of_product-power.result before.power
-          c.residue_of_product-power.ensures;
+          (entry_summed m c.args.part c.args.g n c.entries.j c.entries.power c.scaled_value.result x before.power
+          (same_modulus _ m _ _ same c.scaled_value.ensures));
+      power = step_more m c.args.g c.entries.j c.entries.power c.residue_of_product-power.result before.power
+          (same_modulus _ m _ _ same c.residue_of_product-power.ensures.value);
+      residue = subst (λ m. c.residue_of_product-power.result < m) same c.residue_of_product-power.ensures.below;
     }

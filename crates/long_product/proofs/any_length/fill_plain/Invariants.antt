@@ -8,4 +8,5 @@ invariant-entries l = record {
   written : (i : ℕ) → i < l.j
       → get_or l.out i 0 ≡ scaled_transform l.m l.part l.g (length l.xs) (λ k. get_or l.xs k 0) i;
   power : l.power ≡ l.g ^ l.j % l.m;
+  residue : l.power < l.m;
 }

@@ -1,26 +1,35 @@
 use Rattle.std.proofs.Common.{◌≡◌, ℕ, ◌+◌, ◌-◌, ◌%◌, ◌^◌, ◌<◌, ◌≤◌, ◌↔◌, IsTrue, ◌∙◌, sym, subst, arith}
 use Rattle.num_modular.specs.Inverses.{HasInverse}
-use Rattle.long_product.proofs.Bluestein.{step_more}
+use Rattle.long_product.proofs.Bluestein.{same_modulus, step_more}
 use Rattle.long_product.proofs.RootsOfOrder.{first_power, units_none, units_more, root_found, root_unit}
 use Rattle.long_product.proofs.RootsOfOrder.{inversion_tells}
 use Rattle.long_product.proofs.any_length.is_root_of_order.Goals as goal
 
 pub exponents-init : goal.exponents-init
-exponents-init c = record {
-  power = c.nrem-power.ensures ∙ first_power c.args.m c.args.g;
-  units = units_none c.args.m c.args.g c.nrem-differences.result (omega arith) c.nrem-differences.ensures;
-}
+exponents-init c =
+    let m = c.args.m in
+    let same = c.reciprocal_of-by.ensures in
+    record {
+      power = same_modulus _ m _ _ same c.remainder-power.ensures.value ∙ first_power m c.args.g;
+      residue = subst (λ v. c.remainder-power.result < v) same c.remainder-power.ensures.below;
+      units = units_none m c.args.g c.remainder-one.result (omega arith)
+          (same_modulus _ m _ _ same c.remainder-one.ensures.value);
+    }
 
 pub exponents-preserved : goal.exponents-preserved
 exponents-preserved c =
+    let m = c.args.m in
     let d = c.exponents._done in
     let before = c.exponents.invariant in
+    let same = c.reciprocal_of-by.ensures in
     record {
-      power = step_more c.args.m c.args.g d c.exponents.power c.residue_of_product-power.result before.power
-          c.residue_of_product-power.ensures;
-      units = units_more c.args.m c.args.g d c.exponents.power c.exponents.differences c.nrem-difference.result
+      power = step_more m c.args.g d c.exponents.power c.residue_of_product-power.result before.power
+          (same_modulus _ m _ _ same c.residue_of_product-power.ensures.value);
+      residue = subst (λ v. c.residue_of_product-power.result < v) same c.residue_of_product-power.ensures.below;
+      units = units_more m c.args.g d c.exponents.power c.exponents.differences c.remainder-difference.result
           c.residue_of_product-differences.result (omega arith) c.inverse_product_laws.ensures.both before.power
-          c.nrem-difference.ensures c.residue_of_product-differences.ensures before.units;
+          (same_modulus _ m _ _ same c.remainder-difference.ensures.value)
+          (same_modulus _ m _ _ same c.residue_of_product-differences.ensures.value) before.units;
     }
 
 pub returns-then-power-one : goal.returns-then-power-one
@@ -29,7 +38,7 @@ returns-then-power-one c =
     let g = c.args.g in
     let a = c.exponents.differences in
     let modulus : 1 ≤ m = omega arith in
-    let one = c.if-power-one.true ∙ c.nrem-one.ensures in
+    let one = c.if-power-one.true ∙ same_modulus _ m _ _ c.reciprocal_of-by.ensures c.remainder-one.ensures.value in
     let done : c.exponents._done ≡ c.args.n = omega arith in
     let power = subst (λ n. c.exponents.power ≡ g ^ n % m) done c.exponents.invariant.power in
     let units = subst (λ n. HasInverse m a ↔ ((e : ℕ) → 1 ≤ e → e < n → HasInverse m (g ^ e + (m - 1)))) done
