@@ -6,9 +6,11 @@ ghost use Rattle.num_modular.specs.Sums.{sum_below};
 ghost use Rattle.num_modular.specs.Transforms.{transform};
 ghost use Rattle.long_product.specs.AnyLength.{IsRootOfOrder, choose_two, scaled_transform};
 ghost use Rattle.long_product.specs.AnyLength.{HasTransformRoom, FitsTransform};
+ghost use Rattle.long_product.specs.Polynomials.{product_entry, FitsProduct, HasProductRoom};
 
 use crate::plans::Plans;
 use crate::polynomials;
+use crate::polynomials::entry_at;
 use crate::reciprocal::{reciprocal_of, remainder};
 use num_modular::laws::{inverse_laws, inverse_product_laws};
 use num_modular::plans::PlanEntry;
@@ -120,6 +122,36 @@ fn fill_plain(m: u64, part: u64, g: u64, xs: &[u64], out: &mut [u64])
     }
 }
 
+// Writes the middle coefficients of the product of xs and ys, to which each x contributes, to their places of `out`;
+// what the other places hold isn't specified. Conditions: xs isn't empty, and ys has as many coefficients or more.
+//
+// Source: Hanrot, Quercia and Zimmermann, "The middle product algorithm I".
+fn write_middle<F: PlanEntry<u64>>(
+    by: &PreMulInv2by1<u64>,
+    xs: &[u64],
+    ys: &[u64],
+    out: &mut [u64],
+    words: &mut [u64],
+    plans: &Plans<F>,
+)
+    requires some { 1 ≤ length xs.now }
+    requires enough { length xs.now ≤ length ys.now }
+    requires fits { FitsProduct (⟦<PreMulInv2by1<u64> as Reducer<u64>>⟧.modulus by.now)
+        (length xs.now) (length ys.now) (length out.old) }
+    requires room { let xs = length xs.now in let ys = length ys.now in
+        HasProductRoom xs ys (length words.old) plans.now.factors }
+    ensures { (e : ℕ) → length xs.now ≤ e + 1 → e < length ys.now →
+        slice_index out.new e ≡ product_entry (⟦<PreMulInv2by1<u64> as Reducer<u64>>⟧.modulus by.now) xs.now ys.now e }
+{
+    if xs.len() < polynomials::LEAST_TRANSFORMED {
+        'coefficients: for e in xs.len() - 1..ys.len() {
+            out[e] = entry_at(by, xs, ys, e);
+        }
+        return;
+    }
+    let _done = polynomials::multiply(by.modulus(), xs, ys, out, words, plans);
+}
+
 // The same by a product of polynomials, given an inverse h of g. The terms of entry j have the power of g to
 // i·j = C(i + j, 2) - C(i, 2) - C(j, 2).
 fn fill_convolved<F: PlanEntry<u64>>(
@@ -148,7 +180,7 @@ fn fill_convolved<F: PlanEntry<u64>>(
     write_powers(&by, part, g, powers);
     write_products(&by, xs, weights, out);
     out.reverse();
-    let _done = polynomials::multiply(m, out, powers, sums, scratch, plans);
+    write_middle(&by, out, powers, sums, scratch, plans);
     let (_before, sums) = sums.split_at(n - 1);
     write_products(&by, sums, weights, out);
 }

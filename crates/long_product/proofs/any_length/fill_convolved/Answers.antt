@@ -1,8 +1,27 @@
-use Rattle.std.proofs.Common.{◌≡◌, ◌+◌, ◌-◌, ◌*◌, ◌%◌, length, get_or, arith, ◌∙◌, ap}
+use Rattle.std.proofs.Common.{◌≡◌, ◌+◌, ◌-◌, ◌*◌, ◌%◌, ◌≤◌, length, get_or, arith, ◌∙◌, ap, subst, sym}
 use Rattle.std.proofs.lemmas.List.{get_or-drop}
 use Rattle.long_product.specs.Polynomials.{product_entry}
 use Rattle.long_product.proofs.Bluestein.{same_modulus, entry_convolved, same_room}
 use Rattle.long_product.proofs.any_length.fill_convolved.Goals as goal
+
+pub write_middle-requires : goal.write_middle-requires
+write_middle-requires g c =
+    let n = length c.args.xs.now in
+    let long = c.requires.long in
+    let same = c.reciprocal_of-by.ensures in
+    record {
+      some = omega arith;
+      enough = omega arith;
+      fits = record {
+        modulus = subst (λ m. 1 ≤ m) (sym same) c.requires.fits.modulus;
+        some = λ a b. omega arith;
+        none_left = λ a. absurd (omega arith);
+        none_right = λ a. absurd (omega arith);
+      };
+      room = same_room n (2 * n - 1) (length c.args.words.now - 6 * n) c.args.plans.now.factors _ _ _
+          (omega arith) (omega arith) (omega arith)
+          (c.requires.fits.room long).1;
+    }
 
 pub returns : goal.returns
 returns g c = λ j l.
@@ -14,23 +33,12 @@ returns g c = λ j l.
     let ws = c.write_powers.new.out in
     let bs = c.write_powers-2.new.out in
     let us = c.write_products.new.out in
-    let sums = c.multiply-done.new.out in
+    let sums = c.write_middle.new.out in
     let lw : length c.split_at_mut-weights.result.0.now ≡ n = omega arith in
     let lb : length c.split_at_mut-powers.result.0.now ≡ 2 * n - 1 = omega arith in
     let lu : length us ≡ n = omega arith in
-    let done = c.multiply-done.ensures.room.1 (
-      record {
-        modulus = c.requires.fits.modulus;
-        some = λ a b. omega arith;
-        none_left = λ a. absurd (omega arith);
-        none_right = λ a. absurd (omega arith);
-      },
-      same_room n (2 * n - 1) (length c.args.words.now - 6 * n) c.args.plans.now.factors _ _ _
-          (omega arith) (omega arith) (omega arith)
-          (c.requires.fits.room long).1,
-    ) in
     let s = ap (λ us. product_entry m us bs (n - 1 + j)) c.reverse.ensures.after in
-    let t = c.multiply-done.ensures.product done (n - 1 + j) (omega arith) in
+    let t = same_modulus _ m _ _ same (c.write_middle.ensures (n - 1 + j) (omega arith) (omega arith)) in
     let k = same_modulus _ m _ _ same (c.write_products-2.ensures j (omega arith)) in
     entry_convolved m c.args.part c.args.g c.args.h n j (get_or sums (n - 1 + j) 0)
     (get_or c.write_products-2.new.out j 0)
