@@ -45,7 +45,7 @@ fn there_and_back(m: u64, g: u64, xs: &[u64]) -> (Option<Vec<u64>>, Option<Vec<u
 
 #[test]
 fn transforms_are_the_sums() {
-    let lengths = (0..2 * LEAST_CONVOLVED).chain([199, 200, 341, 1000]);
+    let lengths = (0..4 * LEAST_CONVOLVED).chain([199, 200, 341, 1000]);
     for n in lengths {
         for m in [1, 2, 97, 1_000_000_007, (1 << 63) - 25, 1 << 63, u64::MAX] {
             let g = if m % 2 == 0 { 3 } else { 2 };

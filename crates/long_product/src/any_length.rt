@@ -18,7 +18,7 @@ use num_modular::{ModularUnaryOps, PreMulInv2by1, Reducer};
 
 /// The least number of entries for which the transform is computed by a product of polynomials; for fewer it is
 /// computed by the sums.
-pub const LEAST_CONVOLVED: usize = 16;
+pub const LEAST_CONVOLVED: usize = 6;
 
 /// The number of words, and of factors of each of the three tables, for a transform of n entries. Both are 0 where n
 /// is below `LEAST_CONVOLVED`; else the words are 6·n more than `polynomials::room(n, 2n - 1)` returns, and the factors
@@ -31,7 +31,7 @@ pub const LEAST_CONVOLVED: usize = 16;
 ///
 /// let (words, factors) = polynomials::room(1000, 1999);
 /// assert_eq!(any_length::room(1000), (6 * 1000 + words, factors));
-/// assert_eq!(any_length::room(7), (0, 0));
+/// assert_eq!(any_length::room(5), (0, 0));
 /// ```
 pub fn room(n: usize) -> (usize, usize)
     requires { 3 * n ≤ 2 ^ 32 }
