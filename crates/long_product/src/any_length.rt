@@ -6,12 +6,12 @@ ghost use Rattle.num_modular.specs.Sums.{sum_below};
 ghost use Rattle.num_modular.specs.Transforms.{transform};
 ghost use Rattle.long_product.specs.AnyLength.{IsRootOfOrder, choose_two, scaled_transform};
 ghost use Rattle.long_product.specs.AnyLength.{HasTransformRoom, FitsTransform};
-ghost use Rattle.long_product.specs.Polynomials.{product_entry, FitsProduct, HasProductRoom};
+ghost use Rattle.long_product.specs.Polynomials.{product_entry, HasProductRoom};
 
 use crate::plans::Plans;
-use crate::polynomials;
-use crate::polynomials::entry_at;
+use crate::polynomials::{LEAST_TRANSFORMED, are_sums_faster, count_for, entry_at};
 use crate::reciprocal::{reciprocal_of, remainder};
+use crate::{entries_for, polynomials};
 use num_modular::laws::{inverse_laws, inverse_product_laws};
 use num_modular::plans::PlanEntry;
 use num_modular::{ModularUnaryOps, PreMulInv2by1, Reducer};
@@ -122,8 +122,21 @@ fn fill_plain(m: u64, part: u64, g: u64, xs: &[u64], out: &mut [u64])
     }
 }
 
-// Writes the middle coefficients of the product of xs and ys, to which each x contributes, to their places of `out`;
-// what the other places hold isn't specified. Conditions: xs isn't empty, and ys has as many coefficients or more.
+// Writes the middle coefficients of the product of xs and ys, to which each x contributes, to their places of `out`, by
+// the sums. Condition: xs isn't empty.
+fn write_middle_plain(by: &PreMulInv2by1<u64>, xs: &[u64], ys: &[u64], out: &mut [u64])
+    requires some { 1 ≤ length xs.now }
+    requires places { length ys.now ≤ length out.old }
+    ensures { (e : ℕ) → length xs.now ≤ e + 1 → e < length ys.now →
+        slice_index out.new e ≡ product_entry (⟦<PreMulInv2by1<u64> as Reducer<u64>>⟧.modulus by.now) xs.now ys.now e }
+{
+    'coefficients: for e in xs.len() - 1..ys.len() {
+        out[e] = entry_at(by, xs, ys, e);
+    }
+}
+
+// The same, by the sums or by transforms, whichever takes less time; what the other places hold isn't specified.
+// Condition: xs isn't empty, and ys isn't shorter.
 //
 // Source: Hanrot, Quercia and Zimmermann, "The middle product algorithm I".
 fn write_middle<F: PlanEntry<u64>>(
@@ -136,20 +149,23 @@ fn write_middle<F: PlanEntry<u64>>(
 )
     requires some { 1 ≤ length xs.now }
     requires enough { length xs.now ≤ length ys.now }
-    requires fits { FitsProduct (⟦<PreMulInv2by1<u64> as Reducer<u64>>⟧.modulus by.now)
-        (length xs.now) (length ys.now) (length out.old) }
+    requires places { length out.old + 1 ≡ length xs.now + length ys.now }
     requires room { let xs = length xs.now in let ys = length ys.now in
         HasProductRoom xs ys (length words.old) plans.now.factors }
     ensures { (e : ℕ) → length xs.now ≤ e + 1 → e < length ys.now →
         slice_index out.new e ≡ product_entry (⟦<PreMulInv2by1<u64> as Reducer<u64>>⟧.modulus by.now) xs.now ys.now e }
 {
-    if xs.len() < polynomials::LEAST_TRANSFORMED {
-        'coefficients: for e in xs.len() - 1..ys.len() {
-            out[e] = entry_at(by, xs, ys, e);
-        }
+    if xs.len() < LEAST_TRANSFORMED {
+        write_middle_plain(by, xs, ys, out);
         return;
     }
-    let _done = polynomials::multiply(by.modulus(), xs, ys, out, words, plans);
+    let n = entries_for(xs.len() + ys.len(), words.len(), plans.factors());
+    let count = count_for(xs, ys);
+    if are_sums_faster(count, xs.len(), ys.len() - xs.len() + 1, n) {
+        write_middle_plain(by, xs, ys, out);
+        return;
+    }
+    plans.multiply_modulo(count, by.modulus(), 0, xs, ys, out, n, &mut words[..4 * n]);
 }
 
 // The same by a product of polynomials, given an inverse h of g. The terms of entry j have the power of g to

@@ -1,4 +1,4 @@
-use Rattle.std.proofs.Common.{◌≡◌, ◌+◌, ◌-◌, ◌*◌, ◌%◌, ◌≤◌, length, get_or, arith, ◌∙◌, ap, subst, sym}
+use Rattle.std.proofs.Common.{◌≡◌, ◌+◌, ◌-◌, ◌*◌, ◌%◌, length, get_or, arith, ◌∙◌, ap}
 use Rattle.std.proofs.lemmas.List.{get_or-drop}
 use Rattle.long_product.specs.Polynomials.{product_entry}
 use Rattle.long_product.proofs.Bluestein.{same_modulus, entry_convolved, same_room}
@@ -8,16 +8,10 @@ pub write_middle-requires : goal.write_middle-requires
 write_middle-requires g c =
     let n = length c.args.xs.now in
     let long = c.requires.long in
-    let same = c.reciprocal_of-by.ensures in
     record {
       some = omega arith;
       enough = omega arith;
-      fits = record {
-        modulus = subst (λ m. 1 ≤ m) (sym same) c.requires.fits.modulus;
-        some = λ a b. omega arith;
-        none_left = λ a. absurd (omega arith);
-        none_right = λ a. absurd (omega arith);
-      };
+      places = omega arith;
       room = same_room n (2 * n - 1) (length c.args.words.now - 6 * n) c.args.plans.now.factors _ _ _
           (omega arith) (omega arith) (omega arith)
           (c.requires.fits.room long).1;
