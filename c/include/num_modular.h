@@ -467,6 +467,31 @@ NM_CHECK uint32_t nm_polynomial_multiply_negacyclic(uint64_t m, const uint64_t *
                                                     size_t k, uint64_t *out, size_t places, uint64_t *words,
                                                     size_t words_length, nm_factor_t *factors, size_t factors_length);
 
+/* --- Residue number systems of any number of moduli, for numbers by their words of 64 bits, the lowest first. --- */
+
+/* The residues of the number of k words modulo n moduli, which may have common divisors. NM_BAD_ARGUMENT: a modulus is 0, or
+ * places isn't n. */
+NM_CHECK uint32_t nm_residues_encode(const uint64_t *moduli, size_t n, const uint64_t *words, size_t k,
+                                     uint64_t *residues, size_t places);
+
+/* The only number below the product of the n moduli that has the k residues: its words, with 0 above them, and its digits
+ * in the mixed radix of the moduli, of which digit i counts the product of the moduli before modulus i. The scratch list
+ * inverses has unspecified contents afterwards. It takes about 3 * n^2 products for n words. NM_BAD_ARGUMENT: a modulus is
+ * 0; two have a common divisor above 1; a residue isn't below its modulus; k, the number of digits or that of inverses
+ * isn't n; or there are fewer than n words. */
+NM_CHECK uint32_t nm_residues_decode(const uint64_t *moduli, size_t n, const uint64_t *residues, size_t k,
+                                     uint64_t *words, size_t words_length, uint64_t *digits, size_t digits_length,
+                                     uint64_t *inverses, size_t inverses_length);
+
+/* Base extension: the residues modulo o other moduli, which may have common divisors, of the only number below the product
+ * of the n moduli that has the k residues. The scratch lists digits and inverses have unspecified contents afterwards.
+ * NM_BAD_ARGUMENT: a modulus is 0, or one of the others is; two of the n moduli have a common divisor above 1; a residue
+ * isn't below its modulus; k, the number of digits or that of inverses isn't n; or places isn't o. */
+NM_CHECK uint32_t nm_residues_extend(const uint64_t *moduli, size_t n, const uint64_t *residues, size_t k,
+                                     const uint64_t *others, size_t o, uint64_t *extended, size_t places,
+                                     uint64_t *digits, size_t digits_length, uint64_t *inverses,
+                                     size_t inverses_length);
+
 #ifdef __cplusplus
 }
 #endif

@@ -26,6 +26,7 @@ int main(void) {
     user_rows();
     polynomial_rows();
     prefix_rows();
+    residue_system_rows();
     sharing_rows();
     read_only_rows();
     printf("%d passed, %d failed\n", passed, failed);

@@ -211,6 +211,21 @@ static void prefix_refusals(void) {
     REFUSES(NM_BAD_ARGUMENT, nm_substring_hash(words, 4, words, 4, 1, 4, others));
 }
 
+static void residue_system_refusals(void) {
+    static const uint64_t moduli[2] = {3, 9}, zero[2] = {3, 0}, none[2] = {0, 0}, coprime[2] = {3, 5};
+    REFUSES(CAUGHT, nm_residues_encode(moduli, 2, moduli, 2, words, 2));
+    REFUSES(NM_BAD_ARGUMENT, nm_residues_encode(zero, 2, moduli, 2, words, 2));
+    REFUSES(NM_BAD_ARGUMENT, nm_residues_encode(moduli, 2, moduli, 2, words, 3));
+    REFUSES(NM_BAD_ARGUMENT, nm_residues_decode(moduli, 2, none, 2, words, 2, words + 8, 2, words + 16, 2));
+    REFUSES(NM_BAD_ARGUMENT, nm_residues_decode(zero, 2, none, 2, words, 2, words + 8, 2, words + 16, 2));
+    REFUSES(NM_BAD_ARGUMENT, nm_residues_decode(coprime, 2, coprime, 2, words, 2, words + 8, 2, words + 16, 2));
+    REFUSES(NM_BAD_ARGUMENT, nm_residues_decode(coprime, 2, none, 2, words, 1, words + 8, 2, words + 16, 2));
+    REFUSES(NM_BAD_ARGUMENT, nm_residues_decode(coprime, 2, none, 2, words, 2, words + 8, 2, words + 16, 3));
+    REFUSES(NM_BAD_ARGUMENT, nm_residues_extend(moduli, 2, none, 2, coprime, 2, words, 2, words + 8, 2, words + 16, 2));
+    REFUSES(NM_BAD_ARGUMENT, nm_residues_extend(coprime, 2, none, 2, zero, 2, words, 2, words + 8, 2, words + 16, 2));
+    REFUSES(NM_BAD_ARGUMENT, nm_residues_extend(coprime, 2, none, 2, moduli, 2, words, 2, words + 8, 1, words + 16, 2));
+}
+
 void read_only_rows(void) {
     nm_montgomery_t ring, changed;
     struct sigaction handler = {.sa_handler = on_write}, old;
@@ -234,6 +249,7 @@ void read_only_rows(void) {
     user_refusals();
     polynomial_refusals();
     prefix_refusals();
+    residue_system_refusals();
     sigaction(SIGSEGV, &old, NULL);
     munmap(words, size);
 }

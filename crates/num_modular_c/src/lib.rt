@@ -15,6 +15,7 @@ mod planned;
 mod plans;
 mod polynomials;
 mod prefixes;
+mod residues;
 mod runs;
 mod solinas;
 mod symbols;
