@@ -467,6 +467,35 @@ NM_CHECK uint32_t nm_polynomial_multiply_negacyclic(uint64_t m, const uint64_t *
                                                     size_t k, uint64_t *out, size_t places, uint64_t *words,
                                                     size_t words_length, nm_factor_t *factors, size_t factors_length);
 
+/* --- Transforms of any length modulo any m. ---
+ *
+ * m may be any word but 0, the numbers and g may be any words, and the results are below m. From 16 numbers on the transform
+ * is computed by a product of polynomials, in the scratch lists words and factors, else by the sums. The scratch lists have
+ * unspecified contents afterwards. */
+
+/* The lengths of the two scratch lists for n numbers: 0 where n is below 16, else 6 * n words, and from n = 200 on 4 * e
+ * words more and 3 * e / 2 factors, e being the least power of two that is at least 3 * n - 1. NM_BAD_ARGUMENT: 3 * n is
+ * above 2^32. */
+NM_CHECK uint32_t nm_transform_room(size_t n, size_t *words, size_t *factors);
+
+/* Whether g is a root of unity of order n modulo m, for which nm_transform_inverse undoes nm_transform: n is at least 1,
+ * g^n is 1, and g^d - 1 has an inverse for each d from 1 to n - 1. It takes 2 * n products and one inverse. NM_NO_ROOT: it
+ * isn't. NM_BAD_ARGUMENT: m is 0. */
+NM_CHECK uint32_t nm_transform_root_fits(uint64_t m, uint64_t g, size_t n);
+
+/* The transform by g: entry j is the sum of x_i * g^(i * j) modulo m over i from 0 to n - 1. NM_NO_INVERSE: g has no
+ * inverse modulo m. NM_BAD_ARGUMENT: m is 0; places isn't n; or a scratch list is shorter than nm_transform_room writes, or
+ * that refuses. */
+NM_CHECK uint32_t nm_transform(uint64_t m, uint64_t g, const uint64_t *xs, size_t n, uint64_t *out, size_t places,
+                               uint64_t *words, size_t words_length, nm_factor_t *factors, size_t factors_length);
+
+/* The inverse transform by g: entry j is the sum of x_i * g^(-i * j) over i from 0 to n - 1, divided by n, modulo m. Where g
+ * is a root of order n (nm_transform_root_fits tells), it undoes nm_transform. NM_NO_INVERSE: g or n has no inverse modulo
+ * m. NM_BAD_ARGUMENT: as nm_transform. */
+NM_CHECK uint32_t nm_transform_inverse(uint64_t m, uint64_t g, const uint64_t *xs, size_t n, uint64_t *out,
+                                       size_t places, uint64_t *words, size_t words_length, nm_factor_t *factors,
+                                       size_t factors_length);
+
 /* --- Residue number systems of any number of moduli, for numbers by their words of 64 bits, the lowest first. --- */
 
 /* The residues of the number of k words modulo n moduli, which may have common divisors. NM_BAD_ARGUMENT: a modulus is 0, or

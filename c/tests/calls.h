@@ -64,6 +64,7 @@ void user_rows(void);
 void polynomial_rows(void);
 void prefix_rows(void);
 void residue_system_rows(void);
+void any_length_rows(void);
 void sharing_rows(void);
 void read_only_rows(void);
 

@@ -27,6 +27,7 @@ int main(void) {
     polynomial_rows();
     prefix_rows();
     residue_system_rows();
+    any_length_rows();
     sharing_rows();
     read_only_rows();
     printf("%d passed, %d failed\n", passed, failed);

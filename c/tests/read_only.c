@@ -226,6 +226,24 @@ static void residue_system_refusals(void) {
     REFUSES(NM_BAD_ARGUMENT, nm_residues_extend(coprime, 2, none, 2, moduli, 2, words, 2, words + 8, 1, words + 16, 2));
 }
 
+/* modulo 0, of other lengths, without inverses, and without room */
+static void any_length_refusals(void) {
+    static const uint64_t xs[200] = {9};
+    uint64_t *scratch = words + 300;
+    nm_factor_t *factors = (nm_factor_t *)(words + 900);
+    REFUSES(CAUGHT, nm_transform(7, 2, xs, 3, words, 3, NULL, 0, NULL, 0));
+    REFUSES(NM_BAD_ARGUMENT, nm_transform_room((size_t)UINT64_C(1431655766), (size_t *)words, (size_t *)words + 1));
+    REFUSES(NM_BAD_ARGUMENT, nm_transform(0, 2, xs, 3, words, 3, scratch, 2, factors, 3));
+    REFUSES(NM_BAD_ARGUMENT, nm_transform(7, 2, xs, 3, words, 4, scratch, 2, factors, 3));
+    REFUSES(NM_BAD_ARGUMENT, nm_transform(7, 2, xs, 16, words, 16, scratch, 95, factors, 3));
+    REFUSES(NM_BAD_ARGUMENT, nm_transform(7, 2, xs, 200, words, 200, scratch, 600, factors, 3));
+    REFUSES(NM_NO_INVERSE, nm_transform(9, 6, xs, 3, words, 3, scratch, 2, factors, 3));
+    REFUSES(NM_BAD_ARGUMENT, nm_transform_inverse(7, 2, xs, 3, words, 4, scratch, 2, factors, 3));
+    REFUSES(NM_BAD_ARGUMENT, nm_transform_inverse(7, 2, xs, 200, words, 200, scratch, 600, factors, 3));
+    REFUSES(NM_NO_INVERSE, nm_transform_inverse(9, 6, xs, 3, words, 3, scratch, 2, factors, 3));
+    REFUSES(NM_NO_INVERSE, nm_transform_inverse(9, 2, xs, 3, words, 3, scratch, 2, factors, 3));
+}
+
 void read_only_rows(void) {
     nm_montgomery_t ring, changed;
     struct sigaction handler = {.sa_handler = on_write}, old;
@@ -250,6 +268,7 @@ void read_only_rows(void) {
     polynomial_refusals();
     prefix_refusals();
     residue_system_refusals();
+    any_length_refusals();
     sigaction(SIGSEGV, &old, NULL);
     munmap(words, size);
 }

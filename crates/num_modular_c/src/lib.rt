@@ -2,6 +2,7 @@
 //! `c/include/num_modular.h` declares them.
 #![tactic(auto)]
 
+mod any_length;
 mod codes;
 mod commands;
 mod dividers;
