@@ -1,6 +1,7 @@
 //! The library for C: functions over words of 64 bits. Each tests its preconditions and returns a code.
 //! `c/include/num_modular.h` declares them.
 
+pub mod any_length;
 pub mod codes;
 pub mod commands;
 pub mod dividers;
@@ -14,6 +15,7 @@ pub mod planned;
 pub mod plans;
 pub mod polynomials;
 pub mod prefixes;
+pub mod residues;
 pub mod runs;
 pub mod solinas;
 pub mod symbols;

@@ -48,6 +48,52 @@ impl NmPlan {
 }
 
 #[no_mangle]
+pub unsafe extern "C" fn nm_transform_room(
+    n: usize,
+    words: &mut usize,
+    factors: &mut usize,
+) -> u32 {
+    c::any_length::nm_transform_room(n, words, factors)
+}
+
+#[no_mangle]
+pub unsafe extern "C" fn nm_transform_root_fits(m: u64, g: u64, n: usize) -> u32 {
+    c::any_length::nm_transform_root_fits(m, g, n)
+}
+
+#[no_mangle]
+pub unsafe extern "C" fn nm_transform(
+    m: u64,
+    g: u64,
+    xs: *const u64,
+    xs_length: usize,
+    out: *mut u64,
+    out_length: usize,
+    words: *mut u64,
+    words_length: usize,
+    factors: *mut c::plans::NmFactor,
+    factors_length: usize,
+) -> u32 {
+    c::any_length::nm_transform(m, g, list(xs, xs_length), list_mut(out, out_length), list_mut(words, words_length), list_mut(factors, factors_length))
+}
+
+#[no_mangle]
+pub unsafe extern "C" fn nm_transform_inverse(
+    m: u64,
+    g: u64,
+    xs: *const u64,
+    xs_length: usize,
+    out: *mut u64,
+    out_length: usize,
+    words: *mut u64,
+    words_length: usize,
+    factors: *mut c::plans::NmFactor,
+    factors_length: usize,
+) -> u32 {
+    c::any_length::nm_transform_inverse(m, g, list(xs, xs_length), list_mut(out, out_length), list_mut(words, words_length), list_mut(factors, factors_length))
+}
+
+#[no_mangle]
 pub unsafe extern "C" fn nm_divider(d: u64, divider: &mut c::dividers::NmDivider) -> u32 {
     c::dividers::nm_divider(d, divider)
 }
@@ -548,6 +594,52 @@ pub unsafe extern "C" fn nm_substring_hash(
     hash: &mut u64,
 ) -> u32 {
     c::prefixes::nm_substring_hash(list(hashes, hashes_length), list(powers, powers_length), from, to, hash)
+}
+
+#[no_mangle]
+pub unsafe extern "C" fn nm_residues_encode(
+    moduli: *const u64,
+    moduli_length: usize,
+    words: *const u64,
+    words_length: usize,
+    residues: *mut u64,
+    residues_length: usize,
+) -> u32 {
+    c::residues::nm_residues_encode(list(moduli, moduli_length), list(words, words_length), list_mut(residues, residues_length))
+}
+
+#[no_mangle]
+pub unsafe extern "C" fn nm_residues_decode(
+    moduli: *const u64,
+    moduli_length: usize,
+    residues: *const u64,
+    residues_length: usize,
+    words: *mut u64,
+    words_length: usize,
+    digits: *mut u64,
+    digits_length: usize,
+    inverses: *mut u64,
+    inverses_length: usize,
+) -> u32 {
+    c::residues::nm_residues_decode(list(moduli, moduli_length), list(residues, residues_length), list_mut(words, words_length), list_mut(digits, digits_length), list_mut(inverses, inverses_length))
+}
+
+#[no_mangle]
+pub unsafe extern "C" fn nm_residues_extend(
+    moduli: *const u64,
+    moduli_length: usize,
+    residues: *const u64,
+    residues_length: usize,
+    others: *const u64,
+    others_length: usize,
+    extended: *mut u64,
+    extended_length: usize,
+    digits: *mut u64,
+    digits_length: usize,
+    inverses: *mut u64,
+    inverses_length: usize,
+) -> u32 {
+    c::residues::nm_residues_extend(list(moduli, moduli_length), list(residues, residues_length), list(others, others_length), list_mut(extended, extended_length), list_mut(digits, digits_length), list_mut(inverses, inverses_length))
 }
 
 #[no_mangle]

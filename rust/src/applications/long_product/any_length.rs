@@ -1,14 +1,15 @@
 //! Transforms of any length modulo any m of up to 64 bits, by Bluestein's method.
 
 use crate::applications::long_product::plans::Plans;
-use crate::applications::long_product::polynomials;
-use crate::ModularUnaryOps;
+use crate::applications::long_product::polynomials::{LEAST_TRANSFORMED, are_sums_faster, count_for, entry_at};
+use crate::applications::long_product::reciprocal::{reciprocal_of, remainder};
+use crate::applications::long_product::{entries_for, polynomials};
 use crate::plans::PlanEntry;
-use crate::word::w64::nrem;
+use crate::{ModularUnaryOps, PreMulInv2by1, Reducer};
 
 /// The least number of entries for which the transform is computed by a product of polynomials; for fewer it is
 /// computed by the sums.
-pub const LEAST_CONVOLVED: usize = 16;
+pub const LEAST_CONVOLVED: usize = 6;
 
 /// The number of words, and of factors of each of the three tables, for a transform of n entries. Both are 0 where n
 /// is below `LEAST_CONVOLVED`; else the words are 6·n more than `polynomials::room(n, 2n - 1)` returns, and the factors
@@ -25,7 +26,7 @@ pub const LEAST_CONVOLVED: usize = 16;
 ///
 /// let (words, factors) = polynomials::room(1000, 1999);
 /// assert_eq!(any_length::room(1000), (6 * 1000 + words, factors));
-/// assert_eq!(any_length::room(7), (0, 0));
+/// assert_eq!(any_length::room(5), (0, 0));
 /// ```
 #[inline]
 pub fn room(n: usize) -> (usize, usize) {
@@ -48,50 +49,84 @@ fn fits(m: u64, n: usize, places: usize, words: usize, table: usize) -> bool {
     words >= 6 * n && polynomials::has_room(n, 2 * n - 1, words - 6 * n, table)
 }
 
-// The residue of x·y.
+// The residue of x·y. Condition: y is a residue.
 #[inline]
-fn residue_of_product(m: u64, x: u64, y: u64) -> u64 {
-    nrem(x as u128 * y as u128, m)
+fn residue_of_product(by: &PreMulInv2by1<u64>, x: u64, y: u64) -> u64 {
+    remainder(by, x as u128 * y as u128)
 }
 
 // Writes first·g^C(k, 2) modulo m, C(k, 2) being the binomial coefficient, to each place k.
-fn write_powers(m: u64, first: u64, g: u64, out: &mut [u64]) {
-    let mut power = nrem(first as u128, m);
-    let mut step = nrem(1, m);
+fn write_powers(by: &PreMulInv2by1<u64>, first: u64, g: u64, out: &mut [u64]) {
+    let mut power = remainder(by, first as u128);
+    let mut step = remainder(by, 1);
     for entry in out.iter_mut() {
         *entry = power;
-        power = residue_of_product(m, power, step);
-        step = residue_of_product(m, step, g);
+        power = residue_of_product(by, power, step);
+        step = residue_of_product(by, g, step);
     }
 }
 
-// Writes the products of the entries, modulo m.
+// Writes the products of the entries, modulo m. Condition: the entries of ys are residues.
 #[inline]
-fn write_products(m: u64, xs: &[u64], ys: &[u64], out: &mut [u64]) {
+fn write_products(by: &PreMulInv2by1<u64>, xs: &[u64], ys: &[u64], out: &mut [u64]) {
     for i in 0..out.len() {
-        out[i] = residue_of_product(m, xs[i], ys[i]);
+        out[i] = residue_of_product(by, xs[i], ys[i]);
     }
 }
 
 // part times the sum of x_i·w^i, modulo m, by Horner's rule.
 #[inline]
-fn scaled_value(m: u64, part: u64, w: u64, xs: &[u64]) -> u64 {
+fn scaled_value(by: &PreMulInv2by1<u64>, part: u64, w: u64, xs: &[u64]) -> u64 {
     let n = xs.len();
     let mut sum = 0;
     for i in 0..n {
-        sum = nrem(sum as u128 * w as u128 + xs[n - 1 - i] as u128, m);
+        sum = remainder(by, sum as u128 * w as u128 + xs[n - 1 - i] as u128);
     }
-    residue_of_product(m, part, sum)
+    residue_of_product(by, part, sum)
 }
 
 // Writes part times the entries of the transform by g, by the sums.
-#[inline]
 fn fill_plain(m: u64, part: u64, g: u64, xs: &[u64], out: &mut [u64]) {
-    let mut power = nrem(1, m);
+    let by = reciprocal_of(m);
+    let mut power = remainder(&by, 1);
     for entry in out.iter_mut() {
-        *entry = scaled_value(m, part, power, xs);
-        power = residue_of_product(m, power, g);
+        *entry = scaled_value(&by, part, power, xs);
+        power = residue_of_product(&by, g, power);
     }
+}
+
+// Writes the middle coefficients of the product of xs and ys, to which each x contributes, to their places of `out`, by
+// the sums. Condition: xs isn't empty.
+#[inline]
+fn write_middle_plain(by: &PreMulInv2by1<u64>, xs: &[u64], ys: &[u64], out: &mut [u64]) {
+    for e in xs.len() - 1..ys.len() {
+        out[e] = entry_at(by, xs, ys, e);
+    }
+}
+
+// The same, by the sums or by transforms, whichever takes less time; what the other places hold isn't specified.
+// Condition: xs isn't empty, and ys isn't shorter.
+//
+// Source: Hanrot, Quercia and Zimmermann, "The middle product algorithm I".
+fn write_middle<F: PlanEntry<u64>>(
+    by: &PreMulInv2by1<u64>,
+    xs: &[u64],
+    ys: &[u64],
+    out: &mut [u64],
+    words: &mut [u64],
+    plans: &Plans<F>,
+) {
+    if xs.len() < LEAST_TRANSFORMED {
+        write_middle_plain(by, xs, ys, out);
+        return;
+    }
+    let n = entries_for(xs.len() + ys.len(), words.len(), plans.factors());
+    let count = count_for(xs, ys);
+    if are_sums_faster(count, xs.len(), ys.len() - xs.len() + 1, n) {
+        write_middle_plain(by, xs, ys, out);
+        return;
+    }
+    plans.multiply_modulo(count, by.modulus(), 0, xs, ys, out, n, &mut words[..4 * n]);
 }
 
 // The same by a product of polynomials, given an inverse h of g. The terms of entry j have the power of g to
@@ -106,18 +141,19 @@ fn fill_convolved<F: PlanEntry<u64>>(
     words: &mut [u64],
     plans: &Plans<F>,
 ) {
+    let by = reciprocal_of(m);
     let n = xs.len();
     let (own, scratch) = words.split_at_mut(6 * n);
     let (weights, own) = own.split_at_mut(n);
     let (powers, own) = own.split_at_mut(2 * n - 1);
     let (sums, _spare) = own.split_at_mut(3 * n - 2);
-    write_powers(m, 1, h, weights);
-    write_powers(m, part, g, powers);
-    write_products(m, xs, weights, out);
+    write_powers(&by, 1, h, weights);
+    write_powers(&by, part, g, powers);
+    write_products(&by, xs, weights, out);
     out.reverse();
-    let _done = polynomials::multiply(m, out, powers, sums, scratch, plans);
+    write_middle(&by, out, powers, sums, scratch, plans);
     let (_before, sums) = sums.split_at(n - 1);
-    write_products(m, sums, weights, out);
+    write_products(&by, sums, weights, out);
 }
 
 // The same, by the sums or by a product of polynomials.
@@ -245,13 +281,14 @@ pub fn is_root_of_order(m: u64, g: u64, n: usize) -> bool {
     if m == 0 || n == 0 {
         return false;
     }
-    let mut power = nrem(g as u128, m);
-    let mut differences = nrem(1, m);
+    let by = reciprocal_of(m);
+    let mut power = remainder(&by, g as u128);
+    let one = remainder(&by, 1);
+    let mut differences = one;
     for _done in 1..n {
-        let difference = nrem(power as u128 + (m - 1) as u128, m);
-        differences = residue_of_product(m, differences, difference);
-        power = residue_of_product(m, power, g);
+        let difference = remainder(&by, power as u128 + (m - 1) as u128);
+        differences = residue_of_product(&by, differences, difference);
+        power = residue_of_product(&by, g, power);
     }
-    let one = nrem(1, m);
     power == one && differences.invm(&m).is_some()
 }
