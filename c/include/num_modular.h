@@ -469,11 +469,11 @@ NM_CHECK uint32_t nm_polynomial_multiply_negacyclic(uint64_t m, const uint64_t *
 
 /* --- Transforms of any length modulo any m. ---
  *
- * m may be any word but 0, the numbers and g may be any words, and the results are below m. From 16 numbers on the transform
+ * m may be any word but 0, the numbers and g may be any words, and the results are below m. From 6 numbers on the transform
  * is computed by a product of polynomials, in the scratch lists words and factors, else by the sums. The scratch lists have
  * unspecified contents afterwards. */
 
-/* The lengths of the two scratch lists for n numbers: 0 where n is below 16, else 6 * n words, and from n = 200 on 4 * e
+/* The lengths of the two scratch lists for n numbers: 0 where n is below 6, else 6 * n words, and from n = 200 on 4 * e
  * words more and 3 * e / 2 factors, e being the least power of two that is at least 3 * n - 1. NM_BAD_ARGUMENT: 3 * n is
  * above 2^32. */
 NM_CHECK uint32_t nm_transform_room(size_t n, size_t *words, size_t *factors);

@@ -39,8 +39,8 @@ static void known_rows(void) {
     } while (0)
 
 static void room_rows(void) {
-    ROOM(NM_OK, 0, 0, nm_transform_room(15, &words, &factors));
-    ROOM(NM_OK, 96, 0, nm_transform_room(16, &words, &factors));
+    ROOM(NM_OK, 0, 0, nm_transform_room(5, &words, &factors));
+    ROOM(NM_OK, 36, 0, nm_transform_room(6, &words, &factors));
     ROOM(NM_OK, 1194, 0, nm_transform_room(199, &words, &factors));
     ROOM(NM_OK, 1200 + 4096, 1536, nm_transform_room(200, &words, &factors));
     ROOM(NM_OK, 6000 + 16384, 6144, nm_transform_room(1000, &words, &factors));
