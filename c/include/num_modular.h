@@ -3,7 +3,7 @@
  * Each function tests its preconditions and returns a code. With NM_OK it has written its result. With any other code
  * it leaves everything that the caller passed unchanged, but for the scratch list of the erasure codes; only
  * nm_montgomery_run and nm_erasure_correct also write with NM_NO_INVERSE. It is proved that the old and the new contents
- * are equal, but for the table of nm_plan_make; that would also hold for a body that writes and restores. That such a
+ * are equal, but for the table of nm_plan_make. A body that writes and then restores would meet that, too. That such a
  * call doesn't write at all is tested, with outputs in a read-only page.
  *
  * The caller must ensure these preconditions, which the library can't test:
@@ -420,14 +420,14 @@ NM_CHECK uint32_t nm_product(const uint64_t *xs, size_t n, const uint64_t *ys, s
 
 /* --- Hashes of the parts of a text, each by one product. --- */
 
-/* Entry k of hashes becomes nm_hash of the first k of the n bytes at the base x, and entry k of powers x to the power k
- * modulo 2^61 - 1. NM_BAD_ARGUMENT: k or l, the lengths of the lists, isn't n + 1. */
+/* Entry i of hashes becomes nm_hash of the first i of the n bytes at the base x, and entry i of powers x to the power i
+ * modulo 2^61 - 1. NM_BAD_ARGUMENT: the length of a list, k or l, isn't n + 1. */
 NM_CHECK uint32_t nm_prefix_hashes(uint64_t x, const uint8_t *text, size_t n, uint64_t *hashes, size_t k,
                                    uint64_t *powers, size_t l);
 
-/* nm_hash of the bytes from number from up to, and without, number to of a text, by what nm_prefix_hashes wrote of it. Two
- * parts with different hashes are different; of equal hashes see nm_find. NM_BAD_ARGUMENT: from is above to, or to isn't
- * below k and l. Of lists that nm_prefix_hashes didn't write, the result has no meaning. */
+/* nm_hash of a part of a text, of its bytes from to to - 1, counted from 0, by the two lists that nm_prefix_hashes wrote of
+ * the text. Two parts with different hashes are different; of equal hashes see nm_find. NM_BAD_ARGUMENT: from is above to, or
+ * to isn't below the lengths k and l. Of lists that nm_prefix_hashes didn't write, the result has no meaning. */
 NM_CHECK uint32_t nm_substring_hash(const uint64_t *hashes, size_t k, const uint64_t *powers, size_t l, size_t from,
                                     size_t to, uint64_t *hash);
 
