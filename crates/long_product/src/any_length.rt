@@ -130,8 +130,10 @@ fn write_middle_plain(by: &PreMulInv2by1<u64>, xs: &[u64], ys: &[u64], out: &mut
     ensures { (e : ℕ) → length xs.now ≤ e + 1 → e < length ys.now →
         slice_index out.new e ≡ product_entry (⟦<PreMulInv2by1<u64> as Reducer<u64>>⟧.modulus by.now) xs.now ys.now e }
 {
-    'coefficients: for e in xs.len() - 1..ys.len() {
+    let mut e = xs.len() - 1;
+    'coefficients: while e < ys.len() {
         out[e] = entry_at(by, xs, ys, e);
+        e += 1;
     }
 }
 
