@@ -110,8 +110,8 @@ impl<'a> System<'a> {
         if reducers.len() != self.moduli.len() {
             return false;
         }
-        'moduli: for place in 0..reducers.len() {
-            if reducers[place].modulus() != self.moduli[place] {
+        'moduli: for (place, reducer) in reducers.iter().enumerate() {
+            if reducer.modulus() != self.moduli[place] {
                 return false;
             }
         }
