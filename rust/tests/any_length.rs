@@ -40,7 +40,7 @@ fn there_and_back(m: u64, g: u64, xs: &[u64]) -> (Option<Vec<u64>>, Option<Vec<u
     let (mut there, mut back, mut scratch) = (vec![7; n], vec![7; n], vec![7; length]);
     let done = ntt(m, g, xs, &mut there, &mut scratch, &plans);
     let undone = done && intt(m, g, &there, &mut back, &mut scratch, &plans);
-    (done.then(|| there), undone.then(|| back))
+    (done.then_some(there), undone.then_some(back))
 }
 
 #[test]
