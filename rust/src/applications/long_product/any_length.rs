@@ -99,8 +99,10 @@ fn fill_plain(m: u64, part: u64, g: u64, xs: &[u64], out: &mut [u64]) {
 // the sums. Condition: xs isn't empty.
 #[inline]
 fn write_middle_plain(by: &PreMulInv2by1<u64>, xs: &[u64], ys: &[u64], out: &mut [u64]) {
-    for e in xs.len() - 1..ys.len() {
+    let mut e = xs.len() - 1;
+    while e < ys.len() {
         out[e] = entry_at(by, xs, ys, e);
+        e += 1;
     }
 }
 

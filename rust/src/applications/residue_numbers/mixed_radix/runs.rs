@@ -71,8 +71,8 @@ impl<'a> System<'a> {
         if reducers.len() != self.moduli.len() {
             return false;
         }
-        for place in 0..reducers.len() {
-            if reducers[place].modulus() != self.moduli[place] {
+        for (place, reducer) in reducers.iter().enumerate() {
+            if reducer.modulus() != self.moduli[place] {
                 return false;
             }
         }
