@@ -3,9 +3,12 @@
 //!     cargo run --release --offline --config 'patch.crates-io.num-modular.path="FOLDER"'
 //!
 //! Each line is one function of a list of operands, written once by a macro and compiled over either crate. Its answers are
-//! summed up; the sums have to be equal in every round. Times are the least of the rounds, which take turns.
+//! summed up; the sums have to be equal in every round. Times are the least of the rounds, which take turns. Then come lists of
+//! commands of five kinds, with a mean of their own.
 
 #![allow(unstable_name_collisions)]
+
+mod commands;
 
 use std::time::Instant;
 
@@ -138,10 +141,22 @@ impl Random {
     }
 }
 
+#[derive(Default)]
 struct Total {
     answers: u64,
     lines: u32,
     logarithms: f64,
+}
+
+impl Total {
+    fn add(&mut self, quotient: f64) {
+        self.lines += 1;
+        self.logarithms += quotient.ln();
+    }
+
+    fn mean(&self) -> f64 {
+        (self.logarithms / self.lines as f64).exp()
+    }
 }
 
 macro_rules! compare {
@@ -164,8 +179,7 @@ macro_rules! compare {
                 $total.answers += OPERANDS as u64;
             }
             let quotient = least[1] / least[0];
-            $total.lines += 1;
-            $total.logarithms += quotient.ln();
+            $total.add(quotient);
             let each = least.map(|it| it / OPERANDS as f64);
             println!("| {} | `{name}` | {:.1} | {:.1} | {quotient:.2} |", stringify!($word), each[0], each[1]);
         }
@@ -174,7 +188,7 @@ macro_rules! compare {
 
 fn main() {
     println!("| Word | Line | Rust crate, ns | Cargo crate, ns | Quotient |\n|---|---|---|---|---|");
-    let mut total = Total { answers: 0, lines: 0, logarithms: 0.0 };
+    let mut total = Total::default();
     compare!(total, w8 u8);
     compare!(total, w16 u16);
     compare!(total, w32 u32);
@@ -182,6 +196,8 @@ fn main() {
     compare!(total, wsize usize);
     compare!(total, fixed32 u32);
     compare!(total, fixed64 u64);
-    let mean = (total.logarithms / total.lines as f64).exp();
-    println!("\n{} answers were equal; the mean of the {} quotients is {mean:.3}", total.answers, total.lines);
+    let mut lists = Total::default();
+    commands::compare(&mut lists);
+    println!("\n{} answers were equal; the mean of the {} quotients is {:.3}", total.answers, total.lines, total.mean());
+    println!("the mean of the {} quotients of lists is {:.3}", lists.lines, lists.mean());
 }
