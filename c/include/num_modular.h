@@ -395,6 +395,14 @@ uint32_t nm_hash(uint64_t x, const uint8_t *bytes, size_t n, uint64_t *hash);
 NM_CHECK uint32_t nm_find(uint64_t x, const uint8_t *text, size_t n, const uint8_t *pattern, size_t k,
                           size_t *position);
 
+/* Entry i of found becomes the number of the first pattern that occurs in the text at position i, or count where none
+ * does, for i from 0 to places - 1. The count patterns have size bytes each and stand one after the other. The scratch list
+ * hashes, of count words, has unspecified contents afterwards. The result is right for every x; for the time see nm_find.
+ * NM_BAD_ARGUMENT: patterns_length isn't count * size. */
+NM_CHECK uint32_t nm_find_all(uint64_t x, const uint8_t *text, size_t text_length, const uint8_t *patterns,
+                              size_t patterns_length, size_t size, uint64_t *hashes, size_t count, size_t *found,
+                              size_t places);
+
 /* The number low + 2^64 * high. */
 typedef struct {
     uint64_t low;

@@ -63,6 +63,7 @@ void erasure_rows(void);
 void user_rows(void);
 void polynomial_rows(void);
 void prefix_rows(void);
+void search_rows(void);
 void residue_system_rows(void);
 void any_length_rows(void);
 void sharing_rows(void);

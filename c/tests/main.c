@@ -26,6 +26,7 @@ int main(void) {
     user_rows();
     polynomial_rows();
     prefix_rows();
+    search_rows();
     residue_system_rows();
     any_length_rows();
     sharing_rows();

@@ -177,6 +177,7 @@ static void user_refusals(void) {
     static const uint64_t digits[400] = {9};
     nm_factor_t *factors = (nm_factor_t *)(words + 900);
     REFUSES(NM_NOT_FOUND, nm_find(1, text, 3, pattern, 1, (size_t *)words));
+    REFUSES(NM_BAD_ARGUMENT, nm_find_all(1, text, 3, pattern, 1, 1, words, 2, (size_t *)words + 8, 3));
     REFUSES(NM_BAD_ARGUMENT, nm_decode(moduli, 2, residues, 2, (nm_double_t *)words));
     REFUSES(NM_BAD_ARGUMENT, nm_product_room((size_t)UINT64_C(4294967297), 0, (size_t *)words, (size_t *)words + 1));
     REFUSES(NM_BAD_ARGUMENT, nm_product(digits, 1, digits, 1, words, 1, words + 8, 2, factors, 1));

@@ -3,6 +3,6 @@ mod Counting
 mod FalseHits
 mod Lengths
 pub mod Parts
-mod Patterns
+pub mod Patterns
 mod Primality
 pub mod Written

@@ -18,6 +18,7 @@ mod polynomials;
 mod prefixes;
 mod residues;
 mod runs;
+mod searches;
 mod solinas;
 mod symbols;
 mod transforms;
