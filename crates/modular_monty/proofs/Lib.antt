@@ -1,8 +1,8 @@
-pub mod CarriedSums
 pub mod KnownModuli
 pub mod MontgomerySteps
 pub mod NegatedInverses
 pub mod ProthModuli
+pub mod ReducedSums
 pub mod SquareTests
 pub mod TwoPartSteps
 pub mod Twos

@@ -6,10 +6,11 @@ ghost use Rattle.modular_word.specs.Reduction.{IsNegatedInverse, IsReduction};
 ghost use Rattle.modular_monty.specs.Montgomery.{montgomery_form, montgomery_value, IsOddRing};
 ghost use Rattle.modular_monty.specs.MontgomeryLaws.{montgomery_canonical};
 
-use crate::list_products::{block, reduced_products};
+use crate::list_products::reduced_products;
 use crate::neg_mod_inv::neginv;
 use modular_prim::below::{add_below, branchless_sub_below, dbl_below, neg_below, sub_below};
 use modular_prim::reducer_word::ReducerWord;
+use modular_reduced::list_products::block;
 use modular_reduced::reducer::Reducer;
 use modular_word::path_word::PathWord;
 use modular_word::paths::redc;

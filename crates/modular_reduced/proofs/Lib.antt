@@ -1,3 +1,4 @@
+pub mod CarriedSums
 pub mod FormLemmas
 pub mod IntegerLemmas
 pub mod ListProducts

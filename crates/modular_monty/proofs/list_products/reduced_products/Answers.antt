@@ -2,7 +2,7 @@ use Rattle.std.proofs.Common.{◌≡◌, ℕ, ◌+◌, ◌*◌, map, slice_index
 use Rattle.modular_word.specs.Congruence.{Congruent}
 use Rattle.modular_word.specs.Sums.{sum_below}
 use Rattle.modular_word.proofs.Congruence.{mod_of_eq, mod_trans}
-use Rattle.modular_monty.proofs.CarriedSums.{low_reduced, carries_formed, carries_added}
+use Rattle.modular_monty.proofs.ReducedSums.{low_reduced, carries_formed, carries_added}
 use Rattle.modular_monty.proofs.list_products.reduced_products.Goals as goal
 use Rattle.modular_monty.proofs.list_products.reduced_products.Goals.{After-reduced-reduced}
 

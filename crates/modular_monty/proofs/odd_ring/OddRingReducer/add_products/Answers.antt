@@ -6,7 +6,7 @@ use Rattle.modular_word.proofs.Sums.{sum_below-zero}
 use Rattle.modular_reduced.specs.Values.{sum_of_products}
 use Rattle.modular_reduced.proofs.ListProducts.{number_checked, products_of_numbers}
 use Rattle.modular_monty.specs.Montgomery.{montgomery_form, montgomery_value}
-use Rattle.modular_monty.proofs.CarriedSums.{block_added}
+use Rattle.modular_monty.proofs.ReducedSums.{block_added}
 use Rattle.modular_monty.proofs.MontgomerySteps.{Made, form_below, products_made}
 use Rattle.modular_monty.proofs.odd_ring.OddRingReducer.add_products.Goals as goal
 use Rattle.modular_monty.proofs.odd_ring.OddRingReducer.add_products.Goals.{After-each_block}

@@ -1,26 +1,8 @@
--- Sums of products of words, as two words and a count of carries, and their reduction.
-use Rattle.std.proofs.Common.{◌≡◌, ℕ, suc, ◌+◌, ◌*◌, ◌%◌, ◌^◌, sym, ◌∙◌, ap, arith}
+-- The reduction of a sum of products of words, which is given as two words and a count of carries.
+use Rattle.std.proofs.Common.{◌≡◌, ℕ, ◌+◌, ◌*◌, ◌%◌, ◌^◌, sym, arith}
 use Rattle.modular_word.specs.Congruence.{Congruent}
 use Rattle.modular_word.specs.Reduction.{IsReduction}
-use Rattle.modular_word.specs.Sums.{sum_below}
 use Rattle.modular_word.proofs.Congruence.{mod_of_eq, mod_refl, mod_trans, mod_add, mod_mul, residue_of}
-use Rattle.modular_word.proofs.Sums.{sum_below-suc}
-
-next_sum : (i : ℕ) (f : ℕ → ℕ) → sum_below (i + 1) f ≡ sum_below i f + f i
-next_sum i f = let e : i + 1 ≡ suc i = omega arith in ap (λ n. sum_below n f) e ∙ sum_below-suc i f
-
--- one product more, without a carry and with one
-pub product_added : (b s p t c k before i : ℕ) (f : ℕ → ℕ) → s + b * b * c + before ≡ sum_below i f → p ≡ f i
-    → s + p ≡ t → k ≡ c → t + b * b * k + before ≡ sum_below (i + 1) f
-product_added b s p t c k before i f so_far is exact same =
-    let e : b * b * k ≡ b * b * c = ap (λ n. b * b * n) same in
-    let next = next_sum i f in omega (arith, so_far, is, exact, e, next)
-
-pub product_carried : (b s p t c k before i : ℕ) (f : ℕ → ℕ) → s + b * b * c + before ≡ sum_below i f → p ≡ f i
-    → s + p ≡ t + b * b → k ≡ c + 1 → t + b * b * k + before ≡ sum_below (i + 1) f
-product_carried b s p t c k before i f so_far is carried more =
-    let e : b * b * k ≡ b * b * c + b * b = ap (λ n. b * b * n) more ∙ omega arith in
-    let next = next_sum i f in omega (arith, so_far, is, carried, e, next)
 
 -- the reduction of the lowest two words, the high one modulo m
 pub low_reduced : {m b t u high rest s : ℕ} (low before : ℕ) → IsReduction b m t u → t ≡ low + b * rest
