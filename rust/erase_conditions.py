@@ -53,7 +53,7 @@ LOOKS = {
         for name in ("add_lists", "sub_lists", "multiply_lists", "dot_product")
     },
     ("lists", "scale_list"): ((DEBUG, "r.check(factor) && xs.iter().all(|x| r.check(x))"),),
-    **{(file, "add_products"): (EQUAL,) for file in ("reducer", "odd_ring", "montgomery")},
+    **{(file, "add_products"): (EQUAL,) for file in ("reducer", "odd_ring", "montgomery", "premul")},
     ("ring", "run"): (
         (DEBUG, "all_checked(r, regs)"),
         (DEBUG, "commands_fit(commands, regs.len())"),

@@ -2,4 +2,5 @@ pub mod DoubleWords
 pub mod Multiplier
 pub mod Quotients
 pub mod ScaledLemmas
+pub mod ScaledSums
 pub mod SumsOfProducts

@@ -30,7 +30,7 @@ some_scale : (w m : ℕ) → 0 < scale w m
 some_scale w m = pow_pos (count_leading_zeros w m)
 
 -- the remainder of a scaled number represents the remainder
-stands_for : (w m d x r : ℕ) → 0 < m → d ≡ m * scale w m → r ≡ (x * scale w m) % d → Stands w m r (x % m)
+pub stands_for : (w m d x r : ℕ) → 0 < m → d ≡ m * scale w m → r ≡ (x * scale w m) % d → Stands w m r (x % m)
 stands_for w m d x r positive ed e = record {
   below = mod-lt x positive;
   same = e ∙ ap (λ n. (x * scale w m) % n) ed ∙ scaled_remainder x m (scale w m) positive (some_scale w m);

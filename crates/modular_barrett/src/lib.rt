@@ -4,6 +4,7 @@
 mod computed;
 pub mod exact;
 pub mod lanes;
+mod list_products;
 pub mod normalized;
 pub mod one_by_one;
 pub mod planned;

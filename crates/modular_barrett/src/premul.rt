@@ -5,10 +5,12 @@ ghost use Rattle.std.specs.Int.Count.{count_leading_zeros};
 ghost use Rattle.modular_barrett.specs.Scaling.{scale, scaled_form, scaled_value, IsScaling};
 ghost use Rattle.modular_barrett.specs.ScaledForms.{scaled_canonical};
 
+use crate::list_products::reduced_products;
 use crate::normalized::{Normalized2by1Divisor, StoredDivisor};
 use modular_prim::below::{add_below, dbl_below, neg_below, sub_below};
 use modular_prim::inverse::fast_inverse;
 use modular_prim::plain_word::PlainWord;
+use modular_reduced::list_products::block;
 use modular_reduced::reducer::Reducer;
 use modular_word::path_word::PathWord;
 use modular_word::ring_word::RingWord;
@@ -190,6 +192,19 @@ impl<T: PlainWord> Reducer<T> for PreMulInv2by1<T> {
     fn mul(&self, a: &T, b: &T) -> T {
         let value = self.residue(*a);
         self.divider.div_rem_2by1(value.product(*b)).1
+    }
+
+    // Products are added as whole numbers and reduced once a block.
+    fn add_products(&self, sum: T, xs: &[T], ys: &[T]) -> T {
+        let mut total = sum;
+        let mut from = 0;
+        'each_block: while from < xs.len() {
+            let to = from + block::<T>().min(xs.len() - from);
+            let reduced = reduced_products(&self.divider, self.shift, xs, ys, from, to);
+            total = add_below(total, reduced, self.divisor());
+            from = to;
+        }
+        total
     }
 
     fn inv(&self, f: T) -> Option<T> {

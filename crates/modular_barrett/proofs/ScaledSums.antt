@@ -1,0 +1,104 @@
+-- Sums of products of scaled forms, and their reduction.
+use Rattle.std.proofs.Common.{◌≡◌, ℕ, ◌+◌, ◌*◌, ◌/◌, ◌%◌, ◌^◌, ◌<◌, ◌≤◌, sym, ap, ap₂, ◌∙◌, subst, arith}
+use Rattle.std.proofs.Math.Nat.{add-mul-div_left, add-mul-div_right, add-mul-mod_self_left, div-le_self}
+use Rattle.std.proofs.Math.Nat.{mul-div_cancel_left, mul-le-mul_left, mul-le-mul_right}
+use Rattle.std.proofs.Math.Pow.{pow_mono}
+use Rattle.std.proofs.lemmas.Nat.{pow-add, pow_pos}
+use Rattle.modular_prim.proofs.Scaled.{remainder_of}
+use Rattle.modular_word.specs.Congruence.{Congruent}
+use Rattle.modular_word.specs.Division.{IsDivision}
+use Rattle.modular_word.specs.Sums.{sum_below}
+use Rattle.modular_word.proofs.Congruence.{mod_of_eq, mod_trans, mod_add, residue_of}
+use Rattle.modular_word.proofs.Sums.{sum_below-same, sum_below-mul, sum_below-joined}
+use Rattle.modular_reduced.proofs.FormLemmas.{Answered, answered, form_of_value}
+use Rattle.modular_barrett.specs.Scaling.{scale, scaled_form, scaled_value, IsScaling}
+use Rattle.modular_barrett.specs.ScaledForms.{scaled_canonical}
+use Rattle.modular_barrett.proofs.ScaledLemmas.{IsScaledForm, Stands, divisor_is, stands_for, sum_stands, value_is}
+
+-- the base is a multiple of each power of two below it
+pub base_parts : {w b : ℕ} (s k : ℕ) → b ≡ 2 ^ w → s + k ≡ w → b ≡ 2 ^ s * 2 ^ k
+base_parts {w} {b} s k base parts = base ∙ ap (λ n. 2 ^ n) (sym parts) ∙ pow-add 2 s k
+
+-- a double word divided by 2^s, by its words
+pub shifted_is : {w b : ℕ} (s k low high above below : ℕ) → b ≡ 2 ^ w → s + k ≡ w → above ≡ high * 2 ^ k
+    → below ≡ low / 2 ^ s → above + below ≡ (low + b * high) / 2 ^ s
+shifted_is {w} {b} s k low high above below base parts is low_is =
+    let spread : b * high ≡ high * 2 ^ k * 2 ^ s = ap (λ n. n * high) (base_parts s k base parts) ∙ omega arith in
+    let quotient = add-mul-div_right low (high * 2 ^ k) (pow_pos s) in
+    let sum : above + below ≡ low / 2 ^ s + high * 2 ^ k = omega (arith, is, low_is) in
+    sum ∙ sym quotient ∙ ap (λ n. (low + n) / 2 ^ s) (sym spread)
+
+two_at_most : (s : ℕ) → 0 < s → 2 ≤ 2 ^ s
+two_at_most s some = let l : 2 ^ 1 ≤ 2 ^ s = pow_mono some in omega (arith, l)
+
+-- which fits a double word
+pub shifted_fits : {w b : ℕ} (s k low high above below : ℕ) → b ≡ 2 ^ w → s + k ≡ w → 0 < s → above ≡ high * 2 ^ k
+    → below ≡ low / 2 ^ s → high < b → low < b → above + below < b * b
+shifted_fits {w} {b} s k low high above below base parts some is low_is high_fits low_fits =
+    let p : 2 ≤ 2 ^ s = two_at_most s some in
+    let half : 2 * 2 ^ k ≤ b = let l = mul-le-mul_right (2 ^ k) p in omega (arith, base_parts s k base parts, l) in
+    let most : (high + 1) * 2 ^ k ≤ b * 2 ^ k = mul-le-mul_right (2 ^ k) (omega arith) in
+    let wide : b * (2 * 2 ^ k) ≤ b * b = mul-le-mul_left b half in
+    let two : b * 2 ≤ b * b = let q = pow_pos k in mul-le-mul_left b (omega (arith, half, q)) in
+    let small = div-le_self low (2 ^ s) in
+    omega (arith, is, low_is, most, wide, two, small)
+
+-- a sum in three words that is a multiple of p^2, reduced word by word but for the lowest and divided by p
+pub sum_reduced : {b d c s p first second r q q' q'' : ℕ} (low high e v : ℕ) → 0 < p → b ≡ p * e
+    → s ≡ low + b * high → IsDivision c d q first → IsDivision (high + b * first) d q' second
+    → IsDivision ((low + b * second) / p) d q'' r → s + b * b * c ≡ p * (p * v) → r ≡ (p * v) % d
+sum_reduced {b} {d} {c} {s} {p} {first} {second} {r} {q} {q'} {q''} low high e v some base parts one two three is =
+    let k = q' + b * q in
+    let top : b * b * c ≡ b * b * (q * d + first) = ap (λ n. b * b * n) one.whole in
+    let middle : b * (high + b * first) ≡ b * (q' * d + second) = ap (λ n. b * n) two.whole in
+    let multiple : b * (d * k) ≡ p * (d * (e * k)) = ap (λ n. n * (d * k)) base ∙ omega arith in
+    let whole : low + b * second + p * (d * (e * k)) ≡ p * (p * v) = omega (arith, top, middle, multiple, parts, is) in
+    let quotient : (low + b * second) / p + d * (e * k) ≡ p * v =
+    sym (add-mul-div_left (low + b * second) (d * (e * k)) some) ∙ ap (λ n. n / p) whole
+    ∙ mul-div_cancel_left (p * v) some in
+    remainder_of three ∙ sym (add-mul-mod_self_left ((low + b * second) / p) d (e * k)) ∙ ap (λ n. n % d) quotient
+
+-- the sum of the products of forms, by that of the products of their values
+pub scaled_products : {m p : ℕ} (w n : ℕ) (x y : ℕ → ℕ) → p ≡ scale w m
+    → ((i : ℕ) → i < n → IsScaledForm w m (x i)) → ((i : ℕ) → i < n → IsScaledForm w m (y i))
+    → sum_below n (λ i. x i * y i) ≡ p * (p * sum_below n (λ i. scaled_value w m (x i) * scaled_value w m (y i)))
+scaled_products {m} {p} w n x y scaled x_is y_is =
+    let f = λ (i : ℕ). scaled_value w m (x i) * scaled_value w m (y i) in
+    let each : (i : ℕ) → i < n → x i * y i ≡ p * (p * f i) =
+    λ i l. ap₂ (λ a b. a * b) ((x_is i l).same ∙ ap (λ k. scaled_value w m (x i) * k) (sym scaled))
+    ((y_is i l).same ∙ ap (λ k. scaled_value w m (y i) * k) (sym scaled)) ∙ omega arith in
+    sum_below-same n (λ i. x i * y i) (λ i. p * (p * f i)) each
+    ∙ sum_below-mul n p (λ i. p * f i) ∙ ap (λ s. p * s) (sum_below-mul n p f)
+
+-- the products from index i to i + k - 1
+pub block_of : (p i k : ℕ) (f : ℕ → ℕ) (before after : ℕ) → before ≡ p * (p * sum_below i f)
+    → after ≡ p * (p * sum_below (i + k) f) → after ≡ before + p * (p * sum_below k (λ j. f (i + j)))
+block_of p i k f before after before_is after_is =
+    let joined : p * (p * sum_below (i + k) f) ≡ p * (p * (sum_below i f + sum_below k (λ j. f (i + j)))) =
+    ap (λ s. p * (p * s)) (sum_below-joined i k f) in
+    omega (arith, before_is, after_is, joined)
+
+-- the form of their sum
+pub block_stands : {w m d s : ℕ} (r v : ℕ) → IsScaling w m d s → r ≡ (2 ^ s * v) % d → Stands w m r (v % m)
+block_stands {w} {m} {d} {s} r v is e =
+    let same : 2 ^ s * v ≡ v * scale w m = ap (λ n. 2 ^ n * v) is.zeros ∙ omega arith in
+    stands_for w m d v r is.positive (divisor_is is) (e ∙ ap (λ n. n % d) same)
+
+-- added to the products before them
+pub block_added : {w m d s : ℕ} (total r next sum i k : ℕ) (f : ℕ → ℕ) → IsScaling w m d s → IsScaledForm w m total
+    → scaled_value w m total ≡ (sum + sum_below i f) % m → r ≡ (2 ^ s * sum_below k (λ j. f (i + j))) % d
+    → next ≡ (total + r) % d
+    → Answered (scaled_form w) (scaled_value w) m next ((sum + sum_below (i + k) f) % m)
+block_added {w} {m} {d} {s} total r next sum i k f is form value r_is next_is =
+    let v = sum_below k (λ j. f (i + j)) in
+    let stands = block_stands r v is r_is in
+    let made = answered (scaled_canonical is)
+    (sum_stands w m d total r next is.positive (divisor_is is) form (form_of_value (scaled_canonical is) stands) next_is) in
+    let added : Congruent m (scaled_value w m total + scaled_value w m r) (sum + sum_below i f + v) =
+    mod_add (mod_trans (mod_of_eq value) (residue_of (sum + sum_below i f)))
+    (mod_trans (mod_of_eq (sym (value_is w m r (v % m) stands))) (residue_of v)) in
+    let joined : sum + sum_below i f + v ≡ sum + sum_below (i + k) f =
+    let j = sum_below-joined i k f in omega (arith, j) in
+    let same : (scaled_value w m total + scaled_value w m r) % m ≡ (sum + sum_below (i + k) f) % m =
+    added.same ∙ ap (λ n. n % m) joined in
+    subst (λ n. Answered (scaled_form w) (scaled_value w) m next n) same made

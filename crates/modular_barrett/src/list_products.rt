@@ -1,0 +1,48 @@
+//! Sums of products of two lists of scaled forms, which are reduced once for many products.
+
+ghost use Rattle.std.specs.Prelude.{◌≡◌, ℕ, ◌+◌, ◌*◌, ◌/◌, ◌%◌, ◌^◌, ◌<◌, ◌≤◌, length, map, slice_index};
+ghost use Rattle.modular_word.specs.Sums.{sum_below};
+
+use crate::normalized::{Normalized2by1Divisor, StoredDivisor};
+use modular_prim::plain_word::PlainWord;
+use modular_reduced::list_products::carried_sum;
+use modular_word::path_word::PathWord;
+
+// The double word divided by a power of two, rounded down. Condition: `by` is below the width.
+fn shifted<T: PathWord>(low: T, high: T, by: u32) -> T::Double
+    requires { by < T.width }
+    ensures { T.double_number result ≡ (T.number low + T.base * T.number high) / 2 ^ by }
+{
+    if by == 0 {
+        return T::merge(low, high);
+    }
+    let above = high.shift_left_wide(T::bits() - by);
+    T::double_plus(above, T::merge(low.shift_right(by), T::zero()))
+}
+
+// Of the sum of the products of the entries from index `from` to `to` - 1, divided by 2^shift: the remainder. Each entry
+// is a multiple of 2^shift, so the sum is one of its square.
+pub(crate) fn reduced_products<T: PlainWord>(
+    divider: &Normalized2by1Divisor<T>,
+    shift: u32,
+    xs: &[T],
+    ys: &[T],
+    from: usize,
+    to: usize,
+) -> T
+    requires equal { length ys.now ≡ length xs.now }
+    requires order { from ≤ to }
+    requires within { to ≤ length xs.now }
+    requires few { to < from + T.base }
+    requires shift { shift < T.width }
+    ensures { let d = ⟦<Normalized2by1Divisor<T> as StoredDivisor>⟧.divisor divider.now in
+        let f = λ (i : ℕ). slice_index (map T.number xs.now) i * slice_index (map T.number ys.now) i in
+        (v : ℕ) → sum_below to f ≡ sum_below from f + 2 ^ shift * (2 ^ shift * v) →
+        T.number result ≡ (2 ^ shift * v) % d }
+{
+    let (sum, carries) = carried_sum(xs, ys, from, to);
+    let (low, high) = T::split(sum);
+    let first = divider.div_rem_1by1(carries).1;
+    let second = divider.div_rem_2by1(T::merge(high, first)).1;
+    divider.div_rem_2by1(shifted(low, second, shift)).1
+}
