@@ -121,10 +121,16 @@ finished m s target power product rest r w e er =
 pub power_one : (m b n r : ℕ) → n ≡ 1 → r ≡ b % m → r ≡ b ^ n % m
 power_one m b n r e er = er ∙ ap (λ v. v % m) (sym (pow-one b) ∙ ap (λ v. b ^ v) (sym e))
 
+square_of : (b : ℕ) → b ^ 2 ≡ b * b
+square_of b = pow-add b 1 1 ∙ ap (λ v. v * b ^ 1) (pow-one b) ∙ ap (λ v. b * v) (pow-one b)
+
 pub power_two : (m b n r : ℕ) → n ≡ 2 → r ≡ (b * b) % m → r ≡ b ^ n % m
-power_two m b n r e er =
-    let f : b ^ 2 ≡ b * b = pow-add b 1 1 ∙ ap (λ v. v * b ^ 1) (pow-one b) ∙ ap (λ v. b * v) (pow-one b) in
-    er ∙ ap (λ v. v % m) (sym f ∙ ap (λ v. b ^ v) (sym e))
+power_two m b n r e er = er ∙ ap (λ v. v % m) (sym (square_of b) ∙ ap (λ v. b ^ v) (sym e))
+
+pub power_three : (m b s r : ℕ) → s ≡ (b * b) % m → r ≡ (s * b) % m → r ≡ b ^ 3 % m
+power_three m b s r es er =
+    let f : b ^ 3 ≡ b * b * b = pow-add b 2 1 ∙ ap (λ v. v * b ^ 1) (square_of b) ∙ ap (λ v. b * b * v) (pow-one b) in
+    er ∙ ap (λ v. (v * b) % m) es ∙ mul-mod_first (b * b) b m ∙ ap (λ v. v % m) (sym f)
 
 -- the power of a base reduced
 pub power_of_rest : (m b x n r : ℕ) → x ≡ b % m → r ≡ x ^ n % m → r ≡ b ^ n % m

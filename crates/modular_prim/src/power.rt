@@ -12,15 +12,20 @@ use modular_word::ring_word::RingWord;
 
 /// The residue of the power of `base` to `exp`, below m; that of 1 for the exponent 0. Condition: m is at least 1.
 ///
-/// The exponents 0, 1 and 2 take one division at most. For greater ones, no step divides a double word of more than
-/// 16 bits: products are reduced by Montgomery's reduction for an odd m, by the reciprocal of m for an even one.
+/// The exponents 0, 1 and 2 take one division at most, and 3 takes two in words of at most 16 bits. Otherwise no step
+/// divides a double word of more than 16 bits: products are reduced by Montgomery's reduction for an odd m, by the
+/// reciprocal of m for an even one.
 pub fn powm<T: PlainWord>(base: T, exp: T, m: T) -> T
     requires { 1 ≤ T.number m }
     ensures { T.number result ≡ T.number base ^ T.number exp % T.number m }
 {
     let one = T::one();
     if two::<T>().is_below(exp) {
-        power_below(reduced(base, m), exp, m)
+        if T::bits() <= 16 && exp.half() == one {
+            cube(base, m)
+        } else {
+            power_below(reduced(base, m), exp, m)
+        }
     } else if exp.is_zero_word() {
         reduced(one, m)
     } else if exp.is_odd() {
@@ -28,6 +33,15 @@ pub fn powm<T: PlainWord>(base: T, exp: T, m: T) -> T
     } else {
         sqm(base, m)
     }
+}
+
+// The residue of the third power, by a division for each product: in words of at most 16 bits the divisions take less
+// time than what the other methods compute first. Condition: m is at least 1.
+fn cube<T: PlainWord>(base: T, m: T) -> T
+    requires { 1 ≤ T.number m }
+    ensures { T.number result ≡ T.number base ^ 3 % T.number m }
+{
+    mulm(sqm(base, m), base, m)
 }
 
 // The residue of the power of a base below m, by the method for the width and the parity of m.
