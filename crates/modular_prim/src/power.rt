@@ -21,7 +21,7 @@ pub fn powm<T: PlainWord>(base: T, exp: T, m: T) -> T
 {
     let one = T::one();
     if two::<T>().is_below(exp) {
-        if T::bits() <= 16 && exp.half() == one {
+        if T::bits() <= 16 && exp.minus(one) == two::<T>() {
             cube(base, m)
         } else {
             power_below(reduced(base, m), exp, m)
