@@ -77,7 +77,7 @@ pub fn addm<T: PlainWord>(a: T, b: T, m: T) -> T
 /// bits and both, or their distance, are below m.
 ///
 /// One remainder serves both cases of a comparison of a and b, which often mispredicts. Words of 32 bits are compared
-/// with m first, which spares the distance; for words of 64 bits that takes longer where the comparison mispredicts.
+/// with m first, which spares the distance; longer ones aren't, since that slows words above m.
 pub fn subm<T: PlainWord>(a: T, b: T, m: T) -> T
     requires { 1 ≤ T.number m }
     ensures { T.number result ≡ residue (T.number m) (pos (T.number a) -ℤ pos (T.number b)) }
