@@ -1,6 +1,6 @@
 //! The reducer whose forms are the values shifted to the top of the word.
 
-ghost use Rattle.std.specs.Prelude.{◌≡◌, ℕ, ◌+◌, ◌-◌, ◌*◌, ◌/◌, ◌%◌, ◌^◌, ◌<◌, ◌≤◌, ⊤};
+ghost use Rattle.std.specs.Prelude.{◌≡◌, ℕ, ◌+◌, ◌-◌, ◌*◌, ◌/◌, ◌%◌, ◌^◌, ◌<◌, ◌≤◌, ⊤, IsTrue};
 ghost use Rattle.std.specs.Int.Count.{count_leading_zeros};
 ghost use Rattle.modular_barrett.specs.Scaling.{scale, scaled_form, scaled_value, IsScaling};
 ghost use Rattle.modular_barrett.specs.ScaledForms.{scaled_canonical};
@@ -128,6 +128,15 @@ impl<T: PlainWord> PreMulInv2by1<T> {
     }
 }
 
+// Whether one of the lowest bits of a word is set, where `check` tests them first. At these widths compilers then branch
+// on its two tests, which takes less time than computing both. Condition: `count` is below the width.
+fn is_refused_first<T: PathWord>(f: T, count: u32) -> bool
+    requires { count < T.width }
+    ensures { IsTrue result → T.number f % 2 ^ count ≡ 0 → ⊥ }
+{
+    (T::bits() == 16 || T::bits() == 64) && !f.low_bits(count).is_zero_word()
+}
+
 impl<T: PlainWord> Reducer<T> for PreMulInv2by1<T> {
     ghost admits = { λ m. 1 ≤ m };
 
@@ -154,6 +163,9 @@ impl<T: PlainWord> Reducer<T> for PreMulInv2by1<T> {
     }
 
     fn check(&self, f: &T) -> bool {
+        if is_refused_first(*f, self.shift) {
+            return false;
+        }
         if f.is_below(self.divisor()) {
             f.low_bits(self.shift).is_zero_word()
         } else {

@@ -1,4 +1,4 @@
-use Rattle.std.proofs.Common.{sym, ◌≡◌, ℕ, ◌+◌, ◌*◌, ◌/◌, ◌%◌, ◌^◌, ◌<◌, ap, ◌∙◌, arith}
+use Rattle.std.proofs.Common.{refl, sym, ◌≡◌, ℕ, ◌+◌, ◌*◌, ◌/◌, ◌%◌, ◌^◌, ◌<◌, ap, ◌∙◌, arith}
 use Rattle.std.proofs.Math.Nat.{div-add-mod, lt_of_mul-lt-mul_right}
 use Rattle.std.proofs.lemmas.Nat.{mod-mul-add, pow_pos}
 use Rattle.std.specs.Int.Count.{count_leading_zeros}
@@ -23,6 +23,13 @@ is_clear w m d s f low is e form =
     let p = scale w m in
     let whole : f ≡ f / p * p + 0 = omega (arith, form.same) in
     low_of f is e ∙ ap (λ v. v % p) whole ∙ mod-mul-add (f / p) p 0 (pow_pos (count_leading_zeros w m))
+
+pub returns-then-is_refused_first : goal.returns-then-is_refused_first
+returns-then-is_refused_first g c = (
+  (λ h. absurd (cc)),
+  (λ form. absurd (c.is_refused_first.ensures c.if-is_refused_first.true
+      (is_clear _ _ _ _ _ _ c.args.self.now.scaling refl form))),
+)
 
 pub returns-then-is_below : goal.returns-then-is_below
 returns-then-is_below g c =
