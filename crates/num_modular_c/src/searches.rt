@@ -1,6 +1,6 @@
 //! Searches for several patterns of one length at every position of a text.
 
-ghost use Rattle.std.specs.Prelude.{◌≡◌, ℕ, ◌+◌, ◌*◌, ◌%◌, ◌^◌, ◌<◌, ◌≤◌, ◌↔◌, IsTrue, length, slice_index, slice_range};
+ghost use Rattle.std.specs.Prelude.{◌≡◌, ℕ, ◌+◌, ◌*◌, ◌%◌, ◌^◌, ◌<◌, ◌≤◌, length, slice_index, slice_range};
 ghost use Rattle.mersenne_hash.specs.Collisions.{hash_of};
 ghost use Rattle.mersenne_hash.specs.Patterns.{pattern_of, IsFirstPattern};
 ghost use Rattle.num_modular.specs.Integers.{residue_of};
