@@ -36,6 +36,13 @@ written_more f out k v within before here i l = elim (cases_eq i k) [
   | inr ne ↦ get_or-set_other out k i v 0 ne ∙ before i (omega arith)
 ]
 
+pub stored_more : (P : ℕ → ℕ → Type 0) (out : List ℕ) (k v : ℕ) → k < length out
+    → ((i : ℕ) → i < k → P i (get_or out i 0)) → P k v → (i : ℕ) → i < k + 1 → P i (get_or (set out k v) i 0)
+stored_more P out k v within before here i l = elim (cases_eq i k) [
+  | inl e ↦ subst (λ j. P j (get_or (set out k v) j 0)) (sym e) (subst (P k) (sym (get_or-set_same out k v 0 within)) here)
+  | inr ne ↦ subst (P i) (sym (get_or-set_other out k i v 0 ne)) (before i (omega arith))
+]
+
 pub below_more : (m : ℕ) (out : List ℕ) (k v : ℕ) → k < length out
     → ((i : ℕ) → i < k → get_or out i 0 < m) → v < m → (i : ℕ) → i < k + 1 → get_or (set out k v) i 0 < m
 below_more m out k v within before here i l = elim (cases_eq i k) [

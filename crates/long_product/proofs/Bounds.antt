@@ -7,7 +7,7 @@ use Rattle.std.proofs.lemmas.List.{get_or_past}
 use Rattle.num_modular.specs.Sums.{sum_below}
 use Rattle.num_modular.specs.NumberLaws.{sum_below-suc}
 use Rattle.num_modular.specs.SumLaws.{bounded}
-use Rattle.long_product.specs.Polynomials.{product_sum}
+use Rattle.long_product.specs.Polynomials.{product_sum, FitsProduct}
 use Rattle.long_product.proofs.Coefficients.{no_back}
 
 -- a residue and the product of a word with another
@@ -97,3 +97,13 @@ sum_by_right xs ys s t e few other =
           let m = mul-le-mul_right (s * t) l in
           omega (arith, b, m)
     ]
+
+-- a product has no more places than both factors have coefficients
+pub few_places : (m xs ys places : ℕ) → FitsProduct m xs ys places → places ≤ xs + ys
+few_places m xs ys places fits = elim (cases_lt 0 xs) [
+  | inl left ↦ elim (cases_lt 0 ys) [
+    | inl right ↦ let e = fits.some (omega (arith, left)) (omega (arith, right)) in omega (arith, e)
+    | inr none ↦ let e = fits.none_right (omega (arith, none)) in omega (arith, e)
+  ]
+  | inr none ↦ let e = fits.none_left (omega (arith, none)) in omega (arith, e)
+]

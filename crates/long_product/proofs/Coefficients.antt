@@ -79,6 +79,12 @@ folded_residues m c a b r s is_a is_b =
     ap (λ v. (v + c * s) % m) is_a ∙ ap (λ v. (a % m + c * v) % m) is_b
     ∙ (mod_add (residue_of a) (mod_mul (mod_refl c) (residue_of b))).same
 
+-- .. where c is 0
+pub unfolded : (m c a b : ℕ) → c ≡ 0 → a % m ≡ (a + c * b) % m
+unfolded m c a b none =
+    let e : a ≡ a + 0 * b = omega arith in
+    ap (λ v. v % m) e ∙ ap (λ k. (a + k * b) % m) (sym none)
+
 -- .. and sums of products whose second factors are reduced
 pub reduced_factors : (m a s t p q f g : ℕ) → f ≡ p % m → g ≡ q % m
     → (a + s * f + t * g) % m ≡ (a + s * p + t * q) % m
