@@ -7,6 +7,48 @@ use Rattle.residue_numbers.proofs.Combinations.{parts_of, coprime_parts, combine
 use Rattle.residue_numbers.proofs.Combinations.{same_exactly, same_of_common}
 use Rattle.residue_numbers.proofs.combination.combine.Goals as goal
 
+pub nonzero_rem-difference : goal.nonzero_rem-difference
+nonzero_rem-difference c =
+    let m : ℕ = c.args.m in let n : ℕ = c.args.n in let g : ℕ = c.common_divisor-divisor.result in
+    let parts = parts_of m n g c.requires.n (subst (IsGreatestCommonDivisor m n) (sym c.common_divisor-divisor.ensures)
+    (c.divisor_laws.ensures.greatest m n c.requires.n)) in
+    omega (arith, parts.positive)
+
+pub nonzero_div-step : goal.nonzero_div-step
+nonzero_div-step c =
+    let m : ℕ = c.args.m in let n : ℕ = c.args.n in let g : ℕ = c.common_divisor-divisor.result in
+    let parts = parts_of m n g c.requires.n (subst (IsGreatestCommonDivisor m n) (sym c.common_divisor-divisor.ensures)
+    (c.divisor_laws.ensures.greatest m n c.requires.n)) in
+    omega (arith, parts.positive)
+
+pub nonzero_div-m : goal.nonzero_div-m
+nonzero_div-m c =
+    let m : ℕ = c.args.m in let n : ℕ = c.args.n in let g : ℕ = c.common_divisor-divisor.result in
+    let parts = parts_of m n g c.requires.n (subst (IsGreatestCommonDivisor m n) (sym c.common_divisor-divisor.ensures)
+    (c.divisor_laws.ensures.greatest m n c.requires.n)) in
+    omega (arith, parts.positive)
+
+pub invm-requires : goal.invm-requires
+invm-requires c =
+    let m : ℕ = c.args.m in let n : ℕ = c.args.n in let g : ℕ = c.common_divisor-divisor.result in
+    let parts = parts_of m n g c.requires.n (subst (IsGreatestCommonDivisor m n) (sym c.common_divisor-divisor.ensures)
+    (c.divisor_laws.ensures.greatest m n c.requires.n)) in
+    parts.step
+
+pub nonzero_div-difference : goal.nonzero_div-difference
+nonzero_div-difference c =
+    let m : ℕ = c.args.m in let n : ℕ = c.args.n in let g : ℕ = c.common_divisor-divisor.result in
+    let parts = parts_of m n g c.requires.n (subst (IsGreatestCommonDivisor m n) (sym c.common_divisor-divisor.ensures)
+    (c.divisor_laws.ensures.greatest m n c.requires.n)) in
+    omega (arith, parts.positive)
+
+pub mulm-steps-requires : goal.mulm-steps-requires
+mulm-steps-requires c =
+    let m : ℕ = c.args.m in let n : ℕ = c.args.n in let g : ℕ = c.common_divisor-divisor.result in
+    let parts = parts_of m n g c.requires.n (subst (IsGreatestCommonDivisor m n) (sym c.common_divisor-divisor.ensures)
+    (c.divisor_laws.ensures.greatest m n c.requires.n)) in
+    parts.step
+
 pub returns-then-difference-divisor-ne0-clause-number : goal.returns-then-difference-divisor-ne0-clause-number
 returns-then-difference-divisor-ne0-clause-number c x common =
     let a : ℕ = c.args.a in let m : ℕ = c.args.m in let b : ℕ = c.args.b in let n : ℕ = c.args.n in

@@ -38,6 +38,10 @@ kept_here : (before after : List ℕ) (count n r i : ℕ) → count ≡ n
 kept_here before after count n r i counts is =
     subst (λ q. get_or after (r * q + i) 0 ≡ get_or before (r * q + i) 0) counts is
 
+-- the places of all registers, as the reducers and the forms count them
+places_of : (moduli : List ℕ) (n forms left : ℕ) → forms ≡ left → n ≡ length moduli → forms * length moduli ≡ left * n
+places_of moduli n forms left same count = ap (λ f. f * length moduli) same ∙ ap (λ k. left * k) (sym count)
+
 pub moduli-preserved : goal.moduli-preserved
 moduli-preserved g c =
     let ring = g.R.Reducer in
@@ -105,6 +109,46 @@ moduli-preserved g c =
             (here start entries with r h)
       ];
     }
+
+pub again-init : goal.again-init
+again-init g c =
+    let ms : List ℕ = c.args.self.now.moduli.now in
+    let count = count_of g.R.Reducer.modulus c.args.reducers.now ms c.requires.reducers in
+    let before = c.moduli.invariant in
+    record {
+      entries = before.entries;
+      words = before.words;
+      values = λ start entries with r i h side within. elim side [
+        | inl below ↦ absurd (omega (arith, below))
+        | inr from ↦ before.values start entries with r i h from (omega (arith, within, count, c.moduli-test.false))
+      ];
+    }
+
+pub run_column-done-requires-clause-inputs : goal.run_column-done-requires-clause-inputs
+run_column-done-requires-clause-inputs g c =
+    let ms : List ℕ = c.args.self.now.moduli.now in
+    let count = count_of g.R.Reducer.modulus c.args.reducers.now ms c.requires.reducers in
+    c.requires.inputs ∙ places_of ms (length c.args.reducers.now) _ _ (sym c.moduli.invariant.entries) count
+
+pub run_column-done-requires-clause-room : goal.run_column-done-requires-clause-room
+run_column-done-requires-clause-room g c =
+    let ms : List ℕ = c.args.self.now.moduli.now in
+    let count = count_of g.R.Reducer.modulus c.args.reducers.now ms c.requires.reducers in
+    c.moduli.invariant.words ∙ c.requires.room
+    ∙ places_of ms (length c.args.reducers.now) _ _ (sym c.moduli.invariant.entries) count
+
+pub run_column-requires-clause-inputs : goal.run_column-requires-clause-inputs
+run_column-requires-clause-inputs g c =
+    let ms : List ℕ = c.args.self.now.moduli.now in
+    let count = count_of g.R.Reducer.modulus c.args.reducers.now ms c.requires.reducers in
+    c.requires.inputs ∙ places_of ms (length c.args.reducers.now) _ _ (sym c.again.invariant.entries) count
+
+pub run_column-requires-clause-room : goal.run_column-requires-clause-room
+run_column-requires-clause-room g c =
+    let ms : List ℕ = c.args.self.now.moduli.now in
+    let count = count_of g.R.Reducer.modulus c.args.reducers.now ms c.requires.reducers in
+    c.again.invariant.words ∙ c.requires.room
+    ∙ places_of ms (length c.args.reducers.now) _ _ (sym c.again.invariant.entries) count
 
 pub again-preserved : goal.again-preserved
 again-preserved g c =
