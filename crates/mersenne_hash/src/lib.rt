@@ -86,8 +86,8 @@ pub fn same_hashes(bases: &[u64], first: &[u8], second: &[u8]) -> bool
         AreApart (length bases.now) (slice_index bases.now) → (IsTrue result ↔ (first.now ≡ second.now)) }
 {
     collision_laws();
-    'bases: for n in bases {
-        let base = base(*n);
+    'bases: for place in 0..bases.len() {
+        let base = base(bases[place]);
         if hash(base, first) != hash(base, second) {
             return false;
         }

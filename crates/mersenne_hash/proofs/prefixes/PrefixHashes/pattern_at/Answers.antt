@@ -5,7 +5,7 @@ use Rattle.num_modular.specs.Integers.{residue_of}
 use Rattle.mersenne_hash.specs.Collisions.{hash_of}
 use Rattle.mersenne_hash.specs.Patterns.{pattern_of}
 use Rattle.mersenne_hash.proofs.Parts.{residue_of_entry}
-use Rattle.mersenne_hash.proofs.Patterns.{pattern_length}
+use Rattle.mersenne_hash.proofs.Patterns.{pattern_length, pattern_within}
 use Rattle.mersenne_hash.proofs.prefixes.PrefixHashes.pattern_at.Goals as goal
 use Rattle.mersenne_hash.proofs.prefixes.PrefixHashes.pattern_at.Goals.{then-at-self-via-then-at-self, then-at-self-via-else-at-self+then-self-at}
 
@@ -22,6 +22,14 @@ returns-then-at-self c = record {
         | then-at-self-via-else-at-self+then-self-at w ↦ omega (arith, fits, size, w.if-at-self.false, w.if-self-at.true)
       ];
 }
+
+pub patterns-init : goal.patterns-init
+patterns-init c j l = absurd (omega (arith, l))
+
+pub slice_bounds-pattern-end : goal.slice_bounds-pattern-end
+slice_bounds-pattern-end c =
+    let ps = c.args.patterns.now in
+    pattern_within ps.symbols.now ps.size (length ps.hashes.now) c.patterns.k ps.whole c.patterns-test.true
 
 pub is_hit-requires-clause-within : goal.is_hit-requires-clause-within
 is_hit-requires-clause-within c =
@@ -52,3 +60,20 @@ patterns-preserved c =
     below_more (λ j. StandsAt c.args.self.now.text.now (pattern_of ps.symbols.now ps.size j) c.args.at → ⊥) c.patterns.k
     c.patterns.invariant
     (λ stands. absurd (false≢true (sym c.if-is_hit.false ∙ c.is_hit.ensures.1 stands)))
+
+pub returns-then-is_hit : goal.returns-then-is_hit
+returns-then-is_hit c = (
+  c.patterns-test.true,
+  record {
+    most = omega (arith, c.patterns-test.true);
+    stands = λ h. c.is_hit.ensures.0 c.if-is_hit.true;
+    first = λ j l. c.patterns.invariant j l;
+  },
+)
+
+pub returns : goal.returns
+returns c = record {
+  most = omega arith;
+  stands = λ h. absurd (omega (arith, h));
+  first = λ j l. c.patterns.invariant j (omega (arith, l, c.patterns-test.false));
+}
