@@ -64,14 +64,17 @@ more_terms low high i x y f is before =
     let s = ap (λ n. sum_below n f) e ∙ sum_below-suc i f in
     omega (arith, s, is, before)
 
--- the high word of a product
-pub high_word : (x y : ℕ) → x < 18446744073709551616 → y < 18446744073709551616
-    → x * y / 18446744073709551616 ≤ 18446744073709551615
-high_word x y l k =
+-- a product of words, and its high word
+pub words_fit : (x y : ℕ) → x < 18446744073709551616 → y < 18446744073709551616
+    → x * y ≤ 18446744073709551615 * 18446744073709551615
+words_fit x y l k =
     let a : x ≤ 18446744073709551615 = omega (arith, l) in
     let b : y ≤ 18446744073709551615 = omega (arith, k) in
-    let m = mul-le-mul a b in
-    omega (arith, m)
+    mul-le-mul a b
+
+pub high_word : (x y : ℕ) → x < 18446744073709551616 → y < 18446744073709551616
+    → x * y / 18446744073709551616 ≤ 18446744073709551615
+high_word x y l k = let m = words_fit x y l k in omega (arith, m)
 
 -- a residue and c times another
 pub folded_residues : (m c a b r s : ℕ) → r ≡ a % m → s ≡ b % m → (r + c * s) % m ≡ (a + c * b) % m

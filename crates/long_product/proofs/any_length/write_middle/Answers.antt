@@ -1,5 +1,7 @@
-use Rattle.std.proofs.Common.{◌+◌, length, sym, subst, arith}
+use Rattle.std.proofs.Common.{◌+◌, ◌%◌, length, refl, ap, sym, ◌∙◌, subst, arith}
+use Rattle.long_product.specs.Polynomials.{product_sum}
 use Rattle.long_product.specs.Room.{HasScratch}
+use Rattle.long_product.proofs.Coefficients.{unfolded}
 use Rattle.long_product.proofs.any_length.write_middle.Goals as goal
 
 pub entries_for-n-requires-clause-room : goal.entries_for-n-requires-clause-room
@@ -9,3 +11,16 @@ entries_for-n-requires-clause-room g c =
     subst (λ t. HasScratch (length c.args.xs.now + length c.args.ys.now) (length c.args.words.now) t)
     (sym c.factors.ensures)
     (c.requires.room.scratch long (omega (arith, enough, long)))
+
+pub multiply_modulo-requires-clause-folded : goal.multiply_modulo-requires-clause-folded
+multiply_modulo-requires-clause-folded g c some = absurd (omega (arith, some))
+
+pub returns : goal.returns
+returns g c e l k =
+    let xs = c.args.xs.now in
+    let ys = c.args.ys.now in
+    let places = c.requires.places in
+    let some = c.requires.some in
+    c.multiply_modulo.ensures e (omega (arith, k, places, some))
+    ∙ sym (unfolded _ 0 (product_sum xs ys e) (product_sum xs ys (e + length c.args.out.now)) refl)
+    ∙ ap (λ m. product_sum xs ys e % m) c.modulus.ensures

@@ -1,6 +1,6 @@
 use Rattle.std.proofs.Common.{◌+◌, ◌<◌, ◌∙◌, sym, subst, arith}
 use Rattle.long_product.proofs.Bounds.{folded_fits}
-use Rattle.long_product.proofs.Coefficients.{folded_residues, unfolded}
+use Rattle.long_product.proofs.Coefficients.{folded_residues, unfolded, words_fit}
 use Rattle.long_product.proofs.remainders.Remainders.folded_at.Goals as goal
 
 pub remainder-value-requires-clause-first : goal.remainder-value-requires-clause-first
@@ -30,6 +30,12 @@ remainder-past-requires-clause-third c = λ some.
 pub returns-then-c-eq0 : goal.returns-then-c-eq0
 returns-then-c-eq0 c = λ x y h k.
     c.remainder-value.ensures.value x h ∙ unfolded _ c.args.c x y c.if-c-eq0.true
+
+pub overflow_mul-c : goal.overflow_mul-c
+overflow_mul-c c = let f = words_fit c.args.c c.remainder-past.result (omega arith) (omega arith) in omega (arith, f)
+
+pub overflow_add-value : goal.overflow_add-value
+overflow_add-value c = let f = words_fit c.args.c c.remainder-past.result (omega arith) (omega arith) in omega (arith, f)
 
 pub remainder-requires : goal.remainder-requires
 remainder-requires c =
