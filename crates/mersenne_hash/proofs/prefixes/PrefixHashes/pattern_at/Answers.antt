@@ -26,6 +26,18 @@ returns-then-at-self c = record {
 pub patterns-init : goal.patterns-init
 patterns-init c j l = absurd (omega (arith, l))
 
+pub overflow_mul-start : goal.overflow_mul-start
+overflow_mul-start c =
+    let ps = c.args.patterns.now in
+    let within = pattern_within ps.symbols.now ps.size (length ps.hashes.now) c.patterns.k ps.whole c.patterns-test.true in
+    omega (arith, within)
+
+pub overflow_add-pattern : goal.overflow_add-pattern
+overflow_add-pattern c =
+    let ps = c.args.patterns.now in
+    let within = pattern_within ps.symbols.now ps.size (length ps.hashes.now) c.patterns.k ps.whole c.patterns-test.true in
+    omega (arith, within)
+
 pub slice_bounds-pattern-end : goal.slice_bounds-pattern-end
 slice_bounds-pattern-end c =
     let ps = c.args.patterns.now in
