@@ -162,6 +162,9 @@ TESTED_BELOW = (
     ((DEBUG,), r"modular_barrett/exact\.exact_quotient"),
 )
 VERBS = {"is": "be", "are": "be", "has": "have", "have": "have", "suits": "suit", "fits": "fit", "admits": "admit", "takes": "take", "holds": "hold"}
+VERB = re.compile(rf"\b({'|'.join(VERBS)})\b")
+# Where a clause may end, and what follows there that is no main clause: a relative clause, a comparison, an apposition.
+CLAUSE_ENDS, BESIDES = r"(; |, and |, )", re.compile(r"(?:which|whose|where|as)\b|\S+ \S+ of \S+ that\b")
 
 
 @dataclass
@@ -219,13 +222,12 @@ def conditions_of_traits(files):
 
 
 def must(words):
-    """A condition as what must be so."""
+    """A condition as what must be so: in each of its main clauses the first verb."""
     words = re.sub(r" \([^()]* tells\)", "", words)
     if re.search(r"\bmust\b", words):
         return words
-    parts = []
-    for part in re.split(r"(, and |; )", words):
-        parts.append(re.sub(rf"\b({'|'.join(VERBS)})\b", lambda verb: f"must {VERBS[verb[1]]}", part, count=1))
+    parts = re.split(CLAUSE_ENDS, words)
+    parts = [VERB.sub(lambda verb: f"must {VERBS[verb[1]]}", part, count=1) if not BESIDES.match(part) else part for part in parts]
     if not any(" must " in f" {it} " for it in parts):
         raise Unknown(f"the condition {words!r} has no verb that is known")
     return "".join(parts)

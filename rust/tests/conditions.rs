@@ -321,7 +321,7 @@ fn tables_that_were_never_filled() {
 fn products_by_plans() {
     let (modulus, table) = planned();
     panic_with!("the lists must have the same length: 2 and 4"; convolve_planned(&modulus, &mut [1, 2], &mut [1, 2, 3, 4], &table, 1));
-    let lengths = "`last` must be 1 or 2, the length is `last` times a power of two, and the table must have (b + 1)·n/last/2 entries or more";
+    let lengths = "`last` must be 1 or 2, the length must be `last` times a power of two, and the table must have (b + 1)·n/last/2 entries or more";
     panic_with!(format!("{lengths}: 4 entries, 2 factors, b = 0, last = 4");
         convolve_planned(&modulus, &mut [1, 2, 3, 4], &mut [1, 2, 3, 4], &table, 4));
     panic_with!(format!("{lengths}: 4 entries, 2 factors, b = 0, last = 0");
