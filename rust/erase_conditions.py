@@ -23,7 +23,7 @@ MADE_BY = {"new": ("R::new(", "Montgomery::of(", "Self::of(", "M::keep(")}
 
 # Tests that are put in at the beginning of a body, or before a statement, since they look at more than `prove!` may, or since
 # only rustc needs them: by file in its crate and function, the condition's parts in turn. What they call is proved to tell whether the condition holds.
-EVERY, DEBUG, RETURN, CALL = "assert", "debug_assert", "return", "call"
+EVERY, DEBUG, RETURN, CALL, END = "assert", "debug_assert", "return", "call", "end"
 FILLED = (CALL, "crate::additions::expect_filled(m, table)")
 FACTORS = (DEBUG, "crate::additions::are_factors(m, xs.len(), table, b, last)")
 IN_ROOM = (DEBUG, "xs.iter().all(|x| m.has_room(*x))")
@@ -44,7 +44,11 @@ MESSAGE = (EVERY, "message.len() <= word.len()")
 COUNTED = "{0}.len() == self.moduli.len()"
 REDUCED = COUNTED + " && crate::residues::are_reduced(self.moduli, {0})"
 DIVISOR = ((EVERY, "d != 0"),)
+# What must be so of the entries of a loop that returns early where one is beyond its limit (`is_beyond`), which becomes a
+# panic; by function where callers ask for something else.
+BEYOND = "the entries must be below 4m"
 LOOKS = {
+    ("products", "multiply_each"): ((END, "the entries of xs must be below m"),),
     ("transform", "ntt_counted"): (LENGTH, CHECKED, (EVERY, "r.check(g) && root_fits(r, g, xs.len())")),
     ("convolution", "convolve"): (EQUAL, LENGTH, (DEBUG, CHECKED[1] + " && ys.iter().all(|y| r.check(y))"), SUITS),
     ("inverse", "intt"): (LENGTH, CHECKED, SUITS),
@@ -259,13 +263,24 @@ def say(tokens, it, words):
             tokens[closed:closed] = lexed(f", {message}")
 
 
+def end_loops(tokens, it, words):
+    """The early return of a loop over entries becomes a panic."""
+    for at in range(beyond(tokens, it.body) - 1, it.body, -1):
+        if tokens[at].text == "is_beyond" and stands(tokens, beyond(tokens, at + 1), "{ return ; }".split()):
+            place = beyond(tokens, at + 1) + 1
+            tokens[place : place + 1] = lexed(tokens[place].lead + f'panic!("{words}")')
+
+
 def put_looks(tokens, it, file):
     """Puts the tests of the table at the beginning of a body."""
     if tokens[it.body].text == ";":
         return
     key = next((key for key in ((file, it.name), (file.partition("/")[2], it.name)) if key in LOOKS), None)
     FOUND[key].add(file)
+    end_loops(tokens, it, next((words for macro, words, *_ in LOOKS.get(key, ()) if macro == END), BEYOND))
     for macro, test, *before in reversed(LOOKS.get(key, ())):
+        if macro == END:
+            continue
         at = it.body + 1
         if before:
             at = next(at for at in range(at, len(tokens)) if stands(tokens, at, before[0].split()))
