@@ -332,8 +332,8 @@ fn products_by_plans() {
 
 #[test]
 fn residues_of_systems() {
-    panic_with!("each must have a residue below it"; residues::decode(&[3, 5], &[4, 2]), residues::decode(&[3, 5], &[1, 5]));
-    panic_with!("each must have a residue below it"; residues::decode(&[3, 5], &[1]));
+    panic_with!("each modulus must have a residue below it"; residues::decode(&[3, 5], &[4, 2]), residues::decode(&[3, 5], &[1, 5]));
+    panic_with!("each modulus must have a residue below it"; residues::decode(&[3, 5], &[1]));
     panic_with!("the moduli must be a system"; residues::decode(&[3, 0], &[1, 0]), residues::decode(&[u64::MAX; 3], &[1; 3]));
     let words = message(|| residues::decode(&[6, 9], &[1, 2])).unwrap_or_default();
     let wanted = ["the divisor must have an inverse modulo m", "the moduli must be a system"];

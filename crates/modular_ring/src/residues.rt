@@ -115,7 +115,7 @@ pub fn are_reduced(moduli: &[u64], residues: &[u64]) -> bool
 }
 
 /// The only number below the product of the moduli that has these residues. Conditions: the moduli are a system
-/// (`is_system` tells); each has a residue below it (`are_reduced` tells).
+/// (`is_system` tells); each modulus has a residue below it (`are_reduced` tells).
 ///
 /// Source: Garner, "The residue number system"; Knuth, The Art of Computer Programming, volume 2, section 4.3.2,
 /// (24) and (25).
