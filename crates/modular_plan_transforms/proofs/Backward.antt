@@ -11,29 +11,38 @@ use Rattle.modular_transform.proofs.BitReversal.{bits_reversed_below}
 use Rattle.modular_plan_passes.specs.Plans.{numbers, constant, AreRemainders}
 use Rattle.modular_plan_transforms.proofs.NaturalOrder.{number_reordered}
 
--- the list new, in which the entries of old are in bit-reversed order, are the remainders of the list x of which old is
--- the transform
-pub remainders_of_transform : {T : Type 0} (number : T → ℕ) (m g n bits : ℕ) (x : ℕ → ℕ) (old new : List T)
-    → n ≡ 2 ^ bits → length old ≡ n → length new ≡ n → IsReordered (bits_reversed bits) old new
-    → ((j : ℕ) → j < n → transform m g n x j ≡ numbers number old j % m)
-    → AreRemainders m g bits 0 n 1 x (λ i. numbers number new i % m)
-remainders_of_transform number m g n bits x old new whole len len_new reordered are = record {
+-- the transform in bit-reversed order is the remainders modulo X - c
+pub remainders_reversed : (m g n bits : ℕ) (x y : ℕ → ℕ) → n ≡ 2 ^ bits
+    → ((j : ℕ) → j < n → y j ≡ transform m g n x (bits_reversed bits j))
+    → AreRemainders m g bits 0 n 1 x y
+remainders_reversed m g n bits x y whole are = record {
   each = λ j i l first.
       let r = bits_reversed bits j in
-      let below = bits_reversed_below bits j in
-      let r_below : r < n = omega (arith, whole, below) in
       let place : j * 1 + i ≡ j = omega (arith, first) in
       let block : 0 * n + j ≡ j = omega arith in
-      let at = number_reordered number old new j r (omega (arith, len_new, l)) (omega (arith, len, r_below))
-      (λ e. reordered.each j e (omega (arith, len, l))) in
       let terms = sum_below-same n (λ k. x k * g ^ (k * r)) (λ k. x (k * 1 + i) * constant g bits (0 * n + j) ^ k)
       (λ k _. let same : k * 1 + i ≡ k = omega (arith, first) in
       let turn : k * r ≡ r * k = omega arith in
       let power : g ^ (k * r) ≡ constant g bits (0 * n + j) ^ k
       = ap (λ v. g ^ v) turn ∙ pow-mul g r k ∙ ap (λ v. constant g bits v ^ k) (sym block) in
       ap (λ v. x v * g ^ (k * r)) (sym same) ∙ ap (λ v. x (k * 1 + i) * v) power) in
-      ap (λ v. numbers number new v % m) place ∙ ap (λ v. v % m) at ∙ sym (are r r_below) ∙ ap (λ v. v % m) terms;
+      ap y place ∙ are j l ∙ ap (λ v. v % m) terms;
 }
+
+-- the list new, in which the entries of old are in bit-reversed order, are the remainders of the list x of which old is
+-- the transform
+pub remainders_of_transform : {T : Type 0} (number : T → ℕ) (m g n bits : ℕ) (x : ℕ → ℕ) (old new : List T)
+    → n ≡ 2 ^ bits → length old ≡ n → length new ≡ n → IsReordered (bits_reversed bits) old new
+    → ((j : ℕ) → j < n → transform m g n x j ≡ numbers number old j % m)
+    → AreRemainders m g bits 0 n 1 x (λ i. numbers number new i % m)
+remainders_of_transform number m g n bits x old new whole len len_new reordered are =
+    remainders_reversed m g n bits x (λ i. numbers number new i % m) whole
+    (λ j l. let r = bits_reversed bits j in
+    let below = bits_reversed_below bits j in
+    let r_below : r < n = omega (arith, whole, below) in
+    let at = number_reordered number old new j r (omega (arith, len_new, l)) (omega (arith, len, r_below))
+    (λ e. reordered.each j e (omega (arith, len, l))) in
+    ap (λ v. v % m) at ∙ sym (are r r_below))
 
 -- a number of blocks times an entry, times the inverse of the number
 pub unscaled : (m n part v : ℕ) → IsInverse m n part → (n * v * part) % m ≡ v % m

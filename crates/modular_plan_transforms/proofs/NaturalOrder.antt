@@ -1,7 +1,7 @@
 -- Lists in another order; the remainders modulo X - c, put in natural order, are the transform.
 use Rattle.std.proofs.Common.{◌≡◌, ℕ, suc, zero, ◌+◌, ◌-◌, ◌*◌, ◌/◌, ◌%◌, ◌^◌, ◌<◌}
 use Rattle.std.proofs.Common.{◌≤◌, List, [], ◌∷◌, All, get_or, length, inl, inr, refl, sym, ◌∙◌, ap, arith, subst}
-use Rattle.std.proofs.Math.Nat.{two-pow-succ, pow-le-pow_right, mul-div_cancel_left}
+use Rattle.std.proofs.Math.Nat.{two-pow-succ, pow-le-pow_right, mul-div_cancel_left, pow-suc, pow-zero}
 use Rattle.std.proofs.lemmas.Bool.{cases_lt}
 use Rattle.std.proofs.lemmas.Nat.{pow-add, pow_pos}
 use Rattle.modular_word.proofs.Powers.{pow-mul}
@@ -73,6 +73,23 @@ constant_power g d z n bits j k is_more below =
     let same : j * 2 ^ d * k ≡ 2 ^ d * (k * j) = omega arith in
     ap (λ v. (g ^ v) ^ k) turn ∙ sym (pow-mul g (j * 2 ^ d) k) ∙ ap (λ v. g ^ v) same ∙ pow-mul g (2 ^ d) (k * j)
 
+-- remainders modulo X - c by a plan for 2^d times as many entries are the transform, at the index with reversed bits
+pub transform_at_reversed : (m g d z n bits : ℕ) (x y : ℕ → ℕ) → z ≡ bits + d → n ≡ 2 ^ bits
+    → AreRemainders m g z 0 n 1 x y
+    → (j : ℕ) → j < n → y (bits_reversed bits j) ≡ transform m (g ^ (2 ^ d)) n x j
+transform_at_reversed m g d z n bits x y is_more whole remainders j below =
+    let p = bits_reversed bits j in
+    let inside : j < 2 ^ bits = omega (arith, whole, below) in
+    let reversed = bits_reversed_below bits j in
+    let p_below : p < n = omega (arith, whole, reversed) in
+    let place : p ≡ p * 1 + 0 = omega arith in
+    let terms = sum_below-same n (λ k. x (k * 1 + 0) * constant g z (0 * n + p) ^ k)
+    (λ k. x k * (g ^ (2 ^ d)) ^ (k * j))
+    (λ k l. let e : k * 1 + 0 ≡ k = omega arith in
+    ap (λ v. x v * constant g z (0 * n + p) ^ k) e
+    ∙ ap (λ v. x k * v) (constant_power g d z n bits j k is_more inside)) in
+    ap y place ∙ remainders.each p 0 p_below (omega arith) ∙ ap (λ v. v % m) terms
+
 -- the list of remainders modulo X - c, with its places' bits reversed, is the transform
 pub in_natural_order : {T : Type 0} (number : T → ℕ) (m g z n count bits : ℕ) (x : ℕ → ℕ) (split new : List T)
     → n ≡ 2 ^ bits → count ≡ 2 ^ z / 2
@@ -84,19 +101,29 @@ in_natural_order number m g z n count bits x split new whole half within len len
     let d = z - bits in
     let more = no_more_bits bits z n count whole half within in
     let is_more : z ≡ bits + d = omega (arith, more) in
-    let inside : j < 2 ^ bits = omega (arith, whole, below) in
     let reversed = bits_reversed_below bits j in
-    let p_below : p < n = omega (arith, whole, reversed) in
-    let at = number_reordered number split new j p (omega (arith, len_new, below)) (omega (arith, len, p_below))
+    let at = number_reordered number split new j p (omega (arith, len_new, below)) (omega (arith, len, whole, reversed))
     (λ e. reordered.each j e (omega (arith, len, below))) in
-    let place : p ≡ p * 1 + 0 = omega arith in
     let root : 2 ^ z / n ≡ 2 ^ d = ap (λ v. 2 ^ v / n) is_more ∙ ap (λ v. v / n) (pow-add 2 bits d)
     ∙ ap (λ v. 2 ^ bits * 2 ^ d / v) whole
     ∙ mul-div_cancel_left (2 ^ d) (pow_pos bits) in
-    let terms = sum_below-same n (λ k. x (k * 1 + 0) * constant g z (0 * n + p) ^ k)
-    (λ k. x k * (g ^ (2 ^ d)) ^ (k * j))
-    (λ k l. let e : k * 1 + 0 ≡ k = omega arith in
-    ap (λ v. x v * constant g z (0 * n + p) ^ k) e
-    ∙ ap (λ v. x k * v) (constant_power g d z n bits j k is_more inside)) in
-    at ∙ ap (λ v. numbers number split v) place ∙ remainders.each p 0 p_below (omega arith) ∙ ap (λ v. v % m) terms
+    at ∙ transform_at_reversed m g d z n bits x (numbers number split) is_more whole remainders j below
     ∙ ap (λ v. transform m (g ^ v) n x j) (sym root)
+
+-- entry j of the remainders modulo X - c is entry j of the transform in bit-reversed order
+pub transform_reversed : (m g d bits n j : ℕ) (x y : ℕ → ℕ) → n ≡ 2 ^ bits → AreRemainders m g (bits + d) 0 n 1 x y
+    → j < n → y j ≡ transform m (g ^ (2 ^ d)) n x (bits_reversed bits j)
+transform_reversed m g d bits n j x y whole are below =
+    let r = bits_reversed_below bits j in
+    ap y (sym (bits_reversed_twice bits j (omega (arith, whole, below))))
+    ∙ transform_at_reversed m g d (bits + d) n bits x y refl whole are (bits_reversed bits j) (omega (arith, whole, r))
+
+-- the same by a plan for as many entries
+pub transform_reversed_whole : (m g bits n j : ℕ) (x y : ℕ → ℕ) → n ≡ 2 ^ bits → AreRemainders m g bits 0 n 1 x y
+    → j < n → y j ≡ transform m g n x (bits_reversed bits j)
+transform_reversed_whole m g bits n j x y whole are below =
+    let more : bits + 0 ≡ bits = omega arith in
+    let times : 1 * g ≡ g = omega arith in
+    let one : g ^ (2 ^ 0) ≡ g = pow-suc g 0 ∙ ap (λ v. v * g) (pow-zero g) ∙ times in
+    transform_reversed m g 0 bits n j x y whole (subst (λ z. AreRemainders m g z 0 n 1 x y) (sym more) are) below
+    ∙ ap (λ v. transform m v n x (bits_reversed bits j)) one

@@ -11,7 +11,9 @@ ghost use Rattle.modular_word.specs.Inverses.{IsInverse, HasInverse};
 ghost use Rattle.modular_word.specs.Residues.{residue};
 ghost use Rattle.modular_word.specs.Sums.{sum_below};
 ghost use Rattle.modular_symbols.specs.Primes.{IsPrime};
-ghost use Rattle.modular_transform.specs.Transforms.{cyclic_product};
+ghost use Rattle.modular_transform.specs.Orders.{bits_reversed};
+ghost use Rattle.modular_transform.specs.Transforms.{cyclic_product, transform};
+ghost use Rattle.modular_plan_passes.specs.Plans.{AreRemainders};
 ghost use Rattle.num_modular.specs.Polynomials.{polynomial, polynomial_highest_first, HaveUnitDifferences};
 ghost use Rattle.modular_ring.specs.Products.{product_below};
 ghost use Rattle.modular_ring.specs.Ring.{whole, value_at, IsStop, carried_out, IsFit, values_of, HoldValues};
@@ -190,6 +192,21 @@ pub fn coefficient_laws()
         ((i : ℕ) → slice_index xs i ≤ s) → ((j : ℕ) → slice_index ys j ≤ t) → s < m → t < m → n * (s * t) < m →
         length xs + length ys ≤ n + 1 → e < n →
         cyclic_product m n x y e ≡ sum_below (e + 1) (λ i. slice_index xs i * slice_index ys (e - i)) }
+{}
+
+/// The remainders of `split` with b = 0 and last = 1 are the transform in bit-reversed order, by the root g of a plan for
+/// as many entries, or where it is for 2^d times as many by the power of g that suits them. A list in that order is the
+/// remainders, as `join` requires them.
+///
+/// Source: Cooley and Tukey, "An algorithm for the machine calculation of complex Fourier series"; Knuth, The Art of
+/// Computer Programming, volume 2, section 4.6.4.
+pub fn split_laws()
+    ensures transform { (m g bits n j : ℕ) (x y : ℕ → ℕ) → n ≡ 2 ^ bits → AreRemainders m g bits 0 n 1 x y →
+        j < n → y j ≡ transform m g n x (bits_reversed bits j) }
+    ensures shorter { (m g d bits n j : ℕ) (x y : ℕ → ℕ) → n ≡ 2 ^ bits → AreRemainders m g (bits + d) 0 n 1 x y →
+        j < n → y j ≡ transform m (g ^ (2 ^ d)) n x (bits_reversed bits j) }
+    ensures remainders { (m g bits n : ℕ) (x y : ℕ → ℕ) → n ≡ 2 ^ bits →
+        ((j : ℕ) → j < n → y j ≡ transform m g n x (bits_reversed bits j)) → AreRemainders m g bits 0 n 1 x y }
 {}
 
 /// Horner's rule for a polynomial by its coefficients, the constant first, and the same polynomial by these in

@@ -99,8 +99,8 @@ impl<'a, T: PlainWord, F: PlanEntry<T>> Plan<'a, T, F> {
     /// k of x_(k·last + i)·c^k modulo m, the coefficient of the remainder modulo X^last - c, where c is the power of
     /// g by the reversed bits of b·count + j, count being the number of blocks.
     ///
-    /// So b = 0 and last = 1 give the transform in bit-reversed order, and b = 1 starts from a polynomial modulo
-    /// X^h + 1, h being the length of the list. Conditions: the length is `last` times a power of two, and
+    /// So b = 0 and last = 1 give the transform in bit-reversed order (`split_laws`), and b = 1 starts from a polynomial
+    /// modulo X^h + 1, h being the length of the list. Conditions: the length is `last` times a power of two, and
     /// (b + 1)·count is at most n, or count is 1 (`splits` tells); the entries are below 4m.
     ///
     /// # Examples

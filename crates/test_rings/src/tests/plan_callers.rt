@@ -2,18 +2,22 @@
 
 ghost use Rattle.std.specs.Prelude.{◌≡◌, ℕ, ◌+◌, ◌*◌, ◌/◌, ◌%◌, ◌^◌, ◌<◌, ◌≤◌, All, length};
 ghost use Rattle.modular_word.specs.Inverses.{IsInverse};
+ghost use Rattle.modular_transform.specs.Orders.{bits_reversed};
 ghost use Rattle.modular_transform.specs.Transforms.{Suits, transform};
 ghost use Rattle.modular_barrett.specs.Factors.{IsFactorOf};
 ghost use Rattle.modular_plan_passes.specs.Plans.{numbers};
 ghost use Rattle.num_modular.specs.PlanConditions.{AreBlocks};
 
 use modular_barrett::planned::{Factor, PlannedModulus};
+use modular_plan_passes::entry::PlanEntry;
 use modular_plan_passes::plan::plan;
 use modular_plan_transforms::join::join_scaled;
+use modular_plan_transforms::plan::Plan;
 use modular_plan_transforms::split::split;
 use modular_plan_transforms::transform::ntt_planned;
 use modular_prim::plain_word::PlainWord;
 use modular_word::path_word::PathWord;
+use num_modular::laws::split_laws;
 
 /// Block b, split by the plan by g, and joined with the inverse `part` of the number of blocks: every entry has its
 /// former residue.
@@ -58,4 +62,16 @@ pub fn by_first_half<T: PlainWord>(
     plan(m, g, table);
     let half = table.len() / 2;
     ntt_planned(m, xs, &table[..half]);
+}
+
+/// The list split into single entries: the transform, with the bits of the indexes reversed.
+pub fn in_reversed_order<'a, T: PlainWord, F: PlanEntry<T>>(plan: &Plan<'a, T, F>, xs: &mut [T])
+    requires whole { length xs.old ≡ 2 ^ plan.now.bits }
+    requires entries { All (λ x. T.number x < 4 * T.number plan.now.modulus.modulus) xs.old }
+    ensures { (j : ℕ) → j < length xs.old → numbers T.number xs.new j
+        ≡ transform (T.number plan.now.modulus.modulus) (T.number plan.now.root) (length xs.old)
+        (numbers T.number xs.old) (bits_reversed plan.now.bits j) }
+{
+    split_laws();
+    plan.split(xs, 0, 1);
 }
