@@ -1,4 +1,4 @@
-//! Negative numbers in a residue system: the upper half of the range stands for them.
+//! Negative numbers in a residue system, which the upper half of the range represents.
 
 ghost use Rattle.std.specs.Prelude.{◌≡◌, ◌↔◌, ◌<ℤ◌, pos, IsTrue, length};
 ghost use Rattle.std.specs.Ordering.{MatchOrdering};
