@@ -1,6 +1,6 @@
 //! Callers of transforms by a plan.
 
-ghost use Rattle.std.specs.Prelude.{◌≡◌, ◌*◌, ◌/◌, ◌<◌, ◌≤◌, All, length};
+ghost use Rattle.std.specs.Prelude.{◌≡◌, ◌*◌, ◌/◌, ◌<◌, ◌≤◌, IsTrue, All, length};
 ghost use Rattle.std.specs.Int.{IsPowerOfTwo};
 ghost use Rattle.modular_barrett.specs.Factors.{AllFactors};
 
@@ -11,11 +11,21 @@ use modular_plan_transforms::transform::ntt_planned;
 use modular_prim::plain_word::PlainWord;
 use modular_word::path_word::PathWord;
 
-/// Replaces a list by its transform by a plan where the plan is for as many entries. Condition: the entries are below 4m.
-pub fn transform_where_it_fits<T: PlainWord, F: PlanEntry<T>>(plan: &Plan<T, F>, xs: &mut [T])
-    requires { All (λ x. T.number x < 4 * T.number plan.now.modulus.modulus) xs.old }
+/// Whether each entry is below 4m. A loop, since a closure takes longer to prove.
+pub fn all_in_room<T: PlainWord>(m: &PlannedModulus<T>, xs: &[T]) -> bool
+    ensures { IsTrue result → All (λ x. T.number x < 4 * T.number m.now.modulus) xs.now }
 {
-    if plan.fits(xs.len()) {
+    'entries: for i in 0..xs.len() {
+        if !m.has_room(xs[i]) {
+            return false;
+        }
+    }
+    true
+}
+
+/// Replaces a list by its transform by a plan where the plan is for as many entries, and these are below 4m.
+pub fn transform_where_it_fits<T: PlainWord, F: PlanEntry<T>>(plan: &Plan<T, F>, xs: &mut [T]) {
+    if plan.fits(xs.len()) && all_in_room(&plan.modulus(), xs) {
         plan.transform(xs);
     }
 }

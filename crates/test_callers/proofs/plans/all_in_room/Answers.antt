@@ -1,7 +1,7 @@
 use Rattle.std.proofs.Common.{◌*◌, ◌<◌, arith, refl, subst, below_more}
 use Rattle.std.proofs.lemmas.Bool.{false≢true}
 use Rattle.std.proofs.lemmas.List.{get_or_read_under}
-use Rattle.test_rings.proofs.tests.plan_rows.all_in_room.Goals as goal
+use Rattle.test_callers.proofs.plans.all_in_room.Goals as goal
 
 pub entries-init : goal.entries-init
 entries-init g c = λ k l. absurd (omega arith)

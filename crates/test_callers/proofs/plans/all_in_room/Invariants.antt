@@ -1,5 +1,5 @@
 use Rattle.std.proofs.Common.{ℕ, ◌*◌, ◌<◌, get_or}
-use Rattle.test_rings.proofs.tests.plan_rows.all_in_room.Given as goal
+use Rattle.test_callers.proofs.plans.all_in_room.Given as goal
 
 -- the entries before this one are below the bound
 abbrev pub invariant-entries : goal.invariant-entries
