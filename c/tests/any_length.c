@@ -30,14 +30,6 @@ static void known_rows(void) {
     TRANSFORM(7, 3, NUMBERS(9), 1, 2);
 }
 
-/* A call that writes the numbers words and factors out. */
-#define ROOM(want_code, want_words, want_factors, call)                                                                \
-    do {                                                                                                               \
-        size_t words = 77, factors = 77;                                                                               \
-        uint32_t code = (call);                                                                                        \
-        row(#call, code == (want_code) && words == (want_words) && factors == (want_factors), code);                   \
-    } while (0)
-
 static void room_rows(void) {
     ROOM(NM_OK, 0, 0, nm_transform_room(5, &words, &factors));
     ROOM(NM_OK, 36, 0, nm_transform_room(6, &words, &factors));
@@ -46,8 +38,8 @@ static void room_rows(void) {
     ROOM(NM_OK, 6000 + 16384, 6144, nm_transform_room(1000, &words, &factors));
     ROOM(NM_OK, (size_t)UINT64_C(25769803774), (size_t)UINT64_C(6442450944),
          nm_transform_room((size_t)UINT64_C(1431655765), &words, &factors));
-    ROOM(NM_BAD_ARGUMENT, 77, 77, nm_transform_room((size_t)UINT64_C(1431655766), &words, &factors));
-    ROOM(NM_BAD_ARGUMENT, 77, 77, nm_transform_room(SIZE_MAX, &words, &factors));
+    ROOM(NM_BAD_ARGUMENT, 0, 0, nm_transform_room((size_t)UINT64_C(1431655766), &words, &factors));
+    ROOM(NM_BAD_ARGUMENT, 0, 0, nm_transform_room(SIZE_MAX, &words, &factors));
 }
 
 static void root_rows(void) {

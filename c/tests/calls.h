@@ -13,8 +13,8 @@
 
 extern int passed, failed;
 
-/* Puts the digits of 64 bits of a number in place, by its n digits of 16 bits, the lowest first. */
-void pack(const uint16_t *digits, size_t n, uint64_t *words);
+/* Puts the digits of 64 bits of a number in place, by its count digits of 16 bits, the lowest first. */
+void pack(const uint16_t *digits, size_t count, uint64_t *words);
 
 /* Counts a row, and prints one that fails. */
 void row(const char *call, int holds, uint32_t code);
@@ -33,6 +33,15 @@ void row(const char *call, int holds, uint32_t code);
         int32_t out = UNTOUCHED_SYMBOL;                                                                                \
         uint32_t code = (call);                                                                                        \
         row(#call, code == (want_code) && out == (code == NM_OK ? (want) : UNTOUCHED_SYMBOL), code);                   \
+    } while (0)
+
+/* A call that writes the numbers words and factors out. */
+#define ROOM(want_code, want_words, want_factors, call)                                                                \
+    do {                                                                                                               \
+        size_t words = 77, factors = 77;                                                                               \
+        uint32_t code = (call);                                                                                        \
+        int is = code == NM_OK ? words == (want_words) && factors == (want_factors) : words == 77 && factors == 77;    \
+        row(#call, code == (want_code) && is, code);                                                                   \
     } while (0)
 
 /* A call that writes nothing but its code. */

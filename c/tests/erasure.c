@@ -2,19 +2,19 @@
 #include "calls.h"
 
 /* places of a word */
-#define ROOM 200
+#define SCRATCH_LENGTH 200
 static const size_t in_order[16] = {0, 1, 2, 3, 4, 5, 6, 7, 8, 9, 10, 11, 12, 13, 14, 15};
 static const uint64_t counted[16] = {0, 1, 2, 3, 4, 5, 6, 7, 8, 9, 10, 11, 12, 13, 14, 15};
 static const uint64_t word_of_929[7] = {1, 6, 17, 34, 57, 86, 121};
 static nm_montgomery_t of_929, of_1001;
-static uint64_t scratch[ROOM];
+static uint64_t scratch[SCRATCH_LENGTH];
 
 /* the word of three symbols at the points 0 to 6, modulo 929 */
 static void word_rows(void) {
     const uint64_t message[3] = {1, 2, 3}, above[3] = {930, 931, 932}, points[7] = {929, 1, 2, 932, 4, 5, 6};
     uint64_t word[7] = {7, 7, 7, 7, 7, 7, 7};
     LIST(NM_OK, word, nm_erasure_encode(&of_929, counted, 7, message, 3, word, 7, scratch, 10), 1, 6, 17, 34, 57, 86, 121);
-    LIST(NM_OK, word, nm_erasure_encode(&of_929, points, 7, above, 3, word, 7, scratch, ROOM), 1, 6, 17, 34, 57, 86, 121);
+    LIST(NM_OK, word, nm_erasure_encode(&of_929, points, 7, above, 3, word, 7, scratch, SCRATCH_LENGTH), 1, 6, 17, 34, 57, 86, 121);
     const uint64_t other[3] = {500, 700, 999};
     LIST(NM_OK, word, nm_erasure_encode(&of_1001, counted, 7, other, 3, word, 7, scratch, 10), 500, 197, 891, 580, 265, 947, 624);
     LIST(NM_OK, word, nm_erasure_encode(&of_929, counted, 2, NULL, 0, word, 2, scratch, 2), 0, 0, 891, 580);
@@ -51,12 +51,12 @@ static void refused_rows(void) {
     const uint64_t symbols[3] = {1, 2, 1};
     uint64_t message[3] = {7, 7, 7};
 #define RESTORE(places, s, t, room) nm_erasure_restore(&of_1001, counted, 8, places, s, symbols, t, message, 3, scratch, room)
-    LIST(NM_TOO_FEW_SYMBOLS, message, RESTORE(few, 2, 2, ROOM), 7, 7, 7);
-    LIST(NM_PLACE_TWICE, message, RESTORE(twice, 3, 3, ROOM), 7, 7, 7);
-    LIST(NM_PLACE_OUT_OF_RANGE, message, RESTORE(beyond, 3, 3, ROOM), 7, 7, 7);
-    LIST(NM_POINTS_DONT_FIT, message, RESTORE(apart, 3, 3, ROOM), 7, 7, 7);
-    LIST(NM_BAD_ARGUMENT, message, RESTORE(in_order, 3, 2, ROOM), 7, 7, 7);
-    LIST(NM_BAD_ARGUMENT, message, RESTORE(in_order, 2, 3, ROOM), 7, 7, 7);
+    LIST(NM_TOO_FEW_SYMBOLS, message, RESTORE(few, 2, 2, SCRATCH_LENGTH), 7, 7, 7);
+    LIST(NM_PLACE_TWICE, message, RESTORE(twice, 3, 3, SCRATCH_LENGTH), 7, 7, 7);
+    LIST(NM_PLACE_OUT_OF_RANGE, message, RESTORE(beyond, 3, 3, SCRATCH_LENGTH), 7, 7, 7);
+    LIST(NM_POINTS_DONT_FIT, message, RESTORE(apart, 3, 3, SCRATCH_LENGTH), 7, 7, 7);
+    LIST(NM_BAD_ARGUMENT, message, RESTORE(in_order, 3, 2, SCRATCH_LENGTH), 7, 7, 7);
+    LIST(NM_BAD_ARGUMENT, message, RESTORE(in_order, 2, 3, SCRATCH_LENGTH), 7, 7, 7);
     LIST(NM_BAD_ARGUMENT, message, RESTORE(in_order, 3, 3, 19), 7, 7, 7);
     LIST(NM_OK, message, RESTORE(in_order, 3, 3, 20), 1, 2, 1000);
 #undef RESTORE
@@ -164,11 +164,11 @@ static void changed_rows(void) {
     uint64_t out[3] = {7, 7, 7}, number = 77;
     size_t errors = 77;
     changed.square ^= 1;
-    LIST(NM_BAD_CONTEXT, out, nm_erasure_encode(&changed, counted, 3, counted, 3, out, 3, scratch, ROOM), 7, 7, 7);
-    LIST(NM_BAD_CONTEXT, out, nm_erasure_share(&changed, counted + 1, 3, counted, 3, out, 3, scratch, ROOM), 7, 7, 7);
-    LIST(NM_BAD_CONTEXT, out, nm_erasure_restore(&changed, counted, 3, in_order, 3, counted, 3, out, 3, scratch, ROOM), 7, 7, 7);
+    LIST(NM_BAD_CONTEXT, out, nm_erasure_encode(&changed, counted, 3, counted, 3, out, 3, scratch, SCRATCH_LENGTH), 7, 7, 7);
+    LIST(NM_BAD_CONTEXT, out, nm_erasure_share(&changed, counted + 1, 3, counted, 3, out, 3, scratch, SCRATCH_LENGTH), 7, 7, 7);
+    LIST(NM_BAD_CONTEXT, out, nm_erasure_restore(&changed, counted, 3, in_order, 3, counted, 3, out, 3, scratch, SCRATCH_LENGTH), 7, 7, 7);
     LIST(NM_BAD_CONTEXT, out, nm_erasure_correct(&changed, counted, 2, in_order, 2, counted, 2, out, 1, out + 1, 2, scratch,
-                                                 ROOM, &errors, &number), 7, 7, 7);
+                                                 SCRATCH_LENGTH, &errors, &number), 7, 7, 7);
     row("errors and number stay", errors == 77 && number == 77, NM_BAD_CONTEXT);
 }
 

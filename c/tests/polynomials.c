@@ -48,14 +48,6 @@ static void refused_rows(void) {
     REFUSED(nm_polynomial_multiply_negacyclic(M, xs, 2, xs, 3, out, 3, NULL, 0, NULL, 0));
 }
 
-/* A call that writes the numbers words and factors out. */
-#define ROOM(want_code, want_words, want_factors, call)                                                                \
-    do {                                                                                                               \
-        size_t words = 77, factors = 77;                                                                               \
-        uint32_t code = (call);                                                                                        \
-        row(#call, code == (want_code) && words == (want_words) && factors == (want_factors), code);                   \
-    } while (0)
-
 static void room_rows(void) {
     const size_t half = (size_t)UINT64_C(2147483648);
     ROOM(NM_OK, 0, 0, nm_polynomial_room(199, 100000, &words, &factors));
@@ -63,8 +55,8 @@ static void room_rows(void) {
     ROOM(NM_OK, 2048, 768, nm_polynomial_room(200, 312, &words, &factors));
     ROOM(NM_OK, 4096, 1536, nm_polynomial_room(200, 313, &words, &factors));
     ROOM(NM_OK, 8 * half, 3 * half, nm_polynomial_room(half, half, &words, &factors));
-    ROOM(NM_BAD_ARGUMENT, 77, 77, nm_polynomial_room(half, half + 1, &words, &factors));
-    ROOM(NM_BAD_ARGUMENT, 77, 77, nm_polynomial_room(SIZE_MAX, SIZE_MAX, &words, &factors));
+    ROOM(NM_BAD_ARGUMENT, 0, 0, nm_polynomial_room(half, half + 1, &words, &factors));
+    ROOM(NM_BAD_ARGUMENT, 0, 0, nm_polynomial_room(SIZE_MAX, SIZE_MAX, &words, &factors));
 }
 
 /* 1,000 ones modulo 97: entry e of the square is min(e + 1, 1999 - e), and each of the 1,000 entries of the cyclic product

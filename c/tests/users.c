@@ -71,18 +71,9 @@ static void decode_rows(void) {
     NUMBER(NM_BAD_ARGUMENT, 0, 0, nm_decode(too_large, 3, none, 3, &out));
 }
 
-void pack(const uint16_t *digits, size_t n, uint64_t *words) {
-    for (size_t i = 0; i < n; i++) words[i / 4] = (i % 4 ? words[i / 4] : 0) | (uint64_t)digits[i] << 16 * (i % 4);
+void pack(const uint16_t *digits, size_t count, uint64_t *words) {
+    for (size_t i = 0; i < count; i++) words[i / 4] = (i % 4 ? words[i / 4] : 0) | (uint64_t)digits[i] << 16 * (i % 4);
 }
-
-/* A call that writes the numbers words and factors out. */
-#define ROOM(want_code, want_words, want_factors, call)                                                                \
-    do {                                                                                                               \
-        size_t words = 77, factors = 77;                                                                               \
-        uint32_t code = (call);                                                                                        \
-        int is = code == NM_OK ? words == (want_words) && factors == (want_factors) : words == 77 && factors == 77;    \
-        row(#call, code == (want_code) && is, code);                                                                   \
-    } while (0)
 
 static void room_rows(void) {
     const size_t half = (size_t)UINT64_C(2147483648), over = (size_t)UINT64_C(4294967297);

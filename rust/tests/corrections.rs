@@ -1,23 +1,10 @@
 //! Correction of random words, compared with brute force: the polynomials through every choice of k places.
 
+mod words;
+
 use num_modular::applications::ring_codes::erasure::{correct, CorrectError};
 use num_modular::{Reducer, Vanilla};
-
-/// A xorshift generator (Marsaglia, "Xorshift RNGs", 2003).
-struct Random(u64);
-
-impl Random {
-    fn below(&mut self, bound: u64) -> u64 {
-        self.0 ^= self.0 << 13;
-        self.0 ^= self.0 >> 7;
-        self.0 ^= self.0 << 17;
-        self.0 % bound
-    }
-}
-
-fn value(m: u64, message: &[u64], x: u64) -> u64 {
-    message.iter().rev().fold(0, |v, c| (v * x + c) % m)
-}
+use words::{value, Random};
 
 fn inverse(m: u64, a: u64) -> Option<u64> {
     (0..m).find(|x| a * x % m == 1 % m)

@@ -1,24 +1,11 @@
 //! Prepared codes and codes at the powers of a root, compared with values of the polynomial by plain arithmetic.
 
+mod words;
+
 use num_modular::applications::ring_codes::erasure::{encode_by_transform, fill_powers, points_fit, PreparedCode};
 use num_modular::ring::root_fits;
 use num_modular::{Reducer, Vanilla};
-
-/// A xorshift generator (Marsaglia, "Xorshift RNGs", 2003).
-struct Random(u64);
-
-impl Random {
-    fn below(&mut self, bound: u64) -> u64 {
-        self.0 ^= self.0 << 13;
-        self.0 ^= self.0 >> 7;
-        self.0 ^= self.0 << 17;
-        self.0 % bound
-    }
-}
-
-fn value(m: u64, message: &[u64], x: u64) -> u64 {
-    message.iter().rev().fold(0, |v, c| (v * x + c) % m)
-}
+use words::{value, Random};
 
 fn fit(m: u64, points: &[u64]) -> bool {
     let inverted = |a: u64| (0..m).any(|x| a * x % m == 1 % m);
