@@ -92,17 +92,17 @@ pub extern "C" fn nm_divider(d: u64, divider: &mut NmDivider) -> u32
     NM_OK
 }
 
-/// Writes quotient and remainder of a word. `NM_BAD_CONTEXT`: the divider isn't one that `nm_divider` makes.
+/// Writes quotient and remainder of the dividend. `NM_BAD_CONTEXT`: the divider isn't one that `nm_divider` makes.
 #[unsafe(no_mangle)]
-pub extern "C" fn nm_div_rem(divider: &NmDivider, n: u64, division: &mut NmDivision) -> u32
+pub extern "C" fn nm_div_rem(divider: &NmDivider, dividend: u64, division: &mut NmDivision) -> u32
     ensures did { IsDivider divider.now
-        → Did result (IsDivision n divider.now.divisor division.new.quotient division.new.remainder) }
+        → Did result (IsDivision dividend divider.now.divisor division.new.quotient division.new.remainder) }
     ensures bad_context { (IsDivider divider.now → ⊥) → Refused NM_BAD_CONTEXT result division.old division.new }
 {
     if !is_divider(divider) {
         return NM_BAD_CONTEXT;
     }
-    *division = divided(divider, n, 0);
+    *division = divided(divider, dividend, 0);
     NM_OK
 }
 

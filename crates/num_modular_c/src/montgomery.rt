@@ -55,17 +55,17 @@ pub extern "C" fn nm_montgomery(m: u64, context: &mut NmMontgomery) -> u32
     NM_OK
 }
 
-/// Writes the form of n modulo m. `NM_BAD_CONTEXT`: the context isn't one that `nm_montgomery` makes.
+/// Writes the form of the word modulo m. `NM_BAD_CONTEXT`: the context isn't one that `nm_montgomery` makes.
 #[unsafe(no_mangle)]
-pub extern "C" fn nm_montgomery_transform(context: &NmMontgomery, n: u64, form: &mut u64) -> u32
+pub extern "C" fn nm_montgomery_transform(context: &NmMontgomery, word: u64, form: &mut u64) -> u32
     ensures did { let m = context.now.modulus in
-        IsMontgomery context.now → Did result (IsMontgomeryFormOf m form.new (n % m)) }
+        IsMontgomery context.now → Did result (IsMontgomeryFormOf m form.new (word % m)) }
     ensures bad_context { (IsMontgomery context.now → ⊥) → Refused NM_BAD_CONTEXT result form.old form.new }
 {
     let Some(ring) = reducer(context) else {
         return NM_BAD_CONTEXT;
     };
-    *form = ring.transform(n);
+    *form = ring.transform(word);
     NM_OK
 }
 

@@ -16,37 +16,41 @@ use crate::montgomery::{NmMontgomery, reducer};
 use crate::runs::carry_out;
 use crate::transforms::{found_root, multiplied, root_code, transformed};
 
-/// Whether the root suits lists of n words: n is a power of two, and for n above 1 the root to the
+/// Whether the root suits lists of n = `length` words: n is a power of two, and for n above 1 the root to the
 /// power n/2 is -1 modulo m. `NM_NO_ROOT`: it doesn't. `NM_BAD_CONTEXT`: the context isn't one that
 /// `nm_montgomery` makes.
 #[unsafe(no_mangle)]
-pub extern "C" fn nm_montgomery_root_fits(context: &NmMontgomery, root: u64, n: usize) -> u32
-    ensures fits { let m = context.now.modulus in IsMontgomery context.now → Suits m (root % m) n → result ≡ NM_OK }
+pub extern "C" fn nm_montgomery_root_fits(context: &NmMontgomery, root: u64, length: usize) -> u32
+    ensures fits { let m = context.now.modulus in IsMontgomery context.now → Suits m (root % m) length → result ≡ NM_OK }
     ensures no_root { let m = context.now.modulus in
-        IsMontgomery context.now → (Suits m (root % m) n → ⊥) → result ≡ NM_NO_ROOT }
+        IsMontgomery context.now → (Suits m (root % m) length → ⊥) → result ≡ NM_NO_ROOT }
     ensures bad_context { (IsMontgomery context.now → ⊥) → result ≡ NM_BAD_CONTEXT }
 {
     match reducer(context) {
-        Some(ring) => root_code(&ring, root, n),
+        Some(ring) => root_code(&ring, root, length),
         None => NM_BAD_CONTEXT,
     }
 }
 
-/// Writes a root that suits lists of n words: x to the power (m - 1)/n, rounded down, for the least x from 2 to 255
+/// Writes a root that suits lists of n = `length` words: x to the power (m - 1)/n, rounded down, for the least x from 2 to 255
 /// for which it does. `NM_NO_ROOT`: it does for no x, as where n is no power of two. `NM_BAD_CONTEXT`: as for
 /// `nm_montgomery_root_fits`.
 #[unsafe(no_mangle)]
-pub extern "C" fn nm_montgomery_find_root(context: &NmMontgomery, n: usize, root: &mut u64) -> u32
+pub extern "C" fn nm_montgomery_find_root(
+    context: &NmMontgomery,
+    length: usize,
+    root: &mut u64,
+) -> u32
     ensures did { let m = context.now.modulus in
-        IsMontgomery context.now → ((x : ℕ) × (2 ≤ x) × (x < 256) × Suits m (root_by m n x) n) → Did result
-        ((x : ℕ) × (x < 256) × IsFirstBase m n x × (root.new ≡ root_by m n x)) }
+        IsMontgomery context.now → ((x : ℕ) × (2 ≤ x) × (x < 256) × Suits m (root_by m length x) length) → Did result
+        ((x : ℕ) × (x < 256) × IsFirstBase m length x × (root.new ≡ root_by m length x)) }
     ensures no_root { let m = context.now.modulus in
-        IsMontgomery context.now → ((x : ℕ) → 2 ≤ x → x < 256 → Suits m (root_by m n x) n → ⊥)
+        IsMontgomery context.now → ((x : ℕ) → 2 ≤ x → x < 256 → Suits m (root_by m length x) length → ⊥)
         → Refused NM_NO_ROOT result root.old root.new }
     ensures bad_context { (IsMontgomery context.now → ⊥) → Refused NM_BAD_CONTEXT result root.old root.new }
 {
     match reducer(context) {
-        Some(ring) => found_root(&ring, n, root),
+        Some(ring) => found_root(&ring, length, root),
         None => NM_BAD_CONTEXT,
     }
 }

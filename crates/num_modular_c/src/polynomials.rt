@@ -13,25 +13,25 @@ use long_product::polynomials::{
     multiply_cyclic_once, multiply_negacyclic_once, multiply_once, room,
 };
 
-/// Writes the lengths of the two scratch lists of the products of polynomials with n and k coefficients: 0 where one has
-/// fewer than `LEAST_TRANSFORMED` of `long_product::polynomials`, else 4·e words and 3·e/2 factors, e being the least
+/// Writes the lengths of the two scratch lists of the products of polynomials with n = `xs_length` and k = `ys_length`
+/// coefficients: 0 where one has fewer than `LEAST_TRANSFORMED` of `long_product::polynomials`, else 4·e words and 3·e/2 factors, e being the least
 /// power of two that is at least n + k. `NM_BAD_ARGUMENT`: n + k is above 2^32.
 #[unsafe(no_mangle)]
 pub extern "C" fn nm_polynomial_room(
-    n: usize,
-    k: usize,
+    xs_length: usize,
+    ys_length: usize,
     words: &mut usize,
     factors: &mut usize,
 ) -> u32
-    ensures did { n + k ≤ 2 ^ 32 → Did result ((w f : ℕ) → HasProductRoom n k w (f / 3)
+    ensures did { xs_length + ys_length ≤ 2 ^ 32 → Did result ((w f : ℕ) → HasProductRoom xs_length ys_length w (f / 3)
         ↔ ((words.new ≤ w) × (factors.new ≤ f))) }
-    ensures bad_argument { 2 ^ 32 < n + k → BothRefused NM_BAD_ARGUMENT result words.old words.new
+    ensures bad_argument { 2 ^ 32 < xs_length + ys_length → BothRefused NM_BAD_ARGUMENT result words.old words.new
         factors.old factors.new }
 {
-    if n > MOST_PLACES || k > MOST_PLACES - n {
+    if xs_length > MOST_PLACES || ys_length > MOST_PLACES - xs_length {
         return NM_BAD_ARGUMENT;
     }
-    let (needed, table) = room(n, k);
+    let (needed, table) = room(xs_length, ys_length);
     *words = needed;
     *factors = 3 * table;
     NM_OK

@@ -21,26 +21,26 @@ fn solinas() -> FixedTrinomialSolinas64<64, 32, 1>
     <FixedTrinomialSolinas64<64, 32, 1> as Reducer<u64>>::new(&NM_SOLINAS)
 }
 
-/// Whether the root suits lists of n words: n is a power of two, and for n above 1 the root to the
+/// Whether the root suits lists of n = `length` words: n is a power of two, and for n above 1 the root to the
 /// power n/2 is -1 modulo 2^64 - 2^32 + 1. `NM_NO_ROOT`: it doesn't.
 #[unsafe(no_mangle)]
-pub extern "C" fn nm_solinas_root_fits(root: u64, n: usize) -> u32
-    ensures fits { Suits NM_SOLINAS (root % NM_SOLINAS) n → result ≡ NM_OK }
-    ensures no_root { (Suits NM_SOLINAS (root % NM_SOLINAS) n → ⊥) → result ≡ NM_NO_ROOT }
+pub extern "C" fn nm_solinas_root_fits(root: u64, length: usize) -> u32
+    ensures fits { Suits NM_SOLINAS (root % NM_SOLINAS) length → result ≡ NM_OK }
+    ensures no_root { (Suits NM_SOLINAS (root % NM_SOLINAS) length → ⊥) → result ≡ NM_NO_ROOT }
 {
-    root_code(&solinas(), root, n)
+    root_code(&solinas(), root, length)
 }
 
-/// Writes a root that suits lists of n words: x to the power (m - 1)/n, rounded down, for the least x from 2 to 255
+/// Writes a root that suits lists of n = `length` words: x to the power (m - 1)/n, rounded down, for the least x from 2 to 255
 /// for which it does, m being 2^64 - 2^32 + 1. `NM_NO_ROOT`: it does for no x, as where n is no power of two.
 #[unsafe(no_mangle)]
-pub extern "C" fn nm_solinas_find_root(n: usize, root: &mut u64) -> u32
-    ensures did { ((x : ℕ) × (2 ≤ x) × (x < 256) × Suits NM_SOLINAS (root_by NM_SOLINAS n x) n) → Did result
-        ((x : ℕ) × (x < 256) × IsFirstBase NM_SOLINAS n x × (root.new ≡ root_by NM_SOLINAS n x)) }
-    ensures no_root { ((x : ℕ) → 2 ≤ x → x < 256 → Suits NM_SOLINAS (root_by NM_SOLINAS n x) n → ⊥)
+pub extern "C" fn nm_solinas_find_root(length: usize, root: &mut u64) -> u32
+    ensures did { ((x : ℕ) × (2 ≤ x) × (x < 256) × Suits NM_SOLINAS (root_by NM_SOLINAS length x) length) → Did result
+        ((x : ℕ) × (x < 256) × IsFirstBase NM_SOLINAS length x × (root.new ≡ root_by NM_SOLINAS length x)) }
+    ensures no_root { ((x : ℕ) → 2 ≤ x → x < 256 → Suits NM_SOLINAS (root_by NM_SOLINAS length x) length → ⊥)
         → Refused NM_NO_ROOT result root.old root.new }
 {
-    found_root(&solinas(), n, root)
+    found_root(&solinas(), length, root)
 }
 
 /// Replaces the words by their transform by the root: entry j is the sum of x_i·root^(i·j) modulo 2^64 - 2^32 + 1.

@@ -14,8 +14,8 @@ greatest n few long = (
 
 pub overflow_mul-factors : goal.overflow_mul-factors
 overflow_mul-factors c =
-    let few : 3 * c.args.n ≤ 4294967296 = omega arith in
-    let most = ((c.room-needed.ensures 34359738368 2147483648).0 (greatest c.args.n few)).1 in
+    let few : 3 * c.args.length ≤ 4294967296 = omega arith in
+    let most = ((c.room-needed.ensures 34359738368 2147483648).0 (greatest c.args.length few)).1 in
     omega (arith, most)
 
 pub returns-clause-did : goal.returns-clause-did

@@ -11,8 +11,8 @@ greatest n k few = record {
 
 pub overflow_mul-factors : goal.overflow_mul-factors
 overflow_mul-factors c =
-    let few : c.args.n + c.args.k ≤ 4294967296 = omega arith in
-    let most = ((c.room-needed.ensures 17179869184 2147483648).0 (greatest c.args.n c.args.k few)).1 in
+    let few : c.args.xs_length + c.args.ys_length ≤ 4294967296 = omega arith in
+    let most = ((c.room-needed.ensures 17179869184 2147483648).0 (greatest c.args.xs_length c.args.ys_length few)).1 in
     omega (arith, most)
 
 pub returns-clause-did : goal.returns-clause-did
