@@ -58,6 +58,10 @@ LOOKS = {
     },
     ("lists", "scale_list"): ((DEBUG, "r.check(factor) && xs.iter().all(|x| r.check(x))"),),
     **{(file, "add_products"): (EQUAL,) for file in ("reducer", "odd_ring", "montgomery", "premul")},
+    ("hashes", "is_hit"): (
+        (DEBUG, "at <= text.len() && pattern.len() <= text.len() - at"),
+        (DEBUG, "window == wanted || &text[at..at + pattern.len()] != pattern"),
+    ),
     ("ring", "run"): (
         (DEBUG, "all_checked(r, regs)"),
         (DEBUG, "commands_fit(commands, regs.len())"),

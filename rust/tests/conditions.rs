@@ -4,6 +4,7 @@
 #![allow(unstable_name_collisions)]
 
 use num_modular::applications::check_digits;
+use num_modular::hashes;
 use num_modular::plans::{
     convolve_block, convolve_negacyclic, convolve_planned, join, ntt_planned, plan, split, Factor, Plan, PlanEntry, PlannedModulus,
 };
@@ -328,6 +329,16 @@ fn products_by_plans() {
         convolve_block(&modulus, &mut [1, 2, 3, 4], &mut [1, 2, 3, 4], &table, 0, 0));
     panic_with!(format!("{lengths}: 4 entries, 2 factors, b = 1, last = 1");
         convolve_negacyclic(&modulus, &mut [1, 2, 3, 4], &mut [1, 2, 3, 4], &table, 1));
+}
+
+#[test]
+fn hits() {
+    let base = hashes::base(1000);
+    let (wanted, other) = (hashes::hash(base, b"cad"), hashes::hash(base, b"aca"));
+    assert!(hashes::is_hit(wanted, wanted, b"abracadabra", b"cad", 4));
+    panic_in_debug_with!("the text must have as many bytes from the position on as the pattern";
+        hashes::is_hit(wanted, other, b"abracadabra", b"cad", 9));
+    panic_in_debug_with!("the hashes must be equal if the pattern occurs there"; hashes::is_hit(wanted, other, b"abracadabra", b"cad", 4));
 }
 
 #[test]

@@ -96,9 +96,23 @@ pub fn moved(base: Hash, power: Hash, window: Hash, first: u8, next: u8) -> Hash
     longer - power * first as u64
 }
 
-// Whether the pattern occurs in the text at a position. The bytes are compared only where the hashes of the window
-// and of the pattern are equal.
-fn is_hit(wanted: Hash, window: Hash, text: &[u8], pattern: &[u8], at: usize) -> bool
+/// Whether the pattern occurs in the text at a position, given its hash, `wanted`, and that of the window there, both by
+/// one base (`hash`, `moved`). The bytes are compared only where the two are equal. Conditions: the text has as many bytes
+/// from the position on as the pattern; the hashes are equal if the pattern occurs there.
+///
+/// Source: Karp and Rabin, "Efficient randomized pattern-matching algorithms".
+///
+/// # Examples
+///
+/// ```
+/// use num_modular::hashes::{base, hash, is_hit};
+///
+/// let base = base(1000);
+/// let wanted = hash(base, b"cad");
+/// assert!(is_hit(wanted, hash(base, b"cad"), b"abracadabra", b"cad", 4));
+/// assert!(!is_hit(wanted, hash(base, b"aca"), b"abracadabra", b"cad", 3));
+/// ```
+pub fn is_hit(wanted: Hash, window: Hash, text: &[u8], pattern: &[u8], at: usize) -> bool
     requires within { at + length pattern.now ≤ length text.now }
     requires alike { slice_range text.now at (at + length pattern.now) ≡ pattern.now →
         residue_of window ≡ residue_of wanted }

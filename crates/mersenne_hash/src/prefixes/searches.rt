@@ -1,14 +1,13 @@
 //! Searches for several patterns of one length at once.
 
 ghost use Rattle.std.specs.Prelude.{◌≡◌, ℕ, ◌+◌, ◌*◌, ◌<◌, ◌≤◌, ◌↔◌, IsTrue, map, length, slice_index, MatchOption};
-ghost use Rattle.std.specs.Prelude.{slice_range};
 ghost use Rattle.num_modular.specs.Integers.{residue_of};
 ghost use Rattle.num_modular.specs.Hashes.{StandsAt};
 ghost use Rattle.mersenne_hash.specs.Collisions.{hash_of};
 ghost use Rattle.mersenne_hash.specs.Patterns.{pattern_of, IsFirstPattern, IsNextPattern};
 
 use crate::prefixes::PrefixHashes;
-use num_modular::hashes::{Hash, hash};
+use num_modular::hashes::{Hash, hash, is_hit};
 
 /// Patterns of one length, a base, and the patterns' hashes at that base, in a list of the caller.
 ///
@@ -68,17 +67,6 @@ fn fill_hashes(base: Hash, size: usize, symbols: &[u8], hashes: &mut [Hash])
         let start = k * size;
         hashes[k] = hash(base, &symbols[start..start + size]);
     }
-}
-
-// Whether the pattern occurs in the text at a position. The bytes are compared only where the hashes of the window
-// and of the pattern are equal.
-fn is_hit(text: &[u8], at: usize, window: Hash, pattern: &[u8], wanted: Hash) -> bool
-    requires within { at + length pattern.now ≤ length text.now }
-    requires alike { slice_range text.now at (at + length pattern.now) ≡ pattern.now →
-        residue_of window ≡ residue_of wanted }
-    ensures { IsTrue result ↔ StandsAt text.now pattern.now at }
-{
-    window == wanted && &text[at..at + pattern.len()] == pattern
 }
 
 impl<'a> Patterns<'a> {
@@ -168,7 +156,7 @@ impl<'a> PrefixHashes<'a> {
         'patterns: for k in 0..patterns.hashes.len() {
             let start = k * size;
             let pattern = &patterns.symbols[start..start + size];
-            if is_hit(self.text, at, window, pattern, patterns.hashes[k]) {
+            if is_hit(patterns.hashes[k], window, self.text, pattern, at) {
                 return Some(k);
             }
         }
