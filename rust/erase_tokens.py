@@ -2,7 +2,7 @@
 import re
 from dataclasses import dataclass
 
-ATTRIBUTES = {"derive", "cfg", "cfg_attr", "allow", "inline", "test", "must_use", "track_caller", "doc", "repr", "unsafe"}
+ATTRIBUTES = {"derive", "cfg", "cfg_attr", "cold", "allow", "inline", "test", "must_use", "track_caller", "doc", "repr", "unsafe"}
 TOKEN = re.compile(
     r"""(?P<space>\s+)|(?P<comment>//[^\n]*)
     |(?P<text>b?r(?P<marks>\#*)".*?"(?P=marks)|[bc]?"(?:\\.|[^"\\])*"|b?'(?:\\(?:u\{[^}]*\}|x..|.)|[^'\\])')
