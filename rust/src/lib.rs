@@ -1,9 +1,14 @@
 //! Modular rings over machine words, by the names of the crate `num-modular`.
 //!
 //! The root exports the traits, types and aliases, and the bounds of generic code over them. Beside the modules of the
-//! Rust crate there are `commands` (lists of commands run over any reducer) and `transforms`, both also in `ring`,
-//! `plans` (transforms by a table), `families` (the generic types behind the aliases), `hashes` (polynomial hashes and
-//! a search), `residues` (residue number systems) and `applications`.
+//! Rust crate there are:
+//!
+//! - `commands` (lists of commands run over any reducer) and `transforms`, both also in `ring`
+//! - `plans`: transforms by a table
+//! - `families`: the generic types behind the aliases
+//! - `hashes`: polynomial hashes and a search
+//! - `residues`: residue number systems
+//! - `applications`: what stands on the library
 #![cfg_attr(not(test), no_std)]
 #![forbid(unsafe_code)]
 #![doc = include_str!("../README.md")]

@@ -3,6 +3,7 @@
 pub(crate) mod computed;
 pub mod exact;
 pub mod lanes;
+mod list_products;
 pub mod normalized;
 pub mod one_by_one;
 pub mod planned;

@@ -2,6 +2,7 @@
 
 #[cfg(test)]
 pub mod laws;
+pub mod list_products;
 pub mod modular_integer;
 pub mod power;
 pub mod reduced_int;

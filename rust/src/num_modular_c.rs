@@ -17,6 +17,7 @@ pub mod polynomials;
 pub mod prefixes;
 pub mod residues;
 pub mod runs;
+pub mod searches;
 pub mod solinas;
 pub mod symbols;
 pub mod transforms;

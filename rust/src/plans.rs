@@ -2,9 +2,9 @@
 //! a quarter of the base. An entry of the table is a `Factor`, or a struct of the caller (`PlanEntry`). `ring` has
 //! the transforms that need no table, over any reducer, and `find_root`.
 //!
-//! `Plan` knows that its table is a plan, and asks only for lists that fit. A struct that owns its table can't keep a
-//! `Plan`: it makes one at each call (`Plan::over`), or calls the functions over a table, which also ask for the table's
-//! factors.
+//! `Plan` knows that its table is a plan, and asks only for lists that fit. It borrows the table, so a struct that owns its
+//! table can't keep a `Plan`: it calls the functions over a table, which also ask for the table's factors.
+//! `Plan::with_table` tests the whole table.
 
 pub use crate::modular_barrett::planned::{Factor, PlannedModulus};
 pub use crate::modular_plan_passes::entry::PlanEntry;

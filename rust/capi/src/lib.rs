@@ -49,16 +49,16 @@ impl NmPlan {
 
 #[no_mangle]
 pub unsafe extern "C" fn nm_transform_room(
-    n: usize,
+    length: usize,
     words: &mut usize,
     factors: &mut usize,
 ) -> u32 {
-    c::any_length::nm_transform_room(n, words, factors)
+    c::any_length::nm_transform_room(length, words, factors)
 }
 
 #[no_mangle]
-pub unsafe extern "C" fn nm_transform_root_fits(m: u64, g: u64, n: usize) -> u32 {
-    c::any_length::nm_transform_root_fits(m, g, n)
+pub unsafe extern "C" fn nm_transform_root_fits(m: u64, g: u64, order: usize) -> u32 {
+    c::any_length::nm_transform_root_fits(m, g, order)
 }
 
 #[no_mangle]
@@ -101,10 +101,10 @@ pub unsafe extern "C" fn nm_divider(d: u64, divider: &mut c::dividers::NmDivider
 #[no_mangle]
 pub unsafe extern "C" fn nm_div_rem(
     divider: &c::dividers::NmDivider,
-    n: u64,
+    dividend: u64,
     division: &mut c::dividers::NmDivision,
 ) -> u32 {
-    c::dividers::nm_div_rem(divider, n, division)
+    c::dividers::nm_div_rem(divider, dividend, division)
 }
 
 #[no_mangle]
@@ -193,10 +193,10 @@ pub unsafe extern "C" fn nm_montgomery(m: u64, context: &mut c::montgomery::NmMo
 #[no_mangle]
 pub unsafe extern "C" fn nm_montgomery_transform(
     context: &c::montgomery::NmMontgomery,
-    n: u64,
+    word: u64,
     form: &mut u64,
 ) -> u32 {
-    c::montgomery::nm_montgomery_transform(context, n, form)
+    c::montgomery::nm_montgomery_transform(context, word, form)
 }
 
 #[no_mangle]
@@ -261,18 +261,18 @@ pub unsafe extern "C" fn nm_montgomery_inv(
 pub unsafe extern "C" fn nm_montgomery_root_fits(
     context: &c::montgomery::NmMontgomery,
     root: u64,
-    n: usize,
+    length: usize,
 ) -> u32 {
-    c::montgomery_lists::nm_montgomery_root_fits(context, root, n)
+    c::montgomery_lists::nm_montgomery_root_fits(context, root, length)
 }
 
 #[no_mangle]
 pub unsafe extern "C" fn nm_montgomery_find_root(
     context: &c::montgomery::NmMontgomery,
-    n: usize,
+    length: usize,
     root: &mut u64,
 ) -> u32 {
-    c::montgomery_lists::nm_montgomery_find_root(context, n, root)
+    c::montgomery_lists::nm_montgomery_find_root(context, length, root)
 }
 
 #[no_mangle]
@@ -496,12 +496,12 @@ pub unsafe extern "C" fn nm_plan_fits(
 
 #[no_mangle]
 pub unsafe extern "C" fn nm_polynomial_room(
-    n: usize,
-    k: usize,
+    xs_length: usize,
+    ys_length: usize,
     words: &mut usize,
     factors: &mut usize,
 ) -> u32 {
-    c::polynomials::nm_polynomial_room(n, k, words, factors)
+    c::polynomials::nm_polynomial_room(xs_length, ys_length, words, factors)
 }
 
 #[no_mangle]
@@ -643,13 +643,29 @@ pub unsafe extern "C" fn nm_residues_extend(
 }
 
 #[no_mangle]
-pub unsafe extern "C" fn nm_solinas_root_fits(root: u64, n: usize) -> u32 {
-    c::solinas::nm_solinas_root_fits(root, n)
+pub unsafe extern "C" fn nm_find_all(
+    x: u64,
+    text: *const u8,
+    text_length: usize,
+    patterns: *const u8,
+    patterns_length: usize,
+    size: usize,
+    hashes: *mut u64,
+    hashes_length: usize,
+    found: *mut usize,
+    found_length: usize,
+) -> u32 {
+    c::searches::nm_find_all(x, list(text, text_length), list(patterns, patterns_length), size, list_mut(hashes, hashes_length), list_mut(found, found_length))
 }
 
 #[no_mangle]
-pub unsafe extern "C" fn nm_solinas_find_root(n: usize, root: &mut u64) -> u32 {
-    c::solinas::nm_solinas_find_root(n, root)
+pub unsafe extern "C" fn nm_solinas_root_fits(root: u64, length: usize) -> u32 {
+    c::solinas::nm_solinas_root_fits(root, length)
+}
+
+#[no_mangle]
+pub unsafe extern "C" fn nm_solinas_find_root(length: usize, root: &mut u64) -> u32 {
+    c::solinas::nm_solinas_find_root(length, root)
 }
 
 #[no_mangle]
@@ -733,12 +749,12 @@ pub unsafe extern "C" fn nm_decode(
 
 #[no_mangle]
 pub unsafe extern "C" fn nm_product_room(
-    n: usize,
-    k: usize,
+    xs_length: usize,
+    ys_length: usize,
     words: &mut usize,
     factors: &mut usize,
 ) -> u32 {
-    c::users::nm_product_room(n, k, words, factors)
+    c::users::nm_product_room(xs_length, ys_length, words, factors)
 }
 
 #[no_mangle]

@@ -42,8 +42,8 @@ pub fn length_hash(base: Hash, text: &[u8]) -> Hash {
 /// ```
 #[inline]
 pub fn same_hashes(bases: &[u64], first: &[u8], second: &[u8]) -> bool {
-    for n in bases {
-        let base = base(*n);
+    for entry in bases.iter() {
+        let base = base(*entry);
         if hash(base, first) != hash(base, second) {
             return false;
         }

@@ -1,10 +1,13 @@
 //! The reducer whose forms are the values shifted to the top of the word.
 
+use crate::modular_barrett::list_products::reduced_products;
 use crate::modular_barrett::normalized::Normalized2by1Divisor;
 use crate::modular_prim::below::{add_below, dbl_below, neg_below, sub_below};
 use crate::modular_prim::inverse::fast_inverse;
 use crate::modular_prim::plain_word::PlainWord;
+use crate::modular_reduced::list_products::block;
 use crate::modular_reduced::reducer::Reducer;
+use crate::modular_word::path_word::PathWord;
 
 /// The reducer of a modulus m that is at least 1, by division of a double word. With s the leading zeros of m, the
 /// form of a value v is v·2^s, and the divisor is m·2^s, whose top bit is set.
@@ -112,6 +115,13 @@ impl<T: PlainWord> PreMulInv2by1<T> {
     }
 }
 
+// Whether one of the lowest bits of a word is set, where `check` tests them first. At these widths compilers then branch
+// on its two tests, which takes less time than computing both. Condition: `count` is below the width.
+#[inline]
+fn is_refused_first<T: PathWord>(f: T, count: u32) -> bool {
+    (T::bits() == 16 || T::bits() == 64) && !f.low_bits(count).is_zero_word()
+}
+
 impl<T: PlainWord> Reducer<T> for PreMulInv2by1<T> {
     #[inline]
     #[track_caller]
@@ -130,6 +140,9 @@ impl<T: PlainWord> Reducer<T> for PreMulInv2by1<T> {
 
     #[inline]
     fn check(&self, f: &T) -> bool {
+        if is_refused_first(*f, self.shift) {
+            return false;
+        }
         if f.is_below(self.divisor()) {
             f.low_bits(self.shift).is_zero_word()
         } else {
@@ -176,6 +189,21 @@ impl<T: PlainWord> Reducer<T> for PreMulInv2by1<T> {
     fn mul(&self, a: &T, b: &T) -> T {
         let value = self.residue(*a);
         self.divider.div_rem_2by1(value.product(*b)).1
+    }
+
+    // Products are added as whole numbers and reduced once a block.
+    #[track_caller]
+    fn add_products(&self, sum: T, xs: &[T], ys: &[T]) -> T {
+        assert!(ys.len() == xs.len(), "the lists must have the same length: {} and {}", xs.len(), ys.len());
+        let mut total = sum;
+        let mut from = 0;
+        while from < xs.len() {
+            let to = from + block::<T>().min(xs.len() - from);
+            let reduced = reduced_products(&self.divider, self.shift, xs, ys, from, to);
+            total = add_below(total, reduced, self.divisor());
+            from = to;
+        }
+        total
     }
 
     #[inline]

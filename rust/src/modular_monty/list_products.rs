@@ -1,30 +1,10 @@
-//! Sums of products of two lists of words, which are reduced once for many products.
+//! Sums of products of two lists of words, reduced by Montgomery's reduction once for many products.
 
 use crate::modular_monty::odd_ring::{OddModulus, OddRing};
 use crate::modular_prim::below::add_below;
 use crate::modular_prim::reducer_word::ReducerWord;
+use crate::modular_reduced::list_products::carried_sum;
 use crate::modular_reduced::reducer::Reducer;
-use crate::modular_word::path_word::PathWord;
-
-// The number of products that are added before a reduction. It is below the base, so that the carries fit a word.
-#[inline]
-pub(crate) fn block<T: PathWord>() -> usize {
-    if T::bits() < 16 { 255 } else { 65535 }
-}
-
-// The sum of the products of the entries from index `from` to `to` - 1: its lowest two words, and the carries.
-fn carried_sum<T: PathWord>(xs: &[T], ys: &[T], from: usize, to: usize) -> (T::Double, T) {
-    let mut sum = T::merge(T::zero(), T::zero());
-    let mut carries = T::zero();
-    for i in from..to {
-        let (low, carry) = T::double_overflowing_add(sum, xs[i].product(ys[i]));
-        sum = low;
-        if carry {
-            carries = carries.plus(T::one());
-        }
-    }
-    (sum, carries)
-}
 
 // The remainder of a word modulo m. It is often below m, as the high word of few products is.
 #[inline]

@@ -1,10 +1,11 @@
 //! Odd moduli by Montgomery's representation: the reducer that every reducer of this crate is an alias of or
 //! contains, over any type that holds an odd modulus and reduces by it.
 
-use crate::modular_monty::list_products::{block, reduced_products};
+use crate::modular_monty::list_products::reduced_products;
 use crate::modular_monty::neg_mod_inv::neginv;
 use crate::modular_prim::below::{add_below, branchless_sub_below, dbl_below, neg_below, sub_below};
 use crate::modular_prim::reducer_word::ReducerWord;
+use crate::modular_reduced::list_products::block;
 use crate::modular_reduced::reducer::Reducer;
 use crate::modular_word::path_word::PathWord;
 use crate::modular_word::paths::redc;

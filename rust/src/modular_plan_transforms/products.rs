@@ -12,7 +12,7 @@ pub(crate) fn multiply_each<T: PlainWord>(m: &PlannedModulus<T>, xs: &mut [T], y
         let x = xs[i];
         // Unreachable (see `is_beyond`).
         if m.is_beyond(x) {
-            panic!("the entries must be below 4m");
+            panic!("the entries of xs must be below m");
         }
         xs[i] = m.multiply(x, ys[i]);
     }

@@ -8,8 +8,9 @@ use crate::modular_word::paths::{div_2by1, neginv, redc, two};
 
 /// The residue of the power of `base` to `exp`, below m; that of 1 for the exponent 0.
 ///
-/// The exponents 0, 1 and 2 take one division at most. For greater ones, no step divides a double word of more than
-/// 16 bits: products are reduced by Montgomery's reduction for an odd m, by the reciprocal of m for an even one.
+/// The exponents 0, 1 and 2 take one division at most, and 3 takes two in words of at most 16 bits. Otherwise no step
+/// divides a double word of more than 16 bits: products are reduced by Montgomery's reduction for an odd m, by the
+/// reciprocal of m for an even one.
 ///
 /// # Panics
 ///
@@ -18,7 +19,11 @@ use crate::modular_word::paths::{div_2by1, neginv, redc, two};
 pub fn powm<T: PlainWord>(base: T, exp: T, m: T) -> T {
     let one = T::one();
     if two::<T>().is_below(exp) {
-        power_below(reduced(base, m), exp, m)
+        if T::bits() <= 16 && exp.minus(one) == two::<T>() {
+            cube(base, m)
+        } else {
+            power_below(reduced(base, m), exp, m)
+        }
     } else if exp.is_zero_word() {
         reduced(one, m)
     } else if exp.is_odd() {
@@ -26,6 +31,14 @@ pub fn powm<T: PlainWord>(base: T, exp: T, m: T) -> T {
     } else {
         sqm(base, m)
     }
+}
+
+// The residue of the third power, by a division for each product: in words of at most 16 bits the divisions take less
+// time than what the other methods compute first. Condition: m is at least 1.
+#[inline]
+#[cfg_attr(debug_assertions, track_caller)]
+fn cube<T: PlainWord>(base: T, m: T) -> T {
+    mulm(sqm(base, m), base, m)
 }
 
 // The residue of the power of a base below m, by the method for the width and the parity of m.

@@ -77,10 +77,32 @@ pub fn moved(base: Hash, power: Hash, window: Hash, first: u8, next: u8) -> Hash
     longer - power * first as u64
 }
 
-// Whether the pattern occurs in the text at a position. The bytes are compared only where the hashes of the window
-// and of the pattern are equal.
+/// Whether the pattern occurs in the text at a position, given its hash, `wanted`, and that of the window there, both by
+/// one base (`hash`, `moved`). The bytes are compared only where the two are equal.
+///
+/// Source: Karp and Rabin, "Efficient randomized pattern-matching algorithms".
+///
+/// # Panics
+///
+/// A debug build panics unless the text has as many bytes from the position on as the pattern, and the
+/// hashes are equal if the pattern occurs there. A release build doesn't test that, and outside it
+/// panics, or returns no meaningful result.
+///
+/// # Examples
+///
+/// ```
+/// use num_modular::hashes::{base, hash, is_hit};
+///
+/// let base = base(1000);
+/// let wanted = hash(base, b"cad");
+/// assert!(is_hit(wanted, hash(base, b"cad"), b"abracadabra", b"cad", 4));
+/// assert!(!is_hit(wanted, hash(base, b"aca"), b"abracadabra", b"cad", 3));
+/// ```
 #[inline]
-fn is_hit(wanted: Hash, window: Hash, text: &[u8], pattern: &[u8], at: usize) -> bool {
+#[cfg_attr(debug_assertions, track_caller)]
+pub fn is_hit(wanted: Hash, window: Hash, text: &[u8], pattern: &[u8], at: usize) -> bool {
+    debug_assert!(at <= text.len() && pattern.len() <= text.len() - at, "the text must have as many bytes from the position on as the pattern");
+    debug_assert!(window == wanted || &text[at..at + pattern.len()] != pattern, "the hashes must be equal if the pattern occurs there");
     window == wanted && &text[at..at + pattern.len()] == pattern
 }
 

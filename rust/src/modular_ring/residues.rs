@@ -105,7 +105,7 @@ pub fn are_reduced(moduli: &[u64], residues: &[u64]) -> bool {
 ///
 /// # Panics
 ///
-/// Panics unless the moduli are a system (`is_system` tells), and each has a residue below it
+/// Panics unless the moduli are a system (`is_system` tells), and each modulus has a residue below it
 /// (`are_reduced` tells).
 ///
 /// # Examples
@@ -118,7 +118,7 @@ pub fn are_reduced(moduli: &[u64], residues: &[u64]) -> bool {
 #[track_caller]
 pub fn decode(moduli: &[u64], residues: &[u64]) -> u128 {
     assert!(crate::additions::may_be_system(moduli), "the moduli must be a system");
-    assert!(residues.len() >= moduli.len() && are_reduced(moduli, residues), "each must have a residue below it");
+    assert!(residues.len() >= moduli.len() && are_reduced(moduli, residues), "each modulus must have a residue below it");
     let mut number: u128 = 0;
     let mut range: u128 = 1;
     for (place, modulus) in moduli.iter().enumerate() {

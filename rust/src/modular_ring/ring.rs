@@ -267,7 +267,8 @@ fn quotient<T: RingWord, R: Reducer<T>>(r: &R, a: &T, b: T) -> Option<T> {
 // The form that a command writes; `None` exactly where its inverse doesn't exist. Condition: the command is no sum,
 // difference or product, since `run` computes these itself.
 //
-// Kept out of line, so that the loop of `run` stays small.
+// Kept out of line and cold, so that the loop of `run` stays small and sums, differences and products go straight on.
+#[cold]
 #[inline(never)]
 #[track_caller]
 fn computed_form<T: RingWord, R: Reducer<T>, C: AsCommand<T>>(

@@ -76,13 +76,13 @@ pub fn nm_divider(d: u64, divider: &mut NmDivider) -> u32 {
     NM_OK
 }
 
-/// Writes quotient and remainder of a word. `NM_BAD_CONTEXT`: the divider isn't one that `nm_divider` makes.
+/// Writes quotient and remainder of the dividend. `NM_BAD_CONTEXT`: the divider isn't one that `nm_divider` makes.
 #[inline]
-pub fn nm_div_rem(divider: &NmDivider, n: u64, division: &mut NmDivision) -> u32 {
+pub fn nm_div_rem(divider: &NmDivider, dividend: u64, division: &mut NmDivision) -> u32 {
     if !is_divider(divider) {
         return NM_BAD_CONTEXT;
     }
-    *division = divided(divider, n, 0);
+    *division = divided(divider, dividend, 0);
     NM_OK
 }
 

@@ -43,13 +43,13 @@ pub fn nm_montgomery(m: u64, context: &mut NmMontgomery) -> u32 {
     NM_OK
 }
 
-/// Writes the form of n modulo m. `NM_BAD_CONTEXT`: the context isn't one that `nm_montgomery` makes.
+/// Writes the form of the word modulo m. `NM_BAD_CONTEXT`: the context isn't one that `nm_montgomery` makes.
 #[inline]
-pub fn nm_montgomery_transform(context: &NmMontgomery, n: u64, form: &mut u64) -> u32 {
+pub fn nm_montgomery_transform(context: &NmMontgomery, word: u64, form: &mut u64) -> u32 {
     let ring = match reducer(context) { Some(it) => it, None => {
         return NM_BAD_CONTEXT;
     } };
-    *form = ring.transform(n);
+    *form = ring.transform(word);
     NM_OK
 }
 

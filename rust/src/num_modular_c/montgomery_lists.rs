@@ -6,24 +6,28 @@ use crate::num_modular_c::montgomery::{NmMontgomery, reducer};
 use crate::num_modular_c::runs::carry_out;
 use crate::num_modular_c::transforms::{found_root, multiplied, root_code, transformed};
 
-/// Whether the root suits lists of n words: n is a power of two, and for n above 1 the root to the
+/// Whether the root suits lists of n = `length` words: n is a power of two, and for n above 1 the root to the
 /// power n/2 is -1 modulo m. `NM_NO_ROOT`: it doesn't. `NM_BAD_CONTEXT`: the context isn't one that
 /// `nm_montgomery` makes.
 #[inline]
-pub fn nm_montgomery_root_fits(context: &NmMontgomery, root: u64, n: usize) -> u32 {
+pub fn nm_montgomery_root_fits(context: &NmMontgomery, root: u64, length: usize) -> u32 {
     match reducer(context) {
-        Some(ring) => root_code(&ring, root, n),
+        Some(ring) => root_code(&ring, root, length),
         None => NM_BAD_CONTEXT,
     }
 }
 
-/// Writes a root that suits lists of n words: x to the power (m - 1)/n, rounded down, for the least x from 2 to 255
+/// Writes a root that suits lists of n = `length` words: x to the power (m - 1)/n, rounded down, for the least x from 2 to 255
 /// for which it does. `NM_NO_ROOT`: it does for no x, as where n is no power of two. `NM_BAD_CONTEXT`: as for
 /// `nm_montgomery_root_fits`.
 #[inline]
-pub fn nm_montgomery_find_root(context: &NmMontgomery, n: usize, root: &mut u64) -> u32 {
+pub fn nm_montgomery_find_root(
+    context: &NmMontgomery,
+    length: usize,
+    root: &mut u64,
+) -> u32 {
     match reducer(context) {
-        Some(ring) => found_root(&ring, n, root),
+        Some(ring) => found_root(&ring, length, root),
         None => NM_BAD_CONTEXT,
     }
 }

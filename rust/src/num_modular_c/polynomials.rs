@@ -7,20 +7,20 @@ use crate::applications::long_product::polynomials::{
     multiply_cyclic_once, multiply_negacyclic_once, multiply_once, room,
 };
 
-/// Writes the lengths of the two scratch lists of the products of polynomials with n and k coefficients: 0 where one has
-/// fewer than `LEAST_TRANSFORMED` of `long_product::polynomials`, else 4·e words and 3·e/2 factors, e being the least
+/// Writes the lengths of the two scratch lists of the products of polynomials with n = `xs_length` and k = `ys_length`
+/// coefficients: 0 where one has fewer than `LEAST_TRANSFORMED` of `long_product::polynomials`, else 4·e words and 3·e/2 factors, e being the least
 /// power of two that is at least n + k. `NM_BAD_ARGUMENT`: n + k is above 2^32.
 #[inline]
 pub fn nm_polynomial_room(
-    n: usize,
-    k: usize,
+    xs_length: usize,
+    ys_length: usize,
     words: &mut usize,
     factors: &mut usize,
 ) -> u32 {
-    if n > MOST_PLACES || k > MOST_PLACES - n {
+    if xs_length > MOST_PLACES || ys_length > MOST_PLACES - xs_length {
         return NM_BAD_ARGUMENT;
     }
-    let (needed, table) = room(n, k);
+    let (needed, table) = room(xs_length, ys_length);
     *words = needed;
     *factors = 3 * table;
     NM_OK

@@ -69,7 +69,7 @@ fn decode_long(
             system.digits(residues, digits);
             system.words(digits, words);
         }
-        None => panic!("the moduli must be above 0 and coprime in pairs, each has a residue below it, room for a digit and for an inverse, and there must be no fewer words"),
+        None => panic!("the moduli must be above 0 and coprime in pairs, each must have a residue below it, room for a digit and for an inverse, and there must be no fewer words"),
     }
 }
 

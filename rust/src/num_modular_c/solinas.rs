@@ -11,18 +11,18 @@ fn solinas() -> FixedTrinomialSolinas64<64, 32, 1> {
     <FixedTrinomialSolinas64<64, 32, 1> as Reducer<u64>>::new(&NM_SOLINAS)
 }
 
-/// Whether the root suits lists of n words: n is a power of two, and for n above 1 the root to the
+/// Whether the root suits lists of n = `length` words: n is a power of two, and for n above 1 the root to the
 /// power n/2 is -1 modulo 2^64 - 2^32 + 1. `NM_NO_ROOT`: it doesn't.
 #[inline]
-pub fn nm_solinas_root_fits(root: u64, n: usize) -> u32 {
-    root_code(&solinas(), root, n)
+pub fn nm_solinas_root_fits(root: u64, length: usize) -> u32 {
+    root_code(&solinas(), root, length)
 }
 
-/// Writes a root that suits lists of n words: x to the power (m - 1)/n, rounded down, for the least x from 2 to 255
+/// Writes a root that suits lists of n = `length` words: x to the power (m - 1)/n, rounded down, for the least x from 2 to 255
 /// for which it does, m being 2^64 - 2^32 + 1. `NM_NO_ROOT`: it does for no x, as where n is no power of two.
 #[inline]
-pub fn nm_solinas_find_root(n: usize, root: &mut u64) -> u32 {
-    found_root(&solinas(), n, root)
+pub fn nm_solinas_find_root(length: usize, root: &mut u64) -> u32 {
+    found_root(&solinas(), length, root)
 }
 
 /// Replaces the words by their transform by the root: entry j is the sum of x_i·root^(i·j) modulo 2^64 - 2^32 + 1.

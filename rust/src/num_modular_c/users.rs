@@ -59,15 +59,20 @@ pub fn nm_decode(moduli: &[u64], residues: &[u64], number: &mut NmDouble) -> u32
     NM_OK
 }
 
-/// Writes the lengths of the two scratch slices of `nm_product` for numbers of n and k digits: 0 where one of the
-/// numbers has fewer than 400 digits, else 4·e words and 3·e/2 factors, e being the least power of two that is at
+/// Writes the lengths of the two scratch slices of `nm_product` for numbers of n = `xs_length` and k = `ys_length`
+/// digits: 0 where one of the numbers has fewer than 400 digits, else 4·e words and 3·e/2 factors, e being the least power of two that is at
 /// least n + k. `NM_BAD_ARGUMENT`: n + k is above 2^32.
 #[inline]
-pub fn nm_product_room(n: usize, k: usize, words: &mut usize, factors: &mut usize) -> u32 {
-    if n > MOST_PLACES || k > MOST_PLACES - n {
+pub fn nm_product_room(
+    xs_length: usize,
+    ys_length: usize,
+    words: &mut usize,
+    factors: &mut usize,
+) -> u32 {
+    if xs_length > MOST_PLACES || ys_length > MOST_PLACES - xs_length {
         return NM_BAD_ARGUMENT;
     }
-    let (needed, table) = room(n, k);
+    let (needed, table) = room(xs_length, ys_length);
     *words = needed;
     *factors = 3 * table;
     NM_OK

@@ -86,8 +86,8 @@ impl<'a, T: PlainWord, F: PlanEntry<T>> Plan<'a, T, F> {
     /// k of x_(k·last + i)·c^k modulo m, the coefficient of the remainder modulo X^last - c, where c is the power of
     /// g by the reversed bits of b·count + j, count being the number of blocks.
     ///
-    /// So b = 0 and last = 1 give the transform in bit-reversed order, and b = 1 starts from a polynomial modulo
-    /// X^h + 1, h being the length of the list.
+    /// So b = 0 and last = 1 give the transform in bit-reversed order, and b = 1 starts from a polynomial
+    /// modulo X^h + 1, h being the length of the list.
     ///
     /// # Panics
     ///
@@ -109,7 +109,7 @@ impl<'a, T: PlainWord, F: PlanEntry<T>> Plan<'a, T, F> {
     #[inline]
     #[track_caller]
     pub fn split(&self, xs: &mut [T], b: usize, last: usize) {
-        assert!(self.splits(xs.len(), b, last), "the length must be `last` times a power of two, and (b + 1)·count must be at most n, or count is 1");
+        assert!(self.splits(xs.len(), b, last), "the length must be `last` times a power of two, and (b + 1)·count must be at most n, or count must be 1");
         debug_assert!(xs.iter().all(|x| self.modulus.has_room(*x)), "the entries must be below 4m");
         split(&self.modulus, xs, self.table, b, last);
     }
@@ -137,7 +137,7 @@ impl<'a, T: PlainWord, F: PlanEntry<T>> Plan<'a, T, F> {
     #[inline]
     #[track_caller]
     pub fn join(&self, xs: &mut [T], b: usize, last: usize) {
-        assert!(self.splits(xs.len(), b, last), "the length must be `last` times a power of two, and (b + 1)·count must be at most n, or count is 1");
+        assert!(self.splits(xs.len(), b, last), "the length must be `last` times a power of two, and (b + 1)·count must be at most n, or count must be 1");
         debug_assert!(xs.iter().all(|x| self.modulus.has_room(*x)), "the entries must be below 4m");
         let part = self.part(xs.len() / last);
         join_scaled(&self.modulus, xs, self.table, b, last, &part);
@@ -197,7 +197,7 @@ impl<'a, T: PlainWord, F: PlanEntry<T>> Plan<'a, T, F> {
     #[track_caller]
     pub fn convolve_block(&self, xs: &mut [T], ys: &mut [T], b: usize, last: usize) {
         assert!(ys.len() == xs.len(), "the lists must have the same length h");
-        assert!(self.convolves(xs.len(), b, last), "`last` must be 1 or 2, h is `last` times a power of two, and (b + 1)·h/last must be at most n");
+        assert!(self.convolves(xs.len(), b, last), "`last` must be 1 or 2, h must be `last` times a power of two, and (b + 1)·h/last must be at most n");
         debug_assert!(xs.iter().chain(ys.iter()).all(|x| self.modulus.has_room(*x)), "the entries must be below 4m");
         let part = self.part(xs.len() / last);
         convolve_scaled(&self.modulus, xs, ys, self.table, b, last, &part);

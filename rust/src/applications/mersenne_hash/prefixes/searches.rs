@@ -1,7 +1,7 @@
 //! Searches for several patterns of one length at once.
 
 use crate::applications::mersenne_hash::prefixes::PrefixHashes;
-use crate::hashes::{Hash, hash};
+use crate::hashes::{Hash, hash, is_hit};
 
 /// Patterns of one length, a base, and the patterns' hashes at that base, in a list of the caller.
 ///
@@ -53,13 +53,6 @@ fn fill_hashes(base: Hash, size: usize, symbols: &[u8], hashes: &mut [Hash]) {
         let start = k * size;
         *entry = hash(base, &symbols[start..start + size]);
     }
-}
-
-// Whether the pattern occurs in the text at a position. The bytes are compared only where the hashes of the window
-// and of the pattern are equal.
-#[inline]
-fn is_hit(text: &[u8], at: usize, window: Hash, pattern: &[u8], wanted: Hash) -> bool {
-    window == wanted && &text[at..at + pattern.len()] == pattern
 }
 
 impl<'a> Patterns<'a> {
@@ -145,7 +138,7 @@ impl<'a> PrefixHashes<'a> {
         for k in 0..patterns.hashes.len() {
             let start = k * size;
             let pattern = &patterns.symbols[start..start + size];
-            if is_hit(self.text, at, window, pattern, patterns.hashes[k]) {
+            if is_hit(patterns.hashes[k], window, self.text, pattern, at) {
                 return Some(k);
             }
         }

@@ -1,4 +1,4 @@
-//! Negative numbers in a residue system: the upper half of the range stands for them.
+//! Negative numbers in a residue system, which the upper half of the range represents.
 
 use crate::applications::residue_numbers::mixed_radix::System;
 use core::cmp::Ordering;

@@ -1,8 +1,10 @@
 //! Callers of plans, proved from their contracts alone; no test runs them.
 
 use crate::modular_barrett::planned::{Factor, PlannedModulus};
+use crate::modular_plan_passes::entry::PlanEntry;
 use crate::modular_plan_passes::plan::plan;
 use crate::modular_plan_transforms::join::join_scaled;
+use crate::modular_plan_transforms::plan::Plan;
 use crate::modular_plan_transforms::split::split;
 use crate::modular_plan_transforms::transform::ntt_planned;
 use crate::modular_prim::plain_word::PlainWord;
@@ -34,4 +36,9 @@ pub fn by_first_half<T: PlainWord>(
     plan(m, g, table);
     let half = table.len() / 2;
     ntt_planned(m, xs, &table[..half]);
+}
+
+/// The list split into single entries: the transform, with the bits of the indexes reversed.
+pub fn in_reversed_order<'a, T: PlainWord, F: PlanEntry<T>>(plan: &Plan<'a, T, F>, xs: &mut [T]) {
+    plan.split(xs, 0, 1);
 }

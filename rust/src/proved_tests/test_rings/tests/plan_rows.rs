@@ -10,6 +10,7 @@ use crate::plans::{
     Factor, PlanEntry, PlannedModulus, convolve_block, convolve_negacyclic, convolve_planned,
     convolves, join, join_scaled, multiply, ntt_planned, plan, split, splits,
 };
+use crate::proved_tests::test_callers::plans::all_in_room;
 
 /// What is called: on one list `split`, `join`, `join_scaled` with a number, or `ntt_planned`; on two lists
 /// `multiply`, or `convolve_block`, whose blocks 0 and 1 have functions of their own.
@@ -34,17 +35,7 @@ pub struct Row<'a, T> {
     pub want: &'a [T],
 }
 
-/// Whether each entry is below 4m. A loop, since a closure takes longer to prove.
-pub fn all_in_room<T: PlainWord>(m: &PlannedModulus<T>, xs: &[T]) -> bool {
-    'entries: for i in 0..xs.len() {
-        if !m.has_room(xs[i]) {
-            return false;
-        }
-    }
-    true
-}
-
-/// Whether each entry is below m.
+/// Whether each entry is below m. A loop, since a closure takes longer to prove.
 pub fn all_below<T: PlainWord>(m: &PlannedModulus<T>, xs: &[T]) -> bool {
     'entries: for i in 0..xs.len() {
         if !xs[i].is_below(m.modulus) {

@@ -1,9 +1,10 @@
 //! Known transforms, remainders and products by a plan as one value.
 
-use super::plan_rows::{Row, all_below, all_in_room, are_same, placed};
+use super::plan_rows::{Row, all_below, are_same, placed};
 use super::{assert_at, assert_right};
 use crate::modular_prim::plain_word::PlainWord;
 use crate::plans::{Factor, Plan, PlanEntry, PlannedModulus};
+use crate::proved_tests::test_callers::plans::all_in_room;
 
 // What is called on two lists: `transform` on both, and then `inverse` on the second, by the plan or by the shorter one
 // for so many entries; `split` and `join` in the same way; or a product.

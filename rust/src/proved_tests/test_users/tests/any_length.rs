@@ -123,28 +123,23 @@ fn roots_of_orders() {
     }
 }
 
-// Whether neither transform of two values is written to so many places.
-fn is_refused<F: PlanEntry<u64>>(m: u64, g: u64, places: usize, plans: &Plans<F>) -> bool {
-    let mut out = [7; 3];
-    if places > 3 {
-        return false;
-    }
-    !ntt(m, g, &[1, 2], &mut out[..places], &mut [], plans)
-        && !intt(m, g, &[1, 2], &mut out[..places], &mut [], plans)
-        && out == [7; 3]
+// Whether neither transform of two values is written to the list.
+fn is_refused<F: PlanEntry<u64>>(m: u64, g: u64, out: &mut [u64], plans: &Plans<F>) -> bool {
+    !ntt(m, g, &[1, 2], out, &mut [], plans) && !intt(m, g, &[1, 2], out, &mut [], plans)
 }
 
 // And that only the transform back needs an inverse of the length.
 fn refuse<F: PlanEntry<u64>>(a: &mut [F], b: &mut [F], c: &mut [F]) -> bool {
-    let mut out = [7; 2];
+    let mut out = [7; 3];
     match fill_plans(a, b, c) {
         Some(plans) => {
-            is_refused(0, 1, 2, &plans)
-                && is_refused(9, 6, 2, &plans)
-                && is_refused(9, 2, 3, &plans)
-                && !intt(8, 7, &[1, 2], &mut out, &mut [], &plans)
-                && ntt(8, 7, &[1, 2], &mut out, &mut [], &plans)
-                && out == [3, 7]
+            is_refused(0, 1, &mut out[..2], &plans)
+                && is_refused(9, 6, &mut out[..2], &plans)
+                && is_refused(9, 2, &mut out, &plans)
+                && out == [7; 3]
+                && !intt(8, 7, &[1, 2], &mut out[..2], &mut [], &plans)
+                && ntt(8, 7, &[1, 2], &mut out[..2], &mut [], &plans)
+                && out == [3, 7, 7]
         }
         None => false,
     }

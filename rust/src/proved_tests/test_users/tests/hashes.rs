@@ -4,7 +4,7 @@ use super::assert_at;
 use crate::applications::mersenne_hash::prefixes::{Patterns, PrefixHashes, are_pattern_lengths};
 use crate::applications::mersenne_hash::{length_hash, same_hashes};
 use crate::ModularInteger;
-use crate::hashes::{Hash, base, find, hash, moved};
+use crate::hashes::{Hash, base, find, hash, is_hit, moved};
 
 // A text, a pattern, and the first position where it occurs.
 const SEARCHES: &[(&[u8], &[u8], Option<usize>)] = &[
@@ -35,11 +35,33 @@ fn finds_each(base: Hash) -> bool {
     true
 }
 
+// Whether the pattern occurs at a position, by the hashes of both.
+fn occurs(base: Hash, text: &[u8], pattern: &[u8], at: usize) -> bool {
+    if at > text.len() || text.len() - at < pattern.len() {
+        return false;
+    }
+    let window = hash(base, &text[at..at + pattern.len()]);
+    let wanted = hash(base, pattern);
+    is_hit(wanted, window, text, pattern, at)
+}
+
+// Whether each pattern occurs at this position, or else doesn't at the first.
+fn hits_each(base: Hash) -> bool {
+    for (text, pattern, position) in SEARCHES {
+        let at = position.unwrap_or(0);
+        if occurs(base, text, pattern, at) != position.is_some() {
+            return false;
+        }
+    }
+    true
+}
+
 #[test]
 fn searches() {
     let rt = crate::runtime::HostRuntime;
     for n in [0, 1, 256, 1000003, 2305843009213693950] {
         check!(&rt, 1; finds_each(base(n)));
+        check!(&rt, 2; hits_each(base(n)));
     }
 }
 
