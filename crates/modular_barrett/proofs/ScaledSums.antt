@@ -1,6 +1,6 @@
 -- Sums of products of scaled forms, and their reduction.
 use Rattle.std.proofs.Common.{◌≡◌, ℕ, ◌+◌, ◌*◌, ◌/◌, ◌%◌, ◌^◌, ◌<◌, ◌≤◌, sym, ap, ap₂, ◌∙◌, subst, arith}
-use Rattle.std.proofs.Math.Nat.{add-mul-div_left, add-mul-div_right, add-mul-mod_self_left, div-le_self}
+use Rattle.std.proofs.Math.Nat.{add-mul-div_left, add-mul-div_right, add-mul-mod_self_left, div-add-mod, div-le_self}
 use Rattle.std.proofs.Math.Nat.{mul-div_cancel_left, mul-le-mul_left, mul-le-mul_right}
 use Rattle.std.proofs.Math.Pow.{pow_mono}
 use Rattle.std.proofs.lemmas.Nat.{pow-add, pow_pos}
@@ -8,7 +8,7 @@ use Rattle.modular_prim.proofs.Scaled.{remainder_of}
 use Rattle.modular_word.specs.Congruence.{Congruent}
 use Rattle.modular_word.specs.Division.{IsDivision}
 use Rattle.modular_word.specs.Sums.{sum_below}
-use Rattle.modular_word.proofs.Congruence.{mod_of_eq, mod_trans, mod_add, residue_of}
+use Rattle.modular_word.proofs.Congruence.{mod_of_eq, mod_refl, mod_trans, mod_add, mod_mul, residue_of}
 use Rattle.modular_word.proofs.Sums.{sum_below-same, sum_below-mul, sum_below-joined}
 use Rattle.modular_reduced.proofs.FormLemmas.{Answered, answered, form_of_value}
 use Rattle.modular_barrett.specs.Scaling.{scale, scaled_form, scaled_value, IsScaling}
@@ -43,20 +43,27 @@ shifted_fits {w} {b} s k low high above below base parts some is low_is high_fit
     let small = div-le_self low (2 ^ s) in
     omega (arith, is, low_is, most, wide, two, small)
 
--- a sum in three words that is a multiple of p^2, reduced word by word but for the lowest and divided by p
-pub sum_reduced : {b d c s p first second r q q' q'' : ℕ} (low high e v : ℕ) → 0 < p → b ≡ p * e
-    → s ≡ low + b * high → IsDivision c d q first → IsDivision (high + b * first) d q' second
-    → IsDivision ((low + b * second) / p) d q'' r → s + b * b * c ≡ p * (p * v) → r ≡ (p * v) % d
-sum_reduced {b} {d} {c} {s} {p} {first} {second} {r} {q} {q'} {q''} low high e v some base parts one two three is =
-    let k = q' + b * q in
-    let top : b * b * c ≡ b * b * (q * d + first) = ap (λ n. b * b * n) one.whole in
-    let middle : b * (high + b * first) ≡ b * (q' * d + second) = ap (λ n. b * n) two.whole in
+-- a word with carries above it, whose remainder is taken first
+pub carries_reduced : {first r : ℕ} (d b high c : ℕ) → first ≡ c % d → r ≡ (high + b * first) % d
+    → r ≡ (high + b * c) % d
+carries_reduced {first} {r} d b high c first_is is =
+    let carries : Congruent d first c = mod_trans (mod_of_eq first_is) (residue_of c) in
+    is ∙ (mod_add (mod_refl high) (mod_mul (mod_refl b) carries)).same
+
+-- a sum in three words that is a multiple of p^2, reduced but for the lowest word and divided by p
+pub sum_reduced : {b d s p rest r q : ℕ} (low high c e v : ℕ) → 0 < p → b ≡ p * e → s ≡ low + b * high
+    → rest ≡ (high + b * c) % d → IsDivision ((low + b * rest) / p) d q r → s + b * b * c ≡ p * (p * v)
+    → r ≡ (p * v) % d
+sum_reduced {b} {d} {s} {p} {rest} {r} {q} low high c e v some base parts upper division is =
+    let k = (high + b * c) / d in
+    let top : b * (high + b * c) ≡ b * (d * k + rest) =
+    let whole = div-add-mod (high + b * c) d in ap (λ n. b * n) (omega (arith, whole, upper)) in
     let multiple : b * (d * k) ≡ p * (d * (e * k)) = ap (λ n. n * (d * k)) base ∙ omega arith in
-    let whole : low + b * second + p * (d * (e * k)) ≡ p * (p * v) = omega (arith, top, middle, multiple, parts, is) in
-    let quotient : (low + b * second) / p + d * (e * k) ≡ p * v =
-    sym (add-mul-div_left (low + b * second) (d * (e * k)) some) ∙ ap (λ n. n / p) whole
+    let whole : low + b * rest + p * (d * (e * k)) ≡ p * (p * v) = omega (arith, top, multiple, parts, is) in
+    let quotient : (low + b * rest) / p + d * (e * k) ≡ p * v =
+    sym (add-mul-div_left (low + b * rest) (d * (e * k)) some) ∙ ap (λ n. n / p) whole
     ∙ mul-div_cancel_left (p * v) some in
-    remainder_of three ∙ sym (add-mul-mod_self_left ((low + b * second) / p) d (e * k)) ∙ ap (λ n. n % d) quotient
+    remainder_of division ∙ sym (add-mul-mod_self_left ((low + b * rest) / p) d (e * k)) ∙ ap (λ n. n % d) quotient
 
 -- the sum of the products of forms, by that of the products of their values
 pub scaled_products : {m p : ℕ} (w n : ℕ) (x y : ℕ → ℕ) → p ≡ scale w m

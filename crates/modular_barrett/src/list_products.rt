@@ -7,6 +7,7 @@ use crate::normalized::{Normalized2by1Divisor, StoredDivisor};
 use modular_prim::plain_word::PlainWord;
 use modular_reduced::list_products::carried_sum;
 use modular_word::path_word::PathWord;
+use modular_word::ring_word::RingWord;
 
 // The double word divided by a power of two, rounded down. Condition: `by` is below the width.
 fn shifted<T: PathWord>(low: T, high: T, by: u32) -> T::Double
@@ -18,6 +19,18 @@ fn shifted<T: PathWord>(low: T, high: T, by: u32) -> T::Double
     }
     let above = high.shift_left_wide(T::bits() - by);
     T::double_plus(above, T::merge(low.shift_right(by), T::zero()))
+}
+
+// The remainder of a word with carries above it. Few products have no carries, and need no division by the reciprocal.
+fn upper<T: PlainWord>(divider: &Normalized2by1Divisor<T>, word: T, carries: T) -> T
+    ensures { let d = ⟦<Normalized2by1Divisor<T> as StoredDivisor>⟧.divisor divider.now in
+        T.number result ≡ (T.number word + T.base * T.number carries) % d }
+{
+    if carries.is_zero_word() {
+        return divider.div_rem_1by1(word).1;
+    }
+    let rest = divider.div_rem_1by1(carries).1;
+    divider.div_rem_2by1(T::merge(word, rest)).1
 }
 
 // Of the sum of the products of the entries from index `from` to `to` - 1, divided by 2^shift: the remainder. Each entry
@@ -42,7 +55,6 @@ pub(crate) fn reduced_products<T: PlainWord>(
 {
     let (sum, carries) = carried_sum(xs, ys, from, to);
     let (low, high) = T::split(sum);
-    let first = divider.div_rem_1by1(carries).1;
-    let second = divider.div_rem_2by1(T::merge(high, first)).1;
-    divider.div_rem_2by1(shifted(low, second, shift)).1
+    let rest = upper(divider, high, carries);
+    divider.div_rem_2by1(shifted(low, rest, shift)).1
 }

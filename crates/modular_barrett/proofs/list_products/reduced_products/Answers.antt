@@ -11,7 +11,6 @@ returns g c =
     let parts : b ≡ 2 ^ s * 2 ^ k = base_parts s k g.met.T.PathWord.base_is (omega (arith, c.requires.shift)) in
     let sum : g.T.PathWord.double_number c.carried_sum-sum.result.0 + b * b * number c.carried_sum-sum.result.1
     ≡ 2 ^ s * (2 ^ s * v) = omega (arith, c.carried_sum-sum.ensures, whole) in
-    sum_reduced (number c.split-low.result.0) (number c.split-low.result.1) (2 ^ k) v (pow_pos s) parts
-    c.split-low.ensures.value c.div_rem_1by1-first.ensures
-    (rw c.merge.ensures.value at c.div_rem_2by1-second.ensures)
-    (rw c.shifted.ensures at c.div_rem_2by1.ensures) sum
+    sum_reduced (number c.split-low.result.0) (number c.split-low.result.1) (number c.carried_sum-sum.result.1)
+    (2 ^ k) v (pow_pos s) parts
+    c.split-low.ensures.value c.upper-rest.ensures (rw c.shifted.ensures at c.div_rem_2by1.ensures) sum
