@@ -1,6 +1,6 @@
-//! Known values of the crates that use `num_modular`, and the names of its public items.
+//! Known values of the crates that use `num_modular`, and callers of its laws.
 #![tactic(auto)]
 
-mod names;
+mod law_callers;
 #[cfg(test)]
 mod tests;
