@@ -16,8 +16,10 @@ fn main() {
     println!("cargo:rustc-link-search=native={}", folder.display());
     println!("cargo:rustc-link-lib=static=modular_bench");
     println!("cargo:rustc-env=RUSTC_VERSION={}", compiler());
-    println!("cargo:rerun-if-changed={}", folder.join("libmodular_bench.a").display());
-    link_moved(&folder.join("libmodular_bench.a"));
+    for (prefix, name) in [("", "libmodular_bench.a"), ("within_", "libmodular_bench_within.a")] {
+        println!("cargo:rerun-if-changed={}", folder.join(name).display());
+        link_moved(prefix, &folder.join(name));
+    }
     println!("cargo:rustc-check-cfg=cfg(libfec)");
     if env::var_os("CARGO_FEATURE_PEERS").is_some() {
         link_peers(&Path::new(&here).join("peers"));
@@ -29,13 +31,13 @@ fn run(command: &str, words: &[&str]) {
     assert!(status.is_ok_and(|status| status.success()), "{command} {}", words.join(" "));
 }
 
-/// Links a copy of the library for each place: its code stands that many bytes later, and the calls that run a list have
-/// the place behind their names.
-fn link_moved(library: &Path) {
+/// Links a copy of a library for each place: its code stands that many bytes later, and the calls that run a list have
+/// the prefix before their names and the place behind them.
+fn link_moved(prefix: &str, library: &Path) {
     let folder = env::var("OUT_DIR").expect("cargo names the folder of what is built");
     println!("cargo:rustc-link-search=native={folder}");
     for place in PLACES {
-        let name = |ending: &str| format!("{folder}/place_{place}.{ending}");
+        let name = |ending: &str| format!("{folder}/{prefix}place_{place}.{ending}");
         let [source, script, pad, object] = ["s", "ld", "pad.o", "o"].map(name);
         let write = |file: &str, text: &str| fs::write(file, text).expect("the folder can be written to");
         write(&source, &format!(".text\n.p2align 6\n.skip {place}\n.section .note.GNU-stack\n"));
@@ -43,12 +45,12 @@ fn link_moved(library: &Path) {
         run("cc", &["-c", "-o", &pad, &source]);
         let path = library.to_str().expect("the path is text");
         run("ld", &["-r", "-T", &script, "-o", &object, &pad, "--whole-archive", path]);
-        let calls = ["bench_run_inner_product", "bench_run_polynomial"].map(|it| format!("{it}={it}_{place}"));
+        let calls = ["bench_run_inner_product", "bench_run_polynomial"].map(|it| format!("{it}={prefix}{it}_{place}"));
         let kept = ["bench_run_inner_product", "bench_run_polynomial"].map(|it| format!("--keep-global-symbol={it}"));
         run("objcopy", &[&kept[0], &kept[1], &object]);
         run("objcopy", &["--redefine-sym", &calls[0], "--redefine-sym", &calls[1], &object]);
-        run("ar", &["crs", &format!("{folder}/libplace_{place}.a"), &object]);
-        println!("cargo:rustc-link-lib=static=place_{place}");
+        run("ar", &["crs", &format!("{folder}/lib{prefix}place_{place}.a"), &object]);
+        println!("cargo:rustc-link-lib=static={prefix}place_{place}");
     }
 }
 
