@@ -15,8 +15,19 @@ fn shifted<T: PathWord>(low: T, high: T, by: u32) -> T::Double {
     T::double_plus(above, T::merge(low.shift_right(by), T::zero()))
 }
 
+// The remainder of a word with carries above it. Few products have no carries, and need no division by the reciprocal.
+#[inline]
+fn upper<T: PlainWord>(divider: &Normalized2by1Divisor<T>, word: T, carries: T) -> T {
+    if carries.is_zero_word() {
+        return divider.div_rem_1by1(word).1;
+    }
+    let rest = divider.div_rem_1by1(carries).1;
+    divider.div_rem_2by1(T::merge(word, rest)).1
+}
+
 // Of the sum of the products of the entries from index `from` to `to` - 1, divided by 2^shift: the remainder. Each entry
 // is a multiple of 2^shift, so the sum is one of its square.
+#[inline]
 pub(crate) fn reduced_products<T: PlainWord>(
     divider: &Normalized2by1Divisor<T>,
     shift: u32,
@@ -27,7 +38,6 @@ pub(crate) fn reduced_products<T: PlainWord>(
 ) -> T {
     let (sum, carries) = carried_sum(xs, ys, from, to);
     let (low, high) = T::split(sum);
-    let first = divider.div_rem_1by1(carries).1;
-    let second = divider.div_rem_2by1(T::merge(high, first)).1;
-    divider.div_rem_2by1(shifted(low, second, shift)).1
+    let rest = upper(divider, high, carries);
+    divider.div_rem_2by1(shifted(low, rest, shift)).1
 }

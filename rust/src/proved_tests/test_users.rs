@@ -1,5 +1,3 @@
-//! Known values of the crates that use `num_modular`, and the names of its public items.
-
-mod names;
+//! Known values of the crates that use `num_modular`, and callers of its laws.
 #[cfg(test)]
 mod tests;

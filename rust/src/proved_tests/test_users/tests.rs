@@ -15,6 +15,7 @@ mod decimal_digits;
 mod each_client;
 mod erasure;
 mod first_uses;
+mod generic_types;
 mod hashes;
 mod known_products;
 mod lattices;
