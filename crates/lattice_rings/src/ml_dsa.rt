@@ -5,7 +5,6 @@ ghost use Rattle.num_modular.specs.Factors.{IsFactor};
 ghost use Rattle.num_modular.specs.Plans.{numbers};
 ghost use Rattle.num_modular.specs.Orders.{bits_reversed};
 ghost use Rattle.lattice_rings.specs.Rings.{IsDsaTransform, IsDsaProduct, IsRingProduct};
-ghost use Rattle.lattice_rings.specs.declared.ml_dsa.TheConstants.{MODULUS};
 
 use num_modular::laws::transform_laws;
 use num_modular::plans::{Factor, Plan, PlannedModulus, plan};
@@ -36,10 +35,10 @@ pub const ZETA: u32 = 1753;
 pub struct Ring {
     modulus: PlannedModulus<u32>,
     table: [Factor<u32>; 256],
-    ghost modulus_is: { modulus.modulus ≡ MODULUS },
-    ghost factors: { All (λ f. IsFactor (2 ^ 32) MODULUS f.value f.quotient) table },
+    ghost modulus_is: { modulus.modulus ≡ 8380417 },
+    ghost factors: { All (λ f. IsFactor (2 ^ 32) 8380417 f.value f.quotient) table },
     ghost powers: { (k : ℕ) → k < 256
-        → numbers (λ f. f.value) table k ≡ 1753 ^ bits_reversed 8 k % MODULUS },
+        → numbers (λ f. f.value) table k ≡ 1753 ^ bits_reversed 8 k % 8380417 },
 }
 
 /// Whether each coefficient is a residue, below q.
@@ -53,7 +52,7 @@ pub struct Ring {
 /// assert!(!are_residues(&[MODULUS; 256]));
 /// ```
 pub fn are_residues(w: &[u32; 256]) -> bool
-    ensures { IsTrue result ↔ All (λ x. x < MODULUS) w.now }
+    ensures { IsTrue result ↔ All (λ x. x < 8380417) w.now }
 {
     w.iter().all(|x| *x < MODULUS)
 }
@@ -82,7 +81,7 @@ impl Ring {
 
     // The plan by zeta, over the table.
     fn plan(&self) -> Plan<'_, u32, Factor<u32>>
-        ensures modulus { result.modulus.modulus ≡ MODULUS }
+        ensures modulus { result.modulus.modulus ≡ 8380417 }
         ensures root { result.root ≡ 1753 }
         ensures bits { result.bits ≡ 9 }
         ensures table { length result.table.now ≡ 256 }
@@ -106,8 +105,8 @@ impl Ring {
     /// assert_eq!(w[0], ZETA); // the value of X at zeta
     /// ```
     pub fn ntt(&self, w: &mut [u32; 256])
-        requires { All (λ x. x < MODULUS) w.old }
-        ensures residues { All (λ x. x < MODULUS) w.new }
+        requires { All (λ x. x < 8380417) w.old }
+        ensures residues { All (λ x. x < 8380417) w.new }
         ensures values { IsDsaTransform (slice_index w.old) (slice_index w.new) }
     {
         self.plan().split(w, 1, 1);
@@ -128,11 +127,11 @@ impl Ring {
     /// assert_eq!((w[0], w[1]), (7, 0)); // the constant 7
     /// ```
     pub fn inverse(&self, w: &mut [u32; 256])
-        requires { All (λ x. x < MODULUS) w.old }
-        ensures residues { All (λ x. x < MODULUS) w.new }
+        requires { All (λ x. x < 8380417) w.old }
+        ensures residues { All (λ x. x < 8380417) w.new }
         ensures inverse { IsDsaTransform (slice_index w.new) (slice_index w.old) }
         ensures unique { (x : ℕ → ℕ) → IsDsaTransform x (slice_index w.old) →
-            (i : ℕ) → i < 256 → slice_index w.new i ≡ x i % MODULUS }
+            (i : ℕ) → i < 256 → slice_index w.new i ≡ x i % 8380417 }
     {
         transform_laws();
         self.plan().join(w, 1, 1);
@@ -154,10 +153,10 @@ impl Ring {
     /// assert_eq!((xs[0], xs[1]), (MODULUS - 1, 5)); // (5 + X^255) * X
     /// ```
     pub fn product(&self, xs: &mut [u32; 256], ys: &mut [u32; 256])
-        requires xs { All (λ x. x < MODULUS) xs.old }
-        requires ys { All (λ x. x < MODULUS) ys.old }
-        ensures residues { All (λ x. x < MODULUS) xs.new }
-        ensures product { IsRingProduct MODULUS (slice_index xs.old) (slice_index ys.old) (slice_index xs.new) }
+        requires xs { All (λ x. x < 8380417) xs.old }
+        requires ys { All (λ x. x < 8380417) ys.old }
+        ensures residues { All (λ x. x < 8380417) xs.new }
+        ensures product { IsRingProduct 8380417 (slice_index xs.old) (slice_index ys.old) (slice_index xs.new) }
         ensures transform { IsDsaTransform (slice_index ys.old) (slice_index ys.new) }
     {
         self.ntt(xs);
@@ -185,11 +184,11 @@ impl Ring {
     /// assert_eq!(w[0], ZETA * ZETA); // the value of X^2 at zeta, below q
     /// ```
     pub fn multiply(&self, xs: &mut [u32; 256], ys: &[u32; 256])
-        requires xs { All (λ x. x < MODULUS) xs.old }
-        requires ys { All (λ x. x < MODULUS) ys.now }
-        ensures residues { All (λ x. x < MODULUS) xs.new }
+        requires xs { All (λ x. x < 8380417) xs.old }
+        requires ys { All (λ x. x < 8380417) ys.now }
+        ensures residues { All (λ x. x < 8380417) xs.new }
         ensures products { IsDsaProduct (slice_index xs.old) (slice_index ys.now) (slice_index xs.new) }
-        ensures product { (x y p : ℕ → ℕ) → IsRingProduct MODULUS x y p → IsDsaTransform x (slice_index xs.old) →
+        ensures product { (x y p : ℕ → ℕ) → IsRingProduct 8380417 x y p → IsDsaTransform x (slice_index xs.old) →
             IsDsaTransform y (slice_index ys.now) → IsDsaTransform p (slice_index xs.new) }
     {
         self.plan().multiply(xs, ys);

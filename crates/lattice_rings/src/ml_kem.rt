@@ -6,7 +6,6 @@ ghost use Rattle.num_modular.specs.Factors.{IsFactor};
 ghost use Rattle.num_modular.specs.Plans.{numbers};
 ghost use Rattle.num_modular.specs.Orders.{bits_reversed};
 ghost use Rattle.lattice_rings.specs.Rings.{IsKemTransform, IsKemProduct, IsRingProduct};
-ghost use Rattle.lattice_rings.specs.declared.ml_kem.TheConstants.{MODULUS};
 
 use num_modular::laws::transform_laws;
 use num_modular::plans::{Factor, Plan, PlannedModulus, plan};
@@ -38,10 +37,10 @@ pub const ZETA: u32 = 17;
 pub struct Ring {
     modulus: PlannedModulus<u32>,
     table: [Factor<u32>; 128],
-    ghost modulus_is: { modulus.modulus ≡ MODULUS },
-    ghost factors: { All (λ f. IsFactor (2 ^ 32) MODULUS f.value f.quotient) table },
+    ghost modulus_is: { modulus.modulus ≡ 3329 },
+    ghost factors: { All (λ f. IsFactor (2 ^ 32) 3329 f.value f.quotient) table },
     ghost powers: { (k : ℕ) → k < 128
-        → numbers (λ f. f.value) table k ≡ 17 ^ bits_reversed 7 k % MODULUS },
+        → numbers (λ f. f.value) table k ≡ 17 ^ bits_reversed 7 k % 3329 },
 }
 
 /// Whether each coefficient is a residue, below q.
@@ -55,7 +54,7 @@ pub struct Ring {
 /// assert!(!are_residues(&[MODULUS; 256]));
 /// ```
 pub fn are_residues(w: &[u32; 256]) -> bool
-    ensures { IsTrue result ↔ All (λ x. x < MODULUS) w.now }
+    ensures { IsTrue result ↔ All (λ x. x < 3329) w.now }
 {
     w.iter().all(|x| *x < MODULUS)
 }
@@ -63,11 +62,11 @@ pub fn are_residues(w: &[u32; 256]) -> bool
 // The product of two remainders modulo X^2 - c, the constants first. Products of three residues fit 64 bits, so
 // that each sum takes one division.
 fn multiply_remainders(x: (u32, u32), y: (u32, u32), c: u32) -> (u32, u32)
-    requires x { (x.0 < MODULUS) × (x.1 < MODULUS) }
-    requires y { (y.0 < MODULUS) × (y.1 < MODULUS) }
-    requires c { c ≤ MODULUS }
-    ensures constant { result.0 ≡ (x.0 * y.0 + x.1 * y.1 * c) % MODULUS }
-    ensures linear { result.1 ≡ (x.0 * y.1 + x.1 * y.0) % MODULUS }
+    requires x { (x.0 < 3329) × (x.1 < 3329) }
+    requires y { (y.0 < 3329) × (y.1 < 3329) }
+    requires c { c ≤ 3329 }
+    ensures constant { result.0 ≡ (x.0 * y.0 + x.1 * y.1 * c) % 3329 }
+    ensures linear { result.1 ≡ (x.0 * y.1 + x.1 * y.0) % 3329 }
 {
     let constant = (x.0 * y.0) as u64 + (x.1 * y.1) as u64 * c as u64;
     (
@@ -100,7 +99,7 @@ impl Ring {
 
     // The plan by zeta, over the table.
     fn plan(&self) -> Plan<'_, u32, Factor<u32>>
-        ensures modulus { result.modulus.modulus ≡ MODULUS }
+        ensures modulus { result.modulus.modulus ≡ 3329 }
         ensures root { result.root ≡ 17 }
         ensures bits { result.bits ≡ 8 }
         ensures table { length result.table.now ≡ 128 }
@@ -124,8 +123,8 @@ impl Ring {
     /// assert_eq!(w[..2], [ZETA, 0]); // X^2 modulo X^2 - zeta
     /// ```
     pub fn ntt(&self, w: &mut [u32; 256])
-        requires { All (λ x. x < MODULUS) w.old }
-        ensures residues { All (λ x. x < MODULUS) w.new }
+        requires { All (λ x. x < 3329) w.old }
+        ensures residues { All (λ x. x < 3329) w.new }
         ensures remainders { IsKemTransform (slice_index w.old) (slice_index w.new) }
     {
         self.plan().split(w, 1, 2);
@@ -148,11 +147,11 @@ impl Ring {
     /// assert_eq!(w, [1; 256]);
     /// ```
     pub fn inverse(&self, w: &mut [u32; 256])
-        requires { All (λ x. x < MODULUS) w.old }
-        ensures residues { All (λ x. x < MODULUS) w.new }
+        requires { All (λ x. x < 3329) w.old }
+        ensures residues { All (λ x. x < 3329) w.new }
         ensures inverse { IsKemTransform (slice_index w.new) (slice_index w.old) }
         ensures unique { (x : ℕ → ℕ) → IsKemTransform x (slice_index w.old) →
-            (i : ℕ) → i < 256 → slice_index w.new i ≡ x i % MODULUS }
+            (i : ℕ) → i < 256 → slice_index w.new i ≡ x i % 3329 }
     {
         transform_laws();
         self.plan().join(w, 1, 2);
@@ -174,10 +173,10 @@ impl Ring {
     /// assert_eq!((xs[0], xs[1]), (MODULUS - 1, 5)); // (5 + X^255) * X
     /// ```
     pub fn product(&self, xs: &mut [u32; 256], ys: &mut [u32; 256])
-        requires xs { All (λ x. x < MODULUS) xs.old }
-        requires ys { All (λ x. x < MODULUS) ys.old }
-        ensures residues { All (λ x. x < MODULUS) xs.new }
-        ensures product { IsRingProduct MODULUS (slice_index xs.old) (slice_index ys.old) (slice_index xs.new) }
+        requires xs { All (λ x. x < 3329) xs.old }
+        requires ys { All (λ x. x < 3329) ys.old }
+        ensures residues { All (λ x. x < 3329) xs.new }
+        ensures product { IsRingProduct 3329 (slice_index xs.old) (slice_index ys.old) (slice_index xs.new) }
         ensures transform { IsKemTransform (slice_index ys.old) (slice_index ys.new) }
     {
         self.ntt(xs);
@@ -205,11 +204,11 @@ impl Ring {
     /// assert_eq!(w[..2], [ZETA, 0]); // X * X modulo X^2 - zeta
     /// ```
     pub fn multiply(&self, xs: &mut [u32; 256], ys: &[u32; 256])
-        requires xs { All (λ x. x < MODULUS) xs.old }
-        requires ys { All (λ x. x < MODULUS) ys.now }
-        ensures residues { All (λ x. x < MODULUS) xs.new }
+        requires xs { All (λ x. x < 3329) xs.old }
+        requires ys { All (λ x. x < 3329) ys.now }
+        ensures residues { All (λ x. x < 3329) xs.new }
         ensures products { IsKemProduct (slice_index xs.old) (slice_index ys.now) (slice_index xs.new) }
-        ensures product { (x y p : ℕ → ℕ) → IsRingProduct MODULUS x y p → IsKemTransform x (slice_index xs.old) →
+        ensures product { (x y p : ℕ → ℕ) → IsRingProduct 3329 x y p → IsKemTransform x (slice_index xs.old) →
             IsKemTransform y (slice_index ys.now) → IsKemTransform p (slice_index xs.new) }
     {
         'remainders: for i in 0..128 {
@@ -224,8 +223,8 @@ impl Ring {
     // entry of the table, or minus one.
     fn square(&self, i: usize) -> u32
         requires { i < 128 }
-        ensures few { result ≤ MODULUS }
-        ensures value { Congruent MODULUS result (17 ^ (2 * bits_reversed 7 i + 1)) }
+        ensures few { result ≤ 3329 }
+        ensures value { Congruent 3329 result (17 ^ (2 * bits_reversed 7 i + 1)) }
     {
         let power = self.table[64 + i / 2].value;
         if i % 2 == 0 { power } else { MODULUS - power }
