@@ -10,7 +10,7 @@
  *
  * - A pointer to a single value is valid. A list is a pointer and a number of elements, and has at least so many. For
  *   every list, NULL with the number 0 is an empty list. In comments, n is the length of a call's first list, and k that of
- *   its second.
+ *   its second, where they don't say another.
  * - A plan of type nm_plan_t, and its table, are as nm_plan_make or nm_plan_check left them; nm_plan_check itself takes any.
  * - What a call writes, which is each argument without const, overlaps no other argument. Arguments that are const may
  *   overlap each other in any way, or be the same.
@@ -136,7 +136,7 @@ typedef struct {
 /* The divider by d. NM_BAD_ARGUMENT: d is 0. */
 NM_CHECK uint32_t nm_divider(uint64_t d, nm_divider_t *divider);
 
-/* Quotient and remainder of n. NM_BAD_CONTEXT: the divider isn't one that nm_divider makes. */
+/* Quotient and remainder of the dividend. NM_BAD_CONTEXT: the divider isn't one that nm_divider makes. */
 NM_CHECK uint32_t nm_div_rem(const nm_divider_t *divider, uint64_t dividend, nm_division_t *division);
 
 /* Quotient and remainder of low + 2^64 * high. NM_BAD_CONTEXT: as for nm_div_rem. NM_BAD_ARGUMENT: high isn't
@@ -160,7 +160,7 @@ NM_CHECK uint32_t nm_montgomery(uint64_t m, nm_montgomery_t *context);
  * below m. NM_BAD_CONTEXT: the context isn't one that nm_montgomery makes. NM_BAD_ARGUMENT: a word that must be a form
  * isn't one. */
 
-/* The form of n modulo m. */
+/* The form of a word modulo m. */
 NM_CHECK uint32_t nm_montgomery_transform(const nm_montgomery_t *context, uint64_t word, uint64_t *form);
 
 /* The value of a form: a number below m. */
@@ -403,7 +403,8 @@ NM_CHECK uint32_t nm_find(uint64_t x, const uint8_t *text, size_t text_length, c
 
 /* Entry i of found becomes the number of the first pattern that occurs in the text at position i, or count where none
  * does, for i from 0 to places - 1. The count patterns have size bytes each and stand one after the other. The scratch list
- * hashes, of count words, has unspecified contents afterwards. The result is right for every x; for the time see nm_find.
+ * hashes, of count words, has unspecified contents afterwards. The result is right for every x. Each position compares its hash with up
+ * to count others, and bytes where two are equal: for which x that is rare, see nm_find.
  * NM_BAD_ARGUMENT: patterns_length isn't count * size. */
 NM_CHECK uint32_t nm_find_all(uint64_t x, const uint8_t *text, size_t text_length, const uint8_t *patterns,
                               size_t patterns_length, size_t size, uint64_t *hashes, size_t count, size_t *found,

@@ -1,5 +1,5 @@
-//! The names that the library promises: those of the Rust crate `num-modular` 0.7.0 that DIFFERENCES.md doesn't leave out, and the
-//! specified additions. One that is missing doesn't compile. `checks/names` looks for each in the proved sources, too.
+//! The names that the library promises: those of the Rust crate `num-modular` 0.7.0 that DIFFERENCES.md doesn't leave out, and
+//! this library's own. One that is missing doesn't compile. `checks/names` looks for the imported ones in the proved sources, too.
 #![cfg(target_pointer_width = "64")]
 
 pub use num_modular::barrett::{Normalized2by1Divisor, PreMulInv1by1, PreMulInv2by1};

@@ -11,7 +11,7 @@ use modular_plan_transforms::transform::ntt_planned;
 use modular_prim::plain_word::PlainWord;
 use modular_word::path_word::PathWord;
 
-/// Whether each entry is below 4m. A loop, since a closure takes longer to prove.
+/// True only if each entry is below 4m. A loop, since a closure takes longer to prove.
 pub fn all_in_room<T: PlainWord>(m: &PlannedModulus<T>, xs: &[T]) -> bool
     ensures { IsTrue result → All (λ x. T.number x < 4 * T.number m.now.modulus) xs.now }
 {
@@ -23,7 +23,8 @@ pub fn all_in_room<T: PlainWord>(m: &PlannedModulus<T>, xs: &[T]) -> bool
     true
 }
 
-/// Replaces a list by its transform by a plan where the plan is for as many entries, and these are below 4m.
+/// Calls a transform by a plan where the plan is for as many entries, and these are below 4m. It promises nothing of the
+/// list.
 pub fn transform_where_it_fits<T: PlainWord, F: PlanEntry<T>>(plan: &Plan<T, F>, xs: &mut [T]) {
     if plan.fits(xs.len()) && all_in_room(&plan.modulus(), xs) {
         plan.transform(xs);

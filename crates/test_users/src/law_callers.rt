@@ -1,4 +1,4 @@
-//! Callers of laws that no user's crate cites, proved from these laws alone.
+//! Callers of laws that no user's crate cites.
 
 ghost use Rattle.std.specs.Prelude.{◌≡◌, ℕ, ◌+◌, ◌*◌, ◌%◌, ◌<◌, ◌≤◌};
 ghost use Rattle.num_modular.specs.Forms.{IsForm};
@@ -31,7 +31,7 @@ pub fn sum_of_bits()
     sum_below_laws();
 }
 
-/// The product of the factorial, one number on.
+/// (n + 1)! is n! times n + 1.
 pub fn product_of_one_more()
     ensures { (n : ℕ) → product_below (n + 1) (λ i. i + 1) ≡ product_below n (λ i. i + 1) * (n + 1) }
 {
