@@ -195,8 +195,8 @@ pub fn coefficient_laws()
 {}
 
 /// The remainders of `split` with b = 0 and last = 1 are the transform in bit-reversed order, by the root g of a plan for
-/// as many entries, or where it is for 2^d times as many by the power of g that suits them. A list in that order is the
-/// remainders, as `join` requires them.
+/// as many entries, or where it is for 2^d times as many by the power of g that suits them. By a plan for as many,
+/// a list in that order is the remainders, as `join` requires them.
 ///
 /// Source: Cooley and Tukey, "An algorithm for the machine calculation of complex Fourier series"; Knuth, The Art of
 /// Computer Programming, volume 2, section 4.6.4.
