@@ -3,8 +3,8 @@
 //! the transforms that need no table, over any reducer, and `find_root`.
 //!
 //! `Plan` knows that its table is a plan, and asks only for lists that fit. It borrows the table, so a struct that owns its
-//! table can't keep a `Plan`: it calls the functions over a table, which also ask for the table's factors.
-//! `Plan::with_table` tests the whole table.
+//! table can't keep a `Plan`. It makes one for each call (`Plan::with_table` tests the whole table), or calls the functions
+//! over a table, which also ask for the table's factors.
 
 pub use crate::modular_barrett::planned::{Factor, PlannedModulus};
 pub use crate::modular_plan_passes::entry::PlanEntry;

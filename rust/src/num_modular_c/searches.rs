@@ -77,8 +77,9 @@ fn find_patterns(
 
 /// Writes for each position of `found`, from 0 on, the number of the first pattern that occurs in the text there, or the
 /// count of the patterns where none does. The patterns have `size` bytes each and stand one after the other, as many as
-/// `hashes` has words, whose contents are unspecified afterwards. The result is right for every x; the time depends on x
-/// as that of `nm_find`. `NM_BAD_ARGUMENT`: the length of `patterns` isn't their count times their size.
+/// `hashes` has words, whose contents are unspecified afterwards. The result is right for every x; each position compares
+/// its hash with up to all others, and bytes where two are equal. `NM_BAD_ARGUMENT`: the length of `patterns` isn't their
+/// count times their size.
 ///
 /// Source: Karp and Rabin, "Efficient randomized pattern-matching algorithms", section 4.
 #[inline]

@@ -7,7 +7,7 @@ use crate::modular_plan_transforms::transform::ntt_planned;
 use crate::modular_prim::plain_word::PlainWord;
 use crate::modular_word::path_word::PathWord;
 
-/// Whether each entry is below 4m. A loop, since a closure takes longer to prove.
+/// True only if each entry is below 4m. A loop, since a closure takes longer to prove.
 pub fn all_in_room<T: PlainWord>(m: &PlannedModulus<T>, xs: &[T]) -> bool {
     'entries: for i in 0..xs.len() {
         if !m.has_room(xs[i]) {
@@ -17,7 +17,8 @@ pub fn all_in_room<T: PlainWord>(m: &PlannedModulus<T>, xs: &[T]) -> bool {
     true
 }
 
-/// Replaces a list by its transform by a plan where the plan is for as many entries, and these are below 4m.
+/// Calls a transform by a plan where the plan is for as many entries, and these are below 4m. It promises nothing of the
+/// list.
 pub fn transform_where_it_fits<T: PlainWord, F: PlanEntry<T>>(plan: &Plan<T, F>, xs: &mut [T]) {
     if plan.fits(xs.len()) && all_in_room(&plan.modulus(), xs) {
         plan.transform(xs);
