@@ -1,4 +1,4 @@
-//! Lists of commands of five kinds through `run` in the Cargo crate, beside a loop over the Rust crate's reducer that reads
+//! Lists of commands of six kinds through `run` in the Cargo crate, beside a loop over the Rust crate's reducer that reads
 //! the same commands.
 
 use crate::{ROUNDS, Random, Total};
@@ -52,6 +52,19 @@ fn ladder() -> Commands {
     (0..96).flat_map(|i| [mul(SUM, SUM, SUM), mul(SUM, SUM, 0)].into_iter().take(1 + usize::from(i % 3 == 0))).collect()
 }
 
+/// Squares, negatives, doubles and products of eight registers, drawn at random.
+fn of_one_operand() -> Commands {
+    let mut random = Random(9);
+    let mut register = || (random.next() % 8) as usize;
+    let command = |kind, dst, a, b| match kind % 4 {
+        0 => RingCommand::Sqr { dst, a },
+        1 => RingCommand::Neg { dst, a },
+        2 => RingCommand::Dbl { dst, a },
+        _ => mul(dst, a, b),
+    };
+    (0..128).map(|_| command(register(), register(), register(), register())).collect()
+}
+
 /// A transform of 16 numbers: four passes of eight butterflies.
 fn transform() -> Commands {
     let pairs = |half: usize| (0..16).filter(move |i| i & half == 0).map(move |i| (i, i + half));
@@ -74,6 +87,9 @@ fn by_loop(xs: &mut Registers, list: &[RingCommand<u64>]) {
                 RingCommand::Add { dst, a, b } => xs[dst] = reducer.add(&xs[a], &xs[b]),
                 RingCommand::Sub { dst, a, b } => xs[dst] = reducer.sub(&xs[a], &xs[b]),
                 RingCommand::Mul { dst, a, b } => xs[dst] = reducer.mul(&xs[a], &xs[b]),
+                RingCommand::Sqr { dst, a } => xs[dst] = reducer.sqr(xs[a]),
+                RingCommand::Neg { dst, a } => xs[dst] = reducer.neg(xs[a]),
+                RingCommand::Dbl { dst, a } => xs[dst] = reducer.dbl(xs[a]),
                 _ => return,
             }
         }
@@ -105,6 +121,7 @@ pub fn compare(total: &mut Total) {
         ("at random, of eight registers", random()),
         ("power by squares", ladder()),
         ("transform of 16 numbers", transform()),
+        ("squares, negatives, doubles, products at random", of_one_operand()),
     ];
     for (name, list) in lists {
         let [rust, cargo] = times(name, &list);

@@ -4,7 +4,7 @@
 //!
 //! Each line is one function of a list of operands, written once by a macro and compiled over either crate. Its answers are
 //! summed up; the sums have to be equal in every round. Times are the least of the rounds, which take turns. Then come lists of
-//! commands of five kinds, with a mean of their own.
+//! commands of six kinds, with a mean of their own.
 
 #![allow(unstable_name_collisions)]
 
