@@ -15,7 +15,8 @@ fn shifted<T: PathWord>(low: T, high: T, by: u32) -> T::Double {
     T::double_plus(above, T::merge(low.shift_right(by), T::zero()))
 }
 
-// The remainder of a word with carries above it. Few products have no carries, and need no division by the reciprocal.
+// The remainder of a word with carries above it. A sum of one or two products
+// usually has no carry, and needs no division by the reciprocal.
 #[inline]
 fn upper<T: PlainWord>(divider: &Normalized2by1Divisor<T>, word: T, carries: T) -> T {
     if carries.is_zero_word() {
@@ -26,7 +27,7 @@ fn upper<T: PlainWord>(divider: &Normalized2by1Divisor<T>, word: T, carries: T) 
 }
 
 // Of the sum of the products of the entries from index `from` to `to` - 1, divided by 2^shift: the remainder. Each entry
-// is a multiple of 2^shift, so the sum is one of its square.
+// is a multiple of 2^shift, so the sum is a multiple of 2^(2·shift).
 #[inline]
 pub(crate) fn reduced_products<T: PlainWord>(
     divider: &Normalized2by1Divisor<T>,

@@ -116,7 +116,7 @@ impl<T: PlainWord> PreMulInv2by1<T> {
 }
 
 // Whether one of the lowest bits of a word is set, where `check` tests them first. At these widths compilers then branch
-// on its two tests, which takes less time than computing both. Condition: `count` is below the width.
+// on the two tests of `check`, which takes less time than computing both. Condition: `count` is below the width.
 #[inline]
 fn is_refused_first<T: PathWord>(f: T, count: u32) -> bool {
     (T::bits() == 16 || T::bits() == 64) && !f.low_bits(count).is_zero_word()

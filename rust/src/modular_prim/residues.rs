@@ -1,6 +1,6 @@
 //! Residues of sums, differences and products of words that may be above the modulus.
 
-use crate::modular_prim::below::{add_below, dbl_below, neg_below, sub_below};
+use crate::modular_prim::below::{add_below, dbl_below, neg_below};
 use crate::modular_prim::plain_word::PlainWord;
 use crate::modular_word::path_word::PathWord;
 
@@ -67,21 +67,23 @@ pub fn addm<T: PlainWord>(a: T, b: T, m: T) -> T {
 }
 
 /// The residue of a - b, below m. There is no division where words have more than 16
-/// bits and both, or their distance, are below m.
+/// bits and both are below m.
 ///
-/// One remainder serves both cases of a comparison of a and b, which often mispredicts. Words of 32 bits are compared
-/// with m first, which spares the distance; longer ones aren't, since that slows words above m.
+/// One remainder serves both cases of a comparison of a and b, which often mispredicts. Comparing both operands
+/// with m is faster than comparing their distance, but avoids fewer divisions; words of more than 32 bits compare
+/// the distance, since their divisions take longest.
 ///
 /// # Panics
 ///
 /// Panics unless m is at least 1.
 #[cfg_attr(debug_assertions, track_caller)]
 pub fn subm<T: PlainWord>(a: T, b: T, m: T) -> T {
-    if T::bits() <= 32 && spares_division(a, m) && spares_division(b, m) {
-        return sub_below(a, b, m);
-    }
     let apart = distance(a, b);
-    let is_residue = spares_division(apart, m);
+    let is_residue = if T::bits() > 32 {
+        apart.is_below(m)
+    } else {
+        spares_division(a, m) & spares_division(b, m)
+    };
     let rest = reduced_unless(is_residue, apart, m);
     if a.is_below(b) {
         neg_below(rest, m)
