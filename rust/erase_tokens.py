@@ -1,22 +1,27 @@
 """Reads the code of a proved source without its ghost text, as tokens, and finds its parts: for rust/erase."""
+import functools
 import re
 from dataclasses import dataclass
+from string import Template
+from types import SimpleNamespace
 
 ATTRIBUTES = {"derive", "cfg", "cfg_attr", "cold", "allow", "inline", "test", "must_use", "track_caller", "doc", "repr", "unsafe"}
 TOKEN = re.compile(
     r"""(?P<space>\s+)|(?P<comment>//[^\n]*)
     |(?P<text>b?r(?P<marks>\#*)".*?"(?P=marks)|[bc]?"(?:\\.|[^"\\])*"|b?'(?:\\(?:u\{[^}]*\}|x..|.)|[^'\\])')
-    |(?P<label>'[A-Za-z_]\w*)|(?P<name>[A-Za-z_]\w*)|(?P<number>\d\w*(?:\.\d\w*)?)|(?P<sign>::|->|=>|.)""",
+    |(?P<label>'[A-Za-z_]\w*)|(?P<name>[A-Za-z_]\w*)|(?P<number>\d\w*(?:\.\d\w*)?)|(?P<sign>::|->|=>|.)|(?P<end>\Z)""",
     re.X | re.S,
 )
 BRACES = r"\{(?:[^{}]|\{(?:[^{}]|\{(?:[^{}]|\{(?:[^{}]|\{[^{}]*\})*\})*\})*\})*\}"
+PUBLIC = r"(?:pub(?:\(crate\))?\s+)?"
 GHOST = re.compile(
-    rf"""(?P<clause>(?:requires|ensures)(?:\s+[a-z_]\w*)?\s*{BRACES})|(?P<import>ghost\s+use\b[^;]*;)
-    |(?P<member>ghost\s+[a-z_]\w*\s*[:=]\s*{BRACES}\s*[;,])
+    rf"""(?P<clause>(?:requires|ensures)(?:\s+[a-z_]\w*)?\s*{BRACES})
+    |(?P<item>{PUBLIC}ghost\s+(?:use\b[^;]*;|[a-z_]\w*\s*[:=]\s*{BRACES}\s*[;,]))
     |(?P<tactic>\#!?\[(?:tactic|rattlefmt)\b(?:[^][]|\[[^]]*\])*\])
     |(?P<unknown>(?:requires|ensures|ghost)\b|\#!?\[(?!(?:{'|'.join(sorted(ATTRIBUTES))})\b))""",
     re.X,
 )
+PAIRS = {"<": ">", "(": ")", "{": "}", "[": "]"}
 
 
 class Unknown(Exception):
@@ -25,14 +30,11 @@ class Unknown(Exception):
 
 @dataclass
 class Token:
-    """A token of code, with the space and the comments before it.
-
-    `ghost`: ghost text stood there too; `asked`: what stood there required something."""
+    """A token of code, with the space and the comments before it; `asked`: a clause stood there that required something."""
 
     lead: str
     kind: str
     text: str
-    ghost: bool = False
     asked: bool = False
 
 
@@ -52,49 +54,42 @@ def joined(first, second):
     if first.strip():
         return first.rstrip() + (second if second.startswith("\n") else "\n" + second)
     head = second[: len(second) - len(second.lstrip())]
-    if "\n" not in head:
-        return first
     lines = max(first.count("\n"), head.count("\n"))
     return "\n" * lines + head[head.rindex("\n") + 1 :] + second.lstrip()
 
 
 def read(text):
     """The tokens of the code, without ghost text. The last token is empty."""
-    tokens, at, lead, above, ghost, clause, asked = [], 0, "", None, False, False, False
-    while at < len(text):
+    tokens, at, lead, above, clause, asked = [], 0, "", None, False, False
+    while not tokens or tokens[-1].kind != "end":
         found = GHOST.match(text, at) or TOKEN.match(text, at)
-        kind, word = found.lastgroup, found.group()
+        kind, word, begin, at = found.lastgroup, found.group(), at, found.end()
         if kind in ("space", "comment"):
-            lead, at = lead + word, found.end()
+            lead += word
             continue
-        gone = kind in ("clause", "import", "member", "tactic")
-        if kind == "unknown" or not (gone or kind == "text" or word.isascii()):
-            raise Unknown(f"{text.count(chr(10), 0, at) + 1}: ghost text of an unknown kind, or an attribute, {word}")
+        if kind == "unknown" or kind not in ("clause", "item", "tactic", "text") and not word.isascii():
+            raise Unknown(f"{text.count(chr(10), 0, begin) + 1}: ghost text of an unknown kind, or an attribute, {word}")
         if above is not None:
-            lead = joined(above, lead)
-            above = None
-        if gone:
-            at, ghost, clause = found.end(), True, clause or kind == "clause"
-            if kind == "clause":
-                lead, asked = "", asked or word.startswith("requires")
-            else:
-                for words in (["pub"], ["pub", "(", "crate", ")"]):
-                    if kind != "tactic" and [it.text for it in tokens[-len(words) :]] == words:
-                        lead = tokens[-len(words)].lead
-                        del tokens[-len(words) :]
-                above, lead = without_attached(lead) if kind != "tactic" else lead, ""
-            continue
-        if clause:
-            lead, clause = " " if word == "{" else "", False
-        tokens.append(Token(lead, kind, word, ghost, asked))
-        at, lead, ghost, asked = found.end(), "", False, False
-    tokens.append(Token(joined(above, lead) if above is not None else lead, "end", ""))
+            lead, above = joined(above, lead), None
+        if kind == "clause":
+            lead, clause, asked = "", True, asked or word.startswith("requires")
+        elif kind in ("item", "tactic"):
+            above, lead = without_attached(lead) if kind == "item" else lead, ""
+        else:
+            lead = lead if not clause else " " if word == "{" else ""
+            tokens.append(Token(lead, kind, word, asked))
+            lead, clause, asked = "", False, False
     return tokens
 
 
 def lexed(text):
     """The tokens of a text that is put in."""
     return read(text)[:-1]
+
+
+def text_of(tokens):
+    """The text of the tokens, with the space before them."""
+    return "".join(it.lead + it.text for it in tokens)
 
 
 def put_attribute(tokens, at, attribute):
