@@ -3,29 +3,37 @@
 Rattle's words and reducers are copied. The Rust crate's traits ask for nothing that their methods don't need, and its integers
 clone what they read of a reference. So the body that needs more is moved to the implementations, which have it.
 """
-from erase_tokens import backwards, beyond, cut, header, lexed, put_attribute, rewrite, stands, traits
+from erase_tokens import beyond, items, lexed, matched
 
-BOUNDS = "T : RingWord , R : Reducer < T > + Copy".split()
-CLONED = (  # what a body copies of a reference
+BOUNDS = "T : RingWord , R : Reducer < T > + Copy"
+# The words of a reducer and of an integer may be of any type; what needs more, `pow`, has no default body.
+OF_TRAITS = (
+    ("trait Reducer < T : RingWord >", "trait Reducer<T>"),
+    ("type Base : RingWord ;", "type Base;"),
+    ("-> T { pow_counted ( self , f , exp ) . 0 }", "-> T;"),
+)
+# Integers over any reducer: the bounds that their operations need, and clones of what they read of a reference.
+OF_INTEGERS = (
+    ("pub struct ReducedInt", "#[derive(Clone, Copy)]\npub struct ReducedInt"),
+    (f"{BOUNDS} > ReducedInt", "T, R: Reducer<T>> ReducedInt"),
+    (f"{BOUNDS} > PartialEq", "T: PartialEq, R: Reducer<T>> PartialEq"),
+    (BOUNDS, "T: PartialEq + Clone, R: Reducer<T> + Clone"),
     ("reducer : x . reducer ,", "reducer: x.reducer.clone(),"),
     ("neg ( x . form )", "neg(x.form.clone())"),
     ("residue ( self . form )", "residue(self.form.clone())"),
     (", * rhs )", ", rhs.clone())"),
     ("= y . inv (", "= y.clone().inv("),
 )
-LOOSENED = (
-    ("trait Reducer < T : RingWord >", "trait Reducer<T>"),
-    ("type Base : RingWord ;", "type Base;"),
-    ("-> T { pow_counted ( self , f , exp ) . 0 }", "-> T;"),
-)
+# Clone and Copy, which are derived
+DERIVED = tuple((f"impl < {BOUNDS} > {it} for ReducedInt < T , R > $body{{}}", "") for it in ("Clone", "Copy"))
 # for messages alone: the words of a reducer needn't be numbers
 DECLARED = """
 
     #[doc(hidden)]
+    #[inline]
     fn shown_modulus(&self) -> Option<u128> {
         None
-    }
-"""
+    }"""
 IMPLEMENTED = """
 
     #[inline]
@@ -38,39 +46,12 @@ IMPLEMENTED = """
     }"""
 
 
-def loosen_traits(tokens):
-    """The words of a reducer and of an integer may be of any type; what needs more, `pow`, has no default body."""
-    for rule in LOOSENED:
-        rewrite(tokens, *rule)
-    for name, _, body, _ in traits(tokens):
-        if tokens[name].text == "Reducer":
-            closed = beyond(tokens, body) - 1
-            tokens[closed:closed] = lexed(DECLARED.rstrip())
-
-
 def add_members(tokens):
-    """The members of `Reducer` that each implementation has: `pow`, and the modulus for a message."""
-    for at in backwards(tokens, "impl"):
-        name, body = header(tokens, at) or ("", at)
-        if name == "Reducer":
-            word = next(tokens[it].text for it in range(at, body) if stands(tokens, it + 1, [">", "for"]))
-            closed = beyond(tokens, body) - 1
-            tokens[closed:closed] = lexed(IMPLEMENTED.replace("WORD", word))
-
-
-def loosen_integers(tokens):
-    """Integers over any reducer: the bounds that their operations need, and clones of what they read of a reference."""
-    for at in backwards(tokens, "impl"):
-        name, body = header(tokens, at) or ("", at)
-        if name in ("Copy", "Clone") and stands(tokens, at + 2, BOUNDS):
-            cut(tokens, at, beyond(tokens, body), True)
-    for at in range(len(tokens) - 1, -1, -1):
-        if stands(tokens, at, ["pub", "struct", "ReducedInt"]):
-            put_attribute(tokens, at, "#[derive(Clone, Copy)]")
-        elif stands(tokens, at, BOUNDS):
-            end = at + len(BOUNDS)
-            words = "T, R: Reducer<T>" if tokens[end + 1].text == "ReducedInt" else "T: PartialEq + Clone, R: Reducer<T> + Clone"
-            words = "T: PartialEq, R: Reducer<T>" if tokens[end + 1].text == "PartialEq" else words
-            tokens[at:end] = lexed(words)
-    for rule in CLONED:
-        rewrite(tokens, *rule)
+    """Adds the members of `Reducer`: `pow`, which each implementation has, and the modulus for a message."""
+    for keyword in ("trait", "impl"):
+        for it in items(tokens, keyword):
+            if it.name == "Reducer":
+                words = [tokens[at].text for at in range(it.at, it.body) if matched(tokens, at + 1, "> for")]
+                text = IMPLEMENTED.replace("WORD", words[0]) if words else DECLARED
+                closed = beyond(tokens, it.body) - 1
+                tokens[closed:closed] = lexed(text)

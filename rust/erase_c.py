@@ -5,7 +5,7 @@ safe one, and gets a wrapper in capi/src/lib.rs that makes references and slices
 """
 import re
 
-from erase_tokens import Unknown, lexed, stands
+from erase_tokens import Unknown, rewrite
 
 MARK = "# [ unsafe ( no_mangle ) ]"
 EXPORT = re.compile(re.escape(MARK) + r' pub extern "C" fn (\w+) (?:< \'\w+ > )?\( (.*?) ?\) -> u32 ')
@@ -135,11 +135,5 @@ def wrappers(files):
     texts = [lent_struct(name) for name in LENT]
     texts += [wrapper(path, name, found) for path, code in codes.items() for name, found in exports(code)]
     for path, tokens in files.items():
-        for at in range(len(tokens) - 2, -1, -1):
-            lead = tokens[at].lead
-            if stands(tokens, at, f'{MARK} pub extern "C" fn'.split()):
-                tokens[at : at + 11] = lexed(f"{lead}pub fn")
-            elif path == "lib" and tokens[at].text == "mod" and tokens[at + 2].text == ";":
-                tokens[at].lead = " "
-                tokens[at:at] = lexed(f"{lead}pub")
+        rewrite(tokens, ((f'{MARK} pub extern "C" fn', "pub fn"), ("mod $name ;", "pub mod $name;")))
     return HEAD + "\n" + "\n".join(texts)

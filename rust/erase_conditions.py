@@ -7,12 +7,9 @@ where nothing is tested. Parts of a sentence are parted by `; `: where a body ha
 import re
 import textwrap
 from collections import defaultdict
-from dataclasses import dataclass
+from dataclasses import astuple, dataclass
 
-from erase_tokens import (
-    Unknown, attached, backwards, beginning, beyond, body_of, header, lexed, parameters, past_angles, put_attribute, stands,
-    traits,
-)
+from erase_tokens import Item, Unknown, attached, beyond, items, lexed, matched, parameters, put_attribute
 
 SENTENCE = re.compile(r"\s?\bConditions?(?: of [^:.]*)?:\s+(.+?)\.(?=\s|$)\s?", re.S)
 WIDTH = 100  # of a section of docs
@@ -23,7 +20,7 @@ MADE_BY = {"new": ("R::new(", "Montgomery::of(", "Self::of(", "M::keep(")}
 
 # Tests that are put in at the beginning of a body, or before a statement, since they look at more than `prove!` may, or since
 # only rustc needs them: by file in its crate and function, the condition's parts in turn. What they call is proved to tell whether the condition holds.
-EVERY, DEBUG, RETURN, CALL, END = "assert", "debug_assert", "return", "call", "end"
+EVERY, DEBUG, RETURN, CALL = "assert", "debug_assert", "return", "call"
 FILLED = (CALL, "crate::additions::expect_filled(m, table)")
 FACTORS = (DEBUG, "crate::additions::are_factors(m, xs.len(), table, b, last)")
 IN_ROOM = (DEBUG, "xs.iter().all(|x| m.has_room(*x))")
@@ -44,11 +41,7 @@ MESSAGE = (EVERY, "message.len() <= word.len()")
 COUNTED = "{0}.len() == self.moduli.len()"
 REDUCED = COUNTED + " && crate::residues::are_reduced(self.moduli, {0})"
 DIVISOR = ((EVERY, "d != 0"),)
-# What must be so of the entries of a loop that returns early where one is beyond its limit (`is_beyond`), which becomes a
-# panic; by function where callers ask for something else.
-BEYOND = "the entries must be below 4m"
 LOOKS = {
-    ("products", "multiply_each"): ((END, "the entries of xs must be below m"),),
     ("transform", "ntt_counted"): (LENGTH, CHECKED, (EVERY, "r.check(g) && root_fits(r, g, xs.len())")),
     ("convolution", "convolve"): (EQUAL, LENGTH, (DEBUG, CHECKED[1] + " && ys.iter().all(|y| r.check(y))"), SUITS),
     ("inverse", "intt"): (LENGTH, CHECKED, SUITS),
@@ -176,35 +169,19 @@ CLAUSE_ENDS, BESIDES = r"(; |, and |, )", re.compile(r"(?:which|whose|where|as)\
 
 
 @dataclass
-class Function:
-    """A function: its name, where its `fn` and its body stand, and of which trait it is, as declared or implemented."""
+class Function(Item):
+    """A function, the name of the trait that it is of, or "", and whether it is declared there or implemented."""
 
-    name: str
-    at: int
-    body: int
     trait: str
     declared: bool
 
 
 def functions(tokens):
     """The functions of a file, the last first."""
-    blocks = [(body, beyond(tokens, body), tokens[name].text, True) for name, _, body, _ in traits(tokens)]
-    impls = [header(tokens, at) or ("", at) for at in backwards(tokens, "impl")]
-    blocks += [(body, beyond(tokens, body), name, False) for name, body in reversed(impls) if name]
-    for at in backwards(tokens, "fn"):
-        if tokens[at + 1].kind == "name":
-            trait, declared = next(((it[2], it[3]) for it in reversed(blocks) if it[0] < at < it[1]), ("", False))
-            yield Function(tokens[at + 1].text, at, body_of(tokens, at), trait, declared)
-
-
-def first_of(tokens, at):
-    """The index of the first token of the item whose keyword is at `at`, with its attributes."""
-    first = beginning(tokens, at)
-    while tokens[first - 1].text == "]":
-        first -= 1
-        while tokens[first].text != "#":
-            first -= 1
-    return first
+    blocks = [(it.body, beyond(tokens, it.body), it.name, word == "trait") for word in ("impl", "trait") for it in items(tokens, word)]
+    for it in items(tokens, "fn"):
+        of = next(((name, declared) for begin, end, name, declared in blocks if begin < it.at < end), ("", False))
+        yield Function(*astuple(it), *of)
 
 
 def condition(lead):
@@ -219,11 +196,11 @@ def conditions_of_traits(files):
     """By trait, and by trait and method: the condition that the docs state. `files`: the tokens of all files."""
     found = {}
     for tokens in files:
-        for name, *_ in traits(tokens):
-            if words := condition(tokens[first_of(tokens, name - 1)].lead):
-                found[tokens[name].text] = words
+        for it in items(tokens, "trait"):
+            if words := condition(tokens[it.first].lead):
+                found[it.name] = words
         for it in functions(tokens):
-            words = condition(tokens[first_of(tokens, it.at)].lead)
+            words = condition(tokens[it.first].lead)
             if it.declared and tokens[it.body].asked and (words or it.trait in found):
                 found[it.trait, it.name] = words or found[it.trait]
     return found
@@ -267,27 +244,16 @@ def say(tokens, it, words):
             tokens[closed:closed] = lexed(f", {message}")
 
 
-def end_loops(tokens, it, words):
-    """The early return of a loop over entries becomes a panic."""
-    for at in range(beyond(tokens, it.body) - 1, it.body, -1):
-        if tokens[at].text == "is_beyond" and stands(tokens, beyond(tokens, at + 1), "{ return ; }".split()):
-            place = beyond(tokens, at + 1) + 1
-            tokens[place : place + 1] = lexed(tokens[place].lead + f'panic!("{words}")')
-
-
 def put_looks(tokens, it, file):
     """Puts the tests of the table at the beginning of a body."""
     if tokens[it.body].text == ";":
         return
     key = next((key for key in ((file, it.name), (file.partition("/")[2], it.name)) if key in LOOKS), None)
     FOUND[key].add(file)
-    end_loops(tokens, it, next((words for macro, words, *_ in LOOKS.get(key, ()) if macro == END), BEYOND))
     for macro, test, *before in reversed(LOOKS.get(key, ())):
-        if macro == END:
-            continue
         at = it.body + 1
         if before:
-            at = next(at for at in range(at, len(tokens)) if stands(tokens, at, before[0].split()))
+            at = next(at for at in range(at, len(tokens)) if matched(tokens, at, before[0]))
         lead = "\n" + tokens[at].lead.rpartition("\n")[2]
         look = {RETURN: f"if {test} {{{lead}    return;{lead}}}", CALL: f"{test};"}.get(macro, f"{macro}!({test});")
         tokens[at:at] = lexed(lead + look)
@@ -323,8 +289,7 @@ def with_subject(part, names):
 
 def arguments(tokens, it):
     """The names of the parameters of a function that are words or lists of words, but for the modulus."""
-    opened = past_angles(tokens, it.at + 2)
-    parts = [[x.text for x in part if x.text != "mut"] for part in parameters(tokens[opened : beyond(tokens, opened)])]
+    parts = [[x.text for x in part if x.text != "mut"] for part in parameters(tokens[it.opened : beyond(tokens, it.opened)])]
     return [part[0] for part in parts if part[1:2] == [":"] and part[0] != "m" and part[-1] in ("T", "]") and "T" in part]
 
 
@@ -385,16 +350,15 @@ def without_laws(tokens):
             it.lead = text
 
 
-def makes(tokens, at):
-    """Whether the function at `at` makes a value whose type has a condition."""
-    closed = beyond(tokens, past_angles(tokens, at + 2))
+def makes(tokens, it):
+    """Whether a function makes a value whose type has a condition."""
+    closed = beyond(tokens, it.opened)
     return tokens[closed].text == "->" and tokens[closed + 1].text in MADE
 
 
 def is_public(tokens, it):
     """Whether users may call a function: one that is `pub`, or that a trait declares."""
-    begin = beginning(tokens, it.at)
-    return it.declared or tokens[begin].text == "pub" and tokens[begin + 1].text != "("
+    return it.declared or tokens[it.begin].text == "pub" and tokens[it.begin + 1].text != "("
 
 
 def tests_itself(tokens, it):
@@ -410,15 +374,14 @@ def mark_callers(tokens, it, file, every=(), debug=()):
     is_between = tokens[it.body].text != ";" and re.fullmatch(BETWEEN, f"{file}.{it.trait}.{it.name}")
     if every or debug or is_between:
         is_short = not every or file.startswith(SHORT)
-        put_attribute(tokens, beginning(tokens, it.at), TRACKED_IN_DEBUG if is_short else TRACKED)
+        put_attribute(tokens, it.begin, TRACKED_IN_DEBUG if is_short else TRACKED)
 
 
 def state_conditions(tokens, file, traits):
     """Messages, tests and docs of the conditions of a file; what is lacking is returned."""
     lacking = []
     for it in [] if file.endswith("/tests") else functions(tokens):
-        first, name = first_of(tokens, it.at), it.name
-        words = condition(tokens[first].lead) or traits.get((it.trait, name))
+        name, words = it.name, condition(tokens[it.first].lead) or traits.get((it.trait, it.name))
         asked = tokens[it.body].asked
         put_looks(tokens, it, file)
         if words is None:
@@ -433,8 +396,8 @@ def state_conditions(tokens, file, traits):
         say(tokens, it, words)
         if asked:
             names = arguments(tokens, it)
-            say_in_docs(tokens, first, [[with_subject(part, names) for part in kind] for kind in parts])
-        if asked and is_public(tokens, it) and not it.declared and makes(tokens, it.at) and not tests_itself(tokens, it):
+            say_in_docs(tokens, it.first, [[with_subject(part, names) for part in kind] for kind in parts])
+        if asked and is_public(tokens, it) and not it.declared and makes(tokens, it) and not tests_itself(tokens, it):
             lacking.append(f"{file}.rt: {name} makes a value, and doesn't test its condition with `prove!`")
         mark_callers(tokens, it, file, *parts[:2])
     return lacking

@@ -1,42 +1,25 @@
 """Writes as Rust programmers do what Rattle has no other words for, for rust/erase: each rule is one that clippy names."""
 import re
-from types import SimpleNamespace
 
-from erase_tokens import backwards, beyond, lexed, matched, stands, text_of
+from erase_tokens import rewrite
 
-PLACE = "entry"  # the entry of a list in a loop
 ASCII = {("b'0'", "b'9'"): "is_ascii_digit()", ("b'A'", "b'Z'"): "is_ascii_uppercase()"}
 
 
-def loops_over_lists(tokens):
-    """A loop over the places of one list, which it names in no other way, is one over its entries (needless_range_loop)."""
-    for at in backwards(tokens, "for"):
-        if not (found := matched(tokens, at, "for $index in 0 . . $until.. $block{}")):
-            continue
-        parts, end = found
-        index, until, inside = parts["index"][0].text, parts["until"], [it.text for it in parts["block"]]
-        body = end - len(inside)
-        places = [x - 1 for x in range(body + 1, end) if stands(tokens, x, ["[", index, "]"])]
-        lists = {tokens[x].text for x in places}
-        if len(lists) != 1 or tokens[places[0] - 1].text == "." or PLACE in inside:
-            continue
-        named = lists.pop()
-        if inside.count(named) != len(places):
-            continue
-        is_changed = any(tokens[x + 4].text == "=" and tokens[x + 5].text != "=" for x in places)
-        whole = stands(until, 0, [named, ".", "len", "(", ")"]) and len(until) == 5
-        for x in reversed(places):
-            lead = tokens[x].lead
-            if not is_changed and tokens[x - 1].text == "&":
-                tokens[x - 1 : x + 4] = lexed(tokens[x - 1].lead + PLACE)
-            else:
-                star = "" if tokens[x + 4].text == "." else "*"
-                tokens[x : x + 4] = lexed(f"{lead}{star}{PLACE}")
-        still = any(it.text == index for it in tokens[body : beyond(tokens, body)])
-        part = "" if whole else f"[..{text_of(until).strip()}]"
-        items = f"{named}{part}.iter{'_mut' * is_changed}()"
-        head = f" ({index}, {PLACE}) in {items}.enumerate()" if still else f" {PLACE} in {items}"
-        tokens[at + 1 : body] = lexed(head)
+def over_entries(it):
+    """A loop over the places of one list, which it names in no other way, as one over its entries."""
+    code = re.sub(r"//.*", "", it.block)
+    place = rf"\[{it.index}\]"
+    lists = set(re.findall(rf"([\w.]+){place}", code))
+    named = lists.pop() if len(lists) == 1 else "."
+    entries = rf"\b{named}{place}"
+    if "." in named or re.search(r"\bentry\b", code) or len(re.findall(rf"\b{named}\b", code)) != len(re.findall(entries, code)):
+        return None
+    is_changed = re.search(rf"{entries} =[^=]", code)
+    block = it.block if is_changed else re.sub(f"&{entries}", "entry", it.block)
+    block = re.sub(entries, "*entry", re.sub(rf"{entries}(?=\.)", "entry", block))
+    part = "" if it.until == f"{named}.len()" else f"[..{it.until}]"
+    return f"for ({it.index}, entry) in {named}{part}.iter{'_mut' if is_changed else ''}().enumerate() {block}"
 
 
 def mapped(it):
@@ -53,9 +36,8 @@ def equal(it):
 
 
 def within(it):
-    known = ASCII.get((it.low, it.high))
-    test = f"{it.x}.{known}" if known else f"({it.low}..={it.high}).contains(&{it.x})"
-    return test if it.before in ("if", "{", "(") else None
+    test = ASCII.get((it.low, it.high))
+    return f"{it.x}.{test}" if test and it.before in ("if", "{", "(") else None
 
 
 def outside(it):
@@ -79,10 +61,10 @@ def once(it):
 # redundant_pattern_matching, collapsible_if, if_same_then_else, manual_range_contains, single_match,
 # redundant_field_names, unused_enumerate_index.
 RULES = (
-    ("for $n in $numbers.. { if $holds.. { return Some ( $n ) ; } } None",
-     lambda it: f"({it.numbers}).find(|&{it.n}| {it.holds})"),
+    ("for $n in $numbers.. { if $holds.. { return Some ( $n ) ; } } None", "($numbers).find(|&$n| $holds)"),
+    ("for $index in 0 . . $until.. $block{}", over_entries),
     ("match $option.. { Some ( $x ) => Some ( $value.. ) , None => None , }", mapped),
-    ("match $option.. { Some ( _ ) => true , None => false , }", lambda it: f"{it.option}.is_some()"),
+    ("match $option.. { Some ( _ ) => true , None => false , }", "$option.is_some()"),
     ("if $one.. { if $other.. $block{} }", nested),
     ("if $one.. $block{} else if $other.. $block{}", equal),
     ("$x > = $low & & $x < = $high", within),
@@ -94,17 +76,6 @@ RULES = (
 
 
 def write_idioms(tokens):
-    """Writes all of these, and loops as such that search before others."""
-    for count, (pattern, make) in enumerate(RULES):
-        if count == 1:
-            loops_over_lists(tokens)
-        for at in range(len(tokens) - 2, 0, -1):
-            if not (found := matched(tokens, at, pattern)):
-                continue
-            parts, end = found
-            lead = tokens[at].lead
-            it = SimpleNamespace(**{name: text_of(part).strip() for name, part in parts.items()})
-            it.before, it.behind = tokens[at - 1].text, tokens[end].text
-            it.line = lead[lead.rindex("\n") :] if "\n" in lead else " "
-            if (new := make(it)) is not None:
-                tokens[at:end] = lexed(lead + new)
+    """Writes all of these."""
+    for rule in RULES:
+        rewrite(tokens, (rule,))

@@ -1,27 +1,28 @@
 """Reads the code of a proved source without its ghost text, as tokens, and finds its parts: for rust/erase."""
 import functools
 import re
+from collections import defaultdict
 from dataclasses import dataclass
 from string import Template
-from types import SimpleNamespace
+from types import MappingProxyType, SimpleNamespace
 
 ATTRIBUTES = {"derive", "cfg", "cfg_attr", "cold", "allow", "inline", "test", "must_use", "track_caller", "doc", "repr", "unsafe"}
 TOKEN = re.compile(
     r"""(?P<space>\s+)|(?P<comment>//[^\n]*)
     |(?P<text>b?r(?P<marks>\#*)".*?"(?P=marks)|[bc]?"(?:\\.|[^"\\])*"|b?'(?:\\(?:u\{[^}]*\}|x..|.)|[^'\\])')
-    |(?P<label>'[A-Za-z_]\w*)|(?P<name>[A-Za-z_]\w*)|(?P<number>\d\w*(?:\.\d\w*)?)|(?P<sign>::|->|=>|.)|(?P<end>\Z)""",
+    |(?P<label>'[A-Za-z_]\w*)|(?P<name>[A-Za-z_]\w*)|(?P<number>\d\w*(?:\.\d\w*)?)|(?P<sign>::|->|=>|.)""",
     re.X | re.S,
 )
 BRACES = r"\{(?:[^{}]|\{(?:[^{}]|\{(?:[^{}]|\{(?:[^{}]|\{[^{}]*\})*\})*\})*\})*\}"
 PUBLIC = r"(?:pub(?:\(crate\))?\s+)?"
+# what is no code, and the end of a text
 GHOST = re.compile(
     rf"""(?P<clause>(?:requires|ensures)(?:\s+[a-z_]\w*)?\s*{BRACES})
     |(?P<item>{PUBLIC}ghost\s+(?:use\b[^;]*;|[a-z_]\w*\s*[:=]\s*{BRACES}\s*[;,]))
     |(?P<tactic>\#!?\[(?:tactic|rattlefmt)\b(?:[^][]|\[[^]]*\])*\])
-    |(?P<unknown>(?:requires|ensures|ghost)\b|\#!?\[(?!(?:{'|'.join(sorted(ATTRIBUTES))})\b))""",
+    |(?P<end>\Z)|(?P<unknown>(?:requires|ensures|ghost)\b|\#!?\[(?!(?:{'|'.join(sorted(ATTRIBUTES))})\b))""",
     re.X,
 )
-PAIRS = {"<": ">", "(": ")", "{": "}", "[": "]"}
 
 
 class Unknown(Exception):
@@ -92,36 +93,23 @@ def text_of(tokens):
     return "".join(it.lead + it.text for it in tokens)
 
 
-def put_attribute(tokens, at, attribute):
-    """Puts an attribute on a line of its own between the comments at `at` and what stands there."""
-    lead = tokens[at].lead
-    tokens[at].lead = "\n" + lead[len(lead.rstrip(" ")) :]
-    tokens[at:at] = lexed(attribute)
-    tokens[at].lead = lead
-
-
 # ------------------------------------------------------------------------------------------------ finding
-def stands(tokens, at, words):
-    """Whether the tokens from `at` on are these words."""
-    return [it.text for it in tokens[at : at + len(words)]] == words
-
-
-def next_of(tokens, at, *words):
-    """The index of the next of these words."""
-    return next(it for it in range(at, len(tokens)) if tokens[it].text in words)
-
-
 def backwards(tokens, *words):
     """The indexes of the tokens that are one of these words, the last first: what stands behind may be changed."""
     return (at for at in range(len(tokens) - 1, -1, -1) if tokens[at].text in words)
 
 
-def beyond(tokens, at):
-    """The index behind what the bracket at `at` opens, angle brackets too."""
-    pairs = {"<": ">", "(": ")", "{": "}", "[": "]"}
-    first, depth = tokens[at].text, 0
+def next_of(tokens, at, word):
+    """The index of the next of these words."""
+    return next(it for it in range(at, len(tokens)) if tokens[it].text == word)
+
+
+def beyond(tokens, at, pairs=MappingProxyType({"(": ")", "{": "}", "[": "]"})):
+    """The index behind what the bracket at `at` opens; behind the token there where it is none."""
+    opening, depth = tokens[at].text, 0
+    closing = pairs.get(opening, opening)
     while True:
-        depth += (tokens[at].text == first) - (tokens[at].text == pairs[first])
+        depth += (tokens[at].text == opening) - (tokens[at].text == closing)
         at += 1
         if depth == 0:
             return at
@@ -129,11 +117,11 @@ def beyond(tokens, at):
 
 def past_angles(tokens, at):
     """The index behind the angle brackets that open at `at`; the same where none do."""
-    return beyond(tokens, at) if tokens[at].text == "<" else at
+    return beyond(tokens, at, {"<": ">"}) if tokens[at].text == "<" else at
 
 
 def parameters(tokens):
-    """The parameters between angle brackets, as lists of tokens."""
+    """The parameters between brackets, as lists of tokens."""
     parts, depth = [[]], 0
     for it in tokens[1:-1]:
         depth += (it.text in "<([") - (it.text in ">)]") if it.kind == "sign" and it.text != "->" else 0
@@ -144,58 +132,127 @@ def parameters(tokens):
     return [it for it in parts if it]
 
 
-def text_of(tokens):
-    return "".join(it.lead + it.text for it in tokens)
+@dataclass
+class Item:
+    """A function, trait, impl, struct or module: its name, of an impl that of its trait, or ""; and the indexes of its first
+    token, of the first behind its attributes, of its keyword, of what follows its name and the angle brackets there, and of
+    its body or the semicolon in its place."""
+
+    name: str
+    first: int
+    begin: int
+    at: int
+    opened: int
+    body: int
+
+
+def trait_of(tokens, at):
+    """The name of the trait whose impl has its trait or type at `at`; "" where it is of no trait."""
+    name = ""
+    while tokens[at].text not in ("for", "{", "!"):
+        name = tokens[at].text if tokens[at].kind == "name" else name
+        at = past_angles(tokens, at + 1)
+    return name if tokens[at].text == "for" else ""
+
+
+def first_of(tokens, at, attributes=True):
+    """The index of the first token of the item whose keyword is at `at`, with its attributes or without them."""
+    while tokens[at - 1].text in ("pub", "(", "crate", ")", "const"):
+        at -= 1
+    while attributes and tokens[at - 1].text == "]":
+        at = max(it for it in range(at) if tokens[it].text == "#")
+    return at
+
+
+def items(tokens, keyword):
+    """The items with this keyword, the last first: what stands behind one's beginning may be changed."""
+    for at in backwards(tokens, keyword):
+        is_impl = keyword == "impl"
+        if is_impl or tokens[at + 1].kind == "name":
+            opened = past_angles(tokens, at + 1 if is_impl else at + 2)
+            body = at
+            while tokens[body].text not in ("{", ";"):
+                body = beyond(tokens, body)
+            name = trait_of(tokens, opened) if is_impl else tokens[at + 1].text
+            yield Item(name, first_of(tokens, at), first_of(tokens, at, attributes=False), at, opened, body)
+
+
+# ------------------------------------------------------------------------------------------------ rewriting
+@functools.cache
+def words_of(pattern):
+    """The words of a pattern, each with the name that it gives to what stands there, or "", and the word that follows it."""
+    words = pattern.split()
+    stops = ["{" if it.endswith("{}") else it for it in words[1:]] + [""]
+    return [(word, word.strip("$.{}") if word[0] == "$" else "", stop) for word, stop in zip(words, stops)]
 
 
 def matched(tokens, at, pattern):
     """What the names of a pattern stand for where it begins at `at`, and the index behind it; None where it doesn't match.
     `$x` is one token, `$x..` are the tokens up to the pattern's next word, `$x{}` is a block; a name stands for the same
     each time."""
-    found, words = {}, pattern.split()
-    for word, behind in zip(words, [*words[1:], ""]):
-        begin, name, stop = at, word.strip("$.{}"), "{" if behind.endswith("{}") else behind
-        if word.endswith(".."):
+    found = {}
+    for word, name, stop in words_of(pattern):
+        begin = at
+        if name and word.endswith(".."):
             while tokens[at].text != stop:
                 if tokens[at].text in (";", "}", ""):
                     return None
-                at = beyond(tokens, at) if tokens[at].text in ("(", "[", "{") else at + 1
-        elif word.endswith("{}") and word != "{}":
-            if tokens[at].text != "{":
-                return None
+                at = beyond(tokens, at)
+        elif name and word.endswith("{}"):
             at = beyond(tokens, at)
-        elif tokens[at].text != word and (word[0] != "$" or tokens[at].kind in ("sign", "end")):
-            return None
-        else:
+        elif tokens[at].text == word or name and tokens[at].kind not in ("sign", "end"):
             at += 1
-        if word[0] == "$":
-            part = tokens[begin:at]
-            if [it.text for it in found.setdefault(name, part)] != [it.text for it in part]:
-                return None
+        else:
+            return None
+        part = tokens[begin:at]
+        if name and [it.text for it in found.setdefault(name, part)] != [it.text for it in part]:
+            return None
     return found, at
 
 
-def rewrite(tokens, pattern, new):
-    """Writes `new` in place of what matches a pattern; the pattern's names stand in it for what they stand for there.
-    Where `new` is empty, an item goes with the comments right above it, and an attribute leaves them."""
+@functools.cache
+def by_first_word(rules):
+    """Rules by the first word of their patterns, those that begin with a name by ""."""
+    found = defaultdict(list)
+    for pattern, new in rules:
+        word, name, _ = words_of(pattern)[0]
+        found["" if name else word].append((pattern, new))
+    return found
+
+
+def rewrite(tokens, rules):
+    """Writes by rules, of which the first that fits a place holds there: each is a pattern and what is written in place of what
+    matches it. That is a text in which the pattern's names stand for what they stand for there, or a function of these that
+    returns the text, or None where the rule doesn't fit. The function and
+    a text also have what stands `before` and `behind`, and the `line` feed and indent of the place. Where the text is empty, an item goes with the comments right above it, and an
+    attribute leaves them."""
+    rules = by_first_word(rules)
     for at in range(len(tokens) - 2, -1, -1):
-        if found := matched(tokens, at, pattern):
-            parts, end = found
-            if not new:
-                cut(tokens, at, end, tokens[at].text != "#")
-                continue
-            put = lexed(tokens[at].lead + re.sub(r"\$(\w+)", lambda it: text_of(parts[it[1]]).strip(), new))
-            put[-1].asked = any(it.asked for it in tokens[at:end])
-            tokens[at:end] = put
+        for pattern, new in (*rules.get(tokens[at].text, ()), *rules.get("", ())):
+            if (found := matched(tokens, at, pattern)) and (text := text_by(new, tokens, at, *found)) is not None:
+                end = found[1]
+                if text:
+                    put = lexed(tokens[at].lead + text)
+                    put[-1].asked = any(it.asked for it in tokens[at:end])
+                    tokens[at:end] = put
+                else:
+                    cut(tokens, at, end, tokens[at].text != "#")
+                break
 
 
-def traits(tokens):
-    """Each trait: the indexes of its name, of its bounds and of its body, and its parameters."""
-    for at, it in enumerate(tokens):
-        if it.text == "trait" and tokens[at + 1].kind == "name":
-            bounds = past_angles(tokens, at + 2)
-            body = next_of(tokens, bounds, "{")
-            yield at + 1, bounds, body, parameters(tokens[at + 2 : bounds]) if bounds > at + 2 else []
+def text_by(new, tokens, at, parts, end):
+    """The text that a rule's second half writes for these parts; None for none."""
+    it = SimpleNamespace(**{name: text_of(part).strip() for name, part in parts.items()})
+    it.before, it.behind = tokens[at - 1].text, tokens[end].text
+    it.line = "".join(tokens[at].lead.rpartition("\n")[1:]) or " "
+    return new(it) if callable(new) else Template(new).substitute(vars(it))
+
+
+def put_attribute(tokens, at, attribute):
+    """Puts an attribute on a line of its own between the comments at `at` and what stands there."""
+    lead = tokens[at].lead
+    tokens[at].lead = "\n" + lead[len(lead.rstrip(" ")) :]
+    tokens[at:at] = lexed(lead + attribute)
 
 
 def cut(tokens, begin, end, item):
@@ -208,27 +265,3 @@ def cut(tokens, begin, end, item):
     else:
         tokens[end].lead = lead if "\n" in lead else tokens[end].lead or lead
     del tokens[begin:end]
-
-
-def header(tokens, at):
-    """The trait's name and the index of the body of the impl at `at`; None where it is of no trait."""
-    at, name = past_angles(tokens, at + 1), None
-    while tokens[at].text not in ("for", "{", "!"):
-        name = tokens[at].text if tokens[at].kind == "name" else name
-        at = past_angles(tokens, at + 1)
-    return (name, next_of(tokens, at, "{")) if tokens[at].text == "for" else None
-
-
-def body_of(tokens, at):
-    """The index of the body of the function at `at`, or of the semicolon in its place."""
-    body = past_angles(tokens, at + 2)
-    while tokens[body].text not in ("{", ";"):
-        body = beyond(tokens, body) if tokens[body].text in ("(", "[") else body + 1
-    return body
-
-
-def beginning(tokens, at):
-    """The index of the first token of the item whose keyword is at `at`, without its attributes."""
-    while tokens[at - 1].text in ("pub", "(", "crate", ")", "const"):
-        at -= 1
-    return at

@@ -1,12 +1,11 @@
 """Takes away what only proofs use, for rust/erase: laws, traits without members, imports; and names parameters that nothing reads."""
 import re
 from dataclasses import dataclass
+from itertools import pairwise
 
-from erase_conditions import first_of
 from libraries import leaves
 from erase_tokens import (
-    Token, Unknown, backwards, beyond, body_of, cut, lexed, next_of, parameters, past_angles, put_attribute, stands,
-    traits,
+    Token, Unknown, beyond, cut, first_of, items, lexed, matched, next_of, parameters, past_angles, put_attribute,
 )
 
 LAWS = "laws"  # a module of this name has what only proofs and tests call
@@ -73,21 +72,18 @@ def filter_imports(tokens, keeps, public=True):
 
 # ------------------------------------------------------------------------------------------------ laws
 def laws(tokens):
-    """Where each function in no other item begins and ends that returns nothing and has an empty body, and its name, the
-    last first: its contract states a law."""
-    for at in backwards(tokens, "fn"):
-        if tokens[at + 1].kind == "name":
-            body, first = body_of(tokens, at), first_of(tokens, at)
-            is_free = not tokens[first].lead.rpartition("\n")[2]  # at the margin
-            if is_free and tokens[body - 1].text == ")" and stands(tokens, body, ["{", "}"]):
-                yield first, body + 2, tokens[at + 1].text
+    """The functions in no other item that return nothing and have an empty body, the last first: their contracts are laws."""
+    for it in items(tokens, "fn"):
+        is_free = not tokens[it.first].lead.rpartition("\n")[2]  # at the margin
+        if is_free and matched(tokens, it.body - 1, ") { }"):
+            yield it
 
 
 def without_calls(tokens, names):
     """Takes the statements away that call these functions."""
     for at in range(len(tokens) - 2, 0, -1):
         if tokens[at].text in names and tokens[at - 1].text in ("{", "}", ";"):
-            end = beyond(tokens, at + 2) if stands(tokens, at + 1, ["::", "<"]) else at + 1
+            end = past_angles(tokens, at + 2) if tokens[at + 1].text == "::" else at + 1
             if tokens[end].text == "(" and tokens[beyond(tokens, end)].text == ";":
                 cut(tokens, at, beyond(tokens, end) + 1, True)
 
@@ -98,9 +94,9 @@ def take_laws(files):
     while True:
         found = set()
         for tokens in files.values():
-            for first, end, name in laws(tokens):
-                found.add(name)
-                cut(tokens, first, end, True)
+            for it in laws(tokens):
+                found.add(it.name)
+                cut(tokens, it.first, it.body + 2, True)
         if not found:
             break
         names |= found
@@ -122,25 +118,48 @@ def has_nothing(tokens):
     return not rest
 
 
+def take_module(tokens, name):
+    """Takes the declaration of a module away."""
+    for it in items(tokens, "mod"):
+        if it.name == name:
+            cut(tokens, it.first, it.body + 1, True)
+
+
 def take_empty_modules(files):
     """Takes the modules away that have nothing left."""
     for crate, path in [key for key, tokens in files.items() if has_nothing(tokens)]:
         del files[crate, path]
         above, _, name = path.rpartition("/")
-        tokens = files[crate, above if (crate, above) in files else "lib"]
-        at = next(at for at in backwards(tokens, "mod") if stands(tokens, at, ["mod", name, ";"]))
-        cut(tokens, first_of(tokens, at), at + 3, True)
+        take_module(files[crate, above if (crate, above) in files else "lib"], name)
 
 
 # ------------------------------------------------------------------------------------------------ traits
+def empty_traits(files):
+    """The traits whose members were all ghost, and the names of others that each requires."""
+    found = {}
+    for it, tokens in ((it, tokens) for tokens in files for it in items(tokens, "trait")):
+        if matched(tokens, it.body, "{ }"):
+            if it.name in found:
+                raise Unknown(f"two traits without members are named {it.name}")
+            found[it.name] = {x.text for x in tokens[it.opened : it.body] if x.kind == "name"} - {"Sized"}
+    return {name: supers - set(found) for name, supers in found.items()}
+
+
+def take_empty_impls(tokens, empty):
+    """Takes the impls of empty traits away: they have no members either."""
+    for it in items(tokens, "impl"):
+        if it.name in empty:
+            cut(tokens, it.first, it.body + 2, True)
+
+
 def take_markers(tokens, markers):
     """Takes traits without members away, as bounds too. `markers` has what each requires besides: a trait of core, or ""."""
     filter_imports(tokens, lambda _, name: name not in markers)
+    for it in items(tokens, "trait"):
+        if it.name in markers:
+            cut(tokens, it.first, it.body + 2, True)
     for at in range(len(tokens) - 2, 0, -1):
-        if tokens[at].text == "trait" and tokens[at + 1].text in markers:
-            end = next_of(tokens, at, "{")
-            cut(tokens, first_of(tokens, at), beyond(tokens, end), True)
-        elif tokens[at].text in markers and tokens[at].kind == "name" and tokens[at - 1].text in (":", "+"):
+        if tokens[at].text in markers and tokens[at].kind == "name" and tokens[at - 1].text in (":", "+"):
             if markers[tokens[at].text]:
                 tokens[at].text = markers[tokens[at].text]
             elif tokens[at - 1].text == ":" and tokens[at + 1].text == "+":
@@ -156,10 +175,9 @@ def take_markers(tokens, markers):
 def traits_of(files):
     """The traits of these files by name: their methods, and the traits that they require."""
     found = {}
-    for tokens in files:
-        for name, _, body, _ in traits(tokens):
-            methods = {tokens[x + 1].text for x in range(body, beyond(tokens, body)) if tokens[x].text == "fn"}
-            found[tokens[name].text] = methods, {x.text for x in tokens[name + 1 : body] if x.kind == "name"}
+    for it, tokens in ((it, tokens) for tokens in files for it in items(tokens, "trait")):
+        methods = {x.text for before, x in pairwise(tokens[it.body : beyond(tokens, it.body)]) if before.text == "fn"}
+        found[it.name] = methods, {x.text for x in tokens[it.at + 2 : it.body] if x.kind == "name"}
     return found
 
 
@@ -193,16 +211,13 @@ def take_unused_imports(tokens, known):
 
 def name_unread(tokens):
     """A parameter that only ghost text reads is read once."""
-    for at in backwards(tokens, "fn"):
-        if tokens[at + 1].kind == "name" and tokens[body := body_of(tokens, at)].text == "{":
-            opened = past_angles(tokens, at + 2)
-            end = beyond(tokens, body)
-            inside = " ".join(it.text for it in tokens[body:end])
-            for part in reversed(parameters(tokens[opened : beyond(tokens, opened)])):
-                words = [it.text for it in part if it.text != "mut"]
-                if len(words) > 2 and words[1] == ":" and words[0][0] != "_" and not re.search(rf"\b{words[0]}\b", inside):
-                    lead = tokens[body + 1].lead if "\n" in tokens[body + 1].lead else "\n"
-                    tokens[body + 1 : body + 1] = lexed(f"{lead}let _ = {words[0]};")
+    for it in items(tokens, "fn"):
+        inside = {x.text for x in tokens[it.body : beyond(tokens, it.body)]}
+        for part in reversed(parameters(tokens[it.opened : beyond(tokens, it.opened)])) if inside != {";"} else ():
+            words = [x.text for x in part if x.text != "mut"]
+            if words[1:2] == [":"] and words[0][0] != "_" and words[0] not in inside:
+                lead = tokens[it.body + 1].lead if "\n" in tokens[it.body + 1].lead else "\n"
+                tokens[it.body + 1 : it.body + 1] = lexed(f"{lead}let _ = {words[0]};")
 
 
 # ------------------------------------------------------------------------------------------------ tests
@@ -210,10 +225,10 @@ def mark_tests(files):
     """Marks what only tests call, so that only they compile it. `files`: the tokens of the library by crate and path."""
     lost = set(OF_TESTS)
     for (crate, path), tokens in files.items():
-        for at in backwards(tokens, "mod", "fn"):
-            key = crate if path == "lib" else f"{crate}/{path}", tokens[at + 1].text
-            if key in OF_TESTS or stands(tokens, at, ["mod", LAWS, ";"]):
-                put_attribute(tokens, first_of(tokens, at), "#[cfg(test)]")
+        for it in (it for keyword in ("mod", "fn") for it in items(tokens, keyword)):
+            key = crate if path == "lib" else f"{crate}/{path}", it.name
+            if key in OF_TESTS or matched(tokens, it.at, f"mod {LAWS} ;"):
+                put_attribute(tokens, it.first, "#[cfg(test)]")
                 lost.discard(key)
     if lost:
         raise Unknown(f"only tests should call these, which aren't there: {sorted(lost)}")
