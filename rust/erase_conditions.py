@@ -18,133 +18,107 @@ MADE |= {"StoredModulus", "PreMulInv1by1", "PreMulInv2by1", "Normalized2by1Divis
 # Who makes a value by another function, which tests the condition.
 MADE_BY = {"new": ("R::new(", "Montgomery::of(", "Self::of(", "M::keep(")}
 
-# Tests that are put in at the beginning of a body, or before a statement, since they look at more than `prove!` may, or since
-# only rustc needs them: by file in its crate and function, the condition's parts in turn. What they call is proved to tell whether the condition holds.
-EVERY, DEBUG, RETURN, CALL = "assert", "debug_assert", "return", "call"
-FILLED = (CALL, "crate::additions::expect_filled(m, table)")
-FACTORS = (DEBUG, "crate::additions::are_factors(m, xs.len(), table, b, last)")
-IN_ROOM = (DEBUG, "xs.iter().all(|x| m.has_room(*x))")
-PAIR_IN_ROOM = (DEBUG, "xs.iter().chain(ys.iter()).all(|x| m.has_room(*x))")
-CONVOLVES = (EVERY, "convolves(xs.len(), table.len(), b, last)")
-SPLITS = (EVERY, "crate::plans::splits(xs.len(), table.len(), b, last)")
-LENGTH = (EVERY, "xs.len().is_power_of_two()")
-CHECKED = (DEBUG, "r.check(g) && xs.iter().all(|x| r.check(x))")
-SUITS = (EVERY, "r.check(g) && crate::ring::root_fits(r, g, xs.len())")
-QUOTIENT = ((DEBUG, "crate::additions::is_greatest_quotient(d, pre.q_lim)"),)
-PLAN = "plan/calls"
-PLAN_ROOM = (DEBUG, "xs.iter().all(|x| self.modulus.has_room(*x))")
-PLAN_FITS_PAIR = (EVERY, "self.fits(xs.len()) && ys.len() == xs.len()")
-PLAN_SPLITS = (EVERY, "self.splits(xs.len(), b, last)")
-PLAN_PAIR_ROOM = (DEBUG, "xs.iter().chain(ys.iter()).all(|x| self.modulus.has_room(*x))")
-EQUAL = (EVERY, "ys.len() == xs.len()")
-MESSAGE = (EVERY, "message.len() <= word.len()")
+# Tests that are put in at the beginning of a body, since they look at more than `prove!` may, or since only rustc needs them,
+# each with the functions that get it, by their file in its crate; a function's tests are in the order of the table, which is
+# that of the condition's parts. What they call is proved to tell whether the condition holds.
 COUNTED = "{0}.len() == self.moduli.len()"
 REDUCED = COUNTED + " && crate::residues::are_reduced(self.moduli, {0})"
-DIVISOR = ((EVERY, "d != 0"),)
+POWER_SUITS = "assert!(table.len().is_power_of_two() && power.wrapping_add(T::one()) == m.modulus);"
 LOOKS = {
-    ("transform", "ntt_counted"): (LENGTH, CHECKED, (EVERY, "r.check(g) && root_fits(r, g, xs.len())")),
-    ("convolution", "convolve"): (EQUAL, LENGTH, (DEBUG, CHECKED[1] + " && ys.iter().all(|y| r.check(y))"), SUITS),
-    ("inverse", "intt"): (LENGTH, CHECKED, SUITS),
-    **{
-        ("lists", name): (EQUAL, (DEBUG, "xs.iter().chain(ys.iter()).all(|x| r.check(x))"))
-        for name in ("add_lists", "sub_lists", "multiply_lists", "dot_product")
-    },
-    ("lists", "scale_list"): ((DEBUG, "r.check(factor) && xs.iter().all(|x| r.check(x))"),),
-    **{(file, "add_products"): (EQUAL,) for file in ("reducer", "odd_ring", "montgomery", "premul")},
-    ("hashes", "is_hit"): (
-        (DEBUG, "at <= text.len() && pattern.len() <= text.len() - at"),
-        (DEBUG, "window == wanted || &text[at..at + pattern.len()] != pattern"),
-    ),
-    ("ring", "run"): (
-        (DEBUG, "all_checked(r, regs)"),
-        (DEBUG, "commands_fit(commands, regs.len())"),
-    ),
-    ("plan", "plan"): (
-        (RETURN, "table.is_empty()"),
-        (EVERY, "g.is_below(m.modulus)"),
-        # a loop has computed the power that tells whether g suits
-        (EVERY, "table.len().is_power_of_two() && power.wrapping_add(T::one()) == m.modulus", "let mut count = 1 ;"),
-    ),
-    ("split", "split"): (IN_ROOM, SPLITS, FILLED, FACTORS),
-    ("join", "join"): (IN_ROOM, SPLITS, FILLED, FACTORS),
-    ("join", "join_scaled"): (IN_ROOM, SPLITS, FILLED, FACTORS, (DEBUG, "crate::additions::is_factor(m, w)")),
-    ("convolution", "convolve_block"): (EQUAL, CONVOLVES, PAIR_IN_ROOM, FILLED, FACTORS),
-    **{(PLAN, name): ((EVERY, "self.fits(xs.len())"), PLAN_ROOM) for name in ("transform", "inverse")},
-    **{(PLAN, name): (PLAN_SPLITS, PLAN_ROOM) for name in ("split", "join")},
-    **{(PLAN, name): (PLAN_FITS_PAIR, PLAN_PAIR_ROOM) for name in ("convolve", "convolve_negacyclic")},
-    (PLAN, "convolve_block"): (EQUAL, (EVERY, "self.convolves(xs.len(), b, last)"), PLAN_PAIR_ROOM),
-    (PLAN, "multiply"): (EQUAL, (DEBUG, "xs.iter().all(|x| x.is_below(self.modulus.modulus))")),
-    ("plan", "shorter"): ((EVERY, "self.has_shorter(n)"),),
-    ("reduced_int/operations", "quotient"): ((DEBUG, "y.reducer.modulus() == x.reducer.modulus()"),),
-    ("normalized", "invert_word"): ((DEBUG, "d.leading_zeros() == 0"),),
-    ("one_by_one", "div_rem"): ((DEBUG, "crate::additions::is_multiplier(self.multiplier, self.shift, d)"),),
-    ("modular_prim/exact", "exact_quotient"): ((EVERY, "!d.is_zero_word()"),),
-    ("modular_prim/exact", "exact_quotient_128"): ((EVERY, "d != 0"),),
-    ("abs", "signed_residue_128"): ((EVERY, "m != 0"),),
-    **{("plain_word", name): DIVISOR for name in ("quotient", "remainder", "low_quotient")},
-    **{(f"word/{word}", "nrem"): DIVISOR for word in ("w8", "w16", "w32", "w64", "wsize")},
-    ("residues", "encode"): ((EVERY, "moduli.iter().all(|m| *m > 0)"), (EVERY, "residues.len() == moduli.len()")),
-    ("residues", "decode"): (
-        (EVERY, "crate::additions::may_be_system(moduli)"),
-        (EVERY, "residues.len() >= moduli.len() && are_reduced(moduli, residues)"),
-    ),
-    **{("prefixes/searches", name): ((EVERY, "patterns.base == self.base"),) for name in ("pattern_at", "find_any_from", "find_all")},
-    ("mixed_radix", "digits"): ((EVERY, f"{REDUCED.format('residues')} && {COUNTED.format('digits')}"),),
-    ("mixed_radix", "compare"): ((EVERY, f"{REDUCED.format('left')} && {REDUCED.format('right')}"),),
-    ("mixed_radix", "residues"): ((EVERY, f"{COUNTED.format('digits')} && {COUNTED.format('residues')}"),),
-    ("mixed_radix/extension", "residue_modulo"): ((EVERY, f"m > 0 && {COUNTED.format('digits')}"),),
-    ("mixed_radix/extension", "extend"): (
-        (EVERY, f"{REDUCED.format('residues')} && {COUNTED.format('digits')}"),
-        (EVERY, "moduli.iter().all(|m| *m > 0) && extended.len() == moduli.len()"),
-    ),
-    ("mixed_radix/signs", "is_negative"): ((EVERY, REDUCED.format("digits")),),
-    ("mixed_radix/signs", "compare_signed"): ((EVERY, f"{REDUCED.format('left')} && {REDUCED.format('right')}"),),
-    ("mixed_radix/runs", "run"): (
-        (EVERY, "self.has_moduli_of(reducers)"),
-        (DEBUG, "commands.iter().all(|c| crate::ring::commands_fit(&[c.command()], forms.len()))"),
-        (EVERY, "inputs.len() == forms.len() * reducers.len() && registers.len() == inputs.len()"),
-    ),
-    ("mixed_radix/words", "encode"): ((EVERY, COUNTED.format("residues")),),
-    ("mixed_radix/words", "words"): ((EVERY, f"{COUNTED.format('digits')} && words.len() >= self.moduli.len()"),),
-    ("erasure/powers", "encode_by_transform"): (
-        (EVERY, "word.len().is_power_of_two()"),
-        (DEBUG, "r.check(g) && message.iter().all(|x| r.check(x))"),
-        (EVERY, "r.check(g) && crate::ring::root_fits(r, g, word.len())"),
-        MESSAGE,
-    ),
-    ("erasure/powers", "encode_by_plan"): (
-        (EVERY, "plan.fits(word.len())"),
-        MESSAGE,
-        (DEBUG, "message.iter().all(|x| plan.modulus().has_room(*x))"),
-    ),
-    ("erasure/prepared", "new"): (
-        (DEBUG, "known.iter().chain(wanted).all(|x| ring.check(x))"),
-        (EVERY, "rows.len() == wanted.len() * known.len() && scratch.len() == 2 * known.len()"),
-    ),
-    ("erasure/prepared", "extend"): (
-        (DEBUG, "symbols.iter().all(|x| self.ring.check(x))"),
-        (EVERY, "symbols.len() == self.known.len() && others.len() == self.wanted.len()"),
-    ),
-    ("erasure/prepared", "is_codeword"): (
-        (DEBUG, "symbols.iter().chain(others).all(|x| self.ring.check(x))"),
-        (EVERY, "symbols.len() == self.known.len() && others.len() == self.wanted.len()"),
-    ),
-    ("preinv", "word_quotient"): QUOTIENT,
-    ("preinv", "double_quotient"): QUOTIENT,
+    "assert!(ys.len() == xs.len());": "convolution.convolve convolution.convolve_block plan/calls.convolve_block plan/calls.multiply"
+    " lists.add_lists lists.sub_lists lists.multiply_lists lists.dot_product"
+    " reducer.add_products odd_ring.add_products montgomery.add_products premul.add_products",
+    "assert!(xs.len().is_power_of_two());": "transform.ntt_counted convolution.convolve inverse.intt",
+    "debug_assert!(r.check(g) && xs.iter().all(|x| r.check(x)));": "transform.ntt_counted inverse.intt",
+    "debug_assert!(r.check(g) && xs.iter().all(|x| r.check(x)) && ys.iter().all(|y| r.check(y)));": "convolution.convolve",
+    "assert!(r.check(g) && root_fits(r, g, xs.len()));": "transform.ntt_counted",
+    "assert!(r.check(g) && crate::ring::root_fits(r, g, xs.len()));": "convolution.convolve inverse.intt",
+    "debug_assert!(xs.iter().chain(ys.iter()).all(|x| r.check(x)));":
+    "lists.add_lists lists.sub_lists lists.multiply_lists lists.dot_product",
+    "debug_assert!(r.check(factor) && xs.iter().all(|x| r.check(x)));": "lists.scale_list",
+    "debug_assert!(at <= text.len() && pattern.len() <= text.len() - at);": "hashes.is_hit",
+    "debug_assert!(window == wanted || &text[at..at + pattern.len()] != pattern);": "hashes.is_hit",
+    "debug_assert!(all_checked(r, regs));": "ring.run",
+    "debug_assert!(commands_fit(commands, regs.len()));": "ring.run",
+    "if table.is_empty() {\n    return;\n}": "plan.plan",
+    "assert!(g.is_below(m.modulus));": "plan.plan",
+    POWER_SUITS: "plan.plan",
+    "debug_assert!(xs.iter().all(|x| m.has_room(*x)));": "split.split join.join join.join_scaled",
+    "assert!(crate::plans::splits(xs.len(), table.len(), b, last));": "split.split join.join join.join_scaled",
+    "assert!(convolves(xs.len(), table.len(), b, last));": "convolution.convolve_block",
+    "debug_assert!(xs.iter().chain(ys.iter()).all(|x| m.has_room(*x)));": "convolution.convolve_block",
+    "crate::additions::expect_filled(m, table);": "split.split join.join join.join_scaled convolution.convolve_block",
+    "debug_assert!(crate::additions::are_factors(m, xs.len(), table, b, last));":
+    "split.split join.join join.join_scaled convolution.convolve_block",
+    "debug_assert!(crate::additions::is_factor(m, w));": "join.join_scaled",
+    "assert!(self.fits(xs.len()));": "plan/calls.transform plan/calls.inverse",
+    "assert!(self.splits(xs.len(), b, last));": "plan/calls.split plan/calls.join",
+    "debug_assert!(xs.iter().all(|x| self.modulus.has_room(*x)));":
+    "plan/calls.transform plan/calls.inverse plan/calls.split plan/calls.join",
+    "assert!(self.fits(xs.len()) && ys.len() == xs.len());": "plan/calls.convolve plan/calls.convolve_negacyclic",
+    "assert!(self.convolves(xs.len(), b, last));": "plan/calls.convolve_block",
+    "debug_assert!(xs.iter().chain(ys.iter()).all(|x| self.modulus.has_room(*x)));":
+    "plan/calls.convolve plan/calls.convolve_negacyclic plan/calls.convolve_block",
+    "debug_assert!(xs.iter().all(|x| x.is_below(self.modulus.modulus)));": "plan/calls.multiply",
+    "assert!(self.has_shorter(n));": "plan.shorter",
+    "debug_assert!(y.reducer.modulus() == x.reducer.modulus());": "reduced_int/operations.quotient",
+    "debug_assert!(d.leading_zeros() == 0);": "normalized.invert_word",
+    "debug_assert!(crate::additions::is_multiplier(self.multiplier, self.shift, d));": "one_by_one.div_rem",
+    "debug_assert!(crate::additions::is_greatest_quotient(d, pre.q_lim));": "preinv.word_quotient preinv.double_quotient",
+    "assert!(!d.is_zero_word());": "modular_prim/exact.exact_quotient",
+    "assert!(d != 0);": "modular_prim/exact.exact_quotient_128 plain_word.quotient plain_word.remainder plain_word.low_quotient"
+    " word/w8.nrem word/w16.nrem word/w32.nrem word/w64.nrem word/wsize.nrem",
+    "assert!(m != 0);": "abs.signed_residue_128",
+    "assert!(moduli.iter().all(|m| *m > 0));": "residues.encode",
+    "assert!(residues.len() == moduli.len());": "residues.encode",
+    "assert!(crate::additions::may_be_system(moduli));": "residues.decode",
+    "assert!(residues.len() >= moduli.len() && are_reduced(moduli, residues));": "residues.decode",
+    "assert!(patterns.base == self.base);":
+    "prefixes/searches.pattern_at prefixes/searches.find_any_from prefixes/searches.find_all",
+    f"assert!({REDUCED.format('residues')} && {COUNTED.format('digits')});": "mixed_radix.digits mixed_radix/extension.extend",
+    "assert!(moduli.iter().all(|m| *m > 0) && extended.len() == moduli.len());": "mixed_radix/extension.extend",
+    f"assert!({REDUCED.format('left')} && {REDUCED.format('right')});": "mixed_radix.compare mixed_radix/signs.compare_signed",
+    f"assert!({COUNTED.format('digits')} && {COUNTED.format('residues')});": "mixed_radix.residues",
+    f"assert!(m > 0 && {COUNTED.format('digits')});": "mixed_radix/extension.residue_modulo",
+    f"assert!({REDUCED.format('digits')});": "mixed_radix/signs.is_negative",
+    "assert!(self.has_moduli_of(reducers));": "mixed_radix/runs.run",
+    "debug_assert!(commands.iter().all(|c| crate::ring::commands_fit(&[c.command()], forms.len())));": "mixed_radix/runs.run",
+    "assert!(inputs.len() == forms.len() * reducers.len() && registers.len() == inputs.len());": "mixed_radix/runs.run",
+    f"assert!({COUNTED.format('residues')});": "mixed_radix/words.encode",
+    f"assert!({COUNTED.format('digits')} && words.len() >= self.moduli.len());": "mixed_radix/words.words",
+    "assert!(word.len().is_power_of_two());": "erasure/powers.encode_by_transform",
+    "debug_assert!(r.check(g) && message.iter().all(|x| r.check(x)));": "erasure/powers.encode_by_transform",
+    "assert!(r.check(g) && crate::ring::root_fits(r, g, word.len()));": "erasure/powers.encode_by_transform",
+    "assert!(plan.fits(word.len()));": "erasure/powers.encode_by_plan",
+    "assert!(message.len() <= word.len());": "erasure/powers.encode_by_transform erasure/powers.encode_by_plan",
+    "debug_assert!(message.iter().all(|x| plan.modulus().has_room(*x)));": "erasure/powers.encode_by_plan",
+    "debug_assert!(known.iter().chain(wanted).all(|x| ring.check(x)));": "erasure/prepared.new",
+    "assert!(rows.len() == wanted.len() * known.len() && scratch.len() == 2 * known.len());": "erasure/prepared.new",
+    "debug_assert!(symbols.iter().all(|x| self.ring.check(x)));": "erasure/prepared.extend",
+    "debug_assert!(symbols.iter().chain(others).all(|x| self.ring.check(x)));": "erasure/prepared.is_codeword",
+    "assert!(symbols.len() == self.known.len() && others.len() == self.wanted.len());":
+    "erasure/prepared.extend erasure/prepared.is_codeword",
 }
-# What a test that fails shows besides its words: the end of the message, and what stands in its braces.
-FACTORS_SHOWN = (": {} entries, {} factors, b = {}, last = {}", "xs.len(), table.len(), b, last")
+LATER = {POWER_SUITS: "let mut count = 1 ;"}  # it stands before this: a loop has computed the power that tells whether g suits
+LOOKS_OF = defaultdict(list)  # by function
+for test, places in LOOKS.items():
+    for place in places.split():
+        LOOKS_OF[place].append(test)
+EVERY, DEBUG = "assert", "debug_assert"
+# What a test that fails shows besides its words, by these words or by the end of the test: the rest of the macro's arguments.
 NUMBER, SHOWN_MODULUS = "crate::additions::number", "crate::additions::ShownModulus"
+BLOCKS = "(xs.len(),table.len(),b,last)"
 SHOWN = {
-    "the moduli must be equal": (": {} and {}", ", ".join(f"{SHOWN_MODULUS}({it}.reducer.shown_modulus())" for it in "xy")),
-    "the lists must have the same length": (": {} and {}", "xs.len(), ys.len()"),
-    "the length must be a power of two": (": {}", "xs.len()"),
-    "g must suit the length": (": n = {}, m = {}, g = {}", f"xs.len(), {NUMBER}(r.modulus()), {NUMBER}(r.residue(*g))"),
-    "g must be below m": (": {} and {}", f"{NUMBER}(g), {NUMBER}(m.modulus)"),
-    "g must suit n entries, n being a power of two": (": n = {}, m = {}, g = {}", f"2 * table.len(), {NUMBER}(m.modulus), {NUMBER}(g)"),
-    "there must be room for one residue a modulus": (": {} and {}", "residues.len(), moduli.len()"),
+    "the moduli must be equal": ': {} and {}", ' + ", ".join(f"{SHOWN_MODULUS}({it}.reducer.shown_modulus())" for it in "xy"),
+    "the lists must have the same length": ': {} and {}", xs.len(), ys.len()',
+    "the length must be a power of two": ': {}", xs.len()',
+    "g must suit the length": f': n = {{}}, m = {{}}, g = {{}}", xs.len(), {NUMBER}(r.modulus()), {NUMBER}(r.residue(*g))',
+    "g must be below m": f': {{}} and {{}}", {NUMBER}(g), {NUMBER}(m.modulus)',
+    "g must suit n entries, n being a power of two":
+    f': n = {{}}, m = {{}}, g = {{}}", 2 * table.len(), {NUMBER}(m.modulus), {NUMBER}(g)',
+    "there must be room for one residue a modulus": ': {} and {}", residues.len(), moduli.len()',
+    BLOCKS: ': {} entries, {} factors, b = {}, last = {}", xs.len(), table.len(), b, last',
 }
-SHOWN_BY_LOOK = {SPLITS[1]: FACTORS_SHOWN, CONVOLVES[1]: FACTORS_SHOWN}
 FOUND = defaultdict(set)
 TRACKED, TRACKED_IN_DEBUG = "#[track_caller]", "#[cfg_attr(debug_assertions, track_caller)]"
 SHORT = ("modular_word/", "modular_prim/", "modular_symbols/reference_operations", "modular_reduced/reduced_int/operations")
@@ -229,40 +203,36 @@ def tests_of(tokens, it):
 def say(tokens, it, words):
     """Gives each test of a body its words."""
     found = tests_of(tokens, it)
-    parts = re.split(r"; ", must(words)) if found else []
+    parts = must(words).split("; ") if found else []
     for count, at in reversed(list(enumerate(found))):
-        own = parts[count] if len(parts) == len(found) else parts[-1] if tokens[at].text == "unreachable" else "; ".join(parts)
-        closed = beyond(tokens, at + 2) - 1
-        test = "".join(x.text for x in tokens[at + 3 : closed])
-        by_look = (it for look, it in SHOWN_BY_LOOK.items() if look.replace(" ", "") == test)
-        end, shown = next(by_look, SHOWN.get(own, ("", "")))
-        message = f'"{own}{end}"' + f", {shown}" * bool(shown)
-        if tokens[at].text == "unreachable":
-            tokens[at].text = "panic"
-            tokens[closed:closed] = lexed(message)
-        else:
-            tokens[closed:closed] = lexed(f", {message}")
+        is_end, closed = tokens[at].text == "unreachable", beyond(tokens, at + 2) - 1
+        own = parts[count] if len(parts) == len(found) else parts[-1] if is_end else "; ".join(parts)
+        is_of_blocks = "".join(x.text for x in tokens[at:closed]).endswith(BLOCKS)
+        message = f'"{own}' + SHOWN.get(BLOCKS if is_of_blocks else own, '"')
+        tokens[at].text = "panic" if is_end else tokens[at].text
+        tokens[closed:closed] = lexed(message if is_end else f", {message}")
 
 
 def put_looks(tokens, it, file):
     """Puts the tests of the table at the beginning of a body."""
     if tokens[it.body].text == ";":
         return
-    key = next((key for key in ((file, it.name), (file.partition("/")[2], it.name)) if key in LOOKS), None)
-    FOUND[key].add(file)
-    for macro, test, *before in reversed(LOOKS.get(key, ())):
+    place = next((f"{name}.{it.name}" for name in (file, file.partition("/")[2]) if f"{name}.{it.name}" in LOOKS_OF), None)
+    FOUND[place].add(file)
+    for test in reversed(LOOKS_OF.get(place, ())):
         at = it.body + 1
-        if before:
-            at = next(at for at in range(at, len(tokens)) if matched(tokens, at, before[0]))
+        if test in LATER:
+            at = next(at for at in range(at, len(tokens)) if matched(tokens, at, LATER[test]))
         lead = "\n" + tokens[at].lead.rpartition("\n")[2]
-        look = {RETURN: f"if {test} {{{lead}    return;{lead}}}", CALL: f"{test};"}.get(macro, f"{macro}!({test});")
-        tokens[at:at] = lexed(lead + look)
+        tokens[at:at] = lexed(lead + test.replace("\n", lead))
 
 
 def lost_looks():
     """The functions of the table that no file has, or two."""
-    lost = [f"{file}.rt: {name}, which should be tested, isn't there" for file, name in LOOKS if not FOUND[file, name]]
-    return lost + [f"{key[0]}.rt: {key[1]}, which should be tested, is in {len(FOUND[key])} files" for key in LOOKS if len(FOUND[key]) > 1]
+    for place in LOOKS_OF:
+        file, name = place.split(".")
+        if len(FOUND[place]) != 1:
+            yield f"{file}.rt: {name}, which should be tested, " + (f"is in {len(FOUND[place])} files" if FOUND[place] else "isn't there")
 
 
 def how_tested(tokens, it, file, words):
