@@ -25,7 +25,8 @@ COUNTED = "{0}.len() == self.moduli.len()"
 REDUCED = COUNTED + " && crate::residues::are_reduced(self.moduli, {0})"
 POWER_SUITS = "assert!(table.len().is_power_of_two() && power.wrapping_add(T::one()) == m.modulus);"
 LOOKS = {
-    "assert!(ys.len() == xs.len());": "convolution.convolve convolution.convolve_block plan/calls.convolve_block plan/calls.multiply"
+    "assert!(ys.len() == xs.len());":
+    "convolution.convolve convolution.convolve_block plan/calls.convolve_block plan/calls.multiply"
     " lists.add_lists lists.sub_lists lists.multiply_lists lists.dot_product"
     " reducer.add_products odd_ring.add_products montgomery.add_products premul.add_products",
     "assert!(xs.len().is_power_of_two());": "transform.ntt_counted convolution.convolve inverse.intt",
@@ -136,7 +137,8 @@ TESTED_BELOW = (
     ((EVERY,), r"modular_plan\w*/convolution\.\w+"),
     ((DEBUG,), r"modular_barrett/exact\.exact_quotient"),
 )
-VERBS = {"is": "be", "are": "be", "has": "have", "have": "have", "suits": "suit", "fits": "fit", "admits": "admit", "takes": "take", "holds": "hold"}
+VERBS = {"is": "be", "are": "be", "has": "have", "have": "have"}
+VERBS |= {f"{it}s": it for it in ("suit", "fit", "admit", "take", "hold")}
 VERB = re.compile(rf"\b({'|'.join(VERBS)})\b")
 # Where a clause may end, and what follows there that is no main clause: a relative clause, a comparison, an apposition.
 CLAUSE_ENDS, BESIDES = r"(; |, and |, )", re.compile(r"(?:which|whose|where|as)\b|\S+ \S+ of \S+ that\b")
@@ -152,16 +154,16 @@ class Function(Item):
 
 def functions(tokens):
     """The functions of a file, the last first."""
-    blocks = [(it.body, beyond(tokens, it.body), it.name, word == "trait") for word in ("impl", "trait") for it in items(tokens, word)]
+    blocks = [*items(tokens, "impl"), *items(tokens, "trait")]
+    blocks = [(range(it.body, beyond(tokens, it.body)), it.name, tokens[it.at].text == "trait") for it in blocks]
     for it in items(tokens, "fn"):
-        of = next(((name, declared) for begin, end, name, declared in blocks if begin < it.at < end), ("", False))
+        of = next((of for block, *of in blocks if it.at in block), ("", False))
         yield Function(*astuple(it), *of)
 
 
 def condition(lead):
     """The condition that the comments right above an item state; None for none."""
-    text = "\n".join(re.sub(r"^\s*//[/!]? ?", "", line) for line in lead[attached(lead) :].split("\n"))
-    found = SENTENCE.search(text)
+    found = SENTENCE.search(re.sub(r"^ *//[/!]? ?", "", lead[attached(lead) :], flags=re.M))
     # what may be so is no condition
     return re.sub(r"(?:, and|;) \w+ may be [^;,]*", "", " ".join(found[1].split())) if found else None
 
@@ -183,21 +185,19 @@ def conditions_of_traits(files):
 def must(words):
     """A condition as what must be so: in each of its main clauses the first verb."""
     words = re.sub(r" \([^()]* tells\)", "", words)
-    if re.search(r"\bmust\b", words):
-        return words
     parts = re.split(CLAUSE_ENDS, words)
-    parts = [VERB.sub(lambda verb: f"must {VERBS[verb[1]]}", part, count=1) if not BESIDES.match(part) else part for part in parts]
-    if not any(" must " in f" {it} " for it in parts):
+    for at, part in enumerate(parts):
+        if not BESIDES.match(part):
+            parts[at] = VERB.sub(lambda verb: f"must {VERBS[verb[1]]}", part, count=1)
+    if "".join(parts) == words:
         raise Unknown(f"the condition {words!r} has no verb that is known")
     return "".join(parts)
 
 
 def tests_of(tokens, it):
     """The indexes of the names of the macros that test something in a body."""
-    if tokens[it.body].text == ";":
-        return []
     span = range(it.body, beyond(tokens, it.body))
-    return [at for at in span if tokens[at].text in ("assert", "debug_assert", "unreachable") and tokens[at + 1].text == "!"]
+    return [at for at in span if tokens[at].text in (EVERY, DEBUG, "unreachable") and tokens[at + 1].text == "!"]
 
 
 def say(tokens, it, words):
@@ -230,48 +230,37 @@ def put_looks(tokens, it, file):
 def lost_looks():
     """The functions of the table that no file has, or two."""
     for place in LOOKS_OF:
-        file, name = place.split(".")
-        if len(FOUND[place]) != 1:
-            yield f"{file}.rt: {name}, which should be tested, " + (f"is in {len(FOUND[place])} files" if FOUND[place] else "isn't there")
+        count, (file, name) = len(FOUND[place]), place.split(".")
+        if count != 1:
+            yield f"{file}.rt: {name}, which should be tested, " + (f"is in {count} files" if count else "isn't there")
 
 
 def how_tested(tokens, it, file, words):
     """The parts of a condition that every build tests, those that a debug build tests, and those that none does."""
-    kinds = ["assert" if tokens[at].text == "unreachable" else tokens[at].text for at in tests_of(tokens, it)]
-    parts = words.split("; ")
+    kinds = [DEBUG if tokens[at].text == DEBUG else EVERY for at in tests_of(tokens, it)]
     if not kinds:
-        names = [f"{place}.{it.name}" for place in (it.trait, file)]
+        names = f"{it.trait}.{it.name} {file}.{it.name}".split()
         kinds = next((kinds for kinds, pattern in TESTED_BELOW if any(re.fullmatch(pattern, name) for name in names)), [])
+    parts = words.split("; ")
     if len(kinds) != len(parts):
-        parts, kinds = [words.replace("; ", ", and ")], kinds[:1] or [""]
+        parts, kinds = [re.sub("; (?:and )?", ", and ", words)], kinds[:1] or [""]
     return [[part for part, other in zip(parts, kinds) if other == kind] for kind in (EVERY, DEBUG, "")]
 
 
-def with_subject(part, names):
-    """A part of a condition, with the names of the parameters that its pronoun stands for."""
+def explicit(part, names):
+    """A part of a condition with the names of the parameters for its pronoun, and the condition of another call by the
+    call's name."""
     pronoun, _, rest = part.partition(" ")
-    if not re.match(r"(is a checked form|are checked( forms)?|are below m|is below 4m|is odd)\b", rest):
-        return part
-    if pronoun == "it" and len(names) == 1 or pronoun in ("they", "all", "both") and 1 <= len(names) <= 3:
-        return f"{', '.join(names[:-1])}{' and ' * (len(names) > 1)}{names[-1]} {rest}"
-    return part
+    is_known = re.match(r"(is a checked form|are checked( forms)?|are below m|is below 4m|is odd)\b", rest)
+    if is_known and (pronoun == "it" and len(names) == 1 or pronoun in ("they", "all", "both") and 1 <= len(names) <= 3):
+        return " and ".join([", ".join(names[:-1])] * (len(names) > 1) + names[-1:]) + f" {rest}"
+    return re.sub(r"^(?:as|those of) (`[^`]+`(?: and `[^`]+`)*)", r"the conditions of \1 hold", part)
 
 
 def arguments(tokens, it):
     """The names of the parameters of a function that are words or lists of words, but for the modulus."""
     parts = [[x.text for x in part if x.text != "mut"] for part in parameters(tokens[it.opened : beyond(tokens, it.opened)])]
     return [part[0] for part in parts if part[1:2] == [":"] and part[0] != "m" and part[-1] in ("T", "]") and "T" in part]
-
-
-def joined_parts(parts):
-    """Parts of a condition as one: the condition of another call is named, and no part begins with "and" twice."""
-    found = [re.sub(r"^and ", "", it) for it in parts]
-    return ", and ".join(by_name(it) for it in found)
-
-
-def by_name(part):
-    """The condition of another call by the call's name."""
-    return re.sub(r"^(?:as|those of) (`[^`]+`(?: and `[^`]+`)*)", r"the conditions of \1 hold", part)
 
 
 def begun(words):
@@ -282,34 +271,31 @@ def begun(words):
 def sections(every, debug, none):
     """The lines of the docs that say what a call does outside its condition."""
     if every or debug:
-        said = f"Panics unless {joined_parts(every)}." if every else ""
-        also = " also" if every else ""
+        said = [f"Panics unless {', and '.join(every)}."] * bool(every)
         if debug:
-            said += f" A debug build{also} panics unless {joined_parts(debug)}."
-            said += " A release build doesn't test that, and outside it panics, or returns no meaningful result."
-        yield from ("", "# Panics", "", *textwrap.wrap(said.strip(), WIDTH))
+            said.append(f"A debug build{' also' * bool(every)} panics unless {', and '.join(debug)}.")
+            said.append("A release build doesn't test that, and outside it panics, or returns no meaningful result.")
+        yield from ("", "# Panics", "", *textwrap.wrap(" ".join(said), WIDTH))
     if none:
-        none = [by_name(it.replace(", and and ", ", and ")) for it in none]
         said = f"{'; '.join(none)}. This isn't tested: outside it the call panics, or returns no meaningful result."
         yield from ("", "# Preconditions", "", *textwrap.wrap(begun(said), WIDTH))
 
 
-def say_in_docs(tokens, first, parts):
-    """Makes sections of the sentence that states the condition in the docs of an item."""
-    lead = tokens[first].lead
-    begin = attached(lead)
-    lines = lead[begin:].split("\n")
+def say_in_docs(tokens, it, parts):
+    """Makes sections of the sentence that states the condition in the docs of a function."""
+    lead = tokens[it.first].lead
+    *lines, indent = lead[attached(lead) :].split("\n")
     docs = [line for line in lines if line.lstrip().startswith("///")]
     if not docs:
         return
-    indent, others = lines[-1], "".join(f"{line}\n" for line in lines[:-1] if line not in docs)
-    text = "\n".join(re.sub(r"^\s*/// ?", "", line) for line in docs)
+    text = "\n".join(line.strip()[len("/// ") :] for line in docs)
     text = SENTENCE.sub(lambda found: "\n" if "\n" in found[0] else " ", text, count=1)
-    text = re.sub(r"\n{3,}", "\n\n", "\n".join(line.rstrip() for line in text.split("\n"))).strip("\n")
+    text = re.sub(r"\n{3,}", "\n\n", re.sub(r" +$", "", text, flags=re.M)).strip("\n")
     said, mark, examples = text.partition("\n# Examples\n")
-    lines = (*said.rstrip("\n").split("\n"), *sections(*parts), *(f"{mark}{examples}".split("\n") if mark else ()))
-    whole = "".join(f"{indent}{('/// ' + line).rstrip()}\n" for line in lines)
-    tokens[first].lead = lead[:begin] + whole + others + indent
+    text = "\n".join([said.rstrip("\n"), *sections(*parts), *[mark + examples] * bool(mark)])
+    docs_now = [f"{indent}/// {line}".rstrip() for line in text.split("\n")]
+    others = [line for line in lines if line not in docs]
+    tokens[it.first].lead = lead[: attached(lead)] + "\n".join([*docs_now, *others, indent])
 
 
 def without_laws(tokens):
@@ -326,19 +312,24 @@ def makes(tokens, it):
     return tokens[closed].text == "->" and tokens[closed + 1].text in MADE
 
 
-def is_public(tokens, it):
-    """Whether users may call a function: one that is `pub`, or that a trait declares."""
-    return it.declared or tokens[it.begin].text == "pub" and tokens[it.begin + 1].text != "("
-
-
-def tests_itself(tokens, it):
-    """Whether a function tests something in every build, or hands on to one that makes its value."""
+def lack_of(tokens, it, words):
+    """What a function with a `requires` lacks whose condition is stated in these words; None for nothing."""
+    if not tokens[it.body].asked:
+        return None  # what a function proves of itself needs no words
+    tests = {tokens[at].text for at in tests_of(tokens, it)}
+    is_public = it.declared or tokens[it.begin].text == "pub" and tokens[it.begin + 1].text != "("
+    if words is None and tests:
+        return "tests a condition that no sentence states"
+    if words is None and is_public:
+        return "has a `requires`, and its docs no sentence `Condition: ..`"
     body = "".join(x.text for x in tokens[it.body : beyond(tokens, it.body)])
-    kinds = {tokens[at].text for at in tests_of(tokens, it)}
-    return EVERY in kinds or any(call in body for call in MADE_BY.get(it.name, ()))
+    is_tested = EVERY in tests or any(call in body for call in MADE_BY.get(it.name, ()))
+    if is_public and not it.declared and makes(tokens, it) and not is_tested:
+        return "makes a value, and doesn't test its condition with `prove!`"
+    return None
 
 
-def mark_callers(tokens, it, file, every=(), debug=()):
+def mark_callers(tokens, it, file, every, debug):
     """A panic names the place of the call; in a release build not where a call costs little more than its test. So do what
     tests something, and what stands between that and a call."""
     is_between = tokens[it.body].text != ";" and re.fullmatch(BETWEEN, f"{file}.{it.trait}.{it.name}")
@@ -348,26 +339,16 @@ def mark_callers(tokens, it, file, every=(), debug=()):
 
 
 def state_conditions(tokens, file, traits):
-    """Messages, tests and docs of the conditions of a file; what is lacking is returned."""
-    lacking = []
+    """Yields what is lacking in a file, and writes the messages, tests and docs of its conditions."""
     for it in [] if file.endswith("/tests") else functions(tokens):
-        name, words = it.name, condition(tokens[it.first].lead) or traits.get((it.trait, it.name))
-        asked = tokens[it.body].asked
+        words = condition(tokens[it.first].lead) or traits.get((it.trait, it.name))
         put_looks(tokens, it, file)
-        if words is None:
-            # what a function without a `requires` proves of itself needs no words
-            if asked and tests_of(tokens, it):
-                lacking.append(f"{file}.rt: {name} tests a condition that no sentence states")
-            elif asked and is_public(tokens, it):
-                lacking.append(f"{file}.rt: {name} has a `requires`, and its docs no sentence `Condition: ..`")
-            mark_callers(tokens, it, file)
-            continue
-        parts = how_tested(tokens, it, file, words)
-        say(tokens, it, words)
-        if asked:
-            names = arguments(tokens, it)
-            say_in_docs(tokens, it.first, [[with_subject(part, names) for part in kind] for kind in parts])
-        if asked and is_public(tokens, it) and not it.declared and makes(tokens, it) and not tests_itself(tokens, it):
-            lacking.append(f"{file}.rt: {name} makes a value, and doesn't test its condition with `prove!`")
+        if lack := lack_of(tokens, it, words):
+            yield f"{file}.rt: {it.name} {lack}"
+        parts = how_tested(tokens, it, file, words) if words else [[], [], []]
+        if words:
+            say(tokens, it, words)
+            if tokens[it.body].asked:
+                names = arguments(tokens, it)
+                say_in_docs(tokens, it, [[explicit(part, names) for part in kind] for kind in parts])
         mark_callers(tokens, it, file, *parts[:2])
-    return lacking
