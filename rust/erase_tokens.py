@@ -96,7 +96,7 @@ def text_of(tokens):
 # ------------------------------------------------------------------------------------------------ finding
 def backwards(tokens, *words):
     """The indexes of the tokens that are one of these words, the last first: what stands behind may be changed."""
-    return (at for at in range(len(tokens) - 1, -1, -1) if tokens[at].text in words)
+    return (at for at in range(len(tokens) - 1, -1, -1) if at < len(tokens) and tokens[at].text in words)
 
 
 def next_of(tokens, at, word):

@@ -1,11 +1,13 @@
-"""Takes away what only proofs use, for rust/erase: laws, traits without members, imports; and names parameters that nothing reads."""
+"""Takes away what only proofs use, for rust/erase: laws, traits without members, imports; and names parameters that nothing
+reads."""
 import re
-from dataclasses import dataclass
+import textwrap
+from collections import defaultdict
 from itertools import pairwise
 
 from libraries import leaves
 from erase_tokens import (
-    Token, Unknown, beyond, cut, first_of, items, lexed, matched, next_of, parameters, past_angles, put_attribute,
+    Unknown, backwards, beyond, cut, first_of, items, lexed, matched, next_of, parameters, put_attribute, rewrite, text_of,
 )
 
 LAWS = "laws"  # a module of this name has what only proofs and tests call
@@ -19,110 +21,84 @@ OF_TESTS = {
 
 
 # ------------------------------------------------------------------------------------------------ imports
-@dataclass
-class Import:
-    """An import: the indexes of its first token and behind its last, its paths, and whether it is public."""
-
-    begin: int
-    end: int
-    paths: list
-    public: bool
-
-
 def tree(paths):
     """Paths as one, with braces."""
-    heads = {}
+    heads = defaultdict(list)
     for it in paths:
         head, _, rest = it.partition("::")
-        heads.setdefault(head, []).append(rest)
+        heads[head].append(rest)
     inner = {head: "{self}" if rests == ["self"] else tree(rests) for head, rests in heads.items() if rests != [""]}
     parts = [f"{head}::{inner[head]}" if head in inner else head for head in heads]
     return parts[0] if len(parts) == 1 else "{" + ", ".join(parts) + "}"
 
 
 def imports(tokens):
-    """The imports of a file, the last first."""
-    found = []
-    for at, it in enumerate(tokens):
-        if it.text == "use" and it.kind == "name" and tokens[at - 1].text != ".":
-            begin, end = first_of(tokens, at), next_of(tokens, at, ";")
-            paths = leaves(" ".join(it.text for it in tokens[at + 1 : end]))
-            found.append(Import(begin, end + 1, paths, "pub" in [it.text for it in tokens[begin:at]]))
-    return found[::-1]
+    """Where each import begins, where its `use` stands, and where it ends, the last first."""
+    return ((first_of(tokens, at), at, next_of(tokens, at, ";") + 1) for at in backwards(tokens, "use"))
 
 
 def filter_imports(tokens, keeps, public=True):
     """Takes the names that `keeps` refuses out of the imports, those that are public too, where `public` is true."""
-    for it in imports(tokens):
-        names = [re.split(r"::| as ", path.removesuffix("::self")) for path in it.paths]
-        paths = [path for path, words in zip(it.paths, names) if keeps(words, words[-1])]
-        if it.public and not public or paths == it.paths:
+    for first, at, end in imports(tokens):
+        found = leaves(" ".join(it.text for it in tokens[at + 1 : end - 1]))
+        paths = [path for path in found if keeps(re.split(r"::| as ", path.removesuffix("::self"))[-1])]
+        if paths == found or not public and tokens[at - 1].text in ("pub", ")"):
             continue
         if not paths:
-            cut(tokens, it.begin, it.end, True)
+            cut(tokens, first, end, True)
             continue
-        head = "".join(x.lead * (count > 0) + x.text for count, x in enumerate(tokens[it.begin : it.end]))
-        text = head[: re.search(r"\buse ", head).end()] + tree(paths) + ";"
-        if len(text.rsplit("\n", 1)[-1]) > WIDTH:
-            opened, closed = text.index("{"), text.rindex("}")
-            lines = re.sub(r"(.{1,92}),(?: |$)", r"    \1,\n", text[opened + 1 : closed] + ", ").rstrip()
-            text = f"{text[: opened + 1]}\n{lines}\n{text[closed:]}"
-        tokens[it.begin : it.end] = lexed(tokens[it.begin].lead + text)
+        text = f"{text_of(tokens[first : at + 1])} {tree(paths)};"
+        if len(text.rpartition("\n")[2]) > WIDTH:
+            opened, closed = text.index("{") + 1, text.rindex("}")
+            names = textwrap.fill(text[opened:closed] + ",", WIDTH - 3, initial_indent="    ", subsequent_indent="    ")
+            text = f"{text[:opened]}\n{names}\n{text[closed:]}"
+        tokens[first:end] = lexed(text)
 
 
 # ------------------------------------------------------------------------------------------------ laws
-def laws(tokens):
-    """The functions in no other item that return nothing and have an empty body, the last first: their contracts are laws."""
+def laws_taken(tokens):
+    """Takes the laws of a file away, and returns their names: functions in no other item that return nothing and have an empty
+    body. Their contracts state something."""
+    names = set()
     for it in items(tokens, "fn"):
         is_free = not tokens[it.first].lead.rpartition("\n")[2]  # at the margin
         if is_free and matched(tokens, it.body - 1, ") { }"):
-            yield it
-
-
-def without_calls(tokens, names):
-    """Takes the statements away that call these functions."""
-    for at in range(len(tokens) - 2, 0, -1):
-        if tokens[at].text in names and tokens[at - 1].text in ("{", "}", ";"):
-            end = past_angles(tokens, at + 2) if tokens[at + 1].text == "::" else at + 1
-            if tokens[end].text == "(" and tokens[beyond(tokens, end)].text == ";":
-                cut(tokens, at, beyond(tokens, end) + 1, True)
+            names.add(it.name)
+            cut(tokens, it.first, it.body + 2, True)
+    return names
 
 
 def take_laws(files):
     """Takes laws away from all files, and what does nothing without them. `files`: the tokens by crate and path."""
+    def call(it):
+        return "" if it.before in ("{", "}", ";") else None
+
     names = set()
-    while True:
-        found = set()
-        for tokens in files.values():
-            for it in laws(tokens):
-                found.add(it.name)
-                cut(tokens, it.first, it.body + 2, True)
-        if not found:
-            break
+    while found := set().union(*map(laws_taken, files.values())):
         names |= found
+        calls = tuple((f"{name} {types}( $values.. ) ;", call) for name in found for types in ("", ":: < $types.. > "))
         for tokens in files.values():
-            without_calls(tokens, names)
-            filter_imports(tokens, lambda _, name: name not in names)
+            rewrite(tokens, calls)
     for (crate, path), tokens in files.items():
-        if lost := next((it.text for it in tokens if it.kind == "name" and it.text in names), None):
-            raise Unknown(f"crates/{crate}/src/{path}.rt: the law {lost} is used there, but in no statement of its own")
+        filter_imports(tokens, lambda name: name not in names)
+        if lost := names & {it.text for it in tokens}:
+            raise Unknown(f"crates/{crate}/src/{path}.rt: the law {min(lost)} is used there, but in no statement of its own")
 
 
 def has_nothing(tokens):
     """Whether a file has no item but imports of its own."""
     rest = list(tokens[:-1])
-    for it in imports(rest):
-        if it.public:
-            return False
-        del rest[it.begin : it.end]
+    for first, at, end in imports(rest):
+        if first == at:
+            del rest[first:end]
     return not rest
 
 
-def take_module(tokens, name):
-    """Takes the declaration of a module away."""
-    for it in items(tokens, "mod"):
-        if it.name == name:
-            cut(tokens, it.first, it.body + 1, True)
+def take(tokens, keyword, names):
+    """Takes the items away that have this keyword and one of these names."""
+    for it in items(tokens, keyword):
+        if it.name in names:
+            cut(tokens, it.first, beyond(tokens, it.body), True)
 
 
 def take_empty_modules(files):
@@ -130,7 +106,7 @@ def take_empty_modules(files):
     for crate, path in [key for key, tokens in files.items() if has_nothing(tokens)]:
         del files[crate, path]
         above, _, name = path.rpartition("/")
-        take_module(files[crate, above if (crate, above) in files else "lib"], name)
+        take(files[crate, above if (crate, above) in files else "lib"], "mod", [name])
 
 
 # ------------------------------------------------------------------------------------------------ traits
@@ -145,30 +121,19 @@ def empty_traits(files):
     return {name: supers - set(found) for name, supers in found.items()}
 
 
-def take_empty_impls(tokens, empty):
-    """Takes the impls of empty traits away: they have no members either."""
-    for it in items(tokens, "impl"):
-        if it.name in empty:
-            cut(tokens, it.first, it.body + 2, True)
-
-
 def take_markers(tokens, markers):
     """Takes traits without members away, as bounds too. `markers` has what each requires besides: a trait of core, or ""."""
-    filter_imports(tokens, lambda _, name: name not in markers)
-    for it in items(tokens, "trait"):
-        if it.name in markers:
-            cut(tokens, it.first, it.body + 2, True)
-    for at in range(len(tokens) - 2, 0, -1):
-        if tokens[at].text in markers and tokens[at].kind == "name" and tokens[at - 1].text in (":", "+"):
-            if markers[tokens[at].text]:
-                tokens[at].text = markers[tokens[at].text]
-            elif tokens[at - 1].text == ":" and tokens[at + 1].text == "+":
-                tokens[at + 2].lead = tokens[at].lead
-                del tokens[at : at + 2]
-            else:
-                del tokens[at - 1 : at + 1]
-    if lost := next((it.text for it in tokens if it.kind == "name" and it.text in markers), None):
-        raise Unknown(f"the trait {lost}, which has no members, is named where it is no bound")
+    filter_imports(tokens, lambda name: name not in markers)
+    take(tokens, "trait", markers)
+    for at in backwards(tokens, *markers):
+        if tokens[at - 1].text in (":", "+") and markers[tokens[at].text]:
+            tokens[at].text = markers[tokens[at].text]
+        elif tokens[at - 1].text == ":" and tokens[at + 1].text == "+":
+            del tokens[at : at + 2]
+        elif tokens[at - 1].text in (":", "+"):
+            del tokens[at - 1 : at + 1]
+        else:
+            raise Unknown(f"the trait {tokens[at].text}, which has no members, is named where it is no bound")
 
 
 # ------------------------------------------------------------------------------------------------ names
@@ -181,30 +146,21 @@ def traits_of(files):
     return found
 
 
-def implied(names, known):
-    """These names, and the traits that those among them require."""
-    found, rest = set(), set(names)
-    while rest:
-        found |= rest
-        rest = {other for it in rest if it in known for other in known[it][1]} - found
-    return found
-
-
 def take_unused_imports(tokens, known):
     """Takes the imports away that only ghost text used. A trait is used where it is named, and where a method of it is called
     that no bound of the file brings."""
-    inside = {at for it in imports(tokens) for at in range(it.begin, it.end)}
-    outside = [it for at, it in enumerate(tokens) if at not in inside]
-    heads = zip([Token("", "end", ""), *outside], outside)
-    names = {it.text for before, it in heads if it.kind == "name" and before.text not in (".", "::", "fn")}
-    called = {it.text for before, it in zip(outside, outside[1:]) if before.text in (".", "::")}
-    brought = implied(names, known)
-    others = {method for it in brought & set(known) for method in known[it][0]}
+    rest = list(tokens)
+    for first, _, end in imports(rest):
+        del rest[first:end]
+    names = {"*", "self", "_"} | {it.text for before, it in zip([rest[-1], *rest], rest) if before.text not in (".", "::", "fn")}
+    brought = set(names)
+    while more := {other for it in brought & set(known) for other in known[it][1]} - brought:
+        brought |= more
+    called = {it.text for before, it in pairwise(rest) if before.text in (".", "::")}
+    called -= {method for it in brought & set(known) for method in known[it][0]}
 
-    def is_used(path, name):
-        if name in names or name in ("*", "self", "_"):
-            return True
-        return name in known and name not in brought and bool(known[name][0] & called - others)
+    def is_used(name):
+        return name in names or name in known and name not in brought and known[name][0] & called
 
     filter_imports(tokens, is_used, public=False)
 
