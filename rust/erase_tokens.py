@@ -4,7 +4,7 @@ import re
 from collections import defaultdict
 from dataclasses import dataclass
 from string import Template
-from types import MappingProxyType, SimpleNamespace
+from types import SimpleNamespace
 
 ATTRIBUTES = {"derive", "cfg", "cfg_attr", "cold", "allow", "inline", "test", "must_use", "track_caller", "doc", "repr", "unsafe"}
 TOKEN = re.compile(
@@ -54,9 +54,9 @@ def joined(first, second):
     """The space before what follows something that was taken away, from the space before both."""
     if first.strip():
         return first.rstrip() + (second if second.startswith("\n") else "\n" + second)
-    head = second[: len(second) - len(second.lstrip())]
-    lines = max(first.count("\n"), head.count("\n"))
-    return "\n" * lines + head[head.rindex("\n") + 1 :] + second.lstrip()
+    rest = second.lstrip()
+    lines, _, indent = second.removesuffix(rest).rpartition("\n")
+    return "\n" * max(first.count("\n"), lines.count("\n") + 1) + indent + rest
 
 
 def read(text):
@@ -104,20 +104,24 @@ def next_of(tokens, at, word):
     return next(it for it in range(at, len(tokens)) if tokens[it].text == word)
 
 
-def beyond(tokens, at, pairs=MappingProxyType({"(": ")", "{": "}", "[": "]"})):
+def beyond(tokens, at):
     """The index behind what the bracket at `at` opens; behind the token there where it is none."""
-    opening, depth = tokens[at].text, 0
-    closing = pairs.get(opening, opening)
-    while True:
-        depth += (tokens[at].text == opening) - (tokens[at].text == closing)
-        at += 1
-        if depth == 0:
-            return at
+    return past(tokens, at, {"(": ")", "{": "}", "[": "]"}.get(tokens[at].text, ""))
 
 
 def past_angles(tokens, at):
     """The index behind the angle brackets that open at `at`; the same where none do."""
-    return beyond(tokens, at, {"<": ">"}) if tokens[at].text == "<" else at
+    return past(tokens, at, ">") if tokens[at].text == "<" else at
+
+
+def past(tokens, at, closing):
+    """The index behind what the token at `at` opens, and this word closes; behind the token where the word is empty."""
+    opening, depth = tokens[at].text, 0
+    while True:
+        depth += (tokens[at].text == opening) - (tokens[at].text == closing)
+        at += 1
+        if depth == 0 or not closing:
+            return at
 
 
 def parameters(tokens):
@@ -221,23 +225,31 @@ def by_first_word(rules):
 
 
 def rewrite(tokens, rules):
-    """Writes by rules, of which the first that fits a place holds there: each is a pattern and what is written in place of what
-    matches it. That is a text in which the pattern's names stand for what they stand for there, or a function of these that
-    returns the text, or None where the rule doesn't fit. The function and
-    a text also have what stands `before` and `behind`, and the `line` feed and indent of the place. Where the text is empty, an item goes with the comments right above it, and an
-    attribute leaves them."""
+    """Rewrites by rules, of which the first that fits a place holds there. A rule is a pattern, and what is written in place
+    of what matches it: a text, or a function that returns the text, or None where the rule doesn't fit. In the text the
+    pattern's names stand for what they stand for there, and the function is told it. Both also have what stands `before` and
+    `behind`, and the `line` feed and indent of the place."""
     rules = by_first_word(rules)
     for at in range(len(tokens) - 2, -1, -1):
         for pattern, new in (*rules.get(tokens[at].text, ()), *rules.get("", ())):
             if (found := matched(tokens, at, pattern)) and (text := text_by(new, tokens, at, *found)) is not None:
-                end = found[1]
-                if text:
-                    put = lexed(tokens[at].lead + text)
-                    put[-1].asked = any(it.asked for it in tokens[at:end])
-                    tokens[at:end] = put
-                else:
-                    cut(tokens, at, end, tokens[at].text != "#")
+                put_in_place(tokens, at, found[1], text)
                 break
+
+
+def put_in_place(tokens, at, end, text):
+    """Writes a text in place of tokens. Where it is empty, an item goes with the comments right above it, and an attribute
+    leaves them."""
+    lead = tokens[at].lead
+    if text:
+        put = lexed(lead + text)
+        put[-1].asked = any(it.asked for it in tokens[at:end])
+        tokens[at:end] = put
+    elif tokens[at].text == "#":
+        del tokens[at:end]
+        tokens[at].lead = lead
+    else:
+        cut(tokens, at, end)
 
 
 def text_by(new, tokens, at, parts, end):
@@ -255,13 +267,7 @@ def put_attribute(tokens, at, attribute):
     tokens[at:at] = lexed(lead + attribute)
 
 
-def cut(tokens, begin, end, item):
-    """Takes tokens away; with an item the comments right above it go too."""
-    lead = tokens[begin].lead
-    if item:
-        tokens[end].lead = joined(without_attached(lead), tokens[end].lead)
-    elif tokens[begin - 1].text == "(":
-        tokens[end].lead = tokens[end].lead if "\n" in tokens[end].lead else lead
-    else:
-        tokens[end].lead = lead if "\n" in lead else tokens[end].lead or lead
+def cut(tokens, begin, end):
+    """Takes an item away, with the comments right above it."""
+    tokens[end].lead = joined(without_attached(tokens[begin].lead), tokens[end].lead)
     del tokens[begin:end]

@@ -45,7 +45,7 @@ def filter_imports(tokens, keeps, public=True):
         if paths == found or not public and tokens[at - 1].text in ("pub", ")"):
             continue
         if not paths:
-            cut(tokens, first, end, True)
+            cut(tokens, first, end)
             continue
         text = f"{text_of(tokens[first : at + 1])} {tree(paths)};"
         if len(text.rpartition("\n")[2]) > WIDTH:
@@ -64,7 +64,7 @@ def laws_taken(tokens):
         is_free = not tokens[it.first].lead.rpartition("\n")[2]  # at the margin
         if is_free and matched(tokens, it.body - 1, ") { }"):
             names.add(it.name)
-            cut(tokens, it.first, it.body + 2, True)
+            cut(tokens, it.first, it.body + 2)
     return names
 
 
@@ -98,7 +98,7 @@ def take(tokens, keyword, names):
     """Takes the items away that have this keyword and one of these names."""
     for it in items(tokens, keyword):
         if it.name in names:
-            cut(tokens, it.first, beyond(tokens, it.body), True)
+            cut(tokens, it.first, beyond(tokens, it.body))
 
 
 def take_empty_modules(files):
