@@ -218,46 +218,37 @@ def matched(tokens, at, pattern):
 def by_first_word(rules):
     """Rules by the first word of their patterns, those that begin with a name by ""."""
     found = defaultdict(list)
-    for pattern, new in rules:
-        word, name, _ = words_of(pattern)[0]
-        found["" if name else word].append((pattern, new))
+    for rule in rules:
+        word, name, _ = words_of(rule[0])[0]
+        found["" if name else word].append(rule)
     return found
 
 
 def rewrite(tokens, rules):
-    """Rewrites by rules, of which the first that fits a place holds there. A rule is a pattern, and what is written in place
-    of what matches it: a text, or a function that returns the text, or None where the rule doesn't fit. In the text the
-    pattern's names stand for what they stand for there, and the function is told it. Both also have what stands `before` and
-    `behind`, and the `line` feed and indent of the place."""
+    """Rewrites by rules, of which the first that fits a place holds there. A rule is a pattern, what is written in place of what
+    matches it, and perhaps a condition. A text has the pattern's names for what they stand for there, a function is given
+    them. Both also have what stands `before` and `behind`, and the `line` feed and indent of the place. Where nothing is
+    written, an item goes with the comments right above it, and an attribute leaves them."""
     rules = by_first_word(rules)
     for at in range(len(tokens) - 2, -1, -1):
-        for pattern, new in (*rules.get(tokens[at].text, ()), *rules.get("", ())):
-            if (found := matched(tokens, at, pattern)) and (text := text_by(new, tokens, at, *found)) is not None:
-                put_in_place(tokens, at, found[1], text)
-                break
-
-
-def put_in_place(tokens, at, end, text):
-    """Writes a text in place of tokens. Where it is empty, an item goes with the comments right above it, and an attribute
-    leaves them."""
-    lead = tokens[at].lead
-    if text:
-        put = lexed(lead + text)
-        put[-1].asked = any(it.asked for it in tokens[at:end])
-        tokens[at:end] = put
-    elif tokens[at].text == "#":
-        del tokens[at:end]
-        tokens[at].lead = lead
-    else:
-        cut(tokens, at, end)
-
-
-def text_by(new, tokens, at, parts, end):
-    """The text that a rule's second half writes for these parts; None for none."""
-    it = SimpleNamespace(**{name: text_of(part).strip() for name, part in parts.items()})
-    it.before, it.behind = tokens[at - 1].text, tokens[end].text
-    it.line = "".join(tokens[at].lead.rpartition("\n")[1:]) or " "
-    return new(it) if callable(new) else Template(new).substitute(vars(it))
+        for pattern, new, *conditions in (*rules.get(tokens[at].text, ()), *rules.get("", ())):
+            if not (found := matched(tokens, at, pattern)):
+                continue
+            lead, end = tokens[at].lead, found[1]
+            it = SimpleNamespace(**{name: text_of(part).strip() for name, part in found[0].items()})
+            it.before, it.behind, it.line = tokens[at - 1].text, tokens[end].text, "".join(lead.rpartition("\n")[1:]) or " "
+            if not all(holds(it) for holds in conditions):
+                continue
+            put = lexed(lead + (new(it) if callable(new) else Template(new).substitute(vars(it))))
+            if put:
+                put[-1].asked = any(it.asked for it in tokens[at:end])
+                tokens[at:end] = put
+            elif tokens[at].text == "#":
+                tokens[end].lead = lead
+                del tokens[at:end]
+            else:
+                cut(tokens, at, end)
+            break
 
 
 def put_attribute(tokens, at, attribute):

@@ -70,13 +70,13 @@ def laws_taken(tokens):
 
 def take_laws(files):
     """Takes laws away from all files, and what does nothing without them. `files`: the tokens by crate and path."""
-    def call(it):
-        return "" if it.before in ("{", "}", ";") else None
+    def is_statement(it):
+        return it.before in ("{", "}", ";")
 
     names = set()
     while found := set().union(*map(laws_taken, files.values())):
         names |= found
-        calls = tuple((f"{name} {types}( $values.. ) ;", call) for name in found for types in ("", ":: < $types.. > "))
+        calls = tuple((f"{name} {types}( $values.. ) ;", "", is_statement) for name in found for types in ("", ":: < $types.. > "))
         for tokens in files.values():
             rewrite(tokens, calls)
     for (crate, path), tokens in files.items():
