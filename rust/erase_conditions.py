@@ -7,9 +7,8 @@ where nothing is tested. Parts of a sentence are parted by `; `: where a body ha
 import re
 import textwrap
 from collections import defaultdict
-from dataclasses import astuple, dataclass
 
-from erase_tokens import Item, Unknown, attached, beyond, items, lexed, matched, parameters, put_attribute
+from erase_tokens import Unknown, attached, beyond, items, lexed, matched, parameters, put_attribute
 
 SENTENCE = re.compile(r"\s?\bConditions?(?: of [^:.]*)?:\s+(.+?)\.(?=\s|$)\s?", re.S)
 WIDTH = 100  # of a section of docs
@@ -144,21 +143,13 @@ VERB = re.compile(rf"\b({'|'.join(VERBS)})\b")
 CLAUSE_ENDS, BESIDES = r"(; |, and |, )", re.compile(r"(?:which|whose|where|as)\b|\S+ \S+ of \S+ that\b")
 
 
-@dataclass
-class Function(Item):
-    """A function, the name of the trait that it is of, or "", and whether it is declared there or implemented."""
-
-    trait: str
-    declared: bool
-
-
 def functions(tokens):
-    """The functions of a file, the last first."""
+    """The functions of a file, the last first, each with the trait that it is of, and whether that declares it."""
     blocks = [*items(tokens, "impl"), *items(tokens, "trait")]
     blocks = [(range(it.body, beyond(tokens, it.body)), it.name, tokens[it.at].text == "trait") for it in blocks]
     for it in items(tokens, "fn"):
-        of = next((of for block, *of in blocks if it.at in block), ("", False))
-        yield Function(*astuple(it), *of)
+        it.trait, it.declared = next((of for block, *of in blocks if it.at in block), ("", False))
+        yield it
 
 
 def condition(lead):
