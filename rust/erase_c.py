@@ -29,22 +29,10 @@ use runtime::{list, list_mut};
 
 def typed(text):
     """The parameters or fields of a text: the name, the reference, whether it is a list, and the name of the type."""
-    found, end = [], 0
-    while end < len(text):
-        one = TYPED.match(text, end)
-        if not one or one[4] and not one[2] or not one[2] and one[5] not in PLAIN:
-            raise Unknown(f"the parameter or field {text[end:]}")
-        found.append((one[1], one[2] + (one[3] or ""), bool(one[4]), one[5]))
-        end = one.end()
-    return found
-
-
-def exports(code):
-    """The name and the parameters of each function for C."""
-    found = [(name, typed(words)) for name, words in EXPORT.findall(code)]
-    if len(found) != code.count(MARK):
-        raise Unknown("a function for C that doesn't return a code")
-    return found
+    found = list(TYPED.finditer(text))
+    if "".join(it[0] for it in found) != text or any(not it[2] and (it[4] or it[5] not in PLAIN) for it in found):
+        raise Unknown(f"the parameters or fields {text}")
+    return [(it[1], it[2] + (it[3] or ""), bool(it[4]), it[5]) for it in found]
 
 
 STRUCTS = {}  # the module of each struct
@@ -90,12 +78,12 @@ def wrapper(path, name, found):
 
 def lent_struct(name):
     """A struct that holds a list, as C has it."""
-    declared = [it for field in LENT[name] for it in set_apart(*field)]
-    lent = [f"{own}: list(self.{own}, self.{own}_length)" if is_list else f"{own}: self.{own}" for own, _, is_list, _ in LENT[name]]
-    empty = [f"{own}: &[]" if is_list else f"{own}: 0" for own, _, is_list, _ in LENT[name]]
-    of = [it for own, _, is_list, _ in LENT[name]
-          for it in ([f"{own}: it.{own}.as_ptr()", f"{own}_length: it.{own}.len()"] if is_list else [f"{own}: it.{own}"])]
-    kind = full(name)
+    declared, empty, lent, of, kind = [], [], [], [], full(name)
+    for own, reference, is_list, inner in LENT[name]:
+        declared += set_apart(own, reference, is_list, inner)
+        empty.append(f"{own}: &[]" if is_list else f"{own}: 0")
+        lent.append(f"{own}: list(self.{own}, self.{own}_length)" if is_list else f"{own}: self.{own}")
+        of += [f"{own}: it.{own}.as_ptr()", f"{own}_length: it.{own}.len()"] if is_list else [f"{own}: it.{own}"]
 
     def lines(words, depth):
         return "".join(f"{' ' * depth}{it},\n" for it in words)
@@ -133,7 +121,10 @@ def wrappers(files):
             STRUCTS[name] = path
             LENT.update({name: typed(fields)} if lent else {})
     texts = [lent_struct(name) for name in LENT]
-    texts += [wrapper(path, name, found) for path, code in codes.items() for name, found in exports(code)]
-    for path, tokens in files.items():
-        rewrite(tokens, ((f'{MARK} pub extern "C" fn', "pub fn"), ("mod $name ;", "pub mod $name;")))
+    for path, code in codes.items():
+        found = EXPORT.findall(code)
+        if len(found) != code.count(MARK):
+            raise Unknown("a function for C that doesn't return a code")
+        texts += [wrapper(path, name, typed(words)) for name, words in found]
+        rewrite(files[path], ((f'{MARK} pub extern "C" fn', "pub fn"), ("mod $name ;", "pub mod $name;")))
     return HEAD + "\n" + "\n".join(texts)

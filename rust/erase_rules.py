@@ -1,0 +1,176 @@
+"""The rules that rust/erase rewrites by, as `rewrite` of erase_tokens.py reads them."""
+import re
+
+# types of which additions.rs has the `new`, and those whose fields it fills in
+IN_CONSTANTS = {"Montgomery", "Normalized2by1Divisor", "PreModInv", "PreMulInv1by1", "PreMulInv2by1"}
+PARTS_IN_CONSTANTS = IN_CONSTANTS | {"OddRing", "FoldRing", "TrinomialModulus", "FixedMersenne"}
+PARTS_IN_CONSTANTS |= {f"{name}{bits}" for name in ("OddNumber", "ProthNumber", "Mersenne") for bits in (32, 64)}
+CALLED_OF = (
+    ("$kind :: new (", "$kind::of(", lambda it: it.kind in IN_CONSTANTS),
+    ("$kind :: < T > :: new (", "$kind::<T>::of(", lambda it: it.kind in IN_CONSTANTS),
+    ("Self :: new ( * m )", "Self::of(*m)"),
+)
+BOUNDS = "T : RingWord , R : Reducer < T > + Copy"
+TAKEN = (  # what Rattle writes and Rust doesn't need
+    ("final fn", "fn"),
+    ("Result < Self , AllocError > { Ok ( * self ) }", "Self {\n        *self\n    }"),
+    ("use std :: alloc :: AllocError ;", ""),
+    (". clone ( ) ?", ".clone()"),
+    ("# [ derive ( Drop ) ]", ""),
+    ("# [ derive ( Debug ) ] pub struct ReducedInt", "pub struct ReducedInt"),
+    *((f"impl < {BOUNDS} > {it} for ReducedInt < T , R > $body{{}}", "") for it in ("Clone", "Copy")),  # these are derived
+)
+NEWER = (  # what compilers know since 1.65 and 1.67, as older ones know it
+    ("let Some ( $x.. ) = $value.. else $branch{} ;", "let $x = match $value { Some(it) => it, None => $branch };"),
+    ("$x . ilog2 ( )", "crate::additions::ilog2($x)"),
+)
+# rust/runtime.rs has these
+STD_OF_TESTS = tuple((f"std :: {it} ::", "crate::runtime::") for it in ("test", "alloc", "process"))
+WIDE = '#[cfg(target_pointer_width = "64")]'  # the proofs hold for usize of 64 bits
+
+
+def import_apart(it):
+    """The import of the words of all widths as two, of which that of usize is public where the one is."""
+    public = "pub " * (it.before == "pub")
+    return f"use modular_word::word::{{w8, w16, w32, w64}};\n{WIDE}\n{public}use modular_word::word::wsize;"
+
+
+def is_unnamed(it):
+    return not re.search(rf"{it.label}\b", it.block)
+
+
+OF_LIBRARY = (
+    # a function that takes the parts of a value as they are, and what additions.rs names
+    ("pub fn over", "pub(crate) fn over"),
+    ("pub const fn of ( d_inv", "pub(crate) const fn of(d_inv"),
+    ("mod computed ;", "pub(crate) mod computed;"),
+    ("made : ( )", "_made: ()"),  # a field without a value is read by nothing
+    ("pub struct", "#[must_use]\npub struct"),
+    ("pub mod wsize", f"{WIDE}\npub mod wsize"),
+    ("use modular_word :: word :: { w8 , w16 , w32 , w64 , wsize } ;", import_apart),
+    ("impl $head.. {", f"{WIDE}\nimpl $head {{", lambda it: re.search(r"\b[ui]size\b", it.head)),
+    # the label of a loop, which names it to proofs, where nothing else names it
+    ("$label : for $head.. $block{}", "for $head $block", is_unnamed),
+    ("$label : while $head.. $block{}", "while $head $block", is_unnamed),
+    ("$label : loop $block{}", "loop $block", is_unnamed),
+)
+AT_LAST = (
+    # supertraits over any lifetime 'r, which Rattle has no words for
+    ("trait ModularRefOps : $others.. {", """trait ModularRefOps: $others
+    + for<'r> crate::ModularCoreOps<&'r Self, &'r Self, Output = Self>
+    + for<'r> crate::ModularUnaryOps<&'r Self, Output = Self>
+    + for<'r> crate::ModularPow<&'r Self, &'r Self, Output = Self>
+    + for<'r> ModularSymbols<&'r Self>
+{"""),
+    # a loop over entries that returns early where one is beyond its limit, which a proof excludes
+    (
+        "if m . is_beyond ( x ) { return ; } xs [ i ] = m . multiply",
+        'if m.is_beyond(x) {$line    panic!("the entries of xs must be below m");$line}${line}xs[i] = m.multiply',
+    ),
+    ("if m . is_beyond ( $x.. ) { return ; }", 'if m.is_beyond($x) {$line    panic!("the entries must be below 4m");$line}'),
+)
+
+LOOSENED = (
+    # the words of a reducer and of an integer may be of any type; what needs more, `pow`, has no default body
+    ("trait Reducer < T : RingWord >", "trait Reducer<T>"),
+    ("type Base : RingWord ;", "type Base;"),
+    ("-> T { pow_counted ( self , f , exp ) . 0 }", "-> T;"),
+    # integers over any reducer: the bounds that their operations need, and clones of what they read of a reference
+    ("pub struct ReducedInt", "#[derive(Clone, Copy)]\npub struct ReducedInt"),
+    (f"{BOUNDS} > ReducedInt", "T, R: Reducer<T>> ReducedInt"),
+    (f"{BOUNDS} > PartialEq", "T: PartialEq, R: Reducer<T>> PartialEq"),
+    (BOUNDS, "T: PartialEq + Clone, R: Reducer<T> + Clone"),
+    ("reducer : x . reducer ,", "reducer: x.reducer.clone(),"),
+    ("neg ( x . form )", "neg(x.form.clone())"),
+    ("residue ( self . form )", "residue(self.form.clone())"),
+    (", * rhs )", ", rhs.clone())"),
+    ("= y . inv (", "= y.clone().inv("),
+)
+# additions.rs has this function as a const one; of Mersenne32 and Mersenne64 only tests call the proved one
+CONSTANT_BY_HAND = (
+    *((f"pub fn reduce_single ( v : {it} )", f"#[cfg(test)]\n    pub(crate) fn reduced_word(v: {it})") for it in ("u32", "u64")),
+    ("pub fn reduce_single", "pub(crate) fn reduced_word"),
+    (":: reduce_single", "::reduced_word"),
+)
+
+
+def constant(*names):
+    return tuple((f"fn {name}", f"const fn {name}") for name in names)
+
+
+OF_PLACES = {  # by crate or file; the functions that can be const call no method of a trait
+    "modular_folds": CONSTANT_BY_HAND,
+    "modular_reduced": LOOSENED,
+    "fixed": constant("fixed_modulus"),
+    "proth": constant("fixed_modulus", "value", "shift_mul"),
+    "mersenne": constant("fixed_modulus"),
+    "split": constant("splits"),
+    "convolution": constant("convolves"),
+    "standards": constant("standard_codes"),
+    **{f"word/{it}": constant("extend", "nrem") for it in ("w8", "w16", "w32", "w64", "wsize")},
+}
+
+
+# ------------------------------------------------------------------------------------------------ idioms
+def lists_of(it):
+    """The lists of which a loop names places by its index, as often as it does, without what comments say."""
+    return re.findall(rf"([\w.]+)\[{it.index}\]", re.sub(r"//.*", "", it.block))
+
+
+def is_over_list(it):
+    """Whether a loop over places names those of one list, and that list in no other way."""
+    lists, code = lists_of(it), re.sub(r"//.*", "", it.block)
+    return len(set(lists)) == 1 and lists[0].isidentifier() and len(re.findall(rf"\b({lists[0]}|entry)\b", code)) == len(lists)
+
+
+def over_entries(it):
+    """A loop over the places of a list as one over its entries."""
+    named = lists_of(it)[0]
+    place = rf"\b{named}\[{it.index}\]"
+    is_changed = re.search(rf"{place} =[^=]", it.block)
+    block = it.block if is_changed else re.sub(f"&{place}", "entry", it.block)
+    block = re.sub(place, "*entry", re.sub(rf"{place}(?=\.)", "entry", block))
+    part = "" if it.until == f"{named}.len()" else f"[..{it.until}]"
+    return f"for ({it.index}, entry) in {named}{part}.iter{'_mut' if is_changed else ''}().enumerate() {block}"
+
+
+def stands_alone(it):
+    """Whether the comparison at a place is no part of a longer one."""
+    return it.before in ("if", "{", "(")
+
+
+# Clippy's names: manual_find, needless_range_loop, manual_map, redundant_pattern_matching, collapsible_if,
+# if_same_then_else, manual_range_contains, single_match, redundant_field_names.
+IDIOMS = (
+    ("for $n in $numbers.. { if $holds.. { return Some ( $n ) ; } } None", "($numbers).find(|&$n| $holds)"),
+    ("for $index in 0 . . $until.. $block{}", over_entries, is_over_list),
+    (
+        "match $option.. { Some ( $x ) => Some ( $value.. ) , None => None , }",
+        "$option.map(|$x| $value)",
+        lambda it: not re.search(r"\b(?:return|break|continue)\b|\?", it.value),
+    ),
+    ("match $option.. { Some ( _ ) => true , None => false , }", "$option.is_some()"),
+    (
+        "if $one.. { if $other.. $block{} }",
+        lambda it: f"if {it.one} && {it.other} " + it.block.replace("\n    ", "\n"),
+        lambda it: "else" not in (it.before, it.behind) and not re.search(r"\blet\b|\|", it.one + it.other),
+    ),
+    (
+        "if $one.. $block{} else if $other.. $block{}",
+        "if $one || $other $block",
+        lambda it: not re.search(r"\blet\b", it.one + it.other),
+    ),
+    ("$x > = b'0' & & $x < = b'9'", "$x.is_ascii_digit()", stands_alone),
+    ("$x > = b'A' & & $x < = b'Z'", "$x.is_ascii_uppercase()", stands_alone),
+    ("$x < $low | | $x > $high", "!($low..=$high).contains(&$x)", stands_alone),
+    ("match $result.. { Err ( $error ) => $done.. , Ok ( ( ) ) => { } }", "if let Err($error) = $result {$line    $done;$line}"),
+    ("$x : $x", "$x", lambda it: it.before in ("{", ",") and it.behind in (",", "}") and it.x[0].islower()),
+)
+# unused_enumerate_index, of the loops that these write too
+COUNTS = (
+    (
+        "for ( $i , $x ) in $list.. $block{}",
+        lambda it: f"for {it.x} in {it.list.removesuffix('.enumerate()')} {it.block}",
+        lambda it: it.list.endswith(".enumerate()") and not re.search(rf"\b{it.i}\b", it.block),
+    ),
+)
