@@ -254,11 +254,6 @@ def arguments(tokens, it):
     return [part[0] for part in parts if part[1:2] == [":"] and part[0] != "m" and part[-1] in ("T", "]") and "T" in part]
 
 
-def begun(words):
-    """Words as the beginning of a sentence: the name of a variable stays as it is."""
-    return words if re.match(r"(?:[a-z]|xs|ys|zs)(?: and| is|,| are|\W)", words) else words[0].upper() + words[1:]
-
-
 def sections(every, debug, none):
     """The lines of the docs that say what a call does outside its condition."""
     if every or debug:
@@ -269,7 +264,9 @@ def sections(every, debug, none):
         yield from ("", "# Panics", "", *textwrap.wrap(" ".join(said), WIDTH))
     if none:
         said = f"{'; '.join(none)}. This isn't tested: outside it the call panics, or returns no meaningful result."
-        yield from ("", "# Preconditions", "", *textwrap.wrap(begun(said), WIDTH))
+        # the name of a variable stays as it is at the beginning of the sentence
+        said = re.sub(r"^(?!(?:[a-z]|[xyz]s)\W).", lambda first: first[0].upper(), said)
+        yield from ("", "# Preconditions", "", *textwrap.wrap(said, WIDTH))
 
 
 def say_in_docs(tokens, it, parts):
