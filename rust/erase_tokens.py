@@ -99,11 +99,6 @@ def backwards(tokens, *words):
     return (at for at in range(len(tokens) - 1, -1, -1) if at < len(tokens) and tokens[at].text in words)
 
 
-def next_of(tokens, at, word):
-    """The index of the next of these words."""
-    return next(it for it in range(at, len(tokens)) if tokens[it].text == word)
-
-
 def beyond(tokens, at):
     """The index behind what the bracket at `at` opens; behind the token there where it is none."""
     return past(tokens, at, {"(": ")", "{": "}", "[": "]"}.get(tokens[at].text, ""))
@@ -138,9 +133,9 @@ def parameters(tokens):
 
 @dataclass
 class Item:
-    """A function, trait, impl, struct or module: its name, of an impl that of its trait, or ""; and the indexes of its first
-    token, of the first behind its attributes, of its keyword, of what follows its name and the angle brackets there, and of
-    its body or the semicolon in its place."""
+    """A function, trait, impl, struct, module or import: its name, of an impl that of its trait, or ""; and the indexes of its
+    first token, of the first behind its attributes, of its keyword, of what follows its name and the angle brackets there,
+    and of its body or the semicolon in its place."""
 
     name: str
     first: int
@@ -159,26 +154,22 @@ def trait_of(tokens, at):
     return name if tokens[at].text == "for" else ""
 
 
-def first_of(tokens, at, attributes=True):
-    """The index of the first token of the item whose keyword is at `at`, with its attributes or without them."""
-    while tokens[at - 1].text in ("pub", "(", "crate", ")", "const"):
-        at -= 1
-    while attributes and tokens[at - 1].text == "]":
-        at = max(it for it in range(at) if tokens[it].text == "#")
-    return at
-
-
 def items(tokens, keyword):
     """The items with this keyword, the last first: what stands behind one's beginning may be changed."""
+    is_impl, ends = keyword == "impl", (";",) if keyword == "use" else ("{", ";")
     for at in backwards(tokens, keyword):
-        is_impl = keyword == "impl"
-        if is_impl or tokens[at + 1].kind == "name":
-            opened = past_angles(tokens, at + 1 if is_impl else at + 2)
-            body = at
-            while tokens[body].text not in ("{", ";"):
-                body = beyond(tokens, body)
-            name = trait_of(tokens, opened) if is_impl else tokens[at + 1].text
-            yield Item(name, first_of(tokens, at), first_of(tokens, at, attributes=False), at, opened, body)
+        if not is_impl and tokens[at + 1].kind != "name":
+            continue
+        begin = body = at
+        while tokens[begin - 1].text in ("pub", "(", "crate", ")", "const"):
+            begin -= 1
+        first = begin
+        while tokens[first - 1].text == "]":
+            first = next(backwards(tokens[:first], "#"))
+        while tokens[body].text not in ends:
+            body = beyond(tokens, body)
+        opened = past_angles(tokens, at + 2 - is_impl)
+        yield Item(trait_of(tokens, opened) if is_impl else tokens[at + 1].text, first, begin, at, opened, body)
 
 
 # ------------------------------------------------------------------------------------------------ rewriting

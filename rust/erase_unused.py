@@ -7,7 +7,7 @@ from itertools import pairwise
 
 from libraries import leaves
 from erase_tokens import (
-    Unknown, backwards, beyond, cut, first_of, items, lexed, matched, next_of, parameters, put_attribute, rewrite, text_of,
+    Unknown, backwards, beyond, cut, items, lexed, matched, parameters, put_attribute, rewrite, text_of,
 )
 
 LAWS = "laws"  # a module of this name has what only proofs and tests call
@@ -32,27 +32,22 @@ def tree(paths):
     return parts[0] if len(parts) == 1 else "{" + ", ".join(parts) + "}"
 
 
-def imports(tokens):
-    """Where each import begins, where its `use` stands, and where it ends, the last first."""
-    return ((first_of(tokens, at), at, next_of(tokens, at, ";") + 1) for at in backwards(tokens, "use"))
-
-
 def filter_imports(tokens, keeps, public=True):
     """Takes the names that `keeps` refuses out of the imports, those that are public too, where `public` is true."""
-    for first, at, end in imports(tokens):
-        found = leaves(" ".join(it.text for it in tokens[at + 1 : end - 1]))
+    for it in items(tokens, "use"):
+        found = leaves(" ".join(x.text for x in tokens[it.at + 1 : it.body]))
         paths = [path for path in found if keeps(re.split(r"::| as ", path.removesuffix("::self"))[-1])]
-        if paths == found or not public and tokens[at - 1].text in ("pub", ")"):
+        if paths == found or not public and it.begin < it.at:
             continue
         if not paths:
-            cut(tokens, first, end)
+            cut(tokens, it.first, it.body + 1)
             continue
-        text = f"{text_of(tokens[first : at + 1])} {tree(paths)};"
+        text = f"{text_of(tokens[it.first : it.at + 1])} {tree(paths)};"
         if len(text.rpartition("\n")[2]) > WIDTH:
             opened, closed = text.index("{") + 1, text.rindex("}")
             names = textwrap.fill(text[opened:closed] + ",", WIDTH - 3, initial_indent="    ", subsequent_indent="    ")
             text = f"{text[:opened]}\n{names}\n{text[closed:]}"
-        tokens[first:end] = lexed(text)
+        tokens[it.first : it.body + 1] = lexed(text)
 
 
 # ------------------------------------------------------------------------------------------------ laws
@@ -87,11 +82,11 @@ def take_laws(files):
 
 def has_nothing(tokens):
     """Whether a file has no item but imports of its own."""
-    rest = list(tokens[:-1])
-    for first, at, end in imports(rest):
-        if first == at:
-            del rest[first:end]
-    return not rest
+    rest = list(tokens)
+    for it in items(rest, "use"):
+        if it.first == it.at:
+            del rest[it.at : it.body + 1]
+    return len(rest) == 1
 
 
 def take(tokens, keyword, names):
@@ -150,8 +145,8 @@ def take_unused_imports(tokens, known):
     """Takes the imports away that only ghost text used. A trait is used where it is named, and where a method of it is called
     that no bound of the file brings."""
     rest = list(tokens)
-    for first, _, end in imports(rest):
-        del rest[first:end]
+    for it in items(rest, "use"):
+        del rest[it.first : it.body + 1]
     names = {"*", "self", "_"} | {it.text for before, it in zip([rest[-1], *rest], rest) if before.text not in (".", "::", "fn")}
     brought = set(names)
     while more := {other for it in brought & set(known) for other in known[it][1]} - brought:
