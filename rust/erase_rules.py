@@ -5,11 +5,6 @@ import re
 IN_CONSTANTS = {"Montgomery", "Normalized2by1Divisor", "PreModInv", "PreMulInv1by1", "PreMulInv2by1"}
 PARTS_IN_CONSTANTS = IN_CONSTANTS | {"OddRing", "FoldRing", "TrinomialModulus", "FixedMersenne"}
 PARTS_IN_CONSTANTS |= {f"{name}{bits}" for name in ("OddNumber", "ProthNumber", "Mersenne") for bits in (32, 64)}
-CALLED_OF = (
-    ("$kind :: new (", "$kind::of(", lambda it: it.kind in IN_CONSTANTS),
-    ("$kind :: < T > :: new (", "$kind::<T>::of(", lambda it: it.kind in IN_CONSTANTS),
-    ("Self :: new ( * m )", "Self::of(*m)"),
-)
 BOUNDS = "T : RingWord , R : Reducer < T > + Copy"
 TAKEN = (  # what Rattle writes and Rust doesn't need
     ("final fn", "fn"),
@@ -18,6 +13,9 @@ TAKEN = (  # what Rattle writes and Rust doesn't need
     (". clone ( ) ?", ".clone()"),
     ("# [ derive ( Drop ) ]", ""),
     ("# [ derive ( Debug ) ] pub struct ReducedInt", "pub struct ReducedInt"),
+    ("$kind :: new (", "$kind::of(", lambda it: it.kind in IN_CONSTANTS),
+    ("$kind :: < T > :: new (", "$kind::<T>::of(", lambda it: it.kind in IN_CONSTANTS),
+    ("Self :: new ( * m )", "Self::of(*m)"),
     *((f"impl < {BOUNDS} > {it} for ReducedInt < T , R > $body{{}}", "") for it in ("Clone", "Copy")),  # these are derived
 )
 NEWER = (  # what compilers know since 1.65 and 1.67, as older ones know it
@@ -35,18 +33,24 @@ def import_apart(it):
     return f"use modular_word::word::{{w8, w16, w32, w64}};\n{WIDE}\n{public}use modular_word::word::wsize;"
 
 
+def of_tests(item):
+    """The rule that marks what only tests call."""
+    return ((f"pub {item}", f"#[cfg(test)]\npub {item}"),)
+
+
 def is_unnamed(it):
+    """Whether nothing else names the label of a loop."""
     return not re.search(rf"{it.label}\b", it.block)
 
 
 OF_LIBRARY = (
     # a function that takes the parts of a value as they are, and what additions.rs names
     ("pub fn over", "pub(crate) fn over"),
-    ("pub const fn of ( d_inv", "pub(crate) const fn of(d_inv"),
     ("mod computed ;", "pub(crate) mod computed;"),
     ("made : ( )", "_made: ()"),  # a field without a value is read by nothing
     ("pub struct", "#[must_use]\npub struct"),
     ("pub mod wsize", f"{WIDE}\npub mod wsize"),
+    *of_tests("mod laws"),
     ("use modular_word :: word :: { w8 , w16 , w32 , w64 , wsize } ;", import_apart),
     ("impl $head.. {", f"{WIDE}\nimpl $head {{", lambda it: re.search(r"\b[ui]size\b", it.head)),
     # the label of a loop, which names it to proofs, where nothing else names it
@@ -88,17 +92,27 @@ LOOSENED = (
 )
 # additions.rs has this function as a const one; of Mersenne32 and Mersenne64 only tests call the proved one
 CONSTANT_BY_HAND = (
-    *((f"pub fn reduce_single ( v : {it} )", f"#[cfg(test)]\n    pub(crate) fn reduced_word(v: {it})") for it in ("u32", "u64")),
+    ("pub fn reduce_single ( v : u32 )", "#[cfg(test)]\n    pub(crate) fn reduced_word(v: u32)"),
+    ("pub fn reduce_single ( v : u64 )", "#[cfg(test)]\n    pub(crate) fn reduced_word(v: u64)"),
     ("pub fn reduce_single", "pub(crate) fn reduced_word"),
     (":: reduce_single", "::reduced_word"),
 )
 
 
 def constant(*names):
+    """The rules that make these functions const: they call no method of a trait."""
     return tuple((f"fn {name}", f"const fn {name}") for name in names)
 
 
-OF_PLACES = {  # by crate or file; the functions that can be const call no method of a trait
+OF_PLACES = {  # by crate or file
+    # rustc warns where what only tests call is missing here, and refuses the crate where one is too many
+    "modular_symbols": of_tests("mod count"),
+    "modular_transform": of_tests("mod plain"),
+    "modular_word": of_tests("mod plain"),
+    "primes": of_tests("fn is_prime_by_search"),
+    # the constructors of IN_CONSTANTS that serve all words
+    **{it: (("pub fn new (", "pub fn of("),) for it in ("premul", "montgomery", "normalized", "one_by_one")},
+    "preinv": (("pub const fn new (", "pub(crate) const fn of("),),
     "modular_folds": CONSTANT_BY_HAND,
     "modular_reduced": LOOSENED,
     "fixed": constant("fixed_modulus"),

@@ -7,17 +7,10 @@ from itertools import pairwise
 
 from libraries import leaves
 from erase_tokens import (
-    Unknown, backwards, beyond, cut, items, lexed, matched, parameters, put_attribute, rewrite, text_of,
+    Unknown, backwards, beyond, cut, items, lexed, matched, parameters, rewrite, text_of,
 )
 
-LAWS = "laws"  # a module of this name has what only proofs and tests call
 WIDTH = 100  # of an import
-# Modules and functions that only tests call, besides modules of laws: rustc warns where one is missing here, and refuses
-# the crate where one is too many.
-OF_TESTS = {
-    ("modular_symbols", "count"), ("modular_symbols/primes", "is_prime_by_search"), ("modular_transform", "plain"),
-    ("modular_word", "plain"),
-}
 
 
 # ------------------------------------------------------------------------------------------------ imports
@@ -169,17 +162,3 @@ def name_unread(tokens):
             if words[1:2] == [":"] and words[0][0] != "_" and words[0] not in inside:
                 lead = tokens[it.body + 1].lead if "\n" in tokens[it.body + 1].lead else "\n"
                 tokens[it.body + 1 : it.body + 1] = lexed(f"{lead}let _ = {words[0]};")
-
-
-# ------------------------------------------------------------------------------------------------ tests
-def mark_tests(files):
-    """Marks what only tests call, so that only they compile it. `files`: the tokens of the library by crate and path."""
-    lost = set(OF_TESTS)
-    for (crate, path), tokens in files.items():
-        for it in (it for keyword in ("mod", "fn") for it in items(tokens, keyword)):
-            key = crate if path == "lib" else f"{crate}/{path}", it.name
-            if key in OF_TESTS or matched(tokens, it.at, f"mod {LAWS} ;"):
-                put_attribute(tokens, it.first, "#[cfg(test)]")
-                lost.discard(key)
-    if lost:
-        raise Unknown(f"only tests should call these, which aren't there: {sorted(lost)}")
