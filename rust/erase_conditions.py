@@ -143,15 +143,6 @@ VERB = re.compile(rf"\b({'|'.join(VERBS)})\b")
 CLAUSE_ENDS, BESIDES = r"(; |, and |, )", re.compile(r"(?:which|whose|where|as)\b|\S+ \S+ of \S+ that\b")
 
 
-def functions(tokens):
-    """The functions of a file, the last first, each with the trait that it is of, and whether that declares it."""
-    blocks = [*items(tokens, "impl"), *items(tokens, "trait")]
-    blocks = [(range(it.body, beyond(tokens, it.body)), it.name, tokens[it.at].text == "trait") for it in blocks]
-    for it in items(tokens, "fn"):
-        it.trait, it.declared = next((of for block, *of in blocks if it.at in block), ("", False))
-        yield it
-
-
 def condition(lead):
     """The condition that the comments right above an item state; None for none."""
     found = SENTENCE.search(re.sub(r"^ *//[/!]? ?", "", lead[attached(lead) :], flags=re.M))
@@ -159,18 +150,24 @@ def condition(lead):
     return re.sub(r"(?:, and|;) \w+ may be [^;,]*", "", " ".join(found[1].split())) if found else None
 
 
+def functions(tokens):
+    """The functions of a file, the last first, each with the trait that it is of, whether that declares it, and its condition:
+    the trait may state that of what it declares."""
+    blocks = [*items(tokens, "impl"), *items(tokens, "trait")]
+    spans = [(range(it.body, beyond(tokens, it.body)), it) for it in blocks]
+    for it in items(tokens, "fn"):
+        block = next((block for span, block in spans if it.at in span), None)
+        it.trait, it.declared = block.name if block else "", bool(block) and tokens[block.at].text == "trait"
+        it.words = condition(tokens[it.first].lead)
+        if it.declared and tokens[it.body].asked:
+            it.words = it.words or condition(tokens[block.first].lead)
+        yield it
+
+
 def conditions_of_traits(files):
-    """By trait, and by trait and method: the condition that the docs state. `files`: the tokens of all files."""
-    found = {}
-    for tokens in files:
-        for it in items(tokens, "trait"):
-            if words := condition(tokens[it.first].lead):
-                found[it.name] = words
-        for it in functions(tokens):
-            words = condition(tokens[it.first].lead)
-            if it.declared and tokens[it.body].asked and (words or it.trait in found):
-                found[it.trait, it.name] = words or found[it.trait]
-    return found
+    """By trait and method: the condition that the docs state. `files`: the tokens of all files."""
+    found = (it for tokens in files for it in functions(tokens) if it.declared and tokens[it.body].asked)
+    return {(it.trait, it.name): it.words for it in found if it.words}
 
 
 def must(words):
@@ -329,7 +326,7 @@ def mark_callers(tokens, it, file, every, debug):
 def state_conditions(tokens, file, traits):
     """Yields what is lacking in a file, and writes the messages, tests and docs of its conditions."""
     for it in [] if file.endswith("/tests") else functions(tokens):
-        words = condition(tokens[it.first].lead) or traits.get((it.trait, it.name))
+        words = it.words or traits.get((it.trait, it.name))
         put_looks(tokens, it, file)
         if lack := lack_of(tokens, it, words):
             yield f"{file}.rt: {it.name} {lack}"

@@ -6,7 +6,7 @@ from dataclasses import dataclass
 from string import Template
 from types import SimpleNamespace
 
-ATTRIBUTES = {"derive", "cfg", "cfg_attr", "cold", "allow", "inline", "test", "must_use", "track_caller", "doc", "repr", "unsafe"}
+ATTRIBUTES = "allow cfg cfg_attr cold derive doc inline must_use repr test track_caller unsafe".split()
 TOKEN = re.compile(
     r"""(?P<space>\s+)|(?P<comment>//[^\n]*)
     |(?P<text>b?r(?P<marks>\#*)".*?"(?P=marks)|[bc]?"(?:\\.|[^"\\])*"|b?'(?:\\(?:u\{[^}]*\}|x..|.)|[^'\\])')
@@ -20,9 +20,10 @@ GHOST = re.compile(
     rf"""(?P<clause>(?:requires|ensures)(?:\s+[a-z_]\w*)?\s*{BRACES})
     |(?P<item>{PUBLIC}ghost\s+(?:use\b[^;]*;|[a-z_]\w*\s*[:=]\s*{BRACES}\s*[;,]))
     |(?P<tactic>\#!?\[(?:tactic|rattlefmt)\b(?:[^][]|\[[^]]*\])*\])
-    |(?P<end>\Z)|(?P<unknown>(?:requires|ensures|ghost)\b|\#!?\[(?!(?:{'|'.join(sorted(ATTRIBUTES))})\b))""",
+    |(?P<end>\Z)|(?P<unknown>(?:requires|ensures|ghost)\b|\#!?\[(?!(?:{'|'.join(ATTRIBUTES)})\b))""",
     re.X,
 )
+BRACKETS = {"(": ")", "{": "}", "[": "]"}
 
 
 class Unknown(Exception):
@@ -99,24 +100,20 @@ def backwards(tokens, *words):
     return (at for at in range(len(tokens) - 1, -1, -1) if at < len(tokens) and tokens[at].text in words)
 
 
-def beyond(tokens, at):
+def beyond(tokens, at, brackets=BRACKETS):
     """The index behind what the bracket at `at` opens; behind the token there where it is none."""
-    return past(tokens, at, {"(": ")", "{": "}", "[": "]"}.get(tokens[at].text, ""))
+    opening, depth = tokens[at].text, 0
+    closing = brackets.get(opening, opening)
+    while True:
+        depth += (tokens[at].text == opening) - (tokens[at].text == closing)
+        at += 1
+        if depth == 0:
+            return at
 
 
 def past_angles(tokens, at):
     """The index behind the angle brackets that open at `at`; the same where none do."""
-    return past(tokens, at, ">") if tokens[at].text == "<" else at
-
-
-def past(tokens, at, closing):
-    """The index behind what the token at `at` opens, and this word closes; behind the token where the word is empty."""
-    opening, depth = tokens[at].text, 0
-    while True:
-        depth += (tokens[at].text == opening) - (tokens[at].text == closing)
-        at += 1
-        if depth == 0 or not closing:
-            return at
+    return beyond(tokens, at, {"<": ">"}) if tokens[at].text == "<" else at
 
 
 def parameters(tokens):
@@ -216,10 +213,10 @@ def by_first_word(rules):
 
 
 def rewrite(tokens, rules):
-    """Rewrites by rules, of which the first that fits a place holds there. A rule is a pattern, what is written in place of what
-    matches it, and perhaps a condition. A text has the pattern's names for what they stand for there, a function is given
-    them. Both also have what stands `before` and `behind`, and the `line` feed and indent of the place. Where nothing is
-    written, an item goes with the comments right above it, and an attribute leaves them."""
+    """Rewrites by rules, of which the first that fits a place holds there. A rule is a pattern, the text that is written in
+    place of what matches it or a function that returns this text, and perhaps a condition. These know what the pattern's
+    names stand for there, the tokens `before` and `behind`, and the `line` feed and indent of the place. Where the text is
+    empty, an item goes with the comments right above it, and an attribute leaves them."""
     rules = by_first_word(rules)
     for at in range(len(tokens) - 2, -1, -1):
         for pattern, new, *conditions in (*rules.get(tokens[at].text, ()), *rules.get("", ())):
@@ -232,7 +229,7 @@ def rewrite(tokens, rules):
                 continue
             put = lexed(lead + (new(it) if callable(new) else Template(new).substitute(vars(it))))
             if put:
-                put[-1].asked = any(it.asked for it in tokens[at:end])
+                put[-1].asked = any(x.asked for x in tokens[at:end])
                 tokens[at:end] = put
             elif tokens[at].text == "#":
                 tokens[end].lead = lead
