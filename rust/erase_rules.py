@@ -56,7 +56,6 @@ OF_LIBRARY = (
     # the label of a loop, which names it to proofs, where nothing else names it
     ("$label : for $head.. $block{}", "for $head $block", is_unnamed),
     ("$label : while $head.. $block{}", "while $head $block", is_unnamed),
-    ("$label : loop $block{}", "loop $block", is_unnamed),
 )
 AT_LAST = (
     # supertraits over any lifetime 'r, which Rattle has no words for
@@ -74,30 +73,6 @@ AT_LAST = (
     ("if m . is_beyond ( $x.. ) { return ; }", 'if m.is_beyond($x) {$line    panic!("the entries must be below 4m");$line}'),
 )
 
-LOOSENED = (
-    # the words of a reducer and of an integer may be of any type; what needs more, `pow`, has no default body
-    ("trait Reducer < T : RingWord >", "trait Reducer<T>"),
-    ("type Base : RingWord ;", "type Base;"),
-    ("-> T { pow_counted ( self , f , exp ) . 0 }", "-> T;"),
-    # integers over any reducer: the bounds that their operations need, and clones of what they read of a reference
-    ("pub struct ReducedInt", "#[derive(Clone, Copy)]\npub struct ReducedInt"),
-    (f"{BOUNDS} > ReducedInt", "T, R: Reducer<T>> ReducedInt"),
-    (f"{BOUNDS} > PartialEq", "T: PartialEq, R: Reducer<T>> PartialEq"),
-    (BOUNDS, "T: PartialEq + Clone, R: Reducer<T> + Clone"),
-    ("reducer : x . reducer ,", "reducer: x.reducer.clone(),"),
-    ("neg ( x . form )", "neg(x.form.clone())"),
-    ("residue ( self . form )", "residue(self.form.clone())"),
-    (", * rhs )", ", rhs.clone())"),
-    ("= y . inv (", "= y.clone().inv("),
-)
-# additions.rs has this function as a const one; of Mersenne32 and Mersenne64 only tests call the proved one
-CONSTANT_BY_HAND = (
-    ("pub fn reduce_single ( v : u32 )", "#[cfg(test)]\n    pub(crate) fn reduced_word(v: u32)"),
-    ("pub fn reduce_single ( v : u64 )", "#[cfg(test)]\n    pub(crate) fn reduced_word(v: u64)"),
-    ("pub fn reduce_single", "pub(crate) fn reduced_word"),
-    (":: reduce_single", "::reduced_word"),
-)
-
 
 def constant(*names):
     """The rules that make these functions const: they call no method of a trait."""
@@ -113,8 +88,29 @@ OF_PLACES = {  # by crate or file
     # the constructors of IN_CONSTANTS that serve all words
     **{it: (("pub fn new (", "pub fn of("),) for it in ("premul", "montgomery", "normalized", "one_by_one")},
     "preinv": (("pub const fn new (", "pub(crate) const fn of("),),
-    "modular_folds": CONSTANT_BY_HAND,
-    "modular_reduced": LOOSENED,
+    # additions.rs has this function as a const one; of Mersenne32 and Mersenne64 only tests call the proved one
+    "modular_folds": (
+        ("pub fn reduce_single ( v : u32 )", "#[cfg(test)]\n    pub(crate) fn reduced_word(v: u32)"),
+        ("pub fn reduce_single ( v : u64 )", "#[cfg(test)]\n    pub(crate) fn reduced_word(v: u64)"),
+        ("pub fn reduce_single", "pub(crate) fn reduced_word"),
+        (":: reduce_single", "::reduced_word"),
+    ),
+    "modular_reduced": (
+        # the words of a reducer and of an integer may be of any type; what needs more, `pow`, has no default body
+        ("trait Reducer < T : RingWord >", "trait Reducer<T>"),
+        ("type Base : RingWord ;", "type Base;"),
+        ("-> T { pow_counted ( self , f , exp ) . 0 }", "-> T;"),
+        # integers over any reducer: the bounds that their operations need, and clones of what they read of a reference
+        ("pub struct ReducedInt", "#[derive(Clone, Copy)]\npub struct ReducedInt"),
+        (f"{BOUNDS} > ReducedInt", "T, R: Reducer<T>> ReducedInt"),
+        (f"{BOUNDS} > PartialEq", "T: PartialEq, R: Reducer<T>> PartialEq"),
+        (BOUNDS, "T: PartialEq + Clone, R: Reducer<T> + Clone"),
+        ("reducer : x . reducer ,", "reducer: x.reducer.clone(),"),
+        ("neg ( x . form )", "neg(x.form.clone())"),
+        ("residue ( self . form )", "residue(self.form.clone())"),
+        (", * rhs )", ", rhs.clone())"),
+        ("= y . inv (", "= y.clone().inv("),
+    ),
     "fixed": constant("fixed_modulus"),
     "proth": constant("fixed_modulus", "value", "shift_mul"),
     "mersenne": constant("fixed_modulus"),
