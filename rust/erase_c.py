@@ -35,22 +35,17 @@ def typed(text):
     return [(it[1], it[2] + (it[3] or ""), bool(it[4]), it[5]) for it in found]
 
 
-STRUCTS = {}  # the module of each struct
+FULL = {it: it for it in PLAIN}  # each type by its path
 LENT = {}  # the fields of each struct that holds a list
-
-
-def full(kind):
-    """A type by its path."""
-    if kind not in PLAIN and kind not in STRUCTS:
-        raise Unknown(f"the type {kind} is no struct of the functions for C")
-    return kind if kind in PLAIN else f"c::{STRUCTS[kind]}::{kind}"
 
 
 def set_apart(own, reference, is_list, kind):
     """A list as a pointer and a length, and anything else as it is: the names and types."""
+    if kind not in FULL:
+        raise Unknown(f"the type {kind} is no struct of the functions for C")
     if not is_list:
-        return [f"{own}: {reference}{kind if kind in LENT else full(kind)}"]
-    return [f"{own}: {'*mut' if 'mut' in reference else '*const'} {full(kind)}", f"{own}_length: usize"]
+        return [f"{own}: {reference}{kind if kind in LENT else FULL[kind]}"]
+    return [f"{own}: {'*mut' if 'mut' in reference else '*const'} {FULL[kind]}", f"{own}_length: usize"]
 
 
 def wrapper(path, name, found):
@@ -78,7 +73,7 @@ def wrapper(path, name, found):
 
 def lent_struct(name):
     """A struct that holds a list, as C has it."""
-    declared, empty, lent, of, kind = [], [], [], [], full(name)
+    declared, empty, lent, of, kind = [], [], [], [], FULL[name]
     for own, reference, is_list, inner in LENT[name]:
         declared += set_apart(own, reference, is_list, inner)
         empty.append(f"{own}: &[]" if is_list else f"{own}: 0")
@@ -118,7 +113,7 @@ def wrappers(files):
     codes = {path: " ".join(it.text for it in tokens) for path, tokens in files.items()}
     for path, code in codes.items():
         for name, lent, fields in STRUCT.findall(code):
-            STRUCTS[name] = path
+            FULL[name] = f"c::{path}::{name}"
             LENT.update({name: typed(fields)} if lent else {})
     texts = [lent_struct(name) for name in LENT]
     for path, code in codes.items():

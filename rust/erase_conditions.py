@@ -201,6 +201,20 @@ def say(tokens, it, words):
         tokens[closed:closed] = lexed(message if is_end else f", {message}")
 
 
+def makes(tokens, it):
+    """Whether a function makes a value whose type has a condition."""
+    closed = beyond(tokens, it.opened)
+    return tokens[closed].text == "->" and tokens[closed + 1].text in MADE
+
+
+def rewrite_proved(tokens, it):
+    """`prove!` becomes `assert!` where a value is made or there is no parameter, and `debug_assert!` elsewhere."""
+    is_made = tokens[it.opened + 1].text == ")" or makes(tokens, it)
+    for at in range(it.body, beyond(tokens, it.body)):
+        if tokens[at].text == "prove":
+            tokens[at].text = EVERY if is_made else DEBUG
+
+
 def put_looks(tokens, it, file):
     """Puts the tests of the table at the beginning of a body."""
     if tokens[it.body].text == ";":
@@ -291,12 +305,6 @@ def without_laws(tokens):
             it.lead = text
 
 
-def makes(tokens, it):
-    """Whether a function makes a value whose type has a condition."""
-    closed = beyond(tokens, it.opened)
-    return tokens[closed].text == "->" and tokens[closed + 1].text in MADE
-
-
 def lack_of(tokens, it, words):
     """What a function with a `requires` lacks whose condition is stated in these words; None for nothing."""
     if not tokens[it.body].asked:
@@ -327,6 +335,7 @@ def state_conditions(tokens, file, traits):
     """Yields what is lacking in a file, and writes the messages, tests and docs of its conditions."""
     for it in [] if file.endswith("/tests") else functions(tokens):
         words = it.words or traits.get((it.trait, it.name))
+        rewrite_proved(tokens, it)
         put_looks(tokens, it, file)
         if lack := lack_of(tokens, it, words):
             yield f"{file}.rt: {it.name} {lack}"

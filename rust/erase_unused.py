@@ -13,7 +13,6 @@ from erase_tokens import (
 WIDTH = 100  # of an import
 
 
-# ------------------------------------------------------------------------------------------------ imports
 def tree(paths):
     """Paths as one, with braces."""
     heads = defaultdict(list)
@@ -43,7 +42,6 @@ def filter_imports(tokens, keeps, public=True):
         tokens[it.first : it.body + 1] = lexed(text)
 
 
-# ------------------------------------------------------------------------------------------------ laws
 def laws_taken(tokens):
     """Takes the laws of a file away, and returns their names: functions in no other item that return nothing and have an empty
     body. Their contracts state something."""
@@ -64,7 +62,8 @@ def take_laws(files):
     names = set()
     while found := set().union(*map(laws_taken, files.values())):
         names |= found
-        calls = tuple((f"{name} {types}( $values.. ) ;", "", is_statement) for name in found for types in ("", ":: < $types.. > "))
+        patterns = (f"{name} {types}( $values.. ) ;" for name in found for types in ("", ":: < $types.. > "))
+        calls = tuple((pattern, "", is_statement) for pattern in patterns)
         for tokens in files.values():
             rewrite(tokens, calls)
     for (crate, path), tokens in files.items():
@@ -97,7 +96,6 @@ def take_empty_modules(files):
         take(files[crate, above if (crate, above) in files else "lib"], "mod", [name])
 
 
-# ------------------------------------------------------------------------------------------------ traits
 def empty_traits(files):
     """The traits whose members were all ghost, and the names of others that each requires."""
     found = {}
@@ -124,7 +122,6 @@ def take_markers(tokens, markers):
             raise Unknown(f"the trait {tokens[at].text}, which has no members, is named where it is no bound")
 
 
-# ------------------------------------------------------------------------------------------------ names
 def traits_of(files):
     """The traits of these files by name: their methods, and the traits that they require."""
     found = {}
@@ -140,7 +137,8 @@ def take_unused_imports(tokens, known):
     rest = list(tokens)
     for it in items(rest, "use"):
         del rest[it.first : it.body + 1]
-    names = {"*", "self", "_"} | {it.text for before, it in zip([rest[-1], *rest], rest) if before.text not in (".", "::", "fn")}
+    names = {it.text for before, it in zip([rest[-1], *rest], rest) if before.text not in (".", "::", "fn")}
+    names |= {"*", "self", "_"}
     brought = set(names)
     while more := {other for it in brought & set(known) for other in known[it][1]} - brought:
         brought |= more
