@@ -107,7 +107,6 @@ for test, places in LOOKS.items():
 EVERY, DEBUG = "assert", "debug_assert"
 # What a test that fails shows besides its words, by these words or by the end of the test: the rest of the macro's arguments.
 NUMBER, SHOWN_MODULUS = "crate::additions::number", "crate::additions::ShownModulus"
-BLOCKS = "(xs.len(),table.len(),b,last)"
 SHOWN = {
     "the moduli must be equal": ': {} and {}", ' + ", ".join(f"{SHOWN_MODULUS}({it}.reducer.shown_modulus())" for it in "xy"),
     "the lists must have the same length": ': {} and {}", xs.len(), ys.len()',
@@ -117,7 +116,7 @@ SHOWN = {
     "g must suit n entries, n being a power of two":
     f': n = {{}}, m = {{}}, g = {{}}", 2 * table.len(), {NUMBER}(m.modulus), {NUMBER}(g)',
     "there must be room for one residue a modulus": ': {} and {}", residues.len(), moduli.len()',
-    BLOCKS: ': {} entries, {} factors, b = {}, last = {}", xs.len(), table.len(), b, last',
+    "(xs.len(),table.len(),b,last)": ': {} entries, {} factors, b = {}, last = {}", xs.len(), table.len(), b, last',
 }
 FOUND = defaultdict(set)
 TRACKED, TRACKED_IN_DEBUG = "#[track_caller]", "#[cfg_attr(debug_assertions, track_caller)]"
@@ -195,8 +194,8 @@ def say(tokens, it, words):
     for count, at in reversed(list(enumerate(found))):
         is_end, closed = tokens[at].text == "unreachable", beyond(tokens, at + 2) - 1
         own = parts[count] if len(parts) == len(found) else parts[-1] if is_end else "; ".join(parts)
-        is_of_blocks = "".join(x.text for x in tokens[at:closed]).endswith(BLOCKS)
-        message = f'"{own}' + SHOWN.get(BLOCKS if is_of_blocks else own, '"')
+        test = "".join(x.text for x in tokens[at:closed])
+        message = f'"{own}' + next((shown for key, shown in SHOWN.items() if own == key or test.endswith(key)), '"')
         tokens[at].text = "panic" if is_end else tokens[at].text
         tokens[closed:closed] = lexed(message if is_end else f", {message}")
 

@@ -58,6 +58,12 @@ OF_LIBRARY = (
     ("$label : while $head.. $block{}", "while $head $block", is_unnamed),
 )
 AT_LAST = (
+    # a trait that combines others, and has no members
+    (
+        "trait ModularOps < $parameters.. > : Sized + $others.. { }",
+        "trait ModularOps<$parameters>: Sized + $others {}\n\n"
+        "impl<Rhs, Modulus: Eq, Output, Any: $others> ModularOps<Rhs, Modulus, Output> for Any {}",
+    ),
     # supertraits over any lifetime 'r, which Rattle has no words for
     ("trait ModularRefOps : $others.. {", """trait ModularRefOps: $others
     + for<'r> crate::ModularCoreOps<&'r Self, &'r Self, Output = Self>
@@ -150,7 +156,7 @@ def stands_alone(it):
 
 
 # Clippy's names: manual_find, needless_range_loop, manual_map, redundant_pattern_matching, collapsible_if,
-# if_same_then_else, manual_range_contains, single_match, redundant_field_names.
+# if_same_then_else, manual_range_contains, single_match, redundant_field_names, unused_enumerate_index.
 IDIOMS = (
     ("for $n in $numbers.. { if $holds.. { return Some ( $n ) ; } } None", "($numbers).find(|&$n| $holds)"),
     ("for $index in 0 . . $until.. $block{}", over_entries, is_over_list),
@@ -175,9 +181,6 @@ IDIOMS = (
     ("$x < $low | | $x > $high", "!($low..=$high).contains(&$x)", stands_alone),
     ("match $result.. { Err ( $error ) => $done.. , Ok ( ( ) ) => { } }", "if let Err($error) = $result {$line    $done;$line}"),
     ("$x : $x", "$x", lambda it: it.before in ("{", ",") and it.behind in (",", "}") and it.x[0].islower()),
-)
-# unused_enumerate_index, of the loops that these write too
-COUNTS = (
     (
         "for ( $i , $x ) in $list.. $block{}",
         lambda it: f"for {it.x} in {it.list.removesuffix('.enumerate()')} {it.block}",

@@ -70,7 +70,7 @@ def read(text):
             lead += word
             continue
         if kind == "unknown" or kind not in ("clause", "item", "tactic", "text") and not word.isascii():
-            raise Unknown(f"{text.count(chr(10), 0, begin) + 1}: ghost text of an unknown kind, or an attribute, {word}")
+            raise Unknown(f"line {text.count(chr(10), 0, begin) + 1}: ghost text of an unknown kind, or an attribute, {word}")
         if above is not None:
             lead, above = joined(above, lead), None
         if kind == "clause":

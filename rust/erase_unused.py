@@ -74,11 +74,7 @@ def take_laws(files):
 
 def has_nothing(tokens):
     """Whether a file has no item but imports of its own."""
-    rest = list(tokens)
-    for it in items(rest, "use"):
-        if it.first == it.at:
-            del rest[it.at : it.body + 1]
-    return len(rest) == 1
+    return sum(it.body + 1 - it.at for it in items(tokens, "use") if it.first == it.at) == len(tokens) - 1
 
 
 def take(tokens, keyword, names):
