@@ -216,8 +216,8 @@ def rewrite(tokens, rules):
     """Rewrites by rules, of which the first that fits a place holds there. A rule is a pattern, the text that is written in
     place of what matches it or a function that returns this text, and perhaps a condition. These know what the pattern's
     names stand for there, the tokens `before` and `behind`, and the `line` feed and indent of the place. Where the text is
-    empty, an item goes with the comments right above it, and an attribute leaves them."""
-    rules = by_first_word(rules)
+    empty, an item goes with the comments right above it, and an attribute leaves them. The patterns that fit are returned."""
+    rules, fit = by_first_word(rules), set()
     for at in range(len(tokens) - 2, -1, -1):
         for pattern, new, *conditions in (*rules.get(tokens[at].text, ()), *rules.get("", ())):
             if not (found := matched(tokens, at, pattern)):
@@ -236,7 +236,9 @@ def rewrite(tokens, rules):
                 del tokens[at:end]
             else:
                 cut(tokens, at, end)
+            fit.add(pattern)
             break
+    return fit
 
 
 def put_attribute(tokens, at, attribute):
