@@ -88,14 +88,6 @@ def nested(found):
     return found[0] if {"let", "|"} & set(f"{outer} {inner}".split()) else f"if {outer} & & {inner} {block}"
 
 
-ASCII = {("b'0'", "b'9'"): "is_ascii_digit ( )", ("b'A'", "b'Z'"): "is_ascii_uppercase ( )"}
-
-
-def within(found):
-    name, low, high = found.groups()
-    return f"{name} . {ASCII[low, high]}" if (low, high) in ASCII else f"( {low} . . = {high} ) . contains ( & {name} )"
-
-
 # Sentences of Rust for what clippy would say otherwise.
 IDIOMS = (
     (rf"for \( (\w+) , (\w+) \) in ({PLAIN}) \. enumerate \( \) ({BLOCK})", counted),
@@ -104,7 +96,8 @@ IDIOMS = (
     (rf"match ({PLAIN}) \{{ Some \( _ \) => true , None => false , \}}", r"\1 . is_some ( )"),
     (rf"(?<!else )if ({PLAIN}) \{{ if ({PLAIN}) ({BLOCK}) \}}(?! else)", nested),
     (rf"if ({PLAIN}) ({BLOCK}) else if ({PLAIN}) ({BLOCK})", said_once),
-    (r"\b(\w+) > = (\S+) & & \1 < = (\S+)(?= )", within),
+    (r"\b(\w+) > = b'0' & & \1 < = b'9'(?= )", r"\1 . is_ascii_digit ( )"),
+    (r"\b(\w+) > = b'A' & & \1 < = b'Z'(?= )", r"\1 . is_ascii_uppercase ( )"),
     (r"\b(\w+) < (\S+) \| \| \1 > (\S+)(?= )", r"! ( \2 . . = \3 ) . contains ( & \1 )"),
     (rf"match ({PLAIN}) \{{ Err \( (\w+) \) => ({PLAIN}) , Ok \( \( \) \) => \{{ \}} ,? ?\}}", r"if let Err ( \2 ) = \1 { \3 ; }"),
     (r"(?<=[{,] )([a-z]\w*) : \1 (?=[,}])", r"\1 "),

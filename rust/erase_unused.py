@@ -56,14 +56,11 @@ def laws_taken(tokens):
 
 def take_laws(files):
     """Takes laws away from all files, and what does nothing without them. `files`: the tokens by crate and path."""
-    def is_statement(it):
-        return it.before in ("{", "}", ";")
-
     names = set()
     while found := set().union(*map(laws_taken, files.values())):
         names |= found
         patterns = (f"{name} {types}( $values.. ) ;" for name in found for types in ("", ":: < $types.. > "))
-        calls = tuple((pattern, "", is_statement) for pattern in patterns)
+        calls = tuple((pattern, "", lambda it: it.before in ("{", "}", ";")) for pattern in patterns)
         for tokens in files.values():
             rewrite(tokens, calls)
     for (crate, path), tokens in files.items():
