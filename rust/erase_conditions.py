@@ -119,7 +119,6 @@ SHOWN = {
     "(xs.len(),table.len(),b,last)": ': {} entries, {} factors, b = {}, last = {}", xs.len(), table.len(), b, last',
 }
 FOUND = defaultdict(set)
-TRACKED, TRACKED_IN_DEBUG = "#[track_caller]", "#[cfg_attr(debug_assertions, track_caller)]"
 SHORT = ("modular_word/", "modular_prim/", "modular_symbols/reference_operations", "modular_reduced/reduced_int/operations")
 BETWEEN = (
     r"modular_reduced/reduced_int/.*\.(Add|Sub|Mul|Div)(Assign)?\.\w+|modular_prim/residues\.\.reduced_unless"
@@ -327,7 +326,7 @@ def mark_callers(tokens, it, file, every, debug):
     is_between = tokens[it.body].text != ";" and re.fullmatch(BETWEEN, f"{file}.{it.trait}.{it.name}")
     if every or debug or is_between:
         is_short = not every or file.startswith(SHORT)
-        put_attribute(tokens, it.begin, TRACKED_IN_DEBUG if is_short else TRACKED)
+        put_attribute(tokens, it.begin, "#[cfg_attr(debug_assertions, track_caller)]" if is_short else "#[track_caller]")
 
 
 def state_conditions(tokens, file, traits):

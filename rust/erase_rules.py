@@ -179,7 +179,10 @@ IDIOMS = (
     ("$x > = b'0' & & $x < = b'9'", "$x.is_ascii_digit()", stands_alone),
     ("$x > = b'A' & & $x < = b'Z'", "$x.is_ascii_uppercase()", stands_alone),
     ("$x < $low | | $x > $high", "!($low..=$high).contains(&$x)", stands_alone),
-    ("match $result.. { Err ( $error ) => $done.. , Ok ( ( ) ) => { } }", "if let Err($error) = $result {$line    $done;$line}"),
+    (
+        "match $result.. { Err ( $error ) => $done.. , Ok ( ( ) ) => { } }",
+        "if let Err($error) = $result {$line    $done;$line}",
+    ),
     ("$x : $x", "$x", lambda it: it.before in ("{", ",") and it.behind in (",", "}") and it.x[0].islower()),
     (
         "for ( $i , $x ) in $list.. $block{}",

@@ -3,7 +3,6 @@ reads."""
 import re
 import textwrap
 from collections import defaultdict
-from itertools import pairwise
 
 from libraries import leaves
 from erase_tokens import (
@@ -119,7 +118,8 @@ def traits_of(files):
     """The traits of these files by name: their methods, and the traits that they require."""
     found = {}
     for it, tokens in ((it, tokens) for tokens in files for it in items(tokens, "trait")):
-        methods = {x.text for before, x in pairwise(tokens[it.body : beyond(tokens, it.body)]) if before.text == "fn"}
+        inside = tokens[it.body : beyond(tokens, it.body)]
+        methods = {x.text for before, x in zip(inside, inside[1:]) if before.text == "fn"}
         found[it.name] = methods, {x.text for x in tokens[it.at + 2 : it.body] if x.kind == "name"}
     return found
 
@@ -135,7 +135,7 @@ def take_unused_imports(tokens, known):
     brought = set(names)
     while more := {other for it in brought & set(known) for other in known[it][1]} - brought:
         brought |= more
-    called = {it.text for before, it in pairwise(rest) if before.text in (".", "::")}
+    called = {it.text for before, it in zip(rest, rest[1:]) if before.text in (".", "::")}
     called -= {method for it in brought & set(known) for method in known[it][0]}
 
     def is_used(name):
