@@ -132,7 +132,7 @@ macro_rules! library {
                 step(lines, "powm 3, then addm", place, all(residues), |m, x, y| x.powm(3, m).addm(y, m), see);
                 step(lines, "powm 13, then addm", place, all(residues), |m, x, y| x.powm(13, m).addm(y, m), see);
                 step(lines, "powm, then addm", place, all(residues), |m, x, y| x.powm(!y, m).addm(y, m), see);
-                step(lines, "jacobi", place, all(residues), |m, x, y| (x ^ y) + x.jacobi(&(*m | 1)).unsigned_abs() as W / 2, see);
+                step(lines, "jacobi", place, all(residues), |m, x, y| (x ^ y).wrapping_add(x.jacobi(&(*m | 1)) as W), see);
                 step(lines, "PreMulInv1by1::new, div_rem", place, all(words), |m, x, y| {
                     let (q, r) = PreMulInv1by1::<W>::new((x ^ *m) | 2).div_rem(y, (x ^ *m) | 2);
                     q ^ r
