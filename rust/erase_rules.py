@@ -85,6 +85,14 @@ def constant(*names):
     return tuple((f"fn {name}", f"const fn {name}") for name in names)
 
 
+def bounds_of(code):
+    """The bounds that an item of integers needs: to compare moduli, and to clone a word, or a reducer with it."""
+    compares = not re.search(r"\bnegative\b|_with\b", code)
+    word = " + ".join(["PartialEq"] * compares + ["Clone"] * (".clone()" in code))
+    is_whole = re.search(r"\b(?:self|reducer)\.clone\(\)|\bquotient\(.*rhs\.clone\(\)", code)
+    return f"T{': ' * bool(word)}{word}, R: Reducer<T>{' + Clone' * bool(is_whole)}"
+
+
 OF_PLACES = {  # by crate or file
     # rustc warns where what only tests call is missing here, and refuses the crate where one is too many
     "modular_symbols": of_tests("mod count"),
@@ -110,12 +118,14 @@ OF_PLACES = {  # by crate or file
         ("pub struct ReducedInt", "#[derive(Clone, Copy)]\npub struct ReducedInt"),
         (f"{BOUNDS} > ReducedInt", "T, R: Reducer<T>> ReducedInt"),
         (f"{BOUNDS} > PartialEq", "T: PartialEq, R: Reducer<T>> PartialEq"),
-        (BOUNDS, "T: PartialEq + Clone, R: Reducer<T> + Clone"),
-        ("reducer : x . reducer ,", "reducer: x.reducer.clone(),"),
-        ("neg ( x . form )", "neg(x.form.clone())"),
+        (f"impl < {BOUNDS} > $head.. $block{{}}", lambda it: f"impl<{bounds_of(it.block)}> {it.head} {it.block}"),
+        (f"fn $name < {BOUNDS} >", lambda it: f"fn {it.name}<{bounds_of(it.name)}>"),
+        ("* x = ReducedInt { form : $form.. , reducer : x . reducer , } ;", "x.form = $form;"),
+        ("transform ( n ) , reducer : self . reducer ,", "transform(n),\n            reducer: self.reducer.clone(),"),
         ("residue ( self . form )", "residue(self.form.clone())"),
+        ("( * self )", "(self.clone())"),
+        ("( * self ,", "(self.clone(),"),
         (", * rhs )", ", rhs.clone())"),
-        ("= y . inv (", "= y.clone().inv("),
     ),
     "fixed": constant("fixed_modulus"),
     "proth": constant("fixed_modulus", "value", "shift_mul"),

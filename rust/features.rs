@@ -25,7 +25,7 @@ mod numbers {
 
     const NO_INVERSE: &str = "the integer must have an inverse modulo m";
 
-    impl<T: PartialEq + Clone, R: Reducer<T> + Clone> Inv for ReducedInt<T, R> {
+    impl<T, R: Reducer<T>> Inv for ReducedInt<T, R> {
         type Output = Self;
 
         /// The inverse.
@@ -48,7 +48,7 @@ mod numbers {
         }
     }
 
-    impl<T: PartialEq + Clone, R: Reducer<T> + Clone> Pow<T> for ReducedInt<T, R> {
+    impl<T, R: Reducer<T>> Pow<T> for ReducedInt<T, R> {
         type Output = Self;
 
         fn pow(self, exp: T) -> Self {
@@ -56,7 +56,7 @@ mod numbers {
         }
     }
 
-    impl<T: PartialEq + Clone, R: Reducer<T> + Clone> Pow<&T> for ReducedInt<T, R> {
+    impl<T, R: Reducer<T>> Pow<&T> for ReducedInt<T, R> {
         type Output = Self;
 
         fn pow(self, exp: &T) -> Self {

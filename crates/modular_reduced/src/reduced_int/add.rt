@@ -4,7 +4,7 @@ ghost use Rattle.modular_reduced.specs.Integers.{IsSum, modulus_of, residue_of};
 ghost use Rattle.std.specs.Prelude.{◌≡◌};
 
 use super::ReducedInt;
-use super::operations::{sum, sum_with};
+use super::operations::{sum, sum_assign, sum_assign_with, sum_with};
 use crate::reducer::Reducer;
 use modular_word::ring_word::RingWord;
 use std::ops::{Add, AddAssign};
@@ -17,7 +17,7 @@ impl<T: RingWord, R: Reducer<T> + Copy> Add<ReducedInt<T, R>> for ReducedInt<T, 
     ghost add_gives = { λ x y z. IsSum x (residue_of y) z };
 
     fn add(self, rhs: ReducedInt<T, R>) -> ReducedInt<T, R> {
-        sum(&self, &rhs)
+        sum(self, &rhs)
     }
 }
 
@@ -29,7 +29,7 @@ impl<T: RingWord, R: Reducer<T> + Copy> Add<&ReducedInt<T, R>> for ReducedInt<T,
     ghost add_gives = { λ x y z. IsSum x (residue_of y.now) z };
 
     fn add(self, rhs: &ReducedInt<T, R>) -> ReducedInt<T, R> {
-        sum(&self, rhs)
+        sum(self, rhs)
     }
 }
 
@@ -39,7 +39,7 @@ impl<T: RingWord, R: Reducer<T> + Copy> Add<T> for ReducedInt<T, R> {
     ghost add_gives = { λ x n z. IsSum x (T.number n) z };
 
     fn add(self, rhs: T) -> ReducedInt<T, R> {
-        sum_with(&self, rhs)
+        sum_with(self, rhs)
     }
 }
 
@@ -49,7 +49,7 @@ impl<T: RingWord, R: Reducer<T> + Copy> Add<&T> for ReducedInt<T, R> {
     ghost add_gives = { λ x n z. IsSum x (T.number n.now) z };
 
     fn add(self, rhs: &T) -> ReducedInt<T, R> {
-        sum_with(&self, *rhs)
+        sum_with(self, *rhs)
     }
 }
 
@@ -61,7 +61,7 @@ impl<T: RingWord, R: Reducer<T> + Copy> Add<ReducedInt<T, R>> for &ReducedInt<T,
     ghost add_gives = { λ x y z. IsSum x.now (residue_of y) z };
 
     fn add(self, rhs: ReducedInt<T, R>) -> ReducedInt<T, R> {
-        sum(self, &rhs)
+        sum(*self, &rhs)
     }
 }
 
@@ -73,7 +73,7 @@ impl<T: RingWord, R: Reducer<T> + Copy> Add<&ReducedInt<T, R>> for &ReducedInt<T
     ghost add_gives = { λ x y z. IsSum x.now (residue_of y.now) z };
 
     fn add(self, rhs: &ReducedInt<T, R>) -> ReducedInt<T, R> {
-        sum(self, rhs)
+        sum(*self, rhs)
     }
 }
 
@@ -83,7 +83,7 @@ impl<T: RingWord, R: Reducer<T> + Copy> Add<T> for &ReducedInt<T, R> {
     ghost add_gives = { λ x n z. IsSum x.now (T.number n) z };
 
     fn add(self, rhs: T) -> ReducedInt<T, R> {
-        sum_with(self, rhs)
+        sum_with(*self, rhs)
     }
 }
 
@@ -93,7 +93,7 @@ impl<T: RingWord, R: Reducer<T> + Copy> Add<&T> for &ReducedInt<T, R> {
     ghost add_gives = { λ x n z. IsSum x.now (T.number n.now) z };
 
     fn add(self, rhs: &T) -> ReducedInt<T, R> {
-        sum_with(self, *rhs)
+        sum_with(*self, *rhs)
     }
 }
 
@@ -103,7 +103,7 @@ impl<T: RingWord, R: Reducer<T> + Copy> AddAssign<ReducedInt<T, R>> for ReducedI
     ghost add_assign_gives = { λ x y z. IsSum x (residue_of y) z };
 
     fn add_assign(&mut self, rhs: ReducedInt<T, R>) {
-        *self = sum(self, &rhs);
+        sum_assign(self, &rhs);
     }
 }
 
@@ -113,7 +113,7 @@ impl<T: RingWord, R: Reducer<T> + Copy> AddAssign<&ReducedInt<T, R>> for Reduced
     ghost add_assign_gives = { λ x y z. IsSum x (residue_of y.now) z };
 
     fn add_assign(&mut self, rhs: &ReducedInt<T, R>) {
-        *self = sum(self, rhs);
+        sum_assign(self, rhs);
     }
 }
 
@@ -121,7 +121,7 @@ impl<T: RingWord, R: Reducer<T> + Copy> AddAssign<T> for ReducedInt<T, R> {
     ghost add_assign_gives = { λ x n z. IsSum x (T.number n) z };
 
     fn add_assign(&mut self, rhs: T) {
-        *self = sum_with(self, rhs);
+        sum_assign_with(self, rhs);
     }
 }
 
@@ -129,6 +129,6 @@ impl<T: RingWord, R: Reducer<T> + Copy> AddAssign<&T> for ReducedInt<T, R> {
     ghost add_assign_gives = { λ x n z. IsSum x (T.number n.now) z };
 
     fn add_assign(&mut self, rhs: &T) {
-        *self = sum_with(self, *rhs);
+        sum_assign_with(self, *rhs);
     }
 }

@@ -4,7 +4,6 @@ ghost use Rattle.modular_reduced.specs.Integers.{modulus_of, residue_of};
 ghost use Rattle.std.proofs.Common.{rules};
 
 use super::ReducedInt;
-use super::operations::in_ring;
 use crate::modular_integer::ModularInteger;
 use crate::reducer::Reducer;
 use modular_word::ring_word::RingWord;
@@ -29,7 +28,10 @@ impl<T: RingWord, R: Reducer<T> + Copy> ModularInteger for ReducedInt<T, R> {
     }
 
     fn convert(&self, n: T) -> Self {
-        in_ring(self, n)
+        ReducedInt {
+            form: self.reducer.transform(n),
+            reducer: self.reducer,
+        }
     }
 
     fn double(self) -> Self {

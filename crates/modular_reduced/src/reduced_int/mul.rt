@@ -4,7 +4,7 @@ ghost use Rattle.modular_reduced.specs.Integers.{IsProduct, modulus_of, residue_
 ghost use Rattle.std.specs.Prelude.{◌≡◌};
 
 use super::ReducedInt;
-use super::operations::{product, product_with};
+use super::operations::{product, product_assign, product_assign_with, product_with};
 use crate::reducer::Reducer;
 use modular_word::ring_word::RingWord;
 use std::ops::{Mul, MulAssign};
@@ -17,7 +17,7 @@ impl<T: RingWord, R: Reducer<T> + Copy> Mul<ReducedInt<T, R>> for ReducedInt<T, 
     ghost mul_gives = { λ x y z. IsProduct x (residue_of y) z };
 
     fn mul(self, rhs: ReducedInt<T, R>) -> ReducedInt<T, R> {
-        product(&self, &rhs)
+        product(self, &rhs)
     }
 }
 
@@ -29,7 +29,7 @@ impl<T: RingWord, R: Reducer<T> + Copy> Mul<&ReducedInt<T, R>> for ReducedInt<T,
     ghost mul_gives = { λ x y z. IsProduct x (residue_of y.now) z };
 
     fn mul(self, rhs: &ReducedInt<T, R>) -> ReducedInt<T, R> {
-        product(&self, rhs)
+        product(self, rhs)
     }
 }
 
@@ -39,7 +39,7 @@ impl<T: RingWord, R: Reducer<T> + Copy> Mul<T> for ReducedInt<T, R> {
     ghost mul_gives = { λ x n z. IsProduct x (T.number n) z };
 
     fn mul(self, rhs: T) -> ReducedInt<T, R> {
-        product_with(&self, rhs)
+        product_with(self, rhs)
     }
 }
 
@@ -49,7 +49,7 @@ impl<T: RingWord, R: Reducer<T> + Copy> Mul<&T> for ReducedInt<T, R> {
     ghost mul_gives = { λ x n z. IsProduct x (T.number n.now) z };
 
     fn mul(self, rhs: &T) -> ReducedInt<T, R> {
-        product_with(&self, *rhs)
+        product_with(self, *rhs)
     }
 }
 
@@ -61,7 +61,7 @@ impl<T: RingWord, R: Reducer<T> + Copy> Mul<ReducedInt<T, R>> for &ReducedInt<T,
     ghost mul_gives = { λ x y z. IsProduct x.now (residue_of y) z };
 
     fn mul(self, rhs: ReducedInt<T, R>) -> ReducedInt<T, R> {
-        product(self, &rhs)
+        product(*self, &rhs)
     }
 }
 
@@ -73,7 +73,7 @@ impl<T: RingWord, R: Reducer<T> + Copy> Mul<&ReducedInt<T, R>> for &ReducedInt<T
     ghost mul_gives = { λ x y z. IsProduct x.now (residue_of y.now) z };
 
     fn mul(self, rhs: &ReducedInt<T, R>) -> ReducedInt<T, R> {
-        product(self, rhs)
+        product(*self, rhs)
     }
 }
 
@@ -83,7 +83,7 @@ impl<T: RingWord, R: Reducer<T> + Copy> Mul<T> for &ReducedInt<T, R> {
     ghost mul_gives = { λ x n z. IsProduct x.now (T.number n) z };
 
     fn mul(self, rhs: T) -> ReducedInt<T, R> {
-        product_with(self, rhs)
+        product_with(*self, rhs)
     }
 }
 
@@ -93,7 +93,7 @@ impl<T: RingWord, R: Reducer<T> + Copy> Mul<&T> for &ReducedInt<T, R> {
     ghost mul_gives = { λ x n z. IsProduct x.now (T.number n.now) z };
 
     fn mul(self, rhs: &T) -> ReducedInt<T, R> {
-        product_with(self, *rhs)
+        product_with(*self, *rhs)
     }
 }
 
@@ -103,7 +103,7 @@ impl<T: RingWord, R: Reducer<T> + Copy> MulAssign<ReducedInt<T, R>> for ReducedI
     ghost mul_assign_gives = { λ x y z. IsProduct x (residue_of y) z };
 
     fn mul_assign(&mut self, rhs: ReducedInt<T, R>) {
-        *self = product(self, &rhs);
+        product_assign(self, &rhs);
     }
 }
 
@@ -113,7 +113,7 @@ impl<T: RingWord, R: Reducer<T> + Copy> MulAssign<&ReducedInt<T, R>> for Reduced
     ghost mul_assign_gives = { λ x y z. IsProduct x (residue_of y.now) z };
 
     fn mul_assign(&mut self, rhs: &ReducedInt<T, R>) {
-        *self = product(self, rhs);
+        product_assign(self, rhs);
     }
 }
 
@@ -121,7 +121,7 @@ impl<T: RingWord, R: Reducer<T> + Copy> MulAssign<T> for ReducedInt<T, R> {
     ghost mul_assign_gives = { λ x n z. IsProduct x (T.number n) z };
 
     fn mul_assign(&mut self, rhs: T) {
-        *self = product_with(self, rhs);
+        product_assign_with(self, rhs);
     }
 }
 
@@ -129,6 +129,6 @@ impl<T: RingWord, R: Reducer<T> + Copy> MulAssign<&T> for ReducedInt<T, R> {
     ghost mul_assign_gives = { λ x n z. IsProduct x (T.number n.now) z };
 
     fn mul_assign(&mut self, rhs: &T) {
-        *self = product_with(self, *rhs);
+        product_assign_with(self, *rhs);
     }
 }

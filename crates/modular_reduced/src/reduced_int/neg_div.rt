@@ -14,7 +14,7 @@ impl<T: RingWord, R: Reducer<T> + Copy> Neg for ReducedInt<T, R> {
     ghost neg_gives = { λ x z. IsNegative x z };
 
     fn neg(self) -> ReducedInt<T, R> {
-        negative(&self)
+        negative(self)
     }
 }
 
@@ -24,7 +24,7 @@ impl<T: RingWord, R: Reducer<T> + Copy> Neg for &ReducedInt<T, R> {
     ghost neg_gives = { λ x z. IsNegative x.now z };
 
     fn neg(self) -> ReducedInt<T, R> {
-        negative(self)
+        negative(*self)
     }
 }
 
@@ -36,7 +36,7 @@ impl<T: RingWord, R: Reducer<T> + Copy> Div<ReducedInt<T, R>> for ReducedInt<T, 
     ghost div_gives = { λ x y z. IsQuotient x y z };
 
     fn div(self, rhs: ReducedInt<T, R>) -> ReducedInt<T, R> {
-        quotient(&self, &rhs)
+        quotient(self, rhs)
     }
 }
 
@@ -48,7 +48,7 @@ impl<T: RingWord, R: Reducer<T> + Copy> Div<&ReducedInt<T, R>> for ReducedInt<T,
     ghost div_gives = { λ x y z. IsQuotient x y.now z };
 
     fn div(self, rhs: &ReducedInt<T, R>) -> ReducedInt<T, R> {
-        quotient(&self, rhs)
+        quotient(self, *rhs)
     }
 }
 
@@ -60,7 +60,7 @@ impl<T: RingWord, R: Reducer<T> + Copy> Div<ReducedInt<T, R>> for &ReducedInt<T,
     ghost div_gives = { λ x y z. IsQuotient x.now y z };
 
     fn div(self, rhs: ReducedInt<T, R>) -> ReducedInt<T, R> {
-        quotient(self, &rhs)
+        quotient(*self, rhs)
     }
 }
 
@@ -72,6 +72,6 @@ impl<T: RingWord, R: Reducer<T> + Copy> Div<&ReducedInt<T, R>> for &ReducedInt<T
     ghost div_gives = { λ x y z. IsQuotient x.now y.now z };
 
     fn div(self, rhs: &ReducedInt<T, R>) -> ReducedInt<T, R> {
-        quotient(self, rhs)
+        quotient(*self, *rhs)
     }
 }

@@ -4,7 +4,7 @@ ghost use Rattle.modular_reduced.specs.Integers.{IsDifference, modulus_of, resid
 ghost use Rattle.std.specs.Prelude.{◌≡◌};
 
 use super::ReducedInt;
-use super::operations::{difference, difference_with};
+use super::operations::{difference, difference_assign, difference_assign_with, difference_with};
 use crate::reducer::Reducer;
 use modular_word::ring_word::RingWord;
 use std::ops::{Sub, SubAssign};
@@ -17,7 +17,7 @@ impl<T: RingWord, R: Reducer<T> + Copy> Sub<ReducedInt<T, R>> for ReducedInt<T, 
     ghost sub_gives = { λ x y z. IsDifference x (residue_of y) z };
 
     fn sub(self, rhs: ReducedInt<T, R>) -> ReducedInt<T, R> {
-        difference(&self, &rhs)
+        difference(self, &rhs)
     }
 }
 
@@ -29,7 +29,7 @@ impl<T: RingWord, R: Reducer<T> + Copy> Sub<&ReducedInt<T, R>> for ReducedInt<T,
     ghost sub_gives = { λ x y z. IsDifference x (residue_of y.now) z };
 
     fn sub(self, rhs: &ReducedInt<T, R>) -> ReducedInt<T, R> {
-        difference(&self, rhs)
+        difference(self, rhs)
     }
 }
 
@@ -39,7 +39,7 @@ impl<T: RingWord, R: Reducer<T> + Copy> Sub<T> for ReducedInt<T, R> {
     ghost sub_gives = { λ x n z. IsDifference x (T.number n) z };
 
     fn sub(self, rhs: T) -> ReducedInt<T, R> {
-        difference_with(&self, rhs)
+        difference_with(self, rhs)
     }
 }
 
@@ -49,7 +49,7 @@ impl<T: RingWord, R: Reducer<T> + Copy> Sub<&T> for ReducedInt<T, R> {
     ghost sub_gives = { λ x n z. IsDifference x (T.number n.now) z };
 
     fn sub(self, rhs: &T) -> ReducedInt<T, R> {
-        difference_with(&self, *rhs)
+        difference_with(self, *rhs)
     }
 }
 
@@ -61,7 +61,7 @@ impl<T: RingWord, R: Reducer<T> + Copy> Sub<ReducedInt<T, R>> for &ReducedInt<T,
     ghost sub_gives = { λ x y z. IsDifference x.now (residue_of y) z };
 
     fn sub(self, rhs: ReducedInt<T, R>) -> ReducedInt<T, R> {
-        difference(self, &rhs)
+        difference(*self, &rhs)
     }
 }
 
@@ -73,7 +73,7 @@ impl<T: RingWord, R: Reducer<T> + Copy> Sub<&ReducedInt<T, R>> for &ReducedInt<T
     ghost sub_gives = { λ x y z. IsDifference x.now (residue_of y.now) z };
 
     fn sub(self, rhs: &ReducedInt<T, R>) -> ReducedInt<T, R> {
-        difference(self, rhs)
+        difference(*self, rhs)
     }
 }
 
@@ -83,7 +83,7 @@ impl<T: RingWord, R: Reducer<T> + Copy> Sub<T> for &ReducedInt<T, R> {
     ghost sub_gives = { λ x n z. IsDifference x.now (T.number n) z };
 
     fn sub(self, rhs: T) -> ReducedInt<T, R> {
-        difference_with(self, rhs)
+        difference_with(*self, rhs)
     }
 }
 
@@ -93,7 +93,7 @@ impl<T: RingWord, R: Reducer<T> + Copy> Sub<&T> for &ReducedInt<T, R> {
     ghost sub_gives = { λ x n z. IsDifference x.now (T.number n.now) z };
 
     fn sub(self, rhs: &T) -> ReducedInt<T, R> {
-        difference_with(self, *rhs)
+        difference_with(*self, *rhs)
     }
 }
 
@@ -103,7 +103,7 @@ impl<T: RingWord, R: Reducer<T> + Copy> SubAssign<ReducedInt<T, R>> for ReducedI
     ghost sub_assign_gives = { λ x y z. IsDifference x (residue_of y) z };
 
     fn sub_assign(&mut self, rhs: ReducedInt<T, R>) {
-        *self = difference(self, &rhs);
+        difference_assign(self, &rhs);
     }
 }
 
@@ -113,7 +113,7 @@ impl<T: RingWord, R: Reducer<T> + Copy> SubAssign<&ReducedInt<T, R>> for Reduced
     ghost sub_assign_gives = { λ x y z. IsDifference x (residue_of y.now) z };
 
     fn sub_assign(&mut self, rhs: &ReducedInt<T, R>) {
-        *self = difference(self, rhs);
+        difference_assign(self, rhs);
     }
 }
 
@@ -121,7 +121,7 @@ impl<T: RingWord, R: Reducer<T> + Copy> SubAssign<T> for ReducedInt<T, R> {
     ghost sub_assign_gives = { λ x n z. IsDifference x (T.number n) z };
 
     fn sub_assign(&mut self, rhs: T) {
-        *self = difference_with(self, rhs);
+        difference_assign_with(self, rhs);
     }
 }
 
@@ -129,6 +129,6 @@ impl<T: RingWord, R: Reducer<T> + Copy> SubAssign<&T> for ReducedInt<T, R> {
     ghost sub_assign_gives = { λ x n z. IsDifference x (T.number n.now) z };
 
     fn sub_assign(&mut self, rhs: &T) {
-        *self = difference_with(self, *rhs);
+        difference_assign_with(self, *rhs);
     }
 }

@@ -1,51 +1,11 @@
 //! Sums of integers: `+` and `+=`, with an integer or a word on the right.
 
 use super::ReducedInt;
-use super::operations::{sum, sum_with};
+use super::operations::{sum, sum_assign, sum_assign_with, sum_with};
 use crate::modular_reduced::reducer::Reducer;
 use core::ops::{Add, AddAssign};
 
-impl<T: PartialEq + Clone, R: Reducer<T> + Clone> Add<ReducedInt<T, R>> for ReducedInt<T, R> {
-    type Output = ReducedInt<T, R>;
-
-    #[inline]
-    #[cfg_attr(debug_assertions, track_caller)]
-    fn add(self, rhs: ReducedInt<T, R>) -> ReducedInt<T, R> {
-        sum(&self, &rhs)
-    }
-}
-
-impl<T: PartialEq + Clone, R: Reducer<T> + Clone> Add<&ReducedInt<T, R>> for ReducedInt<T, R> {
-    type Output = ReducedInt<T, R>;
-
-    #[inline]
-    #[cfg_attr(debug_assertions, track_caller)]
-    fn add(self, rhs: &ReducedInt<T, R>) -> ReducedInt<T, R> {
-        sum(&self, rhs)
-    }
-}
-
-impl<T: PartialEq + Clone, R: Reducer<T> + Clone> Add<T> for ReducedInt<T, R> {
-    type Output = ReducedInt<T, R>;
-
-    #[inline]
-    #[cfg_attr(debug_assertions, track_caller)]
-    fn add(self, rhs: T) -> ReducedInt<T, R> {
-        sum_with(&self, rhs)
-    }
-}
-
-impl<T: PartialEq + Clone, R: Reducer<T> + Clone> Add<&T> for ReducedInt<T, R> {
-    type Output = ReducedInt<T, R>;
-
-    #[inline]
-    #[cfg_attr(debug_assertions, track_caller)]
-    fn add(self, rhs: &T) -> ReducedInt<T, R> {
-        sum_with(&self, rhs.clone())
-    }
-}
-
-impl<T: PartialEq + Clone, R: Reducer<T> + Clone> Add<ReducedInt<T, R>> for &ReducedInt<T, R> {
+impl<T: PartialEq, R: Reducer<T>> Add<ReducedInt<T, R>> for ReducedInt<T, R> {
     type Output = ReducedInt<T, R>;
 
     #[inline]
@@ -55,7 +15,7 @@ impl<T: PartialEq + Clone, R: Reducer<T> + Clone> Add<ReducedInt<T, R>> for &Red
     }
 }
 
-impl<T: PartialEq + Clone, R: Reducer<T> + Clone> Add<&ReducedInt<T, R>> for &ReducedInt<T, R> {
+impl<T: PartialEq, R: Reducer<T>> Add<&ReducedInt<T, R>> for ReducedInt<T, R> {
     type Output = ReducedInt<T, R>;
 
     #[inline]
@@ -65,7 +25,7 @@ impl<T: PartialEq + Clone, R: Reducer<T> + Clone> Add<&ReducedInt<T, R>> for &Re
     }
 }
 
-impl<T: PartialEq + Clone, R: Reducer<T> + Clone> Add<T> for &ReducedInt<T, R> {
+impl<T, R: Reducer<T>> Add<T> for ReducedInt<T, R> {
     type Output = ReducedInt<T, R>;
 
     #[inline]
@@ -75,7 +35,7 @@ impl<T: PartialEq + Clone, R: Reducer<T> + Clone> Add<T> for &ReducedInt<T, R> {
     }
 }
 
-impl<T: PartialEq + Clone, R: Reducer<T> + Clone> Add<&T> for &ReducedInt<T, R> {
+impl<T: Clone, R: Reducer<T>> Add<&T> for ReducedInt<T, R> {
     type Output = ReducedInt<T, R>;
 
     #[inline]
@@ -85,34 +45,74 @@ impl<T: PartialEq + Clone, R: Reducer<T> + Clone> Add<&T> for &ReducedInt<T, R> 
     }
 }
 
-impl<T: PartialEq + Clone, R: Reducer<T> + Clone> AddAssign<ReducedInt<T, R>> for ReducedInt<T, R> {
+impl<T: PartialEq + Clone, R: Reducer<T> + Clone> Add<ReducedInt<T, R>> for &ReducedInt<T, R> {
+    type Output = ReducedInt<T, R>;
+
+    #[inline]
+    #[cfg_attr(debug_assertions, track_caller)]
+    fn add(self, rhs: ReducedInt<T, R>) -> ReducedInt<T, R> {
+        sum(self.clone(), &rhs)
+    }
+}
+
+impl<T: PartialEq + Clone, R: Reducer<T> + Clone> Add<&ReducedInt<T, R>> for &ReducedInt<T, R> {
+    type Output = ReducedInt<T, R>;
+
+    #[inline]
+    #[cfg_attr(debug_assertions, track_caller)]
+    fn add(self, rhs: &ReducedInt<T, R>) -> ReducedInt<T, R> {
+        sum(self.clone(), rhs)
+    }
+}
+
+impl<T: Clone, R: Reducer<T> + Clone> Add<T> for &ReducedInt<T, R> {
+    type Output = ReducedInt<T, R>;
+
+    #[inline]
+    #[cfg_attr(debug_assertions, track_caller)]
+    fn add(self, rhs: T) -> ReducedInt<T, R> {
+        sum_with(self.clone(), rhs)
+    }
+}
+
+impl<T: Clone, R: Reducer<T> + Clone> Add<&T> for &ReducedInt<T, R> {
+    type Output = ReducedInt<T, R>;
+
+    #[inline]
+    #[cfg_attr(debug_assertions, track_caller)]
+    fn add(self, rhs: &T) -> ReducedInt<T, R> {
+        sum_with(self.clone(), rhs.clone())
+    }
+}
+
+impl<T: PartialEq, R: Reducer<T>> AddAssign<ReducedInt<T, R>> for ReducedInt<T, R> {
     #[inline]
     #[cfg_attr(debug_assertions, track_caller)]
     fn add_assign(&mut self, rhs: ReducedInt<T, R>) {
-        *self = sum(self, &rhs);
+        sum_assign(self, &rhs);
     }
 }
 
-impl<T: PartialEq + Clone, R: Reducer<T> + Clone> AddAssign<&ReducedInt<T, R>> for ReducedInt<T, R> {
+impl<T: PartialEq, R: Reducer<T>> AddAssign<&ReducedInt<T, R>> for ReducedInt<T, R> {
     #[inline]
     #[cfg_attr(debug_assertions, track_caller)]
     fn add_assign(&mut self, rhs: &ReducedInt<T, R>) {
-        *self = sum(self, rhs);
+        sum_assign(self, rhs);
     }
 }
 
-impl<T: PartialEq + Clone, R: Reducer<T> + Clone> AddAssign<T> for ReducedInt<T, R> {
+impl<T, R: Reducer<T>> AddAssign<T> for ReducedInt<T, R> {
     #[inline]
     #[cfg_attr(debug_assertions, track_caller)]
     fn add_assign(&mut self, rhs: T) {
-        *self = sum_with(self, rhs);
+        sum_assign_with(self, rhs);
     }
 }
 
-impl<T: PartialEq + Clone, R: Reducer<T> + Clone> AddAssign<&T> for ReducedInt<T, R> {
+impl<T: Clone, R: Reducer<T>> AddAssign<&T> for ReducedInt<T, R> {
     #[inline]
     #[cfg_attr(debug_assertions, track_caller)]
     fn add_assign(&mut self, rhs: &T) {
-        *self = sum_with(self, rhs.clone());
+        sum_assign_with(self, rhs.clone());
     }
 }

@@ -1,7 +1,6 @@
 //! `ReducedInt` as a `ModularInteger`.
 
 use super::ReducedInt;
-use super::operations::in_ring;
 use crate::modular_reduced::modular_integer::ModularInteger;
 use crate::modular_reduced::reducer::Reducer;
 
@@ -25,7 +24,10 @@ impl<T: PartialEq + Clone, R: Reducer<T> + Clone> ModularInteger for ReducedInt<
 
     #[inline]
     fn convert(&self, n: T) -> Self {
-        in_ring(self, n)
+        ReducedInt {
+            form: self.reducer.transform(n),
+            reducer: self.reducer.clone(),
+        }
     }
 
     #[inline]

@@ -5,16 +5,7 @@ use super::operations::{negative, quotient};
 use crate::modular_reduced::reducer::Reducer;
 use core::ops::{Div, Neg};
 
-impl<T: PartialEq + Clone, R: Reducer<T> + Clone> Neg for ReducedInt<T, R> {
-    type Output = ReducedInt<T, R>;
-
-    #[inline]
-    fn neg(self) -> ReducedInt<T, R> {
-        negative(&self)
-    }
-}
-
-impl<T: PartialEq + Clone, R: Reducer<T> + Clone> Neg for &ReducedInt<T, R> {
+impl<T, R: Reducer<T>> Neg for ReducedInt<T, R> {
     type Output = ReducedInt<T, R>;
 
     #[inline]
@@ -23,13 +14,22 @@ impl<T: PartialEq + Clone, R: Reducer<T> + Clone> Neg for &ReducedInt<T, R> {
     }
 }
 
-impl<T: PartialEq + Clone, R: Reducer<T> + Clone> Div<ReducedInt<T, R>> for ReducedInt<T, R> {
+impl<T: Clone, R: Reducer<T> + Clone> Neg for &ReducedInt<T, R> {
+    type Output = ReducedInt<T, R>;
+
+    #[inline]
+    fn neg(self) -> ReducedInt<T, R> {
+        negative(self.clone())
+    }
+}
+
+impl<T: PartialEq, R: Reducer<T>> Div<ReducedInt<T, R>> for ReducedInt<T, R> {
     type Output = ReducedInt<T, R>;
 
     #[inline]
     #[cfg_attr(debug_assertions, track_caller)]
     fn div(self, rhs: ReducedInt<T, R>) -> ReducedInt<T, R> {
-        quotient(&self, &rhs)
+        quotient(self, rhs)
     }
 }
 
@@ -39,7 +39,7 @@ impl<T: PartialEq + Clone, R: Reducer<T> + Clone> Div<&ReducedInt<T, R>> for Red
     #[inline]
     #[cfg_attr(debug_assertions, track_caller)]
     fn div(self, rhs: &ReducedInt<T, R>) -> ReducedInt<T, R> {
-        quotient(&self, rhs)
+        quotient(self, rhs.clone())
     }
 }
 
@@ -49,7 +49,7 @@ impl<T: PartialEq + Clone, R: Reducer<T> + Clone> Div<ReducedInt<T, R>> for &Red
     #[inline]
     #[cfg_attr(debug_assertions, track_caller)]
     fn div(self, rhs: ReducedInt<T, R>) -> ReducedInt<T, R> {
-        quotient(self, &rhs)
+        quotient(self.clone(), rhs)
     }
 }
 
@@ -59,6 +59,6 @@ impl<T: PartialEq + Clone, R: Reducer<T> + Clone> Div<&ReducedInt<T, R>> for &Re
     #[inline]
     #[cfg_attr(debug_assertions, track_caller)]
     fn div(self, rhs: &ReducedInt<T, R>) -> ReducedInt<T, R> {
-        quotient(self, rhs)
+        quotient(self.clone(), rhs.clone())
     }
 }

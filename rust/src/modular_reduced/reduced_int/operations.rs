@@ -3,15 +3,6 @@
 use super::ReducedInt;
 use crate::modular_reduced::reducer::Reducer;
 
-/// The integer n mod m, with the modulus of x.
-#[inline]
-pub fn in_ring<T: PartialEq + Clone, R: Reducer<T> + Clone>(x: &ReducedInt<T, R>, n: T) -> ReducedInt<T, R> {
-    ReducedInt {
-        form: x.reducer.transform(n),
-        reducer: x.reducer.clone(),
-    }
-}
-
 /// The sum.
 ///
 /// # Panics
@@ -20,21 +11,45 @@ pub fn in_ring<T: PartialEq + Clone, R: Reducer<T> + Clone>(x: &ReducedInt<T, R>
 /// panics, or returns no meaningful result.
 #[inline]
 #[cfg_attr(debug_assertions, track_caller)]
-pub fn sum<T: PartialEq + Clone, R: Reducer<T> + Clone>(
-    x: &ReducedInt<T, R>,
+pub fn sum<T: PartialEq, R: Reducer<T>>(
+    x: ReducedInt<T, R>,
     y: &ReducedInt<T, R>,
 ) -> ReducedInt<T, R> {
     debug_assert!(x.reducer.modulus() == y.reducer.modulus(), "the moduli must be equal: {} and {}", crate::additions::ShownModulus(x.reducer.shown_modulus()), crate::additions::ShownModulus(y.reducer.shown_modulus()));
     ReducedInt {
         form: x.reducer.add(&x.form, &y.form),
-        reducer: x.reducer.clone(),
+        reducer: x.reducer,
     }
 }
 
 /// The sum of an integer and a word.
 #[inline]
-pub fn sum_with<T: PartialEq + Clone, R: Reducer<T> + Clone>(x: &ReducedInt<T, R>, n: T) -> ReducedInt<T, R> {
-    sum(x, &in_ring(x, n))
+pub fn sum_with<T, R: Reducer<T>>(x: ReducedInt<T, R>, n: T) -> ReducedInt<T, R> {
+    let form = x.reducer.transform(n);
+    ReducedInt {
+        form: x.reducer.add(&x.form, &form),
+        reducer: x.reducer,
+    }
+}
+
+/// The integer becomes the sum.
+///
+/// # Panics
+///
+/// A debug build panics unless the moduli are equal. A release build doesn't test that, and outside it
+/// panics, or returns no meaningful result.
+#[inline]
+#[cfg_attr(debug_assertions, track_caller)]
+pub fn sum_assign<T: PartialEq, R: Reducer<T>>(x: &mut ReducedInt<T, R>, y: &ReducedInt<T, R>) {
+    debug_assert!(x.reducer.modulus() == y.reducer.modulus(), "the moduli must be equal: {} and {}", crate::additions::ShownModulus(x.reducer.shown_modulus()), crate::additions::ShownModulus(y.reducer.shown_modulus()));
+    x.form = x.reducer.add(&x.form, &y.form);
+}
+
+/// The integer becomes the sum of it and a word.
+#[inline]
+pub fn sum_assign_with<T, R: Reducer<T>>(x: &mut ReducedInt<T, R>, n: T) {
+    let form = x.reducer.transform(n);
+    x.form = x.reducer.add(&x.form, &form);
 }
 
 /// The difference.
@@ -45,24 +60,51 @@ pub fn sum_with<T: PartialEq + Clone, R: Reducer<T> + Clone>(x: &ReducedInt<T, R
 /// panics, or returns no meaningful result.
 #[inline]
 #[cfg_attr(debug_assertions, track_caller)]
-pub fn difference<T: PartialEq + Clone, R: Reducer<T> + Clone>(
-    x: &ReducedInt<T, R>,
+pub fn difference<T: PartialEq, R: Reducer<T>>(
+    x: ReducedInt<T, R>,
     y: &ReducedInt<T, R>,
 ) -> ReducedInt<T, R> {
     debug_assert!(x.reducer.modulus() == y.reducer.modulus(), "the moduli must be equal: {} and {}", crate::additions::ShownModulus(x.reducer.shown_modulus()), crate::additions::ShownModulus(y.reducer.shown_modulus()));
     ReducedInt {
         form: x.reducer.sub(&x.form, &y.form),
-        reducer: x.reducer.clone(),
+        reducer: x.reducer,
     }
 }
 
 /// The difference of an integer and a word.
 #[inline]
-pub fn difference_with<T: PartialEq + Clone, R: Reducer<T> + Clone>(
-    x: &ReducedInt<T, R>,
+pub fn difference_with<T, R: Reducer<T>>(
+    x: ReducedInt<T, R>,
     n: T,
 ) -> ReducedInt<T, R> {
-    difference(x, &in_ring(x, n))
+    let form = x.reducer.transform(n);
+    ReducedInt {
+        form: x.reducer.sub(&x.form, &form),
+        reducer: x.reducer,
+    }
+}
+
+/// The integer becomes the difference.
+///
+/// # Panics
+///
+/// A debug build panics unless the moduli are equal. A release build doesn't test that, and outside it
+/// panics, or returns no meaningful result.
+#[inline]
+#[cfg_attr(debug_assertions, track_caller)]
+pub fn difference_assign<T: PartialEq, R: Reducer<T>>(
+    x: &mut ReducedInt<T, R>,
+    y: &ReducedInt<T, R>,
+) {
+    debug_assert!(x.reducer.modulus() == y.reducer.modulus(), "the moduli must be equal: {} and {}", crate::additions::ShownModulus(x.reducer.shown_modulus()), crate::additions::ShownModulus(y.reducer.shown_modulus()));
+    x.form = x.reducer.sub(&x.form, &y.form);
+}
+
+/// The integer becomes the difference of it and a word.
+#[inline]
+pub fn difference_assign_with<T, R: Reducer<T>>(x: &mut ReducedInt<T, R>, n: T) {
+    let form = x.reducer.transform(n);
+    x.form = x.reducer.sub(&x.form, &form);
 }
 
 /// The product.
@@ -73,24 +115,51 @@ pub fn difference_with<T: PartialEq + Clone, R: Reducer<T> + Clone>(
 /// panics, or returns no meaningful result.
 #[inline]
 #[cfg_attr(debug_assertions, track_caller)]
-pub fn product<T: PartialEq + Clone, R: Reducer<T> + Clone>(
-    x: &ReducedInt<T, R>,
+pub fn product<T: PartialEq, R: Reducer<T>>(
+    x: ReducedInt<T, R>,
     y: &ReducedInt<T, R>,
 ) -> ReducedInt<T, R> {
     debug_assert!(x.reducer.modulus() == y.reducer.modulus(), "the moduli must be equal: {} and {}", crate::additions::ShownModulus(x.reducer.shown_modulus()), crate::additions::ShownModulus(y.reducer.shown_modulus()));
     ReducedInt {
         form: x.reducer.mul(&x.form, &y.form),
-        reducer: x.reducer.clone(),
+        reducer: x.reducer,
     }
 }
 
 /// The product of an integer and a word.
 #[inline]
-pub fn product_with<T: PartialEq + Clone, R: Reducer<T> + Clone>(
-    x: &ReducedInt<T, R>,
+pub fn product_with<T, R: Reducer<T>>(
+    x: ReducedInt<T, R>,
     n: T,
 ) -> ReducedInt<T, R> {
-    product(x, &in_ring(x, n))
+    let form = x.reducer.transform(n);
+    ReducedInt {
+        form: x.reducer.mul(&x.form, &form),
+        reducer: x.reducer,
+    }
+}
+
+/// The integer becomes the product.
+///
+/// # Panics
+///
+/// A debug build panics unless the moduli are equal. A release build doesn't test that, and outside it
+/// panics, or returns no meaningful result.
+#[inline]
+#[cfg_attr(debug_assertions, track_caller)]
+pub fn product_assign<T: PartialEq, R: Reducer<T>>(
+    x: &mut ReducedInt<T, R>,
+    y: &ReducedInt<T, R>,
+) {
+    debug_assert!(x.reducer.modulus() == y.reducer.modulus(), "the moduli must be equal: {} and {}", crate::additions::ShownModulus(x.reducer.shown_modulus()), crate::additions::ShownModulus(y.reducer.shown_modulus()));
+    x.form = x.reducer.mul(&x.form, &y.form);
+}
+
+/// The integer becomes the product of it and a word.
+#[inline]
+pub fn product_assign_with<T, R: Reducer<T>>(x: &mut ReducedInt<T, R>, n: T) {
+    let form = x.reducer.transform(n);
+    x.form = x.reducer.mul(&x.form, &form);
 }
 
 /// The quotient: the integer whose product with y is x.
@@ -101,22 +170,25 @@ pub fn product_with<T: PartialEq + Clone, R: Reducer<T> + Clone>(
 /// equal. A release build doesn't test that, and outside it panics, or returns no meaningful result.
 #[inline]
 #[cfg_attr(debug_assertions, track_caller)]
-pub fn quotient<T: PartialEq + Clone, R: Reducer<T> + Clone>(
-    x: &ReducedInt<T, R>,
-    y: &ReducedInt<T, R>,
+pub fn quotient<T: PartialEq, R: Reducer<T>>(
+    x: ReducedInt<T, R>,
+    y: ReducedInt<T, R>,
 ) -> ReducedInt<T, R> {
     debug_assert!(y.reducer.modulus() == x.reducer.modulus(), "the moduli must be equal: {} and {}", crate::additions::ShownModulus(x.reducer.shown_modulus()), crate::additions::ShownModulus(y.reducer.shown_modulus()));
-    let inverse = match y.clone().inv() { Some(it) => it, None => {
+    let inverse = match y.reducer.inv(y.form) { Some(it) => it, None => {
         panic!("the divisor must have an inverse modulo m")
     } };
-    product(x, &inverse)
+    ReducedInt {
+        form: x.reducer.mul(&x.form, &inverse),
+        reducer: x.reducer,
+    }
 }
 
 /// The negative.
 #[inline]
-pub fn negative<T: PartialEq + Clone, R: Reducer<T> + Clone>(x: &ReducedInt<T, R>) -> ReducedInt<T, R> {
+pub fn negative<T, R: Reducer<T>>(x: ReducedInt<T, R>) -> ReducedInt<T, R> {
     ReducedInt {
-        form: x.reducer.neg(x.form.clone()),
-        reducer: x.reducer.clone(),
+        form: x.reducer.neg(x.form),
+        reducer: x.reducer,
     }
 }

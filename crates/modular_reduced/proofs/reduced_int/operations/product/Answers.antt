@@ -4,7 +4,7 @@ use Rattle.modular_reduced.proofs.reduced_int.operations.product.Goals as goal
 
 pub returns : goal.returns
 returns g c =
-    let x = c.args.x.now in
+    let x = c.args.x in
     let y = g.T.RingWord.number c.args.y.now.form in
     record {
       modulus = refl;
