@@ -78,6 +78,20 @@ next_bound p c v mask most bound =
     let high = le-div (v / 2 ^ p) most (2 ^ p) (pow_pos p) part in
     omega (arith, mul-le-mul_right c high)
 
+-- so is a fold of a number up to a bound
+pub up_to : (p c v mask most : ℕ) → mask + 1 ≡ 2 ^ p → v ≤ most → fold_of p c v ≤ most / 2 ^ p * c + mask
+up_to p c v mask most ones bound =
+    fold_bound p c v mask (most / 2 ^ p * c + mask) ones (next_bound p c v mask most bound)
+
+-- after two folds
+pub two_up_to : (p c v mask most : ℕ) {first second most_of_one most_of_two : ℕ} → mask + 1 ≡ 2 ^ p → v ≤ most
+    → first ≡ fold_of p c v → second ≡ fold_of p c first
+    → most_of_one ≡ most / 2 ^ p * c + mask → most_of_two ≡ most_of_one / 2 ^ p * c + mask
+    → second ≤ most_of_two
+two_up_to p c v mask most {first} {second} {most_of_one} {most_of_two} ones bound one two is_one is_two =
+    let once : first ≤ most_of_one = rw (one, is_one) (up_to p c v mask most ones bound) in
+    rw (two, is_two) (up_to p c first mask most_of_one ones once)
+
 -- by at most a fourth of b, the bound falls while it is at least twice b - c
 falls : (b c m q r s : ℕ) → q * b + r ≡ s → r < b → m + c ≡ b → 4 * c ≤ b → 2 * m ≤ s → q * c + b ≤ s
 falls b c m zero r s is low whole small high = absurd (omega arith)

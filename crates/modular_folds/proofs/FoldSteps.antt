@@ -12,6 +12,10 @@ pub masked : (p mask v : ℕ) → mask + 1 ≡ 2 ^ p → bit_and v mask ≡ v % 
 masked p mask v ones =
     ap (λ n. bit_and v n) (let e : mask ≡ 2 ^ p - 1 = omega arith in e) ∙ and_mask v p
 
+-- m + (c - 1) is the mask of the bits below p, where m + c is 2^p
+pub ones : (m less : ℕ) {c one mask power : ℕ} → one ≡ 1 → less + one ≡ c → mask ≡ m + less → m + c ≡ power → mask + 1 ≡ power
+ones m less is_one is_less is_mask whole = omega (arith, is_one, is_less, is_mask, whole)
+
 -- a fold makes no number larger
 pub fold_at_most : (p c v : ℕ) → c < 2 ^ p → fold_of p c v ≤ v
 fold_at_most p c v below =

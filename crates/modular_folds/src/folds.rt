@@ -192,6 +192,43 @@ fn folds_in_line<V: FoldWord>(v: V, p: u32, c: V, m: V) -> bool
     }
 }
 
+// The greatest value that a fold at the bit p by c makes of a number up to `most`. The mask has the bits below p.
+#[inline(always)]
+fn most_after<V: FoldWord>(most: V, p: u32, mask: V, c: V) -> V
+    requires inside { p < V.width }
+    requires mask { V.number mask + 1 ≡ 2 ^ p }
+    requires half { 2 * V.number c < 2 ^ p }
+    ensures { V.number result ≡ V.number most / 2 ^ p * V.number c + V.number mask }
+{
+    most.shift_right(p).times(c).plus(mask)
+}
+
+// v modulo m. Two or three folds are in straight-line code where they make every number up to `most` less than 2m, which
+// c and p alone decide. A residue returns at once. Condition: v is at most `most`.
+#[inline(always)]
+fn reduced_up_to<V: FoldWord>(v: V, most: V, p: u32, c: V, m: V) -> V
+    requires folding { IsFolding V.width p (V.number c) (V.number m) }
+    requires inside { p < V.width }
+    requires bound { V.number v ≤ V.number most }
+    ensures { V.number result ≡ V.number v % V.number m }
+{
+    if v.is_below(m) {
+        return v;
+    }
+    let mask = m.plus(c.minus(V::one()));
+    let twice = m.plus(m);
+    let first = fold_once(v, p, mask, c);
+    let second = fold_once(first, p, mask, c);
+    let most_of_two = most_after(most_after(most, p, mask, c), p, mask, c);
+    if most_of_two.is_below(twice) {
+        reduced_last(second, m)
+    } else if most_after(most_of_two, p, mask, c).is_below(twice) {
+        reduced_last(fold_once(second, p, mask, c), m)
+    } else {
+        reduced_last(fold_on(second, p, mask, c, m).0, m)
+    }
+}
+
 /// A word whose double words can be folded: u32 or u64.
 pub trait FoldedWord: PathWord {
     /// A word below 2^p that is congruent to a double word modulo m, and the number of folds at the bit p by c that
@@ -201,6 +238,13 @@ pub trait FoldedWord: PathWord {
         ensures below { Self.number result.0 < 2 ^ p }
         ensures same { Self.number result.0 % Self.number m ≡ Self.double_number v % Self.number m }
         ensures count { result.1 ≡ folds p (Self.number c) (Self.double_number v) };
+
+    /// The residue of a word, by folds at the bit p by c. Conditions: such folds reduce modulo m, and p is below the
+    /// width.
+    fn reduce_longer(v: Self, p: u32, c: Self, m: Self) -> Self
+        requires folding { IsFolding Self.width p (Self.number c) (Self.number m) }
+        requires inside { p < Self.width }
+        ensures { Self.number result ≡ Self.number v % Self.number m };
 
     /// The residue of a product of two words below 2^p, by folds at the bit p by c without comparisons of the
     /// product. Condition: such folds reduce modulo m, and c is at most a fourth of 2^p.
@@ -234,6 +278,11 @@ impl FoldedWord for u32 {
     }
 
     #[inline(always)]
+    fn reduce_longer(v: u32, p: u32, c: u32, m: u32) -> u32 {
+        reduced_up_to(v as u64, u32::MAX as u64, p, c as u64, m as u64) as u32
+    }
+
+    #[inline(always)]
     fn reduce_in_line(v: u64, p: u32, c: u32, m: u32) -> u32 {
         reduced_short(fold_in_line(v, p, c as u64, m as u64), p, c, m)
     }
@@ -255,6 +304,11 @@ impl FoldedWord for u64 {
     fn fold_double(v: u128, p: u32, c: u64, m: u64) -> (u64, u32) {
         let (rest, count) = fold_all(v, p, c as u128, m as u128);
         (rest as u64, count)
+    }
+
+    #[inline(always)]
+    fn reduce_longer(v: u64, p: u32, c: u64, m: u64) -> u64 {
+        reduced_up_to(v, u64::MAX, p, c, m)
     }
 
     #[inline(always)]

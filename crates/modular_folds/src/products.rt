@@ -5,7 +5,6 @@ ghost use Rattle.std.specs.Prelude.{◌≡◌, ℕ, ◌+◌, ◌-◌, ◌*◌, �
 ghost use Rattle.modular_folds.specs.Folds.{fold_of, IsFolding};
 
 use crate::folds::{FoldedWord, reduce_by_folds};
-use modular_prim::below::reduced_once;
 use modular_word::path_word::PathWord;
 use modular_word::ring_word::RingWord;
 
@@ -81,7 +80,8 @@ pub fn reduce_product<T: FoldedWord>(a: T, b: T, p: u32, c: T, m: T) -> T
 fn is_once<T: PathWord>(p: u32, c: T) -> bool
     requires fits { p ≤ T.width }
     requires half { 2 * T.number c < 2 ^ p }
-    ensures { IsTrue result → (v : ℕ) → v < 2 ^ T.width → fold_of p (T.number c) v + 2 * T.number c < 2 * 2 ^ p }
+    ensures once { IsTrue result → (v : ℕ) → v < 2 ^ T.width → fold_of p (T.number c) v + 2 * T.number c < 2 * 2 ^ p }
+    ensures inside { ¬ IsTrue result → p < T.width }
 {
     let above = T::bits() - p;
     if above == 0 {
@@ -110,26 +110,18 @@ fn fold_word<T: PathWord>(v: T, p: u32, c: T) -> T
     }
 }
 
-// x modulo m, after folds at the bit p. Where that leaves the word as it is, the comparison with m needn't wait for a
-// difference. Condition: x is below 2m.
+// x modulo m. The comparison with m needn't wait for a difference. Condition: x is below 2m.
 #[inline(always)]
-fn reduced_at<T: PathWord>(x: T, p: u32, m: T) -> T
+fn reduced_last<T: PathWord>(x: T, m: T) -> T
     requires { T.number x < 2 * T.number m }
     ensures { T.number result ≡ T.number x % T.number m }
 {
-    if p < T::bits() {
-        reduced_once(x, m)
-    } else if x.is_below(m) {
-        x
-    } else {
-        x.minus(m)
-    }
+    if x.is_below(m) { x } else { x.minus(m) }
 }
 
 /// v modulo m. Condition: m is 2^p - c and more than half of 2^p, and p is at most the width of the words.
 ///
-/// Where one fold makes every word less than 2m, no double word is folded and v isn't compared. The choice depends
-/// on c and p alone.
+/// Where one fold makes every word less than 2m, v isn't compared. The choice depends on c and p alone.
 ///
 /// Source: Handbook of Applied Cryptography, algorithm 14.47.
 #[inline(always)]
@@ -138,8 +130,8 @@ pub fn reduce_word<T: FoldedWord>(v: T, p: u32, c: T, m: T) -> T
     ensures { T.number result ≡ T.number v % T.number m }
 {
     if is_once(p, c) {
-        reduced_at(fold_word(v, p, c), p, m)
+        reduced_last(fold_word(v, p, c), m)
     } else {
-        reduce_by_folds(T::merge(v, T::zero()), p, c, m).0
+        T::reduce_longer(v, p, c, m)
     }
 }

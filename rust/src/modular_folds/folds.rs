@@ -145,6 +145,33 @@ fn folds_in_line<V: FoldWord>(v: V, p: u32, c: V, m: V) -> bool {
     }
 }
 
+// The greatest value that a fold at the bit p by c makes of a number up to `most`. The mask has the bits below p.
+#[inline(always)]
+fn most_after<V: FoldWord>(most: V, p: u32, mask: V, c: V) -> V {
+    most.shift_right(p).times(c).plus(mask)
+}
+
+// v modulo m. Two or three folds are in straight-line code where they make every number up to `most` less than 2m, which
+// c and p alone decide. A residue returns at once. Condition: v is at most `most`.
+#[inline(always)]
+fn reduced_up_to<V: FoldWord>(v: V, most: V, p: u32, c: V, m: V) -> V {
+    if v.is_below(m) {
+        return v;
+    }
+    let mask = m.plus(c.minus(V::one()));
+    let twice = m.plus(m);
+    let first = fold_once(v, p, mask, c);
+    let second = fold_once(first, p, mask, c);
+    let most_of_two = most_after(most_after(most, p, mask, c), p, mask, c);
+    if most_of_two.is_below(twice) {
+        reduced_last(second, m)
+    } else if most_after(most_of_two, p, mask, c).is_below(twice) {
+        reduced_last(fold_once(second, p, mask, c), m)
+    } else {
+        reduced_last(fold_on(second, p, mask, c, m).0, m)
+    }
+}
+
 /// A word whose double words can be folded: u32 or u64.
 pub trait FoldedWord: Sized + PathWord {
     /// A word below 2^p that is congruent to a double word modulo m, and the number of folds at the bit p by c that
@@ -155,6 +182,15 @@ pub trait FoldedWord: Sized + PathWord {
     /// Such folds reduce modulo m. This isn't tested: outside it the call panics, or returns no meaningful
     /// result.
     fn fold_double(v: Self::Double, p: u32, c: Self, m: Self) -> (Self, u32);
+
+    /// The residue of a word, by folds at the bit p by c.
+    ///
+    /// # Preconditions
+    ///
+    /// Such folds reduce modulo m, and p is below the width. This isn't tested: outside it the call panics,
+    /// or returns no meaningful result.
+    #[must_use]
+    fn reduce_longer(v: Self, p: u32, c: Self, m: Self) -> Self;
 
     /// The residue of a product of two words below 2^p, by folds at the bit p by c without comparisons of the
     /// product.
@@ -194,6 +230,11 @@ impl FoldedWord for u32 {
     }
 
     #[inline(always)]
+    fn reduce_longer(v: u32, p: u32, c: u32, m: u32) -> u32 {
+        reduced_up_to(v as u64, u32::MAX as u64, p, c as u64, m as u64) as u32
+    }
+
+    #[inline(always)]
     fn reduce_in_line(v: u64, p: u32, c: u32, m: u32) -> u32 {
         reduced_short(fold_in_line(v, p, c as u64, m as u64), p, c, m)
     }
@@ -218,6 +259,11 @@ impl FoldedWord for u64 {
     fn fold_double(v: u128, p: u32, c: u64, m: u64) -> (u64, u32) {
         let (rest, count) = fold_all(v, p, c as u128, m as u128);
         (rest as u64, count)
+    }
+
+    #[inline(always)]
+    fn reduce_longer(v: u64, p: u32, c: u64, m: u64) -> u64 {
+        reduced_up_to(v, u64::MAX, p, c, m)
     }
 
     #[inline(always)]

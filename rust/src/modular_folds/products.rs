@@ -2,7 +2,6 @@
 //! comparisons of the numbers.
 
 use crate::modular_folds::folds::{FoldedWord, reduce_by_folds};
-use crate::modular_prim::below::reduced_once;
 use crate::modular_word::path_word::PathWord;
 
 // The parts of high·c + low below and above the bit p. The lower part, as an argument and as a result, is shifted
@@ -82,23 +81,15 @@ fn fold_word<T: PathWord>(v: T, p: u32, c: T) -> T {
     }
 }
 
-// x modulo m, after folds at the bit p. Where that leaves the word as it is, the comparison with m needn't wait for a
-// difference. Condition: x is below 2m.
+// x modulo m. The comparison with m needn't wait for a difference. Condition: x is below 2m.
 #[inline(always)]
-fn reduced_at<T: PathWord>(x: T, p: u32, m: T) -> T {
-    if p < T::bits() {
-        reduced_once(x, m)
-    } else if x.is_below(m) {
-        x
-    } else {
-        x.minus(m)
-    }
+fn reduced_last<T: PathWord>(x: T, m: T) -> T {
+    if x.is_below(m) { x } else { x.minus(m) }
 }
 
 /// v modulo m.
 ///
-/// Where one fold makes every word less than 2m, no double word is folded and v isn't compared. The choice depends
-/// on c and p alone.
+/// Where one fold makes every word less than 2m, v isn't compared. The choice depends on c and p alone.
 ///
 /// Source: Handbook of Applied Cryptography, algorithm 14.47.
 ///
@@ -109,8 +100,8 @@ fn reduced_at<T: PathWord>(x: T, p: u32, m: T) -> T {
 #[inline(always)]
 pub fn reduce_word<T: FoldedWord>(v: T, p: u32, c: T, m: T) -> T {
     if is_once(p, c) {
-        reduced_at(fold_word(v, p, c), p, m)
+        reduced_last(fold_word(v, p, c), m)
     } else {
-        reduce_by_folds(T::merge(v, T::zero()), p, c, m).0
+        T::reduce_longer(v, p, c, m)
     }
 }

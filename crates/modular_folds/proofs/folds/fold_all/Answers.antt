@@ -1,13 +1,9 @@
 use Rattle.std.proofs.Common.{◌≡◌, ℕ, ◌+◌, ◌∙◌, ◌/◌, ◌^◌, ◌<◌, refl, arith, sym}
-use Rattle.modular_folds.proofs.FoldSteps.{power_fits, bit_inside}
+use Rattle.modular_folds.proofs.FoldSteps.{ones, power_fits, bit_inside}
 use Rattle.modular_folds.proofs.FoldBounds.{low_only, small_square}
 use Rattle.modular_folds.proofs.FoldCounts.{folds-none}
 use Rattle.modular_folds.proofs.WordTests.{not_below}
 use Rattle.modular_folds.proofs.folds.fold_all.Goals as goal
-
--- the mask has the bits below p
-ones : (m less : ℕ) {c one mask power : ℕ} → one ≡ 1 → less + one ≡ c → mask ≡ m + less → m + c ≡ power → mask + 1 ≡ power
-ones m less is_one is_less is_mask whole = omega (arith, is_one, is_less, is_mask, whole)
 
 -- a word above the mask has more than p bits
 inside : {w p mask v : ℕ} → mask + 1 ≡ 2 ^ p → mask < v → v < 2 ^ w → p < w

@@ -1,14 +1,10 @@
-use Rattle.std.proofs.Common.{◌≡◌, ℕ, ◌+◌, ◌*◌, ◌/◌, ◌%◌, ◌^◌, ◌<◌, ◌≤◌, ◌∙◌, refl, arith}
+use Rattle.std.proofs.Common.{◌≡◌, ◌+◌, ◌*◌, ◌/◌, ◌%◌, ◌^◌, ◌<◌, ◌≤◌, ◌∙◌, refl, arith}
 use Rattle.std.proofs.Math.Nat.{mul-le-mul_right}
-use Rattle.modular_folds.proofs.FoldSteps.{power_fits, some_bits, fold_keeps}
+use Rattle.modular_folds.proofs.FoldSteps.{ones, power_fits, some_bits, fold_keeps}
 use Rattle.modular_folds.proofs.FoldBounds.{doubled_fits, first_bound, fold_bound, next_bound, bound_falls}
 use Rattle.modular_folds.proofs.WordTests.{not_below}
 use Rattle.modular_folds.proofs.folds.fold_in_line.Goals as goal
 use Rattle.modular_folds.proofs.folds.fold_in_line.Goals.{After-shift_right, After-fold_once}
-
--- the mask has the bits below p
-ones : (m less : ℕ) {c one mask power : ℕ} → one ≡ 1 → less + one ≡ c → mask ≡ m + less → m + c ≡ power → mask + 1 ≡ power
-ones m less is_one is_less is_mask whole = omega (arith, is_one, is_less, is_mask, whole)
 
 pub plus-mask-requires : goal.plus-mask-requires
 plus-mask-requires g c = omega (arith, power_fits c.requires.folding)

@@ -2,8 +2,8 @@ use Rattle.std.proofs.Common.{◌≡◌, ◌∙◌, ◌-◌, ◌/◌, ◌^◌, a
 use Rattle.modular_folds.proofs.FoldBounds.{low_only, fold_of_word}
 use Rattle.modular_folds.proofs.products.is_once.Goals as goal
 
-pub returns-then-above-p : goal.returns-then-above-p
-returns-then-above-p g c none v fits =
+pub returns-then-above-p-clause-once : goal.returns-then-above-p-clause-once
+returns-then-above-p-clause-once g c none v fits =
     let n = g.T.RingWord.number in
     let w = g.T.RingWord.width in
     let free : n c.args.c / 2 ^ (c.args.p - 1 - (w - c.args.p)) ≡ 0 =

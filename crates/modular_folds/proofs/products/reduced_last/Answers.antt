@@ -1,9 +1,6 @@
 use Rattle.modular_folds.proofs.FoldBounds.{once_below, once_above}
 use Rattle.modular_folds.proofs.WordTests.{not_below}
-use Rattle.modular_folds.proofs.products.reduced_at.Goals as goal
-
-pub returns-then-p-bits : goal.returns-then-p-bits
-returns-then-p-bits g c = c.reduced_once.ensures.value
+use Rattle.modular_folds.proofs.products.reduced_last.Goals as goal
 
 pub returns-then-is_below : goal.returns-then-is_below
 returns-then-is_below g c =
