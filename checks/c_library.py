@@ -4,7 +4,6 @@ import re
 import shlex
 import shutil
 import sys
-from pathlib import Path
 
 from libraries import TOP
 from results import run, told
@@ -60,17 +59,19 @@ def declarations(header):
     return {name: re.findall(r"((?:const )?\w+ \*?)(\w+)(?:,\s*|$)", words) for name, words in declared}
 
 
-def signatures(header, wanted):
-    """What the header declares in another way than what is exported; a name that is None isn't compared."""
-    declared = declarations(header)
+def signatures(header, text):
+    """What the header declares in another way than a text in Rattle or in Rust. Names are compared with Rattle's alone, in
+    which a length has none."""
+    wanted, declared = exports(text), declarations(header)
     for name in sorted({*wanted, *declared}):
-        parameters = declared.get(name, [])
-        alike = [a == b and c in (None, d) for (a, c), (b, d) in zip(wanted.get(name, []), parameters)]
-        if name not in wanted or not all(alike) or len(alike) != max(len(parameters), len(wanted[name])):
-            yield f"{name}({parameters}) is {wanted.get(name)} in the sources"
+        own, other = wanted.get(name), declared.get(name)
+        if own and other and len(own) == len(other):
+            other = [(kind, it if text is SOURCES and of else of) for (kind, it), (_, of) in zip(other, own)]
+        if own != other:
+            yield f"{name}({other}) is {own} in the sources"
 
 
-def layouts(header, folder, text=SOURCES):
+def layouts(header, folder, text):
     """What a C compiler says where a struct or a constant of the header isn't that of a text in Rattle or in Rust."""
     constants = re.findall(r"^pub const (NM_\w+): u\d+ = (\d+);$", text, re.M)
     lines = [f'_Static_assert({name} == UINT64_C({value}), "{name}");' for name, value in constants]
@@ -86,13 +87,26 @@ def layouts(header, folder, text=SOURCES):
             place = f"offsetof({in_c(name)}, {own}) == offsetof(struct {name}, {own})"
             lines.append(f'_Static_assert({place}, "the place of {name}.{own}");')
             lines.append(f'_Static_assert(_Generic((({in_c(name)} *)0)->{own}, {kind}: 1, default: 0), "{name}.{own}");')
-    Path(folder, "num_modular.h").write_text(header)
-    Path(folder, "layout.c").write_text("\n".join(["#include <num_modular.h>", *lines, ""]))
+    (folder / "num_modular.h").write_text(header)
+    (folder / "layout.c").write_text("\n".join(["#include <num_modular.h>", *lines, ""]))
     said, status = run("cc", "-std=c11", *WARNINGS, f"-I{folder}", "-fsyntax-only", f"{folder}/layout.c")
     defined = {*re.findall(r"^#define (NM_\w+) (?:UINT64_C|\d)", header, re.M), *re.findall(r"^\} (nm_\w+);", header, re.M)}
     wanted = {*(it for it, _ in constants), *(in_c(it) for it, _ in structs)}
     differs = wanted != defined if text is SOURCES else wanted - defined
     return [said] * (status != 0) + [f"{defined} {wanted}"] * bool(differs)
+
+
+def differences(header, folder, text=SOURCES):
+    return [*signatures(header, text), *layouts(header, folder, text)]
+
+
+def compared(name, text, wrong, differences):
+    """Whether a text has no differences, and each wrong one has some."""
+    found = differences(text)
+    yield told(name, not found, "\n".join(found))
+    for one, other in wrong:
+        changed = text.replace(one, other)
+        yield told(f"it is wrong with {other.strip()!r}", changed != text and differences(changed))
 
 
 def names(prefix):
@@ -115,8 +129,8 @@ def page(prefix, folder):
     code, output = re.findall(r"^```c\n(.*?)^```$", text, re.S | re.M), re.findall(r"^```text\n(.*?)^```$", text, re.S | re.M)
     if len(code) != 1 or len(output) != 1:
         return [told("c/README.md has an example and its output", False)]
-    Path(folder, "page.c").write_text(code[0])
-    return program(prefix, folder, "the example of c/README.md", [f"{folder}/page.c"], output[0])
+    (folder / "page.c").write_text(code[0])
+    return program(prefix, folder, "the example of c/README.md", [folder / "page.c"], output[0])
 
 
 def program(prefix, folder, name, sources, want):
@@ -140,7 +154,7 @@ def header(prefix, folder):
         if not shutil.which(compiler):
             print(f"no {compiler}: the header wasn't tried with it")
             continue
-        source = Path(folder, f"header.{suffix}")
+        source = folder / f"header.{suffix}"
         source.write_text("#include <num_modular.h>\nint main(void) { return (int)nm_kronecker(0, 0, 0); }\n")
         said, status = run(compiler, standard, *WARNINGS, f"-I{prefix}/include", "-c", "-o", f"{folder}/header.o", source)
         yield told(f"the header with {compiler} {standard}", status == 0, said)

@@ -1,7 +1,10 @@
 """Runs what a script of checks/ tries, and says what passed and failed: the last line is 'N passed, M failed'."""
 import os
 import re
+import shutil
 import subprocess
+import sys
+import tempfile
 from pathlib import Path
 
 
@@ -34,11 +37,16 @@ def total(found):
     return int(failed > 0 or passed == 0)
 
 
-def skipped(why):
-    """Says why nothing can be tried here, which is a fault under CI alone; answers the script's status."""
-    failed = int(bool(os.environ.get("CI")))
-    print(f"{why}\n0 passed, {failed} failed")
-    return failed
+def ended(tries, *tools):
+    """Runs a script's tries, which get a new folder, and ends it with the status. Where a tool isn't here, nothing is tried,
+    which is a fault under CI alone."""
+    if lacking := [it for it in tools if not shutil.which(it)]:
+        print(f"nothing was tried: {', '.join(lacking)} isn't here")
+        failed = int(bool(os.environ.get("CI")))
+        print(f"0 passed, {failed} failed")
+        sys.exit(failed)
+    with tempfile.TemporaryDirectory(prefix=f"checks-{Path(sys.argv[0]).name}-") as room:
+        sys.exit(total(tries(Path(room))))
 
 
 def lowest_rust(package):
