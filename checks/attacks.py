@@ -5,7 +5,7 @@ and `--- new` before a text. An empty old text makes a file.
 """
 import re
 
-from libraries import TOP
+from libraries import TOP, edited
 
 
 class Attack:
@@ -22,10 +22,7 @@ class Attack:
     def apply(self, top):
         """Makes the edits in a copy of the repository."""
         for name, old, new in self.edits:
-            text = (top / name).read_text(encoding="utf-8") if old else ""
-            if old and text.count(old) != 1:
-                raise SystemExit(f"{self.name}: `{old.strip()}` stands {text.count(old)} times in {name}\n0 passed, 1 failed")
-            (top / name).write_text(text.replace(old, new) if old else new, encoding="utf-8")
+            edited(top / name, old, new)
 
 
 def attacks(word=None, names=()):
