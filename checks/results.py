@@ -49,6 +49,14 @@ def ended(tries, *tools):
         sys.exit(total(tries(Path(room))))
 
 
+def path_of(room, *tools):
+    """A path to these commands alone."""
+    path = tempfile.mkdtemp(dir=room)
+    for it in tools:
+        os.symlink(shutil.which(it), f"{path}/{it}")
+    return path
+
+
 def lowest_rust(package):
     """The lowest version of Rust that a package states, and the folder of its rustc, or None: of the folder that the
     variable LOWEST_RUST names, of /usr/bin, and of rustup's."""
