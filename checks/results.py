@@ -41,7 +41,7 @@ def ended(tries, *tools):
     """Runs a script's tries, which get a new folder, and ends it with the status. Where a tool isn't here, nothing is tried,
     which is a fault under CI alone."""
     if lacking := [it for it in tools if not shutil.which(it)]:
-        print(f"nothing was tried: {', '.join(lacking)} isn't here")
+        print(f"nothing was tried, for want of {', '.join(lacking)}")
         failed = int(bool(os.environ.get("CI")))
         print(f"0 passed, {failed} failed")
         sys.exit(failed)
