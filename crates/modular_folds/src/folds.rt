@@ -176,7 +176,7 @@ fn reduced_short(v: u64, p: u32, c: u32, m: u32) -> u32
 }
 
 // Whether folds in straight-line code reduce a double word: c is at most a fourth of 2^p, and v at most a product of
-// two numbers below 2^p. For c = 1 two folds with comparisons take less time.
+// two numbers below 2^p. For c = 1 `parts` takes less time.
 #[inline(always)]
 fn folds_in_line<V: FoldWord>(v: V, p: u32, c: V, m: V) -> bool
     requires folding { IsFolding V.width p (V.number c) (V.number m) }
@@ -261,6 +261,20 @@ pub trait FoldedWord: PathWord {
         ensures small { IsTrue result → 4 * Self.number c ≤ 2 ^ p }
         ensures product { IsTrue result → Self.double_number v / 2 ^ p < 2 ^ p };
 
+    /// Whether the part of a double word above the bit p is below m. Condition: p is at most the width.
+    fn is_short(v: Self::Double, p: u32, m: Self) -> bool
+        requires { p ≤ Self.width }
+        ensures { IsTrue result → Self.double_number v / 2 ^ p < Self.number m };
+
+    /// The parts of a double word below and above the bit p. Conditions: m is 2^p - 1, p is at most the width, and the part
+    /// above the bit p is below m.
+    fn parts(v: Self::Double, p: u32, m: Self) -> (Self, Self)
+        requires inside { p ≤ Self.width }
+        requires mask { Self.number m + 1 ≡ 2 ^ p }
+        requires short { Self.double_number v / 2 ^ p < Self.number m }
+        ensures low { Self.number result.0 ≡ Self.double_number v % 2 ^ p }
+        ensures high { Self.number result.1 ≡ Self.double_number v / 2 ^ p };
+
     /// The residue of a + b, where m is at most 2^p. Conditions: b is at most m, and the sum below 2m.
     ///
     /// Where p is less than the width, the sum fits a word, which saves a carry.
@@ -291,6 +305,16 @@ impl FoldedWord for u32 {
         folds_in_line(v, p, c as u64, m as u64)
     }
 
+    #[inline(always)]
+    fn is_short(v: u64, p: u32, m: u32) -> bool {
+        v >> p < m as u64
+    }
+
+    #[inline(always)]
+    fn parts(v: u64, p: u32, m: u32) -> (u32, u32) {
+        ((v & m as u64) as u32, (v >> p) as u32)
+    }
+
     fn sum_of_parts(a: u32, b: u32, p: u32, m: u32) -> u32 {
         if p < 32 {
             reduced_once(a + b, m)
@@ -313,12 +337,31 @@ impl FoldedWord for u64 {
 
     #[inline(always)]
     fn reduce_in_line(v: u128, p: u32, c: u64, m: u64) -> u64 {
-        let m = m as u128;
-        reduced_last(fold_in_line(v, p, c as u128, m), m) as u64
+        if p <= 32 {
+            reduced_last(fold_in_line(v as u64, p, c, m), m)
+        } else {
+            let m = m as u128;
+            reduced_last(fold_in_line(v, p, c as u128, m), m) as u64
+        }
     }
 
     fn is_in_line(v: u128, p: u32, c: u64, m: u64) -> bool {
         folds_in_line(v, p, c as u128, m as u128)
+    }
+
+    #[inline(always)]
+    fn is_short(v: u128, p: u32, m: u64) -> bool {
+        v >> p < m as u128
+    }
+
+    #[inline(always)]
+    fn parts(v: u128, p: u32, m: u64) -> (u64, u64) {
+        let low = (v & m as u128) as u64;
+        if p <= 32 {
+            (low, v as u64 >> p)
+        } else {
+            (low, (v >> p) as u64)
+        }
     }
 
     // The borrow of a difference of double words chooses. LLVM vectorizes products in independent chains, and a
@@ -354,12 +397,22 @@ pub fn reduce_by_folds<T: FoldedWord>(v: T::Double, p: u32, c: T, m: T) -> (T, u
 /// v modulo m, by folds: without further comparisons where v is at most a product of two numbers below 2^p, and that is
 /// faster. Condition: m is 2^p - c and more than half of 2^p, and p is at most the width of the words.
 ///
+/// For c = 1 one fold makes a product of two residues less than 2m.
+///
 /// Source: Handbook of Applied Cryptography, algorithm 14.47.
+#[inline(always)]
 pub fn reduce_double_word<T: FoldedWord>(v: T::Double, p: u32, c: T, m: T) -> T
     requires { IsFolding T.width p (T.number c) (T.number m) }
     ensures { T.number result ≡ T.double_number v % T.number m }
 {
-    if T::is_in_line(v, p, c, m) {
+    if c == T::one() {
+        if T::is_short(v, p, m) {
+            let (low, high) = T::parts(v, p, m);
+            T::sum_of_parts(high, low, p, m)
+        } else {
+            reduce_by_folds(v, p, c, m).0
+        }
+    } else if T::is_in_line(v, p, c, m) {
         T::reduce_in_line(v, p, c, m)
     } else {
         reduce_by_folds(v, p, c, m).0

@@ -134,7 +134,7 @@ fn reduced_short(v: u64, p: u32, c: u32, m: u32) -> u32 {
 }
 
 // Whether folds in straight-line code reduce a double word: c is at most a fourth of 2^p, and v at most a product of
-// two numbers below 2^p. For c = 1 two folds with comparisons take less time.
+// two numbers below 2^p. For c = 1 `parts` takes less time.
 #[inline(always)]
 fn folds_in_line<V: FoldWord>(v: V, p: u32, c: V, m: V) -> bool {
     let mask = m.plus(c.minus(V::one()));
@@ -210,6 +210,22 @@ pub trait FoldedWord: Sized + PathWord {
     /// no meaningful result.
     fn is_in_line(v: Self::Double, p: u32, c: Self, m: Self) -> bool;
 
+    /// Whether the part of a double word above the bit p is below m.
+    ///
+    /// # Preconditions
+    ///
+    /// p is at most the width. This isn't tested: outside it the call panics, or returns no meaningful
+    /// result.
+    fn is_short(v: Self::Double, p: u32, m: Self) -> bool;
+
+    /// The parts of a double word below and above the bit p.
+    ///
+    /// # Preconditions
+    ///
+    /// m is 2^p - 1, p is at most the width, and the part above the bit p is below m. This isn't tested:
+    /// outside it the call panics, or returns no meaningful result.
+    fn parts(v: Self::Double, p: u32, m: Self) -> (Self, Self);
+
     /// The residue of a + b, where m is at most 2^p.
     ///
     /// Where p is less than the width, the sum fits a word, which saves a carry.
@@ -244,6 +260,16 @@ impl FoldedWord for u32 {
         folds_in_line(v, p, c as u64, m as u64)
     }
 
+    #[inline(always)]
+    fn is_short(v: u64, p: u32, m: u32) -> bool {
+        v >> p < m as u64
+    }
+
+    #[inline(always)]
+    fn parts(v: u64, p: u32, m: u32) -> (u32, u32) {
+        ((v & m as u64) as u32, (v >> p) as u32)
+    }
+
     #[inline]
     fn sum_of_parts(a: u32, b: u32, p: u32, m: u32) -> u32 {
         if p < 32 {
@@ -268,13 +294,32 @@ impl FoldedWord for u64 {
 
     #[inline(always)]
     fn reduce_in_line(v: u128, p: u32, c: u64, m: u64) -> u64 {
-        let m = m as u128;
-        reduced_last(fold_in_line(v, p, c as u128, m), m) as u64
+        if p <= 32 {
+            reduced_last(fold_in_line(v as u64, p, c, m), m)
+        } else {
+            let m = m as u128;
+            reduced_last(fold_in_line(v, p, c as u128, m), m) as u64
+        }
     }
 
     #[inline]
     fn is_in_line(v: u128, p: u32, c: u64, m: u64) -> bool {
         folds_in_line(v, p, c as u128, m as u128)
+    }
+
+    #[inline(always)]
+    fn is_short(v: u128, p: u32, m: u64) -> bool {
+        v >> p < m as u128
+    }
+
+    #[inline(always)]
+    fn parts(v: u128, p: u32, m: u64) -> (u64, u64) {
+        let low = (v & m as u128) as u64;
+        if p <= 32 {
+            (low, v as u64 >> p)
+        } else {
+            (low, (v >> p) as u64)
+        }
     }
 
     // The borrow of a difference of double words chooses. LLVM vectorizes products in independent chains, and a
@@ -310,15 +355,24 @@ pub fn reduce_by_folds<T: FoldedWord>(v: T::Double, p: u32, c: T, m: T) -> (T, u
 /// v modulo m, by folds: without further comparisons where v is at most a product of two numbers below 2^p, and that is
 /// faster.
 ///
+/// For c = 1 one fold makes a product of two residues less than 2m.
+///
 /// Source: Handbook of Applied Cryptography, algorithm 14.47.
 ///
 /// # Preconditions
 ///
 /// m is 2^p - c and more than half of 2^p, and p is at most the width of the words. This isn't tested:
 /// outside it the call panics, or returns no meaningful result.
-#[inline]
+#[inline(always)]
 pub fn reduce_double_word<T: FoldedWord>(v: T::Double, p: u32, c: T, m: T) -> T {
-    if T::is_in_line(v, p, c, m) {
+    if c == T::one() {
+        if T::is_short(v, p, m) {
+            let (low, high) = T::parts(v, p, m);
+            T::sum_of_parts(high, low, p, m)
+        } else {
+            reduce_by_folds(v, p, c, m).0
+        }
+    } else if T::is_in_line(v, p, c, m) {
         T::reduce_in_line(v, p, c, m)
     } else {
         reduce_by_folds(v, p, c, m).0
