@@ -28,7 +28,7 @@ int main(void) {
     printf("\n");
 
     uint64_t untouched = 7;
-    printf("a sum modulo 0 answers %" PRIu32, nm_addm(1, 2, 0, &untouched));
+    printf("a sum modulo 0 returns %" PRIu32, nm_addm(1, 2, 0, &untouched));
     printf(", and %" PRIu64 " stays\n", untouched);
     return 0;
 }
