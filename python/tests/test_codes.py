@@ -49,6 +49,13 @@ def test_wrong_symbols(m):
         assert code.correct(received, k) == (message, word, wrong)
 
 
+def test_messages_that_are_too_long():
+    code = ErasureCode(929, [1, 2])
+    for call, words in ((code.encode, ([5, 6, 7],)), (code.share, (5, 3))):
+        with pytest.raises(ValueError, match="a message of 3"):
+            call(*words)
+
+
 def test_errors():
     code = ErasureCode(929, range(7))
     word = code.encode([1, 2, 3])
@@ -98,7 +105,7 @@ def test_secrets():
     assert code.share(-5, 3) != shares
     forged = [0, shares[1], 1, *shares[3:]]
     assert code.recover_correct(forged, 3) == m - 5
-    for bad in (range(8), [1, 2, 1], [m]):
+    for bad in (range(8), [1, 2, 1], [m, 1]):
         with pytest.raises(PointsError):
             ErasureCode(m, bad).share(1, 2)
     for k in (0, -1):

@@ -139,8 +139,8 @@ def test_roots_and_lengths():
         for b, last in ((2, 1), (0, 3), (0, 0)):
             with pytest.raises(ValueError):
                 call([1, 2, 3, 4], b, last)
-    for xs, ys in (([1, 2], [3]), ([1] * 8, [1] * 8), ([1, 388], [1, 2])):
-        with pytest.raises(ValueError):
+    for xs, ys, words in (([1, 2], [3], "2 and 1"), ([1] * 8, [1] * 8, "8 words"), ([1, 388], [1, 2], "below 388")):
+        with pytest.raises(ValueError, match=words):
             plan.convolve(xs, ys)
 
 

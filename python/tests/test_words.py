@@ -29,10 +29,12 @@ def test_inverses():
     for a, _, e, m in cases(2000):
         if math.gcd(a, m) == 1:
             assert invm(a, m) == pow(a, -1, m)
-            assert powm(a, -e, m) == pow(a, -e, m)
+            assert powm(a, -e, m) == Montgomery(m).pow(a, -e) == pow(a, -e, m)
         else:
             with pytest.raises(NoInverseError):
                 invm(a, m)
+            with pytest.raises(NoInverseError):
+                Montgomery(m).pow(a, -1)
 
 
 def test_symbols():

@@ -1,7 +1,7 @@
 """Arithmetic modulo m, transforms, products of long numbers and erasure codes, by a library that is proved.
 
-Moduli, divisors, exponents and roots are integers from 0 to 2^64 - 1. Other operands may also be negative, and are then
-reduced modulo m. An integer that doesn't fit raises OverflowError.
+Integers are words, from 0 to 2^64 - 1, and what doesn't fit raises OverflowError. Operands, symbols and roots may also be
+negative, and are then reduced modulo m; a negative exponent raises the inverse to a power.
 
 A list of words is a sequence of integers, of which the result is a new list; or a one-dimensional, contiguous, aligned and
 writable array of unsigned words of 64 bits (numpy's uint64, array.array("Q")), which is changed in place and returned.

@@ -59,7 +59,7 @@ class ErasureCode:
         return list(self._points)
 
     def encode(self, message: Iterable[int]) -> list[int]:
-        """The word of a message: a symbol for each point.
+        """The word of a message: a symbol for each point. ValueError: the message has more symbols than there are points.
 
         >>> ErasureCode(97, [1, 2, 3]).encode([5, 10])
         [15, 25, 35]
@@ -108,7 +108,8 @@ class ErasureCode:
         """A share of the secret, a number modulo m, for each point: any k of them give it back, and k - 1 say nothing of it, as
         the k - 1 other coefficients are drawn by the module `secrets`. It doesn't run in constant time.
 
-        PointsError: a point, such as 0, or the difference of two has no inverse. ValueError: k is below 1.
+        PointsError: a point, such as 0, or the difference of two has no inverse. ValueError: k is below 1, or above the number
+        of points.
 
         >>> shares = ErasureCode(2**61 - 1, range(1, 6)).share(1234567, 3)
         >>> ErasureCode(2**61 - 1, range(1, 6)).recover({0: shares[0], 4: shares[4], 2: shares[2]}, 3)
@@ -142,6 +143,8 @@ class ErasureCode:
 
     def _encoded(self, call: Any, message: Iterable[int]) -> list[int]:
         words, n = self._words(message), len(self._points)
+        if len(words) > n:
+            raise ValueError(f"no word of {n} symbols gives back a message of {len(words)}")
         out, scratch = ffi.new("uint64_t[]", n), ffi.new("uint64_t[]", n + len(words))
         check(call(self._context, self._points, n, words, len(words), out, n, scratch, len(scratch)))
         return list(out)

@@ -6,6 +6,7 @@ from typing import Any
 
 from num_modular._calls import NoInverseError, apart, check, reduced, words_of
 from num_modular._library import ffi, lib
+from num_modular._words import invm
 
 _OPERATIONS = {
     "load": (lib.NM_LOAD, ("dst", "n")),
@@ -75,12 +76,17 @@ class Montgomery:
         return self._context.modulus
 
     def pow(self, a: int, exponent: int) -> int:
-        """The residue of a to the power exponent, which is from 0 to 2^64 - 1.
+        """The residue of a to the power exponent. For a negative exponent it is that of the inverse of a.
+
+        NoInverseError: the exponent is negative, and a has no inverse. OverflowError: the exponent is not between -2^64 and
+        2^64.
 
         >>> Montgomery(2**61 - 1).pow(3, 2**61 - 2)
         1
         """
         out = ffi.new("uint64_t *")
+        if exponent < 0:
+            a, exponent = invm(a, self.modulus), -exponent
         check(lib.nm_montgomery_transform(self._context, reduced(a, self.modulus), out))
         check(lib.nm_montgomery_pow(self._context, out[0], exponent, out))
         check(lib.nm_montgomery_residue(self._context, out[0], out))
@@ -172,6 +178,8 @@ class Plan:
     def __init__(self, m: int, n: int, root: int | None = None) -> None:
         if n < 2:
             raise ValueError("a plan is for at least 2 words")
+        if not 1 <= m <= 1 << 62:
+            raise ValueError("the modulus must be from 1 to 2^62")
         root = Montgomery(m).find_root(n) if root is None else reduced(root, m)
         if n % 2:
             check(lib.NM_NO_ROOT)
@@ -251,12 +259,19 @@ class Plan:
 
     def _in_place(self, call: Any, xs: Any, *numbers: int) -> Any:
         words, is_new = words_of(xs, self.modulus)
-        check(call(self._plan, words, len(words), *numbers))
+        self._check(call(self._plan, words, len(words), *numbers), words)
         return list(words) if is_new else xs
 
     def _product(self, call: Any, xs: Any, ys: Any) -> Any:
         first, is_new = words_of(xs, self.modulus)
         second, _ = words_of(ys, self.modulus)
         apart(first, second)
-        check(call(self._plan, first, len(first), second, len(second)))
+        if len(first) != len(second):
+            raise ValueError(f"the lists have {len(first)} and {len(second)} words")
+        self._check(call(self._plan, first, len(first), second, len(second)), first)
         return list(first) if is_new else xs
+
+    def _check(self, code: int, words: Any) -> None:
+        """Raises the exception of a code; a precondition is on the length, or on the words."""
+        fault = f"{len(words)} words don't fit the plan for {self.length}, or one of them isn't below {4 * self.modulus}"
+        check(code, fault if code == lib.NM_BAD_ARGUMENT else "")
