@@ -11,6 +11,7 @@ TAKEN = (  # what Rattle writes and Rust doesn't need
     ("Result < Self , AllocError > { Ok ( * self ) }", "Self {\n        *self\n    }"),
     ("use std :: alloc :: AllocError ;", ""),
     (". clone ( ) ?", ".clone()"),
+    ("# [ derive ( Drop ) ] pub struct", "#[derive(Debug)]\npub struct"),
     ("# [ derive ( Drop ) ]", ""),
     ("# [ derive ( Debug ) ] pub struct ReducedInt", "pub struct ReducedInt"),
     ("$kind :: new (", "$kind::of(", lambda it: it.kind in IN_CONSTANTS),

@@ -6,6 +6,7 @@ use crate::modular_barrett::planned::Factor;
 use crate::modular_prim::plain_word::PlainWord;
 
 /// Joins two entries by v, minus the inverse of the factor of a block.
+#[derive(Debug)]
 #[must_use]
 pub struct JoinPair<T, M> {
     pub(crate) m: M,
@@ -20,6 +21,7 @@ impl<T: PlainWord, M: JoinSteps<T>> PairStep<T> for JoinPair<T, M> {
 }
 
 /// Joins four entries by minus the inverses of the factors of a block, w, and of its halves, u and v.
+#[derive(Debug)]
 #[must_use]
 pub struct JoinFour<T, M> {
     pub(crate) m: M,
@@ -36,6 +38,7 @@ impl<T: PlainWord, M: JoinSteps<T>> FourStep<T> for JoinFour<T, M> {
 }
 
 /// Joins four entries below 4m.
+#[derive(Debug)]
 #[must_use]
 pub struct JoinLowered<T, M> {
     pub(crate) step: JoinFour<T, M>,
@@ -54,6 +57,7 @@ impl<T: PlainWord, M: JoinSteps<T>> FourStep<T> for JoinLowered<T, M> {
 }
 
 /// Joins four entries where the first two factors are -1, and multiplies the results by s.
+#[derive(Debug)]
 #[must_use]
 pub struct JoinByOne<T, M> {
     pub(crate) m: M,

@@ -6,6 +6,7 @@ use crate::modular_barrett::planned::Factor;
 use crate::modular_prim::plain_word::PlainWord;
 
 /// Splits two entries by the factor w of a block.
+#[derive(Debug)]
 #[must_use]
 pub struct SplitPair<T, M> {
     pub(crate) m: M,
@@ -20,6 +21,7 @@ impl<T: PlainWord, M: SplitSteps<T>> PairStep<T> for SplitPair<T, M> {
 }
 
 /// Splits four entries by the factor w of a block, and the results by those of its halves.
+#[derive(Debug)]
 #[must_use]
 pub struct SplitFour<T, M> {
     pub(crate) m: M,
@@ -36,6 +38,7 @@ impl<T: PlainWord, M: SplitSteps<T>> FourStep<T> for SplitFour<T, M> {
 }
 
 /// Splits four entries below 4m by 1, and the results by 1 and by v.
+#[derive(Debug)]
 #[must_use]
 pub struct SplitByOne<T, M> {
     pub(crate) m: M,
@@ -50,6 +53,7 @@ impl<T: PlainWord, M: SplitSteps<T>> FourStep<T> for SplitByOne<T, M> {
 }
 
 /// Splits four entries, and reduces the results to residues.
+#[derive(Debug)]
 #[must_use]
 pub struct SplitToResidues<T, M> {
     pub(crate) step: SplitFour<T, M>,

@@ -24,6 +24,7 @@ use crate::{Reducer, RingWord};
 /// code.extend(message, checks);
 /// assert_eq!(word, [3, 2, 1, 0, 928, 927, 926]);
 /// ```
+#[derive(Debug)]
 #[must_use]
 pub struct PreparedCode<'a, T, R> {
     ring: &'a R,

@@ -8,6 +8,7 @@ use crate::word::RingWord;
 
 /// A modulus m, m - 1 and a greatest word, and what each reducer of m returns: the edges of its words, and the end of the
 /// run of the commands with the residues after it.
+#[derive(Debug)]
 pub struct Edges<T> {
     pub m: T,
     pub last: T,

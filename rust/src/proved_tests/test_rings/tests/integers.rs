@@ -8,6 +8,7 @@ use crate::{ModularAbs, ModularInteger, ReducedInt, Reducer, imax};
 
 /// What an integer x modulo m returns with a word n: the residues of x, x + n, x - n, x * n, -x, 2 * x, the square, and
 /// the power n; and that of its inverse, if there is one.
+#[derive(Debug)]
 pub struct Integer<T> {
     pub m: T,
     pub x: T,
