@@ -177,14 +177,6 @@ joined_product {m} g z b last entries count size part w x y u v p out power whol
     (coefficient (count * last) x y e + c * coefficient (count * last) x y (e + count * last)) one
     ∙ ap (λ n. product_modulo m n c x y e) whole
 
--- a residue, doubled
-pub residue_doubled : (m r t s q : ℕ) → r ≡ 2 ^ t % m → s ≡ r + r → q ≡ s % m → q ≡ 2 ^ (t + 1) % m
-residue_doubled m r t s q is twice e =
-    let more : 2 ^ t + 2 ^ t ≡ 2 ^ (t + 1) = let d = two-pow-succ t in
-    let k = ap (λ v. 2 ^ v) (let f : t + 1 ≡ suc t = omega arith in f) in omega (arith, d, k) in
-    let value : Congruent m r (2 ^ t) = mod_trans (mod_of_eq is) (residue_of (2 ^ t)) in
-    e ∙ ap (λ n. n % m) twice ∙ (mod_trans (mod_add value value) (mod_of_eq more)).same
-
 -- a test of two places is two tests
 both_tests : (n s e v : ℕ) → 0 < n → cond (eqb s e || eqb s (e + n)) v 0 ≡ cond (eqb s e) v 0 + cond (eqb s (e + n)) v 0
 both_tests n s e v some = elim (eqb_tells s e) [

@@ -1,16 +1,17 @@
 -- A plan as one value: what its fields say of its table, a root that is tested by its half turn, and shorter plans.
 use Rattle.std.proofs.Common.{◌≡◌, ℕ, suc, zero, ◌+◌, ◌-◌, ◌*◌, ◌/◌, ◌%◌, ◌^◌, ◌<◌, ◌≤◌, ◌↔◌, List, All, length, get_or, map, take}
 use Rattle.std.proofs.Common.{refl, sym, ap, ◌∙◌, arith, subst, inl, inr}
-use Rattle.std.proofs.Math.Nat.{two-pow-succ, div_self, mod-lt, mod-eq_of_lt, mod_self, mul-div_cancel_left}
+use Rattle.std.proofs.Math.Nat.{two-pow-succ, div_self, mod-lt, mod-eq_of_lt, mod_self, mul_assoc, mul-div_cancel_left}
 use Rattle.std.proofs.Math.Numerals.{add-one}
 use Rattle.std.proofs.lemmas.Bool.{cases_lt}
 use Rattle.std.proofs.lemmas.List.{take-map, get_or-take, length-take-le}
 use Rattle.std.proofs.lemmas.Nat.{pow-add, pow_pos}
 use Rattle.std.specs.Int.{IsPowerOfTwo}
 use Rattle.modular_word.proofs.Congruence.{mod_of_eq, mod_trans, mod_sym, mod_mul, mod_add, mod_refl, residue_of}
+use Rattle.modular_word.proofs.Divisors.{divides, mod_divides}
 use Rattle.modular_word.proofs.Powers.{pow-one}
 use Rattle.modular_word.specs.Congruence.{Congruent}
-use Rattle.modular_word.specs.Inverses.{IsInverse}
+use Rattle.modular_word.specs.Inverses.{HasInverse, IsInverse}
 use Rattle.modular_transform.proofs.StageLemmas.{root_squared}
 use Rattle.modular_transform.specs.Orders.{bits_reversed}
 use Rattle.modular_transform.specs.Transforms.{Suits, transform}
@@ -111,6 +112,16 @@ pub record IsShorter (bits n count y d : ℕ) : Type 0 where
 pub even : (y n : ℕ) → n ≡ 2 ^ y → 2 ≤ n → 2 * (n / 2) ≡ n
 even zero n is some = let one : 2 ^ 0 ≡ 1 = refl in absurd (omega (arith, is, some, one))
 even (suc y) n is some = let two = two-pow-succ y in omega (arith, is, two)
+
+-- modulo an even number, a power of two above 1 has no inverse
+pub no_inverse : (m n k : ℕ) → 0 < m → m % 2 ≡ 0 → n ≡ 2 ^ k → 2 ≤ n → HasInverse m n → ⊥
+no_inverse m n k some halves is more h =
+    let half = even k n is more in
+    let twice : n * h.0 ≡ 2 * (n / 2 * h.0) = ap (λ v. v * h.0) (sym half) ∙ mul_assoc 2 (n / 2) h.0 in
+    let product = mod_divides 2 (n * h.0) m halves (divides 2 (n * h.0) (n / 2 * h.0) twice) in
+    let one : 1 % m ≡ 1 = mod-eq_of_lt (omega (arith, some, halves)) in
+    let odd : 1 % 2 ≡ 0 = ap (λ v. v % 2) (sym one) ∙ ap (λ v. v % 2) (sym h.1.one) ∙ product in
+    omega (arith, odd)
 
 pub is_shorter : (bits n count y : ℕ) → n ≡ 2 ^ y → 2 ≤ n → n ≤ 2 ^ bits → 2 * count ≡ 2 ^ bits
     → IsShorter bits n count y (bits - y)

@@ -1,7 +1,6 @@
 //! Products of polynomials modulo X^n - c, by a plan.
 
 ghost use Rattle.std.specs.Prelude.{◌≡◌, ℕ, ◌+◌, ◌-◌, ◌*◌, ◌/◌, ◌%◌, ◌<◌, ◌≤◌, ◌↔◌, IsTrue, All, length};
-ghost use Rattle.std.specs.Int.{IsPowerOfTwo};
 ghost use Rattle.modular_word.specs.Inverses.{IsInverse, HasInverse};
 ghost use Rattle.modular_transform.specs.Transforms.{cyclic_product};
 ghost use Rattle.modular_barrett.specs.Factors.{IsFactorOf, AllFactors};
@@ -13,26 +12,13 @@ ghost use Rattle.modular_plan_transforms.specs.Products.{product_modulo, AreProd
 use crate::join::join_scaled;
 use crate::products::{multiply, reduce_products};
 use crate::split::{split, split_loosely, splits};
+use crate::tables::inverse_of_count;
 use modular_barrett::planned::{Factor, PlannedModulus};
 use modular_plan_passes::entry::PlanEntry;
-use modular_prim::below::reduced_once;
-use modular_prim::euclid::invm;
 use modular_prim::plain_word::PlainWord;
 use modular_word::path_word::PathWord;
 use modular_word::paths::neginv;
 use modular_word::ring_word::RingWord;
-
-// The residue of a power of two, by doubling 1, because the power may not fit a word.
-fn residue_of_count<T: PlainWord>(m: &PlannedModulus<T>, count: usize) -> T
-    requires { IsPowerOfTwo count }
-    ensures { T.number result ≡ count % T.number m.now.modulus }
-{
-    let mut residue = m.residue(T::one());
-    'doublings: for _done in 0..count.trailing_zeros() {
-        residue = reduced_once(residue.plus(residue), m.modulus);
-    }
-    residue
-}
 
 // Splits the first of the two lists for `join_products`. For single entries and an odd modulus that takes any
 // words, so that no residues are computed.
@@ -208,10 +194,9 @@ pub fn convolve_block<T: PlainWord, F: PlanEntry<T>>(
         IsPlan modulus g z (length table.now) (numbers F.value table.now) →
         AreRemainders modulus g z b (length xs.old / last) last (numbers T.number ys.old) (numbers T.number ys.new) }
 {
-    let count = residue_of_count(m, xs.len() / last);
-    match invm(count, m.modulus) {
+    match inverse_of_count(m, xs.len() / last) {
         Some(part) => {
-            convolve_scaled(m, xs, ys, table, b, last, &m.factor(part));
+            convolve_scaled(m, xs, ys, table, b, last, &part);
             true
         }
         None => false,

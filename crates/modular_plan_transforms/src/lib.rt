@@ -5,10 +5,10 @@
 pub mod convolution;
 pub mod filled;
 pub mod join;
-pub mod join_blocks;
+mod join_blocks;
 pub mod plan;
 pub mod products;
 pub mod split;
-pub mod split_blocks;
-mod tables;
+mod split_blocks;
+pub mod tables;
 pub mod transform;

@@ -1,11 +1,12 @@
 //! What makes a plan: a root that suits, and a table of its powers; and the inverses of powers of two.
 
-ghost use Rattle.std.specs.Prelude.{◌≡◌, ◌+◌, ◌*◌, ◌%◌, ◌^◌, ◌<◌, ◌↔◌, IsTrue};
+ghost use Rattle.std.specs.Prelude.{◌≡◌, ◌+◌, ◌*◌, ◌%◌, ◌^◌, ◌<◌, ◌↔◌, IsTrue, MatchOption};
 ghost use Rattle.std.specs.Int.{IsPowerOfTwo};
-ghost use Rattle.modular_word.specs.Inverses.{IsInverse};
+ghost use Rattle.modular_word.specs.Inverses.{HasInverse, IsInverse};
+ghost use Rattle.modular_barrett.specs.Factors.{IsFactorOf};
 ghost use Rattle.modular_transform.specs.Transforms.{Suits};
 
-use modular_barrett::planned::PlannedModulus;
+use modular_barrett::planned::{Factor, PlannedModulus};
 use modular_prim::plain_word::PlainWord;
 use modular_word::path_word::PathWord;
 use modular_word::ring_word::RingWord;
@@ -69,4 +70,23 @@ pub(crate) fn inverse_of_power<T: PlainWord>(m: &PlannedModulus<T>, bits: u32) -
         part = halved(m, part);
     }
     part
+}
+
+/// The factor of the inverse of a number of blocks modulo m, with which `join_scaled` divides by that number. `None` exactly
+/// where there is no inverse: m is even, and there are two blocks or more. Condition: the number is a power of two.
+///
+/// Source: halvings of 1.
+pub fn inverse_of_count<T: PlainWord>(m: &PlannedModulus<T>, count: usize) -> Option<Factor<T>>
+    requires { IsPowerOfTwo count }
+    ensures { MatchOption result (HasInverse (T.number m.now.modulus) count → ⊥)
+        (λ part. IsFactorOf T.base T.number (T.number m.now.modulus) part
+        × IsInverse (T.number m.now.modulus) count (T.number part.value)) }
+{
+    if m.modulus.is_odd() {
+        Some(m.factor(inverse_of_power(m, count.trailing_zeros())))
+    } else if count == 1 {
+        Some(m.factor(m.residue(T::one())))
+    } else {
+        None
+    }
 }

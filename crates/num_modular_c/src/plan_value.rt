@@ -1,9 +1,8 @@
 //! A plan as one value. Its calls don't test the table, which C mustn't have changed.
 
-ghost use Rattle.std.specs.Prelude.{◌≡◌, ◌-◌, ◌*◌, ◌/◌, ◌%◌, ◌^◌, length, MatchOption};
-ghost use Rattle.modular_barrett.specs.Factors.{IsFactorOf};
+ghost use Rattle.std.specs.Prelude.{◌≡◌, ◌-◌, ◌*◌, ◌/◌, ◌%◌, ◌^◌, length};
 ghost use Rattle.modular_plan_transforms.specs.Products.{product_modulo};
-ghost use Rattle.num_modular.specs.Inverses.{HasInverse, IsInverse};
+ghost use Rattle.num_modular.specs.Inverses.{HasInverse};
 ghost use Rattle.num_modular.specs.Transforms.{Suits, cyclic_product};
 ghost use Rattle.num_modular_c.specs.Codes.{Did, Refused, BothRefused};
 ghost use Rattle.num_modular_c.specs.Plans.{words_of, AreFactors, AreJoined, AreSplit, IsAdmitted, IsMade, IsPair};
@@ -12,12 +11,12 @@ ghost use Rattle.num_modular_c.specs.Plans.{IsPlannedProduct, IsSplit, IsTable, 
 use crate::codes::{NM_BAD_ARGUMENT, NM_BAD_CONTEXT, NM_NO_INVERSE, NM_NO_ROOT, NM_OK};
 use crate::planned::{is_pair, is_split, product_code};
 use crate::plans::{NmFactor, nm_plan, nm_plan_fits};
-use modular_barrett::planned::{Factor, PlannedModulus};
+use modular_barrett::planned::PlannedModulus;
 use modular_plan_transforms::join::join_scaled;
 use modular_plan_transforms::split::split;
+use modular_plan_transforms::tables::inverse_of_count;
 use modular_plan_transforms::transform::ntt_planned;
 use modular_transform::order::reverse_places;
-use num_modular::ModularUnaryOps;
 
 /// A plan: a modulus m, a root, and the table of the factors of its powers, which the caller owns.
 #[repr(C)]
@@ -94,17 +93,6 @@ pub extern "C" fn nm_plan_transform(plan: &NmPlan, xs: &mut [u64]) -> u32
     NM_OK
 }
 
-// The factor of the inverse of a number of blocks.
-fn part(m: &PlannedModulus<u64>, count: usize) -> Option<Factor<u64>>
-    ensures { MatchOption result (HasInverse m.now.modulus count → ⊥)
-        (λ w. IsFactorOf (2 ^ 64) (λ x. x) m.now.modulus w × IsInverse m.now.modulus count w.value) }
-{
-    match (count as u64).invm(&m.modulus) {
-        Some(inverse) => Some(m.factor(inverse)),
-        None => None,
-    }
-}
-
 /// Undoes `nm_plan_transform`: replaces the n words by those whose transform they are. Condition: that of
 /// `nm_plan_transform`. `NM_BAD_ARGUMENT`: as there. `NM_NO_INVERSE`: n has no inverse modulo m.
 #[unsafe(no_mangle)]
@@ -123,7 +111,7 @@ pub extern "C" fn nm_plan_inverse(plan: &NmPlan, xs: &mut [u64]) -> u32
         return NM_BAD_ARGUMENT;
     }
     let m = PlannedModulus::<u64>::new(plan.modulus);
-    let Some(part) = part(&m, xs.len()) else {
+    let Some(part) = inverse_of_count(&m, xs.len()) else {
         return NM_NO_INVERSE;
     };
     let bits = xs.len().trailing_zeros();
@@ -173,7 +161,7 @@ pub extern "C" fn nm_plan_join(plan: &NmPlan, xs: &mut [u64], b: usize, last: us
         return NM_BAD_ARGUMENT;
     }
     let m = PlannedModulus::<u64>::new(plan.modulus);
-    let Some(part) = part(&m, xs.len() / last) else {
+    let Some(part) = inverse_of_count(&m, xs.len() / last) else {
         return NM_NO_INVERSE;
     };
     join_scaled(&m, xs, plan.table, b, last, &part);

@@ -3,22 +3,11 @@
 use crate::modular_plan_transforms::join::join_scaled;
 use crate::modular_plan_transforms::products::{multiply, reduce_products};
 use crate::modular_plan_transforms::split::{split, split_loosely, splits};
+use crate::modular_plan_transforms::tables::inverse_of_count;
 use crate::modular_barrett::planned::{Factor, PlannedModulus};
 use crate::modular_plan_passes::entry::PlanEntry;
-use crate::modular_prim::below::reduced_once;
-use crate::modular_prim::euclid::invm;
 use crate::modular_prim::plain_word::PlainWord;
 use crate::modular_word::paths::neginv;
-
-// The residue of a power of two, by doubling 1, because the power may not fit a word.
-#[inline]
-fn residue_of_count<T: PlainWord>(m: &PlannedModulus<T>, count: usize) -> T {
-    let mut residue = m.residue(T::one());
-    for _done in 0..count.trailing_zeros() {
-        residue = reduced_once(residue.plus(residue), m.modulus);
-    }
-    residue
-}
 
 // Splits the first of the two lists for `join_products`. For single entries and an odd modulus that takes any
 // words, so that no residues are computed.
@@ -133,6 +122,7 @@ pub const fn convolves(length: usize, factors: usize, b: usize, last: usize) -> 
 /// assert!(convolve_block(&modulus, &mut xs, &mut ys, &table, 1, 2));
 /// assert_eq!(xs, [16, 0, 0, 0]); // X^3 * X is -1 modulo X^4 + 1
 /// ```
+#[inline]
 #[track_caller]
 pub fn convolve_block<T: PlainWord, F: PlanEntry<T>>(
     m: &PlannedModulus<T>,
@@ -147,10 +137,9 @@ pub fn convolve_block<T: PlainWord, F: PlanEntry<T>>(
     debug_assert!(xs.iter().chain(ys.iter()).all(|x| m.has_room(*x)), "the entries must be below 4m");
     crate::additions::expect_filled(m, table);
     debug_assert!(crate::additions::are_factors(m, xs.len(), table, b, last), "the table's entries must be factors modulo m");
-    let count = residue_of_count(m, xs.len() / last);
-    match invm(count, m.modulus) {
+    match inverse_of_count(m, xs.len() / last) {
         Some(part) => {
-            convolve_scaled(m, xs, ys, table, b, last, &m.factor(part));
+            convolve_scaled(m, xs, ys, table, b, last, &part);
             true
         }
         None => false,

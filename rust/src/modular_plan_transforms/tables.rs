@@ -1,6 +1,6 @@
 //! What makes a plan: a root that suits, and a table of its powers; and the inverses of powers of two.
 
-use crate::modular_barrett::planned::PlannedModulus;
+use crate::modular_barrett::planned::{Factor, PlannedModulus};
 use crate::modular_prim::plain_word::PlainWord;
 
 // The power of g to the exponent `count`, below m, by squarings.
@@ -49,4 +49,24 @@ pub(crate) fn inverse_of_power<T: PlainWord>(m: &PlannedModulus<T>, bits: u32) -
         part = halved(m, part);
     }
     part
+}
+
+/// The factor of the inverse of a number of blocks modulo m, with which `join_scaled` divides by that number. `None` exactly
+/// where there is no inverse: m is even, and there are two blocks or more.
+///
+/// Source: halvings of 1.
+///
+/// # Preconditions
+///
+/// The number is a power of two. This isn't tested: outside it the call panics, or returns no
+/// meaningful result.
+#[inline]
+pub fn inverse_of_count<T: PlainWord>(m: &PlannedModulus<T>, count: usize) -> Option<Factor<T>> {
+    if m.modulus.is_odd() {
+        Some(m.factor(inverse_of_power(m, count.trailing_zeros())))
+    } else if count == 1 {
+        Some(m.factor(m.residue(T::one())))
+    } else {
+        None
+    }
 }

@@ -3,12 +3,12 @@
 use crate::num_modular_c::codes::{NM_BAD_ARGUMENT, NM_NO_INVERSE, NM_OK};
 use crate::num_modular_c::planned::{is_pair, is_split, product_code};
 use crate::num_modular_c::plans::{NmFactor, nm_plan, nm_plan_fits};
-use crate::modular_barrett::planned::{Factor, PlannedModulus};
+use crate::modular_barrett::planned::PlannedModulus;
 use crate::modular_plan_transforms::join::join_scaled;
 use crate::modular_plan_transforms::split::split;
+use crate::modular_plan_transforms::tables::inverse_of_count;
 use crate::modular_plan_transforms::transform::ntt_planned;
 use crate::modular_transform::order::reverse_places;
-use crate::ModularUnaryOps;
 
 /// A plan: a modulus m, a root, and the table of the factors of its powers, which the caller owns.
 #[repr(C)]
@@ -70,12 +70,6 @@ pub fn nm_plan_transform(plan: &NmPlan, xs: &mut [u64]) -> u32 {
     NM_OK
 }
 
-// The factor of the inverse of a number of blocks.
-#[inline]
-fn part(m: &PlannedModulus<u64>, count: usize) -> Option<Factor<u64>> {
-    (count as u64).invm(&m.modulus).map(|inverse| m.factor(inverse))
-}
-
 /// Undoes `nm_plan_transform`: replaces the n words by those whose transform they are.
 /// `NM_BAD_ARGUMENT`: as there. `NM_NO_INVERSE`: n has no inverse modulo m.
 ///
@@ -88,7 +82,7 @@ pub fn nm_plan_inverse(plan: &NmPlan, xs: &mut [u64]) -> u32 {
         return NM_BAD_ARGUMENT;
     }
     let m = PlannedModulus::<u64>::new(plan.modulus);
-    let part = match part(&m, xs.len()) { Some(it) => it, None => {
+    let part = match inverse_of_count(&m, xs.len()) { Some(it) => it, None => {
         return NM_NO_INVERSE;
     } };
     let bits = xs.len().trailing_zeros();
@@ -131,7 +125,7 @@ pub fn nm_plan_join(plan: &NmPlan, xs: &mut [u64], b: usize, last: usize) -> u32
         return NM_BAD_ARGUMENT;
     }
     let m = PlannedModulus::<u64>::new(plan.modulus);
-    let part = match part(&m, xs.len() / last) { Some(it) => it, None => {
+    let part = match inverse_of_count(&m, xs.len() / last) { Some(it) => it, None => {
         return NM_NO_INVERSE;
     } };
     join_scaled(&m, xs, plan.table, b, last, &part);

@@ -18,6 +18,9 @@ new-m-requires-clause-some c = (c.if-not-is_split.ensures.0 refl).admitted.0
 pub new-m-requires-clause-room : goal.new-m-requires-clause-room
 new-m-requires-clause-room c = (c.if-not-is_split.ensures.0 refl).admitted.1
 
+pub inverse_of_count-requires : goal.inverse_of_count-requires
+inverse_of_count-requires c = (c.if-not-is_split.ensures.0 refl).blocks.count
+
 pub returns-in_default-clause-did : goal.returns-in_default-clause-did
 returns-in_default-clause-did c fits inverse = absurd ((rw c.new-m.ensures at c.in_default.ensures) inverse)
 
