@@ -35,7 +35,7 @@ def without_example(index, root):
 def lacking(folder):
     """The paths of the items without an example, of the crate in a folder; None where this rustdoc can't list them."""
     with tempfile.TemporaryDirectory() as target:
-        environment = os.environ | {"RUSTC_BOOTSTRAP": "1", "CARGO_TARGET_DIR": target}
+        environment = {**os.environ, "RUSTC_BOOTSTRAP": "1", "CARGO_TARGET_DIR": target}
         run("cargo", "rustdoc", "--offline", "--lib", "--", *OPTIONS, cwd=folder, env=environment)
         try:
             docs = json.loads(next((Path(target) / "doc").glob("*.json")).read_text(encoding="utf-8"))

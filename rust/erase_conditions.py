@@ -135,7 +135,7 @@ TESTED_BELOW = (
     ((DEBUG,), r"modular_barrett/exact\.exact_quotient"),
 )
 VERBS = {"is": "be", "are": "be", "has": "have", "have": "have"}
-VERBS |= {f"{it}s": it for it in ("suit", "fit", "admit", "take", "hold")}
+VERBS.update({f"{it}s": it for it in ("suit", "fit", "admit", "take", "hold")})
 VERB = re.compile(rf"\b({'|'.join(VERBS)})\b")
 # Where a clause may end, and what follows there that is no main clause: a relative clause, a comparison, an apposition.
 CLAUSE_ENDS, BESIDES = r"(; |, and |, )", re.compile(r"(?:which|whose|where|as)\b|\S+ \S+ of \S+ that\b")

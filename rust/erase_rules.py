@@ -197,7 +197,7 @@ IDIOMS = (
     ("$x : $x", "$x", lambda it: it.before in ("{", ",") and it.behind in (",", "}") and it.x[0].islower()),
     (
         "for ( $i , $x ) in $list.. $block{}",
-        lambda it: f"for {it.x} in {it.list.removesuffix('.enumerate()')} {it.block}",
+        lambda it: f"for {it.x} in {it.list.rpartition('.enumerate()')[0]} {it.block}",
         lambda it: it.list.endswith(".enumerate()") and not re.search(rf"\b{it.i}\b", it.block),
     ),
 )

@@ -56,7 +56,7 @@ def joined(first, second):
     if first.strip():
         return first.rstrip() + (second if second.startswith("\n") else "\n" + second)
     rest = second.lstrip()
-    lines, _, indent = second.removesuffix(rest).rpartition("\n")
+    lines, _, indent = second[: len(second) - len(rest)].rpartition("\n")
     return "\n" * max(first.count("\n"), lines.count("\n") + 1) + indent + rest
 
 
@@ -170,7 +170,7 @@ def items(tokens, keyword):
 
 
 # ------------------------------------------------------------------------------------------------ rewriting
-@functools.cache
+@functools.lru_cache(None)
 def words_of(pattern):
     """The words of a pattern, each with the name that it gives to what stands there, or "", and the word that follows it."""
     words = pattern.split()
@@ -202,7 +202,7 @@ def matched(tokens, at, pattern):
     return found, at
 
 
-@functools.cache
+@functools.lru_cache(None)
 def by_first_word(rules):
     """Rules by the first word of their patterns, those that begin with a name by ""."""
     found = defaultdict(list)

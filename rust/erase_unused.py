@@ -27,7 +27,7 @@ def filter_imports(tokens, keeps, public=True):
     """Takes the names that `keeps` refuses out of the imports, those that are public too, where `public` is true."""
     for it in items(tokens, "use"):
         found = leaves(" ".join(x.text for x in tokens[it.at + 1 : it.body]))
-        paths = [path for path in found if keeps(re.split(r"::| as ", path.removesuffix("::self"))[-1])]
+        paths = [path for path in found if keeps(re.split(r"::| as ", re.sub("::self$", "", path))[-1])]
         if paths == found or not public and it.begin < it.at:
             continue
         if not paths:
