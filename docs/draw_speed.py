@@ -73,11 +73,8 @@ def ratios(tables):
         part.set_xlim(0, max(1.15, greatest + 0.1))
         part.tick_params(axis="y", length=0)
     parts[-1].set_xlabel("time of the port / time of the Rust crate; the line is at 1, bars above 1.05 are orange")
-    parts_said = []
-    for title, lines in shown:
-        said = ", ".join(f"{name} {ratio:.2f}" for name, ratio in lines)
-        parts_said.append(f"{title}: {said}")
-    words = "Bars of the time of each operation divided by the Rust crate's, with a line at 1. " + ". ".join(parts_said) + "."
+    said = (f"{title}: " + ", ".join(f"{name} {ratio:.2f}" for name, ratio in lines) for title, lines in shown)
+    words = "Bars of the time of each operation divided by the Rust crate's, with a line at 1. " + ". ".join(said) + "."
     return save(figure, "speed-ratios.svg", "Time of each operation beside the Rust crate's", words)
 
 
