@@ -23,17 +23,11 @@ pub fn reduced<T: PlainWord>(a: T, m: T) -> T
     ensures value { T.number result ≡ T.number a % T.number m }
     ensures below { T.number result < T.number m }
 {
-    reduced_unless(spares_division(a, m), a, m)
-}
-
-// The residue of a word, without a division where the caller knows that the word is below m.
-fn reduced_unless<T: PlainWord>(is_residue: bool, a: T, m: T) -> T
-    requires some { 1 ≤ T.number m }
-    requires known { IsTrue is_residue → T.number a < T.number m }
-    ensures value { T.number result ≡ T.number a % T.number m }
-    ensures below { T.number result < T.number m }
-{
-    if is_residue { a } else { a.remainder(m) }
+    if spares_division(a, m) {
+        a
+    } else {
+        a.remainder(m)
+    }
 }
 
 // The sum of two words, as a double word.
@@ -74,26 +68,23 @@ pub fn addm<T: PlainWord>(a: T, b: T, m: T) -> T
 }
 
 /// The residue of a - b, below m. Condition: m is at least 1. There is no division where words have more than 16
-/// bits and both are below m.
+/// bits and differ by less than m.
 ///
-/// One remainder serves both cases of a comparison of a and b, which often mispredicts. Comparing both operands
-/// with m is faster than comparing their distance, but avoids fewer divisions; words of more than 32 bits compare
-/// the distance, since their divisions take longest.
+/// One remainder serves both cases of a comparison of a and b, which often mispredicts.
 pub fn subm<T: PlainWord>(a: T, b: T, m: T) -> T
     requires { 1 ≤ T.number m }
     ensures { T.number result ≡ residue (T.number m) (pos (T.number a) -ℤ pos (T.number b)) }
 {
     let apart = distance(a, b);
-    let is_residue = if T::bits() > 32 {
-        apart.is_below(m)
+    if spares_division(apart, m) {
+        if a.is_below(b) { m.minus(apart) } else { apart }
     } else {
-        spares_division(a, m) & spares_division(b, m)
-    };
-    let rest = reduced_unless(is_residue, apart, m);
-    if a.is_below(b) {
-        neg_below(rest, m)
-    } else {
-        rest
+        let rest = apart.remainder(m);
+        if a.is_below(b) {
+            neg_below(rest, m)
+        } else {
+            rest
+        }
     }
 }
 

@@ -20,14 +20,11 @@ fn spares_division<T: PathWord>(a: T, m: T) -> bool {
 #[inline]
 #[cfg_attr(debug_assertions, track_caller)]
 pub fn reduced<T: PlainWord>(a: T, m: T) -> T {
-    reduced_unless(spares_division(a, m), a, m)
-}
-
-// The residue of a word, without a division where the caller knows that the word is below m.
-#[inline]
-#[cfg_attr(debug_assertions, track_caller)]
-fn reduced_unless<T: PlainWord>(is_residue: bool, a: T, m: T) -> T {
-    if is_residue { a } else { a.remainder(m) }
+    if spares_division(a, m) {
+        a
+    } else {
+        a.remainder(m)
+    }
 }
 
 // The sum of two words, as a double word.
@@ -67,11 +64,9 @@ pub fn addm<T: PlainWord>(a: T, b: T, m: T) -> T {
 }
 
 /// The residue of a - b, below m. There is no division where words have more than 16
-/// bits and both are below m.
+/// bits and differ by less than m.
 ///
-/// One remainder serves both cases of a comparison of a and b, which often mispredicts. Comparing both operands
-/// with m is faster than comparing their distance, but avoids fewer divisions; words of more than 32 bits compare
-/// the distance, since their divisions take longest.
+/// One remainder serves both cases of a comparison of a and b, which often mispredicts.
 ///
 /// # Panics
 ///
@@ -79,16 +74,15 @@ pub fn addm<T: PlainWord>(a: T, b: T, m: T) -> T {
 #[cfg_attr(debug_assertions, track_caller)]
 pub fn subm<T: PlainWord>(a: T, b: T, m: T) -> T {
     let apart = distance(a, b);
-    let is_residue = if T::bits() > 32 {
-        apart.is_below(m)
+    if spares_division(apart, m) {
+        if a.is_below(b) { m.minus(apart) } else { apart }
     } else {
-        spares_division(a, m) & spares_division(b, m)
-    };
-    let rest = reduced_unless(is_residue, apart, m);
-    if a.is_below(b) {
-        neg_below(rest, m)
-    } else {
-        rest
+        let rest = apart.remainder(m);
+        if a.is_below(b) {
+            neg_below(rest, m)
+        } else {
+            rest
+        }
     }
 }
 
