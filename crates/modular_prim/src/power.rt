@@ -12,16 +12,16 @@ use modular_word::ring_word::RingWord;
 
 /// The residue of the power of `base` to `exp`, below m; that of 1 for the exponent 0. Condition: m is at least 1.
 ///
-/// The exponents 0, 1 and 2 take one division at most, and 3 takes two in words of at most 16 bits. Otherwise no step
-/// of the loop divides a double word of more than 16 bits: products are reduced by Montgomery's reduction for an odd m, by the
-/// reciprocal of m for an even one.
+/// The exponents 0, 1 and 2 take one division at most, and 3 takes two in words of at most 16 bits or where the square of
+/// m fits a word. Otherwise no step of the loop divides a double word of more than 16 bits: products are reduced by
+/// Montgomery's reduction for an odd m, by the reciprocal of m for an even one.
 pub fn powm<T: PlainWord>(base: T, exp: T, m: T) -> T
     requires { 1 ≤ T.number m }
     ensures { T.number result ≡ T.number base ^ T.number exp % T.number m }
 {
     let one = T::one();
     if two::<T>().is_below(exp) {
-        if T::bits() <= 16 && exp.minus(one) == two::<T>() {
+        if exp.minus(one) == two::<T>() && divides_fast(m) {
             cube(base, m)
         } else {
             power_below(reduced(base, m), exp, m)
@@ -35,8 +35,13 @@ pub fn powm<T: PlainWord>(base: T, exp: T, m: T) -> T
     }
 }
 
-// The residue of the third power, by a division for each product: in words of at most 16 bits the divisions take less
-// time than what the other methods compute first. Condition: m is at least 1.
+// Whether dividing two products by m takes less time than what the other methods compute first: in words of at most 16
+// bits, and where the products of residues fit a word.
+fn divides_fast<T: PathWord>(m: T) -> bool {
+    T::bits() <= 16 || m.shift_right(T::bits() / 2).is_zero_word()
+}
+
+// The residue of the third power, by a division for each product. Condition: m is at least 1.
 fn cube<T: PlainWord>(base: T, m: T) -> T
     requires { 1 ≤ T.number m }
     ensures { T.number result ≡ T.number base ^ 3 % T.number m }

@@ -3,8 +3,8 @@ use Rattle.std.proofs.Math.Nat.{pow-zero}
 use Rattle.modular_prim.proofs.PowerSteps.{power_one, power_two, power_of_rest}
 use Rattle.modular_prim.proofs.power.powm.Goals as goal
 
-pub returns-else-bits-le16 : goal.returns-else-bits-le16
-returns-else-bits-le16 g c =
+pub returns-else-eq : goal.returns-else-eq
+returns-else-eq g c =
     let n = g.T.RingWord.number in
     power_of_rest (n c.args.m) (n c.args.base) (n c.reduced.result) (n c.args.exp) (n c.power_below.result)
     c.reduced.ensures.value c.power_below.ensures
