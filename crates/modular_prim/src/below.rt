@@ -110,6 +110,21 @@ fn summed_difference<T: PathWord>(a: T, b: T, m: T) -> T
     less.wrapping_add(back)
 }
 
+/// The residue of a - b, as `sub_below` returns it, where compilers don't know the modulus. Condition: both are below m.
+#[inline(always)]
+pub fn sub_below_stored<T: PathWord>(a: T, b: T, m: T) -> T
+    requires left { T.number a < T.number m }
+    requires right { T.number b < T.number m }
+    ensures value { T.number result ≡ residue (T.number m) (pos (T.number a) -ℤ pos (T.number b)) }
+    ensures below { T.number result < T.number m }
+{
+    if T::bits() == 64 {
+        chosen_difference(a, b, m)
+    } else {
+        sub_below(a, b, m)
+    }
+}
+
 /// The residue of a - b, as `sub_below` returns it, but branchless for words of 64 bits: the latency is higher, but
 /// no branch mispredicts where either number may be the greater. Condition: both are below m.
 pub fn branchless_sub_below<T: PathWord>(a: T, b: T, m: T) -> T
@@ -131,6 +146,36 @@ pub fn dbl_below<T: PathWord>(a: T, m: T) -> T
         doubled_once(a, m)
     } else {
         sum_by_carry(a, a, m)
+    }
+}
+
+/// The residue of 2a, as `dbl_below` returns it, where compilers don't know the modulus. Condition: a is below m.
+pub fn dbl_below_stored<T: PathWord>(a: T, m: T) -> T
+    requires { T.number a < T.number m }
+    ensures value { T.number result ≡ (2 * T.number a) % T.number m }
+    ensures below { T.number result < T.number m }
+{
+    if T::bits() == 16 {
+        doubled_by_half(a, m)
+    } else {
+        dbl_below(a, m)
+    }
+}
+
+// The residue of 2a, below m, by a comparison with m/2, which doesn't wait for the double. In wider words LLVM turns it
+// into a branch in some loops, which mispredicts. Condition: a is below m.
+fn doubled_by_half<T: PathWord>(a: T, m: T) -> T
+    requires { T.number a < T.number m }
+    ensures value { T.number result ≡ (2 * T.number a) % T.number m }
+    ensures below { T.number result < T.number m }
+{
+    let low = m.half();
+    let high = m.minus(low);
+    if a.is_below(high) {
+        a.plus(a)
+    } else {
+        let above = a.minus(high);
+        above.plus(above).plus(high.minus(low))
     }
 }
 

@@ -96,6 +96,20 @@ fn summed_difference<T: PathWord>(a: T, b: T, m: T) -> T {
     less.wrapping_add(back)
 }
 
+/// The residue of a - b, as `sub_below` returns it, where compilers don't know the modulus.
+///
+/// # Preconditions
+///
+/// a and b are below m. This isn't tested: outside it the call panics, or returns no meaningful result.
+#[inline(always)]
+pub fn sub_below_stored<T: PathWord>(a: T, b: T, m: T) -> T {
+    if T::bits() == 64 {
+        chosen_difference(a, b, m)
+    } else {
+        sub_below(a, b, m)
+    }
+}
+
 /// The residue of a - b, as `sub_below` returns it, but branchless for words of 64 bits: the latency is higher, but
 /// no branch mispredicts where either number may be the greater.
 ///
@@ -118,6 +132,33 @@ pub fn dbl_below<T: PathWord>(a: T, m: T) -> T {
         doubled_once(a, m)
     } else {
         sum_by_carry(a, a, m)
+    }
+}
+
+/// The residue of 2a, as `dbl_below` returns it, where compilers don't know the modulus.
+///
+/// # Preconditions
+///
+/// a is below m. This isn't tested: outside it the call panics, or returns no meaningful result.
+#[inline]
+pub fn dbl_below_stored<T: PathWord>(a: T, m: T) -> T {
+    if T::bits() == 16 {
+        doubled_by_half(a, m)
+    } else {
+        dbl_below(a, m)
+    }
+}
+
+// The residue of 2a, below m, by a comparison with m/2, which doesn't wait for the double. In wider words LLVM turns it
+// into a branch in some loops, which mispredicts. Condition: a is below m.
+fn doubled_by_half<T: PathWord>(a: T, m: T) -> T {
+    let low = m.half();
+    let high = m.minus(low);
+    if a.is_below(high) {
+        a.plus(a)
+    } else {
+        let above = a.minus(high);
+        above.plus(above).plus(high.minus(low))
     }
 }
 

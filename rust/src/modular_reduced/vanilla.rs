@@ -1,7 +1,7 @@
 //! The plain reducer: the form of a value is the value.
 
 use crate::modular_reduced::reducer::Reducer;
-use crate::modular_prim::below::{add_below, dbl_below, neg_below, sub_below};
+use crate::modular_prim::below::{add_below, dbl_below_stored, neg_below, sub_below_stored};
 use crate::modular_prim::inverse::fast_inverse;
 use crate::modular_prim::plain_word::PlainWord;
 
@@ -80,12 +80,12 @@ impl<T: PlainWord> Reducer<T> for Vanilla<T> {
 
     #[inline]
     fn dbl(&self, f: T) -> T {
-        dbl_below(f, self.modulus)
+        dbl_below_stored(f, self.modulus)
     }
 
     #[inline]
     fn sub(&self, a: &T, b: &T) -> T {
-        sub_below(*a, *b, self.modulus)
+        sub_below_stored(*a, *b, self.modulus)
     }
 
     #[inline]
