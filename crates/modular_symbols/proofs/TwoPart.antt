@@ -138,16 +138,15 @@ pub record Halved (x s a : ℕ) : Type 0 where
   pub whole : a * 2 ^ s ≡ x
   pub within : a ≤ x
 
-pub halved_split : (x s a : ℕ) → SplitAt x s → a ≡ x / 2 ^ s → Halved x s a
-halved_split x s a split f =
+pub halved_by : (x s a : ℕ) → a % 2 ≡ 1 → a * 2 ^ s ≡ x → Halved x s a
+halved_by x s a o m =
     let one : 1 ≤ 2 ^ s = pow_pos s in
     let t = mul-le-mul_left a one in
-    let m : a * 2 ^ s ≡ x = ap (λ v. v * 2 ^ s) f ∙ split.whole in
-    record {
-      odd = ap (λ v. v % 2) f ∙ split.odd;
-      whole = m;
-      within = omega arith;
-    }
+    record { odd = o; whole = m; within = omega arith }
+
+pub halved_split : (x s a : ℕ) → SplitAt x s → a ≡ x / 2 ^ s → Halved x s a
+halved_split x s a split f =
+    halved_by x s a (ap (λ v. v % 2) f ∙ split.odd) (ap (λ v. v * 2 ^ s) f ∙ split.whole)
 
 pub halved : (w x s a : ℕ) → (x ≡ 0 → ⊥) → x < 2 ^ w → s ≡ count_trailing_zeros w x → a ≡ x / 2 ^ s → Halved x s a
 halved w x s a p l e f =

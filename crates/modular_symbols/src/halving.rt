@@ -23,6 +23,54 @@ fn is_turned<T: PlainWord>(a: T, twos: u32, n: T) -> bool
     is_turned_by_twos(twos, n) ^ is_turned_by_swap(a, n)
 }
 
+// The odd part of a, and the exponent of 2 in a. Words of at most 16 bits are halved one bit at a time: the processor
+// predicts most of these branches, while counting the zeros and shifting delays the division that follows. Condition: a
+// is at least 1.
+fn odd_part<T: PlainWord>(a: T) -> (T, u32)
+    requires { 1 ≤ T.number a }
+    ensures odd { T.number result.0 % 2 ≡ 1 }
+    ensures whole { T.number result.0 * 2 ^ result.1 ≡ T.number a }
+{
+    if T::bits() <= 16 {
+        odd_part_by_halves(a)
+    } else {
+        let twos = a.trailing_zeros();
+        (a.shift_right(twos), twos)
+    }
+}
+
+// The odd part of a, and the exponent of 2 in a. Condition: a is at least 1.
+fn odd_part_by_halves<T: PlainWord>(a: T) -> (T, u32)
+    requires { 1 ≤ T.number a }
+    ensures odd { T.number result.0 % 2 ≡ 1 }
+    ensures whole { T.number result.0 * 2 ^ result.1 ≡ T.number a }
+{
+    // Reading the word gives the proof that it fits its width.
+    let _ = a.is_zero_word();
+    let mut odd = a;
+    let mut twos = 0u32;
+    'halves: while !odd.is_odd() {
+        odd = odd.half();
+        twos += 1;
+    }
+    (odd, twos)
+}
+
+// The remainder of n by d. Words of at most 16 bits aren't divided by 1. Condition: d is at least 1.
+fn rest<T: PlainWord>(n: T, d: T) -> T
+    requires { 1 ≤ T.number d }
+    ensures rest { T.number result ≡ T.number n % T.number d }
+    ensures fits { T.number n < T.base }
+{
+    if T::bits() <= 16 && d == T::one() {
+        // Reading the word gives the proof that it fits its width.
+        let _ = n.is_below(d);
+        T::zero()
+    } else {
+        digits::rest(n, d)
+    }
+}
+
 // The Jacobi symbol of a over n, and the number of halvings and swaps. Condition: n is odd and above a.
 fn halve_and_swap<T: PlainWord>(a: T, n: T) -> (i8, u32)
     requires odd { T.number n % 2 ≡ 1 }
@@ -36,10 +84,9 @@ fn halve_and_swap<T: PlainWord>(a: T, n: T) -> (i8, u32)
     let mut turned = false;
     let mut count = 0;
     'swaps: while !above.is_zero_word() {
-        let twos = above.trailing_zeros();
-        let odd = above.shift_right(twos);
+        let (odd, twos) = odd_part(above);
         turned ^= is_turned(odd, twos, below);
-        above = digits::rest(below, odd);
+        above = rest(below, odd);
         below = odd;
         count += twos + 1;
     }

@@ -1,13 +1,14 @@
 -- Each turn of the loop keeps the symbol up to its sign, and counts its steps.
-use Rattle.std.proofs.Common.{arith, ◌≢◌, ◌+◌, ◌<◌, ◌∙◌, pos, sym, ap, subst}
+use Rattle.std.proofs.Common.{arith, ◌≢◌, ◌+◌, ◌*◌, ◌≤◌, ◌∙◌, pos, sym, ap}
 use Rattle.std.proofs.lemmas.Bool.{false≢true}
 use Rattle.modular_symbols.specs.Jacobi.{jacobi}
 use Rattle.modular_symbols.specs.Kronecker.{signed}
 use Rattle.modular_symbols.proofs.HalvingSteps.{smaller, kept_swapped}
 use Rattle.modular_symbols.proofs.TurnedSymbols.{kept_start, kept_one, kept_none}
-use Rattle.modular_symbols.proofs.TwoPart.{halved, fewer_zeros}
+use Rattle.modular_symbols.proofs.TwoPart.{halved_by}
 use Rattle.modular_symbols.proofs.StepCounts.{counts_start, counts_turn, counts_end, counts_few}
 use Rattle.modular_symbols.proofs.halving.halve_and_swap.Goals as goal
+use Rattle.modular_symbols.proofs.halving.halve_and_swap.Goals.{After-rest-above}
 
 pub swaps-init : goal.swaps-init
 swaps-init g c =
@@ -18,75 +19,73 @@ swaps-init g c =
     }
 
 pub is_turned-turned-requires-clause-a_odd : goal.is_turned-turned-requires-clause-a_odd
-is_turned-turned-requires-clause-a_odd g c =
-    let n = g.T.RingWord.number in
-    let some : n c.swaps.above ≢ 0 = λ e. false≢true (sym c.swaps-test.true ∙ c.is_zero_word.ensures.zero.1 e) in
-    (halved g.T.RingWord.width (n c.swaps.above) c.trailing_zeros-twos.result (n c.shift_right-odd.result) some
-    c.is_zero_word.ensures.fits c.trailing_zeros-twos.ensures.value c.shift_right-odd.ensures.value).odd
+is_turned-turned-requires-clause-a_odd g c = c.odd_part-odd.ensures.odd
 
 pub is_turned-turned-requires-clause-n_odd : goal.is_turned-turned-requires-clause-n_odd
 is_turned-turned-requires-clause-n_odd g c = c.swaps.invariant.symbol.odd
 
-pub shift_right-odd-requires : goal.shift_right-odd-requires
-shift_right-odd-requires g c =
+pub odd_part-odd-requires : goal.odd_part-odd-requires
+odd_part-odd-requires g c =
     let n = g.T.RingWord.number in
     let some : n c.swaps.above ≢ 0 = λ e. false≢true (sym c.swaps-test.true ∙ c.is_zero_word.ensures.zero.1 e) in
-    subst (λ s. s < g.T.RingWord.width) (sym c.trailing_zeros-twos.ensures.value)
-    (fewer_zeros g.T.RingWord.width (n c.swaps.above) (omega (arith, some)) c.is_zero_word.ensures.fits)
+    omega (arith, some)
 
 pub rest-above-requires : goal.rest-above-requires
 rest-above-requires g c =
     let n = g.T.RingWord.number in
-    let some : n c.swaps.above ≢ 0 = λ e. false≢true (sym c.swaps-test.true ∙ c.is_zero_word.ensures.zero.1 e) in
-    let h = halved g.T.RingWord.width (n c.swaps.above) c.trailing_zeros-twos.result (n c.shift_right-odd.result) some
-    c.is_zero_word.ensures.fits c.trailing_zeros-twos.ensures.value c.shift_right-odd.ensures.value in
+    let h = halved_by (n c.swaps.above) c.odd_part-odd.result.1 (n c.odd_part-odd.result.0) c.odd_part-odd.ensures.odd
+    c.odd_part-odd.ensures.whole in
     let odd = h.odd in
     omega arith
 
 pub swaps-smaller : goal.swaps-smaller
 swaps-smaller g c =
     let n = g.T.RingWord.number in
-    let some : n c.swaps.above ≢ 0 = λ e. false≢true (sym c.swaps-test.true ∙ c.is_zero_word.ensures.zero.1 e) in
-    let h = halved g.T.RingWord.width (n c.swaps.above) c.trailing_zeros-twos.result (n c.shift_right-odd.result) some
-    c.is_zero_word.ensures.fits c.trailing_zeros-twos.ensures.value c.shift_right-odd.ensures.value in
-    let less = smaller (n c.swaps.above) c.trailing_zeros-twos.result
-    (n c.shift_right-odd.result) (n c.swaps.below) h in
+    let h = halved_by (n c.swaps.above) c.odd_part-odd.result.1 (n c.odd_part-odd.result.0) c.odd_part-odd.ensures.odd
+    c.odd_part-odd.ensures.whole in
+    let less = smaller (n c.swaps.above) c.odd_part-odd.result.1
+    (n c.odd_part-odd.result.0) (n c.swaps.below) h in
     omega (arith, c.rest-above.ensures.rest)
 
 pub swaps-preserved : goal.swaps-preserved
 swaps-preserved g c =
     let n = g.T.RingWord.number in
-    let some : n c.swaps.above ≢ 0 = λ e. false≢true (sym c.swaps-test.true ∙ c.is_zero_word.ensures.zero.1 e) in
-    let h = halved g.T.RingWord.width (n c.swaps.above) c.trailing_zeros-twos.result (n c.shift_right-odd.result) some
-    c.is_zero_word.ensures.fits c.trailing_zeros-twos.ensures.value c.shift_right-odd.ensures.value in
+    let h = halved_by (n c.swaps.above) c.odd_part-odd.result.1 (n c.odd_part-odd.result.0) c.odd_part-odd.ensures.odd
+    c.odd_part-odd.ensures.whole in
     record {
       symbol =
           kept_swapped (jacobi (pos (n c.args.a)) (n c.args.n)) (n c.swaps.above)
-          (n c.swaps.below) c.trailing_zeros-twos.result
-          (n c.shift_right-odd.result) (n c.rest-above.result) c.swaps.turned c.is_turned-turned.result
+          (n c.swaps.below) c.odd_part-odd.result.1
+          (n c.odd_part-odd.result.0) (n c.rest-above.result) c.swaps.turned c.is_turned-turned.result
           c.swaps.invariant.symbol h c.is_turned-turned.ensures c.rest-above.ensures.rest;
       counts =
           counts_turn g.T.RingWord.width g.T.PathWord.base (n c.args.a) (n c.args.n) (n c.swaps.above) (n c.swaps.below)
-          c.trailing_zeros-twos.result (n c.shift_right-odd.result) (n c.rest-above.result) c.swaps.count
+          c.odd_part-odd.result.1 (n c.odd_part-odd.result.0) (n c.rest-above.result) c.swaps.count
           c.swaps.invariant.counts h c.rest-above.ensures.rest g.met.T.PathWord.base_is
           c.rest-above.ensures.fits;
     }
 
-pub overflow_add-count-in-swaps : goal.overflow_add-count-in-swaps
-overflow_add-count-in-swaps g c =
+-- the steps so far are few
+few : (g : _) (c : After-rest-above g) → c.swaps.count + (c.odd_part-odd.result.1 + 1) ≤ 2 * g.T.RingWord.width
+few g c =
     let n = g.T.RingWord.number in
-    let some : n c.swaps.above ≢ 0 = λ e. false≢true (sym c.swaps-test.true ∙ c.is_zero_word.ensures.zero.1 e) in
-    let h = halved g.T.RingWord.width (n c.swaps.above) c.trailing_zeros-twos.result (n c.shift_right-odd.result) some
-    c.is_zero_word.ensures.fits c.trailing_zeros-twos.ensures.value c.shift_right-odd.ensures.value in
+    let h = halved_by (n c.swaps.above) c.odd_part-odd.result.1 (n c.odd_part-odd.result.0) c.odd_part-odd.ensures.odd
+    c.odd_part-odd.ensures.whole in
     let after =
     counts_turn g.T.RingWord.width g.T.PathWord.base (n c.args.a) (n c.args.n) (n c.swaps.above) (n c.swaps.below)
-    c.trailing_zeros-twos.result (n c.shift_right-odd.result) (n c.rest-above.result) c.swaps.count
+    c.odd_part-odd.result.1 (n c.odd_part-odd.result.0) (n c.rest-above.result) c.swaps.count
     c.swaps.invariant.counts h c.rest-above.ensures.rest g.met.T.PathWord.base_is
     c.rest-above.ensures.fits in
-    let few =
-    counts_few g.T.RingWord.width (n c.args.a) (n c.args.n) (n c.rest-above.result) (n c.shift_right-odd.result)
-    (c.swaps.count + (c.trailing_zeros-twos.result + 1)) after c.requires.below in
-    omega (arith, g.met.T.RingWord.width_to)
+    counts_few g.T.RingWord.width (n c.args.a) (n c.args.n) (n c.rest-above.result) (n c.odd_part-odd.result.0)
+    (c.swaps.count + (c.odd_part-odd.result.1 + 1)) after c.requires.below
+
+pub overflow_add-count : goal.overflow_add-count
+overflow_add-count g c =
+    omega (arith, few g (goal.at.overflow_add-count g c).After-rest-above, g.met.T.RingWord.width_to)
+
+pub overflow_add-count-in-swaps : goal.overflow_add-count-in-swaps
+overflow_add-count-in-swaps g c =
+    omega (arith, few g (goal.at.overflow_add-count-in-swaps g c).After-rest-above, g.met.T.RingWord.width_to)
 
 pub returns-then-turned-clause-symbol : goal.returns-then-turned-clause-symbol
 returns-then-turned-clause-symbol g c =
