@@ -112,6 +112,12 @@ fourth p c two less =
     ap (λ n. 2 ^ n) (let s : p ≡ p - 2 + 2 = omega arith in s) ∙ pow-add 2 (p - 2) 2 in
     omega (arith, whole, less)
 
+-- so is one of fewer bits still
+pub fourth_of : (p k c : ℕ) → 2 ≤ p → k ≤ p - 2 → c < 2 ^ k → 4 * c ≤ 2 ^ p
+fourth_of p k c two fewer less =
+    let most : 2 ^ k ≤ 2 ^ (p - 2) = pow-le-pow_right {n = 2} (lit< tt) fewer in
+    fourth p c two (omega (arith, most, less))
+
 -- the first bound is below 2^(2p)
 pub first_bound : (p c mask w : ℕ) → mask + 1 ≡ 2 ^ p → c < 2 ^ p → 2 * p ≤ w → mask * c + mask < 2 ^ w
 first_bound p c mask w ones less room =

@@ -1,10 +1,11 @@
 -- What a fold makes of a number.
 use Rattle.std.proofs.Common.{◌≡◌, ℕ, zero, suc, ◌+◌, ◌-◌, ◌*◌, ◌/◌, ◌%◌, ◌^◌, ◌<◌}
-use Rattle.std.proofs.Common.{◌≤◌, arith, ap, sym, ◌∙◌, ⊎_elim, bit_and, lit<}
+use Rattle.std.proofs.Common.{◌≤◌, arith, ap, sym, ◌∙◌, ⊎_elim, bit_and, lit<, refl}
 use Rattle.std.proofs.Math.Nat.{add-mul-mod_self_right, mod-lt, mul-le-mul_left}
-use Rattle.std.proofs.Math.Nat.{mul-lt-mul_of_pos_left, pow-le-pow_right}
+use Rattle.std.proofs.Math.Nat.{mul-lt-mul_of_pos_left, pow-le-pow_right, pow-suc}
 use Rattle.std.proofs.lemmas.Nat.{shr_split, pow_pos, le-div, and_mask}
 use Rattle.std.proofs.lemmas.Bool.{cases_lt}
+use Rattle.modular_word.proofs.Congruence.{same_sum, same_product}
 use Rattle.modular_folds.specs.Folds.{fold_of, IsFolding}
 
 -- the mask of the bits below p gives the residue modulo 2^p
@@ -59,6 +60,28 @@ bit_inside w p v high fits =
     (λ (l : p < w). l)
     (λ (l : w ≤ p). let more = pow-le-pow_right {n = 2} (lit< tt) l in absurd (omega (arith, more)))
     (cases_lt p w)
+
+-- a fold by a factor that is congruent to 2^e keeps the residue
+pub far_fold_keeps : (e factor m v : ℕ) → factor % m ≡ 2 ^ e % m → (v / 2 ^ e * factor + v % 2 ^ e) % m ≡ v % m
+far_fold_keeps e factor m v is =
+    same_sum m (v / 2 ^ e * factor) (v / 2 ^ e * 2 ^ e) (v % 2 ^ e) (v % 2 ^ e)
+    (same_product m (v / 2 ^ e) (v / 2 ^ e) factor (2 ^ e) refl is) refl
+    ∙ ap (λ n. n % m) (shr_split v e)
+
+-- the next power of two
+pub next_power : (e : ℕ) → 2 ^ (e + 1) ≡ 2 ^ e + 2 ^ e
+next_power e = ap (λ n. 2 ^ n) (let s : e + 1 ≡ suc e = omega arith in s) ∙ pow-suc 2 e ∙ omega arith
+
+-- twice a number that is congruent to 2^e is congruent to the next power
+pub doubled_keeps : (e factor m : ℕ) → factor % m ≡ 2 ^ e % m → (factor + factor) % m ≡ 2 ^ (e + 1) % m
+doubled_keeps e factor m is =
+    same_sum m factor (2 ^ e) factor (2 ^ e) is is ∙ ap (λ n. n % m) (sym (next_power e))
+
+-- a number below m is below 2^(p + by)
+pub below_power : (p by m c x : ℕ) → m + c ≡ 2 ^ p → x < m → x < 2 ^ (p + by)
+below_power p by m c x whole less =
+    let most : 2 ^ p ≤ 2 ^ (p + by) = pow-le-pow_right {n = 2} (lit< tt) (let e : p ≤ p + by = omega arith in e) in
+    omega (arith, most)
 
 -- 2^p is among the numbers up to 2^w
 pub power_fits : {w p c m : ℕ} → IsFolding w p c m → 2 ^ p ≤ 2 ^ w

@@ -3,6 +3,7 @@
 ghost use Rattle.std.specs.Prelude.{◌≡◌, ℕ, ◌+◌, ◌*◌, ◌/◌, ◌%◌, ◌^◌, ◌<◌, ◌≤◌, IsTrue};
 ghost use Rattle.modular_folds.specs.Folds.{fold_of, folds, IsFewFolds, IsFolding};
 
+use crate::far::{has_few_folds, reduced_far};
 use crate::fold_word::FoldWord;
 use modular_prim::below::{reduced_once, sum_once};
 use modular_word::path_word::PathWord;
@@ -65,7 +66,7 @@ pub fn fold_three<V: FoldWord>(v: V, p: u32, mask: V, c: V, m: V) -> (V, u32)
 }
 
 // Folds until the number is below 2^p, with a comparison before each.
-fn fold_on<V: FoldWord>(v: V, p: u32, mask: V, c: V, m: V) -> (V, u32)
+pub(crate) fn fold_on<V: FoldWord>(v: V, p: u32, mask: V, c: V, m: V) -> (V, u32)
     requires folding { IsFolding V.width p (V.number c) (V.number m) }
     requires fits { V.number v < 2 ^ V.width }
     requires mask { V.number mask + 1 ≡ 2 ^ p }
@@ -144,7 +145,7 @@ fn fold_in_line<V: FoldWord>(v: V, p: u32, c: V, m: V) -> V
 
 // v modulo m. Condition: v is below 2m.
 #[inline(always)]
-fn reduced_last<V: FoldWord>(v: V, m: V) -> V
+pub(crate) fn reduced_last<V: FoldWord>(v: V, m: V) -> V
     requires { V.number v < 2 * V.number m }
     ensures value { V.number result ≡ V.number v % V.number m }
     ensures below { V.number result < V.number m }
@@ -203,7 +204,29 @@ fn most_after<V: FoldWord>(most: V, p: u32, mask: V, c: V) -> V
     most.shift_right(p).times(c).plus(mask)
 }
 
-// v modulo m. Two or three folds are in straight-line code where they make every number up to `most` less than 2m, which
+// v modulo m, by one or two folds in straight-line code where they make every number up to `most` less than 2m, which c
+// and p alone decide, else by folds with comparisons. Condition: v is at most `most`.
+#[inline(always)]
+fn reduced_by_more<V: FoldWord>(v: V, most: V, p: u32, c: V, m: V) -> V
+    requires folding { IsFolding V.width p (V.number c) (V.number m) }
+    requires inside { p < V.width }
+    requires bound { V.number v ≤ V.number most }
+    ensures { V.number result ≡ V.number v % V.number m }
+{
+    let mask = m.plus(c.minus(V::one()));
+    let twice = m.plus(m);
+    let first = fold_once(v, p, mask, c);
+    let most_of_one = most_after(most, p, mask, c);
+    if most_of_one.is_below(twice) {
+        reduced_last(first, m)
+    } else if most_after(most_of_one, p, mask, c).is_below(twice) {
+        reduced_last(fold_once(first, p, mask, c), m)
+    } else {
+        reduced_last(fold_on(first, p, mask, c, m).0, m)
+    }
+}
+
+// v modulo m. Two to four folds are in straight-line code where they make every number up to `most` less than 2m, which
 // c and p alone decide. A residue returns at once. Condition: v is at most `most`.
 #[inline(always)]
 fn reduced_up_to<V: FoldWord>(v: V, most: V, p: u32, c: V, m: V) -> V
@@ -222,10 +245,8 @@ fn reduced_up_to<V: FoldWord>(v: V, most: V, p: u32, c: V, m: V) -> V
     let most_of_two = most_after(most_after(most, p, mask, c), p, mask, c);
     if most_of_two.is_below(twice) {
         reduced_last(second, m)
-    } else if most_after(most_of_two, p, mask, c).is_below(twice) {
-        reduced_last(fold_once(second, p, mask, c), m)
     } else {
-        reduced_last(fold_on(second, p, mask, c, m).0, m)
+        reduced_by_more(second, most_of_two, p, c, m)
     }
 }
 
@@ -252,6 +273,12 @@ pub trait FoldedWord: PathWord {
         requires folding { IsFolding Self.width p (Self.number c) (Self.number m) }
         requires small { 4 * Self.number c ≤ 2 ^ p }
         requires product { Self.double_number v / 2 ^ p < 2 ^ p }
+        ensures { Self.number result ≡ Self.double_number v % Self.number m };
+
+    /// The residue of a double word, by folds at bits above p and then at p. Condition: folds at the bit p by c reduce
+    /// modulo m.
+    fn reduce_far(v: Self::Double, p: u32, c: Self, m: Self) -> Self
+        requires { IsFolding Self.width p (Self.number c) (Self.number m) }
         ensures { Self.number result ≡ Self.double_number v % Self.number m };
 
     /// Whether `reduce_in_line` reduces a double word, and takes less time than folds with comparisons. Condition: folds
@@ -301,6 +328,10 @@ impl FoldedWord for u32 {
         reduced_short(fold_in_line(v, p, c as u64, m as u64), p, c, m)
     }
 
+    fn reduce_far(v: u64, p: u32, c: u32, m: u32) -> u32 {
+        reduced_far(v, p, c as u64, m as u64) as u32
+    }
+
     fn is_in_line(v: u64, p: u32, c: u32, m: u32) -> bool {
         folds_in_line(v, p, c as u64, m as u64)
     }
@@ -343,6 +374,10 @@ impl FoldedWord for u64 {
             let m = m as u128;
             reduced_last(fold_in_line(v, p, c as u128, m), m) as u64
         }
+    }
+
+    fn reduce_far(v: u128, p: u32, c: u64, m: u64) -> u64 {
+        reduced_far(v, p, c as u128, m as u128) as u64
     }
 
     fn is_in_line(v: u128, p: u32, c: u64, m: u64) -> bool {
@@ -412,6 +447,8 @@ pub fn reduce_double_word<T: FoldedWord>(v: T::Double, p: u32, c: T, m: T) -> T
         } else {
             reduce_by_folds(v, p, c, m).0
         }
+    } else if !has_few_folds(p, c) {
+        T::reduce_far(v, p, c, m)
     } else if T::is_in_line(v, p, c, m) {
         T::reduce_in_line(v, p, c, m)
     } else {

@@ -2,6 +2,7 @@
 //! written once for every such modulus, and the reducers that use them.
 #![tactic(auto)]
 
+pub mod far;
 pub mod fold_word;
 pub mod folds;
 pub mod mersenne;

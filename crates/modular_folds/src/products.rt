@@ -4,7 +4,8 @@
 ghost use Rattle.std.specs.Prelude.{◌≡◌, ℕ, ◌+◌, ◌-◌, ◌*◌, ◌/◌, ◌%◌, ◌^◌, ◌<◌, ◌≤◌, IsTrue};
 ghost use Rattle.modular_folds.specs.Folds.{fold_of, IsFolding};
 
-use crate::folds::{FoldedWord, reduce_by_folds};
+use crate::far::has_few_folds;
+use crate::folds::FoldedWord;
 use modular_word::path_word::PathWord;
 use modular_word::ring_word::RingWord;
 
@@ -55,8 +56,8 @@ fn is_by_words<T: PathWord>(p: u32, c: T) -> bool
 /// a·b modulo m. Conditions: m is 2^p - c and more than half of 2^p, and p is at most the width of the words; a and
 /// b are below m.
 ///
-/// Where c is less than a fourth of 2^p, the product is folded without comparisons, by its words where that is faster.
-/// The choice depends on c and p alone.
+/// Where c isn't near 2^p, the product is folded without comparisons, by its words where that is faster. The choice depends
+/// on c and p alone.
 ///
 /// Source: Handbook of Applied Cryptography, algorithm 14.47.
 #[inline(always)]
@@ -68,10 +69,10 @@ pub fn reduce_product<T: FoldedWord>(a: T, b: T, p: u32, c: T, m: T) -> T
 {
     if is_by_words(p, c) {
         product_by_folds(a, b, p, c, m)
-    } else if c.shift_right(p - 2).is_zero_word() {
+    } else if has_few_folds(p, c) {
         T::reduce_in_line(a.product(b), p, c, m)
     } else {
-        reduce_by_folds(a.product(b), p, c, m).0
+        T::reduce_far(a.product(b), p, c, m)
     }
 }
 

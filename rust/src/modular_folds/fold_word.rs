@@ -35,7 +35,7 @@ pub trait FoldWord: Sized + RingWord {
     /// The product with a factor, plus a word.
     ///
     /// For a factor 2^k + 1 or 2^k - 1 it is a shift and two sums, whose latency is less than that of a product. The
-    /// sums may wrap; LLVM would turn sums that don't back into a product.
+    /// sums may wrap; LLVM would turn sums that don't back into a product. For the factor 1 it is one sum.
     ///
     /// # Preconditions
     ///
@@ -83,7 +83,7 @@ impl FoldWord for u64 {
         let below = factor.wrapping_sub(1);
         let up = above.trailing_zeros();
         let down = below.trailing_zeros();
-        if up < 64 && 1 << up == above {
+        if 1 < up && up < 64 && 1 << up == above {
             addend.wrapping_sub(self).wrapping_add(self << up)
         } else if below < factor && down < 64 && 1 << down == below {
             addend.wrapping_add(self).wrapping_add(self << down)
@@ -130,7 +130,7 @@ impl FoldWord for u128 {
         let below = factor.wrapping_sub(1);
         let up = above.trailing_zeros();
         let down = below.trailing_zeros();
-        if up < 128 && 1 << up == above {
+        if 1 < up && up < 128 && 1 << up == above {
             addend.wrapping_sub(self).wrapping_add(self << up)
         } else if below < factor && down < 128 && 1 << down == below {
             addend.wrapping_add(self).wrapping_add(self << down)

@@ -1,7 +1,8 @@
 //! Words and products of words below m, modulo an m near a power of two: by folds of their parts, without
 //! comparisons of the numbers.
 
-use crate::modular_folds::folds::{FoldedWord, reduce_by_folds};
+use crate::modular_folds::far::has_few_folds;
+use crate::modular_folds::folds::FoldedWord;
 use crate::modular_word::path_word::PathWord;
 
 // The parts of high·c + low below and above the bit p. The lower part, as an argument and as a result, is shifted
@@ -34,8 +35,8 @@ fn is_by_words<T: PathWord>(p: u32, c: T) -> bool {
 
 /// a·b modulo m.
 ///
-/// Where c is less than a fourth of 2^p, the product is folded without comparisons, by its words where that is faster.
-/// The choice depends on c and p alone.
+/// Where c isn't near 2^p, the product is folded without comparisons, by its words where that is faster. The choice depends
+/// on c and p alone.
 ///
 /// Source: Handbook of Applied Cryptography, algorithm 14.47.
 ///
@@ -47,10 +48,10 @@ fn is_by_words<T: PathWord>(p: u32, c: T) -> bool {
 pub fn reduce_product<T: FoldedWord>(a: T, b: T, p: u32, c: T, m: T) -> T {
     if is_by_words(p, c) {
         product_by_folds(a, b, p, c, m)
-    } else if c.shift_right(p - 2).is_zero_word() {
+    } else if has_few_folds(p, c) {
         T::reduce_in_line(a.product(b), p, c, m)
     } else {
-        reduce_by_folds(a.product(b), p, c, m).0
+        T::reduce_far(a.product(b), p, c, m)
     }
 }
 

@@ -1,6 +1,6 @@
-use Rattle.std.proofs.Common.{◌∙◌, ◌%◌, ◌^◌, ◌<◌, ap, arith}
-use Rattle.modular_folds.proofs.FoldSteps.{ones, power_fits, fold_at_most, fold_keeps, two_folds_keep}
-use Rattle.modular_folds.proofs.FoldBounds.{doubled_fits, up_to, two_up_to}
+use Rattle.std.proofs.Common.{◌∙◌, arith}
+use Rattle.modular_folds.proofs.FoldSteps.{ones, power_fits, two_folds_keep}
+use Rattle.modular_folds.proofs.FoldBounds.{doubled_fits, two_up_to}
 use Rattle.modular_folds.proofs.folds.reduced_up_to.Goals as goal
 
 pub plus-mask-requires : goal.plus-mask-requires
@@ -21,23 +21,12 @@ reduced_last-requires g c =
     c.fold_once-first.ensures c.fold_once-second.ensures c.most_after.ensures c.most_after-most_of_two.ensures in
     omega (arith, below, bound, c.plus-twice.ensures)
 
-pub reduced_last-requires-then-is_below-3 : goal.reduced_last-requires-then-is_below-3
-reduced_last-requires-then-is_below-3 g c =
+pub reduced_by_more-requires-clause-bound : goal.reduced_by_more-requires-clause-bound
+reduced_by_more-requires-clause-bound g c =
     let n = g.V.RingWord.number in
     let mask = ones _ _ c.one.ensures c.minus.ensures c.plus-mask.ensures c.requires.folding.whole in
-    let below = c.is_below-else-is_below-2.ensures.below.0 c.if-is_below-3.true in
-    let bound = two_up_to c.args.p (n c.args.c) (n c.args.v) (n c.plus-mask.result) (n c.args.most) mask c.requires.bound
-    c.fold_once-first.ensures c.fold_once-second.ensures c.most_after.ensures c.most_after-most_of_two.ensures in
-    let third = up_to c.args.p (n c.args.c) _ (n c.plus-mask.result) (n c.most_after-most_of_two.result) mask bound in
-    omega (arith, below, third, c.plus-twice.ensures, c.fold_once.ensures, c.most_after-else-is_below-2.ensures)
-
-pub fold_on-requires-clause-fits : goal.fold_on-requires-clause-fits
-fold_on-requires-clause-fits g c =
-    let n = g.V.RingWord.number in
-    let less : n c.args.c < 2 ^ c.args.p = omega (arith, c.requires.folding.whole, c.requires.folding.half) in
-    let one = fold_at_most c.args.p (n c.args.c) (n c.args.v) less in
-    let two = fold_at_most c.args.p (n c.args.c) (n c.fold_once-first.result) less in
-    omega (arith, one, two, c.fold_once-first.ensures, c.fold_once-second.ensures, c.is_below.ensures.fits)
+    two_up_to c.args.p (n c.args.c) (n c.args.v) (n c.plus-mask.result) (n c.args.most) mask c.requires.bound
+    c.fold_once-first.ensures c.fold_once-second.ensures c.most_after.ensures c.most_after-most_of_two.ensures
 
 pub returns-then-is_below-2 : goal.returns-then-is_below-2
 returns-then-is_below-2 g c =
@@ -46,17 +35,9 @@ returns-then-is_below-2 g c =
     ∙ two_folds_keep c.args.p (n c.args.c) (n c.args.m) (n c.args.v) c.requires.folding.whole
     c.fold_once-first.ensures c.fold_once-second.ensures
 
-pub returns-then-is_below-3 : goal.returns-then-is_below-3
-returns-then-is_below-3 g c =
+pub returns-else-is_below-2 : goal.returns-else-is_below-2
+returns-else-is_below-2 g c =
     let n = g.V.RingWord.number in
-    c.reduced_last-then-is_below-3.ensures.value ∙ ap (λ k. k % n c.args.m) c.fold_once.ensures
-    ∙ fold_keeps c.args.p (n c.args.c) (n c.args.m) (n c.fold_once-second.result) c.requires.folding.whole
-    ∙ two_folds_keep c.args.p (n c.args.c) (n c.args.m) (n c.args.v) c.requires.folding.whole
-    c.fold_once-first.ensures c.fold_once-second.ensures
-
-pub returns-else-is_below-3 : goal.returns-else-is_below-3
-returns-else-is_below-3 g c =
-    let n = g.V.RingWord.number in
-    c.reduced_last-else-is_below-3.ensures.value ∙ c.fold_on.ensures.same
+    c.reduced_by_more.ensures
     ∙ two_folds_keep c.args.p (n c.args.c) (n c.args.m) (n c.args.v) c.requires.folding.whole
     c.fold_once-first.ensures c.fold_once-second.ensures
