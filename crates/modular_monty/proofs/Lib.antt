@@ -6,4 +6,5 @@ pub mod ReducedSums
 pub mod SquareTests
 pub mod TwoPartSteps
 pub mod Twos
+pub mod UnitBases
 pub mod WordTests

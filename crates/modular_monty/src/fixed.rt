@@ -6,7 +6,7 @@ ghost use Rattle.modular_monty.specs.Montgomery.{montgomery_form, montgomery_val
 ghost use Rattle.modular_monty.specs.MontgomeryLaws.{montgomery_canonical};
 
 use crate::computed::computed_once;
-use crate::odd_ring::{OddModulus, OddRing};
+use crate::odd_ring::{OddModulus, OddRing, redc_below, unless_unit_base};
 use modular_reduced::reducer::Reducer;
 use modular_word::paths::redc;
 
@@ -95,6 +95,11 @@ impl<const P: u32> OddModulus<u32> for OddNumber32<P> {
 
     fn reduced(&self, t: u64) -> u32 {
         redc(P, Self::COMPUTED.negated_inverse, t)
+    }
+
+    fn reduced_below(&self, t: u64) -> u32 {
+        let inverse = Self::COMPUTED.negated_inverse;
+        unless_unit_base(P, inverse, t, redc_below(P, inverse, t))
     }
 
     ghost admitted = { λ m. (m.ring.odd, refl) };
@@ -188,6 +193,11 @@ impl<const P: u64> OddModulus<u64> for OddNumber64<P> {
 
     fn reduced(&self, t: u128) -> u64 {
         redc(P, Self::COMPUTED.negated_inverse, t)
+    }
+
+    fn reduced_below(&self, t: u128) -> u64 {
+        let inverse = Self::COMPUTED.negated_inverse;
+        unless_unit_base(P, inverse, t, redc_below(P, inverse, t))
     }
 
     ghost admitted = { λ m. (m.ring.odd, refl) };

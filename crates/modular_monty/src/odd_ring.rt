@@ -1,7 +1,7 @@
 //! Odd moduli by Montgomery's representation: the reducer that every reducer of this crate is an alias of or
 //! contains, over any type that holds an odd modulus and reduces by it.
 
-ghost use Rattle.std.specs.Prelude.{◌≡◌, ℕ, ◌*◌, ◌%◌, ◌<◌, ◌↔◌, ⊤, IsTrue, MatchOption};
+ghost use Rattle.std.specs.Prelude.{◌≡◌, ℕ, ◌+◌, ◌*◌, ◌%◌, ◌<◌, ◌↔◌, ⊤, IsTrue, MatchOption};
 ghost use Rattle.modular_word.specs.Reduction.{IsNegatedInverse, IsReduction};
 ghost use Rattle.modular_monty.specs.Montgomery.{montgomery_form, montgomery_value, IsOddRing};
 ghost use Rattle.modular_monty.specs.MontgomeryLaws.{montgomery_canonical};
@@ -13,7 +13,7 @@ use modular_prim::reducer_word::ReducerWord;
 use modular_reduced::list_products::block;
 use modular_reduced::reducer::Reducer;
 use modular_word::path_word::PathWord;
-use modular_word::paths::redc;
+use modular_word::paths::{clearing, redc};
 use modular_word::ring_word::RingWord;
 use std::alloc::AllocError;
 use std::marker::PhantomData;
@@ -109,6 +109,24 @@ pub trait OddModulus<T: PathWord>: Copy {
         requires { T.double_number t < T.base * modulus self.now }
         ensures { IsReduction T.base (modulus self.now) (T.double_number t) (T.number result) };
 
+    /// Montgomery's reduction of t, as `reduced` returns it, without its last subtraction. Condition: t is below the
+    /// modulus.
+    ///
+    /// # Examples
+    ///
+    /// ```
+    /// use num_modular::families::{OddModulus, OddRing};
+    /// use num_modular::FixedProth32;
+    ///
+    /// fn reduced<M: OddModulus<u32>>(_: OddRing<u32, M>, m: u32, t: u64) -> u32 {
+    ///     M::keep(m).reduced_below(t)
+    /// }
+    /// assert_eq!(reduced(FixedProth32::<5, 3>::RING, 97, 35), 1); // 2^32 = 35 modulo 97
+    /// ```
+    fn reduced_below(&self, t: T::Double) -> T
+        requires { T.double_number t < modulus self.now }
+        ensures { IsReduction T.base (modulus self.now) (T.double_number t) (T.number result) };
+
     ghost admitted: { (m : Self) → admits (modulus m) };
 
     ghost is_odd_ring: { (m : Self) → IsOddRing T.width T.base (modulus m) (negated_inverse m) (square m) };
@@ -120,6 +138,60 @@ pub(crate) fn computed_once<T: ReducerWord>(m: T) -> (T, T)
     ensures { IsOddRing T.width T.base (T.number m) (T.number result.0) (T.number result.1) }
 {
     (neginv(m), T::square_of_base(m))
+}
+
+// Montgomery's reduction of t, given the word x of `clearing` and the product x·m: their sum divided by the base, which
+// is below m. Condition: t is below m.
+pub(crate) fn reduce_below_by<T: PathWord>(m: T, t: T::Double, x: T, multiple: T::Double) -> T
+    requires below { T.double_number t < T.number m }
+    requires multiple { T.double_number multiple ≡ T.number x * T.number m }
+    requires low { (T.double_number t + T.number x * T.number m) % T.base ≡ 0 }
+    requires x_fits { T.number x < T.base }
+    ensures { IsReduction T.base (T.number m) (T.double_number t) (T.number result) }
+{
+    // Reading m gives the proof that it fits a word.
+    let _ = m.is_below(x);
+    let (_, high) = T::split(T::double_plus(t, multiple));
+    high
+}
+
+// `redc` of a double word below m.
+pub(crate) fn redc_below<T: PathWord>(m: T, negated_inverse: T, t: T::Double) -> T
+    requires inverse { IsNegatedInverse T.base (T.number m) (T.number negated_inverse) }
+    requires below { T.double_number t < T.number m }
+    ensures { IsReduction T.base (T.number m) (T.double_number t) (T.number result) }
+{
+    let x = clearing(m, negated_inverse, t);
+    reduce_below_by(m, t, x, x.product(m))
+}
+
+// Whether the base is 1 modulo m, given the negated inverse of m: then their product is the base less 1.
+pub(crate) fn is_unit_base<T: PathWord>(m: T, negated_inverse: T) -> bool
+    ensures { IsTrue result → T.base % T.number m ≡ 1 % T.number m }
+{
+    let (low, high) = T::split(m.product(negated_inverse));
+    high.is_zero_word() && low.wrapping_add(T::one()).is_zero_word()
+}
+
+// The reduction of t, below m, is given; where the base is 1 modulo m, it is t itself. For fixed moduli, of which
+// compilers know whether it is, so that they leave the other out. Condition: t is below m.
+pub(crate) fn unless_unit_base<T: PathWord>(
+    m: T,
+    negated_inverse: T,
+    t: T::Double,
+    reduction: T,
+) -> T
+    requires below { T.double_number t < T.number m }
+    requires reduction { IsReduction T.base (T.number m) (T.double_number t) (T.number reduction) }
+    ensures { IsReduction T.base (T.number m) (T.double_number t) (T.number result) }
+{
+    // Reading m gives the proof that it fits a word.
+    let _ = m.is_below(reduction);
+    if is_unit_base(m, negated_inverse) {
+        T::split(t).0
+    } else {
+        reduction
+    }
 }
 
 // Whether a word is 1.
@@ -217,7 +289,7 @@ impl<T: ReducerWord, M: OddModulus<T>> Reducer<T> for OddRing<T, M> {
     }
 
     fn residue(&self, f: T) -> T {
-        self.kept.reduced(T::merge(f, T::zero()))
+        self.kept.reduced_below(T::merge(f, T::zero()))
     }
 
     fn is_zero(&self, f: &T) -> bool {
@@ -350,6 +422,10 @@ impl<T: ReducerWord> OddModulus<T> for StoredModulus<T> {
 
     fn reduced(&self, t: T::Double) -> T {
         redc(self.modulus, self.negated_inverse, t)
+    }
+
+    fn reduced_below(&self, t: T::Double) -> T {
+        redc_below(self.modulus, self.negated_inverse, t)
     }
 
     ghost admitted = { λ m. m.ring.odd };

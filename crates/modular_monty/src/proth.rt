@@ -8,7 +8,7 @@ ghost use Rattle.modular_monty.specs.MontgomeryLaws.{montgomery_canonical};
 ghost use Rattle.modular_monty.specs.Proth.{IsProth, IsProthRange, greatest_proth_32, greatest_proth_64, proth_modulus};
 
 use crate::computed::computed_once;
-use crate::odd_ring::{OddModulus, OddRing};
+use crate::odd_ring::{OddModulus, OddRing, reduce_below_by, unless_unit_base};
 use modular_reduced::reducer::Reducer;
 use modular_word::paths::{clearing, reduce_by};
 
@@ -145,6 +145,13 @@ impl<const N: u8, const K: u8> OddModulus<u32> for ProthNumber32<N, K> {
         let m = Self::value();
         let x = clearing(m, Self::COMPUTED.negated_inverse, t);
         reduce_by(m, t, x, self.shift_mul(x))
+    }
+
+    fn reduced_below(&self, t: u64) -> u32 {
+        let m = Self::value();
+        let inverse = Self::COMPUTED.negated_inverse;
+        let x = clearing(m, inverse, t);
+        unless_unit_base(m, inverse, t, reduce_below_by(m, t, x, self.shift_mul(x)))
     }
 
     ghost admitted = { λ m. record { range = m.range; same = refl } };
@@ -286,6 +293,13 @@ impl<const N: u8, const K: u8> OddModulus<u64> for ProthNumber64<N, K> {
         let m = Self::value();
         let x = clearing(m, Self::COMPUTED.negated_inverse, t);
         reduce_by(m, t, x, self.shift_mul(x))
+    }
+
+    fn reduced_below(&self, t: u128) -> u64 {
+        let m = Self::value();
+        let inverse = Self::COMPUTED.negated_inverse;
+        let x = clearing(m, inverse, t);
+        unless_unit_base(m, inverse, t, reduce_below_by(m, t, x, self.shift_mul(x)))
     }
 
     ghost admitted = { λ m. record { range = m.range; same = refl } };

@@ -1,7 +1,7 @@
 //! Reducers by Montgomery's representation whose modulus is a parameter of the type.
 
 use crate::modular_monty::computed::computed_once;
-use crate::modular_monty::odd_ring::{OddModulus, OddRing};
+use crate::modular_monty::odd_ring::{OddModulus, OddRing, redc_below, unless_unit_base};
 use crate::modular_word::paths::redc;
 
 // What is precomputed of P. It is a type because proofs use what the type of a constant guarantees, not its value.
@@ -88,6 +88,12 @@ impl<const P: u32> OddModulus<u32> for OddNumber32<P> {
     #[inline]
     fn reduced(&self, t: u64) -> u32 {
         redc(P, Self::COMPUTED.negated_inverse, t)
+    }
+
+    #[inline]
+    fn reduced_below(&self, t: u64) -> u32 {
+        let inverse = Self::COMPUTED.negated_inverse;
+        unless_unit_base(P, inverse, t, redc_below(P, inverse, t))
     }
 }
 
@@ -176,5 +182,11 @@ impl<const P: u64> OddModulus<u64> for OddNumber64<P> {
     #[inline]
     fn reduced(&self, t: u128) -> u64 {
         redc(P, Self::COMPUTED.negated_inverse, t)
+    }
+
+    #[inline]
+    fn reduced_below(&self, t: u128) -> u64 {
+        let inverse = Self::COMPUTED.negated_inverse;
+        unless_unit_base(P, inverse, t, redc_below(P, inverse, t))
     }
 }

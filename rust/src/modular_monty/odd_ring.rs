@@ -8,7 +8,7 @@ use crate::modular_prim::reducer_word::ReducerWord;
 use crate::modular_reduced::list_products::block;
 use crate::modular_reduced::reducer::Reducer;
 use crate::modular_word::path_word::PathWord;
-use crate::modular_word::paths::redc;
+use crate::modular_word::paths::{clearing, redc};
 use core::marker::PhantomData;
 
 /// An odd modulus, with what is precomputed of it: its negated inverse modulo the base, and the square of the base
@@ -97,12 +97,74 @@ pub trait OddModulus<T: PathWord>: Copy {
     /// assert_eq!(reduced(FixedProth32::<5, 3>::RING, 97, 10 << 32), 10);
     /// ```
     fn reduced(&self, t: T::Double) -> T;
+
+    /// Montgomery's reduction of t, as `reduced` returns it, without its last subtraction.
+    ///
+    /// # Preconditions
+    ///
+    /// t is below the modulus. This isn't tested: outside it the call panics, or returns no meaningful
+    /// result.
+    ///
+    /// # Examples
+    ///
+    /// ```
+    /// use num_modular::families::{OddModulus, OddRing};
+    /// use num_modular::FixedProth32;
+    ///
+    /// fn reduced<M: OddModulus<u32>>(_: OddRing<u32, M>, m: u32, t: u64) -> u32 {
+    ///     M::keep(m).reduced_below(t)
+    /// }
+    /// assert_eq!(reduced(FixedProth32::<5, 3>::RING, 97, 35), 1); // 2^32 = 35 modulo 97
+    /// ```
+    fn reduced_below(&self, t: T::Double) -> T;
 }
 
 // What is precomputed of an odd modulus m.
 #[inline]
 pub(crate) fn computed_once<T: ReducerWord>(m: T) -> (T, T) {
     (neginv(m), T::square_of_base(m))
+}
+
+// Montgomery's reduction of t, given the word x of `clearing` and the product x·m: their sum divided by the base, which
+// is below m. Condition: t is below m.
+#[inline]
+pub(crate) fn reduce_below_by<T: PathWord>(m: T, t: T::Double, x: T, multiple: T::Double) -> T {
+    // Reading m gives the proof that it fits a word.
+    let _ = m.is_below(x);
+    let (_, high) = T::split(T::double_plus(t, multiple));
+    high
+}
+
+// `redc` of a double word below m.
+#[inline]
+pub(crate) fn redc_below<T: PathWord>(m: T, negated_inverse: T, t: T::Double) -> T {
+    let x = clearing(m, negated_inverse, t);
+    reduce_below_by(m, t, x, x.product(m))
+}
+
+// Whether the base is 1 modulo m, given the negated inverse of m: then their product is the base less 1.
+#[inline]
+pub(crate) fn is_unit_base<T: PathWord>(m: T, negated_inverse: T) -> bool {
+    let (low, high) = T::split(m.product(negated_inverse));
+    high.is_zero_word() && low.wrapping_add(T::one()).is_zero_word()
+}
+
+// The reduction of t, below m, is given; where the base is 1 modulo m, it is t itself. For fixed moduli, of which
+// compilers know whether it is, so that they leave the other out. Condition: t is below m.
+#[inline]
+pub(crate) fn unless_unit_base<T: PathWord>(
+    m: T,
+    negated_inverse: T,
+    t: T::Double,
+    reduction: T,
+) -> T {
+    // Reading m gives the proof that it fits a word.
+    let _ = m.is_below(reduction);
+    if is_unit_base(m, negated_inverse) {
+        T::split(t).0
+    } else {
+        reduction
+    }
 }
 
 // Whether a word is 1.
@@ -188,7 +250,7 @@ impl<T: ReducerWord, M: OddModulus<T>> Reducer<T> for OddRing<T, M> {
 
     #[inline]
     fn residue(&self, f: T) -> T {
-        self.kept.reduced(T::merge(f, T::zero()))
+        self.kept.reduced_below(T::merge(f, T::zero()))
     }
 
     #[inline]
@@ -329,5 +391,10 @@ impl<T: ReducerWord> OddModulus<T> for StoredModulus<T> {
     #[inline]
     fn reduced(&self, t: T::Double) -> T {
         redc(self.modulus, self.negated_inverse, t)
+    }
+
+    #[inline]
+    fn reduced_below(&self, t: T::Double) -> T {
+        redc_below(self.modulus, self.negated_inverse, t)
     }
 }

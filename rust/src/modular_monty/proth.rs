@@ -1,7 +1,7 @@
 //! Reducers by Montgomery's representation whose modulus is K * 2^N + 1.
 
 use crate::modular_monty::computed::computed_once;
-use crate::modular_monty::odd_ring::{OddModulus, OddRing};
+use crate::modular_monty::odd_ring::{OddModulus, OddRing, reduce_below_by, unless_unit_base};
 use crate::modular_word::paths::{clearing, reduce_by};
 
 // The number k * 2^n + 1, for parameters in range.
@@ -133,6 +133,14 @@ impl<const N: u8, const K: u8> OddModulus<u32> for ProthNumber32<N, K> {
         let m = Self::value();
         let x = clearing(m, Self::COMPUTED.negated_inverse, t);
         reduce_by(m, t, x, self.shift_mul(x))
+    }
+
+    #[inline]
+    fn reduced_below(&self, t: u64) -> u32 {
+        let m = Self::value();
+        let inverse = Self::COMPUTED.negated_inverse;
+        let x = clearing(m, inverse, t);
+        unless_unit_base(m, inverse, t, reduce_below_by(m, t, x, self.shift_mul(x)))
     }
 }
 
@@ -266,5 +274,13 @@ impl<const N: u8, const K: u8> OddModulus<u64> for ProthNumber64<N, K> {
         let m = Self::value();
         let x = clearing(m, Self::COMPUTED.negated_inverse, t);
         reduce_by(m, t, x, self.shift_mul(x))
+    }
+
+    #[inline]
+    fn reduced_below(&self, t: u128) -> u64 {
+        let m = Self::value();
+        let inverse = Self::COMPUTED.negated_inverse;
+        let x = clearing(m, inverse, t);
+        unless_unit_base(m, inverse, t, reduce_below_by(m, t, x, self.shift_mul(x)))
     }
 }

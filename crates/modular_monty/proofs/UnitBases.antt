@@ -1,0 +1,65 @@
+-- Reductions of small numbers, and bases that are 1 modulo m.
+use Rattle.std.proofs.Common.{◌≡◌, ℕ, suc, zero, ◌+◌, ◌*◌, ◌%◌, ◌<◌, ◌≤◌, sym, ap, ◌∙◌, arith, refl, subst, ⊎_elim}
+use Rattle.std.proofs.Math.Nat.{mod-eq_of_lt, mul-suc, mul-le-mul_left, mul-le-mul_right, add-mul-mod_self_left, add-mul-mod_self_right}
+use Rattle.std.proofs.Math.Nat.{lt_of_mul-lt-mul_right}
+use Rattle.std.proofs.lemmas.Bool.{cases_lt}
+use Rattle.modular_word.proofs.Congruence.{same_product}
+use Rattle.modular_word.specs.Reduction.{IsReduction}
+
+-- a number below m and a multiple of m by a word add up to less than m times the base
+pub sum_below_multiple : (B m t x : ℕ) → t < m → x < B → t + x * m < B * m
+sum_below_multiple B m t x below fits =
+    let most : (x + 1) * m ≤ B * m = mul-le-mul_right m (let l : x + 1 ≤ B = omega (arith, fits) in l) in
+    omega (arith, below, most)
+
+-- so the sum is a double word
+pub sum_fits : (B m t x : ℕ) → t < m → x < B → m < B → t + x * m < B * B
+sum_fits B m t x below fits word =
+    let most : B * m ≤ B * B = mul-le-mul_left B (let l : m ≤ B = omega (arith, word) in l) in
+    omega (arith, sum_below_multiple B m t x below fits, most)
+
+-- where its low word is 0, the high word is the reduction
+pub reduces_below : (B m t x low high : ℕ) → t < m → x < B → (t + x * m) % B ≡ 0 → t + x * m ≡ low + B * high → low < B
+    → IsReduction B m t high
+reduces_below B m t x low high below fits cleared parts low_fits =
+    let none : low ≡ 0 =
+    sym (mod-eq_of_lt low_fits) ∙ sym (add-mul-mod_self_left low B high) ∙ ap (λ n. n % B) (sym parts) ∙ cleared in
+    let whole : high * B ≡ t + x * m = omega (arith, none, parts) in
+    let less : high * B < m * B = omega (arith, whole, sum_below_multiple B m t x below fits) in
+    record {
+      below = lt_of_mul-lt-mul_right B less;
+      congruent = ap (λ n. n % m) whole ∙ add-mul-mod_self_right t x m;
+    }
+
+-- the word whose successor is the base
+next_word : (B low : ℕ) → low < B → (low + 1) % B ≡ 0 → low + 1 ≡ B
+next_word B low fits next =
+    ⊎_elim
+    (λ (l : low + 1 < B). let same : low + 1 ≡ 0 = sym (mod-eq_of_lt l) ∙ next in absurd (omega arith))
+    (λ (l : B ≤ low + 1). let e : low + 1 ≡ B = omega (arith, l, fits) in e)
+    (cases_lt (low + 1) B)
+
+-- a base that is more by 1 than a multiple of m is 1 modulo m
+pub unit_base : (B m i low high : ℕ) → m * i ≡ low + B * high → high ≡ 0 → low < B → (low + 1) % B ≡ 0 → B % m ≡ 1 % m
+unit_base B m i low high parts none fits next =
+    let whole : B ≡ 1 + m * i = omega (arith, next_word B low fits next, ap (λ n. B * n) none, parts) in
+    ap (λ n. n % m) whole ∙ add-mul-mod_self_left 1 m i
+
+-- a number below the base has the high word 0
+no_high : (B t low high : ℕ) → t < B → t ≡ low + B * high → high ≡ 0
+no_high B t low zero less parts = refl
+no_high B t low (suc high) less parts =
+    let more : B * suc high ≡ B * high + B = mul-suc B high in
+    absurd (omega (arith, less, parts, more))
+
+-- by such a base, a number is congruent to its product with the base
+pub unit_product : (B m f : ℕ) → B % m ≡ 1 % m → (f * B) % m ≡ f % m
+unit_product B m f unit =
+    same_product m f f B 1 refl unit ∙ ap (λ n. n % m) (let s : f * 1 ≡ f = omega arith in s)
+
+-- so a number below m, which has the high word 0, is the reduction of itself
+pub unit_reduction : (B m t low high : ℕ) → B % m ≡ 1 % m → t < m → m < B → t ≡ low + B * high → IsReduction B m t low
+unit_reduction B m t low high unit less fits parts =
+    let none : high ≡ 0 = no_high B t low high (omega (arith, less, fits)) parts in
+    let same : low ≡ t = omega (arith, parts, ap (λ n. B * n) none) in
+    subst (λ n. IsReduction B m t n) (sym same) (record { below = less; congruent = unit_product B m t unit })
