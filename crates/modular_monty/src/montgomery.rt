@@ -7,6 +7,7 @@ ghost use Rattle.modular_monty.specs.Split.{split_form, split_value, two_part, o
 ghost use Rattle.modular_monty.specs.SplitLaws.{modulus_positive, split_canonical};
 
 use crate::odd_ring::{OddModulus, OddRing, StoredModulus};
+use modular_prim::below::sum_by_carry;
 use modular_prim::reducer_word::ReducerWord;
 use modular_reduced::reducer::Reducer;
 use modular_word::path_word::PathWord;
@@ -194,7 +195,7 @@ impl<T: ReducerWord> Reducer<T> for Montgomery<T> {
 
     fn add(&self, a: &T, b: &T) -> T {
         if self.twos == 0 {
-            return self.odd.add(a, b);
+            return sum_by_carry(*a, *b, self.odd.kept.modulus);
         }
         let high = self.odd.add(&self.high(*a), &self.high(*b));
         self.join(high, a.wrapping_add(*b))

@@ -4,7 +4,7 @@ ghost use Rattle.std.specs.Prelude.{◌≡◌, ℕ, ◌^◌, ◌<◌, ◌≤◌}
 ghost use Rattle.modular_reduced.specs.Plain.{plain_form, plain_value, plain_canonical};
 
 use crate::reducer::Reducer;
-use modular_prim::below::{add_below, dbl_below_stored, neg_below, sub_below_stored};
+use modular_prim::below::{add_below_stored, dbl_below_stored, neg_below, sub_below_stored};
 use modular_prim::inverse::fast_inverse;
 use modular_prim::plain_word::PlainWord;
 use std::alloc::AllocError;
@@ -87,7 +87,7 @@ impl<T: PlainWord> Reducer<T> for Vanilla<T> {
     }
 
     fn add(&self, a: &T, b: &T) -> T {
-        add_below(*a, *b, self.modulus)
+        add_below_stored(*a, *b, self.modulus)
     }
 
     fn dbl(&self, f: T) -> T {

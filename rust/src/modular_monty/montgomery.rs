@@ -1,6 +1,7 @@
 //! The reducer by Montgomery's representation, for every modulus.
 
 use crate::modular_monty::odd_ring::{OddRing, StoredModulus};
+use crate::modular_prim::below::sum_by_carry;
 use crate::modular_prim::reducer_word::ReducerWord;
 use crate::modular_reduced::reducer::Reducer;
 
@@ -166,7 +167,7 @@ impl<T: ReducerWord> Reducer<T> for Montgomery<T> {
 
     fn add(&self, a: &T, b: &T) -> T {
         if self.twos == 0 {
-            return self.odd.add(a, b);
+            return sum_by_carry(*a, *b, self.odd.kept.modulus);
         }
         let high = self.odd.add(&self.high(*a), &self.high(*b));
         self.join(high, a.wrapping_add(*b))

@@ -47,10 +47,43 @@ pub fn sum_once<T: PathWord>(a: T, b: T, m: T) -> T {
     }
 }
 
-// The residue of a + b, below m. The carry of a + (b - m) chooses, without a branch, so that compilers work on several
-// entries of a list at once. At 64 bits they don't, and the other body is faster there. Condition: both are below m.
+/// The residue of a + b, as `add_below` returns it, but faster where m isn't a constant.
+///
+/// # Preconditions
+///
+/// a and b are below m. This isn't tested: outside it the call panics, or returns no meaningful result.
 #[inline]
-fn sum_by_carry<T: PathWord>(a: T, b: T, m: T) -> T {
+pub fn add_below_stored<T: PathWord>(a: T, b: T, m: T) -> T {
+    if T::bits() == 8 {
+        sum_by_gap(a, b, m)
+    } else {
+        sum_by_carry(a, b, m)
+    }
+}
+
+// The residue of a + b, below m: the difference of a and m - b, or its sum with m. At 8 bits compilers work by it on
+// several integers at once, each of which has its own modulus. Condition: both are below m.
+#[inline]
+fn sum_by_gap<T: PathWord>(a: T, b: T, m: T) -> T {
+    // Reading the word gives the proof that it fits its width.
+    let _ = m.is_below(a);
+    let gap = m.minus(b);
+    let less = a.wrapping_sub(gap);
+    if a.is_below(gap) {
+        less.wrapping_add(m)
+    } else {
+        less
+    }
+}
+
+/// The residue of a + b, below m. The carry of a + (b - m) chooses, without a branch, so that compilers work on several
+/// entries of a list at once. At 64 bits they don't, and `sum_once` is faster there if m is a constant.
+///
+/// # Preconditions
+///
+/// a and b are below m. This isn't tested: outside it the call panics, or returns no meaningful result.
+#[inline]
+pub fn sum_by_carry<T: PathWord>(a: T, b: T, m: T) -> T {
     // Reading the word gives the proof that it fits its width.
     let _ = m.is_below(a);
     let (rest, above) = a.overflowing_add(b.wrapping_sub(m));

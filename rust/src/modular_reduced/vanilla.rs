@@ -1,7 +1,7 @@
 //! The plain reducer: the form of a value is the value.
 
 use crate::modular_reduced::reducer::Reducer;
-use crate::modular_prim::below::{add_below, dbl_below_stored, neg_below, sub_below_stored};
+use crate::modular_prim::below::{add_below_stored, dbl_below_stored, neg_below, sub_below_stored};
 use crate::modular_prim::inverse::fast_inverse;
 use crate::modular_prim::plain_word::PlainWord;
 
@@ -75,7 +75,7 @@ impl<T: PlainWord> Reducer<T> for Vanilla<T> {
 
     #[inline]
     fn add(&self, a: &T, b: &T) -> T {
-        add_below(*a, *b, self.modulus)
+        add_below_stored(*a, *b, self.modulus)
     }
 
     #[inline]
