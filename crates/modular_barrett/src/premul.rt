@@ -7,7 +7,7 @@ ghost use Rattle.modular_barrett.specs.ScaledForms.{scaled_canonical};
 
 use crate::list_products::reduced_products;
 use crate::normalized::{Normalized2by1Divisor, StoredDivisor};
-use modular_prim::below::{add_below, add_below_stored, dbl_below_stored, neg_below, sub_below_stored};
+use modular_prim::below::{add_below, dbl_below_stored, neg_below, sub_below_stored, sum_by_carry};
 use modular_prim::inverse::fast_inverse;
 use modular_prim::plain_word::PlainWord;
 use modular_reduced::list_products::block;
@@ -186,7 +186,7 @@ impl<T: PlainWord> Reducer<T> for PreMulInv2by1<T> {
     }
 
     fn add(&self, a: &T, b: &T) -> T {
-        add_below_stored(*a, *b, self.divisor())
+        sum_by_carry(*a, *b, self.divisor())
     }
 
     fn dbl(&self, f: T) -> T {

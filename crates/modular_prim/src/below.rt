@@ -47,7 +47,8 @@ pub fn sum_once<T: PathWord>(a: T, b: T, m: T) -> T
     }
 }
 
-/// The residue of a + b, as `add_below` returns it, but faster where m isn't a constant. Condition: both are below m.
+/// The residue of a + b, as `add_below` returns it, but faster for `Vanilla`, whose m isn't a constant. Condition: both
+/// are below m.
 pub fn add_below_stored<T: PathWord>(a: T, b: T, m: T) -> T
     requires left { T.number a < T.number m }
     requires right { T.number b < T.number m }

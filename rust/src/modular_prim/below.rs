@@ -47,7 +47,7 @@ pub fn sum_once<T: PathWord>(a: T, b: T, m: T) -> T {
     }
 }
 
-/// The residue of a + b, as `add_below` returns it, but faster where m isn't a constant.
+/// The residue of a + b, as `add_below` returns it, but faster for `Vanilla`, whose m isn't a constant.
 ///
 /// # Preconditions
 ///
