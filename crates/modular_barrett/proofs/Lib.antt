@@ -1,4 +1,5 @@
 pub mod DoubleWords
+pub mod FixedFactors
 pub mod Multiplier
 pub mod Quotients
 pub mod ScaledLemmas

@@ -28,16 +28,22 @@ pub record IsNear (m product whole : ℕ) : Type 0 where
   pub at_most : whole * m ≤ product
   pub close : product < whole * m + 2 * m
 
-pub near : (b m w q x low h : ℕ) → IsFactor b m w q → x < b → x * q ≡ low + b * h → low < b → IsNear m (x * w) h
-near b m w q x low h is fits e low_fits =
-    let below : w < m = is.below in
+-- the product by the base: that of the multiple, of the fraction and of what the quotient leaves
+pub near_parts : (b m w q x low h : ℕ) → IsFactor b m w q → x * q ≡ low + b * h
+    → (x * w) * b ≡ (h * m) * b + m * low + x * (w * b % m)
+near_parts b m w q x low h is e =
     let f : m * (w * b / m) + w * b % m ≡ w * b = div-add-mod (w * b) m in
-    let l : w * b % m < m = mod-lt (w * b) (omega arith) in
     let fq : m * q ≡ m * (w * b / m) = ap (λ v. m * v) is.quotient in
     let g : x * (m * q + w * b % m) ≡ x * (w * b) =
     ap (λ v. x * v) (let k : m * q + w * b % m ≡ w * b = omega (arith, f, fq) in k) in
     let me : m * (x * q) ≡ m * (low + b * h) = ap (λ v. m * v) e in
-    let whole : (x * w) * b ≡ (h * m) * b + m * low + x * (w * b % m) = omega (arith, g, me) in
+    omega (arith, g, me)
+
+pub near : (b m w q x low h : ℕ) → IsFactor b m w q → x < b → x * q ≡ low + b * h → low < b → IsNear m (x * w) h
+near b m w q x low h is fits e low_fits =
+    let below : w < m = is.below in
+    let l : w * b % m < m = mod-lt (w * b) (omega arith) in
+    let whole : (x * w) * b ≡ (h * m) * b + m * low + x * (w * b % m) = near_parts b m w q x low h is e in
     let first : m * (low + 1) ≤ m * b = mul-le-mul_left m (let k : low + 1 ≤ b = omega arith in k) in
     let second : x * (w * b % m) ≤ b * (w * b % m) = mul-le-mul_right (w * b % m) (let k : x ≤ b = omega arith in k) in
     let third : b * (w * b % m) ≤ b * m = mul-le-mul_left b (let k : w * b % m ≤ m = omega (arith, l) in k) in

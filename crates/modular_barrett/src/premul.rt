@@ -5,7 +5,7 @@ ghost use Rattle.std.specs.Int.Count.{count_leading_zeros};
 ghost use Rattle.modular_barrett.specs.Scaling.{scale, scaled_form, scaled_value, IsScaling};
 ghost use Rattle.modular_barrett.specs.ScaledForms.{scaled_canonical};
 
-use crate::list_products::reduced_products;
+use crate::list_products::{fixed_factor, product_by_factor, reduced_products};
 use crate::normalized::{Normalized2by1Divisor, StoredDivisor};
 use modular_prim::below::{add_below, dbl_below_stored, neg_below, sub_below_stored, sum_by_carry};
 use modular_prim::inverse::fast_inverse;
@@ -204,6 +204,16 @@ impl<T: PlainWord> Reducer<T> for PreMulInv2by1<T> {
     fn mul(&self, a: &T, b: &T) -> T {
         let value = self.residue(*a);
         self.divider.div_rem_2by1(value.product(*b)).1
+    }
+
+    // Each product takes the factor's quotient by the divisor, which is computed once.
+    fn scale_entries(&self, xs: &mut [T], factor: &T) {
+        let divisor = self.divider.divisor();
+        let value = self.residue(*factor);
+        let by = fixed_factor(&self.divider, value);
+        'entries: for i in 0..xs.len() {
+            xs[i] = product_by_factor(xs[i], &by, divisor);
+        }
     }
 
     // Products are added as whole numbers and reduced once a block.

@@ -2,6 +2,7 @@ pub mod CarriedSums
 pub mod FormLemmas
 pub mod IntegerLemmas
 pub mod ListProducts
+pub mod ListSteps
 pub mod PowerCounts
 pub mod PowerForms
 pub mod PowerSoFar

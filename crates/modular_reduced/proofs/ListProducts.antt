@@ -8,6 +8,7 @@ use Rattle.modular_word.specs.Congruence.{Congruent}
 use Rattle.modular_word.specs.Sums.{sum_below}
 use Rattle.modular_word.proofs.Congruence.{mod_of_eq, mod_trans, mod_add, residue_of}
 use Rattle.modular_word.proofs.Sums.{sum_below-zero, sum_below-suc, sum_below-same}
+use Rattle.modular_reduced.specs.EntryLaws.{entry_read, form_read as entry_form_read}
 use Rattle.modular_reduced.specs.Forms.{IsForm}
 use Rattle.modular_reduced.specs.Values.{values_of, sum_of_products}
 
@@ -18,15 +19,13 @@ values number value m forms i = get_or (values_of number value m forms) i 0
 -- the value of a form x that was read at index i
 pub value_read : {T : Type 0} (number : T → ℕ) (value : ℕ → ℕ → ℕ) (m : ℕ) (forms : List T) (i : ℕ) (x : T)
     → i < length forms → x ≡ get_or forms i x → value m (number x) ≡ values number value m forms i
-value_read number value m forms i x below is =
-    ap (λ f. value m (number f)) is ∙ sym (get_or-map (λ f. value m (number f)) forms i x 0 below)
+value_read = entry_read
 
 -- a form that was read is checked where all are
 pub form_read : {T : Type 0} (number : T → ℕ) (form value : ℕ → ℕ → ℕ) (m : ℕ) (forms : List T) (i : ℕ) (x : T)
     → All (λ f. IsForm form value m (number f)) forms → i < length forms → x ≡ get_or forms i x
     → IsForm form value m (number x)
-form_read number form value m forms i x all below is =
-    subst (λ f. IsForm form value m (number f)) (sym is) (all i x below)
+form_read = entry_form_read
 
 -- the value s and no product
 pub products_none : (m s : ℕ) (f : ℕ → ℕ) → s < m → s ≡ (s + sum_below 0 f) % m

@@ -1,11 +1,11 @@
 //! The trait of reducers, with its laws.
 
 ghost use Rattle.std.specs.Prelude.{◌≡◌, ℕ, ◌+◌, ◌*◌, ◌%◌, ◌^◌, ◌<◌, ◌≤◌, ◌↔◌, IsTrue, IfSome, pos, ◌-ℤ◌, neg_ℤ};
-ghost use Rattle.std.specs.Prelude.{All, length};
+ghost use Rattle.std.specs.Prelude.{All, length, slice_index};
 ghost use Rattle.modular_word.specs.Inverses.{IsInversion};
 ghost use Rattle.modular_word.specs.Residues.{residue};
 ghost use Rattle.modular_reduced.specs.Forms.{Represents, IsForm, IsCanonical, IsInverseForm};
-ghost use Rattle.modular_reduced.specs.Values.{sum_of_products};
+ghost use Rattle.modular_reduced.specs.Values.{values_of, HoldValues, sum_of_products};
 
 use crate::power::pow_counted;
 use modular_word::ring_word::RingWord;
@@ -361,6 +361,36 @@ pub trait Reducer<T: RingWord> {
             total = self.add(&total, &self.mul(&xs[i], &ys[i]));
         }
         total
+    }
+
+    /// Multiplies each entry of a list by one factor, as `mul` does.
+    ///
+    /// A reducer may override it with a body that precomputes a quotient of the factor once for the list.
+    ///
+    /// # Examples
+    ///
+    /// ```
+    /// use num_modular::{PreMulInv2by1, Reducer};
+    ///
+    /// let ring = PreMulInv2by1::<u64>::new(97);
+    /// let mut forms = [90, 2].map(|n| ring.transform(n));
+    /// ring.scale_entries(&mut forms, &ring.transform(10));
+    /// assert_eq!(forms.map(|f| ring.residue(f)), [27, 20]); // 900 - 9 * 97
+    /// ```
+    fn scale_entries(&self, xs: &mut [T], factor: &T)
+        requires checked { All (λ f. IsForm form value (modulus self.now) (T.number f)) xs.old }
+        requires factor { IsForm form value (modulus self.now) (T.number factor.now) }
+        ensures entries { let m = modulus self.now in
+            HoldValues T.number form m xs.new
+            (λ i. (slice_index (values_of T.number value m xs.old) i * value m (T.number factor.now)) % m) }
+        ensures values { let m = modulus self.now in
+            (i : ℕ) → i < length xs.old → slice_index (values_of T.number value m xs.new) i
+            ≡ (slice_index (values_of T.number value m xs.old) i * value m (T.number factor.now)) % m }
+        ensures checked { All (λ f. IsForm form value (modulus self.now) (T.number f)) xs.new }
+    {
+        'entries: for i in 0..xs.len() {
+            xs[i] = self.mul(&xs[i], factor);
+        }
     }
 
     /// The form of the inverse modulo m; `None` exactly where there is none.

@@ -6,7 +6,6 @@ pub mod FourValues
 pub mod Geometry
 pub mod Halves
 pub mod InverseTransform
-pub mod ListSteps
 pub mod MinusOne
 pub mod PairLemmas
 pub mod Places

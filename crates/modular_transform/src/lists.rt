@@ -184,9 +184,7 @@ pub fn scale_list<T: RingWord, R: Reducer<T>>(r: &R, xs: &mut [T], factor: &T)
         ≡ (slice_index (values_of T.number R.value m xs.old) i * R.value m (T.number factor.now)) % m }
     ensures checked { All (λ f. IsForm R.form R.value (R.modulus r.now) (T.number f)) xs.new }
 {
-    'entries: for i in 0..xs.len() {
-        xs[i] = r.mul(&xs[i], factor);
-    }
+    r.scale_entries(xs, factor);
 }
 
 /// The form of the sum of the products of two lists, entry by entry: that of 0 for lists without entries. A reducer may

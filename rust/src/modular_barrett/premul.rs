@@ -1,6 +1,6 @@
 //! The reducer whose forms are the values shifted to the top of the word.
 
-use crate::modular_barrett::list_products::reduced_products;
+use crate::modular_barrett::list_products::{fixed_factor, product_by_factor, reduced_products};
 use crate::modular_barrett::normalized::Normalized2by1Divisor;
 use crate::modular_prim::below::{add_below, dbl_below_stored, neg_below, sub_below_stored, sum_by_carry};
 use crate::modular_prim::inverse::fast_inverse;
@@ -189,6 +189,16 @@ impl<T: PlainWord> Reducer<T> for PreMulInv2by1<T> {
     fn mul(&self, a: &T, b: &T) -> T {
         let value = self.residue(*a);
         self.divider.div_rem_2by1(value.product(*b)).1
+    }
+
+    // Each product takes the factor's quotient by the divisor, which is computed once.
+    fn scale_entries(&self, xs: &mut [T], factor: &T) {
+        let divisor = self.divider.divisor();
+        let value = self.residue(*factor);
+        let by = fixed_factor(&self.divider, value);
+        for entry in xs.iter_mut() {
+            *entry = product_by_factor(*entry, &by, divisor);
+        }
     }
 
     // Products are added as whole numbers and reduced once a block.

@@ -316,6 +316,32 @@ pub trait Reducer<T>: Sized {
         total
     }
 
+    /// Multiplies each entry of a list by one factor, as `mul` does.
+    ///
+    /// A reducer may override it with a body that precomputes a quotient of the factor once for the list.
+    ///
+    /// # Preconditions
+    ///
+    /// Each form is checked. This isn't tested: outside it the call panics, or returns no meaningful
+    /// result.
+    ///
+    /// # Examples
+    ///
+    /// ```
+    /// use num_modular::{PreMulInv2by1, Reducer};
+    ///
+    /// let ring = PreMulInv2by1::<u64>::new(97);
+    /// let mut forms = [90, 2].map(|n| ring.transform(n));
+    /// ring.scale_entries(&mut forms, &ring.transform(10));
+    /// assert_eq!(forms.map(|f| ring.residue(f)), [27, 20]); // 900 - 9 * 97
+    /// ```
+    #[inline]
+    fn scale_entries(&self, xs: &mut [T], factor: &T) {
+        for entry in xs.iter_mut() {
+            *entry = self.mul(&*entry, factor);
+        }
+    }
+
     /// The form of the inverse modulo m; `None` exactly where there is none.
     ///
     /// # Preconditions

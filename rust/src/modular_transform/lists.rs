@@ -162,9 +162,7 @@ pub fn multiply_lists<T: RingWord, R: Reducer<T>>(r: &R, xs: &mut [T], ys: &[T])
 #[cfg_attr(debug_assertions, track_caller)]
 pub fn scale_list<T: RingWord, R: Reducer<T>>(r: &R, xs: &mut [T], factor: &T) {
     debug_assert!(r.check(factor) && xs.iter().all(|x| r.check(x)), "the factor and all entries must be checked forms");
-    for entry in xs.iter_mut() {
-        *entry = r.mul(&*entry, factor);
-    }
+    r.scale_entries(xs, factor);
 }
 
 /// The form of the sum of the products of two lists, entry by entry: that of 0 for lists without entries. A reducer may

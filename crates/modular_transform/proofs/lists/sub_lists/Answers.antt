@@ -2,7 +2,7 @@ use Rattle.std.proofs.Common.{pos, ◌-ℤ◌, ◌<◌, length, ◌∙◌, ap, a
 use Rattle.modular_word.specs.Residues.{residue}
 use Rattle.modular_transform.specs.Entries.{entry}
 use Rattle.modular_transform.specs.EntryLaws.{entry_at, entry_read, form_read, done_none}
-use Rattle.modular_transform.proofs.ListSteps.{written_more, all_written}
+use Rattle.modular_reduced.proofs.ListSteps.{written_more, all_written}
 use Rattle.modular_transform.proofs.Places.{at_most}
 use Rattle.modular_transform.proofs.lists.sub_lists.Goals as goal
 use borrow.Author.Count.{falls}

@@ -1,8 +1,8 @@
 use Rattle.std.proofs.Common.{◌*◌, ◌%◌, ◌<◌, length, ◌∙◌, ap, arith, subst, sym}
-use Rattle.modular_transform.specs.Entries.{entry}
-use Rattle.modular_transform.specs.EntryLaws.{entry_at, done_none}
-use Rattle.modular_transform.proofs.ListSteps.{written_more, all_written}
-use Rattle.modular_transform.proofs.lists.scale_list.Goals as goal
+use Rattle.modular_reduced.specs.Entries.{entry}
+use Rattle.modular_reduced.specs.EntryLaws.{entry_at, done_none}
+use Rattle.modular_reduced.proofs.ListSteps.{written_more, all_written}
+use Rattle.modular_reduced.proofs.reducer.Reducer.scale_entries.Goals as goal
 use borrow.Author.Count.{falls}
 use borrow.Author.Rules.{scaled_Fits}
 
@@ -11,7 +11,7 @@ entries-init g c = record { checked = c.requires.checked; done = done_none _ _ }
 
 pub entries-preserved : goal.entries-preserved
 entries-preserved g c =
-    let ring = g.R.Reducer in let m = ring.modulus c.args.r.now in let number = g.T.RingWord.number in
+    let ring = g.Self.Reducer in let m = ring.modulus c.args.self.now in let number = g.T.RingWord.number in
     let value = ring.value in let before = c.entries.invariant in
     let i = c.entries.i in let xs = c.entries.xs in
     let old = entry number value m c.args.xs.now in let factor = value m (number c.args.factor.now) in
@@ -49,5 +49,5 @@ returns-clause-values g c = λ k l. c.entries.invariant.done.done k (omega (arit
 
 pub returns-clause-entries : goal.returns-clause-entries
 returns-clause-entries g c =
-    let ring = g.R.Reducer in let m = ring.modulus c.args.r.now in
+    let ring = g.Self.Reducer in let m = ring.modulus c.args.self.now in
     all_written g.T.RingWord.number ring.form ring.value m c.entries.xs _ _ _ c.entries.invariant (omega arith)

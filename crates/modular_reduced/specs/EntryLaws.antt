@@ -8,8 +8,7 @@ use Rattle.std.proofs.lemmas.List.{get_or-map, get_or_past, length-map, map-set}
 use Rattle.std.proofs.lemmas.List.Elements.{All-set}
 use Rattle.modular_reduced.specs.Forms.{IsForm}
 use Rattle.modular_reduced.specs.Values.{values_of}
-use Rattle.modular_reduced.proofs.ListProducts.{value_read, form_read as list_form_read}
-use Rattle.modular_transform.specs.Entries.{entry, IsCheckedFormOf, HoldBelow, DoneBelow, DoneFrom}
+use Rattle.modular_reduced.specs.Entries.{entry, IsCheckedFormOf, HoldBelow, DoneBelow, DoneFrom}
 
 -- the value of the form at index i
 pub entry_at : {T : Type 0} (number : T → ℕ) (value : ℕ → ℕ → ℕ) (m : ℕ) (forms : List T) (i : ℕ) (d : T)
@@ -19,13 +18,15 @@ entry_at number value m forms i d below = sym (get_or-map (λ f. value m (number
 -- the value of a form x that was read at index i
 pub entry_read : {T : Type 0} (number : T → ℕ) (value : ℕ → ℕ → ℕ) (m : ℕ) (forms : List T) (i : ℕ) (x : T)
     → i < length forms → x ≡ get_or forms i x → value m (number x) ≡ entry number value m forms i
-entry_read = value_read
+entry_read number value m forms i x below is =
+    ap (λ f. value m (number f)) is ∙ sym (get_or-map (λ f. value m (number f)) forms i x 0 below)
 
 -- a form that was read is checked where all are
 pub form_read : {T : Type 0} (number : T → ℕ) (form value : ℕ → ℕ → ℕ) (m : ℕ) (forms : List T) (i : ℕ) (x : T)
     → All (λ f. IsForm form value m (number f)) forms → i < length forms → x ≡ get_or forms i x
     → IsForm form value m (number x)
-form_read = list_form_read
+form_read number form value m forms i x all below is =
+    subst (λ f. IsForm form value m (number f)) (sym is) (all i x below)
 
 -- after the last index the value is 0
 pub entry_past : {T : Type 0} (number : T → ℕ) (value : ℕ → ℕ → ℕ) (m : ℕ) (forms : List T) (i : ℕ)

@@ -3,8 +3,8 @@ use Rattle.std.proofs.Common.{◌≡◌, ℕ, ◌+◌, ◌<◌, ◌≤◌, List,
 use Rattle.std.proofs.Math.ListN.{set}
 use Rattle.modular_reduced.specs.Forms.{IsForm}
 use Rattle.modular_reduced.specs.Values.{HoldValues}
-use Rattle.modular_transform.specs.Entries.{entry, DoneBelow}
-use Rattle.modular_transform.specs.EntryLaws.{entry_at, forms_written, done_more}
+use Rattle.modular_reduced.specs.Entries.{entry, DoneBelow}
+use Rattle.modular_reduced.specs.EntryLaws.{entry_at, forms_written, done_more}
 
 -- all forms are checked; those before i have the values v, and from i on no value is changed
 pub record WrittenBelow {T : Type 0} (number : T → ℕ) (form value : ℕ → ℕ → ℕ) (m : ℕ)

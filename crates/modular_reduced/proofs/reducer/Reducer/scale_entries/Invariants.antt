@@ -1,11 +1,11 @@
 use Rattle.std.proofs.Common.{◌*◌, ◌%◌}
-use Rattle.modular_transform.specs.Entries.{entry}
-use Rattle.modular_transform.proofs.ListSteps.{WrittenBelow}
-use Rattle.modular_transform.proofs.lists.scale_list.Given as goal
+use Rattle.modular_reduced.specs.Entries.{entry}
+use Rattle.modular_reduced.proofs.ListSteps.{WrittenBelow}
+use Rattle.modular_reduced.proofs.reducer.Reducer.scale_entries.Given as goal
 
 -- the first i entries are done
 abbrev pub invariant-entries : goal.invariant-entries
 invariant-entries g l =
-    let ring = g.R.Reducer in let m = ring.modulus l.fn.r in let number = g.T.RingWord.number in
+    let ring = g.Self.Reducer in let m = ring.modulus l.self in let number = g.T.RingWord.number in
     let old = entry number ring.value m l.fn.xs in let factor = ring.value m (number l.factor) in
     WrittenBelow number ring.form ring.value m (λ k. (old k * factor) % m) l.i old l.xs
