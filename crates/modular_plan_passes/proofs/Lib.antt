@@ -10,6 +10,7 @@ pub mod KnownJoins
 pub mod Levels
 pub mod Mirrors
 pub mod Quarters
+pub mod Runs
 pub mod Shorter
 pub mod Steps
 pub mod Tables

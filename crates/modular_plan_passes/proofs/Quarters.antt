@@ -1,7 +1,8 @@
 -- The parts of a list, as lists of their own.
-use Rattle.std.proofs.Common.{◌≡◌, ℕ, ◌+◌, ◌<◌, List, ◌++◌, All, map, get_or, length}
+use Rattle.std.proofs.Common.{◌≡◌, ℕ, ◌+◌, ◌-◌, ◌<◌, List, ◌++◌, All, map, get_or, length, inl, inr}
 use Rattle.std.proofs.Common.{sym, ◌∙◌, ap, arith, subst, length-append}
 use Rattle.std.proofs.Math.ListN.{get_or-append}
+use Rattle.std.proofs.lemmas.Bool.{cases_lt}
 use Rattle.std.proofs.lemmas.List.{length-map, map-append, get_or-append-add}
 use Rattle.modular_plan_passes.specs.Plans.{numbers}
 
@@ -28,3 +29,16 @@ pub all_behind : {T : Type 0} (P : T → Type 0) (xs ys : List T) → All P (xs 
 all_behind P xs ys all k d l =
     let len = length-append xs ys in
     subst P (get_or-append-add xs ys k d) (all (length xs + k) d (omega (arith, len, l)))
+
+-- what holds for the words of two parts holds for all
+pub all_of_both : {T : Type 0} (P : T → Type 0) (xs ys : List T) → All P xs → All P ys → All P (xs ++ ys)
+all_of_both P xs ys front back k d l =
+    let len = length-append xs ys in
+    elim (cases_lt k (length xs)) [
+      | inl less ↦ subst P (sym (get_or-append xs ys d k less)) (front k d less)
+      | inr least ↦
+          let i : ℕ = k - length xs in
+          let is : length xs + i ≡ k = omega (arith, least) in
+          subst (λ v. P (get_or (xs ++ ys) v d)) is
+          (subst P (sym (get_or-append-add xs ys i d)) (back i d (omega (arith, len, l, is))))
+    ]

@@ -3,7 +3,7 @@
 ghost use Rattle.std.specs.Prelude.{◌≡◌, ℕ, ◌+◌, ◌*◌, ◌^◌, ◌<◌, ◌≤◌, All, length};
 ghost use Rattle.modular_barrett.specs.Factors.{IsFactorOf};
 ghost use Rattle.modular_plan_passes.specs.Plans.{numbers, IsPlan};
-ghost use Rattle.modular_plan_passes.specs.Splits.{AreFactorsOf};
+ghost use Rattle.modular_plan_passes.specs.Splits.{AreFactorsOf, IsPassReady};
 ghost use Rattle.modular_plan_passes.specs.Steps.{StageDone};
 ghost use Rattle.modular_plan_passes.specs.Joins.{IsPairJoin, IsMinusInverse, AreMinusInverses};
 ghost use Rattle.modular_plan_passes.specs.JoinPasses.{IsTableOfFactors, IsStageReady, IsJoinPassReady, IsPassJoined};
@@ -24,6 +24,17 @@ fn mirrored(place: usize) -> usize
 {
     let power = 1 << place.ilog2();
     power + (power - 1 - (place - power))
+}
+
+// How many indexes from this one on have the same highest bit 2^k, and this one with its lower bits inverted.
+fn mirrored_run(place: usize) -> (usize, usize)
+    requires { 0 < place }
+    ensures { (k : ℕ) × (2 ^ k ≤ place) × (0 < result.0) × (place + result.0 ≡ 2 * 2 ^ k)
+        × (place + result.1 + 1 ≡ 3 * 2 ^ k) }
+{
+    let power = 1 << place.ilog2();
+    let above = place - power;
+    (power - above, power + (power - 1 - above))
 }
 
 // Minus the inverse of the factor at an index: the factor at the mirrored index, or -1 for index 0. Where the table
@@ -167,11 +178,9 @@ pub fn join_known<T: PlainWord, F: PlanEntry<T>, M: JoinSteps<T>>(
     }
 }
 
-/// The first two stages of all blocks of four entries, which makes them less than the bound: block p by entry
-/// first + p of the table, and its halves by the entries 2·(first + p) and 2·(first + p) + 1. Conditions: the blocks
-/// fill the list; the list's entries are below 4m; those of the table are factors modulo m, one for each block and two
-/// for its halves; `minus` is the factor -1.
-pub fn join_fours<T: PlainWord, F: PlanEntry<T>, M: JoinSteps<T>>(
+// `join_fours`, block by block.
+#[inline(always)]
+fn join_each<T: PlainWord, F: PlanEntry<T>, M: JoinSteps<T>>(
     m: &M,
     xs: &mut [T],
     blocks: usize,
@@ -193,5 +202,123 @@ pub fn join_fours<T: PlainWord, F: PlanEntry<T>, M: JoinSteps<T>>(
         }
         let step = JoinFour { m: *m, w, u, v };
         neighbours(&JoinLowered { step }, xs, place);
+    }
+}
+
+// `join_fours` for blocks whose indexes in the table have the same highest bit. The factors are taken from the ends of
+// two parts of the table, which get shorter: compilers would test each of the indexes, which descend, and then not
+// vectorize the loop. Conditions: those of `join_fours`; the mirrored indexes are in the table, and `last` is the first
+// block's.
+#[inline(always)]
+fn join_mirrored<T: PlainWord, F: PlanEntry<T>, M: JoinSteps<T>>(
+    m: &M,
+    xs: &mut [T],
+    blocks: usize,
+    table: &[F],
+    first: usize,
+    last: usize,
+)
+    requires pass { IsPassReady T.number F.value F.quotient T.base (M.modulus m.now) (4 * M.modulus m.now)
+        1 blocks first xs.old table.now }
+    requires mirrored { (k : ℕ) × (2 ^ k ≤ first) × (first + blocks ≤ 2 * 2 ^ k) × (first + last + 1 ≡ 3 * 2 ^ k) }
+    requires within { 2 * last + 1 < length table.now }
+    ensures { IsPassJoined T.number F.value (M.modulus m.now) (M.bound m.now) 1 blocks first table.now
+        xs.old xs.new }
+{
+    let (mut own, _after) = table.split_at(last + 1);
+    let (mut halves, _rest) = table.split_at(2 * last + 2);
+    'fours: for p in 0..blocks {
+        let (others, one) = own.split_at(own.len() - 1);
+        let (before, two) = halves.split_at(halves.len() - 2);
+        own = others;
+        halves = before;
+        let place = p * 4;
+        // Unreachable (see `is_beyond`).
+        if m.is_beyond(xs[place]) {
+            return;
+        }
+        let w = one[0].factor();
+        let u = two[1].factor();
+        let v = two[0].factor();
+        let step = JoinFour { m: *m, w, u, v };
+        neighbours(&JoinLowered { step }, xs, place);
+    }
+}
+
+// `join_fours`, by `join_mirrored` where the blocks suit it.
+fn join_run<T: PlainWord, F: PlanEntry<T>, M: JoinSteps<T>>(
+    m: &M,
+    xs: &mut [T],
+    blocks: usize,
+    table: &[F],
+    first: usize,
+    minus: &Factor<T>,
+)
+    requires { IsJoinPassReady T.number F.value F.quotient T.base (M.modulus m.now) (4 * M.modulus m.now)
+        1 blocks first (T.number minus.now.value) (T.number minus.now.quotient) xs.old table.now }
+    ensures { IsPassJoined T.number F.value (M.modulus m.now) (M.bound m.now) 1 blocks first table.now
+        xs.old xs.new }
+{
+    if 0 < first {
+        let (run, last) = mirrored_run(first);
+        if blocks <= run && last < table.len() / 2 {
+            return join_mirrored(m, xs, blocks, table, first, last);
+        }
+    }
+    join_each(m, xs, blocks, table, first, minus);
+}
+
+// `join_fours` for many blocks: those of each highest bit in turn, so that compilers vectorize the loop for words of 32
+// bits.
+#[inline(never)]
+fn join_many<T: PlainWord, F: PlanEntry<T>, M: JoinSteps<T>>(
+    m: &M,
+    xs: &mut [T],
+    blocks: usize,
+    table: &[F],
+    first: usize,
+    minus: &Factor<T>,
+)
+    requires { IsJoinPassReady T.number F.value F.quotient T.base (M.modulus m.now) (4 * M.modulus m.now)
+        1 blocks first (T.number minus.now.value) (T.number minus.now.quotient) xs.old table.now }
+    ensures { IsPassJoined T.number F.value (M.modulus m.now) (M.bound m.now) 1 blocks first table.now
+        xs.old xs.new }
+{
+    let run = if first == 0 {
+        16
+    } else {
+        mirrored_run(first).0
+    };
+    if blocks <= run {
+        join_run(m, xs, blocks, table, first, minus);
+    } else {
+        let (low, high) = xs.split_at_mut(4 * run);
+        join_run(m, low, run, table, first, minus);
+        join_many(m, high, blocks - run, table, first + run, minus);
+    }
+}
+
+/// The first two stages of all blocks of four entries, which makes them less than the bound: block p by entry
+/// first + p of the table, and its halves by the entries 2·(first + p) and 2·(first + p) + 1. Conditions: the blocks
+/// fill the list; the list's entries are below 4m; those of the table are factors modulo m, one for each block and two
+/// for its halves; `minus` is the factor -1.
+#[inline(always)]
+pub fn join_fours<T: PlainWord, F: PlanEntry<T>, M: JoinSteps<T>>(
+    m: &M,
+    xs: &mut [T],
+    blocks: usize,
+    table: &[F],
+    first: usize,
+    minus: &Factor<T>,
+)
+    requires { IsJoinPassReady T.number F.value F.quotient T.base (M.modulus m.now) (4 * M.modulus m.now)
+        1 blocks first (T.number minus.now.value) (T.number minus.now.quotient) xs.old table.now }
+    ensures { IsPassJoined T.number F.value (M.modulus m.now) (M.bound m.now) 1 blocks first table.now
+        xs.old xs.new }
+{
+    if blocks < 32 {
+        join_each(m, xs, blocks, table, first, minus);
+    } else {
+        join_many(m, xs, blocks, table, first, minus);
     }
 }

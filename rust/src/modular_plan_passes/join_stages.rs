@@ -14,6 +14,14 @@ fn mirrored(place: usize) -> usize {
     power + (power - 1 - (place - power))
 }
 
+// How many indexes from this one on have the same highest bit 2^k, and this one with its lower bits inverted.
+#[inline]
+fn mirrored_run(place: usize) -> (usize, usize) {
+    let power = 1 << crate::additions::ilog2(place);
+    let above = place - power;
+    (power - above, power + (power - 1 - above))
+}
+
 // Minus the inverse of the factor at an index: the factor at the mirrored index, or -1 for index 0. Where the table
 // is no plan the mirrored index may be out of bounds.
 #[inline]
@@ -137,15 +145,9 @@ pub fn join_known<T: PlainWord, F: PlanEntry<T>, M: JoinSteps<T>>(
     }
 }
 
-/// The first two stages of all blocks of four entries, which makes them less than the bound: block p by entry
-/// first + p of the table, and its halves by the entries 2·(first + p) and 2·(first + p) + 1.
-///
-/// # Preconditions
-///
-/// The blocks fill the list, and the list's entries are below 4m, and those of the table are factors
-/// modulo m, one for each block and two for its halves, and `minus` is the factor -1. This isn't
-/// tested: outside it the call panics, or returns no meaningful result.
-pub fn join_fours<T: PlainWord, F: PlanEntry<T>, M: JoinSteps<T>>(
+// `join_fours`, block by block.
+#[inline(always)]
+fn join_each<T: PlainWord, F: PlanEntry<T>, M: JoinSteps<T>>(
     m: &M,
     xs: &mut [T],
     blocks: usize,
@@ -162,5 +164,106 @@ pub fn join_fours<T: PlainWord, F: PlanEntry<T>, M: JoinSteps<T>>(
         }
         let step = JoinFour { m: *m, w, u, v };
         neighbours(&JoinLowered { step }, xs, place);
+    }
+}
+
+// `join_fours` for blocks whose indexes in the table have the same highest bit. The factors are taken from the ends of
+// two parts of the table, which get shorter: compilers would test each of the indexes, which descend, and then not
+// vectorize the loop. Conditions: those of `join_fours`; the mirrored indexes are in the table, and `last` is the first
+// block's.
+#[inline(always)]
+fn join_mirrored<T: PlainWord, F: PlanEntry<T>, M: JoinSteps<T>>(
+    m: &M,
+    xs: &mut [T],
+    blocks: usize,
+    table: &[F],
+    first: usize,
+    last: usize,
+) {
+    let _ = first;
+    let (mut own, _after) = table.split_at(last + 1);
+    let (mut halves, _rest) = table.split_at(2 * last + 2);
+    for p in 0..blocks {
+        let (others, one) = own.split_at(own.len() - 1);
+        let (before, two) = halves.split_at(halves.len() - 2);
+        own = others;
+        halves = before;
+        let place = p * 4;
+        // Unreachable (see `is_beyond`).
+        if m.is_beyond(xs[place]) {
+            panic!("the entries must be below 4m");
+        }
+        let w = one[0].factor();
+        let u = two[1].factor();
+        let v = two[0].factor();
+        let step = JoinFour { m: *m, w, u, v };
+        neighbours(&JoinLowered { step }, xs, place);
+    }
+}
+
+// `join_fours`, by `join_mirrored` where the blocks suit it.
+fn join_run<T: PlainWord, F: PlanEntry<T>, M: JoinSteps<T>>(
+    m: &M,
+    xs: &mut [T],
+    blocks: usize,
+    table: &[F],
+    first: usize,
+    minus: &Factor<T>,
+) {
+    if 0 < first {
+        let (run, last) = mirrored_run(first);
+        if blocks <= run && last < table.len() / 2 {
+            return join_mirrored(m, xs, blocks, table, first, last);
+        }
+    }
+    join_each(m, xs, blocks, table, first, minus);
+}
+
+// `join_fours` for many blocks: those of each highest bit in turn, so that compilers vectorize the loop for words of 32
+// bits.
+#[inline(never)]
+fn join_many<T: PlainWord, F: PlanEntry<T>, M: JoinSteps<T>>(
+    m: &M,
+    xs: &mut [T],
+    blocks: usize,
+    table: &[F],
+    first: usize,
+    minus: &Factor<T>,
+) {
+    let run = if first == 0 {
+        16
+    } else {
+        mirrored_run(first).0
+    };
+    if blocks <= run {
+        join_run(m, xs, blocks, table, first, minus);
+    } else {
+        let (low, high) = xs.split_at_mut(4 * run);
+        join_run(m, low, run, table, first, minus);
+        join_many(m, high, blocks - run, table, first + run, minus);
+    }
+}
+
+/// The first two stages of all blocks of four entries, which makes them less than the bound: block p by entry
+/// first + p of the table, and its halves by the entries 2·(first + p) and 2·(first + p) + 1.
+///
+/// # Preconditions
+///
+/// The blocks fill the list, and the list's entries are below 4m, and those of the table are factors
+/// modulo m, one for each block and two for its halves, and `minus` is the factor -1. This isn't
+/// tested: outside it the call panics, or returns no meaningful result.
+#[inline(always)]
+pub fn join_fours<T: PlainWord, F: PlanEntry<T>, M: JoinSteps<T>>(
+    m: &M,
+    xs: &mut [T],
+    blocks: usize,
+    table: &[F],
+    first: usize,
+    minus: &Factor<T>,
+) {
+    if blocks < 32 {
+        join_each(m, xs, blocks, table, first, minus);
+    } else {
+        join_many(m, xs, blocks, table, first, minus);
     }
 }

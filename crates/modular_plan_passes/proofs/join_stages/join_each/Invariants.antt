@@ -2,7 +2,7 @@ use Rattle.std.proofs.Common.{◌≡◌, ℕ, ◌+◌, ◌*◌, ◌<◌, ◌≤�
 use Rattle.modular_plan_passes.specs.Plans.{numbers, IsPlan}
 use Rattle.modular_plan_passes.specs.Steps.{StageOfFours}
 use Rattle.modular_plan_passes.specs.Joins.{IsFourJoin}
-use Rattle.modular_plan_passes.proofs.join_stages.join_fours.Given as goal
+use Rattle.modular_plan_passes.proofs.join_stages.join_each.Given as goal
 
 -- the first p blocks are done, and their entries below the bound
 abbrev pub invariant-fours : goal.invariant-fours

@@ -3,7 +3,7 @@ use Rattle.modular_plan_passes.proofs.Columns.{neighbours_given}
 use Rattle.modular_plan_passes.proofs.Entries.{all_below, never_beyond}
 use Rattle.modular_plan_passes.proofs.Fours.{block_mapped, neighbours_done, neighbours_below, stage_of_fours_none}
 use Rattle.modular_plan_passes.proofs.Fours.{stage_of_fours_more, stage_of_fours_all}
-use Rattle.modular_plan_passes.proofs.join_stages.join_fours.Goals as goal
+use Rattle.modular_plan_passes.proofs.join_stages.join_each.Goals as goal
 use borrow.Author.Count.{falls}
 use borrow.Author.Rules.{scaled_Fits}
 

@@ -1,0 +1,107 @@
+-- Blocks whose indexes have the same highest bit: their factors, read from the ends of parts of a table, and the stage of
+-- one run of blocks after another.
+use Rattle.std.proofs.Common.{◌≡◌, ℕ, suc, ◌+◌, ◌-◌, ◌*◌, ◌^◌, ◌<◌, ◌≤◌, List, ◌++◌, get_or, length, inl, inr}
+use Rattle.std.proofs.Common.{sym, ◌∙◌, ap, arith, subst, length-append}
+use Rattle.std.proofs.Math.Nat.{two-pow-succ}
+use Rattle.std.proofs.lemmas.Bool.{cases_lt}
+use Rattle.modular_plan_passes.specs.Plans.{numbers, IsPlan}
+use Rattle.modular_plan_passes.specs.Joins.{AreMinusInverses, IsMinusInverse}
+use Rattle.modular_plan_passes.specs.Steps.{StageOfFours}
+use Rattle.modular_plan_passes.proofs.Entries.{number_read}
+use Rattle.modular_plan_passes.proofs.Fours.{four_along}
+use Rattle.modular_plan_passes.proofs.Mirrors.{mirror_of_plan}
+use Rattle.modular_plan_passes.proofs.Quarters.{in_front, behind}
+
+-- a part begins a list, by the numbers of their entries
+pub record IsFrontOf {F : Type 0} (value : F → ℕ) (table part : List F) : Type 0 where
+  pub same : (k : ℕ) → k < length part → numbers value part k ≡ numbers value table k
+
+pub front_of : {F : Type 0} (value : F → ℕ) (table front back : List F) → table ≡ front ++ back
+    → IsFrontOf value table front
+front_of value table front back is = record {
+  same = λ k l. sym (in_front value front back k l) ∙ ap (λ t. numbers value t k) (sym is);
+}
+
+-- the front of a front
+pub shorter_front : {F : Type 0} (value : F → ℕ) (table part front back : List F) → IsFrontOf value table part
+    → part ≡ front ++ back → IsFrontOf value table front
+shorter_front value table part front back of is =
+    let len = ap (λ t. length t) is ∙ length-append front back in
+    record {
+      same = λ k l. (front_of value part front back is).same k l ∙ of.same k (omega (arith, len, l));
+    }
+
+-- what is read of the end of a front
+pub read_at_end : {F : Type 0} (value : F → ℕ) (table part front back : List F) (n i : ℕ) (x : F) → IsFrontOf value table part
+    → part ≡ front ++ back → length front ≡ n → i < length back → x ≡ get_or back i x
+    → value x ≡ numbers value table (n + i)
+read_at_end value table part front back n i x of is front_length within read =
+    let len = ap (λ t. length t) is ∙ length-append front back in
+    number_read value back i x within read ∙ sym (behind value front back n i front_length)
+    ∙ ap (λ t. numbers value t (n + i)) (sym is) ∙ of.same (n + i) (omega (arith, len, front_length, within))
+
+-- the entries at the mirrored indexes of a block and of its halves
+pub mirrored_inverses : {m : ℕ} (g z count k place other : ℕ) (w : ℕ → ℕ) → IsPlan m g z count w → 2 * place + 1 < count
+    → 2 ^ k ≤ place → place < 2 * 2 ^ k → place + other + 1 ≡ 3 * 2 ^ k
+    → AreMinusInverses m (w place) (w (2 * place)) (w (2 * place + 1)) (w other) (w (2 * other + 1)) (w (2 * other))
+mirrored_inverses {m} g z count k place other w plan within least most sum =
+    let two = two-pow-succ k in
+    record {
+      own = (mirror_of_plan g z count k place other w plan (omega (arith, within)) least most sum).inverse;
+      low = (mirror_of_plan g z count (suc k) (2 * place) (2 * other + 1) w plan (omega (arith, within))
+          (omega (arith, two, least)) (omega (arith, two, most)) (omega (arith, two, sum))).inverse;
+      high = (mirror_of_plan g z count (suc k) (2 * place + 1) (2 * other) w plan within
+          (omega (arith, two, least)) (omega (arith, two, most)) (omega (arith, two, sum))).inverse;
+    }
+
+-- .. as words that were read have them
+pub inverses_of : {m a b c p q r p' q' r' : ℕ} → p' ≡ p → q' ≡ q → r' ≡ r → AreMinusInverses m a b c p q r
+    → AreMinusInverses m a b c p' q' r'
+inverses_of {m} {a} {b} {c} {p} {q} {r} {p'} {q'} {r'} ip iq ir are = record {
+  own = subst (λ v. IsMinusInverse m a v) (sym ip) are.own;
+  low = subst (λ v. IsMinusInverse m b v) (sym iq) are.low;
+  high = subst (λ v. IsMinusInverse m c v) (sym ir) are.high;
+}
+
+-- a stage of n blocks, and one of further blocks
+pub stages_appended : {X : Type 0} (number : X → ℕ) (S : ℕ → ℕ → ℕ → ℕ → ℕ → ℕ → ℕ → ℕ → ℕ → Type 0) (first n more : ℕ)
+    (a b a' b' : List X) → length a ≡ 4 * n → length a' ≡ 4 * n
+    → StageOfFours (λ p. S (first + p)) 1 n (numbers number a) (numbers number a')
+    → StageOfFours (λ p. S (first + n + p)) 1 more (numbers number b) (numbers number b')
+    → StageOfFours (λ p. S (first + p)) 1 (n + more) (numbers number (a ++ b)) (numbers number (a' ++ b'))
+stages_appended number S first n more a b a' b' la la' front back =
+    let x = numbers number (a ++ b) in
+    let y = numbers number (a' ++ b') in
+    let old_front : (k : ℕ) → k < 4 * n → numbers number a k ≡ x k = λ k l. sym (in_front number a b k (omega (arith, la, l))) in
+    let new_front : (k : ℕ) → k < 4 * n → numbers number a' k ≡ y k = λ k l. sym (in_front number a' b' k (omega (arith, la', l))) in
+    let old_back : (k : ℕ) → numbers number b k ≡ x (4 * n + k) = λ k. sym (behind number a b (4 * n) k la) in
+    let new_back : (k : ℕ) → numbers number b' k ≡ y (4 * n + k) = λ k. sym (behind number a' b' (4 * n) k la') in
+    record {
+      fours = λ p i l one. elim (cases_lt p n) [
+        | inl less ↦
+            four_along (S (first + p))
+            (old_front (p * 4 + i) (omega arith)) (old_front (p * 4 + (1 + i)) (omega arith))
+            (old_front (p * 4 + (2 + i)) (omega arith)) (old_front (p * 4 + (2 + (1 + i))) (omega arith))
+            (new_front (p * 4 + i) (omega arith)) (new_front (p * 4 + (1 + i)) (omega arith))
+            (new_front (p * 4 + (2 + i)) (omega arith)) (new_front (p * 4 + (2 + (1 + i))) (omega arith))
+            (front.fours p i less one)
+        | inr least ↦
+            let e : ℕ = p - n in
+            let is : n + e ≡ p = omega (arith, least) in
+            let place : 4 * n + e * 4 ≡ p * 4 = omega (arith, is) in
+            let at : (j : ℕ) → 4 * n + (e * 4 + j) ≡ p * 4 + j = λ j. omega (arith, place) in
+            let old : (j : ℕ) → numbers number b (e * 4 + j) ≡ x (p * 4 + j) = λ j. old_back (e * 4 + j) ∙ ap x (at j) in
+            let new : (j : ℕ) → numbers number b' (e * 4 + j) ≡ y (p * 4 + j) = λ j. new_back (e * 4 + j) ∙ ap y (at j) in
+            subst (λ v. S v (x (p * 4 + i)) (x (p * 4 + (1 + i))) (x (p * 4 + (2 + i))) (x (p * 4 + (2 + (1 + i))))
+            (y (p * 4 + i)) (y (p * 4 + (1 + i))) (y (p * 4 + (2 + i))) (y (p * 4 + (2 + (1 + i)))))
+            (let same : first + n + e ≡ first + p = omega (arith, is) in same)
+            (four_along (S (first + n + e))
+            (old i) (old (1 + i)) (old (2 + i)) (old (2 + (1 + i)))
+            (new i) (new (1 + i)) (new (2 + i)) (new (2 + (1 + i)))
+            (back.fours e i (omega (arith, is, l)) one))
+      ];
+      kept = λ k l.
+          let e : ℕ = k - 4 * n in
+          let is : 4 * n + e ≡ k = omega (arith, l) in
+          ap y (sym is) ∙ sym (new_back e) ∙ back.kept e (omega (arith, is, l)) ∙ old_back e ∙ ap x is;
+    }
