@@ -48,8 +48,11 @@ LOOKS = {
     "assert!(convolves(xs.len(), table.len(), b, last));": "convolution.convolve_block",
     "debug_assert!(xs.iter().chain(ys.iter()).all(|x| m.has_room(*x)));": "convolution.convolve_block",
     "crate::additions::expect_filled(m, table);": "split.split join.join join.join_scaled convolution.convolve_block",
+    "assert!(last == 1 || last == 2);": "products.multiply",
+    "assert!(ys.len() == xs.len() && xs.len() % last == 0);": "products.multiply",
+    "debug_assert!(xs.iter().all(|x| x.is_below(m.modulus)));": "products.multiply",
     "debug_assert!(crate::additions::are_factors(m, xs.len(), table, b, last));":
-    "split.split join.join join.join_scaled convolution.convolve_block",
+    "split.split join.join join.join_scaled convolution.convolve_block products.multiply",
     "debug_assert!(crate::additions::is_factor(m, w));": "join.join_scaled",
     "assert!(self.fits(xs.len()));": "plan/calls.transform plan/calls.inverse",
     "assert!(self.splits(xs.len(), b, last));": "plan/calls.split plan/calls.join",
@@ -63,6 +66,11 @@ LOOKS = {
     "assert!(self.has_shorter(n));": "plan.shorter",
     "debug_assert!(y.reducer.modulus() == x.reducer.modulus());": "reduced_int/operations.quotient",
     "debug_assert!(d.leading_zeros() == 0);": "normalized.invert_word",
+    "debug_assert!(m.is_odd());": "modular_prim/inverse.inverse_by_subtraction modular_word/paths.neginv",
+    "debug_assert!(n.is_odd());": "subtraction.jacobi_by_subtraction",
+    "debug_assert!(self.has_room(x));": "planned.residue",
+    "debug_assert!(self.check(&sum) && xs.iter().chain(ys).all(|x| self.check(x)));":
+    "reducer.add_products odd_ring.add_products montgomery.add_products premul.add_products",
     "debug_assert!(crate::additions::is_multiplier(self.multiplier, self.shift, d));": "one_by_one.div_rem",
     "debug_assert!(crate::additions::is_greatest_quotient(d, pre.q_lim));": "preinv.word_quotient preinv.double_quotient",
     "assert!(!d.is_zero_word());": "modular_prim/exact.exact_quotient",
@@ -70,9 +78,9 @@ LOOKS = {
     " word/w8.nrem word/w16.nrem word/w32.nrem word/w64.nrem word/wsize.nrem",
     "assert!(m != 0);": "abs.signed_residue_128",
     "assert!(moduli.iter().all(|m| *m > 0));": "residues.encode",
-    "assert!(residues.len() == moduli.len());": "residues.encode",
+    "assert!(residues.len() == moduli.len());": "residues.encode residues.are_reduced",
     "assert!(crate::additions::may_be_system(moduli));": "residues.decode",
-    "assert!(residues.len() >= moduli.len() && are_reduced(moduli, residues));": "residues.decode",
+    "assert!(residues.len() == moduli.len() && are_reduced(moduli, residues));": "residues.decode",
     "assert!(patterns.base == self.base);":
     "prefixes/searches.pattern_at prefixes/searches.find_any_from prefixes/searches.find_all",
     f"assert!({REDUCED.format('residues')} && {COUNTED.format('digits')});": "mixed_radix.digits mixed_radix/extension.extend",
@@ -115,7 +123,7 @@ SHOWN = {
     "g must be below m": f': {{}} and {{}}", {NUMBER}(g), {NUMBER}(m.modulus)',
     "g must suit n entries, n being a power of two":
     f': n = {{}}, m = {{}}, g = {{}}", 2 * table.len(), {NUMBER}(m.modulus), {NUMBER}(g)',
-    "there must be room for one residue a modulus": ': {} and {}", residues.len(), moduli.len()',
+    "there must be as many residues as moduli": ': {} and {}", residues.len(), moduli.len()',
     "(xs.len(),table.len(),b,last)": ': {} entries, {} factors, b = {}, last = {}", xs.len(), table.len(), b, last',
 }
 FOUND = defaultdict(set)
@@ -132,7 +140,7 @@ TESTED_BELOW = (
     ((EVERY, DEBUG, EVERY), r"modular_transform/transform\.ntt"),
     ((DEBUG, EVERY, DEBUG), r"modular_plan\w*/transform\.ntt_planned"),
     ((EVERY,), r"modular_plan\w*/convolution\.\w+"),
-    ((DEBUG,), r"modular_barrett/exact\.exact_quotient"),
+    ((DEBUG,), r"modular_barrett/exact\.exact_quotient|DivExact(Assign)?\.\w+|modular_monty/neg_mod_inv/\w+\.neginv"),
 )
 VERBS = {"is": "be", "are": "be", "has": "have", "have": "have"}
 VERBS.update({f"{it}s": it for it in ("suit", "fit", "admit", "take", "hold")})
@@ -269,10 +277,10 @@ def sections(every, debug, none):
         said = [f"Panics unless {', and '.join(every)}."] * bool(every)
         if debug:
             said.append(f"A debug build{' also' * bool(every)} panics unless {', and '.join(debug)}.")
-            said.append("A release build doesn't test that, and outside it panics, or returns no meaningful result.")
+            said.append("A release build doesn't check this: if it doesn't hold, the call panics or its result is unspecified.")
         yield from ("", "# Panics", "", *textwrap.wrap(" ".join(said), WIDTH))
     if none:
-        said = f"{'; '.join(none)}. This isn't tested: outside it the call panics, or returns no meaningful result."
+        said = f"{'; '.join(none)}. This isn't checked: if it doesn't hold, the call panics or its result is unspecified."
         # the name of a variable stays as it is at the beginning of the sentence
         said = re.sub(r"^(?!(?:[a-z]|[xyz]s)\W).", lambda first: first[0].upper(), said)
         yield from ("", "# Preconditions", "", *textwrap.wrap(said, WIDTH))

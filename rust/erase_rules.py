@@ -50,6 +50,7 @@ OF_LIBRARY = (
     ("mod computed ;", "pub(crate) mod computed;"),
     ("made : ( )", "_made: ()"),  # a field without a value is read by nothing
     ("pub struct", "#[must_use]\npub struct"),
+    ("pub enum RunEnd", "#[must_use]\npub enum RunEnd"),
     ("pub mod wsize", f"{WIDE}\npub mod wsize"),
     *of_tests("mod laws"),
     ("use modular_word :: word :: { w8 , w16 , w32 , w64 , wsize } ;", import_apart),
@@ -94,6 +95,7 @@ def bounds_of(code):
     return f"T{': ' * bool(word)}{word}, R: Reducer<T>{' + Clone' * bool(is_whole)}"
 
 
+SHOWN = (("# [ derive ( Clone , Copy ) ] pub struct", "#[derive(Debug, Clone, Copy)]\npub struct"),)
 OF_PLACES = {  # by crate or file
     # rustc warns where what only tests call is missing here, and refuses the crate where one is too many
     "modular_symbols": of_tests("mod count"),
@@ -134,6 +136,7 @@ OF_PLACES = {  # by crate or file
     "split": constant("splits"),
     "convolution": constant("convolves"),
     "standards": constant("standard_codes"),
+    **dict.fromkeys(("check_digits", "residue_numbers"), SHOWN),
     **{f"word/{it}": constant("extend", "nrem") for it in ("w8", "w16", "w32", "w64", "wsize")},
 }
 

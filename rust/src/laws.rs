@@ -19,8 +19,8 @@ pub use crate::modular_reduced::laws::{
 /// # Preconditions
 ///
 /// The moduli are equal, the registers hold checked forms of equal residues, the lists are equal as
-/// commands on whole numbers, and each register number is below the count. This isn't tested: outside
-/// it the call panics, or returns no meaningful result.
+/// commands on whole numbers, and each register number is below the count. This isn't checked: if it
+/// doesn't hold, the call panics or its result is unspecified.
 #[inline]
 pub fn run_both<T: RingWord, U: RingWord, R: Reducer<T>, S: Reducer<U>>(
     left: &R,

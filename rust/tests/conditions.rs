@@ -5,9 +5,11 @@
 
 use num_modular::applications::check_digits;
 use num_modular::hashes;
+use num_modular::monty::neg_mod_inv;
 use num_modular::plans::{
-    convolve_block, convolve_negacyclic, convolve_planned, join, ntt_planned, plan, split, Factor, Plan, PlanEntry, PlannedModulus,
+    convolve_block, convolve_negacyclic, convolve_planned, join, multiply, ntt_planned, plan, split, Factor, Plan, PlanEntry, PlannedModulus,
 };
+use num_modular::prim::by_subtraction;
 use num_modular::residues;
 use num_modular::ring::{convolve, find_root, intt, ntt, ntt_counted, run, RingCommand, RunEnd};
 use num_modular::{
@@ -147,6 +149,12 @@ fn symbols_and_quotients_that_are_not_there() {
 }
 
 #[test]
+fn moduli_that_are_not_odd() {
+    panic_in_debug_with!("m must be odd"; by_subtraction::inverse(3u64, 10), neg_mod_inv::neginv(4u64), neg_mod_inv::w64::neginv(4));
+    panic_in_debug_with!("n must be odd"; by_subtraction::jacobi(false, 3u64, 10));
+}
+
+#[test]
 fn operators_of_two_moduli() {
     panic_in_debug_with!(MODULI; int(1, 21) + int(1, 22) => int(2, 21), int(1, 21) - int(1, 22) => int(0, 21));
     panic_in_debug_with!(MODULI; int(1, 21) * int(1, 22) => int(1, 21));
@@ -157,6 +165,9 @@ fn operators_of_two_moduli() {
 fn words_that_are_not_forms() {
     assert_eq!(Vanilla::<u8>::new(&21).add(&30, &1), 10);
     assert_eq!(PreMulInv2by1::<u8>::new(21).mul(&201, &250), 34);
+    let (ring, any) = (Montgomery::<u64>::new(97), Vanilla::<u64>::new(&97));
+    panic_with!("the lists must have the same length: 1 and 2"; ring.add_products(0, &[1], &[1, 2]), any.add_products(0, &[1], &[1, 2]));
+    panic_in_debug_with!("`sum` and all entries must be checked forms"; ring.add_products(0, &[97], &[1]), any.add_products(97, &[1], &[1]));
 }
 
 #[test]
@@ -304,6 +315,21 @@ fn transforms_by_plans() {
 }
 
 #[test]
+fn products_of_blocks() {
+    let (modulus, table) = planned();
+    let product = |xs: &[u64], last| {
+        let mut xs = xs.to_vec();
+        multiply(&modulus, &mut xs, &[1, 2, 3, 4], &table, 0, last);
+        xs
+    };
+    assert_eq!(product(&[5, 6, 7, 8], 1), [5, 12, 21, 32]);
+    panic_with!("`last` must be 1 or 2"; product(&[1; 4], 0), product(&[1; 4], 3));
+    panic_with!("the lists must have the same length, a multiple of `last`"; product(&[1; 2], 1), product(&[1; 8], 1));
+    assert_eq!(message(|| product(&[4000, 1, 1, 1], 1)).unwrap_or_default(), "the entries of xs must be below m");
+    panic_in_debug_with!("the word must be below 4m"; modulus.residue(1000));
+}
+
+#[test]
 fn tables_that_were_never_filled() {
     let modulus = PlannedModulus::<u64>::new(97);
     let table = vec![Factor::ZERO; 2];
@@ -343,14 +369,16 @@ fn hits() {
 
 #[test]
 fn residues_of_systems() {
-    panic_with!("each modulus must have a residue below it"; residues::decode(&[3, 5], &[4, 2]), residues::decode(&[3, 5], &[1, 5]));
-    panic_with!("each modulus must have a residue below it"; residues::decode(&[3, 5], &[1]));
+    let reduced = "there must be as many residues as moduli, each below its modulus";
+    panic_with!(reduced; residues::decode(&[3, 5], &[4, 2]), residues::decode(&[3, 5], &[1, 5]));
+    panic_with!(reduced; residues::decode(&[3, 5], &[1]), residues::decode(&[3, 5, 7], &[2, 3, 2, 4]));
     panic_with!("the moduli must be a system"; residues::decode(&[3, 0], &[1, 0]), residues::decode(&[u64::MAX; 3], &[1; 3]));
     let words = message(|| residues::decode(&[6, 9], &[1, 2])).unwrap_or_default();
     let wanted = ["the divisor must have an inverse modulo m", "the moduli must be a system"];
     assert_eq!(words, wanted[usize::from(cfg!(debug_assertions))]);
     assert_eq!(residues::decode(&[3, 5], &[1, 2]), 7);
-    panic_with!("there must be room for one residue a modulus: 1 and 2"; residues::encode(&[3, 5], 7, &mut [0]));
+    panic_with!("there must be as many residues as moduli: 1 and 2"; residues::encode(&[3, 5], 7, &mut [0]));
+    panic_with!("there must be as many residues as moduli: 3 and 2"; residues::are_reduced(&[3, 5], &[1, 1, 99]));
 }
 
 #[test]

@@ -15,7 +15,7 @@ use modular_word::ring_word::RingWord;
 /// factor of g to the power of the reversed bits of k.
 ///
 /// Conditions: g is below m; g suits n entries, n being a power of two. The first entries of a plan are a plan for
-/// fewer entries, by the power of g that suits them.
+/// fewer entries, by the power of g that suits them. The Cargo crate leaves an empty table as it is, whatever g is.
 ///
 /// # Examples
 ///

@@ -63,7 +63,7 @@ impl<'a, T: PlainWord, F: PlanEntry<T>> Plan<'a, T, F> {
     /// exactly where m is even, g isn't below m, or g doesn't suit n.
     ///
     /// Modulo an even m the number n would have no inverse, and so the transform would have none. Where it returns `None`, it has
-    /// written nothing to the table; no clause says so, since its result borrows the table.
+    /// written nothing to the table. This isn't proved, because the result borrows the table.
     ///
     /// # Examples
     ///
@@ -254,7 +254,7 @@ impl<'a, T: PlainWord, F: PlanEntry<T>> Plan<'a, T, F> {
         self.bits
     }
 
-    /// Whether a list of so many entries has n entries.
+    /// Whether a number of entries is n, the number of entries of the lists that the plan transforms.
     ///
     /// # Examples
     ///
@@ -272,7 +272,7 @@ impl<'a, T: PlainWord, F: PlanEntry<T>> Plan<'a, T, F> {
         entries / 2 == self.table.len() && entries % 2 == 0
     }
 
-    /// Whether `split` and `join` accept a list of so many entries as block b, with blocks of `last` entries.
+    /// Whether `split` and `join` accept a list with this number of entries as block b, with blocks of `last` entries.
     ///
     /// # Examples
     ///
@@ -290,7 +290,7 @@ impl<'a, T: PlainWord, F: PlanEntry<T>> Plan<'a, T, F> {
         splits(entries, self.table.len(), b, last)
     }
 
-    /// Whether `convolve_block` accepts lists of so many entries as block b, with blocks of `last` entries.
+    /// Whether `convolve_block` accepts lists with this number of entries as block b, with blocks of `last` entries.
     ///
     /// # Examples
     ///

@@ -29,8 +29,8 @@ pub trait DivExact<Rhs: Numbered, Precompute>: Numbered + Sized {
     // What is stored is that of the divisor.
     ghost fits: { Rhs → Precompute → Type 0 };
 
-    /// The quotient by d; `None` exactly where d doesn't divide the number. Condition: `pre`
-    /// fits the divisor d.
+    /// The quotient by d; `None` exactly where d doesn't divide the number. Condition: d is at least 1, and `pre` was
+    /// made of it or is `()`.
     ///
     /// # Examples
     ///
@@ -59,7 +59,7 @@ pub trait DivExact<Rhs: Numbered, Precompute>: Numbered + Sized {
 /// ```
 pub trait DivExactAssign<Rhs: Numbered, Precompute>: DivExact<Rhs, Precompute, Output = Self> {
     /// Replaces the number by its quotient by d and returns true. Where d doesn't divide the number, returns false
-    /// and leaves it unchanged. Condition: `pre` fits the divisor d.
+    /// and leaves it unchanged. Condition: d is at least 1, and `pre` was made of it or is `()`.
     ///
     /// # Examples
     ///

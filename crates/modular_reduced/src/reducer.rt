@@ -329,8 +329,8 @@ pub trait Reducer<T: RingWord> {
         self.mul(&difference, factor)
     }
 
-    /// The form of `sum` plus the products of two lists, entry by entry, modulo m. Condition: the lists have the same
-    /// length.
+    /// The form of `sum` plus the products of two lists, entry by entry, modulo m. Conditions: the lists have the same
+    /// length; `sum` and all entries are checked forms.
     ///
     /// A reducer may override it with a body that reduces once for many products.
     ///

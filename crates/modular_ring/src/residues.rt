@@ -69,8 +69,7 @@ fn next_digit(m: u64, residue: u64, number: u128, range: u128) -> u64
     ((known.convert(residue) - known) / weight).residue()
 }
 
-/// The residues of a number. Conditions: each modulus is above 0; there is room for one residue
-/// a modulus.
+/// Writes the residues of a number. Conditions: each modulus is above 0; there are as many residues as moduli.
 ///
 /// # Examples
 ///
@@ -91,7 +90,7 @@ pub fn encode(moduli: &[u64], number: u128, residues: &mut [u64])
     }
 }
 
-/// Whether each residue is below its modulus. Condition: each modulus has a residue.
+/// Whether each residue is below its modulus. Condition: there are as many residues as moduli.
 ///
 /// # Examples
 ///
@@ -115,7 +114,7 @@ pub fn are_reduced(moduli: &[u64], residues: &[u64]) -> bool
 }
 
 /// The only number below the product of the moduli that has these residues. Conditions: the moduli are a system
-/// (`is_system` tells); each modulus has a residue below it (`are_reduced` tells).
+/// (`is_system` tells); there are as many residues as moduli, each below its modulus (`are_reduced` tells).
 ///
 /// Source: Garner, "The residue number system"; Knuth, The Art of Computer Programming, volume 2, section 4.3.2,
 /// (24) and (25).

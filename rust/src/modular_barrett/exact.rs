@@ -8,8 +8,8 @@ use crate::modular_word::path_word::PathWord;
 ///
 /// # Panics
 ///
-/// A debug build panics unless the divider is that of the divisor d. A release build doesn't test that,
-/// and outside it panics, or returns no meaningful result.
+/// A debug build panics unless the divider is that of the divisor d. A release build doesn't check
+/// this: if it doesn't hold, the call panics or its result is unspecified.
 #[inline]
 #[cfg_attr(debug_assertions, track_caller)]
 pub fn exact_quotient<T: PathWord>(n: T, d: T, divider: &PreMulInv1by1<T>) -> Option<T> {

@@ -18,8 +18,8 @@ fn reduced_by_sign<T: PlainWord>(x: T, m: T) -> T {
 ///
 /// # Preconditions
 ///
-/// The word is below 2m, which is at most the base. This isn't tested: outside it the call panics, or
-/// returns no meaningful result.
+/// The word is below 2m, which is at most the base. This isn't checked: if it doesn't hold, the call
+/// panics or its result is unspecified.
 #[inline]
 pub fn reduced<T: PlainWord>(x: T, m: T) -> T {
     if T::bits() == 32 {

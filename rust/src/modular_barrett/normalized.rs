@@ -73,7 +73,7 @@ impl<T: PathWord> Normalized2by1Divisor<T> {
     /// # Panics
     ///
     /// A debug build panics unless the dividend's high word is below the divisor. A release build doesn't
-    /// test that, and outside it panics, or returns no meaningful result.
+    /// check this: if it doesn't hold, the call panics or its result is unspecified.
     ///
     /// # Examples
     ///
@@ -96,8 +96,8 @@ impl<T: PlainWord> Normalized2by1Divisor<T> {
     ///
     /// # Panics
     ///
-    /// A debug build panics unless the divisor's top bit is set. A release build doesn't test that, and
-    /// outside it panics, or returns no meaningful result.
+    /// A debug build panics unless the divisor's top bit is set. A release build doesn't check this: if it
+    /// doesn't hold, the call panics or its result is unspecified.
     ///
     /// # Examples
     ///

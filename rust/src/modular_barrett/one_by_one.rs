@@ -37,8 +37,8 @@ impl<T: PathWord> PreMulInv1by1<T> {
     ///
     /// # Panics
     ///
-    /// A debug build panics unless the divider is that of the divisor d. A release build doesn't test that,
-    /// and outside it panics, or returns no meaningful result.
+    /// A debug build panics unless the divider is that of the divisor d. A release build doesn't check
+    /// this: if it doesn't hold, the call panics or its result is unspecified.
     ///
     /// # Examples
     ///

@@ -140,8 +140,8 @@ impl<T: PlainWord> PlannedModulus<T> {
     ///
     /// # Panics
     ///
-    /// A debug build panics unless w is below m. A release build doesn't test that, and outside it panics,
-    /// or returns no meaningful result.
+    /// A debug build panics unless w is below m. A release build doesn't check this: if it doesn't hold,
+    /// the call panics or its result is unspecified.
     ///
     /// # Examples
     ///
@@ -165,8 +165,8 @@ impl<T: PlainWord> PlannedModulus<T> {
     ///
     /// # Preconditions
     ///
-    /// The factor is a residue modulo m. This isn't tested: outside it the call panics, or returns no
-    /// meaningful result.
+    /// The factor is a residue modulo m. This isn't checked: if it doesn't hold, the call panics or its
+    /// result is unspecified.
     ///
     /// # Examples
     ///
@@ -206,8 +206,8 @@ impl<T: PlainWord> PlannedModulus<T> {
     ///
     /// # Preconditions
     ///
-    /// The factor is a residue modulo m. This isn't tested: outside it the call panics, or returns no
-    /// meaningful result.
+    /// The factor is a residue modulo m. This isn't checked: if it doesn't hold, the call panics or its
+    /// result is unspecified.
     ///
     /// # Examples
     ///
@@ -231,8 +231,8 @@ impl<T: PlainWord> PlannedModulus<T> {
     ///
     /// # Preconditions
     ///
-    /// The factor is a residue modulo m. This isn't tested: outside it the call panics, or returns no
-    /// meaningful result.
+    /// The factor is a residue modulo m. This isn't checked: if it doesn't hold, the call panics or its
+    /// result is unspecified.
     ///
     /// # Examples
     ///
@@ -251,7 +251,7 @@ impl<T: PlainWord> PlannedModulus<T> {
     ///
     /// # Preconditions
     ///
-    /// x is below m. This isn't tested: outside it the call panics, or returns no meaningful result.
+    /// x is below m. This isn't checked: if it doesn't hold, the call panics or its result is unspecified.
     ///
     /// # Examples
     ///
@@ -275,7 +275,8 @@ impl<T: PlainWord> PlannedModulus<T> {
     ///
     /// # Preconditions
     ///
-    /// x + u is below 2m. This isn't tested: outside it the call panics, or returns no meaningful result.
+    /// x + u is below 2m. This isn't checked: if it doesn't hold, the call panics or its result is
+    /// unspecified.
     ///
     /// # Examples
     ///
@@ -325,10 +326,10 @@ impl<T: PlainWord> PlannedModulus<T> {
 
     /// The residue of a word, below m.
     ///
-    /// # Preconditions
+    /// # Panics
     ///
-    /// The word is below 4m (`has_room` tells). This isn't tested: outside it the call panics, or returns
-    /// no meaningful result.
+    /// A debug build panics unless the word is below 4m (`has_room` tells). A release build doesn't check
+    /// this: if it doesn't hold, the call panics or its result is unspecified.
     ///
     /// # Examples
     ///
@@ -338,7 +339,9 @@ impl<T: PlainWord> PlannedModulus<T> {
     /// assert_eq!(PlannedModulus::<u8>::new(13).residue(51), 12);
     /// ```
     #[inline]
+    #[cfg_attr(debug_assertions, track_caller)]
     pub fn residue(&self, x: T) -> T {
+        debug_assert!(self.has_room(x), "the word must be below 4m");
         reduced(reduced(x, self.twice()), self.modulus)
     }
 }

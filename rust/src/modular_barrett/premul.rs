@@ -205,6 +205,7 @@ impl<T: PlainWord> Reducer<T> for PreMulInv2by1<T> {
     #[track_caller]
     fn add_products(&self, sum: T, xs: &[T], ys: &[T]) -> T {
         assert!(ys.len() == xs.len(), "the lists must have the same length: {} and {}", xs.len(), ys.len());
+        debug_assert!(self.check(&sum) && xs.iter().chain(ys).all(|x| self.check(x)), "`sum` and all entries must be checked forms");
         let mut total = sum;
         let mut from = 0;
         while from < xs.len() {

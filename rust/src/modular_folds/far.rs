@@ -34,7 +34,7 @@ fn fold_above<V: FoldWord>(v: V, p: u32, by: u32, c: V, m: V) -> V {
 /// # Preconditions
 ///
 /// m is 2^p - c and more than half of 2^p, and p + p / 2 is below the width of the words. This isn't
-/// tested: outside it the call panics, or returns no meaningful result.
+/// checked: if it doesn't hold, the call panics or its result is unspecified.
 #[inline(always)]
 pub fn reduced_far<V: FoldWord>(v: V, p: u32, c: V, m: V) -> V {
     let half = fold_above(v, p, p / 2, c, m);
@@ -51,8 +51,8 @@ pub fn reduced_far<V: FoldWord>(v: V, p: u32, c: V, m: V) -> V {
 ///
 /// # Preconditions
 ///
-/// p is from 2 to the width of the words. This isn't tested: outside it the call panics, or returns no
-/// meaningful result.
+/// p is from 2 to the width of the words. This isn't checked: if it doesn't hold, the call panics or
+/// its result is unspecified.
 #[inline]
 pub fn has_few_folds<T: PathWord>(p: u32, c: T) -> bool {
     c.shift_right(p - 2 - p / 8).is_zero_word()

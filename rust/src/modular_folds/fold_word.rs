@@ -9,8 +9,8 @@ pub trait FoldWord: Sized + RingWord {
     ///
     /// # Preconditions
     ///
-    /// The sum fits the word. This isn't tested: outside it the call panics, or returns no meaningful
-    /// result.
+    /// The sum fits the word. This isn't checked: if it doesn't hold, the call panics or its result is
+    /// unspecified.
     #[must_use]
     fn plus(self, rhs: Self) -> Self;
 
@@ -18,8 +18,8 @@ pub trait FoldWord: Sized + RingWord {
     ///
     /// # Preconditions
     ///
-    /// The difference is not below 0. This isn't tested: outside it the call panics, or returns no
-    /// meaningful result.
+    /// The difference is not below 0. This isn't checked: if it doesn't hold, the call panics or its result
+    /// is unspecified.
     #[must_use]
     fn minus(self, rhs: Self) -> Self;
 
@@ -27,8 +27,8 @@ pub trait FoldWord: Sized + RingWord {
     ///
     /// # Preconditions
     ///
-    /// The product fits the word. This isn't tested: outside it the call panics, or returns no meaningful
-    /// result.
+    /// The product fits the word. This isn't checked: if it doesn't hold, the call panics or its result is
+    /// unspecified.
     #[must_use]
     fn times(self, rhs: Self) -> Self;
 
@@ -39,8 +39,8 @@ pub trait FoldWord: Sized + RingWord {
     ///
     /// # Preconditions
     ///
-    /// The result fits the word. This isn't tested: outside it the call panics, or returns no meaningful
-    /// result.
+    /// The result fits the word. This isn't checked: if it doesn't hold, the call panics or its result is
+    /// unspecified.
     #[must_use]
     fn multiply_add(self, factor: Self, addend: Self) -> Self;
 
@@ -48,8 +48,8 @@ pub trait FoldWord: Sized + RingWord {
     ///
     /// # Preconditions
     ///
-    /// `by` is below the width. This isn't tested: outside it the call panics, or returns no meaningful
-    /// result.
+    /// `by` is below the width. This isn't checked: if it doesn't hold, the call panics or its result is
+    /// unspecified.
     #[must_use]
     fn shift_right(self, by: u32) -> Self;
 

@@ -24,8 +24,8 @@ fn fold<V: FoldWord>(v: V, p: u32, mask: V, c: V) -> (V, u32) {
 /// # Preconditions
 ///
 /// The modulus m is 2^p - c and more than half of 2^p, p is below the width of the words, c is 1, and v
-/// is at most a product of two numbers below 2^p. This isn't tested: outside it the call panics, or
-/// returns no meaningful result.
+/// is at most a product of two numbers below 2^p. This isn't checked: if it doesn't hold, the call
+/// panics or its result is unspecified.
 #[inline]
 pub fn fold_two<V: FoldWord>(v: V, p: u32, mask: V, c: V, m: V) -> (V, u32) {
     let _ = m;
@@ -40,8 +40,8 @@ pub fn fold_two<V: FoldWord>(v: V, p: u32, mask: V, c: V, m: V) -> (V, u32) {
 /// # Preconditions
 ///
 /// The modulus m is 2^p - c and more than half of 2^p, p is below the width of the words, c·(c + 1) is
-/// at most 2^p, and v is at most a product of two numbers below 2^p. This isn't tested: outside it the
-/// call panics, or returns no meaningful result.
+/// at most 2^p, and v is at most a product of two numbers below 2^p. This isn't checked: if it doesn't
+/// hold, the call panics or its result is unspecified.
 pub fn fold_three<V: FoldWord>(v: V, p: u32, mask: V, c: V, m: V) -> (V, u32) {
     let _ = m;
     let (first, one) = fold(v, p, mask, c);
@@ -69,8 +69,8 @@ pub(crate) fn fold_on<V: FoldWord>(v: V, p: u32, mask: V, c: V, m: V) -> (V, u32
 ///
 /// # Preconditions
 ///
-/// m is 2^p - c and more than half of 2^p, and p is at most the width of the words. This isn't tested:
-/// outside it the call panics, or returns no meaningful result.
+/// m is 2^p - c and more than half of 2^p, and p is at most the width of the words. This isn't checked:
+/// if it doesn't hold, the call panics or its result is unspecified.
 pub fn fold_all<V: FoldWord>(v: V, p: u32, c: V, m: V) -> (V, u32) {
     let mask = m.plus(c.minus(V::one()));
     if !mask.is_below(v) {
@@ -195,16 +195,16 @@ pub trait FoldedWord: Sized + PathWord {
     ///
     /// # Preconditions
     ///
-    /// Such folds reduce modulo m. This isn't tested: outside it the call panics, or returns no meaningful
-    /// result.
+    /// Such folds reduce modulo m. This isn't checked: if it doesn't hold, the call panics or its result is
+    /// unspecified.
     fn fold_double(v: Self::Double, p: u32, c: Self, m: Self) -> (Self, u32);
 
     /// The residue of a word, by folds at the bit p by c.
     ///
     /// # Preconditions
     ///
-    /// Such folds reduce modulo m, and p is below the width. This isn't tested: outside it the call panics,
-    /// or returns no meaningful result.
+    /// Such folds reduce modulo m, and p is below the width. This isn't checked: if it doesn't hold, the
+    /// call panics or its result is unspecified.
     #[must_use]
     fn reduce_longer(v: Self, p: u32, c: Self, m: Self) -> Self;
 
@@ -213,8 +213,8 @@ pub trait FoldedWord: Sized + PathWord {
     ///
     /// # Preconditions
     ///
-    /// Such folds reduce modulo m, and c is at most a fourth of 2^p. This isn't tested: outside it the call
-    /// panics, or returns no meaningful result.
+    /// Such folds reduce modulo m, and c is at most a fourth of 2^p. This isn't checked: if it doesn't
+    /// hold, the call panics or its result is unspecified.
     #[must_use]
     fn reduce_in_line(v: Self::Double, p: u32, c: Self, m: Self) -> Self;
 
@@ -222,8 +222,8 @@ pub trait FoldedWord: Sized + PathWord {
     ///
     /// # Preconditions
     ///
-    /// Folds at the bit p by c reduce modulo m. This isn't tested: outside it the call panics, or returns
-    /// no meaningful result.
+    /// Folds at the bit p by c reduce modulo m. This isn't checked: if it doesn't hold, the call panics or
+    /// its result is unspecified.
     #[must_use]
     fn reduce_far(v: Self::Double, p: u32, c: Self, m: Self) -> Self;
 
@@ -231,24 +231,24 @@ pub trait FoldedWord: Sized + PathWord {
     ///
     /// # Preconditions
     ///
-    /// Folds at the bit p by c reduce modulo m. This isn't tested: outside it the call panics, or returns
-    /// no meaningful result.
+    /// Folds at the bit p by c reduce modulo m. This isn't checked: if it doesn't hold, the call panics or
+    /// its result is unspecified.
     fn is_in_line(v: Self::Double, p: u32, c: Self, m: Self) -> bool;
 
     /// Whether the part of a double word above the bit p is below m.
     ///
     /// # Preconditions
     ///
-    /// p is at most the width. This isn't tested: outside it the call panics, or returns no meaningful
-    /// result.
+    /// p is at most the width. This isn't checked: if it doesn't hold, the call panics or its result is
+    /// unspecified.
     fn is_short(v: Self::Double, p: u32, m: Self) -> bool;
 
     /// The parts of a double word below and above the bit p.
     ///
     /// # Preconditions
     ///
-    /// m is 2^p - 1, p is at most the width, and the part above the bit p is below m. This isn't tested:
-    /// outside it the call panics, or returns no meaningful result.
+    /// m is 2^p - 1, p is at most the width, and the part above the bit p is below m. This isn't checked:
+    /// if it doesn't hold, the call panics or its result is unspecified.
     fn parts(v: Self::Double, p: u32, m: Self) -> (Self, Self);
 
     /// The residue of a + b, where m is at most 2^p.
@@ -257,8 +257,8 @@ pub trait FoldedWord: Sized + PathWord {
     ///
     /// # Preconditions
     ///
-    /// b is at most m, and the sum below 2m. This isn't tested: outside it the call panics, or returns no
-    /// meaningful result.
+    /// b is at most m, and the sum below 2m. This isn't checked: if it doesn't hold, the call panics or its
+    /// result is unspecified.
     #[must_use]
     fn sum_of_parts(a: Self, b: Self, p: u32, m: Self) -> Self;
 }
@@ -379,8 +379,8 @@ impl FoldedWord for u64 {
 ///
 /// # Preconditions
 ///
-/// m is 2^p - c and more than half of 2^p, and p is at most the width of the words. This isn't tested:
-/// outside it the call panics, or returns no meaningful result.
+/// m is 2^p - c and more than half of 2^p, and p is at most the width of the words. This isn't checked:
+/// if it doesn't hold, the call panics or its result is unspecified.
 #[inline]
 pub fn reduce_by_folds<T: FoldedWord>(v: T::Double, p: u32, c: T, m: T) -> (T, u32) {
     let (rest, count) = T::fold_double(v, p, c, m);
@@ -396,8 +396,8 @@ pub fn reduce_by_folds<T: FoldedWord>(v: T::Double, p: u32, c: T, m: T) -> (T, u
 ///
 /// # Preconditions
 ///
-/// m is 2^p - c and more than half of 2^p, and p is at most the width of the words. This isn't tested:
-/// outside it the call panics, or returns no meaningful result.
+/// m is 2^p - c and more than half of 2^p, and p is at most the width of the words. This isn't checked:
+/// if it doesn't hold, the call panics or its result is unspecified.
 #[inline(always)]
 pub fn reduce_double_word<T: FoldedWord>(v: T::Double, p: u32, c: T, m: T) -> T {
     if c == T::one() {

@@ -43,7 +43,7 @@ fn is_by_words<T: PathWord>(p: u32, c: T) -> bool {
 /// # Preconditions
 ///
 /// m is 2^p - c and more than half of 2^p, and p is at most the width of the words, and a and b are
-/// below m. This isn't tested: outside it the call panics, or returns no meaningful result.
+/// below m. This isn't checked: if it doesn't hold, the call panics or its result is unspecified.
 #[inline(always)]
 pub fn reduce_product<T: FoldedWord>(a: T, b: T, p: u32, c: T, m: T) -> T {
     if is_by_words(p, c) {
@@ -96,8 +96,8 @@ fn reduced_last<T: PathWord>(x: T, m: T) -> T {
 ///
 /// # Preconditions
 ///
-/// m is 2^p - c and more than half of 2^p, and p is at most the width of the words. This isn't tested:
-/// outside it the call panics, or returns no meaningful result.
+/// m is 2^p - c and more than half of 2^p, and p is at most the width of the words. This isn't checked:
+/// if it doesn't hold, the call panics or its result is unspecified.
 #[inline(always)]
 pub fn reduce_word<T: FoldedWord>(v: T, p: u32, c: T, m: T) -> T {
     if is_once(p, c) {

@@ -65,8 +65,8 @@ pub trait FoldModulus<T: FoldedWord>: Copy {
     ///
     /// # Preconditions
     ///
-    /// Both factors are below the modulus. This isn't tested: outside it the call panics, or returns no
-    /// meaningful result.
+    /// Both factors are below the modulus. This isn't checked: if it doesn't hold, the call panics or its
+    /// result is unspecified.
     ///
     /// # Examples
     ///

@@ -138,7 +138,8 @@ pub trait TrinomialWord: Sized + FoldedWord + PlainWord {
     ///
     /// # Preconditions
     ///
-    /// The number fits. This isn't tested: outside it the call panics, or returns no meaningful result.
+    /// The number fits. This isn't checked: if it doesn't hold, the call panics or its result is
+    /// unspecified.
     #[must_use]
     fn word_of(n: u64) -> Self;
 }

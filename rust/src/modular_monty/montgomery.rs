@@ -217,6 +217,7 @@ impl<T: ReducerWord> Reducer<T> for Montgomery<T> {
     #[track_caller]
     fn add_products(&self, sum: T, xs: &[T], ys: &[T]) -> T {
         assert!(ys.len() == xs.len(), "the lists must have the same length: {} and {}", xs.len(), ys.len());
+        debug_assert!(self.check(&sum) && xs.iter().chain(ys).all(|x| self.check(x)), "`sum` and all entries must be checked forms");
         if self.twos == 0 {
             return self.odd.add_products(sum, xs, ys);
         }

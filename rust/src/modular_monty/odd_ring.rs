@@ -82,8 +82,8 @@ pub trait OddModulus<T: PathWord>: Copy {
     ///
     /// # Preconditions
     ///
-    /// t is below the modulus times the base. This isn't tested: outside it the call panics, or returns no
-    /// meaningful result.
+    /// t is below the modulus times the base. This isn't checked: if it doesn't hold, the call panics or
+    /// its result is unspecified.
     ///
     /// # Examples
     ///
@@ -102,8 +102,8 @@ pub trait OddModulus<T: PathWord>: Copy {
     ///
     /// # Preconditions
     ///
-    /// t is below the modulus. This isn't tested: outside it the call panics, or returns no meaningful
-    /// result.
+    /// t is below the modulus. This isn't checked: if it doesn't hold, the call panics or its result is
+    /// unspecified.
     ///
     /// # Examples
     ///
@@ -293,6 +293,7 @@ impl<T: ReducerWord, M: OddModulus<T>> Reducer<T> for OddRing<T, M> {
     #[track_caller]
     fn add_products(&self, sum: T, xs: &[T], ys: &[T]) -> T {
         assert!(ys.len() == xs.len(), "the lists must have the same length: {} and {}", xs.len(), ys.len());
+        debug_assert!(self.check(&sum) && xs.iter().chain(ys).all(|x| self.check(x)), "`sum` and all entries must be checked forms");
         let mut total = sum;
         let mut from = 0;
         while from < xs.len() {

@@ -93,8 +93,8 @@ impl<const N: u8, const K: u8> OddRing<u32, ProthNumber32<N, K>> {
     ///
     /// # Preconditions
     ///
-    /// t is below the modulus times 2^32. This isn't tested: outside it the call panics, or returns no
-    /// meaningful result.
+    /// t is below the modulus times 2^32. This isn't checked: if it doesn't hold, the call panics or its
+    /// result is unspecified.
     ///
     /// # Examples
     ///
@@ -234,8 +234,8 @@ impl<const N: u8, const K: u8> OddRing<u64, ProthNumber64<N, K>> {
     ///
     /// # Preconditions
     ///
-    /// t is below the modulus times 2^64. This isn't tested: outside it the call panics, or returns no
-    /// meaningful result.
+    /// t is below the modulus times 2^64. This isn't checked: if it doesn't hold, the call panics or its
+    /// result is unspecified.
     ///
     /// # Examples
     ///

@@ -49,8 +49,8 @@ fn minus_inverse<T: PlainWord, F: PlanEntry<T>, M: JoinSteps<T>>(
 /// # Preconditions
 ///
 /// The table's entries are factors modulo m, and those of the block and of its halves are among them,
-/// and `minus` is the factor -1. This isn't tested: outside it the call panics, or returns no
-/// meaningful result.
+/// and `minus` is the factor -1. This isn't checked: if it doesn't hold, the call panics or its result
+/// is unspecified.
 pub fn minus_inverses<T: PlainWord, F: PlanEntry<T>, M: JoinSteps<T>>(
     m: &M,
     table: &[F],
@@ -79,7 +79,7 @@ pub fn minus_inverses<T: PlainWord, F: PlanEntry<T>, M: JoinSteps<T>>(
 ///
 /// The blocks, of 2·half entries each, fill the list, and half is at least 1, and the list's entries
 /// are below the bound, and those of the table are factors modulo m, one for each block, and `minus` is
-/// the factor -1. This isn't tested: outside it the call panics, or returns no meaningful result.
+/// the factor -1. This isn't checked: if it doesn't hold, the call panics or its result is unspecified.
 #[inline]
 pub fn join_stage<T: PlainWord, F: PlanEntry<T>, M: JoinSteps<T>>(
     m: &M,
@@ -124,8 +124,8 @@ fn join_two_stages<T: PlainWord, F: PlanEntry<T>, M: JoinSteps<T>>(
 ///
 /// The blocks, of 4·q entries each, fill the list, and q is at least 1, and the list's entries are
 /// below the bound, and those of the table are factors modulo m, one for each block and two for its
-/// halves, and `minus` is the factor -1. This isn't tested: outside it the call panics, or returns no
-/// meaningful result.
+/// halves, and `minus` is the factor -1. This isn't checked: if it doesn't hold, the call panics or its
+/// result is unspecified.
 pub fn join_known<T: PlainWord, F: PlanEntry<T>, M: JoinSteps<T>>(
     m: &M,
     xs: &mut [T],
@@ -251,7 +251,7 @@ fn join_many<T: PlainWord, F: PlanEntry<T>, M: JoinSteps<T>>(
 ///
 /// The blocks fill the list, and the list's entries are below 4m, and those of the table are factors
 /// modulo m, one for each block and two for its halves, and `minus` is the factor -1. This isn't
-/// tested: outside it the call panics, or returns no meaningful result.
+/// checked: if it doesn't hold, the call panics or its result is unspecified.
 #[inline(always)]
 pub fn join_fours<T: PlainWord, F: PlanEntry<T>, M: JoinSteps<T>>(
     m: &M,

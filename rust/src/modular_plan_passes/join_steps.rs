@@ -16,15 +16,15 @@ pub trait JoinSteps<T: PlainWord>: Bounded<T> + Copy {
     ///
     /// # Preconditions
     ///
-    /// x is below 4m. This isn't tested: outside it the call panics, or returns no meaningful result.
+    /// x is below 4m. This isn't checked: if it doesn't hold, the call panics or its result is unspecified.
     fn lowered(&self, x: T) -> T;
 
     /// Numbers below the bound, congruent to x + y and (y - x)·v.
     ///
     /// # Preconditions
     ///
-    /// Numbers x, y, z and t are below the bound, and factors are factors modulo m. This isn't tested:
-    /// outside it the call panics, or returns no meaningful result.
+    /// Numbers x, y, z and t are below the bound, and factors are factors modulo m. This isn't checked: if
+    /// it doesn't hold, the call panics or its result is unspecified.
     fn pair(&self, x: T, y: T, v: &Factor<T>) -> (T, T);
 
     /// Two stages of four numbers a quarter of a block apart. The factors are minus the inverses of those of the
@@ -32,8 +32,8 @@ pub trait JoinSteps<T: PlainWord>: Bounded<T> + Copy {
     ///
     /// # Preconditions
     ///
-    /// Numbers x, y, z and t are below the bound, and factors are factors modulo m. This isn't tested:
-    /// outside it the call panics, or returns no meaningful result.
+    /// Numbers x, y, z and t are below the bound, and factors are factors modulo m. This isn't checked: if
+    /// it doesn't hold, the call panics or its result is unspecified.
     fn four(
         &self,
         x: T,
@@ -49,24 +49,24 @@ pub trait JoinSteps<T: PlainWord>: Bounded<T> + Copy {
     ///
     /// # Preconditions
     ///
-    /// Numbers x, y, z and t are below the bound, and factors are factors modulo m. This isn't tested:
-    /// outside it the call panics, or returns no meaningful result.
+    /// Numbers x, y, z and t are below the bound, and factors are factors modulo m. This isn't checked: if
+    /// it doesn't hold, the call panics or its result is unspecified.
     fn four_by_one(&self, x: T, y: T, z: T, t: T, v: &Factor<T>, s: &Factor<T>) -> (T, T, T, T);
 
     /// The residue of any word's product with a factor, below m.
     ///
     /// # Preconditions
     ///
-    /// The factor is a residue modulo m. This isn't tested: outside it the call panics, or returns no
-    /// meaningful result.
+    /// The factor is a residue modulo m. This isn't checked: if it doesn't hold, the call panics or its
+    /// result is unspecified.
     fn product(&self, x: T, w: &Factor<T>) -> T;
 
     /// The residue of a word below the bound, below m.
     ///
     /// # Preconditions
     ///
-    /// Numbers x, y, z and t are below the bound, and factors are factors modulo m. This isn't tested:
-    /// outside it the call panics, or returns no meaningful result.
+    /// Numbers x, y, z and t are below the bound, and factors are factors modulo m. This isn't checked: if
+    /// it doesn't hold, the call panics or its result is unspecified.
     fn residue(&self, x: T) -> T;
 }
 

@@ -11,7 +11,8 @@ pub trait PairStep<T: PlainWord>: Sized {
     ///
     /// # Preconditions
     ///
-    /// They are below it. This isn't tested: outside it the call panics, or returns no meaningful result.
+    /// They are below it. This isn't checked: if it doesn't hold, the call panics or its result is
+    /// unspecified.
     fn pair(&self, x: T, y: T) -> (T, T);
 }
 
@@ -27,8 +28,8 @@ fn pair_at<T: PlainWord, S: PairStep<T>>(step: &S, xs: &mut [T], low: usize, hig
 ///
 /// # Preconditions
 ///
-/// The entries are below the bound of the step, which is at most the limit. This isn't tested: outside
-/// it the call panics, or returns no meaningful result.
+/// The entries are below the bound of the step, which is at most the limit. This isn't checked: if it
+/// doesn't hold, the call panics or its result is unspecified.
 #[inline(always)]
 pub fn pairs<T: PlainWord, M: Bounded<T>, S: PairStep<T>>(
     m: &M,
@@ -52,8 +53,8 @@ pub trait FourStep<T: PlainWord>: Sized {
     ///
     /// # Preconditions
     ///
-    /// They are below the bound. This isn't tested: outside it the call panics, or returns no meaningful
-    /// result.
+    /// They are below the bound. This isn't checked: if it doesn't hold, the call panics or its result is
+    /// unspecified.
     fn four(&self, x: T, y: T, z: T, t: T) -> (T, T, T, T);
 }
 
@@ -99,8 +100,8 @@ fn halves<T: PlainWord, M: Bounded<T>, S: FourStep<T>>(
 ///
 /// # Preconditions
 ///
-/// The entries are below the bound of the step, which is at most the limit. This isn't tested: outside
-/// it the call panics, or returns no meaningful result.
+/// The entries are below the bound of the step, which is at most the limit. This isn't checked: if it
+/// doesn't hold, the call panics or its result is unspecified.
 #[inline(always)]
 pub fn quarters<T: PlainWord, M: Bounded<T>, S: FourStep<T>>(
     m: &M,
@@ -119,8 +120,8 @@ pub fn quarters<T: PlainWord, M: Bounded<T>, S: FourStep<T>>(
 ///
 /// # Preconditions
 ///
-/// They are below the bound of the step. This isn't tested: outside it the call panics, or returns no
-/// meaningful result.
+/// They are below the bound of the step. This isn't checked: if it doesn't hold, the call panics or its
+/// result is unspecified.
 #[inline(always)]
 pub fn neighbours<T: PlainWord, S: FourStep<T>>(step: &S, xs: &mut [T], first: usize) {
     let second = first + 1;

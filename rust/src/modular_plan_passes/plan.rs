@@ -8,7 +8,7 @@ use crate::modular_prim::plain_word::PlainWord;
 /// factor of g to the power of the reversed bits of k.
 ///
 /// The first entries of a plan are a plan for
-/// fewer entries, by the power of g that suits them.
+/// fewer entries, by the power of g that suits them. The Cargo crate leaves an empty table as it is, whatever g is.
 ///
 /// # Panics
 ///

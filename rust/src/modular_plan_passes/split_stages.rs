@@ -13,7 +13,7 @@ use crate::modular_prim::plain_word::PlainWord;
 ///
 /// The blocks, of 2·half entries each, fill the list, and half is at least 1, and the list's entries
 /// are below the limit, and those of the table are factors modulo m, one for each block. This isn't
-/// tested: outside it the call panics, or returns no meaningful result.
+/// checked: if it doesn't hold, the call panics or its result is unspecified.
 #[inline]
 pub fn split_stage<T: PlainWord, M: SplitSteps<T>, F: PlanEntry<T>>(
     m: &M,
@@ -77,8 +77,8 @@ fn split_known<T: PlainWord, M: SplitSteps<T>, F: PlanEntry<T>>(
 ///
 /// The blocks, of 4·q entries each, fill the list, and q is at least 1, and the list's entries are
 /// below the limit, and below 4m where there is only one block, and those of the table are factors
-/// modulo m, one for each block and two for its halves. This isn't tested: outside it the call panics,
-/// or returns no meaningful result.
+/// modulo m, one for each block and two for its halves. This isn't checked: if it doesn't hold, the
+/// call panics or its result is unspecified.
 pub fn split_pass<T: PlainWord, M: SplitSteps<T>, F: PlanEntry<T>>(
     m: &M,
     xs: &mut [T],
@@ -102,7 +102,7 @@ pub fn split_pass<T: PlainWord, M: SplitSteps<T>, F: PlanEntry<T>>(
 ///
 /// The blocks, of four entries each, fill the list, and the list's entries are below the limit, and
 /// those of the table are factors modulo m, one for each block and two for its halves. This isn't
-/// tested: outside it the call panics, or returns no meaningful result.
+/// checked: if it doesn't hold, the call panics or its result is unspecified.
 pub fn split_fours<T: PlainWord, M: SplitSteps<T>, F: PlanEntry<T>>(
     m: &M,
     xs: &mut [T],

@@ -13,8 +13,8 @@ pub trait SplitSteps<T: PlainWord>: Bounded<T> + Copy {
     ///
     /// # Preconditions
     ///
-    /// Entries x, y, z and t are below it, and factors are factors modulo m. This isn't tested: outside it
-    /// the call panics, or returns no meaningful result.
+    /// Entries x, y, z and t are below it, and factors are factors modulo m. This isn't checked: if it
+    /// doesn't hold, the call panics or its result is unspecified.
     fn pair(&self, x: T, y: T, w: &Factor<T>) -> (T, T);
 
     /// Two stages of four numbers a quarter of a block apart, with the factor w of the block, and u and v of its
@@ -22,8 +22,8 @@ pub trait SplitSteps<T: PlainWord>: Bounded<T> + Copy {
     ///
     /// # Preconditions
     ///
-    /// Entries x, y, z and t are below it, and factors are factors modulo m. This isn't tested: outside it
-    /// the call panics, or returns no meaningful result.
+    /// Entries x, y, z and t are below it, and factors are factors modulo m. This isn't checked: if it
+    /// doesn't hold, the call panics or its result is unspecified.
     fn four(
         &self,
         x: T,
@@ -39,16 +39,16 @@ pub trait SplitSteps<T: PlainWord>: Bounded<T> + Copy {
     ///
     /// # Preconditions
     ///
-    /// Entries x, y, z and t are below it, and factors are factors modulo m. This isn't tested: outside it
-    /// the call panics, or returns no meaningful result.
+    /// Entries x, y, z and t are below it, and factors are factors modulo m. This isn't checked: if it
+    /// doesn't hold, the call panics or its result is unspecified.
     fn four_by_one(&self, x: T, y: T, z: T, t: T, v: &Factor<T>) -> (T, T, T, T);
 
     /// The residue of an entry, below m.
     ///
     /// # Preconditions
     ///
-    /// Entries x, y, z and t are below it, and factors are factors modulo m. This isn't tested: outside it
-    /// the call panics, or returns no meaningful result.
+    /// Entries x, y, z and t are below it, and factors are factors modulo m. This isn't checked: if it
+    /// doesn't hold, the call panics or its result is unspecified.
     fn residue(&self, x: T) -> T;
 }
 

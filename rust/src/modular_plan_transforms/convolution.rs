@@ -108,7 +108,7 @@ pub const fn convolves(length: usize, factors: usize, b: usize, last: usize) -> 
 /// Panics unless the lists have the same length, and `last` is 1 or 2, the length is `last` times a
 /// power of two, and the table has (b + 1)·n/last/2 entries or more (`convolves` tells). A debug build
 /// also panics unless the entries are below 4m, and the table's entries are factors modulo m. A release
-/// build doesn't test that, and outside it panics, or returns no meaningful result.
+/// build doesn't check this: if it doesn't hold, the call panics or its result is unspecified.
 ///
 /// # Examples
 ///
@@ -123,6 +123,7 @@ pub const fn convolves(length: usize, factors: usize, b: usize, last: usize) -> 
 /// assert_eq!(xs, [16, 0, 0, 0]); // X^3 * X is -1 modulo X^4 + 1
 /// ```
 #[inline]
+#[must_use]
 #[track_caller]
 pub fn convolve_block<T: PlainWord, F: PlanEntry<T>>(
     m: &PlannedModulus<T>,
@@ -167,6 +168,7 @@ pub fn convolve_block<T: PlainWord, F: PlanEntry<T>>(
 /// assert_eq!(xs, [3, 10, 8, 0]); // (1 + 2X)(3 + 4X)
 /// ```
 #[inline]
+#[must_use]
 #[track_caller]
 pub fn convolve_planned<T: PlainWord, F: PlanEntry<T>>(
     m: &PlannedModulus<T>,
@@ -200,6 +202,7 @@ pub fn convolve_planned<T: PlainWord, F: PlanEntry<T>>(
 /// assert_eq!(xs, [13, 1, 2, 3]); // times X; -4 + 17
 /// ```
 #[inline]
+#[must_use]
 #[track_caller]
 pub fn convolve_negacyclic<T: PlainWord, F: PlanEntry<T>>(
     m: &PlannedModulus<T>,

@@ -58,8 +58,8 @@ fn are_powers<T: PlainWord, F: PlanEntry<T>>(
 ///
 /// # Preconditions
 ///
-/// g is below m, and g suits n entries, n being twice the length of the table. This isn't tested:
-/// outside it the call panics, or returns no meaningful result.
+/// g is below m, and g suits n entries, n being twice the length of the table. This isn't checked: if
+/// it doesn't hold, the call panics or its result is unspecified.
 #[inline]
 pub fn is_table<T: PlainWord, F: PlanEntry<T>>(m: &PlannedModulus<T>, g: T, table: &[F]) -> bool {
     let bits = table.len().trailing_zeros();

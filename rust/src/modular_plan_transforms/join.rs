@@ -139,8 +139,8 @@ fn join_scaled_by<T: PlainWord, F: PlanEntry<T>, M: JoinSteps<T>>(
 ///
 /// Panics unless the number of entries is `last` times a power of two, and the table has (b +
 /// 1)·count/2 entries or more (`splits` tells). A debug build also panics unless the entries are below
-/// 4m, and the table's entries are factors modulo m. A release build doesn't test that, and outside it
-/// panics, or returns no meaningful result.
+/// 4m, and the table's entries are factors modulo m. A release build doesn't check this: if it doesn't
+/// hold, the call panics or its result is unspecified.
 ///
 /// # Examples
 ///
@@ -182,7 +182,7 @@ pub fn join<T: PlainWord, F: PlanEntry<T>>(
 /// Panics unless the number of entries is `last` times a power of two, and the table has (b +
 /// 1)·count/2 entries or more (`splits` tells). A debug build also panics unless the entries are below
 /// 4m, and the table's entries are factors modulo m, and w is a factor modulo m. A release build
-/// doesn't test that, and outside it panics, or returns no meaningful result.
+/// doesn't check this: if it doesn't hold, the call panics or its result is unspecified.
 ///
 /// # Examples
 ///

@@ -14,7 +14,7 @@ use crate::modular_prim::plain_word::PlainWord;
 /// The list's entries are below the bound, and `last` is at least 1, the number of entries is `last`
 /// times a power of two, and the table has (b + 1)·(count/2) entries or more, count being the number of
 /// blocks, and the table's entries are factors modulo m, and `minus` is the factor -1. This isn't
-/// tested: outside it the call panics, or returns no meaningful result.
+/// checked: if it doesn't hold, the call panics or its result is unspecified.
 pub fn join_blocks<T: PlainWord, F: PlanEntry<T>, M: JoinSteps<T>>(
     m: &M,
     xs: &mut [T],
@@ -42,8 +42,8 @@ pub fn join_blocks<T: PlainWord, F: PlanEntry<T>, M: JoinSteps<T>>(
 ///
 /// # Preconditions
 ///
-/// The conditions of `join_blocks` hold. This isn't tested: outside it the call panics, or returns no
-/// meaningful result.
+/// The conditions of `join_blocks` hold. This isn't checked: if it doesn't hold, the call panics or its
+/// result is unspecified.
 #[inline]
 pub fn join_passes<T: PlainWord, F: PlanEntry<T>, M: JoinSteps<T>>(
     m: &M,

@@ -103,12 +103,12 @@ fn multiply_pairs<T: PlainWord, F: PlanEntry<T>>(
 /// the remainders of a product. For `last` = 1 entries of equal index are multiplied. The table must be the plan by
 /// which the lists were split: with other factors modulo m, the results are below m and meaningless.
 ///
-/// # Preconditions
+/// # Panics
 ///
-/// `last` is 1 or 2, and the lists have the same length, a multiple of `last`, and the entries of xs
-/// are below m, and the table's entries are factors modulo m, and there are (b + 1)·count/2 of them or
-/// more, count being the number of blocks. This isn't tested: outside it the call panics, or returns no
-/// meaningful result.
+/// Panics unless `last` is 1 or 2, and the lists have the same length, a multiple of `last`. A debug
+/// build also panics unless the entries of xs are below m, and the table's entries are factors modulo
+/// m, and there are (b + 1)·count/2 of them or more, count being the number of blocks. A release build
+/// doesn't check this: if it doesn't hold, the call panics or its result is unspecified.
 ///
 /// # Examples
 ///
@@ -123,6 +123,7 @@ fn multiply_pairs<T: PlainWord, F: PlanEntry<T>>(
 /// assert_eq!(entries, [10, 4]); // 21 - 17
 /// ```
 #[inline]
+#[track_caller]
 pub fn multiply<T: PlainWord, F: PlanEntry<T>>(
     m: &PlannedModulus<T>,
     xs: &mut [T],
@@ -131,6 +132,10 @@ pub fn multiply<T: PlainWord, F: PlanEntry<T>>(
     b: usize,
     last: usize,
 ) {
+    assert!(last == 1 || last == 2, "`last` must be 1 or 2");
+    assert!(ys.len() == xs.len() && xs.len() % last == 0, "the lists must have the same length, a multiple of `last`");
+    debug_assert!(xs.iter().all(|x| x.is_below(m.modulus)), "the entries of xs must be below m");
+    debug_assert!(crate::additions::are_factors(m, xs.len(), table, b, last), "the table's entries must be factors modulo m, and there must be (b + 1)·count/2 of them or more, count being the number of blocks");
     if last == 1 {
         multiply_each(m, xs, ys);
     } else {

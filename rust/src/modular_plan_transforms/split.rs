@@ -67,8 +67,8 @@ fn split_by<T: PlainWord, M: SplitSteps<T>, F: PlanEntry<T>>(
 ///
 /// # Preconditions
 ///
-/// The conditions of `split` hold. This isn't tested: outside it the call panics, or returns no
-/// meaningful result.
+/// The conditions of `split` hold. This isn't checked: if it doesn't hold, the call panics or its
+/// result is unspecified.
 #[inline]
 pub fn split_loosely<T: PlainWord, F: PlanEntry<T>>(
     m: &PlannedModulus<T>,
@@ -100,8 +100,8 @@ pub fn split_loosely<T: PlainWord, F: PlanEntry<T>>(
 ///
 /// Panics unless the number of entries is `last` times a power of two, and the table has at least (b +
 /// 1)·(count/2) entries (`splits` tells). A debug build also panics unless the entries are below 4m,
-/// and the table's entries are factors modulo m. A release build doesn't test that, and outside it
-/// panics, or returns no meaningful result.
+/// and the table's entries are factors modulo m. A release build doesn't check this: if it doesn't
+/// hold, the call panics or its result is unspecified.
 ///
 /// # Examples
 ///

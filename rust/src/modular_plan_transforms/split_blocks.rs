@@ -12,8 +12,8 @@ use crate::modular_prim::plain_word::PlainWord;
 ///
 /// The entries are below 4m, and `last` is at least 1, the number of entries is `last` times a power of
 /// two, and the table has (b + 1)·(count/2) entries or more, count being the number of blocks, and the
-/// table's entries are factors modulo m. This isn't tested: outside it the call panics, or returns no
-/// meaningful result.
+/// table's entries are factors modulo m. This isn't checked: if it doesn't hold, the call panics or its
+/// result is unspecified.
 pub fn split_blocks<T: PlainWord, M: SplitSteps<T>, F: PlanEntry<T>>(
     m: &M,
     xs: &mut [T],

@@ -58,8 +58,8 @@ pub(crate) fn inverse_of_power<T: PlainWord>(m: &PlannedModulus<T>, bits: u32) -
 ///
 /// # Preconditions
 ///
-/// The number is a power of two. This isn't tested: outside it the call panics, or returns no
-/// meaningful result.
+/// The number is a power of two. This isn't checked: if it doesn't hold, the call panics or its result
+/// is unspecified.
 #[inline]
 pub fn inverse_of_count<T: PlainWord>(m: &PlannedModulus<T>, count: usize) -> Option<Factor<T>> {
     if m.modulus.is_odd() {

@@ -17,7 +17,7 @@ use crate::modular_transform::order::reverse_places;
 ///
 /// Panics unless n is a power of two, and at most twice as many as the table's factors. A debug build
 /// also panics unless the entries are below 4m, and these are factors modulo m. A release build doesn't
-/// test that, and outside it panics, or returns no meaningful result.
+/// check this: if it doesn't hold, the call panics or its result is unspecified.
 ///
 /// # Examples
 ///

@@ -7,8 +7,8 @@ use crate::modular_word::path_word::PathWord;
 ///
 /// # Preconditions
 ///
-/// The word is below 2m. This isn't tested: outside it the call panics, or returns no meaningful
-/// result.
+/// The word is below 2m. This isn't checked: if it doesn't hold, the call panics or its result is
+/// unspecified.
 #[inline]
 pub fn reduced_once<T: PathWord>(x: T, m: T) -> T {
     // Reading the word gives the proof that it fits its width.
@@ -21,7 +21,8 @@ pub fn reduced_once<T: PathWord>(x: T, m: T) -> T {
 ///
 /// # Preconditions
 ///
-/// a and b are below m. This isn't tested: outside it the call panics, or returns no meaningful result.
+/// a and b are below m. This isn't checked: if it doesn't hold, the call panics or its result is
+/// unspecified.
 #[inline]
 pub fn add_below<T: PathWord>(a: T, b: T, m: T) -> T {
     if T::bits() < 64 {
@@ -35,8 +36,8 @@ pub fn add_below<T: PathWord>(a: T, b: T, m: T) -> T {
 ///
 /// # Preconditions
 ///
-/// b is at most m, and the sum below 2m. This isn't tested: outside it the call panics, or returns no
-/// meaningful result.
+/// b is at most m, and the sum below 2m. This isn't checked: if it doesn't hold, the call panics or its
+/// result is unspecified.
 #[inline]
 pub fn sum_once<T: PathWord>(a: T, b: T, m: T) -> T {
     let gap = m.minus(b);
@@ -51,7 +52,8 @@ pub fn sum_once<T: PathWord>(a: T, b: T, m: T) -> T {
 ///
 /// # Preconditions
 ///
-/// a and b are below m. This isn't tested: outside it the call panics, or returns no meaningful result.
+/// a and b are below m. This isn't checked: if it doesn't hold, the call panics or its result is
+/// unspecified.
 #[inline]
 pub fn add_below_stored<T: PathWord>(a: T, b: T, m: T) -> T {
     if T::bits() == 8 {
@@ -81,7 +83,8 @@ fn sum_by_gap<T: PathWord>(a: T, b: T, m: T) -> T {
 ///
 /// # Preconditions
 ///
-/// a and b are below m. This isn't tested: outside it the call panics, or returns no meaningful result.
+/// a and b are below m. This isn't checked: if it doesn't hold, the call panics or its result is
+/// unspecified.
 #[inline]
 pub fn sum_by_carry<T: PathWord>(a: T, b: T, m: T) -> T {
     // Reading the word gives the proof that it fits its width.
@@ -94,7 +97,8 @@ pub fn sum_by_carry<T: PathWord>(a: T, b: T, m: T) -> T {
 ///
 /// # Preconditions
 ///
-/// a and b are below m. This isn't tested: outside it the call panics, or returns no meaningful result.
+/// a and b are below m. This isn't checked: if it doesn't hold, the call panics or its result is
+/// unspecified.
 #[inline(always)]
 pub fn sub_below<T: PathWord>(a: T, b: T, m: T) -> T {
     if T::bits() == 32 {
@@ -133,7 +137,8 @@ fn summed_difference<T: PathWord>(a: T, b: T, m: T) -> T {
 ///
 /// # Preconditions
 ///
-/// a and b are below m. This isn't tested: outside it the call panics, or returns no meaningful result.
+/// a and b are below m. This isn't checked: if it doesn't hold, the call panics or its result is
+/// unspecified.
 #[inline(always)]
 pub fn sub_below_stored<T: PathWord>(a: T, b: T, m: T) -> T {
     if T::bits() == 64 {
@@ -148,7 +153,8 @@ pub fn sub_below_stored<T: PathWord>(a: T, b: T, m: T) -> T {
 ///
 /// # Preconditions
 ///
-/// a and b are below m. This isn't tested: outside it the call panics, or returns no meaningful result.
+/// a and b are below m. This isn't checked: if it doesn't hold, the call panics or its result is
+/// unspecified.
 #[inline]
 pub fn branchless_sub_below<T: PathWord>(a: T, b: T, m: T) -> T {
     a.minus_modulo(b, m)
@@ -158,7 +164,7 @@ pub fn branchless_sub_below<T: PathWord>(a: T, b: T, m: T) -> T {
 ///
 /// # Preconditions
 ///
-/// a is below m. This isn't tested: outside it the call panics, or returns no meaningful result.
+/// a is below m. This isn't checked: if it doesn't hold, the call panics or its result is unspecified.
 #[inline]
 pub fn dbl_below<T: PathWord>(a: T, m: T) -> T {
     if T::bits() <= 8 {
@@ -172,7 +178,7 @@ pub fn dbl_below<T: PathWord>(a: T, m: T) -> T {
 ///
 /// # Preconditions
 ///
-/// a is below m. This isn't tested: outside it the call panics, or returns no meaningful result.
+/// a is below m. This isn't checked: if it doesn't hold, the call panics or its result is unspecified.
 #[inline]
 pub fn dbl_below_stored<T: PathWord>(a: T, m: T) -> T {
     if T::bits() == 16 {
@@ -210,7 +216,7 @@ fn doubled_once<T: PathWord>(a: T, m: T) -> T {
 ///
 /// # Preconditions
 ///
-/// a is below m. This isn't tested: outside it the call panics, or returns no meaningful result.
+/// a is below m. This isn't checked: if it doesn't hold, the call panics or its result is unspecified.
 #[inline]
 pub fn neg_below<T: PathWord>(a: T, m: T) -> T {
     if a.is_zero_word() { a } else { m.minus(a) }

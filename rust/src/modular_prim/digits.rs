@@ -67,7 +67,8 @@ fn has_two_digits<T: PathWord>(a: T, d: T) -> bool {
 ///
 /// # Preconditions
 ///
-/// d is at least 1. This isn't tested: outside it the call panics, or returns no meaningful result.
+/// d is at least 1. This isn't checked: if it doesn't hold, the call panics or its result is
+/// unspecified.
 #[inline]
 pub fn division<T: PlainWord>(a: T, d: T) -> (T, T) {
     if has_two_digits(a, d) {
@@ -111,7 +112,8 @@ fn has_four_digits<T: PathWord>(a: T, d: T) -> bool {
 ///
 /// # Preconditions
 ///
-/// d is at least 1. This isn't tested: outside it the call panics, or returns no meaningful result.
+/// d is at least 1. This isn't checked: if it doesn't hold, the call panics or its result is
+/// unspecified.
 #[inline]
 pub fn rest<T: PlainWord>(a: T, d: T) -> T {
     if has_short_quotient(a, d) {

@@ -22,10 +22,10 @@ pub trait DivExact<Rhs, Precompute>: Sized {
 
     /// The quotient by d; `None` exactly where d doesn't divide the number.
     ///
-    /// # Preconditions
+    /// # Panics
     ///
-    /// `pre` fits the divisor d. This isn't tested: outside it the call panics, or returns no meaningful
-    /// result.
+    /// A debug build panics unless d is at least 1, and `pre` was made of it or is `()`. A release build
+    /// doesn't check this: if it doesn't hold, the call panics or its result is unspecified.
     ///
     /// # Examples
     ///
@@ -36,6 +36,7 @@ pub trait DivExact<Rhs, Precompute>: Sized {
     /// assert_eq!(3600u32.div_exact(60, &sixty), Some(60));
     /// assert_eq!(3601u32.div_exact(60, &sixty), None);
     /// ```
+    #[cfg_attr(debug_assertions, track_caller)]
     fn div_exact(self, d: Rhs, pre: &Precompute) -> Option<Self::Output>;
 }
 
@@ -54,10 +55,10 @@ pub trait DivExactAssign<Rhs, Precompute>: Sized + DivExact<Rhs, Precompute, Out
     /// Replaces the number by its quotient by d and returns true. Where d doesn't divide the number, returns false
     /// and leaves it unchanged.
     ///
-    /// # Preconditions
+    /// # Panics
     ///
-    /// `pre` fits the divisor d. This isn't tested: outside it the call panics, or returns no meaningful
-    /// result.
+    /// A debug build panics unless d is at least 1, and `pre` was made of it or is `()`. A release build
+    /// doesn't check this: if it doesn't hold, the call panics or its result is unspecified.
     ///
     /// # Examples
     ///
@@ -69,6 +70,8 @@ pub trait DivExactAssign<Rhs, Precompute>: Sized + DivExact<Rhs, Precompute, Out
     /// assert!(!n.div_exact_assign(7, &seven));
     /// assert_eq!(n, 92);
     /// ```
+    #[must_use]
+    #[cfg_attr(debug_assertions, track_caller)]
     fn div_exact_assign(&mut self, d: Rhs, pre: &Precompute) -> bool;
 }
 
@@ -76,9 +79,10 @@ pub trait DivExactAssign<Rhs, Precompute>: Sized + DivExact<Rhs, Precompute, Out
 ///
 /// # Preconditions
 ///
-/// What is stored fits d. This isn't tested: outside it the call panics, or returns no meaningful
-/// result.
+/// What is stored fits d. This isn't checked: if it doesn't hold, the call panics or its result is
+/// unspecified.
 #[inline]
+#[must_use]
 #[cfg_attr(debug_assertions, track_caller)]
 pub fn assign_exact<N: DivExact<Rhs, Precompute, Output = N> + Copy, Rhs, Precompute>(
     number: &mut N,

@@ -101,9 +101,10 @@ fn inverse_below<T: PathWord>(x: T, m: T) -> Option<T> {
 ///
 /// Source: Kaliski, "The Montgomery inverse and its applications", IEEE Transactions on Computers 44, 1995.
 ///
-/// # Preconditions
+/// # Panics
 ///
-/// m is odd. This isn't tested: outside it the call panics, or returns no meaningful result.
+/// A debug build panics unless m is odd. A release build doesn't check this: if it doesn't hold, the
+/// call panics or its result is unspecified.
 ///
 /// # Examples
 ///
@@ -114,7 +115,9 @@ fn inverse_below<T: PathWord>(x: T, m: T) -> Option<T> {
 /// assert_eq!(inverse(6u64, 9), None); // 3 divides both
 /// ```
 #[inline]
+#[cfg_attr(debug_assertions, track_caller)]
 pub fn inverse_by_subtraction<T: PlainWord>(a: T, m: T) -> Option<T> {
+    debug_assert!(m.is_odd(), "m must be odd");
     inverse_below(reduced(a, m), m)
 }
 
@@ -124,7 +127,8 @@ pub fn inverse_by_subtraction<T: PlainWord>(a: T, m: T) -> Option<T> {
 ///
 /// # Preconditions
 ///
-/// m is at least 1. This isn't tested: outside it the call panics, or returns no meaningful result.
+/// m is at least 1. This isn't checked: if it doesn't hold, the call panics or its result is
+/// unspecified.
 #[inline]
 pub fn fast_inverse<T: PlainWord>(a: T, m: T) -> Option<T> {
     if m.is_odd() {

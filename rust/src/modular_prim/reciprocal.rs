@@ -9,8 +9,8 @@ use crate::modular_word::paths::ones;
 ///
 /// # Preconditions
 ///
-/// The divisor's top bit is set. This isn't tested: outside it the call panics, or returns no
-/// meaningful result.
+/// The divisor's top bit is set. This isn't checked: if it doesn't hold, the call panics or its result
+/// is unspecified.
 // Not inlined: compilers would lose that the high word of the quotient is 0, and multiply by it too.
 #[inline(never)]
 pub fn invert_word<T: PlainWord>(d: T) -> T {

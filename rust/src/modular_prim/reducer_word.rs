@@ -13,21 +13,24 @@ pub trait ReducerWord: Sized + PathWord {
     ///
     /// # Preconditions
     ///
-    /// m is at least 1. This isn't tested: outside it the call panics, or returns no meaningful result.
+    /// m is at least 1. This isn't checked: if it doesn't hold, the call panics or its result is
+    /// unspecified.
     fn inverse(a: Self, m: Self) -> Option<Self>;
 
     /// The same by Euclid's algorithm for every m.
     ///
     /// # Preconditions
     ///
-    /// m is at least 1. This isn't tested: outside it the call panics, or returns no meaningful result.
+    /// m is at least 1. This isn't checked: if it doesn't hold, the call panics or its result is
+    /// unspecified.
     fn inverse_by_euclid(a: Self, m: Self) -> Option<Self>;
 
     /// The square of the base, modulo m.
     ///
     /// # Preconditions
     ///
-    /// m is at least 1. This isn't tested: outside it the call panics, or returns no meaningful result.
+    /// m is at least 1. This isn't checked: if it doesn't hold, the call panics or its result is
+    /// unspecified.
     #[must_use]
     fn square_of_base(m: Self) -> Self;
 }

@@ -10,8 +10,8 @@ use crate::modular_word::ring_word::RingWord;
 ///
 /// # Preconditions
 ///
-/// a and b are checked forms. This isn't tested: outside it the call panics, or returns no meaningful
-/// result.
+/// a and b are checked forms. This isn't checked: if it doesn't hold, the call panics or its result is
+/// unspecified.
 #[inline]
 pub fn sums_commute<T: RingWord, R: Reducer<T>>(reducer: &R, a: T, b: T) -> (T, T) {
     (reducer.add(&a, &b), reducer.add(&b, &a))
@@ -21,8 +21,8 @@ pub fn sums_commute<T: RingWord, R: Reducer<T>>(reducer: &R, a: T, b: T) -> (T, 
 ///
 /// # Preconditions
 ///
-/// a, b and c are checked forms. This isn't tested: outside it the call panics, or returns no
-/// meaningful result.
+/// a, b and c are checked forms. This isn't checked: if it doesn't hold, the call panics or its result
+/// is unspecified.
 #[inline]
 pub fn sums_associate<T: RingWord, R: Reducer<T>>(reducer: &R, a: T, b: T, c: T) -> (T, T) {
     let left = reducer.add(&reducer.add(&a, &b), &c);
@@ -34,8 +34,8 @@ pub fn sums_associate<T: RingWord, R: Reducer<T>>(reducer: &R, a: T, b: T, c: T)
 ///
 /// # Preconditions
 ///
-/// a and b are checked forms. This isn't tested: outside it the call panics, or returns no meaningful
-/// result.
+/// a and b are checked forms. This isn't checked: if it doesn't hold, the call panics or its result is
+/// unspecified.
 #[inline]
 pub fn products_commute<T: RingWord, R: Reducer<T>>(reducer: &R, a: T, b: T) -> (T, T) {
     (reducer.mul(&a, &b), reducer.mul(&b, &a))
@@ -45,8 +45,8 @@ pub fn products_commute<T: RingWord, R: Reducer<T>>(reducer: &R, a: T, b: T) -> 
 ///
 /// # Preconditions
 ///
-/// a, b and c are checked forms. This isn't tested: outside it the call panics, or returns no
-/// meaningful result.
+/// a, b and c are checked forms. This isn't checked: if it doesn't hold, the call panics or its result
+/// is unspecified.
 #[inline]
 pub fn products_associate<T: RingWord, R: Reducer<T>>(reducer: &R, a: T, b: T, c: T) -> (T, T) {
     let left = reducer.mul(&reducer.mul(&a, &b), &c);
@@ -58,8 +58,8 @@ pub fn products_associate<T: RingWord, R: Reducer<T>>(reducer: &R, a: T, b: T, c
 ///
 /// # Preconditions
 ///
-/// a, b and c are checked forms. This isn't tested: outside it the call panics, or returns no
-/// meaningful result.
+/// a, b and c are checked forms. This isn't checked: if it doesn't hold, the call panics or its result
+/// is unspecified.
 #[inline]
 pub fn products_distribute<T: RingWord, R: Reducer<T>>(reducer: &R, a: T, b: T, c: T) -> (T, T) {
     let left = reducer.mul(&a, &reducer.add(&b, &c));
@@ -71,7 +71,8 @@ pub fn products_distribute<T: RingWord, R: Reducer<T>>(reducer: &R, a: T, b: T, 
 ///
 /// # Preconditions
 ///
-/// a is a checked form. This isn't tested: outside it the call panics, or returns no meaningful result.
+/// a is a checked form. This isn't checked: if it doesn't hold, the call panics or its result is
+/// unspecified.
 #[inline]
 pub fn negative_cancels<T: RingWord, R: Reducer<T>>(reducer: &R, a: T) -> (T, T) {
     let negative = reducer.neg(a);
@@ -88,7 +89,8 @@ pub fn residue_by_form<T: RingWord, R: Reducer<T>>(reducer: &R, n: T) -> T {
 ///
 /// # Preconditions
 ///
-/// a and b are checked. This isn't tested: outside it the call panics, or returns no meaningful result.
+/// a and b are checked. This isn't checked: if it doesn't hold, the call panics or its result is
+/// unspecified.
 #[inline]
 pub fn same_value<T: RingWord, R: Reducer<T>>(reducer: &R, a: T, b: T) -> bool {
     reducer.residue(a) == reducer.residue(b)

@@ -32,8 +32,8 @@ fn binary_power<T: RingWord, R: Reducer<T>>(reducer: &R, base: T, exp: T) -> (T,
 ///
 /// # Preconditions
 ///
-/// The base is a checked form. This isn't tested: outside it the call panics, or returns no meaningful
-/// result.
+/// The base is a checked form. This isn't checked: if it doesn't hold, the call panics or its result is
+/// unspecified.
 ///
 /// # Examples
 ///

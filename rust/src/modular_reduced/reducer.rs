@@ -78,8 +78,8 @@ pub trait Reducer<T>: Sized {
     ///
     /// # Preconditions
     ///
-    /// Each form is checked. This isn't tested: outside it the call panics, or returns no meaningful
-    /// result.
+    /// Each form is checked. This isn't checked: if it doesn't hold, the call panics or its result is
+    /// unspecified.
     ///
     /// # Examples
     ///
@@ -95,8 +95,8 @@ pub trait Reducer<T>: Sized {
     ///
     /// # Preconditions
     ///
-    /// Each form is checked. This isn't tested: outside it the call panics, or returns no meaningful
-    /// result.
+    /// Each form is checked. This isn't checked: if it doesn't hold, the call panics or its result is
+    /// unspecified.
     ///
     /// # Examples
     ///
@@ -113,8 +113,8 @@ pub trait Reducer<T>: Sized {
     ///
     /// # Preconditions
     ///
-    /// Each form is checked. This isn't tested: outside it the call panics, or returns no meaningful
-    /// result.
+    /// Each form is checked. This isn't checked: if it doesn't hold, the call panics or its result is
+    /// unspecified.
     ///
     /// # Examples
     ///
@@ -131,8 +131,8 @@ pub trait Reducer<T>: Sized {
     ///
     /// # Preconditions
     ///
-    /// Each form is checked. This isn't tested: outside it the call panics, or returns no meaningful
-    /// result.
+    /// Each form is checked. This isn't checked: if it doesn't hold, the call panics or its result is
+    /// unspecified.
     ///
     /// # Examples
     ///
@@ -153,8 +153,8 @@ pub trait Reducer<T>: Sized {
     ///
     /// # Preconditions
     ///
-    /// Each form is checked. This isn't tested: outside it the call panics, or returns no meaningful
-    /// result.
+    /// Each form is checked. This isn't checked: if it doesn't hold, the call panics or its result is
+    /// unspecified.
     ///
     /// # Examples
     ///
@@ -170,8 +170,8 @@ pub trait Reducer<T>: Sized {
     ///
     /// # Preconditions
     ///
-    /// Each form is checked. This isn't tested: outside it the call panics, or returns no meaningful
-    /// result.
+    /// Each form is checked. This isn't checked: if it doesn't hold, the call panics or its result is
+    /// unspecified.
     ///
     /// # Examples
     ///
@@ -188,8 +188,8 @@ pub trait Reducer<T>: Sized {
     ///
     /// # Preconditions
     ///
-    /// Each form is checked. This isn't tested: outside it the call panics, or returns no meaningful
-    /// result.
+    /// Each form is checked. This isn't checked: if it doesn't hold, the call panics or its result is
+    /// unspecified.
     ///
     /// # Examples
     ///
@@ -210,8 +210,8 @@ pub trait Reducer<T>: Sized {
     ///
     /// # Preconditions
     ///
-    /// Each form is checked. This isn't tested: outside it the call panics, or returns no meaningful
-    /// result.
+    /// Each form is checked. This isn't checked: if it doesn't hold, the call panics or its result is
+    /// unspecified.
     ///
     /// # Examples
     ///
@@ -227,8 +227,8 @@ pub trait Reducer<T>: Sized {
     ///
     /// # Preconditions
     ///
-    /// Each form is checked. This isn't tested: outside it the call panics, or returns no meaningful
-    /// result.
+    /// Each form is checked. This isn't checked: if it doesn't hold, the call panics or its result is
+    /// unspecified.
     ///
     /// # Examples
     ///
@@ -245,8 +245,8 @@ pub trait Reducer<T>: Sized {
     ///
     /// # Preconditions
     ///
-    /// Each form is checked. This isn't tested: outside it the call panics, or returns no meaningful
-    /// result.
+    /// Each form is checked. This isn't checked: if it doesn't hold, the call panics or its result is
+    /// unspecified.
     ///
     /// # Examples
     ///
@@ -270,8 +270,8 @@ pub trait Reducer<T>: Sized {
     ///
     /// # Preconditions
     ///
-    /// Each form is checked. This isn't tested: outside it the call panics, or returns no meaningful
-    /// result.
+    /// Each form is checked. This isn't checked: if it doesn't hold, the call panics or its result is
+    /// unspecified.
     ///
     /// # Examples
     ///
@@ -294,7 +294,9 @@ pub trait Reducer<T>: Sized {
     ///
     /// # Panics
     ///
-    /// Panics unless the lists have the same length.
+    /// Panics unless the lists have the same length. A debug build also panics unless `sum` and all entries
+    /// are checked forms. A release build doesn't check this: if it doesn't hold, the call panics or its
+    /// result is unspecified.
     ///
     /// # Examples
     ///
@@ -309,6 +311,7 @@ pub trait Reducer<T>: Sized {
     #[track_caller]
     fn add_products(&self, sum: T, xs: &[T], ys: &[T]) -> T {
         assert!(ys.len() == xs.len(), "the lists must have the same length: {} and {}", xs.len(), ys.len());
+        debug_assert!(self.check(&sum) && xs.iter().chain(ys).all(|x| self.check(x)), "`sum` and all entries must be checked forms");
         let mut total = sum;
         for i in 0..xs.len() {
             total = self.add(&total, &self.mul(&xs[i], &ys[i]));
@@ -322,8 +325,8 @@ pub trait Reducer<T>: Sized {
     ///
     /// # Preconditions
     ///
-    /// Each form is checked. This isn't tested: outside it the call panics, or returns no meaningful
-    /// result.
+    /// Each form is checked. This isn't checked: if it doesn't hold, the call panics or its result is
+    /// unspecified.
     ///
     /// # Examples
     ///
@@ -346,8 +349,8 @@ pub trait Reducer<T>: Sized {
     ///
     /// # Preconditions
     ///
-    /// Each form is checked. This isn't tested: outside it the call panics, or returns no meaningful
-    /// result.
+    /// Each form is checked. This isn't checked: if it doesn't hold, the call panics or its result is
+    /// unspecified.
     ///
     /// # Examples
     ///
@@ -364,8 +367,8 @@ pub trait Reducer<T>: Sized {
     ///
     /// # Preconditions
     ///
-    /// Each form is checked. This isn't tested: outside it the call panics, or returns no meaningful
-    /// result.
+    /// Each form is checked. This isn't checked: if it doesn't hold, the call panics or its result is
+    /// unspecified.
     ///
     /// # Examples
     ///
@@ -381,8 +384,8 @@ pub trait Reducer<T>: Sized {
     ///
     /// # Preconditions
     ///
-    /// Each form is checked. This isn't tested: outside it the call panics, or returns no meaningful
-    /// result.
+    /// Each form is checked. This isn't checked: if it doesn't hold, the call panics or its result is
+    /// unspecified.
     ///
     /// # Examples
     ///

@@ -85,8 +85,8 @@ pub fn moved(base: Hash, power: Hash, window: Hash, first: u8, next: u8) -> Hash
 /// # Panics
 ///
 /// A debug build panics unless the text has as many bytes from the position on as the pattern, and the
-/// hashes are equal if the pattern occurs there. A release build doesn't test that, and outside it
-/// panics, or returns no meaningful result.
+/// hashes are equal if the pattern occurs there. A release build doesn't check this: if it doesn't
+/// hold, the call panics or its result is unspecified.
 ///
 /// # Examples
 ///

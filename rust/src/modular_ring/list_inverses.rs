@@ -11,8 +11,8 @@ use crate::modular_word::ring_word::RingWord;
 ///
 /// # Preconditions
 ///
-/// The forms are checked, and the scratch list is as long. This isn't tested: outside it the call
-/// panics, or returns no meaningful result.
+/// The forms are checked, and the scratch list is as long. This isn't checked: if it doesn't hold, the
+/// call panics or its result is unspecified.
 ///
 /// # Examples
 ///
@@ -25,6 +25,7 @@ use crate::modular_word::ring_word::RingWord;
 /// assert!(invert_each(&ring, &mut forms, &mut scratch));
 /// assert_eq!(forms, [6, 13]); // 3 * 6 = 17 + 1, and 4 * 13 = 3 * 17 + 1
 /// ```
+#[must_use]
 pub fn invert_each<T: RingWord, R: Reducer<T>>(r: &R, forms: &mut [T], products: &mut [T]) -> bool {
     let mut product = r.transform(T::one());
     for i in 0..forms.len() {

@@ -48,11 +48,11 @@ fn next_digit(m: u64, residue: u64, number: u128, range: u128) -> u64 {
     ((known.convert(residue) - known) / weight).residue()
 }
 
-/// The residues of a number.
+/// Writes the residues of a number.
 ///
 /// # Panics
 ///
-/// Panics unless each modulus is above 0, and there is room for one residue a modulus.
+/// Panics unless each modulus is above 0, and there are as many residues as moduli.
 ///
 /// # Examples
 ///
@@ -67,7 +67,7 @@ fn next_digit(m: u64, residue: u64, number: u128, range: u128) -> u64 {
 #[track_caller]
 pub fn encode(moduli: &[u64], number: u128, residues: &mut [u64]) {
     assert!(moduli.iter().all(|m| *m > 0), "each modulus must be above 0");
-    assert!(residues.len() == moduli.len(), "there must be room for one residue a modulus: {} and {}", residues.len(), moduli.len());
+    assert!(residues.len() == moduli.len(), "there must be as many residues as moduli: {} and {}", residues.len(), moduli.len());
     for (place, modulus) in moduli.iter().enumerate() {
         residues[place] = (number % *modulus as u128) as u64;
     }
@@ -75,10 +75,9 @@ pub fn encode(moduli: &[u64], number: u128, residues: &mut [u64]) {
 
 /// Whether each residue is below its modulus.
 ///
-/// # Preconditions
+/// # Panics
 ///
-/// Each modulus has a residue. This isn't tested: outside it the call panics, or returns no meaningful
-/// result.
+/// Panics unless there are as many residues as moduli.
 ///
 /// # Examples
 ///
@@ -89,7 +88,9 @@ pub fn encode(moduli: &[u64], number: u128, residues: &mut [u64]) {
 /// assert!(!are_reduced(&[3, 5, 7], &[3, 3, 2]));
 /// ```
 #[inline]
+#[track_caller]
 pub fn are_reduced(moduli: &[u64], residues: &[u64]) -> bool {
+    assert!(residues.len() == moduli.len(), "there must be as many residues as moduli: {} and {}", residues.len(), moduli.len());
     for (place, modulus) in moduli.iter().enumerate() {
         if residues[place] >= *modulus {
             return false;
@@ -105,8 +106,8 @@ pub fn are_reduced(moduli: &[u64], residues: &[u64]) -> bool {
 ///
 /// # Panics
 ///
-/// Panics unless the moduli are a system (`is_system` tells), and each modulus has a residue below it
-/// (`are_reduced` tells).
+/// Panics unless the moduli are a system (`is_system` tells), and there are as many residues as moduli,
+/// each below its modulus (`are_reduced` tells).
 ///
 /// # Examples
 ///
@@ -118,7 +119,7 @@ pub fn are_reduced(moduli: &[u64], residues: &[u64]) -> bool {
 #[track_caller]
 pub fn decode(moduli: &[u64], residues: &[u64]) -> u128 {
     assert!(crate::additions::may_be_system(moduli), "the moduli must be a system");
-    assert!(residues.len() >= moduli.len() && are_reduced(moduli, residues), "each modulus must have a residue below it");
+    assert!(residues.len() == moduli.len() && are_reduced(moduli, residues), "there must be as many residues as moduli, each below its modulus");
     let mut number: u128 = 0;
     let mut range: u128 = 1;
     for (place, modulus) in moduli.iter().enumerate() {

@@ -168,6 +168,7 @@ impl<T: RingWord> AsCommand<T> for RingCommand<T> {
 /// assert_eq!(run(&ring, &mut [4], &[inverse]), RunEnd::NoInverse { at: 0 });
 /// ```
 #[derive(Clone, Copy, Debug, PartialEq, Eq)]
+#[must_use]
 pub enum RunEnd {
     /// Every command was carried out.
     Done,
@@ -375,7 +376,7 @@ fn carry_out<T: RingWord, R: Reducer<T>, C: AsCommand<T>>(
 ///
 /// A debug build panics unless each register holds a checked form (`all_checked` tells), and each
 /// register number is below the number of registers (`commands_fit` tells). A release build doesn't
-/// test that, and outside it panics, or returns no meaningful result.
+/// check this: if it doesn't hold, the call panics or its result is unspecified.
 ///
 /// # Examples
 ///

@@ -13,7 +13,7 @@ use crate::modular_prim::residues::mulm;
 ///
 /// # Preconditions
 ///
-/// n is odd. This isn't tested: outside it the call panics, or returns no meaningful result.
+/// n is odd. This isn't checked: if it doesn't hold, the call panics or its result is unspecified.
 pub fn jacobi_by_count<T: PlainWord>(a_minus: bool, a: T, n: T) -> i8 {
     if invm(a, n).is_none() {
         return 0;

@@ -74,7 +74,7 @@ fn halve_and_swap<T: PlainWord>(a: T, n: T) -> (i8, u32) {
 ///
 /// # Preconditions
 ///
-/// n is odd. This isn't tested: outside it the call panics, or returns no meaningful result.
+/// n is odd. This isn't checked: if it doesn't hold, the call panics or its result is unspecified.
 #[inline]
 pub fn jacobi_by_halving<T: PlainWord>(a_minus: bool, a: T, n: T) -> i8 {
     jacobi_counted(a_minus, a, n).0
@@ -90,7 +90,7 @@ pub fn jacobi_by_halving<T: PlainWord>(a_minus: bool, a: T, n: T) -> i8 {
 ///
 /// # Preconditions
 ///
-/// n is odd. This isn't tested: outside it the call panics, or returns no meaningful result.
+/// n is odd. This isn't checked: if it doesn't hold, the call panics or its result is unspecified.
 #[inline]
 pub fn jacobi_counted<T: PlainWord>(a_minus: bool, a: T, n: T) -> (i8, u32) {
     halve_and_swap(signed_residue(a_minus, a, n), n)

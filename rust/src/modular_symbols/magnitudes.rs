@@ -10,7 +10,7 @@ use crate::modular_prim::power::powm;
 ///
 /// # Preconditions
 ///
-/// n is odd. This isn't tested: outside it the call panics, or returns no meaningful result.
+/// n is odd. This isn't checked: if it doesn't hold, the call panics or its result is unspecified.
 #[inline]
 pub fn jacobi_symbol<T: PlainWord>(a_minus: bool, a: T, n: T) -> i8 {
     jacobi_by_halving(a_minus, a, n)
@@ -20,8 +20,8 @@ pub fn jacobi_symbol<T: PlainWord>(a_minus: bool, a: T, n: T) -> i8 {
 ///
 /// # Preconditions
 ///
-/// a negative n has a magnitude of at least 1. This isn't tested: outside it the call panics, or
-/// returns no meaningful result.
+/// a negative n has a magnitude of at least 1. This isn't checked: if it doesn't hold, the call panics
+/// or its result is unspecified.
 #[inline]
 pub fn checked_jacobi<T: PlainWord>(a_minus: bool, a: T, n_minus: bool, n: T) -> Option<i8> {
     if n_minus {
@@ -38,8 +38,8 @@ pub fn checked_jacobi<T: PlainWord>(a_minus: bool, a: T, n_minus: bool, n: T) ->
 ///
 /// # Preconditions
 ///
-/// a negative n has a magnitude of at least 1. This isn't tested: outside it the call panics, or
-/// returns no meaningful result.
+/// a negative n has a magnitude of at least 1. This isn't checked: if it doesn't hold, the call panics
+/// or its result is unspecified.
 #[inline]
 pub fn checked_legendre<T: PlainWord>(a_minus: bool, a: T, n_minus: bool, n: T) -> Option<i8> {
     class_of_power(a_minus, a, n_minus, n)
@@ -87,8 +87,8 @@ fn symbol_above<T: PlainWord>(a_minus: bool, a: T, n: T) -> i8 {
 ///
 /// # Preconditions
 ///
-/// a negative number has a magnitude of at least 1. This isn't tested: outside it the call panics, or
-/// returns no meaningful result.
+/// a negative number has a magnitude of at least 1. This isn't checked: if it doesn't hold, the call
+/// panics or its result is unspecified.
 #[inline]
 pub fn kronecker_symbol<T: PlainWord>(a_minus: bool, a: T, n_minus: bool, n: T) -> i8 {
     if n.is_zero_word() {

@@ -64,9 +64,10 @@ fn subtract_and_halve<T: LowPart>(a: T, n: T) -> i8 {
 ///
 /// Source: Shallit and Sorenson, "A binary algorithm for the Jacobi symbol", ACM SIGSAM Bulletin 27, 1993.
 ///
-/// # Preconditions
+/// # Panics
 ///
-/// n is odd. This isn't tested: outside it the call panics, or returns no meaningful result.
+/// A debug build panics unless n is odd. A release build doesn't check this: if it doesn't hold, the
+/// call panics or its result is unspecified.
 ///
 /// # Examples
 ///
@@ -77,6 +78,8 @@ fn subtract_and_halve<T: LowPart>(a: T, n: T) -> i8 {
 /// assert_eq!(jacobi(true, 1u64, 7), -1); // of -1 over 7
 /// ```
 #[inline]
+#[cfg_attr(debug_assertions, track_caller)]
 pub fn jacobi_by_subtraction<T: LowPart>(a_minus: bool, a: T, n: T) -> i8 {
+    debug_assert!(n.is_odd(), "n must be odd");
     subtract_and_halve(signed_residue(a_minus, a, n), n)
 }

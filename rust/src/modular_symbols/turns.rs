@@ -13,7 +13,7 @@ fn leaves_3<T: PlainWord>(n: T) -> bool {
 ///
 /// # Preconditions
 ///
-/// n is odd. This isn't tested: outside it the call panics, or returns no meaningful result.
+/// n is odd. This isn't checked: if it doesn't hold, the call panics or its result is unspecified.
 #[inline]
 pub fn is_minus_over_two<T: PlainWord>(n: T) -> bool {
     n.half().plus(T::one()).half().is_odd()

@@ -28,7 +28,7 @@ fn multiply<T: RingWord, R: Reducer<T>>(r: &R, xs: &mut [T], ys: &mut [T], g: &T
 ///
 /// Panics unless the lists have the same length, and the length is a power of two, and g suits the
 /// length (`root_fits` tells). A debug build also panics unless g and all entries are checked forms. A
-/// release build doesn't test that, and outside it panics, or returns no meaningful result.
+/// release build doesn't check this: if it doesn't hold, the call panics or its result is unspecified.
 ///
 /// # Examples
 ///
@@ -43,6 +43,7 @@ fn multiply<T: RingWord, R: Reducer<T>>(r: &R, xs: &mut [T], ys: &mut [T], g: &T
 /// assert_eq!(xs, [3, 10, 8, 0]); // (1 + 2X)(3 + 4X)
 /// ```
 #[inline]
+#[must_use]
 #[track_caller]
 pub fn convolve<T: RingWord, R: Reducer<T>>(r: &R, xs: &mut [T], ys: &mut [T], g: &T) -> bool {
     assert!(ys.len() == xs.len(), "the lists must have the same length: {} and {}", xs.len(), ys.len());

@@ -36,8 +36,8 @@ pub(crate) fn transform_back<T: RingWord, R: Reducer<T>>(r: &R, xs: &mut [T], g:
 /// # Panics
 ///
 /// Panics unless the length is a power of two, and g suits the length (`root_fits` tells). A debug
-/// build also panics unless g and the entries are checked forms. A release build doesn't test that, and
-/// outside it panics, or returns no meaningful result.
+/// build also panics unless g and the entries are checked forms. A release build doesn't check this: if
+/// it doesn't hold, the call panics or its result is unspecified.
 ///
 /// # Examples
 ///
@@ -54,6 +54,7 @@ pub(crate) fn transform_back<T: RingWord, R: Reducer<T>>(r: &R, xs: &mut [T], g:
 /// assert_eq!(entries, [1, 2, 3, 4]);
 /// ```
 #[inline]
+#[must_use]
 #[track_caller]
 pub fn intt<T: RingWord, R: Reducer<T>>(r: &R, xs: &mut [T], g: &T) -> bool {
     assert!(xs.len().is_power_of_two(), "the length must be a power of two: {}", xs.len());

@@ -31,8 +31,8 @@ pub fn load_forms<T: RingWord, R: Reducer<T>>(r: &R, words: &[T], forms: &mut [T
 ///
 /// # Preconditions
 ///
-/// The forms are checked, and at least as many as the places. This isn't tested: outside it the call
-/// panics, or returns no meaningful result.
+/// The forms are checked, and at least as many as the places. This isn't checked: if it doesn't hold,
+/// the call panics or its result is unspecified.
 ///
 /// # Examples
 ///
@@ -58,8 +58,8 @@ pub fn unload_forms<T: RingWord, R: Reducer<T>>(r: &R, forms: &[T], words: &mut 
 /// # Panics
 ///
 /// Panics unless the lists have the same length. A debug build also panics unless all entries are
-/// checked forms. A release build doesn't test that, and outside it panics, or returns no meaningful
-/// result.
+/// checked forms. A release build doesn't check this: if it doesn't hold, the call panics or its result
+/// is unspecified.
 ///
 /// # Examples
 ///
@@ -87,8 +87,8 @@ pub fn add_lists<T: RingWord, R: Reducer<T>>(r: &R, xs: &mut [T], ys: &[T]) {
 /// # Panics
 ///
 /// Panics unless the lists have the same length. A debug build also panics unless all entries are
-/// checked forms. A release build doesn't test that, and outside it panics, or returns no meaningful
-/// result.
+/// checked forms. A release build doesn't check this: if it doesn't hold, the call panics or its result
+/// is unspecified.
 ///
 /// # Examples
 ///
@@ -116,8 +116,8 @@ pub fn sub_lists<T: RingWord, R: Reducer<T>>(r: &R, xs: &mut [T], ys: &[T]) {
 /// # Panics
 ///
 /// Panics unless the lists have the same length. A debug build also panics unless all entries are
-/// checked forms. A release build doesn't test that, and outside it panics, or returns no meaningful
-/// result.
+/// checked forms. A release build doesn't check this: if it doesn't hold, the call panics or its result
+/// is unspecified.
 ///
 /// # Examples
 ///
@@ -145,7 +145,7 @@ pub fn multiply_lists<T: RingWord, R: Reducer<T>>(r: &R, xs: &mut [T], ys: &[T])
 /// # Panics
 ///
 /// A debug build panics unless the factor and all entries are checked forms. A release build doesn't
-/// test that, and outside it panics, or returns no meaningful result.
+/// check this: if it doesn't hold, the call panics or its result is unspecified.
 ///
 /// # Examples
 ///
@@ -171,8 +171,8 @@ pub fn scale_list<T: RingWord, R: Reducer<T>>(r: &R, xs: &mut [T], factor: &T) {
 /// # Panics
 ///
 /// Panics unless the lists have the same length. A debug build also panics unless all entries are
-/// checked forms. A release build doesn't test that, and outside it panics, or returns no meaningful
-/// result.
+/// checked forms. A release build doesn't check this: if it doesn't hold, the call panics or its result
+/// is unspecified.
 ///
 /// # Examples
 ///

@@ -9,8 +9,8 @@ const SIDE_BITS: u32 = 3;
 ///
 /// # Preconditions
 ///
-/// There are 2^bits entries, and `bits` is at most 64. This isn't tested: outside it the call panics,
-/// or returns no meaningful result.
+/// There are 2^bits entries, and `bits` is at most 64. This isn't checked: if it doesn't hold, the call
+/// panics or its result is unspecified.
 #[inline]
 pub fn reverse_places<T: Copy>(entries: &mut [T], bits: u32) {
     if bits < 2 * SIDE_BITS {
@@ -64,8 +64,8 @@ fn reverse_by_tiles<T: Copy>(entries: &mut [T], bits: u32) {
 ///
 /// # Preconditions
 ///
-/// `place` is below 2^bits, and `bits` is at most 63. This isn't tested: outside it the call panics, or
-/// returns no meaningful result.
+/// `place` is below 2^bits, and `bits` is at most 63. This isn't checked: if it doesn't hold, the call
+/// panics or its result is unspecified.
 #[inline]
 pub fn next_reversed(last: usize, place: usize, bits: u32) -> usize {
     if place == 0 {

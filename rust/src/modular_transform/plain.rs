@@ -8,7 +8,8 @@ use crate::modular_word::plain::power_of;
 ///
 /// # Preconditions
 ///
-/// m is at least 1. This isn't tested: outside it the call panics, or returns no meaningful result.
+/// m is at least 1. This isn't checked: if it doesn't hold, the call panics or its result is
+/// unspecified.
 #[inline]
 pub fn suits(m: u64, g: u64, n: usize) -> bool {
     if !n.is_power_of_two() {
@@ -24,7 +25,8 @@ pub fn suits(m: u64, g: u64, n: usize) -> bool {
 ///
 /// # Preconditions
 ///
-/// m is at least 1. This isn't tested: outside it the call panics, or returns no meaningful result.
+/// m is at least 1. This isn't checked: if it doesn't hold, the call panics or its result is
+/// unspecified.
 pub fn transform_entry(m: u64, g: u64, xs: &[u64], j: usize) -> u64 {
     let step = power_of(g, j as u64, m);
     let mut power = 1 % m;
@@ -61,8 +63,8 @@ fn row_sum(m: u64, x: u64, i: usize, ys: &[u64], e: usize) -> u64 {
 ///
 /// # Preconditions
 ///
-/// m is at least 1, the lists have the same length, and e is below it. This isn't tested: outside it
-/// the call panics, or returns no meaningful result.
+/// m is at least 1, the lists have the same length, and e is below it. This isn't checked: if it
+/// doesn't hold, the call panics or its result is unspecified.
 #[inline]
 pub fn product_entry(m: u64, xs: &[u64], ys: &[u64], e: usize) -> u64 {
     let mut sum = 0;

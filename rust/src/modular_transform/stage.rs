@@ -24,8 +24,8 @@ fn pair<T: RingWord, R: Reducer<T>>(r: &R, forms: &mut [T], first: usize, second
 /// # Preconditions
 ///
 /// The entries and the root are checked forms, and there are as many entries as `blocks` blocks have,
-/// of which there is one or more. This isn't tested: outside it the call panics, or returns no
-/// meaningful result.
+/// of which there is one or more. This isn't checked: if it doesn't hold, the call panics or its result
+/// is unspecified.
 pub fn stage<T: RingWord, R: Reducer<T>>(
     r: &R,
     forms: &mut [T],

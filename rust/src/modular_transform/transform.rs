@@ -11,7 +11,8 @@ use crate::modular_word::ring_word::RingWord;
 ///
 /// # Preconditions
 ///
-/// g is a checked form. This isn't tested: outside it the call panics, or returns no meaningful result.
+/// g is a checked form. This isn't checked: if it doesn't hold, the call panics or its result is
+/// unspecified.
 ///
 /// # Examples
 ///
@@ -46,8 +47,8 @@ pub fn root_fits<T: RingWord, R: Reducer<T>>(r: &R, g: &T, n: usize) -> bool {
 /// # Panics
 ///
 /// Panics unless the length is a power of two, and g suits the length (`root_fits` tells). A debug
-/// build also panics unless g and the entries are checked forms. A release build doesn't test that, and
-/// outside it panics, or returns no meaningful result.
+/// build also panics unless g and the entries are checked forms. A release build doesn't check this: if
+/// it doesn't hold, the call panics or its result is unspecified.
 ///
 /// # Examples
 ///
@@ -106,8 +107,8 @@ pub fn ntt_counted<T: RingWord, R: Reducer<T>>(r: &R, xs: &mut [T], g: &T) -> u1
 /// # Panics
 ///
 /// Panics unless the length is a power of two, and g suits the length (`root_fits` tells). A debug
-/// build also panics unless g and the entries are checked forms. A release build doesn't test that, and
-/// outside it panics, or returns no meaningful result.
+/// build also panics unless g and the entries are checked forms. A release build doesn't check this: if
+/// it doesn't hold, the call panics or its result is unspecified.
 ///
 /// # Examples
 ///

@@ -40,7 +40,7 @@ fn four<T: RingWord, R: Reducer<T>>(
 /// # Preconditions
 ///
 /// All forms are checked, and `turned` is that power, and there are 4·step·blocks entries, in one block
-/// or more. This isn't tested: outside it the call panics, or returns no meaningful result.
+/// or more. This isn't checked: if it doesn't hold, the call panics or its result is unspecified.
 pub fn two_stages<T: RingWord, R: Reducer<T>>(
     r: &R,
     forms: &mut [T],

@@ -12,7 +12,8 @@ pub trait PathWord: Sized + RingWord {
     ///
     /// # Preconditions
     ///
-    /// It fits a word. This isn't tested: outside it the call panics, or returns no meaningful result.
+    /// It fits a word. This isn't checked: if it doesn't hold, the call panics or its result is
+    /// unspecified.
     #[must_use]
     fn plus(self, rhs: Self) -> Self;
 
@@ -20,7 +21,8 @@ pub trait PathWord: Sized + RingWord {
     ///
     /// # Preconditions
     ///
-    /// It is not below 0. This isn't tested: outside it the call panics, or returns no meaningful result.
+    /// It is not below 0. This isn't checked: if it doesn't hold, the call panics or its result is
+    /// unspecified.
     #[must_use]
     fn minus(self, rhs: Self) -> Self;
 
@@ -30,7 +32,8 @@ pub trait PathWord: Sized + RingWord {
     ///
     /// # Preconditions
     ///
-    /// Both are below m. This isn't tested: outside it the call panics, or returns no meaningful result.
+    /// Both are below m. This isn't checked: if it doesn't hold, the call panics or its result is
+    /// unspecified.
     #[must_use]
     fn minus_modulo(self, rhs: Self, m: Self) -> Self;
 
@@ -38,7 +41,8 @@ pub trait PathWord: Sized + RingWord {
     ///
     /// # Preconditions
     ///
-    /// It fits a word. This isn't tested: outside it the call panics, or returns no meaningful result.
+    /// It fits a word. This isn't checked: if it doesn't hold, the call panics or its result is
+    /// unspecified.
     #[must_use]
     fn times(self, rhs: Self) -> Self;
 
@@ -61,8 +65,8 @@ pub trait PathWord: Sized + RingWord {
     ///
     /// # Preconditions
     ///
-    /// `by` is below the width. This isn't tested: outside it the call panics, or returns no meaningful
-    /// result.
+    /// `by` is below the width. This isn't checked: if it doesn't hold, the call panics or its result is
+    /// unspecified.
     #[must_use]
     fn shift_right(self, by: u32) -> Self;
 
@@ -70,8 +74,8 @@ pub trait PathWord: Sized + RingWord {
     ///
     /// # Preconditions
     ///
-    /// `by` is below the width, and the product fits. This isn't tested: outside it the call panics, or
-    /// returns no meaningful result.
+    /// `by` is below the width, and the product fits. This isn't checked: if it doesn't hold, the call
+    /// panics or its result is unspecified.
     #[must_use]
     fn shift_left(self, by: u32) -> Self;
 
@@ -79,8 +83,8 @@ pub trait PathWord: Sized + RingWord {
     ///
     /// # Preconditions
     ///
-    /// `count` is below the width. This isn't tested: outside it the call panics, or returns no meaningful
-    /// result.
+    /// `count` is below the width. This isn't checked: if it doesn't hold, the call panics or its result is
+    /// unspecified.
     #[must_use]
     fn low_bits(self, count: u32) -> Self;
 
@@ -100,8 +104,8 @@ pub trait PathWord: Sized + RingWord {
     ///
     /// # Preconditions
     ///
-    /// `by` is below the width. This isn't tested: outside it the call panics, or returns no meaningful
-    /// result.
+    /// `by` is below the width. This isn't checked: if it doesn't hold, the call panics or its result is
+    /// unspecified.
     fn shift_left_wide(self, by: u32) -> Self::Double;
 
     /// The low and the high word of a double word, in this order.
@@ -114,8 +118,8 @@ pub trait PathWord: Sized + RingWord {
     ///
     /// # Preconditions
     ///
-    /// It fits a double word. This isn't tested: outside it the call panics, or returns no meaningful
-    /// result.
+    /// It fits a double word. This isn't checked: if it doesn't hold, the call panics or its result is
+    /// unspecified.
     fn double_plus(first: Self::Double, second: Self::Double) -> Self::Double;
 
     /// The sum of two double words modulo the square of the base, and whether it overflows: the carry.

@@ -7,8 +7,8 @@ use crate::modular_word::path_word::PathWord;
 ///
 /// # Preconditions
 ///
-/// n is at most the width. This isn't tested: outside it the call panics, or returns no meaningful
-/// result.
+/// n is at most the width. This isn't checked: if it doesn't hold, the call panics or its result is
+/// unspecified.
 #[inline]
 pub fn ones<T: PathWord>(n: u32) -> T {
     if n == 0 {
@@ -30,8 +30,8 @@ pub fn two<T: PathWord>() -> T {
 ///
 /// # Preconditions
 ///
-/// `reciprocal` is that of d, and the high word of the dividend is below d. This isn't tested: outside
-/// it the call panics, or returns no meaningful result.
+/// `reciprocal` is that of d, and the high word of the dividend is below d. This isn't checked: if it
+/// doesn't hold, the call panics or its result is unspecified.
 pub fn div_2by1<T: PathWord>(d: T, reciprocal: T, a: T::Double) -> (T, T) {
     let (low, high) = T::split(a);
     let (q0, q1) = T::split(T::double_plus(reciprocal.product(high), a));
@@ -67,8 +67,8 @@ fn quotient_1by1<T: PathWord>(d: T, multiplier: T, shift: u32, a: T) -> T {
 ///
 /// # Preconditions
 ///
-/// The two are those of d. This isn't tested: outside it the call panics, or returns no meaningful
-/// result.
+/// The two are those of d. This isn't checked: if it doesn't hold, the call panics or its result is
+/// unspecified.
 #[inline]
 pub fn div_1by1<T: PathWord>(d: T, multiplier: T, shift: u32, a: T) -> (T, T) {
     let q = quotient_1by1(d, multiplier, shift, a);
@@ -84,7 +84,7 @@ pub fn div_1by1<T: PathWord>(d: T, multiplier: T, shift: u32, a: T) -> (T, T) {
 /// # Preconditions
 ///
 /// `inverse` is that of d modulo the base, and `limit` the greatest quotient of a word by d. This isn't
-/// tested: outside it the call panics, or returns no meaningful result.
+/// checked: if it doesn't hold, the call panics or its result is unspecified.
 #[inline]
 pub fn exact_1<T: PathWord>(d: T, inverse: T, limit: T, n: T) -> Option<T> {
     let _ = d;
@@ -99,8 +99,8 @@ pub fn exact_1<T: PathWord>(d: T, inverse: T, limit: T, n: T) -> Option<T> {
 ///
 /// # Preconditions
 ///
-/// The conditions of `exact_1` hold. This isn't tested: outside it the call panics, or returns no
-/// meaningful result.
+/// The conditions of `exact_1` hold. This isn't checked: if it doesn't hold, the call panics or its
+/// result is unspecified.
 pub fn exact_2<T: PathWord>(d: T, inverse: T, limit: T, n: T::Double) -> Option<T::Double> {
     let (n0, n1) = T::split(n);
     let q0 = n0.wrapping_mul(inverse);
@@ -118,9 +118,10 @@ pub fn exact_2<T: PathWord>(d: T, inverse: T, limit: T, n: T::Double) -> Option<
 ///
 /// Source: Dumas, "On Newton-Raphson iteration for multiplicative inverses modulo prime powers".
 ///
-/// # Preconditions
+/// # Panics
 ///
-/// m is odd. This isn't tested: outside it the call panics, or returns no meaningful result.
+/// A debug build panics unless m is odd. A release build doesn't check this: if it doesn't hold, the
+/// call panics or its result is unspecified.
 ///
 /// # Examples
 ///
@@ -129,7 +130,9 @@ pub fn exact_2<T: PathWord>(d: T, inverse: T, limit: T, n: T::Double) -> Option<
 ///
 /// assert_eq!(neginv(3u8), 85); // 3 * 85 = 255
 /// ```
+#[cfg_attr(debug_assertions, track_caller)]
 pub fn neginv<T: PathWord>(m: T) -> T {
+    debug_assert!(m.is_odd(), "m must be odd");
     let two = two::<T>();
     let mut inverse = m;
     let mut bits = 3;
@@ -144,8 +147,8 @@ pub fn neginv<T: PathWord>(m: T) -> T {
 ///
 /// # Preconditions
 ///
-/// m times `negated_inverse` is -1 modulo the base. This isn't tested: outside it the call panics, or
-/// returns no meaningful result.
+/// m times `negated_inverse` is -1 modulo the base. This isn't checked: if it doesn't hold, the call
+/// panics or its result is unspecified.
 #[inline]
 pub fn clearing<T: PathWord>(m: T, negated_inverse: T, t: T::Double) -> T {
     let _ = m;
@@ -187,8 +190,8 @@ fn high_sum_by_double_words<T: PathWord>(t: T::Double, multiple: T::Double, m: T
 ///
 /// # Preconditions
 ///
-/// t is below m times the base, and the sum of t and x·m has 0 in the low word. This isn't tested:
-/// outside it the call panics, or returns no meaningful result.
+/// t is below m times the base, and the sum of t and x·m has 0 in the low word. This isn't checked: if
+/// it doesn't hold, the call panics or its result is unspecified.
 #[inline]
 pub fn reduce_by<T: PathWord>(m: T, t: T::Double, x: T, multiple: T::Double) -> T {
     // Reading m gives the proof that it fits a word.
@@ -206,8 +209,8 @@ pub fn reduce_by<T: PathWord>(m: T, t: T::Double, x: T, multiple: T::Double) -> 
 ///
 /// # Preconditions
 ///
-/// m times `negated_inverse` is -1 modulo the base, and t is below m times the base. This isn't tested:
-/// outside it the call panics, or returns no meaningful result.
+/// m times `negated_inverse` is -1 modulo the base, and t is below m times the base. This isn't
+/// checked: if it doesn't hold, the call panics or its result is unspecified.
 #[inline]
 pub fn redc<T: PathWord>(m: T, negated_inverse: T, t: T::Double) -> T {
     let x = clearing(m, negated_inverse, t);

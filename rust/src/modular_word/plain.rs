@@ -17,7 +17,8 @@ fn computed_residue(z: i64, m: u64) -> u64 {
 ///
 /// # Preconditions
 ///
-/// m is at least 1. This isn't tested: outside it the call panics, or returns no meaningful result.
+/// m is at least 1. This isn't checked: if it doesn't hold, the call panics or its result is
+/// unspecified.
 #[inline]
 pub fn residue_of(z: i64, m: u64) -> u64 {
     computed_residue(z, m)
@@ -27,7 +28,8 @@ pub fn residue_of(z: i64, m: u64) -> u64 {
 ///
 /// # Preconditions
 ///
-/// m is at least 1. This isn't tested: outside it the call panics, or returns no meaningful result.
+/// m is at least 1. This isn't checked: if it doesn't hold, the call panics or its result is
+/// unspecified.
 #[inline]
 pub fn power_of(base: u64, exp: u64, m: u64) -> u64 {
     let mut power = 1 % m;
@@ -41,7 +43,8 @@ pub fn power_of(base: u64, exp: u64, m: u64) -> u64 {
 ///
 /// # Preconditions
 ///
-/// m is at least 1. This isn't tested: outside it the call panics, or returns no meaningful result.
+/// m is at least 1. This isn't checked: if it doesn't hold, the call panics or its result is
+/// unspecified.
 #[inline]
 pub fn inverse_by_search(a: u64, m: u64) -> Option<u64> {
     (0..m).find(|&x| a as u128 * x as u128 % m as u128 == (1 % m) as u128)
@@ -52,7 +55,8 @@ pub fn inverse_by_search(a: u64, m: u64) -> Option<u64> {
 ///
 /// # Preconditions
 ///
-/// n is at least 1. This isn't tested: outside it the call panics, or returns no meaningful result.
+/// n is at least 1. This isn't checked: if it doesn't hold, the call panics or its result is
+/// unspecified.
 #[inline]
 pub fn greatest_common_divisor(a: u64, n: u64) -> u64 {
     let mut greatest = 0;

@@ -60,7 +60,7 @@ pub fn nm_plan_check(plan: &NmPlan) -> u32 {
 /// # Preconditions
 ///
 /// The entries of the plan's table are factors modulo m (`nm_plan_make` and `nm_plan_check` leave
-/// them). This isn't tested: outside it the call panics, or returns no meaningful result.
+/// them). This isn't checked: if it doesn't hold, the call panics or its result is unspecified.
 #[inline]
 pub fn nm_plan_transform(plan: &NmPlan, xs: &mut [u64]) -> u32 {
     if !is_split(plan.modulus, xs, plan.table.len(), 0, 1) {
@@ -75,8 +75,8 @@ pub fn nm_plan_transform(plan: &NmPlan, xs: &mut [u64]) -> u32 {
 ///
 /// # Preconditions
 ///
-/// That of `nm_plan_transform`. This isn't tested: outside it the call panics, or returns no meaningful
-/// result.
+/// That of `nm_plan_transform`. This isn't checked: if it doesn't hold, the call panics or its result
+/// is unspecified.
 pub fn nm_plan_inverse(plan: &NmPlan, xs: &mut [u64]) -> u32 {
     if !is_split(plan.modulus, xs, plan.table.len(), 0, 1) {
         return NM_BAD_ARGUMENT;
@@ -96,8 +96,8 @@ pub fn nm_plan_inverse(plan: &NmPlan, xs: &mut [u64]) -> u32 {
 ///
 /// # Preconditions
 ///
-/// That of `nm_plan_transform`. This isn't tested: outside it the call panics, or returns no meaningful
-/// result.
+/// That of `nm_plan_transform`. This isn't checked: if it doesn't hold, the call panics or its result
+/// is unspecified.
 #[inline]
 pub fn nm_plan_split(plan: &NmPlan, xs: &mut [u64], b: usize, last: usize) -> u32 {
     if !is_split(plan.modulus, xs, plan.table.len(), b, last) {
@@ -118,8 +118,8 @@ pub fn nm_plan_split(plan: &NmPlan, xs: &mut [u64], b: usize, last: usize) -> u3
 ///
 /// # Preconditions
 ///
-/// That of `nm_plan_transform`. This isn't tested: outside it the call panics, or returns no meaningful
-/// result.
+/// That of `nm_plan_transform`. This isn't checked: if it doesn't hold, the call panics or its result
+/// is unspecified.
 pub fn nm_plan_join(plan: &NmPlan, xs: &mut [u64], b: usize, last: usize) -> u32 {
     if !is_split(plan.modulus, xs, plan.table.len(), b, last) {
         return NM_BAD_ARGUMENT;
@@ -138,8 +138,8 @@ pub fn nm_plan_join(plan: &NmPlan, xs: &mut [u64], b: usize, last: usize) -> u32
 ///
 /// # Preconditions
 ///
-/// That of `nm_plan_transform`. This isn't tested: outside it the call panics, or returns no meaningful
-/// result.
+/// That of `nm_plan_transform`. This isn't checked: if it doesn't hold, the call panics or its result
+/// is unspecified.
 #[inline]
 pub fn nm_plan_convolve(plan: &NmPlan, xs: &mut [u64], ys: &mut [u64]) -> u32 {
     if !is_pair(plan.modulus, xs, ys, plan.table.len(), 0, 1) {
@@ -154,8 +154,8 @@ pub fn nm_plan_convolve(plan: &NmPlan, xs: &mut [u64], ys: &mut [u64]) -> u32 {
 ///
 /// # Preconditions
 ///
-/// That of `nm_plan_transform`. This isn't tested: outside it the call panics, or returns no meaningful
-/// result.
+/// That of `nm_plan_transform`. This isn't checked: if it doesn't hold, the call panics or its result
+/// is unspecified.
 #[inline]
 pub fn nm_plan_convolve_negacyclic(plan: &NmPlan, xs: &mut [u64], ys: &mut [u64]) -> u32 {
     if !is_pair(plan.modulus, xs, ys, plan.table.len(), 1, 2) {

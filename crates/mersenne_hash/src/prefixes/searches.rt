@@ -74,8 +74,8 @@ impl<'a> Patterns<'a> {
     /// which it fills. `None` exactly where the length of `symbols` isn't that many times the size. It takes one product
     /// for each symbol.
     ///
-    /// After `None` the hashes are what they were: the lengths are tested, by `are_pattern_lengths`, before one is written. No
-    /// clause says so, because the result borrows them; a caller that has to prove it calls the test first.
+    /// After `None` the hashes are what they were: the lengths are tested, by `are_pattern_lengths`, before one is written.
+    /// This isn't proved, because the result borrows them: a caller that needs the proof calls the test first.
     ///
     /// # Examples
     ///

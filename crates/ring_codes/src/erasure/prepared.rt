@@ -56,8 +56,8 @@ impl<'a, T: RingWord, R: Reducer<T>> PreparedCode<'a, T, R> {
     /// Fills the rows, t·k for k known and t wanted points, and returns the code. `None` exactly where the known points
     /// don't fit.
     ///
-    /// Conditions: the points are checked forms; there are t·k rows, and 2·k places of scratch. The contents of both
-    /// are ignored. It takes about 4·k² + 5·t·k products and one inversion.
+    /// Conditions: the points are checked forms; there are t·k rows, and 2·k places of scratch. The previous contents of
+    /// `rows` and `scratch` are ignored. It takes about 4·k² + 5·t·k products and one inversion.
     ///
     /// Source: Lagrange's form: Knuth, The Art of Computer Programming, volume 2, section 4.6.4.
     ///

@@ -20,8 +20,8 @@ impl<'a> Code<'a> {
     ///
     /// # Preconditions
     ///
-    /// Each place has a weight. This isn't tested: outside it the call panics, or returns no meaningful
-    /// result.
+    /// Each place has a weight. This isn't checked: if it doesn't hold, the call panics or its result is
+    /// unspecified.
     ///
     /// # Examples
     ///
@@ -40,8 +40,8 @@ impl<'a> Code<'a> {
     ///
     /// # Preconditions
     ///
-    /// The code has the place. This isn't tested: outside it the call panics, or returns no meaningful
-    /// result.
+    /// The code has the place. This isn't checked: if it doesn't hold, the call panics or its result is
+    /// unspecified.
     ///
     /// # Examples
     ///
@@ -97,8 +97,8 @@ impl<'a> Code<'a> {
     ///
     /// # Panics
     ///
-    /// A debug build panics unless the code has at most 68 places. A release build doesn't test that, and
-    /// outside it panics, or returns no meaningful result.
+    /// A debug build panics unless the code has at most 68 places. A release build doesn't check this: if
+    /// it doesn't hold, the call panics or its result is unspecified.
     ///
     /// # Examples
     ///
@@ -129,8 +129,8 @@ impl<'a> Code<'a> {
     ///
     /// # Preconditions
     ///
-    /// The word is accepted, and it has the place. This isn't tested: outside it the call panics, or
-    /// returns no meaningful result.
+    /// The word is accepted, and it has the place. This isn't checked: if it doesn't hold, the call panics
+    /// or its result is unspecified.
     ///
     /// # Examples
     ///
@@ -161,8 +161,8 @@ impl<'a> Code<'a> {
     ///
     /// # Preconditions
     ///
-    /// The word is accepted, and it has both places. This isn't tested: outside it the call panics, or
-    /// returns no meaningful result.
+    /// The word is accepted, and it has both places. This isn't checked: if it doesn't hold, the call
+    /// panics or its result is unspecified.
     ///
     /// # Examples
     ///
@@ -225,7 +225,7 @@ impl<'a> Code<'a> {
     /// # Preconditions
     ///
     /// The word has the place, and the code a weight with an inverse modulo m there (`can_restore` tells).
-    /// This isn't tested: outside it the call panics, or returns no meaningful result.
+    /// This isn't checked: if it doesn't hold, the call panics or its result is unspecified.
     ///
     /// # Examples
     ///
@@ -255,7 +255,7 @@ impl<'a> Code<'a> {
     /// # Preconditions
     ///
     /// The last weight has an inverse modulo m, as the weight 1 of each code of `standards` has. This isn't
-    /// tested: outside it the call panics, or returns no meaningful result.
+    /// checked: if it doesn't hold, the call panics or its result is unspecified.
     ///
     /// # Examples
     ///

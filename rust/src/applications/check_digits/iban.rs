@@ -112,7 +112,7 @@ fn write_text(text: &[u8], digits: &mut [u64], start: usize) -> usize {
 /// # Preconditions
 ///
 /// The text has the form of an IBAN (`has_iban_form` tells), and there is room for 68 digits. This
-/// isn't tested: outside it the call panics, or returns no meaningful result.
+/// isn't checked: if it doesn't hold, the call panics or its result is unspecified.
 ///
 /// # Examples
 ///

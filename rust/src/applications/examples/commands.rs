@@ -7,8 +7,8 @@ use crate::{PreMulInv2by1, Reducer};
 ///
 /// # Panics
 ///
-/// A debug build panics unless m is at least 1. A release build doesn't test that, and outside it
-/// panics, or returns no meaningful result.
+/// A debug build panics unless m is at least 1. A release build doesn't check this: if it doesn't hold,
+/// the call panics or its result is unspecified.
 ///
 /// # Examples
 ///
@@ -30,8 +30,8 @@ pub fn residue_over_copies(n: u64, m: u64) -> u64 {
 ///
 /// # Panics
 ///
-/// A debug build panics unless m is at least 1. A release build doesn't test that, and outside it
-/// panics, or returns no meaningful result.
+/// A debug build panics unless m is at least 1. A release build doesn't check this: if it doesn't hold,
+/// the call panics or its result is unspecified.
 ///
 /// # Examples
 ///

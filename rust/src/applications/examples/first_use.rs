@@ -26,8 +26,8 @@ pub fn product_and_one(x: u64, y: u64) -> u64 {
 ///
 /// # Panics
 ///
-/// A debug build panics unless m is at least 1. A release build doesn't test that, and outside it
-/// panics, or returns no meaningful result.
+/// A debug build panics unless m is at least 1. A release build doesn't check this: if it doesn't hold,
+/// the call panics or its result is unspecified.
 ///
 /// # Examples
 ///

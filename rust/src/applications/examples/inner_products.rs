@@ -5,8 +5,8 @@ use crate::{Montgomery, Reducer};
 ///
 /// # Preconditions
 ///
-/// The lists have the same length. This isn't tested: outside it the call panics, or returns no
-/// meaningful result.
+/// The lists have the same length. This isn't checked: if it doesn't hold, the call panics or its
+/// result is unspecified.
 ///
 /// # Examples
 ///
@@ -30,7 +30,8 @@ pub fn inner_product<R: Reducer<u64>>(r: &R, xs: &[u64], ys: &[u64]) -> u64 {
 ///
 /// # Preconditions
 ///
-/// m is at least 1. This isn't tested: outside it the call panics, or returns no meaningful result.
+/// m is at least 1. This isn't checked: if it doesn't hold, the call panics or its result is
+/// unspecified.
 ///
 /// # Examples
 ///

@@ -6,7 +6,8 @@ use crate::ModularPow;
 ///
 /// # Preconditions
 ///
-/// m is at least 1. This isn't tested: outside it the call panics, or returns no meaningful result.
+/// m is at least 1. This isn't checked: if it doesn't hold, the call panics or its result is
+/// unspecified.
 ///
 /// # Examples
 ///
@@ -24,7 +25,8 @@ pub fn known_word(g: u64, secret: u64, m: u64) -> u64 {
 ///
 /// # Preconditions
 ///
-/// m is at least 1. This isn't tested: outside it the call panics, or returns no meaningful result.
+/// m is at least 1. This isn't checked: if it doesn't hold, the call panics or its result is
+/// unspecified.
 ///
 /// # Examples
 ///

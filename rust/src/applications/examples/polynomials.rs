@@ -10,8 +10,8 @@ use crate::ring::{convolve, load_forms, unload_forms};
 /// # Preconditions
 ///
 /// No coefficient is above `bound`, and m is above n·bound^2, and n is at least the number of
-/// coefficients of the product, and g is the checked form of a root that suits n. This isn't tested:
-/// outside it the call panics, or returns no meaningful result.
+/// coefficients of the product, and g is the checked form of a root that suits n. This isn't checked:
+/// if it doesn't hold, the call panics or its result is unspecified.
 ///
 /// # Examples
 ///
@@ -28,6 +28,7 @@ use crate::ring::{convolve, load_forms, unload_forms};
 /// assert_eq!(product, [3, 10, 8]);
 /// ```
 #[inline]
+#[must_use]
 pub fn product_of<R: Reducer<u64>>(
     r: &R,
     g: u64,

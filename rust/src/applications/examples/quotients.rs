@@ -6,7 +6,8 @@ use crate::{ModularInteger, MontgomeryInt, VanillaInt};
 ///
 /// # Preconditions
 ///
-/// m is at least 1. This isn't tested: outside it the call panics, or returns no meaningful result.
+/// m is at least 1. This isn't checked: if it doesn't hold, the call panics or its result is
+/// unspecified.
 ///
 /// # Examples
 ///
@@ -28,7 +29,8 @@ pub fn by_inverse(a: u64, b: u64, m: u64) -> Option<u64> {
 ///
 /// # Preconditions
 ///
-/// m is at least 1. This isn't tested: outside it the call panics, or returns no meaningful result.
+/// m is at least 1. This isn't checked: if it doesn't hold, the call panics or its result is
+/// unspecified.
 ///
 /// # Examples
 ///

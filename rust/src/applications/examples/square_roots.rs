@@ -6,8 +6,8 @@ use crate::{ModularPow, ModularUnaryOps};
 ///
 /// # Preconditions
 ///
-/// p is a prime that is 3 modulo 4. This isn't tested: outside it the call panics, or returns no
-/// meaningful result.
+/// p is a prime that is 3 modulo 4. This isn't checked: if it doesn't hold, the call panics or its
+/// result is unspecified.
 ///
 /// # Examples
 ///

@@ -5,7 +5,8 @@ use crate::prim::symbol_over_prime;
 ///
 /// # Preconditions
 ///
-/// p is an odd prime. This isn't tested: outside it the call panics, or returns no meaningful result.
+/// p is an odd prime. This isn't checked: if it doesn't hold, the call panics or its result is
+/// unspecified.
 ///
 /// # Examples
 ///

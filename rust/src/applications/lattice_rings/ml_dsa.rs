@@ -80,8 +80,8 @@ impl Ring {
     ///
     /// # Preconditions
     ///
-    /// The coefficients are residues (`are_residues` tells). This isn't tested: outside it the call panics,
-    /// or returns no meaningful result.
+    /// The coefficients are residues (`are_residues` tells). This isn't checked: if it doesn't hold, the
+    /// call panics or its result is unspecified.
     ///
     /// # Examples
     ///
@@ -104,8 +104,8 @@ impl Ring {
     ///
     /// # Preconditions
     ///
-    /// The values are residues. This isn't tested: outside it the call panics, or returns no meaningful
-    /// result.
+    /// The values are residues. This isn't checked: if it doesn't hold, the call panics or its result is
+    /// unspecified.
     ///
     /// # Examples
     ///
@@ -128,8 +128,8 @@ impl Ring {
     ///
     /// # Preconditions
     ///
-    /// The coefficients are residues. This isn't tested: outside it the call panics, or returns no
-    /// meaningful result.
+    /// The coefficients are residues. This isn't checked: if it doesn't hold, the call panics or its result
+    /// is unspecified.
     ///
     /// # Examples
     ///
@@ -156,8 +156,8 @@ impl Ring {
     ///
     /// # Preconditions
     ///
-    /// The entries are residues. This isn't tested: outside it the call panics, or returns no meaningful
-    /// result.
+    /// The entries are residues. This isn't checked: if it doesn't hold, the call panics or its result is
+    /// unspecified.
     ///
     /// # Examples
     ///

@@ -92,8 +92,8 @@ impl Ring {
     ///
     /// # Preconditions
     ///
-    /// The coefficients are residues (`are_residues` tells). This isn't tested: outside it the call panics,
-    /// or returns no meaningful result.
+    /// The coefficients are residues (`are_residues` tells). This isn't checked: if it doesn't hold, the
+    /// call panics or its result is unspecified.
     ///
     /// # Examples
     ///
@@ -116,8 +116,8 @@ impl Ring {
     ///
     /// # Preconditions
     ///
-    /// The entries are residues. This isn't tested: outside it the call panics, or returns no meaningful
-    /// result.
+    /// The entries are residues. This isn't checked: if it doesn't hold, the call panics or its result is
+    /// unspecified.
     ///
     /// # Examples
     ///
@@ -142,8 +142,8 @@ impl Ring {
     ///
     /// # Preconditions
     ///
-    /// The coefficients are residues. This isn't tested: outside it the call panics, or returns no
-    /// meaningful result.
+    /// The coefficients are residues. This isn't checked: if it doesn't hold, the call panics or its result
+    /// is unspecified.
     ///
     /// # Examples
     ///
@@ -170,8 +170,8 @@ impl Ring {
     ///
     /// # Preconditions
     ///
-    /// The entries are residues. This isn't tested: outside it the call panics, or returns no meaningful
-    /// result.
+    /// The entries are residues. This isn't checked: if it doesn't hold, the call panics or its result is
+    /// unspecified.
     ///
     /// # Examples
     ///

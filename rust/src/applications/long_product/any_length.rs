@@ -17,7 +17,8 @@ pub const LEAST_CONVOLVED: usize = 6;
 ///
 /// # Preconditions
 ///
-/// 3·n is at most 2^32. This isn't tested: outside it the call panics, or returns no meaningful result.
+/// 3·n is at most 2^32. This isn't checked: if it doesn't hold, the call panics or its result is
+/// unspecified.
 ///
 /// # Examples
 ///
@@ -203,6 +204,7 @@ fn fill<F: PlanEntry<u64>>(
 /// assert!(ntt(7, 2, &[1, 2, 3], &mut out, &mut [], &plans));
 /// assert_eq!(out, [6, 3, 1]); // 1 + 2 + 3, 1 + 4 + 12 and 1 + 8 + 48
 /// ```
+#[must_use]
 pub fn ntt<F: PlanEntry<u64>>(
     m: u64,
     g: u64,
@@ -243,6 +245,7 @@ pub fn ntt<F: PlanEntry<u64>>(
 /// assert!(intt(7, 2, &[6, 3, 1], &mut out, &mut [], &plans));
 /// assert_eq!(out, [1, 2, 3]);
 /// ```
+#[must_use]
 pub fn intt<F: PlanEntry<u64>>(
     m: u64,
     g: u64,

@@ -6,7 +6,8 @@ use crate::{PreMulInv2by1, Reducer};
 ///
 /// # Preconditions
 ///
-/// m is at least 1. This isn't tested: outside it the call panics, or returns no meaningful result.
+/// m is at least 1. This isn't checked: if it doesn't hold, the call panics or its result is
+/// unspecified.
 #[inline]
 pub(crate) fn reciprocal_of(m: u64) -> PreMulInv2by1<u64> {
     Reducer::new(&m)
@@ -18,8 +19,8 @@ pub(crate) fn reciprocal_of(m: u64) -> PreMulInv2by1<u64> {
 ///
 /// # Preconditions
 ///
-/// The double word is below m·2^64. This isn't tested: outside it the call panics, or returns no
-/// meaningful result.
+/// The double word is below m·2^64. This isn't checked: if it doesn't hold, the call panics or its
+/// result is unspecified.
 #[inline]
 pub(crate) fn remainder(by: &PreMulInv2by1<u64>, t: u128) -> u64 {
     let shift = by.shift();
@@ -44,8 +45,8 @@ fn remainder_of_double(by: &PreMulInv2by1<u64>, t: u128) -> u64 {
 ///
 /// # Preconditions
 ///
-/// Low is below 2^127, and high below 2^126. This isn't tested: outside it the call panics, or returns
-/// no meaningful result.
+/// Low is below 2^127, and high below 2^126. This isn't checked: if it doesn't hold, the call panics or
+/// its result is unspecified.
 #[inline]
 pub(crate) fn remainder_of_sum(by: &PreMulInv2by1<u64>, low: u128, high: u128) -> u64 {
     let upper = remainder_of_double(by, high + low / 18446744073709551616);

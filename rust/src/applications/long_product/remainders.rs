@@ -10,8 +10,8 @@ use crate::PreMulInv2by1;
 ///
 /// # Preconditions
 ///
-/// There is a product, and there are at most 2^32. This isn't tested: outside it the call panics, or
-/// returns no meaningful result.
+/// There is a product, and there are at most 2^32. This isn't checked: if it doesn't hold, the call
+/// panics or its result is unspecified.
 #[inline]
 pub fn primes_for(terms: usize, x: u64, y: u64) -> usize {
     let product = x as u128 * y as u128;
@@ -83,8 +83,8 @@ impl Remainders {
 /// # Preconditions
 ///
 /// m is at least 1, the residues are below their primes, the three lists of them have one length, and
-/// there are n or more, and 2n or more where c isn't 0. This isn't tested: outside it the call panics,
-/// or returns no meaningful result.
+/// there are n or more, and 2n or more where c isn't 0. This isn't checked: if it doesn't hold, the
+/// call panics or its result is unspecified.
 #[inline]
 pub fn write_folded(
     count: usize,

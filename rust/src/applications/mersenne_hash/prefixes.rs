@@ -84,8 +84,8 @@ impl<'a> PrefixHashes<'a> {
     ///
     /// # Preconditions
     ///
-    /// `from` is at most `to`, which is at most the length of the text. This isn't tested: outside it the
-    /// call panics, or returns no meaningful result.
+    /// `from` is at most `to`, which is at most the length of the text. This isn't checked: if it doesn't
+    /// hold, the call panics or its result is unspecified.
     ///
     /// # Examples
     ///

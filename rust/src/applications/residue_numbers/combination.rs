@@ -20,8 +20,8 @@ fn common_divisor(m: u64, n: u64) -> u64 {
 ///
 /// # Preconditions
 ///
-/// m and n are at least 1. This isn't tested: outside it the call panics, or returns no meaningful
-/// result.
+/// m and n are at least 1. This isn't checked: if it doesn't hold, the call panics or its result is
+/// unspecified.
 ///
 /// # Examples
 ///

@@ -41,7 +41,7 @@ impl<'a> ResidueSystem<'a> {
     ///
     /// Each register number is below the count of the numbers (`commands_fit` tells), that of the wanted
     /// register too, and there is room for as many registers as numbers, and for one residue a modulus.
-    /// This isn't tested: outside it the call panics, or returns no meaningful result.
+    /// This isn't checked: if it doesn't hold, the call panics or its result is unspecified.
     ///
     /// # Examples
     ///
@@ -56,6 +56,7 @@ impl<'a> ResidueSystem<'a> {
     /// assert_eq!(system.decode(&residues), 24); // 2 * (3 * 4)
     /// ```
     #[inline]
+    #[must_use]
     pub fn run(
         &self,
         commands: &[RingCommand<u64>],

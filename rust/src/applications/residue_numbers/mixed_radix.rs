@@ -112,7 +112,7 @@ impl<'a> System<'a> {
     /// divisor above 1, or the lists have different lengths.
     ///
     /// After `None` the list holds what it held: the moduli are tested, by `is_coprime_system`, before an entry is written.
-    /// No clause says so, because the result borrows the list; a caller that has to prove it calls the test first.
+    /// This isn't proved, because the result borrows the list: a caller that needs the proof calls the test first.
     ///
     /// # Examples
     ///

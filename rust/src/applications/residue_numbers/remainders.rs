@@ -6,8 +6,8 @@ use crate::{ModularCoreOps, ModularUnaryOps};
 ///
 /// # Preconditions
 ///
-/// m and n are at least 1. This isn't tested: outside it the call panics, or returns no meaningful
-/// result.
+/// m and n are at least 1. This isn't checked: if it doesn't hold, the call panics or its result is
+/// unspecified.
 ///
 /// # Examples
 ///

@@ -21,7 +21,7 @@ use crate::residues::{decode, encode, is_system};
 /// system.mul(&left, &right, &mut product);
 /// assert_eq!(system.decode(&product), 72);
 /// ```
-#[derive(Clone, Copy)]
+#[derive(Debug, Clone, Copy)]
 #[must_use]
 pub struct ResidueSystem<'a> {
     /// The moduli.
@@ -70,8 +70,8 @@ impl<'a> ResidueSystem<'a> {
     ///
     /// # Preconditions
     ///
-    /// There is room for one residue a modulus. This isn't tested: outside it the call panics, or returns
-    /// no meaningful result.
+    /// There is room for one residue a modulus. This isn't checked: if it doesn't hold, the call panics or
+    /// its result is unspecified.
     ///
     /// # Examples
     ///
@@ -94,7 +94,7 @@ impl<'a> ResidueSystem<'a> {
     /// # Preconditions
     ///
     /// Each modulus has a residue below it (`are_reduced` of `num_modular::residues` tells). This isn't
-    /// tested: outside it the call panics, or returns no meaningful result.
+    /// checked: if it doesn't hold, the call panics or its result is unspecified.
     ///
     /// # Examples
     ///
@@ -123,8 +123,8 @@ impl<'a> ResidueSystem<'a> {
     ///
     /// # Preconditions
     ///
-    /// Each modulus has a left residue, a right one and room for their sum. This isn't tested: outside it
-    /// the call panics, or returns no meaningful result.
+    /// Each modulus has a left residue, a right one and room for their sum. This isn't checked: if it
+    /// doesn't hold, the call panics or its result is unspecified.
     ///
     /// # Examples
     ///
@@ -146,8 +146,8 @@ impl<'a> ResidueSystem<'a> {
     ///
     /// # Preconditions
     ///
-    /// Each modulus has a left residue, a right one and room for their difference. This isn't tested:
-    /// outside it the call panics, or returns no meaningful result.
+    /// Each modulus has a left residue, a right one and room for their difference. This isn't checked: if
+    /// it doesn't hold, the call panics or its result is unspecified.
     ///
     /// # Examples
     ///
@@ -169,8 +169,8 @@ impl<'a> ResidueSystem<'a> {
     ///
     /// # Preconditions
     ///
-    /// Each modulus has a left residue, a right one and room for their product. This isn't tested: outside
-    /// it the call panics, or returns no meaningful result.
+    /// Each modulus has a left residue, a right one and room for their product. This isn't checked: if it
+    /// doesn't hold, the call panics or its result is unspecified.
     ///
     /// # Examples
     ///

@@ -59,8 +59,8 @@ pub enum RestoreError {
 ///
 /// # Preconditions
 ///
-/// The points are checked forms. This isn't tested: outside it the call panics, or returns no
-/// meaningful result.
+/// The points are checked forms. This isn't checked: if it doesn't hold, the call panics or its result
+/// is unspecified.
 ///
 /// # Examples
 ///
@@ -85,8 +85,8 @@ pub fn points_fit<T: RingWord, R: Reducer<T>>(r: &R, points: &[T]) -> bool {
 ///
 /// # Preconditions
 ///
-/// Coefficients and point are checked forms. This isn't tested: outside it the call panics, or returns
-/// no meaningful result.
+/// Coefficients and point are checked forms. This isn't checked: if it doesn't hold, the call panics or
+/// its result is unspecified.
 ///
 /// # Examples
 ///
@@ -116,7 +116,7 @@ pub fn evaluate<T: RingWord, R: Reducer<T>>(r: &R, coefficients: &[T], point: &T
 /// # Preconditions
 ///
 /// The points and the message are checked forms, and the word has a place for each point. This isn't
-/// tested: outside it the call panics, or returns no meaningful result.
+/// checked: if it doesn't hold, the call panics or its result is unspecified.
 ///
 /// # Examples
 ///
@@ -146,8 +146,8 @@ pub fn encode<T: RingWord, R: Reducer<T>>(r: &R, points: &[T], message: &[T], wo
 ///
 /// # Preconditions
 ///
-/// Points and values are checked forms, at least k each, and there are k weights. This isn't tested:
-/// outside it the call panics, or returns no meaningful result.
+/// Points and values are checked forms, at least k each, and there are k weights. This isn't checked:
+/// if it doesn't hold, the call panics or its result is unspecified.
 ///
 /// # Examples
 ///
@@ -160,6 +160,7 @@ pub fn encode<T: RingWord, R: Reducer<T>>(r: &R, points: &[T], message: &[T], wo
 /// assert!(interpolate(&ring, &[3, 4], &[26, 33], &mut weights, &mut coefficients));
 /// assert_eq!(coefficients, [5, 7]); // 5 + 7 * 3 = 26, and 5 + 7 * 4 = 33
 /// ```
+#[must_use]
 pub fn interpolate<T: RingWord, R: Reducer<T>>(
     r: &R,
     points: &[T],
@@ -186,8 +187,8 @@ pub fn interpolate<T: RingWord, R: Reducer<T>>(
 /// # Preconditions
 ///
 /// The points fit (`points_fit` tells), points and word are checked forms, the word has a symbol for
-/// each point, and there are k weights, k being at most the number of points. This isn't tested:
-/// outside it the call panics, or returns no meaningful result.
+/// each point, and there are k weights, k being at most the number of points. This isn't checked: if it
+/// doesn't hold, the call panics or its result is unspecified.
 ///
 /// # Examples
 ///
@@ -201,6 +202,7 @@ pub fn interpolate<T: RingWord, R: Reducer<T>>(
 /// assert_eq!(message, [5, 7]);
 /// assert!(!is_codeword(&ring, &[1, 2, 3, 4], &[12, 19, 26, 34], &mut weights, &mut message));
 /// ```
+#[must_use]
 pub fn is_codeword<T: RingWord, R: Reducer<T>>(
     r: &R,
     points: &[T],
@@ -227,7 +229,7 @@ pub fn is_codeword<T: RingWord, R: Reducer<T>>(
 ///
 /// Points and message are checked forms, the word has a place for each point, and there are k weights
 /// and k coefficients, k being the length of the message and at most the number of points. This isn't
-/// tested: outside it the call panics, or returns no meaningful result.
+/// checked: if it doesn't hold, the call panics or its result is unspecified.
 ///
 /// # Examples
 ///
@@ -241,6 +243,7 @@ pub fn is_codeword<T: RingWord, R: Reducer<T>>(
 /// assert_eq!(word, [12, 19, 26, 33]); // 5 + 7X
 /// ```
 #[inline]
+#[must_use]
 pub fn encode_systematic<T: RingWord, R: Reducer<T>>(
     r: &R,
     points: &[T],
@@ -284,8 +287,8 @@ fn choose<T: RingWord>(points: &[T], places: &[usize], chosen: &mut [T]) -> Resu
 /// # Preconditions
 ///
 /// Points and symbols are checked forms, each place has its symbol, and there are k weights and room
-/// for k points in `chosen`. This isn't tested: outside it the call panics, or returns no meaningful
-/// result.
+/// for k points in `chosen`. This isn't checked: if it doesn't hold, the call panics or its result is
+/// unspecified.
 ///
 /// # Examples
 ///

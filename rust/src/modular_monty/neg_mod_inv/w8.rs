@@ -4,9 +4,10 @@ use crate::modular_word::word::w8::Word;
 
 /// The word x with m * x = -1 modulo 2^8.
 ///
-/// # Preconditions
+/// # Panics
 ///
-/// m is odd. This isn't tested: outside it the call panics, or returns no meaningful result.
+/// A debug build panics unless m is odd. A release build doesn't check this: if it doesn't hold, the
+/// call panics or its result is unspecified.
 ///
 /// # Examples
 ///
@@ -17,6 +18,7 @@ use crate::modular_word::word::w8::Word;
 /// assert_eq!(3 * neginv(3), u8::MAX); // -1 modulo 2^8
 /// ```
 #[inline]
+#[cfg_attr(debug_assertions, track_caller)]
 pub fn neginv(m: Word) -> Word {
     super::neginv(m)
 }

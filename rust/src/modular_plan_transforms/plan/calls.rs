@@ -28,8 +28,8 @@ impl<'a, T: PlainWord, F: PlanEntry<T>> Plan<'a, T, F> {
     /// # Panics
     ///
     /// Panics unless the list has n entries (`fits` tells). A debug build also panics unless the entries
-    /// are below 4m. A release build doesn't test that, and outside it panics, or returns no meaningful
-    /// result.
+    /// are below 4m. A release build doesn't check this: if it doesn't hold, the call panics or its result
+    /// is unspecified.
     ///
     /// # Examples
     ///
@@ -58,8 +58,8 @@ impl<'a, T: PlainWord, F: PlanEntry<T>> Plan<'a, T, F> {
     /// # Panics
     ///
     /// Panics unless the list has n entries (`fits` tells). A debug build also panics unless the entries
-    /// are below 4m. A release build doesn't test that, and outside it panics, or returns no meaningful
-    /// result.
+    /// are below 4m. A release build doesn't check this: if it doesn't hold, the call panics or its result
+    /// is unspecified.
     ///
     /// # Examples
     ///
@@ -93,7 +93,7 @@ impl<'a, T: PlainWord, F: PlanEntry<T>> Plan<'a, T, F> {
     ///
     /// Panics unless the length is `last` times a power of two, and (b + 1)·count is at most n, or count is
     /// 1 (`splits` tells). A debug build also panics unless the entries are below 4m. A release build
-    /// doesn't test that, and outside it panics, or returns no meaningful result.
+    /// doesn't check this: if it doesn't hold, the call panics or its result is unspecified.
     ///
     /// # Examples
     ///
@@ -121,7 +121,7 @@ impl<'a, T: PlainWord, F: PlanEntry<T>> Plan<'a, T, F> {
     ///
     /// Panics unless the length is `last` times a power of two, and (b + 1)·count is at most n, or count is
     /// 1 (`splits` tells). A debug build also panics unless the entries are below 4m. A release build
-    /// doesn't test that, and outside it panics, or returns no meaningful result.
+    /// doesn't check this: if it doesn't hold, the call panics or its result is unspecified.
     ///
     /// # Examples
     ///
@@ -148,7 +148,8 @@ impl<'a, T: PlainWord, F: PlanEntry<T>> Plan<'a, T, F> {
     /// # Panics
     ///
     /// Panics unless the lists have the same length. A debug build also panics unless the entries of xs are
-    /// below m. A release build doesn't test that, and outside it panics, or returns no meaningful result.
+    /// below m. A release build doesn't check this: if it doesn't hold, the call panics or its result is
+    /// unspecified.
     ///
     /// # Examples
     ///
@@ -179,8 +180,8 @@ impl<'a, T: PlainWord, F: PlanEntry<T>> Plan<'a, T, F> {
     ///
     /// Panics unless the lists have the same length h, and `last` is 1 or 2, h is `last` times a power of
     /// two, and (b + 1)·h/last is at most n (`convolves` tells). A debug build also panics unless the
-    /// entries are below 4m. A release build doesn't test that, and outside it panics, or returns no
-    /// meaningful result.
+    /// entries are below 4m. A release build doesn't check this: if it doesn't hold, the call panics or its
+    /// result is unspecified.
     ///
     /// # Examples
     ///
@@ -209,8 +210,8 @@ impl<'a, T: PlainWord, F: PlanEntry<T>> Plan<'a, T, F> {
     /// # Panics
     ///
     /// Panics unless the lists have n entries (`fits` tells). A debug build also panics unless the entries
-    /// are below 4m. A release build doesn't test that, and outside it panics, or returns no meaningful
-    /// result.
+    /// are below 4m. A release build doesn't check this: if it doesn't hold, the call panics or its result
+    /// is unspecified.
     ///
     /// # Examples
     ///
@@ -238,8 +239,8 @@ impl<'a, T: PlainWord, F: PlanEntry<T>> Plan<'a, T, F> {
     /// # Panics
     ///
     /// Panics unless the lists have n entries (`fits` tells). A debug build also panics unless the entries
-    /// are below 4m. A release build doesn't test that, and outside it panics, or returns no meaningful
-    /// result.
+    /// are below 4m. A release build doesn't check this: if it doesn't hold, the call panics or its result
+    /// is unspecified.
     ///
     /// # Examples
     ///

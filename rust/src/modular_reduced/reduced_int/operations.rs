@@ -7,8 +7,8 @@ use crate::modular_reduced::reducer::Reducer;
 ///
 /// # Panics
 ///
-/// A debug build panics unless the moduli are equal. A release build doesn't test that, and outside it
-/// panics, or returns no meaningful result.
+/// A debug build panics unless the moduli are equal. A release build doesn't check this: if it doesn't
+/// hold, the call panics or its result is unspecified.
 #[inline]
 #[cfg_attr(debug_assertions, track_caller)]
 pub fn sum<T: PartialEq, R: Reducer<T>>(
@@ -36,8 +36,8 @@ pub fn sum_with<T, R: Reducer<T>>(x: ReducedInt<T, R>, n: T) -> ReducedInt<T, R>
 ///
 /// # Panics
 ///
-/// A debug build panics unless the moduli are equal. A release build doesn't test that, and outside it
-/// panics, or returns no meaningful result.
+/// A debug build panics unless the moduli are equal. A release build doesn't check this: if it doesn't
+/// hold, the call panics or its result is unspecified.
 #[inline]
 #[cfg_attr(debug_assertions, track_caller)]
 pub fn sum_assign<T: PartialEq, R: Reducer<T>>(x: &mut ReducedInt<T, R>, y: &ReducedInt<T, R>) {
@@ -56,8 +56,8 @@ pub fn sum_assign_with<T, R: Reducer<T>>(x: &mut ReducedInt<T, R>, n: T) {
 ///
 /// # Panics
 ///
-/// A debug build panics unless the moduli are equal. A release build doesn't test that, and outside it
-/// panics, or returns no meaningful result.
+/// A debug build panics unless the moduli are equal. A release build doesn't check this: if it doesn't
+/// hold, the call panics or its result is unspecified.
 #[inline]
 #[cfg_attr(debug_assertions, track_caller)]
 pub fn difference<T: PartialEq, R: Reducer<T>>(
@@ -88,8 +88,8 @@ pub fn difference_with<T, R: Reducer<T>>(
 ///
 /// # Panics
 ///
-/// A debug build panics unless the moduli are equal. A release build doesn't test that, and outside it
-/// panics, or returns no meaningful result.
+/// A debug build panics unless the moduli are equal. A release build doesn't check this: if it doesn't
+/// hold, the call panics or its result is unspecified.
 #[inline]
 #[cfg_attr(debug_assertions, track_caller)]
 pub fn difference_assign<T: PartialEq, R: Reducer<T>>(
@@ -111,8 +111,8 @@ pub fn difference_assign_with<T, R: Reducer<T>>(x: &mut ReducedInt<T, R>, n: T) 
 ///
 /// # Panics
 ///
-/// A debug build panics unless the moduli are equal. A release build doesn't test that, and outside it
-/// panics, or returns no meaningful result.
+/// A debug build panics unless the moduli are equal. A release build doesn't check this: if it doesn't
+/// hold, the call panics or its result is unspecified.
 #[inline]
 #[cfg_attr(debug_assertions, track_caller)]
 pub fn product<T: PartialEq, R: Reducer<T>>(
@@ -143,8 +143,8 @@ pub fn product_with<T, R: Reducer<T>>(
 ///
 /// # Panics
 ///
-/// A debug build panics unless the moduli are equal. A release build doesn't test that, and outside it
-/// panics, or returns no meaningful result.
+/// A debug build panics unless the moduli are equal. A release build doesn't check this: if it doesn't
+/// hold, the call panics or its result is unspecified.
 #[inline]
 #[cfg_attr(debug_assertions, track_caller)]
 pub fn product_assign<T: PartialEq, R: Reducer<T>>(
@@ -167,7 +167,8 @@ pub fn product_assign_with<T, R: Reducer<T>>(x: &mut ReducedInt<T, R>, n: T) {
 /// # Panics
 ///
 /// Panics unless the divisor has an inverse modulo m. A debug build also panics unless the moduli are
-/// equal. A release build doesn't test that, and outside it panics, or returns no meaningful result.
+/// equal. A release build doesn't check this: if it doesn't hold, the call panics or its result is
+/// unspecified.
 #[inline]
 #[cfg_attr(debug_assertions, track_caller)]
 pub fn quotient<T: PartialEq, R: Reducer<T>>(

@@ -30,7 +30,8 @@ pub type DoubleWord = u128;
 ///
 /// # Preconditions
 ///
-/// n is at most 64. This isn't tested: outside it the call panics, or returns no meaningful result.
+/// n is at most 64. This isn't checked: if it doesn't hold, the call panics or its result is
+/// unspecified.
 ///
 /// # Examples
 ///

@@ -51,6 +51,7 @@ fn fill_once<F: PlanEntry<u64>>(
 /// assert!(multiply_once::<Factor<u64>>(m, &[m - 1, m - 1], &[m - 1, m - 1], &mut out, &mut [], &mut []));
 /// assert_eq!(out, [1, 2, 1]);
 /// ```
+#[must_use]
 pub fn multiply_once<F: PlanEntry<u64>>(
     m: u64,
     xs: &[u64],
@@ -86,6 +87,7 @@ pub fn multiply_once<F: PlanEntry<u64>>(
 /// assert!(multiply_cyclic_once::<Factor<u64>>(100, &[1, 2, 3], &[4, 5, 6], &mut out, &mut [], &mut []));
 /// assert_eq!(out, [31, 31, 28]);
 /// ```
+#[must_use]
 pub fn multiply_cyclic_once<F: PlanEntry<u64>>(
     m: u64,
     xs: &[u64],
@@ -119,6 +121,7 @@ pub fn multiply_cyclic_once<F: PlanEntry<u64>>(
 /// assert!(multiply_negacyclic_once::<Factor<u64>>(100, &[1, 2, 3], &[4, 5, 6], &mut out, &mut [], &mut []));
 /// assert_eq!(out, [77, 95, 28]); // 4 - 27, 13 - 18 and 28
 /// ```
+#[must_use]
 pub fn multiply_negacyclic_once<F: PlanEntry<u64>>(
     m: u64,
     xs: &[u64],

@@ -95,7 +95,7 @@ impl<'a> System<'a> {
     /// Panics unless the moduli are those of the reducers (`has_moduli_of` tells), and for each modulus,
     /// each entry of `forms` has an input and room for a residue. A debug build also panics unless each
     /// register number is below the length of `forms` (`commands_fit` of `num_modular::ring` tells). A
-    /// release build doesn't test that, and outside it panics, or returns no meaningful result.
+    /// release build doesn't check this: if it doesn't hold, the call panics or its result is unspecified.
     ///
     /// # Examples
     ///

@@ -106,7 +106,7 @@ fn decode<T: RingWord, R: Reducer<T>>(
 ///
 /// Points and symbols are checked forms, each place has its symbol, k, the length of the message, is at
 /// least 1, the word has a place for each point, and there are 3·(s + k) + 2 places of scratch. This
-/// isn't tested: outside it the call panics, or returns no meaningful result.
+/// isn't checked: if it doesn't hold, the call panics or its result is unspecified.
 ///
 /// # Examples
 ///

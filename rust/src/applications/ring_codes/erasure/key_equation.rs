@@ -10,8 +10,8 @@ use crate::{Reducer, RingWord};
 ///
 /// # Preconditions
 ///
-/// Point, symbol and pair are checked forms, and the numerator is within the pair. This isn't tested:
-/// outside it the call panics, or returns no meaningful result.
+/// Point, symbol and pair are checked forms, and the numerator is within the pair. This isn't checked:
+/// if it doesn't hold, the call panics or its result is unspecified.
 #[inline]
 pub fn discrepancy<T: RingWord, R: Reducer<T>>(
     r: &R,
@@ -30,8 +30,8 @@ pub fn discrepancy<T: RingWord, R: Reducer<T>>(
 ///
 /// # Preconditions
 ///
-/// Point and coefficients are checked forms. This isn't tested: outside it the call panics, or returns
-/// no meaningful result.
+/// Point and coefficients are checked forms. This isn't checked: if it doesn't hold, the call panics or
+/// its result is unspecified.
 pub fn multiply_by_root<T: RingWord, R: Reducer<T>>(r: &R, point: &T, coefficients: &mut [T]) {
     let mut before = r.transform(T::zero());
     for entry in coefficients.iter_mut() {
@@ -46,8 +46,8 @@ pub fn multiply_by_root<T: RingWord, R: Reducer<T>>(r: &R, point: &T, coefficien
 ///
 /// # Preconditions
 ///
-/// All are checked forms, and the polynomials have as many coefficients. This isn't tested: outside it
-/// the call panics, or returns no meaningful result.
+/// All are checked forms, and the polynomials have as many coefficients. This isn't checked: if it
+/// doesn't hold, the call panics or its result is unspecified.
 pub fn eliminate<T: RingWord, R: Reducer<T>>(
     r: &R,
     a: &T,
@@ -66,8 +66,8 @@ pub fn eliminate<T: RingWord, R: Reducer<T>>(
 ///
 /// # Preconditions
 ///
-/// There is such a place. This isn't tested: outside it the call panics, or returns no meaningful
-/// result.
+/// There is such a place. This isn't checked: if it doesn't hold, the call panics or its result is
+/// unspecified.
 #[inline]
 pub fn set_unit<T: RingWord, R: Reducer<T>>(r: &R, place: usize, coefficients: &mut [T]) {
     let zero = r.transform(T::zero());
@@ -82,8 +82,8 @@ pub fn set_unit<T: RingWord, R: Reducer<T>>(r: &R, place: usize, coefficients: &
 ///
 /// # Preconditions
 ///
-/// Point and pair are checked forms, and the numerator is within the pair. This isn't tested: outside
-/// it the call panics, or returns no meaningful result.
+/// Point and pair are checked forms, and the numerator is within the pair. This isn't checked: if it
+/// doesn't hold, the call panics or its result is unspecified.
 #[inline]
 pub fn raise<T: RingWord, R: Reducer<T>>(r: &R, point: &T, pair: &mut [T], split: usize) {
     let (numerator, locator) = pair.split_at_mut(split);
@@ -97,7 +97,7 @@ pub fn raise<T: RingWord, R: Reducer<T>>(r: &R, point: &T, pair: &mut [T], split
 /// # Preconditions
 ///
 /// All are checked forms, p isn't 0, both pairs have as many coefficients, and the numerators are
-/// within them. This isn't tested: outside it the call panics, or returns no meaningful result.
+/// within them. This isn't checked: if it doesn't hold, the call panics or its result is unspecified.
 #[inline]
 pub fn reduce<T: RingWord, R: Reducer<T>>(
     r: &R,
@@ -124,7 +124,7 @@ pub fn reduce<T: RingWord, R: Reducer<T>>(
 /// # Preconditions
 ///
 /// All are checked forms, both pairs have as many coefficients, and the numerators are within them.
-/// This isn't tested: outside it the call panics, or returns no meaningful result.
+/// This isn't checked: if it doesn't hold, the call panics or its result is unspecified.
 pub fn advance<T: RingWord, R: Reducer<T>>(
     r: &R,
     point: &T,
@@ -186,8 +186,8 @@ pub fn advance<T: RingWord, R: Reducer<T>>(
 /// # Preconditions
 ///
 /// Points and symbols are checked forms, and each point has its symbol, and k is at least 1, and both
-/// numerators have `split` coefficients, the locators k - 1 fewer, but one at least. This isn't tested:
-/// outside it the call panics, or returns no meaningful result.
+/// numerators have `split` coefficients, the locators k - 1 fewer, but one at least. This isn't
+/// checked: if it doesn't hold, the call panics or its result is unspecified.
 pub fn solve<T: RingWord, R: Reducer<T>>(
     r: &R,
     points: &[T],

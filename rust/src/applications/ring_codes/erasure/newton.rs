@@ -6,8 +6,8 @@ use crate::{Reducer, RingWord};
 ///
 /// # Preconditions
 ///
-/// The points are checked forms, and there is a point at the place. This isn't tested: outside it the
-/// call panics, or returns no meaningful result.
+/// The points are checked forms, and there is a point at the place. This isn't checked: if it doesn't
+/// hold, the call panics or its result is unspecified.
 #[inline]
 pub fn differences_before<T: RingWord, R: Reducer<T>>(r: &R, points: &[T], place: usize) -> T {
     let mut product = r.transform(T::one());
@@ -23,8 +23,8 @@ pub fn differences_before<T: RingWord, R: Reducer<T>>(r: &R, points: &[T], place
 ///
 /// # Preconditions
 ///
-/// The points are checked forms, and there are as many points as weights or more. This isn't tested:
-/// outside it the call panics, or returns no meaningful result.
+/// The points are checked forms, and there are as many points as weights or more. This isn't checked:
+/// if it doesn't hold, the call panics or its result is unspecified.
 #[inline]
 pub fn fill_weights<T: RingWord, R: Reducer<T>>(r: &R, points: &[T], weights: &mut [T]) {
     for (i, entry) in weights.iter_mut().enumerate() {
@@ -37,7 +37,7 @@ pub fn fill_weights<T: RingWord, R: Reducer<T>>(r: &R, points: &[T], weights: &m
 /// # Preconditions
 ///
 /// Points, form and point are checked forms, and there are at least `count` points and coefficients.
-/// This isn't tested: outside it the call panics, or returns no meaningful result.
+/// This isn't checked: if it doesn't hold, the call panics or its result is unspecified.
 pub fn newton_value<T: RingWord, R: Reducer<T>>(
     r: &R,
     points: &[T],
@@ -62,7 +62,7 @@ pub fn newton_value<T: RingWord, R: Reducer<T>>(
 ///
 /// Points, inverses and values are checked forms, and there are as many points and inverses as values
 /// or more, and each inverse is that of the product of the point's differences from those before it.
-/// This isn't tested: outside it the call panics, or returns no meaningful result.
+/// This isn't checked: if it doesn't hold, the call panics or its result is unspecified.
 pub fn divide_differences<T: RingWord, R: Reducer<T>>(
     r: &R,
     points: &[T],
@@ -80,8 +80,8 @@ pub fn divide_differences<T: RingWord, R: Reducer<T>>(
 ///
 /// # Preconditions
 ///
-/// Point and values are checked forms, and there is a value at the place. This isn't tested: outside it
-/// the call panics, or returns no meaningful result.
+/// Point and values are checked forms, and there is a value at the place. This isn't checked: if it
+/// doesn't hold, the call panics or its result is unspecified.
 #[inline]
 pub fn subtract_multiples<T: RingWord, R: Reducer<T>>(
     r: &R,
@@ -100,7 +100,7 @@ pub fn subtract_multiples<T: RingWord, R: Reducer<T>>(
 /// # Preconditions
 ///
 /// Points and form are checked forms, and there are as many points as coefficients or more. This isn't
-/// tested: outside it the call panics, or returns no meaningful result.
+/// checked: if it doesn't hold, the call panics or its result is unspecified.
 #[inline]
 pub fn expand<T: RingWord, R: Reducer<T>>(r: &R, points: &[T], form: &mut [T]) {
     for k in 0..form.len() {

@@ -12,7 +12,8 @@ use crate::{Reducer, RingWord};
 ///
 /// # Preconditions
 ///
-/// g is a checked form. This isn't tested: outside it the call panics, or returns no meaningful result.
+/// g is a checked form. This isn't checked: if it doesn't hold, the call panics or its result is
+/// unspecified.
 ///
 /// # Examples
 ///
@@ -44,7 +45,7 @@ pub fn fill_powers<T: RingWord, R: Reducer<T>>(r: &R, g: &T, points: &mut [T]) {
 ///
 /// Panics unless n is a power of two, and g suits n (`root_fits` tells), and the message has at most n
 /// symbols. A debug build also panics unless g and the message are checked forms. A release build
-/// doesn't test that, and outside it panics, or returns no meaningful result.
+/// doesn't check this: if it doesn't hold, the call panics or its result is unspecified.
 ///
 /// # Examples
 ///
@@ -80,8 +81,8 @@ pub fn encode_by_transform<T: RingWord, R: Reducer<T>>(r: &R, g: &T, message: &[
 /// # Panics
 ///
 /// Panics unless the word has n places (`Plan::fits` tells), and the message has at most n symbols. A
-/// debug build also panics unless the symbols are below 4m. A release build doesn't test that, and
-/// outside it panics, or returns no meaningful result.
+/// debug build also panics unless the symbols are below 4m. A release build doesn't check this: if it
+/// doesn't hold, the call panics or its result is unspecified.
 ///
 /// # Examples
 ///

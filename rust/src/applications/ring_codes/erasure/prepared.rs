@@ -37,16 +37,16 @@ impl<'a, T: RingWord, R: Reducer<T>> PreparedCode<'a, T, R> {
     /// Fills the rows, t·k for k known and t wanted points, and returns the code. `None` exactly where the known points
     /// don't fit.
     ///
-    /// The contents of both
-    /// are ignored. It takes about 4·k² + 5·t·k products and one inversion.
+    /// The previous contents of
+    /// `rows` and `scratch` are ignored. It takes about 4·k² + 5·t·k products and one inversion.
     ///
     /// Source: Lagrange's form: Knuth, The Art of Computer Programming, volume 2, section 4.6.4.
     ///
     /// # Panics
     ///
     /// Panics unless there are t·k rows, and 2·k places of scratch. A debug build also panics unless the
-    /// points are checked forms. A release build doesn't test that, and outside it panics, or returns no
-    /// meaningful result.
+    /// points are checked forms. A release build doesn't check this: if it doesn't hold, the call panics or
+    /// its result is unspecified.
     ///
     /// # Examples
     ///
@@ -90,8 +90,8 @@ impl<'a, T: RingWord, R: Reducer<T>> PreparedCode<'a, T, R> {
     /// # Panics
     ///
     /// Panics unless there is a symbol for each known point, and a place for each wanted point. A debug
-    /// build also panics unless the symbols are checked forms. A release build doesn't test that, and
-    /// outside it panics, or returns no meaningful result.
+    /// build also panics unless the symbols are checked forms. A release build doesn't check this: if it
+    /// doesn't hold, the call panics or its result is unspecified.
     ///
     /// # Examples
     ///
@@ -123,8 +123,8 @@ impl<'a, T: RingWord, R: Reducer<T>> PreparedCode<'a, T, R> {
     /// # Panics
     ///
     /// Panics unless there is a symbol for each known point, and one for each wanted point. A debug build
-    /// also panics unless the symbols are checked forms. A release build doesn't test that, and outside it
-    /// panics, or returns no meaningful result.
+    /// also panics unless the symbols are checked forms. A release build doesn't check this: if it doesn't
+    /// hold, the call panics or its result is unspecified.
     ///
     /// # Examples
     ///

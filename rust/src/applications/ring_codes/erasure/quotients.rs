@@ -8,8 +8,8 @@ use crate::{Reducer, RingWord};
 ///
 /// # Preconditions
 ///
-/// Point, numerator and locator are checked forms. This isn't tested: outside it the call panics, or
-/// returns no meaningful result.
+/// Point, numerator and locator are checked forms. This isn't checked: if it doesn't hold, the call
+/// panics or its result is unspecified.
 pub fn quotient<T: RingWord, R: Reducer<T>>(
     r: &R,
     point: &T,
@@ -38,8 +38,8 @@ pub fn quotient<T: RingWord, R: Reducer<T>>(
 ///
 /// # Preconditions
 ///
-/// All are checked forms, and k is at least 1 and at most the number of points. This isn't tested:
-/// outside it the call panics, or returns no meaningful result.
+/// All are checked forms, and k is at least 1 and at most the number of points. This isn't checked: if
+/// it doesn't hold, the call panics or its result is unspecified.
 pub fn divide<T: RingWord, R: Reducer<T>>(
     r: &R,
     points: &[T],
@@ -73,7 +73,7 @@ pub fn divide<T: RingWord, R: Reducer<T>>(
 ///
 /// The conditions of `divide` hold, and the numerator is within the pair, and there are three places of
 /// scratch for each symbol of the message, whose contents are ignored, and the points fit. This isn't
-/// tested: outside it the call panics, or returns no meaningful result.
+/// checked: if it doesn't hold, the call panics or its result is unspecified.
 pub fn divide_pair<T: RingWord, R: Reducer<T>>(
     r: &R,
     points: &[T],
@@ -100,8 +100,8 @@ pub fn divide_pair<T: RingWord, R: Reducer<T>>(
 ///
 /// # Preconditions
 ///
-/// The conditions of `divide_pair` hold, for both pairs. This isn't tested: outside it the call panics,
-/// or returns no meaningful result.
+/// The conditions of `divide_pair` hold, for both pairs. This isn't checked: if it doesn't hold, the
+/// call panics or its result is unspecified.
 #[inline]
 pub fn divide_lighter<T: RingWord, R: Reducer<T>>(
     r: &R,

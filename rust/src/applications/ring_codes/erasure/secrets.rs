@@ -47,7 +47,7 @@ fn have_inverses<T: RingWord, R: Reducer<T>>(r: &R, points: &[T]) -> bool {
 /// # Preconditions
 ///
 /// Points and coefficients are checked forms, and `shares` has a place for each point. This isn't
-/// tested: outside it the call panics, or returns no meaningful result.
+/// checked: if it doesn't hold, the call panics or its result is unspecified.
 ///
 /// # Examples
 ///
@@ -85,8 +85,8 @@ pub fn share<T: RingWord, R: Reducer<T>>(
 /// # Preconditions
 ///
 /// Points and shares are checked forms, each place has its share, k is at least 1, and there are k
-/// weights and room for k points in `chosen`. This isn't tested: outside it the call panics, or returns
-/// no meaningful result.
+/// weights and room for k points in `chosen`. This isn't checked: if it doesn't hold, the call panics
+/// or its result is unspecified.
 ///
 /// # Examples
 ///
@@ -128,8 +128,8 @@ pub fn recover<T: RingWord, R: Reducer<T>>(
 /// # Preconditions
 ///
 /// Points and shares are checked forms, each place has its share, k is at least 1, `word` has a place
-/// for each point, and there are 3·(s + k) + 2 places of scratch. This isn't tested: outside it the
-/// call panics, or returns no meaningful result.
+/// for each point, and there are 3·(s + k) + 2 places of scratch. This isn't checked: if it doesn't
+/// hold, the call panics or its result is unspecified.
 ///
 /// # Examples
 ///

@@ -7,8 +7,8 @@ use crate::{Reducer, RingWord};
 ///
 /// # Preconditions
 ///
-/// The list has so many. This isn't tested: outside it the call panics, or returns no meaningful
-/// result.
+/// The list has so many. This isn't checked: if it doesn't hold, the call panics or its result is
+/// unspecified.
 #[inline]
 pub fn index_of(places: &[usize], count: usize, place: usize) -> Option<usize> {
     (0..count).find(|&j| places[j] == place)
@@ -44,8 +44,8 @@ fn fill_word<T: RingWord, R: Reducer<T>>(
 /// # Preconditions
 ///
 /// Points and symbols are checked forms, each place has its symbol, there are k weights, k being at
-/// most the number of points, and the word has a place for each point. This isn't tested: outside it
-/// the call panics, or returns no meaningful result.
+/// most the number of points, and the word has a place for each point. This isn't checked: if it
+/// doesn't hold, the call panics or its result is unspecified.
 ///
 /// # Examples
 ///
