@@ -2,7 +2,12 @@
 //! computations here call proved functions.
 
 use crate::applications::ring_codes::erasure::{CorrectError, RestoreError, ShareError};
-use crate::{ModularInteger, ReducedInt, Reducer};
+use crate::modular_folds::folds::FoldedWord;
+use crate::modular_folds::rings::{FoldModulus, FoldRing};
+use crate::modular_monty::odd_ring::{OddModulus, OddRing};
+use crate::modular_prim::reducer_word::ReducerWord;
+use crate::modular_word::path_word::PathWord;
+use crate::{ModularInteger, PlainWord, PreModInv, ReducedInt, Reducer};
 use core::fmt;
 use core::hash::{Hash, Hasher};
 use core::iter::{Product, Sum};
@@ -59,6 +64,35 @@ impl<T: PartialEq + Clone, R: Reducer<T> + Clone> DivAssign<&Self> for ReducedIn
         *self = self.clone() / rhs;
     }
 }
+
+// Reducers of one type are equal where their moduli are, of which they are made.
+macro_rules! equal {
+    ($($ring:ty, [$($parameters:tt)*];)*) => {$(
+        impl<$($parameters)*> PartialEq for $ring {
+            fn eq(&self, other: &Self) -> bool {
+                self.modulus() == other.modulus()
+            }
+        }
+
+        impl<$($parameters)*> Eq for $ring {}
+    )*};
+}
+
+equal! {
+    crate::Vanilla<T>, [T: PlainWord];
+    crate::Montgomery<T>, [T: ReducerWord];
+    OddRing<T, M>, [T: ReducerWord, M: OddModulus<T>];
+    FoldRing<T, M>, [T: FoldedWord + ReducerWord, M: FoldModulus<T>];
+}
+
+impl<T: PathWord> PartialEq for PreModInv<T> {
+    /// Whether the divisors are equal: each has an inverse of its own.
+    fn eq(&self, other: &Self) -> bool {
+        self.d_inv == other.d_inv
+    }
+}
+
+impl<T: PathWord> Eq for PreModInv<T> {}
 
 impl Default for crate::applications::lattice_rings::ml_dsa::Ring {
     fn default() -> Self {

@@ -28,7 +28,18 @@ fn fixed_reducers_hold_nothing() {
 fn constants_of_const_functions() {
     const BY_SEVEN: PreModInv<u8> = PreModInv::<u8>::new(183, 36);
     let made: PreModInv<u8> = 7u8.into();
-    assert_eq!(format!("{BY_SEVEN:?}"), format!("{made:?}"));
+    assert_eq!(BY_SEVEN, made);
+}
+
+#[test]
+fn equal_reducers() {
+    assert_eq!(Vanilla::<u8>::new(&7), Vanilla::<u8>::new(&7));
+    assert_ne!(Vanilla::<u8>::new(&7), Vanilla::<u8>::new(&9));
+    assert_eq!(Montgomery::<u64>::new(12), Montgomery::<u64>::new(12));
+    assert_ne!(Montgomery::<u64>::new(12), Montgomery::<u64>::new(3));
+    assert_eq!(FixedMontgomery32::<7>::new(&7), FixedMontgomery32::<7>::RING);
+    assert_eq!(FixedMersenne64::<61, 1>::RING, FixedMersenne64::<61, 1>::new(&FixedMersenne64::<61, 1>::MODULUS));
+    assert_ne!(PreModInv::<u8>::from(7), PreModInv::<u8>::from(9));
 }
 
 #[test]
