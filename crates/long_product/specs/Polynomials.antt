@@ -2,7 +2,7 @@
 use Rattle.std.specs.Prelude.{◌≡◌, ℕ, ◌+◌, ◌-◌, ◌*◌, ◌%◌, ◌<◌, ◌≤◌, List, slice_index}
 use Rattle.num_modular.specs.Sums.{sum_below}
 use Rattle.long_product.specs.Room.{HasRoomFrom}
-use Rattle.long_product.specs.declared.primes.TheConstants.{FIRST, SECOND}
+use Rattle.long_product.specs.declared.primes.TheConstants.{FIRST_PRIME, SECOND_PRIME}
 use Rattle.long_product.specs.declared.polynomials.TheConstants.{LEAST_TRANSFORMED}
 
 -- coefficient e of the product of two polynomials: the sum of x i * y j over i + j = e
@@ -22,8 +22,8 @@ folded_entry m c n xs ys e = (product_sum xs ys e + c * product_sum xs ys (e + n
 pub record ArePrimesFor (count : ℕ) (xs ys : List ℕ) : Type 0 where
   pub some : 1 ≤ count
   pub most : count ≤ 3
-  pub one : count ≡ 1 → (e : ℕ) → product_sum xs ys e < FIRST
-  pub two : count ≡ 2 → (e : ℕ) → product_sum xs ys e < FIRST * SECOND
+  pub one : count ≡ 1 → (e : ℕ) → product_sum xs ys e < FIRST_PRIME
+  pub two : count ≡ 2 → (e : ℕ) → product_sum xs ys e < FIRST_PRIME * SECOND_PRIME
 
 -- m is a modulus, and a list has one place for each coefficient of the product of polynomials with so many: one fewer
 -- than both have together, and none where one has none

@@ -4,7 +4,7 @@ ghost use Rattle.std.specs.Prelude.{◌≡◌, ℕ, ◌+◌, ◌*◌, ◌%◌, �
 ghost use Rattle.long_product.specs.Residues.{HasResidues};
 
 use crate::garner::Garner;
-use crate::primes::{FIRST, SECOND, THIRD};
+use crate::primes::{FIRST_PRIME, SECOND_PRIME, THIRD_PRIME};
 use crate::reciprocal::{reciprocal_of, remainder};
 use num_modular::{PreMulInv2by1, Reducer};
 
@@ -16,14 +16,14 @@ pub fn primes_for(terms: usize, x: u64, y: u64) -> usize
     requires few { terms ≤ 2 ^ 32 }
     ensures some { 1 ≤ result }
     ensures most { result ≤ 3 }
-    ensures one { result ≡ 1 → terms * (x * y) < FIRST }
-    ensures two { result ≡ 2 → terms * (x * y) < FIRST * SECOND }
+    ensures one { result ≡ 1 → terms * (x * y) < FIRST_PRIME }
+    ensures two { result ≡ 2 → terms * (x * y) < FIRST_PRIME * SECOND_PRIME }
 {
     let product = x as u128 * y as u128;
     let terms = terms as u128;
-    if product <= (FIRST as u128 - 1) / terms {
+    if product <= (FIRST_PRIME as u128 - 1) / terms {
         1
-    } else if product <= (FIRST as u128 * SECOND as u128 - 1) / terms {
+    } else if product <= (FIRST_PRIME as u128 * SECOND_PRIME as u128 - 1) / terms {
         2
     } else {
         3
@@ -54,21 +54,21 @@ impl Remainders {
         ensures modulus { ⟦<PreMulInv2by1<u64> as Reducer<u64>>⟧.modulus result.by ≡ m }
     {
         let by = reciprocal_of(m);
-        let first = remainder(&by, FIRST as u128);
+        let first = remainder(&by, FIRST_PRIME as u128);
         Remainders {
             garner: Garner::for_primes(),
             by,
             count,
             first,
-            both: remainder(&by, first as u128 * SECOND as u128),
+            both: remainder(&by, first as u128 * SECOND_PRIME as u128),
         }
     }
 
     // The number with these residues, modulo the modulus.
     fn remainder(&self, first: u64, second: u64, third: u64) -> u64
-        requires first { first < FIRST }
-        requires second { 2 ≤ self.now.count → second < SECOND }
-        requires third { 3 ≤ self.now.count → third < THIRD }
+        requires first { first < FIRST_PRIME }
+        requires second { 2 ≤ self.now.count → second < SECOND_PRIME }
+        requires third { 3 ≤ self.now.count → third < THIRD_PRIME }
         ensures value { (x : ℕ) → HasResidues self.now.count x first second third
             → result ≡ x % ⟦<PreMulInv2by1<u64> as Reducer<u64>>⟧.modulus self.now.by }
         ensures below { result < ⟦<PreMulInv2by1<u64> as Reducer<u64>>⟧.modulus self.now.by }
@@ -90,9 +90,9 @@ impl Remainders {
     ) -> u64
         requires seconds { length seconds.now ≡ length firsts.now }
         requires thirds { length thirds.now ≡ length firsts.now }
-        requires first { All (λ x. x < FIRST) firsts.now }
-        requires second { 2 ≤ self.now.count → All (λ x. x < SECOND) seconds.now }
-        requires third { 3 ≤ self.now.count → All (λ x. x < THIRD) thirds.now }
+        requires first { All (λ x. x < FIRST_PRIME) firsts.now }
+        requires second { 2 ≤ self.now.count → All (λ x. x < SECOND_PRIME) seconds.now }
+        requires third { 3 ≤ self.now.count → All (λ x. x < THIRD_PRIME) thirds.now }
         requires within { e < length firsts.now }
         requires past { 0 < c → e + n < length firsts.now }
         ensures { let count = self.now.count in (x y : ℕ) → HasResidues count x (slice_index firsts.now e)
@@ -125,9 +125,9 @@ pub fn write_folded(
     requires modulus { 1 ≤ m }
     requires seconds { length seconds.now ≡ length firsts.now }
     requires thirds { length thirds.now ≡ length firsts.now }
-    requires first { All (λ x. x < FIRST) firsts.now }
-    requires second { 2 ≤ count → All (λ x. x < SECOND) seconds.now }
-    requires third { 3 ≤ count → All (λ x. x < THIRD) thirds.now }
+    requires first { All (λ x. x < FIRST_PRIME) firsts.now }
+    requires second { 2 ≤ count → All (λ x. x < SECOND_PRIME) seconds.now }
+    requires third { 3 ≤ count → All (λ x. x < THIRD_PRIME) thirds.now }
     requires places { length out.old ≤ length firsts.now }
     requires past { 0 < c → 2 * length out.old ≤ length firsts.now }
     ensures { let n = length out.old in (e x y : ℕ) → e < n →

@@ -77,13 +77,13 @@ pub fn hash(base: Hash, text: &[u8]) -> Hash
 /// # Examples
 ///
 /// ```
-/// use num_modular::hashes::{base, hash, moved};
+/// use num_modular::hashes::{base, hash, roll};
 ///
 /// let base = base(1000);
 /// let window = hash(base, &[1, 2, 3]);
-/// assert_eq!(moved(base, base.pow(&3), window, 1, 4), hash(base, &[2, 3, 4]));
+/// assert_eq!(roll(base, base.pow(&3), window, 1, 4), hash(base, &[2, 3, 4]));
 /// ```
-pub fn moved(base: Hash, power: Hash, window: Hash, first: u8, next: u8) -> Hash
+pub fn roll(base: Hash, power: Hash, window: Hash, first: u8, next: u8) -> Hash
     ensures value { let m = mersenne 61 1 in residue_of result
         ≡ residue m (pos ((residue_of window * residue_of base + next) % m) -ℤ pos ((residue_of power * first) % m)) }
     ensures hash { (old moved : List ℕ) → old ++ (next ∷ []) ≡ first ∷ moved →
@@ -97,7 +97,7 @@ pub fn moved(base: Hash, power: Hash, window: Hash, first: u8, next: u8) -> Hash
 }
 
 /// Whether the pattern occurs in the text at a position, given its hash, `wanted`, and that of the window there, both by
-/// one base (`hash`, `moved`). The bytes are compared only where the two are equal. Conditions: the text has as many bytes
+/// one base (`hash`, `roll`). The bytes are compared only where the two are equal. Conditions: the text has as many bytes
 /// from the position on as the pattern; the hashes are equal if the pattern occurs there.
 ///
 /// Source: Karp and Rabin, "Efficient randomized pattern-matching algorithms".
@@ -154,7 +154,7 @@ pub fn find(base: Hash, text: &[u8], pattern: &[u8]) -> Option<usize>
         if is_hit(wanted, window, text, pattern, at) {
             return Some(at);
         }
-        window = moved(base, power, window, text[at], text[at + length]);
+        window = roll(base, power, window, text[at], text[at + length]);
     }
     if is_hit(wanted, window, text, pattern, last) {
         Some(last)

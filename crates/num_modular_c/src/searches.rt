@@ -10,7 +10,7 @@ ghost use Rattle.num_modular_c.specs.Codes.{Did, BothRefused};
 use crate::codes::{NM_BAD_ARGUMENT, NM_OK};
 use mersenne_hash::prefixes::are_pattern_lengths;
 use num_modular::ModularInteger;
-use num_modular::hashes::{Hash, base, hash, moved};
+use num_modular::hashes::{Hash, base, hash, roll};
 
 // Writes the hash of each pattern.
 fn write_hashes(base: Hash, patterns: &[u8], size: usize, hashes: &mut [u64])
@@ -72,7 +72,7 @@ fn next_window(base: Hash, power: Hash, window: Hash, text: &[u8], at: usize, si
         ≡ hash_of (slice_range text.now (at + 1) (at + 1 + size)) (residue_of base) }
 {
     if at < text.len() && size < text.len() - at {
-        moved(base, power, window, text[at], text[at + size])
+        roll(base, power, window, text[at], text[at + size])
     } else {
         window
     }

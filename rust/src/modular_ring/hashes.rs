@@ -65,20 +65,20 @@ pub fn hash(base: Hash, text: &[u8]) -> Hash {
 /// # Examples
 ///
 /// ```
-/// use num_modular::hashes::{base, hash, moved};
+/// use num_modular::hashes::{base, hash, roll};
 ///
 /// let base = base(1000);
 /// let window = hash(base, &[1, 2, 3]);
-/// assert_eq!(moved(base, base.pow(&3), window, 1, 4), hash(base, &[2, 3, 4]));
+/// assert_eq!(roll(base, base.pow(&3), window, 1, 4), hash(base, &[2, 3, 4]));
 /// ```
 #[inline]
-pub fn moved(base: Hash, power: Hash, window: Hash, first: u8, next: u8) -> Hash {
+pub fn roll(base: Hash, power: Hash, window: Hash, first: u8, next: u8) -> Hash {
     let longer = window * base + next as u64;
     longer - power * first as u64
 }
 
 /// Whether the pattern occurs in the text at a position, given its hash, `wanted`, and that of the window there, both by
-/// one base (`hash`, `moved`). The bytes are compared only where the two are equal.
+/// one base (`hash`, `roll`). The bytes are compared only where the two are equal.
 ///
 /// Source: Karp and Rabin, "Efficient randomized pattern-matching algorithms".
 ///
@@ -137,7 +137,7 @@ pub fn find(base: Hash, text: &[u8], pattern: &[u8]) -> Option<usize> {
         if is_hit(wanted, window, text, pattern, at) {
             return Some(at);
         }
-        window = moved(base, power, window, text[at], text[at + length]);
+        window = roll(base, power, window, text[at], text[at + length]);
     }
     if is_hit(wanted, window, text, pattern, last) {
         Some(last)

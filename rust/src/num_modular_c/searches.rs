@@ -3,7 +3,7 @@
 use crate::num_modular_c::codes::{NM_BAD_ARGUMENT, NM_OK};
 use crate::applications::mersenne_hash::prefixes::are_pattern_lengths;
 use crate::ModularInteger;
-use crate::hashes::{Hash, base, hash, moved};
+use crate::hashes::{Hash, base, hash, roll};
 
 // Writes the hash of each pattern.
 #[inline]
@@ -51,7 +51,7 @@ fn first_window(base: Hash, text: &[u8], size: usize) -> Hash {
 #[inline]
 fn next_window(base: Hash, power: Hash, window: Hash, text: &[u8], at: usize, size: usize) -> Hash {
     if at < text.len() && size < text.len() - at {
-        moved(base, power, window, text[at], text[at + size])
+        roll(base, power, window, text[at], text[at + size])
     } else {
         window
     }

@@ -6,7 +6,7 @@ use super::assert_at;
 use mersenne_hash::prefixes::{Patterns, PrefixHashes, are_pattern_lengths};
 use mersenne_hash::{length_hash, same_hashes};
 use num_modular::ModularInteger;
-use num_modular::hashes::{Hash, base, find, hash, is_hit, moved};
+use num_modular::hashes::{Hash, base, find, hash, is_hit, roll};
 
 // A text, a pattern, and the first position where it occurs.
 const SEARCHES: &[(&[u8], &[u8], Option<usize>)] = &[
@@ -79,7 +79,7 @@ fn residue_of(n: u64, text: &[u8], is_moved: bool) -> u64 {
     let base = base(n);
     let mut window = hash(base, text);
     if is_moved {
-        window = moved(base, base.pow(&11), window, b'a', b'a');
+        window = roll(base, base.pow(&11), window, b'a', b'a');
     }
     window.residue()
 }

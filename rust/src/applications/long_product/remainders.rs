@@ -1,7 +1,7 @@
 //! Numbers below the product of some of the three primes, from their residues, modulo any m of up to 64 bits.
 
 use crate::applications::long_product::garner::Garner;
-use crate::applications::long_product::primes::{FIRST, SECOND};
+use crate::applications::long_product::primes::{FIRST_PRIME, SECOND_PRIME};
 use crate::applications::long_product::reciprocal::{reciprocal_of, remainder};
 use crate::PreMulInv2by1;
 
@@ -16,9 +16,9 @@ use crate::PreMulInv2by1;
 pub fn primes_for(terms: usize, x: u64, y: u64) -> usize {
     let product = x as u128 * y as u128;
     let terms = terms as u128;
-    if product <= (FIRST as u128 - 1) / terms {
+    if product <= (FIRST_PRIME as u128 - 1) / terms {
         1
-    } else if product <= (FIRST as u128 * SECOND as u128 - 1) / terms {
+    } else if product <= (FIRST_PRIME as u128 * SECOND_PRIME as u128 - 1) / terms {
         2
     } else {
         3
@@ -40,13 +40,13 @@ impl Remainders {
     #[inline]
     fn modulo(count: usize, m: u64) -> Self {
         let by = reciprocal_of(m);
-        let first = remainder(&by, FIRST as u128);
+        let first = remainder(&by, FIRST_PRIME as u128);
         Remainders {
             garner: Garner::for_primes(),
             by,
             count,
             first,
-            both: remainder(&by, first as u128 * SECOND as u128),
+            both: remainder(&by, first as u128 * SECOND_PRIME as u128),
         }
     }
 

@@ -18,7 +18,7 @@ windows-preserved c =
     let room : n ≤ length (drop at text) = omega (arith, length-drop at text) in
     let count : length (take n (drop at text)) ≡ n = length-take-le n (drop at text) room in
     record {
-      hashed = c.moved-window.ensures.hash (take n (drop at text)) (take n (drop (at + 1) text))
+      hashed = c.roll-window.ensures.hash (take n (drop at text)) (take n (drop (at + 1) text))
           (window_moves n at text inside)
           c.windows.invariant.hashed
           (c.pow-power.ensures.residue ∙ ap (λ k. residue_of c.args.base ^ k % mersenne 61 1) (sym count));

@@ -15,7 +15,7 @@ returns-then-size-text c within =
     let inside : at + n < length text = omega (arith, within) in
     let room : n ≤ length (drop at text) = omega (arith, length-drop at text, inside) in
     let count : length (take n (drop at text)) ≡ n = length-take-le n (drop at text) room in
-    c.moved.ensures.hash (take n (drop at text)) (take n (drop (at + 1) text)) (window_moves n at text inside)
+    c.roll.ensures.hash (take n (drop at text)) (take n (drop (at + 1) text)) (window_moves n at text inside)
     (c.requires.window (omega (arith, inside)) ∙ ap (λ s. hash_of s x) (window_is n at text))
     (c.requires.power ∙ ap (λ k. x ^ k % mersenne 61 1) (sym count))
     ∙ ap (λ s. hash_of s x) (sym (window_is n (at + 1) text))

@@ -4,7 +4,7 @@ use super::assert_at;
 use crate::applications::mersenne_hash::prefixes::{Patterns, PrefixHashes, are_pattern_lengths};
 use crate::applications::mersenne_hash::{length_hash, same_hashes};
 use crate::ModularInteger;
-use crate::hashes::{Hash, base, find, hash, is_hit, moved};
+use crate::hashes::{Hash, base, find, hash, is_hit, roll};
 
 // A text, a pattern, and the first position where it occurs.
 const SEARCHES: &[(&[u8], &[u8], Option<usize>)] = &[
@@ -78,7 +78,7 @@ fn residue_of(n: u64, text: &[u8], is_moved: bool) -> u64 {
     let base = base(n);
     let mut window = hash(base, text);
     if is_moved {
-        window = moved(base, base.pow(&11), window, b'a', b'a');
+        window = roll(base, base.pow(&11), window, b'a', b'a');
     }
     window.residue()
 }

@@ -2,7 +2,7 @@ use Rattle.std.proofs.Common.{◌≡◌, ℕ, ◌+◌, ◌*◌, ◌%◌, ◌<◌
 use Rattle.modular_reduced.specs.Integers.{residue_of}
 use Rattle.modular_folds.specs.Mersenne.{mersenne}
 use Rattle.modular_ring.proofs.Windows.{residue_moved}
-use Rattle.modular_ring.proofs.hashes.moved.Goals as goal
+use Rattle.modular_ring.proofs.hashes.roll.Goals as goal
 
 pub returns-clause-hash : goal.returns-clause-hash
 returns-clause-hash c old new same window_is power_is =
