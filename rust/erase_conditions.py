@@ -53,7 +53,7 @@ LOOKS = {
     "debug_assert!(xs.iter().all(|x| x.is_below(m.modulus)));": "products.multiply",
     "debug_assert!(crate::additions::are_factors(m, xs.len(), table, b, last));":
     "split.split join.join join.join_scaled convolution.convolve_block products.multiply",
-    "debug_assert!(crate::additions::is_factor(m, w));": "join.join_scaled",
+    "debug_assert!(crate::modular_plan_transforms::filled::are_factors(m.modulus, core::slice::from_ref(w)));": "join.join_scaled",
     "assert!(self.fits(xs.len()));": "plan/calls.transform plan/calls.inverse",
     "assert!(self.splits(xs.len(), b, last));": "plan/calls.split plan/calls.join",
     "debug_assert!(xs.iter().all(|x| self.modulus.has_room(*x)));":

@@ -210,7 +210,7 @@ pub fn join_scaled<T: PlainWord, F: PlanEntry<T>>(
     assert!(crate::plans::splits(xs.len(), table.len(), b, last), "the number of entries must be `last` times a power of two, and the table must have (b + 1)·count/2 entries or more: {} entries, {} factors, b = {}, last = {}", xs.len(), table.len(), b, last);
     crate::additions::expect_filled(m, table);
     debug_assert!(crate::additions::are_factors(m, xs.len(), table, b, last), "the table's entries must be factors modulo m");
-    debug_assert!(crate::additions::is_factor(m, w), "w must be a factor modulo m");
+    debug_assert!(crate::modular_plan_transforms::filled::are_factors(m.modulus, core::slice::from_ref(w)), "w must be a factor modulo m");
     match RoomyModulus::new(m) {
         Some(roomy) => join_scaled_by(&roomy, xs, table, b, last, w),
         None => join_scaled_by(m, xs, table, b, last, w),
