@@ -1,9 +1,10 @@
-//! What stands on the library, each proved in its field's own words: short examples (`examples`), hashes, numbers by
-//! their residues, check symbols and erasure codes, products of long numbers (where a usize has 64 bits), and the rings
-//! of FIPS 204 and 203. Nothing is said of constant time.
+//! What stands on the library, each proved in its field's own words: hashes, numbers by their residues, check symbols and
+//! erasure codes, products of long numbers (where a usize has 64 bits), and the rings of FIPS 204 and 203. Nothing is
+//! said of constant time.
 
 #[cfg(target_pointer_width = "64")]
 pub mod long_product;
+#[doc(hidden)]
 pub mod examples;
 pub mod check_digits;
 pub mod ring_codes;
