@@ -9,6 +9,7 @@ BOUNDS = "T : RingWord , R : Reducer < T > + Copy"
 TAKEN = (  # what Rattle writes and Rust doesn't need
     ("final fn", "fn"),
     ("Result < Self , AllocError > { Ok ( * self ) }", "Self {\n        *self\n    }"),
+    ("Result < Self , AllocError > { Ok ( Plan { $fields.. } ) }", "Self {\n        *self\n    }"),
     ("use std :: alloc :: AllocError ;", ""),
     (". clone ( ) ?", ".clone()"),
     ("# [ derive ( Drop ) ] pub struct", "#[derive(Debug)]\npub struct"),

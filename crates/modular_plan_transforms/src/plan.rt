@@ -1,6 +1,6 @@
 //! A plan for transforms as one value: a modulus, a root and the table of its powers.
 
-ghost use Rattle.std.specs.Prelude.{◌≡◌, ℕ, ◌+◌, ◌-◌, ◌*◌, ◌/◌, ◌%◌, ◌^◌, ◌<◌, ◌≤◌, ◌↔◌, IsTrue, length, take, MatchOption};
+ghost use Rattle.std.specs.Prelude.{◌≡◌, ℕ, ◌+◌, ◌-◌, ◌*◌, ◌/◌, ◌%◌, ◌^◌, ◌<◌, ◌≤◌, ◌↔◌, IsTrue, length, take, MatchOption, ⊤};
 ghost use Rattle.std.specs.Int.{IsPowerOfTwo};
 ghost use Rattle.modular_transform.specs.Orders.{bits_reversed};
 ghost use Rattle.modular_transform.specs.Transforms.{Suits};
@@ -22,6 +22,7 @@ use modular_plan_passes::plan::plan;
 use modular_prim::plain_word::PlainWord;
 use modular_word::path_word::PathWord;
 use modular_word::ring_word::RingWord;
+use std::alloc::AllocError;
 
 /// A plan for transforms of n = 2^bits entries: an odd modulus m, a root g that suits n, and the table of the n/2
 /// factors of its powers, which the caller owns.
@@ -40,7 +41,7 @@ use modular_word::ring_word::RingWord;
 /// plan.inverse(&mut entries);
 /// assert_eq!(entries, [1, 2, 3, 4]);
 /// ```
-#[derive(Drop)]
+#[derive(Debug)]
 pub struct Plan<'a, T: PathWord, F: PlanEntry<T>> {
     modulus: PlannedModulus<T>,
     root: T,
@@ -57,6 +58,23 @@ pub struct Plan<'a, T: PathWord, F: PlanEntry<T>> {
     pub ghost powers: { (k : ℕ) → k < length table.now
         → numbers F.value table.now k ≡ T.number root ^ bits_reversed (bits - 1) k % T.number modulus.modulus },
 }
+
+impl<'a, T: PathWord, F: PlanEntry<T>> Clone for Plan<'a, T, F> {
+    ghost is_clone = { λ x y. (y.modulus ≡ x.modulus) × (y.root ≡ x.root) × (y.bits ≡ x.bits) × (y.table ≡ x.table) };
+
+    ghost is_infallible = { λ _. ⊤ };
+
+    fn clone(&self) -> Result<Self, AllocError> {
+        Ok(Plan {
+            modulus: self.modulus,
+            root: self.root,
+            bits: self.bits,
+            table: self.table,
+        })
+    }
+}
+
+impl<'a, T: PathWord, F: PlanEntry<T>> Copy for Plan<'a, T, F> {}
 
 impl<'a, T: PlainWord, F: PlanEntry<T>> Plan<'a, T, F> {
     /// Fills the table with the plan by g for n entries, n being twice the length of the table, and returns it. `None`

@@ -10,6 +10,7 @@ use crate::modular_barrett::planned::PlannedModulus;
 use crate::modular_plan_passes::entry::PlanEntry;
 use crate::modular_plan_passes::plan::plan;
 use crate::modular_prim::plain_word::PlainWord;
+use crate::modular_word::path_word::PathWord;
 
 /// A plan for transforms of n = 2^bits entries: an odd modulus m, a root g that suits n, and the table of the n/2
 /// factors of its powers, which the caller owns.
@@ -36,6 +37,15 @@ pub struct Plan<'a, T, F> {
     bits: u32,
     table: &'a [F],
 }
+
+impl<'a, T: PathWord, F: PlanEntry<T>> Clone for Plan<'a, T, F> {
+    #[inline]
+    fn clone(&self) -> Self {
+        *self
+    }
+}
+
+impl<'a, T: PathWord, F: PlanEntry<T>> Copy for Plan<'a, T, F> {}
 
 impl<'a, T: PlainWord, F: PlanEntry<T>> Plan<'a, T, F> {
     /// Fills the table with the plan by g for n entries, n being twice the length of the table, and returns it. `None`
