@@ -255,6 +255,25 @@ impl<'a, T: PlainWord, F: PlanEntry<T>> Plan<'a, T, F> {
         self.root
     }
 
+    /// The number n of entries, twice the length of the table. Where no `usize` holds it, which takes a table of entries
+    /// without a size, it is the greatest `usize`.
+    ///
+    /// # Examples
+    ///
+    /// ```
+    /// use num_modular::plans::{Factor, Plan, PlannedModulus};
+    ///
+    /// let mut table = [Factor::<u64>::ZERO; 2];
+    /// let plan = Plan::new(&PlannedModulus::<u64>::new(17), 4, &mut table).unwrap();
+    /// assert_eq!(plan.length(), 4);
+    /// ```
+    pub fn length(&self) -> usize
+        ensures entries { 2 ^ self.now.bits < 2 ^ 64 → result ≡ 2 ^ self.now.bits }
+        ensures greatest { 2 ^ 64 ≤ 2 ^ self.now.bits → result ≡ 2 ^ 64 - 1 }
+    {
+        self.table.len().saturating_mul(2)
+    }
+
     /// The binary logarithm of the number n of entries.
     ///
     /// # Examples

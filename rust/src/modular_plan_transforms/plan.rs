@@ -208,6 +208,23 @@ impl<'a, T: PlainWord, F: PlanEntry<T>> Plan<'a, T, F> {
         self.root
     }
 
+    /// The number n of entries, twice the length of the table. Where no `usize` holds it, which takes a table of entries
+    /// without a size, it is the greatest `usize`.
+    ///
+    /// # Examples
+    ///
+    /// ```
+    /// use num_modular::plans::{Factor, Plan, PlannedModulus};
+    ///
+    /// let mut table = [Factor::<u64>::ZERO; 2];
+    /// let plan = Plan::new(&PlannedModulus::<u64>::new(17), 4, &mut table).unwrap();
+    /// assert_eq!(plan.length(), 4);
+    /// ```
+    #[inline]
+    pub fn length(&self) -> usize {
+        self.table.len().saturating_mul(2)
+    }
+
     /// The binary logarithm of the number n of entries.
     ///
     /// # Examples

@@ -306,7 +306,7 @@ const TABLES: &[Table] = &[
         is: false },
 ];
 
-// Whether the row's table is a plan, with this modulus, root and number of entries; its factors get room.
+// Whether the row's table is a plan, with this modulus, root and number of entries, and so is a copy; its factors get room.
 fn is_plan_over(row: &Table, table: &mut [Factor<u64>]) -> bool {
     if !PlannedModulus::<u64>::admits(row.m) || row.entries.len() > table.len() {
         return false;
@@ -317,9 +317,13 @@ fn is_plan_over(row: &Table, table: &mut [Factor<u64>]) -> bool {
     }
     let m = PlannedModulus::<u64>::new(row.m);
     match Plan::with_table(&m, row.root, &table[..row.entries.len()]) {
-        Some(plan) => plan.modulus() == m
-            && plan.root() == row.root
-            && plan.fits(2 * row.entries.len()),
+        Some(plan) => {
+            let copy = plan;
+            plan.modulus() == m
+                && plan.root() == row.root
+                && plan.fits(2 * row.entries.len())
+                && copy.length() == 2 * row.entries.len()
+        }
         None => false,
     }
 }
