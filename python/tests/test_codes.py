@@ -71,8 +71,9 @@ def test_errors():
             call({0: 1, -1: 2, 1: 3}, 3)
         with pytest.raises(TypeError):
             call([1.0, 2, 3], 3)
-    with pytest.raises(ValueError):
-        code.correct(word, 0)
+    for call in (code.correct, code.recover, code.recover_correct):
+        with pytest.raises(ValueError, match="k must be at least 1"):
+            call(word, 0)
     for m, fault in ((0, ValueError), (2**64, OverflowError), (-3, OverflowError)):
         with pytest.raises(fault):
             ErasureCode(m, [1])

@@ -119,16 +119,22 @@ def test_roots_and_lengths():
         Montgomery(97).ntt([1, 2, 3, 4], 5)
     with pytest.raises(NoRootError):
         Montgomery(97).ntt([])
-    with pytest.raises(NoInverseError):
+    with pytest.raises(NoRootError, match="5 doesn't suit 4 words"):
+        Montgomery(97).convolve([1, 2, 3, 4], [5, 6, 7, 8], 5)
+    with pytest.raises(NoInverseError, match="2 has no inverse modulo 4"):
         Montgomery(4).convolve([1, 2], [3, 0], 3)
+    with pytest.raises(ValueError, match="4 and 2 words"):
+        Montgomery(97).convolve([1, 2, 3, 4], [5, 6])
     for m, n, root in ((97, 3, None), (97, 8, 5), (97, 64, None)):
         with pytest.raises(NoRootError):
             Plan(m, n, root)
+    with pytest.raises(NoRootError, match="5 doesn't suit 8 words"):
+        Plan(97, 8, 5)
     for m, n in ((97, 1), (0, 4), ((1 << 62) + 1, 2)):
         with pytest.raises(ValueError):
             Plan(m, n)
     for call in (Plan(20, 2, 19).intt, Plan(20, 2, 19).join):
-        with pytest.raises(NoInverseError):
+        with pytest.raises(NoInverseError, match="2 has no inverse modulo 20"):
             call([7, 9])
     plan = Plan(97, 4)
     for call in (plan.ntt, plan.intt, plan.split, plan.join):

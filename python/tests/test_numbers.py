@@ -17,6 +17,8 @@ def test_products():
             assert (product(a, b), product(-a, b), product(a, -b), product(-a, -b)) == (a * b, -a * b, -a * b, a * b)
     n = (1 << 60000) - 1
     assert product(n, n) == n * n
+    with pytest.raises(TypeError):
+        product(1.5, 2)
 
 
 def test_polynomials():
@@ -53,6 +55,8 @@ def test_hashes():
             want = (want * base + it) % HASHED
         assert polynomial_hash(data, base) == polynomial_hash(bytearray(data), base) == want
     assert polynomial_hash(b"ab", -1) == (ord("b") - ord("a")) % HASHED
+    words = array.array("H", [0x6261, 0x6463])
+    assert polynomial_hash(words, 1000) == polynomial_hash(words.tobytes(), 1000)
 
 
 def test_search():
@@ -61,6 +65,7 @@ def test_search():
         text = bytes(draw.choice(b"ab") for _ in range(draw.randrange(60)))
         pattern = bytes(draw.choice(b"ab") for _ in range(draw.randrange(6)))
         assert find(text, pattern) == find(text, pattern, 0) == find(text, pattern, 1000) == text.find(pattern)
+    assert find(array.array("H", [0x6161] * 9 + [0x6262]), b"bb") == 18
 
 
 def test_residue_systems():

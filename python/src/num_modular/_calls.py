@@ -89,6 +89,16 @@ def apart(first: Any, second: Any) -> None:
         raise ValueError("the arrays must not overlap")
 
 
+def pair_of(xs: Any, ys: Any, m: int) -> tuple[Any, Any, bool]:
+    """The words of two arrays or sequences of one length, and whether the first are new."""
+    first, is_new = words_of(xs, m)
+    second, _ = words_of(ys, m)
+    apart(first, second)
+    if len(first) != len(second):
+        raise ValueError(f"the lists have {len(first)} and {len(second)} words")
+    return first, second, is_new
+
+
 def read_only(words: Iterable[int]) -> Any:
     """New words with these numbers."""
     return ffi.new("uint64_t[]", list(words))

@@ -21,6 +21,12 @@ class Correction(NamedTuple):
     errors: int
 
 
+def _expect_some(k: int) -> None:
+    """Raises an exception where a message has no symbols."""
+    if k < 1:
+        raise ValueError("k must be at least 1")
+
+
 class ErasureCode:
     """Reed-Solomon codes modulo m, from 1 to 2^64 - 1, and Shamir's secret sharing, at points that are numbers modulo m.
 
@@ -84,12 +90,14 @@ class ErasureCode:
         """The only message of k symbols, at least 1, whose word differs in e of the s symbols that aren't lost, where 2 * e is
         at most s - k; with that word, and e.
 
-        TooFewSymbolsError: s is below k. TooManyErrorsError: no word is that near. PointsError: the points of the symbols
-        don't fit. NoInverseError: a number without an inverse modulo m was met, which is its `number`; never for a prime m.
+        ValueError: k is below 1. TooFewSymbolsError: s is below k. TooManyErrorsError: no word is that near. PointsError: the
+        points of the symbols don't fit. NoInverseError: a number without an inverse modulo m was met, which is its `number`;
+        never for a prime m.
 
         >>> ErasureCode(929, range(7)).correct([1, 0, 17, 34, 57, 900, 121], 3)
         Correction(message=[1, 2, 3], word=[1, 6, 17, 34, 57, 86, 121], errors=2)
         """
+        _expect_some(k)
         places, symbols = self._received(word)
         n, s = len(self._points), len(places)
         message, found = ffi.new("uint64_t[]", k), ffi.new("uint64_t[]", n)
@@ -115,8 +123,7 @@ class ErasureCode:
         >>> ErasureCode(2**61 - 1, range(1, 6)).recover({0: shares[0], 4: shares[4], 2: shares[2]}, 3)
         1234567
         """
-        if k < 1:
-            raise ValueError("k must be at least 1")
+        _expect_some(k)
         drawn = (secrets.randbelow(self.modulus) for _ in range(k - 1))
         return self._encoded(lib.nm_erasure_share, [secret, *drawn])
 
@@ -126,8 +133,7 @@ class ErasureCode:
         >>> ErasureCode(97, [1, 2, 3]).recover([15, None, 35], 2)
         5
         """
-        if k < 1:
-            raise ValueError("k must be at least 1")
+        _expect_some(k)
         return self.restore(shares, k)[0]
 
     def recover_correct(self, shares: Symbols, k: int) -> int:

@@ -24,7 +24,7 @@ def product(a: int, b: int) -> int:
     >>> product(-2**100, 3) == -3 * 2**100
     True
     """
-    (xs, n), (ys, k) = _digits(abs(a)), _digits(abs(b))
+    (xs, n), (ys, k) = _digits(abs(index(a))), _digits(abs(index(b)))
     words, factors = ffi.new("size_t *"), ffi.new("size_t *")
     check(lib.nm_product_room(n, k, words, factors), "the numbers are too long")
     digits = bytearray((n + k) * _WORD)
@@ -63,8 +63,8 @@ def polynomial_hash(data: bytes, base: int) -> int:
     >>> polynomial_hash(b"abc", 1000)
     97098099
     """
-    out = ffi.new("uint64_t *")
-    check(lib.nm_hash(reduced(base, _HASHED), ffi.from_buffer("uint8_t[]", data), len(data), out))
+    read, out = ffi.from_buffer("uint8_t[]", data), ffi.new("uint64_t *")
+    check(lib.nm_hash(reduced(base, _HASHED), read, len(read), out))
     return out[0]
 
 
@@ -78,7 +78,7 @@ def find(text: bytes, pattern: bytes, base: int | None = None) -> int:
     base = secrets.randbelow(_HASHED) if base is None else reduced(base, _HASHED)
     out = ffi.new("size_t *")
     first, second = ffi.from_buffer("uint8_t[]", text), ffi.from_buffer("uint8_t[]", pattern)
-    code = lib.nm_find(base, first, len(text), second, len(pattern), out)
+    code = lib.nm_find(base, first, len(first), second, len(second), out)
     if code == lib.NM_NOT_FOUND:
         return -1
     check(code)

@@ -4,7 +4,7 @@ from __future__ import annotations
 from collections.abc import Iterable, Sequence
 from typing import Any
 
-from num_modular._calls import NoInverseError, apart, check, reduced, words_of
+from num_modular._calls import NoInverseError, NoRootError, check, pair_of, reduced, words_of
 from num_modular._library import ffi, lib
 from num_modular._words import invm
 
@@ -109,10 +109,7 @@ class Montgomery:
         >>> Montgomery(17).ntt([1, 2, 3, 4], 4)
         [10, 7, 15, 6]
         """
-        words, is_new = words_of(xs, self.modulus)
-        root = self.find_root(len(words)) if root is None else reduced(root, self.modulus)
-        check(lib.nm_montgomery_ntt(self._context, words, len(words), root), f"{root} doesn't suit {len(words)} words")
-        return list(words) if is_new else xs
+        return self._in_place(lib.nm_montgomery_ntt, xs, root)
 
     def convolve(self, xs: Any, ys: Any, root: int | None = None) -> Any:
         """The cyclic product of two lists of n words: entry e is the sum of x_i * y_j modulo m over i + j = e or e + n. An
@@ -122,11 +119,8 @@ class Montgomery:
         >>> Montgomery(97).convolve([1, 2, 3, 0], [4, 5, 0, 0])
         [4, 13, 22, 15]
         """
-        first, is_new = words_of(xs, self.modulus)
-        second, _ = words_of(ys, self.modulus)
-        apart(first, second)
-        root = self.find_root(len(first)) if root is None else reduced(root, self.modulus)
-        check(lib.nm_montgomery_convolve(self._context, first, len(first), second, len(second), root))
+        first, second, is_new = pair_of(xs, ys, self.modulus)
+        self._transform(lib.nm_montgomery_convolve, root, first, second)
         return list(first) if is_new else xs
 
     def run(self, registers: Any, commands: Iterable[Sequence[Any]]) -> Any:
@@ -150,6 +144,18 @@ class Montgomery:
             raise fault
         check(code, "a register doesn't exist")
         return result
+
+    def _in_place(self, call: Any, xs: Any, root: int | None) -> Any:
+        words, is_new = words_of(xs, self.modulus)
+        self._transform(call, root, words)
+        return list(words) if is_new else xs
+
+    def _transform(self, call: Any, root: int | None, *lists: Any) -> None:
+        """Changes lists of one length by the root, or raises the exception of the call's code."""
+        n = len(lists[0])
+        root = self.find_root(n) if root is None else reduced(root, self.modulus)
+        code = call(self._context, *(part for it in lists for part in (it, len(it))), root)
+        check(code, f"{n} has no inverse modulo {self.modulus}" if code == lib.NM_NO_INVERSE else f"{root} doesn't suit {n} words")
 
     def _command(self, words: Sequence[Any]) -> dict[str, int]:
         name, *numbers = words
@@ -181,11 +187,12 @@ class Plan:
         if not 1 <= m <= 1 << 62:
             raise ValueError("the modulus must be from 1 to 2^62")
         root = Montgomery(m).find_root(n) if root is None else reduced(root, m)
+        fault = f"{root} doesn't suit {n} words"
         if n % 2:
-            check(lib.NM_NO_ROOT)
+            raise NoRootError(fault)
         # The plan points to the table, which lives as long as this object, and is never handed out.
         self._table, self._plan = ffi.new("nm_factor_t[]", n // 2), ffi.new("nm_plan_t *")
-        check(lib.nm_plan_make(m, root, self._table, n // 2, self._plan))
+        check(lib.nm_plan_make(m, root, self._table, n // 2, self._plan), fault)
 
     def __repr__(self) -> str:
         return f"Plan({self.modulus}, {self.length}, {self.root})"
@@ -263,15 +270,12 @@ class Plan:
         return list(words) if is_new else xs
 
     def _product(self, call: Any, xs: Any, ys: Any) -> Any:
-        first, is_new = words_of(xs, self.modulus)
-        second, _ = words_of(ys, self.modulus)
-        apart(first, second)
-        if len(first) != len(second):
-            raise ValueError(f"the lists have {len(first)} and {len(second)} words")
+        first, second, is_new = pair_of(xs, ys, self.modulus)
         self._check(call(self._plan, first, len(first), second, len(second)), first)
         return list(first) if is_new else xs
 
     def _check(self, code: int, words: Any) -> None:
-        """Raises the exception of a code; a precondition is on the length, or on the words."""
+        """Raises the exception of a code; a precondition is on the length, or on the words. A number of words or of remainders
+        is a power of two, which has an inverse where 2 has one."""
         fault = f"{len(words)} words don't fit the plan for {self.length}, or one of them isn't below {4 * self.modulus}"
-        check(code, fault if code == lib.NM_BAD_ARGUMENT else "")
+        check(code, f"2 has no inverse modulo {self.modulus}" if code == lib.NM_NO_INVERSE else fault)
