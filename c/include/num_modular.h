@@ -197,6 +197,10 @@ NM_CHECK uint32_t nm_montgomery_find_root(const nm_montgomery_t *context, size_t
  * NM_NO_ROOT: the root doesn't suit n. */
 NM_CHECK uint32_t nm_montgomery_ntt(const nm_montgomery_t *context, uint64_t *xs, size_t xs_length, uint64_t root);
 
+/* Undoes nm_montgomery_ntt: replaces the n words by those whose transform by the root they are. NM_NO_ROOT: the root
+ * doesn't suit n. NM_NO_INVERSE: n has no inverse modulo m. */
+NM_CHECK uint32_t nm_montgomery_intt(const nm_montgomery_t *context, uint64_t *xs, size_t xs_length, uint64_t root);
+
 /* Replaces the first list by the cyclic product of both: entry e is the sum of x_i * y_j modulo m over all i + j = e or
  * e + n. The second list is replaced by its transform by the root. NM_BAD_ARGUMENT: the lengths differ. NM_NO_ROOT: the
  * root doesn't suit n. NM_NO_INVERSE: n has no inverse modulo m. */
@@ -240,6 +244,7 @@ NM_CHECK uint32_t nm_montgomery_run(const nm_montgomery_t *context, uint64_t *re
 NM_CHECK uint32_t nm_solinas_root_fits(uint64_t root, size_t length);
 NM_CHECK uint32_t nm_solinas_find_root(size_t length, uint64_t *root);
 NM_CHECK uint32_t nm_solinas_ntt(uint64_t *xs, size_t xs_length, uint64_t root);
+NM_CHECK uint32_t nm_solinas_intt(uint64_t *xs, size_t xs_length, uint64_t root);
 NM_CHECK uint32_t nm_solinas_convolve(uint64_t *xs, size_t xs_length, uint64_t *ys, size_t ys_length, uint64_t root);
 
 /* --- Transforms and products by a plan, modulo m from 1 to 2^62. ---

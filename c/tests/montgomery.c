@@ -66,6 +66,7 @@ static void bad_context_rows(const nm_montgomery_t *ring) {
     LIST(NM_BAD_CONTEXT, xs, nm_montgomery_run(ring, xs, 2, &load, 1, &done), 1, 2);
     row("a run with a bad context writes no number", done == 77, NM_BAD_CONTEXT);
     LIST(NM_BAD_CONTEXT, xs, nm_montgomery_ntt(ring, xs, 2, 1), 1, 2);
+    LIST(NM_BAD_CONTEXT, xs, nm_montgomery_intt(ring, xs, 2, 1), 1, 2);
     LIST(NM_BAD_CONTEXT, xs, nm_montgomery_convolve(ring, xs, 2, ys, 2, 1), 1, 2);
     LIST(NM_BAD_CONTEXT, ys, nm_montgomery_convolve(ring, xs, 2, ys, 2, 1), 3, 4);
 }

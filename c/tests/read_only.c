@@ -82,6 +82,9 @@ static void list_refusals(const nm_montgomery_t *ring, const nm_montgomery_t *ch
     REFUSES(NM_BAD_CONTEXT, nm_montgomery_find_root(changed, 2, words));
     REFUSES(NM_NO_ROOT, nm_montgomery_ntt(ring, words, 2, 3));
     REFUSES(NM_BAD_CONTEXT, nm_montgomery_ntt(changed, words, 2, 19));
+    REFUSES(NM_NO_ROOT, nm_montgomery_intt(ring, words, 2, 3));
+    REFUSES(NM_NO_INVERSE, nm_montgomery_intt(ring, words, 2, 19));
+    REFUSES(NM_BAD_CONTEXT, nm_montgomery_intt(changed, words, 2, 19));
     REFUSES(NM_BAD_ARGUMENT, nm_montgomery_convolve(ring, words, 2, others, 1, 19));
     REFUSES(NM_NO_ROOT, nm_montgomery_convolve(ring, words, 2, others, 2, 3));
     REFUSES(NM_NO_INVERSE, nm_montgomery_convolve(ring, words, 2, others, 2, 19));
@@ -90,6 +93,7 @@ static void list_refusals(const nm_montgomery_t *ring, const nm_montgomery_t *ch
     REFUSES(NM_BAD_CONTEXT, nm_montgomery_run(changed, words, 2, commands, 1, done));
     REFUSES(NM_NO_ROOT, nm_solinas_find_root(3, words));
     REFUSES(NM_NO_ROOT, nm_solinas_ntt(words, 8, 7));
+    REFUSES(NM_NO_ROOT, nm_solinas_intt(words, 8, 7));
     REFUSES(NM_BAD_ARGUMENT, nm_solinas_convolve(words, 8, others, 4, NM_SOLINAS - 1));
     REFUSES(NM_NO_ROOT, nm_solinas_convolve(words, 8, others, 8, 7));
 }

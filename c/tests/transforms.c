@@ -32,6 +32,7 @@ static void list_rows(void) {
     nm_montgomery_t ring;
     uint64_t two[2] = {7, 9}, one[2] = {1, 0}, three[3] = {1, 2, 3};
     uint64_t xs[4] = {1, 2, 3, 4}, ys[4] = {0, 1, 0, 0}, us[4] = {1, 2, 3, 4}, vs[4] = {86, 1, 0, 0};
+    uint64_t sums[4] = {10, 7, 15 + 17 * UINT64_C(1000), 6};
     CODE(NM_OK, nm_montgomery(20, &ring));
     LIST(NM_NO_INVERSE, two, nm_montgomery_convolve(&ring, two, 2, one, 2, 19), 7, 9);
     LIST(NM_NO_INVERSE, one, nm_montgomery_convolve(&ring, two, 2, one, 2, 19), 1, 0);
@@ -39,6 +40,10 @@ static void list_rows(void) {
     LIST(NM_OK, two, nm_montgomery_ntt(&ring, two, 2, 19), 16, 18);
     LIST(NM_NO_ROOT, three, nm_montgomery_ntt(&ring, three, 3, 19), 1, 2, 3);
     CODE(NM_NO_ROOT, nm_montgomery_ntt(&ring, NULL, 0, 19));
+    LIST(NM_NO_INVERSE, two, nm_montgomery_intt(&ring, two, 2, 19), 16, 18);
+    LIST(NM_NO_ROOT, two, nm_montgomery_intt(&ring, two, 2, 3), 16, 18);
+    LIST(NM_NO_ROOT, three, nm_montgomery_intt(&ring, three, 3, 19), 1, 2, 3);
+    CODE(NM_NO_ROOT, nm_montgomery_intt(&ring, NULL, 0, 19));
     CODE(NM_NO_ROOT, nm_montgomery_convolve(&ring, NULL, 0, NULL, 0, 19));
     CODE(NM_OK, nm_montgomery(17, &ring));
     LIST(NM_BAD_ARGUMENT, xs, nm_montgomery_convolve(&ring, xs, 4, ys, 2, 4), 1, 2, 3, 4);
@@ -46,9 +51,12 @@ static void list_rows(void) {
     LIST(NM_NO_ROOT, ys, nm_montgomery_convolve(&ring, xs, 4, ys, 4, 3), 0, 1, 0, 0);
     LIST(NM_OK, xs, nm_montgomery_convolve(&ring, xs, 4, ys, 4, 4), 4, 1, 2, 3);
     LIST(NM_OK, ys, NM_OK, 1, 4, 16, 13);
+    LIST(NM_OK, ys, nm_montgomery_intt(&ring, ys, 4, 4), 0, 1, 0, 0);
+    LIST(NM_OK, sums, nm_montgomery_intt(&ring, sums, 4, 21), 1, 2, 3, 4);
     CODE(NM_OK, nm_montgomery(85, &ring));
     LIST(NM_OK, us, nm_montgomery_convolve(&ring, us, 4, vs, 4, 98), 5, 3, 5, 7);
     LIST(NM_OK, vs, NM_OK, 2, 14, 0, 73);
+    LIST(NM_OK, vs, nm_montgomery_intt(&ring, vs, 4, 13), 1, 1, 0, 0);
 }
 
 static void solinas_rows(void) {
@@ -57,20 +65,27 @@ static void solinas_rows(void) {
     LIST(NM_NO_ROOT, xs, nm_solinas_ntt(xs, 7, root), 1, 2, 3, 0, 0, 0, 0, 0);
     LIST(NM_NO_ROOT, xs, nm_solinas_convolve(xs, 8, ys, 8, 7), 1, 2, 3, 0, 0, 0, 0, 0);
     LIST(NM_BAD_ARGUMENT, ys, nm_solinas_convolve(xs, 8, ys, 4, root), 4, 5, 0, 0, 0, 0, 0, 0);
+    LIST(NM_NO_ROOT, xs, nm_solinas_intt(xs, 8, 7), 1, 2, 3, 0, 0, 0, 0, 0);
+    LIST(NM_NO_ROOT, xs, nm_solinas_intt(xs, 7, root), 1, 2, 3, 0, 0, 0, 0, 0);
     CODE(NM_NO_ROOT, nm_solinas_ntt(NULL, 0, root));
+    CODE(NM_NO_ROOT, nm_solinas_intt(NULL, 0, root));
     CODE(NM_NO_ROOT, nm_solinas_convolve(NULL, 0, NULL, 0, root));
     LIST(NM_OK, xs, nm_solinas_convolve(xs, 8, ys, 8, root), 4, 13, 22, 15, 0, 0, 0, 0);
+    LIST(NM_OK, ys, nm_solinas_intt(ys, 8, root), 4, 5, 0, 0, 0, 0, 0, 0);
 }
 
-/* the transform of 2^20 ones: their number, and then zeros */
+/* the transform of 2^20 ones: their number, and then zeros; and back */
 static void long_row(void) {
-    size_t n = 1048576, zeros = 0;
+    size_t n = 1048576, zeros = 0, ones = 0;
     uint64_t *xs = malloc(n * sizeof *xs);
     if (xs == NULL) return;
     for (size_t i = 0; i < n; i++) xs[i] = 1;
     CODE(NM_OK, nm_solinas_ntt(xs, n, UINT64_C(3511170319078647661)));
     for (size_t i = 1; i < n; i++) zeros += xs[i] == 0;
     row("2^20 ones", xs[0] == n && zeros == n - 1, NM_OK);
+    CODE(NM_OK, nm_solinas_intt(xs, n, UINT64_C(3511170319078647661)));
+    for (size_t i = 0; i < n; i++) ones += xs[i] == 1;
+    row("2^20 ones again", ones == n, NM_OK);
     free(xs);
 }
 

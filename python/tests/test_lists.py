@@ -31,6 +31,7 @@ def test_transforms_and_products(m):
         assert (plan.modulus, plan.length, ring.modulus) == (m, n, m)
         assert plan.ntt(xs) == ring.ntt(xs) == ring.ntt(xs, plan.root - m) == transform(xs, plan.root, m)
         assert plan.intt(transform(xs, plan.root, m)) == Plan(m, 2 * n).intt(Plan(m, 2 * n).ntt(xs)) == xs
+        assert ring.intt(transform(xs, plan.root, m)) == ring.intt([it - m for it in ring.ntt(xs)], plan.root - m) == xs
         assert plan.convolve(xs, ys) == ring.convolve(xs, ys) == product(xs, ys, m, 1)
         assert plan.convolve_negacyclic(xs, ys) == product(xs, ys, m, -1)
         assert Plan(m, 2 * n).convolve(xs, ys) == product(xs, ys, m, 1)
@@ -120,9 +121,13 @@ def test_roots_and_lengths():
     with pytest.raises(NoRootError):
         Montgomery(97).ntt([])
     with pytest.raises(NoRootError, match="5 doesn't suit 4 words"):
+        Montgomery(97).intt([1, 2, 3, 4], 5)
+    with pytest.raises(NoRootError, match="5 doesn't suit 4 words"):
         Montgomery(97).convolve([1, 2, 3, 4], [5, 6, 7, 8], 5)
     with pytest.raises(NoInverseError, match="2 has no inverse modulo 4"):
         Montgomery(4).convolve([1, 2], [3, 0], 3)
+    with pytest.raises(NoInverseError, match="2 has no inverse modulo 20"):
+        Montgomery(20).intt([7, 9], 19)
     with pytest.raises(ValueError, match="4 and 2 words"):
         Montgomery(97).convolve([1, 2, 3, 4], [5, 6])
     for m, n, root in ((97, 3, None), (97, 8, 5), (97, 64, None)):

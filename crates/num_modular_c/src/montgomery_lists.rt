@@ -8,13 +8,13 @@ ghost use Rattle.num_modular.specs.Transforms.{Suits, transform};
 ghost use Rattle.num_modular_c.specs.Codes.{Did, Refused, BothRefused};
 ghost use Rattle.num_modular_c.specs.Commands.{ring_command_of, residues_of, IsAdmittedBy, IsRunTo};
 ghost use Rattle.num_modular_c.specs.Contexts.{IsMontgomery};
-ghost use Rattle.num_modular_c.specs.Transforms.{residues, IsConvolution};
+ghost use Rattle.num_modular_c.specs.Transforms.{residues, IsInverseTransform, IsConvolution};
 
 use crate::codes::{NM_BAD_ARGUMENT, NM_BAD_CONTEXT, NM_NO_INVERSE, NM_NO_ROOT, NM_OK};
 use crate::commands::NmCommand;
 use crate::montgomery::{NmMontgomery, reducer};
 use crate::runs::carry_out;
-use crate::transforms::{found_root, multiplied, root_code, transformed};
+use crate::transforms::{found_root, multiplied, root_code, transformed, transformed_back};
 
 /// Whether the root suits lists of n = `length` words: n is a power of two, and for n above 1 the root to the
 /// power n/2 is -1 modulo m. `NM_NO_ROOT`: it doesn't. `NM_BAD_CONTEXT`: the context isn't one that
@@ -69,6 +69,28 @@ pub extern "C" fn nm_montgomery_ntt(context: &NmMontgomery, xs: &mut [u64], root
 {
     match reducer(context) {
         Some(ring) => transformed(&ring, xs, root),
+        None => NM_BAD_CONTEXT,
+    }
+}
+
+/// Undoes `nm_montgomery_ntt`: replaces the words by the residues modulo m whose transform by the root they are. `NM_NO_ROOT`:
+/// the root doesn't suit the length. `NM_NO_INVERSE`: the length has no inverse modulo m. `NM_BAD_CONTEXT`: as for
+/// `nm_montgomery_root_fits`.
+#[unsafe(no_mangle)]
+pub extern "C" fn nm_montgomery_intt(context: &NmMontgomery, xs: &mut [u64], root: u64) -> u32
+    ensures did { let m = context.now.modulus in let n = length xs.old in
+        IsMontgomery context.now → Suits m (root % m) n → HasInverse m n → Did result
+        (IsInverseTransform m (root % m) n (residues m xs.old) (slice_index xs.new)) }
+    ensures no_inverse { let m = context.now.modulus in let n = length xs.old in
+        IsMontgomery context.now → Suits m (root % m) n → (HasInverse m n → ⊥)
+        → Refused NM_NO_INVERSE result xs.old xs.new }
+    ensures no_root { let m = context.now.modulus in
+        IsMontgomery context.now → (Suits m (root % m) (length xs.old) → ⊥)
+        → Refused NM_NO_ROOT result xs.old xs.new }
+    ensures bad_context { (IsMontgomery context.now → ⊥) → Refused NM_BAD_CONTEXT result xs.old xs.new }
+{
+    match reducer(context) {
+        Some(ring) => transformed_back(&ring, xs, root),
         None => NM_BAD_CONTEXT,
     }
 }

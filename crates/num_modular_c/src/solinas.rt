@@ -5,10 +5,10 @@ ghost use Rattle.modular_transform.specs.Roots.{root_by, IsFirstBase};
 ghost use Rattle.num_modular.specs.Inverses.{HasInverse};
 ghost use Rattle.num_modular.specs.Transforms.{Suits, transform};
 ghost use Rattle.num_modular_c.specs.Codes.{Did, Refused, BothRefused};
-ghost use Rattle.num_modular_c.specs.Transforms.{residues, IsConvolution};
+ghost use Rattle.num_modular_c.specs.Transforms.{residues, IsInverseTransform, IsConvolution};
 
 use crate::codes::{NM_BAD_ARGUMENT, NM_NO_INVERSE, NM_NO_ROOT, NM_OK};
-use crate::transforms::{found_root, multiplied, root_code, transformed};
+use crate::transforms::{found_root, multiplied, root_code, transformed, transformed_back};
 use num_modular::{FixedTrinomialSolinas64, Reducer};
 
 /// The prime 2^64 - 2^32 + 1.
@@ -53,6 +53,22 @@ pub extern "C" fn nm_solinas_ntt(xs: &mut [u64], root: u64) -> u32
         → Refused NM_NO_ROOT result xs.old xs.new }
 {
     transformed(&solinas(), xs, root)
+}
+
+/// Undoes `nm_solinas_ntt`: replaces the words by the residues modulo 2^64 - 2^32 + 1 whose transform by the root they are.
+/// `NM_NO_ROOT`: the root doesn't suit the length. `NM_NO_INVERSE`: the length has no inverse.
+#[unsafe(no_mangle)]
+pub extern "C" fn nm_solinas_intt(xs: &mut [u64], root: u64) -> u32
+    ensures did { let g = root % NM_SOLINAS in let n = length xs.old in
+        Suits NM_SOLINAS g n → HasInverse NM_SOLINAS n → Did result
+        (IsInverseTransform NM_SOLINAS g n (residues NM_SOLINAS xs.old) (slice_index xs.new)) }
+    ensures no_inverse { let n = length xs.old in
+        Suits NM_SOLINAS (root % NM_SOLINAS) n → (HasInverse NM_SOLINAS n → ⊥)
+        → Refused NM_NO_INVERSE result xs.old xs.new }
+    ensures no_root { (Suits NM_SOLINAS (root % NM_SOLINAS) (length xs.old) → ⊥)
+        → Refused NM_NO_ROOT result xs.old xs.new }
+{
+    transformed_back(&solinas(), xs, root)
 }
 
 /// Replaces the first list by the cyclic product of both lists modulo 2^64 - 2^32 + 1, and the second by its

@@ -5,13 +5,13 @@ ghost use Rattle.modular_transform.specs.Roots.{root_by, IsFirstBase};
 ghost use Rattle.num_modular.specs.Inverses.{HasInverse};
 ghost use Rattle.num_modular.specs.Transforms.{Suits, transform};
 ghost use Rattle.num_modular_c.specs.Codes.{Did, Refused, BothRefused};
-ghost use Rattle.num_modular_c.specs.Transforms.{residues, IsConvolution};
+ghost use Rattle.num_modular_c.specs.Transforms.{residues, IsInverseTransform, IsConvolution};
 
 use crate::codes::{NM_BAD_ARGUMENT, NM_NO_INVERSE, NM_NO_ROOT, NM_OK};
 use crate::lists::{load, unload};
 use modular_transform::roots::find_root;
 use num_modular::Reducer;
-use num_modular::ring::{convolve, ntt, root_fits};
+use num_modular::ring::{convolve, intt, ntt, root_fits};
 
 // The code that says whether the root suits lists of n words.
 pub(crate) fn root_code<R: Reducer<u64>>(r: &R, root: u64, n: usize) -> u32
@@ -68,6 +68,29 @@ fn has_inverse<R: Reducer<u64>>(r: &R, n: usize) -> bool
         Some(_) => true,
         None => false,
     }
+}
+
+// Undoes `transformed`.
+pub(crate) fn transformed_back<R: Reducer<u64>>(r: &R, xs: &mut [u64], root: u64) -> u32
+    ensures did { let m = R.modulus r.now in let n = length xs.old in Suits m (root % m) n → HasInverse m n → Did result
+        (IsInverseTransform m (root % m) n (residues m xs.old) (slice_index xs.new)) }
+    ensures no_inverse { let m = R.modulus r.now in let n = length xs.old in
+        Suits m (root % m) n → (HasInverse m n → ⊥) → Refused NM_NO_INVERSE result xs.old xs.new }
+    ensures no_root { let m = R.modulus r.now in
+        (Suits m (root % m) (length xs.old) → ⊥) → Refused NM_NO_ROOT result xs.old xs.new }
+{
+    let g = r.transform(root);
+    if !root_fits(r, &g, xs.len()) {
+        return NM_NO_ROOT;
+    }
+    // `intt` tests this too, when the words are forms already.
+    if !has_inverse(r, xs.len()) {
+        return NM_NO_INVERSE;
+    }
+    load(r, xs);
+    let _always = intt(r, xs, &g);
+    unload(r, xs);
+    NM_OK
 }
 
 // Replaces the first list by the cyclic product of both lists, and the second by its transform.

@@ -111,6 +111,15 @@ class Montgomery:
         """
         return self._in_place(lib.nm_montgomery_ntt, xs, root)
 
+    def intt(self, xs: Any, root: int | None = None) -> Any:
+        """Undoes `ntt` by the same root. NoRootError: the root doesn't suit n. NoInverseError: n has no inverse modulo m, as any
+        n above 1 where m is even.
+
+        >>> Montgomery(17).intt([10, 7, 15, 6], 4)
+        [1, 2, 3, 4]
+        """
+        return self._in_place(lib.nm_montgomery_intt, xs, root)
+
     def convolve(self, xs: Any, ys: Any, root: int | None = None) -> Any:
         """The cyclic product of two lists of n words: entry e is the sum of x_i * y_j modulo m over i + j = e or e + n. An
         array ys becomes its transform. ValueError: the lengths differ, or the arrays overlap. NoRootError: the root

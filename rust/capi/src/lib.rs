@@ -286,6 +286,16 @@ pub unsafe extern "C" fn nm_montgomery_ntt(
 }
 
 #[no_mangle]
+pub unsafe extern "C" fn nm_montgomery_intt(
+    context: &c::montgomery::NmMontgomery,
+    xs: *mut u64,
+    xs_length: usize,
+    root: u64,
+) -> u32 {
+    c::montgomery_lists::nm_montgomery_intt(context, list_mut(xs, xs_length), root)
+}
+
+#[no_mangle]
 pub unsafe extern "C" fn nm_montgomery_convolve(
     context: &c::montgomery::NmMontgomery,
     xs: *mut u64,
@@ -671,6 +681,11 @@ pub unsafe extern "C" fn nm_solinas_find_root(length: usize, root: &mut u64) -> 
 #[no_mangle]
 pub unsafe extern "C" fn nm_solinas_ntt(xs: *mut u64, xs_length: usize, root: u64) -> u32 {
     c::solinas::nm_solinas_ntt(list_mut(xs, xs_length), root)
+}
+
+#[no_mangle]
+pub unsafe extern "C" fn nm_solinas_intt(xs: *mut u64, xs_length: usize, root: u64) -> u32 {
+    c::solinas::nm_solinas_intt(list_mut(xs, xs_length), root)
 }
 
 #[no_mangle]

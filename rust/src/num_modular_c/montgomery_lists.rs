@@ -4,7 +4,7 @@ use crate::num_modular_c::codes::NM_BAD_CONTEXT;
 use crate::num_modular_c::commands::NmCommand;
 use crate::num_modular_c::montgomery::{NmMontgomery, reducer};
 use crate::num_modular_c::runs::carry_out;
-use crate::num_modular_c::transforms::{found_root, multiplied, root_code, transformed};
+use crate::num_modular_c::transforms::{found_root, multiplied, root_code, transformed, transformed_back};
 
 /// Whether the root suits lists of n = `length` words: n is a power of two, and for n above 1 the root to the
 /// power n/2 is -1 modulo m. `NM_NO_ROOT`: it doesn't. `NM_BAD_CONTEXT`: the context isn't one that
@@ -38,6 +38,17 @@ pub fn nm_montgomery_find_root(
 pub fn nm_montgomery_ntt(context: &NmMontgomery, xs: &mut [u64], root: u64) -> u32 {
     match reducer(context) {
         Some(ring) => transformed(&ring, xs, root),
+        None => NM_BAD_CONTEXT,
+    }
+}
+
+/// Undoes `nm_montgomery_ntt`: replaces the words by the residues modulo m whose transform by the root they are. `NM_NO_ROOT`:
+/// the root doesn't suit the length. `NM_NO_INVERSE`: the length has no inverse modulo m. `NM_BAD_CONTEXT`: as for
+/// `nm_montgomery_root_fits`.
+#[inline]
+pub fn nm_montgomery_intt(context: &NmMontgomery, xs: &mut [u64], root: u64) -> u32 {
+    match reducer(context) {
+        Some(ring) => transformed_back(&ring, xs, root),
         None => NM_BAD_CONTEXT,
     }
 }

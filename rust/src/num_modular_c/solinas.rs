@@ -1,5 +1,5 @@
 //! Transforms and cyclic products of lists of words modulo 2^64 - 2^32 + 1.
-use crate::num_modular_c::transforms::{found_root, multiplied, root_code, transformed};
+use crate::num_modular_c::transforms::{found_root, multiplied, root_code, transformed, transformed_back};
 use crate::{FixedTrinomialSolinas64, Reducer};
 
 /// The prime 2^64 - 2^32 + 1.
@@ -30,6 +30,13 @@ pub fn nm_solinas_find_root(length: usize, root: &mut u64) -> u32 {
 #[inline]
 pub fn nm_solinas_ntt(xs: &mut [u64], root: u64) -> u32 {
     transformed(&solinas(), xs, root)
+}
+
+/// Undoes `nm_solinas_ntt`: replaces the words by the residues modulo 2^64 - 2^32 + 1 whose transform by the root they are.
+/// `NM_NO_ROOT`: the root doesn't suit the length. `NM_NO_INVERSE`: the length has no inverse.
+#[inline]
+pub fn nm_solinas_intt(xs: &mut [u64], root: u64) -> u32 {
+    transformed_back(&solinas(), xs, root)
 }
 
 /// Replaces the first list by the cyclic product of both lists modulo 2^64 - 2^32 + 1, and the second by its

@@ -4,7 +4,7 @@ use crate::num_modular_c::codes::{NM_BAD_ARGUMENT, NM_NO_INVERSE, NM_NO_ROOT, NM
 use crate::num_modular_c::lists::{load, unload};
 use crate::modular_transform::roots::find_root;
 use crate::Reducer;
-use crate::ring::{convolve, ntt, root_fits};
+use crate::ring::{convolve, intt, ntt, root_fits};
 
 // The code that says whether the root suits lists of n words.
 #[inline]
@@ -45,6 +45,22 @@ pub(crate) fn transformed<R: Reducer<u64>>(r: &R, xs: &mut [u64], root: u64) -> 
 #[inline]
 fn has_inverse<R: Reducer<u64>>(r: &R, n: usize) -> bool {
     r.inv(r.transform(n as u64)).is_some()
+}
+
+// Undoes `transformed`.
+pub(crate) fn transformed_back<R: Reducer<u64>>(r: &R, xs: &mut [u64], root: u64) -> u32 {
+    let g = r.transform(root);
+    if !root_fits(r, &g, xs.len()) {
+        return NM_NO_ROOT;
+    }
+    // `intt` tests this too, when the words are forms already.
+    if !has_inverse(r, xs.len()) {
+        return NM_NO_INVERSE;
+    }
+    load(r, xs);
+    let _always = intt(r, xs, &g);
+    unload(r, xs);
+    NM_OK
 }
 
 // Replaces the first list by the cyclic product of both lists, and the second by its transform.
