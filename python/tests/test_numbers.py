@@ -1,10 +1,10 @@
-"""Products of long numbers and polynomials, hashes and residue systems, beside Python's own."""
+"""Products of long numbers, hashes and residue systems, beside Python's own."""
 import array
 import random
 
 import pytest
 
-from num_modular import decode, encode, find, multiply, polynomial_hash, product
+from num_modular import decode, encode, find, polynomial_hash, product
 
 HASHED = (1 << 61) - 1
 
@@ -19,31 +19,6 @@ def test_products():
     assert product(n, n) == n * n
     with pytest.raises(TypeError):
         product(1.5, 2)
-
-
-def test_polynomials():
-    draw = random.Random(4)
-    for m in (1, 2, 97, 10**9 + 7, 2**63 - 25, 2**64 - 1):
-        for n, k in ((1, 1), (3, 4), (50, 7), (200, 300)):
-            xs, ys = ([draw.randrange(-m, m) for _ in range(it)] for it in (n, k))
-            want = [sum(xs[i] * ys[e - i] for i in range(max(0, e - k + 1), min(n, e + 1))) % m for e in range(n + k - 1)]
-            assert multiply(xs, ys, m) == want
-    top = 2**64 - 2
-    assert multiply([top, top], [top, 1], 2**64 - 1) == [1, 0, 18446744073709551614]
-    assert multiply([], [1], 5) == multiply([1], [], 5) == []
-    for m in (0, -1, 2**64):
-        with pytest.raises(ValueError):
-            multiply([1], [1], m)
-
-
-def test_polynomials_in_arrays():
-    xs, ys = array.array("Q", [1, 2, 3]), array.array("Q", [4, 5, 6, 7])
-    assert multiply(xs, ys, 10**9 + 7) == [4, 13, 28, 34, 32, 21]
-    assert multiply(xs, array.array("Q"), 5) == []
-    with pytest.raises(TypeError):
-        multiply([1.5], [2], 5)
-    numpy = pytest.importorskip("numpy")
-    assert multiply(numpy.array(xs, numpy.uint64), numpy.array(ys, numpy.uint64), 97) == [4, 13, 28, 34, 32, 21]
 
 
 def test_hashes():

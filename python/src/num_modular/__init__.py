@@ -10,7 +10,8 @@ Nothing is claimed about constant time, so timing may reveal secrets.
 """
 from num_modular._calls import NoInverseError, NoRootError, PointsError, TooFewSymbolsError, TooManyErrorsError
 from num_modular._codes import Correction, ErasureCode
-from num_modular._numbers import decode, encode, find, multiply, polynomial_hash, product
+from num_modular._numbers import decode, encode, find, polynomial_hash, product
+from num_modular._polynomials import multiply
 from num_modular._rings import Divider, Montgomery, Plan
 from num_modular._words import addm, invm, jacobi, kronecker, legendre, mulm, powm, subm
 

@@ -102,3 +102,10 @@ def pair_of(xs: Any, ys: Any, m: int) -> tuple[Any, Any, bool]:
 def read_only(words: Iterable[int]) -> Any:
     """New words with these numbers."""
     return ffi.new("uint64_t[]", list(words))
+
+
+def scratch_for(room: Any, *lengths: int) -> tuple[Any, int, Any, int]:
+    """The scratch lists, of words and of factors, that a call needs for lists of these lengths, each followed by its length."""
+    words, factors = ffi.new("size_t *"), ffi.new("size_t *")
+    check(room(*lengths, words, factors), "the lists are too long")
+    return ffi.new("uint64_t[]", words[0]), words[0], ffi.new("nm_factor_t[]", factors[0]), factors[0]

@@ -1,11 +1,11 @@
-"""Products of long numbers and of polynomials, hashes and residue systems."""
+"""Products of long numbers, hashes and residue systems."""
 from __future__ import annotations
 
 import secrets
-from collections.abc import Iterable, Sequence
+from collections.abc import Iterable
 from operator import index
 
-from num_modular._calls import check, read_only, reduced
+from num_modular._calls import check, read_only, reduced, scratch_for
 from num_modular._library import ffi, lib
 
 _WORD = 8  # bytes
@@ -25,34 +25,11 @@ def product(a: int, b: int) -> int:
     True
     """
     (xs, n), (ys, k) = _digits(abs(index(a))), _digits(abs(index(b)))
-    words, factors = ffi.new("size_t *"), ffi.new("size_t *")
-    check(lib.nm_product_room(n, k, words, factors), "the numbers are too long")
     digits = bytearray((n + k) * _WORD)
-    scratch, table = ffi.new("uint64_t[]", words[0]), ffi.new("nm_factor_t[]", factors[0])
     out = ffi.from_buffer("uint64_t[]", digits, require_writable=True)
-    check(lib.nm_product(xs, n, ys, k, out, n + k, scratch, words[0], table, factors[0]))
+    check(lib.nm_product(xs, n, ys, k, out, n + k, *scratch_for(lib.nm_product_room, n, k)))
     found = int.from_bytes(digits, "little")
     return -found if (a < 0) != (b < 0) else found
-
-
-def multiply(xs: Sequence[int], ys: Sequence[int], m: int) -> list[int]:
-    """The product of two polynomials modulo m, from 1 to 2^64 - 1: entry e is the sum of x_i * y_j modulo m over i + j = e. The
-    lists may have any lengths; where one is empty, so is the result. ValueError: m isn't in range.
-
-    By one product of long numbers, each coefficient in 192 bits, of which the sums fill fewer.
-
-    >>> multiply([1, 2, 3], [4, 5, 6, 7], 10**9 + 7)
-    [4, 13, 28, 34, 32, 21]
-    """
-    if not 0 < m < 1 << 64:
-        raise ValueError("the modulus must be from 1 to 2^64 - 1")
-    if len(xs) == 0 or len(ys) == 0:
-        return []
-    size = 3 * _WORD
-    packed = (int.from_bytes(b"".join((index(it) % m).to_bytes(size, "little") for it in list_), "little") for list_ in (xs, ys))
-    count = len(xs) + len(ys) - 1
-    sums = product(*packed).to_bytes(count * size, "little")
-    return [int.from_bytes(sums[at : at + size], "little") % m for at in range(0, count * size, size)]
 
 
 def polynomial_hash(data: bytes, base: int) -> int:
