@@ -4,7 +4,7 @@ import random
 
 import pytest
 
-from num_modular import multiply
+from num_modular import multiply, multiply_cyclic, multiply_negacyclic, square
 
 
 MODULI = (1, 2, 97, 10**9 + 7, 2**63 - 25, 2**64 - 1)
@@ -29,12 +29,27 @@ def test_products(m):
     assert multiply(iter(xs), iter(ys), m) == sums(xs, ys, m)
 
 
+@pytest.mark.parametrize("m", MODULI)
+def test_squares_and_products_of_n_coefficients(m):
+    draw = random.Random(m)
+    for n in (0, 1, 2, 3, 50, 199, 200, 257):
+        xs, ys = ([draw.randrange(-m, 2**70) for _ in range(n)] for _ in range(2))
+        assert square(xs, m) == sums(xs, xs, m)
+        long = sums(xs, ys, m) + [0]
+        for call, sign in ((multiply_cyclic, 1), (multiply_negacyclic, -1)):
+            assert call(xs, ys, m) == [(low + sign * high) % m for low, high in zip(long, long[n:] + [0] * n)][:n]
+
+
 def test_what_is_no_polynomial():
-    for m in (0, -1, 2**64):
-        with pytest.raises(ValueError):
-            multiply([1], [1], m)
+    for call, words in ((multiply, ([1], [1])), (square, ([1],)), (multiply_cyclic, ([1], [1])), (multiply_negacyclic, ([1], [1]))):
+        for m in (0, -1, 2**64):
+            with pytest.raises(ValueError):
+                call(*words, m)
     with pytest.raises(TypeError):
         multiply([1.5], [2], 5)
+    for call in (multiply_cyclic, multiply_negacyclic):
+        with pytest.raises(ValueError, match="2 and 3 words"):
+            call([1, 2], [1, 2, 3], 97)
 
 
 def test_polynomials_in_arrays():

@@ -11,7 +11,7 @@ Nothing is claimed about constant time, so timing may reveal secrets.
 from num_modular._calls import NoInverseError, NoRootError, PointsError, TooFewSymbolsError, TooManyErrorsError
 from num_modular._codes import Correction, ErasureCode
 from num_modular._numbers import decode, encode, find, polynomial_hash, product
-from num_modular._polynomials import multiply
+from num_modular._polynomials import multiply, multiply_cyclic, multiply_negacyclic, square
 from num_modular._rings import Divider, Montgomery, Plan
 from num_modular._words import addm, invm, jacobi, kronecker, legendre, mulm, powm, subm
 
@@ -35,10 +35,13 @@ __all__ = [
     "kronecker",
     "legendre",
     "multiply",
+    "multiply_cyclic",
+    "multiply_negacyclic",
     "mulm",
     "polynomial_hash",
     "powm",
     "product",
+    "square",
     "subm",
 ]
 

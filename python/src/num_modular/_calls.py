@@ -82,6 +82,12 @@ def words_of(array: Any, m: int) -> tuple[Any, bool]:
     return words, False
 
 
+def same_length(first: Any, second: Any) -> None:
+    """Raises an exception where two lists differ in length."""
+    if len(first) != len(second):
+        raise ValueError(f"the lists have {len(first)} and {len(second)} words")
+
+
 def apart(first: Any, second: Any) -> None:
     """Raises an exception where two arrays of words overlap."""
     begins, other = (int(ffi.cast("uintptr_t", it)) for it in (first, second))

@@ -5,7 +5,7 @@ from collections.abc import Iterable
 from operator import index
 from typing import Any
 
-from num_modular._calls import check, scratch_for
+from num_modular._calls import check, same_length, scratch_for
 from num_modular._library import ffi, lib
 
 
@@ -30,7 +30,54 @@ def multiply(xs: Iterable[int], ys: Iterable[int], m: int) -> list[int]:
     """
     first, second = _residues(xs, m), _residues(ys, m)
     n, k = len(first), len(second)
-    out = ffi.new("uint64_t[]", n + k - 1 if n and k else 0)
     scratch = scratch_for(lib.nm_polynomial_room, n, k)
-    check(lib.nm_polynomial_multiply(m, first, n, second, k, out, len(out), *scratch))
+    return _written(lib.nm_polynomial_multiply, n + k - 1 if n and k else 0, scratch, m, first, n, second, k)
+
+
+def square(xs: Iterable[int], m: int) -> list[int]:
+    """The square of a polynomial modulo m, as `multiply(xs, xs, m)`, but faster. ValueError: m is out of range.
+
+    >>> square([1, 2, 3], 97)
+    [1, 4, 10, 12, 9]
+    """
+    first = _residues(xs, m)
+    n = len(first)
+    scratch = scratch_for(lib.nm_polynomial_room, n, n)
+    return _written(lib.nm_polynomial_square, 2 * n - 1 if n else 0, scratch, m, first, n)
+
+
+def multiply_cyclic(xs: Iterable[int], ys: Iterable[int], m: int) -> list[int]:
+    """The product of two polynomials of n coefficients modulo X^n - 1 and m, for any n: entry e is the sum of x_i * y_j modulo m
+    over i + j = e or e + n.
+
+    Unlike `Plan.convolve`, it needs no root. ValueError: the lengths differ, or m is out of range.
+
+    >>> multiply_cyclic([1, 2, 3], [4, 5, 6], 97)
+    [31, 31, 28]
+    """
+    return _wrapped(lib.nm_polynomial_multiply_cyclic, xs, ys, m)
+
+
+def multiply_negacyclic(xs: Iterable[int], ys: Iterable[int], m: int) -> list[int]:
+    """The product modulo X^n + 1 and m: entry e is the sum of x_i * y_j over i + j = e, minus that over i + j = e + n. ValueError:
+    as for `multiply_cyclic`.
+
+    >>> multiply_negacyclic([1, 2, 3], [4, 5, 6], 97)
+    [74, 92, 28]
+    """
+    return _wrapped(lib.nm_polynomial_multiply_negacyclic, xs, ys, m)
+
+
+def _wrapped(call: Any, xs: Iterable[int], ys: Iterable[int], m: int) -> list[int]:
+    """A product of n coefficients of two polynomials of n."""
+    first, second = _residues(xs, m), _residues(ys, m)
+    same_length(first, second)
+    n = len(first)
+    return _written(call, n, scratch_for(lib.nm_polynomial_room, n, n), m, first, n, second, n)
+
+
+def _written(call: Any, places: int, scratch: tuple[Any, int, Any, int], *arguments: Any) -> list[int]:
+    """The list of so many words that a call writes."""
+    out = ffi.new("uint64_t[]", places)
+    check(call(*arguments, out, places, *scratch))
     return list(out)
