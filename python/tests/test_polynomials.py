@@ -1,10 +1,20 @@
-"""Products of polynomials, beside sums by Python's integers."""
+"""Products of polynomials and transforms of any length, beside sums by Python's integers."""
 import array
+import math
 import random
 
 import pytest
 
-from num_modular import multiply, multiply_cyclic, multiply_negacyclic, square
+from num_modular import (
+    NoInverseError,
+    multiply,
+    multiply_cyclic,
+    multiply_negacyclic,
+    square,
+    transform,
+    transform_inverse,
+    transform_root_fits,
+)
 
 
 MODULI = (1, 2, 97, 10**9 + 7, 2**63 - 25, 2**64 - 1)
@@ -58,3 +68,46 @@ def test_polynomials_in_arrays():
     assert multiply(xs, array.array("Q"), 5) == []
     numpy = pytest.importorskip("numpy")
     assert multiply(numpy.array(xs, numpy.uint64), numpy.array(ys, numpy.uint64), 97) == [4, 13, 28, 34, 32, 21]
+
+
+@pytest.mark.parametrize("m", MODULI)
+def test_transforms(m):
+    draw = random.Random(m)
+    for n in (0, 1, 2, 5, 6, 7, 30, 67, 210):
+        xs, g = [draw.randrange(-m, 2**70) for _ in range(n)], draw.randrange(-(2**70), 2**70)
+        while math.gcd(g, m) > 1:
+            g += 1
+        for call, power in ((transform, 1), (transform_inverse, -1)):
+            if power < 0 and math.gcd(n, m) > 1:
+                with pytest.raises(NoInverseError):
+                    call(xs, g, m)
+                continue
+            root, scale = pow(g, power, m), pow(n, -1, m) if power < 0 else 1
+            assert call(xs, g, m) == [scale * sum(x * pow(root, i * j, m) for i, x in enumerate(xs)) % m for j in range(n)]
+
+
+def test_roots_of_unity():
+    draw = random.Random(7)
+    for m in (1, 2, 7, 15, 31, 91):
+        for n in range(12):
+            for g in range(-3, m):
+                fits = n > 0 and pow(g, n, m) == 1 % m and all(math.gcd(pow(g, d, m) - 1, m) == 1 for d in range(1, n))
+                assert transform_root_fits(g, n, m) is fits
+                if fits:
+                    xs = [draw.randrange(m) for _ in range(n)]
+                    assert transform_inverse(transform(xs, g, m), g, m) == xs
+    assert transform_root_fits(2**70, 1, 1)
+
+
+def test_what_is_no_transform():
+    for call in (transform, transform_inverse):
+        with pytest.raises(NoInverseError):
+            call([1, 2], 3, 9)
+        with pytest.raises(TypeError):
+            call([1, 2], 2.0, 9)
+    for call, words in ((transform, ([1], 1)), (transform_inverse, ([1], 1)), (transform_root_fits, (1, 1))):
+        for m in (0, -1, 2**64):
+            with pytest.raises(ValueError):
+                call(*words, m)
+    with pytest.raises(OverflowError):
+        transform_root_fits(1, -1, 5)

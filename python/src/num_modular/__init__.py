@@ -11,7 +11,15 @@ Nothing is claimed about constant time, so timing may reveal secrets.
 from num_modular._calls import NoInverseError, NoRootError, PointsError, TooFewSymbolsError, TooManyErrorsError
 from num_modular._codes import Correction, ErasureCode
 from num_modular._numbers import decode, encode, find, polynomial_hash, product
-from num_modular._polynomials import multiply, multiply_cyclic, multiply_negacyclic, square
+from num_modular._polynomials import (
+    multiply,
+    multiply_cyclic,
+    multiply_negacyclic,
+    square,
+    transform,
+    transform_inverse,
+    transform_root_fits,
+)
 from num_modular._rings import Divider, Montgomery, Plan
 from num_modular._words import addm, invm, jacobi, kronecker, legendre, mulm, powm, subm
 
@@ -43,6 +51,9 @@ __all__ = [
     "product",
     "square",
     "subm",
+    "transform",
+    "transform_inverse",
+    "transform_root_fits",
 ]
 
 # Messages and help name each item by the path by which it is imported.

@@ -1,4 +1,4 @@
-"""Products of polynomials modulo any m, by their coefficients, the constant first."""
+"""Products of polynomials by their coefficients, the constant first, and transforms of any length, all modulo any m."""
 from __future__ import annotations
 
 from collections.abc import Iterable
@@ -9,10 +9,14 @@ from num_modular._calls import check, same_length, scratch_for
 from num_modular._library import ffi, lib
 
 
-def _residues(numbers: Iterable[int], m: int) -> Any:
-    """New words that are congruent modulo m to these integers, which may have any size."""
+def _check_modulus(m: int) -> None:
     if not 0 < m < 1 << 64:
         raise ValueError("the modulus must be from 1 to 2^64 - 1")
+
+
+def _residues(numbers: Iterable[int], m: int) -> Any:
+    """New words that are congruent modulo m to these integers, which may have any size."""
+    _check_modulus(m)
     listed = [index(it) for it in numbers]
     try:
         return ffi.new("uint64_t[]", listed)
@@ -66,6 +70,50 @@ def multiply_negacyclic(xs: Iterable[int], ys: Iterable[int], m: int) -> list[in
     [74, 92, 28]
     """
     return _wrapped(lib.nm_polynomial_multiply_negacyclic, xs, ys, m)
+
+
+def transform(xs: Iterable[int], g: int, m: int) -> list[int]:
+    """The transform of n numbers modulo m, for any n and any m from 1 to 2^64 - 1: entry j is the sum of x_i * g^(i * j) modulo m.
+
+    NoInverseError: g has no inverse modulo m. ValueError: m is out of range.
+
+    >>> transform([1, 2, 3], 2, 7)
+    [6, 3, 1]
+    """
+    return _transformed(lib.nm_transform, xs, g, m)
+
+
+def transform_inverse(xs: Iterable[int], g: int, m: int) -> list[int]:
+    """The inverse transform of n numbers modulo m: entry j is the sum of x_i * g^(-i * j) modulo m, divided by n. It undoes
+    `transform` where g is a root of unity of order n, which `transform_root_fits` tests.
+
+    NoInverseError: g or n has no inverse modulo m. ValueError: m is out of range.
+
+    >>> transform_inverse([6, 3, 1], 2, 7)
+    [1, 2, 3]
+    """
+    return _transformed(lib.nm_transform_inverse, xs, g, m)
+
+
+def transform_root_fits(g: int, n: int, m: int) -> bool:
+    """Whether g is a root of unity of order n modulo m by which `transform_inverse` undoes `transform`: n is at least 1, g^n is 1,
+    and g^d - 1 has an inverse for each d from 1 to n - 1. It computes about 2 * n products. ValueError: m is out of range.
+
+    >>> transform_root_fits(2, 3, 7), transform_root_fits(2, 6, 7)
+    (True, False)
+    """
+    _check_modulus(m)
+    code = lib.nm_transform_root_fits(m, index(g) % m, n)
+    if code == lib.NM_NO_ROOT:
+        return False
+    check(code)
+    return True
+
+
+def _transformed(call: Any, xs: Iterable[int], g: int, m: int) -> list[int]:
+    words, g = _residues(xs, m), index(g) % m
+    n = len(words)
+    return _written(call, n, scratch_for(lib.nm_transform_room, n), m, g, words, n)
 
 
 def _wrapped(call: Any, xs: Iterable[int], ys: Iterable[int], m: int) -> list[int]:
