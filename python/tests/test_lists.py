@@ -160,7 +160,7 @@ def test_runs():
     commands = [("load", 0, 5), ("load", 1, 7), ("inv", 2, 0), ("inv", 0, 1), ("add", 0, 0, 1)]
     with pytest.raises(NoInverseError) as told:
         ring.run([0] * 3, commands)
-    assert (told.value.at, told.value.registers) == (3, [5, 7, 17])
+    assert (told.value.at, told.value.registers, told.value.number) == (3, [5, 7, 17], None)
     words = array.array("Q", [30, 0])
     assert ring.run(words, [("sqr", 0, 0), ("pow", 1, 0, 3), ("neg", 1, 1), ("sub", 0, 1, 0)]) is words
     assert list(words) == [(-(81**3) - 81) % 21, -(81**3) % 21]

@@ -100,9 +100,11 @@ def test_roots_of_unity():
 
 
 def test_what_is_no_transform():
+    for call, xs, g, m, number in ((transform, [1, 2], -6, 9, -6), (transform_inverse, [1, 2], 3, 9, 3), (transform_inverse, [1, 2], 3, 4, 2)):
+        with pytest.raises(NoInverseError, match=f"^{number} has no inverse modulo {m}$") as told:
+            call(xs, g, m)
+        assert told.value.number == number
     for call in (transform, transform_inverse):
-        with pytest.raises(NoInverseError):
-            call([1, 2], 3, 9)
         with pytest.raises(TypeError):
             call([1, 2], 2.0, 9)
     for call, words in ((transform, ([1], 1)), (transform_inverse, ([1], 1)), (transform_root_fits, (1, 1))):

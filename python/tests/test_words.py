@@ -31,10 +31,10 @@ def test_inverses():
             assert invm(a, m) == pow(a, -1, m)
             assert powm(a, -e, m) == Montgomery(m).pow(a, -e) == pow(a, -e, m)
         else:
-            with pytest.raises(NoInverseError):
-                invm(a, m)
-            with pytest.raises(NoInverseError):
-                Montgomery(m).pow(a, -1)
+            for call in (lambda: invm(a, m), lambda: powm(a, -1, m), lambda: Montgomery(m).pow(a, -1)):
+                with pytest.raises(NoInverseError) as told:
+                    call()
+                assert (told.value.number, told.value.at, told.value.registers) == (a, None, None)
 
 
 def test_symbols():

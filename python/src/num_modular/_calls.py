@@ -14,7 +14,15 @@ _FORMATS = {"Q", "@Q", "=Q", "<Q" if _LITTLE else ">Q", "N", "@N"} | ({"L", "@L"
 
 
 class NoInverseError(ValueError):
-    """A number that a call inverts has no inverse modulo m."""
+    """A number that a call must invert has no inverse modulo m.
+
+    `number` is that number, where the call knows it. `at` and `registers` are set by `Montgomery.run` alone: the number of the
+    command that failed, counted from 0, and the registers before it.
+    """
+
+    number: int | None = None
+    at: int | None = None
+    registers: Any = None
 
 
 class NoRootError(ValueError):
@@ -57,6 +65,13 @@ def check(code: int, words: str = "") -> None:
     """Raises the exception of a code, if it isn't NM_OK."""
     if code != lib.NM_OK:
         fail(code, words)
+
+
+def no_inverse(number: int, m: int) -> NoInverseError:
+    """The exception for a number that has no inverse modulo m."""
+    fault = NoInverseError(f"{number} has no inverse modulo {m}")
+    fault.number = number
+    return fault
 
 
 def reduced(n: int, m: int) -> int:

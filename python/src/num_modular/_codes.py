@@ -6,7 +6,7 @@ from collections.abc import Iterable, Mapping, Sequence
 from operator import index
 from typing import Any, NamedTuple, Optional, Union
 
-from num_modular._calls import NoInverseError, check, read_only, reduced
+from num_modular._calls import check, no_inverse, read_only, reduced
 from num_modular._library import ffi, lib
 
 # The symbols of a word: one for each point, or None where it is lost; or those that are there, by the numbers of the points.
@@ -106,9 +106,7 @@ class ErasureCode:
         code = lib.nm_erasure_correct(self._context, self._points, n, places, s, symbols, s, message, k, found, n, scratch,
                                       len(scratch), errors, number)
         if code == lib.NM_NO_INVERSE:
-            fault = NoInverseError(f"{number[0]} has no inverse modulo {self.modulus}")
-            fault.number = number[0]
-            raise fault
+            raise no_inverse(number[0], self.modulus)
         check(code)
         return Correction(list(message), list(found), errors[0])
 

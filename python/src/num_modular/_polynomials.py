@@ -2,10 +2,11 @@
 from __future__ import annotations
 
 from collections.abc import Iterable
+from math import gcd
 from operator import index
 from typing import Any
 
-from num_modular._calls import check, same_length, scratch_for
+from num_modular._calls import NoInverseError, check, no_inverse, same_length, scratch_for
 from num_modular._library import ffi, lib
 
 
@@ -111,9 +112,12 @@ def transform_root_fits(g: int, n: int, m: int) -> bool:
 
 
 def _transformed(call: Any, xs: Iterable[int], g: int, m: int) -> list[int]:
-    words, g = _residues(xs, m), index(g) % m
+    words, base = _residues(xs, m), index(g) % m
     n = len(words)
-    return _written(call, n, scratch_for(lib.nm_transform_room, n), m, g, words, n)
+    try:
+        return _written(call, n, scratch_for(lib.nm_transform_room, n), m, base, words, n)
+    except NoInverseError:
+        raise no_inverse(n if gcd(base, m) == 1 else g, m) from None
 
 
 def _wrapped(call: Any, xs: Iterable[int], ys: Iterable[int], m: int) -> list[int]:

@@ -1,7 +1,7 @@
 """Operations modulo m on integers, and symbols."""
 from __future__ import annotations
 
-from num_modular._calls import check, reduced
+from num_modular._calls import check, no_inverse, reduced
 from num_modular._library import ffi, lib
 
 
@@ -62,7 +62,9 @@ def invm(a: int, m: int) -> int:
     """
     out = ffi.new("uint64_t *")
     code = lib.nm_invm(reduced(a, m), m, out)
-    check(code, f"{a} has no inverse modulo {m}" if code == lib.NM_NO_INVERSE else "the modulus must be at least 1")
+    if code == lib.NM_NO_INVERSE:
+        raise no_inverse(a, m)
+    check(code, "the modulus must be at least 1")
     return out[0]
 
 
