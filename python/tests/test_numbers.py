@@ -1,10 +1,11 @@
 """Products of long numbers, hashes and residue systems, beside Python's own."""
 import array
+import math
 import random
 
 import pytest
 
-from num_modular import decode, encode, find, polynomial_hash, product
+from num_modular import decode, encode, extend, find, polynomial_hash, product
 
 HASHED = (1 << 61) - 1
 
@@ -44,12 +45,38 @@ def test_search():
 
 
 def test_residue_systems():
-    moduli = [2**64 - 59, 2**63 - 25]
-    for x in (0, 1, 2**126 + 12345, moduli[0] * moduli[1] - 1):
-        assert decode(moduli, encode(moduli, x)) == x
+    draw = random.Random(7)
+    for moduli in ([2**64 - 59, 2**63 - 25], [2**64 - 1, 2**64 - 3, 2**64 - 5], [1, 4, 9, 1], list(filter(is_prime, range(2, 1000)))):
+        others = [draw.getrandbits(64) | 1 for _ in range(20)] + moduli
+        for x in (0, 1, draw.randrange(math.prod(moduli)), math.prod(moduli) - 1):
+            x %= math.prod(moduli)
+            assert encode(moduli, x) == [x % m for m in moduli]
+            assert decode(moduli, encode(moduli, x)) == decode(iter(moduli), iter(encode(moduli, x))) == x
+            assert extend(moduli, encode(moduli, x), others) == encode(others, x)
+            assert encode(moduli, x - math.prod(moduli)) == encode(moduli, x)
     assert decode([], []) == 0
-    for bad in (([3, 5], [1]), ([3, 0], [1, 0]), ([3, 9], [1, 1]), ([3, 5], [3, 1]), ([*moduli, 3], [0, 0, 0])):
-        with pytest.raises(ValueError):
-            decode(*bad)
+    assert (extend([], [], [5, 7]), extend([3], [2], [])) == ([0, 0], [])
+
+
+def is_prime(n):
+    return all(n % d for d in range(2, math.isqrt(n) + 1))
+
+
+def test_what_is_no_residue_system():
+    bad = [
+        (([3, 5], [1]), "moduli is 2, and that of residues 1"),
+        (([3, 0], [1, 0]), "at least 1"),
+        (([5, 9, 7, 15], [1, 1, 1, 1]), "5 and 15 have the common divisor 5"),
+        (([3, 5], [3, 1]), "residue 3 isn't below its modulus 3"),
+    ]
+    for words, fault in bad:
+        for call, more in ((decode, ()), (extend, ([2],))):
+            with pytest.raises(ValueError, match=fault):
+                call(*words, *more)
+    with pytest.raises(ValueError, match="others"):
+        extend([3], [2], [5, 0])
     with pytest.raises(ValueError):
         encode([0], 1)
+    for call in (lambda: decode([2**64], [1]), lambda: decode([3], [-1]), lambda: extend([3], [1], [2**64])):
+        with pytest.raises(OverflowError):
+            call()
