@@ -1,13 +1,10 @@
-"""Products of long numbers, hashes and residue systems, beside Python's own."""
-import array
+"""Products of long numbers and residue systems, beside Python's own."""
 import math
 import random
 
 import pytest
 
-from num_modular import decode, encode, extend, find, polynomial_hash, product
-
-HASHED = (1 << 61) - 1
+from num_modular import decode, encode, extend, product
 
 
 def test_products():
@@ -20,28 +17,6 @@ def test_products():
     assert product(n, n) == n * n
     with pytest.raises(TypeError):
         product(1.5, 2)
-
-
-def test_hashes():
-    draw = random.Random(5)
-    for n in (0, 1, 2, 17, 1000):
-        data, base = draw.randbytes(n), draw.getrandbits(64)
-        want = 0
-        for it in data:
-            want = (want * base + it) % HASHED
-        assert polynomial_hash(data, base) == polynomial_hash(bytearray(data), base) == want
-    assert polynomial_hash(b"ab", -1) == (ord("b") - ord("a")) % HASHED
-    words = array.array("H", [0x6261, 0x6463])
-    assert polynomial_hash(words, 1000) == polynomial_hash(words.tobytes(), 1000)
-
-
-def test_search():
-    draw = random.Random(6)
-    for _ in range(500):
-        text = bytes(draw.choice(b"ab") for _ in range(draw.randrange(60)))
-        pattern = bytes(draw.choice(b"ab") for _ in range(draw.randrange(6)))
-        assert find(text, pattern) == find(text, pattern, 0) == find(text, pattern, 1000) == text.find(pattern)
-    assert find(array.array("H", [0x6161] * 9 + [0x6262]), b"bb") == 18
 
 
 def test_residue_systems():

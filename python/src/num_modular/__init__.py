@@ -10,7 +10,8 @@ Nothing is claimed about constant time, so timing may reveal secrets.
 """
 from num_modular._calls import NoInverseError, NoRootError, PointsError, TooFewSymbolsError, TooManyErrorsError
 from num_modular._codes import Correction, ErasureCode
-from num_modular._numbers import decode, encode, extend, find, polynomial_hash, product
+from num_modular._hashes import find, polynomial_hash
+from num_modular._numbers import decode, encode, extend, product
 from num_modular._polynomials import (
     multiply,
     multiply_cyclic,

@@ -1,17 +1,15 @@
-"""Products of long numbers, hashes and residue systems."""
+"""Products of long numbers and residue systems."""
 from __future__ import annotations
 
-import secrets
 from collections.abc import Iterable, Sequence
 from itertools import combinations
 from math import gcd
 from operator import index
 
-from num_modular._calls import check, fail, read_only, reduced, scratch_for
+from num_modular._calls import check, fail, read_only, scratch_for
 from num_modular._library import ffi, lib
 
 _WORD = 8  # bytes
-_HASHED = (1 << 61) - 1
 
 
 def _digits(n: int) -> tuple[object, int]:
@@ -32,36 +30,6 @@ def product(a: int, b: int) -> int:
     check(lib.nm_product(xs, n, ys, k, out, n + k, *scratch_for(lib.nm_product_room, n, k)))
     found = int.from_bytes(digits, "little")
     return -found if (a < 0) != (b < 0) else found
-
-
-def polynomial_hash(data: bytes, base: int) -> int:
-    """The value at the base of the polynomial with the bytes as coefficients, the highest first, modulo 2^61 - 1.
-
-    Data that differ only by zero bytes in front have the same hash.
-
-    >>> polynomial_hash(b"abc", 1000)
-    97098099
-    """
-    read, out = ffi.from_buffer("uint8_t[]", data), ffi.new("uint64_t *")
-    check(lib.nm_hash(reduced(base, _HASHED), read, len(read), out))
-    return out[0]
-
-
-def find(text: bytes, pattern: bytes, base: int | None = None) -> int:
-    """The first position of the pattern in the text, or -1, as `bytes.find`; by hashes at the base, which is drawn at random
-    where none is given. The result is right for every base.
-
-    >>> find(b"a longer text", b"longer"), find(b"abc", b"d")
-    (2, -1)
-    """
-    base = secrets.randbelow(_HASHED) if base is None else reduced(base, _HASHED)
-    out = ffi.new("size_t *")
-    first, second = ffi.from_buffer("uint8_t[]", text), ffi.from_buffer("uint8_t[]", pattern)
-    code = lib.nm_find(base, first, len(first), second, len(second), out)
-    if code == lib.NM_NOT_FOUND:
-        return -1
-    check(code)
-    return out[0]
 
 
 def encode(moduli: Iterable[int], x: int) -> list[int]:
