@@ -4,7 +4,7 @@ import random
 
 import pytest
 
-from num_modular import find, polynomial_hash
+from num_modular import PrefixHashes, find, find_all, polynomial_hash
 
 MODULUS = (1 << 61) - 1
 
@@ -33,3 +33,39 @@ def test_search():
         pattern = bytes(draw.choice(b"ab") for _ in range(draw.randrange(6)))
         for base in (None, 0, 1000, 2**64, -(2**70)):
             assert find(text, pattern, base) == text.find(pattern)
+
+
+def test_searches_for_several_patterns():
+    draw = random.Random(8)
+    for _ in range(500):
+        text = bytes(draw.choice(b"ab") for _ in range(draw.randrange(40)))
+        size = draw.randrange(5)
+        patterns = [bytes(draw.choice(b"ab") for _ in range(size)) for _ in range(draw.randrange(5))]
+        want = {}
+        for at in range(len(text) - size + 1):
+            if text[at : at + size] in patterns:
+                want[at] = patterns.index(text[at : at + size])
+        for base in (None, 0, 1000, 2**64, -(2**70)):
+            assert find_all(text, patterns, base) == want
+    assert find_all(bytearray(b"xyx"), [memoryview(b"x")]) == {0: 0, 2: 0}
+    with pytest.raises(ValueError, match="same length"):
+        find_all(b"abc", [b"a", b"ab"])
+    for patterns in (b"ab", ["ab"], 5):
+        with pytest.raises(TypeError):
+            find_all(b"abc", patterns)
+
+
+def test_hashes_of_parts():
+    draw = random.Random(9)
+    for base in (None, 0, 1, 2**61 - 1, 2**70, -5):
+        text = draw.randbytes(draw.randrange(30))
+        hashes = PrefixHashes(text, base)
+        assert base is None or hashes.base == base % MODULUS
+        for start in range(len(text) + 1):
+            for stop in range(start, len(text) + 1):
+                assert hashes.hash(start, stop) == polynomial_hash(text[start:stop], hashes.base)
+        for start, stop in ((1, 0), (0, len(text) + 1)):
+            with pytest.raises(ValueError, match=f"from {start} to {stop}"):
+                hashes.hash(start, stop)
+        with pytest.raises(OverflowError):
+            hashes.hash(-1, 0)

@@ -10,7 +10,7 @@ Nothing is claimed about constant time, so timing may reveal secrets.
 """
 from num_modular._calls import NoInverseError, NoRootError, PointsError, TooFewSymbolsError, TooManyErrorsError
 from num_modular._codes import Correction, ErasureCode
-from num_modular._hashes import find, polynomial_hash
+from num_modular._hashes import PrefixHashes, find, find_all, polynomial_hash
 from num_modular._numbers import decode, encode, extend, product
 from num_modular._polynomials import (
     multiply,
@@ -33,6 +33,7 @@ __all__ = [
     "NoRootError",
     "Plan",
     "PointsError",
+    "PrefixHashes",
     "TooFewSymbolsError",
     "TooManyErrorsError",
     "addm",
@@ -40,6 +41,7 @@ __all__ = [
     "encode",
     "extend",
     "find",
+    "find_all",
     "invm",
     "jacobi",
     "kronecker",

@@ -2,6 +2,7 @@
 from __future__ import annotations
 
 import secrets
+from collections.abc import Iterable
 from operator import index
 from typing import Any
 
@@ -47,3 +48,55 @@ def find(text: bytes, pattern: bytes, base: int | None = None) -> int:
         return -1
     check(code)
     return out[0]
+
+
+def find_all(text: bytes, patterns: Iterable[bytes], base: int | None = None) -> dict[int, int]:
+    """The positions of the text where one of the patterns occurs, in ascending order, each with the number of the first pattern
+    that occurs there, counted from 0. The base is as for `find`. ValueError: the patterns don't have the same length.
+
+    >>> find_all(b"abracadabra", [b"abra", b"cada"])
+    {0: 0, 4: 1, 7: 0}
+    """
+    read, listed = _bytes(text), [bytes(memoryview(it)) for it in patterns]
+    count, size = len(listed), len(listed[0]) if listed else 0
+    if any(len(it) != size for it in listed):
+        raise ValueError("the patterns must have the same length")
+    joined, places = _bytes(b"".join(listed)), max(len(read) - size + 1, 0)
+    hashes, found = ffi.new("uint64_t[]", count), ffi.new("size_t[]", places)
+    check(lib.nm_find_all(_residue(base), read, len(read), joined, len(joined), size, hashes, count, found, places))
+    return {at: number for at, number in enumerate(found) if number < count}
+
+
+class PrefixHashes:
+    """The hashes of all beginnings of a text, by which the hash of any part takes one product. The base is drawn at random where
+    none is given.
+
+    >>> text = PrefixHashes(b"abracadabra")
+    >>> text.hash(0, 4) == text.hash(7, 11), text.hash(0, 4) == text.hash(1, 5)
+    (True, False)
+    """
+
+    __slots__ = ("_base", "_hashes", "_powers")
+
+    def __init__(self, text: bytes, base: int | None = None) -> None:
+        read, self._base = _bytes(text), _residue(base)
+        n = len(read) + 1
+        self._hashes, self._powers = ffi.new("uint64_t[]", n), ffi.new("uint64_t[]", n)
+        check(lib.nm_prefix_hashes(self._base, read, len(read), self._hashes, n, self._powers, n))
+
+    @property
+    def base(self) -> int:
+        """The base, from 0 to 2^61 - 2."""
+        return self._base
+
+    def hash(self, start: int, stop: int) -> int:
+        """`polynomial_hash` of the bytes from start to stop - 1, counted from 0. Parts with different hashes are different.
+        ValueError: start is above stop, or stop is above the length of the text.
+
+        >>> PrefixHashes(b"xabcx", 1000).hash(1, 4) == polynomial_hash(b"abc", 1000)
+        True
+        """
+        out, n = ffi.new("uint64_t *"), len(self._hashes)
+        code = lib.nm_substring_hash(self._hashes, n, self._powers, n, start, stop, out)
+        check(code, f"the text of {n - 1} bytes has no part from {start} to {stop}")
+        return out[0]
