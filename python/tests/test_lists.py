@@ -79,6 +79,15 @@ def test_arrays_are_changed_in_place():
         assert (xs, ys) == ([1, 2, 3, 0], [4, 5, 0, 0])
 
 
+def test_empty_arrays():
+    for xs in arrays([]):
+        assert Montgomery(97).run(xs, []) is xs
+        with pytest.raises(NoRootError):
+            Montgomery(97).ntt(xs)
+        with pytest.raises(ValueError, match="0 words"):
+            Plan(97, 4).ntt(xs)
+
+
 def test_arrays_that_are_refused():
     ring = Montgomery(97)
     bad = [

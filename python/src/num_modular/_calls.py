@@ -91,6 +91,8 @@ def words_of(array: Any, m: int) -> tuple[Any, bool]:
         raise ValueError("the array must be writable")
     if not view.c_contiguous:
         raise ValueError("the array must be contiguous")
+    if view.nbytes == 0:  # its address may be any
+        return ffi.new("uint64_t[]", 0), False
     words = ffi.from_buffer("uint64_t[]", array, require_writable=True)
     if int(ffi.cast("uintptr_t", words)) % ffi.alignof("uint64_t"):
         raise ValueError("the array must be aligned to words of 64 bits")
