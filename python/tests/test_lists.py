@@ -151,6 +151,10 @@ def test_roots_and_lengths():
         with pytest.raises(NoInverseError, match="2 has no inverse modulo 20"):
             call([7, 9])
     plan = Plan(97, 4)
+    for call in (Montgomery(97).convolve, plan.convolve, plan.convolve_negacyclic):
+        for n, k in ((3, 2), (2, 3), (0, 1), (4, 8)):
+            with pytest.raises(ValueError, match=f"{n} and {k} words"):
+                call([1] * n, [1] * k)
     for call in (plan.ntt, plan.intt, plan.split, plan.join):
         for xs in ([1, 2, 3], [1] * 8, [1, 388]):
             with pytest.raises(ValueError):
@@ -159,7 +163,7 @@ def test_roots_and_lengths():
         for b, last in ((2, 1), (0, 3), (0, 0)):
             with pytest.raises(ValueError):
                 call([1, 2, 3, 4], b, last)
-    for xs, ys, words in (([1, 2], [3], "2 and 1"), ([1] * 8, [1] * 8, "8 words"), ([1, 388], [1, 2], "below 388")):
+    for xs, ys, words in (([1] * 8, [1] * 8, "8 words"), ([1, 388], [1, 2], "below 388")):
         with pytest.raises(ValueError, match=words):
             plan.convolve(xs, ys)
 

@@ -112,14 +112,12 @@ def apart(first: Any, second: Any) -> None:
         raise ValueError("the arrays must not overlap")
 
 
-def pair_of(xs: Any, ys: Any, m: int) -> tuple[Any, Any, bool]:
-    """The words of two arrays or sequences of one length, and whether the first are new."""
-    first, is_new = words_of(xs, m)
-    second, _ = words_of(ys, m)
-    apart(first, second)
-    if len(first) != len(second):
-        raise ValueError(f"the lists have {len(first)} and {len(second)} words")
-    return first, second, is_new
+def pair_of(first: Any, second: Any, m: int) -> tuple[Any, Any, bool]:
+    """The words of two lists of the same length, which don't overlap, and whether the first are new."""
+    (xs, is_new), (ys, _) = words_of(first, m), words_of(second, m)
+    apart(xs, ys)
+    same_length(xs, ys)
+    return xs, ys, is_new
 
 
 def read_only(words: Iterable[int]) -> Any:
