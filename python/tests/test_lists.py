@@ -84,7 +84,7 @@ def test_empty_arrays():
         assert Montgomery(97).run(xs, []) is xs
         with pytest.raises(NoRootError):
             Montgomery(97).ntt(xs)
-        with pytest.raises(ValueError, match="0 words"):
+        with pytest.raises(ValueError, match="words is 0, not a power of two"):
             Plan(97, 4).ntt(xs)
 
 
@@ -155,17 +155,22 @@ def test_roots_and_lengths():
         for n, k in ((3, 2), (2, 3), (0, 1), (4, 8)):
             with pytest.raises(ValueError, match=f"{n} and {k} words"):
                 call([1] * n, [1] * k)
-    for call in (plan.ntt, plan.intt, plan.split, plan.join):
-        for xs in ([1, 2, 3], [1] * 8, [1, 388]):
-            with pytest.raises(ValueError):
+    bad = [([1, 2, 3], "is 3, not a power of two"), ([1] * 8, "^8 words don't fit the plan for 4$"), ([1, 388], "word 388 isn't below 388")]
+    for xs, fault in bad:
+        for call in (plan.ntt, plan.intt, plan.split, plan.join):
+            with pytest.raises(ValueError, match=fault):
                 call(xs)
+        for call in (plan.convolve, plan.convolve_negacyclic):
+            for pair in ((xs, [1] * len(xs)), ([1] * len(xs), xs)):
+                with pytest.raises(ValueError, match=fault.replace("not a power", "not (2 times )?a power")):
+                    call(*pair)
+    with pytest.raises(ValueError, match="is 1, not 2 times a power of two"):
+        plan.convolve_negacyclic([1], [1])
+    assert plan.convolve([2], [3]) == [6]
     for call in (plan.split, plan.join):
-        for b, last in ((2, 1), (0, 3), (0, 0)):
-            with pytest.raises(ValueError):
+        for b, last, fault in ((2, 1, "4 words of block 2 don't"), (0, 3, "not 3 times a power"), (0, 0, "not 0 times a power")):
+            with pytest.raises(ValueError, match=fault):
                 call([1, 2, 3, 4], b, last)
-    for xs, ys, words in (([1] * 8, [1] * 8, "8 words"), ([1, 388], [1, 2], "below 388")):
-        with pytest.raises(ValueError, match=words):
-            plan.convolve(xs, ys)
 
 
 def test_runs():

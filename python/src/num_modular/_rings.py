@@ -4,7 +4,7 @@ from __future__ import annotations
 from collections.abc import Iterable, Sequence
 from typing import Any
 
-from num_modular._calls import NoInverseError, NoRootError, check, pair_of, reduced, words_of
+from num_modular._calls import NoInverseError, NoRootError, check, fail, pair_of, reduced, words_of
 from num_modular._library import ffi, lib
 from num_modular._words import invm
 
@@ -256,35 +256,50 @@ class Plan:
         return self._in_place(lib.nm_plan_join, xs, b, last)
 
     def convolve(self, xs: Any, ys: Any) -> Any:
-        """The product of two lists of n words, or of fewer, modulo X^n - 1: see `Montgomery.convolve`. An array ys gets other
-        contents. ValueError: the lengths aren't equal, aren't those of the plan, or the arrays overlap.
+        """The cyclic product of two lists of n words: see `Montgomery.convolve`. n is a power of two, from 1 to the length of the
+        plan. The contents of an array ys are unspecified afterwards.
+
+        ValueError: the lengths differ, n or a word is out of range, or the arrays overlap. NoInverseError: n has no inverse modulo m.
 
         >>> Plan(97, 4).convolve([1, 2, 3, 0], [4, 5, 0, 0])
         [4, 13, 22, 15]
         """
-        return self._product(lib.nm_plan_convolve, xs, ys)
+        return self._product(lib.nm_plan_convolve, xs, ys, 1)
 
     def convolve_negacyclic(self, xs: Any, ys: Any) -> Any:
-        """The product modulo X^n + 1: entry e is the sum of x_i * y_j over i + j = e, less that over i + j = e + n. As
-        `convolve`.
+        """The product of two lists of n words modulo X^n + 1: entry e is the sum of x_i * y_j over i + j = e, minus that over
+        i + j = e + n, modulo m. n is a power of two, from 2 to the length of the plan. Otherwise as `convolve`; NoInverseError:
+        n/2 has no inverse modulo m.
 
         >>> Plan(97, 4).convolve_negacyclic([0, 0, 0, 1], [0, 1, 0, 0])
         [96, 0, 0, 0]
         """
-        return self._product(lib.nm_plan_convolve_negacyclic, xs, ys)
+        return self._product(lib.nm_plan_convolve_negacyclic, xs, ys, 2)
 
-    def _in_place(self, call: Any, xs: Any, *numbers: int) -> Any:
+    def _in_place(self, call: Any, xs: Any, *block: int) -> Any:
         words, is_new = words_of(xs, self.modulus)
-        self._check(call(self._plan, words, len(words), *numbers), words)
+        code = call(self._plan, words, len(words), *block)
+        if code != lib.NM_OK:
+            fail(code, self._fault(code, [words], *block))
         return list(words) if is_new else xs
 
-    def _product(self, call: Any, xs: Any, ys: Any) -> Any:
+    def _product(self, call: Any, xs: Any, ys: Any, last: int) -> Any:
         first, second, is_new = pair_of(xs, ys, self.modulus)
-        self._check(call(self._plan, first, len(first), second, len(second)), first)
+        code = call(self._plan, first, len(first), second, len(second))
+        if code != lib.NM_OK:
+            fail(code, self._fault(code, [first, second], 0, last))
         return list(first) if is_new else xs
 
-    def _check(self, code: int, words: Any) -> None:
-        """Raises the exception of a code; a precondition is on the length, or on the words. A number of words or of remainders
-        is a power of two, which has an inverse where 2 has one."""
-        fault = f"{len(words)} words don't fit the plan for {self.length}, or one of them isn't below {4 * self.modulus}"
-        check(code, f"2 has no inverse modulo {self.modulus}" if code == lib.NM_NO_INVERSE else fault)
+    def _fault(self, code: int, lists: list[Any], b: int = 0, last: int = 1) -> str:
+        """What the code says of lists of the same length, for a call that splits block b down to remainders of last words."""
+        if code == lib.NM_NO_INVERSE:
+            return f"{len(lists[0]) // last} has no inverse modulo {self.modulus}"
+        n, limit = len(lists[0]), 4 * self.modulus
+        for word in (it for words in lists for it in words if it >= limit):
+            return f"the word {word} isn't below {limit}, 4 times the modulus"
+        count, rest = divmod(n, last) if last else (0, n)
+        if rest or count == 0 or count & (count - 1):
+            times = "" if last == 1 else f"{last} times "
+            return f"the number of words is {n}, not {times}a power of two"
+        place = f" of block {b}" if b else ""
+        return f"{n} words{place} don't fit the plan for {self.length}"
