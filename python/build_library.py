@@ -1,7 +1,7 @@
 """Builds num_modular._library, which calls the library for C, by what its header declares.
 
-The library is the installed one, by pkg-config. Where none is installed, cargo builds one of ../rust/capi, whose archive
-becomes a part of the module.
+The library is the installed one of this package's minor version, by pkg-config. Where there is none, cargo builds one of
+../rust/capi, whose archive becomes a part of the module.
 """
 import os
 import re
@@ -14,10 +14,11 @@ from cffi import FFI
 
 HERE = Path(os.path.realpath(__file__)).parent
 NAME = "num_modular"
+VERSION = re.search(r'^__version__ = "(\d+)\.(\d+)\.', (HERE / "src/num_modular/__init__.py").read_text(encoding="utf-8"), re.M)
 
 
 def declared(header):
-    """What cffi reads of the header: constants without their values, structs and functions."""
+    """The part of the header that cffi reads: constants without their values, structs and functions."""
     text = re.sub(r"/\*.*?\*/", "", header, flags=re.S)
     constants = re.findall(r"^#define (NM_\w+) (?:\d|UINT64_C)", text, re.M)
     structs = re.findall(r"^typedef struct \{.*?^\} \w+;$", text, re.M | re.S)
@@ -26,14 +27,16 @@ def declared(header):
 
 
 def asked(*words):
-    """The words that pkg-config says."""
+    """What pkg-config prints, as a list of words."""
     said = subprocess.run(["pkg-config", *words, NAME], stdout=subprocess.PIPE, text=True, check=True).stdout
     return shlex.split(said)
 
 
 def is_installed():
-    found = shutil.which("pkg-config")
-    return bool(found) and subprocess.run([found, "--exists", f"{NAME} >= 0.7"], check=False).returncode == 0
+    """Whether there is a library of this package's minor version, since each minor version may change the interface."""
+    found, (major, minor) = shutil.which("pkg-config"), map(int, VERSION.groups())
+    versions = f"{NAME} >= {major}.{minor} {NAME} < {major}.{minor + 1}"
+    return bool(found) and subprocess.run([found, "--exists", versions], check=False).returncode == 0
 
 
 def installed():
@@ -44,11 +47,11 @@ def installed():
 
 
 def built():
-    """The same of the library that cargo builds of the sources beside this folder."""
+    """The same for the library that cargo builds from the sources beside this folder."""
     package = HERE.parent / "rust/capi"
     if not (package / "Makefile").exists() or not shutil.which("cargo"):
-        raise SystemExit("num_modular for C isn't installed (pkg-config doesn't find it), and can't be built without cargo and "
-                         "the sources beside this folder")
+        raise SystemExit("pkg-config finds no num_modular for C of this version, and it can't be built without cargo and the "
+                         "sources beside this folder")
     subprocess.run(["make", "-s", "-C", package], check=True)
     return HERE.parent / "c/include", {"extra_objects": [str(package / "target/release/own/libnum_modular.a")]}
 

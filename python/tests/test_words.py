@@ -4,9 +4,16 @@ import random
 
 import pytest
 
+import num_modular
 from num_modular import Divider, Montgomery, NoInverseError, addm, invm, jacobi, kronecker, legendre, mulm, powm, subm
+from num_modular._library import lib
 
 TOP = 1 << 64
+
+
+def test_versions():
+    major, minor, _ = map(int, num_modular.__version__.split("."))
+    assert (major, minor) == divmod(lib.nm_version() // 100, 100)
 
 
 def cases(count):

@@ -24,6 +24,8 @@ from num_modular._polynomials import (
 from num_modular._rings import Divider, Montgomery, Plan
 from num_modular._words import addm, invm, jacobi, kronecker, legendre, mulm, powm, subm
 
+__version__ = "0.7.0"
+
 __all__ = [
     "Correction",
     "Divider",

@@ -7,7 +7,9 @@ from typing import Any, NoReturn
 
 from num_modular._library import ffi, lib
 
-TOP = 1 << 64
+if lib.nm_version() // 100 != 100 * lib.NM_VERSION_MAJOR + lib.NM_VERSION_MINOR:
+    raise ImportError(f"the library for C isn't of version {lib.NM_VERSION_MAJOR}.{lib.NM_VERSION_MINOR}, for which this was built")
+
 # The formats of words of 64 bits that the struct module and memoryview write, in the order of this machine's bytes.
 _LITTLE = sys.byteorder == "little"
 _FORMATS = {"Q", "@Q", "=Q", "<Q" if _LITTLE else ">Q", "N", "@N"} | ({"L", "@L"} if ffi.sizeof("long") == 8 else set())
