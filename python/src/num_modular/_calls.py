@@ -1,8 +1,12 @@
-"""What all calls of the library for C share: codes as exceptions, integers as words, lists as arrays of words."""
+"""What all calls of the library for C share: codes as exceptions, integers as words, lists as arrays of words.
+
+Each number passes through `index`, since cffi rounds fractions in silence.
+"""
 from __future__ import annotations
 
 import sys
 from collections.abc import Iterable
+from operator import index
 from typing import Any, NoReturn
 
 from num_modular._library import ffi, lib
@@ -78,6 +82,7 @@ def no_inverse(number: int, m: int) -> NoInverseError:
 
 def reduced(n: int, m: int) -> int:
     """A word that is congruent to n modulo m: n itself, or, where n is negative, its residue."""
+    n = index(n)
     return n if n >= 0 or m == 0 else n % m
 
 
@@ -124,7 +129,7 @@ def pair_of(first: Any, second: Any, m: int) -> tuple[Any, Any, bool]:
 
 def read_only(words: Iterable[int]) -> Any:
     """New words with these numbers."""
-    return ffi.new("uint64_t[]", list(words))
+    return ffi.new("uint64_t[]", [index(it) for it in words])
 
 
 def scratch_for(room: Any, *lengths: int) -> tuple[Any, int, Any, int]:

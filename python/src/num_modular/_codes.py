@@ -48,7 +48,7 @@ class ErasureCode:
 
     def __init__(self, m: int, points: Iterable[int]) -> None:
         self._context = ffi.new("nm_montgomery_t *")
-        check(lib.nm_montgomery(m, self._context), "the modulus must be at least 1")
+        check(lib.nm_montgomery(index(m), self._context), "the modulus must be at least 1")
         self._points = self._words(points)
 
     def __repr__(self) -> str:
@@ -143,7 +143,7 @@ class ErasureCode:
         return self.correct(shares, k).message[0]
 
     def _words(self, numbers: Iterable[int]) -> Any:
-        return read_only(reduced(index(it), self.modulus) for it in numbers)
+        return read_only(reduced(it, self.modulus) for it in numbers)
 
     def _encoded(self, call: Any, message: Iterable[int]) -> list[int]:
         words, n = self._words(message), len(self._points)
@@ -157,5 +157,5 @@ class ErasureCode:
         """The places and the symbols that aren't lost."""
         pairs = word.items() if isinstance(word, Mapping) else enumerate(word)
         there = [(place, symbol) for place, symbol in pairs if symbol is not None]
-        places = ffi.new("size_t[]", [place for place, _ in there])
+        places = ffi.new("size_t[]", [index(place) for place, _ in there])
         return places, self._words(symbol for _, symbol in there)

@@ -97,6 +97,6 @@ class PrefixHashes:
         True
         """
         out, n = ffi.new("uint64_t *"), len(self._hashes)
-        code = lib.nm_substring_hash(self._hashes, n, self._powers, n, start, stop, out)
+        code = lib.nm_substring_hash(self._hashes, n, self._powers, n, index(start), index(stop), out)
         check(code, f"the text of {n - 1} bytes has no part from {start} to {stop}")
         return out[0]

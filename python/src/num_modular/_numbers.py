@@ -24,7 +24,8 @@ def product(a: int, b: int) -> int:
     >>> product(-2**100, 3) == -3 * 2**100
     True
     """
-    (xs, n), (ys, k) = _digits(abs(index(a))), _digits(abs(index(b)))
+    a, b = index(a), index(b)
+    (xs, n), (ys, k) = _digits(abs(a)), _digits(abs(b))
     digits = bytearray((n + k) * _WORD)
     out = ffi.from_buffer("uint64_t[]", digits, require_writable=True)
     check(lib.nm_product(xs, n, ys, k, out, n + k, *scratch_for(lib.nm_product_room, n, k)))
@@ -38,7 +39,7 @@ def encode(moduli: Iterable[int], x: int) -> list[int]:
     >>> encode([3, 5, 7], 23)
     [2, 3, 2]
     """
-    listed = list(moduli)
+    x, listed = index(x), [index(m) for m in moduli]
     if any(m < 1 for m in listed):
         raise ValueError("each modulus must be at least 1")
     return [x % m for m in listed]

@@ -11,7 +11,7 @@ from num_modular._library import ffi, lib
 
 
 def _check_modulus(m: int) -> None:
-    if not 0 < m < 1 << 64:
+    if not 0 < index(m) < 1 << 64:
         raise ValueError("the modulus must be from 1 to 2^64 - 1")
 
 
@@ -104,7 +104,7 @@ def transform_root_fits(g: int, n: int, m: int) -> bool:
     (True, False)
     """
     _check_modulus(m)
-    code = lib.nm_transform_root_fits(m, index(g) % m, n)
+    code = lib.nm_transform_root_fits(m, index(g) % m, index(n))
     if code == lib.NM_NO_ROOT:
         return False
     check(code)

@@ -2,6 +2,7 @@
 from __future__ import annotations
 
 from collections.abc import Iterable, Sequence
+from operator import index
 from typing import Any
 
 from num_modular._calls import NoInverseError, NoRootError, check, fail, pair_of, reduced, words_of
@@ -33,7 +34,7 @@ class Divider:
 
     def __init__(self, d: int) -> None:
         self._divider = ffi.new("nm_divider_t *")
-        check(lib.nm_divider(d, self._divider), "the divisor must be at least 1")
+        check(lib.nm_divider(index(d), self._divider), "the divisor must be at least 1")
 
     def __repr__(self) -> str:
         return f"Divider({self.divisor})"
@@ -65,7 +66,7 @@ class Montgomery:
 
     def __init__(self, m: int) -> None:
         self._context = ffi.new("nm_montgomery_t *")
-        check(lib.nm_montgomery(m, self._context), "the modulus must be at least 1")
+        check(lib.nm_montgomery(index(m), self._context), "the modulus must be at least 1")
 
     def __repr__(self) -> str:
         return f"Montgomery({self.modulus})"
@@ -88,7 +89,7 @@ class Montgomery:
         if exponent < 0:
             a, exponent = invm(a, self.modulus), -exponent
         check(lib.nm_montgomery_transform(self._context, reduced(a, self.modulus), out))
-        check(lib.nm_montgomery_pow(self._context, out[0], exponent, out))
+        check(lib.nm_montgomery_pow(self._context, out[0], index(exponent), out))
         check(lib.nm_montgomery_residue(self._context, out[0], out))
         return out[0]
 
@@ -99,7 +100,7 @@ class Montgomery:
         64
         """
         out = ffi.new("uint64_t *")
-        check(lib.nm_montgomery_find_root(self._context, n, out), f"no root of {n} words was found modulo {self.modulus}")
+        check(lib.nm_montgomery_find_root(self._context, index(n), out), f"no root of {n} words was found modulo {self.modulus}")
         return out[0]
 
     def ntt(self, xs: Any, root: int | None = None) -> Any:
@@ -171,7 +172,7 @@ class Montgomery:
         if name not in _OPERATIONS or len(numbers) != len(_OPERATIONS[name][1]):
             raise ValueError(f"{words!r} is no command")
         operation, fields = _OPERATIONS[name]
-        command = {"operation": operation, **dict(zip(fields, numbers))}
+        command = {"operation": operation, **dict(zip(fields, map(index, numbers)))}
         if name == "load":
             command["n"] = reduced(command["n"], self.modulus)
         return command
@@ -191,6 +192,7 @@ class Plan:
     __slots__ = ("_plan", "_table")
 
     def __init__(self, m: int, n: int, root: int | None = None) -> None:
+        m, n = index(m), index(n)
         if n < 2:
             raise ValueError("a plan is for at least 2 words")
         if not 1 <= m <= 1 << 62:
@@ -245,7 +247,7 @@ class Plan:
         >>> Plan(17, 4, 4).split([1, 2, 3, 4], last=2)
         [4, 6, 15, 15]
         """
-        return self._in_place(lib.nm_plan_split, xs, b, last)
+        return self._in_place(lib.nm_plan_split, xs, index(b), index(last))
 
     def join(self, xs: Any, b: int = 0, last: int = 1) -> Any:
         """Undoes `split`. NoInverseError: the number of remainders has no inverse modulo m.
@@ -253,7 +255,7 @@ class Plan:
         >>> Plan(17, 4, 4).join([4, 6, 15, 15], last=2)
         [1, 2, 3, 4]
         """
-        return self._in_place(lib.nm_plan_join, xs, b, last)
+        return self._in_place(lib.nm_plan_join, xs, index(b), index(last))
 
     def convolve(self, xs: Any, ys: Any) -> Any:
         """The cyclic product of two lists of n words: see `Montgomery.convolve`. n is a power of two, from 1 to the length of the

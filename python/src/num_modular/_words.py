@@ -1,6 +1,8 @@
 """Operations modulo m on integers, and symbols."""
 from __future__ import annotations
 
+from operator import index
+
 from num_modular._calls import check, no_inverse, reduced
 from num_modular._library import ffi, lib
 
@@ -12,7 +14,7 @@ def addm(a: int, b: int, m: int) -> int:
     8
     """
     out = ffi.new("uint64_t *")
-    check(lib.nm_addm(reduced(a, m), reduced(b, m), m, out), "the modulus must be at least 1")
+    check(lib.nm_addm(reduced(a, m), reduced(b, m), index(m), out), "the modulus must be at least 1")
     return out[0]
 
 
@@ -23,7 +25,7 @@ def subm(a: int, b: int, m: int) -> int:
     8
     """
     out = ffi.new("uint64_t *")
-    check(lib.nm_subm(reduced(a, m), reduced(b, m), m, out), "the modulus must be at least 1")
+    check(lib.nm_subm(reduced(a, m), reduced(b, m), index(m), out), "the modulus must be at least 1")
     return out[0]
 
 
@@ -34,7 +36,7 @@ def mulm(a: int, b: int, m: int) -> int:
     1
     """
     out = ffi.new("uint64_t *")
-    check(lib.nm_mulm(reduced(a, m), reduced(b, m), m, out), "the modulus must be at least 1")
+    check(lib.nm_mulm(reduced(a, m), reduced(b, m), index(m), out), "the modulus must be at least 1")
     return out[0]
 
 
@@ -50,7 +52,7 @@ def powm(a: int, exponent: int, m: int) -> int:
     out = ffi.new("uint64_t *")
     if exponent < 0:
         a, exponent = invm(a, m), -exponent
-    check(lib.nm_powm(reduced(a, m), exponent, m, out), "the modulus must be at least 1")
+    check(lib.nm_powm(reduced(a, m), index(exponent), index(m), out), "the modulus must be at least 1")
     return out[0]
 
 
@@ -61,7 +63,7 @@ def invm(a: int, m: int) -> int:
     5
     """
     out = ffi.new("uint64_t *")
-    code = lib.nm_invm(reduced(a, m), m, out)
+    code = lib.nm_invm(reduced(a, m), index(m), out)
     if code == lib.NM_NO_INVERSE:
         raise no_inverse(a, m)
     check(code, "the modulus must be at least 1")
@@ -75,7 +77,7 @@ def jacobi(a: int, n: int) -> int:
     (1, -1, 0)
     """
     out = ffi.new("int32_t *")
-    check(lib.nm_jacobi(reduced(a, n), n, out), "n must be odd")
+    check(lib.nm_jacobi(reduced(a, n), index(n), out), "n must be odd")
     return out[0]
 
 
@@ -90,7 +92,7 @@ def legendre(a: int, p: int) -> int:
     (1, -1)
     """
     out = ffi.new("int32_t *")
-    check(lib.nm_legendre(reduced(a, p), p, out), f"the symbol of {a} over {p} isn't defined")
+    check(lib.nm_legendre(reduced(a, p), index(p), out), f"the symbol of {a} over {p} isn't defined")
     return out[0]
 
 
@@ -102,5 +104,5 @@ def kronecker(a: int, n: int) -> int:
     """
     out = ffi.new("int32_t *")
     symbol = lib.nm_kronecker if a >= 0 and n >= 0 else lib.nm_kronecker_signed
-    check(symbol(a, n, out))
+    check(symbol(index(a), index(n), out))
     return out[0]
