@@ -133,12 +133,6 @@ def test_roots_and_lengths():
         Montgomery(97).intt([1, 2, 3, 4], 5)
     with pytest.raises(NoRootError, match="5 doesn't suit 4 words"):
         Montgomery(97).convolve([1, 2, 3, 4], [5, 6, 7, 8], 5)
-    with pytest.raises(NoInverseError, match="2 has no inverse modulo 4"):
-        Montgomery(4).convolve([1, 2], [3, 0], 3)
-    with pytest.raises(NoInverseError, match="2 has no inverse modulo 20"):
-        Montgomery(20).intt([7, 9], 19)
-    with pytest.raises(ValueError, match="4 and 2 words"):
-        Montgomery(97).convolve([1, 2, 3, 4], [5, 6])
     for m, n, root in ((97, 3, None), (97, 8, 5), (97, 64, None)):
         with pytest.raises(NoRootError):
             Plan(m, n, root)
@@ -147,9 +141,20 @@ def test_roots_and_lengths():
     for m, n in ((97, 1), (0, 4), ((1 << 62) + 1, 2)):
         with pytest.raises(ValueError):
             Plan(m, n)
-    for call in (Plan(20, 2, 19).intt, Plan(20, 2, 19).join):
-        with pytest.raises(NoInverseError, match="2 has no inverse modulo 20"):
-            call([7, 9])
+    plan, ones = Plan(10, 4, 3), [1] * 4
+    without = [
+        (lambda: Montgomery(4).convolve([1, 2], [3, 0], 3), 2),
+        (lambda: Montgomery(20).intt([7, 9], 19), 2),
+        (lambda: plan.intt(ones), 4),
+        (lambda: plan.join(ones), 4),
+        (lambda: plan.join(ones, 0, 2), 2),
+        (lambda: plan.convolve(ones, ones), 4),
+        (lambda: plan.convolve_negacyclic(ones, ones), 2),
+    ]
+    for call, number in without:
+        with pytest.raises(NoInverseError, match=f"^{number} has no inverse modulo") as told:
+            call()
+        assert told.value.number == number
     plan = Plan(97, 4)
     for call in (Montgomery(97).convolve, plan.convolve, plan.convolve_negacyclic):
         for n, k in ((3, 2), (2, 3), (0, 1), (4, 8)):
@@ -178,7 +183,11 @@ def test_runs():
     commands = [("load", 0, 5), ("load", 1, 7), ("inv", 2, 0), ("inv", 0, 1), ("add", 0, 0, 1)]
     with pytest.raises(NoInverseError) as told:
         ring.run([0] * 3, commands)
-    assert (told.value.at, told.value.registers, told.value.number) == (3, [5, 7, 17], None)
+    assert (told.value.at, told.value.registers, told.value.number) == (3, [5, 7, 17], 7)
+    for words in ([0, 14], array.array("Q", [0, 14])):
+        with pytest.raises(NoInverseError, match="^14 has no inverse modulo 21 in command 1$") as told:
+            ring.run(words, [("load", 0, 30), ("div", 0, 0, 1)])
+        assert (told.value.at, list(told.value.registers), told.value.number) == (1, [9, 14], 14)
     words = array.array("Q", [30, 0])
     assert ring.run(words, [("sqr", 0, 0), ("pow", 1, 0, 3), ("neg", 1, 1), ("sub", 0, 1, 0)]) is words
     assert list(words) == [(-(81**3) - 81) % 21, -(81**3) % 21]

@@ -20,10 +20,10 @@ _FORMATS = {"Q", "@Q", "=Q", "<Q" if _LITTLE else ">Q", "N", "@N"} | ({"L", "@L"
 
 
 class NoInverseError(ValueError):
-    """A number that a call must invert has no inverse modulo m.
+    """A number that a call must invert has no inverse modulo m: `number`.
 
-    `number` is that number, where the call knows it. `at` and `registers` are set by `Montgomery.run` alone: the number of the
-    command that failed, counted from 0, and the registers before it.
+    Only `Montgomery.run` sets `at`, the number of the command that failed, counted from 0, and `registers`, those after the
+    commands before it.
     """
 
     number: int | None = None
@@ -73,9 +73,9 @@ def check(code: int, words: str = "") -> None:
         fail(code, words)
 
 
-def no_inverse(number: int, m: int) -> NoInverseError:
+def no_inverse(number: int, m: int, place: str = "") -> NoInverseError:
     """The exception for a number that has no inverse modulo m."""
-    fault = NoInverseError(f"{number} has no inverse modulo {m}")
+    fault = NoInverseError(f"{number} has no inverse modulo {m}{place}")
     fault.number = number
     return fault
 

@@ -3,9 +3,9 @@ from __future__ import annotations
 
 from collections.abc import Iterable, Sequence
 from operator import index
-from typing import Any
+from typing import Any, NoReturn
 
-from num_modular._calls import NoInverseError, NoRootError, check, fail, pair_of, reduced, words_of
+from num_modular._calls import NoRootError, check, fail, no_inverse, pair_of, reduced, words_of
 from num_modular._library import ffi, lib
 from num_modular._words import invm
 
@@ -149,7 +149,9 @@ class Montgomery:
         code = lib.nm_montgomery_run(self._context, words, len(words), ffi.new("nm_command_t[]", listed), len(listed), done)
         result = list(words) if is_new else registers
         if code == lib.NM_NO_INVERSE:
-            fault = NoInverseError(f"the inverse of command {done[0]} doesn't exist")
+            command = listed[done[0]]
+            number = result[command["a" if command["operation"] == lib.NM_INV else "b"]]
+            fault = no_inverse(int(number), self.modulus, f" in command {done[0]}")
             fault.at, fault.registers = done[0], result
             raise fault
         check(code, "a register doesn't exist")
@@ -165,7 +167,9 @@ class Montgomery:
         n = len(lists[0])
         root = self.find_root(n) if root is None else reduced(root, self.modulus)
         code = call(self._context, *(part for it in lists for part in (it, len(it))), root)
-        check(code, f"{n} has no inverse modulo {self.modulus}" if code == lib.NM_NO_INVERSE else f"{root} doesn't suit {n} words")
+        if code == lib.NM_NO_INVERSE:
+            raise no_inverse(n, self.modulus)
+        check(code, f"{root} doesn't suit {n} words")
 
     def _command(self, words: Sequence[Any]) -> dict[str, int]:
         name, *numbers = words
@@ -282,20 +286,24 @@ class Plan:
         words, is_new = words_of(xs, self.modulus)
         code = call(self._plan, words, len(words), *block)
         if code != lib.NM_OK:
-            fail(code, self._fault(code, [words], *block))
+            self._refuse(code, [words], *block)
         return list(words) if is_new else xs
 
     def _product(self, call: Any, xs: Any, ys: Any, last: int) -> Any:
         first, second, is_new = pair_of(xs, ys, self.modulus)
         code = call(self._plan, first, len(first), second, len(second))
         if code != lib.NM_OK:
-            fail(code, self._fault(code, [first, second], 0, last))
+            self._refuse(code, [first, second], 0, last)
         return list(first) if is_new else xs
 
-    def _fault(self, code: int, lists: list[Any], b: int = 0, last: int = 1) -> str:
-        """What the code says of lists of the same length, for a call that splits block b down to remainders of last words."""
+    def _refuse(self, code: int, lists: list[Any], b: int = 0, last: int = 1) -> NoReturn:
+        """Raises the exception of a code, for lists of the same length whose block b is split down to remainders of last words."""
         if code == lib.NM_NO_INVERSE:
-            return f"{len(lists[0]) // last} has no inverse modulo {self.modulus}"
+            raise no_inverse(len(lists[0]) // last, self.modulus)
+        fail(code, self._fault(lists, b, last) if code == lib.NM_BAD_ARGUMENT else "")
+
+    def _fault(self, lists: list[Any], b: int, last: int) -> str:
+        """Which precondition the lists break."""
         n, limit = len(lists[0]), 4 * self.modulus
         for word in (it for words in lists for it in words if it >= limit):
             return f"the word {word} isn't below {limit}, 4 times the modulus"
