@@ -160,7 +160,11 @@ def test_roots_and_lengths():
         for n, k in ((3, 2), (2, 3), (0, 1), (4, 8)):
             with pytest.raises(ValueError, match=f"{n} and {k} words"):
                 call([1] * n, [1] * k)
-    bad = [([1, 2, 3], "is 3, not a power of two"), ([1] * 8, "^8 words don't fit the plan for 4$"), ([1, 388], "word 388 isn't below 388")]
+    bad = [
+        ([1, 2, 3], "is 3, not a power of two"),
+        ([1] * 8, "^8 words don't fit the plan for 4$"),
+        ([1, 388], "word 388 isn't below 388"),
+    ]
     for xs, fault in bad:
         for call in (plan.ntt, plan.intt, plan.split, plan.join):
             with pytest.raises(ValueError, match=fault):

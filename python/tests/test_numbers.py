@@ -21,7 +21,8 @@ def test_products():
 
 def test_residue_systems():
     draw = random.Random(7)
-    for moduli in ([2**64 - 59, 2**63 - 25], [2**64 - 1, 2**64 - 3, 2**64 - 5], [1, 4, 9, 1], list(filter(is_prime, range(2, 1000)))):
+    primes = [n for n in range(2, 1000) if all(n % d for d in range(2, n))]
+    for moduli in ([2**64 - 59, 2**63 - 25], [2**64 - 1, 2**64 - 3, 2**64 - 5], [1, 4, 9, 1], primes):
         others = [draw.getrandbits(64) | 1 for _ in range(20)] + moduli
         for x in (0, 1, draw.randrange(math.prod(moduli)), math.prod(moduli) - 1):
             x %= math.prod(moduli)
@@ -31,10 +32,6 @@ def test_residue_systems():
             assert encode(moduli, x - math.prod(moduli)) == encode(moduli, x)
     assert decode([], []) == 0
     assert (extend([], [], [5, 7]), extend([3], [2], [])) == ([0, 0], [])
-
-
-def is_prime(n):
-    return all(n % d for d in range(2, math.isqrt(n) + 1))
 
 
 def test_what_is_no_residue_system():

@@ -51,10 +51,12 @@ def test_squares_and_products_of_n_coefficients(m):
 
 
 def test_what_is_no_polynomial():
-    for call, words in ((multiply, ([1], [1])), (square, ([1],)), (multiply_cyclic, ([1], [1])), (multiply_negacyclic, ([1], [1]))):
-        for m in (0, -1, 2**64):
+    for m in (0, -1, 2**64):
+        with pytest.raises(ValueError):
+            square([1], m)
+        for call in (multiply, multiply_cyclic, multiply_negacyclic):
             with pytest.raises(ValueError):
-                call(*words, m)
+                call([1], [1], m)
     with pytest.raises(TypeError):
         multiply([1.5], [2], 5)
     for call in (multiply_cyclic, multiply_negacyclic):
@@ -100,9 +102,9 @@ def test_roots_of_unity():
 
 
 def test_what_is_no_transform():
-    for call, xs, g, m, number in ((transform, [1, 2], -6, 9, -6), (transform_inverse, [1, 2], 3, 9, 3), (transform_inverse, [1, 2], 3, 4, 2)):
+    for call, g, m, number in ((transform, -6, 9, -6), (transform_inverse, 3, 9, 3), (transform_inverse, 3, 4, 2)):
         with pytest.raises(NoInverseError, match=f"^{number} has no inverse modulo {m}$") as told:
-            call(xs, g, m)
+            call([1, 2], g, m)
         assert told.value.number == number
     for call in (transform, transform_inverse):
         with pytest.raises(TypeError):

@@ -1,10 +1,13 @@
-"""Arithmetic modulo m, transforms, products of long numbers and erasure codes, by a library that is proved.
+"""Arithmetic modulo m, transforms, products of long numbers and of polynomials, hashes, residue systems and erasure codes, by
+a library that is proved.
 
-Integers are words, from 0 to 2^64 - 1, and what doesn't fit raises OverflowError. Operands, symbols and roots may also be
-negative, and are then reduced modulo m; a negative exponent raises the inverse to a power.
+Moduli and the words of lists are below 2^64. Operands, symbols, roots and exponents may be negative. `product`, `multiply`
+and its like, the transforms of any length, `encode` and the bases of hashes take integers of any size. What doesn't fit
+raises OverflowError, and what isn't an integer TypeError.
 
-A list of words is a sequence of integers, of which the result is a new list; or a one-dimensional, contiguous, aligned and
-writable array of unsigned words of 64 bits (numpy's uint64, array.array("Q")), which is changed in place and returned.
+The methods of `Montgomery` and `Plan` take two kinds of lists. For a sequence of integers they return a new list. A
+one-dimensional, contiguous, aligned and writable array of unsigned 64-bit words (numpy's uint64, array.array("Q")) they change
+in place and return. All other calls only read their lists.
 
 Nothing is claimed about constant time, so timing may reveal secrets.
 """

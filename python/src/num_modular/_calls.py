@@ -12,7 +12,8 @@ from typing import Any, NoReturn
 from num_modular._library import ffi, lib
 
 if lib.nm_version() // 100 != 100 * lib.NM_VERSION_MAJOR + lib.NM_VERSION_MINOR:
-    raise ImportError(f"the library for C isn't of version {lib.NM_VERSION_MAJOR}.{lib.NM_VERSION_MINOR}, for which this was built")
+    version = f"{lib.NM_VERSION_MAJOR}.{lib.NM_VERSION_MINOR}"
+    raise ImportError(f"the library for C doesn't have version {version}, for which this package was built")
 
 # The formats of words of 64 bits that the struct module and memoryview write, in the order of this machine's bytes.
 _LITTLE = sys.byteorder == "little"
@@ -32,7 +33,7 @@ class NoInverseError(ValueError):
 
 
 class NoRootError(ValueError):
-    """There is no root, or the given one doesn't suit the length."""
+    """No root was found, or the given one doesn't suit the length."""
 
 
 class PointsError(ValueError):
@@ -44,7 +45,7 @@ class TooFewSymbolsError(ValueError):
 
 
 class TooManyErrorsError(ValueError):
-    """No word of an erasure code is near enough to the symbols."""
+    """Too many symbols of an erasure code are wrong."""
 
 
 _FAULTS = {
@@ -87,7 +88,7 @@ def reduced(n: int, m: int) -> int:
 
 
 def words_of(array: Any, m: int) -> tuple[Any, bool]:
-    """The words of an array, which stays the caller's, and False; or new words with those of a sequence, and True."""
+    """The words of an array, in the caller's memory, and False; or new words with the integers of a sequence, and True."""
     try:
         view = memoryview(array)
     except TypeError:
@@ -98,7 +99,7 @@ def words_of(array: Any, m: int) -> tuple[Any, bool]:
         raise ValueError("the array must be writable")
     if not view.c_contiguous:
         raise ValueError("the array must be contiguous")
-    if view.nbytes == 0:  # its address may be any
+    if view.nbytes == 0:  # an empty array need not be aligned
         return ffi.new("uint64_t[]", 0), False
     words = ffi.from_buffer("uint64_t[]", array, require_writable=True)
     if int(ffi.cast("uintptr_t", words)) % ffi.alignof("uint64_t"):
@@ -107,20 +108,20 @@ def words_of(array: Any, m: int) -> tuple[Any, bool]:
 
 
 def same_length(first: Any, second: Any) -> None:
-    """Raises an exception where two lists differ in length."""
+    """Raises ValueError where two lists differ in length."""
     if len(first) != len(second):
         raise ValueError(f"the lists have {len(first)} and {len(second)} words")
 
 
 def apart(first: Any, second: Any) -> None:
-    """Raises an exception where two arrays of words overlap."""
+    """Raises ValueError where two arrays of words overlap."""
     begins, other = (int(ffi.cast("uintptr_t", it)) for it in (first, second))
     if begins < other + 8 * len(second) and other < begins + 8 * len(first):
         raise ValueError("the arrays must not overlap")
 
 
 def pair_of(first: Any, second: Any, m: int) -> tuple[Any, Any, bool]:
-    """The words of two lists of the same length, which don't overlap, and whether the first are new."""
+    """The words of two lists, and whether the first are new. ValueError: the lengths differ, or the arrays overlap."""
     (xs, is_new), (ys, _) = words_of(first, m), words_of(second, m)
     apart(xs, ys)
     same_length(xs, ys)
@@ -133,7 +134,7 @@ def read_only(words: Iterable[int]) -> Any:
 
 
 def scratch_for(room: Any, *lengths: int) -> tuple[Any, int, Any, int]:
-    """The scratch lists, of words and of factors, that a call needs for lists of these lengths, each followed by its length."""
+    """The two scratch lists that a call needs for lists of these lengths, each followed by its own length."""
     words, factors = ffi.new("size_t *"), ffi.new("size_t *")
     check(room(*lengths, words, factors), "the lists are too long")
     return ffi.new("uint64_t[]", words[0]), words[0], ffi.new("nm_factor_t[]", factors[0]), factors[0]

@@ -9,12 +9,12 @@ from typing import Any, NamedTuple, Optional, Union
 from num_modular._calls import check, no_inverse, read_only, reduced
 from num_modular._library import ffi, lib
 
-# The symbols of a word: one for each point, or None where it is lost; or those that are there, by the numbers of the points.
+# The symbols of a word: a list with one for each point, None where it is lost; or a dict from numbers of points to symbols.
 Symbols = Union[Sequence[Optional[int]], Mapping[int, int]]
 
 
 class Correction(NamedTuple):
-    """What `ErasureCode.correct` found: the message, its word, and how many of the symbols differ from the word."""
+    """What `ErasureCode.correct` returns: the message, its word, and how many of the given symbols differ from that word."""
 
     message: list[int]
     word: list[int]
@@ -22,20 +22,21 @@ class Correction(NamedTuple):
 
 
 def _expect_some(k: int) -> None:
-    """Raises an exception where a message has no symbols."""
+    """Raises ValueError where a message has no symbols."""
     if k < 1:
         raise ValueError("k must be at least 1")
 
 
 class ErasureCode:
-    """Reed-Solomon codes modulo m, from 1 to 2^64 - 1, and Shamir's secret sharing, at points that are numbers modulo m.
+    """Reed-Solomon codes and Shamir's secret sharing modulo m, from 1 to 2^64 - 1.
 
-    A message is a list of numbers modulo m, and symbol i of its word is the value at point i of the polynomial with these
-    coefficients, the constant first. Any k symbols give back a message of k, if the points fit: the difference of any two
-    has an inverse modulo m. So there are at most as many points as the least prime that divides m.
+    The points are numbers modulo m. A message is a list of numbers modulo m, the coefficients of a polynomial, the constant
+    first. Symbol i of its word is the value of the polynomial at point i. Any k symbols determine a message of k symbols if
+    the points fit, which means that the difference of any two has an inverse modulo m. So at most p points fit, where p is the
+    least prime that divides m.
 
-    A word with lost symbols has None for each of them; or it is a dict, from the number of a point to the symbol there.
-    ValueError: m is 0, or a point has a number that doesn't exist.
+    A word with lost symbols is a list with None for each of them, or a dict from the number of a point, counted from 0, to the
+    symbol there. ValueError: m is 0, or the number of a point is too great.
 
     >>> code = ErasureCode(929, range(7))
     >>> code.encode([1, 2, 3])
@@ -65,7 +66,7 @@ class ErasureCode:
         return list(self._points)
 
     def encode(self, message: Iterable[int]) -> list[int]:
-        """The word of a message: a symbol for each point. ValueError: the message has more symbols than there are points.
+        """The word of a message, a symbol for each point. ValueError: the message has more symbols than there are points.
 
         >>> ErasureCode(97, [1, 2, 3]).encode([5, 10])
         [15, 25, 35]
@@ -73,9 +74,9 @@ class ErasureCode:
         return self._encoded(lib.nm_erasure_encode, message)
 
     def restore(self, word: Symbols, k: int) -> list[int]:
-        """The message of k symbols, by the first k symbols of the word that aren't lost.
+        """The message of k symbols, computed from the first k symbols of the word that aren't lost.
 
-        TooFewSymbolsError: there are fewer. PointsError: the points of these don't fit.
+        TooFewSymbolsError: fewer than k aren't lost. PointsError: the points of these k don't fit.
 
         >>> ErasureCode(97, [1, 2, 3]).restore({2: 35, 0: 15}, 2)
         [5, 10]
@@ -87,12 +88,12 @@ class ErasureCode:
         return list(message)
 
     def correct(self, word: Symbols, k: int) -> Correction:
-        """The only message of k symbols, at least 1, whose word differs in e of the s symbols that aren't lost, where 2 * e is
-        at most s - k; with that word, and e.
+        """The message of k symbols, at least 1, whose word differs from at most (s - k)/2 of the s symbols that aren't lost;
+        with that word, and the number of symbols from which it differs. There is at most one such message.
 
-        ValueError: k is below 1. TooFewSymbolsError: s is below k. TooManyErrorsError: no word is that near. PointsError: the
-        points of the symbols don't fit. NoInverseError: a number without an inverse modulo m was met, which is its `number`;
-        never for a prime m.
+        ValueError: k is below 1. TooFewSymbolsError: s is below k. TooManyErrorsError: there is no such message. PointsError:
+        the points of the symbols don't fit. NoInverseError: the method met a number without an inverse, which never happens
+        for a prime m.
 
         >>> ErasureCode(929, range(7)).correct([1, 0, 17, 34, 57, 900, 121], 3)
         Correction(message=[1, 2, 3], word=[1, 6, 17, 34, 57, 86, 121], errors=2)
@@ -111,11 +112,11 @@ class ErasureCode:
         return Correction(list(message), list(found), errors[0])
 
     def share(self, secret: int, k: int) -> list[int]:
-        """A share of the secret, a number modulo m, for each point: any k of them give it back, and k - 1 say nothing of it, as
-        the k - 1 other coefficients are drawn by the module `secrets`. It doesn't run in constant time.
+        """A share of the secret, a number modulo m, for each point. Any k shares determine the secret, and k - 1 shares reveal
+        nothing about it, as the module `secrets` draws the k - 1 other coefficients. It doesn't run in constant time.
 
-        PointsError: a point, such as 0, or the difference of two has no inverse. ValueError: k is below 1, or above the number
-        of points.
+        PointsError: a point, such as 0, or the difference of two points has no inverse. ValueError: k is below 1, or above the
+        number of points.
 
         >>> shares = ErasureCode(2**61 - 1, range(1, 6)).share(1234567, 3)
         >>> ErasureCode(2**61 - 1, range(1, 6)).recover({0: shares[0], 4: shares[4], 2: shares[2]}, 3)
@@ -126,7 +127,8 @@ class ErasureCode:
         return self._encoded(lib.nm_erasure_share, [secret, *drawn])
 
     def recover(self, shares: Symbols, k: int) -> int:
-        """The secret, by the first k shares that aren't lost, all of them right. The exceptions are those of `restore`.
+        """The secret, computed from the first k shares that aren't lost, which must be right. The exceptions are those of
+        `restore`.
 
         >>> ErasureCode(97, [1, 2, 3]).recover([15, None, 35], 2)
         5
@@ -135,7 +137,7 @@ class ErasureCode:
         return self.restore(shares, k)[0]
 
     def recover_correct(self, shares: Symbols, k: int) -> int:
-        """The secret, by s shares of which at most (s - k)/2 are forged. The exceptions are those of `correct`.
+        """The secret, computed from s shares of which at most (s - k)/2 are forged. The exceptions are those of `correct`.
 
         >>> ErasureCode(97, [1, 2, 3, 4]).recover_correct([15, 96, 35, 45], 2)
         5
@@ -148,13 +150,13 @@ class ErasureCode:
     def _encoded(self, call: Any, message: Iterable[int]) -> list[int]:
         words, n = self._words(message), len(self._points)
         if len(words) > n:
-            raise ValueError(f"no word of {n} symbols gives back a message of {len(words)}")
+            raise ValueError(f"a message of {len(words)} symbols is too long for {n} points")
         out, scratch = ffi.new("uint64_t[]", n), ffi.new("uint64_t[]", n + len(words))
         check(call(self._context, self._points, n, words, len(words), out, n, scratch, len(scratch)))
         return list(out)
 
     def _received(self, word: Symbols) -> tuple[Any, Any]:
-        """The places and the symbols that aren't lost."""
+        """The symbols that aren't lost, after the numbers of their points."""
         pairs = word.items() if isinstance(word, Mapping) else enumerate(word)
         there = [(place, symbol) for place, symbol in pairs if symbol is not None]
         places = ffi.new("size_t[]", [index(place) for place, _ in there])

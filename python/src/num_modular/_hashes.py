@@ -13,7 +13,7 @@ _MODULUS = (1 << 61) - 1
 
 
 def _residue(base: int | None) -> int:
-    """The base modulo 2^61 - 1; one that is drawn at random where none is given."""
+    """The base modulo 2^61 - 1, drawn at random where none is given."""
     return secrets.randbelow(_MODULUS) if base is None else index(base) % _MODULUS
 
 
@@ -23,9 +23,8 @@ def _bytes(data: Any) -> Any:
 
 
 def polynomial_hash(data: bytes, base: int) -> int:
-    """The value at the base, any integer, of the polynomial with the bytes as coefficients, the highest first, modulo 2^61 - 1.
-
-    Data that differ only by zero bytes in front have the same hash.
+    """The value modulo 2^61 - 1, at the base, of the polynomial with the bytes as coefficients, the highest first. The base is
+    any integer. Data that differ only by zero bytes in front have the same hash.
 
     >>> polynomial_hash(b"abc", 1000)
     97098099
@@ -36,8 +35,8 @@ def polynomial_hash(data: bytes, base: int) -> int:
 
 
 def find(text: bytes, pattern: bytes, base: int | None = None) -> int:
-    """The first position of the pattern in the text, or -1, as `bytes.find`; by hashes at the base, which is drawn at random
-    where none is given. The result is right for every base.
+    """The first position of the pattern in the text, or -1, as `bytes.find` returns it; by hashes at the base, which is drawn
+    at random where none is given. The result is right for every base, but a search at a base that is known before may be slow.
 
     >>> find(b"a longer text", b"longer"), find(b"abc", b"d")
     (2, -1)
@@ -51,8 +50,8 @@ def find(text: bytes, pattern: bytes, base: int | None = None) -> int:
 
 
 def find_all(text: bytes, patterns: Iterable[bytes], base: int | None = None) -> dict[int, int]:
-    """The positions of the text where one of the patterns occurs, in ascending order, each with the number of the first pattern
-    that occurs there, counted from 0. The base is as for `find`. ValueError: the patterns don't have the same length.
+    """The positions of the text where one of the patterns occurs, in ascending order, each with the number of the first
+    pattern that occurs there, counted from 0. The base is as for `find`. ValueError: the patterns don't have the same length.
 
     >>> find_all(b"abracadabra", [b"abra", b"cada"])
     {0: 0, 4: 1, 7: 0}
@@ -68,8 +67,8 @@ def find_all(text: bytes, patterns: Iterable[bytes], base: int | None = None) ->
 
 
 class PrefixHashes:
-    """The hashes of all beginnings of a text, by which the hash of any part takes one product. The base is drawn at random where
-    none is given.
+    """The hashes of all prefixes of a text, from which the hash of any part is computed by one product. The base is drawn at
+    random where none is given.
 
     >>> text = PrefixHashes(b"abracadabra")
     >>> text.hash(0, 4) == text.hash(7, 11), text.hash(0, 4) == text.hash(1, 5)

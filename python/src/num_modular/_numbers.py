@@ -13,13 +13,13 @@ _WORD = 8  # bytes
 
 
 def _digits(n: int) -> tuple[object, int]:
-    """The digits of 64 bits of a number that isn't negative, the lowest first, and how many they are."""
+    """The 64-bit digits of a nonnegative number, the lowest first, and how many they are."""
     count = -(-n.bit_length() // 64)
     return ffi.from_buffer("uint64_t[]", bytearray(n.to_bytes(count * _WORD, "little"))), count
 
 
 def product(a: int, b: int) -> int:
-    """a * b, by transforms where both are long. Faster than Python's own product where both have thousands of digits.
+    """a * b for integers of any size, by transforms where both are long.
 
     >>> product(-2**100, 3) == -3 * 2**100
     True
@@ -34,7 +34,7 @@ def product(a: int, b: int) -> int:
 
 
 def encode(moduli: Iterable[int], x: int) -> list[int]:
-    """The residues of x. ValueError: a modulus is below 1.
+    """The residues of x modulo each modulus, both of any size, in Python. ValueError: a modulus is below 1.
 
     >>> encode([3, 5, 7], 23)
     [2, 3, 2]

@@ -52,8 +52,8 @@ def square(xs: Iterable[int], m: int) -> list[int]:
 
 
 def multiply_cyclic(xs: Iterable[int], ys: Iterable[int], m: int) -> list[int]:
-    """The product of two polynomials of n coefficients modulo X^n - 1 and m, for any n: entry e is the sum of x_i * y_j modulo m
-    over i + j = e or e + n.
+    """The product of two polynomials of n coefficients modulo X^n - 1 and m, for any n: entry e is the sum of x_i * y_j modulo
+    m over i + j = e or e + n.
 
     Unlike `Plan.convolve`, it needs no root. ValueError: the lengths differ, or m is out of range.
 
@@ -64,8 +64,8 @@ def multiply_cyclic(xs: Iterable[int], ys: Iterable[int], m: int) -> list[int]:
 
 
 def multiply_negacyclic(xs: Iterable[int], ys: Iterable[int], m: int) -> list[int]:
-    """The product modulo X^n + 1 and m: entry e is the sum of x_i * y_j over i + j = e, minus that over i + j = e + n. ValueError:
-    as for `multiply_cyclic`.
+    """The product modulo X^n + 1 and m: entry e is the sum of x_i * y_j over i + j = e, minus that over i + j = e + n.
+    ValueError: as for `multiply_cyclic`.
 
     >>> multiply_negacyclic([1, 2, 3], [4, 5, 6], 97)
     [74, 92, 28]
@@ -74,7 +74,8 @@ def multiply_negacyclic(xs: Iterable[int], ys: Iterable[int], m: int) -> list[in
 
 
 def transform(xs: Iterable[int], g: int, m: int) -> list[int]:
-    """The transform of n numbers modulo m, for any n and any m from 1 to 2^64 - 1: entry j is the sum of x_i * g^(i * j) modulo m.
+    """The transform of n numbers modulo m, for any n and any m from 1 to 2^64 - 1: entry j is the sum of x_i * g^(i * j)
+    modulo m.
 
     NoInverseError: g has no inverse modulo m. ValueError: m is out of range.
 
@@ -97,8 +98,9 @@ def transform_inverse(xs: Iterable[int], g: int, m: int) -> list[int]:
 
 
 def transform_root_fits(g: int, n: int, m: int) -> bool:
-    """Whether g is a root of unity of order n modulo m by which `transform_inverse` undoes `transform`: n is at least 1, g^n is 1,
-    and g^d - 1 has an inverse for each d from 1 to n - 1. It computes about 2 * n products. ValueError: m is out of range.
+    """Whether g is a root of unity of order n modulo m by which `transform_inverse` undoes `transform`: n is at least 1, g^n
+    is 1, and g^d - 1 has an inverse for each d from 1 to n - 1. It computes about 2 * n products. ValueError: m is out of
+    range.
 
     >>> transform_root_fits(2, 3, 7), transform_root_fits(2, 6, 7)
     (True, False)

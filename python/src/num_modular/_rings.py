@@ -1,4 +1,4 @@
-"""A modulus or a divisor with what is computed of it once: Montgomery's method, plans of transforms, division."""
+"""Classes that compute something of a modulus or a divisor once: division, Montgomery's method, plans of transforms."""
 from __future__ import annotations
 
 from collections.abc import Iterable, Sequence
@@ -24,7 +24,7 @@ _OPERATIONS = {
 
 
 class Divider:
-    """A divisor d from 1 to 2^64 - 1, by which numbers are divided without a division. ValueError: d is 0.
+    """A divisor d from 1 to 2^64 - 1 and its reciprocal, by which numbers are divided without a division. ValueError: d is 0.
 
     >>> Divider(60).divmod(1000)
     (16, 40)
@@ -45,7 +45,8 @@ class Divider:
         return self._divider.divisor
 
     def divmod(self, n: int) -> tuple[int, int]:
-        """Quotient and remainder of an n from 0 to 2^64 * d - 1. ValueError: the quotient doesn't fit a word.
+        """The quotient and the remainder of n, from 0 to 2^64 * d - 1. ValueError: n is above that. OverflowError: n is
+        negative, or above 2^128 - 1.
 
         >>> Divider(7).divmod(2**66)
         (10540996613548315209, 1)
@@ -56,7 +57,7 @@ class Divider:
 
 
 class Montgomery:
-    """A modulus m from 1 to 2^64 - 1 with what Montgomery's method computes of it once. ValueError: m is 0.
+    """A modulus m from 1 to 2^64 - 1 and its constants of Montgomery's method. ValueError: m is 0.
 
     >>> Montgomery(97).pow(3, 1000)
     36
@@ -77,7 +78,7 @@ class Montgomery:
         return self._context.modulus
 
     def pow(self, a: int, exponent: int) -> int:
-        """The residue of a to the power exponent. For a negative exponent it is that of the inverse of a.
+        """The residue of a to the power exponent. A negative exponent raises the inverse of a to the power -exponent.
 
         NoInverseError: the exponent is negative, and a has no inverse. OverflowError: the exponent is not between -2^64 and
         2^64.
@@ -113,8 +114,8 @@ class Montgomery:
         return self._in_place(lib.nm_montgomery_ntt, xs, root)
 
     def intt(self, xs: Any, root: int | None = None) -> Any:
-        """Undoes `ntt` by the same root. NoRootError: the root doesn't suit n. NoInverseError: n has no inverse modulo m, as any
-        n above 1 where m is even.
+        """The inverse of `ntt` by the same root. NoRootError: the root doesn't suit n. NoInverseError: n has no inverse modulo
+        m, as any n above 1 where m is even.
 
         >>> Montgomery(17).intt([10, 7, 15, 6], 4)
         [1, 2, 3, 4]
@@ -134,11 +135,16 @@ class Montgomery:
         return list(first) if is_new else xs
 
     def run(self, registers: Any, commands: Iterable[Sequence[Any]]) -> Any:
-        """The registers after the commands, each a name and its numbers: `("load", dst, n)`, `("add", dst, a, b)`, likewise
-        `sub`, `mul` and `div`; `("neg", dst, a)`, likewise `dbl`, `sqr` and `inv`; `("pow", dst, a, exponent)`.
+        """The registers, residues modulo m, after the commands, which run in order. dst, a and b are numbers of registers,
+        counted from 0. A command is one of
 
-        NoInverseError: the command with the number `at`, counted from 0, needs an inverse that doesn't exist; its `registers`
-        are those after the commands before it. ValueError: a command or a register doesn't exist.
+        - `("load", dst, n)`
+        - `("add", dst, a, b)`, and likewise "sub", "mul" and "div"
+        - `("neg", dst, a)`, and likewise "dbl" (the double), "sqr" (the square) and "inv"
+        - `("pow", dst, a, exponent)`
+
+        NoInverseError: a command needs an inverse that doesn't exist; see `NoInverseError` for its number and the registers.
+        ValueError: a command or a register doesn't exist.
 
         >>> Montgomery(97).run([0, 0, 0], [("load", 0, 10), ("load", 1, 20), ("mul", 2, 0, 1)])
         [10, 20, 6]
@@ -163,7 +169,7 @@ class Montgomery:
         return list(words) if is_new else xs
 
     def _transform(self, call: Any, root: int | None, *lists: Any) -> None:
-        """Changes lists of one length by the root, or raises the exception of the call's code."""
+        """Calls a function that changes lists of the same length by the root, and raises the exception of its code."""
         n = len(lists[0])
         root = self.find_root(n) if root is None else reduced(root, self.modulus)
         code = call(self._context, *(part for it in lists for part in (it, len(it))), root)
@@ -174,7 +180,7 @@ class Montgomery:
     def _command(self, words: Sequence[Any]) -> dict[str, int]:
         name, *numbers = words
         if name not in _OPERATIONS or len(numbers) != len(_OPERATIONS[name][1]):
-            raise ValueError(f"{words!r} is no command")
+            raise ValueError(f"{words!r} isn't a command")
         operation, fields = _OPERATIONS[name]
         command = {"operation": operation, **dict(zip(fields, map(index, numbers)))}
         if name == "load":
@@ -183,10 +189,10 @@ class Montgomery:
 
 
 class Plan:
-    """A table for transforms of n words modulo m, from 1 to 2^62, with which they are faster than by `Montgomery`. n is a power
-    of two, at least 2. The root is that of `Montgomery.find_root` where none is given.
+    """A table for transforms of up to n words modulo m, from 1 to 2^62, which are faster than those of `Montgomery`. n is a
+    power of two, at least 2. Without a root, the plan takes that of `Montgomery.find_root`.
 
-    The table is filled once, and no call tests it again. Words of arrays are below 4 * m. ValueError: m or a word is out of
+    The table is filled once, and no call tests it again. Words must be below 4 * m. ValueError: m, n or a word is out of
     range. NoRootError: the root doesn't suit n.
 
     >>> Plan(97, 8).convolve([1, 2, 3, 0, 0, 0, 0, 0], [4, 5, 0, 0, 0, 0, 0, 0])
@@ -219,16 +225,17 @@ class Plan:
 
     @property
     def length(self) -> int:
-        """The number of words of the longest list that the plan transforms."""
+        """The length of the longest list that the plan transforms."""
         return 2 * self._plan.table_length
 
     @property
     def root(self) -> int:
-        """The root, which suits lists of that length."""
+        """The root, which suits lists of the plan's length."""
         return self._plan.root
 
     def ntt(self, xs: Any) -> Any:
-        """The transform of n words, or of fewer, by the power of the root that suits them: see `Montgomery.ntt`.
+        """The transform of a list of words, whose number is a power of two up to the length of the plan: see `Montgomery.ntt`.
+        The root is the power of the plan's root that suits their number.
 
         >>> Plan(17, 4, 4).ntt([1, 2, 3, 4])
         [10, 7, 15, 6]
@@ -236,7 +243,7 @@ class Plan:
         return self._in_place(lib.nm_plan_transform, xs)
 
     def intt(self, xs: Any) -> Any:
-        """Undoes `ntt`. NoInverseError: the number of words has no inverse modulo m, as where m is even.
+        """The inverse of `ntt`. NoInverseError: the number of words has no inverse modulo m, as any above 1 where m is even.
 
         >>> Plan(17, 4, 4).intt([10, 7, 15, 6])
         [1, 2, 3, 4]
@@ -244,9 +251,10 @@ class Plan:
         return self._in_place(lib.nm_plan_inverse, xs)
 
     def split(self, xs: Any, b: int = 0, last: int = 1) -> Any:
-        """The remainders of a polynomial modulo X^last - c, one after the other: word i of remainder j is the sum over k of
-        x_(k * last + i) * c^k, c being the power of the root by the reversed bits of b * count + j, of count remainders. So
-        b = 1 starts from a polynomial modulo X^n + 1. ValueError: the length, b and last don't fit the plan.
+        """The remainders of a polynomial modulo X^last - c, one after the other, for count = n / last values of c. Word i of
+        remainder j is the sum of x_(k * last + i) * c^k over k. Here c is the power of the root whose exponent has the bits of
+        b * count + j in reverse order. So b = 1 starts from a polynomial modulo X^n + 1. ValueError: n isn't last times a
+        power of two, or the plan is too short for n, b and last.
 
         >>> Plan(17, 4, 4).split([1, 2, 3, 4], last=2)
         [4, 6, 15, 15]
@@ -254,7 +262,7 @@ class Plan:
         return self._in_place(lib.nm_plan_split, xs, index(b), index(last))
 
     def join(self, xs: Any, b: int = 0, last: int = 1) -> Any:
-        """Undoes `split`. NoInverseError: the number of remainders has no inverse modulo m.
+        """The inverse of `split`. NoInverseError: the number of remainders has no inverse modulo m.
 
         >>> Plan(17, 4, 4).join([4, 6, 15, 15], last=2)
         [1, 2, 3, 4]
@@ -262,10 +270,11 @@ class Plan:
         return self._in_place(lib.nm_plan_join, xs, index(b), index(last))
 
     def convolve(self, xs: Any, ys: Any) -> Any:
-        """The cyclic product of two lists of n words: see `Montgomery.convolve`. n is a power of two, from 1 to the length of the
-        plan. The contents of an array ys are unspecified afterwards.
+        """The cyclic product of two lists of n words: see `Montgomery.convolve`. n is a power of two, from 1 to the length of
+        the plan. The contents of an array ys are unspecified afterwards.
 
-        ValueError: the lengths differ, n or a word is out of range, or the arrays overlap. NoInverseError: n has no inverse modulo m.
+        ValueError: the lengths differ, n or a word is out of range, or the arrays overlap. NoInverseError: n has no inverse
+        modulo m.
 
         >>> Plan(97, 4).convolve([1, 2, 3, 0], [4, 5, 0, 0])
         [4, 13, 22, 15]
@@ -274,8 +283,8 @@ class Plan:
 
     def convolve_negacyclic(self, xs: Any, ys: Any) -> Any:
         """The product of two lists of n words modulo X^n + 1: entry e is the sum of x_i * y_j over i + j = e, minus that over
-        i + j = e + n, modulo m. n is a power of two, from 2 to the length of the plan. Otherwise as `convolve`; NoInverseError:
-        n/2 has no inverse modulo m.
+        i + j = e + n, modulo m. n is a power of two, from 2 to the length of the plan. Otherwise as `convolve`;
+        NoInverseError: n/2 has no inverse modulo m.
 
         >>> Plan(97, 4).convolve_negacyclic([0, 0, 0, 1], [0, 1, 0, 0])
         [96, 0, 0, 0]
@@ -297,7 +306,7 @@ class Plan:
         return list(first) if is_new else xs
 
     def _refuse(self, code: int, lists: list[Any], b: int = 0, last: int = 1) -> NoReturn:
-        """Raises the exception of a code, for lists of the same length whose block b is split down to remainders of last words."""
+        """Raises the exception of a code, for lists of the same length that are block b, split down to last words."""
         if code == lib.NM_NO_INVERSE:
             raise no_inverse(len(lists[0]) // last, self.modulus)
         fail(code, self._fault(lists, b, last) if code == lib.NM_BAD_ARGUMENT else "")

@@ -41,7 +41,7 @@ def mulm(a: int, b: int, m: int) -> int:
 
 
 def powm(a: int, exponent: int, m: int) -> int:
-    """The residue of a to the power exponent modulo m. For a negative exponent it is that of the inverse of a.
+    """The residue of a to the power exponent modulo m. A negative exponent raises the inverse of a to the power -exponent.
 
     ValueError: m is 0. NoInverseError: the exponent is negative, and a has no inverse. OverflowError: the exponent is not
     between -2^64 and 2^64.
@@ -82,11 +82,10 @@ def jacobi(a: int, n: int) -> int:
 
 
 def legendre(a: int, p: int) -> int:
-    """The Legendre symbol of a over an odd prime p: 1 for the square of a number that p doesn't divide, 0 for a multiple of p,
-    else -1.
+    """The Legendre symbol of a over an odd prime p: 0 where p divides a, 1 where a is a square modulo p, else -1.
 
-    Whether p is prime isn't tested. For other p it is 0, 1 or -1 where a to the power (p - 1)/2, rounded down, is congruent
-    to it. ValueError: that power is none of these, or p is 0.
+    The call doesn't test whether p is prime. For other p it returns the one of 0, 1 and -1 to which a to the power (p - 1)/2,
+    rounded down, is congruent, tried in this order. ValueError: there is none, or p is 0.
 
     >>> legendre(2, 7), legendre(3, 7)
     (1, -1)
@@ -97,7 +96,7 @@ def legendre(a: int, p: int) -> int:
 
 
 def kronecker(a: int, n: int) -> int:
-    """The Kronecker symbol of a over n: -1, 0 or 1. Both are from -2^63 to 2^63 - 1, or both from 0 to 2^64 - 1.
+    """The Kronecker symbol of a over n: -1, 0 or 1. Both must be from -2^63 to 2^63 - 1, or both from 0 to 2^64 - 1.
 
     >>> kronecker(3, 8), kronecker(-1, 0), kronecker(-10, -11)
     (-1, 1, -1)
