@@ -70,6 +70,8 @@ def test_polynomials_in_arrays():
     assert multiply(xs, array.array("Q"), 5) == []
     numpy = pytest.importorskip("numpy")
     assert multiply(numpy.array(xs, numpy.uint64), numpy.array(ys, numpy.uint64), 97) == [4, 13, 28, 34, 32, 21]
+    assert multiply(numpy.array([-1, 2]), [2**64, 1], numpy.uint64(97)) == multiply([-1, 2], [2**64, 1], 97)
+    assert transform(numpy.array([-1, 2]), numpy.int64(-2), numpy.uint64(97)) == [1, (-1 - 4) % 97]
 
 
 @pytest.mark.parametrize("m", MODULI)

@@ -60,6 +60,15 @@ def test_out_of_range(call):
             call(a, 2, m)
 
 
+def test_numbers_of_numpy():
+    numpy = pytest.importorskip("numpy")
+    for m in (numpy.uint64(97), numpy.int64(97), numpy.uint64(TOP - 59)):
+        for a in (numpy.int64(-5), numpy.uint64(TOP - 1), numpy.int8(-128)):
+            assert mulm(a, a, m) == int(a) ** 2 % int(m)
+            assert powm(a, numpy.int64(-3), m) == pow(int(a), -3, int(m))
+    assert Divider(numpy.uint64(7)).divmod(numpy.uint64(TOP - 1)) == divmod(TOP - 1, 7)
+
+
 def test_exponents_out_of_range():
     for exponent in (TOP, -TOP, -TOP - 1):
         with pytest.raises(OverflowError):

@@ -45,7 +45,7 @@ class TooFewSymbolsError(ValueError):
 
 
 class TooManyErrorsError(ValueError):
-    """Too many symbols of an erasure code are wrong."""
+    """No word of an erasure code is near enough to the symbols."""
 
 
 _FAULTS = {
@@ -84,7 +84,7 @@ def no_inverse(number: int, m: int, place: str = "") -> NoInverseError:
 def reduced(n: int, m: int) -> int:
     """A word that is congruent to n modulo m: n itself, or, where n is negative, its residue."""
     n = index(n)
-    return n if n >= 0 or m == 0 else n % m
+    return n if n >= 0 or m == 0 else n % index(m)
 
 
 def words_of(array: Any, m: int) -> tuple[Any, bool]:

@@ -10,14 +10,15 @@ from num_modular._calls import NoInverseError, check, no_inverse, same_length, s
 from num_modular._library import ffi, lib
 
 
-def _check_modulus(m: int) -> None:
+def _modulus(m: int) -> int:
+    """The modulus. ValueError: it is out of range."""
     if not 0 < index(m) < 1 << 64:
         raise ValueError("the modulus must be from 1 to 2^64 - 1")
+    return index(m)
 
 
 def _residues(numbers: Iterable[int], m: int) -> Any:
     """New words that are congruent modulo m to these integers, which may have any size."""
-    _check_modulus(m)
     listed = [index(it) for it in numbers]
     try:
         return ffi.new("uint64_t[]", listed)
@@ -33,6 +34,7 @@ def multiply(xs: Iterable[int], ys: Iterable[int], m: int) -> list[int]:
     >>> multiply([1, 2, 3], [4, 5, 6, 7], 10**9 + 7)
     [4, 13, 28, 34, 32, 21]
     """
+    m = _modulus(m)
     first, second = _residues(xs, m), _residues(ys, m)
     n, k = len(first), len(second)
     scratch = scratch_for(lib.nm_polynomial_room, n, k)
@@ -45,6 +47,7 @@ def square(xs: Iterable[int], m: int) -> list[int]:
     >>> square([1, 2, 3], 97)
     [1, 4, 10, 12, 9]
     """
+    m = _modulus(m)
     first = _residues(xs, m)
     n = len(first)
     scratch = scratch_for(lib.nm_polynomial_room, n, n)
@@ -105,7 +108,7 @@ def transform_root_fits(g: int, n: int, m: int) -> bool:
     >>> transform_root_fits(2, 3, 7), transform_root_fits(2, 6, 7)
     (True, False)
     """
-    _check_modulus(m)
+    m = _modulus(m)
     code = lib.nm_transform_root_fits(m, index(g) % m, index(n))
     if code == lib.NM_NO_ROOT:
         return False
@@ -114,6 +117,7 @@ def transform_root_fits(g: int, n: int, m: int) -> bool:
 
 
 def _transformed(call: Any, xs: Iterable[int], g: int, m: int) -> list[int]:
+    m = _modulus(m)
     words, base = _residues(xs, m), index(g) % m
     n = len(words)
     try:
@@ -123,7 +127,8 @@ def _transformed(call: Any, xs: Iterable[int], g: int, m: int) -> list[int]:
 
 
 def _wrapped(call: Any, xs: Iterable[int], ys: Iterable[int], m: int) -> list[int]:
-    """A product of n coefficients of two polynomials of n."""
+    """The product of two polynomials of n coefficients that a call reduces to n coefficients."""
+    m = _modulus(m)
     first, second = _residues(xs, m), _residues(ys, m)
     same_length(first, second)
     n = len(first)
@@ -131,7 +136,7 @@ def _wrapped(call: Any, xs: Iterable[int], ys: Iterable[int], m: int) -> list[in
 
 
 def _written(call: Any, places: int, scratch: tuple[Any, int, Any, int], *arguments: Any) -> list[int]:
-    """The list of so many words that a call writes."""
+    """The list that a call writes, with this number of words."""
     out = ffi.new("uint64_t[]", places)
     check(call(*arguments, out, places, *scratch))
     return list(out)

@@ -51,7 +51,7 @@ class Divider:
         >>> Divider(7).divmod(2**66)
         (10540996613548315209, 1)
         """
-        out = ffi.new("nm_division_t *")
+        n, out = index(n), ffi.new("nm_division_t *")
         check(lib.nm_div_rem_2by1(self._divider, n & (1 << 64) - 1, n >> 64, out), "the quotient must be below 2^64")
         return out.quotient, out.remainder
 
@@ -101,7 +101,8 @@ class Montgomery:
         64
         """
         out = ffi.new("uint64_t *")
-        check(lib.nm_montgomery_find_root(self._context, index(n), out), f"no root of {n} words was found modulo {self.modulus}")
+        code = lib.nm_montgomery_find_root(self._context, index(n), out)
+        check(code, f"no root of {n} words was found modulo {self.modulus}")
         return out[0]
 
     def ntt(self, xs: Any, root: int | None = None) -> Any:
