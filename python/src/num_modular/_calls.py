@@ -87,12 +87,21 @@ def reduced(n: int, m: int) -> int:
     return n if n >= 0 or m == 0 else n % index(m)
 
 
+def new_words(numbers: Iterable[int], m: int) -> Any:
+    """New words with these integers, of which negative ones are reduced modulo m."""
+    listed = list(map(index, numbers))
+    try:
+        return ffi.new("uint64_t[]", listed)
+    except OverflowError:
+        return ffi.new("uint64_t[]", [reduced(it, m) for it in listed])
+
+
 def words_of(array: Any, m: int) -> tuple[Any, bool]:
     """The words of an array, in the caller's memory, and False; or new words with the integers of a sequence, and True."""
     try:
         view = memoryview(array)
     except TypeError:
-        return ffi.new("uint64_t[]", [reduced(it, m) for it in array]), True
+        return new_words(array, m), True
     if view.format not in _FORMATS or view.ndim != 1:
         raise TypeError(f"the array must have one dimension of unsigned words of 64 bits, not {view.ndim} of {view.format!r}")
     if view.readonly:
@@ -130,7 +139,7 @@ def pair_of(first: Any, second: Any, m: int) -> tuple[Any, Any, bool]:
 
 def read_only(words: Iterable[int]) -> Any:
     """New words with these numbers."""
-    return ffi.new("uint64_t[]", [index(it) for it in words])
+    return ffi.new("uint64_t[]", list(map(index, words)))
 
 
 def scratch_for(room: Any, *lengths: int) -> tuple[Any, int, Any, int]:

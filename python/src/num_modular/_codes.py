@@ -6,7 +6,7 @@ from collections.abc import Iterable, Mapping, Sequence
 from operator import index
 from typing import Any, NamedTuple, Optional, Union
 
-from num_modular._calls import check, no_inverse, read_only, reduced
+from num_modular._calls import check, new_words, no_inverse
 from num_modular._library import ffi, lib
 
 # The symbols of a word: a list with one for each point, None where it is lost; or a dict from numbers of points to symbols.
@@ -145,7 +145,7 @@ class ErasureCode:
         return self.correct(shares, k).message[0]
 
     def _words(self, numbers: Iterable[int]) -> Any:
-        return read_only(reduced(it, self.modulus) for it in numbers)
+        return new_words(numbers, self.modulus)
 
     def _encoded(self, call: Any, message: Iterable[int]) -> list[int]:
         words, n = self._words(message), len(self._points)

@@ -19,7 +19,7 @@ def _modulus(m: int) -> int:
 
 def _residues(numbers: Iterable[int], m: int) -> Any:
     """New words that are congruent modulo m to these integers, which may have any size."""
-    listed = [index(it) for it in numbers]
+    listed = list(map(index, numbers))
     try:
         return ffi.new("uint64_t[]", listed)
     except OverflowError:
