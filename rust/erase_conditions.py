@@ -36,6 +36,9 @@ LOOKS = {
     "debug_assert!(xs.iter().chain(ys.iter()).all(|x| r.check(x)));":
     "lists.add_lists lists.sub_lists lists.multiply_lists lists.dot_product",
     "debug_assert!(r.check(factor) && xs.iter().all(|x| r.check(x)));": "lists.scale_list",
+    "debug_assert!(!self.modulus().has_top_bit());":
+    "vanilla.add_with_room vanilla.sub_with_room premul.add_with_room"
+    " premul.sub_with_room odd_ring.add_with_room odd_ring.sub_with_room montgomery.add_with_room montgomery.sub_with_room",
     "debug_assert!(at <= text.len() && pattern.len() <= text.len() - at);": "hashes.is_hit",
     "debug_assert!(window == wanted || &text[at..at + pattern.len()] != pattern);": "hashes.is_hit",
     "debug_assert!(all_checked(r, regs));": "ring.run",

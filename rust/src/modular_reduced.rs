@@ -1,5 +1,6 @@
 //! Rings of residues: reducers, which compute with forms modulo m, and integers modulo m over any reducer.
 
+pub mod lanes;
 #[cfg(test)]
 pub mod laws;
 pub mod list_products;

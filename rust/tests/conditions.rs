@@ -230,6 +230,14 @@ fn transforms() {
 }
 
 #[test]
+fn sums_without_room() {
+    let words = "2m must be below the base";
+    panic_in_debug_with!(words; Vanilla::<u8>::new(&251).add_with_room(&1, &2), Vanilla::<u8>::new(&251).sub_with_room(&1, &2));
+    panic_in_debug_with!(words; Montgomery::<u8>::new(251).add_with_room(&1, &2), Montgomery::<u8>::new(250).sub_with_room(&1, &2));
+    panic_in_debug_with!(words; PreMulInv2by1::<u8>::new(251).add_with_room(&1, &2));
+}
+
+#[test]
 fn inverse_transforms() {
     let undone = |m: u64, g: u64, entries: [u64; 4]| {
         let mut xs = entries;

@@ -1,7 +1,6 @@
 -- The arithmetic of a difference of products by double words, in words of which there are b.
-use Rattle.std.proofs.Common.{◌≡◌, ℕ, ◌+◌, ◌-◌, ◌*◌, ◌%◌, ◌<◌, ◌≤◌, sym, ap, ◌∙◌, arith, ⊎_elim}
+use Rattle.std.proofs.Common.{◌≡◌, ℕ, ◌+◌, ◌-◌, ◌*◌, ◌%◌, ◌<◌, ◌≤◌, sym, ap, ◌∙◌, arith}
 use Rattle.std.proofs.Math.Nat.{mod_self, mod-eq_of_lt, mul-le-mul_right, add-mul-mod_self_right}
-use Rattle.std.proofs.lemmas.Bool.{cases_lt}
 use Rattle.modular_word.proofs.Congruence.{mod_cancel}
 
 -- the word whose sum with m is 0 modulo b
@@ -34,34 +33,3 @@ low_word b m p q c low high room most below is sum fits =
     sym (add-mul-mod_self_right rest q b ∙ mod-eq_of_lt small) ∙ ap (λ v. v % b) e
     ∙ add-mul-mod_self_right low high b ∙ mod-eq_of_lt fits in
     omega (arith, same, s)
-
--- what the top bit of x less m tells, where 2 * m fits
-pub record BySign (m x less half : ℕ) : Type 0 where
-  pub taken : less < half → less + m ≡ x
-  pub left : half ≤ less → x < m
-
-pub by_sign : (b m x less half : ℕ) → 2 * half ≡ b → 2 * m ≤ b → x < 2 * m → less < b → (less + m) % b ≡ x
-    → BySign m x less half
-by_sign b m x less half is_half room below fits is =
-    let x_fits : x % b ≡ x = mod-eq_of_lt (let k : x < b = omega (arith, room, below) in k) in
-    ⊎_elim
-    (λ (l : x < m).
-    let rest : (b + x - m) + m ≡ x + 1 * b = omega (arith, room, l) in
-    let small : b + x - m < b = omega (arith, room, l) in
-    let e : (less + m) % b ≡ ((b + x - m) + m) % b =
-    is ∙ sym (ap (λ v. v % b) rest ∙ add-mul-mod_self_right x 1 b ∙ x_fits) in
-    let same : less ≡ b + x - m = mod_cancel b less (b + x - m) m fits small e in
-    record {
-      taken = λ k. omega (arith, same, l, k, is_half, room);
-      left = λ _. l;
-    })
-    (λ (l : m ≤ x).
-    let rest : (x - m) + m ≡ x = omega (arith, l) in
-    let small : x - m < b = omega (arith, room, below, l) in
-    let e : (less + m) % b ≡ ((x - m) + m) % b = is ∙ sym (ap (λ v. v % b) rest ∙ x_fits) in
-    let same : less ≡ x - m = mod_cancel b less (x - m) m fits small e in
-    record {
-      taken = λ _. omega (arith, same, l);
-      left = λ k. omega (arith, same, l, k, is_half, room, below);
-    })
-    (cases_lt x m)

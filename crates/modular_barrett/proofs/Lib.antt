@@ -2,6 +2,7 @@ pub mod DoubleWords
 pub mod FixedFactors
 pub mod Multiplier
 pub mod Quotients
+pub mod ScaledHalves
 pub mod ScaledLemmas
 pub mod ScaledSums
 pub mod SumsOfProducts

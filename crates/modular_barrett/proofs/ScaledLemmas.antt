@@ -64,7 +64,7 @@ double_stands w m d a r positive ed fa e =
     stands_for w m d (2 * x) r positive ed (e ∙ ap (λ n. n % d) whole)
 
 -- a difference of scaled numbers is the scaled difference
-residue_scaled : (m p x y : ℕ) → x < m → y < m → 0 < p
+pub residue_scaled : (m p x y : ℕ) → x < m → y < m → 0 < p
     → residue (m * p) (pos (x * p) -ℤ pos (y * p)) ≡ residue m (pos x -ℤ pos y) * p
 residue_scaled m p x y hx hy hp =
     let ax : x * p < m * p = mul-lt-mul_of_pos_right hx hp in

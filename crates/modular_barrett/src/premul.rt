@@ -10,6 +10,7 @@ use crate::normalized::{Normalized2by1Divisor, StoredDivisor};
 use modular_prim::below::{add_below, dbl_below_stored, neg_below, sub_below_stored, sum_by_carry};
 use modular_prim::inverse::fast_inverse;
 use modular_prim::plain_word::PlainWord;
+use modular_reduced::lanes::{difference_by_sign, sum_by_sign};
 use modular_reduced::list_products::block;
 use modular_reduced::reducer::Reducer;
 use modular_word::path_word::PathWord;
@@ -199,6 +200,17 @@ impl<T: PlainWord> Reducer<T> for PreMulInv2by1<T> {
 
     fn neg(&self, f: T) -> T {
         neg_below(f, self.divisor())
+    }
+
+    // The divisor uses all bits, and is even, as all forms are. So the halves of the forms are added.
+    fn add_with_room(&self, a: &T, b: &T) -> T {
+        let half = sum_by_sign(a.half(), b.half(), self.divisor().half());
+        half.plus(half)
+    }
+
+    fn sub_with_room(&self, a: &T, b: &T) -> T {
+        let half = difference_by_sign(a.half(), b.half(), self.divisor().half());
+        half.plus(half)
     }
 
     fn mul(&self, a: &T, b: &T) -> T {

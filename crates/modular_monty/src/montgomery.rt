@@ -223,6 +223,20 @@ impl<T: ReducerWord> Reducer<T> for Montgomery<T> {
         self.sub(&T::zero(), &f)
     }
 
+    fn add_with_room(&self, a: &T, b: &T) -> T {
+        if self.twos == 0 {
+            return self.odd.add_with_room(a, b);
+        }
+        self.add(a, b)
+    }
+
+    fn sub_with_room(&self, a: &T, b: &T) -> T {
+        if self.twos == 0 {
+            return self.odd.sub_with_room(a, b);
+        }
+        self.sub(a, b)
+    }
+
     fn mul(&self, a: &T, b: &T) -> T {
         if self.twos == 0 {
             return self.odd.mul(a, b);

@@ -10,6 +10,7 @@ use crate::list_products::reduced_products;
 use crate::neg_mod_inv::neginv;
 use modular_prim::below::{add_below, branchless_sub_below, dbl_below, neg_below, sub_below};
 use modular_prim::reducer_word::ReducerWord;
+use modular_reduced::lanes::{difference_by_sign, sum_by_sign};
 use modular_reduced::list_products::block;
 use modular_reduced::reducer::Reducer;
 use modular_word::path_word::PathWord;
@@ -310,6 +311,14 @@ impl<T: ReducerWord, M: OddModulus<T>> Reducer<T> for OddRing<T, M> {
 
     fn neg(&self, f: T) -> T {
         neg_below(f, self.kept.modulus())
+    }
+
+    fn add_with_room(&self, a: &T, b: &T) -> T {
+        sum_by_sign(*a, *b, self.kept.modulus())
+    }
+
+    fn sub_with_room(&self, a: &T, b: &T) -> T {
+        difference_by_sign(*a, *b, self.kept.modulus())
     }
 
     fn mul(&self, a: &T, b: &T) -> T {

@@ -7,3 +7,4 @@ pub mod PowerCounts
 pub mod PowerForms
 pub mod PowerSoFar
 pub mod RingLaws
+pub mod Signs

@@ -1,6 +1,7 @@
 //! Rings of residues: reducers, which compute with forms modulo m, and integers modulo m over any reducer.
 #![tactic(auto)]
 
+pub mod lanes;
 pub mod laws;
 pub mod list_products;
 pub mod modular_integer;

@@ -329,6 +329,57 @@ pub trait Reducer<T: RingWord> {
         self.mul(&difference, factor)
     }
 
+    /// The form of the sum modulo m, as `add` returns it. Condition: 2m is below the base.
+    ///
+    /// A reducer may override it with a body of which compilers do several at once in a loop over a list.
+    ///
+    /// # Examples
+    ///
+    /// ```
+    /// use num_modular::{Reducer, Vanilla};
+    ///
+    /// let ring = Vanilla::<u64>::new(&97);
+    /// assert_eq!(ring.add_with_room(&60, &50), 13); // 110 - 97
+    /// ```
+    fn add_with_room(&self, a: &T, b: &T) -> T
+        requires left { IsForm form value (modulus self.now) (T.number a.now) }
+        requires right { IsForm form value (modulus self.now) (T.number b.now) }
+        requires room { 2 * modulus self.now < 2 ^ T.width }
+        ensures form { let m = modulus self.now in
+            Represents form m (T.number result) ((value m (T.number a.now) + value m (T.number b.now)) % m) }
+        ensures checked { IsForm form value (modulus self.now) (T.number result) }
+        ensures value { let m = modulus self.now in
+            value m (T.number result) ≡ (value m (T.number a.now) + value m (T.number b.now)) % m }
+    {
+        self.add(a, b)
+    }
+
+    /// The form of the difference modulo m, as `sub` returns it. Condition: 2m is below the base.
+    ///
+    /// A reducer may override it as `add_with_room`.
+    ///
+    /// # Examples
+    ///
+    /// ```
+    /// use num_modular::{Reducer, Vanilla};
+    ///
+    /// let ring = Vanilla::<u64>::new(&97);
+    /// assert_eq!(ring.sub_with_room(&50, &60), 87); // -10 + 97
+    /// ```
+    fn sub_with_room(&self, a: &T, b: &T) -> T
+        requires left { IsForm form value (modulus self.now) (T.number a.now) }
+        requires right { IsForm form value (modulus self.now) (T.number b.now) }
+        requires room { 2 * modulus self.now < 2 ^ T.width }
+        ensures form { let m = modulus self.now in
+            Represents form m (T.number result)
+            (residue m (pos (value m (T.number a.now)) -ℤ pos (value m (T.number b.now)))) }
+        ensures checked { IsForm form value (modulus self.now) (T.number result) }
+        ensures value { let m = modulus self.now in
+            value m (T.number result) ≡ residue m (pos (value m (T.number a.now)) -ℤ pos (value m (T.number b.now))) }
+    {
+        self.sub(a, b)
+    }
+
     /// The form of `sum` plus the products of two lists, entry by entry, modulo m. Conditions: the lists have the same
     /// length; `sum` and all entries are checked forms.
     ///

@@ -3,6 +3,7 @@
 ghost use Rattle.std.specs.Prelude.{◌≡◌, ℕ, ◌^◌, ◌<◌, ◌≤◌};
 ghost use Rattle.modular_reduced.specs.Plain.{plain_form, plain_value, plain_canonical};
 
+use crate::lanes::{difference_by_sign, sum_by_sign};
 use crate::reducer::Reducer;
 use modular_prim::below::{add_below_stored, dbl_below_stored, neg_below, sub_below_stored};
 use modular_prim::inverse::fast_inverse;
@@ -104,6 +105,14 @@ impl<T: PlainWord> Reducer<T> for Vanilla<T> {
 
     fn mul(&self, a: &T, b: &T) -> T {
         T::narrow_remainder(a.product(*b), self.modulus)
+    }
+
+    fn add_with_room(&self, a: &T, b: &T) -> T {
+        sum_by_sign(*a, *b, self.modulus)
+    }
+
+    fn sub_with_room(&self, a: &T, b: &T) -> T {
+        difference_by_sign(*a, *b, self.modulus)
     }
 
     fn inv(&self, f: T) -> Option<T> {

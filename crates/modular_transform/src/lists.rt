@@ -1,6 +1,7 @@
 //! Lists of forms: conversion from words and back, sums, differences and products entry by entry.
 
-ghost use Rattle.std.specs.Prelude.{◌≡◌, ℕ, ◌+◌, ◌*◌, ◌%◌, ◌<◌, ◌≤◌, pos, ◌-ℤ◌, All, length, map, slice_index};
+ghost use Rattle.std.specs.Prelude.{◌≡◌, ℕ, ◌+◌, ◌*◌, ◌%◌, ◌^◌, ◌<◌, ◌≤◌, IsTrue, pos, ◌-ℤ◌};
+ghost use Rattle.std.specs.Prelude.{All, length, map, slice_index};
 ghost use Rattle.modular_word.specs.Residues.{residue};
 ghost use Rattle.modular_reduced.specs.Forms.{Represents, IsForm};
 ghost use Rattle.modular_reduced.specs.Values.{values_of, HoldValues, sum_of_products};
@@ -61,6 +62,14 @@ pub fn unload_forms<T: RingWord, R: Reducer<T>>(r: &R, forms: &[T], words: &mut 
     }
 }
 
+// Whether sums and differences of lists are by `add_with_room` and `sub_with_room`. Of words of 64 bits the vector
+// instructions that every x86-64 processor has test the sign alone. They compare shorter words, so `add` does well there.
+fn takes_room<T: RingWord, R: Reducer<T>>(r: &R) -> bool
+    ensures { IsTrue result → 2 * R.modulus r.now < 2 ^ T.width }
+{
+    T::bits() == 64 && !r.modulus().has_top_bit()
+}
+
 /// Adds to each entry of xs the entry of ys with the same index. Conditions: the lists have the same length; all
 /// entries are checked forms.
 ///
@@ -89,8 +98,14 @@ pub fn add_lists<T: RingWord, R: Reducer<T>>(r: &R, xs: &mut [T], ys: &[T])
         + slice_index (values_of T.number R.value m ys.now) i) % m }
     ensures checked { All (λ f. IsForm R.form R.value (R.modulus r.now) (T.number f)) xs.new }
 {
-    'entries: for i in 0..xs.len() {
-        xs[i] = r.add(&xs[i], &ys[i]);
+    if takes_room::<T, R>(r) {
+        'roomy: for i in 0..xs.len() {
+            xs[i] = r.add_with_room(&xs[i], &ys[i]);
+        }
+    } else {
+        'entries: for i in 0..xs.len() {
+            xs[i] = r.add(&xs[i], &ys[i]);
+        }
     }
 }
 
@@ -122,8 +137,14 @@ pub fn sub_lists<T: RingWord, R: Reducer<T>>(r: &R, xs: &mut [T], ys: &[T])
         -ℤ pos (slice_index (values_of T.number R.value m ys.now) i)) }
     ensures checked { All (λ f. IsForm R.form R.value (R.modulus r.now) (T.number f)) xs.new }
 {
-    'entries: for i in 0..xs.len() {
-        xs[i] = r.sub(&xs[i], &ys[i]);
+    if takes_room::<T, R>(r) {
+        'roomy: for i in 0..xs.len() {
+            xs[i] = r.sub_with_room(&xs[i], &ys[i]);
+        }
+    } else {
+        'entries: for i in 0..xs.len() {
+            xs[i] = r.sub(&xs[i], &ys[i]);
+        }
     }
 }
 

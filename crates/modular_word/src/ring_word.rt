@@ -99,6 +99,20 @@ pub trait RingWord: Copy + Eq {
         ensures value { number result ≡ number self / 2 }
         ensures fits { number self < 2 ^ width };
 
+    /// Whether the top bit is set: whether the word is at least half of the base.
+    ///
+    /// # Examples
+    ///
+    /// ```
+    /// use num_modular::RingWord;
+    ///
+    /// assert!(128u8.has_top_bit());
+    /// assert!(!127u8.has_top_bit());
+    /// ```
+    fn has_top_bit(self) -> bool
+        ensures top { IsTrue result ↔ (2 ^ width ≤ 2 * number self) }
+        ensures fits { number self < 2 ^ width };
+
     // A word has from 8 to 128 bits.
     ghost width_from: { 8 ≤ width };
 
@@ -139,6 +153,10 @@ impl RingWord for u8 {
         self >> 1
     }
 
+    fn has_top_bit(self) -> bool {
+        self >= 1 << (u8::BITS - 1)
+    }
+
     ghost width_from = { lit≤ tt };
 
     ghost width_to = { lit≤ tt };
@@ -175,6 +193,10 @@ impl RingWord for u16 {
 
     fn half(self) -> u16 {
         self >> 1
+    }
+
+    fn has_top_bit(self) -> bool {
+        self >= 1 << (u16::BITS - 1)
     }
 
     ghost width_from = { lit≤ tt };
@@ -215,6 +237,10 @@ impl RingWord for u32 {
         self >> 1
     }
 
+    fn has_top_bit(self) -> bool {
+        self >= 1 << (u32::BITS - 1)
+    }
+
     ghost width_from = { lit≤ tt };
 
     ghost width_to = { lit≤ tt };
@@ -251,6 +277,10 @@ impl RingWord for u64 {
 
     fn half(self) -> u64 {
         self >> 1
+    }
+
+    fn has_top_bit(self) -> bool {
+        self >= 1 << (u64::BITS - 1)
     }
 
     ghost width_from = { lit≤ tt };
@@ -291,6 +321,10 @@ impl RingWord for usize {
         self >> 1
     }
 
+    fn has_top_bit(self) -> bool {
+        self >= 1 << (usize::BITS - 1)
+    }
+
     ghost width_from = { lit≤ tt };
 
     ghost width_to = { lit≤ tt };
@@ -327,6 +361,10 @@ impl RingWord for u128 {
 
     fn half(self) -> u128 {
         self >> 1
+    }
+
+    fn has_top_bit(self) -> bool {
+        self >= 1 << (u128::BITS - 1)
     }
 
     ghost width_from = { lit≤ tt };

@@ -3,16 +3,7 @@
 
 use crate::modular_prim::below::reduced_once;
 use crate::modular_prim::plain_word::PlainWord;
-
-// The residue of a word below 2m, as `reduced_once` returns it: the top bit of x - m chooses. Those instructions compare
-// signed words alone, so that they find the smaller of two words in more steps. Conditions: the word is below 2m, which
-// is at most the base.
-#[inline]
-fn reduced_by_sign<T: PlainWord>(x: T, m: T) -> T {
-    let half = T::one().shift_left(T::bits() - 1);
-    let less = x.wrapping_sub(m);
-    if less.is_below(half) { less } else { x }
-}
+use crate::modular_reduced::lanes::reduced_by_sign;
 
 /// The residue of a word below 2m.
 ///
@@ -22,6 +13,7 @@ fn reduced_by_sign<T: PlainWord>(x: T, m: T) -> T {
 /// panics or its result is unspecified.
 #[inline]
 pub fn reduced<T: PlainWord>(x: T, m: T) -> T {
+    // Those instructions find the smaller of two words of 32 bits in more steps.
     if T::bits() == 32 {
         reduced_by_sign(x, m)
     } else {

@@ -5,6 +5,7 @@ use crate::modular_barrett::normalized::Normalized2by1Divisor;
 use crate::modular_prim::below::{add_below, dbl_below_stored, neg_below, sub_below_stored, sum_by_carry};
 use crate::modular_prim::inverse::fast_inverse;
 use crate::modular_prim::plain_word::PlainWord;
+use crate::modular_reduced::lanes::{difference_by_sign, sum_by_sign};
 use crate::modular_reduced::list_products::block;
 use crate::modular_reduced::reducer::Reducer;
 use crate::modular_word::path_word::PathWord;
@@ -183,6 +184,23 @@ impl<T: PlainWord> Reducer<T> for PreMulInv2by1<T> {
     #[inline]
     fn neg(&self, f: T) -> T {
         neg_below(f, self.divisor())
+    }
+
+    // The divisor uses all bits, and is even, as all forms are. So the halves of the forms are added.
+    #[inline]
+    #[cfg_attr(debug_assertions, track_caller)]
+    fn add_with_room(&self, a: &T, b: &T) -> T {
+        debug_assert!(!self.modulus().has_top_bit(), "2m must be below the base");
+        let half = sum_by_sign(a.half(), b.half(), self.divisor().half());
+        half.plus(half)
+    }
+
+    #[inline]
+    #[cfg_attr(debug_assertions, track_caller)]
+    fn sub_with_room(&self, a: &T, b: &T) -> T {
+        debug_assert!(!self.modulus().has_top_bit(), "2m must be below the base");
+        let half = difference_by_sign(a.half(), b.half(), self.divisor().half());
+        half.plus(half)
     }
 
     #[inline]

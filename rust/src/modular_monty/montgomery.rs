@@ -197,6 +197,26 @@ impl<T: ReducerWord> Reducer<T> for Montgomery<T> {
         self.sub(&T::zero(), &f)
     }
 
+    #[inline]
+    #[cfg_attr(debug_assertions, track_caller)]
+    fn add_with_room(&self, a: &T, b: &T) -> T {
+        debug_assert!(!self.modulus().has_top_bit(), "2m must be below the base");
+        if self.twos == 0 {
+            return self.odd.add_with_room(a, b);
+        }
+        self.add(a, b)
+    }
+
+    #[inline]
+    #[cfg_attr(debug_assertions, track_caller)]
+    fn sub_with_room(&self, a: &T, b: &T) -> T {
+        debug_assert!(!self.modulus().has_top_bit(), "2m must be below the base");
+        if self.twos == 0 {
+            return self.odd.sub_with_room(a, b);
+        }
+        self.sub(a, b)
+    }
+
     fn mul(&self, a: &T, b: &T) -> T {
         if self.twos == 0 {
             return self.odd.mul(a, b);

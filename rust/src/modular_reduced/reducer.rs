@@ -288,6 +288,50 @@ pub trait Reducer<T>: Sized {
         self.mul(&difference, factor)
     }
 
+    /// The form of the sum modulo m, as `add` returns it.
+    ///
+    /// A reducer may override it with a body of which compilers do several at once in a loop over a list.
+    ///
+    /// # Preconditions
+    ///
+    /// 2m is below the base. This isn't checked: if it doesn't hold, the call panics or its result is
+    /// unspecified.
+    ///
+    /// # Examples
+    ///
+    /// ```
+    /// use num_modular::{Reducer, Vanilla};
+    ///
+    /// let ring = Vanilla::<u64>::new(&97);
+    /// assert_eq!(ring.add_with_room(&60, &50), 13); // 110 - 97
+    /// ```
+    #[inline]
+    fn add_with_room(&self, a: &T, b: &T) -> T {
+        self.add(a, b)
+    }
+
+    /// The form of the difference modulo m, as `sub` returns it.
+    ///
+    /// A reducer may override it as `add_with_room`.
+    ///
+    /// # Preconditions
+    ///
+    /// 2m is below the base. This isn't checked: if it doesn't hold, the call panics or its result is
+    /// unspecified.
+    ///
+    /// # Examples
+    ///
+    /// ```
+    /// use num_modular::{Reducer, Vanilla};
+    ///
+    /// let ring = Vanilla::<u64>::new(&97);
+    /// assert_eq!(ring.sub_with_room(&50, &60), 87); // -10 + 97
+    /// ```
+    #[inline]
+    fn sub_with_room(&self, a: &T, b: &T) -> T {
+        self.sub(a, b)
+    }
+
     /// The form of `sum` plus the products of two lists, entry by entry, modulo m.
     ///
     /// A reducer may override it with a body that reduces once for many products.

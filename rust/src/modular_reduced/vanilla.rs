@@ -1,5 +1,6 @@
 //! The plain reducer: the form of a value is the value.
 
+use crate::modular_reduced::lanes::{difference_by_sign, sum_by_sign};
 use crate::modular_reduced::reducer::Reducer;
 use crate::modular_prim::below::{add_below_stored, dbl_below_stored, neg_below, sub_below_stored};
 use crate::modular_prim::inverse::fast_inverse;
@@ -96,6 +97,20 @@ impl<T: PlainWord> Reducer<T> for Vanilla<T> {
     #[inline]
     fn mul(&self, a: &T, b: &T) -> T {
         T::narrow_remainder(a.product(*b), self.modulus)
+    }
+
+    #[inline]
+    #[cfg_attr(debug_assertions, track_caller)]
+    fn add_with_room(&self, a: &T, b: &T) -> T {
+        debug_assert!(!self.modulus().has_top_bit(), "2m must be below the base");
+        sum_by_sign(*a, *b, self.modulus)
+    }
+
+    #[inline]
+    #[cfg_attr(debug_assertions, track_caller)]
+    fn sub_with_room(&self, a: &T, b: &T) -> T {
+        debug_assert!(!self.modulus().has_top_bit(), "2m must be below the base");
+        difference_by_sign(*a, *b, self.modulus)
     }
 
     #[inline]

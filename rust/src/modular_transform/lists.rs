@@ -53,6 +53,13 @@ pub fn unload_forms<T: RingWord, R: Reducer<T>>(r: &R, forms: &[T], words: &mut 
     }
 }
 
+// Whether sums and differences of lists are by `add_with_room` and `sub_with_room`. Of words of 64 bits the vector
+// instructions that every x86-64 processor has test the sign alone. They compare shorter words, so `add` does well there.
+#[inline]
+fn takes_room<T: RingWord, R: Reducer<T>>(r: &R) -> bool {
+    T::bits() == 64 && !r.modulus().has_top_bit()
+}
+
 /// Adds to each entry of xs the entry of ys with the same index.
 ///
 /// # Panics
@@ -72,13 +79,18 @@ pub fn unload_forms<T: RingWord, R: Reducer<T>>(r: &R, forms: &[T], words: &mut 
 /// add_lists(&ring, &mut xs, &[10, 3]);
 /// assert_eq!(xs, [3, 5]);
 /// ```
-#[inline]
 #[track_caller]
 pub fn add_lists<T: RingWord, R: Reducer<T>>(r: &R, xs: &mut [T], ys: &[T]) {
     assert!(ys.len() == xs.len(), "the lists must have the same length: {} and {}", xs.len(), ys.len());
     debug_assert!(xs.iter().chain(ys.iter()).all(|x| r.check(x)), "all entries must be checked forms");
-    for i in 0..xs.len() {
-        xs[i] = r.add(&xs[i], &ys[i]);
+    if takes_room::<T, R>(r) {
+        for i in 0..xs.len() {
+            xs[i] = r.add_with_room(&xs[i], &ys[i]);
+        }
+    } else {
+        for i in 0..xs.len() {
+            xs[i] = r.add(&xs[i], &ys[i]);
+        }
     }
 }
 
@@ -101,13 +113,18 @@ pub fn add_lists<T: RingWord, R: Reducer<T>>(r: &R, xs: &mut [T], ys: &[T]) {
 /// sub_lists(&ring, &mut xs, &[10, 3]);
 /// assert_eq!(xs, [80, 96]);
 /// ```
-#[inline]
 #[track_caller]
 pub fn sub_lists<T: RingWord, R: Reducer<T>>(r: &R, xs: &mut [T], ys: &[T]) {
     assert!(ys.len() == xs.len(), "the lists must have the same length: {} and {}", xs.len(), ys.len());
     debug_assert!(xs.iter().chain(ys.iter()).all(|x| r.check(x)), "all entries must be checked forms");
-    for i in 0..xs.len() {
-        xs[i] = r.sub(&xs[i], &ys[i]);
+    if takes_room::<T, R>(r) {
+        for i in 0..xs.len() {
+            xs[i] = r.sub_with_room(&xs[i], &ys[i]);
+        }
+    } else {
+        for i in 0..xs.len() {
+            xs[i] = r.sub(&xs[i], &ys[i]);
+        }
     }
 }
 

@@ -83,6 +83,18 @@ pub trait RingWord: Copy + Eq {
     /// ```
     #[must_use]
     fn half(self) -> Self;
+
+    /// Whether the top bit is set: whether the word is at least half of the base.
+    ///
+    /// # Examples
+    ///
+    /// ```
+    /// use num_modular::RingWord;
+    ///
+    /// assert!(128u8.has_top_bit());
+    /// assert!(!127u8.has_top_bit());
+    /// ```
+    fn has_top_bit(self) -> bool;
 }
 
 impl RingWord for u8 {
@@ -114,6 +126,11 @@ impl RingWord for u8 {
     #[inline]
     fn half(self) -> u8 {
         self >> 1
+    }
+
+    #[inline]
+    fn has_top_bit(self) -> bool {
+        self >= 1 << (u8::BITS - 1)
     }
 }
 
@@ -147,6 +164,11 @@ impl RingWord for u16 {
     fn half(self) -> u16 {
         self >> 1
     }
+
+    #[inline]
+    fn has_top_bit(self) -> bool {
+        self >= 1 << (u16::BITS - 1)
+    }
 }
 
 impl RingWord for u32 {
@@ -179,6 +201,11 @@ impl RingWord for u32 {
     fn half(self) -> u32 {
         self >> 1
     }
+
+    #[inline]
+    fn has_top_bit(self) -> bool {
+        self >= 1 << (u32::BITS - 1)
+    }
 }
 
 impl RingWord for u64 {
@@ -210,6 +237,11 @@ impl RingWord for u64 {
     #[inline]
     fn half(self) -> u64 {
         self >> 1
+    }
+
+    #[inline]
+    fn has_top_bit(self) -> bool {
+        self >= 1 << (u64::BITS - 1)
     }
 }
 
@@ -244,6 +276,11 @@ impl RingWord for usize {
     fn half(self) -> usize {
         self >> 1
     }
+
+    #[inline]
+    fn has_top_bit(self) -> bool {
+        self >= 1 << (usize::BITS - 1)
+    }
 }
 
 impl RingWord for u128 {
@@ -275,5 +312,10 @@ impl RingWord for u128 {
     #[inline]
     fn half(self) -> u128 {
         self >> 1
+    }
+
+    #[inline]
+    fn has_top_bit(self) -> bool {
+        self >= 1 << (u128::BITS - 1)
     }
 }

@@ -1,12 +1,22 @@
-use Rattle.std.proofs.Common.{pos, ◌-ℤ◌, ◌<◌, length, ◌∙◌, ap, arith, subst, sym}
+use Rattle.std.proofs.Common.{pos, ◌-ℤ◌, ◌<◌, length, arith}
 use Rattle.modular_word.specs.Residues.{residue}
 use Rattle.modular_transform.specs.Entries.{entry}
-use Rattle.modular_transform.specs.EntryLaws.{entry_at, entry_read, form_read, done_none}
-use Rattle.modular_reduced.proofs.ListSteps.{written_more, all_written}
-use Rattle.modular_transform.proofs.Places.{at_most}
+use Rattle.modular_transform.specs.EntryLaws.{form_read, done_none}
+use Rattle.modular_reduced.proofs.ListSteps.{all_written}
+use Rattle.modular_transform.proofs.ListPairs.{pair_written}
 use Rattle.modular_transform.proofs.lists.sub_lists.Goals as goal
 use borrow.Author.Count.{falls}
-use borrow.Author.Rules.{scaled_Fits}
+
+pub roomy-init : goal.roomy-init
+roomy-init g c = record { checked = c.requires.checked_xs; done = done_none _ _ }
+
+pub roomy-preserved : goal.roomy-preserved
+roomy-preserved g c =
+    let ring = g.R.Reducer in let m = ring.modulus c.args.r.now in let number = g.T.RingWord.number in
+    let within_ys : c.roomy.i < length c.args.ys.now = let e = c.requires.equal in omega arith in
+    pair_written number ring.form ring.value m c.roomy.xs c.args.ys.now c.roomy.i c.index-xs-i.result
+    c.index-ys-i.result c.sub_with_room.result (λ v w. residue m (pos v -ℤ pos w)) (entry number ring.value m c.args.xs.now)
+    (omega arith) within_ys c.index-ys-i.is c.roomy.invariant c.sub_with_room.ensures.checked c.sub_with_room.ensures.value
 
 pub entries-init : goal.entries-init
 entries-init g c = record { checked = c.requires.checked_xs; done = done_none _ _ }
@@ -14,16 +24,18 @@ entries-init g c = record { checked = c.requires.checked_xs; done = done_none _ 
 pub entries-preserved : goal.entries-preserved
 entries-preserved g c =
     let ring = g.R.Reducer in let m = ring.modulus c.args.r.now in let number = g.T.RingWord.number in
-    let value = ring.value in let before = c.entries.invariant in
-    let i = c.entries.i in let xs = c.entries.xs in
-    let old = entry number value m c.args.xs.now in let y = entry number value m c.args.ys.now in
-    let within : i < length xs = omega arith in
-    let within_ys : i < length c.args.ys.now = let e = c.requires.equal in omega arith in
-    let x_is = entry_at number value m xs i c.index-xs-i.result within ∙ before.done.kept i (omega arith) in
-    let y_is = entry_read number value m c.args.ys.now i c.index-ys-i.result within_ys c.index-ys-i.is in
-    written_more number ring.form value m xs i c.sub.result (λ k. residue m (pos (old k) -ℤ pos (y k))) old within before c.sub.ensures.checked
-    (c.sub.ensures.value ∙ ap (λ v. residue m (pos v -ℤ pos (value m (number c.index-ys-i.result)))) x_is
-    ∙ ap (λ v. residue m (pos (old i) -ℤ pos v)) y_is)
+    let within_ys : c.entries.i < length c.args.ys.now = let e = c.requires.equal in omega arith in
+    pair_written number ring.form ring.value m c.entries.xs c.args.ys.now c.entries.i c.index-xs-i-in-entries.result
+    c.index-ys-i-in-entries.result c.sub.result (λ v w. residue m (pos v -ℤ pos w)) (entry number ring.value m c.args.xs.now)
+    (omega arith) within_ys c.index-ys-i-in-entries.is c.entries.invariant c.sub.ensures.checked c.sub.ensures.value
+
+pub sub_with_room-requires-clause-left : goal.sub_with_room-requires-clause-left
+sub_with_room-requires-clause-left g c = c.roomy.invariant.checked _ _ (omega arith)
+
+pub sub_with_room-requires-clause-right : goal.sub_with_room-requires-clause-right
+sub_with_room-requires-clause-right g c =
+    form_read g.T.RingWord.number g.R.Reducer.form g.R.Reducer.value _ c.args.ys.now _ _ c.requires.checked_ys
+    (let e = c.requires.equal in omega arith) c.index-ys-i.is
 
 pub sub-requires-clause-left : goal.sub-requires-clause-left
 sub-requires-clause-left g c = c.entries.invariant.checked _ _ (omega arith)
@@ -31,36 +43,32 @@ sub-requires-clause-left g c = c.entries.invariant.checked _ _ (omega arith)
 pub sub-requires-clause-right : goal.sub-requires-clause-right
 sub-requires-clause-right g c =
     form_read g.T.RingWord.number g.R.Reducer.form g.R.Reducer.value _ c.args.ys.now _ _ c.requires.checked_ys
-    (let e = c.requires.equal in omega arith) c.index-ys-i.is
+    (let e = c.requires.equal in omega arith) c.index-ys-i-in-entries.is
 
-pub offset_bounds-xs-i : goal.offset_bounds-xs-i
-offset_bounds-xs-i g c = scaled_Fits _ _ _ c.entries-test.true c.well_formed.1.0.1
-
-pub offset_bounds-xs-i-in-entries : goal.offset_bounds-xs-i-in-entries
-offset_bounds-xs-i-in-entries g c = scaled_Fits _ _ _ c.entries-test.true c.well_formed.1.0.1
-
-pub offset_bounds-ys-i : goal.offset_bounds-ys-i
-offset_bounds-ys-i g c = at_most c.entries-test.true (sym c.requires.equal)
+pub roomy-smaller : goal.roomy-smaller
+roomy-smaller g c = falls _ _ c.roomy-test.true
 
 pub entries-smaller : goal.entries-smaller
 entries-smaller g c = falls _ _ c.entries-test.true
 
-pub bounds-xs-i : goal.bounds-xs-i
-bounds-xs-i g c = subst (λ n. c.entries.i < n) (sym c.entries.auto.xs) c.entries-test.true
+pub returns-after-roomy-clause-checked : goal.returns-after-roomy-clause-checked
+returns-after-roomy-clause-checked g c = c.roomy.invariant.checked
 
-pub bounds-xs-i-in-entries : goal.bounds-xs-i-in-entries
-bounds-xs-i-in-entries g c = subst (λ n. c.entries.i < n) (sym c.entries.auto.xs) c.entries-test.true
+pub returns-after-roomy-clause-values : goal.returns-after-roomy-clause-values
+returns-after-roomy-clause-values g c = λ k l. c.roomy.invariant.done.done k (omega (arith, l))
 
-pub bounds-ys-i : goal.bounds-ys-i
-bounds-ys-i g c = subst (λ n. c.entries.i < n) (sym c.requires.equal) c.entries-test.true
+pub returns-after-roomy-clause-entries : goal.returns-after-roomy-clause-entries
+returns-after-roomy-clause-entries g c =
+    let ring = g.R.Reducer in let m = ring.modulus c.args.r.now in
+    all_written g.T.RingWord.number ring.form ring.value m c.roomy.xs _ _ _ c.roomy.invariant (omega arith)
 
-pub returns-clause-checked : goal.returns-clause-checked
-returns-clause-checked g c = c.entries.invariant.checked
+pub returns-after-entries-clause-checked : goal.returns-after-entries-clause-checked
+returns-after-entries-clause-checked g c = c.entries.invariant.checked
 
-pub returns-clause-values : goal.returns-clause-values
-returns-clause-values g c = λ k l. c.entries.invariant.done.done k (omega (arith, l))
+pub returns-after-entries-clause-values : goal.returns-after-entries-clause-values
+returns-after-entries-clause-values g c = λ k l. c.entries.invariant.done.done k (omega (arith, l))
 
-pub returns-clause-entries : goal.returns-clause-entries
-returns-clause-entries g c =
+pub returns-after-entries-clause-entries : goal.returns-after-entries-clause-entries
+returns-after-entries-clause-entries g c =
     let ring = g.R.Reducer in let m = ring.modulus c.args.r.now in
     all_written g.T.RingWord.number ring.form ring.value m c.entries.xs _ _ _ c.entries.invariant (omega arith)

@@ -5,6 +5,12 @@ use Rattle.modular_reduced.proofs.ListSteps.{WrittenBelow}
 use Rattle.modular_transform.proofs.lists.sub_lists.Given as goal
 
 -- the first i entries are done
+abbrev pub invariant-roomy : goal.invariant-roomy
+invariant-roomy g l =
+    let ring = g.R.Reducer in let m = ring.modulus l.fn.r in let number = g.T.RingWord.number in
+    let old = entry number ring.value m l.fn.xs in let y = entry number ring.value m l.fn.ys in
+    WrittenBelow number ring.form ring.value m (λ k. residue m (pos (old k) -ℤ pos (y k))) l.i old l.xs
+
 abbrev pub invariant-entries : goal.invariant-entries
 invariant-entries g l =
     let ring = g.R.Reducer in let m = ring.modulus l.fn.r in let number = g.T.RingWord.number in

@@ -1,0 +1,46 @@
+//! Sums and differences of words below m in a form of which compilers do several at once in a loop over a list, with the
+//! vector instructions that every x86-64 processor has. Those don't compare words of 64 bits, and other words as signed
+//! numbers alone. So the top bit of a difference chooses, which requires that 2m is at most the base.
+
+ghost use Rattle.std.specs.Prelude.{◌≡◌, ℕ, ◌+◌, ◌*◌, ◌%◌, ◌^◌, ◌<◌, ◌≤◌, pos, ◌-ℤ◌};
+ghost use Rattle.modular_word.specs.Residues.{residue};
+
+use modular_word::path_word::PathWord;
+
+/// The residue of a word below 2m. Conditions: the word is below 2m, which is at most the base.
+pub fn reduced_by_sign<T: PathWord>(x: T, m: T) -> T
+    requires below { T.number x < 2 * T.number m }
+    requires room { 2 * T.number m ≤ 2 ^ T.width }
+    ensures value { T.number result ≡ T.number x % T.number m }
+    ensures below { T.number result < T.number m }
+{
+    let less = x.wrapping_sub(m);
+    if less.has_top_bit() { x } else { less }
+}
+
+/// The residue of a + b, below m. Conditions: both are below m, and 2m is at most the base.
+pub fn sum_by_sign<T: PathWord>(a: T, b: T, m: T) -> T
+    requires left { T.number a < T.number m }
+    requires right { T.number b < T.number m }
+    requires room { 2 * T.number m ≤ 2 ^ T.width }
+    ensures value { T.number result ≡ (T.number a + T.number b) % T.number m }
+    ensures below { T.number result < T.number m }
+{
+    reduced_by_sign(a.plus(b), m)
+}
+
+/// The residue of a - b, below m. Conditions: both are below m, and 2m is at most the base.
+pub fn difference_by_sign<T: PathWord>(a: T, b: T, m: T) -> T
+    requires left { T.number a < T.number m }
+    requires right { T.number b < T.number m }
+    requires room { 2 * T.number m ≤ 2 ^ T.width }
+    ensures value { T.number result ≡ residue (T.number m) (pos (T.number a) -ℤ pos (T.number b)) }
+    ensures below { T.number result < T.number m }
+{
+    let less = a.wrapping_sub(b);
+    if less.has_top_bit() {
+        less.wrapping_add(m)
+    } else {
+        less
+    }
+}
