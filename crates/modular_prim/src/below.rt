@@ -177,41 +177,28 @@ pub fn dbl_below<T: PathWord>(a: T, m: T) -> T
     ensures value { T.number result ≡ (2 * T.number a) % T.number m }
     ensures below { T.number result < T.number m }
 {
-    if T::bits() <= 8 {
+    if T::bits() == 8 {
         doubled_once(a, m)
+    } else if T::bits() == 16 {
+        doubled_by_half(a, m)
     } else {
         sum_by_carry(a, a, m)
     }
 }
 
-/// The residue of 2a, as `dbl_below` returns it, where compilers don't know the modulus. Condition: a is below m.
-pub fn dbl_below_stored<T: PathWord>(a: T, m: T) -> T
-    requires { T.number a < T.number m }
-    ensures value { T.number result ≡ (2 * T.number a) % T.number m }
-    ensures below { T.number result < T.number m }
-{
-    if T::bits() == 16 {
-        doubled_by_half(a, m)
-    } else {
-        dbl_below(a, m)
-    }
-}
-
-// The residue of 2a, below m, by a comparison with m/2, which doesn't wait for the double. In wider words LLVM turns it
-// into a branch in some loops, which mispredicts. Condition: a is below m.
+// The residue of 2a, below m, by a comparison with m/2, which doesn't wait for the double. In wider words LLVM turns the
+// choice into a branch in some loops, which mispredicts. Condition: a is below m.
 fn doubled_by_half<T: PathWord>(a: T, m: T) -> T
     requires { T.number a < T.number m }
     ensures value { T.number result ≡ (2 * T.number a) % T.number m }
     ensures below { T.number result < T.number m }
 {
-    let low = m.half();
-    let high = m.minus(low);
-    if a.is_below(high) {
-        a.plus(a)
-    } else {
-        let above = a.minus(high);
-        above.plus(above).plus(high.minus(low))
-    }
+    // Reading the word gives the proof that it fits its width.
+    let _ = m.is_below(a);
+    let high = m.minus(m.half());
+    let twice = a.wrapping_add(a);
+    let less = twice.wrapping_sub(m);
+    if a.is_below(high) { twice } else { less }
 }
 
 // The residue of 2a, below m, by a comparison of the sum. At 8 bits compilers work on more entries of a list at once

@@ -1,0 +1,72 @@
+-- The double where it is below m, and the double less m where it isn't.
+use Rattle.std.proofs.Common.{◌≡◌, ◌+◌, ◌-◌, ◌*◌, ◌%◌, ◌<◌, ◌≤◌, arith, sym, ap, ◌∙◌, inl, inr}
+use Rattle.std.proofs.Math.Nat.{mod-eq_of_lt, add-mod_right}
+use Rattle.std.proofs.lemmas.Bool.{cases_lt}
+use Rattle.modular_prim.proofs.ResidueSteps.{lifted, settled, once}
+use Rattle.modular_prim.proofs.below.doubled_by_half.Goals as goal
+use Rattle.modular_prim.proofs.below.doubled_by_half.Goals.{After-is_below-2}
+
+-- where a is at least the upper half of m, the difference is the double less m
+past : (g : _) (c : After-is_below-2 g) → g.T.RingWord.number c.minus-high.result ≤ g.T.RingWord.number c.args.a
+    → g.T.RingWord.number c.wrapping_sub-less.result + g.T.RingWord.number c.args.m ≡ 2 * g.T.RingWord.number c.args.a
+past g c more =
+    let n = g.T.RingWord.number in
+    let base = g.T.PathWord.base in
+    let a = n c.args.a in
+    let m = n c.args.m in
+    let less = n c.wrapping_sub-less.result in
+    let half = c.half.ensures.value in
+    let at_least : m ≤ a + a = omega (arith, half, c.minus-high.ensures.value, more) in
+    let twice = c.wrapping_add-twice.ensures.value in
+    let is = c.wrapping_sub-less.ensures.value in
+    let m_fits = c.is_below.ensures.fits in
+    let sum : less + m ≡ a + a =
+    elim (cases_lt (a + a) base) [
+      | inl below ↦ settled base m (a + a) less below c.wrapping_sub-less.ensures.fits at_least
+          (is ∙ twice ∙ mod-eq_of_lt below)
+      | inr above ↦
+          let x = a + a - base in
+          let whole : a + a ≡ x + base = omega arith in
+          let small : x < m = omega (arith, c.requires, m_fits) in
+          let rest : x < base = omega (arith, small, m_fits) in
+          let up = lifted base m x less m_fits c.wrapping_sub-less.ensures.fits small
+          (is ∙ twice ∙ ap (λ v. v % base) whole ∙ add-mod_right x base ∙ mod-eq_of_lt rest) in
+          omega (arith, up, whole)
+    ] in
+    omega (arith, sum)
+
+pub returns-then-is_below-clause-value : goal.returns-then-is_below-clause-value
+returns-then-is_below-clause-value g c =
+    let n = g.T.RingWord.number in
+    let a = n c.args.a in
+    let less = c.is_below-2.ensures.below.0 c.if-is_below.true in
+    let small : a + a < n c.args.m = omega (arith, c.half.ensures.value, c.minus-high.ensures.value, less) in
+    let fits : a + a < g.T.PathWord.base = omega (arith, small, c.is_below.ensures.fits) in
+    let twice : a + a ≡ 2 * a = omega arith in
+    let double : 2 * a < n c.args.m = omega (arith, small) in
+    c.wrapping_add-twice.ensures.value ∙ mod-eq_of_lt fits ∙ twice ∙ sym (mod-eq_of_lt double)
+
+pub returns-then-is_below-clause-below : goal.returns-then-is_below-clause-below
+returns-then-is_below-clause-below g c =
+    let n = g.T.RingWord.number in
+    let a = n c.args.a in
+    let less = c.is_below-2.ensures.below.0 c.if-is_below.true in
+    let small : a + a < n c.args.m = omega (arith, c.half.ensures.value, c.minus-high.ensures.value, less) in
+    let fits : a + a < g.T.PathWord.base = omega (arith, small, c.is_below.ensures.fits) in
+    let is = c.wrapping_add-twice.ensures.value ∙ mod-eq_of_lt fits in
+    omega (arith, is, small)
+
+pub returns-else-is_below : goal.returns-else-is_below
+returns-else-is_below g c =
+    let n = g.T.RingWord.number in
+    let a = n c.args.a in
+    let m = n c.args.m in
+    let more : n c.minus-high.result ≤ a = grind arith in
+    let is = past g (goal.at.returns-else-is_below g c).After-is_below-2 more in
+    let high = c.requires in
+    let twice : 2 * a < 2 * m = omega (arith, high) in
+    let low : m ≤ 2 * a = omega (arith, is) in
+    record {
+      value = once m (2 * a) (n c.wrapping_sub-less.result) low twice is;
+      below = omega (arith, is, twice);
+    }
