@@ -56,15 +56,15 @@ pub fn sum_once<T: PathWord>(a: T, b: T, m: T) -> T {
 /// unspecified.
 #[inline]
 pub fn add_below_stored<T: PathWord>(a: T, b: T, m: T) -> T {
-    if T::bits() == 8 {
+    if T::bits() <= 16 {
         sum_by_gap(a, b, m)
     } else {
         sum_by_carry(a, b, m)
     }
 }
 
-// The residue of a + b, below m: the difference of a and m - b, or its sum with m. At 8 bits compilers work by it on
-// several integers at once, each of which has its own modulus. Condition: both are below m.
+// The residue of a + b, below m: the difference of a and m - b, or its sum with m. At 8 and 16 bits compilers work by it
+// on several integers at once, each of which has its own modulus. Condition: both are below m.
 #[inline]
 fn sum_by_gap<T: PathWord>(a: T, b: T, m: T) -> T {
     // Reading the word gives the proof that it fits its width.
