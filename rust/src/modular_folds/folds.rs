@@ -2,7 +2,7 @@
 
 use crate::modular_folds::far::{has_few_folds, reduced_far};
 use crate::modular_folds::fold_word::FoldWord;
-use crate::modular_prim::below::{reduced_once, sum_once};
+use crate::modular_prim::below::sum_once;
 use crate::modular_word::path_word::PathWord;
 
 // One fold at the bit p: the part above it times c, plus the part below it; and 1, or 0 where the part above is 0.
@@ -122,6 +122,18 @@ pub(crate) fn reduced_last<V: FoldWord>(v: V, m: V) -> V {
 fn reduced_by_borrow(v: u64, m: u32) -> u32 {
     let (rest, borrowed) = <u32 as PathWord>::split(v.wrapping_sub(m as u64));
     rest.wrapping_add(borrowed & m)
+}
+
+// x modulo m, where m is below half of the base: the top bit of x - m is its borrow. LLVM vectorizes products in independent
+// chains, and this bit takes less time there than a comparison of words. Conditions: x is below 2m, and m at most 2^31.
+#[inline]
+fn reduced_by_top_bit(x: u32, m: u32) -> u32 {
+    let less = x.wrapping_sub(m);
+    if less >> 31 == 1 {
+        less.wrapping_add(m)
+    } else {
+        less
+    }
 }
 
 // v modulo m, after folds at the bit p by c: in the faster of the two ways. Condition: v is below 2m.
@@ -303,7 +315,7 @@ impl FoldedWord for u32 {
     #[inline]
     fn sum_of_parts(a: u32, b: u32, p: u32, m: u32) -> u32 {
         if p < 32 {
-            reduced_once(a + b, m)
+            reduced_by_top_bit(a + b, m)
         } else {
             sum_once(a, b, m)
         }
