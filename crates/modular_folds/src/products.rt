@@ -120,6 +120,38 @@ fn reduced_last<T: PathWord>(x: T, m: T) -> T
     if x.is_below(m) { x } else { x.minus(m) }
 }
 
+// A word that is at least m, modulo m. Kept out of line and cold, so that LLVM branches on the comparison. Conditions: the word
+// is below 2m, and at least m.
+#[cold]
+#[inline(never)]
+fn reduced_above<T: PathWord>(x: T, m: T) -> T
+    requires twice { T.number x < 2 * T.number m }
+    requires above { T.number m ≤ T.number x }
+    ensures { T.number result ≡ T.number x % T.number m }
+{
+    x.minus(m)
+}
+
+// x modulo m, where m is 2^p - c. Condition: x is below 2m.
+//
+// If p is the width of 64 bits and c is below 2^56, few words are at least m, and a branch seldom mispredicts. LLVM would
+// vectorize a choice, and a comparison of 64 bits in vectors takes longer.
+#[inline(always)]
+fn reduced_folded<T: PathWord>(x: T, p: u32, c: T, m: T) -> T
+    requires { T.number x < 2 * T.number m }
+    ensures { T.number result ≡ T.number x % T.number m }
+{
+    if T::bits() > 32 && p == T::bits() && c.shift_right(p - 8).is_zero_word() {
+        if x.is_below(m) {
+            x
+        } else {
+            reduced_above(x, m)
+        }
+    } else {
+        reduced_last(x, m)
+    }
+}
+
 /// v modulo m. Condition: m is 2^p - c and more than half of 2^p, and p is at most the width of the words.
 ///
 /// Where one fold makes every word less than 2m, v isn't compared. The choice depends on c and p alone.
@@ -131,7 +163,7 @@ pub fn reduce_word<T: FoldedWord>(v: T, p: u32, c: T, m: T) -> T
     ensures { T.number result ≡ T.number v % T.number m }
 {
     if is_once(p, c) {
-        reduced_last(fold_word(v, p, c), m)
+        reduced_folded(fold_word(v, p, c), p, c, m)
     } else {
         T::reduce_longer(v, p, c, m)
     }

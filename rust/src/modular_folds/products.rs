@@ -88,6 +88,31 @@ fn reduced_last<T: PathWord>(x: T, m: T) -> T {
     if x.is_below(m) { x } else { x.minus(m) }
 }
 
+// A word that is at least m, modulo m. Kept out of line and cold, so that LLVM branches on the comparison. Conditions: the word
+// is below 2m, and at least m.
+#[cold]
+#[inline(never)]
+fn reduced_above<T: PathWord>(x: T, m: T) -> T {
+    x.minus(m)
+}
+
+// x modulo m, where m is 2^p - c. Condition: x is below 2m.
+//
+// If p is the width of 64 bits and c is below 2^56, few words are at least m, and a branch seldom mispredicts. LLVM would
+// vectorize a choice, and a comparison of 64 bits in vectors takes longer.
+#[inline(always)]
+fn reduced_folded<T: PathWord>(x: T, p: u32, c: T, m: T) -> T {
+    if T::bits() > 32 && p == T::bits() && c.shift_right(p - 8).is_zero_word() {
+        if x.is_below(m) {
+            x
+        } else {
+            reduced_above(x, m)
+        }
+    } else {
+        reduced_last(x, m)
+    }
+}
+
 /// v modulo m.
 ///
 /// Where one fold makes every word less than 2m, v isn't compared. The choice depends on c and p alone.
@@ -101,7 +126,7 @@ fn reduced_last<T: PathWord>(x: T, m: T) -> T {
 #[inline(always)]
 pub fn reduce_word<T: FoldedWord>(v: T, p: u32, c: T, m: T) -> T {
     if is_once(p, c) {
-        reduced_last(fold_word(v, p, c), m)
+        reduced_folded(fold_word(v, p, c), p, c, m)
     } else {
         T::reduce_longer(v, p, c, m)
     }
