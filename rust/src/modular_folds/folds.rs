@@ -124,16 +124,26 @@ fn reduced_by_borrow(v: u64, m: u32) -> u32 {
     rest.wrapping_add(borrowed & m)
 }
 
-// x modulo m, where m is below half of the base: the top bit of x - m is its borrow. LLVM vectorizes products in independent
-// chains, and this bit takes less time there than a comparison of words. Conditions: x is below 2m, and m at most 2^31.
+// x modulo m, where m is at most half of the base: the top bit of x - m is its borrow. LLVM vectorizes products in independent
+// chains, and this bit takes less time there than a comparison of words. Condition: x is below 2m.
 #[inline]
-fn reduced_by_top_bit(x: u32, m: u32) -> u32 {
+fn reduced_by_top_bit<T: PathWord>(x: T, m: T) -> T {
     let less = x.wrapping_sub(m);
-    if less >> 31 == 1 {
-        less.wrapping_add(m)
-    } else {
+    if less.shift_right(T::bits() - 1).is_zero_word() {
         less
+    } else {
+        x
     }
+}
+
+// a + b modulo m, where the sum may take more than a word: the borrow of a difference of double words chooses. LLVM vectorizes
+// products in independent chains, and a comparison of 64 bits in vectors takes longer than this. Condition: the sum is
+// below 2m.
+#[inline(always)]
+fn reduced_sum(a: u64, b: u64, m: u64) -> u64 {
+    let sum = a as u128 + b as u128;
+    let (rest, borrowed) = <u64 as PathWord>::split(sum.wrapping_sub(m as u128));
+    if borrowed == 0 { rest } else { sum as u64 }
 }
 
 // v modulo m, after folds at the bit p by c: in the faster of the two ways. Condition: v is below 2m.
@@ -369,17 +379,13 @@ impl FoldedWord for u64 {
         }
     }
 
-    // The borrow of a difference of double words chooses. LLVM vectorizes products in independent chains, and a
-    // comparison of 64 bits in vectors takes longer than this.
     #[inline(always)]
     fn sum_of_parts(a: u64, b: u64, p: u32, m: u64) -> u64 {
-        let sum = if p < 64 {
-            (a + b) as u128
+        if p < 64 {
+            reduced_by_top_bit(a + b, m)
         } else {
-            a as u128 + b as u128
-        };
-        let (rest, borrowed) = <u64 as PathWord>::split(sum.wrapping_sub(m as u128));
-        if borrowed == 0 { rest } else { sum as u64 }
+            reduced_sum(a, b, m)
+        }
     }
 }
 
