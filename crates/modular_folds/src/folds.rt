@@ -453,6 +453,17 @@ pub fn reduce_by_folds<T: FoldedWord>(v: T::Double, p: u32, c: T, m: T) -> (T, u
     (sum_once(rest, T::zero(), m), count)
 }
 
+// v modulo m, by folds. Kept out of line and cold, so that loops over products stay small. Condition: m is 2^p - c and more
+// than half of 2^p, and p is at most the width of the words.
+#[cold]
+#[inline(never)]
+fn reduce_longer_double<T: FoldedWord>(v: T::Double, p: u32, c: T, m: T) -> T
+    requires { IsFolding T.width p (T.number c) (T.number m) }
+    ensures { T.number result ≡ T.double_number v % T.number m }
+{
+    reduce_by_folds(v, p, c, m).0
+}
+
 /// v modulo m, by folds: without further comparisons where v is at most a product of two numbers below 2^p, and that is
 /// faster. Condition: m is 2^p - c and more than half of 2^p, and p is at most the width of the words.
 ///
@@ -468,6 +479,8 @@ pub fn reduce_double_word<T: FoldedWord>(v: T::Double, p: u32, c: T, m: T) -> T
         if T::is_short(v, p, m) {
             let (low, high) = T::parts(v, p, m);
             T::sum_of_parts(high, low, p, m)
+        } else if T::bits() > 32 {
+            reduce_longer_double(v, p, c, m)
         } else {
             reduce_by_folds(v, p, c, m).0
         }
