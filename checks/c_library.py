@@ -6,7 +6,7 @@ import shutil
 import sys
 
 from libraries import TOP
-from results import run, told
+from results import report, run
 
 WARNINGS = ["-Wall", "-Wextra", "-pedantic", "-Werror"]
 SANITIZERS = ["-g", "-pthread", "-fsanitize=address,undefined", "-fno-sanitize-recover=all"]
@@ -103,10 +103,10 @@ def differences(header, folder, text=SOURCES):
 def compared(name, text, wrong, differences):
     """Whether a text has no differences, and each wrong one has some."""
     found = differences(text)
-    yield told(name, not found, "\n".join(found))
+    yield report(name, not found, "\n".join(found))
     for one, other in wrong:
         changed = text.replace(one, other)
-        yield told(f"it is wrong with {other.strip()!r}", changed != text and differences(changed))
+        yield report(f"it is wrong with {other.strip()!r}", changed != text and differences(changed))
 
 
 def names(prefix):
@@ -118,9 +118,9 @@ def names(prefix):
     empty = {(name, place) for name, words in calls for place in range(len(words)) if words[place : place + 2] == ["NULL", "0"]}
     lists = {(name, place - 1) for name, found in wanted.items() for place, (_, own) in enumerate(found) if own is None}
     called = set(re.findall(r"\b(nm_\w+)\(", tests))
-    yield told("the archive exports what the sources export", status == 0 and exported == {*wanted}, f"{exported ^ {*wanted}}")
-    yield told("the tests call what the sources export", wanted and {*wanted} <= called, f"{ {*wanted} - called}")
-    yield told("the tests pass NULL for each list", lists and lists <= empty, f"{sorted(lists - empty)}")
+    yield report("the archive exports what the sources export", status == 0 and exported == {*wanted}, f"{exported ^ {*wanted}}")
+    yield report("the tests call what the sources export", wanted and {*wanted} <= called, f"{ {*wanted} - called}")
+    yield report("the tests pass NULL for each list", lists and lists <= empty, f"{sorted(lists - empty)}")
 
 
 def page(prefix, folder):
@@ -128,7 +128,7 @@ def page(prefix, folder):
     text = (TOP / "c/README.md").read_text()
     code, output = re.findall(r"^```c\n(.*?)^```$", text, re.S | re.M), re.findall(r"^```text\n(.*?)^```$", text, re.S | re.M)
     if len(code) != 1 or len(output) != 1:
-        return [told("c/README.md has an example and its output", False)]
+        return [report("c/README.md has an example and its output", False)]
     (folder / "page.c").write_text(code[0])
     return program(prefix, folder, "the example of c/README.md", [folder / "page.c"], output[0])
 
@@ -139,11 +139,11 @@ def program(prefix, folder, name, sources, want):
     file = f"{folder}/{os.path.basename(name)}.out"
     said, status = run("cc", "-std=c11", *WARNINGS, *SANITIZERS, "-o", file, *sources, *flags(prefix))
     if status:
-        yield told(f"{name} is compiled", False, said)
+        yield report(f"{name} is compiled", False, said)
         return
     said, status = run(file)
     counts = COUNT.fullmatch(said.strip().rpartition("\n")[2])
-    yield told(f"{name} under the sanitizers", status == 0 and (counts if want is None else said == want), said)
+    yield report(f"{name} under the sanitizers", status == 0 and (counts if want is None else said == want), said)
     if want is None and counts:
         yield int(counts[1]), int(counts[2])
 
@@ -157,7 +157,7 @@ def header(prefix, folder):
         source = folder / f"header.{suffix}"
         source.write_text("#include <num_modular.h>\nint main(void) { return (int)nm_kronecker(0, 0, 0); }\n")
         said, status = run(compiler, standard, *WARNINGS, f"-I{prefix}/include", "-c", "-o", f"{folder}/header.o", source)
-        yield told(f"the header with {compiler} {standard}", status == 0, said)
+        yield report(f"the header with {compiler} {standard}", status == 0, said)
 
 
 def programs(prefix, folder, options=()):
@@ -167,6 +167,6 @@ def programs(prefix, folder, options=()):
     yield from program(prefix, folder, "c/examples/example.c", [TOP / "c/examples/example.c"], IN_C)
     yield from page(prefix, folder)
     said, status = run(sys.executable, TOP / "c/examples/example.py", prefix)
-    yield told("c/examples/example.py", status == 0 and said == IN_PYTHON, said)
+    yield report("c/examples/example.py", status == 0 and said == IN_PYTHON, said)
     said, status = run(sys.executable, TOP / "c/examples/example.py")
-    yield told("c/examples/example.py without its word", status == 2 and "example.py PREFIX" in said, said)
+    yield report("c/examples/example.py without its word", status == 2 and "example.py PREFIX" in said, said)

@@ -9,27 +9,27 @@ from pathlib import Path
 
 
 def run(*words, **more):
-    """What a program says on both outputs, and its status."""
+    """What a program prints on both outputs, and its status."""
     how = {"stdin": subprocess.DEVNULL, "stdout": subprocess.PIPE, "stderr": subprocess.STDOUT, "text": True, "errors": "replace"}
     ran = subprocess.run([str(it) for it in words], **{**how, **more})
     return ran.stdout, ran.returncode
 
 
-def told(name, holds, said=""):
-    """Prints what was tried, and with a failure what was said; answers how much passed and failed."""
+def report(name, holds, said=""):
+    """Prints what was tried, and with a failure what was said. Returns how many passed and failed."""
     print(f"{name}: {'passed' if holds else 'FAILED'}" + (f"\n{said.strip()[-2000:]}" if said and not holds else ""), flush=True)
     return int(bool(holds)), int(not holds)
 
 
-def counted(faults, count=1):
-    """Prints the faults of so many things that were tried; answers how much passed and failed."""
+def report_faults(faults, count=1):
+    """Prints the faults of so many things that were tried. Returns how many passed and failed."""
     for it in faults:
         print(it, flush=True)
     return max(count - len(faults), 0), len(faults)
 
 
-def total(found):
-    """Prints how much passed and failed, of results that are true or false or count both; answers the script's status.
+def summary(found):
+    """Prints how many passed and failed, of results that are true or false or count both. Returns the script's status.
     Nothing at all is a fault too."""
     counts = [it if isinstance(it, tuple) else (int(bool(it)), int(not it)) for it in found]
     passed, failed = sum(it for it, _ in counts), sum(it for _, it in counts)
@@ -37,16 +37,16 @@ def total(found):
     return int(failed > 0 or passed == 0)
 
 
-def ended(tries, *tools):
-    """Runs a script's tries, which get a new folder, and ends it with the status. Where a tool isn't here, nothing is tried,
-    which is a fault under CI alone."""
+def run_tries(tries, *tools):
+    """Runs a script's tries, which get a new folder, and exits with the status. Where a tool isn't here,
+    nothing is tried, which is a fault under CI alone."""
     if lacking := [it for it in tools if not shutil.which(it)]:
         print(f"nothing was tried, for want of {', '.join(lacking)}")
         failed = int(bool(os.environ.get("CI")))
         print(f"0 passed, {failed} failed")
         sys.exit(failed)
     with tempfile.TemporaryDirectory(prefix=f"checks-{Path(sys.argv[0]).name}-") as room:
-        sys.exit(total(tries(Path(room))))
+        sys.exit(summary(tries(Path(room))))
 
 
 def path_of(room, *tools):

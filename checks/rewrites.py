@@ -72,7 +72,7 @@ def looped(code):
     return code
 
 
-def counted(found):
+def without_count(found):
     """A loop whose count nothing reads is one without it."""
     return f"for {found[2]} in {found[3]} {found[4]}" if not re.search(rf"\b{found[1]}\b", found[4]) else found[0]
 
@@ -90,7 +90,7 @@ def nested(found):
 
 # Sentences of Rust for what clippy would say otherwise.
 IDIOMS = (
-    (rf"for \( (\w+) , (\w+) \) in ({PLAIN}) \. enumerate \( \) ({BLOCK})", counted),
+    (rf"for \( (\w+) , (\w+) \) in ({PLAIN}) \. enumerate \( \) ({BLOCK})", without_count),
     (rf"for (\w+) in ({PLAIN}) \{{ if ({PLAIN}) \{{ return Some \( \1 \) ; \}} \}} None (?=\}})", r"( \2 ) . find ( | & \1 | \3 ) "),
     (rf"match ({PLAIN}) \{{ Some \( (\w+) \) => Some \( ({PLAIN}) \) , None => None , \}}", r"\1 . map ( | \2 | \3 )"),
     (rf"match ({PLAIN}) \{{ Some \( _ \) => true , None => false , \}}", r"\1 . is_some ( )"),
