@@ -37,10 +37,10 @@ def summary(found):
     return int(failed > 0 or passed == 0)
 
 
-def run_tries(tries, *tools):
-    """Runs a script's tries, which get a new folder, and exits with the status. Where a tool isn't here,
-    nothing is tried, which is a fault under CI alone."""
-    if lacking := [it for it in tools if not shutil.which(it)]:
+def run_tries(tries, *tools, lacking=()):
+    """Runs a script's tries, which get a new folder, and exits with the status. Where a tool isn't here, or something else is
+    lacking, nothing is tried, which is a fault under CI alone."""
+    if lacking := [*lacking, *(it for it in tools if not shutil.which(it))]:
         print(f"nothing was tried, for want of {', '.join(lacking)}")
         failed = int(bool(os.environ.get("CI")))
         print(f"0 passed, {failed} failed")
