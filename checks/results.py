@@ -8,6 +8,22 @@ import tempfile
 from pathlib import Path
 
 
+def words_given(are_right=lambda words: not words):
+    """The script's words. `--help` prints the script's docs; words that aren't right do so on standard error, with status 2."""
+    words, docs = sys.argv[1:], sys.modules["__main__"].__doc__.strip()
+    if words in (["--help"], ["-h"]):
+        print(docs)
+        sys.exit(0)
+    if not are_right(words):
+        print(docs, file=sys.stderr)
+        sys.exit(2)
+    return words
+
+
+def has_options(words):
+    return any(it.startswith("-") for it in words)
+
+
 def run(*words, **more):
     """What a program prints on both outputs, and its status."""
     how = {"stdin": subprocess.DEVNULL, "stdout": subprocess.PIPE, "stderr": subprocess.STDOUT, "text": True, "errors": "replace"}
@@ -37,9 +53,10 @@ def summary(found):
     return int(failed > 0 or passed == 0)
 
 
-def run_tries(tries, *tools, lacking=()):
-    """Runs a script's tries, which get a new folder, and exits with the status. Where a tool isn't here, or something else is
-    lacking, nothing is tried, which is a fault under CI alone."""
+def run_tries(tries, *tools, lacking=(), are_right=lambda words: not words):
+    """Reads the script's words, runs its tries, which get a new folder, and exits with the status. Where a tool isn't here, or
+    something else is lacking, nothing is tried, which is a fault under CI alone."""
+    words_given(are_right)
     if lacking := [*lacking, *(it for it in tools if not shutil.which(it))]:
         print(f"nothing was tried, for want of {', '.join(lacking)}")
         failed = int(bool(os.environ.get("CI")))
