@@ -2,16 +2,20 @@
  *
  * Each function tests its preconditions and returns a code. With NM_OK it has written its result. With any other code
  * it leaves everything that the caller passed unchanged, but for the scratch list of the erasure codes; only
- * nm_montgomery_run and nm_erasure_correct also write with NM_NO_INVERSE. It is proved that the old and the new contents
- * are equal, but for the table of nm_plan_make. A body that writes and then restores would meet that, too. That such a
- * call doesn't write at all is tested, with outputs in a read-only page.
+ * nm_montgomery_run and nm_erasure_correct also write with NM_NO_INVERSE. It is proved that the old and the new
+ * contents are equal, but for the table of nm_plan_make. A body that writes and then restores would meet that, too.
+ * That such a call doesn't write at all is tested, with outputs in a read-only page.
+ *
+ * A context, divider, plan, modulus or base comes first, but in the five operations on words and in the symbols, where
+ * the modulus follows the operands as in the Rust crate.
  *
  * The caller must ensure these preconditions, which the library can't test:
  *
  * - A pointer to a single value is valid. A list is a pointer and a number of elements, and has at least so many. For
- *   every list, NULL with the number 0 is an empty list. In comments, n is the length of a call's first list, and k that of
- *   its second, where they don't say another.
- * - A plan of type nm_plan_t, and its table, are as nm_plan_make or nm_plan_check left them; nm_plan_check itself takes any.
+ *   every list, NULL with the number 0 is an empty list. In comments, n is the length of a call's first list, and k
+ *   that of its second, where they don't say another.
+ * - A plan of type nm_plan_t, and its table, are as nm_plan_make or nm_plan_check left them; nm_plan_check itself takes
+ *   any.
  * - What a call writes, which is each argument without const, overlaps no other argument. Arguments that are const may
  *   overlap each other in any way, or be the same.
  * - No function allocates, keeps a state or calls back, so calls may run in several threads at the same time, and may
@@ -189,8 +193,8 @@ NM_CHECK uint32_t nm_montgomery_inv(const nm_montgomery_t *context, uint64_t for
 /* NM_OK where the root suits lists of n = length words, and NM_NO_ROOT where it doesn't. */
 NM_CHECK uint32_t nm_montgomery_root_fits(const nm_montgomery_t *context, uint64_t root, size_t length);
 
-/* A root that suits lists of n = length words: x to the power (m - 1)/n, rounded down, for the least x from 2 to 255 for
- * which it does. NM_NO_ROOT: it does for no x, as where n is no power of two. */
+/* A root that suits lists of n = length words: x to the power (m - 1)/n, rounded down, for the least x from 2 to 255
+ * for which it does. NM_NO_ROOT: it does for no x, as where n is no power of two. */
 NM_CHECK uint32_t nm_montgomery_find_root(const nm_montgomery_t *context, size_t length, uint64_t *root);
 
 /* Replaces the n words by their transform by the root: entry j is the sum of x_i * root^(i * j) modulo m.
@@ -230,12 +234,12 @@ typedef struct {
     uint64_t n;         /* the number that is loaded, or the exponent */
 } nm_command_t;
 
-/* Carries out the commands in order on the residues of the count words in registers, and replaces the words by the
- * resulting residues; carried_out becomes the number of commands carried out. NM_NO_INVERSE: the inverse of command
- * number carried_out, counted from 0, doesn't exist, and the residues are those after the commands before it.
- * NM_BAD_ARGUMENT: an operation has no name, or a register number isn't below count. NM_BAD_CONTEXT: as above. */
-NM_CHECK uint32_t nm_montgomery_run(const nm_montgomery_t *context, uint64_t *registers, size_t count,
-                                    const nm_command_t *commands, size_t length, size_t *carried_out);
+/* Carries out the commands in order on the residues of the words in registers, and replaces the words by the resulting
+ * residues; carried_out becomes the number of commands carried out. NM_NO_INVERSE: the inverse of command number
+ * carried_out, counted from 0, doesn't exist, and the residues are those after the commands before it. NM_BAD_ARGUMENT:
+ * an operation has no name, or a register number isn't below registers_length. NM_BAD_CONTEXT: as above. */
+NM_CHECK uint32_t nm_montgomery_run(const nm_montgomery_t *context, uint64_t *registers, size_t registers_length,
+                                    const nm_command_t *commands, size_t commands_length, size_t *carried_out);
 
 /* --- Transforms and cyclic products modulo 2^64 - 2^32 + 1. --- */
 
@@ -265,28 +269,29 @@ typedef struct {
 
 /* Fills the table with the plan by the root for transforms of n words, n being twice its length. NM_NO_ROOT: the
  * root doesn't suit n. */
-NM_CHECK uint32_t nm_plan(uint64_t m, uint64_t root, nm_factor_t *table, size_t length);
+NM_CHECK uint32_t nm_plan(uint64_t m, uint64_t root, nm_factor_t *table, size_t table_length);
 
 /* NM_OK where the table is the one that nm_plan makes for this m and this root, and NM_BAD_CONTEXT where it isn't.
  * NM_NO_ROOT: as for nm_plan. */
-NM_CHECK uint32_t nm_plan_fits(uint64_t m, uint64_t root, const nm_factor_t *table, size_t length);
+NM_CHECK uint32_t nm_plan_fits(uint64_t m, uint64_t root, const nm_factor_t *table, size_t table_length);
 
 /* Replaces the n words by their transform: entry j is the sum of x_i * h^(i * j) modulo m. h is the root of the plan,
  * or, where the plan is for more words, the power of it that suits n. NM_BAD_ARGUMENT: a word isn't below
  * 4 * m, or n is no power of two, or above twice the length of the table. */
-NM_CHECK uint32_t nm_ntt_planned(uint64_t m, uint64_t *xs, size_t xs_length, const nm_factor_t *table, size_t length);
+NM_CHECK uint32_t nm_ntt_planned(uint64_t m, uint64_t *xs, size_t xs_length, const nm_factor_t *table,
+                                 size_t table_length);
 
 /* Splits block b of the tree of remainders into count = n / last blocks: word i of block j becomes the sum over k of
  * x_(k * last + i) * c^k, the coefficient of the remainder modulo X^last - c, where c is the power of the plan's
  * root by the reversed bits of b * count + j. So b = 0 and last = 1 give the transform in
  * bit-reversed order, and b = 1 starts from a polynomial modulo X^n + 1. NM_BAD_ARGUMENT: a word isn't below 4 * m,
  * n isn't last times a power of two, or the table has fewer than (b + 1) * (count / 2) entries. */
-NM_CHECK uint32_t nm_split(uint64_t m, uint64_t *xs, size_t xs_length, const nm_factor_t *table, size_t length,
+NM_CHECK uint32_t nm_split(uint64_t m, uint64_t *xs, size_t xs_length, const nm_factor_t *table, size_t table_length,
                            size_t b, size_t last);
 
 /* Undoes nm_split, but for a factor: each word is multiplied by count. The codes are those of nm_split. */
-NM_CHECK uint32_t nm_join(uint64_t m, uint64_t *xs, size_t xs_length, const nm_factor_t *table, size_t length, size_t b,
-                          size_t last);
+NM_CHECK uint32_t nm_join(uint64_t m, uint64_t *xs, size_t xs_length, const nm_factor_t *table, size_t table_length,
+                          size_t b, size_t last);
 
 /* Replaces the first list by the cyclic product of both: entry e is the sum of x_i * y_j modulo m over all
  * i + j = e or e + n. The second list is replaced by the result of nm_split for b = 0. Both are split down to blocks
@@ -294,23 +299,24 @@ NM_CHECK uint32_t nm_join(uint64_t m, uint64_t *xs, size_t xs_length, const nm_f
  * lengths differ, last isn't 1 or 2, n isn't last times a power of two, or the table has fewer than
  * n / last / 2 entries, or none. NM_NO_INVERSE: n / last has no inverse modulo m. */
 NM_CHECK uint32_t nm_convolve_planned(uint64_t m, uint64_t *xs, size_t xs_length, uint64_t *ys, size_t ys_length,
-                                      const nm_factor_t *table, size_t length, size_t last);
+                                      const nm_factor_t *table, size_t table_length, size_t last);
 
 /* The same modulo X^n + 1: entry e is the sum of x_i * y_j over all i + j = e, less that over all i + j = e + n. The
  * second list is replaced by the result of nm_split for b = 1. The codes are those of nm_convolve_planned, except that
  * the table must have at least n / last entries. */
 NM_CHECK uint32_t nm_convolve_negacyclic(uint64_t m, uint64_t *xs, size_t xs_length, uint64_t *ys, size_t ys_length,
-                                         const nm_factor_t *table, size_t length, size_t last);
+                                         const nm_factor_t *table, size_t table_length, size_t last);
 
 /* --- The same by a plan as one value. ---
  *
- * nm_plan_make and nm_plan_check test the table, and the other calls trust it. So the caller must ensure that a plan is
- * one that nm_plan_make wrote or nm_plan_check accepted, and that neither it nor its table has changed since then. It is
- * enough that the entries of the table are factors modulo m with their quotients: where they are no plan, the results are
+ * nm_plan fills a table, which each call above tests. nm_plan_make makes an nm_plan_t, whose table is tested once, by
+ * nm_plan_make or nm_plan_check; the other calls trust it. So the caller must ensure that a plan is one that
+ * nm_plan_make wrote or nm_plan_check accepted, and that neither it nor its table has changed since then. It is enough
+ * that the entries of the table are factors modulo m with their quotients: where they are no plan, the results are
  * below m and meaningless. For other entries nothing is claimed.
  *
- * The codes but NM_BAD_CONTEXT are those of the calls above: words must be below 4 * m, and n at most twice the length of
- * the table. NM_NO_INVERSE: n has no inverse modulo m, as for n above 1 where m is even. */
+ * The codes but NM_BAD_CONTEXT are those of the calls above: words must be below 4 * m, and n at most twice the length
+ * of the table. NM_NO_INVERSE: n has no inverse modulo m, as for n above 1 where m is even. */
 
 /* A plan: modulus, root, and a table, which stays the caller's and must live as long as the plan. It may be copied. */
 typedef struct {
@@ -321,10 +327,10 @@ typedef struct {
 } nm_plan_t;
 
 /* Fills the table as nm_plan does, and writes the plan. The codes are those of nm_plan. */
-NM_CHECK uint32_t nm_plan_make(uint64_t m, uint64_t root, nm_factor_t *table, size_t length, nm_plan_t *plan);
+NM_CHECK uint32_t nm_plan_make(uint64_t m, uint64_t root, nm_factor_t *table, size_t table_length, nm_plan_t *plan);
 
-/* NM_OK where the plan's table is the one that nm_plan_make makes for its modulus and root, as for a plan that the caller
- * wrote over a table that is filled already. The other codes are those of nm_plan_fits. */
+/* NM_OK where the plan's table is the one that nm_plan_make makes for its modulus and root, as for a plan that the
+ * caller wrote over a table that is filled already. The other codes are those of nm_plan_fits. */
 NM_CHECK uint32_t nm_plan_check(const nm_plan_t *plan);
 
 /* nm_ntt_planned. */
@@ -349,10 +355,10 @@ NM_CHECK uint32_t nm_plan_convolve_negacyclic(const nm_plan_t *plan, uint64_t *x
 
 /* --- Erasure codes (Reed-Solomon) and secret sharing (Shamir), modulo any m. ---
  *
- * A message of k symbols is the list of the coefficients of a polynomial, the constant first, and symbol i of its word is
- * the value modulo m at point i. Lists hold words that may be above m; results are below m. The message comes back from
- * any k symbols, or from s symbols of which at most (s - k)/2 are wrong, if the points fit: the difference of any two
- * has an inverse modulo m. So their number is at most the least prime that divides m.
+ * A message of k symbols is the list of the coefficients of a polynomial, the constant first, and symbol i of its word
+ * is the value modulo m at point i. Lists hold words that may be above m; results are below m. The message comes back
+ * from any k symbols, or from s symbols of which at most (s - k)/2 are wrong, if the points fit: the difference of any
+ * two has an inverse modulo m. So their number is at most the least prime that divides m.
  *
  * places are numbers of points, counted from 0, and symbol j is the one at place j. The contents of scratch are
  * unspecified after every call, whatever its code. With n points and s places: NM_BAD_ARGUMENT: word or shares hasn't n
@@ -362,36 +368,35 @@ NM_CHECK uint32_t nm_plan_convolve_negacyclic(const nm_plan_t *plan, uint64_t *x
 
 /* The word of the message. scratch: n + k words. */
 NM_CHECK uint32_t nm_erasure_encode(const nm_montgomery_t *context, const uint64_t *points, size_t points_length,
-                                    const uint64_t *message, size_t message_length, uint64_t *word, size_t length,
+                                    const uint64_t *message, size_t message_length, uint64_t *word, size_t word_length,
                                     uint64_t *scratch, size_t scratch_length);
 
 /* The message of k symbols, by the first k places and the symbols there. scratch: n + s + 3 * k words.
- * NM_TOO_FEW_SYMBOLS: s is below k. NM_PLACE_OUT_OF_RANGE, NM_PLACE_TWICE: of the first k places. NM_POINTS_DONT_FIT: the
- * points at these places don't. */
+ * NM_TOO_FEW_SYMBOLS: s is below k. NM_PLACE_OUT_OF_RANGE, NM_PLACE_TWICE: of the first k places. NM_POINTS_DONT_FIT:
+ * the points at these places don't. */
 NM_CHECK uint32_t nm_erasure_restore(const nm_montgomery_t *context, const uint64_t *points, size_t points_length,
                                      const size_t *places, size_t places_length, const uint64_t *symbols,
                                      size_t symbols_length, uint64_t *message, size_t message_length, uint64_t *scratch,
                                      size_t scratch_length);
 
-/* The only message of k symbols, at least 1, whose word differs in e of the s symbols, where 2 * e is at most s - k; that
- * word; and e, as errors. scratch: 2 * n + 4 * s + 4 * k + 2 words.
- * NM_TOO_MANY_ERRORS: no word is that near. NM_NO_INVERSE: a number above 0 without an inverse modulo m was met, and is
- * written to number; it never comes where m is a prime. The codes of nm_erasure_restore, for all s places.
- * NM_BAD_ARGUMENT also where k is 0. */
+/* The only message of k symbols, at least 1, whose word differs in e of the s symbols, where 2 * e is at most s - k;
+ * that word; and e, as errors. scratch: 2 * n + 4 * s + 4 * k + 2 words. NM_TOO_MANY_ERRORS: no word is that near.
+ * NM_NO_INVERSE: a number above 0 without an inverse modulo m was met, and is written to number; it never comes where m
+ * is a prime. The codes of nm_erasure_restore, for all s places. NM_BAD_ARGUMENT also where k is 0. */
 NM_CHECK uint32_t nm_erasure_correct(const nm_montgomery_t *context, const uint64_t *points, size_t points_length,
                                      const size_t *places, size_t places_length, const uint64_t *symbols,
                                      size_t symbols_length, uint64_t *message, size_t message_length, uint64_t *word,
-                                     size_t length, uint64_t *scratch, size_t scratch_length, size_t *errors,
+                                     size_t word_length, uint64_t *scratch, size_t scratch_length, size_t *errors,
                                      uint64_t *number);
 
-/* Shares of a secret, by Shamir's scheme: the word of a message whose first symbol is the secret, and whose k - 1 others
- * the caller draws at random, each from 0 to m - 1. Then k - 1 shares say nothing of the secret. nm_erasure_restore gives
- * it back as the first symbol of the message from any k shares, and nm_erasure_correct though some are forged.
- * scratch: n + k words. NM_POINT_WITHOUT_INVERSE: a point, such as 0, has no inverse. NM_POINTS_DONT_FIT: the points
- * don't. */
+/* Shares of a secret, by Shamir's scheme: the word of a message whose first symbol is the secret, and whose k - 1
+ * others the caller draws at random, each from 0 to m - 1. Then k - 1 shares say nothing of the secret.
+ * nm_erasure_restore gives it back as the first symbol of the message from any k shares, and nm_erasure_correct though
+ * some are forged. scratch: n + k words. NM_POINT_WITHOUT_INVERSE: a point, such as 0, has no inverse.
+ * NM_POINTS_DONT_FIT: the points don't. */
 NM_CHECK uint32_t nm_erasure_share(const nm_montgomery_t *context, const uint64_t *points, size_t points_length,
                                    const uint64_t *coefficients, size_t coefficients_length, uint64_t *shares,
-                                   size_t length, uint64_t *scratch, size_t scratch_length);
+                                   size_t shares_length, uint64_t *scratch, size_t scratch_length);
 
 /* --- Applications: hashes, numbers by their residues, long products. --- */
 
@@ -407,13 +412,13 @@ NM_CHECK uint32_t nm_find(uint64_t x, const uint8_t *text, size_t text_length, c
                           size_t pattern_length, size_t *position);
 
 /* Entry i of found becomes the number of the first pattern that occurs in the text at position i, or count where none
- * does, for i from 0 to places - 1. The count patterns have size bytes each and stand one after the other. The scratch list
- * hashes, of count words, has unspecified contents afterwards. The result is right for every x. Each position compares its hash with up
- * to count others, and bytes where two are equal: for which x that is rare, see nm_find.
- * NM_BAD_ARGUMENT: patterns_length isn't count * size. */
+ * does, for i from 0 to found_length - 1. The count patterns have size bytes each and stand one after the other. The
+ * scratch list hashes, of count words, has unspecified contents afterwards. The result is right for every x. Each
+ * position compares its hash with up to count others, and bytes where two are equal: for which x that is rare, see
+ * nm_find. NM_BAD_ARGUMENT: patterns_length isn't count * size. */
 NM_CHECK uint32_t nm_find_all(uint64_t x, const uint8_t *text, size_t text_length, const uint8_t *patterns,
                               size_t patterns_length, size_t size, uint64_t *hashes, size_t count, size_t *found,
-                              size_t places);
+                              size_t found_length);
 
 /* The number low + 2^64 * high. */
 typedef struct {
@@ -433,10 +438,11 @@ NM_CHECK uint32_t nm_decode(const uint64_t *moduli, size_t moduli_length, const 
 NM_CHECK uint32_t nm_product_room(size_t xs_length, size_t ys_length, size_t *words, size_t *factors);
 
 /* The digits of the product of two numbers of n and k digits, which have 64 bits, the lowest first. The scratch lists
- * words and factors have unspecified contents afterwards. NM_BAD_ARGUMENT: places isn't n + k; or both numbers have at
- * least 400 digits, and places is above 2^32 or a scratch list is shorter than nm_product_room writes. */
+ * words and factors have unspecified contents afterwards. NM_BAD_ARGUMENT: digits_length isn't n + k; or both numbers
+ * have at least 400 digits, and digits_length is above 2^32 or a scratch list is shorter than nm_product_room writes.
+ * */
 NM_CHECK uint32_t nm_product(const uint64_t *xs, size_t xs_length, const uint64_t *ys, size_t ys_length,
-                             uint64_t *digits, size_t places, uint64_t *words, size_t words_length,
+                             uint64_t *digits, size_t digits_length, uint64_t *words, size_t words_length,
                              nm_factor_t *factors, size_t factors_length);
 
 /* --- Hashes of the parts of a text, each by one product. --- */
@@ -446,102 +452,104 @@ NM_CHECK uint32_t nm_product(const uint64_t *xs, size_t xs_length, const uint64_
 NM_CHECK uint32_t nm_prefix_hashes(uint64_t x, const uint8_t *text, size_t text_length, uint64_t *hashes,
                                    size_t hashes_length, uint64_t *powers, size_t powers_length);
 
-/* nm_hash of a part of a text, of its bytes from to to - 1, counted from 0, by the two lists that nm_prefix_hashes wrote of
- * the text. Two parts with different hashes are different; of equal hashes see nm_find. NM_BAD_ARGUMENT: from is above to, or
- * to isn't below both lengths. Of lists that nm_prefix_hashes didn't write, the result has no meaning. */
+/* nm_hash of a part of a text, of its bytes from to to - 1, counted from 0, by the two lists that nm_prefix_hashes
+ * wrote of the text. Two parts with different hashes are different; of equal hashes see nm_find. NM_BAD_ARGUMENT: from
+ * is above to, or to isn't below both lengths. Of lists that nm_prefix_hashes didn't write, the result has no meaning.
+ * */
 NM_CHECK uint32_t nm_substring_hash(const uint64_t *hashes, size_t hashes_length, const uint64_t *powers,
                                     size_t powers_length, size_t from, size_t to, uint64_t *hash);
 
 /* --- Products of polynomials modulo any m, by their coefficients, the lowest first. ---
  *
- * m may be any word but 0, coefficients may be any words, and the results are below m. No root is needed. Where both factors
- * have at least 200 coefficients the product is computed by transforms, in the scratch lists words and factors, else by the
- * sums. The scratch lists have unspecified contents afterwards. */
+ * m may be any word but 0, coefficients may be any words, and the results are below m. No root is needed. Where both
+ * factors have at least 200 coefficients the product is computed by transforms, in the scratch lists words and factors,
+ * else by the sums. The scratch lists have unspecified contents afterwards. */
 
 /* The lengths of the two scratch lists for factors of n = xs_length and k = ys_length coefficients: 0 where one has
  * fewer than 200, else 4 * e words and 3 * e / 2 factors, e being the least power of two that is at least n + k.
  * NM_BAD_ARGUMENT: n + k is above 2^32. */
 NM_CHECK uint32_t nm_polynomial_room(size_t xs_length, size_t ys_length, size_t *words, size_t *factors);
 
-/* The product: coefficient e is the sum of x_i * y_j modulo m over i + j = e. NM_BAD_ARGUMENT: m is 0; places isn't
+/* The product: coefficient e is the sum of x_i * y_j modulo m over i + j = e. NM_BAD_ARGUMENT: m is 0; out_length isn't
  * n + k - 1, or isn't 0 where n or k is; or both factors have at least 200 coefficients, and n + k is above 2^32 or a
  * scratch list is shorter than nm_polynomial_room writes. */
 NM_CHECK uint32_t nm_polynomial_multiply(uint64_t m, const uint64_t *xs, size_t xs_length, const uint64_t *ys,
-                                         size_t ys_length, uint64_t *out, size_t places, uint64_t *words,
+                                         size_t ys_length, uint64_t *out, size_t out_length, uint64_t *words,
                                          size_t words_length, nm_factor_t *factors, size_t factors_length);
 
 /* The square. The codes are those of nm_polynomial_multiply for xs and xs. */
-NM_CHECK uint32_t nm_polynomial_square(uint64_t m, const uint64_t *xs, size_t xs_length, uint64_t *out, size_t places,
-                                       uint64_t *words, size_t words_length, nm_factor_t *factors,
+NM_CHECK uint32_t nm_polynomial_square(uint64_t m, const uint64_t *xs, size_t xs_length, uint64_t *out,
+                                       size_t out_length, uint64_t *words, size_t words_length, nm_factor_t *factors,
                                        size_t factors_length);
 
-/* The cyclic product, for any n: entry e is the sum of x_i * y_j modulo m over i + j = e or e + n. NM_BAD_ARGUMENT: m is
- * 0; ys_length or places isn't n; or n is at least 200, and n + n is above 2^32 or a scratch list is shorter than
- * nm_polynomial_room writes for n and n. */
+/* The cyclic product, for any n: entry e is the sum of x_i * y_j modulo m over i + j = e or e + n. NM_BAD_ARGUMENT: m
+ * is 0; ys_length or out_length isn't n; or n is at least 200, and n + n is above 2^32 or a scratch list is shorter
+ * than nm_polynomial_room writes for n and n. */
 NM_CHECK uint32_t nm_polynomial_multiply_cyclic(uint64_t m, const uint64_t *xs, size_t xs_length, const uint64_t *ys,
-                                                size_t ys_length, uint64_t *out, size_t places, uint64_t *words,
+                                                size_t ys_length, uint64_t *out, size_t out_length, uint64_t *words,
                                                 size_t words_length, nm_factor_t *factors, size_t factors_length);
 
-/* The product modulo X^n + 1: entry e is the sum of x_i * y_j over i + j = e, less that over i + j = e + n, modulo m. The
- * codes are those of nm_polynomial_multiply_cyclic. */
+/* The product modulo X^n + 1: entry e is the sum of x_i * y_j over i + j = e, less that over i + j = e + n, modulo m.
+ * The codes are those of nm_polynomial_multiply_cyclic. */
 NM_CHECK uint32_t nm_polynomial_multiply_negacyclic(uint64_t m, const uint64_t *xs, size_t xs_length,
-                                                    const uint64_t *ys, size_t ys_length, uint64_t *out, size_t places,
-                                                    uint64_t *words, size_t words_length, nm_factor_t *factors,
-                                                    size_t factors_length);
+                                                    const uint64_t *ys, size_t ys_length, uint64_t *out,
+                                                    size_t out_length, uint64_t *words, size_t words_length,
+                                                    nm_factor_t *factors, size_t factors_length);
 
 /* --- Transforms of any length modulo any m. ---
  *
- * m may be any word but 0, the numbers and g may be any words, and the results are below m. From 6 numbers on the transform
- * is computed by a product of polynomials, in the scratch lists words and factors, else by the sums. The scratch lists have
- * unspecified contents afterwards. */
+ * m may be any word but 0, the numbers and g may be any words, and the results are below m. From 6 numbers on the
+ * transform is computed by a product of polynomials, in the scratch lists words and factors, else by the sums. The
+ * scratch lists have unspecified contents afterwards. */
 
 /* The lengths of the two scratch lists for n = length numbers: 0 where n is below 6, else 6 * n words, and from n = 200
- * on 4 * e words more and 3 * e / 2 factors, e being the least power of two that is at least 3 * n - 1. NM_BAD_ARGUMENT:
- * 3 * n is above 2^32. */
+ * on 4 * e words more and 3 * e / 2 factors, e being the least power of two that is at least 3 * n - 1.
+ * NM_BAD_ARGUMENT: 3 * n is above 2^32. */
 NM_CHECK uint32_t nm_transform_room(size_t length, size_t *words, size_t *factors);
 
-/* Whether g is a root of unity of this order n modulo m, for which nm_transform_inverse undoes nm_transform: n is at least 1,
- * g^n is 1, and g^d - 1 has an inverse for each d from 1 to n - 1. It takes 2 * n products and one inverse. NM_NO_ROOT: it
- * isn't. NM_BAD_ARGUMENT: m is 0. */
+/* Whether g is a root of unity of this order n modulo m, for which nm_transform_inverse undoes nm_transform: n is at
+ * least 1, g^n is 1, and g^d - 1 has an inverse for each d from 1 to n - 1. It takes 2 * n products and one inverse.
+ * NM_NO_ROOT: it isn't. NM_BAD_ARGUMENT: m is 0. */
 NM_CHECK uint32_t nm_transform_root_fits(uint64_t m, uint64_t g, size_t order);
 
 /* The transform by g: entry j is the sum of x_i * g^(i * j) modulo m over i from 0 to n - 1. NM_NO_INVERSE: g has no
- * inverse modulo m. NM_BAD_ARGUMENT: m is 0; places isn't n; or a scratch list is shorter than nm_transform_room writes, or
- * that refuses. */
+ * inverse modulo m. NM_BAD_ARGUMENT: m is 0; out_length isn't n; or a scratch list is shorter than nm_transform_room
+ * writes, or that refuses. */
 NM_CHECK uint32_t nm_transform(uint64_t m, uint64_t g, const uint64_t *xs, size_t xs_length, uint64_t *out,
-                               size_t places, uint64_t *words, size_t words_length, nm_factor_t *factors,
+                               size_t out_length, uint64_t *words, size_t words_length, nm_factor_t *factors,
                                size_t factors_length);
 
-/* The inverse transform by g: entry j is the sum of x_i * g^(-i * j) over i from 0 to n - 1, divided by n, modulo m. Where g
- * is a root of order n (nm_transform_root_fits tells), it undoes nm_transform. NM_NO_INVERSE: g or n has no inverse modulo
- * m. NM_BAD_ARGUMENT: as nm_transform. */
+/* The inverse transform by g: entry j is the sum of x_i * g^(-i * j) over i from 0 to n - 1, divided by n, modulo m.
+ * Where g is a root of order n (nm_transform_root_fits tells), it undoes nm_transform. NM_NO_INVERSE: g or n has no
+ * inverse modulo m. NM_BAD_ARGUMENT: as nm_transform. */
 NM_CHECK uint32_t nm_transform_inverse(uint64_t m, uint64_t g, const uint64_t *xs, size_t xs_length, uint64_t *out,
-                                       size_t places, uint64_t *words, size_t words_length, nm_factor_t *factors,
+                                       size_t out_length, uint64_t *words, size_t words_length, nm_factor_t *factors,
                                        size_t factors_length);
 
 /* --- Residue number systems of any number of moduli, for numbers by their words of 64 bits, the lowest first. --- */
 
-/* The residues of the number of k words modulo n moduli, which may have common divisors. NM_BAD_ARGUMENT: a modulus is 0, or
- * places isn't n. */
+/* The residues of the number of k words modulo n moduli, which may have common divisors. NM_BAD_ARGUMENT: a modulus is
+ * 0, or residues_length isn't n. */
 NM_CHECK uint32_t nm_residues_encode(const uint64_t *moduli, size_t moduli_length, const uint64_t *words,
-                                     size_t words_length, uint64_t *residues, size_t places);
+                                     size_t words_length, uint64_t *residues, size_t residues_length);
 
-/* The only number below the product of the n moduli that has the k residues: its words, with 0 above them, and its digits
- * in the mixed radix of the moduli, of which digit i counts the product of the moduli before modulus i. The scratch list
- * inverses has unspecified contents afterwards. It takes about 3 * n^2 products for n words. NM_BAD_ARGUMENT: a modulus is
- * 0; two have a common divisor above 1; a residue isn't below its modulus; the number of residues, digits or inverses
- * isn't n; or there are fewer than n words. */
+/* The only number below the product of the n moduli that has the k residues: its words, with 0 above them, and its
+ * digits in the mixed radix of the moduli, of which digit i counts the product of the moduli before modulus i. The
+ * scratch list inverses has unspecified contents afterwards. It takes about 3 * n^2 products for n words.
+ * NM_BAD_ARGUMENT: a modulus is 0; two have a common divisor above 1; a residue isn't below its modulus; the number of
+ * residues, digits or inverses isn't n; or there are fewer than n words. */
 NM_CHECK uint32_t nm_residues_decode(const uint64_t *moduli, size_t moduli_length, const uint64_t *residues,
                                      size_t residues_length, uint64_t *words, size_t words_length, uint64_t *digits,
                                      size_t digits_length, uint64_t *inverses, size_t inverses_length);
 
 /* Base extension: the residues modulo the others, which may have common divisors, of the only number below the product
  * of the n moduli that has the k residues. The scratch lists digits and inverses have unspecified contents afterwards.
- * NM_BAD_ARGUMENT: a modulus is 0, or one of the others is; two of the n moduli have a common divisor above 1; a residue
- * isn't below its modulus; the number of residues, digits or inverses isn't n; or places isn't others_length. */
+ * NM_BAD_ARGUMENT: a modulus is 0, or one of the others is; two of the n moduli have a common divisor above 1; a
+ * residue isn't below its modulus; the number of residues, digits or inverses isn't n; or extended_length isn't
+ * others_length. */
 NM_CHECK uint32_t nm_residues_extend(const uint64_t *moduli, size_t moduli_length, const uint64_t *residues,
                                      size_t residues_length, const uint64_t *others, size_t others_length,
-                                     uint64_t *extended, size_t places, uint64_t *digits, size_t digits_length,
+                                     uint64_t *extended, size_t extended_length, uint64_t *digits, size_t digits_length,
                                      uint64_t *inverses, size_t inverses_length);
 
 #ifdef __cplusplus
