@@ -9,8 +9,6 @@ import subprocess
 import sys
 import tempfile
 
-NM_OK, NM_BAD_ARGUMENT = 0, 2
-
 
 def shared_object(prefix, folder):
     """Makes a shared object of the archive, and loads it."""
