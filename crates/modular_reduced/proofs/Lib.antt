@@ -7,4 +7,5 @@ pub mod PowerCounts
 pub mod PowerForms
 pub mod PowerSoFar
 pub mod RingLaws
+pub mod ShortSums
 pub mod Signs

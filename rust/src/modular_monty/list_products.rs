@@ -3,7 +3,7 @@
 use crate::modular_monty::odd_ring::{OddModulus, OddRing};
 use crate::modular_prim::below::add_below;
 use crate::modular_prim::reducer_word::ReducerWord;
-use crate::modular_reduced::list_products::carried_sum;
+use crate::modular_reduced::list_products::sum_of_residues;
 use crate::modular_reduced::reducer::Reducer;
 
 // The remainder of a word modulo m. It is often below m, as the high word of few products is.
@@ -15,7 +15,7 @@ fn remainder<T: ReducerWord, M: OddModulus<T>>(ring: &OddRing<T, M>, x: T) -> T 
     ring.residue(ring.transform(x))
 }
 
-// The reduction of the sum of the products of the entries from index `from` to `to` - 1.
+// The reduction of the sum of the products of the entries from index `from` to `to` - 1, which are below m.
 pub(crate) fn reduced_products<T: ReducerWord, M: OddModulus<T>>(
     ring: &OddRing<T, M>,
     xs: &[T],
@@ -23,7 +23,7 @@ pub(crate) fn reduced_products<T: ReducerWord, M: OddModulus<T>>(
     from: usize,
     to: usize,
 ) -> T {
-    let (sum, carries) = carried_sum(xs, ys, from, to);
+    let (sum, carries) = sum_of_residues(ring.kept.modulus(), xs, ys, from, to);
     let (low, high) = T::split(sum);
     let reduced = ring.kept.reduced(T::merge(low, remainder(ring, high)));
     if carries.is_zero_word() {

@@ -15,7 +15,7 @@ so_far g c n =
 lowest : (g : _) (c : After-reduced-reduced g)
     → Congruent (g.M.OddModulus.modulus c.args.ring.now.kept)
     (g.T.RingWord.number c.reduced-reduced.result * g.T.PathWord.base + so_far g c c.args.from)
-    (g.T.PathWord.double_number c.carried_sum-sum.result.0 + so_far g c c.args.from)
+    (g.T.PathWord.double_number c.sum_of_residues-sum.result.0 + so_far g c c.args.from)
 lowest g c =
     low_reduced (g.T.RingWord.number c.split-low.result.0) (so_far g c c.args.from) c.reduced-reduced.ensures c.merge.ensures.value c.remainder.ensures.congruent
     c.split-low.ensures.value
@@ -24,10 +24,10 @@ pub returns-then-is_zero_word-clause-congruent : goal.returns-then-is_zero_word-
 returns-then-is_zero_word-clause-congruent g c =
     let b = g.T.PathWord.base in let number = g.T.RingWord.number in
     let at = (goal.at.returns-then-is_zero_word-clause-congruent g c).After-reduced-reduced in
-    let none : b * b * number c.carried_sum-sum.result.1 ≡ b * b * 0 =
+    let none : b * b * number c.sum_of_residues-sum.result.1 ≡ b * b * 0 =
     ap (λ n. b * b * n) (c.is_zero_word.ensures.zero.0 c.if-is_zero_word.true) in
-    let whole : g.T.PathWord.double_number c.carried_sum-sum.result.0 + so_far g at c.args.from ≡ so_far g at c.args.to =
-    omega (arith, none, c.carried_sum-sum.ensures) in
+    let whole : g.T.PathWord.double_number c.sum_of_residues-sum.result.0 + so_far g at c.args.from ≡ so_far g at c.args.to =
+    omega (arith, none, c.sum_of_residues-sum.ensures) in
     mod_trans (lowest g at) (mod_of_eq whole)
 
 pub returns-clause-congruent : goal.returns-clause-congruent
@@ -35,8 +35,14 @@ returns-clause-congruent g c =
     let at = (goal.at.returns-clause-congruent g c).After-reduced-reduced in
     let r = g.met.M.OddModulus.is_odd_ring c.args.ring.now.kept in
     let number = g.T.RingWord.number in
-    mod_trans (carries_added g.T.PathWord.base (number c.reduced-reduced.result) (number c.carried_sum-sum.result.1)
-    (g.T.PathWord.double_number c.carried_sum-sum.result.0) (so_far g at c.args.from) (lowest g at)
-    (carries_formed g.T.RingWord.width (number c.carried_sum-sum.result.1) r.base c.transform.ensures.form.same)
-    (rw c.modulus.ensures at c.add_below.ensures.value))
-    (mod_of_eq c.carried_sum-sum.ensures)
+    mod_trans (carries_added g.T.PathWord.base (number c.reduced-reduced.result) (number c.sum_of_residues-sum.result.1)
+    (g.T.PathWord.double_number c.sum_of_residues-sum.result.0) (so_far g at c.args.from) (lowest g at)
+    (carries_formed g.T.RingWord.width (number c.sum_of_residues-sum.result.1) r.base c.transform.ensures.form.same)
+    (rw c.modulus-2.ensures at c.add_below.ensures.value))
+    (mod_of_eq c.sum_of_residues-sum.ensures)
+
+pub sum_of_residues-sum-requires-clause-below_xs : goal.sum_of_residues-sum-requires-clause-below_xs
+sum_of_residues-sum-requires-clause-below_xs g c = rw c.modulus.ensures c.requires.below_xs
+
+pub sum_of_residues-sum-requires-clause-below_ys : goal.sum_of_residues-sum-requires-clause-below_ys
+sum_of_residues-sum-requires-clause-below_ys g c = rw c.modulus.ensures c.requires.below_ys
