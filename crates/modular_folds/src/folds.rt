@@ -6,6 +6,7 @@ ghost use Rattle.modular_folds.specs.Folds.{fold_of, folds, IsFewFolds, IsFoldin
 use crate::far::{has_few_folds, reduced_far};
 use crate::fold_word::FoldWord;
 use modular_prim::below::sum_once;
+use modular_reduced::lanes::reduced_by_sign;
 use modular_word::path_word::PathWord;
 use modular_word::ring_word::RingWord;
 
@@ -161,21 +162,6 @@ fn reduced_by_borrow(v: u64, m: u32) -> u32
 {
     let (rest, borrowed) = <u32 as PathWord>::split(v.wrapping_sub(m as u64));
     rest.wrapping_add(borrowed & m)
-}
-
-// x modulo m, where m is at most half of the base: the top bit of x - m is its borrow. LLVM vectorizes products in independent
-// chains, and this bit takes less time there than a comparison of words. Condition: x is below 2m.
-fn reduced_by_top_bit<T: PathWord>(x: T, m: T) -> T
-    requires twice { T.number x < 2 * T.number m }
-    requires short { T.number m ≤ 2 ^ (T.width - 1) }
-    ensures { T.number result ≡ T.number x % T.number m }
-{
-    let less = x.wrapping_sub(m);
-    if less.shift_right(T::bits() - 1).is_zero_word() {
-        less
-    } else {
-        x
-    }
 }
 
 // a + b modulo m, where the sum may take more than a word: the borrow of a difference of double words chooses. LLVM vectorizes
@@ -376,7 +362,7 @@ impl FoldedWord for u32 {
 
     fn sum_of_parts(a: u32, b: u32, p: u32, m: u32) -> u32 {
         if p < 32 {
-            reduced_by_top_bit(a + b, m)
+            reduced_by_sign(a + b, m)
         } else {
             sum_once(a, b, m)
         }
@@ -430,7 +416,7 @@ impl FoldedWord for u64 {
     #[inline(always)]
     fn sum_of_parts(a: u64, b: u64, p: u32, m: u64) -> u64 {
         if p < 64 {
-            reduced_by_top_bit(a + b, m)
+            reduced_by_sign(a + b, m)
         } else {
             reduced_sum(a, b, m)
         }

@@ -3,6 +3,7 @@
 use crate::modular_folds::far::{has_few_folds, reduced_far};
 use crate::modular_folds::fold_word::FoldWord;
 use crate::modular_prim::below::sum_once;
+use crate::modular_reduced::lanes::reduced_by_sign;
 use crate::modular_word::path_word::PathWord;
 
 // One fold at the bit p: the part above it times c, plus the part below it; and 1, or 0 where the part above is 0.
@@ -122,18 +123,6 @@ pub(crate) fn reduced_last<V: FoldWord>(v: V, m: V) -> V {
 fn reduced_by_borrow(v: u64, m: u32) -> u32 {
     let (rest, borrowed) = <u32 as PathWord>::split(v.wrapping_sub(m as u64));
     rest.wrapping_add(borrowed & m)
-}
-
-// x modulo m, where m is at most half of the base: the top bit of x - m is its borrow. LLVM vectorizes products in independent
-// chains, and this bit takes less time there than a comparison of words. Condition: x is below 2m.
-#[inline]
-fn reduced_by_top_bit<T: PathWord>(x: T, m: T) -> T {
-    let less = x.wrapping_sub(m);
-    if less.shift_right(T::bits() - 1).is_zero_word() {
-        less
-    } else {
-        x
-    }
 }
 
 // a + b modulo m, where the sum may take more than a word: the borrow of a difference of double words chooses. LLVM vectorizes
@@ -325,7 +314,7 @@ impl FoldedWord for u32 {
     #[inline]
     fn sum_of_parts(a: u32, b: u32, p: u32, m: u32) -> u32 {
         if p < 32 {
-            reduced_by_top_bit(a + b, m)
+            reduced_by_sign(a + b, m)
         } else {
             sum_once(a, b, m)
         }
@@ -382,7 +371,7 @@ impl FoldedWord for u64 {
     #[inline(always)]
     fn sum_of_parts(a: u64, b: u64, p: u32, m: u64) -> u64 {
         if p < 64 {
-            reduced_by_top_bit(a + b, m)
+            reduced_by_sign(a + b, m)
         } else {
             reduced_sum(a, b, m)
         }
