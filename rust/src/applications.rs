@@ -1,6 +1,6 @@
-//! What stands on the library, each proved in its field's own words: hashes, numbers by their residues, check symbols and
-//! erasure codes, products of long numbers (where a usize has 64 bits), and the rings of FIPS 204 and 203. Nothing is
-//! said of constant time.
+//! Modules that use the library, each proved in its field's own words: hashes, residue systems, check digits, erasure
+//! codes, products of long numbers (where a usize has 64 bits), and the rings of FIPS 204 and 203. Constant time isn't
+//! claimed.
 
 #[cfg(target_pointer_width = "64")]
 pub mod long_product;

@@ -8,7 +8,7 @@
 //! - `families`: the generic types behind the aliases
 //! - `hashes`: polynomial hashes and a search
 //! - `residues`: residue number systems
-//! - `applications`: what stands on the library
+//! - `applications`: check digits, erasure codes, long products and other modules that use the library
 #![cfg_attr(not(test), no_std)]
 #![forbid(unsafe_code)]
 #![doc = include_str!("../README.md")]
