@@ -52,7 +52,7 @@ LOOKS = {
     "debug_assert!(xs.iter().chain(ys.iter()).all(|x| m.has_room(*x)));": "convolution.convolve_block",
     "crate::additions::expect_filled(m, table);": "split.split join.join join.join_scaled convolution.convolve_block",
     "assert!(last == 1 || last == 2);": "products.multiply",
-    "assert!(ys.len() == xs.len() && xs.len() % last == 0);": "products.multiply",
+    "assert!(ys.len() == xs.len() && (last == 1 || xs.len() % 2 == 0));": "products.multiply",
     "debug_assert!(xs.iter().all(|x| x.is_below(m.modulus)));": "products.multiply",
     "debug_assert!(crate::additions::are_factors(m, xs.len(), table, b, last));":
     "split.split join.join join.join_scaled convolution.convolve_block products.multiply",

@@ -133,7 +133,7 @@ pub fn multiply<T: PlainWord, F: PlanEntry<T>>(
     last: usize,
 ) {
     assert!(last == 1 || last == 2, "`last` must be 1 or 2");
-    assert!(ys.len() == xs.len() && xs.len() % last == 0, "the lists must have the same length, a multiple of `last`");
+    assert!(ys.len() == xs.len() && (last == 1 || xs.len() % 2 == 0), "the lists must have the same length, a multiple of `last`");
     debug_assert!(xs.iter().all(|x| x.is_below(m.modulus)), "the entries of xs must be below m");
     debug_assert!(crate::additions::are_factors(m, xs.len(), table, b, last), "the table's entries must be factors modulo m, and there must be (b + 1)·count/2 of them or more, count being the number of blocks");
     if last == 1 {
