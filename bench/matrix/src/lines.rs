@@ -39,7 +39,7 @@ macro_rules! library {
             use $library::*;
             $(
                 $module::ring::<$folds>(lines, stringify!($folds), <$folds>::MODULUS);
-                crate::lines::folds!(lines $word $double $folds);
+                crate::lines::folds!(lines $module $word $double $folds);
             )*
             $($module::ring::<$odd>(lines, stringify!($odd), <$odd>::MODULUS);)*
         }
@@ -65,12 +65,25 @@ macro_rules! library {
                 rows[3].clone()
             }
 
+            /// The first word from x on that has no divisor in common with m, so that products don't end at 0.
+            fn unit(x: W, m: W) -> W {
+                fn gcd(a: W, b: W) -> W {
+                    if b == 0 { a } else { gcd(b, a % b) }
+                }
+                (0..m).map(|i| ((x as u128 + i as u128) % m as u128) as W).find(|it| gcd(*it, m) == 1).unwrap_or(0)
+            }
+
+            pub fn units(words: Rows<W>, m: W) -> Rows<W> {
+                words.map(|row| row.map(|it| unit(it, m)))
+            }
+
             pub fn ring<R: Reducer<W> + Clone + 'static>(lines: &mut Vec<Line>, place: &str, m: W) {
                 let r = R::new(&black_box(m));
                 let mut random = Random(m as u64);
                 let words = rows(|| random.next() as W);
                 let residues = words.map(|row| row.map(|it| it % m));
                 let forms = words.map(|row| row.map(|it| r.transform(it)));
+                let unit_forms = units(words, m).map(|row| row.map(|it| r.transform(it)));
                 let low = low(m);
                 let all = |of: Rows<W>| (r.clone(), start(&of), of);
                 let with_low = |of: Rows<W>| ((r.clone(), low), start(&of).map(|it| it & low), of);
@@ -83,7 +96,7 @@ macro_rules! library {
                 step(lines, "sub", place, all(forms), |r, x, y| r.sub(&x, &y), see);
                 step(lines, "dbl", place, all(forms), |r, x, _| r.dbl(x), see);
                 step(lines, "neg, then add", place, all(forms), |r, x, y| r.add(&r.neg(x), &y), see);
-                step(lines, "mul", place, all(forms), |r, x, y| r.mul(&x, &y), see);
+                step(lines, "mul", place, all(unit_forms), |r, x, y| r.mul(&x, &y), see);
                 step(lines, "mul, then add", place, all(forms), |r, x, y| r.add(&r.mul(&x, &y), &y), see);
                 step(lines, "sqr, then add", place, all(forms), |r, x, y| r.add(&r.sqr(x), &y), see);
                 step(lines, "inv, then add", place, all(forms), |r, x, y| r.add(&r.inv(x).unwrap_or(x), &y), see);
@@ -99,10 +112,11 @@ macro_rules! library {
                     x.residue() as u64
                 }
                 let of = words.map(|row| row.map(|it| Integer::<R>::new(it, &black_box(m))));
+                let of_units = units(words, m).map(|row| row.map(|it| Integer::<R>::new(it, &black_box(m))));
                 let all = |of: &Rows<Integer<R>>| ((), of[3].clone(), of.clone());
                 step(lines, "ReducedInt +", place, all(&of), |_, x, y| x + y, see::<R>);
                 step(lines, "ReducedInt -", place, all(&of), |_, x, y| x - y, see::<R>);
-                step(lines, "ReducedInt *", place, all(&of), |_, x, y| x * y, see::<R>);
+                step(lines, "ReducedInt *", place, all(&of_units), |_, x, y| x * y, see::<R>);
                 step(lines, "ReducedInt square, then +", place, all(&of), |_, x, y| x.square() + y, see::<R>);
                 step(lines, "ReducedInt neg, then +", place, all(&of), |_, x, y| -x + y, see::<R>);
                 step(lines, "ReducedInt ==, then -", place, all(&of), |_, x, y| if x == y { y } else { x - y }, see::<R>);
@@ -119,7 +133,7 @@ macro_rules! library {
                 let place = place.as_str();
                 step(lines, "addm", place, all(residues), |m, x, y| x.addm(y, m), see);
                 step(lines, "subm", place, all(residues), |m, x, y| x.subm(y, m), see);
-                step(lines, "mulm", place, all(residues), |m, x, y| x.mulm(y, m), see);
+                step(lines, "mulm", place, all(units(words, m)), |m, x, y| x.mulm(y, m), see);
                 step(lines, "dblm", place, all(residues), |m, x, _| x.dblm(m), see);
                 step(lines, "negm, then addm", place, all(residues), |m, x, y| x.negm(m).addm(y, m), see);
                 step(lines, "sqm, then addm", place, all(residues), |m, x, y| x.sqm(m).addm(y, m), see);
@@ -179,14 +193,14 @@ macro_rules! library {
 }
 
 macro_rules! folds {
-    ($lines:ident $word:ident $double:ident $ring:ty) => {{
+    ($lines:ident $module:ident $word:ident $double:ident $ring:ty) => {{
         use crate::measure::{Random, rows, step};
         let mut random = Random(0);
         let words = rows(|| random.next() as $word);
         let place = stringify!($ring);
         step($lines, "reduce_single", place, ((), words[3], words), |_, x, y| <$ring>::reduce_single(x ^ y), |x| *x as u64);
-        let residues = words.map(|row| row.map(|it| it % (<$ring>::MODULUS - 1) + 1));
-        step($lines, "reduce_double", place, ((), residues[3], residues), |_, x, y| {
+        let units = $module::units(words, <$ring>::MODULUS);
+        step($lines, "reduce_double", place, ((), units[3], units), |_, x, y| {
             <$ring>::reduce_double(x as $double * y as $double)
         }, |x| *x as u64);
     }};
