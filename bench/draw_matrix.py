@@ -8,7 +8,7 @@ import re
 import sys
 from collections import defaultdict
 
-FOLDER = pathlib.Path(__file__).resolve().parent
+FOLDER = pathlib.Path(__file__).resolve().parent.parent / "docs"
 LIMIT = 1.05
 BEGIN, END = "<!-- written by bench/run --matrix -->", "<!-- end of what bench/run --matrix writes -->"
 KINDS = (("words", r"u\d+ modulo .*"), ("Vanilla", r"Vanilla.*"), ("PreMulInv2by1", r"PreMul.*"), ("Montgomery", r"Montgomery.*"),

@@ -1,5 +1,5 @@
 #!/usr/bin/env python3
-"""Draws speed-ratios.svg and speed-growth.svg from speed.json, which `bench/run` writes beside them.
+"""Draws docs/speed-ratios.svg and docs/speed-growth.svg from docs/speed.json, which `bench/run` writes.
 
 It needs matplotlib (Debian's python3-matplotlib). The pictures keep their words as text, have no ground of their
 own, and take their ink from the page's light or dark scheme.
@@ -15,7 +15,7 @@ import matplotlib
 matplotlib.use("svg")
 import matplotlib.pyplot as plt
 
-FOLDER = pathlib.Path(__file__).resolve().parent
+FOLDER = pathlib.Path(__file__).resolve().parent.parent / "docs"
 INK = "#24292f"
 PORT, CRATE, THIRD = "#1f77b4", "#d1742c", "#3a9a5b"
 LIMIT = 1.05
