@@ -14,7 +14,9 @@ use modular_word::paths::div_2by1;
 use modular_word::ring_word::RingWord;
 use std::alloc::AllocError;
 
-/// A factor w below a modulus m, and its quotient w·B/m, rounded down, with B the base.
+/// A factor modulo m: a number w below m, and its quotient w·B/m, rounded down, with B the base.
+///
+/// `PlannedModulus::factor` makes one for its modulus. Another modulus needs a factor of its own.
 ///
 /// Source: Harvey, "Faster arithmetic for number-theoretic transforms", section 3, after Shoup.
 ///
@@ -28,9 +30,9 @@ use std::alloc::AllocError;
 /// ```
 #[derive(Debug, PartialEq, Eq)]
 pub struct Factor<T: PathWord> {
-    /// The factor.
+    /// The number w, below the modulus m that the factor was made for.
     pub value: T,
-    /// Its quotient.
+    /// The quotient w·B/m, rounded down.
     pub quotient: T,
 }
 
@@ -175,8 +177,8 @@ impl<T: PlainWord> PlannedModulus<T> {
         Factor { value: w, quotient }
     }
 
-    /// The residue of a factor times the base, below m, computed from its quotient. Condition: the factor is a
-    /// residue modulo m.
+    /// The residue of a factor times the base, below m, computed from its quotient. Condition: the factor was made by
+    /// this modulus: its value is below m, and its quotient is value·B/m, rounded down.
     ///
     /// # Examples
     ///
@@ -219,8 +221,8 @@ impl<T: PlainWord> PlannedModulus<T> {
         low
     }
 
-    /// A number below 2m that is congruent to the product of any word x with a factor. Condition: the factor is a
-    /// residue modulo m.
+    /// A number below 2m that is congruent to the product of any word x with a factor. Condition: the factor was made
+    /// by this modulus: its value is below m, and its quotient is value·B/m, rounded down.
     ///
     /// It takes the high word of one product and the low words of two.
     ///
@@ -248,7 +250,8 @@ impl<T: PlainWord> PlannedModulus<T> {
         }
     }
 
-    /// The residue of the product of any word x with a factor, below m. Condition: the factor is a residue modulo m.
+    /// The residue of the product of any word x with a factor, below m. Condition: the factor was made by this modulus:
+    /// its value is below m, and its quotient is value·B/m, rounded down.
     ///
     /// # Examples
     ///

@@ -77,7 +77,8 @@ pub trait JoinSteps<T: PlainWord>: Bounded<T> + Copy {
             (T.number z * T.number s.now.value) (T.number t * T.number s.now.value)
             (T.number result.0) (T.number result.1) (T.number result.2) (T.number result.3) };
 
-    /// The residue of any word's product with a factor, below m. Condition: the factor is a residue modulo m.
+    /// The residue of any word's product with a factor, below m. Condition: the factor was made by this modulus: its
+    /// value is below m, and its quotient is value·B/m, rounded down, B being the base.
     fn product(&self, x: T, w: &Factor<T>) -> T
         requires { IsFactorOf T.base T.number (modulus self.now) w.now }
         ensures { T.number result ≡ (T.number x * T.number w.now.value) % modulus self.now };

@@ -7,7 +7,9 @@ use crate::modular_prim::reciprocal::invert_word;
 use crate::modular_word::path_word::PathWord;
 use crate::modular_word::paths::div_2by1;
 
-/// A factor w below a modulus m, and its quotient w·B/m, rounded down, with B the base.
+/// A factor modulo m: a number w below m, and its quotient w·B/m, rounded down, with B the base.
+///
+/// `PlannedModulus::factor` makes one for its modulus. Another modulus needs a factor of its own.
 ///
 /// Source: Harvey, "Faster arithmetic for number-theoretic transforms", section 3, after Shoup.
 ///
@@ -22,9 +24,9 @@ use crate::modular_word::paths::div_2by1;
 #[derive(Debug, PartialEq, Eq)]
 #[must_use]
 pub struct Factor<T> {
-    /// The factor.
+    /// The number w, below the modulus m that the factor was made for.
     pub(crate) value: T,
-    /// Its quotient.
+    /// The quotient w·B/m, rounded down.
     pub(crate) quotient: T,
 }
 
@@ -165,8 +167,8 @@ impl<T: PlainWord> PlannedModulus<T> {
     ///
     /// # Preconditions
     ///
-    /// The factor is a residue modulo m. This isn't checked: if it doesn't hold, the call panics or its
-    /// result is unspecified.
+    /// The factor was made by this modulus: its value is below m, and its quotient is value·B/m, rounded
+    /// down. This isn't checked: if it doesn't hold, the call panics or its result is unspecified.
     ///
     /// # Examples
     ///
@@ -206,8 +208,8 @@ impl<T: PlainWord> PlannedModulus<T> {
     ///
     /// # Preconditions
     ///
-    /// The factor is a residue modulo m. This isn't checked: if it doesn't hold, the call panics or its
-    /// result is unspecified.
+    /// The factor was made by this modulus: its value is below m, and its quotient is value·B/m, rounded
+    /// down. This isn't checked: if it doesn't hold, the call panics or its result is unspecified.
     ///
     /// # Examples
     ///
@@ -231,8 +233,8 @@ impl<T: PlainWord> PlannedModulus<T> {
     ///
     /// # Preconditions
     ///
-    /// The factor is a residue modulo m. This isn't checked: if it doesn't hold, the call panics or its
-    /// result is unspecified.
+    /// The factor was made by this modulus: its value is below m, and its quotient is value·B/m, rounded
+    /// down. This isn't checked: if it doesn't hold, the call panics or its result is unspecified.
     ///
     /// # Examples
     ///

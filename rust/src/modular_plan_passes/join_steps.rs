@@ -57,8 +57,9 @@ pub trait JoinSteps<T: PlainWord>: Bounded<T> + Copy {
     ///
     /// # Preconditions
     ///
-    /// The factor is a residue modulo m. This isn't checked: if it doesn't hold, the call panics or its
-    /// result is unspecified.
+    /// The factor was made by this modulus: its value is below m, and its quotient is value·B/m, rounded
+    /// down, B being the base. This isn't checked: if it doesn't hold, the call panics or its result is
+    /// unspecified.
     fn product(&self, x: T, w: &Factor<T>) -> T;
 
     /// The residue of a word below the bound, below m.
