@@ -153,10 +153,13 @@ pub fn encode<T: RingWord, R: Reducer<T>>(r: &R, points: &[T], message: &[T], wo
 }
 
 /// Writes the coefficients, the constant first, of the only polynomial modulo m with k coefficients that has the
-/// first k values at the first k points. Returns false exactly where these points don't fit.
+/// first k values at the first k points, k being the length of `coefficients`. Returns false exactly where these points
+/// don't fit.
 ///
-/// Conditions: points and values are checked forms, at least k each, and there are k weights. The contents of
-/// `weights` and `coefficients` are ignored.
+/// Conditions: points and values are checked forms, at least k each, and there are k weights.
+///
+/// `weights` is scratch: its contents are ignored, and unspecified afterwards. The contents of `coefficients` are ignored,
+/// and unspecified after false.
 ///
 /// Source: Knuth, The Art of Computer Programming, volume 2, section 4.6.4 (Newton's divided differences).
 ///
@@ -208,8 +211,10 @@ pub fn interpolate<T: RingWord, R: Reducer<T>>(
 /// is written to `message`.
 ///
 /// Conditions: the points fit (`points_fit` tells), points and word are checked forms, the word has a symbol for
-/// each point, and there are k weights, k being at most the number of points. The contents of `weights` and
-/// `message` are ignored.
+/// each point, and there are k weights, k being at most the number of points.
+///
+/// `weights` is scratch: its contents are ignored, and unspecified afterwards. The contents of `message` are ignored, and
+/// unspecified after false.
 ///
 /// # Examples
 ///
@@ -262,6 +267,9 @@ pub fn is_codeword<T: RingWord, R: Reducer<T>>(
 ///
 /// Conditions: points and message are checked forms, the word has a place for each point, and there are k weights
 /// and k coefficients, k being the length of the message and at most the number of points.
+///
+/// `weights` is scratch: its contents are ignored, and unspecified afterwards. The contents of `coefficients` are ignored,
+/// and unspecified after false.
 ///
 /// # Examples
 ///
@@ -335,7 +343,10 @@ fn choose<T: RingWord>(points: &[T], places: &[usize], chosen: &mut [T]) -> Resu
 ///
 /// An error names a cause that is present: too few symbols, a place without a point, a place that occurs twice,
 /// points that don't fit. Conditions: points and symbols are checked forms, each place has its symbol, and there
-/// are k weights and room for k points in `chosen`. The contents of `chosen`, `weights` and `message` are ignored.
+/// are k weights and room for k points in `chosen`.
+///
+/// `chosen` and `weights` are scratch: their contents are ignored, and unspecified afterwards. The contents of `message`
+/// are ignored, and unspecified after an error.
 ///
 /// # Examples
 ///

@@ -56,8 +56,10 @@ impl<'a, T: RingWord, R: Reducer<T>> PreparedCode<'a, T, R> {
     /// Fills the rows, t·k for k known and t wanted points, and returns the code. `None` exactly where the known points
     /// don't fit.
     ///
-    /// Conditions: the points are checked forms; there are t·k rows, and 2·k places of scratch. The previous contents of
-    /// `rows` and `scratch` are ignored. It takes about 4·k² + 5·t·k products and one inversion.
+    /// Conditions: the points are checked forms; there are t·k rows, and 2·k places of scratch.
+    ///
+    /// The contents of `scratch` are ignored, and unspecified afterwards. The contents of `rows` are ignored, and
+    /// unspecified after `None`. It takes about 4·k² + 5·t·k products and one inversion.
     ///
     /// Source: Lagrange's form: Knuth, The Art of Computer Programming, volume 2, section 4.6.4.
     ///
@@ -100,8 +102,8 @@ impl<'a, T: RingWord, R: Reducer<T>> PreparedCode<'a, T, R> {
         })
     }
 
-    /// Writes the symbols at the wanted points, given those at the known points: both are of the word of one message of
-    /// k symbols, the only one with the given symbols.
+    /// Writes the symbols at the t wanted points to `others`, given the `symbols` at the k known points: both are of the
+    /// word of one message of k symbols, the only one with the given symbols.
     ///
     /// Conditions: the symbols are checked forms; there is a symbol for each known point, and a place for each wanted
     /// point. It takes t·k products.
@@ -142,9 +144,9 @@ impl<'a, T: RingWord, R: Reducer<T>> PreparedCode<'a, T, R> {
         }
     }
 
-    /// Whether the symbols at the known points and those at the wanted points are of the word of one message of k
-    /// symbols. Conditions: the symbols are checked forms; there is a symbol for each known point, and one for each wanted
-    /// point. It takes at most t·k products.
+    /// Whether `symbols`, at the k known points, and `others`, at the t wanted points, are of the word of one message of k
+    /// symbols. Conditions: the symbols are checked forms; `symbols` has a symbol for each known point, and `others`
+    /// one for each wanted point. It takes at most t·k products.
     ///
     /// # Examples
     ///

@@ -100,7 +100,8 @@ pub fn divide<T: RingWord, R: Reducer<T>>(
 
 /// Writes the message whose values are the quotients of a pair: one list, whose first `split` coefficients are its
 /// numerator's. Returns false where fewer than k quotients exist. Conditions: those of `divide`; the numerator is within
-/// the pair; there are three places of scratch for each symbol of the message, whose contents are ignored; the points fit.
+/// the pair; there are three places of scratch for each symbol of the message; the points fit. The contents of `scratch`
+/// are ignored, and unspecified afterwards.
 pub fn divide_pair<T: RingWord, R: Reducer<T>>(
     r: &R,
     points: &[T],

@@ -102,6 +102,9 @@ pub fn share<T: RingWord, R: Reducer<T>>(
 /// written to `coefficients`. The errors are those of `restore`. Conditions: points and shares are checked forms, each
 /// place has its share, k is at least 1, and there are k weights and room for k points in `chosen`.
 ///
+/// `chosen` and `weights` are scratch: their contents are ignored, and unspecified afterwards. The contents of
+/// `coefficients` are ignored, and unspecified after an error.
+///
 /// Source: Shamir, "How to share a secret".
 ///
 /// # Examples
@@ -162,6 +165,9 @@ pub fn recover<T: RingWord, R: Reducer<T>>(
 /// `coefficients`, and the right shares at all points to `word`. The errors are those of `correct`: `TooManyErrors`
 /// comes only where no polynomial is that near. Conditions: points and shares are checked forms, each place has its
 /// share, k is at least 1, `word` has a place for each point, and there are 3·(s + k) + 2 places of scratch.
+///
+/// The contents of `scratch` are ignored, and unspecified afterwards. The contents of `coefficients` and `word` are
+/// ignored, and unspecified after an error.
 ///
 /// So with s = 16 and k = 6 five forged shares do no harm. The secret is the right one if at most (s - k)/2 shares
 /// are forged; nothing is known of it if there are more.

@@ -59,8 +59,10 @@ fn fill_word<T: RingWord, R: Reducer<T>>(
 /// symbols there, whichever places these are: every lost symbol, and the message.
 ///
 /// The errors are those of `restore`. Conditions: points and symbols are checked forms, each place has its symbol,
-/// there are k weights, k being at most the number of points, and the word has a place for each point. The previous
-/// contents of `weights`, `message` and `word` don't matter; after an error their contents are unspecified.
+/// there are k weights, k being at most the number of points, and the word has a place for each point.
+///
+/// `weights` is scratch: its contents are ignored, and unspecified afterwards. The contents of `message` and `word` are
+/// ignored, and unspecified after an error.
 ///
 /// Source: Reed and Solomon, "Polynomial codes over certain finite fields".
 ///

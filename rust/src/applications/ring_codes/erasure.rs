@@ -137,10 +137,11 @@ pub fn encode<T: RingWord, R: Reducer<T>>(r: &R, points: &[T], message: &[T], wo
 }
 
 /// Writes the coefficients, the constant first, of the only polynomial modulo m with k coefficients that has the
-/// first k values at the first k points. Returns false exactly where these points don't fit.
+/// first k values at the first k points, k being the length of `coefficients`. Returns false exactly where these points
+/// don't fit.
 ///
-/// The contents of
-/// `weights` and `coefficients` are ignored.
+/// `weights` is scratch: its contents are ignored, and unspecified afterwards. The contents of `coefficients` are ignored,
+/// and unspecified after false.
 ///
 /// Source: Knuth, The Art of Computer Programming, volume 2, section 4.6.4 (Newton's divided differences).
 ///
@@ -181,8 +182,8 @@ pub fn interpolate<T: RingWord, R: Reducer<T>>(
 /// Whether a word is that of some message of k symbols, k being the length of `message`. Where it is, the message
 /// is written to `message`.
 ///
-/// The contents of `weights` and
-/// `message` are ignored.
+/// `weights` is scratch: its contents are ignored, and unspecified afterwards. The contents of `message` are ignored, and
+/// unspecified after false.
 ///
 /// # Preconditions
 ///
@@ -224,6 +225,9 @@ pub fn is_codeword<T: RingWord, R: Reducer<T>>(
 
 /// Writes the systematic word of a message, whose first k symbols are the message's, and the coefficients of its
 /// polynomial. Returns false, with the word unchanged, exactly where the first k points don't fit.
+///
+/// `weights` is scratch: its contents are ignored, and unspecified afterwards. The contents of `coefficients` are ignored,
+/// and unspecified after false.
 ///
 /// # Preconditions
 ///
@@ -282,7 +286,9 @@ fn choose<T: RingWord>(points: &[T], places: &[usize], chosen: &mut [T]) -> Resu
 ///
 /// An error names a cause that is present: too few symbols, a place without a point, a place that occurs twice,
 /// points that don't fit.
-/// The contents of `chosen`, `weights` and `message` are ignored.
+///
+/// `chosen` and `weights` are scratch: their contents are ignored, and unspecified afterwards. The contents of `message`
+/// are ignored, and unspecified after an error.
 ///
 /// # Preconditions
 ///

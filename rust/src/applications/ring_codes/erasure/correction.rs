@@ -94,10 +94,10 @@ fn decode<T: RingWord, R: Reducer<T>>(
 ///
 /// The modulus may be composite. `NoInverse(a)` then says that a number without an inverse was met, and a has a common
 /// factor with m; it never comes where m is a prime. `TooManyErrors` comes only where no word is that near. The other
-/// errors are those of `restore`, for all s places. After an error the contents of `message` and `word` are unspecified.
+/// errors are those of `restore`, for all s places.
 ///
-/// The contents of `scratch`, `message` and `word` are ignored. It takes at most about 9·s² + n·k products and 2·s
-/// inversions.
+/// The contents of `scratch` are ignored, and unspecified afterwards. The contents of `message` and `word` are
+/// ignored, and unspecified after an error. It takes at most about 9·s² + n·k products and 2·s inversions.
 ///
 /// Source: Welch and Berlekamp, US patent 4,633,470; Kötter, "On algebraic decoding of algebraic-geometric and cyclic
 /// codes".

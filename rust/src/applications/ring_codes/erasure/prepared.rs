@@ -37,8 +37,8 @@ impl<'a, T: RingWord, R: Reducer<T>> PreparedCode<'a, T, R> {
     /// Fills the rows, t·k for k known and t wanted points, and returns the code. `None` exactly where the known points
     /// don't fit.
     ///
-    /// The previous contents of
-    /// `rows` and `scratch` are ignored. It takes about 4·k² + 5·t·k products and one inversion.
+    /// The contents of `scratch` are ignored, and unspecified afterwards. The contents of `rows` are ignored, and
+    /// unspecified after `None`. It takes about 4·k² + 5·t·k products and one inversion.
     ///
     /// Source: Lagrange's form: Knuth, The Art of Computer Programming, volume 2, section 4.6.4.
     ///
@@ -82,8 +82,8 @@ impl<'a, T: RingWord, R: Reducer<T>> PreparedCode<'a, T, R> {
         })
     }
 
-    /// Writes the symbols at the wanted points, given those at the known points: both are of the word of one message of
-    /// k symbols, the only one with the given symbols.
+    /// Writes the symbols at the t wanted points to `others`, given the `symbols` at the k known points: both are of the
+    /// word of one message of k symbols, the only one with the given symbols.
     ///
     /// It takes t·k products.
     ///
@@ -116,15 +116,15 @@ impl<'a, T: RingWord, R: Reducer<T>> PreparedCode<'a, T, R> {
         }
     }
 
-    /// Whether the symbols at the known points and those at the wanted points are of the word of one message of k
+    /// Whether `symbols`, at the k known points, and `others`, at the t wanted points, are of the word of one message of k
     /// symbols.
     /// It takes at most t·k products.
     ///
     /// # Panics
     ///
-    /// Panics unless there is a symbol for each known point, and one for each wanted point. A debug build
-    /// also panics unless the symbols are checked forms. A release build doesn't check this: if it doesn't
-    /// hold, the call panics or its result is unspecified.
+    /// Panics unless `symbols` has a symbol for each known point, and `others` one for each wanted point. A
+    /// debug build also panics unless the symbols are checked forms. A release build doesn't check this: if
+    /// it doesn't hold, the call panics or its result is unspecified.
     ///
     /// # Examples
     ///
@@ -142,7 +142,7 @@ impl<'a, T: RingWord, R: Reducer<T>> PreparedCode<'a, T, R> {
     #[track_caller]
     pub fn is_codeword(&self, symbols: &[T], others: &[T]) -> bool {
         debug_assert!(symbols.iter().chain(others).all(|x| self.ring.check(x)), "the symbols must be checked forms");
-        assert!(symbols.len() == self.known.len() && others.len() == self.wanted.len(), "there must be a symbol for each known point, and one for each wanted point");
+        assert!(symbols.len() == self.known.len() && others.len() == self.wanted.len(), "`symbols` must have a symbol for each known point, and `others` one for each wanted point");
         for (j, entry) in others.iter().enumerate() {
             let symbol = row_value(self.ring, self.rows, j * symbols.len(), symbols);
             if symbol != *entry {

@@ -68,12 +68,14 @@ pub fn divide<T: RingWord, R: Reducer<T>>(
 
 /// Writes the message whose values are the quotients of a pair: one list, whose first `split` coefficients are its
 /// numerator's. Returns false where fewer than k quotients exist.
+/// The contents of `scratch`
+/// are ignored, and unspecified afterwards.
 ///
 /// # Preconditions
 ///
 /// The conditions of `divide` hold, and the numerator is within the pair, and there are three places of
-/// scratch for each symbol of the message, whose contents are ignored, and the points fit. This isn't
-/// checked: if it doesn't hold, the call panics or its result is unspecified.
+/// scratch for each symbol of the message, and the points fit. This isn't checked: if it doesn't hold,
+/// the call panics or its result is unspecified.
 pub fn divide_pair<T: RingWord, R: Reducer<T>>(
     r: &R,
     points: &[T],

@@ -80,6 +80,9 @@ pub fn share<T: RingWord, R: Reducer<T>>(
 /// Returns the secret from any k of its shares: the constant of the polynomial with k coefficients, which are
 /// written to `coefficients`. The errors are those of `restore`.
 ///
+/// `chosen` and `weights` are scratch: their contents are ignored, and unspecified afterwards. The contents of
+/// `coefficients` are ignored, and unspecified after an error.
+///
 /// Source: Shamir, "How to share a secret".
 ///
 /// # Preconditions
@@ -119,6 +122,9 @@ pub fn recover<T: RingWord, R: Reducer<T>>(
 /// coefficients that differs from e of the shares, where 2·e is at most s - k. Its coefficients are written to
 /// `coefficients`, and the right shares at all points to `word`. The errors are those of `correct`: `TooManyErrors`
 /// comes only where no polynomial is that near.
+///
+/// The contents of `scratch` are ignored, and unspecified afterwards. The contents of `coefficients` and `word` are
+/// ignored, and unspecified after an error.
 ///
 /// So with s = 16 and k = 6 five forged shares do no harm. The secret is the right one if at most (s - k)/2 shares
 /// are forged; nothing is known of it if there are more.

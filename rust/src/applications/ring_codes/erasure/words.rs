@@ -36,8 +36,9 @@ fn fill_word<T: RingWord, R: Reducer<T>>(
 /// symbols there, whichever places these are: every lost symbol, and the message.
 ///
 /// The errors are those of `restore`.
-/// The previous
-/// contents of `weights`, `message` and `word` don't matter; after an error their contents are unspecified.
+///
+/// `weights` is scratch: its contents are ignored, and unspecified afterwards. The contents of `message` and `word` are
+/// ignored, and unspecified after an error.
 ///
 /// Source: Reed and Solomon, "Polynomial codes over certain finite fields".
 ///
