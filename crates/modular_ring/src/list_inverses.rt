@@ -8,9 +8,10 @@ ghost use Rattle.modular_word.specs.Inverses.{HasInverse, IsInverse};
 use modular_reduced::reducer::Reducer;
 use modular_word::ring_word::RingWord;
 
-/// Replaces each form by its inverse. The scratch list has unspecified contents afterwards. Returns false, with the
-/// forms unchanged, exactly where one has no inverse modulo m. Conditions: the forms are checked, and the scratch
-/// list is as long.
+/// Replaces each form by its inverse. Returns false, with the forms unchanged, exactly where one has no inverse modulo
+/// m. Conditions: the forms are checked, and `scratch` is as long.
+///
+/// The contents of `scratch` are ignored, and unspecified afterwards.
 ///
 /// Source: Montgomery, "Speeding the Pollard and elliptic curve methods of factorization", section 10.3.1: the
 /// inverses come from that of the product of all forms.
@@ -27,9 +28,9 @@ use modular_word::ring_word::RingWord;
 /// assert_eq!(forms, [6, 13]); // 3 * 6 = 17 + 1, and 4 * 13 = 3 * 17 + 1
 /// ```
 #[tactic(auto, using(modular_word::proofs::Remainders::remainders, crate::specs::ProductLaws::products_so_far))]
-pub fn invert_each<T: RingWord, R: Reducer<T>>(r: &R, forms: &mut [T], products: &mut [T]) -> bool
+pub fn invert_each<T: RingWord, R: Reducer<T>>(r: &R, forms: &mut [T], scratch: &mut [T]) -> bool
     requires checked { All (λ f. IsForm R.form R.value (R.modulus r.now) (T.number f)) forms.old }
-    requires equal { length products.old ≡ length forms.old }
+    requires equal { length scratch.old ≡ length forms.old }
     ensures each { let m = R.modulus r.now in
         IsTrue result ↔ ((i : ℕ) → i < length forms.old → HasInverse m (entry T.number R.value m forms.old i)) }
     ensures inverses { let m = R.modulus r.now in IsTrue result → (i : ℕ) → i < length forms.old →
@@ -39,7 +40,7 @@ pub fn invert_each<T: RingWord, R: Reducer<T>>(r: &R, forms: &mut [T], products:
 {
     let mut product = r.transform(T::one());
     'forward: for i in 0..forms.len() {
-        products[i] = product;
+        scratch[i] = product;
         product = r.mul(&product, &forms[i]);
     }
     let Some(mut inverse) = r.inv(product) else {
@@ -48,7 +49,7 @@ pub fn invert_each<T: RingWord, R: Reducer<T>>(r: &R, forms: &mut [T], products:
     'backward: for k in 0..forms.len() {
         let i = forms.len() - 1 - k;
         let before = r.mul(&inverse, &forms[i]);
-        forms[i] = r.mul(&inverse, &products[i]);
+        forms[i] = r.mul(&inverse, &scratch[i]);
         inverse = before;
     }
     true

@@ -3,16 +3,18 @@
 use crate::modular_reduced::reducer::Reducer;
 use crate::modular_word::ring_word::RingWord;
 
-/// Replaces each form by its inverse. The scratch list has unspecified contents afterwards. Returns false, with the
-/// forms unchanged, exactly where one has no inverse modulo m.
+/// Replaces each form by its inverse. Returns false, with the forms unchanged, exactly where one has no inverse modulo
+/// m.
+///
+/// The contents of `scratch` are ignored, and unspecified afterwards.
 ///
 /// Source: Montgomery, "Speeding the Pollard and elliptic curve methods of factorization", section 10.3.1: the
 /// inverses come from that of the product of all forms.
 ///
 /// # Preconditions
 ///
-/// The forms are checked, and the scratch list is as long. This isn't checked: if it doesn't hold, the
-/// call panics or its result is unspecified.
+/// The forms are checked, and `scratch` is as long. This isn't checked: if it doesn't hold, the call
+/// panics or its result is unspecified.
 ///
 /// # Examples
 ///
@@ -26,10 +28,10 @@ use crate::modular_word::ring_word::RingWord;
 /// assert_eq!(forms, [6, 13]); // 3 * 6 = 17 + 1, and 4 * 13 = 3 * 17 + 1
 /// ```
 #[must_use]
-pub fn invert_each<T: RingWord, R: Reducer<T>>(r: &R, forms: &mut [T], products: &mut [T]) -> bool {
+pub fn invert_each<T: RingWord, R: Reducer<T>>(r: &R, forms: &mut [T], scratch: &mut [T]) -> bool {
     let mut product = r.transform(T::one());
     for i in 0..forms.len() {
-        products[i] = product;
+        scratch[i] = product;
         product = r.mul(&product, &forms[i]);
     }
     let mut inverse = match r.inv(product) { Some(it) => it, None => {
@@ -38,7 +40,7 @@ pub fn invert_each<T: RingWord, R: Reducer<T>>(r: &R, forms: &mut [T], products:
     for k in 0..forms.len() {
         let i = forms.len() - 1 - k;
         let before = r.mul(&inverse, &forms[i]);
-        forms[i] = r.mul(&inverse, &products[i]);
+        forms[i] = r.mul(&inverse, &scratch[i]);
         inverse = before;
     }
     true

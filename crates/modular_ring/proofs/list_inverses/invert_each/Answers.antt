@@ -57,7 +57,7 @@ forward-preserved g c =
     let read = entry_at number ring.value m forms i _ (omega arith) in
     let is = c.mul-product.ensures.value ∙ product_step m i _ _ f so_far.0.same read in (
       record { checked = c.mul-product.ensures.checked; same = is },
-      hold_more number ring.form ring.value m c.forward.products i c.forward.product _ (omega arith) so_far.1
+      hold_more number ring.form ring.value m c.forward.scratch i c.forward.product _ (omega arith) so_far.1
           so_far.0.checked so_far.0.same,
     )
 
@@ -88,8 +88,8 @@ mul-requires-clause-right g c = (c.forward.invariant.1.each _ _ (omega arith)).c
 pub mul-before-requires-clause-right : goal.mul-before-requires-clause-right
 mul-before-requires-clause-right g c = c.backward.invariant.2 _ _ (omega arith)
 
-pub bounds-products-i-in-backward : goal.bounds-products-i-in-backward
-bounds-products-i-in-backward g c = omega arith
+pub bounds-scratch-i-in-backward : goal.bounds-scratch-i-in-backward
+bounds-scratch-i-in-backward g c = omega arith
 
 pub bounds-forms-i-in-backward : goal.bounds-forms-i-in-backward
 bounds-forms-i-in-backward g c = omega arith
@@ -97,8 +97,8 @@ bounds-forms-i-in-backward g c = omega arith
 pub bounds-forms-i-in-backward-2 : goal.bounds-forms-i-in-backward-2
 bounds-forms-i-in-backward-2 g c = omega arith
 
-pub bounds-products-i : goal.bounds-products-i
-bounds-products-i g c = omega arith
+pub bounds-scratch-i : goal.bounds-scratch-i
+bounds-scratch-i g c = omega arith
 
 pub returns-clause-inverses : goal.returns-clause-inverses
 returns-clause-inverses g c = λ t i l. c.backward.invariant.3.done i (omega arith) l
@@ -109,8 +109,8 @@ returns-clause-checked g c = c.backward.invariant.2
 pub inv-requires : goal.inv-requires
 inv-requires g c = c.forward.invariant.0.checked
 
-pub offset_bounds-products-i : goal.offset_bounds-products-i
-offset_bounds-products-i g c = scaled_Fits _ _ _ c.forward-test.true c.well_formed.1.0.1
+pub offset_bounds-scratch-i : goal.offset_bounds-scratch-i
+offset_bounds-scratch-i g c = scaled_Fits _ _ _ c.forward-test.true c.well_formed.1.0.1
 
 pub offset_bounds-forms-i : goal.offset_bounds-forms-i
 offset_bounds-forms-i g c = scaled_Fits _ _ _ c.forward-test.true c.well_formed.1.0.1
@@ -119,8 +119,8 @@ pub offset_bounds-forms-i-in-backward : goal.offset_bounds-forms-i-in-backward
 offset_bounds-forms-i-in-backward g c =
     scaled_Fits _ _ _ (behind _ c.backward.auto.forms c.backward-test.true) c.well_formed.1.0.1
 
-pub offset_bounds-products-i-in-backward : goal.offset_bounds-products-i-in-backward
-offset_bounds-products-i-in-backward g c =
+pub offset_bounds-scratch-i-in-backward : goal.offset_bounds-scratch-i-in-backward
+offset_bounds-scratch-i-in-backward g c =
     scaled_Fits _ _ _ (behind _ c.backward.auto.forms c.backward-test.true) c.well_formed.1.0.1
 
 pub offset_bounds-forms-i-in-backward-2 : goal.offset_bounds-forms-i-in-backward-2

@@ -11,7 +11,7 @@ invariant-forward g l =
     let ring = g.R.Reducer in let m = ring.modulus l.fn.r in let number = g.T.RingWord.number in
     let before : ℕ → ℕ = λ k. product_below k (entry number ring.value m l.fn.forms) % m in
     IsCheckedFormOf ring.form ring.value m (number l.product) (before l.i)
-    × HoldBelow number ring.form ring.value m l.products before l.i
+    × HoldBelow number ring.form ring.value m l.scratch before l.i
 
 -- the places from the last on are done, and the inverse is that of the product before them
 abbrev pub invariant-backward : goal.invariant-backward

@@ -43,7 +43,7 @@ returns-clause-values g c t =
       symbol = λ i l. interpolated m n _ _ _ _ i _ _ (entry number ring.value m c.args.points.now)
           (omega arith) (omega arith) c.expand.ensures.same (c.divide_differences.ensures.values i (omega arith))
           (ap (λ vs. entry number ring.value m vs i) c.copy_from_slice.ensures.after
-          ∙ entry_front number ring.value m values (length c.invert_each.new.products) i (omega arith)
+          ∙ entry_front number ring.value m values (length c.invert_each.new.scratch) i (omega arith)
           (omega (arith, c.requires.values_within)));
     }
 
@@ -99,7 +99,7 @@ invert_each-requires-clause-equal g c = sym (c.fill_weights.auto.weights ∙ c.r
 pub copy_from_slice-requires : goal.copy_from_slice-requires
 copy_from_slice-requires g c =
     sym (length-take-le _ c.args.values.now
-    (subst (λ n. n ≤ length c.args.values.now) (sym c.invert_each.auto.products) c.requires.values_within))
+    (subst (λ n. n ≤ length c.args.values.now) (sym c.invert_each.auto.scratch) c.requires.values_within))
 
 pub slice_bounds-copy_from_slice-end : goal.slice_bounds-copy_from_slice-end
 slice_bounds-copy_from_slice-end = copy_from_slice-requires
@@ -108,22 +108,22 @@ pub divide_differences-requires-clause-values : goal.divide_differences-requires
 divide_differences-requires-clause-values g c =
     let ring = g.R.Reducer in let m = ring.modulus c.args.r.now in
     subst (λ xs. All (λ f. IsForm ring.form ring.value m (g.T.RingWord.number f)) xs) (sym c.copy_from_slice.ensures.after)
-    (All-take (λ f. IsForm ring.form ring.value m (g.T.RingWord.number f)) (length c.invert_each.new.products) c.args.values.now c.requires.values)
+    (All-take (λ f. IsForm ring.form ring.value m (g.T.RingWord.number f)) (length c.invert_each.new.scratch) c.args.values.now c.requires.values)
 
 pub divide_differences-requires-clause-inverses_within :
     goal.divide_differences-requires-clause-inverses_within
 divide_differences-requires-clause-inverses_within g c =
     subst (λ n. length c.copy_from_slice.new.self ≤ n)
-    (c.copy_from_slice.auto.self ∙ c.invert_each.auto.products
+    (c.copy_from_slice.auto.self ∙ c.invert_each.auto.scratch
     ∙ sym (c.invert_each.auto.forms ∙ c.fill_weights.auto.weights ∙ c.requires.weights)) (le_refl _)
 
 pub divide_differences-requires-clause-points_within :
     goal.divide_differences-requires-clause-points_within
 divide_differences-requires-clause-points_within g c =
     subst (λ n. n ≤ length c.args.points.now)
-    (sym (c.copy_from_slice.auto.self ∙ c.invert_each.auto.products)) c.requires.points_within
+    (sym (c.copy_from_slice.auto.self ∙ c.invert_each.auto.scratch)) c.requires.points_within
 
 pub expand-requires-clause-within : goal.expand-requires-clause-within
 expand-requires-clause-within g c =
     subst (λ n. n ≤ length c.args.points.now)
-    (sym (c.divide_differences.auto.values ∙ c.copy_from_slice.auto.self ∙ c.invert_each.auto.products)) c.requires.points_within
+    (sym (c.divide_differences.auto.values ∙ c.copy_from_slice.auto.self ∙ c.invert_each.auto.scratch)) c.requires.points_within
