@@ -29,35 +29,32 @@ fn fold<V: FoldWord>(v: V, p: u32, mask: V, c: V) -> (V, u32)
     }
 }
 
-/// A number below 2^p that is congruent to v modulo m, by two folds, and the number of those that changed something.
-/// The mask is 2^p - 1. Condition: the modulus m is 2^p - c and more than half of 2^p, p is below the width of the
-/// words, c is 1, and v is at most a product of two numbers below 2^p.
-pub fn fold_two<V: FoldWord>(v: V, p: u32, mask: V, c: V, m: V) -> (V, u32)
-    requires folding { IsFolding V.width p (V.number c) (V.number m) }
+/// A number below 2^p that is congruent to v modulo 2^p - 1, by two folds, and the number of those that changed
+/// something. Condition: the mask is 2^p - 1, p is at least 1 and below the width of the words, and v is below 2^(2p).
+pub fn fold_two<V: FoldWord>(v: V, p: u32, mask: V) -> (V, u32)
+    requires some { 1 ≤ p }
     requires inside { p < V.width }
     requires mask { V.number mask + 1 ≡ 2 ^ p }
-    requires one { V.number c ≡ 1 }
     requires product { V.number v / 2 ^ p < 2 ^ p }
     ensures below { V.number result.0 < 2 ^ p }
-    ensures same { V.number result.0 % V.number m ≡ V.number v % V.number m }
-    ensures count { result.1 ≡ folds p (V.number c) (V.number v) }
+    ensures same { V.number result.0 % V.number mask ≡ V.number v % V.number mask }
+    ensures count { result.1 ≡ folds p 1 (V.number v) }
 {
-    let (first, one) = fold(v, p, mask, c);
-    let (second, two) = fold(first, p, mask, c);
+    let (first, one) = fold(v, p, mask, V::one());
+    let (second, two) = fold(first, p, mask, V::one());
     (second, one + two)
 }
 
-/// A number below 2^p that is congruent to v modulo m, by three folds, and the number of those that changed
-/// something. The mask is 2^p - 1. Condition: the modulus m is 2^p - c and more than half of 2^p, p is below the width
-/// of the words, c·(c + 1) is at most 2^p, and v is at most a product of two numbers below 2^p.
-pub fn fold_three<V: FoldWord>(v: V, p: u32, mask: V, c: V, m: V) -> (V, u32)
-    requires folding { IsFolding V.width p (V.number c) (V.number m) }
+/// A number below 2^p that is congruent to v modulo 2^p - c, by three folds, and the number of those that changed
+/// something. Condition: the mask is 2^p - 1, p is below the width of the words, c·(c + 1) is at most 2^p, and v is below
+/// 2^(2p).
+pub fn fold_three<V: FoldWord>(v: V, p: u32, mask: V, c: V) -> (V, u32)
     requires inside { p < V.width }
     requires mask { V.number mask + 1 ≡ 2 ^ p }
     requires small { V.number c * V.number c + V.number c ≤ 2 ^ p }
     requires product { V.number v / 2 ^ p < 2 ^ p }
     ensures below { V.number result.0 < 2 ^ p }
-    ensures same { V.number result.0 % V.number m ≡ V.number v % V.number m }
+    ensures same { V.number result.0 % (2 ^ p - V.number c) ≡ V.number v % (2 ^ p - V.number c) }
     ensures count { result.1 ≡ folds p (V.number c) (V.number v) }
 {
     let (first, one) = fold(v, p, mask, c);
@@ -86,8 +83,8 @@ pub(crate) fn fold_on<V: FoldWord>(v: V, p: u32, mask: V, c: V, m: V) -> (V, u32
 }
 
 /// A number below 2^p that is congruent to v modulo m, and the number of folds that led to it. Where c is small and
-/// v is at most a product of two numbers below 2^p, the folds are unrolled, without comparisons. Condition: m is
-/// 2^p - c and more than half of 2^p, and p is at most the width of the words.
+/// v is below 2^(2p), the folds are unrolled, without comparisons. Condition: m is 2^p - c and more than half of 2^p,
+/// and p is at most the width of the words.
 pub fn fold_all<V: FoldWord>(v: V, p: u32, c: V, m: V) -> (V, u32)
     requires { IsFolding V.width p (V.number c) (V.number m) }
     ensures below { V.number result.0 < 2 ^ p }
@@ -102,10 +99,10 @@ pub fn fold_all<V: FoldWord>(v: V, p: u32, c: V, m: V) -> (V, u32)
         return fold_on(v, p, mask, c, m);
     }
     if c == V::one() {
-        return fold_two(v, p, mask, c, m);
+        return fold_two(v, p, mask);
     }
     if c.shift_right(p / 2).is_zero_word() {
-        return fold_three(v, p, mask, c, m);
+        return fold_three(v, p, mask, c);
     }
     fold_on(v, p, mask, c, m)
 }
@@ -122,7 +119,7 @@ fn fold_once<V: FoldWord>(v: V, p: u32, mask: V, c: V) -> V
 }
 
 // A number below 2m that is congruent to v modulo m, by folds in straight-line code: c and p alone give their number.
-// Condition: v is at most a product of two numbers below 2^p.
+// Condition: v is below 2^(2p).
 #[inline(always)]
 fn fold_in_line<V: FoldWord>(v: V, p: u32, c: V, m: V) -> V
     requires folding { IsFolding V.width p (V.number c) (V.number m) }

@@ -19,32 +19,28 @@ fn fold<V: FoldWord>(v: V, p: u32, mask: V, c: V) -> (V, u32) {
     }
 }
 
-/// A number below 2^p that is congruent to v modulo m, by two folds, and the number of those that changed something.
-/// The mask is 2^p - 1.
+/// A number below 2^p that is congruent to v modulo 2^p - 1, by two folds, and the number of those that changed
+/// something.
 ///
 /// # Preconditions
 ///
-/// The modulus m is 2^p - c and more than half of 2^p, p is below the width of the words, c is 1, and v
-/// is at most a product of two numbers below 2^p. This isn't checked: if it doesn't hold, the call
-/// panics or its result is unspecified.
+/// The mask is 2^p - 1, p is at least 1 and below the width of the words, and v is below 2^(2p). This
+/// isn't checked: if it doesn't hold, the call panics or its result is unspecified.
 #[inline]
-pub fn fold_two<V: FoldWord>(v: V, p: u32, mask: V, c: V, m: V) -> (V, u32) {
-    let _ = m;
-    let (first, one) = fold(v, p, mask, c);
-    let (second, two) = fold(first, p, mask, c);
+pub fn fold_two<V: FoldWord>(v: V, p: u32, mask: V) -> (V, u32) {
+    let (first, one) = fold(v, p, mask, V::one());
+    let (second, two) = fold(first, p, mask, V::one());
     (second, one + two)
 }
 
-/// A number below 2^p that is congruent to v modulo m, by three folds, and the number of those that changed
-/// something. The mask is 2^p - 1.
+/// A number below 2^p that is congruent to v modulo 2^p - c, by three folds, and the number of those that changed
+/// something.
 ///
 /// # Preconditions
 ///
-/// The modulus m is 2^p - c and more than half of 2^p, p is below the width of the words, c·(c + 1) is
-/// at most 2^p, and v is at most a product of two numbers below 2^p. This isn't checked: if it doesn't
-/// hold, the call panics or its result is unspecified.
-pub fn fold_three<V: FoldWord>(v: V, p: u32, mask: V, c: V, m: V) -> (V, u32) {
-    let _ = m;
+/// The mask is 2^p - 1, p is below the width of the words, c·(c + 1) is at most 2^p, and v is below
+/// 2^(2p). This isn't checked: if it doesn't hold, the call panics or its result is unspecified.
+pub fn fold_three<V: FoldWord>(v: V, p: u32, mask: V, c: V) -> (V, u32) {
     let (first, one) = fold(v, p, mask, c);
     let (second, two) = fold(first, p, mask, c);
     let (third, three) = fold(second, p, mask, c);
@@ -66,7 +62,7 @@ pub(crate) fn fold_on<V: FoldWord>(v: V, p: u32, mask: V, c: V, m: V) -> (V, u32
 }
 
 /// A number below 2^p that is congruent to v modulo m, and the number of folds that led to it. Where c is small and
-/// v is at most a product of two numbers below 2^p, the folds are unrolled, without comparisons.
+/// v is below 2^(2p), the folds are unrolled, without comparisons.
 ///
 /// # Preconditions
 ///
@@ -81,10 +77,10 @@ pub fn fold_all<V: FoldWord>(v: V, p: u32, c: V, m: V) -> (V, u32) {
         return fold_on(v, p, mask, c, m);
     }
     if c == V::one() {
-        return fold_two(v, p, mask, c, m);
+        return fold_two(v, p, mask);
     }
     if c.shift_right(p / 2).is_zero_word() {
-        return fold_three(v, p, mask, c, m);
+        return fold_three(v, p, mask, c);
     }
     fold_on(v, p, mask, c, m)
 }
@@ -96,7 +92,7 @@ fn fold_once<V: FoldWord>(v: V, p: u32, mask: V, c: V) -> V {
 }
 
 // A number below 2m that is congruent to v modulo m, by folds in straight-line code: c and p alone give their number.
-// Condition: v is at most a product of two numbers below 2^p.
+// Condition: v is below 2^(2p).
 #[inline(always)]
 fn fold_in_line<V: FoldWord>(v: V, p: u32, c: V, m: V) -> V {
     let mask = m.plus(c.minus(V::one()));

@@ -1,5 +1,5 @@
-use Rattle.std.proofs.Common.{◌≡◌, ℕ, ◌+◌, ◌∙◌, ◌/◌, ◌^◌, ◌<◌, refl, arith, sym}
-use Rattle.modular_folds.proofs.FoldSteps.{ones, power_fits, bit_inside}
+use Rattle.std.proofs.Common.{◌≡◌, ℕ, ◌+◌, ◌-◌, ◌∙◌, ◌/◌, ◌^◌, ◌<◌, refl, arith, sym}
+use Rattle.modular_folds.proofs.FoldSteps.{ones, power_fits, bit_inside, some_bits}
 use Rattle.modular_folds.proofs.FoldBounds.{low_only, small_square}
 use Rattle.modular_folds.proofs.FoldCounts.{folds-none}
 use Rattle.modular_folds.proofs.WordTests.{not_below}
@@ -39,10 +39,9 @@ fold_two-requires g c =
     let n = g.V.RingWord.number in
     let mask = ones _ _ c.one.ensures c.minus.ensures c.plus-mask.ensures c.requires.whole in
     record {
-      folding = c.requires;
+      some = some_bits c.requires;
       inside = inside mask (c.is_below.ensures.below.0 c.if-not-is_below.false) c.is_below.ensures.other_fits;
       mask = mask;
-      one = (g.met.V.RingWord.equal c.args.c c.one-2.result).0 (sym c.eq.ensures ∙ c.if-eq.true) ∙ c.one-2.ensures;
       product = omega (arith, mask, not_below c.is_below-2.ensures.below c.if-is_below.false, c.shift_right.ensures.value);
     }
 
@@ -58,7 +57,6 @@ fold_three-requires g c =
     let less = low_only (c.args.p / 2) (n c.args.c)
     (sym c.shift_right-2.ensures.value ∙ c.is_zero_word.ensures.zero.0 c.if-is_zero_word.true) in
     record {
-      folding = c.requires;
       inside = inside mask (c.is_below.ensures.below.0 c.if-not-is_below.false) c.is_below.ensures.other_fits;
       mask = mask;
       small = omega (arith, small_square c.args.p (n c.args.c) less);
@@ -76,10 +74,26 @@ pub returns-then-is_below : goal.returns-then-is_below
 returns-then-is_below g c = c.fold_on.ensures
 
 pub returns-then-eq : goal.returns-then-eq
-returns-then-eq g c = c.fold_two.ensures
+returns-then-eq g c =
+    let n = g.V.RingWord.number in
+    let mask = ones _ _ c.one.ensures c.minus.ensures c.plus-mask.ensures c.requires.whole in
+    let one = (g.met.V.RingWord.equal c.args.c c.one-2.result).0 (sym c.eq.ensures ∙ c.if-eq.true) ∙ c.one-2.ensures in
+    let is : n c.plus-mask.result ≡ n c.args.m = omega (arith, mask, one, c.requires.whole) in
+    record {
+      below = c.fold_two.ensures.below;
+      same = rw is at c.fold_two.ensures.same;
+      count = rw one c.fold_two.ensures.count;
+    }
 
 pub returns-then-is_zero_word : goal.returns-then-is_zero_word
-returns-then-is_zero_word g c = c.fold_three.ensures
+returns-then-is_zero_word g c =
+    let n = g.V.RingWord.number in
+    let is : 2 ^ c.args.p - n c.args.c ≡ n c.args.m = omega (arith, c.requires.whole) in
+    record {
+      below = c.fold_three.ensures.below;
+      same = rw is at c.fold_three.ensures.same;
+      count = c.fold_three.ensures.count;
+    }
 
 pub returns : goal.returns
 returns g c = c.fold_on-2.ensures
