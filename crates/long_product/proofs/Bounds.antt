@@ -1,7 +1,7 @@
 -- Bounds of sums of products: of coefficients, and of what is reduced.
 use Rattle.std.proofs.Common.{◌≡◌, ℕ, zero, suc, ◌+◌, ◌-◌, ◌*◌, ◌/◌, ◌<◌, ◌≤◌, All, List, length, get_or, ◌∙◌, ap}
 use Rattle.std.proofs.Common.{arith, subst, inl, inr}
-use Rattle.std.proofs.Math.Nat.{mul-le-mul, mul-le-mul_right, mul-div-le}
+use Rattle.std.proofs.Math.Nat.{mul-le-mul, mul-le-mul_right, mul-div-le, lt-mul-div-succ}
 use Rattle.std.proofs.lemmas.Bool.{cases_lt}
 use Rattle.std.proofs.lemmas.List.{get_or_past}
 use Rattle.num_modular.specs.Sums.{sum_below}
@@ -36,6 +36,13 @@ times_divisor x n t few =
     let whole = mul-div-le n t in
     let l : t * x ≤ t * (n / t) = mul-le-mul (let e : t ≤ t = omega arith in e) few in
     omega (arith, whole, l)
+
+-- what is above a quotient, times the divisor
+pub times_divisor_above : (x n t : ℕ) → 1 ≤ t → n / t < x → n < t * x
+times_divisor_above x n t some more =
+    let next = lt-mul-div-succ n some in
+    let l : t * (n / t + 1) ≤ t * x = mul-le-mul (let e : t ≤ t = omega arith in e) (omega (arith, more)) in
+    omega (arith, next, l)
 
 -- a coefficient of a list, or 0 after it
 pub coefficient_at_most : (xs : List ℕ) (s i : ℕ) → All (λ x. x ≤ s) xs → get_or xs i 0 ≤ s

@@ -8,9 +8,9 @@ use crate::primes::{FIRST_PRIME, SECOND_PRIME, THIRD_PRIME};
 use crate::reciprocal::{reciprocal_of, remainder};
 use num_modular::{PreMulInv2by1, Reducer};
 
-/// How many of the three primes suffice for sums of so many products: each product has a factor that is at most x and
-/// one that is at most y, and the product of the primes is above each sum. Condition: there is a product, and there are
-/// at most 2^32.
+/// The least number of the three primes whose product is above terms·x·y: no sum of so many products is greater, where
+/// each has a factor that is at most x and one that is at most y. Three primes suffice. Condition: there is a product,
+/// and there are at most 2^32.
 pub fn primes_for(terms: usize, x: u64, y: u64) -> usize
     requires some { 1 ≤ terms }
     requires few { terms ≤ 2 ^ 32 }
@@ -18,6 +18,8 @@ pub fn primes_for(terms: usize, x: u64, y: u64) -> usize
     ensures most { result ≤ 3 }
     ensures one { result ≡ 1 → terms * (x * y) < FIRST_PRIME }
     ensures two { result ≡ 2 → terms * (x * y) < FIRST_PRIME * SECOND_PRIME }
+    ensures not_one { 2 ≤ result → FIRST_PRIME ≤ terms * (x * y) }
+    ensures not_two { 3 ≤ result → FIRST_PRIME * SECOND_PRIME ≤ terms * (x * y) }
 {
     let product = x as u128 * y as u128;
     let terms = terms as u128;

@@ -5,8 +5,8 @@ use crate::applications::long_product::primes::{FIRST_PRIME, SECOND_PRIME};
 use crate::applications::long_product::reciprocal::{reciprocal_of, remainder};
 use crate::PreMulInv2by1;
 
-/// How many of the three primes suffice for sums of so many products: each product has a factor that is at most x and
-/// one that is at most y, and the product of the primes is above each sum.
+/// The least number of the three primes whose product is above terms·x·y: no sum of so many products is greater, where
+/// each has a factor that is at most x and one that is at most y. Three primes suffice.
 ///
 /// # Preconditions
 ///
