@@ -294,7 +294,7 @@ impl<'a> Code<'a> {
 
     /// The only symbol below m that, behind the word, makes it one of the code: its check digit, where 10 is X. `None`
     /// exactly where no symbol below m does. Condition: the last weight has an inverse modulo m, as the weight 1 of
-    /// each code of `standards` has.
+    /// each code of `standard_codes` has.
     ///
     /// # Examples
     ///

@@ -2,9 +2,10 @@
 //!
 //! A code (`Code`) is a modulus m, a residue, and for each place a weight and the symbols that are allowed there.
 //! Its words have an allowed symbol at each place, and their weighted sum is congruent to the residue modulo m.
-//! `standards` has the codes of ISBN, EAN, UPC, ISSN, ORCID and of routing numbers; `accepts_iban` tests an IBAN,
-//! `accepts_luhn` the digits of a payment card, and `accepts_verhoeff` and `accepts_damm` digits by stronger codes. For
-//! each there is a function that returns the check digits, and `read_symbols` reads texts with hyphens and spaces.
+//! The constants, as `ISBN_10`, are the codes of ISBN, EAN, UPC, ISSN, ORCID and of routing numbers. `accepts_iban` tests
+//! an IBAN, `accepts_luhn` the digits of a payment card, and `accepts_verhoeff` and `accepts_damm` digits by stronger
+//! codes. For each there is a function that returns the check digits, and `read_symbols` reads texts with hyphens and
+//! spaces.
 #![tactic(auto)]
 
 ghost use Rattle.std.specs.Prelude.{◌≡◌, ◌≤◌, ◌↔◌, IsTrue, All, length};

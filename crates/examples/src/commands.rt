@@ -1,4 +1,4 @@
-//! Lists of commands: the second example of the README with other registers, and with three commands.
+//! Lists of commands: `residue_by_commands` of `first_use` with other registers, and three commands.
 
 ghost use Rattle.std.specs.Prelude.{◌≡◌, ◌+◌, ◌*◌, ◌%◌, ◌^◌, ◌≤◌};
 

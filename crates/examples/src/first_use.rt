@@ -1,4 +1,4 @@
-//! The README's examples, one for each kind of use.
+//! First uses of the library, one function for each kind.
 
 ghost use Rattle.std.specs.Prelude.{◌≡◌, ◌+◌, ◌*◌, ◌/◌, ◌%◌, ◌≤◌, pos};
 ghost use Rattle.num_modular.specs.Jacobi.{checked_jacobi_of};

@@ -130,6 +130,8 @@ impl<T: PlainWord> Normalized2by1Divisor<T> {
 
     /// A divisor with its reciprocal. Condition: the divisor's top bit is set.
     ///
+    /// In the Cargo crate this is `of`, for any word type; `new` is the same for a known one.
+    ///
     /// # Examples
     ///
     /// ```

@@ -74,6 +74,8 @@ impl<T: PlainWord> PreMulInv1by1<T> {
     /// base, the multiplier is B·(2^n - d)/d, rounded down, plus 1, and the shift is n - 1. Condition: the divisor
     /// is above 1.
     ///
+    /// In the Cargo crate this is `of`, for any word type; `new` is the same for a known one.
+    ///
     /// Source: Granlund and Montgomery, "Division by invariant integers using multiplication", section 4.
     ///
     /// # Examples

@@ -57,6 +57,8 @@ impl<T: ReducerWord> Copy for Montgomery<T> {}
 impl<T: ReducerWord> Montgomery<T> {
     /// The reducer of a modulus m. Condition: the modulus is at least 1.
     ///
+    /// In the Cargo crate this is `of`, for any word type; `new` is the same for a known one.
+    ///
     /// # Examples
     ///
     /// ```

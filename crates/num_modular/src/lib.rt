@@ -1,14 +1,14 @@
 //! Modular rings over machine words, by the names of the crate `num-modular`.
 //!
-//! The root exports the traits, types and aliases, and the bounds of generic code over them. Beside the modules of the
-//! Rust crate there are:
+//! The root exports the types of reducers, integers and dividers, their aliases and their traits. These modules have
+//! what the Rust crate hasn't:
 //!
-//! - `commands` (lists of commands run over any reducer) and `transforms`, both also in `ring`
+//! - `commands`: lists of commands run over any reducer; `transforms`: transforms and lists over any reducer; `ring`: both
 //! - `plans`: transforms by a table
 //! - `families`: the generic types behind the aliases
 //! - `hashes`: polynomial hashes and a search
 //! - `residues`: residue number systems
-//! - `laws`: what proofs may cite
+//! - `laws`: what proofs may cite; `modrun`: the body of the program
 #![tactic(auto)]
 
 pub mod barrett;
@@ -187,7 +187,7 @@ pub type FixedSolinasInt64<const P1: u8, const P2: u8, const K: i64> = ReducedIn
     FixedTrinomialSolinas64<P1, P2, K>,
 >;
 
-/// The widest unsigned word.
+/// The widest unsigned integer type.
 ///
 /// # Examples
 ///
@@ -199,7 +199,7 @@ pub type FixedSolinasInt64<const P1: u8, const P2: u8, const K: i64> = ReducedIn
 #[allow(non_camel_case_types)]
 pub type umax = u128;
 
-/// The widest signed word.
+/// The widest signed integer type.
 ///
 /// # Examples
 ///

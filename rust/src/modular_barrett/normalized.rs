@@ -116,6 +116,8 @@ impl<T: PlainWord> Normalized2by1Divisor<T> {
 
     /// A divisor with its reciprocal.
     ///
+    /// In the Cargo crate this is `of`, for any word type; `new` is the same for a known one.
+    ///
     /// # Panics
     ///
     /// Panics unless the divisor's top bit is set.

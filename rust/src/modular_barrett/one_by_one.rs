@@ -60,6 +60,8 @@ impl<T: PlainWord> PreMulInv1by1<T> {
     /// The multiplier and the shift of a divisor d. With n the least number such that d is at most 2^n, and B the
     /// base, the multiplier is B·(2^n - d)/d, rounded down, plus 1, and the shift is n - 1.
     ///
+    /// In the Cargo crate this is `of`, for any word type; `new` is the same for a known one.
+    ///
     /// Source: Granlund and Montgomery, "Division by invariant integers using multiplication", section 4.
     ///
     /// # Panics

@@ -46,6 +46,8 @@ impl<T: PlainWord> Copy for PreMulInv2by1<T> {}
 impl<T: PlainWord> PreMulInv2by1<T> {
     /// The reducer of a modulus.
     ///
+    /// In the Cargo crate this is `of`, for any word type; `new` is the same for a known one.
+    ///
     /// # Panics
     ///
     /// Panics unless the modulus is at least 1.

@@ -44,6 +44,8 @@ impl<T: ReducerWord> Copy for Montgomery<T> {}
 impl<T: ReducerWord> Montgomery<T> {
     /// The reducer of a modulus m.
     ///
+    /// In the Cargo crate this is `of`, for any word type; `new` is the same for a known one.
+    ///
     /// # Panics
     ///
     /// Panics unless the modulus is at least 1.

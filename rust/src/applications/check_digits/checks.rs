@@ -254,8 +254,8 @@ impl<'a> Code<'a> {
     ///
     /// # Preconditions
     ///
-    /// The last weight has an inverse modulo m, as the weight 1 of each code of `standards` has. This isn't
-    /// checked: if it doesn't hold, the call panics or its result is unspecified.
+    /// The last weight has an inverse modulo m, as the weight 1 of each code of `standard_codes` has. This
+    /// isn't checked: if it doesn't hold, the call panics or its result is unspecified.
     ///
     /// # Examples
     ///

@@ -1,4 +1,4 @@
-//! The README's examples, one for each kind of use.
+//! First uses of the library, one function for each kind.
 
 use crate::ring::{RingCommand, RunEnd, run};
 use crate::{
