@@ -88,7 +88,8 @@ fn write_products(by: &PreMulInv2by1<u64>, xs: &[u64], ys: &[u64], out: &mut [u6
     requires left { length out.old ≤ length xs.now }
     requires right { length out.old ≤ length ys.now }
     ensures { (i : ℕ) → i < length out.old →
-        slice_index out.new i ≡ (slice_index xs.now i * slice_index ys.now i) % ⟦<PreMulInv2by1<u64> as Reducer<u64>>⟧.modulus by.now }
+        slice_index out.new i ≡ (slice_index xs.now i * slice_index ys.now i)
+        % ⟦<PreMulInv2by1<u64> as Reducer<u64>>⟧.modulus by.now }
 {
     'entries: for i in 0..out.len() {
         out[i] = residue_of_product(by, xs[i], ys[i]);
@@ -97,8 +98,8 @@ fn write_products(by: &PreMulInv2by1<u64>, xs: &[u64], ys: &[u64], out: &mut [u6
 
 // part times the sum of x_i·w^i, modulo m, by Horner's rule.
 fn scaled_value(by: &PreMulInv2by1<u64>, part: u64, w: u64, xs: &[u64]) -> u64
-    ensures { result ≡
-        (part * sum_below (length xs.now) (λ i. slice_index xs.now i * w ^ i)) % ⟦<PreMulInv2by1<u64> as Reducer<u64>>⟧.modulus by.now }
+    ensures { result ≡ (part * sum_below (length xs.now) (λ i. slice_index xs.now i * w ^ i))
+        % ⟦<PreMulInv2by1<u64> as Reducer<u64>>⟧.modulus by.now }
 {
     let n = xs.len();
     let mut sum = 0;

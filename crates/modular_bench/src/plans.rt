@@ -109,8 +109,8 @@ fn on_the_stack<const FACTORS: usize>(
 
 /// Makes the plan by g for 2^10, 2^16 or 2^20 entries on the stack, and then runs an operation n times: none for 0,
 /// `split` for 1, `join_scaled` by 1 for 2, `transform` for 3, `convolve` for 4. Lists of another length are left
-/// unchanged; so they are for an even m, but by 2. Conditions: m and g are those of a plan for so many entries; these are below m; the lists
-/// have the same length.
+/// unchanged; so they are for an even m, but by 2. Conditions: m and g are those of a plan for so many entries; these
+/// are below m; the lists have the same length.
 #[unsafe(no_mangle)]
 pub extern "C" fn bench_planned(
     operation: u8,

@@ -161,9 +161,9 @@ fn reduced_by_borrow(v: u64, m: u32) -> u32
     rest.wrapping_add(borrowed & m)
 }
 
-// a + b modulo m, where the sum may take more than a word: the borrow of a difference of double words chooses. LLVM vectorizes
-// products in independent chains, and a comparison of 64 bits in vectors takes longer than this. Condition: the sum is
-// below 2m.
+// a + b modulo m, where the sum may take more than a word: the borrow of a difference of double words chooses. LLVM
+// vectorizes products in independent chains, and a comparison of 64 bits in vectors takes longer than this. Condition:
+// the sum is below 2m.
 #[inline(always)]
 fn reduced_sum(a: u64, b: u64, m: u64) -> u64
     requires { a + b < 2 * m }

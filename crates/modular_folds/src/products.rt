@@ -120,8 +120,8 @@ fn reduced_last<T: PathWord>(x: T, m: T) -> T
     if x.is_below(m) { x } else { x.minus(m) }
 }
 
-// A word that is at least m, modulo m. Kept out of line and cold, so that LLVM branches on the comparison. Conditions: the word
-// is below 2m, and at least m.
+// A word that is at least m, modulo m. Kept out of line and cold, so that LLVM branches on the comparison. Conditions:
+// the word is below 2m, and at least m.
 #[cold]
 #[inline(never)]
 fn reduced_above<T: PathWord>(x: T, m: T) -> T

@@ -2,7 +2,8 @@
 
 ghost use Rattle.std.specs.Prelude.{◌≡◌, ℕ, ◌*◌, ◌%◌, ◌^◌};
 ghost use Rattle.std.proofs.Common.{refl};
-ghost use Rattle.modular_monty.specs.Montgomery.{montgomery_form, montgomery_value, IsOddModulus, IsOddRing, negated_inverse_of};
+ghost use Rattle.modular_monty.specs.Montgomery.{montgomery_form, montgomery_value, negated_inverse_of};
+ghost use Rattle.modular_monty.specs.Montgomery.{IsOddModulus, IsOddRing};
 ghost use Rattle.modular_monty.specs.MontgomeryLaws.{montgomery_canonical};
 
 use crate::computed::computed_once;

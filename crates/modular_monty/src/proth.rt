@@ -3,7 +3,8 @@
 ghost use Rattle.std.specs.Prelude.{◌≡◌, ℕ, ◌+◌, ◌*◌, ◌%◌, ◌^◌, ◌<◌};
 ghost use Rattle.std.proofs.Common.{refl};
 ghost use Rattle.modular_word.specs.Reduction.{IsReduction};
-ghost use Rattle.modular_monty.specs.Montgomery.{montgomery_form, montgomery_value, IsOddModulus, IsOddRing, negated_inverse_of};
+ghost use Rattle.modular_monty.specs.Montgomery.{montgomery_form, montgomery_value, negated_inverse_of};
+ghost use Rattle.modular_monty.specs.Montgomery.{IsOddModulus, IsOddRing};
 ghost use Rattle.modular_monty.specs.MontgomeryLaws.{montgomery_canonical};
 ghost use Rattle.modular_monty.specs.Proth.{IsProth, IsProthRange, greatest_proth_32, greatest_proth_64, proth_modulus};
 

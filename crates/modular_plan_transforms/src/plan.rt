@@ -1,6 +1,7 @@
 //! A plan for transforms as one value: a modulus, a root and the table of its powers.
 
-ghost use Rattle.std.specs.Prelude.{◌≡◌, ℕ, ◌+◌, ◌-◌, ◌*◌, ◌/◌, ◌%◌, ◌^◌, ◌<◌, ◌≤◌, ◌↔◌, IsTrue, length, take, MatchOption, ⊤};
+ghost use Rattle.std.specs.Prelude.{◌≡◌, ℕ, ◌+◌, ◌-◌, ◌*◌, ◌/◌, ◌%◌, ◌^◌, ◌<◌, ◌≤◌, ◌↔◌, ⊤};
+ghost use Rattle.std.specs.Prelude.{IsTrue, length, take, MatchOption};
 ghost use Rattle.std.specs.Int.{IsPowerOfTwo};
 ghost use Rattle.modular_transform.specs.Orders.{bits_reversed};
 ghost use Rattle.modular_transform.specs.Transforms.{Suits};
@@ -80,8 +81,8 @@ impl<'a, T: PlainWord, F: PlanEntry<T>> Plan<'a, T, F> {
     /// Fills the table with the plan by g for n entries, n being twice the length of the table, and returns it. `None`
     /// exactly where m is even, g isn't below m, or g doesn't suit n.
     ///
-    /// Modulo an even m the number n would have no inverse, and so the transform would have none. Where it returns `None`, it has
-    /// written nothing to the table. This isn't proved, because the result borrows the table.
+    /// Modulo an even m the number n would have no inverse, and so the transform would have none. Where it returns
+    /// `None`, it has written nothing to the table. This isn't proved, because the result borrows the table.
     ///
     /// # Examples
     ///

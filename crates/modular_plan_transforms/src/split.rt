@@ -109,10 +109,9 @@ pub fn split_loosely<T: PlainWord, F: PlanEntry<T>>(
 /// a root g (`plan`), count is the number of blocks, and c is the power of g by the reversed bits of b·count + j.
 ///
 /// So b = 0 and last = 1 give the transform by g, in bit-reversed order (`split_laws`); b = 1 starts from a polynomial
-/// modulo X^n + 1. The table must be a plan, of any length that suffices: with other factors modulo m, the results are below m
-/// and meaningless. Conditions: the entries are below 4m; the number
-/// of entries is `last` times a power of two, and the table has at least (b + 1)·(count/2) entries (`splits`
-/// tells); the table's entries are factors modulo m.
+/// modulo X^n + 1. The table must be a plan, of any length that suffices: with other factors modulo m, the results are
+/// below m and meaningless. Conditions: the entries are below 4m; the number of entries is `last` times a power of two,
+/// and the table has at least (b + 1)·(count/2) entries (`splits` tells); the table's entries are factors modulo m.
 ///
 /// Each pass over the list does two stages; a single one comes first where their number is odd.
 ///

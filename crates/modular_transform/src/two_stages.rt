@@ -27,8 +27,9 @@ fn four<T: RingWord, R: Reducer<T>>(
     requires within { (0 < step) × (place + 3 * step < length forms.old) }
     ensures checked { All (λ f. IsForm R.form R.value (R.modulus r.now) (T.number f)) forms.new }
     ensures done { let m = R.modulus r.now in
-        FourDone m (R.value m (T.number first.now)) (R.value m (T.number second.now)) (R.value m (T.number both.now)) step place
-        (slice_index (values_of T.number R.value m forms.old)) (slice_index (values_of T.number R.value m forms.new)) }
+        FourDone m (R.value m (T.number first.now)) (R.value m (T.number second.now)) (R.value m (T.number both.now))
+        step place (slice_index (values_of T.number R.value m forms.old))
+        (slice_index (values_of T.number R.value m forms.new)) }
 {
     let (second_place, third_place, fourth_place) = (
         place + step,

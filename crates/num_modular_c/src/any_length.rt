@@ -20,10 +20,10 @@ const NONE: NmFactor = NmFactor {
     quotient: 0,
 };
 
-/// Writes the lengths of the two scratch lists of `nm_transform` for n = `length` numbers: where n is below `LEAST_CONVOLVED` of
-/// `long_product::any_length`, both are 0; else there are 6·n words, and from n = `LEAST_TRANSFORMED` of
-/// `long_product::polynomials` on 4·e words more and 3·e/2 factors, e being the least power of two that is at least
-/// 3·n - 1. `NM_BAD_ARGUMENT`: 3·n is above 2^32.
+/// Writes the lengths of the two scratch lists of `nm_transform` for n = `length` numbers: where n is below
+/// `LEAST_CONVOLVED` of `long_product::any_length`, both are 0; else there are 6·n words, and from n =
+/// `LEAST_TRANSFORMED` of `long_product::polynomials` on 4·e words more and 3·e/2 factors, e being the least power of
+/// two that is at least 3·n - 1. `NM_BAD_ARGUMENT`: 3·n is above 2^32.
 #[unsafe(no_mangle)]
 pub extern "C" fn nm_transform_room(length: usize, words: &mut usize, factors: &mut usize) -> u32
     ensures did { 3 * length ≤ 2 ^ 32 → Did result ((w f : ℕ) → HasTransformRoom length w (f / 3)
@@ -40,9 +40,9 @@ pub extern "C" fn nm_transform_room(length: usize, words: &mut usize, factors: &
     NM_OK
 }
 
-/// Tests whether g is a root of unity of this order n modulo m, for which `nm_transform_inverse` undoes `nm_transform`: n is at
-/// least 1, g^n is 1, and g^d - 1 has an inverse for each d from 1 to n - 1. It takes 2·n products and one inverse.
-/// `NM_NO_ROOT`: it isn't. `NM_BAD_ARGUMENT`: m is 0.
+/// Tests whether g is a root of unity of this order n modulo m, for which `nm_transform_inverse` undoes `nm_transform`:
+/// n is at least 1, g^n is 1, and g^d - 1 has an inverse for each d from 1 to n - 1. It takes 2·n products and one
+/// inverse. `NM_NO_ROOT`: it isn't. `NM_BAD_ARGUMENT`: m is 0.
 #[unsafe(no_mangle)]
 pub extern "C" fn nm_transform_root_fits(m: u64, g: u64, order: usize) -> u32
     ensures fits { 1 ≤ m → IsRootOfOrder m g order → result ≡ NM_OK }

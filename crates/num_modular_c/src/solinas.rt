@@ -31,8 +31,8 @@ pub extern "C" fn nm_solinas_root_fits(root: u64, length: usize) -> u32
     root_code(&solinas(), root, length)
 }
 
-/// Writes a root that suits lists of n = `length` words: x to the power (m - 1)/n, rounded down, for the least x from 2 to 255
-/// for which it does, m being 2^64 - 2^32 + 1. `NM_NO_ROOT`: it does for no x, as where n is no power of two.
+/// Writes a root that suits lists of n = `length` words: x to the power (m - 1)/n, rounded down, for the least x from 2
+/// to 255 for which it does, m being 2^64 - 2^32 + 1. `NM_NO_ROOT`: it does for no x, as where n is no power of two.
 #[unsafe(no_mangle)]
 pub extern "C" fn nm_solinas_find_root(length: usize, root: &mut u64) -> u32
     ensures did { ((x : ℕ) × (2 ≤ x) × (x < 256) × Suits NM_SOLINAS (root_by NM_SOLINAS length x) length) → Did result

@@ -80,8 +80,8 @@ pub extern "C" fn nm_decode(moduli: &[u64], residues: &[u64], number: &mut NmDou
 }
 
 /// Writes the lengths of the two scratch slices of `nm_product` for numbers of n = `xs_length` and k = `ys_length`
-/// digits: 0 where one of the numbers has fewer than 400 digits, else 4·e words and 3·e/2 factors, e being the least power of two that is at
-/// least n + k. `NM_BAD_ARGUMENT`: n + k is above 2^32.
+/// digits: 0 where one of the numbers has fewer than 400 digits, else 4·e words and 3·e/2 factors, e being the least
+/// power of two that is at least n + k. `NM_BAD_ARGUMENT`: n + k is above 2^32.
 #[unsafe(no_mangle)]
 pub extern "C" fn nm_product_room(
     xs_length: usize,
@@ -89,8 +89,8 @@ pub extern "C" fn nm_product_room(
     words: &mut usize,
     factors: &mut usize,
 ) -> u32
-    ensures did { xs_length + ys_length ≤ 2 ^ 32 → Did result ((w f : ℕ) → HasRoom xs_length ys_length (xs_length + ys_length) w (f / 3)
-        ↔ ((words.new ≤ w) × (factors.new ≤ f))) }
+    ensures did { xs_length + ys_length ≤ 2 ^ 32 → Did result ((w f : ℕ) →
+        HasRoom xs_length ys_length (xs_length + ys_length) w (f / 3) ↔ ((words.new ≤ w) × (factors.new ≤ f))) }
     ensures bad_argument { 2 ^ 32 < xs_length + ys_length → BothRefused NM_BAD_ARGUMENT result words.old words.new
         factors.old factors.new }
 {

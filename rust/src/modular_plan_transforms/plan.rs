@@ -51,8 +51,8 @@ impl<'a, T: PlainWord, F: PlanEntry<T>> Plan<'a, T, F> {
     /// Fills the table with the plan by g for n entries, n being twice the length of the table, and returns it. `None`
     /// exactly where m is even, g isn't below m, or g doesn't suit n.
     ///
-    /// Modulo an even m the number n would have no inverse, and so the transform would have none. Where it returns `None`, it has
-    /// written nothing to the table. This isn't proved, because the result borrows the table.
+    /// Modulo an even m the number n would have no inverse, and so the transform would have none. Where it returns
+    /// `None`, it has written nothing to the table. This isn't proved, because the result borrows the table.
     ///
     /// # Examples
     ///

@@ -88,8 +88,8 @@ pub fn split_loosely<T: PlainWord, F: PlanEntry<T>>(
 /// a root g (`plan`), count is the number of blocks, and c is the power of g by the reversed bits of b·count + j.
 ///
 /// So b = 0 and last = 1 give the transform by g, in bit-reversed order; b = 1 starts from a polynomial
-/// modulo X^n + 1. The table must be a plan, of any length that suffices: with other factors modulo m, the results are below m
-/// and meaningless.
+/// modulo X^n + 1. The table must be a plan, of any length that suffices: with other factors modulo m, the results are
+/// below m and meaningless.
 ///
 /// Each pass over the list does two stages; a single one comes first where their number is odd.
 ///

@@ -17,8 +17,8 @@ pub fn nm_montgomery_root_fits(context: &NmMontgomery, root: u64, length: usize)
     }
 }
 
-/// Writes a root that suits lists of n = `length` words: x to the power (m - 1)/n, rounded down, for the least x from 2 to 255
-/// for which it does. `NM_NO_ROOT`: it does for no x, as where n is no power of two. `NM_BAD_CONTEXT`: as for
+/// Writes a root that suits lists of n = `length` words: x to the power (m - 1)/n, rounded down, for the least x from 2
+/// to 255 for which it does. `NM_NO_ROOT`: it does for no x, as where n is no power of two. `NM_BAD_CONTEXT`: as for
 /// `nm_montgomery_root_fits`.
 #[inline]
 pub fn nm_montgomery_find_root(
@@ -42,9 +42,9 @@ pub fn nm_montgomery_ntt(context: &NmMontgomery, xs: &mut [u64], root: u64) -> u
     }
 }
 
-/// Undoes `nm_montgomery_ntt`: replaces the words by the residues modulo m whose transform by the root they are. `NM_NO_ROOT`:
-/// the root doesn't suit the length. `NM_NO_INVERSE`: the length has no inverse modulo m. `NM_BAD_CONTEXT`: as for
-/// `nm_montgomery_root_fits`.
+/// Undoes `nm_montgomery_ntt`: replaces the words by the residues modulo m whose transform by the root they are.
+/// `NM_NO_ROOT`: the root doesn't suit the length. `NM_NO_INVERSE`: the length has no inverse modulo m.
+/// `NM_BAD_CONTEXT`: as for `nm_montgomery_root_fits`.
 #[inline]
 pub fn nm_montgomery_intt(context: &NmMontgomery, xs: &mut [u64], root: u64) -> u32 {
     match reducer(context) {

@@ -8,8 +8,8 @@ use crate::applications::long_product::polynomials::{
 };
 
 /// Writes the lengths of the two scratch lists of the products of polynomials with n = `xs_length` and k = `ys_length`
-/// coefficients: 0 where one has fewer than `LEAST_TRANSFORMED` of `long_product::polynomials`, else 4·e words and 3·e/2 factors, e being the least
-/// power of two that is at least n + k. `NM_BAD_ARGUMENT`: n + k is above 2^32.
+/// coefficients: 0 where one has fewer than `LEAST_TRANSFORMED` of `long_product::polynomials`, else 4·e words and
+/// 3·e/2 factors, e being the least power of two that is at least n + k. `NM_BAD_ARGUMENT`: n + k is above 2^32.
 #[inline]
 pub fn nm_polynomial_room(
     xs_length: usize,

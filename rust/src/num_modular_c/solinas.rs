@@ -18,8 +18,8 @@ pub fn nm_solinas_root_fits(root: u64, length: usize) -> u32 {
     root_code(&solinas(), root, length)
 }
 
-/// Writes a root that suits lists of n = `length` words: x to the power (m - 1)/n, rounded down, for the least x from 2 to 255
-/// for which it does, m being 2^64 - 2^32 + 1. `NM_NO_ROOT`: it does for no x, as where n is no power of two.
+/// Writes a root that suits lists of n = `length` words: x to the power (m - 1)/n, rounded down, for the least x from 2
+/// to 255 for which it does, m being 2^64 - 2^32 + 1. `NM_NO_ROOT`: it does for no x, as where n is no power of two.
 #[inline]
 pub fn nm_solinas_find_root(length: usize, root: &mut u64) -> u32 {
     found_root(&solinas(), length, root)

@@ -60,8 +60,8 @@ pub fn nm_decode(moduli: &[u64], residues: &[u64], number: &mut NmDouble) -> u32
 }
 
 /// Writes the lengths of the two scratch slices of `nm_product` for numbers of n = `xs_length` and k = `ys_length`
-/// digits: 0 where one of the numbers has fewer than 400 digits, else 4·e words and 3·e/2 factors, e being the least power of two that is at
-/// least n + k. `NM_BAD_ARGUMENT`: n + k is above 2^32.
+/// digits: 0 where one of the numbers has fewer than 400 digits, else 4·e words and 3·e/2 factors, e being the least
+/// power of two that is at least n + k. `NM_BAD_ARGUMENT`: n + k is above 2^32.
 #[inline]
 pub fn nm_product_room(
     xs_length: usize,

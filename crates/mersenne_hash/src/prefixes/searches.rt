@@ -90,7 +90,8 @@ impl<'a> Patterns<'a> {
     pub fn new(base: Hash, size: usize, symbols: &'a [u8], hashes: &'a mut [Hash]) -> Option<Self>
         ensures { let n = length hashes.old in
             MatchOption result (length symbols.now ≡ n * size → ⊥)
-            (λ made. (made.base ≡ base) × (made.size ≡ size) × (made.symbols.now ≡ symbols.now) × (length made.hashes.now ≡ n)) }
+            (λ made. (made.base ≡ base) × (made.size ≡ size) × (made.symbols.now ≡ symbols.now)
+            × (length made.hashes.now ≡ n)) }
     {
         if !are_pattern_lengths(symbols.len(), hashes.len(), size) {
             return None;

@@ -130,8 +130,8 @@ impl<'a> System<'a> {
     /// register, are ignored, and so are those of `registers`.
     ///
     /// Conditions: the moduli are those of the reducers (`has_moduli_of` tells); each register number is below the length
-    /// of `forms` (`commands_fit` of `num_modular::ring` tells); for each modulus, each entry of `forms` has an input and room
-    /// for a residue.
+    /// of `forms` (`commands_fit` of `num_modular::ring` tells); for each modulus, each entry of `forms` has an input
+    /// and room for a residue.
     ///
     /// # Examples
     ///

@@ -73,7 +73,8 @@ pub fn divide<T: RingWord, R: Reducer<T>>(
         let n = polynomial (length numerator.now) (entry T.number R.value m numerator.now) in
         let e = polynomial (length locator.now) (entry T.number R.value m locator.now) in
         IfOk result (λ b. IsTrue b → AreQuotients m (length points.now) (length chosen.old)
-        (entry T.number R.value m points.now) n e (entry T.number R.value m chosen.new) (entry T.number R.value m values.new)) }
+        (entry T.number R.value m points.now) n e (entry T.number R.value m chosen.new)
+        (entry T.number R.value m values.new)) }
     ensures zeros { let m = R.modulus r.now in
         let e = polynomial (length locator.now) (entry T.number R.value m locator.now) in
         IfOk result (λ b. (IsTrue b → ⊥) → (HasInverse m 0 → ⊥)

@@ -1,6 +1,7 @@
 //! Shamir's secret sharing, by the erasure codes.
 
-ghost use Rattle.std.specs.Prelude.{◌≡◌, ℕ, ◌+◌, ◌-◌, ◌*◌, ◌%◌, ◌<◌, ◌≤◌, ◌↔◌, IsTrue, IsOk, IfErr, IfOk, All, length, slice_index};
+ghost use Rattle.std.specs.Prelude.{◌≡◌, ℕ, ◌+◌, ◌-◌, ◌*◌, ◌%◌, ◌<◌, ◌≤◌, ◌↔◌};
+ghost use Rattle.std.specs.Prelude.{IsTrue, IsOk, IfErr, IfOk, All, length, slice_index};
 ghost use Rattle.num_modular.specs.Entries.{entry};
 ghost use Rattle.num_modular.specs.Forms.{IsForm};
 ghost use Rattle.num_modular.specs.Inverses.{HasInverse};

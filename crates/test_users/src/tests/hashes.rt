@@ -225,5 +225,6 @@ fn refused_patterns(rt: HostRuntime) {
     let rt = &rt;
     let mut hashes = [base(2); 2];
     check!(rt, 1; !makes(base(1000), 3, b"abcde", &mut hashes) && hashes == [base(2); 2]);
-    check!(rt, 2; makes(base(1000), 2, b"abcd", &mut hashes) && hashes == [hash(base(1000), b"ab"), hash(base(1000), b"cd")]);
+    let wanted = [hash(base(1000), b"ab"), hash(base(1000), b"cd")];
+    check!(rt, 2; makes(base(1000), 2, b"abcd", &mut hashes) && hashes == wanted);
 }
