@@ -183,11 +183,9 @@ pub trait Reducer<T: RingWord> {
     /// ```
     fn dbl(&self, f: T) -> T
         requires { IsForm form value (modulus self.now) (T.number f) }
-        ensures form { let m = modulus self.now in
-            Represents form m (T.number result) ((2 * value m (T.number f)) % m) }
+        ensures form { let m = modulus self.now in Represents form m (T.number result) ((2 * value m (T.number f)) % m) }
         ensures checked { IsForm form value (modulus self.now) (T.number result) }
-        ensures value { let m = modulus self.now in
-            value m (T.number result) ≡ (2 * value m (T.number f)) % m };
+        ensures value { let m = modulus self.now in value m (T.number result) ≡ (2 * value m (T.number f)) % m };
 
     /// The form of the difference modulo m.
     ///
@@ -203,8 +201,7 @@ pub trait Reducer<T: RingWord> {
     fn sub(&self, a: &T, b: &T) -> T
         requires left { IsForm form value (modulus self.now) (T.number a.now) }
         requires right { IsForm form value (modulus self.now) (T.number b.now) }
-        ensures form { let m = modulus self.now in
-            Represents form m (T.number result)
+        ensures form { let m = modulus self.now in Represents form m (T.number result)
             (residue m (pos (value m (T.number a.now)) -ℤ pos (value m (T.number b.now)))) }
         ensures checked { IsForm form value (modulus self.now) (T.number result) }
         ensures value { let m = modulus self.now in
@@ -225,8 +222,7 @@ pub trait Reducer<T: RingWord> {
     fn sub_in_place(&self, a: &mut T, b: &T)
         requires left { IsForm form value (modulus self.now) (T.number a.old) }
         requires right { IsForm form value (modulus self.now) (T.number b.now) }
-        ensures form { let m = modulus self.now in
-            Represents form m (T.number a.new)
+        ensures form { let m = modulus self.now in Represents form m (T.number a.new)
             (residue m (pos (value m (T.number a.old)) -ℤ pos (value m (T.number b.now)))) }
         ensures checked { IsForm form value (modulus self.now) (T.number a.new) }
         ensures value { let m = modulus self.now in
@@ -315,13 +311,11 @@ pub trait Reducer<T: RingWord> {
         requires left { IsForm form value (modulus self.now) (T.number a.now) }
         requires right { IsForm form value (modulus self.now) (T.number b.now) }
         requires factor { IsForm form value (modulus self.now) (T.number factor.now) }
-        ensures form { let m = modulus self.now in
-            Represents form m (T.number result)
+        ensures form { let m = modulus self.now in Represents form m (T.number result)
             ((residue m (pos (value m (T.number a.now)) -ℤ pos (value m (T.number b.now)))
             * value m (T.number factor.now)) % m) }
         ensures checked { IsForm form value (modulus self.now) (T.number result) }
-        ensures value { let m = modulus self.now in
-            value m (T.number result)
+        ensures value { let m = modulus self.now in value m (T.number result)
             ≡ (residue m (pos (value m (T.number a.now)) -ℤ pos (value m (T.number b.now)))
             * value m (T.number factor.now)) % m }
     {
@@ -370,8 +364,7 @@ pub trait Reducer<T: RingWord> {
         requires left { IsForm form value (modulus self.now) (T.number a.now) }
         requires right { IsForm form value (modulus self.now) (T.number b.now) }
         requires room { 2 * modulus self.now < 2 ^ T.width }
-        ensures form { let m = modulus self.now in
-            Represents form m (T.number result)
+        ensures form { let m = modulus self.now in Represents form m (T.number result)
             (residue m (pos (value m (T.number a.now)) -ℤ pos (value m (T.number b.now)))) }
         ensures checked { IsForm form value (modulus self.now) (T.number result) }
         ensures value { let m = modulus self.now in
@@ -399,12 +392,10 @@ pub trait Reducer<T: RingWord> {
         requires sum { IsForm form value (modulus self.now) (T.number sum) }
         requires checked_xs { All (λ f. IsForm form value (modulus self.now) (T.number f)) xs.now }
         requires checked_ys { All (λ f. IsForm form value (modulus self.now) (T.number f)) ys.now }
-        ensures form { let m = modulus self.now in
-            Represents form m (T.number result)
+        ensures form { let m = modulus self.now in Represents form m (T.number result)
             ((value m (T.number sum) + sum_of_products T.number value m xs.now ys.now) % m) }
         ensures checked { IsForm form value (modulus self.now) (T.number result) }
-        ensures value { let m = modulus self.now in
-            value m (T.number result)
+        ensures value { let m = modulus self.now in value m (T.number result)
             ≡ (value m (T.number sum) + sum_of_products T.number value m xs.now ys.now) % m }
     {
         let mut total = sum;
@@ -431,8 +422,7 @@ pub trait Reducer<T: RingWord> {
     fn scale_entries(&self, xs: &mut [T], factor: &T)
         requires checked { All (λ f. IsForm form value (modulus self.now) (T.number f)) xs.old }
         requires factor { IsForm form value (modulus self.now) (T.number factor.now) }
-        ensures entries { let m = modulus self.now in
-            HoldValues T.number form m xs.new
+        ensures entries { let m = modulus self.now in HoldValues T.number form m xs.new
             (λ i. (slice_index (values_of T.number value m xs.old) i * value m (T.number factor.now)) % m) }
         ensures values { let m = modulus self.now in
             (i : ℕ) → i < length xs.old → slice_index (values_of T.number value m xs.new) i
