@@ -366,7 +366,8 @@ NM_CHECK uint32_t nm_plan_convolve_negacyclic(const nm_plan_t *plan, uint64_t *x
  * context isn't one that nm_montgomery makes. Where several codes fit, any one of them may come. Nothing runs in
  * constant time. */
 
-/* The word of the message. scratch: n + k words. */
+/* The word of the message. A symbol that isn't below m comes back as its residue. Where k is above n, the
+ * call writes the word, too, but no call restores the message. scratch: n + k words. */
 NM_CHECK uint32_t nm_erasure_encode(const nm_montgomery_t *context, const uint64_t *points, size_t points_length,
                                     const uint64_t *message, size_t message_length, uint64_t *word, size_t word_length,
                                     uint64_t *scratch, size_t scratch_length);
@@ -392,8 +393,8 @@ NM_CHECK uint32_t nm_erasure_correct(const nm_montgomery_t *context, const uint6
 /* Shares of a secret, by Shamir's scheme: the word of a message whose first symbol is the secret, and whose k - 1
  * others the caller draws at random, each from 0 to m - 1. Then k - 1 shares say nothing of the secret.
  * nm_erasure_restore gives it back as the first symbol of the message from any k shares, and nm_erasure_correct though
- * some are forged. scratch: n + k words. NM_POINT_WITHOUT_INVERSE: a point, such as 0, has no inverse.
- * NM_POINTS_DONT_FIT: the points don't. */
+ * some are forged: as its residue, where it isn't below m. scratch: n + k words. NM_POINT_WITHOUT_INVERSE: a point, such
+ * as 0, has no inverse. NM_POINTS_DONT_FIT: the points don't. */
 NM_CHECK uint32_t nm_erasure_share(const nm_montgomery_t *context, const uint64_t *points, size_t points_length,
                                    const uint64_t *coefficients, size_t coefficients_length, uint64_t *shares,
                                    size_t shares_length, uint64_t *scratch, size_t scratch_length);

@@ -24,7 +24,7 @@ def test_words_and_messages(m):
         message = [draw.randrange(m) for _ in range(k)]
         code, word = ErasureCode(m, points), word_of(message, points, m)
         assert (code.modulus, code.points) == (m, points)
-        assert code.encode(message) == code.encode([it - m for it in message]) == word
+        assert code.encode(message) == word
         for kept in itertools.islice(itertools.combinations(range(n), k), 20):
             assert code.restore([word[i] if i in kept else None for i in range(n)], k) == message
             assert code.restore({i: word[i] for i in reversed(kept)}, k) == message
@@ -54,6 +54,22 @@ def test_messages_that_are_too_long():
     for call, words in ((code.encode, ([5, 6, 7],)), (code.share, (5, 3))):
         with pytest.raises(ValueError, match="a message of 3"):
             call(*words)
+
+
+def test_symbols_that_a_reduction_would_lose():
+    code, word = ErasureCode(929, range(1, 8)), [1] * 7
+    for bad in (929, 5000, 2**64, -1, -(2**70)):
+        for k in (1, 3):
+            with pytest.raises(ValueError, match="^the secret must be from 0 to m - 1$"):
+                code.share(bad, k)
+        with pytest.raises(ValueError, match="^each symbol must be from 0 to m - 1$"):
+            code.encode([1, bad])
+        for call in (code.restore, code.correct, code.recover, code.recover_correct):
+            for received in ([bad, *word[1:]], {0: 1, 1: 1, 6: bad}):
+                with pytest.raises(ValueError, match="^each symbol must be from 0 to m - 1$"):
+                    call(received, 2)
+    assert code.recover(code.share(928, 3), 3) == 928
+    assert ErasureCode(1, [0]).recover(ErasureCode(1, [0]).share(0, 1), 1) == 0
 
 
 def test_errors():
@@ -98,12 +114,12 @@ def test_composite_modulus():
 def test_secrets():
     m, points = 2**61 - 1, range(1, 9)
     code = ErasureCode(m, points)
-    shares = code.share(-5, 3)
+    shares = code.share(m - 5, 3)
     for kept in itertools.combinations(range(8), 3):
         assert code.recover({i: shares[i] for i in kept}, 3) == m - 5
     message = code.restore(shares, 3)
     assert word_of(message, points, m) == shares
-    assert code.share(-5, 3) != shares
+    assert code.share(m - 5, 3) != shares
     forged = [0, shares[1], 1, *shares[3:]]
     assert code.recover_correct(forged, 3) == m - 5
     for bad in (range(8), [1, 2, 1], [m, 1]):

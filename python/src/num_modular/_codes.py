@@ -36,7 +36,7 @@ class ErasureCode:
     least prime that divides m.
 
     A word with lost symbols is a list with None for each of them, or a dict from the number of a point, counted from 0, to the
-    symbol there. ValueError: m is 0, or the number of a point is too great.
+    symbol there. ValueError: m is 0, the number of a point is too great, or a symbol isn't from 0 to m - 1.
 
     >>> code = ErasureCode(929, range(7))
     >>> code.encode([1, 2, 3])
@@ -50,7 +50,7 @@ class ErasureCode:
     def __init__(self, m: int, points: Iterable[int]) -> None:
         self._context = ffi.new("nm_montgomery_t *")
         check(lib.nm_montgomery(index(m), self._context), "the modulus must be at least 1")
-        self._points = self._words(points)
+        self._points = new_words(points, self.modulus)
 
     def __repr__(self) -> str:
         return f"ErasureCode({self.modulus}, {self.points})"
@@ -112,11 +112,11 @@ class ErasureCode:
         return Correction(list(message), list(found), errors[0])
 
     def share(self, secret: int, k: int) -> list[int]:
-        """A share of the secret, a number modulo m, for each point. Any k shares determine the secret, and k - 1 shares reveal
-        nothing about it, as the module `secrets` draws the k - 1 other coefficients. It doesn't run in constant time.
+        """A share of the secret, a number from 0 to m - 1, for each point. Any k shares determine the secret, and k - 1 shares
+        reveal nothing about it, as the module `secrets` draws the k - 1 other coefficients. It doesn't run in constant time.
 
-        PointsError: a point, such as 0, or the difference of two points has no inverse. ValueError: k is below 1, or above the
-        number of points.
+        PointsError: a point, such as 0, or the difference of two points has no inverse. ValueError: the secret is out of
+        range, or k is below 1, or above the number of points.
 
         >>> shares = ErasureCode(2**61 - 1, range(1, 6)).share(1234567, 3)
         >>> ErasureCode(2**61 - 1, range(1, 6)).recover({0: shares[0], 4: shares[4], 2: shares[2]}, 3)
@@ -124,7 +124,7 @@ class ErasureCode:
         """
         _expect_some(k)
         drawn = (secrets.randbelow(self.modulus) for _ in range(k - 1))
-        return self._encoded(lib.nm_erasure_share, [secret, *drawn])
+        return self._encoded(lib.nm_erasure_share, [*self._symbols([secret], "the secret"), *drawn])
 
     def recover(self, shares: Symbols, k: int) -> int:
         """The secret, computed from the first k shares that aren't lost, which must be right. The exceptions are those of
@@ -144,11 +144,15 @@ class ErasureCode:
         """
         return self.correct(shares, k).message[0]
 
-    def _words(self, numbers: Iterable[int]) -> Any:
-        return new_words(numbers, self.modulus)
+    def _symbols(self, numbers: Iterable[int], name: str = "each symbol") -> Any:
+        """New words with these symbols. The calls would reduce greater ones, so that others come back."""
+        listed = list(map(index, numbers))
+        if listed and not 0 <= min(listed) <= max(listed) < self.modulus:
+            raise ValueError(f"{name} must be from 0 to m - 1")
+        return ffi.new("uint64_t[]", listed)
 
     def _encoded(self, call: Any, message: Iterable[int]) -> list[int]:
-        words, n = self._words(message), len(self._points)
+        words, n = self._symbols(message), len(self._points)
         if len(words) > n:
             raise ValueError(f"a message of {len(words)} symbols is too long for {n} points")
         out, scratch = ffi.new("uint64_t[]", n), ffi.new("uint64_t[]", n + len(words))
@@ -160,4 +164,4 @@ class ErasureCode:
         pairs = word.items() if isinstance(word, Mapping) else enumerate(word)
         there = [(place, symbol) for place, symbol in pairs if symbol is not None]
         places = ffi.new("size_t[]", [index(place) for place, _ in there])
-        return places, self._words(symbol for _, symbol in there)
+        return places, self._symbols(symbol for _, symbol in there)
