@@ -90,8 +90,8 @@ def test_errors():
     for call in (code.correct, code.recover, code.recover_correct):
         with pytest.raises(ValueError, match="k must be at least 1"):
             call(word, 0)
-    for m, fault in ((0, ValueError), (2**64, OverflowError), (-3, OverflowError)):
-        with pytest.raises(fault):
+    for m in (0, 2**64, -3):
+        with pytest.raises(ValueError, match="the modulus must be from 1 to 2"):
             ErasureCode(m, [1])
     composite = ErasureCode(1001, range(8))
     with pytest.raises(PointsError):

@@ -21,6 +21,11 @@ def test_hashes():
     words = array.array("I", [0x01020304, 0x05060708])
     assert polynomial_hash(words, 1000) == polynomial_hash(words.tobytes(), 1000)
     assert find(words, words.tobytes()[5:]) == 5
+    for call in (lambda: polynomial_hash("ab", 5), lambda: find("ab", b"a"), lambda: PrefixHashes("ab")):
+        with pytest.raises(TypeError, match="^the text must be bytes-like: encode str first$"):
+            call()
+    with pytest.raises(TypeError, match="^the pattern must be bytes-like: encode str first$"):
+        find(b"ab", "a")
     for data, base in (("ab", 5), ([1, 2], 5), (b"ab", 5.0), (b"ab", None)):
         with pytest.raises(TypeError):
             polynomial_hash(data, base)

@@ -58,6 +58,18 @@ def test_remainders(m):
             assert plan.join(plan.split(half, 1, 1), 1, 1) == half
 
 
+@pytest.mark.parametrize("m", PRIMES)
+def test_lists_of_any_integers(m):
+    xs, ys = [2**64, -(2**70), 4 * m, 5], [10**100, -(10**100), 4 * m - 1, 2**64 - 1]
+    plan, ring, rest = Plan(m, 4), Montgomery(m), [it % m for it in xs]
+    for call in (plan.ntt, plan.intt, plan.split, plan.join, ring.ntt, ring.intt):
+        assert call(xs) == call(rest)
+    for call in (plan.convolve, plan.convolve_negacyclic, ring.convolve):
+        assert call(xs, ys) == call(rest, [it % m for it in ys])
+    assert ring.run(xs, [("load", 0, 10**100)]) == [10**100 % m, *rest[1:]]
+    assert ring.ntt(rest, plan.root - 2**70 * m) == ring.ntt(rest, plan.root)
+
+
 def arrays(words):
     yield array.array("Q", words)
     yield memoryview(array.array("Q", words))
@@ -100,11 +112,12 @@ def test_arrays_that_are_refused():
         (ValueError, memoryview(bytearray(128)).cast("Q")[::2]),
         (TypeError, 5),
         (TypeError, [1.5, 2]),
-        (OverflowError, [1 << 64, 2]),
     ]
     for fault, xs in bad:
         with pytest.raises(fault):
             ring.ntt(xs, 1)
+    with pytest.raises(TypeError, match=r"numpy.uint64 or array\('Q'\), or pass a list"):
+        ring.ntt(array.array("q", [0] * 8))
     words = array.array("Q", [1] * 8)
     for xs, ys in ((words, words), (memoryview(words)[:4], memoryview(words)[3:7])):
         with pytest.raises(ValueError, match="overlap"):
@@ -138,9 +151,15 @@ def test_roots_and_lengths():
             Plan(m, n, root)
     with pytest.raises(NoRootError, match="5 doesn't suit 8 words"):
         Plan(97, 8, 5)
-    for m, n in ((97, 1), (0, 4), ((1 << 62) + 1, 2)):
-        with pytest.raises(ValueError):
+    for m, n in ((97, 1), (97, -2), (97, 2**64), (0, 4), (-1, 4), ((1 << 62) + 1, 2)):
+        with pytest.raises(ValueError, match="the modulus must be from 1 to 2.62|the number of words must be from 2 to 2"):
             Plan(m, n)
+    for m in (0, -5, 2**64):
+        with pytest.raises(ValueError, match="the modulus must be from 1 to 2.64 - 1"):
+            Montgomery(m)
+    for n in (-1, 2**64):
+        with pytest.raises(ValueError, match="the number of words must be from 0"):
+            Montgomery(97).find_root(n)
     plan, ones = Plan(10, 4, 3), [1] * 4
     without = [
         (lambda: Montgomery(4).convolve([1, 2], [3, 0], 3), 2),
@@ -163,7 +182,7 @@ def test_roots_and_lengths():
     bad = [
         ([1, 2, 3], "is 3, not a power of two"),
         ([1] * 8, "^8 words don't fit the plan for 4$"),
-        ([1, 388], "word 388 isn't below 388"),
+        (array.array("Q", [1, 388]), "word 388 isn't below 388"),
     ]
     for xs, fault in bad:
         for call in (plan.ntt, plan.intt, plan.split, plan.join):
@@ -178,6 +197,9 @@ def test_roots_and_lengths():
     assert plan.convolve([2], [3]) == [6]
     for call in (plan.split, plan.join):
         for b, last, fault in ((2, 1, "4 words of block 2 don't"), (0, 3, "not 3 times a power"), (0, 0, "not 0 times a power")):
+            with pytest.raises(ValueError, match=fault):
+                call([1, 2, 3, 4], b, last)
+        for b, last, fault in ((-1, 1, "^b must be"), (2**64, 1, "^b must be"), (0, -1, "^last must be")):
             with pytest.raises(ValueError, match=fault):
                 call([1, 2, 3, 4], b, last)
 
@@ -196,7 +218,7 @@ def test_runs():
     assert ring.run(words, [("sqr", 0, 0), ("pow", 1, 0, 3), ("neg", 1, 1), ("sub", 0, 1, 0)]) is words
     assert list(words) == [(-(81**3) - 81) % 21, -(81**3) % 21]
     assert ring.run([0], [("load", 0, -1)]) == [20]
-    for command in (("pop", 0), ("add", 0, 1), ("add", 0, 1, 7), ("load", 9, 1)):
+    for command in (("pop", 0), ("add", 0, 1), ("add", 0, 1, 7), ("load", 9, 1), ("load", -1, 1), ("pow", 0, 1, -1)):
         with pytest.raises(ValueError):
             ring.run([0, 0], [command])
 

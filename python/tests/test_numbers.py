@@ -37,18 +37,20 @@ def test_residue_systems():
 def test_what_is_no_residue_system():
     bad = [
         (([3, 5], [1]), "moduli is 2, and that of residues 1"),
-        (([3, 0], [1, 0]), "at least 1"),
+        (([3, 0], [1, 0]), "the modulus must be from 1 to 2"),
+        (([3, -1], [1, 0]), "the modulus must be from 1 to 2"),
+        (([3, 2**64], [1, 0]), "the modulus must be from 1 to 2"),
+        (([3, 5], [-1, 1]), "residue -1 modulo 3 must be from 0 to 2"),
+        (([3, 5], [1, 2**70]), "modulo 5 must be from 0 to 4"),
         (([5, 9, 7, 15], [1, 1, 1, 1]), "5 and 15 have the common divisor 5"),
-        (([3, 5], [3, 1]), "residue 3 isn't below its modulus 3"),
+        (([3, 5], [3, 1]), "residue 3 modulo 3 must be from 0 to 2"),
     ]
     for words, fault in bad:
         for call, more in ((decode, ()), (extend, ([2],))):
             with pytest.raises(ValueError, match=fault):
                 call(*words, *more)
-    with pytest.raises(ValueError, match="others"):
-        extend([3], [2], [5, 0])
+    for other in (0, -1, 2**64):
+        with pytest.raises(ValueError, match="each of the others must be from 1 to 2"):
+            extend([3], [2], [5, other])
     with pytest.raises(ValueError):
         encode([0], 1)
-    for call in (lambda: decode([2**64], [1]), lambda: decode([3], [-1]), lambda: extend([3], [1], [2**64])):
-        with pytest.raises(OverflowError):
-            call()

@@ -115,5 +115,6 @@ def test_what_is_no_transform():
         for m in (0, -1, 2**64):
             with pytest.raises(ValueError):
                 call(*words, m)
-    with pytest.raises(OverflowError):
-        transform_root_fits(1, -1, 5)
+    for n in (-1, 2**64):
+        with pytest.raises(ValueError, match="the order must be from 0"):
+            transform_root_fits(1, n, 5)

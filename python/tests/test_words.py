@@ -48,16 +48,30 @@ def test_symbols():
     assert [jacobi(a, 15) for a in range(-1, 5)] == [-1, 0, 1, 1, 0, 1]
     assert [legendre(a, 7) for a in range(7)] == [0, 1, 1, -1, 1, -1, -1]
     assert [kronecker(*it) for it in ((-1, 0), (3, -128), (-3, -128), (-10, -11), (TOP - 2, TOP - 1))] == [1, -1, 1, -1, -1]
-    for symbol, a, n in ((jacobi, 3, 8), (jacobi, 3, 0), (legendre, 2, 9), (legendre, 3, 0)):
-        with pytest.raises(ValueError):
+    assert jacobi(10**100, 97) == legendre(10**100, 97) == legendre(10**100 % 97, 97)
+    bad = [
+        (jacobi, 3, 8, "n must be odd"),
+        (jacobi, 3, 0, "n must be from 1"),
+        (jacobi, 3, TOP + 1, "n must be from 1"),
+        (legendre, 2, 9, "the symbol of 2 over 9"),
+        (legendre, 3, 0, "p must be from 1"),
+        (kronecker, TOP, 3, "a and n must be"),
+        (kronecker, TOP // 2, -3, "a and n must be"),
+    ]
+    for symbol, a, n, fault in bad:
+        with pytest.raises(ValueError, match=fault):
             symbol(a, n)
 
 
 @pytest.mark.parametrize("call", [addm, subm, mulm, powm])
 def test_out_of_range(call):
-    for a, m, fault in ((3, 0, ValueError), (3, TOP, OverflowError), (3, -5, OverflowError), (TOP, 5, OverflowError), (3.0, 5, TypeError)):
-        with pytest.raises(fault):
-            call(a, 2, m)
+    for m in (0, TOP, -5):
+        with pytest.raises(ValueError, match="^the modulus must be from 1 to 2.64 - 1$"):
+            call(3, 2, m)
+    with pytest.raises(TypeError):
+        call(3.0, 2, 5)
+    for a in (TOP, 10**100, -(10**100)):
+        assert call(a, 2, 97) == call(a % 97, 2, 97)
 
 
 def test_numbers_of_numpy():
@@ -71,8 +85,12 @@ def test_numbers_of_numpy():
 
 def test_exponents_out_of_range():
     for exponent in (TOP, -TOP, -TOP - 1):
-        with pytest.raises(OverflowError):
-            powm(3, exponent, 7)
+        for call in (lambda: powm(3, exponent, 7), lambda: Montgomery(7).pow(3, exponent)):
+            with pytest.raises(ValueError, match="^the exponent must be between"):
+                call()
+    for call in (lambda: powm(3, "2", 7), lambda: Montgomery(7).pow(3, "2"), lambda: kronecker("3", 5)):
+        with pytest.raises(TypeError, match="cannot be interpreted as an integer"):
+            call()
 
 
 def test_division():
@@ -81,8 +99,9 @@ def test_division():
         d = draw.getrandbits(draw.randrange(1, 65)) or 1
         n = draw.randrange(d << 64)
         assert Divider(d).divmod(n) == divmod(n, d)
-    for n, fault in ((7 << 64, ValueError), (-1, OverflowError), (1 << 128, OverflowError)):
-        with pytest.raises(fault):
+    for n in (7 << 64, -1, 1 << 128):
+        with pytest.raises(ValueError, match="the dividend must be from 0 to"):
             Divider(7).divmod(n)
-    with pytest.raises(ValueError):
-        Divider(0)
+    for d in (0, -1, TOP):
+        with pytest.raises(ValueError, match="the divisor must be from 1 to"):
+            Divider(d)

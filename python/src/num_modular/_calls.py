@@ -1,6 +1,7 @@
 """What all calls of the library for C share: codes as exceptions, integers as words, lists as arrays of words.
 
-Each number passes through `index`, since cffi rounds fractions in silence.
+Each number passes through `index`, since cffi rounds fractions in silence, and what isn't a word is reduced or refused here,
+since cffi's messages name no argument.
 """
 from __future__ import annotations
 
@@ -17,6 +18,7 @@ if lib.nm_version() // 100 != 100 * lib.NM_VERSION_MAJOR + lib.NM_VERSION_MINOR:
 
 # The formats of words of 64 bits that the struct module and memoryview write, in the order of this machine's bytes.
 _LITTLE = sys.byteorder == "little"
+_TOP = 1 << 64
 _FORMATS = {"Q", "@Q", "=Q", "<Q" if _LITTLE else ">Q", "N", "@N"} | ({"L", "@L"} if ffi.sizeof("long") == 8 else set())
 
 
@@ -81,29 +83,51 @@ def no_inverse(number: int, m: int, place: str = "") -> NoInverseError:
     return fault
 
 
-def reduced(n: int, m: int) -> int:
-    """A word that is congruent to n modulo m: n itself, or, where n is negative, its residue."""
+def word(n: int, name: str, least: int = 0) -> int:
+    """A number that must be a word. ValueError, with its name: it is out of range."""
     n = index(n)
-    return n if n >= 0 or m == 0 else n % index(m)
+    if not least <= n < _TOP:
+        raise ValueError(f"{name} must be from {least} to 2^64 - 1")
+    return n
 
 
-def new_words(numbers: Iterable[int], m: int) -> Any:
-    """New words with these integers, of which negative ones are reduced modulo m."""
+def modulus(m: int, name: str = "the modulus") -> int:
+    """A modulus. ValueError: it isn't from 1 to 2^64 - 1."""
+    return word(m, name, 1)
+
+
+def exponent_of(n: int) -> int:
+    """An exponent. ValueError: its absolute value isn't below 2^64."""
+    n = index(n)
+    if abs(n) >= _TOP:
+        raise ValueError("the exponent must be between -2^64 and 2^64")
+    return n
+
+
+def reduced(n: int, m: int) -> int:
+    """A word that is congruent to n modulo m: n itself where it is a word, else its residue."""
+    n = index(n)
+    return n if 0 <= n < _TOP else n % m
+
+
+def new_words(numbers: Iterable[int], m: int, limit: int = _TOP) -> Any:
+    """New words that are congruent modulo m to these integers, and below the limit, which is at least m."""
     listed = list(map(index, numbers))
-    try:
-        return ffi.new("uint64_t[]", listed)
-    except OverflowError:
-        return ffi.new("uint64_t[]", [reduced(it, m) for it in listed])
+    if listed and not 0 <= min(listed) <= max(listed) < limit:
+        listed = [it % m for it in listed]
+    return ffi.new("uint64_t[]", listed)
 
 
-def words_of(array: Any, m: int) -> tuple[Any, bool]:
-    """The words of an array, in the caller's memory, and False; or new words with the integers of a sequence, and True."""
+def words_of(array: Any, m: int, limit: int = _TOP) -> tuple[Any, bool]:
+    """The words of an array, in the caller's memory, and False; or the `new_words` of a sequence of integers, and True."""
     try:
         view = memoryview(array)
     except TypeError:
-        return new_words(array, m), True
+        return new_words(array, m, limit), True
     if view.format not in _FORMATS or view.ndim != 1:
-        raise TypeError(f"the array must have one dimension of unsigned words of 64 bits, not {view.ndim} of {view.format!r}")
+        found = f"{view.ndim} of format {view.format!r}"
+        raise TypeError(f"the array must have one dimension of unsigned words of 64 bits, not {found}: convert it to an array "
+                        "of numpy.uint64 or array('Q'), or pass a list")
     if view.readonly:
         raise ValueError("the array must be writable")
     if not view.c_contiguous:
@@ -129,17 +153,12 @@ def apart(first: Any, second: Any) -> None:
         raise ValueError("the arrays must not overlap")
 
 
-def pair_of(first: Any, second: Any, m: int) -> tuple[Any, Any, bool]:
+def pair_of(first: Any, second: Any, m: int, limit: int = _TOP) -> tuple[Any, Any, bool]:
     """The words of two lists, and whether the first are new. ValueError: the lengths differ, or the arrays overlap."""
-    (xs, is_new), (ys, _) = words_of(first, m), words_of(second, m)
+    (xs, is_new), (ys, _) = words_of(first, m, limit), words_of(second, m, limit)
     apart(xs, ys)
     same_length(xs, ys)
     return xs, ys, is_new
-
-
-def read_only(words: Iterable[int]) -> Any:
-    """New words with these numbers."""
-    return ffi.new("uint64_t[]", list(map(index, words)))
 
 
 def scratch_for(room: Any, *lengths: int) -> tuple[Any, int, Any, int]:

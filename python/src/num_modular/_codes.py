@@ -6,7 +6,7 @@ from collections.abc import Iterable, Mapping, Sequence
 from operator import index
 from typing import Any, NamedTuple, Optional, Union
 
-from num_modular._calls import check, new_words, no_inverse
+from num_modular._calls import check, modulus, new_words, no_inverse
 from num_modular._library import ffi, lib
 
 # The symbols of a word: a list with one for each point, None where it is lost; or a dict from numbers of points to symbols.
@@ -49,7 +49,7 @@ class ErasureCode:
 
     def __init__(self, m: int, points: Iterable[int]) -> None:
         self._context = ffi.new("nm_montgomery_t *")
-        check(lib.nm_montgomery(index(m), self._context), "the modulus must be at least 1")
+        check(lib.nm_montgomery(modulus(m), self._context))
         self._points = new_words(points, self.modulus)
 
     def __repr__(self) -> str:

@@ -17,9 +17,12 @@ def _residue(base: int | None) -> int:
     return secrets.randbelow(_MODULUS) if base is None else index(base) % _MODULUS
 
 
-def _bytes(data: Any) -> Any:
+def _bytes(data: Any, name: str = "the text") -> Any:
     """The bytes of an object that has a contiguous buffer, whatever the size of its elements."""
-    return ffi.from_buffer("uint8_t[]", data)
+    try:
+        return ffi.from_buffer("uint8_t[]", data)
+    except TypeError:
+        raise TypeError(f"{name} must be bytes-like: encode str first") from None
 
 
 def polynomial_hash(data: bytes, base: int) -> int:
@@ -41,7 +44,7 @@ def find(text: bytes, pattern: bytes, base: int | None = None) -> int:
     >>> find(b"a longer text", b"longer"), find(b"abc", b"d")
     (2, -1)
     """
-    first, second, out = _bytes(text), _bytes(pattern), ffi.new("size_t *")
+    first, second, out = _bytes(text), _bytes(pattern, "the pattern"), ffi.new("size_t *")
     code = lib.nm_find(_residue(base), first, len(first), second, len(second), out)
     if code == lib.NM_NOT_FOUND:
         return -1

@@ -5,8 +5,9 @@ from collections.abc import Iterable, Sequence
 from itertools import combinations
 from math import gcd
 from operator import index
+from typing import Any
 
-from num_modular._calls import check, fail, read_only, scratch_for
+from num_modular._calls import check, modulus, scratch_for
 from num_modular._library import ffi, lib
 
 _WORD = 8  # bytes
@@ -48,45 +49,50 @@ def encode(moduli: Iterable[int], x: int) -> list[int]:
 def decode(moduli: Iterable[int], residues: Iterable[int]) -> int:
     """The number below the product of the moduli, any number of them, that has these residues.
 
-    ValueError: the lengths differ, a modulus is 0, two have a common divisor above 1, or a residue isn't below its modulus.
+    ValueError: the lengths differ, a modulus isn't from 1 to 2^64 - 1, two have a common divisor above 1, or a residue isn't
+    from 0 to its modulus less 1.
 
     >>> decode([3, 5, 7], [2, 3, 2])
     23
     """
-    first, second = read_only(moduli), read_only(residues)
-    n = len(first)
+    first, second, n = _system(moduli, residues)
     words, digits, inverses = (ffi.new("uint64_t[]", n) for _ in range(3))
-    code = lib.nm_residues_decode(first, n, second, len(second), words, n, digits, n, inverses, n)
+    code = lib.nm_residues_decode(first, n, second, n, words, n, digits, n, inverses, n)
     if code != lib.NM_OK:
-        fail(code, _fault(first, second))
+        check(code, _fault(first))
     return sum(word << 64 * place for place, word in enumerate(words))
 
 
 def extend(moduli: Iterable[int], residues: Iterable[int], others: Iterable[int]) -> list[int]:
     """The residues modulo the others, which may have common divisors, of the number that `decode` returns. ValueError: as for
-    `decode`, or one of the others is 0.
+    `decode`, or one of the others isn't from 1 to 2^64 - 1.
 
     >>> extend([3, 5, 7], [2, 3, 2], [10, 4])
     [3, 3]
     """
-    first, second, third = read_only(moduli), read_only(residues), read_only(others)
-    n, k = len(first), len(third)
+    first, second, n = _system(moduli, residues)
+    third = ffi.new("uint64_t[]", [modulus(it, "each of the others") for it in others])
+    k = len(third)
     digits, inverses, out = (ffi.new("uint64_t[]", it) for it in (n, n, k))
-    code = lib.nm_residues_extend(first, n, second, len(second), third, k, out, k, digits, n, inverses, n)
+    code = lib.nm_residues_extend(first, n, second, n, third, k, out, k, digits, n, inverses, n)
     if code != lib.NM_OK:
-        fail(code, "each of the others must be at least 1" if 0 in third else _fault(first, second))
+        check(code, _fault(first))
     return list(out)
 
 
-def _fault(moduli: Sequence[int], residues: Sequence[int]) -> str:
-    """Why the residues are no number's modulo these moduli."""
-    if len(moduli) != len(residues):
-        return f"the number of moduli is {len(moduli)}, and that of residues {len(residues)}"
-    if 0 in moduli:
-        return "each modulus must be at least 1"
-    for modulus, residue in zip(moduli, residues):
-        if residue >= modulus:
-            return f"the residue {residue} isn't below its modulus {modulus}"
+def _system(moduli: Iterable[int], residues: Iterable[int]) -> tuple[Any, Any, int]:
+    """New words with the moduli and with the residues, and their number. ValueError: they aren't as `decode` needs them."""
+    listed, found = [modulus(m) for m in moduli], [index(it) for it in residues]
+    if len(listed) != len(found):
+        raise ValueError(f"the number of moduli is {len(listed)}, and that of residues {len(found)}")
+    for m, residue in zip(listed, found):
+        if not 0 <= residue < m:
+            raise ValueError(f"the residue {residue} modulo {m} must be from 0 to {m - 1}")
+    return ffi.new("uint64_t[]", listed), ffi.new("uint64_t[]", found), len(listed)
+
+
+def _fault(moduli: Sequence[int]) -> str:
+    """Which moduli have a common divisor."""
     divisors = ((first, second, gcd(first, second)) for first, second in combinations(moduli, 2))
     first, second, divisor = next(it for it in divisors if it[2] > 1)
     return f"the moduli {first} and {second} have the common divisor {divisor}"

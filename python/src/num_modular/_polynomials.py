@@ -6,24 +6,8 @@ from math import gcd
 from operator import index
 from typing import Any
 
-from num_modular._calls import NoInverseError, check, no_inverse, same_length, scratch_for
+from num_modular._calls import NoInverseError, check, modulus, new_words, no_inverse, same_length, scratch_for, word
 from num_modular._library import ffi, lib
-
-
-def _modulus(m: int) -> int:
-    """The modulus. ValueError: it is out of range."""
-    if not 0 < index(m) < 1 << 64:
-        raise ValueError("the modulus must be from 1 to 2^64 - 1")
-    return index(m)
-
-
-def _residues(numbers: Iterable[int], m: int) -> Any:
-    """New words that are congruent modulo m to these integers, which may have any size."""
-    listed = list(map(index, numbers))
-    try:
-        return ffi.new("uint64_t[]", listed)
-    except OverflowError:
-        return ffi.new("uint64_t[]", [it % m for it in listed])
 
 
 def multiply(xs: Iterable[int], ys: Iterable[int], m: int) -> list[int]:
@@ -34,8 +18,8 @@ def multiply(xs: Iterable[int], ys: Iterable[int], m: int) -> list[int]:
     >>> multiply([1, 2, 3], [4, 5, 6, 7], 10**9 + 7)
     [4, 13, 28, 34, 32, 21]
     """
-    m = _modulus(m)
-    first, second = _residues(xs, m), _residues(ys, m)
+    m = modulus(m)
+    first, second = new_words(xs, m), new_words(ys, m)
     n, k = len(first), len(second)
     scratch = scratch_for(lib.nm_polynomial_room, n, k)
     return _written(lib.nm_polynomial_multiply, n + k - 1 if n and k else 0, scratch, m, first, n, second, k)
@@ -47,8 +31,8 @@ def square(xs: Iterable[int], m: int) -> list[int]:
     >>> square([1, 2, 3], 97)
     [1, 4, 10, 12, 9]
     """
-    m = _modulus(m)
-    first = _residues(xs, m)
+    m = modulus(m)
+    first = new_words(xs, m)
     n = len(first)
     scratch = scratch_for(lib.nm_polynomial_room, n, n)
     return _written(lib.nm_polynomial_square, 2 * n - 1 if n else 0, scratch, m, first, n)
@@ -108,8 +92,8 @@ def transform_root_fits(g: int, n: int, m: int) -> bool:
     >>> transform_root_fits(2, 3, 7), transform_root_fits(2, 6, 7)
     (True, False)
     """
-    m = _modulus(m)
-    code = lib.nm_transform_root_fits(m, index(g) % m, index(n))
+    m = modulus(m)
+    code = lib.nm_transform_root_fits(m, index(g) % m, word(n, "the order"))
     if code == lib.NM_NO_ROOT:
         return False
     check(code)
@@ -117,8 +101,8 @@ def transform_root_fits(g: int, n: int, m: int) -> bool:
 
 
 def _transformed(call: Any, xs: Iterable[int], g: int, m: int) -> list[int]:
-    m = _modulus(m)
-    words, base = _residues(xs, m), index(g) % m
+    m = modulus(m)
+    words, base = new_words(xs, m), index(g) % m
     n = len(words)
     try:
         return _written(call, n, scratch_for(lib.nm_transform_room, n), m, base, words, n)
@@ -128,8 +112,8 @@ def _transformed(call: Any, xs: Iterable[int], g: int, m: int) -> list[int]:
 
 def _wrapped(call: Any, xs: Iterable[int], ys: Iterable[int], m: int) -> list[int]:
     """The product of two polynomials of n coefficients that a call reduces to n coefficients."""
-    m = _modulus(m)
-    first, second = _residues(xs, m), _residues(ys, m)
+    m = modulus(m)
+    first, second = new_words(xs, m), new_words(ys, m)
     same_length(first, second)
     n = len(first)
     return _written(call, n, scratch_for(lib.nm_polynomial_room, n, n), m, first, n, second, n)

@@ -5,7 +5,18 @@ from collections.abc import Iterable, Sequence
 from operator import index
 from typing import Any, NoReturn
 
-from num_modular._calls import NoRootError, check, fail, no_inverse, pair_of, reduced, words_of
+from num_modular._calls import (
+    NoRootError,
+    check,
+    exponent_of,
+    fail,
+    modulus,
+    no_inverse,
+    pair_of,
+    reduced,
+    word,
+    words_of,
+)
 from num_modular._library import ffi, lib
 from num_modular._words import invm
 
@@ -24,7 +35,8 @@ _OPERATIONS = {
 
 
 class Divider:
-    """A divisor d from 1 to 2^64 - 1 and its reciprocal, by which numbers are divided without a division. ValueError: d is 0.
+    """A divisor d from 1 to 2^64 - 1 and its reciprocal, by which numbers are divided without a division. ValueError: d is out
+    of range.
 
     >>> Divider(60).divmod(1000)
     (16, 40)
@@ -34,7 +46,7 @@ class Divider:
 
     def __init__(self, d: int) -> None:
         self._divider = ffi.new("nm_divider_t *")
-        check(lib.nm_divider(index(d), self._divider), "the divisor must be at least 1")
+        check(lib.nm_divider(modulus(d, "the divisor"), self._divider))
 
     def __repr__(self) -> str:
         return f"Divider({self.divisor})"
@@ -45,19 +57,20 @@ class Divider:
         return self._divider.divisor
 
     def divmod(self, n: int) -> tuple[int, int]:
-        """The quotient and the remainder of n, from 0 to 2^64 * d - 1. ValueError: n is above that. OverflowError: n is
-        negative, or above 2^128 - 1.
+        """The quotient and the remainder of n, from 0 to 2^64 * d - 1. ValueError: n is out of range.
 
         >>> Divider(7).divmod(2**66)
         (10540996613548315209, 1)
         """
         n, out = index(n), ffi.new("nm_division_t *")
-        check(lib.nm_div_rem_2by1(self._divider, n & (1 << 64) - 1, n >> 64, out), "the quotient must be below 2^64")
+        if not 0 <= n >> 64 < self.divisor:
+            raise ValueError(f"the dividend must be from 0 to 2^64 * {self.divisor} - 1")
+        check(lib.nm_div_rem_2by1(self._divider, n & (1 << 64) - 1, n >> 64, out))
         return out.quotient, out.remainder
 
 
 class Montgomery:
-    """A modulus m from 1 to 2^64 - 1 and its constants of Montgomery's method. ValueError: m is 0.
+    """A modulus m from 1 to 2^64 - 1 and its constants of Montgomery's method. ValueError: m is out of range.
 
     >>> Montgomery(97).pow(3, 1000)
     36
@@ -67,7 +80,7 @@ class Montgomery:
 
     def __init__(self, m: int) -> None:
         self._context = ffi.new("nm_montgomery_t *")
-        check(lib.nm_montgomery(index(m), self._context), "the modulus must be at least 1")
+        check(lib.nm_montgomery(modulus(m), self._context))
 
     def __repr__(self) -> str:
         return f"Montgomery({self.modulus})"
@@ -80,17 +93,16 @@ class Montgomery:
     def pow(self, a: int, exponent: int) -> int:
         """The residue of a to the power exponent. A negative exponent raises the inverse of a to the power -exponent.
 
-        NoInverseError: the exponent is negative, and a has no inverse. OverflowError: the exponent is not between -2^64 and
-        2^64.
+        NoInverseError: the exponent is negative, and a has no inverse. ValueError: the exponent isn't between -2^64 and 2^64.
 
         >>> Montgomery(2**61 - 1).pow(3, 2**61 - 2)
         1
         """
-        out = ffi.new("uint64_t *")
+        exponent, out = exponent_of(exponent), ffi.new("uint64_t *")
         if exponent < 0:
             a, exponent = invm(a, self.modulus), -exponent
         check(lib.nm_montgomery_transform(self._context, reduced(a, self.modulus), out))
-        check(lib.nm_montgomery_pow(self._context, out[0], index(exponent), out))
+        check(lib.nm_montgomery_pow(self._context, out[0], exponent, out))
         check(lib.nm_montgomery_residue(self._context, out[0], out))
         return out[0]
 
@@ -101,7 +113,7 @@ class Montgomery:
         64
         """
         out = ffi.new("uint64_t *")
-        code = lib.nm_montgomery_find_root(self._context, index(n), out)
+        code = lib.nm_montgomery_find_root(self._context, word(n, "the number of words"), out)
         check(code, f"no root of {n} words was found modulo {self.modulus}")
         return out[0]
 
@@ -183,9 +195,12 @@ class Montgomery:
         if name not in _OPERATIONS or len(numbers) != len(_OPERATIONS[name][1]):
             raise ValueError(f"{words!r} isn't a command")
         operation, fields = _OPERATIONS[name]
-        command = {"operation": operation, **dict(zip(fields, map(index, numbers)))}
-        if name == "load":
-            command["n"] = reduced(command["n"], self.modulus)
+        command = {"operation": operation}
+        for field, number in zip(fields, numbers):
+            if field == "n":
+                command[field] = reduced(number, self.modulus) if name == "load" else word(number, "the exponent")
+            else:
+                command[field] = word(number, "the number of a register")
         return command
 
 
@@ -193,8 +208,8 @@ class Plan:
     """A table for transforms of up to n words modulo m, from 1 to 2^62, which are faster than those of `Montgomery`. n is a
     power of two, at least 2. Without a root, the plan takes that of `Montgomery.find_root`.
 
-    The table is filled once, and no call tests it again. Words must be below 4 * m. ValueError: m, n or a word is out of
-    range. NoRootError: the root doesn't suit n.
+    The table is filled once, and no call tests it again. Words of arrays must be below 4 * m. ValueError: m, n or a word is
+    out of range. NoRootError: the root doesn't suit n.
 
     >>> Plan(97, 8).convolve([1, 2, 3, 0, 0, 0, 0, 0], [4, 5, 0, 0, 0, 0, 0, 0])
     [4, 13, 22, 15, 0, 0, 0, 0]
@@ -203,9 +218,7 @@ class Plan:
     __slots__ = ("_plan", "_table")
 
     def __init__(self, m: int, n: int, root: int | None = None) -> None:
-        m, n = index(m), index(n)
-        if n < 2:
-            raise ValueError("a plan is for at least 2 words")
+        m, n = index(m), word(n, "the number of words", 2)
         if not 1 <= m <= 1 << 62:
             raise ValueError("the modulus must be from 1 to 2^62")
         root = Montgomery(m).find_root(n) if root is None else reduced(root, m)
@@ -260,7 +273,7 @@ class Plan:
         >>> Plan(17, 4, 4).split([1, 2, 3, 4], last=2)
         [4, 6, 15, 15]
         """
-        return self._in_place(lib.nm_plan_split, xs, index(b), index(last))
+        return self._in_place(lib.nm_plan_split, xs, word(b, "b"), word(last, "last"))
 
     def join(self, xs: Any, b: int = 0, last: int = 1) -> Any:
         """The inverse of `split`. NoInverseError: the number of remainders has no inverse modulo m.
@@ -268,7 +281,7 @@ class Plan:
         >>> Plan(17, 4, 4).join([4, 6, 15, 15], last=2)
         [1, 2, 3, 4]
         """
-        return self._in_place(lib.nm_plan_join, xs, index(b), index(last))
+        return self._in_place(lib.nm_plan_join, xs, word(b, "b"), word(last, "last"))
 
     def convolve(self, xs: Any, ys: Any) -> Any:
         """The cyclic product of two lists of n words: see `Montgomery.convolve`. n is a power of two, from 1 to the length of
@@ -293,14 +306,14 @@ class Plan:
         return self._product(lib.nm_plan_convolve_negacyclic, xs, ys, 2)
 
     def _in_place(self, call: Any, xs: Any, *block: int) -> Any:
-        words, is_new = words_of(xs, self.modulus)
+        words, is_new = words_of(xs, self.modulus, 4 * self.modulus)
         code = call(self._plan, words, len(words), *block)
         if code != lib.NM_OK:
             self._refuse(code, [words], *block)
         return list(words) if is_new else xs
 
     def _product(self, call: Any, xs: Any, ys: Any, last: int) -> Any:
-        first, second, is_new = pair_of(xs, ys, self.modulus)
+        first, second, is_new = pair_of(xs, ys, self.modulus, 4 * self.modulus)
         code = call(self._plan, first, len(first), second, len(second))
         if code != lib.NM_OK:
             self._refuse(code, [first, second], 0, last)
