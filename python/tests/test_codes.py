@@ -19,7 +19,7 @@ def test_words_and_messages(m):
     draw = random.Random(m)
     for _ in range(40):
         n = draw.randrange(1, min(m, 9) + 1)
-        k = draw.randrange(n + 1)
+        k = draw.randrange(1, n + 1)
         points = draw.sample(range(min(m, 1000)), n)
         message = [draw.randrange(m) for _ in range(k)]
         code, word = ErasureCode(m, points), word_of(message, points, m)
@@ -81,24 +81,51 @@ def test_errors():
     for call in (code.restore, code.correct):
         with pytest.raises(TooFewSymbolsError):
             call([1, 6, *[None] * 5], 3)
-        with pytest.raises(ValueError):
-            call({0: 1, 7: 2, 1: 3}, 3)
-        with pytest.raises(OverflowError):
-            call({0: 1, -1: 2, 1: 3}, 3)
+        for place in (-1, 7, 2**64):
+            with pytest.raises(ValueError, match=f"there is no point {place}: "):
+                call({0: 1, place: 2, 1: 3}, 3)
+        for length in (0, 2, 6, 8, 9):
+            with pytest.raises(ValueError, match=f"the word has {length} symbols, not 7"):
+                call([1] * length, 1)
+        with pytest.raises(TooFewSymbolsError):
+            call(word, 10**12)
         with pytest.raises(TypeError):
-            call([1.0, 2, 3], 3)
-    for call in (code.correct, code.recover, code.recover_correct):
-        with pytest.raises(ValueError, match="k must be at least 1"):
-            call(word, 0)
+            call([1.0, *word[1:]], 3)
+    for call in (code.restore, code.correct, code.recover, code.recover_correct):
+        for k in (0, -1):
+            with pytest.raises(ValueError, match="k must be at least 1"):
+                call(word, k)
+        with pytest.raises(TypeError):
+            call(word, "1")
+    with pytest.raises(ValueError, match="is too long for 7 points"):
+        code.share(5, 10**12)
     for m in (0, 2**64, -3):
         with pytest.raises(ValueError, match="the modulus must be from 1 to 2"):
             ErasureCode(m, [1])
-    composite = ErasureCode(1001, range(8))
-    with pytest.raises(PointsError):
-        composite.restore({0: 1, 7: 2, 3: 3}, 3)
     with pytest.raises(NoInverseError) as told:
         ErasureCode(35, range(5)).correct([2, 10, 4, 26, 34], 2)
     assert 1 < math.gcd(told.value.number, 35) < 35
+
+
+def test_points():
+    for m, points, fault in (
+        (9, [0, 3], "^-3, the difference of the points 0 and 3, has no inverse modulo 9$"),
+        (1001, range(8), "of the points 0 and 7, has"),
+        (929, [1, 2, 930], "of the points 1 and 1, has"),
+        (4, [3, -(10**100) - 3], "of the points 3 and 1, has"),
+    ):
+        with pytest.raises(PointsError, match=fault):
+            ErasureCode(m, points)
+    assert ErasureCode(1, [0, 5, 0]).points == [0, 0, 0]
+    assert ErasureCode(97, [-1, 98, 10**100]).points == [96, 1, 10**100 % 97]
+    assert ErasureCode(97, []).encode([]) == []
+    for m in range(2, 40):
+        for pair in itertools.product(range(m), repeat=2):
+            if math.gcd(pair[0] - pair[1], m) == 1:
+                assert ErasureCode(m, pair).encode([1, 1]) == [(it + 1) % m for it in pair]
+            else:
+                with pytest.raises(PointsError):
+                    ErasureCode(m, pair)
 
 
 def test_composite_modulus():
@@ -122,9 +149,11 @@ def test_secrets():
     assert code.share(m - 5, 3) != shares
     forged = [0, shares[1], 1, *shares[3:]]
     assert code.recover_correct(forged, 3) == m - 5
-    for bad in (range(8), [1, 2, 1], [m, 1]):
-        with pytest.raises(PointsError):
+    for bad in (range(8), [m, 1]):
+        with pytest.raises(PointsError, match="the point 0 has no inverse modulo"):
             ErasureCode(m, bad).share(1, 2)
+    with pytest.raises(PointsError, match="the point 5 has no inverse modulo 35"):
+        ErasureCode(35, range(3, 6)).share(1, 2)
     for k in (0, -1):
         with pytest.raises(ValueError):
             code.share(1, k)

@@ -39,7 +39,7 @@ class NoRootError(ValueError):
 
 
 class PointsError(ValueError):
-    """A point of an erasure code, or the difference of two, has no inverse modulo m."""
+    """The difference of two points of an erasure code has no inverse modulo m, or one of those of shares hasn't."""
 
 
 class TooFewSymbolsError(ValueError):
@@ -119,7 +119,7 @@ def new_words(numbers: Iterable[int], m: int, limit: int = _TOP) -> Any:
 
 
 def words_of(array: Any, m: int, limit: int = _TOP) -> tuple[Any, bool]:
-    """The words of an array, in the caller's memory, and False; or the `new_words` of a sequence of integers, and True."""
+    """The words of an array, in the caller's memory, and False; or `new_words` of a sequence of integers, and True."""
     try:
         view = memoryview(array)
     except TypeError:

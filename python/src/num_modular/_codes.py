@@ -3,10 +3,12 @@ from __future__ import annotations
 
 import secrets
 from collections.abc import Iterable, Mapping, Sequence
+from itertools import combinations
+from math import gcd
 from operator import index
 from typing import Any, NamedTuple, Optional, Union
 
-from num_modular._calls import check, modulus, new_words, no_inverse
+from num_modular._calls import PointsError, check, fail, modulus, no_inverse
 from num_modular._library import ffi, lib
 
 # The symbols of a word: a list with one for each point, None where it is lost; or a dict from numbers of points to symbols.
@@ -21,22 +23,25 @@ class Correction(NamedTuple):
     errors: int
 
 
-def _expect_some(k: int) -> None:
-    """Raises ValueError where a message has no symbols."""
+def _some(k: int) -> int:
+    """The number of symbols of a message. ValueError: it is below 1."""
+    k = index(k)
     if k < 1:
         raise ValueError("k must be at least 1")
+    return k
 
 
 class ErasureCode:
     """Reed-Solomon codes and Shamir's secret sharing modulo m, from 1 to 2^64 - 1.
 
     The points are numbers modulo m. A message is a list of numbers modulo m, the coefficients of a polynomial, the constant
-    first. Symbol i of its word is the value of the polynomial at point i. Any k symbols determine a message of k symbols if
-    the points fit, which means that the difference of any two has an inverse modulo m. So at most p points fit, where p is the
-    least prime that divides m.
+    first. Symbol i of its word is the value of the polynomial at point i. Any k symbols determine a message of k symbols,
+    since the points must fit: the difference of any two has an inverse modulo m. So at most p points fit, where p is the least
+    prime that divides m. To test n points takes about n^2 products. PointsError: they don't fit.
 
-    A word with lost symbols is a list with None for each of them, or a dict from the number of a point, counted from 0, to the
-    symbol there. ValueError: m is 0, the number of a point is too great, or a symbol isn't from 0 to m - 1.
+    A word with lost symbols is a list of n symbols with None for each lost one, or a dict from the number of a point, counted
+    from 0, to the symbol there. ValueError: m is out of range, the list has another length, there is no point of that number,
+    or a symbol isn't from 0 to m - 1.
 
     >>> code = ErasureCode(929, range(7))
     >>> code.encode([1, 2, 3])
@@ -50,7 +55,8 @@ class ErasureCode:
     def __init__(self, m: int, points: Iterable[int]) -> None:
         self._context = ffi.new("nm_montgomery_t *")
         check(lib.nm_montgomery(modulus(m), self._context))
-        self._points = new_words(points, self.modulus)
+        self._points = ffi.new("uint64_t[]", [index(it) % self.modulus for it in points])
+        self._expect_fitting()
 
     def __repr__(self) -> str:
         return f"ErasureCode({self.modulus}, {self.points})"
@@ -62,7 +68,7 @@ class ErasureCode:
 
     @property
     def points(self) -> list[int]:
-        """The points."""
+        """The points, from 0 to m - 1."""
         return list(self._points)
 
     def encode(self, message: Iterable[int]) -> list[int]:
@@ -74,32 +80,31 @@ class ErasureCode:
         return self._encoded(lib.nm_erasure_encode, message)
 
     def restore(self, word: Symbols, k: int) -> list[int]:
-        """The message of k symbols, computed from the first k symbols of the word that aren't lost.
+        """The message of k symbols, at least 1, computed from the first k symbols of the word that aren't lost.
 
-        TooFewSymbolsError: fewer than k aren't lost. PointsError: the points of these k don't fit.
+        ValueError: k is below 1. TooFewSymbolsError: fewer than k aren't lost.
 
         >>> ErasureCode(97, [1, 2, 3]).restore({2: 35, 0: 15}, 2)
         [5, 10]
         """
-        places, symbols = self._received(word)
-        message, n, s = ffi.new("uint64_t[]", k), len(self._points), len(places)
-        scratch = ffi.new("uint64_t[]", n + s + 3 * k)
-        check(lib.nm_erasure_restore(self._context, self._points, n, places, s, symbols, s, message, k, scratch, len(scratch)))
+        k = _some(k)
+        places, symbols = self._received(word, k)
+        message = ffi.new("uint64_t[]", k)
+        check(self._restored(places, symbols, message))
         return list(message)
 
     def correct(self, word: Symbols, k: int) -> Correction:
         """The message of k symbols, at least 1, whose word differs from at most (s - k)/2 of the s symbols that aren't lost;
         with that word, and the number of symbols from which it differs. There is at most one such message.
 
-        ValueError: k is below 1. TooFewSymbolsError: s is below k. TooManyErrorsError: there is no such message. PointsError:
-        the points of the symbols don't fit. NoInverseError: the method met a number without an inverse, which never happens
-        for a prime m.
+        ValueError: k is below 1. TooFewSymbolsError: s is below k. TooManyErrorsError: there is no such message.
+        NoInverseError: the method met a number without an inverse, which never happens for a prime m.
 
         >>> ErasureCode(929, range(7)).correct([1, 0, 17, 34, 57, 900, 121], 3)
         Correction(message=[1, 2, 3], word=[1, 6, 17, 34, 57, 86, 121], errors=2)
         """
-        _expect_some(k)
-        places, symbols = self._received(word)
+        k = _some(k)
+        places, symbols = self._received(word, k)
         n, s = len(self._points), len(places)
         message, found = ffi.new("uint64_t[]", k), ffi.new("uint64_t[]", n)
         scratch = ffi.new("uint64_t[]", 2 * n + 4 * s + 4 * k + 2)
@@ -115,16 +120,17 @@ class ErasureCode:
         """A share of the secret, a number from 0 to m - 1, for each point. Any k shares determine the secret, and k - 1 shares
         reveal nothing about it, as the module `secrets` draws the k - 1 other coefficients. It doesn't run in constant time.
 
-        PointsError: a point, such as 0, or the difference of two points has no inverse. ValueError: the secret is out of
-        range, or k is below 1, or above the number of points.
+        PointsError: a point, such as 0, has no inverse. ValueError: the secret is out of range, or k is below 1, or above the
+        number of points.
 
         >>> shares = ErasureCode(2**61 - 1, range(1, 6)).share(1234567, 3)
         >>> ErasureCode(2**61 - 1, range(1, 6)).recover({0: shares[0], 4: shares[4], 2: shares[2]}, 3)
         1234567
         """
-        _expect_some(k)
+        (first,), k = self._symbols([secret], "the secret"), _some(k)
+        self._expect_room(k)
         drawn = (secrets.randbelow(self.modulus) for _ in range(k - 1))
-        return self._encoded(lib.nm_erasure_share, [*self._symbols([secret], "the secret"), *drawn])
+        return self._encoded(lib.nm_erasure_share, [first, *drawn])
 
     def recover(self, shares: Symbols, k: int) -> int:
         """The secret, computed from the first k shares that aren't lost, which must be right. The exceptions are those of
@@ -133,7 +139,6 @@ class ErasureCode:
         >>> ErasureCode(97, [1, 2, 3]).recover([15, None, 35], 2)
         5
         """
-        _expect_some(k)
         return self.restore(shares, k)[0]
 
     def recover_correct(self, shares: Symbols, k: int) -> int:
@@ -153,15 +158,44 @@ class ErasureCode:
 
     def _encoded(self, call: Any, message: Iterable[int]) -> list[int]:
         words, n = self._symbols(message), len(self._points)
-        if len(words) > n:
-            raise ValueError(f"a message of {len(words)} symbols is too long for {n} points")
+        self._expect_room(len(words))
         out, scratch = ffi.new("uint64_t[]", n), ffi.new("uint64_t[]", n + len(words))
-        check(call(self._context, self._points, n, words, len(words), out, n, scratch, len(scratch)))
+        code = call(self._context, self._points, n, words, len(words), out, n, scratch, len(scratch))
+        if code == lib.NM_POINT_WITHOUT_INVERSE:
+            point = next(it for it in self._points if gcd(it, self.modulus) > 1)
+            raise PointsError(f"the point {point} has no inverse modulo {self.modulus}")
+        check(code)
         return list(out)
 
-    def _received(self, word: Symbols) -> tuple[Any, Any]:
-        """The symbols that aren't lost, after the numbers of their points."""
-        pairs = word.items() if isinstance(word, Mapping) else enumerate(word)
-        there = [(place, symbol) for place, symbol in pairs if symbol is not None]
-        places = ffi.new("size_t[]", [index(place) for place, _ in there])
-        return places, self._symbols(symbol for _, symbol in there)
+    def _restored(self, places: Any, symbols: Any, message: Any) -> int:
+        """The code of nm_erasure_restore, which writes the message of these symbols."""
+        n, s, k = len(self._points), len(places), len(message)
+        scratch = ffi.new("uint64_t[]", n + s + 3 * k)
+        return lib.nm_erasure_restore(self._context, self._points, n, places, s, symbols, s, message, k, scratch, len(scratch))
+
+    def _received(self, word: Symbols, k: int) -> tuple[Any, Any]:
+        """The symbols that aren't lost, at least k, after the numbers of their points."""
+        n, is_dict = len(self._points), isinstance(word, Mapping)
+        pairs = list(word.items() if is_dict else enumerate(word))
+        if not is_dict and len(pairs) != n:
+            raise ValueError(f"the word has {len(pairs)} symbols, not {n}")
+        there = [(index(place), symbol) for place, symbol in pairs if symbol is not None]
+        for place in (it for it, _ in there if not 0 <= it < n):
+            raise ValueError(f"there is no point {place}: the points have the numbers from 0 to {n - 1}")
+        if len(there) < k:
+            fail(lib.NM_TOO_FEW_SYMBOLS)
+        return ffi.new("size_t[]", [place for place, _ in there]), self._symbols(symbol for _, symbol in there)
+
+    def _expect_room(self, k: int) -> None:
+        """Raises ValueError where a message of k symbols is too long."""
+        if k > len(self._points):
+            raise ValueError(f"a message of {k} symbols is too long for {len(self._points)} points")
+
+    def _expect_fitting(self) -> None:
+        """Raises PointsError where the points don't fit, which the call that restores from all of them tells."""
+        n, m = len(self._points), self.modulus
+        code = self._restored(ffi.new("size_t[]", list(range(n))), ffi.new("uint64_t[]", n), ffi.new("uint64_t[]", n))
+        if code == lib.NM_POINTS_DONT_FIT:
+            first, second = next(pair for pair in combinations(self._points, 2) if gcd(pair[0] - pair[1], m) > 1)
+            raise PointsError(f"{first - second}, the difference of the points {first} and {second}, has no inverse modulo {m}")
+        check(code)
