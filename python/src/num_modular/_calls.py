@@ -22,6 +22,29 @@ _TOP = 1 << 64
 _FORMATS = {"Q", "@Q", "=Q", "<Q" if _LITTLE else ">Q", "N", "@N"} | ({"L", "@L"} if ffi.sizeof("long") == 8 else set())
 
 
+class ByArguments:
+    """An object that the arguments of its constructor determine: equality, hash, copies and text are by them."""
+
+    __slots__ = ()
+
+    def _arguments(self) -> tuple[Any, ...]:
+        raise NotImplementedError
+
+    def __eq__(self, other: object) -> bool:
+        if isinstance(other, ByArguments) and type(other) is type(self):
+            return self._arguments() == other._arguments()
+        return NotImplemented
+
+    def __hash__(self) -> int:
+        return hash((type(self), self._arguments()))
+
+    def __reduce__(self) -> tuple[Any, ...]:
+        return type(self), self._arguments()
+
+    def __repr__(self) -> str:
+        return f"{type(self).__name__}({', '.join(map(repr, self._arguments()))})"
+
+
 class NoInverseError(ValueError):
     """A number that a call must invert has no inverse modulo m: `number`.
 

@@ -8,7 +8,7 @@ from math import gcd
 from operator import index
 from typing import Any, NamedTuple, Optional, Union
 
-from num_modular._calls import PointsError, check, fail, modulus, no_inverse
+from num_modular._calls import ByArguments, PointsError, check, fail, modulus, no_inverse
 from num_modular._library import ffi, lib
 
 # The symbols of a word: a list with one for each point, None where it is lost; or a dict from numbers of points to symbols.
@@ -31,7 +31,7 @@ def _some(k: int) -> int:
     return k
 
 
-class ErasureCode:
+class ErasureCode(ByArguments):
     """Reed-Solomon codes and Shamir's secret sharing modulo m, from 1 to 2^64 - 1.
 
     The points are numbers modulo m. A message is a list of numbers modulo m, the coefficients of a polynomial, the constant
@@ -58,8 +58,8 @@ class ErasureCode:
         self._points = ffi.new("uint64_t[]", [index(it) % self.modulus for it in points])
         self._expect_fitting()
 
-    def __repr__(self) -> str:
-        return f"ErasureCode({self.modulus}, {self.points})"
+    def _arguments(self) -> tuple[Any, ...]:
+        return self.modulus, tuple(self._points)
 
     @property
     def modulus(self) -> int:

@@ -6,7 +6,7 @@ from collections.abc import Iterable
 from operator import index
 from typing import Any
 
-from num_modular._calls import check
+from num_modular._calls import ByArguments, check
 from num_modular._library import ffi, lib
 
 _MODULUS = (1 << 61) - 1
@@ -69,22 +69,29 @@ def find_all(text: bytes, patterns: Iterable[bytes], base: int | None = None) ->
     return {at: number for at, number in enumerate(found) if number < count}
 
 
-class PrefixHashes:
+class PrefixHashes(ByArguments):
     """The hashes of all prefixes of a text, from which the hash of any part is computed by one product. The base is drawn at
-    random where none is given.
+    random where none is given. A copy of the text is kept, by which objects are compared and pickled.
 
     >>> text = PrefixHashes(b"abracadabra")
     >>> text.hash(0, 4) == text.hash(7, 11), text.hash(0, 4) == text.hash(1, 5)
     (True, False)
     """
 
-    __slots__ = ("_base", "_hashes", "_powers")
+    __slots__ = ("_base", "_hashes", "_powers", "_text")
 
     def __init__(self, text: bytes, base: int | None = None) -> None:
-        read, self._base = _bytes(text), _residue(base)
+        self._text, self._base = ffi.buffer(_bytes(text))[:], _residue(base)
+        read = _bytes(self._text)
         n = len(read) + 1
         self._hashes, self._powers = ffi.new("uint64_t[]", n), ffi.new("uint64_t[]", n)
         check(lib.nm_prefix_hashes(self._base, read, len(read), self._hashes, n, self._powers, n))
+
+    def _arguments(self) -> tuple[Any, ...]:
+        return self._text, self._base
+
+    def __repr__(self) -> str:
+        return f"<PrefixHashes of {len(self._text)} bytes at the base {self._base}>"
 
     @property
     def base(self) -> int:
@@ -93,12 +100,13 @@ class PrefixHashes:
 
     def hash(self, start: int, stop: int) -> int:
         """`polynomial_hash` of the bytes from start to stop - 1, counted from 0. Parts with different hashes are different.
-        ValueError: start is above stop, or stop is above the length of the text.
+        IndexError: start is negative or above stop, or stop is above the length of the text.
 
         >>> PrefixHashes(b"xabcx", 1000).hash(1, 4) == polynomial_hash(b"abc", 1000)
         True
         """
-        out, n = ffi.new("uint64_t *"), len(self._hashes)
-        code = lib.nm_substring_hash(self._hashes, n, self._powers, n, index(start), index(stop), out)
-        check(code, f"the text of {n - 1} bytes has no part from {start} to {stop}")
+        start, stop, out, n = index(start), index(stop), ffi.new("uint64_t *"), len(self._hashes)
+        if not 0 <= start <= stop < n:
+            raise IndexError(f"the text of {n - 1} bytes has no part from {start} to {stop}")
+        check(lib.nm_substring_hash(self._hashes, n, self._powers, n, start, stop, out))
         return out[0]

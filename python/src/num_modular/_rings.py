@@ -6,6 +6,7 @@ from operator import index
 from typing import Any, NoReturn
 
 from num_modular._calls import (
+    ByArguments,
     NoRootError,
     check,
     exponent_of,
@@ -34,22 +35,23 @@ _OPERATIONS = {
 }
 
 
-class Divider:
-    """A divisor d from 1 to 2^64 - 1 and its reciprocal, by which numbers are divided without a division. ValueError: d is out
-    of range.
+class Divider(ByArguments):
+    """A divisor d from 1 to 2^64 - 1 and its reciprocal, by which numbers are divided without a division. It may be the right
+    operand of divmod, // and %. ValueError: d is out of range.
 
-    >>> Divider(60).divmod(1000)
-    (16, 40)
+    >>> Divider(60).divmod(1000), divmod(1000, Divider(60)), 1000 // Divider(60), 1000 % Divider(60)
+    ((16, 40), (16, 40), 16, 40)
     """
 
     __slots__ = ("_divider",)
+    __array_ufunc__ = None  # so that numpy's integers leave their operators to this class
 
     def __init__(self, d: int) -> None:
         self._divider = ffi.new("nm_divider_t *")
         check(lib.nm_divider(modulus(d, "the divisor"), self._divider))
 
-    def __repr__(self) -> str:
-        return f"Divider({self.divisor})"
+    def _arguments(self) -> tuple[Any, ...]:
+        return (self.divisor,)
 
     @property
     def divisor(self) -> int:
@@ -68,8 +70,17 @@ class Divider:
         check(lib.nm_div_rem_2by1(self._divider, n & (1 << 64) - 1, n >> 64, out))
         return out.quotient, out.remainder
 
+    def __rdivmod__(self, n: int) -> tuple[int, int]:
+        return self.divmod(n)
 
-class Montgomery:
+    def __rfloordiv__(self, n: int) -> int:
+        return self.divmod(n)[0]
+
+    def __rmod__(self, n: int) -> int:
+        return self.divmod(n)[1]
+
+
+class Montgomery(ByArguments):
     """A modulus m from 1 to 2^64 - 1 and its constants of Montgomery's method. ValueError: m is out of range.
 
     >>> Montgomery(97).pow(3, 1000)
@@ -82,8 +93,8 @@ class Montgomery:
         self._context = ffi.new("nm_montgomery_t *")
         check(lib.nm_montgomery(modulus(m), self._context))
 
-    def __repr__(self) -> str:
-        return f"Montgomery({self.modulus})"
+    def _arguments(self) -> tuple[Any, ...]:
+        return (self.modulus,)
 
     @property
     def modulus(self) -> int:
@@ -204,7 +215,7 @@ class Montgomery:
         return command
 
 
-class Plan:
+class Plan(ByArguments):
     """A table for transforms of up to n words modulo m, from 1 to 2^62, which are faster than those of `Montgomery`. n is a
     power of two, at least 2. Without a root, the plan takes that of `Montgomery.find_root`.
 
@@ -229,8 +240,8 @@ class Plan:
         self._table, self._plan = ffi.new("nm_factor_t[]", n // 2), ffi.new("nm_plan_t *")
         check(lib.nm_plan_make(m, root, self._table, n // 2, self._plan), fault)
 
-    def __repr__(self) -> str:
-        return f"Plan({self.modulus}, {self.length}, {self.root})"
+    def _arguments(self) -> tuple[Any, ...]:
+        return self.modulus, self.length, self.root
 
     @property
     def modulus(self) -> int:
