@@ -1,7 +1,10 @@
 """Transforms, products and runs of commands on lists and on arrays that are changed in place."""
 import array
+import inspect
 import random
+import sys
 import threading
+import typing
 
 import pytest
 
@@ -221,6 +224,22 @@ def test_runs():
     for command in (("pop", 0), ("add", 0, 1), ("add", 0, 1, 7), ("load", 9, 1), ("load", -1, 1), ("pow", 0, 1, -1)):
         with pytest.raises(ValueError):
             ring.run([0, 0], [command])
+
+
+def test_types():
+    """A list is typed as returning a list, and an array as returning itself, by each call that takes both."""
+    if sys.version_info < (3, 11):
+        pytest.skip("typing.get_overloads is of Python 3.11")
+    calls = [call for kind in (Montgomery, Plan) for name, call in vars(kind).items() if not name.startswith("_")]
+    named = [call for call in calls if getattr(call, "__annotations__", {}).get("return") == "Any"]
+    assert len(named) == 10
+    for call in named:
+        array_kind, list_kind = (list(it.__annotations__.values()) for it in typing.get_overloads(call))
+        assert (array_kind[0], array_kind[-1]) == ("Array", "Array")
+        assert (list_kind[0], list_kind[-1]) == ("Sequence[int]", "list[int]")
+        assert array_kind[1:-1] == list_kind[1:-1]
+        names = [list(inspect.signature(it).parameters) for it in (call, *typing.get_overloads(call))]
+        assert names[0] == names[1] == names[2]
 
 
 def test_threads_share_a_plan():

@@ -3,7 +3,7 @@ from __future__ import annotations
 
 from collections.abc import Iterable, Sequence
 from operator import index
-from typing import Any, NoReturn
+from typing import TYPE_CHECKING, Any, NoReturn, TypeVar, Union, overload
 
 from num_modular._calls import (
     ByArguments,
@@ -20,6 +20,13 @@ from num_modular._calls import (
 )
 from num_modular._library import ffi, lib
 from num_modular._words import invm
+
+if TYPE_CHECKING:
+    from typing_extensions import Buffer
+
+# An array that a call changes in place, and what the second list of a product may be.
+Array = TypeVar("Array", bound="Buffer")
+Words = Union[Sequence[int], "Buffer"]
 
 _OPERATIONS = {
     "load": (lib.NM_LOAD, ("dst", "n")),
@@ -128,6 +135,10 @@ class Montgomery(ByArguments):
         check(code, f"no root of {n} words was found modulo {self.modulus}")
         return out[0]
 
+    @overload
+    def ntt(self, xs: Array, root: int | None = ...) -> Array: ...
+    @overload
+    def ntt(self, xs: Sequence[int], root: int | None = ...) -> list[int]: ...
     def ntt(self, xs: Any, root: int | None = None) -> Any:
         """The transform of n words: entry j is the sum of x_i * root^(i * j) modulo m. The root is that of `find_root` where
         none is given. NoRootError: the root doesn't suit n.
@@ -137,6 +148,10 @@ class Montgomery(ByArguments):
         """
         return self._in_place(lib.nm_montgomery_ntt, xs, root)
 
+    @overload
+    def intt(self, xs: Array, root: int | None = ...) -> Array: ...
+    @overload
+    def intt(self, xs: Sequence[int], root: int | None = ...) -> list[int]: ...
     def intt(self, xs: Any, root: int | None = None) -> Any:
         """The inverse of `ntt` by the same root. NoRootError: the root doesn't suit n. NoInverseError: n has no inverse modulo
         m, as any n above 1 where m is even.
@@ -146,6 +161,10 @@ class Montgomery(ByArguments):
         """
         return self._in_place(lib.nm_montgomery_intt, xs, root)
 
+    @overload
+    def convolve(self, xs: Array, ys: Words, root: int | None = ...) -> Array: ...
+    @overload
+    def convolve(self, xs: Sequence[int], ys: Words, root: int | None = ...) -> list[int]: ...
     def convolve(self, xs: Any, ys: Any, root: int | None = None) -> Any:
         """The cyclic product of two lists of n words: entry e is the sum of x_i * y_j modulo m over i + j = e or e + n. An
         array ys becomes its transform. ValueError: the lengths differ, or the arrays overlap. NoRootError: the root
@@ -158,6 +177,10 @@ class Montgomery(ByArguments):
         self._transform(lib.nm_montgomery_convolve, root, first, second)
         return list(first) if is_new else xs
 
+    @overload
+    def run(self, registers: Array, commands: Iterable[Sequence[Any]]) -> Array: ...
+    @overload
+    def run(self, registers: Sequence[int], commands: Iterable[Sequence[Any]]) -> list[int]: ...
     def run(self, registers: Any, commands: Iterable[Sequence[Any]]) -> Any:
         """The registers, residues modulo m, after the commands, which run in order. dst, a and b are numbers of registers,
         counted from 0. A command is one of
@@ -258,6 +281,10 @@ class Plan(ByArguments):
         """The root, which suits lists of the plan's length."""
         return self._plan.root
 
+    @overload
+    def ntt(self, xs: Array) -> Array: ...
+    @overload
+    def ntt(self, xs: Sequence[int]) -> list[int]: ...
     def ntt(self, xs: Any) -> Any:
         """The transform of a list of words, whose number is a power of two up to the length of the plan: see `Montgomery.ntt`.
         The root is the power of the plan's root that suits their number.
@@ -267,6 +294,10 @@ class Plan(ByArguments):
         """
         return self._in_place(lib.nm_plan_transform, xs)
 
+    @overload
+    def intt(self, xs: Array) -> Array: ...
+    @overload
+    def intt(self, xs: Sequence[int]) -> list[int]: ...
     def intt(self, xs: Any) -> Any:
         """The inverse of `ntt`. NoInverseError: the number of words has no inverse modulo m, as any above 1 where m is even.
 
@@ -275,6 +306,10 @@ class Plan(ByArguments):
         """
         return self._in_place(lib.nm_plan_inverse, xs)
 
+    @overload
+    def split(self, xs: Array, b: int = ..., last: int = ...) -> Array: ...
+    @overload
+    def split(self, xs: Sequence[int], b: int = ..., last: int = ...) -> list[int]: ...
     def split(self, xs: Any, b: int = 0, last: int = 1) -> Any:
         """The remainders of a polynomial modulo X^last - c, one after the other, for count = n / last values of c. Word i of
         remainder j is the sum of x_(k * last + i) * c^k over k. Here c is the power of the root whose exponent has the bits of
@@ -286,6 +321,10 @@ class Plan(ByArguments):
         """
         return self._in_place(lib.nm_plan_split, xs, word(b, "b"), word(last, "last"))
 
+    @overload
+    def join(self, xs: Array, b: int = ..., last: int = ...) -> Array: ...
+    @overload
+    def join(self, xs: Sequence[int], b: int = ..., last: int = ...) -> list[int]: ...
     def join(self, xs: Any, b: int = 0, last: int = 1) -> Any:
         """The inverse of `split`. NoInverseError: the number of remainders has no inverse modulo m.
 
@@ -294,6 +333,10 @@ class Plan(ByArguments):
         """
         return self._in_place(lib.nm_plan_join, xs, word(b, "b"), word(last, "last"))
 
+    @overload
+    def convolve(self, xs: Array, ys: Words) -> Array: ...
+    @overload
+    def convolve(self, xs: Sequence[int], ys: Words) -> list[int]: ...
     def convolve(self, xs: Any, ys: Any) -> Any:
         """The cyclic product of two lists of n words: see `Montgomery.convolve`. n is a power of two, from 1 to the length of
         the plan. The contents of an array ys are unspecified afterwards.
@@ -306,6 +349,10 @@ class Plan(ByArguments):
         """
         return self._product(lib.nm_plan_convolve, xs, ys, 1)
 
+    @overload
+    def convolve_negacyclic(self, xs: Array, ys: Words) -> Array: ...
+    @overload
+    def convolve_negacyclic(self, xs: Sequence[int], ys: Words) -> list[int]: ...
     def convolve_negacyclic(self, xs: Any, ys: Any) -> Any:
         """The product of two lists of n words modulo X^n + 1: entry e is the sum of x_i * y_j over i + j = e, minus that over
         i + j = e + n, modulo m. n is a power of two, from 2 to the length of the plan. Otherwise as `convolve`;
