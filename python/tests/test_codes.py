@@ -49,9 +49,28 @@ def test_wrong_symbols(m):
         assert code.correct(received, k) == (message, word, wrong)
 
 
+@pytest.mark.parametrize("m", (*PRIMES, 1001))
+def test_systematic_words(m):
+    draw = random.Random(m)
+    for _ in range(40):
+        n = draw.randrange(1, min(m, 7) + 1)
+        k = draw.randrange(n + 1)
+        symbols, code = [draw.randrange(m) for _ in range(k)], ErasureCode(m, draw.sample(range(min(m, 7)), n))
+        word = code.encode_systematic(iter(symbols))
+        assert len(word) == n and word[:k] == symbols
+        if k == 0:
+            assert word == [0] * n
+            continue
+        assert code.encode(code.restore(word, k)) == word
+        for kept in itertools.combinations(range(n), k):
+            assert code.restore_word({i: word[i] for i in kept}, k) == word
+    with pytest.raises(TooFewSymbolsError):
+        code.restore_word([None] * n, 1)
+
+
 def test_messages_that_are_too_long():
     code = ErasureCode(929, [1, 2])
-    for call, words in ((code.encode, ([5, 6, 7],)), (code.share, (5, 3))):
+    for call, words in ((code.encode, ([5, 6, 7],)), (code.encode_systematic, ([5, 6, 7],)), (code.share, (5, 3))):
         with pytest.raises(ValueError, match="a message of 3"):
             call(*words)
 

@@ -79,6 +79,21 @@ class ErasureCode(ByArguments):
         """
         return self._encoded(lib.nm_erasure_encode, message)
 
+    def encode_systematic(self, symbols: Iterable[int]) -> list[int]:
+        """The word that begins with these k symbols, from any k of whose symbols `restore_word` computes it. Its message isn't
+        the k symbols, but the polynomial that has them as values at the first k points. ValueError: there are more symbols
+        than points.
+
+        >>> ErasureCode(97, [1, 2, 3, 4]).encode_systematic([15, 25])
+        [15, 25, 35, 45]
+        """
+        values = self._symbols(symbols)
+        k = len(values)
+        self._expect_room(k)
+        message = ffi.new("uint64_t[]", k)
+        check(self._restored(ffi.new("size_t[]", list(range(k))), values, message))
+        return self.encode(message)
+
     def restore(self, word: Symbols, k: int) -> list[int]:
         """The message of k symbols, at least 1, computed from the first k symbols of the word that aren't lost.
 
@@ -92,6 +107,15 @@ class ErasureCode(ByArguments):
         message = ffi.new("uint64_t[]", k)
         check(self._restored(places, symbols, message))
         return list(message)
+
+    def restore_word(self, word: Symbols, k: int) -> list[int]:
+        """The word of a message of k symbols, computed from the first k symbols that aren't lost. The exceptions are those of
+        `restore`.
+
+        >>> ErasureCode(97, [1, 2, 3, 4]).restore_word([None, 25, None, 45], 2)
+        [15, 25, 35, 45]
+        """
+        return self.encode(self.restore(word, k))
 
     def correct(self, word: Symbols, k: int) -> Correction:
         """The message of k symbols, at least 1, whose word differs from at most (s - k)/2 of the s symbols that aren't lost;
