@@ -16,6 +16,7 @@ PARAMETER = re.compile(r"(\w+): ((?:&(?:'a )?|\*)(?:mut |const )?|)(\[?)(?:\w+::
 COUNT = re.compile(r"(\d+) passed, (\d+) failed")
 IN_C = """the keys are equal
 (1 + 2X + 3X^2)(4 + 5X) has the coefficients 4 13 22 15
+the message is 1 2 3
 a sum modulo 0 returns 2, and 7 stays
 """
 IN_PYTHON = """code 0: 18446744073709551556

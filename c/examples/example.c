@@ -1,4 +1,4 @@
-/* A key agreed by powers, and a product of polynomials modulo a prime. */
+/* A key agreed by powers, a product of polynomials, and a message from some symbols of its word. */
 #include <inttypes.h>
 #include <num_modular.h>
 #include <stdio.h>
@@ -26,6 +26,15 @@ int main(void) {
     printf("(1 + 2X + 3X^2)(4 + 5X) has the coefficients");
     for (int i = 0; i < 4; i++) printf(" %" PRIu64, xs[i]);
     printf("\n");
+
+    const uint64_t points[5] = {0, 1, 2, 3, 4}, sent[3] = {1, 2, 3};
+    const size_t places[3] = {4, 0, 3};
+    uint64_t word[5], message[3], scratch[NM_ERASURE_RESTORE_SCRATCH(5, 3, 3)];
+    if (nm_erasure_encode(&ring, points, 5, sent, 3, word, 5, scratch, NM_ERASURE_ENCODE_SCRATCH(5, 3)) != NM_OK) return 1;
+    const uint64_t symbols[3] = {word[4], word[0], word[3]};
+    if (nm_erasure_restore(&ring, points, 5, places, 3, symbols, 3, message, 3, scratch, sizeof scratch / sizeof *scratch)
+        != NM_OK) return 1;
+    printf("the message is %" PRIu64 " %" PRIu64 " %" PRIu64 "\n", message[0], message[1], message[2]);
 
     uint64_t untouched = 7;
     printf("a sum modulo 0 returns %" PRIu32, nm_addm(1, 2, 0, &untouched));

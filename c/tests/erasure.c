@@ -13,16 +13,19 @@ static uint64_t scratch[SCRATCH_LENGTH];
 static void word_rows(void) {
     const uint64_t message[3] = {1, 2, 3}, above[3] = {930, 931, 932}, points[7] = {929, 1, 2, 932, 4, 5, 6};
     uint64_t word[7] = {7, 7, 7, 7, 7, 7, 7};
-    LIST(NM_OK, word, nm_erasure_encode(&of_929, counted, 7, message, 3, word, 7, scratch, 10), 1, 6, 17, 34, 57, 86, 121);
+    LIST(NM_OK, word, nm_erasure_encode(&of_929, counted, 7, message, 3, word, 7, scratch,
+                                        NM_ERASURE_ENCODE_SCRATCH(7, 3)), 1, 6, 17, 34, 57, 86, 121);
     LIST(NM_OK, word, nm_erasure_encode(&of_929, points, 7, above, 3, word, 7, scratch, SCRATCH_LENGTH), 1, 6, 17, 34, 57, 86, 121);
     const uint64_t other[3] = {500, 700, 999};
-    LIST(NM_OK, word, nm_erasure_encode(&of_1001, counted, 7, other, 3, word, 7, scratch, 10), 500, 197, 891, 580, 265, 947, 624);
+    LIST(NM_OK, word, nm_erasure_encode(&of_1001, counted, 7, other, 3, word, 7, scratch,
+                                        NM_ERASURE_ENCODE_SCRATCH(7, 3)), 500, 197, 891, 580, 265, 947, 624);
     LIST(NM_OK, word, nm_erasure_encode(&of_929, counted, 2, NULL, 0, word, 2, scratch, 2), 0, 0, 891, 580);
     CODE(NM_OK, nm_erasure_encode(&of_929, NULL, 0, message, 3, NULL, 0, scratch, 3));
     CODE(NM_OK, nm_erasure_encode(&of_929, NULL, 0, NULL, 0, NULL, 0, NULL, 0));
     LIST(NM_BAD_ARGUMENT, word, nm_erasure_encode(&of_929, counted, 7, message, 3, word, 6, scratch, 10), 0, 0, 891);
     LIST(NM_BAD_ARGUMENT, word, nm_erasure_encode(&of_929, counted, 6, message, 3, word, 7, scratch, 10), 0, 0, 891);
-    LIST(NM_BAD_ARGUMENT, word, nm_erasure_encode(&of_929, counted, 7, message, 3, word, 7, scratch, 9), 0, 0, 891);
+    LIST(NM_BAD_ARGUMENT, word, nm_erasure_encode(&of_929, counted, 7, message, 3, word, 7, scratch,
+                                                  NM_ERASURE_ENCODE_SCRATCH(7, 3) - 1), 0, 0, 891);
     LIST(NM_BAD_ARGUMENT, word, nm_erasure_encode(&of_929, counted, 7, message, 3, word, 7, NULL, 0), 0, 0, 891);
 }
 
@@ -35,13 +38,15 @@ static void restore_rows(void) {
                 if (a == b || a == c || b == c) continue;
                 const size_t places[3] = {a, b, c};
                 const uint64_t symbols[3] = {word_of_929[a], word_of_929[b], word_of_929[c] + 929};
-                LIST(NM_OK, message, nm_erasure_restore(&of_929, counted, 7, places, 3, symbols, 3, message, 3, scratch, 19), 1, 2, 3);
+                LIST(NM_OK, message, nm_erasure_restore(&of_929, counted, 7, places, 3, symbols, 3, message, 3, scratch,
+                                                       NM_ERASURE_RESTORE_SCRATCH(7, 3, 3)), 1, 2, 3);
                 message[0] = message[1] = message[2] = 7;
             }
     /* the first three places alone count */
     const size_t more[5] = {6, 0, 3, 3, 77};
     const uint64_t symbols[5] = {121, 1, 34, 900, 900};
-    LIST(NM_OK, message, nm_erasure_restore(&of_929, counted, 7, more, 5, symbols, 5, message, 3, scratch, 21), 1, 2, 3);
+    LIST(NM_OK, message, nm_erasure_restore(&of_929, counted, 7, more, 5, symbols, 5, message, 3, scratch,
+                                               NM_ERASURE_RESTORE_SCRATCH(7, 5, 3)), 1, 2, 3);
     CODE(NM_OK, nm_erasure_restore(&of_929, NULL, 0, NULL, 0, NULL, 0, NULL, 0, NULL, 0));
 }
 
@@ -57,8 +62,8 @@ static void refused_rows(void) {
     LIST(NM_POINTS_DONT_FIT, message, RESTORE(apart, 3, 3, SCRATCH_LENGTH), 7, 7, 7);
     LIST(NM_BAD_ARGUMENT, message, RESTORE(in_order, 3, 2, SCRATCH_LENGTH), 7, 7, 7);
     LIST(NM_BAD_ARGUMENT, message, RESTORE(in_order, 2, 3, SCRATCH_LENGTH), 7, 7, 7);
-    LIST(NM_BAD_ARGUMENT, message, RESTORE(in_order, 3, 3, 19), 7, 7, 7);
-    LIST(NM_OK, message, RESTORE(in_order, 3, 3, 20), 1, 2, 1000);
+    LIST(NM_BAD_ARGUMENT, message, RESTORE(in_order, 3, 3, NM_ERASURE_RESTORE_SCRATCH(8, 3, 3) - 1), 7, 7, 7);
+    LIST(NM_OK, message, RESTORE(in_order, 3, 3, NM_ERASURE_RESTORE_SCRATCH(8, 3, 3)), 1, 2, 1000);
 #undef RESTORE
     message[2] = 7;
     LIST(NM_TOO_FEW_SYMBOLS, message, nm_erasure_restore(&of_1001, NULL, 0, NULL, 0, NULL, 0, message, 3, scratch, 9), 1, 2, 7);
@@ -70,7 +75,7 @@ static void correct_row(uint32_t want, const size_t *places, size_t s, const uin
     uint64_t message[3] = {7, 7, 7}, word[7] = {7, 7, 7, 7, 7, 7, 7}, number = UNTOUCHED;
     size_t errors = 77;
     uint32_t code = nm_erasure_correct(&of_929, counted, 7, places, s, symbols, s, message, 3, word, 7, scratch,
-                                       14 + 4 * s + 12 + 2, &errors, &number);
+                                       NM_ERASURE_CORRECT_SCRATCH(7, s, 3), &errors, &number);
     const uint64_t sevens[7] = {7, 7, 7, 7, 7, 7, 7}, sent[3] = {1, 2, 3};
     int right = memcmp(message, want ? sevens : sent, sizeof message) == 0 && errors == (want ? 77 : count);
     row("a correction", code == want && right && memcmp(word, want ? sevens : word_of_929, sizeof word) == 0, code);
@@ -99,7 +104,8 @@ static void four_errors_row(void) {
     nm_montgomery_t of_257;
     CODE(NM_OK, nm_montgomery(257, &of_257));
     LIST(NM_OK, message, nm_erasure_correct(&of_257, points, 16, in_order, 16, symbols, 16, message, 8, word, 16, scratch,
-                                            130, &errors, &number), 72, 101, 108, 108, 111, 33, 0, 255);
+                                            NM_ERASURE_CORRECT_SCRATCH(16, 16, 8), &errors, &number),
+         72, 101, 108, 108, 111, 33, 0, 255);
     row("four errors", errors == 4 && number == 77, NM_OK);
 }
 
@@ -116,7 +122,7 @@ static void no_inverse_rows(void) {
     row("a factor with 35", number > 0 && number < 35 && (number % 5 == 0 || number % 7 == 0), NM_NO_INVERSE);
     row("nothing else is written", errors == 77 && word[0] == 7 && word[4] == 7, NM_NO_INVERSE);
     number = 77;
-    LIST(NM_BAD_ARGUMENT, message, CORRECT(5, 5, 5, 2, 5, 39), 7, 7);
+    LIST(NM_BAD_ARGUMENT, message, CORRECT(5, 5, 5, 2, 5, NM_ERASURE_CORRECT_SCRATCH(5, 5, 2) - 1), 7, 7);
     LIST(NM_BAD_ARGUMENT, message, CORRECT(5, 5, 4, 2, 5, 40), 7, 7);
     LIST(NM_BAD_ARGUMENT, message, CORRECT(5, 5, 5, 0, 5, 40), 7, 7);
     LIST(NM_BAD_ARGUMENT, message, CORRECT(5, 5, 5, 2, 4, 40), 7, 7);
@@ -135,13 +141,15 @@ static void secret_rows(void) {
     const size_t places[3] = {4, 1, 3};
     uint64_t shares[5] = {7, 7, 7, 7, 7}, secret[3], word[5], number;
     size_t errors;
-    CODE(NM_OK, nm_erasure_share(&of_929, counted + 1, 5, coefficients, 3, shares, 5, scratch, 8));
+    CODE(NM_OK, nm_erasure_share(&of_929, counted + 1, 5, coefficients, 3, shares, 5, scratch,
+                                   NM_ERASURE_ENCODE_SCRATCH(5, 3)));
     row("the shares at 1, 2 and 3", shares[0] == 439 && shares[1] == 475 && shares[2] == 231, NM_OK);
     const uint64_t three[3] = {shares[4], shares[1], shares[3]};
-    LIST(NM_OK, secret, nm_erasure_restore(&of_929, counted + 1, 5, places, 3, three, 3, secret, 3, scratch, 17), 123, 456, 789);
+    LIST(NM_OK, secret, nm_erasure_restore(&of_929, counted + 1, 5, places, 3, three, 3, secret, 3, scratch,
+                                          NM_ERASURE_RESTORE_SCRATCH(5, 3, 3)), 123, 456, 789);
     shares[3] += 1;
-    LIST(NM_OK, secret, nm_erasure_correct(&of_929, counted + 1, 5, in_order, 5, shares, 5, secret, 3, word, 5, scratch, 44,
-                                           &errors, &number), 123, 456, 789);
+    LIST(NM_OK, secret, nm_erasure_correct(&of_929, counted + 1, 5, in_order, 5, shares, 5, secret, 3, word, 5, scratch,
+                                           NM_ERASURE_CORRECT_SCRATCH(5, 5, 3), &errors, &number), 123, 456, 789);
     row("one is forged", errors == 1 && (word[3] + 1) % 929 == shares[3] % 929, NM_OK);
     shares[0] = shares[1] = shares[2] = 7;
 #define SHARE(ring, points, length, room) nm_erasure_share(&ring, points, 3, coefficients, 3, shares, length, scratch, room)
@@ -151,7 +159,7 @@ static void secret_rows(void) {
     LIST(NM_POINTS_DONT_FIT, shares, SHARE(of_929, equal, 3, 6), 7, 7, 7);
     LIST(NM_POINTS_DONT_FIT, shares, SHARE(of_1001, seven, 3, 6), 7, 7, 7);
     LIST(NM_BAD_ARGUMENT, shares, SHARE(of_929, counted + 1, 2, 6), 7, 7, 7);
-    LIST(NM_BAD_ARGUMENT, shares, SHARE(of_929, counted + 1, 3, 5), 7, 7, 7);
+    LIST(NM_BAD_ARGUMENT, shares, SHARE(of_929, counted + 1, 3, NM_ERASURE_ENCODE_SCRATCH(3, 3) - 1), 7, 7, 7);
 #undef SHARE
     LIST(NM_OK, shares, nm_erasure_share(&of_929, counted + 1, 3, NULL, 0, shares, 3, scratch, 3), 0, 0, 0);
     CODE(NM_OK, nm_erasure_share(&of_929, NULL, 0, coefficients, 3, NULL, 0, scratch, 3));

@@ -131,7 +131,7 @@ class ErasureCode(ByArguments):
         places, symbols = self._received(word, k)
         n, s = len(self._points), len(places)
         message, found = ffi.new("uint64_t[]", k), ffi.new("uint64_t[]", n)
-        scratch = ffi.new("uint64_t[]", 2 * n + 4 * s + 4 * k + 2)
+        scratch = ffi.new("uint64_t[]", lib.NM_ERASURE_CORRECT_SCRATCH(n, s, k))
         errors, number = ffi.new("size_t *"), ffi.new("uint64_t *")
         code = lib.nm_erasure_correct(self._context, self._points, n, places, s, symbols, s, message, k, found, n, scratch,
                                       len(scratch), errors, number)
@@ -183,7 +183,7 @@ class ErasureCode(ByArguments):
     def _encoded(self, call: Any, message: Iterable[int]) -> list[int]:
         words, n = self._symbols(message), len(self._points)
         self._expect_room(len(words))
-        out, scratch = ffi.new("uint64_t[]", n), ffi.new("uint64_t[]", n + len(words))
+        out, scratch = ffi.new("uint64_t[]", n), ffi.new("uint64_t[]", lib.NM_ERASURE_ENCODE_SCRATCH(n, len(words)))
         code = call(self._context, self._points, n, words, len(words), out, n, scratch, len(scratch))
         if code == lib.NM_POINT_WITHOUT_INVERSE:
             point = next(it for it in self._points if gcd(it, self.modulus) > 1)
@@ -194,7 +194,7 @@ class ErasureCode(ByArguments):
     def _restored(self, places: Any, symbols: Any, message: Any) -> int:
         """The code of nm_erasure_restore, which writes the message of these symbols."""
         n, s, k = len(self._points), len(places), len(message)
-        scratch = ffi.new("uint64_t[]", n + s + 3 * k)
+        scratch = ffi.new("uint64_t[]", lib.NM_ERASURE_RESTORE_SCRATCH(n, s, k))
         return lib.nm_erasure_restore(self._context, self._points, n, places, s, symbols, s, message, k, scratch, len(scratch))
 
     def _received(self, word: Symbols, k: int) -> tuple[Any, Any]:
