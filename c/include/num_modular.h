@@ -366,29 +366,29 @@ NM_CHECK uint32_t nm_plan_convolve_negacyclic(const nm_plan_t *plan, uint64_t *x
  * context isn't one that nm_montgomery makes. Where several codes fit, any one of them may come. Nothing runs in
  * constant time. */
 
-/* How many words scratch must have at least, with n points, s places and a message of k symbols: for nm_erasure_encode
- * and nm_erasure_share, for nm_erasure_restore, and for nm_erasure_correct. */
+/* How many words scratch must have at least, with n points, s places and a message of k symbols. */
 #define NM_ERASURE_ENCODE_SCRATCH(n, k) ((size_t)(n) + (k))
 #define NM_ERASURE_RESTORE_SCRATCH(n, s, k) ((size_t)(n) + (s) + 3 * (size_t)(k))
 #define NM_ERASURE_CORRECT_SCRATCH(n, s, k) (2 * (size_t)(n) + 4 * (size_t)(s) + 4 * (size_t)(k) + 2)
 
 /* The word of the message. A symbol that isn't below m comes back as its residue. Where k is above n, the call writes
- * the word, too, but no call restores the message. */
+ * the word, too, but no call restores the message. scratch: NM_ERASURE_ENCODE_SCRATCH(n, k) words. */
 NM_CHECK uint32_t nm_erasure_encode(const nm_montgomery_t *context, const uint64_t *points, size_t points_length,
                                     const uint64_t *message, size_t message_length, uint64_t *word, size_t word_length,
                                     uint64_t *scratch, size_t scratch_length);
 
-/* The message of k symbols, by the first k places and the symbols there. NM_TOO_FEW_SYMBOLS: s is below k.
- * NM_PLACE_OUT_OF_RANGE, NM_PLACE_TWICE: of the first k places. NM_POINTS_DONT_FIT: the points at these places don't. */
+/* The message of k symbols, by the first k places and the symbols there. scratch: NM_ERASURE_RESTORE_SCRATCH(n, s, k)
+ * words. NM_TOO_FEW_SYMBOLS: s is below k. NM_PLACE_OUT_OF_RANGE, NM_PLACE_TWICE: of the first k places.
+ * NM_POINTS_DONT_FIT: the points at these places don't. */
 NM_CHECK uint32_t nm_erasure_restore(const nm_montgomery_t *context, const uint64_t *points, size_t points_length,
                                      const size_t *places, size_t places_length, const uint64_t *symbols,
                                      size_t symbols_length, uint64_t *message, size_t message_length, uint64_t *scratch,
                                      size_t scratch_length);
 
 /* The only message of k symbols, at least 1, whose word differs in e of the s symbols, where 2 * e is at most s - k;
- * that word; and e, as errors. NM_TOO_MANY_ERRORS: no word is that near. NM_NO_INVERSE: a number above 0 without an
- * inverse modulo m was met, and is written to number; it never comes where m is a prime. The codes of
- * nm_erasure_restore, for all s places. NM_BAD_ARGUMENT also where k is 0. */
+ * that word; and e, as errors. scratch: NM_ERASURE_CORRECT_SCRATCH(n, s, k) words. NM_TOO_MANY_ERRORS: no word is that
+ * near. NM_NO_INVERSE: a number above 0 without an inverse modulo m was met, and is written to number; it never comes
+ * where m is a prime. The codes of nm_erasure_restore, for all s places. NM_BAD_ARGUMENT also where k is 0. */
 NM_CHECK uint32_t nm_erasure_correct(const nm_montgomery_t *context, const uint64_t *points, size_t points_length,
                                      const size_t *places, size_t places_length, const uint64_t *symbols,
                                      size_t symbols_length, uint64_t *message, size_t message_length, uint64_t *word,
@@ -398,8 +398,8 @@ NM_CHECK uint32_t nm_erasure_correct(const nm_montgomery_t *context, const uint6
 /* Shares of a secret, by Shamir's scheme: the word of a message whose first symbol is the secret, and whose k - 1
  * others the caller draws at random, each from 0 to m - 1. Then k - 1 shares say nothing of the secret.
  * nm_erasure_restore gives it back as the first symbol of the message from any k shares, and nm_erasure_correct though
- * some are forged: as its residue, where it isn't below m. NM_POINT_WITHOUT_INVERSE: a point, such as 0, has no inverse.
- * NM_POINTS_DONT_FIT: the points don't. */
+ * some are forged: as its residue, where it isn't below m. scratch: NM_ERASURE_ENCODE_SCRATCH(n, k) words.
+ * NM_POINT_WITHOUT_INVERSE: a point, such as 0, has no inverse. NM_POINTS_DONT_FIT: the points don't. */
 NM_CHECK uint32_t nm_erasure_share(const nm_montgomery_t *context, const uint64_t *points, size_t points_length,
                                    const uint64_t *coefficients, size_t coefficients_length, uint64_t *shares,
                                    size_t shares_length, uint64_t *scratch, size_t scratch_length);

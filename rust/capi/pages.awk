@@ -1,0 +1,94 @@
+# Writes a manual page for each function that the header declares, in the folder `folder`: its prototype, its comment, and
+# what the header says of its section. `version` is that of the library.
+#
+# A comment right before declarations belongs to them. Any other comment is of the section, which begins with "--- ".
+
+function escaped(text) {
+    gsub(/-/, "\\-", text)
+    gsub(/\^/, "\\(ha", text)
+    sub(/^[.']/, "\\\\\\&&", text)
+    return text
+}
+
+# the comment's first sentence, without its full stop
+function summary(text) {
+    gsub(/\n/, " ", text)
+    sub(/\. .*$/, "", text)
+    sub(/\.$/, "", text)
+    return escaped(text)
+}
+
+# a comment's lines, with a paragraph for each empty one
+function prose(text,    lines, count, i, found) {
+    count = split(text, lines, "\n")
+    for (i = 1; i <= count; i++) found = found (lines[i] == "" ? ".PP" : escaped(lines[i])) "\n"
+    return found
+}
+
+# the other functions that a comment names
+function others(text, name,    found, it, seen) {
+    while (match(text, /nm_[a-z0-9_]*[a-z0-9]/)) {
+        it = substr(text, RSTART, RLENGTH)
+        text = substr(text, RSTART + RLENGTH)
+        if (it != name && it !~ /_t$/ && text !~ /^_/ && !(it in seen)) found = found ".BR " it " (3),\n"
+        seen[it]
+    }
+    return found
+}
+
+function page(name,    file) {
+    file = folder "/" name ".3"
+    printf ".TH %s 3 \"\" \"num_modular %s\" \"Library calls\"\n.nh\n.ad l\n", toupper(name), version >file
+    printf ".SH NAME\n%s \\- %s\n", name, summary(own) >file
+    printf ".SH SYNOPSIS\n.nf\n#include <num_modular.h>\n\n%s\n.fi\n", prototype >file
+    printf ".SH DESCRIPTION\n%s", prose(own) >file
+    if (section != "") printf ".PP\n%s", prose(section) >file
+    printf ".SH SEE ALSO\n%s.BR num_modular (3)\n", others(own, name) >file
+    close(file)
+}
+
+/^\/\* / { in_comment = 1; comment = "" }
+
+in_comment {
+    line = $0
+    ends = sub(/ ?\*\/$/, "", line)
+    sub(/^(\/\*| \*) ?/, "", line)
+    comment = comment (comment == "" ? "" : "\n") line
+    if (ends) {
+        in_comment = 0
+        sub(/\n$/, "", comment)
+        own = comment
+        is_declared = 0
+    }
+    next
+}
+
+/^$/ {
+    if (own != "" && !is_declared) {
+        begins = sub(/^--- /, "", own)
+        sub(/ ---/, "", own)
+        section = begins || section == "" ? (begins ? own : "") : section "\n\n" own
+    }
+    own = ""
+    next
+}
+
+{ is_declared = 1 }
+
+/^(NM_CHECK )?uint32_t nm_[a-z0-9_]*\(/ {
+    prototype = ""
+    name = $0
+    sub(/\(.*/, "", name)
+    sub(/.* /, "", name)
+}
+
+name != "" {
+    line = $0
+    sub(/^NM_CHECK /, "", line)
+    sub(/^  +/, "    ", line)
+    prototype = prototype (prototype == "" ? "" : "\n") line
+    if (line ~ /\);$/) {
+        page(name)
+        name = ""
+    }
+}
