@@ -51,7 +51,7 @@ extern "C" {
 #define NM_NO_INVERSE 1u   /* an inverse that the call needs doesn't exist */
 #define NM_BAD_ARGUMENT 2u /* an argument breaks a precondition of the call */
 #define NM_BAD_CONTEXT 3u  /* a divider, a context or a table isn't one that the library makes */
-#define NM_NO_ROOT 4u      /* there is no root, or the given root doesn't suit the length */
+#define NM_NO_ROOT 4u      /* the root doesn't suit the length, or none was found */
 #define NM_NOT_FOUND 5u    /* the pattern doesn't occur */
 /* those of the erasure codes */
 #define NM_TOO_FEW_SYMBOLS 6u        /* there are fewer symbols than the message has */
@@ -61,14 +61,15 @@ extern "C" {
 #define NM_TOO_MANY_ERRORS 10u       /* no word of the code is near enough to the symbols */
 #define NM_POINT_WITHOUT_INVERSE 11u /* a point has no inverse, so that the share there would tell something */
 
-/* What a code says, in a few words, as for an error message. */
+/* What a code says, in a few words, as for an error message. It is this header's alone: the library doesn't export it,
+ * so a language that can't include the header keeps texts of its own. */
 static inline const char *nm_strerror(uint32_t code) {
     switch (code) {
     case NM_OK: return "no error";
     case NM_NO_INVERSE: return "a number has no inverse";
     case NM_BAD_ARGUMENT: return "an argument breaks a precondition";
     case NM_BAD_CONTEXT: return "a divider, context or table isn't one that the library makes";
-    case NM_NO_ROOT: return "no root suits the length";
+    case NM_NO_ROOT: return "the root doesn't suit the length, or none was found";
     case NM_NOT_FOUND: return "the pattern doesn't occur";
     case NM_TOO_FEW_SYMBOLS: return "there are fewer symbols than the message has";
     case NM_PLACE_OUT_OF_RANGE: return "a place isn't below the number of points";
@@ -259,7 +260,10 @@ NM_CHECK uint32_t nm_solinas_convolve(uint64_t *xs, size_t xs_length, uint64_t *
  * results; nm_plan_fits tests whether a table is a plan.
  *
  * NM_BAD_ARGUMENT: m is 0 or above 2^62, or what the call's comment says. NM_BAD_CONTEXT: an entry of the table isn't a
- * factor modulo m with its quotient. */
+ * factor modulo m with its quotient.
+ *
+ * New code should use nm_plan_make and the calls nm_plan_*, which keep modulus, root and table together and don't test
+ * the table at each call; nm_plan fills a bare table, for the calls that take one. */
 
 /* A factor w below m, and its quotient 2^64 * w / m, rounded down. */
 typedef struct {

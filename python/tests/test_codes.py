@@ -95,7 +95,7 @@ def test_errors():
     code = ErasureCode(929, range(7))
     word = code.encode([1, 2, 3])
     assert code.correct([1, 0, 17, 34, 57, 900, 121], 3) == ([1, 2, 3], word, 2)
-    with pytest.raises(TooManyErrorsError):
+    with pytest.raises(TooManyErrorsError, match="^no word of the code is near enough to the symbols$"):
         code.correct([1, 0, 17, 34, 57, 900, 1], 3)
     for call in (code.restore, code.correct):
         with pytest.raises(TooFewSymbolsError):

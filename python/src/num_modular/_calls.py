@@ -58,7 +58,7 @@ class NoInverseError(ValueError):
 
 
 class NoRootError(ValueError):
-    """No root was found, or the given one doesn't suit the length."""
+    """The root doesn't suit the length, or none was found."""
 
 
 class PointsError(ValueError):
@@ -73,24 +73,20 @@ class TooManyErrorsError(ValueError):
     """No word of an erasure code is near enough to the symbols."""
 
 
+# The exceptions of the codes that aren't ValueError.
 _FAULTS = {
-    lib.NM_NO_INVERSE: (NoInverseError, "a number has no inverse"),
-    lib.NM_BAD_ARGUMENT: (ValueError, "an argument breaks a precondition"),
-    lib.NM_BAD_CONTEXT: (ValueError, "a divider, context or table isn't one that the library makes"),
-    lib.NM_NO_ROOT: (NoRootError, "no root suits the length"),
-    lib.NM_TOO_FEW_SYMBOLS: (TooFewSymbolsError, "there are fewer symbols than the message has"),
-    lib.NM_PLACE_OUT_OF_RANGE: (ValueError, "a place isn't below the number of points"),
-    lib.NM_PLACE_TWICE: (ValueError, "a place occurs twice"),
-    lib.NM_POINTS_DONT_FIT: (PointsError, "the difference of two points has no inverse"),
-    lib.NM_TOO_MANY_ERRORS: (TooManyErrorsError, "no word of the code is near enough to the symbols"),
-    lib.NM_POINT_WITHOUT_INVERSE: (PointsError, "a point has no inverse"),
+    lib.NM_NO_INVERSE: NoInverseError,
+    lib.NM_NO_ROOT: NoRootError,
+    lib.NM_TOO_FEW_SYMBOLS: TooFewSymbolsError,
+    lib.NM_POINTS_DONT_FIT: PointsError,
+    lib.NM_TOO_MANY_ERRORS: TooManyErrorsError,
+    lib.NM_POINT_WITHOUT_INVERSE: PointsError,
 }
 
 
 def fail(code: int, words: str = "") -> NoReturn:
-    """Raises the exception of a code."""
-    kind, usual = _FAULTS[code]
-    raise kind(words or usual)
+    """Raises the exception of a code, with these words or with those of nm_strerror."""
+    raise _FAULTS.get(code, ValueError)(words or ffi.string(lib.nm_strerror(code)).decode())
 
 
 def check(code: int, words: str = "") -> None:
