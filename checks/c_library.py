@@ -56,7 +56,10 @@ def without_comments(text):
 
 def declarations(header):
     """The parameters of each function that the header declares, as type and name."""
-    declared = re.findall(r"^(?:NM_CHECK )?uint32_t (\w+)\(([^)]*)\);", without_comments(header), re.M)
+    text = without_comments(header)
+    for kind, name in re.findall(r"^typedef (\w+) (\w+);$", text, re.M):
+        text = re.sub(rf"\b{name}\b", kind, text)
+    declared = re.findall(r"^(?:NM_CHECK )?uint32_t (\w+)\(([^)]*)\);", text, re.M)
     return {name: re.findall(r"((?:const )?\w+ \*?)(\w+)(?:,\s*|$)", words) for name, words in declared}
 
 

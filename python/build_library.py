@@ -18,16 +18,16 @@ VERSION = re.search(r'^__version__ = "(\d+)\.(\d+)\.', (HERE / "src/num_modular/
 
 
 def declared(header):
-    """The part of the header that cffi reads: constants without their values, structs and functions. Macros that compute
+    """The part of the header that cffi reads: constants without their values, types and functions. Macros that compute
     lengths and inline functions are functions to it."""
     text = re.sub(r"/\*.*?\*/", "", header, flags=re.S)
     constants = re.findall(r"^#define (NM_\w+) (?:\d|UINT64_C)", text, re.M)
     lengths = re.findall(r"^#define (NM_\w+)\((.*?)\)", text, re.M)
     macros = (f"size_t {name}({', '.join(f'size_t {it}' for it in words.split(', '))});" for name, words in lengths)
     inline = (f"{it};" for it in re.findall(r"^static inline (const char \*nm_\w+\([^)]*\)) \{$", text, re.M))
-    structs = re.findall(r"^typedef struct \{.*?^\} \w+;$", text, re.M | re.S)
-    functions = re.findall(r"^(?:NM_CHECK )?(uint32_t nm_\w+\([^)]*\);)$", text, re.M)
-    return "\n".join([*(f"#define {it} ..." for it in constants), *structs, *macros, *inline, *functions])
+    types = re.findall(r"^typedef (?:struct \{.*?^\}|\w+) \w+;$", text, re.M | re.S)
+    functions = re.findall(r"^(?:NM_CHECK )?((?:uint32_t|nm_code_t) nm_\w+\([^)]*\);)$", text, re.M)
+    return "\n".join([*(f"#define {it} ..." for it in constants), *types, *macros, *inline, *functions])
 
 
 def asked(*words):

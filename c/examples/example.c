@@ -4,9 +4,9 @@
 #include <stdio.h>
 
 /* base to the power exponent modulo the context's modulus; the code goes through */
-static uint32_t power(const nm_montgomery_t *ring, uint64_t base, uint64_t exponent, uint64_t *result) {
+static nm_code_t power(const nm_montgomery_t *ring, uint64_t base, uint64_t exponent, uint64_t *result) {
     uint64_t form;
-    uint32_t code = nm_montgomery_transform(ring, base, &form);
+    nm_code_t code = nm_montgomery_transform(ring, base, &form);
     if (code == NM_OK) code = nm_montgomery_pow(ring, form, exponent, &form);
     if (code == NM_OK) code = nm_montgomery_residue(ring, form, result);
     return code;

@@ -46,6 +46,9 @@
 extern "C" {
 #endif
 
+/* The type of the codes, which all functions but nm_version return. */
+typedef uint32_t nm_code_t;
+
 /* The codes. */
 #define NM_OK 0u           /* the result is written */
 #define NM_NO_INVERSE 1u   /* an inverse that the call needs doesn't exist */
@@ -63,7 +66,7 @@ extern "C" {
 
 /* What a code says, in a few words, as for an error message. It is this header's alone: the library doesn't export it,
  * so a language that can't include the header keeps texts of its own. */
-static inline const char *nm_strerror(uint32_t code) {
+static inline const char *nm_strerror(nm_code_t code) {
     switch (code) {
     case NM_OK: return "no error";
     case NM_NO_INVERSE: return "a number has no inverse";
@@ -87,41 +90,41 @@ uint32_t nm_version(void);
 /* --- Operations modulo m, of words that may be above m. NM_BAD_ARGUMENT: m is 0. --- */
 
 /* The residue of a + b. */
-NM_CHECK uint32_t nm_addm(uint64_t a, uint64_t b, uint64_t m, uint64_t *sum);
+NM_CHECK nm_code_t nm_addm(uint64_t a, uint64_t b, uint64_t m, uint64_t *sum);
 
 /* The residue of a - b, from 0 to m - 1. */
-NM_CHECK uint32_t nm_subm(uint64_t a, uint64_t b, uint64_t m, uint64_t *difference);
+NM_CHECK nm_code_t nm_subm(uint64_t a, uint64_t b, uint64_t m, uint64_t *difference);
 
 /* The residue of a * b. */
-NM_CHECK uint32_t nm_mulm(uint64_t a, uint64_t b, uint64_t m, uint64_t *product);
+NM_CHECK nm_code_t nm_mulm(uint64_t a, uint64_t b, uint64_t m, uint64_t *product);
 
 /* The residue of a to the power exponent; that of 1 for the exponent 0. */
-NM_CHECK uint32_t nm_powm(uint64_t a, uint64_t exponent, uint64_t m, uint64_t *power);
+NM_CHECK nm_code_t nm_powm(uint64_t a, uint64_t exponent, uint64_t m, uint64_t *power);
 
 /* The inverse of a. NM_NO_INVERSE: a has none. */
-NM_CHECK uint32_t nm_invm(uint64_t a, uint64_t m, uint64_t *inverse);
+NM_CHECK nm_code_t nm_invm(uint64_t a, uint64_t m, uint64_t *inverse);
 
 /* --- Symbols of a over n: -1, 0 or 1. --- */
 
 /* The Jacobi symbol. NM_BAD_ARGUMENT: n is even. */
-NM_CHECK uint32_t nm_jacobi(uint64_t a, uint64_t n, int32_t *symbol);
+NM_CHECK nm_code_t nm_jacobi(uint64_t a, uint64_t n, int32_t *symbol);
 
 /* The Jacobi symbol of signed numbers. NM_BAD_ARGUMENT: n is even or below 1. */
-NM_CHECK uint32_t nm_jacobi_signed(int64_t a, int64_t n, int32_t *symbol);
+NM_CHECK nm_code_t nm_jacobi_signed(int64_t a, int64_t n, int32_t *symbol);
 
 /* 0, 1 or -1, where a to the power (n - 1)/2, rounded down, is congruent to 0, 1 or n - 1 modulo n, tried in this
  * order. For an odd prime n it is the Legendre symbol; the call doesn't test whether n is prime.
  * NM_BAD_ARGUMENT: the power is none of these, or n is 0. */
-NM_CHECK uint32_t nm_legendre(uint64_t a, uint64_t n, int32_t *symbol);
+NM_CHECK nm_code_t nm_legendre(uint64_t a, uint64_t n, int32_t *symbol);
 
 /* nm_legendre of signed numbers. NM_BAD_ARGUMENT: as there, or n is below 1. */
-NM_CHECK uint32_t nm_legendre_signed(int64_t a, int64_t n, int32_t *symbol);
+NM_CHECK nm_code_t nm_legendre_signed(int64_t a, int64_t n, int32_t *symbol);
 
 /* The Kronecker symbol, which exists for all numbers. Returns NM_OK. */
-uint32_t nm_kronecker(uint64_t a, uint64_t n, int32_t *symbol);
+nm_code_t nm_kronecker(uint64_t a, uint64_t n, int32_t *symbol);
 
 /* The Kronecker symbol of signed numbers. Returns NM_OK. */
-uint32_t nm_kronecker_signed(int64_t a, int64_t n, int32_t *symbol);
+nm_code_t nm_kronecker_signed(int64_t a, int64_t n, int32_t *symbol);
 
 /* --- Division by an invariant divisor. --- */
 
@@ -139,14 +142,14 @@ typedef struct {
 } nm_division_t;
 
 /* The divider by d. NM_BAD_ARGUMENT: d is 0. */
-NM_CHECK uint32_t nm_divider(uint64_t d, nm_divider_t *divider);
+NM_CHECK nm_code_t nm_divider(uint64_t d, nm_divider_t *divider);
 
 /* Quotient and remainder of the dividend. NM_BAD_CONTEXT: the divider isn't one that nm_divider makes. */
-NM_CHECK uint32_t nm_div_rem(const nm_divider_t *divider, uint64_t dividend, nm_division_t *division);
+NM_CHECK nm_code_t nm_div_rem(const nm_divider_t *divider, uint64_t dividend, nm_division_t *division);
 
 /* Quotient and remainder of low + 2^64 * high. NM_BAD_CONTEXT: as for nm_div_rem. NM_BAD_ARGUMENT: high isn't
  * below the divisor, so that the quotient doesn't fit a word. */
-NM_CHECK uint32_t nm_div_rem_2by1(const nm_divider_t *divider, uint64_t low, uint64_t high, nm_division_t *division);
+NM_CHECK nm_code_t nm_div_rem_2by1(const nm_divider_t *divider, uint64_t low, uint64_t high, nm_division_t *division);
 
 /* --- Montgomery's representation modulo any m that is at least 1. --- */
 
@@ -159,32 +162,32 @@ typedef struct {
 } nm_montgomery_t;
 
 /* The context of m. NM_BAD_ARGUMENT: m is 0. */
-NM_CHECK uint32_t nm_montgomery(uint64_t m, nm_montgomery_t *context);
+NM_CHECK nm_code_t nm_montgomery(uint64_t m, nm_montgomery_t *context);
 
 /* The calls below take and write forms: words that represent values modulo m. Each value has exactly one form, which is
  * below m. NM_BAD_CONTEXT: the context isn't one that nm_montgomery makes. NM_BAD_ARGUMENT: a word that must be a form
  * isn't one. */
 
 /* The form of a word modulo m. */
-NM_CHECK uint32_t nm_montgomery_transform(const nm_montgomery_t *context, uint64_t word, uint64_t *form);
+NM_CHECK nm_code_t nm_montgomery_transform(const nm_montgomery_t *context, uint64_t word, uint64_t *form);
 
 /* The value of a form: a number below m. */
-NM_CHECK uint32_t nm_montgomery_residue(const nm_montgomery_t *context, uint64_t form, uint64_t *value);
+NM_CHECK nm_code_t nm_montgomery_residue(const nm_montgomery_t *context, uint64_t form, uint64_t *value);
 
 /* The form of the sum of two forms. */
-NM_CHECK uint32_t nm_montgomery_add(const nm_montgomery_t *context, uint64_t a, uint64_t b, uint64_t *sum);
+NM_CHECK nm_code_t nm_montgomery_add(const nm_montgomery_t *context, uint64_t a, uint64_t b, uint64_t *sum);
 
 /* The form of the difference of two forms. */
-NM_CHECK uint32_t nm_montgomery_sub(const nm_montgomery_t *context, uint64_t a, uint64_t b, uint64_t *difference);
+NM_CHECK nm_code_t nm_montgomery_sub(const nm_montgomery_t *context, uint64_t a, uint64_t b, uint64_t *difference);
 
 /* The form of the product of two forms. */
-NM_CHECK uint32_t nm_montgomery_mul(const nm_montgomery_t *context, uint64_t a, uint64_t b, uint64_t *product);
+NM_CHECK nm_code_t nm_montgomery_mul(const nm_montgomery_t *context, uint64_t a, uint64_t b, uint64_t *product);
 
 /* The form of the power of a form; that of 1 for the exponent 0. */
-NM_CHECK uint32_t nm_montgomery_pow(const nm_montgomery_t *context, uint64_t form, uint64_t exponent, uint64_t *power);
+NM_CHECK nm_code_t nm_montgomery_pow(const nm_montgomery_t *context, uint64_t form, uint64_t exponent, uint64_t *power);
 
 /* The form of the inverse of a form. NM_NO_INVERSE: its value has none. */
-NM_CHECK uint32_t nm_montgomery_inv(const nm_montgomery_t *context, uint64_t form, uint64_t *inverse);
+NM_CHECK nm_code_t nm_montgomery_inv(const nm_montgomery_t *context, uint64_t form, uint64_t *inverse);
 
 /* --- Transforms and cyclic products of lists of words, modulo m. ---
  *
@@ -192,25 +195,25 @@ NM_CHECK uint32_t nm_montgomery_inv(const nm_montgomery_t *context, uint64_t for
  * two and, for n above 1, the root to the power n/2 is -1 modulo m. NM_BAD_CONTEXT: as above. */
 
 /* NM_OK where the root suits lists of n = length words, and NM_NO_ROOT where it doesn't. */
-NM_CHECK uint32_t nm_montgomery_root_fits(const nm_montgomery_t *context, uint64_t root, size_t length);
+NM_CHECK nm_code_t nm_montgomery_root_fits(const nm_montgomery_t *context, uint64_t root, size_t length);
 
 /* A root that suits lists of n = length words: x to the power (m - 1)/n, rounded down, for the least x from 2 to 255
  * for which it does. NM_NO_ROOT: it does for no x, as where n is no power of two. */
-NM_CHECK uint32_t nm_montgomery_find_root(const nm_montgomery_t *context, size_t length, uint64_t *root);
+NM_CHECK nm_code_t nm_montgomery_find_root(const nm_montgomery_t *context, size_t length, uint64_t *root);
 
 /* Replaces the n words by their transform by the root: entry j is the sum of x_i * root^(i * j) modulo m.
  * NM_NO_ROOT: the root doesn't suit n. */
-NM_CHECK uint32_t nm_montgomery_ntt(const nm_montgomery_t *context, uint64_t *xs, size_t xs_length, uint64_t root);
+NM_CHECK nm_code_t nm_montgomery_ntt(const nm_montgomery_t *context, uint64_t *xs, size_t xs_length, uint64_t root);
 
 /* Undoes nm_montgomery_ntt: replaces the n words by those whose transform by the root they are. NM_NO_ROOT: the root
  * doesn't suit n. NM_NO_INVERSE: n has no inverse modulo m. */
-NM_CHECK uint32_t nm_montgomery_intt(const nm_montgomery_t *context, uint64_t *xs, size_t xs_length, uint64_t root);
+NM_CHECK nm_code_t nm_montgomery_intt(const nm_montgomery_t *context, uint64_t *xs, size_t xs_length, uint64_t root);
 
 /* Replaces the first list by the cyclic product of both: entry e is the sum of x_i * y_j modulo m over all i + j = e or
  * e + n. The second list is replaced by its transform by the root. NM_BAD_ARGUMENT: the lengths differ. NM_NO_ROOT: the
  * root doesn't suit n. NM_NO_INVERSE: n has no inverse modulo m. */
-NM_CHECK uint32_t nm_montgomery_convolve(const nm_montgomery_t *context, uint64_t *xs, size_t xs_length, uint64_t *ys,
-                                         size_t ys_length, uint64_t root);
+NM_CHECK nm_code_t nm_montgomery_convolve(const nm_montgomery_t *context, uint64_t *xs, size_t xs_length, uint64_t *ys,
+                                          size_t ys_length, uint64_t root);
 
 /* --- Lists of commands on registers, modulo m. --- */
 
@@ -239,18 +242,18 @@ typedef struct {
  * residues; carried_out becomes the number of commands carried out. NM_NO_INVERSE: the inverse of command number
  * carried_out, counted from 0, doesn't exist, and the residues are those after the commands before it. NM_BAD_ARGUMENT:
  * an operation has no name, or a register number isn't below registers_length. NM_BAD_CONTEXT: as above. */
-NM_CHECK uint32_t nm_montgomery_run(const nm_montgomery_t *context, uint64_t *registers, size_t registers_length,
-                                    const nm_command_t *commands, size_t commands_length, size_t *carried_out);
+NM_CHECK nm_code_t nm_montgomery_run(const nm_montgomery_t *context, uint64_t *registers, size_t registers_length,
+                                     const nm_command_t *commands, size_t commands_length, size_t *carried_out);
 
 /* --- Transforms and cyclic products modulo 2^64 - 2^32 + 1. --- */
 
 /* nm_solinas_NAME is nm_montgomery_NAME modulo the prime 2^64 - 2^32 + 1, without a context. */
 #define NM_SOLINAS UINT64_C(18446744069414584321)
-NM_CHECK uint32_t nm_solinas_root_fits(uint64_t root, size_t length);
-NM_CHECK uint32_t nm_solinas_find_root(size_t length, uint64_t *root);
-NM_CHECK uint32_t nm_solinas_ntt(uint64_t *xs, size_t xs_length, uint64_t root);
-NM_CHECK uint32_t nm_solinas_intt(uint64_t *xs, size_t xs_length, uint64_t root);
-NM_CHECK uint32_t nm_solinas_convolve(uint64_t *xs, size_t xs_length, uint64_t *ys, size_t ys_length, uint64_t root);
+NM_CHECK nm_code_t nm_solinas_root_fits(uint64_t root, size_t length);
+NM_CHECK nm_code_t nm_solinas_find_root(size_t length, uint64_t *root);
+NM_CHECK nm_code_t nm_solinas_ntt(uint64_t *xs, size_t xs_length, uint64_t root);
+NM_CHECK nm_code_t nm_solinas_intt(uint64_t *xs, size_t xs_length, uint64_t root);
+NM_CHECK nm_code_t nm_solinas_convolve(uint64_t *xs, size_t xs_length, uint64_t *ys, size_t ys_length, uint64_t root);
 
 /* --- Transforms and products by a plan, modulo m from 1 to 2^62. ---
  *
@@ -273,43 +276,43 @@ typedef struct {
 
 /* Fills the table with the plan by the root for transforms of n words, n being twice its length. NM_NO_ROOT: the
  * root doesn't suit n. */
-NM_CHECK uint32_t nm_plan(uint64_t m, uint64_t root, nm_factor_t *table, size_t table_length);
+NM_CHECK nm_code_t nm_plan(uint64_t m, uint64_t root, nm_factor_t *table, size_t table_length);
 
 /* NM_OK where the table is the one that nm_plan makes for this m and this root, and NM_BAD_CONTEXT where it isn't.
  * NM_NO_ROOT: as for nm_plan. */
-NM_CHECK uint32_t nm_plan_fits(uint64_t m, uint64_t root, const nm_factor_t *table, size_t table_length);
+NM_CHECK nm_code_t nm_plan_fits(uint64_t m, uint64_t root, const nm_factor_t *table, size_t table_length);
 
 /* Replaces the n words by their transform: entry j is the sum of x_i * h^(i * j) modulo m. h is the root of the plan,
  * or, where the plan is for more words, the power of it that suits n. NM_BAD_ARGUMENT: a word isn't below
  * 4 * m, or n is no power of two, or above twice the length of the table. */
-NM_CHECK uint32_t nm_ntt_planned(uint64_t m, uint64_t *xs, size_t xs_length, const nm_factor_t *table,
-                                 size_t table_length);
+NM_CHECK nm_code_t nm_ntt_planned(uint64_t m, uint64_t *xs, size_t xs_length, const nm_factor_t *table,
+                                  size_t table_length);
 
 /* Splits block b of the tree of remainders into count = n / last blocks: word i of block j becomes the sum over k of
  * x_(k * last + i) * c^k, the coefficient of the remainder modulo X^last - c, where c is the power of the plan's
  * root by the reversed bits of b * count + j. So b = 0 and last = 1 give the transform in
  * bit-reversed order, and b = 1 starts from a polynomial modulo X^n + 1. NM_BAD_ARGUMENT: a word isn't below 4 * m,
  * n isn't last times a power of two, or the table has fewer than (b + 1) * (count / 2) entries. */
-NM_CHECK uint32_t nm_split(uint64_t m, uint64_t *xs, size_t xs_length, const nm_factor_t *table, size_t table_length,
-                           size_t b, size_t last);
+NM_CHECK nm_code_t nm_split(uint64_t m, uint64_t *xs, size_t xs_length, const nm_factor_t *table, size_t table_length,
+                            size_t b, size_t last);
 
 /* Undoes nm_split, but for a factor: each word is multiplied by count. The codes are those of nm_split. */
-NM_CHECK uint32_t nm_join(uint64_t m, uint64_t *xs, size_t xs_length, const nm_factor_t *table, size_t table_length,
-                          size_t b, size_t last);
+NM_CHECK nm_code_t nm_join(uint64_t m, uint64_t *xs, size_t xs_length, const nm_factor_t *table, size_t table_length,
+                           size_t b, size_t last);
 
 /* Replaces the first list by the cyclic product of both: entry e is the sum of x_i * y_j modulo m over all
  * i + j = e or e + n. The second list is replaced by the result of nm_split for b = 0. Both are split down to blocks
  * of last words, which is 1, or 2 where the plan is for n / 2 words. NM_BAD_ARGUMENT: a word isn't below 4 * m, the
  * lengths differ, last isn't 1 or 2, n isn't last times a power of two, or the table has fewer than
  * n / last / 2 entries, or none. NM_NO_INVERSE: n / last has no inverse modulo m. */
-NM_CHECK uint32_t nm_convolve_planned(uint64_t m, uint64_t *xs, size_t xs_length, uint64_t *ys, size_t ys_length,
-                                      const nm_factor_t *table, size_t table_length, size_t last);
+NM_CHECK nm_code_t nm_convolve_planned(uint64_t m, uint64_t *xs, size_t xs_length, uint64_t *ys, size_t ys_length,
+                                       const nm_factor_t *table, size_t table_length, size_t last);
 
 /* The same modulo X^n + 1: entry e is the sum of x_i * y_j over all i + j = e, less that over all i + j = e + n. The
  * second list is replaced by the result of nm_split for b = 1. The codes are those of nm_convolve_planned, except that
  * the table must have at least n / last entries. */
-NM_CHECK uint32_t nm_convolve_negacyclic(uint64_t m, uint64_t *xs, size_t xs_length, uint64_t *ys, size_t ys_length,
-                                         const nm_factor_t *table, size_t table_length, size_t last);
+NM_CHECK nm_code_t nm_convolve_negacyclic(uint64_t m, uint64_t *xs, size_t xs_length, uint64_t *ys, size_t ys_length,
+                                          const nm_factor_t *table, size_t table_length, size_t last);
 
 /* --- The same by a plan as one value. ---
  *
@@ -331,31 +334,31 @@ typedef struct {
 } nm_plan_t;
 
 /* Fills the table as nm_plan does, and writes the plan. The codes are those of nm_plan. */
-NM_CHECK uint32_t nm_plan_make(uint64_t m, uint64_t root, nm_factor_t *table, size_t table_length, nm_plan_t *plan);
+NM_CHECK nm_code_t nm_plan_make(uint64_t m, uint64_t root, nm_factor_t *table, size_t table_length, nm_plan_t *plan);
 
 /* NM_OK where the plan's table is the one that nm_plan_make makes for its modulus and root, as for a plan that the
  * caller wrote over a table that is filled already. The other codes are those of nm_plan_fits. */
-NM_CHECK uint32_t nm_plan_check(const nm_plan_t *plan);
+NM_CHECK nm_code_t nm_plan_check(const nm_plan_t *plan);
 
 /* nm_ntt_planned. */
-NM_CHECK uint32_t nm_plan_transform(const nm_plan_t *plan, uint64_t *xs, size_t xs_length);
+NM_CHECK nm_code_t nm_plan_transform(const nm_plan_t *plan, uint64_t *xs, size_t xs_length);
 
 /* Undoes nm_plan_transform: replaces the n words by those whose transform they are. */
-NM_CHECK uint32_t nm_plan_inverse(const nm_plan_t *plan, uint64_t *xs, size_t xs_length);
+NM_CHECK nm_code_t nm_plan_inverse(const nm_plan_t *plan, uint64_t *xs, size_t xs_length);
 
 /* nm_split. */
-NM_CHECK uint32_t nm_plan_split(const nm_plan_t *plan, uint64_t *xs, size_t xs_length, size_t b, size_t last);
+NM_CHECK nm_code_t nm_plan_split(const nm_plan_t *plan, uint64_t *xs, size_t xs_length, size_t b, size_t last);
 
 /* Undoes nm_plan_split, also the factor that nm_join leaves. NM_NO_INVERSE: of n / last. */
-NM_CHECK uint32_t nm_plan_join(const nm_plan_t *plan, uint64_t *xs, size_t xs_length, size_t b, size_t last);
+NM_CHECK nm_code_t nm_plan_join(const nm_plan_t *plan, uint64_t *xs, size_t xs_length, size_t b, size_t last);
 
 /* nm_convolve_planned for last = 1. */
-NM_CHECK uint32_t nm_plan_convolve(const nm_plan_t *plan, uint64_t *xs, size_t xs_length, uint64_t *ys,
-                                   size_t ys_length);
+NM_CHECK nm_code_t nm_plan_convolve(const nm_plan_t *plan, uint64_t *xs, size_t xs_length, uint64_t *ys,
+                                    size_t ys_length);
 
 /* nm_convolve_negacyclic for last = 2. NM_NO_INVERSE: of n / 2. */
-NM_CHECK uint32_t nm_plan_convolve_negacyclic(const nm_plan_t *plan, uint64_t *xs, size_t xs_length, uint64_t *ys,
-                                              size_t ys_length);
+NM_CHECK nm_code_t nm_plan_convolve_negacyclic(const nm_plan_t *plan, uint64_t *xs, size_t xs_length, uint64_t *ys,
+                                               size_t ys_length);
 
 /* --- Erasure codes (Reed-Solomon) and secret sharing (Shamir), modulo any m. ---
  *
@@ -377,58 +380,58 @@ NM_CHECK uint32_t nm_plan_convolve_negacyclic(const nm_plan_t *plan, uint64_t *x
 
 /* The word of the message. A symbol that isn't below m comes back as its residue. Where k is above n, the call writes
  * the word, too, but no call restores the message. scratch: NM_ERASURE_ENCODE_SCRATCH(n, k) words. */
-NM_CHECK uint32_t nm_erasure_encode(const nm_montgomery_t *context, const uint64_t *points, size_t points_length,
-                                    const uint64_t *message, size_t message_length, uint64_t *word, size_t word_length,
-                                    uint64_t *scratch, size_t scratch_length);
+NM_CHECK nm_code_t nm_erasure_encode(const nm_montgomery_t *context, const uint64_t *points, size_t points_length,
+                                     const uint64_t *message, size_t message_length, uint64_t *word, size_t word_length,
+                                     uint64_t *scratch, size_t scratch_length);
 
 /* The message of k symbols, by the first k places and the symbols there. scratch: NM_ERASURE_RESTORE_SCRATCH(n, s, k)
  * words. NM_TOO_FEW_SYMBOLS: s is below k. NM_PLACE_OUT_OF_RANGE, NM_PLACE_TWICE: of the first k places.
  * NM_POINTS_DONT_FIT: the points at these places don't. */
-NM_CHECK uint32_t nm_erasure_restore(const nm_montgomery_t *context, const uint64_t *points, size_t points_length,
-                                     const size_t *places, size_t places_length, const uint64_t *symbols,
-                                     size_t symbols_length, uint64_t *message, size_t message_length, uint64_t *scratch,
-                                     size_t scratch_length);
+NM_CHECK nm_code_t nm_erasure_restore(const nm_montgomery_t *context, const uint64_t *points, size_t points_length,
+                                      const size_t *places, size_t places_length, const uint64_t *symbols,
+                                      size_t symbols_length, uint64_t *message, size_t message_length,
+                                      uint64_t *scratch, size_t scratch_length);
 
 /* The only message of k symbols, at least 1, whose word differs in e of the s symbols, where 2 * e is at most s - k;
  * that word; and e, as errors. scratch: NM_ERASURE_CORRECT_SCRATCH(n, s, k) words. NM_TOO_MANY_ERRORS: no word is that
  * near. NM_NO_INVERSE: a number above 0 without an inverse modulo m was met, and is written to number; it never comes
  * where m is a prime. The codes of nm_erasure_restore, for all s places. NM_BAD_ARGUMENT also where k is 0. */
-NM_CHECK uint32_t nm_erasure_correct(const nm_montgomery_t *context, const uint64_t *points, size_t points_length,
-                                     const size_t *places, size_t places_length, const uint64_t *symbols,
-                                     size_t symbols_length, uint64_t *message, size_t message_length, uint64_t *word,
-                                     size_t word_length, uint64_t *scratch, size_t scratch_length, size_t *errors,
-                                     uint64_t *number);
+NM_CHECK nm_code_t nm_erasure_correct(const nm_montgomery_t *context, const uint64_t *points, size_t points_length,
+                                      const size_t *places, size_t places_length, const uint64_t *symbols,
+                                      size_t symbols_length, uint64_t *message, size_t message_length, uint64_t *word,
+                                      size_t word_length, uint64_t *scratch, size_t scratch_length, size_t *errors,
+                                      uint64_t *number);
 
 /* Shares of a secret, by Shamir's scheme: the word of a message whose first symbol is the secret, and whose k - 1
  * others the caller draws at random, each from 0 to m - 1. Then k - 1 shares say nothing of the secret.
  * nm_erasure_restore gives it back as the first symbol of the message from any k shares, and nm_erasure_correct though
  * some are forged: as its residue, where it isn't below m. scratch: NM_ERASURE_ENCODE_SCRATCH(n, k) words.
  * NM_POINT_WITHOUT_INVERSE: a point, such as 0, has no inverse. NM_POINTS_DONT_FIT: the points don't. */
-NM_CHECK uint32_t nm_erasure_share(const nm_montgomery_t *context, const uint64_t *points, size_t points_length,
-                                   const uint64_t *coefficients, size_t coefficients_length, uint64_t *shares,
-                                   size_t shares_length, uint64_t *scratch, size_t scratch_length);
+NM_CHECK nm_code_t nm_erasure_share(const nm_montgomery_t *context, const uint64_t *points, size_t points_length,
+                                    const uint64_t *coefficients, size_t coefficients_length, uint64_t *shares,
+                                    size_t shares_length, uint64_t *scratch, size_t scratch_length);
 
 /* --- Applications: hashes, numbers by their residues, long products. --- */
 
 /* The hash of the n bytes at the base x: the value at x of the polynomial with the bytes as coefficients, the
  * highest first, modulo 2^61 - 1. Returns NM_OK. */
-uint32_t nm_hash(uint64_t x, const uint8_t *bytes, size_t bytes_length, uint64_t *hash);
+nm_code_t nm_hash(uint64_t x, const uint8_t *bytes, size_t bytes_length, uint64_t *hash);
 
 /* The first position where the pattern of k bytes occurs in the text of n bytes, by hashes at the base x.
  * NM_NOT_FOUND: it occurs nowhere. The result is right for every x, but the time depends on x, and nothing is proved of
  * it. Two different texts of k bytes have one hash at fewer than k of the x from 0 to 2^61 - 2. So an x should be drawn
  * at random after text and pattern are fixed; for another, such as 0 or 1, the time may be proportional to n * k. */
-NM_CHECK uint32_t nm_find(uint64_t x, const uint8_t *text, size_t text_length, const uint8_t *pattern,
-                          size_t pattern_length, size_t *position);
+NM_CHECK nm_code_t nm_find(uint64_t x, const uint8_t *text, size_t text_length, const uint8_t *pattern,
+                           size_t pattern_length, size_t *position);
 
 /* Entry i of found becomes the number of the first pattern that occurs in the text at position i, or count where none
  * does, for i from 0 to found_length - 1. The count patterns have size bytes each and stand one after the other. The
  * scratch list hashes, of count words, has unspecified contents afterwards. The result is right for every x. Each
  * position compares its hash with up to count others, and bytes where two are equal: for which x that is rare, see
  * nm_find. NM_BAD_ARGUMENT: patterns_length isn't count * size. */
-NM_CHECK uint32_t nm_find_all(uint64_t x, const uint8_t *text, size_t text_length, const uint8_t *patterns,
-                              size_t patterns_length, size_t size, uint64_t *hashes, size_t count, size_t *found,
-                              size_t found_length);
+NM_CHECK nm_code_t nm_find_all(uint64_t x, const uint8_t *text, size_t text_length, const uint8_t *patterns,
+                               size_t patterns_length, size_t size, uint64_t *hashes, size_t count, size_t *found,
+                               size_t found_length);
 
 /* The number low + 2^64 * high. */
 typedef struct {
@@ -439,35 +442,35 @@ typedef struct {
 /* The only number below the product of the n moduli that has the k residues. NM_BAD_ARGUMENT: the lengths differ, a
  * modulus is 0, two have a common divisor above 1, their product isn't below 2^128, or a residue isn't below its
  * modulus. */
-NM_CHECK uint32_t nm_decode(const uint64_t *moduli, size_t moduli_length, const uint64_t *residues,
-                            size_t residues_length, nm_double_t *number);
+NM_CHECK nm_code_t nm_decode(const uint64_t *moduli, size_t moduli_length, const uint64_t *residues,
+                             size_t residues_length, nm_double_t *number);
 
 /* The lengths of the two scratch lists of nm_product for numbers of n = xs_length and k = ys_length digits: 0 where one
  * of the numbers has fewer than 400 digits, else 4 * e words and 3 * e / 2 factors, e being the least power of two that
  * is at least n + k. NM_BAD_ARGUMENT: n + k is above 2^32. */
-NM_CHECK uint32_t nm_product_room(size_t xs_length, size_t ys_length, size_t *words, size_t *factors);
+NM_CHECK nm_code_t nm_product_room(size_t xs_length, size_t ys_length, size_t *words, size_t *factors);
 
 /* The digits of the product of two numbers of n and k digits, which have 64 bits, the lowest first. The scratch lists
  * words and factors have unspecified contents afterwards. NM_BAD_ARGUMENT: digits_length isn't n + k; or both numbers
  * have at least 400 digits, and digits_length is above 2^32 or a scratch list is shorter than nm_product_room writes.
  * */
-NM_CHECK uint32_t nm_product(const uint64_t *xs, size_t xs_length, const uint64_t *ys, size_t ys_length,
-                             uint64_t *digits, size_t digits_length, uint64_t *words, size_t words_length,
-                             nm_factor_t *factors, size_t factors_length);
+NM_CHECK nm_code_t nm_product(const uint64_t *xs, size_t xs_length, const uint64_t *ys, size_t ys_length,
+                              uint64_t *digits, size_t digits_length, uint64_t *words, size_t words_length,
+                              nm_factor_t *factors, size_t factors_length);
 
 /* --- Hashes of the parts of a text, each by one product. --- */
 
 /* Entry i of hashes becomes nm_hash of the first i of the n bytes at the base x, and entry i of powers x to the power i
  * modulo 2^61 - 1. NM_BAD_ARGUMENT: hashes or powers hasn't n + 1 entries. */
-NM_CHECK uint32_t nm_prefix_hashes(uint64_t x, const uint8_t *text, size_t text_length, uint64_t *hashes,
-                                   size_t hashes_length, uint64_t *powers, size_t powers_length);
+NM_CHECK nm_code_t nm_prefix_hashes(uint64_t x, const uint8_t *text, size_t text_length, uint64_t *hashes,
+                                    size_t hashes_length, uint64_t *powers, size_t powers_length);
 
 /* nm_hash of a part of a text, of its bytes from to to - 1, counted from 0, by the two lists that nm_prefix_hashes
  * wrote of the text. Two parts with different hashes are different; of equal hashes see nm_find. NM_BAD_ARGUMENT: from
  * is above to, or to isn't below both lengths. Of lists that nm_prefix_hashes didn't write, the result has no meaning.
  * */
-NM_CHECK uint32_t nm_substring_hash(const uint64_t *hashes, size_t hashes_length, const uint64_t *powers,
-                                    size_t powers_length, size_t from, size_t to, uint64_t *hash);
+NM_CHECK nm_code_t nm_substring_hash(const uint64_t *hashes, size_t hashes_length, const uint64_t *powers,
+                                     size_t powers_length, size_t from, size_t to, uint64_t *hash);
 
 /* --- Products of polynomials modulo any m, by their coefficients, the lowest first. ---
  *
@@ -478,33 +481,33 @@ NM_CHECK uint32_t nm_substring_hash(const uint64_t *hashes, size_t hashes_length
 /* The lengths of the two scratch lists for factors of n = xs_length and k = ys_length coefficients: 0 where one has
  * fewer than 200, else 4 * e words and 3 * e / 2 factors, e being the least power of two that is at least n + k.
  * NM_BAD_ARGUMENT: n + k is above 2^32. */
-NM_CHECK uint32_t nm_polynomial_room(size_t xs_length, size_t ys_length, size_t *words, size_t *factors);
+NM_CHECK nm_code_t nm_polynomial_room(size_t xs_length, size_t ys_length, size_t *words, size_t *factors);
 
 /* The product: coefficient e is the sum of x_i * y_j modulo m over i + j = e. NM_BAD_ARGUMENT: m is 0; out_length isn't
  * n + k - 1, or isn't 0 where n or k is; or both factors have at least 200 coefficients, and n + k is above 2^32 or a
  * scratch list is shorter than nm_polynomial_room writes. */
-NM_CHECK uint32_t nm_polynomial_multiply(uint64_t m, const uint64_t *xs, size_t xs_length, const uint64_t *ys,
-                                         size_t ys_length, uint64_t *out, size_t out_length, uint64_t *words,
-                                         size_t words_length, nm_factor_t *factors, size_t factors_length);
+NM_CHECK nm_code_t nm_polynomial_multiply(uint64_t m, const uint64_t *xs, size_t xs_length, const uint64_t *ys,
+                                          size_t ys_length, uint64_t *out, size_t out_length, uint64_t *words,
+                                          size_t words_length, nm_factor_t *factors, size_t factors_length);
 
 /* The square. The codes are those of nm_polynomial_multiply for xs and xs. */
-NM_CHECK uint32_t nm_polynomial_square(uint64_t m, const uint64_t *xs, size_t xs_length, uint64_t *out,
-                                       size_t out_length, uint64_t *words, size_t words_length, nm_factor_t *factors,
-                                       size_t factors_length);
+NM_CHECK nm_code_t nm_polynomial_square(uint64_t m, const uint64_t *xs, size_t xs_length, uint64_t *out,
+                                        size_t out_length, uint64_t *words, size_t words_length, nm_factor_t *factors,
+                                        size_t factors_length);
 
 /* The cyclic product, for any n: entry e is the sum of x_i * y_j modulo m over i + j = e or e + n. NM_BAD_ARGUMENT: m
  * is 0; ys_length or out_length isn't n; or n is at least 200, and n + n is above 2^32 or a scratch list is shorter
  * than nm_polynomial_room writes for n and n. */
-NM_CHECK uint32_t nm_polynomial_multiply_cyclic(uint64_t m, const uint64_t *xs, size_t xs_length, const uint64_t *ys,
-                                                size_t ys_length, uint64_t *out, size_t out_length, uint64_t *words,
-                                                size_t words_length, nm_factor_t *factors, size_t factors_length);
+NM_CHECK nm_code_t nm_polynomial_multiply_cyclic(uint64_t m, const uint64_t *xs, size_t xs_length, const uint64_t *ys,
+                                                 size_t ys_length, uint64_t *out, size_t out_length, uint64_t *words,
+                                                 size_t words_length, nm_factor_t *factors, size_t factors_length);
 
 /* The product modulo X^n + 1: entry e is the sum of x_i * y_j over i + j = e, less that over i + j = e + n, modulo m.
  * The codes are those of nm_polynomial_multiply_cyclic. */
-NM_CHECK uint32_t nm_polynomial_multiply_negacyclic(uint64_t m, const uint64_t *xs, size_t xs_length,
-                                                    const uint64_t *ys, size_t ys_length, uint64_t *out,
-                                                    size_t out_length, uint64_t *words, size_t words_length,
-                                                    nm_factor_t *factors, size_t factors_length);
+NM_CHECK nm_code_t nm_polynomial_multiply_negacyclic(uint64_t m, const uint64_t *xs, size_t xs_length,
+                                                     const uint64_t *ys, size_t ys_length, uint64_t *out,
+                                                     size_t out_length, uint64_t *words, size_t words_length,
+                                                     nm_factor_t *factors, size_t factors_length);
 
 /* --- Transforms of any length modulo any m. ---
  *
@@ -515,52 +518,52 @@ NM_CHECK uint32_t nm_polynomial_multiply_negacyclic(uint64_t m, const uint64_t *
 /* The lengths of the two scratch lists for n = length numbers: 0 where n is below 6, else 6 * n words, and from n = 200
  * on 4 * e words more and 3 * e / 2 factors, e being the least power of two that is at least 3 * n - 1.
  * NM_BAD_ARGUMENT: 3 * n is above 2^32. */
-NM_CHECK uint32_t nm_transform_room(size_t length, size_t *words, size_t *factors);
+NM_CHECK nm_code_t nm_transform_room(size_t length, size_t *words, size_t *factors);
 
 /* Whether g is a root of unity of this order n modulo m, for which nm_transform_inverse undoes nm_transform: n is at
  * least 1, g^n is 1, and g^d - 1 has an inverse for each d from 1 to n - 1. It takes 2 * n products and one inverse.
  * NM_NO_ROOT: it isn't. NM_BAD_ARGUMENT: m is 0. */
-NM_CHECK uint32_t nm_transform_root_fits(uint64_t m, uint64_t g, size_t order);
+NM_CHECK nm_code_t nm_transform_root_fits(uint64_t m, uint64_t g, size_t order);
 
 /* The transform by g: entry j is the sum of x_i * g^(i * j) modulo m over i from 0 to n - 1. NM_NO_INVERSE: g has no
  * inverse modulo m. NM_BAD_ARGUMENT: m is 0; out_length isn't n; or a scratch list is shorter than nm_transform_room
  * writes, or that refuses. */
-NM_CHECK uint32_t nm_transform(uint64_t m, uint64_t g, const uint64_t *xs, size_t xs_length, uint64_t *out,
-                               size_t out_length, uint64_t *words, size_t words_length, nm_factor_t *factors,
-                               size_t factors_length);
+NM_CHECK nm_code_t nm_transform(uint64_t m, uint64_t g, const uint64_t *xs, size_t xs_length, uint64_t *out,
+                                size_t out_length, uint64_t *words, size_t words_length, nm_factor_t *factors,
+                                size_t factors_length);
 
 /* The inverse transform by g: entry j is the sum of x_i * g^(-i * j) over i from 0 to n - 1, divided by n, modulo m.
  * Where g is a root of order n (nm_transform_root_fits tells), it undoes nm_transform. NM_NO_INVERSE: g or n has no
  * inverse modulo m. NM_BAD_ARGUMENT: as nm_transform. */
-NM_CHECK uint32_t nm_transform_inverse(uint64_t m, uint64_t g, const uint64_t *xs, size_t xs_length, uint64_t *out,
-                                       size_t out_length, uint64_t *words, size_t words_length, nm_factor_t *factors,
-                                       size_t factors_length);
+NM_CHECK nm_code_t nm_transform_inverse(uint64_t m, uint64_t g, const uint64_t *xs, size_t xs_length, uint64_t *out,
+                                        size_t out_length, uint64_t *words, size_t words_length, nm_factor_t *factors,
+                                        size_t factors_length);
 
 /* --- Residue number systems of any number of moduli, for numbers by their words of 64 bits, the lowest first. --- */
 
 /* The residues of the number of k words modulo n moduli, which may have common divisors. NM_BAD_ARGUMENT: a modulus is
  * 0, or residues_length isn't n. */
-NM_CHECK uint32_t nm_residues_encode(const uint64_t *moduli, size_t moduli_length, const uint64_t *words,
-                                     size_t words_length, uint64_t *residues, size_t residues_length);
+NM_CHECK nm_code_t nm_residues_encode(const uint64_t *moduli, size_t moduli_length, const uint64_t *words,
+                                      size_t words_length, uint64_t *residues, size_t residues_length);
 
 /* The only number below the product of the n moduli that has the k residues: its words, with 0 above them, and its
  * digits in the mixed radix of the moduli, of which digit i counts the product of the moduli before modulus i. The
  * scratch list inverses has unspecified contents afterwards. It takes about 3 * n^2 products for n words.
  * NM_BAD_ARGUMENT: a modulus is 0; two have a common divisor above 1; a residue isn't below its modulus; the number of
  * residues, digits or inverses isn't n; or there are fewer than n words. */
-NM_CHECK uint32_t nm_residues_decode(const uint64_t *moduli, size_t moduli_length, const uint64_t *residues,
-                                     size_t residues_length, uint64_t *words, size_t words_length, uint64_t *digits,
-                                     size_t digits_length, uint64_t *inverses, size_t inverses_length);
+NM_CHECK nm_code_t nm_residues_decode(const uint64_t *moduli, size_t moduli_length, const uint64_t *residues,
+                                      size_t residues_length, uint64_t *words, size_t words_length, uint64_t *digits,
+                                      size_t digits_length, uint64_t *inverses, size_t inverses_length);
 
 /* Base extension: the residues modulo the others, which may have common divisors, of the only number below the product
  * of the n moduli that has the k residues. The scratch lists digits and inverses have unspecified contents afterwards.
  * NM_BAD_ARGUMENT: a modulus is 0, or one of the others is; two of the n moduli have a common divisor above 1; a
  * residue isn't below its modulus; the number of residues, digits or inverses isn't n; or extended_length isn't
  * others_length. */
-NM_CHECK uint32_t nm_residues_extend(const uint64_t *moduli, size_t moduli_length, const uint64_t *residues,
-                                     size_t residues_length, const uint64_t *others, size_t others_length,
-                                     uint64_t *extended, size_t extended_length, uint64_t *digits, size_t digits_length,
-                                     uint64_t *inverses, size_t inverses_length);
+NM_CHECK nm_code_t nm_residues_extend(const uint64_t *moduli, size_t moduli_length, const uint64_t *residues,
+                                      size_t residues_length, const uint64_t *others, size_t others_length,
+                                      uint64_t *extended, size_t extended_length, uint64_t *digits,
+                                      size_t digits_length, uint64_t *inverses, size_t inverses_length);
 
 #ifdef __cplusplus
 }

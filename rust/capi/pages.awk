@@ -75,7 +75,7 @@ in_comment {
 
 { is_declared = 1 }
 
-/^(NM_CHECK )?uint32_t nm_[a-z0-9_]*\(/ {
+/^(NM_CHECK )?[a-z0-9_]*_t nm_[a-z0-9_]*\(/ {
     prototype = ""
     name = $0
     sub(/\(.*/, "", name)
