@@ -79,20 +79,20 @@ class ErasureCode(ByArguments):
         """
         return self._encoded(lib.nm_erasure_encode, message)
 
-    def encode_systematic(self, symbols: Iterable[int]) -> list[int]:
-        """The word that begins with these k symbols, from any k of whose symbols `restore_word` computes it. Its message isn't
-        the k symbols, but the polynomial that has them as values at the first k points. ValueError: there are more symbols
-        than points.
+    def encode_systematic(self, message: Iterable[int]) -> list[int]:
+        """The word that begins with the k symbols of the message: its polynomial has them as values at the first k points.
+        `restore_word` computes the word from any k symbols of it, while `restore` returns the coefficients. ValueError: the
+        message has more symbols than there are points.
 
         >>> ErasureCode(97, [1, 2, 3, 4]).encode_systematic([15, 25])
         [15, 25, 35, 45]
         """
-        values = self._symbols(symbols)
+        values = self._symbols(message)
         k = len(values)
         self._expect_room(k)
-        message = ffi.new("uint64_t[]", k)
-        check(self._restored(ffi.new("size_t[]", list(range(k))), values, message))
-        return self.encode(message)
+        coefficients = ffi.new("uint64_t[]", k)
+        check(self._restored(ffi.new("size_t[]", list(range(k))), values, coefficients))
+        return self.encode(coefficients)
 
     def restore(self, word: Symbols, k: int) -> list[int]:
         """The message of k symbols, at least 1, computed from the first k symbols of the word that aren't lost.
