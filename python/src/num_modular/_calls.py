@@ -145,8 +145,8 @@ def words_of(array: Any, m: int, limit: int = _TOP) -> tuple[Any, bool]:
         return new_words(array, m, limit), True
     if view.format not in _FORMATS or view.ndim != 1:
         found = f"{view.ndim} of format {view.format!r}"
-        raise TypeError(f"the array must have one dimension of unsigned words of 64 bits, not {found}: convert it to an array "
-                        "of numpy.uint64 or array('Q'), or pass a list")
+        raise TypeError(f"the array must have one dimension of unsigned words of 64 bits, not {found}: convert it to an "
+                        "array of numpy.uint64 or array('Q'), or pass a list")
     if view.readonly:
         raise ValueError("the array must be writable")
     if not view.c_contiguous:

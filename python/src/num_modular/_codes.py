@@ -36,12 +36,12 @@ class ErasureCode(ByArguments):
 
     The points are numbers modulo m. A message is a list of numbers modulo m, the coefficients of a polynomial, the constant
     first. Symbol i of its word is the value of the polynomial at point i. Any k symbols determine a message of k symbols,
-    since the points must fit: the difference of any two has an inverse modulo m. So at most p points fit, where p is the least
-    prime that divides m. To test n points takes about n^2 products. PointsError: they don't fit.
+    since the points must fit: the difference of any two has an inverse modulo m. So at most p points fit, where p is the
+    least prime that divides m. To test n points takes about n^2 products. PointsError: they don't fit.
 
-    A word with lost symbols is a list of n symbols with None for each lost one, or a dict from the number of a point, counted
-    from 0, to the symbol there. ValueError: m is out of range, the list has another length, there is no point of that number,
-    or a symbol isn't from 0 to m - 1.
+    A word with lost symbols is a list of n symbols with None for each lost one, or a dict from the number of a point,
+    counted from 0, to the symbol there. ValueError: m is out of range, the list has another length, there is no point of
+    that number, or a symbol isn't from 0 to m - 1.
 
     >>> code = ErasureCode(929, range(7))
     >>> code.encode([1, 2, 3])
@@ -109,8 +109,8 @@ class ErasureCode(ByArguments):
         return list(message)
 
     def restore_word(self, word: Symbols, k: int) -> list[int]:
-        """The word of a message of k symbols, computed from the first k symbols that aren't lost. The exceptions are those of
-        `restore`.
+        """The word of a message of k symbols, computed from the first k symbols that aren't lost. The exceptions are those
+        of `restore`.
 
         >>> ErasureCode(97, [1, 2, 3, 4]).restore_word([None, 25, None, 45], 2)
         [15, 25, 35, 45]
@@ -141,11 +141,12 @@ class ErasureCode(ByArguments):
         return Correction(list(message), list(found), errors[0])
 
     def share(self, secret: int, k: int) -> list[int]:
-        """A share of the secret, a number from 0 to m - 1, for each point. Any k shares determine the secret, and k - 1 shares
-        reveal nothing about it, as the module `secrets` draws the k - 1 other coefficients. It doesn't run in constant time.
+        """A share of the secret, a number from 0 to m - 1, for each point. Any k shares determine the secret, and k - 1
+        shares reveal nothing about it, as the module `secrets` draws the k - 1 other coefficients. It doesn't run in constant
+        time.
 
-        PointsError: a point, such as 0, has no inverse. ValueError: the secret is out of range, or k is below 1, or above the
-        number of points.
+        PointsError: a point, such as 0, has no inverse. ValueError: the secret is out of range, or k is below 1, or above
+        the number of points.
 
         >>> shares = ErasureCode(2**61 - 1, range(1, 6)).share(1234567, 3)
         >>> ErasureCode(2**61 - 1, range(1, 6)).recover({0: shares[0], 4: shares[4], 2: shares[2]}, 3)
@@ -195,7 +196,8 @@ class ErasureCode(ByArguments):
         """The code of nm_erasure_restore, which writes the message of these symbols."""
         n, s, k = len(self._points), len(places), len(message)
         scratch = ffi.new("uint64_t[]", lib.NM_ERASURE_RESTORE_SCRATCH(n, s, k))
-        return lib.nm_erasure_restore(self._context, self._points, n, places, s, symbols, s, message, k, scratch, len(scratch))
+        return lib.nm_erasure_restore(self._context, self._points, n, places, s, symbols, s, message, k, scratch,
+                                      len(scratch))
 
     def _received(self, word: Symbols, k: int) -> tuple[Any, Any]:
         """The symbols that aren't lost, at least k, after the numbers of their points."""
@@ -221,5 +223,6 @@ class ErasureCode(ByArguments):
         code = self._restored(ffi.new("size_t[]", list(range(n))), ffi.new("uint64_t[]", n), ffi.new("uint64_t[]", n))
         if code == lib.NM_POINTS_DONT_FIT:
             first, second = next(pair for pair in combinations(self._points, 2) if gcd(pair[0] - pair[1], m) > 1)
-            raise PointsError(f"{first - second}, the difference of the points {first} and {second}, has no inverse modulo {m}")
+            of = f"the difference of the points {first} and {second}"
+            raise PointsError(f"{first - second}, {of}, has no inverse modulo {m}")
         check(code)

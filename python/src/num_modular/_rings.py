@@ -43,8 +43,8 @@ _OPERATIONS = {
 
 
 class Divider(ByArguments):
-    """A divisor d from 1 to 2^64 - 1 and its reciprocal, by which numbers are divided without a division. It may be the right
-    operand of divmod, // and %. ValueError: d is out of range.
+    """A divisor d from 1 to 2^64 - 1 and its reciprocal, by which numbers are divided without a division. It may be the
+    right operand of divmod, // and %. ValueError: d is out of range.
 
     >>> Divider(60).divmod(1000), divmod(1000, Divider(60)), 1000 // Divider(60), 1000 % Divider(60)
     ((16, 40), (16, 40), 16, 40)
@@ -111,7 +111,8 @@ class Montgomery(ByArguments):
     def pow(self, a: int, exponent: int) -> int:
         """The residue of a to the power exponent. A negative exponent raises the inverse of a to the power -exponent.
 
-        NoInverseError: the exponent is negative, and a has no inverse. ValueError: the exponent isn't between -2^64 and 2^64.
+        NoInverseError: the exponent is negative, and a has no inverse. ValueError: the exponent isn't between -2^64 and
+        2^64.
 
         >>> Montgomery(2**61 - 1).pow(3, 2**61 - 2)
         1
