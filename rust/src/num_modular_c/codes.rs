@@ -13,7 +13,7 @@ pub const NM_BAD_ARGUMENT: u32 = 2;
 /// A context of a divisor or a modulus isn't one that the library made for it.
 pub const NM_BAD_CONTEXT: u32 = 3;
 
-/// There is no root, or the given root doesn't suit the length.
+/// The root doesn't suit the length, or none was found.
 pub const NM_NO_ROOT: u32 = 4;
 
 /// The pattern doesn't occur.
