@@ -405,7 +405,7 @@ NM_CHECK nm_code_t nm_erasure_correct(const nm_montgomery_t *context, const uint
 /* Shares of a secret, by Shamir's scheme: the word of a message whose first symbol is the secret, and whose k - 1
  * others the caller draws at random, each from 0 to m - 1. Then k - 1 shares say nothing of the secret.
  * nm_erasure_restore gives it back as the first symbol of the message from any k shares, and nm_erasure_correct though
- * some are forged: as its residue, where it isn't below m. scratch: NM_ERASURE_ENCODE_SCRATCH(n, k) words.
+ * some are forged. A secret that isn't below m comes back as its residue. scratch: NM_ERASURE_ENCODE_SCRATCH(n, k) words.
  * NM_POINT_WITHOUT_INVERSE: a point, such as 0, has no inverse. NM_POINTS_DONT_FIT: the points don't. */
 NM_CHECK nm_code_t nm_erasure_share(const nm_montgomery_t *context, const uint64_t *points, size_t points_length,
                                     const uint64_t *coefficients, size_t coefficients_length, uint64_t *shares,
