@@ -51,7 +51,7 @@ STEP(table_filled, 0, x ^ nm_plan(prime, prime_root, table, PLACES / 2))
 
 STEP(transform_by_plan, (list[0] = x, nm_plan_transform(&plan, list, PLACES)), list[0])
 STEP(inverse_by_plan, (list[0] = x, nm_plan_inverse(&plan, list, PLACES)), list[0])
-/* by the first entries of the table alone, which are a plan for fewer words */
+/* by the first entries of the table alone, which are the table for fewer words */
 STEP(few_planned, (list[0] = x, nm_ntt_planned(prime, list, FEW, table, FEW / 2)), list[0])
 STEP(few_by_plan, (list[0] = x, nm_plan_transform(&plan, list, FEW)), list[0])
 

@@ -250,7 +250,7 @@ mod tests {
     #[test]
     fn a_table_of_an_inferred_word() {
         let mut table = std::vec![plans::Factor::ZERO; 2];
-        plans::plan(&plans::PlannedModulus::<u64>::new(97), 22, &mut table);
+        plans::fill_table(&plans::PlannedModulus::<u64>::new(97), 22, &mut table);
         assert_eq!(table[1].value(), 22);
     }
 }

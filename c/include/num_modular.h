@@ -255,12 +255,12 @@ NM_CHECK nm_code_t nm_solinas_ntt(uint64_t *xs, size_t xs_length, uint64_t root)
 NM_CHECK nm_code_t nm_solinas_intt(uint64_t *xs, size_t xs_length, uint64_t root);
 NM_CHECK nm_code_t nm_solinas_convolve(uint64_t *xs, size_t xs_length, uint64_t *ys, size_t ys_length, uint64_t root);
 
-/* --- Transforms and products by a plan, modulo m from 1 to 2^62. ---
+/* --- Transforms and products by a table, modulo m from 1 to 2^62. ---
  *
- * A plan is a table of factors that the caller owns, with which transforms are faster. Words must be below 4 * m, and
- * the results are below m. Each call tests its list and its table: the entries must be factors modulo m with their
- * quotients. A table that passes the test but is no plan, such as a reordered one, is memory-safe but gives wrong
- * results; nm_plan_fits tests whether a table is a plan.
+ * The table of a root holds the factors of its powers (twiddle factors). The caller owns it, and transforms are faster
+ * with it. Words must be below 4 * m, and the results are below m. Each call tests its list and its table: the entries
+ * must be factors modulo m with their quotients. A table that passes the test but is no root's, such as a reordered one,
+ * is memory-safe but gives wrong results; nm_plan_fits tests whether a table is that of a root.
  *
  * NM_BAD_ARGUMENT: m is 0 or above 2^62, or what the call's comment says. NM_BAD_CONTEXT: an entry of the table isn't a
  * factor modulo m with its quotient.
@@ -274,22 +274,22 @@ typedef struct {
     uint64_t quotient;
 } nm_factor_t;
 
-/* Fills the table with the plan by the root for transforms of n words, n being twice its length. NM_NO_ROOT: the
- * root doesn't suit n. */
+/* Fills the table of the root for transforms of n words, n being twice its length. NM_NO_ROOT: the root doesn't
+ * suit n. */
 NM_CHECK nm_code_t nm_plan(uint64_t m, uint64_t root, nm_factor_t *table, size_t table_length);
 
 /* NM_OK where the table is the one that nm_plan makes for this m and this root, and NM_BAD_CONTEXT where it isn't.
  * NM_NO_ROOT: as for nm_plan. */
 NM_CHECK nm_code_t nm_plan_fits(uint64_t m, uint64_t root, const nm_factor_t *table, size_t table_length);
 
-/* Replaces the n words by their transform: entry j is the sum of x_i * h^(i * j) modulo m. h is the root of the plan,
- * or, where the plan is for more words, the power of it that suits n. NM_BAD_ARGUMENT: a word isn't below
+/* Replaces the n words by their transform: entry j is the sum of x_i * h^(i * j) modulo m. h is the root of the table,
+ * or, where the table is for more words, the power of it that suits n. NM_BAD_ARGUMENT: a word isn't below
  * 4 * m, or n is no power of two, or above twice the length of the table. */
 NM_CHECK nm_code_t nm_ntt_planned(uint64_t m, uint64_t *xs, size_t xs_length, const nm_factor_t *table,
                                   size_t table_length);
 
 /* Splits block b of the tree of remainders into count = n / last blocks: word i of block j becomes the sum over k of
- * x_(k * last + i) * c^k, the coefficient of the remainder modulo X^last - c, where c is the power of the plan's
+ * x_(k * last + i) * c^k, the coefficient of the remainder modulo X^last - c, where c is the power of the table's
  * root by the reversed bits of b * count + j. So b = 0 and last = 1 give the transform in
  * bit-reversed order, and b = 1 starts from a polynomial modulo X^n + 1. NM_BAD_ARGUMENT: a word isn't below 4 * m,
  * n isn't last times a power of two, or the table has fewer than (b + 1) * (count / 2) entries. */
@@ -302,7 +302,7 @@ NM_CHECK nm_code_t nm_join(uint64_t m, uint64_t *xs, size_t xs_length, const nm_
 
 /* Replaces the first list by the cyclic product of both: entry e is the sum of x_i * y_j modulo m over all
  * i + j = e or e + n. The second list is replaced by the result of nm_split for b = 0. Both are split down to blocks
- * of last words, which is 1, or 2 where the plan is for n / 2 words. NM_BAD_ARGUMENT: a word isn't below 4 * m, the
+ * of last words, which is 1, or 2 where the table is for n / 2 words. NM_BAD_ARGUMENT: a word isn't below 4 * m, the
  * lengths differ, last isn't 1 or 2, n isn't last times a power of two, or the table has fewer than
  * n / last / 2 entries, or none. NM_NO_INVERSE: n / last has no inverse modulo m. */
 NM_CHECK nm_code_t nm_convolve_planned(uint64_t m, uint64_t *xs, size_t xs_length, uint64_t *ys, size_t ys_length,
@@ -319,8 +319,8 @@ NM_CHECK nm_code_t nm_convolve_negacyclic(uint64_t m, uint64_t *xs, size_t xs_le
  * nm_plan fills a table, which each call above tests. nm_plan_make makes an nm_plan_t, whose table is tested once, by
  * nm_plan_make or nm_plan_check; the other calls trust it. So the caller must ensure that a plan is one that
  * nm_plan_make wrote or nm_plan_check accepted, and that neither it nor its table has changed since then. It is enough
- * that the entries of the table are factors modulo m with their quotients: where they are no plan, the results are
- * below m and meaningless. For other entries nothing is claimed.
+ * that the entries of the table are factors modulo m with their quotients: where they are no root's table, the results
+ * are below m and meaningless. For other entries nothing is claimed.
  *
  * The codes but NM_BAD_CONTEXT are those of the calls above: words must be below 4 * m, and n at most twice the length
  * of the table. NM_NO_INVERSE: n has no inverse modulo m, as for n above 1 where m is even. */

@@ -91,7 +91,7 @@ static void value_transform_rows(void) {
     CODE(NM_OK, nm_plan_make(GREATEST, GREATEST - 1, table, 1, &plan));
     LIST(NM_NO_INVERSE, most, nm_plan_inverse(&plan, most, 2), UINT64_MAX, UINT64_MAX - 1);
     LIST(NM_OK, most, nm_plan_transform(&plan, most, 2), UINT64_C(4611686018427387901), 1);
-    /* factors that are no plan: the words are below m */
+    /* factors that are no root's table: the words are below m */
     CODE(NM_OK, nm_plan_make(17, 4, table, 2, &plan));
     table[1] = table[0];
     CODE(NM_BAD_CONTEXT, nm_plan_check(&plan));

@@ -1,4 +1,4 @@
-/* Plans, and transforms and products by them. */
+/* Tables of roots, and transforms and products by them. */
 #include <stdlib.h>
 
 #include "calls.h"
@@ -25,7 +25,7 @@ static void table_rows(void) {
     LIST(NM_NO_ROOT, three, nm_plan(17, 4, three, 3), 7, 7, 7, 7, 7, 7);
 }
 
-/* which tables are plans */
+/* which tables are those of a root */
 static void fits_rows(void) {
     nm_factor_t table[8];
     CODE(NM_OK, nm_plan(17, 3, table, 8));
@@ -96,7 +96,7 @@ static void transform_planned_rows(void) {
     LIST(NM_BAD_ARGUMENT, high, nm_ntt_planned(17, high, 4, table, 2), 4, 6, 0, 68);
     CODE(NM_OK, nm_plan(GREATEST, GREATEST - 1, table, 1));
     LIST(NM_OK, two, nm_ntt_planned(GREATEST, two, 2, table, 1), UINT64_C(4611686018427387901), 1);
-    /* factors that are no plan: the words are below m */
+    /* factors that are no root's table: the words are below m */
     CODE(NM_OK, nm_plan(17, 4, table, 2));
     table[1] = table[0];
     CODE(NM_BAD_CONTEXT, nm_plan_fits(17, 4, table, 2));
@@ -217,7 +217,7 @@ static void long_rows(void) {
         CODE(NM_OK, nm_ntt_planned(m, xs, n, table, n / 2));
         CODE(NM_OK, nm_montgomery_ntt(&ring, ys, n, root));
         for (size_t i = 0; i < n; i++) wrong += xs[i] != ys[i];
-        row("2^16 words by a plan", wrong == 0, NM_OK);
+        row("2^16 words by a table", wrong == 0, NM_OK);
     }
     free(table), free(xs), free(ys);
 }

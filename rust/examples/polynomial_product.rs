@@ -1,6 +1,6 @@
 //! The product of two polynomials modulo the prime 119·2^23 + 1, by a plan: one table serves both transforms.
 
-use num_modular::plans::{convolve_planned, plan, Factor, PlannedModulus};
+use num_modular::plans::{convolve_planned, fill_table, Factor, PlannedModulus};
 use num_modular::ring::find_root;
 use num_modular::{Reducer, Vanilla};
 
@@ -12,7 +12,7 @@ fn product(x: &[u32], y: &[u32]) -> Vec<u32> {
     let root = find_root(&Vanilla::<u32>::new(&PRIME), n).expect("n divides the prime less 1");
     let modulus = PlannedModulus::<u32>::new(PRIME);
     let mut table = vec![Factor::ZERO; n / 2];
-    plan(&modulus, root, &mut table);
+    fill_table(&modulus, root, &mut table);
     let (mut xs, mut ys) = (x.to_vec(), y.to_vec());
     xs.resize(n, 0);
     ys.resize(n, 0);

@@ -1,14 +1,14 @@
-//! Transforms by a plan: factors with their quotients in a table that the caller owns, for moduli that are at most
+//! Transforms by a table of twiddle factors with their quotients, which the caller owns, for moduli that are at most
 //! a quarter of the base. An entry of the table is a `Factor`, or a struct of the caller (`PlanEntry`). `ring` has
 //! the transforms that need no table, over any reducer, and `find_root`.
 //!
-//! `Plan` knows that its table is a plan, and asks only for lists that fit. It borrows the table, so a struct that owns its
-//! table can't keep a `Plan`. It makes one for each call (`Plan::with_table` tests the whole table), or calls the functions
-//! over a table, which also ask for the table's factors.
+//! `Plan` knows that its table is that of its root, and asks only for lists that fit. It borrows the table, so a struct
+//! that owns its table can't keep a `Plan`. It makes one for each call (`Plan::with_table` tests the whole table), or calls
+//! the functions over a table, which also ask for the table's factors.
 
 pub use crate::modular_barrett::planned::{Factor, PlannedModulus};
 pub use crate::modular_plan_passes::entry::PlanEntry;
-pub use crate::modular_plan_passes::plan::plan;
+pub use crate::modular_plan_passes::table::fill_table;
 pub use crate::modular_plan_transforms::convolution::{
     convolve_block, convolve_negacyclic, convolve_planned, convolves,
 };

@@ -7,7 +7,7 @@ use num_modular::applications::check_digits;
 use num_modular::hashes;
 use num_modular::monty::neg_mod_inv;
 use num_modular::plans::{
-    convolve_block, convolve_negacyclic, convolve_planned, join, multiply, ntt_planned, plan, split, Factor, Plan, PlanEntry, PlannedModulus,
+    convolve_block, convolve_negacyclic, convolve_planned, fill_table, join, multiply, ntt_planned, split, Factor, Plan, PlanEntry, PlannedModulus,
 };
 use num_modular::prim::by_subtraction;
 use num_modular::residues;
@@ -251,15 +251,15 @@ fn inverse_transforms() {
     panic_with!("g must suit the length: n = 4, m = 97, g = 5"; undone(97, 5, [1, 2, 3, 4]));
 }
 
-/// The modulus 97, and its plan for four entries by the root 22.
+/// The modulus 97, and the table of the root 22 for four entries.
 fn planned() -> (PlannedModulus<u64>, [Factor<u64>; 2]) {
     let modulus = PlannedModulus::<u64>::new(97);
     let mut table = [Factor::<u64>::ZERO; 2];
-    plan(&modulus, 22, &mut table);
+    fill_table(&modulus, 22, &mut table);
     (modulus, table)
 }
 
-/// The transform of a list by that plan.
+/// The transform of a list by that table.
 fn planned_transform<const N: usize>(entries: [u64; N]) -> [u64; N] {
     let (modulus, table) = planned();
     let mut xs = entries;
@@ -267,10 +267,10 @@ fn planned_transform<const N: usize>(entries: [u64; N]) -> [u64; N] {
     xs
 }
 
-/// The plan modulo 97 by g.
+/// The values of the table of g modulo 97.
 fn table<const N: usize>(g: u64) -> [u64; N] {
     let mut table = [Factor::<u64>::ZERO; N];
-    plan(&PlannedModulus::<u64>::new(97), g, &mut table);
+    fill_table(&PlannedModulus::<u64>::new(97), g, &mut table);
     table.map(|it| it.value())
 }
 
@@ -433,7 +433,7 @@ fn a_short_transform_reads_the_used_part_of_a_table() {
     let modulus = PlannedModulus::<u64>::new(469762049); // 7·2^26 + 1, of which 3 is a primitive root
     let mut table = vec![Counted(Factor::ZERO); 1 << 13];
     let root = 3u64.powm((469762049 - 1) >> 14, &469762049);
-    plan(&modulus, root, &mut table);
+    fill_table(&modulus, root, &mut table);
     let reads = |length: usize| {
         READ.with(|it| *it.borrow_mut() = 0);
         ntt_planned(&modulus, &mut vec![1; length], &table);

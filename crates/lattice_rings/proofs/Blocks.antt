@@ -12,7 +12,7 @@ use Rattle.num_modular.specs.NumberLaws.{sum_below-same, sum_below-congruent, su
 use Rattle.num_modular.specs.Orders.{bits_reversed}
 use Rattle.num_modular.specs.Transforms.{Suits, transform}
 use Rattle.num_modular.specs.PlanLaws.{bits_reversed_below, bits_reversed_of_high, bits_reversed_twice}
-use Rattle.num_modular.specs.Plans.{numbers, constant, IsPlan, AreRemainders}
+use Rattle.num_modular.specs.Plans.{numbers, constant, AreTwiddles, AreRemainders}
 use Rattle.num_modular.specs.PlanProducts.{coefficient, product_modulo, AreProducts}
 use Rattle.num_modular.specs.PlanLaws.{negacyclic, remainders_of_product}
 use Rattle.num_modular.specs.Polynomials.{polynomial}
@@ -22,18 +22,19 @@ use Rattle.lattice_rings.specs.Rings.{IsRingProduct}
 pub own_numbers : (w : List ℕ) → numbers (λ x. x) w ≡ slice_index w
 own_numbers w = ap (λ l. slice_index l) (map-id w)
 
--- the table as a plan
-pub plan_of : (m g s count : ℕ) (w : ℕ → ℕ) → Suits m g (2 ^ suc s) → count ≡ 2 ^ s
-    → ((k : ℕ) → k < count → w k ≡ g ^ bits_reversed s k % m) → IsPlan m g (suc s) count w
-plan_of m g s count w suits is entry = record {
+-- the table as the twiddle factors
+pub twiddles_of : (m g s count : ℕ) (w : ℕ → ℕ) → Suits m g (2 ^ suc s) → count ≡ 2 ^ s
+    → ((k : ℕ) → k < count → w k ≡ g ^ bits_reversed s k % m) → AreTwiddles m g (suc s) count w
+twiddles_of m g s count w suits is entry = record {
   suits = suits;
   half = let d = two-pow-succ s in omega (arith, is, d);
   entry = λ k l. let e : s ≡ suc s - 1 = omega arith in entry k l ∙ ap (λ v. g ^ bits_reversed v k % m) e;
 }
 
--- the powers of a root that suits twice 2^s entries are a plan
-pub powers_planned : (m g s : ℕ) → Suits m g (2 ^ suc s) → IsPlan m g (suc s) (2 ^ s) (λ k. g ^ bits_reversed s k % m)
-powers_planned m g s suits = plan_of m g s (2 ^ s) (λ k. g ^ bits_reversed s k % m) suits refl (λ k l. refl)
+-- the powers of a root that suits twice 2^s entries are its twiddle factors
+pub powers_are_twiddles : (m g s : ℕ) → Suits m g (2 ^ suc s)
+    → AreTwiddles m g (suc s) (2 ^ s) (λ k. g ^ bits_reversed s k % m)
+powers_are_twiddles m g s suits = twiddles_of m g s (2 ^ s) (λ k. g ^ bits_reversed s k % m) suits refl (λ k l. refl)
 
 -- the modulus m, the root r and the exponent b of the plan that a ring's calls use, and the number n of blocks
 pub record IsRingPlan (q g s m r b n : ℕ) : Type 0 where
@@ -222,15 +223,15 @@ pub product_transformed : (q g s last : ℕ) (x y p u v r : ℕ → ℕ) → 0 <
 product_transformed q g s last x y p u v r some size suits product first second products =
     let n = 2 ^ s in
     let w = λ (k : ℕ). g ^ bits_reversed s k % q in
-    let plan = powers_planned q g s suits in
+    let twiddles = powers_are_twiddles q g s suits in
     let z = product_modulo q (n * last) (constant g (suc s) 1) x y in
     let is : (e : ℕ) → e < 256 → z e ≡ p e = λ e l.
     ap (λ k. product_modulo q k (constant g (suc s) 1) x y e) size
-    ∙ negacyclic 256 e g (suc s) n w x y some (pow_pos s) plan
+    ∙ negacyclic 256 e g (suc s) n w x y some (pow_pos s) twiddles
     ∙ added_to q (coefficient 256 x y e) (coefficient 256 x y (e + 256)) (p e) (product.below e l) (product.each e l) in
     let room : (1 + 1) * (n / 2) ≤ n = omega arith in
     let are = values_of q g s last z (λ i. r i % q)
-    (remainders_of_product g (suc s) 1 n last n w x y u v r (s, refl) room plan
+    (remainders_of_product g (suc s) 1 n last n w x y u v r (s, refl) room twiddles
     (remainders_of q g s last x u first) (remainders_of q g s last y v second) products) in
     record {
       each = λ j i lj li.

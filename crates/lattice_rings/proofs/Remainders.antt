@@ -10,7 +10,7 @@ use Rattle.num_modular.specs.Orders.{bits_reversed}
 use Rattle.num_modular.specs.Plans.{numbers, constant}
 use Rattle.num_modular.specs.PlanLaws.{IsPairOfConstants, pair_of_constants}
 use Rattle.lattice_rings.specs.declared.ml_kem.Ring.{Ring}
-use Rattle.lattice_rings.proofs.Blocks.{constant_is, plan_of}
+use Rattle.lattice_rings.proofs.Blocks.{constant_is, twiddles_of}
 use Rattle.lattice_rings.proofs.Kem.{zeta_suits}
 
 -- the entry of the table for the remainders 2 * h and 2 * h + 1
@@ -18,7 +18,7 @@ pair_at : (r : Ring) (h : ℕ) → h < 64
     → IsPairOfConstants 3329 17 8 (64 + h) (numbers (λ f. f.value) r.table (64 + h))
 pair_at r h below =
     pair_of_constants 17 8 128 (64 + h) (numbers (λ f. f.value) r.table)
-    (plan_of 3329 17 7 128 (numbers (λ f. f.value) r.table) zeta_suits refl r.powers) (omega arith)
+    (twiddles_of 3329 17 7 128 (numbers (λ f. f.value) r.table) zeta_suits refl r.powers) (omega arith)
 
 pub entry_below : (r : Ring) (k : ℕ) → k < 128 → numbers (λ f. f.value) r.table k < 3329
 entry_below r k l = subst (λ v. v < 3329) (sym (r.powers k l)) (mod-lt (17 ^ bits_reversed 7 k) (omega arith))

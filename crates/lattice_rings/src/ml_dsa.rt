@@ -7,7 +7,7 @@ ghost use Rattle.num_modular.specs.Orders.{bits_reversed};
 ghost use Rattle.lattice_rings.specs.Rings.{IsDsaTransform, IsDsaProduct, IsRingProduct};
 
 use num_modular::laws::transform_laws;
-use num_modular::plans::{Factor, Plan, PlannedModulus, plan};
+use num_modular::plans::{Factor, Plan, PlannedModulus, fill_table};
 
 /// The modulus q.
 pub const MODULUS: u32 = 8380417;
@@ -18,7 +18,7 @@ pub const ZETA: u32 = 1753;
 /// The ring with its table, of 2 KB: zeta^BitRev8(k) modulo q for k from 0 to 255, each with its quotient. For k
 /// from 1 on these are the numbers of the standard's appendix B.
 ///
-/// The table is the plan by zeta, which suits 512 entries. In block 1, modulo X^256 + 1, the constants are the odd
+/// The table is that of zeta, which suits 512 entries. In block 1, modulo X^256 + 1, the constants are the odd
 /// powers zeta^(2·BitRev8(i) + 1), in the standard's order.
 ///
 /// # Examples
@@ -75,11 +75,11 @@ impl Ring {
         let modulus = PlannedModulus::new(MODULUS);
         let one = modulus.factor(1);
         let mut table = [one; 256];
-        plan(&modulus, ZETA, &mut table);
+        fill_table(&modulus, ZETA, &mut table);
         Ring { modulus, table }
     }
 
-    // The plan by zeta, over the table.
+    // The plan of zeta, over the table.
     fn plan(&self) -> Plan<'_, u32, Factor<u32>>
         ensures modulus { result.modulus.modulus ≡ 8380417 }
         ensures root { result.root ≡ 1753 }

@@ -8,7 +8,7 @@ ghost use Rattle.num_modular.specs.Orders.{bits_reversed};
 ghost use Rattle.lattice_rings.specs.Rings.{IsKemTransform, IsKemProduct, IsRingProduct};
 
 use num_modular::laws::transform_laws;
-use num_modular::plans::{Factor, Plan, PlannedModulus, plan};
+use num_modular::plans::{Factor, Plan, PlannedModulus, fill_table};
 
 /// The modulus q.
 pub const MODULUS: u32 = 3329;
@@ -19,7 +19,7 @@ pub const ZETA: u32 = 17;
 /// The ring with its table, of 1 KB: zeta^BitRev7(k) modulo q for k from 0 to 127, the numbers of the
 /// standard's appendix A, each with its quotient.
 ///
-/// The table is the plan by zeta, which suits 256 entries. In block 1, modulo X^256 + 1, the constants are the odd
+/// The table is that of zeta, which suits 256 entries. In block 1, modulo X^256 + 1, the constants are the odd
 /// powers zeta^(2·BitRev7(i) + 1), in the standard's order. There is no root of unity of order 512 modulo q, so the
 /// transform stops at remainders with two coefficients.
 ///
@@ -93,11 +93,11 @@ impl Ring {
         let modulus = PlannedModulus::new(MODULUS);
         let one = modulus.factor(1);
         let mut table = [one; 128];
-        plan(&modulus, ZETA, &mut table);
+        fill_table(&modulus, ZETA, &mut table);
         Ring { modulus, table }
     }
 
-    // The plan by zeta, over the table.
+    // The plan of zeta, over the table.
     fn plan(&self) -> Plan<'_, u32, Factor<u32>>
         ensures modulus { result.modulus.modulus ≡ 3329 }
         ensures root { result.root ≡ 17 }

@@ -6,7 +6,7 @@ ghost use Rattle.modular_transform.specs.Transforms.{Suits};
 ghost use Rattle.modular_barrett.specs.Factors.{IsFactorOf};
 
 use modular_barrett::planned::{Factor, PlannedModulus};
-use modular_plan_passes::plan::plan;
+use modular_plan_passes::table::fill_table;
 use modular_plan_transforms::join::join_scaled;
 use modular_plan_transforms::plan::Plan;
 use modular_prim::plain_word::PlainWord;
@@ -49,7 +49,7 @@ fn joined<T: PlainWord>(m: &PlannedModulus<T>, xs: &mut [T], table: &[Factor<T>]
     }
 }
 
-// The same by the plan by g, which it makes first.
+// The same by the plan of g, which it makes first.
 fn planned<T: PlainWord>(
     operation: u8,
     words: (T, T),
@@ -70,7 +70,7 @@ fn planned<T: PlainWord>(
     let (m, g) = words;
     let modulus = PlannedModulus::new(m);
     if operation == 2 {
-        plan(&modulus, g, table);
+        fill_table(&modulus, g, table);
         joined(&modulus, xs, table, n);
         return;
     }
@@ -107,7 +107,7 @@ fn on_the_stack<const FACTORS: usize>(
     planned::<u64>(operation, (m, g), xs, ys, &mut table, n);
 }
 
-/// Makes the plan by g for 2^10, 2^16 or 2^20 entries on the stack, and then runs an operation n times: none for 0,
+/// Makes the plan of g for 2^10, 2^16 or 2^20 entries on the stack, and then runs an operation n times: none for 0,
 /// `split` for 1, `join_scaled` by 1 for 2, `transform` for 3, `convolve` for 4. Lists of another length are left
 /// unchanged; so they are for an even m, but by 2. Conditions: m and g are those of a plan for so many entries; these
 /// are below m; the lists have the same length.

@@ -1,4 +1,4 @@
--- A plan made by doublings: the entries at the places of one bit, and the others from two each.
+-- A table made by doublings: the entries at the places of one bit, and the others from two each.
 use Rattle.std.proofs.Common.{◌≡◌, ℕ, suc, ◌+◌, ◌-◌, ◌*◌, ◌/◌, ◌%◌, ◌^◌, ◌<◌, ◌≤◌, List, get_or, length}
 use Rattle.std.proofs.Common.{inl, inr, refl, sym, ◌∙◌, ap, arith, subst, get_or-set_same, get_or-set_other}
 use Rattle.std.proofs.Math.ListN.{set}
@@ -11,7 +11,7 @@ use Rattle.modular_transform.specs.Orders.{bits_reversed}
 use Rattle.modular_transform.specs.Transforms.{Suits}
 use Rattle.modular_transform.proofs.BitReversal.{bits_reversed-suc, bits_reversed_of_zero, bits_reversed_of_parts}
 use Rattle.modular_barrett.specs.Factors.{IsFactor}
-use Rattle.modular_plan_passes.specs.Plans.{numbers, IsPlan}
+use Rattle.modular_plan_passes.specs.Plans.{numbers, AreTwiddles}
 use Rattle.modular_plan_passes.proofs.Entries.{written, not_written}
 use Rattle.modular_plan_passes.proofs.Tables.{exponent}
 
@@ -51,7 +51,7 @@ pub reversed_of_sum : (s t x : ℕ) → t < s → x < 2 ^ t
     → bits_reversed s (2 ^ t + x) ≡ bits_reversed s x + bits_reversed s (2 ^ t)
 reversed_of_sum s t x below within = (apart s t x (s - 1 - t) (omega (arith, below)) within).both
 
--- the entry at place k is that of the plan
+-- the entry at place k is the twiddle factor
 pub record IsMade {F : Type 0} (value quotient : F → ℕ) (base m g bits : ℕ) (table : List F) (k : ℕ) : Type 0 where
   pub factor : (d : F) → IsFactor base m (value (get_or table k d)) (quotient (get_or table k d))
   pub power : numbers value table k ≡ g ^ bits_reversed bits k % m
@@ -156,7 +156,7 @@ product_of_two m g s t x v w result below within is_v is_w e =
 -- all entries are made
 pub planned : {F : Type 0} (value quotient : F → ℕ) (base m g n bits z : ℕ) (table : List F) → Suits m g (2 * n)
     → 2 ^ z ≡ 2 * n → n ≡ 2 ^ bits → ((k : ℕ) → k < n → IsMade value quotient base m g bits table k)
-    → IsPlan m g z n (numbers value table)
+    → AreTwiddles m g z n (numbers value table)
 planned value quotient base m g n bits z table suits e whole made =
     let ex = exponent z n bits e whole in
     record {

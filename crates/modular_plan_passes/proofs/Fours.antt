@@ -186,7 +186,7 @@ pub stage_of_fours_all : {R : ℕ → ℕ → ℕ → ℕ → ℕ → ℕ → �
     → StageOfFours R q p x y → p ≡ blocks → StageOfFours R q blocks x y
 stage_of_fours_all {R} {q} {p} {blocks} {x} {y} done e = subst (λ n. StageOfFours R q n x y) e done
 
--- the whole list as one block is a stage by a plan w that begins with 1
+-- the whole list as one block is a stage by factors w that begin with 1
 pub first_stage : (R : ℕ → ℕ → ℕ → ℕ → ℕ → ℕ → ℕ → ℕ → ℕ → ℕ → ℕ → Type 0) (q v first blocks : ℕ) (w x y : ℕ → ℕ)
     → first ≡ 0 → blocks ≡ 1 → w 0 ≡ 1 → v ≡ w 1 → BlockOfFours (R 1 1 v) 0 q q x y
     → StageOfFours (λ p. R (w (first + p)) (w (2 * (first + p))) (w (2 * (first + p) + 1))) q blocks x y

@@ -11,7 +11,7 @@ use Rattle.modular_word.proofs.Congruence.{mod_mul, mod_add_cancel, mod_mul_canc
 use Rattle.modular_word.proofs.Sums.{sum_below-zero, sum_below-suc, sum_below-same, sum_below-mul}
 use Rattle.modular_transform.specs.Orders.{bits_reversed}
 use Rattle.modular_transform.specs.Transforms.{Suits}
-use Rattle.modular_plan_passes.specs.Plans.{constant, IsPlan, AreRemainders}
+use Rattle.modular_plan_passes.specs.Plans.{constant, AreTwiddles, AreRemainders}
 use Rattle.modular_plan_passes.specs.Steps.{StageDone, IsLevel}
 use Rattle.modular_plan_passes.proofs.Levels.{constants, level_sum, StageSizes, stage_sizes}
 use Rattle.modular_plan_passes.specs.Joins.{IsPairJoin}
@@ -129,28 +129,28 @@ level_lowest {m} g z b count last x y are = record {
 -- one stage of the loop: from twice as many blocks
 pub level_joined : {m : ℕ} (g z b blocks size last done count length entries : ℕ) (w x y after : ℕ → ℕ)
     → StageSizes (size + size) last blocks (suc done) count length
-    → (b + 1) * (count / 2) ≤ entries → IsPlan m g z entries w
+    → (b + 1) * (count / 2) ≤ entries → AreTwiddles m g z entries w
     → IsLevel m g z b (blocks * 2) size (λ k. 2 ^ done * x k) y
     → StageDone (λ p. IsPairJoin m (w (b * blocks + p))) size blocks y after
     → IsLevel m g z b blocks (size + size) (λ k. 2 ^ suc done * x k) after
-level_joined {m} g zero b blocks size last done count length entries w x y after sizes room plan before stage =
-    let half = plan.half in
+level_joined {m} g zero b blocks size last done count length entries w x y after sizes room twiddles before stage =
+    let half = twiddles.half in
     let none : 2 ^ 0 / 2 ≡ 0 = refl in
     let some = sizes.blocks_some in
     let few = sizes.blocks_few in
     let spread : (b + 1) * (count / 2) ≡ b * (count / 2) + count / 2 = omega arith in
     absurd (omega (arith, half, none, some, few, spread, room))
-level_joined {m} g (suc u) b blocks size last done count length entries w x y after sizes room plan before stage =
-    let half = plan.half in
+level_joined {m} g (suc u) b blocks size last done count length entries w x y after sizes room twiddles before stage =
+    let half = twiddles.half in
     let two = two-pow-succ u in
     let few = mul-le-mul_left (b + 1) sizes.blocks_few in
     let enough : (b + 1) * blocks ≤ 2 ^ u = omega (arith, few, room, half, two) in
     let e : suc u - 1 ≡ u = omega arith in
     let twice : 2 ^ done + 2 ^ done ≡ 2 ^ suc done = let d = two-pow-succ done in omega (arith, d) in
     subst (λ s. IsLevel m g (suc u) b blocks (size + size) (λ k. s * x k) after) twice
-    (level_above g u b blocks size (2 ^ done) x y after (λ p. w (b * blocks + p)) enough plan.suits
+    (level_above g u b blocks size (2 ^ done) x y after (λ p. w (b * blocks + p)) enough twiddles.suits
     (λ p l.
-    mod_trans (mod_of_eq (plan.entry (b * blocks + p)
+    mod_trans (mod_of_eq (twiddles.entry (b * blocks + p)
     (let k : b * blocks + p < entries = omega (arith, enough, half, two, l) in k)))
     (mod_trans (residue_of (g ^ bits_reversed (suc u - 1) (b * blocks + p)))
     (mod_of_eq (ap (λ k. g ^ bits_reversed k (b * blocks + p)) e))))

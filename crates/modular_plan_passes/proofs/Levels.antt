@@ -15,7 +15,7 @@ use Rattle.modular_transform.specs.Orders.{bits_reversed}
 use Rattle.modular_transform.specs.Transforms.{Suits}
 use Rattle.modular_transform.proofs.BitReversal.{bits_reversed-suc, bits_reversed_of_high, bits_reversed_below}
 use Rattle.modular_transform.proofs.MinusOne.{IsMinusOne, pow_of_square, even_power_of_minus_one}
-use Rattle.modular_plan_passes.specs.Plans.{constant, IsPlan, AreRemainders}
+use Rattle.modular_plan_passes.specs.Plans.{constant, AreTwiddles, AreRemainders}
 use Rattle.modular_plan_passes.specs.Steps.{IsPairSplit, StageDone, IsLevel}
 
 -- the terms at even and at odd places
@@ -63,7 +63,7 @@ level_sum {m} count half i v c x root =
     (mod_of_eq (sum_below-add count a (λ k. v * b k) ∙ ap (λ s. sum_below count a + s) (sum_below-mul count v b))))
 
 -- the constants of block p of a level with u more levels below it,
--- by t, the entry of the plan for it, and h, the half turn
+-- by t, the entry of the table for it, and h, the half turn
 pub record AreConstants (m c even odd t : ℕ) : Type 0 where
   pub root : Congruent m (t * t) c
   pub even_is : even ≡ t
@@ -281,25 +281,25 @@ sizes_of size last blocks rest length some power whole more sized counted =
 -- one stage of the loop
 pub level_next : {m : ℕ} (g z b blocks size last rest count length entries : ℕ) (w x y after : ℕ → ℕ)
     → StageSizes size last blocks rest count length
-    → (b + 1) * (count / 2) ≤ entries → IsPlan m g z entries w → IsLevel m g z b blocks size x y
+    → (b + 1) * (count / 2) ≤ entries → AreTwiddles m g z entries w → IsLevel m g z b blocks size x y
     → StageDone (λ p. IsPairSplit m (w (b * blocks + p))) (size / 2) blocks y after
     → IsLevel m g z b (blocks * 2) (size / 2) x after
-level_next {m} g zero b blocks size last rest count length entries w x y after sizes room plan before stage =
-    let half = plan.half in
+level_next {m} g zero b blocks size last rest count length entries w x y after sizes room twiddles before stage =
+    let half = twiddles.half in
     let none : 2 ^ 0 / 2 ≡ 0 = refl in
     let some = sizes.blocks_some in
     let few = sizes.blocks_few in
     let spread : (b + 1) * (count / 2) ≡ b * (count / 2) + count / 2 = omega arith in
     absurd (omega (arith, half, none, some, few, spread, room))
-level_next {m} g (suc u) b blocks size last rest count length entries w x y after sizes room plan before stage =
-    let half = plan.half in
+level_next {m} g (suc u) b blocks size last rest count length entries w x y after sizes room twiddles before stage =
+    let half = twiddles.half in
     let two = two-pow-succ u in
     let few = mul-le-mul_left (b + 1) sizes.blocks_few in
     let enough : (b + 1) * blocks ≤ 2 ^ u = omega (arith, few, room, half, two) in
     let e : suc u - 1 ≡ u = omega arith in
-    level_more g u b blocks (size / 2) x y after (λ p. w (b * blocks + p)) enough plan.suits
+    level_more g u b blocks (size / 2) x y after (λ p. w (b * blocks + p)) enough twiddles.suits
     (λ p l.
-    mod_trans (mod_of_eq (plan.entry (b * blocks + p)
+    mod_trans (mod_of_eq (twiddles.entry (b * blocks + p)
     (let k : b * blocks + p < entries = omega (arith, enough, half, two, l) in k)))
     (mod_trans (residue_of (g ^ bits_reversed (suc u - 1) (b * blocks + p)))
     (mod_of_eq (ap (λ k. g ^ bits_reversed k (b * blocks + p)) e))))
@@ -336,7 +336,7 @@ larger size last (suc rest) some more sized =
     let e : 2 ^ suc rest * last ≡ 2 ^ rest * last + 2 ^ rest * last = ap (λ v. v * last) two ∙ omega arith in
     omega (arith, e, p, sized, some)
 
--- the entries of the plan for a stage
+-- the entries of the table for a stage
 pub table_room : {size last blocks rest count length : ℕ} (b entries : ℕ)
     → StageSizes size last blocks rest count length → (b + 1) * (count / 2) ≤ entries
     → b * blocks + blocks ≤ entries

@@ -1,4 +1,4 @@
--- The entry of a plan whose product with another is -1: the one mirrored in its power of two.
+-- The entry of a table whose product with another is -1: the one mirrored in its power of two.
 use Rattle.std.proofs.Common.{◌≡◌, ℕ, suc, zero, ◌+◌, ◌-◌, ◌*◌, ◌/◌, ◌%◌, ◌^◌, ◌<◌, ◌≤◌, refl, sym, ◌∙◌, ap, arith}
 use Rattle.std.proofs.Math.Nat.{two-pow-succ, pow-zero, mod-eq_of_lt, zero-mod, add-mul-mod_self_right}
 use Rattle.std.proofs.lemmas.Nat.{pow-add, pow_pos}
@@ -6,7 +6,7 @@ use Rattle.modular_word.specs.Congruence.{Congruent}
 use Rattle.modular_word.proofs.Congruence.{mod_of_eq, mod_refl, mod_trans, mod_add, mod_mul, residue_of}
 use Rattle.modular_transform.specs.Orders.{bits_reversed}
 use Rattle.modular_transform.proofs.BitReversal.{bits_reversed-suc, bits_reversed_of_zero}
-use Rattle.modular_plan_passes.specs.Plans.{IsPlan}
+use Rattle.modular_plan_passes.specs.Plans.{AreTwiddles}
 use Rattle.modular_plan_passes.specs.Joins.{IsMinusInverse}
 
 -- q and r, with their highest bit the same and all others different
@@ -46,19 +46,19 @@ mirrored (suc u) (suc k) q r least most mirror below =
     ∙ ap (λ v. v * 2 ^ u) (let o : q % 2 + r % 2 ≡ 1 = omega (arith, parity) in o) ∙ omega arith in
     record { within = omega (arith, within, two); total = omega (arith, total, eq, er, bits, two) }
 
--- the mirrored entry of a plan lies in its table, and is minus the inverse
+-- the mirrored entry lies in the table, and is minus the inverse
 pub record IsMirror (m count place : ℕ) (w : ℕ → ℕ) (r : ℕ) : Type 0 where
   pub within : r < count
   pub inverse : IsMinusInverse m (w place) (w r)
 
-pub mirror_of_plan : {m : ℕ} (g z count k q r : ℕ) (w : ℕ → ℕ) → IsPlan m g z count w → q < count → 2 ^ k ≤ q
+pub mirror_of_twiddles : {m : ℕ} (g z count k q r : ℕ) (w : ℕ → ℕ) → AreTwiddles m g z count w → q < count → 2 ^ k ≤ q
     → q < 2 * 2 ^ k → q + r + 1 ≡ 3 * 2 ^ k → IsMirror m count q w r
-mirror_of_plan {m} g zero count k q r w plan below least most mirror =
-    let half = plan.half in
+mirror_of_twiddles {m} g zero count k q r w twiddles below least most mirror =
+    let half = twiddles.half in
     let none : 2 ^ 0 / 2 ≡ 0 = refl in
     absurd (omega (arith, half, none, below))
-mirror_of_plan {m} g (suc u) count k q r w plan below least most mirror =
-    let half = plan.half in
+mirror_of_twiddles {m} g (suc u) count k q r w twiddles below least most mirror =
+    let half = twiddles.half in
     let two = two-pow-succ u in
     let some = pow_pos u in
     let count_is : count ≡ 2 ^ u = omega (arith, half, two) in
@@ -67,12 +67,12 @@ mirror_of_plan {m} g (suc u) count k q r w plan below least most mirror =
     let r_below : r < count = omega (arith, inside, count_is) in
     let is_half : 2 ^ suc u / 2 ≡ 2 ^ u = omega (arith, two) in
     let e : suc u - 1 ≡ u = omega arith in
-    let entry = λ (p : ℕ) (l : p < count). mod_trans (mod_of_eq (plan.entry p l))
+    let entry = λ (p : ℕ) (l : p < count). mod_trans (mod_of_eq (twiddles.entry p l))
     (mod_trans (residue_of (g ^ bits_reversed (suc u - 1) p)) (mod_of_eq (ap (λ v. g ^ bits_reversed v p) e))) in
     let product : g ^ bits_reversed u q * g ^ bits_reversed u r ≡ g ^ (2 ^ suc u / 2)
     = sym (pow-add g (bits_reversed u q) (bits_reversed u r)) ∙ ap (λ v. g ^ v) (are.total ∙ sym is_half) in
     let turn : Congruent m (g ^ (2 ^ suc u / 2) + 1) 0 =
-    record { same = plan.suits.half_turn (omega (arith, two, some)) ∙ sym (zero-mod m) } in
+    record { same = twiddles.suits.half_turn (omega (arith, two, some)) ∙ sym (zero-mod m) } in
     record {
       within = r_below;
       inverse = record {
@@ -83,11 +83,11 @@ mirror_of_plan {m} g (suc u) count k q r w plan below least most mirror =
     }
 
 -- the first entry is 1, and -1 is minus its inverse
-pub first_of_plan : {m : ℕ} (g z count v : ℕ) (w : ℕ → ℕ) → IsPlan m g z count w → 0 < count
+pub first_of_twiddles : {m : ℕ} (g z count v : ℕ) (w : ℕ → ℕ) → AreTwiddles m g z count w → 0 < count
     → v + 1 ≡ m → IsMinusInverse m (w 0) v
-first_of_plan {m} g z count v w plan some is =
+first_of_twiddles {m} g z count v w twiddles some is =
     let r = ap (λ e. g ^ e) (bits_reversed_of_zero (z - 1)) ∙ pow-zero g in
-    let one : Congruent m (w 0) 1 = mod_trans (mod_of_eq (plan.entry 0 some))
+    let one : Congruent m (w 0) 1 = mod_trans (mod_of_eq (twiddles.entry 0 some))
     (mod_trans (residue_of (g ^ bits_reversed (z - 1) 0)) (mod_of_eq r)) in
     let whole : 1 * v + 1 ≡ 0 + 1 * m = omega (arith, is) in
     let gone : Congruent m (0 + 1 * m) 0 = record { same = add-mul-mod_self_right 0 1 m } in

@@ -4,12 +4,12 @@ use Rattle.std.proofs.Common.{◌≡◌, ℕ, suc, ◌+◌, ◌-◌, ◌*◌, �
 use Rattle.std.proofs.Common.{sym, ◌∙◌, ap, arith, subst, length-append}
 use Rattle.std.proofs.Math.Nat.{two-pow-succ}
 use Rattle.std.proofs.lemmas.Bool.{cases_lt}
-use Rattle.modular_plan_passes.specs.Plans.{numbers, IsPlan}
+use Rattle.modular_plan_passes.specs.Plans.{numbers, AreTwiddles}
 use Rattle.modular_plan_passes.specs.Joins.{AreMinusInverses, IsMinusInverse}
 use Rattle.modular_plan_passes.specs.Steps.{StageOfFours}
 use Rattle.modular_plan_passes.proofs.Entries.{number_read}
 use Rattle.modular_plan_passes.proofs.Fours.{four_along}
-use Rattle.modular_plan_passes.proofs.Mirrors.{mirror_of_plan}
+use Rattle.modular_plan_passes.proofs.Mirrors.{mirror_of_twiddles}
 use Rattle.modular_plan_passes.proofs.Quarters.{in_front, behind}
 
 -- a part begins a list, by the numbers of their entries
@@ -41,16 +41,16 @@ read_at_end value table part front back n i x of is front_length within read =
     ∙ ap (λ t. numbers value t (n + i)) (sym is) ∙ of.same (n + i) (omega (arith, len, front_length, within))
 
 -- the entries at the mirrored indexes of a block and of its halves
-pub mirrored_inverses : {m : ℕ} (g z count k place other : ℕ) (w : ℕ → ℕ) → IsPlan m g z count w → 2 * place + 1 < count
+pub mirrored_inverses : {m : ℕ} (g z count k place other : ℕ) (w : ℕ → ℕ) → AreTwiddles m g z count w → 2 * place + 1 < count
     → 2 ^ k ≤ place → place < 2 * 2 ^ k → place + other + 1 ≡ 3 * 2 ^ k
     → AreMinusInverses m (w place) (w (2 * place)) (w (2 * place + 1)) (w other) (w (2 * other + 1)) (w (2 * other))
-mirrored_inverses {m} g z count k place other w plan within least most sum =
+mirrored_inverses {m} g z count k place other w twiddles within least most sum =
     let two = two-pow-succ k in
     record {
-      own = (mirror_of_plan g z count k place other w plan (omega (arith, within)) least most sum).inverse;
-      low = (mirror_of_plan g z count (suc k) (2 * place) (2 * other + 1) w plan (omega (arith, within))
+      own = (mirror_of_twiddles g z count k place other w twiddles (omega (arith, within)) least most sum).inverse;
+      low = (mirror_of_twiddles g z count (suc k) (2 * place) (2 * other + 1) w twiddles (omega (arith, within))
           (omega (arith, two, least)) (omega (arith, two, most)) (omega (arith, two, sum))).inverse;
-      high = (mirror_of_plan g z count (suc k) (2 * place + 1) (2 * other) w plan within
+      high = (mirror_of_twiddles g z count (suc k) (2 * place + 1) (2 * other) w twiddles within
           (omega (arith, two, least)) (omega (arith, two, most)) (omega (arith, two, sum))).inverse;
     }
 

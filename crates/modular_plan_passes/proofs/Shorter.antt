@@ -1,4 +1,4 @@
--- The first entries of a plan are the plan for fewer entries.
+-- The first entries of a table are the table for fewer entries.
 use Rattle.std.proofs.Common.{◌≡◌, ℕ, suc, zero, ◌+◌, ◌-◌, ◌*◌, ◌/◌, ◌%◌, ◌^◌, ◌<◌, refl, sym, ◌∙◌, ap, arith, subst}
 use Rattle.std.proofs.Math.Nat.{two-pow-succ, pow-le-pow_right}
 use Rattle.std.proofs.lemmas.Nat.{pow-add, pow-mod}
@@ -7,7 +7,7 @@ use Rattle.modular_transform.specs.Orders.{bits_reversed}
 use Rattle.modular_transform.specs.Transforms.{Suits}
 use Rattle.modular_transform.proofs.BitReversal.{bits_reversed_of_zero, bits_reversed_of_parts}
 use Rattle.modular_transform.proofs.InverseTransform.{power_suits}
-use Rattle.modular_plan_passes.specs.Plans.{IsPlan}
+use Rattle.modular_plan_passes.specs.Plans.{AreTwiddles}
 
 -- of a place below 2^t, d bits more reverse to d zeros below
 more_bits : (t d k : ℕ) → k < 2 ^ t → bits_reversed (t + d) k ≡ 2 ^ d * bits_reversed t k
@@ -18,17 +18,17 @@ more_bits t d k below =
     let none = bits_reversed_of_zero d in
     omega (arith, parts, e, none)
 
--- an entry below half of 2^y, in both plans
-same_entry : (m g y d count k : ℕ) (w : ℕ → ℕ) → IsPlan m g (y + d) count w → k < 2 ^ y / 2
+-- an entry below half of 2^y, in both tables
+same_entry : (m g y d count k : ℕ) (w : ℕ → ℕ) → AreTwiddles m g (y + d) count w → k < 2 ^ y / 2
     → w k ≡ (g ^ (2 ^ d) % m) ^ bits_reversed (y - 1) k % m
-same_entry m g zero d count k w plan l = let one : 2 ^ 0 ≡ 1 = refl in absurd (omega (arith, one, l))
-same_entry m g (suc t) d count k w plan l =
+same_entry m g zero d count k w twiddles l = let one : 2 ^ 0 ≡ 1 = refl in absurd (omega (arith, one, l))
+same_entry m g (suc t) d count k w twiddles l =
     let r = bits_reversed t k in
     let two = two-pow-succ t in
     let below : k < 2 ^ t = omega (arith, two, l) in
     let whole : suc t + d - 1 ≡ t + d = omega arith in
     let up : suc t + d ≡ suc (t + d) = omega arith in
-    let half = plan.half in
+    let half = twiddles.half in
     let power = ap (λ v. 2 ^ v) up in
     let twice = two-pow-succ (t + d) in
     let most = pow-le-pow_right {n = 2} (omega arith) {i = t} {j = t + d} (omega arith) in
@@ -36,14 +36,14 @@ same_entry m g (suc t) d count k w plan l =
     let exponent : bits_reversed (suc t + d - 1) k ≡ 2 ^ d * r =
     ap (λ v. bits_reversed v k) whole ∙ more_bits t d k below in
     let own : t ≡ suc t - 1 = omega arith in
-    plan.entry k within ∙ ap (λ e. g ^ e % m) exponent ∙ ap (λ v. v % m) (pow-mul g (2 ^ d) r)
+    twiddles.entry k within ∙ ap (λ e. g ^ e % m) exponent ∙ ap (λ v. v % m) (pow-mul g (2 ^ d) r)
     ∙ sym (pow-mod (g ^ (2 ^ d)) r m) ∙ ap (λ b. (g ^ (2 ^ d) % m) ^ bits_reversed b k % m) own
 
--- the first entries of a plan for 2^(y + d) are the plan for 2^y, by the power of the root that suits these
-pub first_entries : {m g count : ℕ} {w : ℕ → ℕ} (y d : ℕ) → IsPlan m g (y + d) count w
-    → IsPlan m (g ^ (2 ^ d) % m) y (2 ^ y / 2) w
-first_entries {m} {g} {count} {w} y d plan = record {
-  suits = power_suits (2 ^ d) (2 ^ y) (y, refl) (subst (Suits m g) (pow-add 2 y d) plan.suits);
+-- the first twiddle factors for 2^(y + d) are those for 2^y, of the power of the root that suits these
+pub first_entries : {m g count : ℕ} {w : ℕ → ℕ} (y d : ℕ) → AreTwiddles m g (y + d) count w
+    → AreTwiddles m (g ^ (2 ^ d) % m) y (2 ^ y / 2) w
+first_entries {m} {g} {count} {w} y d twiddles = record {
+  suits = power_suits (2 ^ d) (2 ^ y) (y, refl) (subst (Suits m g) (pow-add 2 y d) twiddles.suits);
   half = refl;
-  entry = λ k l. same_entry m g y d count k w plan l;
+  entry = λ k l. same_entry m g y d count k w twiddles l;
 }

@@ -1,4 +1,4 @@
--- The length of the table of a plan.
+-- The length of a table.
 use Rattle.std.proofs.Common.{◌≡◌, ℕ, suc, zero, ◌-◌, ◌*◌, ◌/◌, ◌^◌}
 use Rattle.std.proofs.Common.{refl, ap, arith}
 use Rattle.std.proofs.Math.Nat.{two-pow-succ}

@@ -9,7 +9,7 @@ use Rattle.modular_word.specs.Sums.{sum_below}
 use Rattle.modular_word.proofs.Congruence.{mod_of_eq, mod_trans, residue_of}
 use Rattle.modular_transform.specs.Orders.{bits_reversed}
 use Rattle.modular_transform.specs.Transforms.{Suits}
-use Rattle.modular_plan_passes.specs.Plans.{constant, IsPlan, AreRemainders}
+use Rattle.modular_plan_passes.specs.Plans.{constant, AreTwiddles, AreRemainders}
 use Rattle.modular_plan_passes.specs.Steps.{FourAt, StageOfFours, IsLevel}
 use Rattle.modular_plan_passes.proofs.Levels.{table_room}
 use Rattle.modular_plan_passes.specs.Joins.{IsFourJoin}
@@ -137,19 +137,19 @@ two_join_sizes size last blocks rest done count length some positive blocks_is s
 -- two stages of the loop: from four times as many blocks
 pub level_joined_two : {m : ℕ} (g z b blocks size last done count length entries : ℕ) (w x y after : ℕ → ℕ)
     → TwoJoinSizes size last blocks done count length
-    → (b + 1) * (count / 2) ≤ entries → IsPlan m g z entries w → IsLevel m g z b blocks size (λ k. 2 ^ done * x k) y
+    → (b + 1) * (count / 2) ≤ entries → AreTwiddles m g z entries w → IsLevel m g z b blocks size (λ k. 2 ^ done * x k) y
     → StageOfFours (λ p. IsFourJoin m (w (b * (blocks / 4) + p)) (w (2 * (b * (blocks / 4) + p)))
     (w (2 * (b * (blocks / 4) + p) + 1))) size (blocks / 4) y after
     → IsLevel m g z b (blocks / 4) (size * 4) (λ k. 2 ^ suc (suc done) * x k) after
-level_joined_two {m} g zero b blocks size last done count length entries w x y after sizes room plan before stage =
-    let half = plan.half in
+level_joined_two {m} g zero b blocks size last done count length entries w x y after sizes room twiddles before stage =
+    let half = twiddles.half in
     let none : 2 ^ 0 / 2 ≡ 0 = refl in
     let some = sizes.first.stage.blocks_some in
     let few = sizes.first.stage.blocks_few in
     let spread : (b + 1) * (count / 2) ≡ b * (count / 2) + count / 2 = omega arith in
     absurd (omega (arith, half, none, some, few, spread, room))
-level_joined_two {m} g (suc u) b blocks size last done count length entries w x y after sizes room plan before stage =
-    let half = plan.half in
+level_joined_two {m} g (suc u) b blocks size last done count length entries w x y after sizes room twiddles before stage =
+    let half = twiddles.half in
     let two = two-pow-succ u in
     let few = mul-le-mul_left (b + 1) sizes.first.stage.blocks_few in
     let same = ap (λ v. (b + 1) * v) sizes.half in
@@ -161,13 +161,13 @@ level_joined_two {m} g (suc u) b blocks size last done count length entries w x 
     let four : size + size + (size + size) ≡ size * 4 = omega arith in
     subst (λ n. IsLevel m g (suc u) b (blocks / 4) n (λ k. 2 ^ suc (suc done) * x k) after) four
     (subst (λ s. IsLevel m g (suc u) b (blocks / 4) (size + size + (size + size)) (λ k. s * x k) after) scale
-    (level_two_above g u b (blocks / 4) size (2 ^ done) x y after w enough plan.suits
+    (level_two_above g u b (blocks / 4) size (2 ^ done) x y after w enough twiddles.suits
     (λ k l.
-    mod_trans (mod_of_eq (plan.entry k (let i : k < entries = omega (arith, half, two, l) in i)))
+    mod_trans (mod_of_eq (twiddles.entry k (let i : k < entries = omega (arith, half, two, l) in i)))
     (mod_trans (residue_of (g ^ bits_reversed (suc u - 1) k)) (mod_of_eq (ap (λ v. g ^ bits_reversed v k) e))))
     (subst (λ n. IsLevel m g (suc u) b n size (λ k. 2 ^ done * x k) y) sizes.twice before) stage))
 
--- the entries of the plan for two stages
+-- the entries of the table for two stages
 pub two_join_rooms : {size last blocks done count length : ℕ} (b entries : ℕ)
     → TwoJoinSizes size last blocks done count length → (b + 1) * (count / 2) ≤ entries
     → 2 * (b * (blocks / 4) + blocks / 4) ≤ entries
@@ -228,16 +228,16 @@ first_fours b last length entries last_is some power whole room =
 
 -- .. and what they make of the remainders
 pub remainders_of_fours : {m : ℕ} (g z b last length entries : ℕ) (w x y after : ℕ → ℕ) → last ≡ 1
-    → FirstFours b last length entries → (b + 1) * (length / last / 2) ≤ entries → IsPlan m g z entries w
+    → FirstFours b last length entries → (b + 1) * (length / last / 2) ≤ entries → AreTwiddles m g z entries w
     → AreRemainders m g z b (length / last) last x (λ i. y i % m)
     → StageOfFours (λ p. IsFourJoin m (w (b * (length / 4) + p)) (w (2 * (b * (length / 4) + p)))
     (w (2 * (b * (length / 4) + p) + 1))) 1 (length / 4) y after
     → AreRemainders m g z b (length / 4) 4 (λ k. 4 * x k) (λ i. after i % m)
-remainders_of_fours {m} g z b last length entries w x y after last_is are room plan before stage =
+remainders_of_fours {m} g z b last length entries w x y after last_is are room twiddles before stage =
     let count = length / last in
     let quarter : length / 4 ≡ count / 4 = ap (λ v. v / 4) (sym are.count) in
     let four : last * 4 ≡ 4 = ap (λ v. v * 4) last_is in
-    let joined = level_joined_two g z b count last last 0 count length entries w x y after are.sizes room plan
+    let joined = level_joined_two g z b count last last 0 count length entries w x y after are.sizes room twiddles
     (level_lowest g z b count last x y before)
     (subst (λ q. StageOfFours (λ p. IsFourJoin m (w (b * (count / 4) + p)) (w (2 * (b * (count / 4) + p)))
     (w (2 * (b * (count / 4) + p) + 1))) q (count / 4) y after) (sym last_is)

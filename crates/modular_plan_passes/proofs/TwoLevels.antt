@@ -9,7 +9,7 @@ use Rattle.modular_word.specs.Sums.{sum_below}
 use Rattle.modular_word.proofs.Congruence.{mod_of_eq, mod_trans, residue_of}
 use Rattle.modular_transform.specs.Orders.{bits_reversed}
 use Rattle.modular_transform.specs.Transforms.{Suits}
-use Rattle.modular_plan_passes.specs.Plans.{constant, IsPlan, AreRemainders}
+use Rattle.modular_plan_passes.specs.Plans.{constant, AreTwiddles, AreRemainders}
 use Rattle.modular_plan_passes.specs.Steps.{IsFourSplit, FourAt, StageOfFours, IsLevel}
 use Rattle.modular_plan_passes.proofs.Levels.{level_pair, StageSizes, sizes_of, table_room, twice_fits, larger, remainders_of}
 
@@ -137,41 +137,41 @@ two_sizes size last blocks rest length some power all more sized counted =
       some = omega (arith, some_two, same);
     }
 
--- two stages, by the plan
+-- two stages, by the table
 pub level_after_fours : {m : ℕ} (g z b blocks q entries : ℕ) (w x y after : ℕ → ℕ) → 0 < blocks
-    → (b + 1) * (blocks * 2) ≤ entries → IsPlan m g z entries w → IsLevel m g z b blocks (q + q + (q + q)) x y
+    → (b + 1) * (blocks * 2) ≤ entries → AreTwiddles m g z entries w → IsLevel m g z b blocks (q + q + (q + q)) x y
     → StageOfFours (λ p. IsFourSplit m (w (b * blocks + p)) (w (2 * (b * blocks + p))) (w (2 * (b * blocks + p) + 1)))
     q blocks y after
     → IsLevel m g z b (blocks * 4) q x after
-level_after_fours {m} g zero b blocks q entries w x y after some room plan before stage =
-    let half = plan.half in
+level_after_fours {m} g zero b blocks q entries w x y after some room twiddles before stage =
+    let half = twiddles.half in
     let none : 2 ^ 0 / 2 ≡ 0 = refl in
     let spread : (b + 1) * (blocks * 2) ≡ b * (blocks * 2) + blocks * 2 = omega arith in
     absurd (omega (arith, half, none, some, spread, room))
-level_after_fours {m} g (suc u) b blocks q entries w x y after some room plan before stage =
-    let half = plan.half in
+level_after_fours {m} g (suc u) b blocks q entries w x y after some room twiddles before stage =
+    let half = twiddles.half in
     let two = two-pow-succ u in
     let enough : (b + 1) * (blocks * 2) ≤ 2 ^ u = omega (arith, room, half, two) in
     let e : suc u - 1 ≡ u = omega arith in
     let four : blocks * 2 * 2 ≡ blocks * 4 = omega arith in
     subst (λ n. IsLevel m g (suc u) b n q x after) four
-    (level_fours g u b blocks q x y after w enough plan.suits
+    (level_fours g u b blocks q x y after w enough twiddles.suits
     (λ k l.
-    mod_trans (mod_of_eq (plan.entry k (let i : k < entries = omega (arith, half, two, l) in i)))
+    mod_trans (mod_of_eq (twiddles.entry k (let i : k < entries = omega (arith, half, two, l) in i)))
     (mod_trans (residue_of (g ^ bits_reversed (suc u - 1) k)) (mod_of_eq (ap (λ v. g ^ bits_reversed v k) e))))
     before stage)
 
 -- two stages of the loop
 pub level_after_two : {m : ℕ} (g z b blocks size last rest count length entries : ℕ) (w x y after : ℕ → ℕ)
     → TwoSizes size last blocks rest count length
-    → (b + 1) * (count / 2) ≤ entries → IsPlan m g z entries w → IsLevel m g z b blocks size x y
+    → (b + 1) * (count / 2) ≤ entries → AreTwiddles m g z entries w → IsLevel m g z b blocks size x y
     → StageOfFours (λ p. IsFourSplit m (w (b * blocks + p)) (w (2 * (b * blocks + p))) (w (2 * (b * blocks + p) + 1)))
     (size / 4) blocks y after
     → IsLevel m g z b (blocks * 4) (size / 4) x after
-level_after_two {m} g z b blocks size last rest count length entries w x y after sizes room plan before stage =
+level_after_two {m} g z b blocks size last rest count length entries w x y after sizes room twiddles before stage =
     let few = mul-le-mul_left (b + 1) sizes.second.blocks_few in
     level_after_fours g z b blocks (size / 4) entries w x y after sizes.first.blocks_some
-    (omega (arith, few, room)) plan
+    (omega (arith, few, room)) twiddles
     (subst (λ n. IsLevel m g z b blocks n x y) sizes.size_is before) stage
 
 -- four times as many blocks
@@ -179,7 +179,7 @@ pub four_fit : {size last blocks rest count length : ℕ}
     → TwoSizes size last blocks rest count length → blocks * 4 ≤ length
 four_fit {size} {last} {blocks} {rest} {count} {length} sizes = let fit = twice_fits sizes.second in omega (arith, fit)
 
--- the entries of the plan for two stages
+-- the entries of the table for two stages
 pub two_rooms : {size last blocks rest count length : ℕ} (b entries : ℕ) → TwoSizes size last blocks rest count length
     → (b + 1) * (count / 2) ≤ entries
     → 2 * (b * blocks + blocks) ≤ entries
@@ -228,12 +228,12 @@ whole_fours n last b entries is large power room =
 
 -- the last two stages leave the remainders
 pub remainders_of_fours : {m : ℕ} (g z b n last entries : ℕ) (w x y after : ℕ → ℕ) → last ≡ 1 → WholeFours n b entries
-    → IsPlan m g z entries w → IsLevel m g z b (n / 4) 4 x y
+    → AreTwiddles m g z entries w → IsLevel m g z b (n / 4) 4 x y
     → StageOfFours (λ p. IsFourSplit m (w (b * (n / 4) + p)) (w (2 * (b * (n / 4) + p)))
     (w (2 * (b * (n / 4) + p) + 1))) 1 (n / 4) y after
     → ((i : ℕ) → i < n → after i < m) → AreRemainders m g z b (n / last) last x after
-remainders_of_fours {m} g z b n last entries w x y after is fours plan before stage below =
-    let level = level_after_fours g z b (n / 4) 1 entries w x y after fours.some fours.last_room plan before stage in
+remainders_of_fours {m} g z b n last entries w x y after is fours twiddles before stage below =
+    let level = level_after_fours g z b (n / 4) 1 entries w x y after fours.some fours.last_room twiddles before stage in
     let all : n ≡ n / last = sym (ap (λ v. n / v) is ∙ omega arith) in
     let whole : n * 1 ≡ n = omega arith in
     subst (λ v. AreRemainders m g z b (n / last) v x after) (sym is)

@@ -3,7 +3,7 @@
 -- (Bernstein, "Multidigit multiplication for mathematicians", section 2). The names are the library's own words.
 use Rattle.std.specs.Prelude.{◌≡◌, ℕ, ◌+◌, ◌*◌, ◌<◌, ◌≤◌, List, All, length}
 use Rattle.modular_barrett.specs.Factors.{IsFactor, AllFactors}
-use Rattle.modular_plan_passes.specs.Plans.{numbers, IsPlan}
+use Rattle.modular_plan_passes.specs.Plans.{numbers, AreTwiddles}
 use Rattle.modular_plan_passes.specs.Steps.{StageOfFours}
 use Rattle.modular_plan_passes.specs.Splits.{IsPassReady}
 use Rattle.modular_plan_passes.specs.Joins.{IsFourJoin}
@@ -32,10 +32,10 @@ pub record IsJoinPassReady {X F : Type 0} (number : X → ℕ) (value quotient :
   pub minus_factor : IsFactor base m minus minus_quotient
   pub is_minus : minus + 1 ≡ m
 
--- after that pass: the entries are below a bound, and each block is joined, by a table that is a plan
+-- after that pass: the entries are below a bound, and each block is joined, by the table of a root
 pub record IsPassJoined {X F : Type 0} (number : X → ℕ) (value : F → ℕ) (m bound q blocks first : ℕ) (table : List F)
     (old new : List X) : Type 0 where
   pub entries : All (λ x. number x < bound) new
-  pub done : (g z : ℕ) → IsPlan m g z (length table) (numbers value table)
+  pub done : (g z : ℕ) → AreTwiddles m g z (length table) (numbers value table)
       → StageOfFours (λ p. IsFourJoin m (numbers value table (first + p)) (numbers value table (2 * (first + p)))
       (numbers value table (2 * (first + p) + 1))) q blocks (numbers number old) (numbers number new)

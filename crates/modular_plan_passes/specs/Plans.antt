@@ -1,4 +1,4 @@
--- Plans of transforms, and remainders of polynomials (Fiduccia, "Polynomial evaluation via the division algorithm";
+-- Tables of twiddle factors, and remainders of polynomials (Fiduccia, "Polynomial evaluation via the division algorithm";
 -- Bernstein, "Multidigit multiplication for mathematicians", section 2, for the tree of X^n - 1). The names are the
 -- library's own words.
 use Rattle.std.specs.Prelude.{◌≡◌, ℕ, ◌+◌, ◌-◌, ◌*◌, ◌/◌, ◌%◌, ◌^◌, ◌<◌, List, map, slice_index}
@@ -10,8 +10,9 @@ use Rattle.modular_transform.specs.Transforms.{Suits}
 abbrev pub numbers : {T : Type 0} → (T → ℕ) → List T → ℕ → ℕ
 numbers number words i = slice_index (map number words) i
 
--- the count numbers w are the plan by g for 2^z entries: the first half of the powers of g, in bit-reversed order
-pub record IsPlan (m g z count : ℕ) (w : ℕ → ℕ) : Type 0 where
+-- the count numbers w are the twiddle factors of g for 2^z entries: the first half of the powers of g, in bit-reversed
+-- order
+pub record AreTwiddles (m g z count : ℕ) (w : ℕ → ℕ) : Type 0 where
   pub suits : Suits m g (2 ^ z)
   pub half : count ≡ 2 ^ z / 2
   pub entry : (k : ℕ) → k < count → w k ≡ g ^ bits_reversed (z - 1) k % m

@@ -1,4 +1,4 @@
-//! The entries of a plan: factors, or structs of the caller that represent them.
+//! The entries of a table of twiddle factors: factors, or structs of the caller that represent them.
 
 ghost use Rattle.std.specs.Prelude.{◌≡◌, ℕ};
 
@@ -6,8 +6,8 @@ use modular_barrett::planned::Factor;
 use modular_word::path_word::PathWord;
 use modular_word::ring_word::RingWord;
 
-/// An entry of a plan: `Factor` itself, or another struct of two words, such as one with the layout of another
-/// language.
+/// An entry of a table of twiddle factors: `Factor` itself, or another struct of two words, such as one with the layout
+/// of another language.
 ///
 /// # Examples
 ///

@@ -2,7 +2,7 @@
 
 ghost use Rattle.std.specs.Prelude.{◌≡◌, ℕ, ◌+◌, ◌*◌, ◌^◌, ◌<◌, ◌≤◌, All, length};
 ghost use Rattle.modular_barrett.specs.Factors.{IsFactorOf};
-ghost use Rattle.modular_plan_passes.specs.Plans.{numbers, IsPlan};
+ghost use Rattle.modular_plan_passes.specs.Plans.{numbers, AreTwiddles};
 ghost use Rattle.modular_plan_passes.specs.Splits.{AreFactorsOf, IsPassReady};
 ghost use Rattle.modular_plan_passes.specs.Steps.{StageDone};
 ghost use Rattle.modular_plan_passes.specs.Joins.{IsPairJoin, IsMinusInverse, AreMinusInverses};
@@ -38,7 +38,7 @@ fn mirrored_run(place: usize) -> (usize, usize)
 }
 
 // Minus the inverse of the factor at an index: the factor at the mirrored index, or -1 for index 0. Where the table
-// is no plan the mirrored index may be out of bounds.
+// isn't that of a root the mirrored index may be out of bounds.
 fn minus_inverse<T: PlainWord, F: PlanEntry<T>, M: JoinSteps<T>>(
     m: &M,
     table: &[F],
@@ -51,7 +51,7 @@ fn minus_inverse<T: PlainWord, F: PlanEntry<T>, M: JoinSteps<T>>(
     ensures factor { IsFactorOf T.base T.number (M.modulus m.now) result }
     ensures inverse { let modulus = M.modulus m.now in
         let w = numbers F.value table.now in (g z : ℕ) →
-        IsPlan modulus g z (length table.now) w → IsMinusInverse modulus (w place) (T.number result.value) }
+        AreTwiddles modulus g z (length table.now) w → IsMinusInverse modulus (w place) (T.number result.value) }
 {
     if place == 0 {
         return minus;
@@ -79,7 +79,7 @@ pub fn minus_inverses<T: PlainWord, F: PlanEntry<T>, M: JoinSteps<T>>(
     ensures factors { AreFactorsOf T.base T.number (M.modulus m.now) result.0 result.1 result.2 }
     ensures inverses { let modulus = M.modulus m.now in
         let w = numbers F.value table.now in (g z : ℕ) →
-        IsPlan modulus g z (length table.now) w → AreMinusInverses modulus (w place) (w (2 * place)) (w (2 * place + 1))
+        AreTwiddles modulus g z (length table.now) w → AreMinusInverses modulus (w place) (w (2 * place)) (w (2 * place + 1))
         (T.number result.0.value) (T.number result.1.value) (T.number result.2.value) }
 {
     if place == 0 {
@@ -114,7 +114,7 @@ pub fn join_stage<T: PlainWord, F: PlanEntry<T>, M: JoinSteps<T>>(
     ensures entries { All (λ x. T.number x < M.bound m.now) xs.new }
     ensures done { let modulus = M.modulus m.now in
         let w = numbers F.value table.now in (g z : ℕ) →
-        IsPlan modulus g z (length table.now) w →
+        AreTwiddles modulus g z (length table.now) w →
         StageDone (λ p. IsPairJoin modulus (w (first + p))) half blocks
         (numbers T.number xs.old) (numbers T.number xs.new) }
 {

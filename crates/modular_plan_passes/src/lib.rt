@@ -1,4 +1,4 @@
-//! Tables of factors for transforms by a plan, which the caller owns, and the passes of splits and joins by them over a
+//! Tables of twiddle factors for transforms, which the caller owns, and the passes of splits and joins by them over a
 //! list: a stage of all blocks, or two.
 #![tactic(auto)]
 
@@ -10,6 +10,6 @@ pub mod pass_joins;
 mod pass_splits;
 pub mod passes;
 mod places;
-pub mod plan;
 pub mod split_stages;
 pub mod split_steps;
+pub mod table;

@@ -93,7 +93,7 @@ fn split_known<T: PlainWord, M: SplitSteps<T>, F: PlanEntry<T>>(
 }
 
 /// A pass of two stages, block p by entry first + p of the table. The first pass of a transform takes one product in
-/// place of four, since a plan begins with the factor 1. Conditions: the blocks, of 4·q entries each, fill the list, and
+/// place of four, since a root's table begins with 1. Conditions: the blocks, of 4·q entries each, fill the list, and
 /// q is at least 1; the list's entries are below the limit, and below 4m where there is only one block; those of the
 /// table are factors modulo m, one for each block and two for its halves.
 pub fn split_pass<T: PlainWord, M: SplitSteps<T>, F: PlanEntry<T>>(

@@ -16,7 +16,7 @@ use Rattle.modular_word.proofs.Sums.{sum_below-same, sum_below-add}
 use Rattle.modular_transform.specs.Transforms.{Suits, cyclic_product}
 use Rattle.modular_transform.proofs.BitReversal.{bits_reversed_of_zero}
 use Rattle.modular_transform.proofs.MinusOne.{pow_of_square}
-use Rattle.modular_plan_passes.specs.Plans.{constant, IsPlan, AreRemainders}
+use Rattle.modular_plan_passes.specs.Plans.{constant, AreTwiddles, AreRemainders}
 use Rattle.modular_plan_passes.proofs.Levels.{constants}
 use Rattle.modular_plan_transforms.specs.PlanConditions.{AreBlocks}
 use Rattle.modular_plan_transforms.specs.ProductConditions.{AreSmallBlocks}
@@ -70,32 +70,32 @@ power_of_constant {m} g u b (suc k) j room below suits =
     (mod_trans (mod_pow (2 ^ suc k) (square_of_constant g u q (b * 2 ^ suc (suc k) + j) q_below half suits))
     (power_of_constant g u b k p (omega (arith, room, halved)) p_below suits))
 
--- .. for the blocks of a plan
-constant_of_plan : {m : ℕ} (g z b k count j entries : ℕ) (w : ℕ → ℕ) → count ≡ 2 ^ k → (b + 1) * (count / 2) ≤ entries
-    → IsPlan m g z entries w → j < count
+-- .. for the blocks of a table
+constant_of_twiddles : {m : ℕ} (g z b k count j entries : ℕ) (w : ℕ → ℕ) → count ≡ 2 ^ k → (b + 1) * (count / 2) ≤ entries
+    → AreTwiddles m g z entries w → j < count
     → Congruent m (constant g z (b * count + j) ^ count) (constant g z b)
-constant_of_plan {m} g z b zero count j entries w is room plan below =
+constant_of_twiddles {m} g z b zero count j entries w is room twiddles below =
     let one : 2 ^ 0 ≡ 1 = refl in
     let c1 : count ≡ 1 = omega (arith, is, one) in
     let bc = ap (λ v. b * v) c1 in
     let block : b * count + j ≡ b = omega (arith, bc, c1, below) in
     mod_of_eq (ap (λ v. constant g z (b * count + j) ^ v) c1
     ∙ pow-one (constant g z (b * count + j)) ∙ ap (constant g z) block)
-constant_of_plan {m} g zero b (suc k) count j entries w is room plan below =
-    let half = plan.half in
+constant_of_twiddles {m} g zero b (suc k) count j entries w is room twiddles below =
+    let half = twiddles.half in
     let none : 2 ^ 0 / 2 ≡ 0 = refl in
     let two = two-pow-succ k in
     let p = pow_pos k in
     let spread : (b + 1) * (count / 2) ≡ b * (count / 2) + count / 2 = omega arith in
     absurd (omega (arith, half, none, two, p, is, spread, room))
-constant_of_plan {m} g (suc u) b (suc k) count j entries w is room plan below =
-    let half = plan.half in
+constant_of_twiddles {m} g (suc u) b (suc k) count j entries w is room twiddles below =
+    let half = twiddles.half in
     let two = two-pow-succ u in
     let twice = two-pow-succ k in
     let h : count / 2 ≡ 2 ^ k = omega (arith, is, twice) in
     let r = ap (λ v. (b + 1) * v) h in
     subst (λ n. Congruent m (constant g (suc u) (b * n + j) ^ n) (constant g (suc u) b)) (sym is)
-    (power_of_constant g u b k j (omega (arith, r, room, half, two)) (omega (arith, is, below)) plan.suits)
+    (power_of_constant g u b k j (omega (arith, r, room, half, two)) (omega (arith, is, below)) twiddles.suits)
 
 -- remainders are their own residues
 pub residues_again : {m : ℕ} (g z b count last : ℕ) (x u : ℕ → ℕ) → AreRemainders m g z b count last x u
@@ -108,17 +108,17 @@ residues_again {m} g z b count last x u are = record {
 
 -- the list of products of numbers congruent to remainders with remainders is that of the remainders of the product
 pub remainders_of_loose_product : {m : ℕ} (g z b count last entries : ℕ) (w x y u v p : ℕ → ℕ) → IsPowerOfTwo count
-    → (b + 1) * (count / 2) ≤ entries → IsPlan m g z entries w
+    → (b + 1) * (count / 2) ≤ entries → AreTwiddles m g z entries w
     → AreRemainders m g z b count last x (λ i. u i % m) → AreRemainders m g z b count last y v
     → AreProducts m g z b count last u v p
     → AreRemainders m g z b count last (product_modulo m (count * last) (constant g z b) x y) (λ i. p i % m)
-remainders_of_loose_product {m} g z b count last entries w x y u v p power room plan first second products = record {
+remainders_of_loose_product {m} g z b count last entries w x y u v p power room twiddles first second products = record {
   each = λ j i lj li.
       let c = constant g z (b * count + j) in
       let value = products.each j i lj li in
       let column = column_of_product count last c (constant g z b) i x y
       (λ k. u (j * last + k)) (λ k. v (j * last + k)) li
-      (constant_of_plan g z b power.0 count j entries w power.1 room plan lj)
+      (constant_of_twiddles g z b power.0 count j entries w power.1 room twiddles lj)
       (λ a la. mod_trans (mod_sym (residue_of (u (j * last + a))))
       (mod_trans (mod_of_eq (first.each j a lj la)) (residue_of (sum_below count (λ k. x (k * last + a) * c ^ k)))))
       (λ a la.
@@ -128,11 +128,11 @@ remainders_of_loose_product {m} g z b count last entries w x y u v p power room 
 
 -- .. of remainders with remainders
 pub remainders_of_product : {m : ℕ} (g z b count last entries : ℕ) (w x y u v p : ℕ → ℕ) → IsPowerOfTwo count
-    → (b + 1) * (count / 2) ≤ entries → IsPlan m g z entries w
+    → (b + 1) * (count / 2) ≤ entries → AreTwiddles m g z entries w
     → AreRemainders m g z b count last x u → AreRemainders m g z b count last y v → AreProducts m g z b count last u v p
     → AreRemainders m g z b count last (product_modulo m (count * last) (constant g z b) x y) (λ i. p i % m)
-remainders_of_product {m} g z b count last entries w x y u v p power room plan first second products =
-    remainders_of_loose_product g z b count last entries w x y u v p power room plan
+remainders_of_product {m} g z b count last entries w x y u v p power room twiddles first second products =
+    remainders_of_loose_product g z b count last entries w x y u v p power room twiddles
     (residues_again g z b count last x u first) second products
 
 -- twice as many factors as half of the blocks
@@ -161,17 +161,17 @@ scaled_back {m} count part v one =
 -- the entries that are joined are the product
 pub joined_product : {m : ℕ} (g z b last entries count size part : ℕ) (w x y u v p out : ℕ → ℕ) → IsPowerOfTwo count
     → count * last ≡ size → (b + 1) * count ≤ 2 * entries
-    → IsPlan m g z entries w → Congruent m (count * part) 1
+    → AreTwiddles m g z entries w → Congruent m (count * part) 1
     → AreRemainders m g z b count last x (λ i. u i % m)
     → AreRemainders m g z b count last y v → AreProducts m g z b count last u v p
     → ((r : ℕ → ℕ) → AreRemainders m g z b count last r (λ i. p i % m) → (i : ℕ) → i < size
     → out i ≡ (count * r i * part) % m)
     → (e : ℕ) → e < size → out e ≡ product_modulo m size (constant g z b) x y e
-joined_product {m} g z b last entries count size part w x y u v p out power whole room plan one first
+joined_product {m} g z b last entries count size part w x y u v p out power whole room twiddles one first
     second products joined e below =
     let c = constant g z b in
     let are = remainders_of_loose_product g z b count last entries w x y u v p power
-    (half_room b count entries room) plan first second products in
+    (half_room b count entries room) twiddles first second products in
     joined (product_modulo m (count * last) c x y) are e below
     ∙ scaled_back count part
     (coefficient (count * last) x y e + c * coefficient (count * last) x y (e + count * last)) one
@@ -208,12 +208,12 @@ cyclic m n e g z x y some =
     ap (λ c. product_modulo m n c x y e) one ∙ ap (λ v. (coefficient n x y e + v) % m) o ∙ ap (λ v. v % m) (sym sums)
 
 -- the constant of block 1 is -1
-pub negacyclic : {m : ℕ} (n e g z count : ℕ) (w x y : ℕ → ℕ) → 0 < m → 0 < count → IsPlan m g z count w
+pub negacyclic : {m : ℕ} (n e g z count : ℕ) (w x y : ℕ → ℕ) → 0 < m → 0 < count → AreTwiddles m g z count w
     → product_modulo m n (constant g z 1) x y e ≡ product_modulo m n (m - 1) x y e
-negacyclic {m} n e g zero count w x y positive some plan = let half = plan.half in
+negacyclic {m} n e g zero count w x y positive some twiddles = let half = twiddles.half in
     let none : 2 ^ 0 / 2 ≡ 0 = refl in absurd (omega (arith, half, none, some))
-negacyclic {m} n e g (suc u) count w x y positive some plan =
-    let are = constants g u 0 (pow_pos u) plan.suits in
+negacyclic {m} n e g (suc u) count w x y positive some twiddles =
+    let are = constants g u 0 (pow_pos u) twiddles.suits in
     let one : g ^ bits_reversed u 0 ≡ 1 = ap (λ k. g ^ k) (bits_reversed_of_zero u) ∙ pow-zero g in
     let zero_block : Congruent m (constant g (suc u) 1 + 1) 0 =
     mod_trans (mod_of_eq (ap (λ v. constant g (suc u) 1 + v) (sym one))) are.opposite in

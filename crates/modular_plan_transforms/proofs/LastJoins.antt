@@ -1,4 +1,4 @@
--- The last pass of a join by a plan that begins with 1, each entry times a number.
+-- The last pass of a join by a table that begins with 1, each entry times a number.
 use Rattle.std.proofs.Common.{◌≡◌, ℕ, ◌+◌, ◌*◌, ◌/◌, ◌%◌, ◌^◌, ◌<◌, ◌≤◌, List, map, length}
 use Rattle.std.proofs.Common.{refl, sym, ◌∙◌, ap, arith, subst}
 use Rattle.std.proofs.Math.Nat.{zero-mul}
@@ -9,7 +9,7 @@ use Rattle.modular_word.specs.Congruence.{Congruent}
 use Rattle.modular_word.specs.Sums.{sum_below}
 use Rattle.modular_word.proofs.Congruence.{mod_of_eq, mod_trans, mod_refl, mod_mul}
 use Rattle.modular_word.proofs.Sums.{sum_below-same, sum_below-mul}
-use Rattle.modular_plan_passes.specs.Plans.{numbers, constant, IsPlan, AreRemainders}
+use Rattle.modular_plan_passes.specs.Plans.{numbers, constant, AreTwiddles, AreRemainders}
 use Rattle.modular_plan_passes.specs.Steps.{FourAt}
 use Rattle.modular_plan_passes.proofs.Fours.{first_stage}
 use Rattle.modular_plan_passes.specs.Joins.{IsFourJoin}
@@ -50,7 +50,7 @@ remainders_scaled {m} g z b count last s x y are = record {
       (mod_mul one (mod_refl s)).same ∙ ap (λ v. v % m) (turn ∙ sym all);
 }
 
--- the entries of the plan
+-- the entries of the table
 pub two_entries : (b count entries : ℕ) → b ≡ 0 → count ≡ 4 → (b + 1) * (count / 2) ≤ entries → 2 ≤ entries
 two_entries b count entries no_b four room =
     let spread : (b + 1) * (count / 2) ≡ b * (count / 2) + count / 2 = omega arith in
@@ -58,13 +58,13 @@ two_entries b count entries no_b four room =
 
 -- the list that the last pass makes
 pub last_joined : {m : ℕ} (g z b last count length entries s : ℕ) (w x y after : ℕ → ℕ) → 1 ≤ last → b ≡ 0 → count ≡ 4
-    → IsPowerOfTwo count → count * last ≡ length → (b + 1) * (count / 2) ≤ entries → IsPlan m g z entries w → w 0 ≡ 1
+    → IsPowerOfTwo count → count * last ≡ length → (b + 1) * (count / 2) ≤ entries → AreTwiddles m g z entries w → w 0 ≡ 1
     → AreRemainders m g z b count last x (λ i. y i % m)
     → ((i : ℕ) → i < last → FourAt (IsFourJoin m 1 1 (w 1)) 0 last i (λ k. y k * s) after)
     → ((k : ℕ) → length ≤ k → after k ≡ y k * s)
     → (i : ℕ) → i < length → Congruent m (after i) (count * x i * s)
-last_joined {m} g z b last count length entries s w x y after some no_b four power whole room plan begins are columns past
-    i l =
+last_joined {m} g z b last count length entries s w x y after some no_b four power whole room twiddles begins are columns
+    past i l =
     let fill : 4 * last ≡ length = ap (λ v. v * last) (sym four) ∙ whole in
     let one : 2 ^ 0 ≡ 1 = refl in
     let sizes = two_join_sizes last last count power.0 0 count length some some power.1
@@ -72,7 +72,8 @@ last_joined {m} g z b last count length entries s w x y after some no_b four pow
     (omega (arith, four)) (omega (arith, fill, some)) in
     let no_first : b * (count / 4) ≡ 0 = ap (λ v. v * (count / 4)) no_b ∙ zero-mul (count / 4) in
     let level = level_joined_two g z b count last last 0 count length entries w (λ k. x k * s) (λ k. y k * s) after sizes
-    room plan (level_lowest g z b count last (λ k. x k * s) (λ k. y k * s) (remainders_scaled g z b count last s x y are))
+    room twiddles (level_lowest g z b count last (λ k. x k * s) (λ k. y k * s)
+    (remainders_scaled g z b count last s x y are))
     (first_stage (IsFourJoin m) last (w 1) (b * (count / 4)) (count / 4) w (λ k. y k * s) after no_first
     (omega (arith, four)) begins refl (record {
       fours = columns;

@@ -50,7 +50,7 @@ reversed_among_more d (suc t) w p e below =
     ∙ ap (λ n. r * 2 ^ d + b * n) (pow-add 2 t d) ∙ product
     ∙ ap (λ n. n * 2 ^ d) (sym (bits_reversed-suc t p))
 
--- a plan for 2^z entries is long enough for 2^bits
+-- a table for 2^z entries is long enough for 2^bits
 pub no_more_bits : (bits z n count : ℕ) → n ≡ 2 ^ bits → count ≡ 2 ^ z / 2 → n / 2 ≤ count → bits ≤ z
 no_more_bits bits z n count whole half within = elim (cases_lt z bits) [
   | inl more ↦
@@ -73,7 +73,7 @@ constant_power g d z n bits j k is_more below =
     let same : j * 2 ^ d * k ≡ 2 ^ d * (k * j) = omega arith in
     ap (λ v. (g ^ v) ^ k) turn ∙ sym (pow-mul g (j * 2 ^ d) k) ∙ ap (λ v. g ^ v) same ∙ pow-mul g (2 ^ d) (k * j)
 
--- remainders modulo X - c by a plan for 2^d times as many entries are the transform, at the index with reversed bits
+-- remainders modulo X - c by a table for 2^d times as many entries are the transform, at the index with reversed bits
 pub transform_at_reversed : (m g d z n bits : ℕ) (x y : ℕ → ℕ) → z ≡ bits + d → n ≡ 2 ^ bits
     → AreRemainders m g z 0 n 1 x y
     → (j : ℕ) → j < n → y (bits_reversed bits j) ≡ transform m (g ^ (2 ^ d)) n x j
@@ -118,7 +118,7 @@ transform_reversed m g d bits n j x y whole are below =
     ap y (sym (bits_reversed_twice bits j (omega (arith, whole, below))))
     ∙ transform_at_reversed m g d (bits + d) n bits x y refl whole are (bits_reversed bits j) (omega (arith, whole, r))
 
--- the same by a plan for as many entries
+-- the same by a table for as many entries
 pub transform_reversed_whole : (m g bits n j : ℕ) (x y : ℕ → ℕ) → n ≡ 2 ^ bits → AreRemainders m g bits 0 n 1 x y
     → j < n → y j ≡ transform m g n x (bits_reversed bits j)
 transform_reversed_whole m g bits n j x y whole are below =

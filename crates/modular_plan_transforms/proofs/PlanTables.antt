@@ -1,11 +1,11 @@
--- A table is the plan by g where its entries are factors and the powers of g in bit-reversed order.
+-- A table is that of g where its entries are factors and the powers of g in bit-reversed order.
 use Rattle.std.proofs.Common.{◌≡◌, ℕ, suc, ◌+◌, ◌-◌, ◌*◌, ◌/◌, ◌%◌, ◌^◌, ◌<◌, ◌≤◌, ◌↔◌, List, length, ap, subst, sym, ◌∙◌, arith}
 use Rattle.std.proofs.Math.Nat.{two-pow-succ, pow-zero, lt-div-mul-add, div-mul-le_self}
 use Rattle.std.proofs.lemmas.Nat.{mul-mod_first, pow-add, div-mul-add}
 use Rattle.modular_word.proofs.Congruence.{same_rest, factor_cancel}
 use Rattle.modular_word.proofs.Powers.{pow-one}
 use Rattle.modular_barrett.specs.Factors.{IsFactor, AllFactors}
-use Rattle.modular_plan_passes.specs.Plans.{numbers, IsPlan}
+use Rattle.modular_plan_passes.specs.Plans.{numbers, AreTwiddles}
 use Rattle.modular_plan_passes.proofs.Tables.{exponent}
 use Rattle.modular_transform.specs.Orders.{bits_reversed}
 use Rattle.modular_transform.specs.Transforms.{Suits}
@@ -65,7 +65,7 @@ pub table_of : {F : Type 0} (b m g bits : ℕ) (value quotient : F → ℕ) (tab
     → IsTable b m g value quotient table
 table_of b m g bits value quotient table whole suits factors powers = record {
   factors = factors;
-  plan = λ z e.
+  twiddles = λ z e.
       let ex = exponent z (length table) bits e whole in
       record {
         suits = subst (Suits m g) (sym e) suits;
@@ -79,14 +79,15 @@ pub powers_of : {F : Type 0} (b m g bits : ℕ) (value quotient : F → ℕ) (ta
 powers_of b m g bits value quotient table whole is k l =
     let two = two-pow-succ bits in
     let less : suc bits - 1 ≡ bits = omega arith in
-    (is.plan (suc bits) (omega (arith, two, whole))).entry k l ∙ ap (λ v. g ^ bits_reversed v k % m) less
+    (is.twiddles (suc bits) (omega (arith, two, whole))).entry k l ∙ ap (λ v. g ^ bits_reversed v k % m) less
 
--- a table of so many factors that holds the plan for twice as many entries
+-- a table of so many factors that is that of g, for twice as many entries
 pub made_table : {F : Type 0} {b m g count : ℕ} {value quotient : F → ℕ} {table : List F} → length table ≡ count
     → AllFactors b m value quotient table
-    → ((z : ℕ) → 2 ^ z ≡ 2 * count → IsPlan m g z count (numbers value table)) → IsTable b m g value quotient table
-made_table {m = m} {g = g} {value = value} {table = table} same factors plan =
+    → ((z : ℕ) → 2 ^ z ≡ 2 * count → AreTwiddles m g z count (numbers value table)) → IsTable b m g value quotient table
+made_table {m = m} {g = g} {value = value} {table = table} same factors twiddles =
     record {
       factors = factors;
-      plan = λ z e. subst (λ n. IsPlan m g z n (numbers value table)) (sym same) (plan z (e ∙ ap (λ n. 2 * n) same));
+      twiddles = λ z e. subst (λ n. AreTwiddles m g z n (numbers value table)) (sym same)
+          (twiddles z (e ∙ ap (λ n. 2 * n) same));
     }

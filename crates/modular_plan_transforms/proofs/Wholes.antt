@@ -16,13 +16,13 @@ use Rattle.modular_transform.proofs.StageLemmas.{root_squared}
 use Rattle.modular_transform.specs.Orders.{bits_reversed}
 use Rattle.modular_transform.specs.Transforms.{Suits, transform}
 use Rattle.modular_plan_passes.proofs.Shorter.{first_entries}
-use Rattle.modular_plan_passes.specs.Plans.{numbers, IsPlan}
+use Rattle.modular_plan_passes.specs.Plans.{numbers, AreTwiddles}
 use Rattle.modular_plan_transforms.proofs.NaturalOrder.{no_more_bits}
 
 -- the table of a plan, by the fields
-pub plan_of : {m g bits count : ℕ} {w : ℕ → ℕ} → 2 * count ≡ 2 ^ bits → (g ^ count + 1) % m ≡ 0
-    → ((k : ℕ) → k < count → w k ≡ g ^ bits_reversed (bits - 1) k % m) → IsPlan m g bits count w
-plan_of {m} {g} {bits} {count} whole turn entry =
+pub twiddles_of : {m g bits count : ℕ} {w : ℕ → ℕ} → 2 * count ≡ 2 ^ bits → (g ^ count + 1) % m ≡ 0
+    → ((k : ℕ) → k < count → w k ≡ g ^ bits_reversed (bits - 1) k % m) → AreTwiddles m g bits count w
+twiddles_of {m} {g} {bits} {count} whole turn entry =
     let half : count ≡ 2 ^ bits / 2 = omega (arith, whole) in
     record {
       suits = record {
@@ -34,11 +34,11 @@ plan_of {m} {g} {bits} {count} whole turn entry =
     }
 
 -- and the half turn of a root, by the table
-pub turn_of : {m g bits count : ℕ} {w : ℕ → ℕ} → 2 * count ≡ 2 ^ bits → IsPlan m g bits count w
+pub turn_of : {m g bits count : ℕ} {w : ℕ → ℕ} → 2 * count ≡ 2 ^ bits → AreTwiddles m g bits count w
     → (g ^ count + 1) % m ≡ 0
-turn_of {m} {g} {bits} whole plan =
+turn_of {m} {g} {bits} whole twiddles =
     let more : 1 < 2 ^ bits = (let p = pow_pos bits in omega (arith, whole, p)) in
-    subst (λ n. (g ^ n + 1) % m ≡ 0) (sym plan.half) (plan.suits.half_turn more)
+    subst (λ n. (g ^ n + 1) % m ≡ 0) (sym twiddles.half) (twiddles.suits.half_turn more)
 
 -- the root for all entries of a plan is the root itself
 pub root_itself : (m g bits n : ℕ) (x : ℕ → ℕ) (j : ℕ) → n ≡ 2 ^ bits
@@ -157,9 +157,10 @@ pub number_taken : {T : Type 0} (value : T → ℕ) (n k : ℕ) (xs : List T) �
 number_taken value n k xs below =
     ap (λ ys. get_or ys k 0) (sym (take-map value n xs)) ∙ get_or-take n (map value xs) k 0 below
 
--- the plan by a power of the root over them
-pub first_plan : {m g count : ℕ} {w : ℕ → ℕ} (bits h y d : ℕ) → bits ≡ y + d → h ≡ g ^ (2 ^ d) % m → IsPlan m g bits count w
-    → IsPlan m h y (2 ^ y / 2) w
-first_plan {m} {g} {count} {w} bits h y d more is plan =
-    subst (λ r. IsPlan m r y (2 ^ y / 2) w) (sym is)
-    (first_entries y d (subst (λ b. IsPlan m g b count w) more plan))
+-- the twiddle factors of a power of the root over them
+pub shorter_twiddles : {m g count : ℕ} {w : ℕ → ℕ} (bits h y d : ℕ) → bits ≡ y + d → h ≡ g ^ (2 ^ d) % m
+    → AreTwiddles m g bits count w
+    → AreTwiddles m h y (2 ^ y / 2) w
+shorter_twiddles {m} {g} {count} {w} bits h y d more is twiddles =
+    subst (λ r. AreTwiddles m r y (2 ^ y / 2) w) (sym is)
+    (first_entries y d (subst (λ b. AreTwiddles m g b count w) more twiddles))

@@ -4,7 +4,7 @@
 use Rattle.std.specs.Prelude.{◌≡◌, ℕ, ◌+◌, ◌*◌, ◌/◌, ◌%◌, ◌<◌, ◌≤◌, List, All, length}
 use Rattle.std.specs.Int.{IsPowerOfTwo}
 use Rattle.modular_barrett.specs.Factors.{AllFactors}
-use Rattle.modular_plan_passes.specs.Plans.{numbers, IsPlan, AreRemainders}
+use Rattle.modular_plan_passes.specs.Plans.{numbers, AreTwiddles, AreRemainders}
 use Rattle.modular_plan_passes.specs.JoinPasses.{IsTableOfFactors}
 
 -- a list of this length consists of blocks of `last` entries, a power of two of them, and a table of so many
@@ -38,6 +38,6 @@ pub record IsLevelJoined {X F : Type 0} (number : X → ℕ) (value : F → ℕ)
   pub entries : All (λ x. number x < bound) new
   pub blocks : AreBlocks (length old) (length table) b next
   pub times : scale * (length old / next) ≡ length old / last
-  pub joined : (g z : ℕ) (x : ℕ → ℕ) → IsPlan m g z (length table) (numbers value table)
+  pub joined : (g z : ℕ) (x : ℕ → ℕ) → AreTwiddles m g z (length table) (numbers value table)
       → AreRemainders m g z b (length old / last) last x (λ i. numbers number old i % m)
       → AreRemainders m g z b (length old / next) next (λ k. scale * x k) (λ i. numbers number new i % m)

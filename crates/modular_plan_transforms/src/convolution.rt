@@ -1,10 +1,10 @@
-//! Products of polynomials modulo X^n - c, by a plan.
+//! Products of polynomials modulo X^n - c, by a table.
 
 ghost use Rattle.std.specs.Prelude.{◌≡◌, ℕ, ◌+◌, ◌-◌, ◌*◌, ◌/◌, ◌%◌, ◌<◌, ◌≤◌, ◌↔◌, IsTrue, All, length};
 ghost use Rattle.modular_word.specs.Inverses.{IsInverse, HasInverse};
 ghost use Rattle.modular_transform.specs.Transforms.{cyclic_product};
 ghost use Rattle.modular_barrett.specs.Factors.{IsFactorOf, AllFactors};
-ghost use Rattle.modular_plan_passes.specs.Plans.{numbers, constant, IsPlan, AreRemainders};
+ghost use Rattle.modular_plan_passes.specs.Plans.{numbers, constant, AreTwiddles, AreRemainders};
 ghost use Rattle.modular_plan_transforms.specs.PlanConditions.{AreBlocks};
 ghost use Rattle.modular_plan_transforms.specs.ProductConditions.{AreSmallBlocks};
 ghost use Rattle.modular_plan_transforms.specs.Products.{product_modulo, AreProducts};
@@ -35,7 +35,7 @@ fn split_first<T: PlainWord, F: PlanEntry<T>>(
     ensures below { ((last ≡ 1) × (T.number m.now.modulus % 2 ≡ 1) → ⊥) →
         All (λ x. T.number x < T.number m.now.modulus) xs.new }
     ensures remainders { let modulus = T.number m.now.modulus in (g z : ℕ) →
-        IsPlan modulus g z (length table.now) (numbers F.value table.now) →
+        AreTwiddles modulus g z (length table.now) (numbers F.value table.now) →
         AreRemainders modulus g z b (length xs.old / last) last (numbers T.number xs.old)
         (λ i. numbers T.number xs.new i % modulus) }
 {
@@ -67,7 +67,7 @@ fn join_products<T: PlainWord, F: PlanEntry<T>>(
     requires factor { IsFactorOf T.base T.number (T.number m.now.modulus) w.now }
     ensures below { All (λ x. T.number x < T.number m.now.modulus) xs.new }
     ensures joined { let modulus = T.number m.now.modulus in (g z : ℕ) →
-        IsPlan modulus g z (length table.now) (numbers F.value table.now) →
+        AreTwiddles modulus g z (length table.now) (numbers F.value table.now) →
         (p : ℕ → ℕ) × AreProducts modulus g z b (length xs.old / last) last (numbers T.number xs.old)
         (numbers T.number ys.now) p
         × ((x : ℕ → ℕ) → AreRemainders modulus g z b (length xs.old / last) last x (λ i. p i % modulus) →
@@ -105,11 +105,11 @@ pub(crate) fn convolve_scaled<T: PlainWord, F: PlanEntry<T>>(
     ensures below { All (λ x. T.number x < T.number m.now.modulus) xs.new
         × All (λ x. T.number x < T.number m.now.modulus) ys.new }
     ensures product { let modulus = T.number m.now.modulus in (g z e : ℕ) →
-        IsPlan modulus g z (length table.now) (numbers F.value table.now) → e < length xs.old →
+        AreTwiddles modulus g z (length table.now) (numbers F.value table.now) → e < length xs.old →
         numbers T.number xs.new e ≡ product_modulo modulus (length xs.old) (constant g z b)
         (numbers T.number xs.old) (numbers T.number ys.old) e }
     ensures remainders { let modulus = T.number m.now.modulus in (g z : ℕ) →
-        IsPlan modulus g z (length table.now) (numbers F.value table.now) →
+        AreTwiddles modulus g z (length table.now) (numbers F.value table.now) →
         AreRemainders modulus g z b (length xs.old / last) last (numbers T.number ys.old) (numbers T.number ys.new) }
 {
     split_first(m, xs, table, b, last);
@@ -117,7 +117,7 @@ pub(crate) fn convolve_scaled<T: PlainWord, F: PlanEntry<T>>(
     join_products(m, xs, ys, table, b, last, part);
 }
 
-/// Whether `convolve_block` accepts lists of `length` entries as block b, down to blocks of `last`, and a plan of
+/// Whether `convolve_block` accepts lists of `length` entries as block b, down to blocks of `last`, and a table of
 /// `factors` factors.
 ///
 /// # Examples
@@ -145,11 +145,11 @@ pub fn convolves(length: usize, factors: usize, b: usize, last: usize) -> bool
 }
 
 /// Replaces xs by the product of two polynomials modulo X^n - c, and ys by the remainders of the second as `split`
-/// computes them. Here n is the length of the lists, the table is the plan by g (`plan`), and c is the power of g by
+/// computes them. Here n is the length of the lists, the table is that of g (`fill_table`), and c is the power of g by
 /// the reversed bits of b. Returns false, with both lists unchanged, exactly where the number n/last of blocks has no
 /// inverse modulo m.
 ///
-/// So b = 0 gives the cyclic product, and b = 1 that modulo X^n + 1. The table must be the plan by some g: with other
+/// So b = 0 gives the cyclic product, and b = 1 that modulo X^n + 1. The table must be that of some g: with other
 /// factors modulo m, the results are below m and meaningless. Conditions: the lists have the same length; `last`
 /// is 1 or 2, the length is `last` times a power of two, and the table has (b + 1)·n/last/2 entries or more
 /// (`convolves` tells); the entries are below 4m; the table's entries are factors modulo m. No memory is allocated.
@@ -160,11 +160,11 @@ pub fn convolves(length: usize, factors: usize, b: usize, last: usize) -> bool
 /// # Examples
 ///
 /// ```
-/// use num_modular::plans::{convolve_block, plan, Factor, PlannedModulus};
+/// use num_modular::plans::{convolve_block, fill_table, Factor, PlannedModulus};
 ///
 /// let modulus = PlannedModulus::<u64>::new(17);
 /// let mut table = [Factor::<u64>::ZERO; 2];
-/// plan(&modulus, 4, &mut table);
+/// fill_table(&modulus, 4, &mut table);
 /// let (mut xs, mut ys) = ([0, 0, 0, 1], [0, 1, 0, 0]);
 /// assert!(convolve_block(&modulus, &mut xs, &mut ys, &table, 1, 2));
 /// assert_eq!(xs, [16, 0, 0, 0]); // X^3 * X is -1 modulo X^4 + 1
@@ -187,11 +187,11 @@ pub fn convolve_block<T: PlainWord, F: PlanEntry<T>>(
     ensures below { IsTrue result → All (λ x. T.number x < T.number m.now.modulus) xs.new
         × All (λ x. T.number x < T.number m.now.modulus) ys.new }
     ensures product { let modulus = T.number m.now.modulus in IsTrue result → (g z e : ℕ) →
-        IsPlan modulus g z (length table.now) (numbers F.value table.now) → e < length xs.old →
+        AreTwiddles modulus g z (length table.now) (numbers F.value table.now) → e < length xs.old →
         numbers T.number xs.new e ≡ product_modulo modulus (length xs.old) (constant g z b)
         (numbers T.number xs.old) (numbers T.number ys.old) e }
     ensures remainders { let modulus = T.number m.now.modulus in IsTrue result → (g z : ℕ) →
-        IsPlan modulus g z (length table.now) (numbers F.value table.now) →
+        AreTwiddles modulus g z (length table.now) (numbers F.value table.now) →
         AreRemainders modulus g z b (length xs.old / last) last (numbers T.number ys.old) (numbers T.number ys.new) }
 {
     match inverse_of_count(m, xs.len() / last) {
@@ -205,17 +205,17 @@ pub fn convolve_block<T: PlainWord, F: PlanEntry<T>>(
 
 /// Replaces xs by the cyclic product of xs and ys, as `convolve_block` for b = 0: entry e becomes the sum of
 /// x_i·y_j modulo m over i + j = e or e + n. Returns false, with both lists unchanged, exactly where the number
-/// n/last of blocks has no inverse modulo m. The table must be a plan, as for `convolve_block`. Conditions: those of
+/// n/last of blocks has no inverse modulo m. The table must be as for `convolve_block`. Conditions: those of
 /// `convolve_block`.
 ///
 /// # Examples
 ///
 /// ```
-/// use num_modular::plans::{convolve_planned, plan, Factor, PlannedModulus};
+/// use num_modular::plans::{convolve_planned, fill_table, Factor, PlannedModulus};
 ///
 /// let modulus = PlannedModulus::<u64>::new(17);
 /// let mut table = [Factor::<u64>::ZERO; 2];
-/// plan(&modulus, 4, &mut table);
+/// fill_table(&modulus, 4, &mut table);
 /// let (mut xs, mut ys) = ([1, 2, 0, 0], [3, 4, 0, 0]);
 /// assert!(convolve_planned(&modulus, &mut xs, &mut ys, &table, 1));
 /// assert_eq!(xs, [3, 10, 8, 0]); // (1 + 2X)(3 + 4X)
@@ -237,11 +237,11 @@ pub fn convolve_planned<T: PlainWord, F: PlanEntry<T>>(
     ensures below { IsTrue result → All (λ x. T.number x < T.number m.now.modulus) xs.new
         × All (λ x. T.number x < T.number m.now.modulus) ys.new }
     ensures product { let modulus = T.number m.now.modulus in IsTrue result → (g z e : ℕ) →
-        IsPlan modulus g z (length table.now) (numbers F.value table.now) → e < length xs.old →
+        AreTwiddles modulus g z (length table.now) (numbers F.value table.now) → e < length xs.old →
         numbers T.number xs.new e ≡ cyclic_product modulus (length xs.old)
         (numbers T.number xs.old) (numbers T.number ys.old) e }
     ensures remainders { let modulus = T.number m.now.modulus in IsTrue result → (g z : ℕ) →
-        IsPlan modulus g z (length table.now) (numbers F.value table.now) →
+        AreTwiddles modulus g z (length table.now) (numbers F.value table.now) →
         AreRemainders modulus g z 0 (length xs.old / last) last (numbers T.number ys.old) (numbers T.number ys.new) }
 {
     convolve_block(m, xs, ys, table, 0, last)
@@ -249,17 +249,17 @@ pub fn convolve_planned<T: PlainWord, F: PlanEntry<T>>(
 
 /// Replaces xs by the product of xs and ys modulo X^n + 1, as `convolve_block` for b = 1: entry e becomes the sum
 /// of x_i·y_j modulo m over i + j = e, less that over i + j = e + n. Returns false, with both lists unchanged,
-/// exactly where the number n/last of blocks has no inverse modulo m. The table must be a plan, as for
+/// exactly where the number n/last of blocks has no inverse modulo m. The table must be as for
 /// `convolve_block`. Conditions: those of `convolve_block`.
 ///
 /// # Examples
 ///
 /// ```
-/// use num_modular::plans::{convolve_negacyclic, plan, Factor, PlannedModulus};
+/// use num_modular::plans::{convolve_negacyclic, fill_table, Factor, PlannedModulus};
 ///
 /// let modulus = PlannedModulus::<u64>::new(17);
 /// let mut table = [Factor::<u64>::ZERO; 2];
-/// plan(&modulus, 4, &mut table);
+/// fill_table(&modulus, 4, &mut table);
 /// let (mut xs, mut ys) = ([1, 2, 3, 4], [0, 1, 0, 0]);
 /// assert!(convolve_negacyclic(&modulus, &mut xs, &mut ys, &table, 2));
 /// assert_eq!(xs, [13, 1, 2, 3]); // times X; -4 + 17
@@ -281,11 +281,11 @@ pub fn convolve_negacyclic<T: PlainWord, F: PlanEntry<T>>(
     ensures below { IsTrue result → All (λ x. T.number x < T.number m.now.modulus) xs.new
         × All (λ x. T.number x < T.number m.now.modulus) ys.new }
     ensures product { let modulus = T.number m.now.modulus in IsTrue result → (g z e : ℕ) →
-        IsPlan modulus g z (length table.now) (numbers F.value table.now) → e < length xs.old →
+        AreTwiddles modulus g z (length table.now) (numbers F.value table.now) → e < length xs.old →
         numbers T.number xs.new e ≡ product_modulo modulus (length xs.old) (modulus - 1)
         (numbers T.number xs.old) (numbers T.number ys.old) e }
     ensures remainders { let modulus = T.number m.now.modulus in IsTrue result → (g z : ℕ) →
-        IsPlan modulus g z (length table.now) (numbers F.value table.now) →
+        AreTwiddles modulus g z (length table.now) (numbers F.value table.now) →
         AreRemainders modulus g z 1 (length xs.old / last) last (numbers T.number ys.old) (numbers T.number ys.new) }
 {
     convolve_block(m, xs, ys, table, 1, last)

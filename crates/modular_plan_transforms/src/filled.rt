@@ -71,7 +71,7 @@ fn are_powers<T: PlainWord, F: PlanEntry<T>>(
     true
 }
 
-/// Whether the table is the one that `plan` makes. Conditions: g is below m; g suits n entries, n being twice the
+/// Whether the table is that of g (`fill_table`). Conditions: g is below m; g suits n entries, n being twice the
 /// length of the table.
 pub fn is_table<T: PlainWord, F: PlanEntry<T>>(m: &PlannedModulus<T>, g: T, table: &[F]) -> bool
     requires below { T.number g < T.number m.now.modulus }

@@ -4,7 +4,7 @@ ghost use Rattle.std.specs.Prelude.{◌≡◌, ℕ, ◌+◌, ◌*◌, ◌/◌, �
 ghost use Rattle.std.specs.Int.{IsPowerOfTwo};
 ghost use Rattle.modular_word.specs.Congruence.{Congruent};
 ghost use Rattle.modular_barrett.specs.Factors.{IsFactorOf, AllFactors};
-ghost use Rattle.modular_plan_passes.specs.Plans.{numbers, IsPlan, AreRemainders};
+ghost use Rattle.modular_plan_passes.specs.Plans.{numbers, AreTwiddles, AreRemainders};
 ghost use Rattle.modular_plan_transforms.specs.PlanConditions.{AreBlocks, FitsPlan, IsLevelReady, IsLevelJoined};
 
 use crate::join_blocks::{join_blocks, join_passes};
@@ -78,7 +78,7 @@ fn join_stages<T: PlainWord, F: PlanEntry<T>, M: JoinSteps<T>>(
     requires { FitsPlan T.number F.value F.quotient T.base (M.modulus m.now) b last xs.old table.now }
     ensures entries { All (λ x. T.number x < M.bound m.now) xs.new }
     ensures joined { let modulus = M.modulus m.now in (g z : ℕ) (x : ℕ → ℕ) →
-        IsPlan modulus g z (length table.now) (numbers F.value table.now) →
+        AreTwiddles modulus g z (length table.now) (numbers F.value table.now) →
         AreRemainders modulus g z b (length xs.old / last) last x (λ i. numbers T.number xs.old i % modulus) →
         (i : ℕ) → i < length xs.old → Congruent modulus (numbers T.number xs.new i) (length xs.old / last * x i) }
 {
@@ -98,7 +98,7 @@ fn join_reduced<T: PlainWord, F: PlanEntry<T>, M: JoinSteps<T>>(
     requires { FitsPlan T.number F.value F.quotient T.base (M.modulus m.now) b last xs.old table.now }
     ensures below { All (λ x. T.number x < M.modulus m.now) xs.new }
     ensures joined { let modulus = M.modulus m.now in (g z : ℕ) (x : ℕ → ℕ) →
-        IsPlan modulus g z (length table.now) (numbers F.value table.now) →
+        AreTwiddles modulus g z (length table.now) (numbers F.value table.now) →
         AreRemainders modulus g z b (length xs.old / last) last x (λ i. numbers T.number xs.old i % modulus) →
         (i : ℕ) → i < length xs.old → numbers T.number xs.new i ≡ (length xs.old / last * x i) % modulus }
 {
@@ -124,7 +124,7 @@ fn scale_each<T: PlainWord, M: JoinSteps<T>>(m: &M, xs: &mut [T], w: &Factor<T>)
     }
 }
 
-// The last stages and the product of each entry with a factor. Where the plan begins with 1 the last pass does
+// The last stages and the product of each entry with a factor. Where the table begins with 1 the last pass does
 // both, by five products in place of eight.
 fn join_last<T: PlainWord, F: PlanEntry<T>, M: JoinSteps<T>>(
     m: &M,
@@ -140,7 +140,7 @@ fn join_last<T: PlainWord, F: PlanEntry<T>, M: JoinSteps<T>>(
     requires factor { IsFactorOf T.base T.number (M.modulus m.now) w.now }
     ensures below { All (λ x. T.number x < M.modulus m.now) xs.new }
     ensures joined { let modulus = M.modulus m.now in (g z : ℕ) (x : ℕ → ℕ) →
-        IsPlan modulus g z (length table.now) (numbers F.value table.now) →
+        AreTwiddles modulus g z (length table.now) (numbers F.value table.now) →
         AreRemainders modulus g z b (length xs.old / last) last x (λ i. numbers T.number xs.old i % modulus) →
         (i : ℕ) → i < length xs.old
         → numbers T.number xs.new i ≡ (length xs.old / last * x i * T.number w.now.value) % modulus }
@@ -168,7 +168,7 @@ fn join_scaled_by<T: PlainWord, F: PlanEntry<T>, M: JoinSteps<T>>(
     requires factor { IsFactorOf T.base T.number (M.modulus m.now) w.now }
     ensures below { All (λ x. T.number x < M.modulus m.now) xs.new }
     ensures joined { let modulus = M.modulus m.now in (g z : ℕ) (x : ℕ → ℕ) →
-        IsPlan modulus g z (length table.now) (numbers F.value table.now) →
+        AreTwiddles modulus g z (length table.now) (numbers F.value table.now) →
         AreRemainders modulus g z b (length xs.old / last) last x (λ i. numbers T.number xs.old i % modulus) →
         (i : ℕ) → i < length xs.old
         → numbers T.number xs.new i ≡ (length xs.old / last * x i * T.number w.now.value) % modulus }
@@ -183,7 +183,7 @@ fn join_scaled_by<T: PlainWord, F: PlanEntry<T>, M: JoinSteps<T>>(
 /// factor: where the entries are the remainders of a polynomial modulo X^last - c, as `split` computes them, entry
 /// i becomes its coefficient x_i times the number count of blocks, modulo m.
 ///
-/// The table must be the plan (`plan`) by which they were split, or a longer one that begins with it: with other
+/// The table must be the one by which they were split (`fill_table`), or a longer one that begins with it: with other
 /// factors modulo m, the results are below m and meaningless. Conditions: the entries are below 4m; the number of
 /// entries is `last` times a power of two, and the table has (b + 1)·count/2 entries or more (`splits` tells); the
 /// table's entries are factors modulo m.
@@ -196,11 +196,11 @@ fn join_scaled_by<T: PlainWord, F: PlanEntry<T>, M: JoinSteps<T>>(
 /// # Examples
 ///
 /// ```
-/// use num_modular::plans::{join, plan, Factor, PlannedModulus};
+/// use num_modular::plans::{fill_table, join, Factor, PlannedModulus};
 ///
 /// let modulus = PlannedModulus::<u64>::new(17);
 /// let mut table = [Factor::<u64>::ZERO; 2];
-/// plan(&modulus, 4, &mut table);
+/// fill_table(&modulus, 4, &mut table);
 /// let mut entries = [10, 15, 7, 6]; // what `split` makes of 1, 2, 3, 4
 /// join(&modulus, &mut entries, &table, 0, 1);
 /// assert_eq!(entries, [4, 8, 12, 16]);
@@ -217,7 +217,7 @@ pub fn join<T: PlainWord, F: PlanEntry<T>>(
     requires blocks { AreBlocks (length xs.old) (length table.now) b last }
     ensures below { All (λ x. T.number x < T.number m.now.modulus) xs.new }
     ensures joined { let modulus = T.number m.now.modulus in (g z : ℕ) (x : ℕ → ℕ) →
-        IsPlan modulus g z (length table.now) (numbers F.value table.now) →
+        AreTwiddles modulus g z (length table.now) (numbers F.value table.now) →
         AreRemainders modulus g z b (length xs.old / last) last x (λ i. numbers T.number xs.old i % modulus) →
         (i : ℕ) → i < length xs.old → numbers T.number xs.new i ≡ (length xs.old / last * x i) % modulus }
 {
@@ -228,18 +228,18 @@ pub fn join<T: PlainWord, F: PlanEntry<T>>(
 }
 
 /// Joins the blocks as `join` does and multiplies each coefficient by a factor. With the inverse modulo m of the
-/// number of blocks as the factor, the results are the coefficients themselves. The table must be a plan, as for
+/// number of blocks as the factor, the results are the coefficients themselves. The table must be as for
 /// `join`. Conditions: the entries are below 4m; the number of entries is `last` times a power of two, and the table has
 /// (b + 1)·count/2 entries or more (`splits` tells); the table's entries are factors modulo m; w is a factor modulo m.
 ///
 /// # Examples
 ///
 /// ```
-/// use num_modular::plans::{join_scaled, plan, Factor, PlannedModulus};
+/// use num_modular::plans::{fill_table, join_scaled, Factor, PlannedModulus};
 ///
 /// let modulus = PlannedModulus::<u64>::new(17);
 /// let mut table = [Factor::<u64>::ZERO; 2];
-/// plan(&modulus, 4, &mut table);
+/// fill_table(&modulus, 4, &mut table);
 /// let mut entries = [10, 15, 7, 6]; // what `split` makes of 1, 2, 3, 4
 /// join_scaled(&modulus, &mut entries, &table, 0, 1, &modulus.factor(13)); // 4 * 13 = 3 * 17 + 1
 /// assert_eq!(entries, [1, 2, 3, 4]);
@@ -258,7 +258,7 @@ pub fn join_scaled<T: PlainWord, F: PlanEntry<T>>(
     requires factor { IsFactorOf T.base T.number (T.number m.now.modulus) w.now }
     ensures below { All (λ x. T.number x < T.number m.now.modulus) xs.new }
     ensures joined { let modulus = T.number m.now.modulus in (g z : ℕ) (x : ℕ → ℕ) →
-        IsPlan modulus g z (length table.now) (numbers F.value table.now) →
+        AreTwiddles modulus g z (length table.now) (numbers F.value table.now) →
         AreRemainders modulus g z b (length xs.old / last) last x (λ i. numbers T.number xs.old i % modulus) →
         (i : ℕ) → i < length xs.old
         → numbers T.number xs.new i ≡ (length xs.old / last * x i * T.number w.now.value) % modulus }

@@ -1,8 +1,8 @@
-//! The stages of a join by a plan, all or up to the last pass.
+//! The stages of a join by a table, all or up to the last pass.
 
 ghost use Rattle.std.specs.Prelude.{◌≡◌, ℕ, ◌*◌, ◌/◌, ◌%◌, ◌<◌, All, length};
 ghost use Rattle.modular_word.specs.Congruence.{Congruent};
-ghost use Rattle.modular_plan_passes.specs.Plans.{numbers, IsPlan, AreRemainders};
+ghost use Rattle.modular_plan_passes.specs.Plans.{numbers, AreTwiddles, AreRemainders};
 ghost use Rattle.modular_plan_transforms.specs.PlanConditions.{IsLevelReady, IsLevelJoined};
 
 use modular_barrett::planned::Factor;
@@ -29,7 +29,7 @@ pub fn join_blocks<T: PlainWord, F: PlanEntry<T>, M: JoinSteps<T>>(
         b last (T.number minus.now.value) (T.number minus.now.quotient) xs.old table.now }
     ensures entries { All (λ x. T.number x < M.bound m.now) xs.new }
     ensures joined { let modulus = M.modulus m.now in (g z : ℕ) (x : ℕ → ℕ) →
-        IsPlan modulus g z (length table.now) (numbers F.value table.now) →
+        AreTwiddles modulus g z (length table.now) (numbers F.value table.now) →
         AreRemainders modulus g z b (length xs.old / last) last x (λ i. numbers T.number xs.old i % modulus) →
         (i : ℕ) → i < length xs.old → Congruent modulus (numbers T.number xs.new i) (length xs.old / last * x i) }
 {

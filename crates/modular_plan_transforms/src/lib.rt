@@ -1,4 +1,4 @@
-//! Transforms by a plan: all stages from a polynomial to its remainders and back, products of blocks and of polynomials,
+//! Transforms by a table: all stages from a polynomial to its remainders and back, products of blocks and of polynomials,
 //! the transform in natural order, and a plan as one value.
 #![tactic(auto)]
 

@@ -19,7 +19,7 @@ use crate::split::splits;
 use crate::tables::{power, suits};
 use modular_barrett::planned::PlannedModulus;
 use modular_plan_passes::entry::PlanEntry;
-use modular_plan_passes::plan::plan;
+use modular_plan_passes::table::fill_table;
 use modular_prim::plain_word::PlainWord;
 use modular_word::path_word::PathWord;
 use modular_word::ring_word::RingWord;
@@ -78,7 +78,7 @@ impl<'a, T: PathWord, F: PlanEntry<T>> Clone for Plan<'a, T, F> {
 impl<'a, T: PathWord, F: PlanEntry<T>> Copy for Plan<'a, T, F> {}
 
 impl<'a, T: PlainWord, F: PlanEntry<T>> Plan<'a, T, F> {
-    /// Fills the table with the plan by g for n entries, n being twice the length of the table, and returns it. `None`
+    /// Fills the table of g for n entries, n being twice the length of the table, and returns the plan. `None`
     /// exactly where m is even, g isn't below m, or g doesn't suit n.
     ///
     /// Modulo an even m the number n would have no inverse, and so the transform would have none. Where it returns
@@ -106,12 +106,12 @@ impl<'a, T: PlainWord, F: PlanEntry<T>> Plan<'a, T, F> {
         if !suits(m, g, table.len()) {
             return None;
         }
-        plan(m, g, table);
+        fill_table(m, g, table);
         Some(Plan::over(m, g, table))
     }
 
-    /// The plan by g over a table that is filled already, for n entries, n being twice its length. `None` exactly where m
-    /// is even, g isn't below m, g doesn't suit n, or the table isn't the one that `new` makes: an entry isn't the factor
+    /// The plan of g over a table that is filled already, for n entries, n being twice its length. `None` exactly where m
+    /// is even, g isn't below m, g doesn't suit n, or the table isn't that of g: an entry isn't the factor
     /// of its power, or has another quotient.
     ///
     /// It takes a product for each entry's power and one for its quotient.
@@ -144,9 +144,9 @@ impl<'a, T: PlainWord, F: PlanEntry<T>> Plan<'a, T, F> {
         Some(Plan::over(m, g, table))
     }
 
-    /// The plan by g over a table that holds it, for n entries, n being twice its length; nothing is tested. A struct that
-    /// owns its table makes its plan so at each call. Conditions: m is odd; g is below m and suits n; the table is the one
-    /// that `new` makes.
+    /// The plan of g over its table, for n entries, n being twice its length; nothing is tested. A struct that
+    /// owns its table makes its plan so at each call. Conditions: m is odd; g is below m and suits n; the table is that of g
+    /// (`fill_table`).
     pub fn over(m: &PlannedModulus<T>, g: T, table: &'a [F]) -> Self
         requires odd { T.number m.now.modulus % 2 ≡ 1 }
         requires below { T.number g < T.number m.now.modulus }
@@ -165,7 +165,7 @@ impl<'a, T: PlainWord, F: PlanEntry<T>> Plan<'a, T, F> {
         }
     }
 
-    /// The plan for n entries, by the power of the root that suits them, with the first n/2 entries of the
+    /// The plan for n entries, of the power of the root that suits them, with the first n/2 entries of the
     /// table. Condition: n is a power of two, from 2 to the number of entries of this plan (`has_shorter`
     /// tells).
     ///

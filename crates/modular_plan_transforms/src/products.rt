@@ -4,7 +4,7 @@ ghost use Rattle.std.specs.Prelude.{◌≡◌, ℕ, ◌+◌, ◌*◌, ◌/◌, �
 ghost use Rattle.modular_word.specs.Congruence.{Congruent};
 ghost use Rattle.modular_word.specs.Inverses.{IsInverse};
 ghost use Rattle.modular_barrett.specs.Factors.{AllFactors};
-ghost use Rattle.modular_plan_passes.specs.Plans.{numbers, constant, IsPlan};
+ghost use Rattle.modular_plan_passes.specs.Plans.{numbers, constant, AreTwiddles};
 ghost use Rattle.modular_plan_passes.specs.Steps.{PairDone};
 ghost use Rattle.modular_plan_transforms.specs.Products.{AreProducts};
 
@@ -72,7 +72,7 @@ pub(crate) fn reduce_products<T: PlainWord>(
 }
 
 // A number that is at most m and congruent to x times the constant of block b·count + j of the tree, which is an
-// entry of the plan or minus one.
+// entry of the table or minus one.
 fn times_constant<T: PlainWord, F: PlanEntry<T>>(
     m: &PlannedModulus<T>,
     table: &[F],
@@ -87,7 +87,7 @@ fn times_constant<T: PlainWord, F: PlanEntry<T>>(
     requires within { (b + 1) * count ≤ 2 * length table.now }
     ensures most { T.number result ≤ T.number m.now.modulus }
     ensures product { let modulus = T.number m.now.modulus in (g z : ℕ) →
-        IsPlan modulus g z (length table.now) (numbers F.value table.now) →
+        AreTwiddles modulus g z (length table.now) (numbers F.value table.now) →
         Congruent modulus (T.number result) (T.number x * constant g z (b * count + j)) }
 {
     let rest = b % 2 * count + j;
@@ -139,7 +139,7 @@ fn multiply_pairs<T: PlainWord, F: PlanEntry<T>>(
     requires within { (b + 1) * (length xs.old / 2) ≤ 2 * length table.now }
     ensures below { All (λ x. T.number x < T.number m.now.modulus) xs.new }
     ensures products { let modulus = T.number m.now.modulus in (g z : ℕ) →
-        IsPlan modulus g z (length table.now) (numbers F.value table.now) →
+        AreTwiddles modulus g z (length table.now) (numbers F.value table.now) →
         AreProducts modulus g z b (length xs.old / 2) 2 (numbers T.number xs.old)
         (numbers T.number ys.now) (numbers T.number xs.new) }
 {
@@ -152,7 +152,7 @@ fn multiply_pairs<T: PlainWord, F: PlanEntry<T>>(
 
 /// Multiplies the blocks of `last` entries of the two lists, below block b of the tree of remainders, as
 /// polynomials modulo X^last - c, with the constants c of `split`. So the products of two lists of remainders are
-/// the remainders of a product. For `last` = 1 entries of equal index are multiplied. The table must be the plan by
+/// the remainders of a product. For `last` = 1 entries of equal index are multiplied. The table must be the one by
 /// which the lists were split: with other factors modulo m, the results are below m and meaningless.
 ///
 /// Conditions: `last` is 1 or 2; the lists have the same length, a multiple of `last`; the entries of xs are below m;
@@ -162,11 +162,11 @@ fn multiply_pairs<T: PlainWord, F: PlanEntry<T>>(
 /// # Examples
 ///
 /// ```
-/// use num_modular::plans::{multiply, plan, Factor, PlannedModulus};
+/// use num_modular::plans::{fill_table, multiply, Factor, PlannedModulus};
 ///
 /// let modulus = PlannedModulus::<u64>::new(17);
 /// let mut table = [Factor::<u64>::ZERO; 1];
-/// plan(&modulus, 16, &mut table);
+/// fill_table(&modulus, 16, &mut table);
 /// let mut entries = [2, 3];
 /// multiply(&modulus, &mut entries, &[5, 7], &table, 0, 1);
 /// assert_eq!(entries, [10, 4]); // 21 - 17
@@ -188,7 +188,7 @@ pub fn multiply<T: PlainWord, F: PlanEntry<T>>(
     requires within { (b + 1) * (length xs.old / last) ≤ 2 * length table.now }
     ensures below { All (λ x. T.number x < T.number m.now.modulus) xs.new }
     ensures products { let modulus = T.number m.now.modulus in (g z : ℕ) →
-        IsPlan modulus g z (length table.now) (numbers F.value table.now) →
+        AreTwiddles modulus g z (length table.now) (numbers F.value table.now) →
         AreProducts modulus g z b (length xs.old / last) last (numbers T.number xs.old)
         (numbers T.number ys.now) (numbers T.number xs.new) }
 {

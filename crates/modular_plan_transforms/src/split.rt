@@ -3,7 +3,7 @@
 ghost use Rattle.std.specs.Prelude.{◌≡◌, ℕ, ◌+◌, ◌*◌, ◌/◌, ◌%◌, ◌<◌, ◌≤◌, ◌↔◌, IsTrue, All, length};
 ghost use Rattle.std.specs.Int.{IsPowerOfTwo};
 ghost use Rattle.modular_barrett.specs.Factors.{AllFactors};
-ghost use Rattle.modular_plan_passes.specs.Plans.{numbers, IsPlan, AreRemainders};
+ghost use Rattle.modular_plan_passes.specs.Plans.{numbers, AreTwiddles, AreRemainders};
 ghost use Rattle.modular_plan_transforms.specs.PlanConditions.{AreBlocks, FitsPlan};
 
 use crate::split_blocks::split_blocks;
@@ -27,7 +27,7 @@ fn reduce_each<T: PlainWord, M: SplitSteps<T>>(m: &M, xs: &mut [T])
     }
 }
 
-/// Whether `split` accepts a list of `length` entries, from block b down to blocks of `last`, and a plan of
+/// Whether `split` accepts a list of `length` entries, from block b down to blocks of `last`, and a table of
 /// `factors` factors.
 ///
 /// # Examples
@@ -68,7 +68,7 @@ fn split_by<T: PlainWord, M: SplitSteps<T>, F: PlanEntry<T>>(
     requires { FitsPlan T.number F.value F.quotient T.base (M.modulus m.now) b last xs.old table.now }
     ensures below { All (λ x. T.number x < M.modulus m.now) xs.new }
     ensures remainders { let modulus = M.modulus m.now in (g z : ℕ) →
-        IsPlan modulus g z (length table.now) (numbers F.value table.now) →
+        AreTwiddles modulus g z (length table.now) (numbers F.value table.now) →
         AreRemainders modulus g z b (length xs.old / last) last (numbers T.number xs.old) (numbers T.number xs.new) }
 {
     if last == 1 && 4 <= xs.len() {
@@ -94,7 +94,7 @@ pub fn split_loosely<T: PlainWord, F: PlanEntry<T>>(
     requires factors { AllFactors T.base (T.number m.now.modulus) F.value F.quotient table.now }
     requires blocks { AreBlocks (length xs.old) (length table.now) b last }
     ensures remainders { let modulus = T.number m.now.modulus in (g z : ℕ) →
-        IsPlan modulus g z (length table.now) (numbers F.value table.now) →
+        AreTwiddles modulus g z (length table.now) (numbers F.value table.now) →
         AreRemainders modulus g z b (length xs.old / last) last (numbers T.number xs.old)
         (λ i. numbers T.number xs.new i % modulus) }
 {
@@ -105,13 +105,14 @@ pub fn split_loosely<T: PlainWord, F: PlanEntry<T>>(
 }
 
 /// Splits block b of the tree of remainders into blocks of `last` entries: entry i of block j becomes the sum over
-/// k of x_(k·last + i)·c^k modulo m, the coefficient of the remainder modulo X^last - c. Here the table is the plan by
-/// a root g (`plan`), count is the number of blocks, and c is the power of g by the reversed bits of b·count + j.
+/// k of x_(k·last + i)·c^k modulo m, the coefficient of the remainder modulo X^last - c. Here the table is that of a
+/// root g (`fill_table`), count is the number of blocks, and c is the power of g by the reversed bits of b·count + j.
 ///
 /// So b = 0 and last = 1 give the transform by g, in bit-reversed order (`split_laws`); b = 1 starts from a polynomial
-/// modulo X^n + 1. The table must be a plan, of any length that suffices: with other factors modulo m, the results are
-/// below m and meaningless. Conditions: the entries are below 4m; the number of entries is `last` times a power of two,
-/// and the table has at least (b + 1)·(count/2) entries (`splits` tells); the table's entries are factors modulo m.
+/// modulo X^n + 1. The table must be that of some root, of any length that suffices: with other factors modulo m, the
+/// results are below m and meaningless. Conditions: the entries are below 4m; the number of entries is `last` times a
+/// power of two, and the table has at least (b + 1)·(count/2) entries (`splits` tells); the table's entries are factors
+/// modulo m.
 ///
 /// Each pass over the list does two stages; a single one comes first where their number is odd.
 ///
@@ -121,11 +122,11 @@ pub fn split_loosely<T: PlainWord, F: PlanEntry<T>>(
 /// # Examples
 ///
 /// ```
-/// use num_modular::plans::{plan, split, Factor, PlannedModulus};
+/// use num_modular::plans::{fill_table, split, Factor, PlannedModulus};
 ///
 /// let modulus = PlannedModulus::<u64>::new(17);
 /// let mut table = [Factor::<u64>::ZERO; 2];
-/// plan(&modulus, 4, &mut table);
+/// fill_table(&modulus, 4, &mut table);
 /// let mut entries = [1, 2, 3, 4];
 /// split(&modulus, &mut entries, &table, 0, 1);
 /// assert_eq!(entries, [10, 15, 7, 6]); // 1 + 2X + 3X^2 + 4X^3 at 1, -1, 4 and -4
@@ -142,7 +143,7 @@ pub fn split<T: PlainWord, F: PlanEntry<T>>(
     requires blocks { AreBlocks (length xs.old) (length table.now) b last }
     ensures below { All (λ x. T.number x < T.number m.now.modulus) xs.new }
     ensures remainders { let modulus = T.number m.now.modulus in (g z : ℕ) →
-        IsPlan modulus g z (length table.now) (numbers F.value table.now) →
+        AreTwiddles modulus g z (length table.now) (numbers F.value table.now) →
         AreRemainders modulus g z b (length xs.old / last) last (numbers T.number xs.old) (numbers T.number xs.new) }
 {
     match RoomyModulus::new(m) {

@@ -1,7 +1,7 @@
-//! All stages of a split by a plan.
+//! All stages of a split by a table.
 
 ghost use Rattle.std.specs.Prelude.{◌≡◌, ℕ, ◌+◌, ◌*◌, ◌/◌, ◌<◌, ◌≤◌, All, length};
-ghost use Rattle.modular_plan_passes.specs.Plans.{numbers, IsPlan};
+ghost use Rattle.modular_plan_passes.specs.Plans.{numbers, AreTwiddles};
 ghost use Rattle.modular_plan_passes.specs.Steps.{IsLevel};
 ghost use Rattle.modular_plan_transforms.specs.PlanConditions.{FitsPlan};
 
@@ -25,7 +25,7 @@ pub fn split_blocks<T: PlainWord, M: SplitSteps<T>, F: PlanEntry<T>>(
     requires { FitsPlan T.number F.value F.quotient T.base (M.modulus m.now) b last xs.old table.now }
     ensures entries { All (λ x. T.number x < M.limit m.now) xs.new }
     ensures level { let modulus = M.modulus m.now in (g z : ℕ) →
-        IsPlan modulus g z (length table.now) (numbers F.value table.now) →
+        AreTwiddles modulus g z (length table.now) (numbers F.value table.now) →
         IsLevel modulus g z b (length xs.old / last) last (numbers T.number xs.old) (numbers T.number xs.new) }
 {
     let mut left = (xs.len() / last).trailing_zeros();

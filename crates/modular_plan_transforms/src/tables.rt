@@ -1,4 +1,4 @@
-//! What makes a plan: a root that suits, and a table of its powers; and the inverses of powers of two.
+//! What a plan requires: a root that suits, and its powers; and the inverses of powers of two.
 
 ghost use Rattle.std.specs.Prelude.{◌≡◌, ◌+◌, ◌*◌, ◌%◌, ◌^◌, ◌<◌, ◌↔◌, IsTrue, MatchOption};
 ghost use Rattle.std.specs.Int.{IsPowerOfTwo};

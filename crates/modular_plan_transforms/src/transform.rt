@@ -1,10 +1,10 @@
-//! The transform by a plan, in natural order.
+//! The transform by a table, in natural order.
 
 ghost use Rattle.std.specs.Prelude.{◌≡◌, ℕ, ◌*◌, ◌/◌, ◌^◌, ◌<◌, ◌≤◌, All, length};
 ghost use Rattle.std.specs.Int.{IsPowerOfTwo};
 ghost use Rattle.modular_transform.specs.Transforms.{transform};
 ghost use Rattle.modular_barrett.specs.Factors.{AllFactors};
-ghost use Rattle.modular_plan_passes.specs.Plans.{numbers, IsPlan};
+ghost use Rattle.modular_plan_passes.specs.Plans.{numbers, AreTwiddles};
 
 use crate::split::split;
 use modular_barrett::planned::PlannedModulus;
@@ -13,8 +13,8 @@ use modular_prim::plain_word::PlainWord;
 use modular_transform::order::reverse_places;
 
 /// The transform of n entries in place, in natural order: entry j becomes the sum over i of x_i·h^(i·j) modulo m, below
-/// m. Here the table is the plan by a root g (`plan`), and h is g, or, where the plan is for more entries, the power of
-/// g that suits n entries. The table must be a plan: with other factors modulo m, the results are below m and
+/// m. Here the table is that of a root g (`fill_table`), and h is g, or, where the table is for more entries, the power of
+/// g that suits n entries. The table must be that of some root: with other factors modulo m, the results are below m and
 /// meaningless.
 ///
 /// Conditions: the entries are below 4m; n is a power of two, and at most twice as many as the table's factors;
@@ -25,11 +25,11 @@ use modular_transform::order::reverse_places;
 /// # Examples
 ///
 /// ```
-/// use num_modular::plans::{ntt_planned, plan, Factor, PlannedModulus};
+/// use num_modular::plans::{fill_table, ntt_planned, Factor, PlannedModulus};
 ///
 /// let modulus = PlannedModulus::<u64>::new(17);
 /// let mut table = [Factor::<u64>::ZERO; 2];
-/// plan(&modulus, 4, &mut table);
+/// fill_table(&modulus, 4, &mut table);
 /// let mut entries = [1, 2, 3, 4];
 /// ntt_planned(&modulus, &mut entries, &table);
 /// assert_eq!(entries, [10, 7, 15, 6]); // 1 + 2X + 3X^2 + 4X^3 at 1, 4, -1 and -4
@@ -41,7 +41,7 @@ pub fn ntt_planned<T: PlainWord, F: PlanEntry<T>>(m: &PlannedModulus<T>, xs: &mu
     requires within { length xs.old / 2 ≤ length table.now }
     ensures below { All (λ x. T.number x < T.number m.now.modulus) xs.new }
     ensures values { let modulus = T.number m.now.modulus in (g z j : ℕ) →
-        IsPlan modulus g z (length table.now) (numbers F.value table.now) → j < length xs.old →
+        AreTwiddles modulus g z (length table.now) (numbers F.value table.now) → j < length xs.old →
         numbers T.number xs.new j ≡ transform modulus (g ^ (2 ^ z / length xs.old))
         (length xs.old) (numbers T.number xs.old) j }
 {

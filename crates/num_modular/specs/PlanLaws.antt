@@ -1,13 +1,13 @@
 -- Laws of remainders and their products, for proofs of callers. The names are the library's own words.
 
--- an entry of a plan, as `num_modular::plans` exports it
+-- an entry of a table, as `num_modular::plans` exports it
 pub use Rattle.modular_barrett.specs.declared.planned.Factor.{Factor}
 -- the result of the test for a power of two
 pub use Rattle.modular_transform.proofs.PowersOfTwo.{power_of_two_tested}
 -- reversed bits: they are below the same power of two; with one more bit; and of twice a number
 pub use Rattle.modular_transform.proofs.BitReversal.{bits_reversed_below, bits_reversed_of_high, bits_reversed_twice}
--- the exponent of the length of a plan's table; a table that holds the factors of the powers of a root is the plan by it;
--- so is what `plan` writes
+-- the exponent of a table's length; a table that holds the factors of the powers of a root is the root's table;
+-- so is what `fill_table` writes
 pub use Rattle.modular_plan_passes.proofs.Tables.{exponent}
 pub use Rattle.modular_plan_transforms.proofs.PlanTables.{table_of, made_table}
 -- the number at an index of a list, and the constants of a block's two halves

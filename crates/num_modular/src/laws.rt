@@ -194,8 +194,8 @@ pub fn coefficient_laws()
         cyclic_product m n x y e ≡ sum_below (e + 1) (λ i. slice_index xs i * slice_index ys (e - i)) }
 {}
 
-/// The remainders of `split` with b = 0 and last = 1 are the transform in bit-reversed order, by the root g of a plan for
-/// as many entries, or where it is for 2^d times as many by the power of g that suits them. By a plan for as many,
+/// The remainders of `split` with b = 0 and last = 1 are the transform in bit-reversed order, by the root g of a table for
+/// as many entries, or where it is for 2^d times as many by the power of g that suits them. By a table for as many,
 /// a list in that order is the remainders, as `join` requires them.
 ///
 /// Source: Cooley and Tukey, "An algorithm for the machine calculation of complex Fourier series"; Knuth, The Art of

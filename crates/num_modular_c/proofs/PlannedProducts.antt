@@ -1,20 +1,20 @@
--- Products by a plan as block 0 and as block 1, in the words of their calls.
+-- Products by a table as block 0 and as block 1, in the words of their calls.
 use Rattle.std.proofs.Common.{◌≡◌, ℕ, ◌+◌, ◌-◌, ◌*◌, ◌/◌, ◌<◌, ◌≤◌, List, length, ◌∙◌, arith}
 use Rattle.std.proofs.lemmas.Nat.{pow_pos}
 use Rattle.modular_plan_passes.specs.Plans.{constant}
 use Rattle.modular_plan_transforms.specs.Products.{product_modulo}
 use Rattle.modular_plan_transforms.proofs.Convolutions.{cyclic, negacyclic}
 use Rattle.num_modular.specs.Transforms.{cyclic_product}
-use Rattle.num_modular_c.specs.Plans.{IsPair, IsPlanBy, IsPlannedProduct}
+use Rattle.num_modular_c.specs.Plans.{IsPair, HasTwiddles, IsPlannedProduct}
 use Rattle.num_modular_c.specs.declared.plans.NmFactor.{NmFactor}
 
 as_other : {m b last : ℕ} {table : List NmFactor} {p q : ℕ → ℕ → ℕ → ℕ} {others words new_others : List ℕ}
-    → ((g z e : ℕ) → IsPlanBy m g z table → e < length words → p g z e ≡ q g z e)
+    → ((g z e : ℕ) → HasTwiddles m g z table → e < length words → p g z e ≡ q g z e)
     → IsPlannedProduct m b last table p others words new_others
     → IsPlannedProduct m b last table q others words new_others
 as_other same is = record {
   below = is.below;
-  product = λ g z e plan l. is.product g z e plan l ∙ same g z e plan l;
+  product = λ g z e twiddles l. is.product g z e twiddles l ∙ same g z e twiddles l;
   others_below = is.others_below;
   remainders = is.remainders;
 }
@@ -24,7 +24,7 @@ pub as_cyclic : (n : ℕ) (x y : ℕ → ℕ) {m last : ℕ} {table : List NmFac
     → IsPlannedProduct m 0 last table (λ g z e. product_modulo m n (constant g z 0) x y e) others words new_others
     → IsPlannedProduct m 0 last table (λ g z e. cyclic_product m n x y e) others words new_others
 as_cyclic n x y {m} all is =
-    as_other (λ g z e plan l. cyclic m n e g z x y (omega (arith, all, l))) is
+    as_other (λ g z e twiddles l. cyclic m n e g z x y (omega (arith, all, l))) is
 
 -- block 1 has a factor
 some_factor : (k factors : ℕ) → 0 < k → (1 + 1) * k ≤ 2 * factors → 0 < factors
@@ -40,4 +40,4 @@ as_negacyclic n x y {last = last} {table} {lefts} pair is =
     let whole = count.1 in
     let positive = pow_pos count.0 in
     let some = some_factor (length lefts / last) (length table) (omega (arith, whole, positive)) pair.blocks.within in
-    as_other (λ g z e plan l. negacyclic n e g z (length table) _ x y pair.admitted.0 some plan) is
+    as_other (λ g z e twiddles l. negacyclic n e g z (length table) _ x y pair.admitted.0 some twiddles) is

@@ -1,4 +1,4 @@
--- The transform back by a plan for as many words as a list has, or more.
+-- The transform back by a table for as many words as a list has, or more.
 use Rattle.std.proofs.Common.{◌≡◌, ℕ, ◌+◌, ◌-◌, ◌*◌, ◌/◌, ◌%◌, ◌^◌, ◌<◌, ◌≤◌, List, length, refl, sym, ap, ◌∙◌, arith, subst}
 use Rattle.std.proofs.Math.Nat.{mod-lt, mul-div_cancel_left}
 use Rattle.std.proofs.lemmas.Nat.{pow-add, pow_pos}
@@ -12,12 +12,12 @@ use Rattle.modular_transform.specs.Transforms.{Suits, transform}
 use Rattle.modular_transform.proofs.BitReversal.{bits_reversed_of_parts, bits_reversed_of_zero}
 use Rattle.modular_transform.proofs.InverseTransform.{power_suits, transform_congruent}
 use Rattle.modular_transform.proofs.TransformBack.{restored_at}
-use Rattle.modular_plan_passes.specs.Plans.{constant, remainder, AreRemainders, IsPlan}
+use Rattle.modular_plan_passes.specs.Plans.{constant, remainder, AreRemainders, AreTwiddles}
 use Rattle.modular_plan_transforms.proofs.Backward.{remainders_of_transform, unscaled}
 use Rattle.modular_plan_transforms.proofs.NaturalOrder.{no_more_bits}
 use Rattle.num_modular_c.specs.Plans.{words_of, shorter_root}
 
--- a plan for 2^z words is 2^doublings times as long as one for n = 2^bits
+-- a table for 2^z words is 2^doublings times as long as one for n = 2^bits
 pub record IsLonger (g z n bits : ℕ) : Type 0 where
   pub doublings : ℕ
   pub sum : z ≡ bits + doublings
@@ -36,7 +36,7 @@ is_longer g z n bits count whole half within =
       root = ap (λ v. g ^ v) times;
     }
 
--- the first blocks of a plan have the constants of the plan for fewer words
+-- the first blocks of a table have the constants of the table for fewer words
 constant_of_shorter : (g z bits d j : ℕ) → z ≡ bits + d → j < 2 ^ bits → constant (g ^ (2 ^ d)) bits j ≡ constant g z j
 constant_of_shorter g z bits d j sum below =
     let place : j + 2 ^ bits * 0 ≡ j = omega arith in
@@ -80,14 +80,14 @@ transform_of_back m g z n bits d part y new some whole sum suits inverse only j 
 
 -- words in bit-reversed order that are joined become the list whose transform they were
 pub only_back : (m g z n bits count part : ℕ) (w : ℕ → ℕ) (old mid : List ℕ) (new : ℕ → ℕ)
-    → n ≡ 2 ^ bits → length old ≡ n → length mid ≡ n → n / 2 ≤ count → IsPlan m g z count w
+    → n ≡ 2 ^ bits → length old ≡ n → length mid ≡ n → n / 2 ≤ count → AreTwiddles m g z count w
     → IsReordered (bits_reversed bits) old mid → IsInverse m n part
     → ((x : ℕ → ℕ) → AreRemainders m g z 0 n 1 x (λ i. words_of mid i % m)
     → (i : ℕ) → i < n → new i ≡ (n * x i * part) % m)
     → (x : ℕ → ℕ) → ((j : ℕ) → j < n → transform m (shorter_root g z n) n x j ≡ words_of old j % m)
     → (i : ℕ) → i < n → new i ≡ x i % m
-only_back m g z n bits count part w old mid new whole len len_mid within plan reordered inverse joined x are i l =
-    let longer = is_longer g z n bits count whole plan.half within in
+only_back m g z n bits count part w old mid new whole len len_mid within twiddles reordered inverse joined x are i l =
+    let longer = is_longer g z n bits count whole twiddles.half within in
     let h = g ^ (2 ^ longer.doublings) in
     let by_h = λ (j : ℕ) (k : j < n). subst (λ r. transform m r n x j ≡ words_of old j % m) longer.root (are j k) in
     let remainders = remainders_of_transform (λ v. v) m h n bits x old mid whole len len_mid reordered by_h in
@@ -96,17 +96,17 @@ only_back m g z n bits count part w old mid new whole len len_mid within plan re
 
 -- and their transform is what they were
 pub values_back : (m g z n bits count part : ℕ) (w : ℕ → ℕ) (old mid : List ℕ) (new : ℕ → ℕ) → 0 < m
-    → n ≡ 2 ^ bits → length old ≡ n → length mid ≡ n → n / 2 ≤ count → IsPlan m g z count w
+    → n ≡ 2 ^ bits → length old ≡ n → length mid ≡ n → n / 2 ≤ count → AreTwiddles m g z count w
     → IsReordered (bits_reversed bits) old mid → IsInverse m n part
     → ((x : ℕ → ℕ) → AreRemainders m g z 0 n 1 x (λ i. words_of mid i % m)
     → (i : ℕ) → i < n → new i ≡ (n * x i * part) % m)
     → (j : ℕ) → j < n → transform m (shorter_root g z n) n new j ≡ words_of old j % m
-values_back m g z n bits count part w old mid new some whole len len_mid within plan reordered inverse joined j l =
-    let longer = is_longer g z n bits count whole plan.half within in
+values_back m g z n bits count part w old mid new some whole len len_mid within twiddles reordered inverse joined j l =
+    let longer = is_longer g z n bits count whole twiddles.half within in
     let only = λ (x : ℕ → ℕ)
     (are : (j : ℕ) → j < n → transform m (g ^ (2 ^ longer.doublings)) n x j ≡ words_of old j % m).
-    only_back m g z n bits count part w old mid new whole len len_mid within plan reordered inverse joined x
+    only_back m g z n bits count part w old mid new whole len len_mid within twiddles reordered inverse joined x
     (λ k t. subst (λ r. transform m r n x k ≡ words_of old k % m) (sym longer.root) (are k t)) in
     subst (λ r. transform m r n new j ≡ words_of old j % m) (sym longer.root)
-    (transform_of_back m g z n bits longer.doublings part (words_of old) new some whole longer.sum plan.suits inverse only
-    j l)
+    (transform_of_back m g z n bits longer.doublings part (words_of old) new some whole longer.sum twiddles.suits inverse
+    only j l)

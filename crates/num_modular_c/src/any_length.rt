@@ -84,7 +84,7 @@ fn has_inverse(m: u64, x: u64) -> bool
     }
 }
 
-// The number of factors of each table of the plans for n entries; 1 where none is needed. Condition: 3·n is at most 2^32.
+// The number of factors of each table for n entries; 1 where none is needed. Condition: 3·n is at most 2^32.
 fn table_length(n: usize) -> usize
     requires { 3 * n ≤ 2 ^ 32 }
     ensures lengths { ArePlanLengths result result result }

@@ -30,7 +30,7 @@ pub struct NmPlan<'a> {
     pub table: &'a [NmFactor],
 }
 
-/// Fills the table with the plan by the root for transforms of n words, n being twice its length, and writes the
+/// Fills the table of the root for transforms of n words, n being twice its length, and writes the
 /// plan. The codes are those of `nm_plan`. No clause says that a failed call leaves the table unchanged, because the plan
 /// borrows it.
 #[unsafe(no_mangle)]
@@ -72,12 +72,12 @@ pub extern "C" fn nm_plan_check(plan: &NmPlan) -> u32
     nm_plan_fits(plan.modulus, plan.root, plan.table)
 }
 
-/// Replaces the n words by their transform: where the table is the plan by g, entry j is the sum of x_i·h^(i·j) modulo m.
-/// h is g, or, where the plan is for more words, the power of g that suits n words. `nm_plan_make` writes a plan whose
-/// table is the plan by its root modulo m, and `nm_plan_check` returns `NM_OK` for no other.
+/// Replaces the n words by their transform: where the table is that of g, entry j is the sum of x_i·h^(i·j) modulo m.
+/// h is g, or, where the table is for more words, the power of g that suits n words. `nm_plan_make` writes a plan whose
+/// table is that of its root modulo m, and `nm_plan_check` returns `NM_OK` for no other.
 ///
 /// Condition: the entries of the plan's table are factors modulo m (`nm_plan_make` and `nm_plan_check` leave them).
-/// Factors that are no plan give meaningless words below m. `NM_BAD_ARGUMENT`: as for `nm_ntt_planned`.
+/// Factors that are no root's table give meaningless words below m. `NM_BAD_ARGUMENT`: as for `nm_ntt_planned`.
 #[unsafe(no_mangle)]
 pub extern "C" fn nm_plan_transform(plan: &NmPlan, xs: &mut [u64]) -> u32
     requires { AreFactors plan.now.modulus plan.now.table.now }

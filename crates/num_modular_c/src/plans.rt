@@ -1,4 +1,4 @@
-//! Plans of transforms: tables of factors that the caller owns.
+//! Tables of twiddle factors for transforms, which the caller owns.
 
 ghost use Rattle.std.specs.Prelude.{◌≡◌, ◌*◌, ◌%◌, ◌↔◌, length};
 ghost use Rattle.num_modular.specs.Transforms.{Suits};
@@ -9,7 +9,7 @@ use crate::codes::{NM_BAD_ARGUMENT, NM_BAD_CONTEXT, NM_NO_ROOT, NM_OK};
 use crate::transforms::root_code;
 use modular_barrett::planned::{Factor, PlannedModulus};
 use modular_plan_passes::entry::PlanEntry;
-use modular_plan_passes::plan::plan;
+use modular_plan_passes::table::fill_table;
 use modular_plan_transforms::filled::is_table;
 use num_modular::Montgomery;
 
@@ -46,7 +46,7 @@ impl PlanEntry<u64> for NmFactor {
     }
 }
 
-// The code that says whether there is a plan by the root for transforms of n words.
+// The code that says whether the root has a table for transforms of n words.
 fn plan_code(m: u64, root: u64, n: usize) -> u32
     ensures fits { (result ≡ NM_OK) ↔ (IsAdmitted m × Suits m (root % m) n) }
     ensures no_root { IsAdmitted m → (Suits m (root % m) n → ⊥) → result ≡ NM_NO_ROOT }
@@ -58,7 +58,7 @@ fn plan_code(m: u64, root: u64, n: usize) -> u32
     root_code(&Montgomery::<u64>::new(m), root, n)
 }
 
-/// Fills the table with the plan by the root for transforms of n words, n being twice its length.
+/// Fills the table of the root for transforms of n words, n being twice its length.
 /// `NM_BAD_ARGUMENT`: m is 0 or above 2^62. `NM_NO_ROOT`: the root doesn't suit n.
 #[unsafe(no_mangle)]
 pub extern "C" fn nm_plan(m: u64, root: u64, table: &mut [NmFactor]) -> u32
@@ -70,7 +70,7 @@ pub extern "C" fn nm_plan(m: u64, root: u64, table: &mut [NmFactor]) -> u32
 {
     let code = plan_code(m, root, 2 * table.len());
     if code == NM_OK {
-        plan(&PlannedModulus::<u64>::new(m), root % m, table);
+        fill_table(&PlannedModulus::<u64>::new(m), root % m, table);
     }
     code
 }

@@ -63,11 +63,11 @@ impl<T: PathWord> Factor<T> {
 /// # Examples
 ///
 /// ```
-/// use num_modular::plans::{ntt_planned, plan, Factor, PlannedModulus};
+/// use num_modular::plans::{fill_table, ntt_planned, Factor, PlannedModulus};
 ///
 /// let modulus = PlannedModulus::<u64>::new(97);
 /// let mut table = [Factor::<u64>::ZERO; 2];
-/// plan(&modulus, 22, &mut table); // 22 has the order 4
+/// fill_table(&modulus, 22, &mut table); // 22 has the order 4
 /// let mut entries = [1, 2, 3, 4];
 /// ntt_planned(&modulus, &mut entries, &table);
 /// assert_eq!(entries[0], 1 + 2 + 3 + 4);

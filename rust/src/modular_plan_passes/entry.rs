@@ -1,10 +1,10 @@
-//! The entries of a plan: factors, or structs of the caller that represent them.
+//! The entries of a table of twiddle factors: factors, or structs of the caller that represent them.
 
 use crate::modular_barrett::planned::Factor;
 use crate::modular_word::path_word::PathWord;
 
-/// An entry of a plan: `Factor` itself, or another struct of two words, such as one with the layout of another
-/// language.
+/// An entry of a table of twiddle factors: `Factor` itself, or another struct of two words, such as one with the layout
+/// of another language.
 ///
 /// # Examples
 ///

@@ -23,7 +23,7 @@ fn mirrored_run(place: usize) -> (usize, usize) {
 }
 
 // Minus the inverse of the factor at an index: the factor at the mirrored index, or -1 for index 0. Where the table
-// is no plan the mirrored index may be out of bounds.
+// isn't that of a root the mirrored index may be out of bounds.
 #[inline]
 fn minus_inverse<T: PlainWord, F: PlanEntry<T>, M: JoinSteps<T>>(
     m: &M,

@@ -71,7 +71,7 @@ fn split_known<T: PlainWord, M: SplitSteps<T>, F: PlanEntry<T>>(
 }
 
 /// A pass of two stages, block p by entry first + p of the table. The first pass of a transform takes one product in
-/// place of four, since a plan begins with the factor 1.
+/// place of four, since a root's table begins with 1.
 ///
 /// # Preconditions
 ///

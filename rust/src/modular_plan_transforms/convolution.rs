@@ -1,4 +1,4 @@
-//! Products of polynomials modulo X^n - c, by a plan.
+//! Products of polynomials modulo X^n - c, by a table.
 
 use crate::modular_plan_transforms::join::join_scaled;
 use crate::modular_plan_transforms::products::{multiply, reduce_products};
@@ -65,7 +65,7 @@ pub(crate) fn convolve_scaled<T: PlainWord, F: PlanEntry<T>>(
     join_products(m, xs, ys, table, b, last, part);
 }
 
-/// Whether `convolve_block` accepts lists of `length` entries as block b, down to blocks of `last`, and a plan of
+/// Whether `convolve_block` accepts lists of `length` entries as block b, down to blocks of `last`, and a table of
 /// `factors` factors.
 ///
 /// # Examples
@@ -92,11 +92,11 @@ pub const fn convolves(length: usize, factors: usize, b: usize, last: usize) -> 
 }
 
 /// Replaces xs by the product of two polynomials modulo X^n - c, and ys by the remainders of the second as `split`
-/// computes them. Here n is the length of the lists, the table is the plan by g (`plan`), and c is the power of g by
+/// computes them. Here n is the length of the lists, the table is that of g (`fill_table`), and c is the power of g by
 /// the reversed bits of b. Returns false, with both lists unchanged, exactly where the number n/last of blocks has no
 /// inverse modulo m.
 ///
-/// So b = 0 gives the cyclic product, and b = 1 that modulo X^n + 1. The table must be the plan by some g: with other
+/// So b = 0 gives the cyclic product, and b = 1 that modulo X^n + 1. The table must be that of some g: with other
 /// factors modulo m, the results are below m and meaningless.
 /// No memory is allocated.
 ///
@@ -113,11 +113,11 @@ pub const fn convolves(length: usize, factors: usize, b: usize, last: usize) -> 
 /// # Examples
 ///
 /// ```
-/// use num_modular::plans::{convolve_block, plan, Factor, PlannedModulus};
+/// use num_modular::plans::{convolve_block, fill_table, Factor, PlannedModulus};
 ///
 /// let modulus = PlannedModulus::<u64>::new(17);
 /// let mut table = [Factor::<u64>::ZERO; 2];
-/// plan(&modulus, 4, &mut table);
+/// fill_table(&modulus, 4, &mut table);
 /// let (mut xs, mut ys) = ([0, 0, 0, 1], [0, 1, 0, 0]);
 /// assert!(convolve_block(&modulus, &mut xs, &mut ys, &table, 1, 2));
 /// assert_eq!(xs, [16, 0, 0, 0]); // X^3 * X is -1 modulo X^4 + 1
@@ -149,7 +149,7 @@ pub fn convolve_block<T: PlainWord, F: PlanEntry<T>>(
 
 /// Replaces xs by the cyclic product of xs and ys, as `convolve_block` for b = 0: entry e becomes the sum of
 /// x_i·y_j modulo m over i + j = e or e + n. Returns false, with both lists unchanged, exactly where the number
-/// n/last of blocks has no inverse modulo m. The table must be a plan, as for `convolve_block`.
+/// n/last of blocks has no inverse modulo m. The table must be as for `convolve_block`.
 ///
 /// # Panics
 ///
@@ -158,11 +158,11 @@ pub fn convolve_block<T: PlainWord, F: PlanEntry<T>>(
 /// # Examples
 ///
 /// ```
-/// use num_modular::plans::{convolve_planned, plan, Factor, PlannedModulus};
+/// use num_modular::plans::{convolve_planned, fill_table, Factor, PlannedModulus};
 ///
 /// let modulus = PlannedModulus::<u64>::new(17);
 /// let mut table = [Factor::<u64>::ZERO; 2];
-/// plan(&modulus, 4, &mut table);
+/// fill_table(&modulus, 4, &mut table);
 /// let (mut xs, mut ys) = ([1, 2, 0, 0], [3, 4, 0, 0]);
 /// assert!(convolve_planned(&modulus, &mut xs, &mut ys, &table, 1));
 /// assert_eq!(xs, [3, 10, 8, 0]); // (1 + 2X)(3 + 4X)
@@ -182,7 +182,7 @@ pub fn convolve_planned<T: PlainWord, F: PlanEntry<T>>(
 
 /// Replaces xs by the product of xs and ys modulo X^n + 1, as `convolve_block` for b = 1: entry e becomes the sum
 /// of x_i·y_j modulo m over i + j = e, less that over i + j = e + n. Returns false, with both lists unchanged,
-/// exactly where the number n/last of blocks has no inverse modulo m. The table must be a plan, as for
+/// exactly where the number n/last of blocks has no inverse modulo m. The table must be as for
 /// `convolve_block`.
 ///
 /// # Panics
@@ -192,11 +192,11 @@ pub fn convolve_planned<T: PlainWord, F: PlanEntry<T>>(
 /// # Examples
 ///
 /// ```
-/// use num_modular::plans::{convolve_negacyclic, plan, Factor, PlannedModulus};
+/// use num_modular::plans::{convolve_negacyclic, fill_table, Factor, PlannedModulus};
 ///
 /// let modulus = PlannedModulus::<u64>::new(17);
 /// let mut table = [Factor::<u64>::ZERO; 2];
-/// plan(&modulus, 4, &mut table);
+/// fill_table(&modulus, 4, &mut table);
 /// let (mut xs, mut ys) = ([1, 2, 3, 4], [0, 1, 0, 0]);
 /// assert!(convolve_negacyclic(&modulus, &mut xs, &mut ys, &table, 2));
 /// assert_eq!(xs, [13, 1, 2, 3]); // times X; -4 + 17

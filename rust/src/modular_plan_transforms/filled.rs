@@ -54,7 +54,7 @@ fn are_powers<T: PlainWord, F: PlanEntry<T>>(
     true
 }
 
-/// Whether the table is the one that `plan` makes.
+/// Whether the table is that of g (`fill_table`).
 ///
 /// # Preconditions
 ///

@@ -87,7 +87,7 @@ fn scale_each<T: PlainWord, M: JoinSteps<T>>(m: &M, xs: &mut [T], w: &Factor<T>)
     }
 }
 
-// The last stages and the product of each entry with a factor. Where the plan begins with 1 the last pass does
+// The last stages and the product of each entry with a factor. Where the table begins with 1 the last pass does
 // both, by five products in place of eight.
 fn join_last<T: PlainWord, F: PlanEntry<T>, M: JoinSteps<T>>(
     m: &M,
@@ -127,7 +127,7 @@ fn join_scaled_by<T: PlainWord, F: PlanEntry<T>, M: JoinSteps<T>>(
 /// factor: where the entries are the remainders of a polynomial modulo X^last - c, as `split` computes them, entry
 /// i becomes its coefficient x_i times the number count of blocks, modulo m.
 ///
-/// The table must be the plan (`plan`) by which they were split, or a longer one that begins with it: with other
+/// The table must be the one by which they were split (`fill_table`), or a longer one that begins with it: with other
 /// factors modulo m, the results are below m and meaningless.
 ///
 /// Each pass over the list does two stages where two are left.
@@ -145,11 +145,11 @@ fn join_scaled_by<T: PlainWord, F: PlanEntry<T>, M: JoinSteps<T>>(
 /// # Examples
 ///
 /// ```
-/// use num_modular::plans::{join, plan, Factor, PlannedModulus};
+/// use num_modular::plans::{fill_table, join, Factor, PlannedModulus};
 ///
 /// let modulus = PlannedModulus::<u64>::new(17);
 /// let mut table = [Factor::<u64>::ZERO; 2];
-/// plan(&modulus, 4, &mut table);
+/// fill_table(&modulus, 4, &mut table);
 /// let mut entries = [10, 15, 7, 6]; // what `split` makes of 1, 2, 3, 4
 /// join(&modulus, &mut entries, &table, 0, 1);
 /// assert_eq!(entries, [4, 8, 12, 16]);
@@ -174,7 +174,7 @@ pub fn join<T: PlainWord, F: PlanEntry<T>>(
 }
 
 /// Joins the blocks as `join` does and multiplies each coefficient by a factor. With the inverse modulo m of the
-/// number of blocks as the factor, the results are the coefficients themselves. The table must be a plan, as for
+/// number of blocks as the factor, the results are the coefficients themselves. The table must be as for
 /// `join`.
 ///
 /// # Panics
@@ -187,11 +187,11 @@ pub fn join<T: PlainWord, F: PlanEntry<T>>(
 /// # Examples
 ///
 /// ```
-/// use num_modular::plans::{join_scaled, plan, Factor, PlannedModulus};
+/// use num_modular::plans::{fill_table, join_scaled, Factor, PlannedModulus};
 ///
 /// let modulus = PlannedModulus::<u64>::new(17);
 /// let mut table = [Factor::<u64>::ZERO; 2];
-/// plan(&modulus, 4, &mut table);
+/// fill_table(&modulus, 4, &mut table);
 /// let mut entries = [10, 15, 7, 6]; // what `split` makes of 1, 2, 3, 4
 /// join_scaled(&modulus, &mut entries, &table, 0, 1, &modulus.factor(13)); // 4 * 13 = 3 * 17 + 1
 /// assert_eq!(entries, [1, 2, 3, 4]);

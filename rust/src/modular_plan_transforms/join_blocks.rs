@@ -1,4 +1,4 @@
-//! The stages of a join by a plan, all or up to the last pass.
+//! The stages of a join by a table, all or up to the last pass.
 
 use crate::modular_barrett::planned::Factor;
 use crate::modular_plan_passes::entry::PlanEntry;

@@ -48,7 +48,7 @@ pub(crate) fn reduce_products<T: PlainWord>(
 }
 
 // A number that is at most m and congruent to x times the constant of block b·count + j of the tree, which is an
-// entry of the plan or minus one.
+// entry of the table or minus one.
 fn times_constant<T: PlainWord, F: PlanEntry<T>>(
     m: &PlannedModulus<T>,
     table: &[F],
@@ -100,7 +100,7 @@ fn multiply_pairs<T: PlainWord, F: PlanEntry<T>>(
 
 /// Multiplies the blocks of `last` entries of the two lists, below block b of the tree of remainders, as
 /// polynomials modulo X^last - c, with the constants c of `split`. So the products of two lists of remainders are
-/// the remainders of a product. For `last` = 1 entries of equal index are multiplied. The table must be the plan by
+/// the remainders of a product. For `last` = 1 entries of equal index are multiplied. The table must be the one by
 /// which the lists were split: with other factors modulo m, the results are below m and meaningless.
 ///
 /// # Panics
@@ -113,11 +113,11 @@ fn multiply_pairs<T: PlainWord, F: PlanEntry<T>>(
 /// # Examples
 ///
 /// ```
-/// use num_modular::plans::{multiply, plan, Factor, PlannedModulus};
+/// use num_modular::plans::{fill_table, multiply, Factor, PlannedModulus};
 ///
 /// let modulus = PlannedModulus::<u64>::new(17);
 /// let mut table = [Factor::<u64>::ZERO; 1];
-/// plan(&modulus, 16, &mut table);
+/// fill_table(&modulus, 16, &mut table);
 /// let mut entries = [2, 3];
 /// multiply(&modulus, &mut entries, &[5, 7], &table, 0, 1);
 /// assert_eq!(entries, [10, 4]); // 21 - 17

@@ -16,7 +16,7 @@ fn reduce_each<T: PlainWord, M: SplitSteps<T>>(m: &M, xs: &mut [T]) {
     }
 }
 
-/// Whether `split` accepts a list of `length` entries, from block b down to blocks of `last`, and a plan of
+/// Whether `split` accepts a list of `length` entries, from block b down to blocks of `last`, and a table of
 /// `factors` factors.
 ///
 /// # Examples
@@ -84,12 +84,12 @@ pub fn split_loosely<T: PlainWord, F: PlanEntry<T>>(
 }
 
 /// Splits block b of the tree of remainders into blocks of `last` entries: entry i of block j becomes the sum over
-/// k of x_(k·last + i)·c^k modulo m, the coefficient of the remainder modulo X^last - c. Here the table is the plan by
-/// a root g (`plan`), count is the number of blocks, and c is the power of g by the reversed bits of b·count + j.
+/// k of x_(k·last + i)·c^k modulo m, the coefficient of the remainder modulo X^last - c. Here the table is that of a
+/// root g (`fill_table`), count is the number of blocks, and c is the power of g by the reversed bits of b·count + j.
 ///
 /// So b = 0 and last = 1 give the transform by g, in bit-reversed order; b = 1 starts from a polynomial
-/// modulo X^n + 1. The table must be a plan, of any length that suffices: with other factors modulo m, the results are
-/// below m and meaningless.
+/// modulo X^n + 1. The table must be that of some root, of any length that suffices: with other factors modulo m, the
+/// results are below m and meaningless.
 ///
 /// Each pass over the list does two stages; a single one comes first where their number is odd.
 ///
@@ -106,11 +106,11 @@ pub fn split_loosely<T: PlainWord, F: PlanEntry<T>>(
 /// # Examples
 ///
 /// ```
-/// use num_modular::plans::{plan, split, Factor, PlannedModulus};
+/// use num_modular::plans::{fill_table, split, Factor, PlannedModulus};
 ///
 /// let modulus = PlannedModulus::<u64>::new(17);
 /// let mut table = [Factor::<u64>::ZERO; 2];
-/// plan(&modulus, 4, &mut table);
+/// fill_table(&modulus, 4, &mut table);
 /// let mut entries = [1, 2, 3, 4];
 /// split(&modulus, &mut entries, &table, 0, 1);
 /// assert_eq!(entries, [10, 15, 7, 6]); // 1 + 2X + 3X^2 + 4X^3 at 1, -1, 4 and -4

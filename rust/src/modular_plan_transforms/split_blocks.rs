@@ -1,4 +1,4 @@
-//! All stages of a split by a plan.
+//! All stages of a split by a table.
 
 use crate::modular_plan_passes::entry::PlanEntry;
 use crate::modular_plan_passes::split_stages::{split_pass, split_stage};

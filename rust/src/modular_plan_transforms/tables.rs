@@ -1,4 +1,4 @@
-//! What makes a plan: a root that suits, and a table of its powers; and the inverses of powers of two.
+//! What a plan requires: a root that suits, and its powers; and the inverses of powers of two.
 
 use crate::modular_barrett::planned::{Factor, PlannedModulus};
 use crate::modular_prim::plain_word::PlainWord;

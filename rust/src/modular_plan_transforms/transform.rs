@@ -1,4 +1,4 @@
-//! The transform by a plan, in natural order.
+//! The transform by a table, in natural order.
 
 use crate::modular_plan_transforms::split::split;
 use crate::modular_barrett::planned::PlannedModulus;
@@ -7,8 +7,8 @@ use crate::modular_prim::plain_word::PlainWord;
 use crate::modular_transform::order::reverse_places;
 
 /// The transform of n entries in place, in natural order: entry j becomes the sum over i of x_i·h^(i·j) modulo m, below
-/// m. Here the table is the plan by a root g (`plan`), and h is g, or, where the plan is for more entries, the power of
-/// g that suits n entries. The table must be a plan: with other factors modulo m, the results are below m and
+/// m. Here the table is that of a root g (`fill_table`), and h is g, or, where the table is for more entries, the power of
+/// g that suits n entries. The table must be that of some root: with other factors modulo m, the results are below m and
 /// meaningless.
 ///
 /// Source: `split`, and a reversal of the bits of the indexes.
@@ -22,11 +22,11 @@ use crate::modular_transform::order::reverse_places;
 /// # Examples
 ///
 /// ```
-/// use num_modular::plans::{ntt_planned, plan, Factor, PlannedModulus};
+/// use num_modular::plans::{fill_table, ntt_planned, Factor, PlannedModulus};
 ///
 /// let modulus = PlannedModulus::<u64>::new(17);
 /// let mut table = [Factor::<u64>::ZERO; 2];
-/// plan(&modulus, 4, &mut table);
+/// fill_table(&modulus, 4, &mut table);
 /// let mut entries = [1, 2, 3, 4];
 /// ntt_planned(&modulus, &mut entries, &table);
 /// assert_eq!(entries, [10, 7, 15, 6]); // 1 + 2X + 3X^2 + 4X^3 at 1, 4, -1 and -4

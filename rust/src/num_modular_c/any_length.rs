@@ -62,7 +62,7 @@ fn has_inverse(m: u64, x: u64) -> bool {
     x.invm(&m).is_some()
 }
 
-// The number of factors of each table of the plans for n entries; 1 where none is needed. Condition: 3·n is at most 2^32.
+// The number of factors of each table for n entries; 1 where none is needed. Condition: 3·n is at most 2^32.
 #[inline]
 fn table_length(n: usize) -> usize {
     if n < LEAST_TRANSFORMED {

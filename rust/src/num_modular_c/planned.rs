@@ -1,4 +1,4 @@
-//! Transforms and products of lists of words by a plan.
+//! Transforms and products of lists of words by a table.
 
 use crate::num_modular_c::codes::{NM_BAD_ARGUMENT, NM_BAD_CONTEXT, NM_NO_INVERSE, NM_OK};
 use crate::num_modular_c::plans::NmFactor;
@@ -28,7 +28,7 @@ pub(crate) fn is_split(m: u64, words: &[u64], factors: usize, b: usize, last: us
         && have_room(&PlannedModulus::<u64>::new(m), words)
 }
 
-// The code of a call by a plan, by what it tests of a list before it works.
+// The code of a call by a table, by what it tests of a list before it works.
 #[inline]
 fn split_code(m: u64, words: &[u64], table: &[NmFactor], b: usize, last: usize) -> u32 {
     if !is_split(m, words, table.len(), b, last) {
@@ -41,12 +41,12 @@ fn split_code(m: u64, words: &[u64], table: &[NmFactor], b: usize, last: usize) 
     }
 }
 
-/// Replaces the n words by their transform: where the table is the plan by g, entry j is the sum of x_i·h^(i·j) modulo m.
-/// h is g, or, where the plan is for more words, the power of g that suits n words.
+/// Replaces the n words by their transform: where the table is that of g, entry j is the sum of x_i·h^(i·j) modulo m.
+/// h is g, or, where the table is for more words, the power of g that suits n words.
 ///
 /// `NM_BAD_ARGUMENT`: m is 0 or above 2^62, a word isn't below 4m, n is no power of two or above twice the length
-/// of the table. `NM_BAD_CONTEXT`: an entry of the table isn't a factor modulo m with its quotient. Where the table
-/// is no plan, the resulting words are below m and have no meaning.
+/// of the table. `NM_BAD_CONTEXT`: an entry of the table isn't a factor modulo m with its quotient. Where it
+/// is no root's table, the resulting words are below m and have no meaning.
 #[inline]
 pub fn nm_ntt_planned(m: u64, xs: &mut [u64], table: &[NmFactor]) -> u32 {
     let code = split_code(m, xs, table, 0, 1);
@@ -57,7 +57,7 @@ pub fn nm_ntt_planned(m: u64, xs: &mut [u64], table: &[NmFactor]) -> u32 {
 }
 
 /// Splits block b of the tree of remainders into blocks of `last` words, in place: word i of block j
-/// becomes the sum over k of x_(k·last + i)·c^k modulo m. Here the table is the plan by g, count is the number of blocks,
+/// becomes the sum over k of x_(k·last + i)·c^k modulo m. Here the table is that of g, count is the number of blocks,
 /// and c is the power of g by the reversed bits of b·count + j.
 ///
 /// `NM_BAD_ARGUMENT`: m is 0 or above 2^62, a word isn't below 4m, n is no power of two times `last`, or the table
@@ -95,7 +95,7 @@ pub(crate) fn is_pair(m: u64, xs: &[u64], ys: &[u64], factors: usize, b: usize, 
         && have_room(&modulus, ys)
 }
 
-// The code of a product by a plan, by what it tests before it works.
+// The code of a product by a table, by what it tests before it works.
 #[inline]
 fn pair_code(m: u64, xs: &[u64], ys: &[u64], table: &[NmFactor], b: usize, last: usize) -> u32 {
     if !is_pair(m, xs, ys, table.len(), b, last) {
@@ -108,7 +108,7 @@ fn pair_code(m: u64, xs: &[u64], ys: &[u64], table: &[NmFactor], b: usize, last:
     }
 }
 
-// The code of a product modulo X^n - c, as block b of a plan, of lists that have been tested.
+// The code of a product modulo X^n - c, as block b of a table, of lists that have been tested.
 #[inline]
 pub(crate) fn product_code(
     m: u64,

@@ -1,10 +1,10 @@
-//! Plans of transforms: tables of factors that the caller owns.
+//! Tables of twiddle factors for transforms, which the caller owns.
 
 use crate::num_modular_c::codes::{NM_BAD_ARGUMENT, NM_BAD_CONTEXT, NM_OK};
 use crate::num_modular_c::transforms::root_code;
 use crate::modular_barrett::planned::{Factor, PlannedModulus};
 use crate::modular_plan_passes::entry::PlanEntry;
-use crate::modular_plan_passes::plan::plan;
+use crate::modular_plan_passes::table::fill_table;
 use crate::modular_plan_transforms::filled::is_table;
 use crate::Montgomery;
 
@@ -37,7 +37,7 @@ impl PlanEntry<u64> for NmFactor {
     }
 }
 
-// The code that says whether there is a plan by the root for transforms of n words.
+// The code that says whether the root has a table for transforms of n words.
 #[inline]
 fn plan_code(m: u64, root: u64, n: usize) -> u32 {
     if !PlannedModulus::<u64>::admits(m) {
@@ -46,13 +46,13 @@ fn plan_code(m: u64, root: u64, n: usize) -> u32 {
     root_code(&Montgomery::<u64>::new(m), root, n)
 }
 
-/// Fills the table with the plan by the root for transforms of n words, n being twice its length.
+/// Fills the table of the root for transforms of n words, n being twice its length.
 /// `NM_BAD_ARGUMENT`: m is 0 or above 2^62. `NM_NO_ROOT`: the root doesn't suit n.
 #[inline]
 pub fn nm_plan(m: u64, root: u64, table: &mut [NmFactor]) -> u32 {
     let code = plan_code(m, root, 2 * table.len());
     if code == NM_OK {
-        plan(&PlannedModulus::<u64>::new(m), root % m, table);
+        fill_table(&PlannedModulus::<u64>::new(m), root % m, table);
     }
     code
 }

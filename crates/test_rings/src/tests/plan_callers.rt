@@ -1,4 +1,4 @@
-//! Callers of plans, proved from their contracts alone; no test runs them.
+//! Callers of transforms by a table, proved from their contracts alone; no test runs them.
 
 ghost use Rattle.std.specs.Prelude.{◌≡◌, ℕ, ◌+◌, ◌*◌, ◌/◌, ◌%◌, ◌^◌, ◌<◌, ◌≤◌, All, length};
 ghost use Rattle.modular_word.specs.Inverses.{IsInverse};
@@ -10,7 +10,7 @@ ghost use Rattle.num_modular.specs.PlanConditions.{AreBlocks};
 
 use modular_barrett::planned::{Factor, PlannedModulus};
 use modular_plan_passes::entry::PlanEntry;
-use modular_plan_passes::plan::plan;
+use modular_plan_passes::table::fill_table;
 use modular_plan_transforms::join::join_scaled;
 use modular_plan_transforms::plan::Plan;
 use modular_plan_transforms::split::split;
@@ -19,7 +19,7 @@ use modular_prim::plain_word::PlainWord;
 use modular_word::path_word::PathWord;
 use num_modular::laws::split_laws;
 
-/// Block b, split by the plan by g, and joined with the inverse `part` of the number of blocks: every entry has its
+/// Block b, split by the table of g, and joined with the inverse `part` of the number of blocks: every entry has its
 /// former residue.
 pub fn split_and_joined<T: PlainWord>(
     m: &PlannedModulus<T>,
@@ -39,12 +39,12 @@ pub fn split_and_joined<T: PlainWord>(
         → numbers T.number xs.new i ≡ numbers T.number xs.old i % T.number m.now.modulus }
 {
     let (b, last) = block;
-    plan(m, g, table);
+    fill_table(m, g, table);
     split(m, xs, table, b, last);
     join_scaled(m, xs, table, b, last, part);
 }
 
-/// The transform of n entries by the first half of the plan by g for 2n entries, which is the plan by g·g for n.
+/// The transform of n entries by the first half of the table of g for 2n entries, which is the table of g·g for n.
 pub fn by_first_half<T: PlainWord>(
     m: &PlannedModulus<T>,
     g: T,
@@ -59,7 +59,7 @@ pub fn by_first_half<T: PlainWord>(
         → numbers T.number xs.new j
         ≡ transform modulus (T.number g ^ 2 % modulus) (length xs.old) (numbers T.number xs.old) j }
 {
-    plan(m, g, table);
+    fill_table(m, g, table);
     let half = table.len() / 2;
     ntt_planned(m, xs, &table[..half]);
 }

@@ -11,7 +11,7 @@ use modular_word::path_word::PathWord;
 use modular_word::ring_word::RingWord;
 use num_modular::plans::{
     Factor, PlanEntry, PlannedModulus, convolve_block, convolve_negacyclic, convolve_planned,
-    convolves, join, join_scaled, multiply, ntt_planned, plan, split, splits,
+    convolves, fill_table, join, join_scaled, multiply, ntt_planned, split, splits,
 };
 use test_callers::plans::all_in_room;
 
@@ -26,7 +26,7 @@ pub enum Call<T> {
     Convolve,
 }
 
-/// A row: the modulus, a root and how many factors the plan by the root has; the block and how many entries
+/// A row: the modulus, a root and how many factors the table of the root has; the block and how many entries
 /// the last blocks have; one list, or two of the same length, one after the other; and what a call makes of them.
 pub struct Row<'a, T> {
     pub m: T,
@@ -50,7 +50,7 @@ pub fn all_below<T: PlainWord>(m: &PlannedModulus<T>, xs: &[T]) -> bool
     true
 }
 
-// Whether the table gets the plan by g, which is for twice as many entries as it has factors.
+// Whether the table becomes that of g, which is for twice as many entries as it has factors.
 fn is_planned<T: PlainWord>(m: &PlannedModulus<T>, g: T, table: &mut [Factor<T>]) -> bool
     ensures { IsTrue result → All (IsFactorOf T.base T.number (T.number m.now.modulus)) table.new }
 {
@@ -61,7 +61,7 @@ fn is_planned<T: PlainWord>(m: &PlannedModulus<T>, g: T, table: &mut [Factor<T>]
     if !root_fits(&r, &g, 2 * table.len()) {
         return false;
     }
-    plan(m, g, table);
+    fill_table(m, g, table);
     true
 }
 

@@ -279,7 +279,7 @@ fn plans_that_there_are(rt: HostRuntime) {
     }
 }
 
-// A modulus, a root, the factors of a table with their quotients, and whether the table is a plan by the root.
+// A modulus, a root, the factors of a table with their quotients, and whether the table is that of the root.
 struct Table<'a> {
     m: u64,
     root: u64,
@@ -312,7 +312,7 @@ const TABLES: &[Table] = &[
         is: false },
 ];
 
-// Whether the row's table is a plan, with this modulus, root and number of entries, and so is a copy; its factors get room.
+// Whether the row's table makes a plan with this modulus, root and length, and so is a copy; its factors get room.
 fn is_plan_over(row: &Table, table: &mut [Factor<u64>]) -> bool {
     if !PlannedModulus::<u64>::admits(row.m) || row.entries.len() > table.len() {
         return false;

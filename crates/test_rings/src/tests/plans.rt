@@ -1,4 +1,4 @@
-//! Known lists of remainders, their joins, and transforms in natural order, by plans.
+//! Known lists of remainders, their joins, and transforms in natural order, by tables.
 
 use super::plan_rows::{Call, Row, first_wrong_16, first_wrong_32, first_wrong_64};
 use super::{assert_at, assert_right};
@@ -216,9 +216,9 @@ const TRANSFORMS_OF_16_BITS: &[Row<u16>] = &[
 
 #[rattlefmt::skip]
 const TRANSFORMS_OF_32_BITS: &[Row<u32>] = &[
-    // whole plans
+    // whole tables
     Row { m: 20, root: 19, factors: 1, block: 0, last: 1, lists: &[79, 78], want: &[17, 1] },
-    // longer plans
+    // longer tables
     Row { m: 17, root: 3, factors: 8, block: 0, last: 1, lists: &[1, 2, 3, 4, 5, 6, 7, 8],
         want: &[2, 1, 12, 3, 13, 6, 14, 8] },
     Row { m: 17, root: 3, factors: 8, block: 0, last: 1, lists: &[67, 1], want: &[0, 15] },

@@ -1,4 +1,4 @@
-//! Known products of polynomials, by plans.
+//! Known products of polynomials, by tables.
 
 use super::plan_rows::{Call, Row, first_wrong_16, first_wrong_32, first_wrong_64};
 use super::{assert_at, assert_right};

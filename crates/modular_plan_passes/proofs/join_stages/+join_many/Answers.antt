@@ -26,11 +26,11 @@ returns-else-blocks-run g t c =
     record {
       entries = all_of_both (λ x. n x < g.M.JoinSteps.bound c.args.m.now) front.new.xs back.new.xs
           front.ensures.entries back.ensures.entries;
-      done = λ root z plan.
+      done = λ root z twiddles.
           subst (λ l. StageOfFours (λ p. S (first + p)) 1 blocks (numbers n l) (numbers n (front.new.xs ++ back.new.xs)))
           (sym c.split_at_mut-low.ensures.value)
           (subst (λ b. StageOfFours (λ p. S (first + p)) 1 b (numbers n (low ++ high))
           (numbers n (front.new.xs ++ back.new.xs))) total
           (stages_appended n S first run (blocks - run) low high front.new.xs back.new.xs low_length
-          (omega (arith, same, low_length)) (front.ensures.done root z plan) (back.ensures.done root z plan)));
+          (omega (arith, same, low_length)) (front.ensures.done root z twiddles) (back.ensures.done root z twiddles)));
     }

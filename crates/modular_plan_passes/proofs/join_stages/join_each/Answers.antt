@@ -11,7 +11,7 @@ pub fours-init : goal.fours-init
 fours-init g c = record {
   kept = λ k l. refl;
   below = λ k l. absurd (omega arith);
-  done = λ root z plan. stage_of_fours_none _ 1 _;
+  done = λ root z twiddles. stage_of_fours_none _ 1 _;
 }
 
 pub minus_inverses-w-requires : goal.minus_inverses-w-requires
@@ -46,9 +46,9 @@ fours-preserved g c =
     record {
       kept = λ k l. step.kept k (omega arith) (omega arith) (omega arith) (omega arith) ∙ c.fours.invariant.kept k (omega arith);
       below = neighbours_below c.fours.p c.fours.invariant.below step;
-      done = λ root z plan.
-          stage_of_fours_more _ 1 c.fours.p _ _ _ (c.fours.invariant.done root z plan)
-          (block_mapped (λ a b c' d e f g' h is. is.each _ _ _ (c.minus_inverses-w.ensures.inverses root z plan))
+      done = λ root z twiddles.
+          stage_of_fours_more _ 1 c.fours.p _ _ _ (c.fours.invariant.done root z twiddles)
+          (block_mapped (λ a b c' d e f g' h is. is.each _ _ _ (c.minus_inverses-w.ensures.inverses root z twiddles))
           (neighbours_done (c.fours.p * 4) step));
     }
 
@@ -56,7 +56,7 @@ pub returns : goal.returns
 returns g c = record {
   entries = all_below g.T.RingWord.number (g.M.JoinSteps.bound c.args.m.now) (length c.args.xs.now) c.fours.xs
       (omega arith) (λ k l. c.fours.invariant.below k (omega arith));
-  done = λ root z plan. stage_of_fours_all (c.fours.invariant.done root z plan) (omega arith);
+  done = λ root z twiddles. stage_of_fours_all (c.fours.invariant.done root z twiddles) (omega arith);
 }
 
 pub offset_bounds-xs-place : goal.offset_bounds-xs-place

@@ -25,7 +25,7 @@ fours-init g c =
     record {
       kept = λ k l. refl;
       below = λ k l. absurd (omega arith);
-      done = λ root z plan. stage_of_fours_none _ 1 _;
+      done = λ root z twiddles. stage_of_fours_none _ 1 _;
       own = front_of value table own after own_is;
       own_length = omega (arith, own_length);
       own_factors = all_in_front P own after (subst (λ t. All P t) own_is c.requires.pass.factors);
@@ -115,12 +115,12 @@ fours-preserved g c =
     record {
       kept = λ k l. step.kept k (omega arith) (omega arith) (omega arith) (omega arith) ∙ c.fours.invariant.kept k (omega arith);
       below = neighbours_below p c.fours.invariant.below step;
-      done = λ root z plan.
-          stage_of_fours_more _ 1 p _ _ _ (c.fours.invariant.done root z plan)
+      done = λ root z twiddles.
+          stage_of_fours_more _ 1 p _ _ _ (c.fours.invariant.done root z twiddles)
           (block_mapped (λ a b c' d e f g' h is. is.each _ _ _
           (inverses_of (c.factor-w.ensures.value ∙ own_at ∙ ap w same) (c.factor-u.ensures.value ∙ low_at)
           (c.factor-v.ensures.value ∙ high_at ∙ ap w twice)
-          (mirrored_inverses root z (length table) c.requires.mirrored.0 place other w plan (omega (arith, within, less))
+          (mirrored_inverses root z (length table) c.requires.mirrored.0 place other w twiddles (omega (arith, within, less))
           (omega (arith, least)) (omega (arith, highest, less)) (omega (arith, sum, before)))))
           (neighbours_done (p * 4) step));
       own = shorter_front value table c.fours.own.now own.result.0.now own.result.1.now c.fours.invariant.own own_is;
@@ -138,5 +138,5 @@ pub returns : goal.returns
 returns g c = record {
   entries = all_below g.T.RingWord.number (g.M.JoinSteps.bound c.args.m.now) (length c.args.xs.now) c.fours.xs
       (omega arith) (λ k l. c.fours.invariant.below k (omega arith));
-  done = λ root z plan. stage_of_fours_all (c.fours.invariant.done root z plan) (omega arith);
+  done = λ root z twiddles. stage_of_fours_all (c.fours.invariant.done root z twiddles) (omega arith);
 }

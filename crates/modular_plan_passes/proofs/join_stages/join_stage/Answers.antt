@@ -7,7 +7,7 @@ use borrow.Author.Count.{falls}
 pub each_block-init : goal.each_block-init
 each_block-init g c = record {
   entries = c.requires.entries;
-  done = λ root z plan. stage_none _ c.args.half _;
+  done = λ root z twiddles. stage_none _ c.args.half _;
 }
 
 pub overflow_add-half : goal.overflow_add-half
@@ -47,14 +47,14 @@ pub each_block-preserved : goal.each_block-preserved
 each_block-preserved g c = record {
   entries = c.pairs.ensures.entries;
   done =
-      λ root z plan. stage_more _ c.args.half c.each_block.p _ _ _ (c.each_block.invariant.done root z plan)
-      (pairs_mapped (λ a b a' b' is. is _ (c.minus_inverse-v.ensures.inverse root z plan)) c.pairs.ensures.done);
+      λ root z twiddles. stage_more _ c.args.half c.each_block.p _ _ _ (c.each_block.invariant.done root z twiddles)
+      (pairs_mapped (λ a b a' b' is. is _ (c.minus_inverse-v.ensures.inverse root z twiddles)) c.pairs.ensures.done);
 }
 
 pub returns : goal.returns
 returns g c = record {
   entries = c.each_block.invariant.entries;
-  done = λ root z plan. stage_all (c.each_block.invariant.done root z plan) (omega arith);
+  done = λ root z twiddles. stage_all (c.each_block.invariant.done root z twiddles) (omega arith);
 }
 
 pub each_block-smaller : goal.each_block-smaller

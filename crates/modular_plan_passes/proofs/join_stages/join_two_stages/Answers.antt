@@ -8,7 +8,7 @@ use borrow.Author.Count.{falls}
 pub four_quarters-init : goal.four_quarters-init
 four_quarters-init g c = record {
   entries = c.requires.pass.entries;
-  done = λ root z plan. stage_of_fours_none _ c.args.q _;
+  done = λ root z twiddles. stage_of_fours_none _ c.args.q _;
 }
 
 pub minus_inverses-w-requires : goal.minus_inverses-w-requires
@@ -57,16 +57,16 @@ quarters-requires g c =
 pub four_quarters-preserved : goal.four_quarters-preserved
 four_quarters-preserved g c = record {
   entries = block_below g.T.RingWord.number _ _ c.quarters.auto.xs c.four_quarters.invariant.entries c.quarters.ensures;
-  done = λ root z plan.
-      stage_of_fours_more _ c.args.q c.four_quarters.p _ _ _ (c.four_quarters.invariant.done root z plan)
-      (block_mapped (λ a b c' d e f g' h is. is.done.each _ _ _ (c.minus_inverses-w.ensures.inverses root z plan))
+  done = λ root z twiddles.
+      stage_of_fours_more _ c.args.q c.four_quarters.p _ _ _ (c.four_quarters.invariant.done root z twiddles)
+      (block_mapped (λ a b c' d e f g' h is. is.done.each _ _ _ (c.minus_inverses-w.ensures.inverses root z twiddles))
       c.quarters.ensures);
 }
 
 pub returns : goal.returns
 returns g c = record {
   entries = c.four_quarters.invariant.entries;
-  done = λ root z plan. stage_of_fours_all (c.four_quarters.invariant.done root z plan) (omega arith);
+  done = λ root z twiddles. stage_of_fours_all (c.four_quarters.invariant.done root z twiddles) (omega arith);
 }
 
 pub four_quarters-smaller : goal.four_quarters-smaller

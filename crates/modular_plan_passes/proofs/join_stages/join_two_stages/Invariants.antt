@@ -1,5 +1,5 @@
 use Rattle.std.proofs.Common.{ℕ, ◌+◌, ◌*◌, ◌<◌, All, length}
-use Rattle.modular_plan_passes.specs.Plans.{numbers, IsPlan}
+use Rattle.modular_plan_passes.specs.Plans.{numbers, AreTwiddles}
 use Rattle.modular_plan_passes.specs.Steps.{StageOfFours}
 use Rattle.modular_plan_passes.specs.Joins.{IsFourJoin}
 use Rattle.modular_plan_passes.proofs.join_stages.join_two_stages.Given as goal
@@ -12,7 +12,7 @@ invariant-four_quarters g l =
     let w = numbers g.F.PlanEntry.value l.table in
     record {
       entries : All (λ x. number x < g.M.JoinSteps.bound l.m) l.xs;
-      done : (g z : ℕ) → IsPlan m g z (length l.table) w
+      done : (g z : ℕ) → AreTwiddles m g z (length l.table) w
           → StageOfFours (λ p. IsFourJoin m (w (l.first + p)) (w (2 * (l.first + p))) (w (2 * (l.first + p) + 1))) l.q
           l.p (numbers number l.fn.xs) (numbers number l.xs);
     }

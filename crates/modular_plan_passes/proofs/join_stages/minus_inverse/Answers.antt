@@ -2,7 +2,7 @@ use Rattle.std.proofs.Common.{◌≡◌, length, arith, subst, sym, ◌∙◌}
 use Rattle.modular_plan_passes.specs.Plans.{numbers}
 use Rattle.modular_plan_passes.proofs.Entries.{number_read}
 use Rattle.modular_plan_passes.specs.Joins.{IsMinusInverse}
-use Rattle.modular_plan_passes.proofs.Mirrors.{mirror_of_plan, first_of_plan}
+use Rattle.modular_plan_passes.proofs.Mirrors.{mirror_of_twiddles, first_of_twiddles}
 use Rattle.modular_plan_passes.proofs.Columns.{factor_read}
 use Rattle.modular_plan_passes.proofs.join_stages.minus_inverse.Goals as goal
 
@@ -12,8 +12,8 @@ returns-then-place-eq0 g c = record {
       let m = g.M.JoinSteps.modulus c.args.m.now in
       let w = numbers g.F.PlanEntry.value c.args.table.now in
       let first : 0 ≡ c.args.place = omega arith in
-      λ root z plan. subst (λ p. IsMinusInverse m (w p) (n c.args.minus.value)) first
-      (first_of_plan root z (length c.args.table.now) (n c.args.minus.value) w plan
+      λ root z twiddles. subst (λ p. IsMinusInverse m (w p) (n c.args.minus.value)) first
+      (first_of_twiddles root z (length c.args.table.now) (n c.args.minus.value) w twiddles
       (let l = c.requires.within in omega arith) c.requires.factors.is_minus));
   factor = c.requires.factors.minus_factor;
 }
@@ -26,8 +26,8 @@ returns-then-other-table g c = record {
       let is = c.factor.ensures.value ∙ number_read g.F.PlanEntry.value c.args.table.now c.mirrored-other.result
       c.index-table-other.result c.if-other-table.true c.index-table-other.is in
       let at = c.mirrored-other.ensures in
-      λ root z plan. subst (λ v. IsMinusInverse m (w c.args.place) v) (sym is)
-      (mirror_of_plan root z (length c.args.table.now) at.0 c.args.place c.mirrored-other.result w plan
+      λ root z twiddles. subst (λ v. IsMinusInverse m (w c.args.place) v) (sym is)
+      (mirror_of_twiddles root z (length c.args.table.now) at.0 c.args.place c.mirrored-other.result w twiddles
       c.requires.within at.1 at.2 at.3).inverse);
   factor = factor_read g.F.PlanEntry.value g.F.PlanEntry.quotient _ _ _ c.requires.factors.each
       c.if-other-table.true c.index-table-other.is c.factor.ensures.value c.factor.ensures.quotient;
@@ -38,8 +38,8 @@ returns-else-other-table g c = record {
   inverse = (let n = g.T.RingWord.number in
       let w = numbers g.F.PlanEntry.value c.args.table.now in
       let at = c.mirrored-other.ensures in
-      λ root z plan.
-      let inside = (mirror_of_plan root z (length c.args.table.now) at.0 c.args.place c.mirrored-other.result w plan
+      λ root z twiddles.
+      let inside = (mirror_of_twiddles root z (length c.args.table.now) at.0 c.args.place c.mirrored-other.result w twiddles
       c.requires.within at.1 at.2 at.3).within in
       let outside = c.if-other-table.false in
       absurd (omega (arith, inside, outside)));

@@ -3,7 +3,7 @@ use Rattle.std.proofs.Math.Nat.{two-pow-succ}
 use Rattle.modular_plan_passes.specs.Plans.{numbers}
 use Rattle.modular_plan_passes.proofs.Entries.{number_read}
 use Rattle.modular_plan_passes.specs.Joins.{IsMinusInverse}
-use Rattle.modular_plan_passes.proofs.Mirrors.{mirror_of_plan, first_of_plan}
+use Rattle.modular_plan_passes.proofs.Mirrors.{mirror_of_twiddles, first_of_twiddles}
 use Rattle.modular_plan_passes.proofs.Columns.{factor_read}
 use Rattle.modular_plan_passes.proofs.join_stages.minus_inverses.Goals as goal
 
@@ -21,14 +21,14 @@ returns-then-place-eq0 g c = record {
       let is = c.factor.ensures.value
       ∙ number_read g.F.PlanEntry.value table 1 c.index-table-1.result within c.index-table-1.is in
       let one : 2 ^ 0 ≡ 1 = refl in
-      λ root z plan.
-      let of_first = first_of_plan root z (length table) minus w plan (omega arith) c.requires.factors.is_minus in
+      λ root z twiddles.
+      let of_first = first_of_twiddles root z (length table) minus w twiddles (omega arith) c.requires.factors.is_minus in
       record {
         own = subst (λ p. IsMinusInverse m (w p) minus) first of_first;
         low = subst (λ p. IsMinusInverse m (w p) minus) low of_first;
         high = subst (λ p. IsMinusInverse m (w p) (n c.factor.result.value)) high
             (subst (λ v. IsMinusInverse m (w 1) v) (sym is)
-            (mirror_of_plan root z (length table) 0 1 1 w plan within (omega (arith, one)) (omega (arith, one))
+            (mirror_of_twiddles root z (length table) 0 1 1 w twiddles within (omega (arith, one)) (omega (arith, one))
             (omega (arith, one))).inverse);
       });
   factors = (let minus = c.requires.factors.minus_factor in
@@ -61,14 +61,16 @@ returns-then-other-table g c = record {
       c.index-table-other-then-other-table.result (omega (arith, inside)) c.index-table-other-then-other-table.is in
       let high = c.factor-then-other-table-3.ensures.value ∙ number_read g.F.PlanEntry.value table (2 * other)
       c.index-table-other-then-other-table-2.result (omega (arith, inside)) c.index-table-other-then-other-table-2.is in
-      λ root z plan. record {
+      λ root z twiddles. record {
         own = subst (λ v. IsMinusInverse m (w place) v) (sym own)
-            (mirror_of_plan root z (length table) at.0 place other w plan (omega (arith, within)) least most sum).inverse;
+            (mirror_of_twiddles root z (length table) at.0 place other w twiddles (omega (arith, within)) least most
+            sum).inverse;
         low = subst (λ v. IsMinusInverse m (w (2 * place)) v) (sym low)
-            (mirror_of_plan root z (length table) (suc at.0) (2 * place) (2 * other + 1) w plan (omega (arith, within))
-            (omega (arith, two, least)) (omega (arith, two, most)) (omega (arith, two, sum))).inverse;
+            (mirror_of_twiddles root z (length table) (suc at.0) (2 * place) (2 * other + 1) w twiddles
+            (omega (arith, within)) (omega (arith, two, least)) (omega (arith, two, most))
+            (omega (arith, two, sum))).inverse;
         high = subst (λ v. IsMinusInverse m (w (2 * place + 1)) v) (sym high)
-            (mirror_of_plan root z (length table) (suc at.0) (2 * place + 1) (2 * other) w plan within
+            (mirror_of_twiddles root z (length table) (suc at.0) (2 * place + 1) (2 * other) w twiddles within
             (omega (arith, two, least)) (omega (arith, two, most)) (omega (arith, two, sum))).inverse;
       });
   factors = (let other = c.mirrored-other.result in
@@ -101,8 +103,8 @@ returns-else-other-table g c = record {
       let two = two-pow-succ at.0 in
       let within = c.requires.within in
       let outside = c.if-other-table.false in
-      λ root z plan.
-      let inside = (mirror_of_plan root z (length table) (suc at.0) (2 * place) (2 * other + 1) w plan
+      λ root z twiddles.
+      let inside = (mirror_of_twiddles root z (length table) (suc at.0) (2 * place) (2 * other + 1) w twiddles
       (omega (arith, within)) (omega (arith, two, least)) (omega (arith, two, most)) (omega (arith, two, sum))).within in
       absurd (omega (arith, inside, outside)));
   factors = (let minus = c.requires.factors.minus_factor in

@@ -24,9 +24,9 @@ returns g c =
       inverse = are.inverse;
       unchanged = are.unchanged;
       below = are.below;
-      product = λ h root z e' plan below.
-          are.product h root z e' plan below
+      product = λ h root z e' twiddles below.
+          are.product h root z e' twiddles below
           ∙ negacyclic (length c.args.xs.now) e' root z (length c.args.table.now) _ _ _ (let s = c.args.m.now.some in
-          omega arith) (let k : 0 < length c.args.table.now = omega (arith, within, e, p) in k) plan;
+          omega arith) (let k : 0 < length c.args.table.now = omega (arith, within, e, p) in k) twiddles;
       remainders = are.remainders;
     }

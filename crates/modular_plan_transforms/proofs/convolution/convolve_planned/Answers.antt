@@ -20,8 +20,8 @@ returns g c =
       inverse = are.inverse;
       unchanged = are.unchanged;
       below = are.below;
-      product = λ h root z e plan below.
-          are.product h root z e plan below
+      product = λ h root z e twiddles below.
+          are.product h root z e twiddles below
           ∙ cyclic (g.T.RingWord.number c.args.m.now.modulus) (length c.args.xs.now) e root z _ _
           (let k : 0 < length c.args.xs.now = omega (arith, below) in k);
       remainders = are.remainders;

@@ -50,24 +50,24 @@ returns g c =
     let same_ys = size_is (length c.args.ys.now) (omega arith) in
     record {
       below = (c.join_products.ensures.below, c.split.ensures.below);
-      product = λ root z e plan below.
-          let joined = c.join_products.ensures.joined root z plan in
+      product = λ root z e twiddles below.
+          let joined = c.join_products.ensures.joined root z twiddles in
           let same = size_is (length c.split_first.new.xs) (omega arith) in
           joined_product root z b last (length c.args.table.now) count (length xs) part _
           (numbers n xs) (numbers n c.args.ys.now)
           (numbers n c.split_first.new.xs) (numbers n c.split.new.xs) joined.0
           (numbers n c.join_products.new.xs)
-          c.requires.blocks.count c.requires.blocks.whole c.requires.blocks.within plan inverse
-          (c.split_first.ensures.remainders root z plan)
+          c.requires.blocks.count c.requires.blocks.whole c.requires.blocks.within twiddles inverse
+          (c.split_first.ensures.remainders root z twiddles)
           (subst (λ k. AreRemainders m root z b k last (numbers n c.args.ys.now) (numbers n c.split.new.xs))
-          same_ys (c.split.ensures.remainders root z plan))
+          same_ys (c.split.ensures.remainders root z twiddles))
           (subst (λ k. AreProducts m root z b k last (numbers n c.split_first.new.xs) (numbers n c.split.new.xs)
           joined.0) same joined.1)
           (λ r are i l.
           subst (λ k. numbers n c.join_products.new.xs i ≡ (k * r i * part) % m) same
           (joined.2 r (subst (λ k. AreRemainders m root z b k last r (λ i. joined.0 i % m)) (sym same) are) i (omega arith)))
           e below;
-      remainders = λ root z plan.
+      remainders = λ root z twiddles.
           subst (λ k. AreRemainders m root z b k last (numbers n c.args.ys.now) (numbers n c.split.new.xs)) same_ys
-          (c.split.ensures.remainders root z plan);
+          (c.split.ensures.remainders root z twiddles);
     }

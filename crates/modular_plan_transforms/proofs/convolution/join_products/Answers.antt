@@ -74,7 +74,7 @@ returns-then-is_odd g c =
     (residue_of (n c.args.w.now.value * base)) in
     record {
       below = c.join_scaled.ensures.below;
-      joined = λ root z plan. (
+      joined = λ root z twiddles. (
         p,
         are_products_of_one root z b count last old others p one (λ k l. refl),
         λ x are e below.
@@ -83,7 +83,7 @@ returns-then-is_odd g c =
             (mod_mul (mod_refl t) (mod_sym (mod_trans (residue_of (p k)) (residue_of (old k * others k))))) in
             let all = remainders_times root z b count last t x (λ k. p k % m) new are
             (λ j k lj lk. entry (j * last + k) (let place = ap (λ v. j * v) one in omega (arith, place, single, whole, lj, lk, one))) in
-            c.join_scaled.ensures.joined root z (λ k. t * x k) plan
+            c.join_scaled.ensures.joined root z (λ k. t * x k) twiddles
             (subst (λ k. AreRemainders m root z b k last (λ k. t * x k) (λ k. new k % m)) (sym same) all) e (omega arith)
             ∙ ap (λ k. (k * (t * x e) * n c.factor-scaled.result.value) % m) same
             ∙ made_up_for base t count (x e) (n c.args.w.now.value) (n c.factor-scaled.result.value) unit scaled,
@@ -102,11 +102,11 @@ returns-else-last-eq1 g c =
     let same : length c.multiply.new.xs / last ≡ count = ap (λ v. v / last) (omega arith) in
     record {
       below = c.join_scaled-else-last-eq1.ensures.below;
-      joined = λ root z plan. (
+      joined = λ root z twiddles. (
         p,
-        c.multiply.ensures.products root z plan,
+        c.multiply.ensures.products root z twiddles,
         λ x are e below.
-            c.join_scaled-else-last-eq1.ensures.joined root z x plan
+            c.join_scaled-else-last-eq1.ensures.joined root z x twiddles
             (subst (λ k. AreRemainders m root z b k last x (λ k. p k % m)) (sym same) are) e (omega arith)
             ∙ ap (λ k. (k * x e * n c.args.w.now.value) % m) same,
       );

@@ -36,10 +36,10 @@ returns-then-fours-gt0 g c =
       entries = c.join_fours.ensures.entries;
       blocks = record { some = omega arith; count = all.power; whole = all.whole; within = all.rest };
       times = four ∙ all.whole ∙ sym all.count;
-      joined = λ r z x plan are.
+      joined = λ r z x twiddles are.
           remainders_of_fours r z c.args.b c.args.last (length before) (length c.args.table.now)
           (numbers g.F.PlanEntry.value c.args.table.now) x (numbers n before) (numbers n c.join_fours.new.xs)
-          (omega (arith, one)) all c.requires.blocks.within plan are (c.join_fours.ensures.done r z plan);
+          (omega (arith, one)) all c.requires.blocks.within twiddles are (c.join_fours.ensures.done r z twiddles);
     }
 
 pub returns-else-last-eq1 : goal.returns-else-last-eq1
@@ -54,7 +54,7 @@ returns-else-last-eq1 g c =
       entries = c.lower_each.ensures.below;
       blocks = c.requires.blocks;
       times = omega arith;
-      joined = λ r z x plan are.
+      joined = λ r z x twiddles are.
           remainders_once r z b count last x _ (remainders_reduced r z b count last (length before) x (numbers n before)
           (numbers n c.lower_each.new.xs) c.requires.blocks.whole c.lower_each.ensures.congruent are);
     }

@@ -49,11 +49,11 @@ returns-then-is_one g c = record {
       let kept = c.quarters.auto.xs in
       let same : length after ≡ length before = omega (arith, kept) in
       let fill : 4 * last ≡ length before = ap (λ v. v * last) (sym four) ∙ c.requires.ready.blocks.whole in
-      λ r z x plan are i l.
-      let inverse = (c.minus_inverses-v.ensures.inverses r z plan).high in
+      λ r z x twiddles are i l.
+      let inverse = (c.minus_inverses-v.ensures.inverses r z twiddles).high in
       let joined = last_joined r z c.args.b last count (length before) (length table) s (numbers value table) x
       (numbers n before) (numbers n after) c.requires.ready.blocks.some no_b four c.requires.ready.blocks.count c.requires.ready.blocks.whole c.requires.ready.blocks.within
-      plan begins are (λ k h. (c.quarters.ensures.fours k h).done.each _ inverse)
+      twiddles begins are (λ k h. (c.quarters.ensures.fours k h).done.each _ inverse)
       (λ k h. numbers_past n after k (omega (arith, same, h))
       ∙ sym (ap (λ v. v * s) (numbers_past n before k h) ∙ zero-mul s)) i l in
       sym (mod-eq_of_lt (fours_below i c.quarters.ensures (omega arith) (omega (arith, fill, l)))) ∙ joined.same);
@@ -63,9 +63,9 @@ pub returns-else-b-eq0 : goal.returns-else-b-eq0
 returns-else-b-eq0 g c = record {
   joined = (let n = g.T.RingWord.number in
       let kept = c.join_blocks.auto.xs in
-      λ r z x plan are i l.
+      λ r z x twiddles are i l.
       c.scale_each.ensures.products i (omega (arith, kept, l))
-      ∙ (mod_mul (c.join_blocks.ensures.joined r z x plan are i l) (mod_refl (n c.args.w.now.value))).same);
+      ∙ (mod_mul (c.join_blocks.ensures.joined r z x twiddles are i l) (mod_refl (n c.args.w.now.value))).same);
   below = c.scale_each.ensures.below;
 }
 

@@ -6,6 +6,7 @@ returns g c =
     let kept = c.join_stages.auto.xs in
     record {
       below = c.reduce_each.ensures.below;
-      joined = λ r z x plan are i l.
-          c.reduce_each.ensures.residues i (omega (arith, kept, l)) ∙ (c.join_stages.ensures.joined r z x plan are i l).same;
+      joined = λ r z x twiddles are i l.
+          c.reduce_each.ensures.residues i (omega (arith, kept, l))
+          ∙ (c.join_stages.ensures.joined r z x twiddles are i l).same;
     }

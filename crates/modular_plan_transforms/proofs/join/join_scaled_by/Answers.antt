@@ -20,16 +20,17 @@ returns g c = record {
       let kept_again = c.join_passes-size.auto.xs in
       let same : length one ≡ length before = omega (arith, kept) in
       let again : length two ≡ length one = omega (arith, kept_again) in
-      λ r z x plan are i l.
+      λ r z x twiddles are i l.
       let lower = subst (λ v. AreRemainders m r z b (v / size) size (λ k. first.scale * x k) (λ k. numbers n one k % m))
-      (sym same) (first.joined r z x plan are) in
+      (sym same) (first.joined r z x twiddles are) in
       let upper = subst (λ v. AreRemainders m r z b (v / last) last (λ k. second.scale * (first.scale * x k))
-      (λ k. numbers n two k % m)) (sym again) (second.joined r z (λ k. first.scale * x k) plan lower) in
+      (λ k. numbers n two k % m)) (sym again) (second.joined r z (λ k. first.scale * x k) twiddles lower) in
       let times : length two / last * (second.scale * (first.scale * x i)) ≡ length before / c.args.last * x i =
       ap (λ v. v / last * (second.scale * (first.scale * x i))) again
       ∙ rescaled (length one / last) second.scale _ (first.scale * x i) second.times
       ∙ ap (λ v. v / size * (first.scale * x i)) same ∙ rescaled (length before / size) first.scale _ (x i) first.times in
-      c.join_last.ensures.joined r z (λ k. second.scale * (first.scale * x k)) plan upper i (omega (arith, l, same, again))
+      c.join_last.ensures.joined r z (λ k. second.scale * (first.scale * x k)) twiddles upper i
+      (omega (arith, l, same, again))
       ∙ ap (λ v. (v * n c.args.w.now.value) % m) times);
   below = c.join_last.ensures.below;
 }

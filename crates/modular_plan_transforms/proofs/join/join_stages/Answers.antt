@@ -16,12 +16,12 @@ returns g c = record {
       let first = c.join_first-size.ensures in
       let kept = c.join_first-size.auto.xs in
       let same : length after ≡ length before = omega (arith, kept) in
-      λ r z x plan are i l.
+      λ r z x twiddles are i l.
       let times : length after / size * (first.scale * x i) ≡ length before / c.args.last * x i =
       ap (λ v. v / size * (first.scale * x i)) same ∙ rescaled (length before / size) first.scale _ (x i) first.times in
-      mod_trans (c.join_blocks.ensures.joined r z (λ k. first.scale * x k) plan
+      mod_trans (c.join_blocks.ensures.joined r z (λ k. first.scale * x k) twiddles
       (subst (λ v. AreRemainders m r z b (v / size) size (λ k. first.scale * x k) (λ k. numbers n after k % m)) (sym same)
-      (first.joined r z x plan are)) i (omega (arith, l, same))) (mod_of_eq times));
+      (first.joined r z x twiddles are)) i (omega (arith, l, same))) (mod_of_eq times));
   entries = c.join_blocks.ensures.entries;
 }
 

@@ -15,7 +15,7 @@ stages-init g c = record {
   counted = (let one : 2 ^ 0 ≡ 1 = refl in omega (arith, ap (λ v. length c.args.xs.now / c.args.last * v) one));
   some = c.requires.blocks.some;
   entries = c.requires.entries;
-  level = λ r z x plan are. level_lowest r z c.args.b (length c.args.xs.now / c.args.last) c.args.last x _ are;
+  level = λ r z x twiddles are. level_lowest r z c.args.b (length c.args.xs.now / c.args.last) c.args.last x _ are;
 }
 
 pub overflow_mul-b : goal.overflow_mul-b
@@ -79,10 +79,10 @@ stages-preserved-then-blocks-gt2 g c =
       counted = sizes.counted;
       some = omega (arith, some);
       entries = c.join_known.ensures.entries;
-      level = λ r z x plan are.
+      level = λ r z x twiddles are.
           level_joined_two r z c.args.b c.stages.blocks c.stages.size c.args.last before.done count
-          (length c.args.xs.now) (length c.args.table.now) _ x _ _ sizes c.requires.blocks.within plan
-          (before.level r z x plan are) (c.join_known.ensures.done r z plan);
+          (length c.args.xs.now) (length c.args.table.now) _ x _ _ sizes c.requires.blocks.within twiddles
+          (before.level r z x twiddles are) (c.join_known.ensures.done r z twiddles);
     }
 
 pub overflow_mul-b-else-blocks-gt2 : goal.overflow_mul-b-else-blocks-gt2
@@ -140,14 +140,14 @@ stages-preserved g c =
       counted = sizes.counted;
       some = omega (arith, some);
       entries = c.join_stage.ensures.entries;
-      level = λ r z x plan are.
+      level = λ r z x twiddles are.
           subst (λ n. IsLevel m r z c.args.b (c.stages.blocks / 2) n (λ k. 2 ^ suc before.done * x k)
           (numbers g.T.RingWord.number c.join_stage.new.xs)) twice
           (level_joined r z c.args.b (c.stages.blocks / 2) c.stages.size c.args.last before.done count
-          (length c.args.xs.now) (length c.args.table.now) _ x _ _ sizes.stage c.requires.blocks.within plan
+          (length c.args.xs.now) (length c.args.table.now) _ x _ _ sizes.stage c.requires.blocks.within twiddles
           (subst (λ n. IsLevel m r z c.args.b n c.stages.size (λ k. 2 ^ before.done * x k)
-          (numbers g.T.RingWord.number c.stages.xs)) sizes.twice (before.level r z x plan are))
-          (c.join_stage.ensures.done r z plan));
+          (numbers g.T.RingWord.number c.stages.xs)) sizes.twice (before.level r z x twiddles are))
+          (c.join_stage.ensures.done r z twiddles));
     }
 
 pub returns : goal.returns
@@ -155,10 +155,10 @@ returns g c = record {
   joined = (let before = c.stages.invariant in
       let full = c.stages-test.false in
       let whole = c.requires.blocks.whole in
-      λ r z x plan are i l.
+      λ r z x twiddles are i l.
       level_top r z c.args.b c.stages.size c.args.last c.stages.blocks before.rest before.done
       (length c.args.xs.now / c.args.last) (length c.args.xs.now) x _
       c.requires.blocks.some (omega (arith, l)) (omega arith) before.halved before.sized before.counted whole
-      (before.level r z x plan are) i l);
+      (before.level r z x twiddles are) i l);
   entries = c.stages.invariant.entries;
 }

@@ -1,5 +1,5 @@
 use Rattle.std.proofs.Common.{◌≡◌, ℕ, ◌-◌, ◌*◌, ◌/◌, ◌%◌, ◌^◌, ◌<◌, All, length}
-use Rattle.modular_plan_passes.specs.Plans.{numbers, IsPlan, AreRemainders}
+use Rattle.modular_plan_passes.specs.Plans.{numbers, AreTwiddles, AreRemainders}
 use Rattle.modular_plan_passes.specs.Steps.{IsLevel}
 use Rattle.modular_plan_transforms.proofs.join_blocks.join_blocks.Given as goal
 
@@ -17,7 +17,7 @@ invariant-stages g l =
       counted : l.blocks * 2 ^ done ≡ length l.fn.xs / l.last;
       some : 0 < l.size;
       entries : All (λ x. number x < g.M.JoinSteps.bound l.m) l.xs;
-      level : (g z : ℕ) (x : ℕ → ℕ) → IsPlan m g z (length l.table) (numbers value l.table)
+      level : (g z : ℕ) (x : ℕ → ℕ) → AreTwiddles m g z (length l.table) (numbers value l.table)
           → AreRemainders m g z l.b (length l.fn.xs / l.last) l.last x (λ i. numbers number l.fn.xs i % m)
           → IsLevel m g z l.b l.blocks l.size (λ k. 2 ^ done * x k) (numbers number l.xs);
     }

@@ -14,7 +14,7 @@ passes-init g c = record {
   counted = (let one : 2 ^ 0 ≡ 1 = refl in omega (arith, ap (λ v. length c.args.xs.now / c.args.last * v) one));
   some = c.requires.blocks.some;
   entries = c.requires.entries;
-  level = λ r z x plan are. level_lowest r z c.args.b (length c.args.xs.now / c.args.last) c.args.last x _ are;
+  level = λ r z x twiddles are. level_lowest r z c.args.b (length c.args.xs.now / c.args.last) c.args.last x _ are;
 }
 
 pub overflow_mul-b : goal.overflow_mul-b
@@ -113,10 +113,10 @@ passes-preserved g c =
       counted = sizes.counted;
       some = omega (arith, some);
       entries = c.join_known.ensures.entries;
-      level = λ r z x plan are.
+      level = λ r z x twiddles are.
           level_joined_two r z c.args.b c.passes.blocks c.passes.size c.args.last before.done count
-          (length c.args.xs.now) (length c.args.table.now) _ x _ _ sizes c.requires.blocks.within plan
-          (before.level r z x plan are) (c.join_known.ensures.done r z plan);
+          (length c.args.xs.now) (length c.args.table.now) _ x _ _ sizes c.requires.blocks.within twiddles
+          (before.level r z x twiddles are) (c.join_known.ensures.done r z twiddles);
     }
 
 pub returns : goal.returns
@@ -134,7 +134,7 @@ returns g c =
       entries = before.entries;
       blocks = record { some = omega (arith, some); count = left.power; whole = left.whole; within = left.room };
       times = left.scale;
-      joined = λ r z x plan are.
+      joined = λ r z x twiddles are.
           remainders_of_level r z c.args.b (length c.args.xs.now / c.passes.size) c.passes.size c.passes.blocks _ _ is
-          (before.level r z x plan are);
+          (before.level r z x twiddles are);
     }

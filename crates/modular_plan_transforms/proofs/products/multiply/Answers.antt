@@ -21,7 +21,7 @@ returns-then-last-eq1 g c =
     let one = ap (λ v. length c.args.xs.now / c.args.last * v) c.if-last-eq1.true in
     record {
       below = c.multiply_each.ensures.below;
-      products = λ root z plan.
+      products = λ root z twiddles.
           are_products_of_one root z c.args.b (length c.args.xs.now / c.args.last) c.args.last _ _ _ c.if-last-eq1.true
           (λ i l. c.multiply_each.ensures.products i (omega (arith, l, whole, one)));
     }
@@ -34,8 +34,8 @@ returns-else-last-eq1 g c =
     let two : 2 ≡ c.args.last = omega arith in
     record {
       below = c.multiply_pairs.ensures.below;
-      products = λ root z plan.
+      products = λ root z twiddles.
           subst (λ k. AreProducts m root z c.args.b (length c.args.xs.now / k) k (numbers n c.args.xs.now)
           (numbers n c.args.ys.now) (numbers n c.multiply_pairs.new.xs)) two
-          (c.multiply_pairs.ensures.products root z plan);
+          (c.multiply_pairs.ensures.products root z twiddles);
     }

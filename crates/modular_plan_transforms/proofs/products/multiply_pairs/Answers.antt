@@ -21,19 +21,20 @@ each_block-preserved g c =
     record {
       below = c.multiply_pair.ensures.below;
       done =
-          λ root z plan.
+          λ root z twiddles.
           pairs_more c.each_block.j (n c.times_constant-turned.result)
           (λ j. constant root z (c.args.b * (length c.args.xs.now / 2) + j))
           (numbers n c.args.xs.now) (numbers n c.args.ys.now)
           (numbers n c.each_block.xs) (numbers n c.multiply_pair.new.xs)
           (subst (λ v. Congruent m (n c.times_constant-turned.result) (v * constant root z e)) read
-          (c.times_constant-turned.ensures.product root z plan)) before.kept step (before.done root z plan);
+          (c.times_constant-turned.ensures.product root z twiddles)) before.kept step (before.done root z twiddles);
       kept = λ k l. step.kept k (omega arith) (omega arith) ∙ before.kept k (omega arith);
     }
 
 pub returns : goal.returns
 returns g c = record {
-  products = (λ root z plan. record { each = λ j i lj li. c.each_block.invariant.done root z plan j i (omega arith) li });
+  products = (λ root z twiddles.
+      record { each = λ j i lj li. c.each_block.invariant.done root z twiddles j i (omega arith) li });
   below = c.each_block.invariant.below;
 }
 

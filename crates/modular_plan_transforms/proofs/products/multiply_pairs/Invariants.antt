@@ -1,5 +1,5 @@
 use Rattle.std.proofs.Common.{◌≡◌, ℕ, ◌+◌, ◌*◌, ◌/◌, ◌<◌, ◌≤◌, All, length}
-use Rattle.modular_plan_passes.specs.Plans.{numbers, constant, IsPlan}
+use Rattle.modular_plan_passes.specs.Plans.{numbers, constant, AreTwiddles}
 use Rattle.modular_plan_transforms.specs.Products.{product_modulo}
 use Rattle.modular_plan_transforms.proofs.products.multiply_pairs.Given as goal
 
@@ -13,7 +13,7 @@ invariant-each_block g l =
     let y = numbers number l.ys in
     record {
       below : All (λ x. number x < m) l.xs;
-      done : (g z : ℕ) → IsPlan m g z (length l.table) (numbers value l.table) → (j i : ℕ)
+      done : (g z : ℕ) → AreTwiddles m g z (length l.table) (numbers value l.table) → (j i : ℕ)
           → j < l.j → i < 2
           → numbers number l.xs (j * 2 + i) ≡ product_modulo m 2 (constant g z (l.b * (length l.fn.xs / 2) + j))
           (λ k. x (j * 2 + k)) (λ k. y (j * 2 + k)) i;

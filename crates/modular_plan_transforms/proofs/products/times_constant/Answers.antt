@@ -69,11 +69,11 @@ returns-then-rest-eq0 g c = record {
       let even = c.if-rest-eq0.true in
       let e = block.is in
       let at : 2 * p ≡ c.args.b * c.args.count + c.args.j = omega (arith, e, even) in
-      λ root z plan.
+      λ root z twiddles.
       subst (λ v. Congruent m (n c.product-turned.result) (x * constant root z v)) at
       (mod_trans (mod_of_eq c.product-turned.ensures) (mod_trans (residue_of (x * n c.factor-w.result.value))
       (mod_mul (mod_refl x) (subst (λ v. Congruent m v (constant root z (2 * p))) (sym is)
-      (pair_of_constants root z (length table) p _ plan block.within).even)))));
+      (pair_of_constants root z (length table) p _ twiddles block.within).even)))));
 }
 
 pub returns-else-rest-eq0 : goal.returns-else-rest-eq0
@@ -91,11 +91,11 @@ returns-else-rest-eq0 g c = record {
       let odd = c.if-rest-eq0.false in
       let e = block.is in
       let at : 2 * p + 1 ≡ c.args.b * c.args.count + c.args.j = omega (arith, e, odd) in
-      λ root z plan.
+      λ root z twiddles.
       subst (λ v. Congruent m (n c.minus.result) (x * constant root z v)) at
       (product_by_odd x (n c.factor-w.result.value) (constant root z (2 * p + 1)) (n c.product-turned.result) (n c.minus.result)
       (subst (λ v. v < m) (sym c.factor-w.ensures.value) below)
-      (λ v h. (pair_of_constants root z (length table) p _ plan block.within).odd v (ap (λ k. v + k) (sym is) ∙ h))
+      (λ v h. (pair_of_constants root z (length table) p _ twiddles block.within).odd v (ap (λ k. v + k) (sym is) ∙ h))
       c.product-turned.ensures c.minus.ensures.value));
   most = (let is = c.minus.ensures.value in omega (arith, is));
 }

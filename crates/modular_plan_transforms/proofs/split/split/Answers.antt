@@ -1,5 +1,5 @@
 use Rattle.std.proofs.Common.{◌≡◌, ◌/◌, ◌<◌, All, length, ap, subst, sym}
-use Rattle.modular_plan_passes.specs.Plans.{numbers, IsPlan, AreRemainders}
+use Rattle.modular_plan_passes.specs.Plans.{numbers, AreTwiddles, AreRemainders}
 use Rattle.modular_plan_transforms.specs.PlanConditions.{FitsPlan}
 use Rattle.modular_plan_transforms.proofs.split.split.Goals as goal
 
@@ -23,10 +23,11 @@ returns-in-Some g c =
     let y = c.split_by.new.xs in
     record {
       below = subst (λ k. All (λ x. n x < k) y) same c.split_by.ensures.below;
-      remainders = λ r z plan.
+      remainders = λ r z twiddles.
           subst (λ k. AreRemainders k r z c.args.b (length c.args.xs.now / c.args.last) c.args.last
           (numbers n c.args.xs.now) (numbers n y)) same
-          (c.split_by.ensures.remainders r z (subst (λ k. IsPlan k r z (length c.args.table.now) w) (sym same) plan));
+          (c.split_by.ensures.remainders r z
+          (subst (λ k. AreTwiddles k r z (length c.args.table.now) w) (sym same) twiddles));
     }
 
 pub returns-in-None : goal.returns-in-None

@@ -36,17 +36,17 @@ returns-then-xs-ge4 g c =
     c.if-xs-ge4.true c.requires.blocks.count c.requires.blocks.within in
     record {
       below = c.split_fours.ensures.entries;
-      remainders = λ r z plan.
+      remainders = λ r z twiddles.
           remainders_of_fours r z c.args.b (length c.args.xs.now) c.args.last (length c.args.table.now) _ _ _ _
-          c.if-last-eq1.true fours plan (c.split_blocks.ensures.level r z plan) c.split_fours.ensures.done
+          c.if-last-eq1.true fours twiddles (c.split_blocks.ensures.level r z twiddles) c.split_fours.ensures.done
           (λ i l. bounded_at n m c.split_fours.new.xs i c.split_fours.ensures.entries (omega arith));
     }
 
 pub returns-else-last-eq1 : goal.returns-else-last-eq1
 returns-else-last-eq1 g c = record {
   below = c.reduce_each.ensures.below;
-  remainders = λ r z plan.
+  remainders = λ r z twiddles.
       remainders_of r z c.args.b (length c.args.xs.now / c.args.last) c.args.last (length c.args.xs.now) _ _ _
-      c.requires.blocks.whole (c.split_blocks-else-last-eq1.ensures.level r z plan)
+      c.requires.blocks.whole (c.split_blocks-else-last-eq1.ensures.level r z twiddles)
       (λ i l. c.reduce_each.ensures.residues i (omega arith));
 }

@@ -1,5 +1,5 @@
 use Rattle.std.proofs.Common.{◌≡◌, ◌/◌, length, refl, sym, ap, subst}
-use Rattle.modular_plan_passes.specs.Plans.{numbers, IsPlan}
+use Rattle.modular_plan_passes.specs.Plans.{numbers, AreTwiddles}
 use Rattle.modular_plan_passes.specs.Steps.{IsLevel}
 use Rattle.modular_plan_passes.proofs.Levels.{remainders_of}
 use Rattle.modular_plan_transforms.specs.PlanConditions.{FitsPlan}
@@ -26,16 +26,16 @@ returns-in-Some g c =
     let w = numbers g.F.PlanEntry.value c.args.table.now in
     let count = length c.args.xs.now / c.args.last in
     record {
-      remainders = λ r z plan.
+      remainders = λ r z twiddles.
           remainders_of r z c.args.b count c.args.last (length c.args.xs.now) _ _ _ c.requires.blocks.whole
           (subst (λ k. IsLevel k r z c.args.b count c.args.last (numbers n c.args.xs.now) (numbers n c.split_blocks.new.xs))
-          same (c.split_blocks.ensures.level r z (subst (λ k. IsPlan k r z factors w) (sym same) plan)))
+          same (c.split_blocks.ensures.level r z (subst (λ k. AreTwiddles k r z factors w) (sym same) twiddles)))
           (λ i l. refl);
     }
 
 pub returns-in-None : goal.returns-in-None
 returns-in-None g c = record {
-  remainders = λ r z plan.
+  remainders = λ r z twiddles.
       remainders_of r z c.args.b (length c.args.xs.now / c.args.last) c.args.last (length c.args.xs.now) _ _ _
-      c.requires.blocks.whole (c.split_blocks-in-None.ensures.level r z plan) (λ i l. refl);
+      c.requires.blocks.whole (c.split_blocks-in-None.ensures.level r z twiddles) (λ i l. refl);
 }

@@ -15,7 +15,7 @@ stages-init g c =
       counted = omega (arith, e);
       entries = all_wider g.T.RingWord.number c.args.xs.now (g.met.M.SplitSteps.room c.args.m.now) c.requires.entries;
       first = λ one. c.requires.entries;
-      level = λ r z plan. level_first r z c.args.b (length c.args.xs.now) _;
+      level = λ r z twiddles. level_first r z c.args.b (length c.args.xs.now) _;
     }
 
 pub overflow_mul-b : goal.overflow_mul-b
@@ -66,10 +66,10 @@ stages-preserved-then-left-eq0 g c =
       entries = c.split_pass.ensures.entries;
       first = λ one. absurd (omega arith);
       level =
-          λ r z plan.
+          λ r z twiddles.
           level_after_two r z c.args.b c.stages.blocks c.stages.size c.args.last c.stages.left
           (length c.args.xs.now / c.args.last) (length c.args.xs.now) (length c.args.table.now) _ _ _ _ sizes
-          c.requires.blocks.within plan (before.level r z plan) c.split_pass.ensures.done;
+          c.requires.blocks.within twiddles (before.level r z twiddles) c.split_pass.ensures.done;
     }
 
 pub overflow_mul-b-else-left-eq0 : goal.overflow_mul-b-else-left-eq0
@@ -121,10 +121,10 @@ stages-preserved g c =
       entries = c.split_stage.ensures.entries;
       first = λ one. absurd (omega arith);
       level =
-          λ r z plan.
+          λ r z twiddles.
           level_next r z c.args.b c.stages.blocks c.stages.size c.args.last c.stages.left
           (length c.args.xs.now / c.args.last) (length c.args.xs.now) (length c.args.table.now) _ _ _ _ sizes
-          c.requires.blocks.within plan (before.level r z plan) c.split_stage.ensures.done;
+          c.requires.blocks.within twiddles (before.level r z twiddles) c.split_stage.ensures.done;
     }
 
 pub returns : goal.returns
@@ -132,7 +132,7 @@ returns g c =
     let before = c.stages.invariant in
     record {
       entries = before.entries;
-      level = λ r z plan.
+      level = λ r z twiddles.
           level_end r z c.args.b c.stages.size c.args.last c.stages.blocks c.stages.left
-          (length c.args.xs.now / c.args.last) _ _ (omega arith) before.sized before.counted (before.level r z plan);
+          (length c.args.xs.now / c.args.last) _ _ (omega arith) before.sized before.counted (before.level r z twiddles);
     }

@@ -1,5 +1,5 @@
 use Rattle.std.proofs.Common.{◌≡◌, ℕ, ◌*◌, ◌/◌, ◌^◌, ◌<◌, All, length}
-use Rattle.modular_plan_passes.specs.Plans.{numbers, IsPlan}
+use Rattle.modular_plan_passes.specs.Plans.{numbers, AreTwiddles}
 use Rattle.modular_plan_passes.specs.Steps.{IsLevel}
 use Rattle.modular_plan_transforms.proofs.split_blocks.split_blocks.Given as goal
 
@@ -14,7 +14,7 @@ invariant-stages g l =
       counted : l.blocks * 2 ^ l.left ≡ length l.fn.xs / l.last;
       entries : All (λ x. number x < g.M.Bounded.limit l.m) l.xs;
       first : l.blocks ≡ 1 → All (λ x. number x < 4 * m) l.xs;
-      level : (g z : ℕ) → IsPlan m g z (length l.table) (numbers value l.table)
+      level : (g z : ℕ) → AreTwiddles m g z (length l.table) (numbers value l.table)
           → IsLevel m g z l.b l.blocks l.size (numbers number l.fn.xs) (numbers number l.xs);
     }
 

@@ -37,11 +37,11 @@ returns g c =
     record {
       below = all_reordered (λ x. n x < m) (trailing_zeros w64 (length split)) (length split) split
           c.reverse_places.new.entries whole refl (omega arith) c.reverse_places.ensures c.split.ensures.below;
-      values = λ root z j plan below.
+      values = λ root z j twiddles below.
           let remainders = subst (λ v. AreRemainders m root z 0 v 1 (numbers n c.args.xs.now) (numbers n split)) one
-          (c.split.ensures.remainders root z plan) in
+          (c.split.ensures.remainders root z twiddles) in
           in_natural_order n m root z (length c.args.xs.now) (length c.args.table.now) (trailing_zeros w64 (length split))
           (numbers n c.args.xs.now) split
-          c.reverse_places.new.entries (sym length_is ∙ whole) plan.half c.requires.within length_is
+          c.reverse_places.new.entries (sym length_is ∙ whole) twiddles.half c.requires.within length_is
           (omega arith) c.reverse_places.ensures remainders j below;
     }

@@ -86,9 +86,11 @@ returns-clause-did c fits inverse =
       refl,
       record {
         below = rw c.new-m.ensures at c.join_scaled.ensures.below;
-        values = λ g z j plan l. values_back m g z n bits count _ _ c.args.xs.now mid new fits.admitted.0 whole refl len
-            within plan c.reverse_places.ensures part (λ x are i k. joined g z x plan are i (omega (arith, len, k))) j l;
-        only = λ g z x plan are i l. only_back m g z n bits count _ _ c.args.xs.now mid new whole refl len
-            within plan c.reverse_places.ensures part (λ y is k t. joined g z y plan is k (omega (arith, len, t))) x are i l;
+        values = λ g z j twiddles l. values_back m g z n bits count _ _ c.args.xs.now mid new fits.admitted.0 whole refl len
+            within twiddles c.reverse_places.ensures part
+            (λ x are i k. joined g z x twiddles are i (omega (arith, len, k))) j l;
+        only = λ g z x twiddles are i l. only_back m g z n bits count _ _ c.args.xs.now mid new whole refl len
+            within twiddles c.reverse_places.ensures part
+            (λ y is k t. joined g z y twiddles is k (omega (arith, len, t))) x are i l;
       },
     )

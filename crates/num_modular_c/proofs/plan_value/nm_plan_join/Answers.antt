@@ -47,9 +47,9 @@ returns-clause-did c fits inverse = (
   refl,
   record {
     below = rw c.new-m.ensures at c.join_scaled.ensures.below;
-    joined = λ g z x plan are i l.
+    joined = λ g z x twiddles are i l.
         let m = c.args.plan.now.modulus in
-        let scaled = (rw c.new-m.ensures at c.join_scaled.ensures.joined) g z x plan are i l in
+        let scaled = (rw c.new-m.ensures at c.join_scaled.ensures.joined) g z x twiddles are i l in
         let one : x i ≡ 1 * x i = omega arith in
         scaled ∙ unscaled m (length c.args.xs.now / c.args.last) _ (x i) (rw c.new-m.ensures at c.in-Some.ensures.1)
         ∙ ap (λ v. v % m) one;

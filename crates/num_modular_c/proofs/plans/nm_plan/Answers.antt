@@ -7,20 +7,20 @@ new-requires-clause-some c = (c.plan_code-code.ensures.fits.0 c.if-code-eq-NM_OK
 pub new-requires-clause-room : goal.new-requires-clause-room
 new-requires-clause-room c = (c.plan_code-code.ensures.fits.0 c.if-code-eq-NM_OK.true).0.1
 
-pub plan-requires-clause-below : goal.plan-requires-clause-below
-plan-requires-clause-below c =
+pub fill_table-requires-clause-below : goal.fill_table-requires-clause-below
+fill_table-requires-clause-below c =
     let some = (c.plan_code-code.ensures.fits.0 c.if-code-eq-NM_OK.true).0.0 in
     omega (arith, some, c.new.ensures)
 
-pub plan-requires-clause-suits : goal.plan-requires-clause-suits
-plan-requires-clause-suits c = rw c.new.ensures (c.plan_code-code.ensures.fits.0 c.if-code-eq-NM_OK.true).1
+pub fill_table-requires-clause-suits : goal.fill_table-requires-clause-suits
+fill_table-requires-clause-suits c = rw c.new.ensures (c.plan_code-code.ensures.fits.0 c.if-code-eq-NM_OK.true).1
 
 pub returns-then-code-eq-NM_OK-clause-did : goal.returns-then-code-eq-NM_OK-clause-did
 returns-then-code-eq-NM_OK-clause-did c admitted suits = (
   c.if-code-eq-NM_OK.true,
   record {
-    factors = rw c.new.ensures at c.plan.ensures.factors;
-    plan = rw c.plan.auto.table (rw c.new.ensures at c.plan.ensures.plan);
+    factors = rw c.new.ensures at c.fill_table.ensures.factors;
+    twiddles = rw c.fill_table.auto.table (rw c.new.ensures at c.fill_table.ensures.twiddles);
   },
 )
 

@@ -1,8 +1,8 @@
-//! Callers of plans, proved from their contracts alone; no test runs them.
+//! Callers of transforms by a table, proved from their contracts alone; no test runs them.
 
 use crate::modular_barrett::planned::{Factor, PlannedModulus};
 use crate::modular_plan_passes::entry::PlanEntry;
-use crate::modular_plan_passes::plan::plan;
+use crate::modular_plan_passes::table::fill_table;
 use crate::modular_plan_transforms::join::join_scaled;
 use crate::modular_plan_transforms::plan::Plan;
 use crate::modular_plan_transforms::split::split;
@@ -10,7 +10,7 @@ use crate::modular_plan_transforms::transform::ntt_planned;
 use crate::modular_prim::plain_word::PlainWord;
 use crate::modular_word::path_word::PathWord;
 
-/// Block b, split by the plan by g, and joined with the inverse `part` of the number of blocks: every entry has its
+/// Block b, split by the table of g, and joined with the inverse `part` of the number of blocks: every entry has its
 /// former residue.
 pub fn split_and_joined<T: PlainWord>(
     m: &PlannedModulus<T>,
@@ -21,19 +21,19 @@ pub fn split_and_joined<T: PlainWord>(
     part: &Factor<T>,
 ) {
     let (b, last) = block;
-    plan(m, g, table);
+    fill_table(m, g, table);
     split(m, xs, table, b, last);
     join_scaled(m, xs, table, b, last, part);
 }
 
-/// The transform of n entries by the first half of the plan by g for 2n entries, which is the plan by g·g for n.
+/// The transform of n entries by the first half of the table of g for 2n entries, which is the table of g·g for n.
 pub fn by_first_half<T: PlainWord>(
     m: &PlannedModulus<T>,
     g: T,
     table: &mut [Factor<T>],
     xs: &mut [T],
 ) {
-    plan(m, g, table);
+    fill_table(m, g, table);
     let half = table.len() / 2;
     ntt_planned(m, xs, &table[..half]);
 }

@@ -8,7 +8,7 @@ use crate::modular_word::path_word::PathWord;
 use crate::modular_word::ring_word::RingWord;
 use crate::plans::{
     Factor, PlanEntry, PlannedModulus, convolve_block, convolve_negacyclic, convolve_planned,
-    convolves, join, join_scaled, multiply, ntt_planned, plan, split, splits,
+    convolves, fill_table, join, join_scaled, multiply, ntt_planned, split, splits,
 };
 use crate::proved_tests::test_callers::plans::all_in_room;
 
@@ -23,7 +23,7 @@ pub enum Call<T> {
     Convolve,
 }
 
-/// A row: the modulus, a root and how many factors the plan by the root has; the block and how many entries
+/// A row: the modulus, a root and how many factors the table of the root has; the block and how many entries
 /// the last blocks have; one list, or two of the same length, one after the other; and what a call makes of them.
 pub struct Row<'a, T> {
     pub m: T,
@@ -45,7 +45,7 @@ pub fn all_below<T: PlainWord>(m: &PlannedModulus<T>, xs: &[T]) -> bool {
     true
 }
 
-// Whether the table gets the plan by g, which is for twice as many entries as it has factors.
+// Whether the table becomes that of g, which is for twice as many entries as it has factors.
 fn is_planned<T: PlainWord>(m: &PlannedModulus<T>, g: T, table: &mut [Factor<T>]) -> bool {
     if !g.is_below(m.modulus) || table.len() > 64 {
         return false;
@@ -54,7 +54,7 @@ fn is_planned<T: PlainWord>(m: &PlannedModulus<T>, g: T, table: &mut [Factor<T>]
     if !root_fits(&r, &g, 2 * table.len()) {
         return false;
     }
-    plan(m, g, table);
+    fill_table(m, g, table);
     true
 }
 

@@ -5,15 +5,15 @@ use Rattle.num_modular.specs.Transforms.{Suits}
 use Rattle.lattice_rings.proofs.Kem.{zeta_suits}
 use Rattle.lattice_rings.proofs.ml_kem.Ring.new.Goals as goal
 
-pub plan-requires-clause-suits : goal.plan-requires-clause-suits
-plan-requires-clause-suits c = subst (λ m. Suits m 17 256) (sym c.new-modulus.ensures) zeta_suits
+pub fill_table-requires-clause-suits : goal.fill_table-requires-clause-suits
+fill_table-requires-clause-suits c = subst (λ m. Suits m 17 256) (sym c.new-modulus.ensures) zeta_suits
 
 pub invariant_of-result-clause-factors : goal.invariant_of-result-clause-factors
 invariant_of-result-clause-factors c =
-    subst (λ m. All (λ f. IsFactor 4294967296 m f.value f.quotient) c.plan.new.table) c.new-modulus.ensures
-    c.plan.ensures.factors
+    subst (λ m. All (λ f. IsFactor 4294967296 m f.value f.quotient) c.fill_table.new.table) c.new-modulus.ensures
+    c.fill_table.ensures.factors
 
 pub invariant_of-result-clause-powers : goal.invariant_of-result-clause-powers
 invariant_of-result-clause-powers c =
-    λ k l. (c.plan.ensures.plan 8 refl).entry k l
+    λ k l. (c.fill_table.ensures.twiddles 8 refl).entry k l
     ∙ ap (λ m. 17 ^ bits_reversed 7 k % m) c.new-modulus.ensures

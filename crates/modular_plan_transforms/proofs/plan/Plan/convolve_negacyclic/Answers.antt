@@ -3,7 +3,7 @@ use Rattle.std.proofs.lemmas.Nat.{pow_pos}
 use Rattle.std.specs.Int.{IsPowerOfTwo}
 use Rattle.modular_plan_passes.proofs.Tables.{half_power}
 use Rattle.modular_plan_transforms.proofs.Convolutions.{negacyclic}
-use Rattle.modular_plan_transforms.proofs.Wholes.{plan_of}
+use Rattle.modular_plan_transforms.proofs.Wholes.{twiddles_of}
 use Rattle.modular_plan_transforms.proofs.plan.Plan.convolve_negacyclic.Goals as goal
 
 pub convolve_block-requires : goal.convolve_block-requires
@@ -35,4 +35,4 @@ returns-clause-product g c e below =
     c.convolve_block.ensures.product e below
     ∙ negacyclic (length c.args.xs.now) e (g.T.RingWord.number plan.root) plan.bits (length plan.table.now) _ _ _
     (omega (arith, s)) (let k : 0 < length plan.table.now = omega (arith, half, p) in k)
-    (plan_of plan.half plan.half_turn plan.powers)
+    (twiddles_of plan.half plan.half_turn plan.powers)

@@ -9,7 +9,7 @@ use Rattle.modular_transform.specs.Transforms.{Suits}
 use Rattle.modular_plan_passes.specs.Plans.{numbers, AreRemainders}
 use Rattle.modular_plan_transforms.proofs.NaturalOrder.{all_reordered}
 use Rattle.modular_plan_transforms.proofs.Backward.{remainders_of_transform, unscaled}
-use Rattle.modular_plan_transforms.proofs.Wholes.{plan_of}
+use Rattle.modular_plan_transforms.proofs.Wholes.{twiddles_of}
 use Rattle.modular_plan_transforms.proofs.plan.Plan.inverse.Goals as goal
 
 pub part-part-requires : goal.part-part-requires
@@ -52,7 +52,7 @@ returns-clause-undone g c x are i below =
     let remainders = remainders_of_transform n m (n plan.root) (length c.args.xs.now) plan.bits x c.args.xs.now mid
     c.requires.whole refl (sym same) c.reverse_places.ensures are in
     let all : length c.args.xs.now ≡ length mid / 1 = same ∙ sym (div-one (length mid)) in
-    c.join_scaled.ensures.joined (n plan.root) plan.bits x (plan_of plan.half plan.half_turn plan.powers)
+    c.join_scaled.ensures.joined (n plan.root) plan.bits x (twiddles_of plan.half plan.half_turn plan.powers)
     (subst (λ k. AreRemainders m (n plan.root) plan.bits 0 k 1 x (λ i. numbers n mid i % m)) all remainders) i
     (omega (arith, same, below))
     ∙ unscaled m (length mid / 1) part (x i) (subst (λ k. IsInverse m k part) all c.part-part.ensures.inverse)
@@ -67,7 +67,7 @@ returns-clause-values g c j below =
     let whole : 2 ^ plan.bits ≡ size = sym c.requires.whole in
     let y = numbers n c.args.xs.now in
     let suits : Suits m (n plan.root) size
-    = subst (λ k. Suits m (n plan.root) k) whole (plan_of plan.half plan.half_turn plan.powers).suits in
+    = subst (λ k. Suits m (n plan.root) k) whole (twiddles_of plan.half plan.half_turn plan.powers).suits in
     let half = plan.half in
     let more : 1 < size = omega (arith, half, whole, below) in
     let x = preimage m (n plan.root) size part y in

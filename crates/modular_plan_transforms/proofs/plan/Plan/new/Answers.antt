@@ -11,8 +11,8 @@ over-requires g c =
     record {
       odd = c.is_odd.ensures.odd.0 c.if-not-is_odd.false;
       below = fit.0;
-      suits = subst (λ k. Suits (n c.args.m.now.modulus) (n c.args.g) (2 * k)) (sym c.plan.auto.table) fit.1;
-      holds = made_table c.plan.auto.table c.plan.ensures.factors c.plan.ensures.plan;
+      suits = subst (λ k. Suits (n c.args.m.now.modulus) (n c.args.g) (2 * k)) (sym c.fill_table.auto.table) fit.1;
+      holds = made_table c.fill_table.auto.table c.fill_table.ensures.factors c.fill_table.ensures.twiddles;
     }
 
 pub returns : goal.returns
@@ -21,7 +21,7 @@ returns g c =
     let made = c.over.ensures in (
       made.modulus,
       made.root,
-      made.entries ∙ ap (λ k. 2 * k) c.plan.auto.table,
+      made.entries ∙ ap (λ k. 2 * k) c.fill_table.auto.table,
       subst (IsTable g.T.PathWord.base (n c.args.m.now.modulus) (n c.args.g) g.F.PlanEntry.value g.F.PlanEntry.quotient)
-          (sym made.table) (made_table c.plan.auto.table c.plan.ensures.factors c.plan.ensures.plan),
+          (sym made.table) (made_table c.fill_table.auto.table c.fill_table.ensures.factors c.fill_table.ensures.twiddles),
     )

@@ -3,7 +3,7 @@ use Rattle.std.proofs.lemmas.List.{length-take-le}
 use Rattle.std.specs.Int.{trailing_zeros, w64}
 use Rattle.modular_barrett.specs.Factors.{IsFactor}
 use Rattle.modular_transform.proofs.PowersOfTwo.{power_by_zeros}
-use Rattle.modular_plan_transforms.proofs.Wholes.{plan_of, turn_of, below_modulus, is_shorter, first_plan}
+use Rattle.modular_plan_transforms.proofs.Wholes.{twiddles_of, turn_of, below_modulus, is_shorter, shorter_twiddles}
 use Rattle.modular_plan_transforms.proofs.Wholes.{all_taken, number_taken}
 use Rattle.modular_plan_transforms.proofs.plan.Plan.shorter.Goals as goal
 
@@ -26,7 +26,8 @@ invariant_of-result g c =
     let is = power_by_zeros c.args.n c.requires.power (omega arith) in
     let are = is_shorter plan.bits c.args.n count y is c.requires.some c.requires.within plan.half in
     let root = c.power.ensures ∙ ap (λ k. n plan.root ^ k % m) are.quotient in
-    let made = first_plan plan.bits (n c.power.result) y (plan.bits - y) are.bits_is root (plan_of plan.half plan.half_turn plan.powers) in
+    let made = shorter_twiddles plan.bits (n c.power.result) y (plan.bits - y) are.bits_is root
+    (twiddles_of plan.half plan.half_turn plan.powers) in
     let half = c.args.n / 2 in
     let size = length-take-le half plan.table.now are.within in
     let whole : 2 * (2 ^ y / 2) ≡ 2 ^ y = ap (λ k. 2 * k) are.first ∙ are.half ∙ is in

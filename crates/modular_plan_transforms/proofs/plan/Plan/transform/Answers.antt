@@ -1,6 +1,6 @@
 use Rattle.std.proofs.Common.{length, arith, ◌∙◌}
 use Rattle.modular_plan_passes.specs.Plans.{numbers}
-use Rattle.modular_plan_transforms.proofs.Wholes.{plan_of, root_itself}
+use Rattle.modular_plan_transforms.proofs.Wholes.{twiddles_of, root_itself}
 use Rattle.modular_plan_transforms.proofs.plan.Plan.transform.Goals as goal
 
 pub ntt_planned-requires : goal.ntt_planned-requires
@@ -19,6 +19,6 @@ pub returns-clause-values : goal.returns-clause-values
 returns-clause-values g c j below =
     let n = g.T.RingWord.number in
     let plan = c.args.self.now in
-    c.ntt_planned.ensures.values (n plan.root) plan.bits j (plan_of plan.half plan.half_turn plan.powers) below
+    c.ntt_planned.ensures.values (n plan.root) plan.bits j (twiddles_of plan.half plan.half_turn plan.powers) below
     ∙ root_itself (n plan.modulus.modulus) (n plan.root) plan.bits (length c.args.xs.now) (numbers n c.args.xs.now) j
     c.requires.whole

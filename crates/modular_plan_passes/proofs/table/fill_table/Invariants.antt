@@ -1,6 +1,6 @@
 use Rattle.std.proofs.Common.{◌≡◌, ℕ, ◌+◌, ◌-◌, ◌*◌, ◌%◌, ◌^◌, ◌<◌, ◌≤◌, length}
 use Rattle.modular_plan_passes.proofs.Doublings.{IsMade}
-use Rattle.modular_plan_passes.proofs.plan.plan.Given as goal
+use Rattle.modular_plan_passes.proofs.table.fill_table.Given as goal
 
 -- the first places of one bit are written, from the highest one on
 abbrev pub invariant-squares : goal.invariant-squares

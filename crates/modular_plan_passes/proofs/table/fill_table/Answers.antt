@@ -12,7 +12,7 @@ use Rattle.modular_plan_passes.proofs.Doublings.{IsMade, made_now, made_before, 
 use Rattle.modular_plan_passes.proofs.Doublings.{first_power, half_place, two_within, twice_place, root_itself, square_next}
 use Rattle.modular_plan_passes.proofs.Doublings.{product_of_two, planned}
 use Rattle.modular_plan_passes.proofs.Shorter.{first_entries}
-use Rattle.modular_plan_passes.proofs.plan.plan.Goals as goal
+use Rattle.modular_plan_passes.proofs.table.fill_table.Goals as goal
 use borrow.Author.Count.{falls}
 use borrow.Author.Rules.{scaled_Fits}
 
@@ -242,13 +242,14 @@ returns g c =
     let all : c.doublings._bit ≡ bits = omega arith in
     let e = ap (λ v. 2 ^ v) all in
     let len = length-set c.args.table.now 0 c.entry.result in
-    let plan_of = λ (z : ℕ). planned g.F.PlanEntry.value g.F.PlanEntry.quotient g.T.PathWord.base
+    let twiddles_of = λ (z : ℕ). planned g.F.PlanEntry.value g.F.PlanEntry.quotient g.T.PathWord.base
     (n c.args.m.now.modulus) (n c.args.g) (length c.args.table.now) bits z c.doublings.table c.requires.suits in
     let each : length c.args.table.now ≡ 2 ^ bits = omega (arith, whole, len) in
     record {
       factors = λ k d l. (last.first k (omega (arith, whole, count, e))).factor d;
-      plan = λ z is. plan_of z is each (λ k l. last.first k (omega (arith, whole, count, e, len)));
-      first = λ y d is. first_entries y d (plan_of (y + d) is each (λ k l. last.first k (omega (arith, whole, count, e, len))));
+      twiddles = λ z is. twiddles_of z is each (λ k l. last.first k (omega (arith, whole, count, e, len)));
+      first = λ y d is. first_entries y d (twiddles_of (y + d) is each
+          (λ k l. last.first k (omega (arith, whole, count, e, len))));
     }
 
 pub residue-requires : goal.residue-requires

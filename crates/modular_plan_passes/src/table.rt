@@ -1,9 +1,9 @@
-//! The plan: a table of the powers of a root, as factors, which the caller owns.
+//! The table of a root: its powers, as factors, in memory that the caller owns.
 
 ghost use Rattle.std.specs.Prelude.{◌≡◌, ℕ, ◌+◌, ◌*◌, ◌/◌, ◌%◌, ◌^◌, ◌<◌, All, length};
 ghost use Rattle.modular_transform.specs.Transforms.{Suits};
 ghost use Rattle.modular_barrett.specs.Factors.{AllFactors};
-ghost use Rattle.modular_plan_passes.specs.Plans.{numbers, IsPlan};
+ghost use Rattle.modular_plan_passes.specs.Plans.{numbers, AreTwiddles};
 
 use crate::entry::PlanEntry;
 use modular_barrett::planned::PlannedModulus;
@@ -11,30 +11,30 @@ use modular_prim::plain_word::PlainWord;
 use modular_word::path_word::PathWord;
 use modular_word::ring_word::RingWord;
 
-/// Fills the table with the plan by g for transforms of n entries, n being twice its length: entry k becomes the
-/// factor of g to the power of the reversed bits of k.
+/// Fills the table of g for transforms of n entries, n being twice its length: entry k becomes the factor of g to the
+/// power of the reversed bits of k (the twiddle factors, in bit-reversed order).
 ///
-/// Conditions: g is below m; g suits n entries, n being a power of two. The first entries of a plan are a plan for
-/// fewer entries, by the power of g that suits them. The Cargo crate leaves an empty table as it is, whatever g is.
+/// Conditions: g is below m; g suits n entries, n being a power of two. The first entries of the table are the table for
+/// fewer entries, of the power of g that suits them. The Cargo crate leaves an empty table as it is, whatever g is.
 ///
 /// # Examples
 ///
 /// ```
-/// use num_modular::plans::{plan, Factor, PlannedModulus};
+/// use num_modular::plans::{fill_table, Factor, PlannedModulus};
 ///
 /// let modulus = PlannedModulus::<u64>::new(17);
 /// let mut table = [Factor::<u64>::ZERO; 4];
-/// plan(&modulus, 2, &mut table); // 2^4 = 17 - 1
+/// fill_table(&modulus, 2, &mut table); // 2^4 = 17 - 1
 /// assert_eq!(table.map(|factor| factor.value()), [1, 2 * 2, 2, 2 * 2 * 2]);
 /// ```
-pub fn plan<T: PlainWord, F: PlanEntry<T>>(m: &PlannedModulus<T>, g: T, table: &mut [F])
+pub fn fill_table<T: PlainWord, F: PlanEntry<T>>(m: &PlannedModulus<T>, g: T, table: &mut [F])
     requires below { T.number g < T.number m.now.modulus }
     requires suits { Suits (T.number m.now.modulus) (T.number g) (2 * length table.old) }
     ensures factors { AllFactors T.base (T.number m.now.modulus) F.value F.quotient table.new }
-    ensures plan { (z : ℕ) → 2 ^ z ≡ 2 * length table.old →
-        IsPlan (T.number m.now.modulus) (T.number g) z (length table.old) (numbers F.value table.new) }
+    ensures twiddles { (z : ℕ) → 2 ^ z ≡ 2 * length table.old →
+        AreTwiddles (T.number m.now.modulus) (T.number g) z (length table.old) (numbers F.value table.new) }
     ensures first { let modulus = T.number m.now.modulus in (y d : ℕ) → 2 ^ (y + d) ≡ 2 * length table.old →
-        IsPlan modulus (T.number g ^ (2 ^ d) % modulus) y (2 ^ y / 2) (numbers F.value table.new) }
+        AreTwiddles modulus (T.number g ^ (2 ^ d) % modulus) y (2 ^ y / 2) (numbers F.value table.new) }
 {
     table[0] = F::entry(m.factor(m.residue(T::one())));
     let bits = table.len().trailing_zeros();

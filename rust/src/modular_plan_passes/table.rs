@@ -1,14 +1,14 @@
-//! The plan: a table of the powers of a root, as factors, which the caller owns.
+//! The table of a root: its powers, as factors, in memory that the caller owns.
 
 use crate::modular_plan_passes::entry::PlanEntry;
 use crate::modular_barrett::planned::PlannedModulus;
 use crate::modular_prim::plain_word::PlainWord;
 
-/// Fills the table with the plan by g for transforms of n entries, n being twice its length: entry k becomes the
-/// factor of g to the power of the reversed bits of k.
+/// Fills the table of g for transforms of n entries, n being twice its length: entry k becomes the factor of g to the
+/// power of the reversed bits of k (the twiddle factors, in bit-reversed order).
 ///
-/// The first entries of a plan are a plan for
-/// fewer entries, by the power of g that suits them. The Cargo crate leaves an empty table as it is, whatever g is.
+/// The first entries of the table are the table for
+/// fewer entries, of the power of g that suits them. The Cargo crate leaves an empty table as it is, whatever g is.
 ///
 /// # Panics
 ///
@@ -17,15 +17,15 @@ use crate::modular_prim::plain_word::PlainWord;
 /// # Examples
 ///
 /// ```
-/// use num_modular::plans::{plan, Factor, PlannedModulus};
+/// use num_modular::plans::{fill_table, Factor, PlannedModulus};
 ///
 /// let modulus = PlannedModulus::<u64>::new(17);
 /// let mut table = [Factor::<u64>::ZERO; 4];
-/// plan(&modulus, 2, &mut table); // 2^4 = 17 - 1
+/// fill_table(&modulus, 2, &mut table); // 2^4 = 17 - 1
 /// assert_eq!(table.map(|factor| factor.value()), [1, 2 * 2, 2, 2 * 2 * 2]);
 /// ```
 #[track_caller]
-pub fn plan<T: PlainWord, F: PlanEntry<T>>(m: &PlannedModulus<T>, g: T, table: &mut [F]) {
+pub fn fill_table<T: PlainWord, F: PlanEntry<T>>(m: &PlannedModulus<T>, g: T, table: &mut [F]) {
     if table.is_empty() {
         return;
     }
