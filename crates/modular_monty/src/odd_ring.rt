@@ -93,7 +93,7 @@ pub trait OddModulus<T: PathWord>: Copy {
     fn square_of_base(&self) -> T
         ensures { T.number result ≡ square self.now };
 
-    /// Montgomery's reduction of t, below m. Condition: t is below the modulus times the base.
+    /// Montgomery's reduction (REDC) of t, below m. Condition: t is below the modulus times the base.
     ///
     /// # Examples
     ///
@@ -101,16 +101,16 @@ pub trait OddModulus<T: PathWord>: Copy {
     /// use num_modular::families::{OddModulus, OddRing};
     /// use num_modular::FixedProth32;
     ///
-    /// fn reduced<M: OddModulus<u32>>(_: OddRing<u32, M>, m: u32, t: u64) -> u32 {
-    ///     M::keep(m).reduced(t)
+    /// fn redc<M: OddModulus<u32>>(_: OddRing<u32, M>, m: u32, t: u64) -> u32 {
+    ///     M::keep(m).redc(t)
     /// }
-    /// assert_eq!(reduced(FixedProth32::<5, 3>::RING, 97, 10 << 32), 10);
+    /// assert_eq!(redc(FixedProth32::<5, 3>::RING, 97, 10 << 32), 10);
     /// ```
-    fn reduced(&self, t: T::Double) -> T
+    fn redc(&self, t: T::Double) -> T
         requires { T.double_number t < T.base * modulus self.now }
         ensures { IsReduction T.base (modulus self.now) (T.double_number t) (T.number result) };
 
-    /// Montgomery's reduction of t, as `reduced` returns it, without its last subtraction. Condition: t is below the
+    /// Montgomery's reduction of t, as `redc` returns it, without its last subtraction. Condition: t is below the
     /// modulus.
     ///
     /// # Examples
@@ -119,12 +119,12 @@ pub trait OddModulus<T: PathWord>: Copy {
     /// use num_modular::families::{OddModulus, OddRing};
     /// use num_modular::FixedProth32;
     ///
-    /// fn reduced<M: OddModulus<u32>>(_: OddRing<u32, M>, m: u32, t: u64) -> u32 {
-    ///     M::keep(m).reduced_below(t)
+    /// fn redc<M: OddModulus<u32>>(_: OddRing<u32, M>, m: u32, t: u64) -> u32 {
+    ///     M::keep(m).redc_below(t)
     /// }
-    /// assert_eq!(reduced(FixedProth32::<5, 3>::RING, 97, 35), 1); // 2^32 = 35 modulo 97
+    /// assert_eq!(redc(FixedProth32::<5, 3>::RING, 97, 35), 1); // 2^32 = 35 modulo 97
     /// ```
-    fn reduced_below(&self, t: T::Double) -> T
+    fn redc_below(&self, t: T::Double) -> T
         requires { T.double_number t < modulus self.now }
         ensures { IsReduction T.base (modulus self.now) (T.double_number t) (T.number result) };
 
@@ -278,7 +278,7 @@ impl<T: ReducerWord, M: OddModulus<T>> Reducer<T> for OddRing<T, M> {
     }
 
     fn transform(&self, n: T) -> T {
-        self.kept.reduced(n.product(self.kept.square_of_base()))
+        self.kept.redc(n.product(self.kept.square_of_base()))
     }
 
     fn check(&self, f: &T) -> bool {
@@ -290,7 +290,7 @@ impl<T: ReducerWord, M: OddModulus<T>> Reducer<T> for OddRing<T, M> {
     }
 
     fn residue(&self, f: T) -> T {
-        self.kept.reduced_below(T::merge(f, T::zero()))
+        self.kept.redc_below(T::merge(f, T::zero()))
     }
 
     fn is_zero(&self, f: &T) -> bool {
@@ -322,12 +322,12 @@ impl<T: ReducerWord, M: OddModulus<T>> Reducer<T> for OddRing<T, M> {
     }
 
     fn mul(&self, a: &T, b: &T) -> T {
-        self.kept.reduced(a.product(*b))
+        self.kept.redc(a.product(*b))
     }
 
     fn mul_difference(&self, a: &T, b: &T, factor: &T) -> T {
         let difference = branchless_sub_below(*a, *b, self.kept.modulus());
-        self.kept.reduced(difference.product(*factor))
+        self.kept.redc(difference.product(*factor))
     }
 
     // Products are added as whole numbers and reduced once a block.
@@ -429,11 +429,11 @@ impl<T: ReducerWord> OddModulus<T> for StoredModulus<T> {
         self.square
     }
 
-    fn reduced(&self, t: T::Double) -> T {
+    fn redc(&self, t: T::Double) -> T {
         redc(self.modulus, self.negated_inverse, t)
     }
 
-    fn reduced_below(&self, t: T::Double) -> T {
+    fn redc_below(&self, t: T::Double) -> T {
         redc_below(self.modulus, self.negated_inverse, t)
     }
 

@@ -115,7 +115,7 @@ impl<const N: u8, const K: u8> OddRing<u32, ProthNumber32<N, K>> {
         requires { t < 2 ^ 32 * proth_modulus N K }
         ensures { IsReduction (2 ^ 32) (proth_modulus N K) t result }
     {
-        self.kept.reduced(t)
+        self.kept.redc(t)
     }
 }
 
@@ -142,13 +142,13 @@ impl<const N: u8, const K: u8> OddModulus<u32> for ProthNumber32<N, K> {
         Self::COMPUTED.square
     }
 
-    fn reduced(&self, t: u64) -> u32 {
+    fn redc(&self, t: u64) -> u32 {
         let m = Self::value();
         let x = clearing(m, Self::COMPUTED.negated_inverse, t);
         reduce_by(m, t, x, self.shift_mul(x))
     }
 
-    fn reduced_below(&self, t: u64) -> u32 {
+    fn redc_below(&self, t: u64) -> u32 {
         let m = Self::value();
         let inverse = Self::COMPUTED.negated_inverse;
         let x = clearing(m, inverse, t);
@@ -263,7 +263,7 @@ impl<const N: u8, const K: u8> OddRing<u64, ProthNumber64<N, K>> {
         requires { t < 2 ^ 64 * proth_modulus N K }
         ensures { IsReduction (2 ^ 64) (proth_modulus N K) t result }
     {
-        self.kept.reduced(t)
+        self.kept.redc(t)
     }
 }
 
@@ -290,13 +290,13 @@ impl<const N: u8, const K: u8> OddModulus<u64> for ProthNumber64<N, K> {
         Self::COMPUTED.square
     }
 
-    fn reduced(&self, t: u128) -> u64 {
+    fn redc(&self, t: u128) -> u64 {
         let m = Self::value();
         let x = clearing(m, Self::COMPUTED.negated_inverse, t);
         reduce_by(m, t, x, self.shift_mul(x))
     }
 
-    fn reduced_below(&self, t: u128) -> u64 {
+    fn redc_below(&self, t: u128) -> u64 {
         let m = Self::value();
         let inverse = Self::COMPUTED.negated_inverse;
         let x = clearing(m, inverse, t);

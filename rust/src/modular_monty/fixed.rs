@@ -86,12 +86,12 @@ impl<const P: u32> OddModulus<u32> for OddNumber32<P> {
     }
 
     #[inline]
-    fn reduced(&self, t: u64) -> u32 {
+    fn redc(&self, t: u64) -> u32 {
         redc(P, Self::COMPUTED.negated_inverse, t)
     }
 
     #[inline]
-    fn reduced_below(&self, t: u64) -> u32 {
+    fn redc_below(&self, t: u64) -> u32 {
         let inverse = Self::COMPUTED.negated_inverse;
         unless_unit_base(P, inverse, t, redc_below(P, inverse, t))
     }
@@ -180,12 +180,12 @@ impl<const P: u64> OddModulus<u64> for OddNumber64<P> {
     }
 
     #[inline]
-    fn reduced(&self, t: u128) -> u64 {
+    fn redc(&self, t: u128) -> u64 {
         redc(P, Self::COMPUTED.negated_inverse, t)
     }
 
     #[inline]
-    fn reduced_below(&self, t: u128) -> u64 {
+    fn redc_below(&self, t: u128) -> u64 {
         let inverse = Self::COMPUTED.negated_inverse;
         unless_unit_base(P, inverse, t, redc_below(P, inverse, t))
     }

@@ -79,7 +79,7 @@ pub trait OddModulus<T: PathWord>: Copy {
     /// ```
     fn square_of_base(&self) -> T;
 
-    /// Montgomery's reduction of t, below m.
+    /// Montgomery's reduction (REDC) of t, below m.
     ///
     /// # Preconditions
     ///
@@ -92,14 +92,14 @@ pub trait OddModulus<T: PathWord>: Copy {
     /// use num_modular::families::{OddModulus, OddRing};
     /// use num_modular::FixedProth32;
     ///
-    /// fn reduced<M: OddModulus<u32>>(_: OddRing<u32, M>, m: u32, t: u64) -> u32 {
-    ///     M::keep(m).reduced(t)
+    /// fn redc<M: OddModulus<u32>>(_: OddRing<u32, M>, m: u32, t: u64) -> u32 {
+    ///     M::keep(m).redc(t)
     /// }
-    /// assert_eq!(reduced(FixedProth32::<5, 3>::RING, 97, 10 << 32), 10);
+    /// assert_eq!(redc(FixedProth32::<5, 3>::RING, 97, 10 << 32), 10);
     /// ```
-    fn reduced(&self, t: T::Double) -> T;
+    fn redc(&self, t: T::Double) -> T;
 
-    /// Montgomery's reduction of t, as `reduced` returns it, without its last subtraction.
+    /// Montgomery's reduction of t, as `redc` returns it, without its last subtraction.
     ///
     /// # Preconditions
     ///
@@ -112,12 +112,12 @@ pub trait OddModulus<T: PathWord>: Copy {
     /// use num_modular::families::{OddModulus, OddRing};
     /// use num_modular::FixedProth32;
     ///
-    /// fn reduced<M: OddModulus<u32>>(_: OddRing<u32, M>, m: u32, t: u64) -> u32 {
-    ///     M::keep(m).reduced_below(t)
+    /// fn redc<M: OddModulus<u32>>(_: OddRing<u32, M>, m: u32, t: u64) -> u32 {
+    ///     M::keep(m).redc_below(t)
     /// }
-    /// assert_eq!(reduced(FixedProth32::<5, 3>::RING, 97, 35), 1); // 2^32 = 35 modulo 97
+    /// assert_eq!(redc(FixedProth32::<5, 3>::RING, 97, 35), 1); // 2^32 = 35 modulo 97
     /// ```
-    fn reduced_below(&self, t: T::Double) -> T;
+    fn redc_below(&self, t: T::Double) -> T;
 }
 
 // What is precomputed of an odd modulus m.
@@ -236,7 +236,7 @@ impl<T: ReducerWord, M: OddModulus<T>> Reducer<T> for OddRing<T, M> {
 
     #[inline]
     fn transform(&self, n: T) -> T {
-        self.kept.reduced(n.product(self.kept.square_of_base()))
+        self.kept.redc(n.product(self.kept.square_of_base()))
     }
 
     #[inline]
@@ -251,7 +251,7 @@ impl<T: ReducerWord, M: OddModulus<T>> Reducer<T> for OddRing<T, M> {
 
     #[inline]
     fn residue(&self, f: T) -> T {
-        self.kept.reduced_below(T::merge(f, T::zero()))
+        self.kept.redc_below(T::merge(f, T::zero()))
     }
 
     #[inline]
@@ -295,13 +295,13 @@ impl<T: ReducerWord, M: OddModulus<T>> Reducer<T> for OddRing<T, M> {
 
     #[inline]
     fn mul(&self, a: &T, b: &T) -> T {
-        self.kept.reduced(a.product(*b))
+        self.kept.redc(a.product(*b))
     }
 
     #[inline]
     fn mul_difference(&self, a: &T, b: &T, factor: &T) -> T {
         let difference = branchless_sub_below(*a, *b, self.kept.modulus());
-        self.kept.reduced(difference.product(*factor))
+        self.kept.redc(difference.product(*factor))
     }
 
     // Products are added as whole numbers and reduced once a block.
@@ -405,12 +405,12 @@ impl<T: ReducerWord> OddModulus<T> for StoredModulus<T> {
     }
 
     #[inline]
-    fn reduced(&self, t: T::Double) -> T {
+    fn redc(&self, t: T::Double) -> T {
         redc(self.modulus, self.negated_inverse, t)
     }
 
     #[inline]
-    fn reduced_below(&self, t: T::Double) -> T {
+    fn redc_below(&self, t: T::Double) -> T {
         redc_below(self.modulus, self.negated_inverse, t)
     }
 }

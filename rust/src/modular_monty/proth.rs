@@ -105,7 +105,7 @@ impl<const N: u8, const K: u8> OddRing<u32, ProthNumber32<N, K>> {
     /// ```
     #[inline]
     pub fn reduce(&self, t: u64) -> u32 {
-        self.kept.reduced(t)
+        self.kept.redc(t)
     }
 }
 
@@ -129,14 +129,14 @@ impl<const N: u8, const K: u8> OddModulus<u32> for ProthNumber32<N, K> {
     }
 
     #[inline]
-    fn reduced(&self, t: u64) -> u32 {
+    fn redc(&self, t: u64) -> u32 {
         let m = Self::value();
         let x = clearing(m, Self::COMPUTED.negated_inverse, t);
         reduce_by(m, t, x, self.shift_mul(x))
     }
 
     #[inline]
-    fn reduced_below(&self, t: u64) -> u32 {
+    fn redc_below(&self, t: u64) -> u32 {
         let m = Self::value();
         let inverse = Self::COMPUTED.negated_inverse;
         let x = clearing(m, inverse, t);
@@ -246,7 +246,7 @@ impl<const N: u8, const K: u8> OddRing<u64, ProthNumber64<N, K>> {
     /// ```
     #[inline]
     pub fn reduce(&self, t: u128) -> u64 {
-        self.kept.reduced(t)
+        self.kept.redc(t)
     }
 }
 
@@ -270,14 +270,14 @@ impl<const N: u8, const K: u8> OddModulus<u64> for ProthNumber64<N, K> {
     }
 
     #[inline]
-    fn reduced(&self, t: u128) -> u64 {
+    fn redc(&self, t: u128) -> u64 {
         let m = Self::value();
         let x = clearing(m, Self::COMPUTED.negated_inverse, t);
         reduce_by(m, t, x, self.shift_mul(x))
     }
 
     #[inline]
-    fn reduced_below(&self, t: u128) -> u64 {
+    fn redc_below(&self, t: u128) -> u64 {
         let m = Self::value();
         let inverse = Self::COMPUTED.negated_inverse;
         let x = clearing(m, inverse, t);

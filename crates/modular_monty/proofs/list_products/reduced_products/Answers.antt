@@ -4,26 +4,26 @@ use Rattle.modular_word.specs.Sums.{sum_below}
 use Rattle.modular_word.proofs.Congruence.{mod_of_eq, mod_trans}
 use Rattle.modular_monty.proofs.ReducedSums.{low_reduced, carries_formed, carries_added}
 use Rattle.modular_monty.proofs.list_products.reduced_products.Goals as goal
-use Rattle.modular_monty.proofs.list_products.reduced_products.Goals.{After-reduced-reduced}
+use Rattle.modular_monty.proofs.list_products.reduced_products.Goals.{After-redc-reduced}
 
 -- the sum of the products before an index
-abbrev so_far : (g : _) (c : After-reduced-reduced g) → ℕ → ℕ
+abbrev so_far : (g : _) (c : After-redc-reduced g) → ℕ → ℕ
 so_far g c n =
     let number = g.T.RingWord.number in
     sum_below n (λ i. slice_index (map number c.args.xs.now) i * slice_index (map number c.args.ys.now) i)
 
-lowest : (g : _) (c : After-reduced-reduced g)
+lowest : (g : _) (c : After-redc-reduced g)
     → Congruent (g.M.OddModulus.modulus c.args.ring.now.kept)
-    (g.T.RingWord.number c.reduced-reduced.result * g.T.PathWord.base + so_far g c c.args.from)
+    (g.T.RingWord.number c.redc-reduced.result * g.T.PathWord.base + so_far g c c.args.from)
     (g.T.PathWord.double_number c.sum_of_residues-sum.result.0 + so_far g c c.args.from)
 lowest g c =
-    low_reduced (g.T.RingWord.number c.split-low.result.0) (so_far g c c.args.from) c.reduced-reduced.ensures c.merge.ensures.value c.remainder.ensures.congruent
+    low_reduced (g.T.RingWord.number c.split-low.result.0) (so_far g c c.args.from) c.redc-reduced.ensures c.merge.ensures.value c.remainder.ensures.congruent
     c.split-low.ensures.value
 
 pub returns-then-is_zero_word-clause-congruent : goal.returns-then-is_zero_word-clause-congruent
 returns-then-is_zero_word-clause-congruent g c =
     let b = g.T.PathWord.base in let number = g.T.RingWord.number in
-    let at = (goal.at.returns-then-is_zero_word-clause-congruent g c).After-reduced-reduced in
+    let at = (goal.at.returns-then-is_zero_word-clause-congruent g c).After-redc-reduced in
     let none : b * b * number c.sum_of_residues-sum.result.1 ≡ b * b * 0 =
     ap (λ n. b * b * n) (c.is_zero_word.ensures.zero.0 c.if-is_zero_word.true) in
     let whole : g.T.PathWord.double_number c.sum_of_residues-sum.result.0 + so_far g at c.args.from ≡ so_far g at c.args.to =
@@ -32,10 +32,10 @@ returns-then-is_zero_word-clause-congruent g c =
 
 pub returns-clause-congruent : goal.returns-clause-congruent
 returns-clause-congruent g c =
-    let at = (goal.at.returns-clause-congruent g c).After-reduced-reduced in
+    let at = (goal.at.returns-clause-congruent g c).After-redc-reduced in
     let r = g.met.M.OddModulus.is_odd_ring c.args.ring.now.kept in
     let number = g.T.RingWord.number in
-    mod_trans (carries_added g.T.PathWord.base (number c.reduced-reduced.result) (number c.sum_of_residues-sum.result.1)
+    mod_trans (carries_added g.T.PathWord.base (number c.redc-reduced.result) (number c.sum_of_residues-sum.result.1)
     (g.T.PathWord.double_number c.sum_of_residues-sum.result.0) (so_far g at c.args.from) (lowest g at)
     (carries_formed g.T.RingWord.width (number c.sum_of_residues-sum.result.1) r.base c.transform.ensures.form.same)
     (rw c.modulus-2.ensures at c.add_below.ensures.value))

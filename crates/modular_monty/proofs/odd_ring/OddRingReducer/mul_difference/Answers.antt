@@ -6,12 +6,12 @@ branchless_sub_below-difference-requires g c =
     let r = g.met.M.OddModulus.is_odd_ring c.args.self.now.kept in
     rw c.modulus.ensures (record { left = form_below r c.requires.left; right = form_below r c.requires.right })
 
-pub reduced-requires : goal.reduced-requires
-reduced-requires g c = product_below _ _ c.product.ensures.value c.product.ensures.fits
+pub redc-requires : goal.redc-requires
+redc-requires g c = product_below _ _ c.product.ensures.value c.product.ensures.fits
     (form_below (g.met.M.OddModulus.is_odd_ring c.args.self.now.kept) c.requires.factor)
 
 pub returns : goal.returns
 returns g c =
     difference_product_made (g.met.M.OddModulus.is_odd_ring c.args.self.now.kept) c.requires.left c.requires.right
     (rw c.modulus.ensures at c.branchless_sub_below-difference.ensures.value) c.requires.factor
-    c.product.ensures.value c.reduced.ensures
+    c.product.ensures.value c.redc.ensures
