@@ -55,7 +55,9 @@ def test_searches_for_several_patterns():
     assert find_all(bytearray(b"xyx"), [memoryview(b"x")]) == {0: 0, 2: 0}
     with pytest.raises(ValueError, match="same length"):
         find_all(b"abc", [b"a", b"ab"])
-    for patterns in (b"ab", ["ab"], 5):
+    with pytest.raises(TypeError, match="^each pattern must be bytes-like: encode str first$"):
+        find_all(b"abc", ["ab"])
+    for patterns in (b"ab", 5):
         with pytest.raises(TypeError):
             find_all(b"abc", patterns)
 

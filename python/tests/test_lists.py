@@ -149,7 +149,7 @@ def test_roots_and_lengths():
         Montgomery(97).intt([1, 2, 3, 4], 5)
     with pytest.raises(NoRootError, match="5 doesn't suit 4 words"):
         Montgomery(97).convolve([1, 2, 3, 4], [5, 6, 7, 8], 5)
-    for m, n, root in ((97, 3, None), (97, 8, 5), (97, 64, None)):
+    for m, n, root in ((97, 3, None), (97, 3, 5), (97, 8, 5), (97, 64, None), (97, 2**50, 5), (97, 2**63, None)):
         with pytest.raises(NoRootError):
             Plan(m, n, root)
     with pytest.raises(NoRootError, match="5 doesn't suit 8 words"):

@@ -59,7 +59,7 @@ def find_all(text: bytes, patterns: Iterable[bytes], base: int | None = None) ->
     >>> find_all(b"abracadabra", [b"abra", b"cada"])
     {0: 0, 4: 1, 7: 0}
     """
-    read, listed = _bytes(text), [bytes(memoryview(it)) for it in patterns]
+    read, listed = _bytes(text), [ffi.buffer(_bytes(it, "each pattern"))[:] for it in patterns]
     count, size = len(listed), len(listed[0]) if listed else 0
     if any(len(it) != size for it in listed):
         raise ValueError("the patterns must have the same length")

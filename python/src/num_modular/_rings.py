@@ -7,7 +7,6 @@ from typing import TYPE_CHECKING, Any, NoReturn, TypeVar, Union, overload
 
 from num_modular._calls import (
     ByArguments,
-    NoRootError,
     check,
     exponent_of,
     fail,
@@ -256,10 +255,10 @@ class Plan(ByArguments):
         m, n = index(m), word(n, "the number of words", 2)
         if not 1 <= m <= 1 << 62:
             raise ValueError("the modulus must be from 1 to 2^62")
-        root = Montgomery(m).find_root(n) if root is None else reduced(root, m)
+        ring = Montgomery(m)
+        root = ring.find_root(n) if root is None else reduced(root, m)
         fault = f"{root} doesn't suit {n} words"
-        if n % 2:
-            raise NoRootError(fault)
+        check(lib.nm_montgomery_root_fits(ring._context, root, n), fault)  # before memory is asked for the table
         # The plan points to the table, which lives as long as this object, and is never handed out.
         self._table, self._plan = ffi.new("nm_factor_t[]", n // 2), ffi.new("nm_plan_t *")
         check(lib.nm_plan_make(m, root, self._table, n // 2, self._plan), fault)
