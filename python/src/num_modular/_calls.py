@@ -112,7 +112,8 @@ def word(n: int, name: str, least: int = 0) -> int:
 
 def modulus(m: int, name: str = "the modulus") -> int:
     """A modulus. ValueError: it isn't from 1 to 2^64 - 1."""
-    return word(m, name, 1)
+    m = index(m)
+    return m if 0 < m < _TOP else word(m, name, 1)  # each call pays for this test: one function less
 
 
 def exponent_of(n: int) -> int:
