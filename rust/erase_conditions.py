@@ -22,6 +22,8 @@ MADE_BY = {"new": ("R::new(", "Montgomery::of(", "Self::of(", "M::keep(")}
 # that of the condition's parts. What they call is proved to tell whether the condition holds.
 COUNTED = "{0}.len() == self.moduli.len()"
 REDUCED = COUNTED + " && crate::residues::are_reduced(self.moduli, {0})"
+EACH_COUNTED = f"{COUNTED.format('left')} && {COUNTED.format('right')}"
+RESULTS = {"add": "sums", "sub": "differences", "mul": "products"}
 POWER_SUITS = "assert!(table.len().is_power_of_two() && power.wrapping_add(T::one()) == m.modulus);"
 LOOKS = {
     "assert!(ys.len() == xs.len());":
@@ -95,8 +97,54 @@ LOOKS = {
     "assert!(self.has_moduli_of(reducers));": "mixed_radix/runs.run",
     "debug_assert!(commands.iter().all(|c| crate::ring::commands_fit(&[c.command()], forms.len())));": "mixed_radix/runs.run",
     "assert!(inputs.len() == forms.len() * reducers.len() && registers.len() == inputs.len());": "mixed_radix/runs.run",
-    f"assert!({COUNTED.format('residues')});": "mixed_radix/words.encode",
+    f"assert!({COUNTED.format('residues')});": "mixed_radix/words.encode system.encode",
     f"assert!({COUNTED.format('digits')} && words.len() >= self.moduli.len());": "mixed_radix/words.words",
+    f"assert!({REDUCED.format('residues')});": "system.decode",
+    **{f"assert!({EACH_COUNTED} && {COUNTED.format(name)});": f"system.{place}" for place, name in RESULTS.items()},
+    "debug_assert!(crate::ring::commands_fit(commands, numbers.len()) && register < numbers.len());": "residue_numbers/commands.run",
+    f"assert!(registers.len() == numbers.len() && {COUNTED.format('residues')});": "residue_numbers/commands.run",
+    "assert!(m > 0 && n > 0);": "combination.combine remainders.from_remainders",
+    "assert!(from <= to && to <= self.text.len());": "prefixes.substring_hash",
+    "debug_assert!(x.is_below(self.modulus));": "planned.multiply",
+    "debug_assert!(x.is_below(self.twice()) && u.is_below(self.twice().minus(x)));": "planned.product_sum",
+    "debug_assert!(crate::modular_plan_transforms::filled::are_factors(self.modulus, core::slice::from_ref(w)));":
+    "planned.times planned.product",
+    "debug_assert!(forms.iter().all(|x| r.check(x)));": "list_inverses.invert_each modular_transform/lists.unload_forms",
+    "assert!(scratch.len() == forms.len());": "list_inverses.invert_each",
+    "assert!(forms.len() >= words.len());": "modular_transform/lists.unload_forms",
+    "debug_assert!(points.iter().all(|x| r.check(x)));": "ring_codes/erasure.points_fit",
+    "debug_assert!(coefficients.iter().chain([point]).all(|x| r.check(x)));": "ring_codes/erasure.evaluate",
+    **{
+        f"debug_assert!(points.iter().chain({values}.iter()).all(|x| r.check(x)));": places
+        for values, places in {
+            "message": "ring_codes/erasure.encode ring_codes/erasure.encode_systematic",
+            "values": "ring_codes/erasure.interpolate",
+            "word": "ring_codes/erasure.is_codeword",
+            "symbols": "ring_codes/erasure.restore erasure/words.restore_word erasure/correction.correct",
+            "coefficients": "erasure/secrets.share",
+            "shares": "erasure/secrets.recover erasure/secrets.recover_correct",
+        }.items()
+    },
+    "debug_assert!(points_fit(r, points));": "ring_codes/erasure.is_codeword",
+    "assert!(word.len() == points.len());": "ring_codes/erasure.encode",
+    "assert!(shares.len() == points.len());": "erasure/secrets.share",
+    "assert!(weights.len() == coefficients.len() && points.len().min(values.len()) >= coefficients.len());":
+    "ring_codes/erasure.interpolate",
+    "assert!(word.len() == points.len() && weights.len() == message.len() && message.len() <= points.len());":
+    "ring_codes/erasure.is_codeword",
+    "assert!(word.len() == points.len() && weights.len() == message.len() && coefficients.len() == message.len()"
+    " && message.len() <= points.len());": "ring_codes/erasure.encode_systematic",
+    "assert!(symbols.len() == places.len() && weights.len() == message.len() && chosen.len() == message.len());":
+    "ring_codes/erasure.restore",
+    "assert!(symbols.len() == places.len() && weights.len() == message.len() && message.len() <= points.len()"
+    " && word.len() == points.len());": "erasure/words.restore_word",
+    "assert!(symbols.len() == places.len() && !message.is_empty() && word.len() == points.len()"
+    " && scratch.len() >= 3 * (places.len() + message.len()) + 2);": "erasure/correction.correct",
+    "assert!(shares.len() == places.len() && !coefficients.is_empty() && weights.len() == coefficients.len()"
+    " && chosen.len() == coefficients.len());": "erasure/secrets.recover",
+    "assert!(shares.len() == places.len() && !coefficients.is_empty() && word.len() == points.len()"
+    " && scratch.len() >= 3 * (places.len() + coefficients.len()) + 2);": "erasure/secrets.recover_correct",
+    "debug_assert!(r.check(g));": "erasure/powers.fill_powers",
     "assert!(word.len().is_power_of_two());": "erasure/powers.encode_by_transform",
     "debug_assert!(r.check(g) && message.iter().all(|x| r.check(x)));": "erasure/powers.encode_by_transform",
     "assert!(r.check(g) && crate::ring::root_fits(r, g, word.len()));": "erasure/powers.encode_by_transform",
@@ -145,7 +193,7 @@ TESTED_BELOW = (
     ((EVERY,), r"modular_plan\w*/convolution\.\w+"),
     ((DEBUG,), r"modular_barrett/exact\.exact_quotient|DivExact(Assign)?\.\w+|modular_monty/neg_mod_inv/\w+\.neginv"),
 )
-VERBS = {"is": "be", "are": "be", "has": "have", "have": "have"}
+VERBS = {"is": "be", "are": "be", "has": "have", "have": "have", "fit": "fit"}
 VERBS.update({f"{it}s": it for it in ("suit", "fit", "admit", "take", "hold")})
 VERB = re.compile(rf"\b({'|'.join(VERBS)})\b")
 # Where a clause may end, and what follows there that is no main clause: a relative clause, a comparison, an apposition.

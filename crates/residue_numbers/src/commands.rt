@@ -54,7 +54,7 @@ impl<'a> ResidueSystem<'a> {
     /// the registers are ignored.
     ///
     /// Conditions: each register number is below the count of the numbers (`commands_fit` tells), that of the
-    /// wanted register too; there is room for as many registers as numbers, and for one residue a modulus.
+    /// wanted register too; there are as many registers as numbers, and as many residues as moduli.
     ///
     /// # Examples
     ///

@@ -77,7 +77,7 @@ impl<'a> ResidueSystem<'a> {
         Some(ResidueSystem { moduli })
     }
 
-    /// The residues of a number. Condition: there is room for one residue a modulus.
+    /// The residues of a number. Condition: there are as many residues as the system has moduli.
     ///
     /// # Examples
     ///
@@ -135,8 +135,7 @@ impl<'a> ResidueSystem<'a> {
     }
 
     /// The sums of residues, each modulo its modulus: from those of x and of y the residues of x + y
-    /// modulo the product of the moduli. Conditions: each modulus has a left residue, a right one and
-    /// room for their sum.
+    /// modulo the product of the moduli. Condition: each list has as many entries as there are moduli.
     ///
     /// # Examples
     ///
@@ -162,8 +161,7 @@ impl<'a> ResidueSystem<'a> {
     }
 
     /// The differences of residues, each modulo its modulus: from those of x and of y the residues of
-    /// x - y modulo the product of the moduli. Conditions: each modulus has a left residue, a right
-    /// one and room for their difference.
+    /// x - y modulo the product of the moduli. Condition: each list has as many entries as there are moduli.
     ///
     /// # Examples
     ///
@@ -191,8 +189,7 @@ impl<'a> ResidueSystem<'a> {
     }
 
     /// The products of residues, each modulo its modulus: from those of x and of y the residues of
-    /// x·y modulo the product of the moduli. Conditions: each modulus has a left residue, a right one
-    /// and room for their product.
+    /// x·y modulo the product of the moduli. Condition: each list has as many entries as there are moduli.
     ///
     /// # Examples
     ///

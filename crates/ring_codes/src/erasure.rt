@@ -120,8 +120,8 @@ pub fn evaluate<T: RingWord, R: Reducer<T>>(r: &R, coefficients: &[T], point: &T
     value
 }
 
-/// Writes the word of a message: symbol i is the value at point i. Conditions: the points and the message are
-/// checked forms, and the word has a place for each point.
+/// Writes the word of a message: symbol i is the value at point i. Conditions: points and message are checked forms;
+/// the word has as many places as there are points.
 ///
 /// It takes n·k products.
 ///
@@ -156,7 +156,7 @@ pub fn encode<T: RingWord, R: Reducer<T>>(r: &R, points: &[T], message: &[T], wo
 /// first k values at the first k points, k being the length of `coefficients`. Returns false exactly where these points
 /// don't fit.
 ///
-/// Conditions: points and values are checked forms, at least k each, and there are k weights.
+/// Conditions: points and values are checked forms; there are k weights, and at least k points and k values.
 ///
 /// `weights` is scratch: its contents are ignored, and unspecified afterwards. The contents of `coefficients` are ignored,
 /// and unspecified after false.
@@ -210,8 +210,8 @@ pub fn interpolate<T: RingWord, R: Reducer<T>>(
 /// Whether a word is that of some message of k symbols, k being the length of `message`. Where it is, the message
 /// is written to `message`.
 ///
-/// Conditions: the points fit (`points_fit` tells), points and word are checked forms, the word has a symbol for
-/// each point, and there are k weights, k being at most the number of points.
+/// Conditions: points and word are checked forms; the points fit (`points_fit` tells); the word has as many symbols as
+/// there are points, and there are k weights, k being at most the number of points.
 ///
 /// `weights` is scratch: its contents are ignored, and unspecified afterwards. The contents of `message` are ignored, and
 /// unspecified after false.
@@ -265,8 +265,8 @@ pub fn is_codeword<T: RingWord, R: Reducer<T>>(
 /// Writes the systematic word of a message, whose first k symbols are the message's, and the coefficients of its
 /// polynomial. Returns false, with the word unchanged, exactly where the first k points don't fit.
 ///
-/// Conditions: points and message are checked forms, the word has a place for each point, and there are k weights
-/// and k coefficients, k being the length of the message and at most the number of points.
+/// Conditions: points and message are checked forms; the word has as many places as there are points, and there are k
+/// weights and k coefficients, k being the length of the message and at most the number of points.
 ///
 /// `weights` is scratch: its contents are ignored, and unspecified afterwards. The contents of `coefficients` are ignored,
 /// and unspecified after false.
@@ -342,8 +342,8 @@ fn choose<T: RingWord>(points: &[T], places: &[usize], chosen: &mut [T]) -> Resu
 /// whichever places these are. `restore_word` also restores every lost symbol.
 ///
 /// An error names a cause that is present: too few symbols, a place without a point, a place that occurs twice,
-/// points that don't fit. Conditions: points and symbols are checked forms, each place has its symbol, and there
-/// are k weights and room for k points in `chosen`.
+/// points that don't fit. Conditions: points and symbols are checked forms; there are as many symbols as places, k
+/// weights, and k places in `chosen`.
 ///
 /// `chosen` and `weights` are scratch: their contents are ignored, and unspecified afterwards. The contents of `message`
 /// are ignored, and unspecified after an error.

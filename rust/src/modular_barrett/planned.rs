@@ -206,10 +206,11 @@ impl<T: PlainWord> PlannedModulus<T> {
     ///
     /// Source: Harvey, "Faster arithmetic for number-theoretic transforms", section 3.
     ///
-    /// # Preconditions
+    /// # Panics
     ///
-    /// The factor was made by this modulus: its value is below m, and its quotient is value·B/m, rounded
-    /// down. This isn't checked: if it doesn't hold, the call panics or its result is unspecified.
+    /// A debug build panics unless the factor was made by this modulus: its value is below m, and its
+    /// quotient is value·B/m, rounded down. A release build doesn't check this: if it doesn't hold, the
+    /// call panics or its result is unspecified.
     ///
     /// # Examples
     ///
@@ -221,7 +222,9 @@ impl<T: PlainWord> PlannedModulus<T> {
     /// assert!(product == 12 || product == 12 + 13); // 1000 = 76 * 13 + 12
     /// ```
     #[inline]
+    #[cfg_attr(debug_assertions, track_caller)]
     pub fn times(&self, x: T, w: &Factor<T>) -> T {
+        debug_assert!(crate::modular_plan_transforms::filled::are_factors(self.modulus, core::slice::from_ref(w)), "the factor was made by this modulus: its value must be below m, and its quotient must be value·B/m, rounded down");
         if T::bits() == 32 {
             self.times_by_double_words(x, w)
         } else {
@@ -231,10 +234,11 @@ impl<T: PlainWord> PlannedModulus<T> {
 
     /// The residue of the product of any word x with a factor, below m.
     ///
-    /// # Preconditions
+    /// # Panics
     ///
-    /// The factor was made by this modulus: its value is below m, and its quotient is value·B/m, rounded
-    /// down. This isn't checked: if it doesn't hold, the call panics or its result is unspecified.
+    /// A debug build panics unless the factor was made by this modulus: its value is below m, and its
+    /// quotient is value·B/m, rounded down. A release build doesn't check this: if it doesn't hold, the
+    /// call panics or its result is unspecified.
     ///
     /// # Examples
     ///
@@ -245,15 +249,18 @@ impl<T: PlainWord> PlannedModulus<T> {
     /// assert_eq!(modulus.product(200, &modulus.factor(5)), 12);
     /// ```
     #[inline]
+    #[cfg_attr(debug_assertions, track_caller)]
     pub fn product(&self, x: T, w: &Factor<T>) -> T {
+        debug_assert!(crate::modular_plan_transforms::filled::are_factors(self.modulus, core::slice::from_ref(w)), "the factor was made by this modulus: its value must be below m, and its quotient must be value·B/m, rounded down");
         reduced(self.times(x, w), self.modulus)
     }
 
     /// The residue of the product of a word x with any word y, below m, computed by the reciprocal.
     ///
-    /// # Preconditions
+    /// # Panics
     ///
-    /// x is below m. This isn't checked: if it doesn't hold, the call panics or its result is unspecified.
+    /// A debug build panics unless x is below m. A release build doesn't check this: if it doesn't hold,
+    /// the call panics or its result is unspecified.
     ///
     /// # Examples
     ///
@@ -264,7 +271,9 @@ impl<T: PlainWord> PlannedModulus<T> {
     /// assert_eq!(modulus.multiply(5, 200), 12); // 1000 = 76 * 13 + 12
     /// ```
     #[inline]
+    #[cfg_attr(debug_assertions, track_caller)]
     pub fn multiply(&self, x: T, y: T) -> T {
+        debug_assert!(x.is_below(self.modulus), "x must be below m");
         let divisor = self.modulus.shift_left(self.shift);
         let scaled = x.shift_left(self.shift);
         let (_, rest) = div_2by1(divisor, self.reciprocal, scaled.product(y));
@@ -275,10 +284,10 @@ impl<T: PlainWord> PlannedModulus<T> {
     ///
     /// It divides once, by the reciprocal, modulo 2m: the high word of the sum may be at least m, but it is below 2m.
     ///
-    /// # Preconditions
+    /// # Panics
     ///
-    /// x + u is below 2m. This isn't checked: if it doesn't hold, the call panics or its result is
-    /// unspecified.
+    /// A debug build panics unless x + u is below 2m. A release build doesn't check this: if it doesn't
+    /// hold, the call panics or its result is unspecified.
     ///
     /// # Examples
     ///
@@ -288,7 +297,9 @@ impl<T: PlainWord> PlannedModulus<T> {
     /// let modulus = PlannedModulus::<u8>::new(13);
     /// assert_eq!(modulus.product_sum(5, 200, 7, 100), 10); // 5 * 200 + 7 * 100 = 130 * 13 + 10
     /// ```
+    #[cfg_attr(debug_assertions, track_caller)]
     pub fn product_sum(&self, x: T, v: T, u: T, y: T) -> T {
+        debug_assert!(x.is_below(self.twice()) && u.is_below(self.twice().minus(x)), "x + u must be below 2m");
         let divisor = self.modulus.shift_left(self.shift);
         let by = self.shift - 1;
         let sum = T::double_plus(x.shift_left(by).product(v), u.shift_left(by).product(y));

@@ -11,10 +11,11 @@ use crate::modular_word::ring_word::RingWord;
 /// Source: Montgomery, "Speeding the Pollard and elliptic curve methods of factorization", section 10.3.1: the
 /// inverses come from that of the product of all forms.
 ///
-/// # Preconditions
+/// # Panics
 ///
-/// The forms are checked, and `scratch` is as long. This isn't checked: if it doesn't hold, the call
-/// panics or its result is unspecified.
+/// Panics unless `scratch` has as many entries as there are forms. A debug build also panics unless the
+/// forms are checked. A release build doesn't check this: if it doesn't hold, the call panics or its
+/// result is unspecified.
 ///
 /// # Examples
 ///
@@ -28,7 +29,10 @@ use crate::modular_word::ring_word::RingWord;
 /// assert_eq!(forms, [6, 13]); // 3 * 6 = 17 + 1, and 4 * 13 = 3 * 17 + 1
 /// ```
 #[must_use]
+#[track_caller]
 pub fn invert_each<T: RingWord, R: Reducer<T>>(r: &R, forms: &mut [T], scratch: &mut [T]) -> bool {
+    debug_assert!(forms.iter().all(|x| r.check(x)), "the forms must be checked");
+    assert!(scratch.len() == forms.len(), "`scratch` must have as many entries as there are forms");
     let mut product = r.transform(T::one());
     for i in 0..forms.len() {
         scratch[i] = product;

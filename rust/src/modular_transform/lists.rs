@@ -29,10 +29,11 @@ pub fn load_forms<T: RingWord, R: Reducer<T>>(r: &R, words: &[T], forms: &mut [T
 
 /// Stores the values of the first forms, each below the modulus.
 ///
-/// # Preconditions
+/// # Panics
 ///
-/// The forms are checked, and at least as many as the places. This isn't checked: if it doesn't hold,
-/// the call panics or its result is unspecified.
+/// Panics unless there are at least as many forms as places. A debug build also panics unless the forms
+/// are checked. A release build doesn't check this: if it doesn't hold, the call panics or its result
+/// is unspecified.
 ///
 /// # Examples
 ///
@@ -47,7 +48,10 @@ pub fn load_forms<T: RingWord, R: Reducer<T>>(r: &R, words: &[T], forms: &mut [T
 /// assert_eq!(words, [3, 2]);
 /// ```
 #[inline]
+#[track_caller]
 pub fn unload_forms<T: RingWord, R: Reducer<T>>(r: &R, forms: &[T], words: &mut [T]) {
+    debug_assert!(forms.iter().all(|x| r.check(x)), "the forms must be checked");
+    assert!(forms.len() >= words.len(), "there must be at least as many forms as places");
     for i in 0..words.len() {
         words[i] = r.residue(forms[i]);
     }

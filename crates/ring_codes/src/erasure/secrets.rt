@@ -49,8 +49,8 @@ fn have_inverses<T: RingWord, R: Reducer<T>>(r: &R, points: &[T]) -> bool
 /// Writes the shares of a secret, by Shamir's scheme: the values at the points of the polynomial whose constant is
 /// the secret. The caller draws the other coefficients at random, each from 0 to m - 1. Returns an error, with the
 /// shares unchanged, exactly where a point or the difference of two points has no inverse modulo m. So it refuses the
-/// point 0, and points that occur twice, if m is at least 2. Conditions: points and coefficients are checked forms, and
-/// `shares` has a place for each point.
+/// point 0, and points that occur twice, if m is at least 2. Conditions: points and coefficients are checked forms;
+/// `shares` has as many places as there are points.
 ///
 /// k - 1 shares say nothing about the secret, if the other k - 1 coefficients are uniform, and independent of each
 /// other and of the secret. A point without an inverse would tell something: modulo 15 the share s + 3·c at 3 is the
@@ -100,8 +100,8 @@ pub fn share<T: RingWord, R: Reducer<T>>(
 }
 
 /// Returns the secret from any k of its shares: the constant of the polynomial with k coefficients, which are
-/// written to `coefficients`. The errors are those of `restore`. Conditions: points and shares are checked forms, each
-/// place has its share, k is at least 1, and there are k weights and room for k points in `chosen`.
+/// written to `coefficients`. The errors are those of `restore`. Conditions: points and shares are checked forms; there
+/// are as many shares as places, k is at least 1, and there are k weights and k places in `chosen`.
 ///
 /// `chosen` and `weights` are scratch: their contents are ignored, and unspecified afterwards. The contents of
 /// `coefficients` are ignored, and unspecified after an error.
@@ -164,8 +164,9 @@ pub fn recover<T: RingWord, R: Reducer<T>>(
 /// Returns the secret from s shares of which some may be forged: the constant of the only polynomial with k
 /// coefficients that differs from e of the shares, where 2·e is at most s - k. Its coefficients are written to
 /// `coefficients`, and the right shares at all points to `word`. The errors are those of `correct`: `TooManyErrors`
-/// comes only where no polynomial is that near. Conditions: points and shares are checked forms, each place has its
-/// share, k is at least 1, `word` has a place for each point, and there are 3·(s + k) + 2 places of scratch.
+/// comes only where no polynomial is that near. Conditions: points and shares are checked forms; there are as many
+/// shares as places, k is at least 1, `word` has as many places as there are points, and there are at least
+/// 3·(s + k) + 2 places of scratch.
 ///
 /// The contents of `scratch` are ignored, and unspecified afterwards. The contents of `coefficients` and `word` are
 /// ignored, and unspecified after an error.

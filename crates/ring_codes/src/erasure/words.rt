@@ -58,8 +58,9 @@ fn fill_word<T: RingWord, R: Reducer<T>>(
 /// Restores the whole word of a message of k symbols, k being the length of `message`, from the first k places and the
 /// symbols there, whichever places these are: every lost symbol, and the message.
 ///
-/// The errors are those of `restore`. Conditions: points and symbols are checked forms, each place has its symbol,
-/// there are k weights, k being at most the number of points, and the word has a place for each point.
+/// The errors are those of `restore`. Conditions: points and symbols are checked forms; there are as many symbols as
+/// places, there are k weights, k being at most the number of points, and the word has as many places as there are
+/// points.
 ///
 /// `weights` is scratch: its contents are ignored, and unspecified afterwards. The contents of `message` and `word` are
 /// ignored, and unspecified after an error.

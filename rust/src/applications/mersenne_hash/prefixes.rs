@@ -82,10 +82,9 @@ impl<'a> PrefixHashes<'a> {
     ///
     /// Source: Karp and Rabin, "Efficient randomized pattern-matching algorithms".
     ///
-    /// # Preconditions
+    /// # Panics
     ///
-    /// `from` is at most `to`, which is at most the length of the text. This isn't checked: if it doesn't
-    /// hold, the call panics or its result is unspecified.
+    /// Panics unless `from` is at most `to`, which is at most the length of the text.
     ///
     /// # Examples
     ///
@@ -100,7 +99,9 @@ impl<'a> PrefixHashes<'a> {
     /// assert_eq!(text.substring_hash(1, 3).residue(), 2_003);
     /// ```
     #[inline]
+    #[track_caller]
     pub fn substring_hash(&self, from: usize, to: usize) -> Hash {
+        assert!(from <= to && to <= self.text.len(), "`from` must be at most `to`, which is at most the length of the text");
         self.hashes[to] - self.hashes[from] * self.powers[to - from]
     }
 

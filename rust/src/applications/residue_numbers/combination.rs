@@ -18,10 +18,9 @@ fn common_divisor(m: u64, n: u64) -> u64 {
 ///
 /// Source: Gauss, Disquisitiones Arithmeticae, articles 32 to 35; Ore, "The general Chinese remainder theorem".
 ///
-/// # Preconditions
+/// # Panics
 ///
-/// m and n are at least 1. This isn't checked: if it doesn't hold, the call panics or its result is
-/// unspecified.
+/// Panics unless m and n are at least 1.
 ///
 /// # Examples
 ///
@@ -31,7 +30,9 @@ fn common_divisor(m: u64, n: u64) -> u64 {
 /// assert_eq!(combine(3, 4, 5, 6), Some((11, 12)));
 /// assert_eq!(combine(1, 4, 2, 6), None); // one is odd, the other even
 /// ```
+#[track_caller]
 pub fn combine(a: u64, m: u64, b: u64, n: u64) -> Option<(u128, u128)> {
+    assert!(m > 0 && n > 0, "m and n must be at least 1");
     let divisor = common_divisor(m, n);
     let difference = b.subm(a % m, &n);
     if difference % divisor != 0 {

@@ -37,11 +37,12 @@ impl<'a> ResidueSystem<'a> {
     /// exists modulo the product. Where it returns false, some of the residues may be unwritten. The contents of
     /// the registers are ignored.
     ///
-    /// # Preconditions
+    /// # Panics
     ///
-    /// Each register number is below the count of the numbers (`commands_fit` tells), that of the wanted
-    /// register too, and there is room for as many registers as numbers, and for one residue a modulus.
-    /// This isn't checked: if it doesn't hold, the call panics or its result is unspecified.
+    /// Panics unless there are as many registers as numbers, and as many residues as moduli. A debug build
+    /// also panics unless each register number is below the count of the numbers (`commands_fit` tells),
+    /// that of the wanted register too. A release build doesn't check this: if it doesn't hold, the call
+    /// panics or its result is unspecified.
     ///
     /// # Examples
     ///
@@ -57,6 +58,7 @@ impl<'a> ResidueSystem<'a> {
     /// ```
     #[inline]
     #[must_use]
+    #[track_caller]
     pub fn run(
         &self,
         commands: &[RingCommand<u64>],
@@ -65,6 +67,8 @@ impl<'a> ResidueSystem<'a> {
         registers: &mut [u64],
         residues: &mut [u64],
     ) -> bool {
+        debug_assert!(crate::ring::commands_fit(commands, numbers.len()) && register < numbers.len(), "each register number must be below the count of the numbers, that of the wanted register too");
+        assert!(registers.len() == numbers.len() && residues.len() == self.moduli.len(), "there must be as many registers as numbers, and as many residues as moduli");
         let moduli = self.moduli;
         for (place, modulus) in moduli.iter().enumerate() {
             match residue_by_run(*modulus, commands, numbers, register, registers) {

@@ -4,10 +4,9 @@ use crate::{ModularCoreOps, ModularUnaryOps};
 /// The number below m·n that is congruent to a modulo m and to b modulo n; `None` exactly where m has no inverse
 /// modulo n.
 ///
-/// # Preconditions
+/// # Panics
 ///
-/// m and n are at least 1. This isn't checked: if it doesn't hold, the call panics or its result is
-/// unspecified.
+/// Panics unless m and n are at least 1.
 ///
 /// # Examples
 ///
@@ -17,7 +16,9 @@ use crate::{ModularCoreOps, ModularUnaryOps};
 /// assert_eq!(from_remainders(2, 3, 3, 5), Some(8));
 /// assert_eq!(from_remainders(2, 4, 3, 6), None); // 4 has no inverse modulo 6
 /// ```
+#[track_caller]
 pub fn from_remainders(a: u32, m: u32, b: u32, n: u32) -> Option<u64> {
+    assert!(m > 0 && n > 0, "m and n must be at least 1");
     let a = a % m;
     let inverse = m.invm(&n)?;
     let steps = b.subm(a, &n).mulm(inverse, &n);

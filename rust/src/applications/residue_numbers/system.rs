@@ -68,10 +68,9 @@ impl<'a> ResidueSystem<'a> {
 
     /// The residues of a number.
     ///
-    /// # Preconditions
+    /// # Panics
     ///
-    /// There is room for one residue a modulus. This isn't checked: if it doesn't hold, the call panics or
-    /// its result is unspecified.
+    /// Panics unless there are as many residues as the system has moduli.
     ///
     /// # Examples
     ///
@@ -83,7 +82,9 @@ impl<'a> ResidueSystem<'a> {
     /// assert_eq!(residues, [2, 3, 2]);
     /// ```
     #[inline]
+    #[track_caller]
     pub fn encode(&self, number: u128, residues: &mut [u64]) {
+        assert!(residues.len() == self.moduli.len(), "there must be as many residues as the system has moduli");
         encode(self.moduli, number, residues);
     }
 
@@ -91,10 +92,9 @@ impl<'a> ResidueSystem<'a> {
     /// other: `decode` returns a number below the product from its residues, and `encode` the residues from the
     /// number.
     ///
-    /// # Preconditions
+    /// # Panics
     ///
-    /// Each modulus has a residue below it (`are_reduced` of `num_modular::residues` tells). This isn't
-    /// checked: if it doesn't hold, the call panics or its result is unspecified.
+    /// Panics unless each modulus has a residue below it (`are_reduced` of `num_modular::residues` tells).
     ///
     /// # Examples
     ///
@@ -105,7 +105,9 @@ impl<'a> ResidueSystem<'a> {
     /// assert_eq!(system.decode(&[2, 3, 2]), 23);
     /// ```
     #[inline]
+    #[track_caller]
     pub fn decode(&self, residues: &[u64]) -> u128 {
+        assert!(residues.len() == self.moduli.len() && crate::residues::are_reduced(self.moduli, residues), "each modulus must have a residue below it");
         decode(self.moduli, residues)
     }
 
@@ -121,10 +123,9 @@ impl<'a> ResidueSystem<'a> {
     /// The sums of residues, each modulo its modulus: from those of x and of y the residues of x + y
     /// modulo the product of the moduli.
     ///
-    /// # Preconditions
+    /// # Panics
     ///
-    /// Each modulus has a left residue, a right one and room for their sum. This isn't checked: if it
-    /// doesn't hold, the call panics or its result is unspecified.
+    /// Panics unless each list has as many entries as there are moduli.
     ///
     /// # Examples
     ///
@@ -137,17 +138,18 @@ impl<'a> ResidueSystem<'a> {
     /// assert_eq!(system.decode(&sums), 33);
     /// ```
     #[inline]
+    #[track_caller]
     pub fn add(&self, left: &[u64], right: &[u64], sums: &mut [u64]) {
+        assert!(left.len() == self.moduli.len() && right.len() == self.moduli.len() && sums.len() == self.moduli.len(), "each list must have as many entries as there are moduli");
         self.combine(Operation::Sum, left, right, sums);
     }
 
     /// The differences of residues, each modulo its modulus: from those of x and of y the residues of
     /// x - y modulo the product of the moduli.
     ///
-    /// # Preconditions
+    /// # Panics
     ///
-    /// Each modulus has a left residue, a right one and room for their difference. This isn't checked: if
-    /// it doesn't hold, the call panics or its result is unspecified.
+    /// Panics unless each list has as many entries as there are moduli.
     ///
     /// # Examples
     ///
@@ -160,17 +162,18 @@ impl<'a> ResidueSystem<'a> {
     /// assert_eq!(system.decode(&differences), 13);
     /// ```
     #[inline]
+    #[track_caller]
     pub fn sub(&self, left: &[u64], right: &[u64], differences: &mut [u64]) {
+        assert!(left.len() == self.moduli.len() && right.len() == self.moduli.len() && differences.len() == self.moduli.len(), "each list must have as many entries as there are moduli");
         self.combine(Operation::Difference, left, right, differences);
     }
 
     /// The products of residues, each modulo its modulus: from those of x and of y the residues of
     /// x·y modulo the product of the moduli.
     ///
-    /// # Preconditions
+    /// # Panics
     ///
-    /// Each modulus has a left residue, a right one and room for their product. This isn't checked: if it
-    /// doesn't hold, the call panics or its result is unspecified.
+    /// Panics unless each list has as many entries as there are moduli.
     ///
     /// # Examples
     ///
@@ -183,7 +186,9 @@ impl<'a> ResidueSystem<'a> {
     /// assert_eq!(system.decode(&products), 20);
     /// ```
     #[inline]
+    #[track_caller]
     pub fn mul(&self, left: &[u64], right: &[u64], products: &mut [u64]) {
+        assert!(left.len() == self.moduli.len() && right.len() == self.moduli.len() && products.len() == self.moduli.len(), "each list must have as many entries as there are moduli");
         self.combine(Operation::Product, left, right, products);
     }
 }

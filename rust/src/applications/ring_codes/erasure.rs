@@ -57,10 +57,10 @@ pub enum RestoreError {
 
 /// Whether the points fit: the difference of any two has an inverse modulo m.
 ///
-/// # Preconditions
+/// # Panics
 ///
-/// The points are checked forms. This isn't checked: if it doesn't hold, the call panics or its result
-/// is unspecified.
+/// A debug build panics unless the points are checked forms. A release build doesn't check this: if it
+/// doesn't hold, the call panics or its result is unspecified.
 ///
 /// # Examples
 ///
@@ -72,7 +72,9 @@ pub enum RestoreError {
 /// assert!(points_fit(&ring, &[0, 1, 2]));
 /// assert!(!points_fit(&ring, &[0, 1, 3])); // 3 has no inverse modulo 15
 /// ```
+#[cfg_attr(debug_assertions, track_caller)]
 pub fn points_fit<T: RingWord, R: Reducer<T>>(r: &R, points: &[T]) -> bool {
+    debug_assert!(points.iter().all(|x| r.check(x)), "the points must be checked forms");
     let mut product = r.transform(T::one());
     for i in 0..points.len() {
         let differences = differences_before(r, points, i);
@@ -83,10 +85,10 @@ pub fn points_fit<T: RingWord, R: Reducer<T>>(r: &R, points: &[T]) -> bool {
 
 /// The form of the value of a polynomial at a point, given its coefficients, the constant first, by Horner's rule.
 ///
-/// # Preconditions
+/// # Panics
 ///
-/// Coefficients and point are checked forms. This isn't checked: if it doesn't hold, the call panics or
-/// its result is unspecified.
+/// A debug build panics unless coefficients and point are checked forms. A release build doesn't check
+/// this: if it doesn't hold, the call panics or its result is unspecified.
 ///
 /// # Examples
 ///
@@ -97,7 +99,9 @@ pub fn points_fit<T: RingWord, R: Reducer<T>>(r: &R, points: &[T]) -> bool {
 /// let ring = Vanilla::<u8>::new(&97);
 /// assert_eq!(evaluate(&ring, &[5, 7], &2), 19); // 5 + 7 * 2
 /// ```
+#[cfg_attr(debug_assertions, track_caller)]
 pub fn evaluate<T: RingWord, R: Reducer<T>>(r: &R, coefficients: &[T], point: &T) -> T {
+    debug_assert!(coefficients.iter().chain([point]).all(|x| r.check(x)), "coefficients and point must be checked forms");
     let mut value = r.transform(T::zero());
     for k in 0..coefficients.len() {
         let i = coefficients.len() - 1 - k;
@@ -113,10 +117,11 @@ pub fn evaluate<T: RingWord, R: Reducer<T>>(r: &R, coefficients: &[T], point: &T
 ///
 /// Source: Reed and Solomon, "Polynomial codes over certain finite fields".
 ///
-/// # Preconditions
+/// # Panics
 ///
-/// The points and the message are checked forms, and the word has a place for each point. This isn't
-/// checked: if it doesn't hold, the call panics or its result is unspecified.
+/// Panics unless the word has as many places as there are points. A debug build also panics unless
+/// points and message are checked forms. A release build doesn't check this: if it doesn't hold, the
+/// call panics or its result is unspecified.
 ///
 /// # Examples
 ///
@@ -130,7 +135,10 @@ pub fn evaluate<T: RingWord, R: Reducer<T>>(r: &R, coefficients: &[T], point: &T
 /// assert_eq!(word, [12, 19, 26, 33]); // 5 + 7X at 1, 2, 3 and 4
 /// ```
 #[inline]
+#[track_caller]
 pub fn encode<T: RingWord, R: Reducer<T>>(r: &R, points: &[T], message: &[T], word: &mut [T]) {
+    debug_assert!(points.iter().chain(message.iter()).all(|x| r.check(x)), "points and message must be checked forms");
+    assert!(word.len() == points.len(), "the word must have as many places as there are points");
     for i in 0..points.len() {
         word[i] = evaluate(r, message, &points[i]);
     }
@@ -145,10 +153,11 @@ pub fn encode<T: RingWord, R: Reducer<T>>(r: &R, points: &[T], message: &[T], wo
 ///
 /// Source: Knuth, The Art of Computer Programming, volume 2, section 4.6.4 (Newton's divided differences).
 ///
-/// # Preconditions
+/// # Panics
 ///
-/// Points and values are checked forms, at least k each, and there are k weights. This isn't checked:
-/// if it doesn't hold, the call panics or its result is unspecified.
+/// Panics unless there are k weights, and at least k points and k values. A debug build also panics
+/// unless points and values are checked forms. A release build doesn't check this: if it doesn't hold,
+/// the call panics or its result is unspecified.
 ///
 /// # Examples
 ///
@@ -162,6 +171,7 @@ pub fn encode<T: RingWord, R: Reducer<T>>(r: &R, points: &[T], message: &[T], wo
 /// assert_eq!(coefficients, [5, 7]); // 5 + 7 * 3 = 26, and 5 + 7 * 4 = 33
 /// ```
 #[must_use]
+#[track_caller]
 pub fn interpolate<T: RingWord, R: Reducer<T>>(
     r: &R,
     points: &[T],
@@ -169,6 +179,8 @@ pub fn interpolate<T: RingWord, R: Reducer<T>>(
     weights: &mut [T],
     coefficients: &mut [T],
 ) -> bool {
+    debug_assert!(points.iter().chain(values.iter()).all(|x| r.check(x)), "points and values must be checked forms");
+    assert!(weights.len() == coefficients.len() && points.len().min(values.len()) >= coefficients.len(), "there must be k weights, and at least k points and k values");
     fill_weights(r, points, weights);
     if !invert_each(r, weights, coefficients) {
         return false;
@@ -185,11 +197,12 @@ pub fn interpolate<T: RingWord, R: Reducer<T>>(
 /// `weights` is scratch: its contents are ignored, and unspecified afterwards. The contents of `message` are ignored, and
 /// unspecified after false.
 ///
-/// # Preconditions
+/// # Panics
 ///
-/// The points fit (`points_fit` tells), points and word are checked forms, the word has a symbol for
-/// each point, and there are k weights, k being at most the number of points. This isn't checked: if it
-/// doesn't hold, the call panics or its result is unspecified.
+/// Panics unless the word has as many symbols as there are points, and there are k weights, k being at
+/// most the number of points. A debug build also panics unless points and word are checked forms, and
+/// the points fit (`points_fit` tells). A release build doesn't check this: if it doesn't hold, the
+/// call panics or its result is unspecified.
 ///
 /// # Examples
 ///
@@ -204,6 +217,7 @@ pub fn interpolate<T: RingWord, R: Reducer<T>>(
 /// assert!(!is_codeword(&ring, &[1, 2, 3, 4], &[12, 19, 26, 34], &mut weights, &mut message));
 /// ```
 #[must_use]
+#[track_caller]
 pub fn is_codeword<T: RingWord, R: Reducer<T>>(
     r: &R,
     points: &[T],
@@ -211,6 +225,9 @@ pub fn is_codeword<T: RingWord, R: Reducer<T>>(
     weights: &mut [T],
     message: &mut [T],
 ) -> bool {
+    debug_assert!(points.iter().chain(word.iter()).all(|x| r.check(x)), "points and word must be checked forms");
+    debug_assert!(points_fit(r, points), "the points must fit");
+    assert!(word.len() == points.len() && weights.len() == message.len() && message.len() <= points.len(), "the word must have as many symbols as there are points, and there must be k weights, k being at most the number of points");
     if !interpolate(r, points, word, weights, message) {
         return false;
     }
@@ -229,11 +246,12 @@ pub fn is_codeword<T: RingWord, R: Reducer<T>>(
 /// `weights` is scratch: its contents are ignored, and unspecified afterwards. The contents of `coefficients` are ignored,
 /// and unspecified after false.
 ///
-/// # Preconditions
+/// # Panics
 ///
-/// Points and message are checked forms, the word has a place for each point, and there are k weights
-/// and k coefficients, k being the length of the message and at most the number of points. This isn't
-/// checked: if it doesn't hold, the call panics or its result is unspecified.
+/// Panics unless the word has as many places as there are points, and there are k weights and k
+/// coefficients, k being the length of the message and at most the number of points. A debug build also
+/// panics unless points and message are checked forms. A release build doesn't check this: if it
+/// doesn't hold, the call panics or its result is unspecified.
 ///
 /// # Examples
 ///
@@ -248,6 +266,7 @@ pub fn is_codeword<T: RingWord, R: Reducer<T>>(
 /// ```
 #[inline]
 #[must_use]
+#[track_caller]
 pub fn encode_systematic<T: RingWord, R: Reducer<T>>(
     r: &R,
     points: &[T],
@@ -256,6 +275,8 @@ pub fn encode_systematic<T: RingWord, R: Reducer<T>>(
     coefficients: &mut [T],
     word: &mut [T],
 ) -> bool {
+    debug_assert!(points.iter().chain(message.iter()).all(|x| r.check(x)), "points and message must be checked forms");
+    assert!(word.len() == points.len() && weights.len() == message.len() && coefficients.len() == message.len() && message.len() <= points.len(), "the word must have as many places as there are points, and there must be k weights and k coefficients, k being the length of the message and at most the number of points");
     if !interpolate(r, points, message, weights, coefficients) {
         return false;
     }
@@ -290,11 +311,11 @@ fn choose<T: RingWord>(points: &[T], places: &[usize], chosen: &mut [T]) -> Resu
 /// `chosen` and `weights` are scratch: their contents are ignored, and unspecified afterwards. The contents of `message`
 /// are ignored, and unspecified after an error.
 ///
-/// # Preconditions
+/// # Panics
 ///
-/// Points and symbols are checked forms, each place has its symbol, and there are k weights and room
-/// for k points in `chosen`. This isn't checked: if it doesn't hold, the call panics or its result is
-/// unspecified.
+/// Panics unless there are as many symbols as places, k weights, and k places in `chosen`. A debug
+/// build also panics unless points and symbols are checked forms. A release build doesn't check this:
+/// if it doesn't hold, the call panics or its result is unspecified.
 ///
 /// # Examples
 ///
@@ -309,6 +330,7 @@ fn choose<T: RingWord>(points: &[T], places: &[usize], chosen: &mut [T]) -> Resu
 /// assert_eq!(message, [5, 7]);
 /// ```
 #[inline]
+#[track_caller]
 pub fn restore<T: RingWord, R: Reducer<T>>(
     r: &R,
     points: &[T],
@@ -318,6 +340,8 @@ pub fn restore<T: RingWord, R: Reducer<T>>(
     weights: &mut [T],
     message: &mut [T],
 ) -> Result<(), RestoreError> {
+    debug_assert!(points.iter().chain(symbols.iter()).all(|x| r.check(x)), "points and symbols must be checked forms");
+    assert!(symbols.len() == places.len() && weights.len() == message.len() && chosen.len() == message.len(), "there must be as many symbols as places, k weights, and k places in `chosen`");
     match choose(points, places, chosen) {
         Err(error) => Err(error),
         Ok(()) => {

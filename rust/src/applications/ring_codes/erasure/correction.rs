@@ -102,11 +102,12 @@ fn decode<T: RingWord, R: Reducer<T>>(
 /// Source: Welch and Berlekamp, US patent 4,633,470; Kötter, "On algebraic decoding of algebraic-geometric and cyclic
 /// codes".
 ///
-/// # Preconditions
+/// # Panics
 ///
-/// Points and symbols are checked forms, each place has its symbol, k, the length of the message, is at
-/// least 1, the word has a place for each point, and there are 3·(s + k) + 2 places of scratch. This
-/// isn't checked: if it doesn't hold, the call panics or its result is unspecified.
+/// Panics unless there are as many symbols as places, k, the length of the message, is at least 1, the
+/// word has as many places as there are points, and there are at least 3·(s + k) + 2 places of scratch.
+/// A debug build also panics unless points and symbols are checked forms. A release build doesn't check
+/// this: if it doesn't hold, the call panics or its result is unspecified.
 ///
 /// # Examples
 ///
@@ -121,6 +122,7 @@ fn decode<T: RingWord, R: Reducer<T>>(
 /// let found = correct(&ring, &[1, 2, 3, 4], &[0, 1, 2, 3], &symbols, &mut scratch, &mut message, &mut word);
 /// assert_eq!((found, message, word), (Ok(1), [5, 7], [12, 19, 26, 33]));
 /// ```
+#[track_caller]
 pub fn correct<T: RingWord, R: Reducer<T>>(
     r: &R,
     points: &[T],
@@ -130,6 +132,8 @@ pub fn correct<T: RingWord, R: Reducer<T>>(
     message: &mut [T],
     word: &mut [T],
 ) -> Result<usize, CorrectError<T>> {
+    debug_assert!(points.iter().chain(symbols.iter()).all(|x| r.check(x)), "points and symbols must be checked forms");
+    assert!(symbols.len() == places.len() && !message.is_empty() && word.len() == points.len() && scratch.len() >= 3 * (places.len() + message.len()) + 2, "there must be as many symbols as places, k, the length of the message, must be at least 1, the word must have as many places as there are points, and there must be at least 3·(s + k) + 2 places of scratch");
     if places.len() < message.len() {
         return Err(CorrectError::Restore(RestoreError::TooFewSymbols));
     }

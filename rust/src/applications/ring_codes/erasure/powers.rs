@@ -10,10 +10,10 @@ use crate::{Reducer, RingWord};
 /// Where m is odd and g suits their number n (`root_fits` tells), the points fit: `restore`, `correct` and
 /// the other calls accept them.
 ///
-/// # Preconditions
+/// # Panics
 ///
-/// g is a checked form. This isn't checked: if it doesn't hold, the call panics or its result is
-/// unspecified.
+/// A debug build panics unless g is a checked form. A release build doesn't check this: if it doesn't
+/// hold, the call panics or its result is unspecified.
 ///
 /// # Examples
 ///
@@ -28,7 +28,9 @@ use crate::{Reducer, RingWord};
 /// assert!(points_fit(&ring, &points));
 /// ```
 #[inline]
+#[cfg_attr(debug_assertions, track_caller)]
 pub fn fill_powers<T: RingWord, R: Reducer<T>>(r: &R, g: &T, points: &mut [T]) {
+    debug_assert!(r.check(g), "g must be a checked form");
     let mut power = r.transform(T::one());
     for entry in points.iter_mut() {
         *entry = power;

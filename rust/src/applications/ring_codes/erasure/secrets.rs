@@ -44,10 +44,11 @@ fn have_inverses<T: RingWord, R: Reducer<T>>(r: &R, points: &[T]) -> bool {
 ///
 /// Source: Shamir, "How to share a secret".
 ///
-/// # Preconditions
+/// # Panics
 ///
-/// Points and coefficients are checked forms, and `shares` has a place for each point. This isn't
-/// checked: if it doesn't hold, the call panics or its result is unspecified.
+/// Panics unless `shares` has as many places as there are points. A debug build also panics unless
+/// points and coefficients are checked forms. A release build doesn't check this: if it doesn't hold,
+/// the call panics or its result is unspecified.
 ///
 /// # Examples
 ///
@@ -61,12 +62,15 @@ fn have_inverses<T: RingWord, R: Reducer<T>>(r: &R, points: &[T]) -> bool {
 /// assert_eq!(shares, [12, 19, 26]);
 /// ```
 #[inline]
+#[track_caller]
 pub fn share<T: RingWord, R: Reducer<T>>(
     r: &R,
     points: &[T],
     coefficients: &[T],
     shares: &mut [T],
 ) -> Result<(), ShareError> {
+    debug_assert!(points.iter().chain(coefficients.iter()).all(|x| r.check(x)), "points and coefficients must be checked forms");
+    assert!(shares.len() == points.len(), "`shares` must have as many places as there are points");
     if !have_inverses(r, points) {
         return Err(ShareError::PointWithoutInverse);
     }
@@ -85,11 +89,11 @@ pub fn share<T: RingWord, R: Reducer<T>>(
 ///
 /// Source: Shamir, "How to share a secret".
 ///
-/// # Preconditions
+/// # Panics
 ///
-/// Points and shares are checked forms, each place has its share, k is at least 1, and there are k
-/// weights and room for k points in `chosen`. This isn't checked: if it doesn't hold, the call panics
-/// or its result is unspecified.
+/// Panics unless there are as many shares as places, k is at least 1, and there are k weights and k
+/// places in `chosen`. A debug build also panics unless points and shares are checked forms. A release
+/// build doesn't check this: if it doesn't hold, the call panics or its result is unspecified.
 ///
 /// # Examples
 ///
@@ -103,6 +107,7 @@ pub fn share<T: RingWord, R: Reducer<T>>(
 /// assert_eq!(secret, Ok(5));
 /// ```
 #[inline]
+#[track_caller]
 pub fn recover<T: RingWord, R: Reducer<T>>(
     r: &R,
     points: &[T],
@@ -112,6 +117,8 @@ pub fn recover<T: RingWord, R: Reducer<T>>(
     weights: &mut [T],
     coefficients: &mut [T],
 ) -> Result<T, RestoreError> {
+    debug_assert!(points.iter().chain(shares.iter()).all(|x| r.check(x)), "points and shares must be checked forms");
+    assert!(shares.len() == places.len() && !coefficients.is_empty() && weights.len() == coefficients.len() && chosen.len() == coefficients.len(), "there must be as many shares as places, k must be at least 1, and there must be k weights and k places in `chosen`");
     match restore(r, points, places, shares, chosen, weights, coefficients) {
         Ok(()) => Ok(coefficients[0]),
         Err(error) => Err(error),
@@ -131,11 +138,12 @@ pub fn recover<T: RingWord, R: Reducer<T>>(
 ///
 /// Source: McEliece and Sarwate, "On sharing secrets and Reed-Solomon codes".
 ///
-/// # Preconditions
+/// # Panics
 ///
-/// Points and shares are checked forms, each place has its share, k is at least 1, `word` has a place
-/// for each point, and there are 3·(s + k) + 2 places of scratch. This isn't checked: if it doesn't
-/// hold, the call panics or its result is unspecified.
+/// Panics unless there are as many shares as places, k is at least 1, `word` has as many places as
+/// there are points, and there are at least 3·(s + k) + 2 places of scratch. A debug build also panics
+/// unless points and shares are checked forms. A release build doesn't check this: if it doesn't hold,
+/// the call panics or its result is unspecified.
 ///
 /// # Examples
 ///
@@ -152,6 +160,7 @@ pub fn recover<T: RingWord, R: Reducer<T>>(
 /// assert_eq!(secret, Ok(5));
 /// ```
 #[inline]
+#[track_caller]
 pub fn recover_correct<T: RingWord, R: Reducer<T>>(
     r: &R,
     points: &[T],
@@ -161,6 +170,8 @@ pub fn recover_correct<T: RingWord, R: Reducer<T>>(
     coefficients: &mut [T],
     word: &mut [T],
 ) -> Result<T, CorrectError<T>> {
+    debug_assert!(points.iter().chain(shares.iter()).all(|x| r.check(x)), "points and shares must be checked forms");
+    assert!(shares.len() == places.len() && !coefficients.is_empty() && word.len() == points.len() && scratch.len() >= 3 * (places.len() + coefficients.len()) + 2, "there must be as many shares as places, k must be at least 1, `word` must have as many places as there are points, and there must be at least 3·(s + k) + 2 places of scratch");
     match correct(r, points, places, shares, scratch, coefficients, word) {
         Ok(_) => Ok(coefficients[0]),
         Err(fault) => Err(fault),

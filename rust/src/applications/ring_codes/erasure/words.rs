@@ -42,11 +42,12 @@ fn fill_word<T: RingWord, R: Reducer<T>>(
 ///
 /// Source: Reed and Solomon, "Polynomial codes over certain finite fields".
 ///
-/// # Preconditions
+/// # Panics
 ///
-/// Points and symbols are checked forms, each place has its symbol, there are k weights, k being at
-/// most the number of points, and the word has a place for each point. This isn't checked: if it
-/// doesn't hold, the call panics or its result is unspecified.
+/// Panics unless there are as many symbols as places, there are k weights, k being at most the number
+/// of points, and the word has as many places as there are points. A debug build also panics unless
+/// points and symbols are checked forms. A release build doesn't check this: if it doesn't hold, the
+/// call panics or its result is unspecified.
 ///
 /// # Examples
 ///
@@ -59,6 +60,7 @@ fn fill_word<T: RingWord, R: Reducer<T>>(
 /// restore_word(&ring, &[1, 2, 3, 4], &[3, 1], &[33, 19], &mut weights, &mut message, &mut word).unwrap();
 /// assert_eq!((message, word), ([5, 7], [12, 19, 26, 33]));
 /// ```
+#[track_caller]
 pub fn restore_word<T: RingWord, R: Reducer<T>>(
     r: &R,
     points: &[T],
@@ -68,6 +70,8 @@ pub fn restore_word<T: RingWord, R: Reducer<T>>(
     message: &mut [T],
     word: &mut [T],
 ) -> Result<(), RestoreError> {
+    debug_assert!(points.iter().chain(symbols.iter()).all(|x| r.check(x)), "points and symbols must be checked forms");
+    assert!(symbols.len() == places.len() && weights.len() == message.len() && message.len() <= points.len() && word.len() == points.len(), "there must be as many symbols as places, there must be k weights, k being at most the number of points, and the word must have as many places as there are points");
     let chosen = &mut word[..message.len()];
     match restore(r, points, places, symbols, chosen, weights, message) {
         Err(error) => Err(error),

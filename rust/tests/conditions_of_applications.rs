@@ -1,0 +1,154 @@
+//! Calls outside the conditions of lists, erasure codes, residue systems and hashes: a panic names the place of the call.
+
+#[macro_use]
+mod panics;
+
+use num_modular::applications::mersenne_hash::prefixes::PrefixHashes;
+use num_modular::applications::residue_numbers::{combine, from_remainders, ResidueSystem};
+use num_modular::applications::ring_codes::erasure::{
+    correct, encode, encode_systematic, evaluate, fill_powers, interpolate, is_codeword, points_fit, recover, recover_correct, restore,
+    restore_word, share, CorrectError, RestoreError,
+};
+use num_modular::hashes;
+use num_modular::plans::PlannedModulus;
+use num_modular::ring::{invert_each, unload_forms, RingCommand};
+use num_modular::{Montgomery, Reducer, Vanilla};
+use panics::{message, place, SHORT};
+
+const POINTS: [u64; 4] = [1, 2, 3, 4];
+const WORD: [u64; 4] = [12, 19, 26, 33]; // 5 + 7X at these points
+
+fn ring() -> Vanilla<u64> {
+    Vanilla::<u64>::new(&97)
+}
+
+#[test]
+fn forms_and_scratch() {
+    let ring = Montgomery::<u64>::new(97);
+    panic_with!("the scratch list must have as many entries as there are forms";
+        invert_each(&ring, &mut [1; 3], &mut [0; 2]), invert_each(&ring, &mut [1; 3], &mut [0; 4]));
+    panic_in_debug_with!("the forms must be checked"; invert_each(&ring, &mut [97], &mut [0]), unload_forms(&ring, &[97], &mut [0]));
+    panic_with!("there must be at least as many forms as places"; unload_forms(&ring, &[1; 2], &mut [0; 3]));
+}
+
+#[test]
+fn factors_and_words_of_planned_moduli() {
+    let modulus = PlannedModulus::<u64>::new(97);
+    let other = PlannedModulus::<u64>::new(193).factor(100);
+    assert_eq!((modulus.multiply(96, 1000), modulus.product_sum(96, 1, 96, 2)), (96 * 1000 % 97, 96 * 3 % 97));
+    panic_in_debug_with!("x must be below m"; modulus.multiply(1000, 5));
+    panic_in_debug_with!("x + u must be below 2m"; modulus.product_sum(97, 1, 97, 1), modulus.product_sum(1, 1, u64::MAX, 1));
+    panic_in_debug_with!("the factor must be a residue modulo m"; modulus.product(5, &other), modulus.times(5, &other));
+}
+
+#[test]
+fn words_of_codes() {
+    let words = "the word must have as many places as there are points";
+    panic_with!(words; encode(&ring(), &POINTS, &[5, 7], &mut [0; 3]), encode(&ring(), &POINTS, &[5, 7], &mut [0; 5]));
+    panic_in_debug_with!("points and message must be checked forms"; encode(&ring(), &POINTS, &[5, 97], &mut [0; 4]));
+    panic_in_debug_with!("the points must be checked forms"; points_fit(&ring(), &[1, 98]));
+    panic_in_debug_with!("coefficients and point must be checked forms"; evaluate(&ring(), &[97], &1), evaluate(&ring(), &[5], &97));
+    panic_in_debug_with!("g must be a checked form"; fill_powers(&ring(), &97, &mut [0; 4]));
+    let systematic = "there must be k weights and k coefficients, k being the length of the message and at most the number of points";
+    panic_with!(format!("{words}, and {systematic}");
+        encode_systematic(&ring(), &POINTS, &[12, 19], &mut [0; 2], &mut [0; 2], &mut [0; 3]),
+        encode_systematic(&ring(), &POINTS, &[12, 19], &mut [0; 1], &mut [0; 2], &mut [0; 4]),
+        encode_systematic(&ring(), &POINTS, &[12, 19], &mut [0; 2], &mut [0; 3], &mut [0; 4]),
+        encode_systematic(&ring(), &POINTS, &[12; 5], &mut [0; 5], &mut [0; 5], &mut [0; 4]));
+    panic_in_debug_with!("points and message must be checked forms";
+        encode_systematic(&ring(), &POINTS, &[97], &mut [0; 1], &mut [0; 1], &mut [0; 4]));
+}
+
+#[test]
+fn messages_of_codes() {
+    let (few, checked) = ("there must be k weights, and at least k points and k values", "points and values must be checked forms");
+    panic_with!(few; interpolate(&ring(), &[1], &WORD, &mut [0; 2], &mut [0; 2]), interpolate(&ring(), &POINTS, &[12], &mut [0; 2], &mut [0; 2]),
+        interpolate(&ring(), &POINTS, &WORD, &mut [0; 1], &mut [0; 2]));
+    panic_in_debug_with!(checked; interpolate(&ring(), &[1, 97], &WORD, &mut [0; 2], &mut [0; 2]));
+    let symbols = "the word must have as many symbols as there are points";
+    panic_with!(format!("{symbols}, and there must be k weights, k being at most the number of points");
+        is_codeword(&ring(), &POINTS, &WORD[..3], &mut [0; 2], &mut [0; 2]),
+        is_codeword(&ring(), &POINTS, &WORD, &mut [0; 1], &mut [0; 2]),
+        is_codeword(&ring(), &POINTS, &WORD, &mut [0; 5], &mut [0; 5]));
+    panic_in_debug_with!("the points must fit"; is_codeword(&ring(), &[1, 2, 3, 3], &WORD, &mut [0; 2], &mut [0; 2]) => false);
+    panic_in_debug_with!("points and word must be checked forms"; is_codeword(&ring(), &POINTS, &[97; 4], &mut [0; 2], &mut [0; 2]));
+}
+
+#[test]
+fn symbols_of_codes() {
+    let pairs = "there must be as many symbols as places";
+    panic_with!(format!("{pairs}, k weights, and k places in `chosen`");
+        restore(&ring(), &POINTS, &[3, 1], &[33], &mut [0; 2], &mut [0; 2], &mut [0; 2]),
+        restore(&ring(), &POINTS, &[3, 1], &[33, 19], &mut [0; 3], &mut [0; 2], &mut [0; 2]),
+        restore(&ring(), &POINTS, &[3, 1], &[33, 19], &mut [0; 2], &mut [0; 1], &mut [0; 2]));
+    panic_in_debug_with!("points and symbols must be checked forms";
+        restore(&ring(), &POINTS, &[3], &[100], &mut [0; 2], &mut [0; 2], &mut [0; 2]) => Err(RestoreError::TooFewSymbols),
+        restore_word(&ring(), &POINTS, &[3], &[100], &mut [0; 2], &mut [0; 2], &mut [0; 4]) => Err(RestoreError::TooFewSymbols));
+    let room = "the word must have as many places as there are points";
+    panic_with!(format!("{pairs}, there must be k weights, k being at most the number of points, and {room}");
+        restore_word(&ring(), &POINTS, &[3, 1], &[33], &mut [0; 2], &mut [0; 2], &mut [0; 4]),
+        restore_word(&ring(), &POINTS, &[3, 1], &[33, 19], &mut [0; 1], &mut [0; 2], &mut [0; 4]),
+        restore_word(&ring(), &POINTS, &[3, 1], &[33, 19], &mut [0; 2], &mut [0; 2], &mut [0; 5]));
+    let places = &[0, 1, 2, 3];
+    let scratch = "there must be at least 3·(s + k) + 2 places of scratch";
+    panic_with!(format!("{pairs}, k, the length of the message, must be at least 1, {room}, and {scratch}");
+        correct(&ring(), &POINTS, places, &WORD[..3], &mut [0; 20], &mut [0; 2], &mut [0; 4]),
+        correct(&ring(), &POINTS, places, &WORD, &mut [0; 19], &mut [0; 2], &mut [0; 4]),
+        correct(&ring(), &POINTS, places, &WORD, &mut [0; 20], &mut [], &mut [0; 4]),
+        correct(&ring(), &POINTS, places, &WORD, &mut [0; 20], &mut [0; 2], &mut [0; 5]));
+    panic_in_debug_with!("points and symbols must be checked forms";
+        correct(&ring(), &POINTS, &[3], &[100], &mut [0; 11], &mut [0; 2], &mut [0; 4]) =>
+        Err(CorrectError::Restore(RestoreError::TooFewSymbols)));
+}
+
+#[test]
+fn shares_of_secrets() {
+    panic_with!("`shares` must have as many places as there are points"; share(&ring(), &[1, 2, 3], &[5, 7], &mut [0; 4]));
+    panic_in_debug_with!("points and coefficients must be checked forms"; share(&ring(), &[1, 2, 3], &[5, 97], &mut [0; 3]) => Ok(()));
+    let pairs = "there must be as many shares as places, k must be at least 1";
+    panic_with!(format!("{pairs}, and there must be k weights and k places in `chosen`");
+        recover(&ring(), &POINTS, &[2, 0], &[26], &mut [0; 2], &mut [0; 2], &mut [0; 2]),
+        recover(&ring(), &POINTS, &[], &[], &mut [], &mut [], &mut []),
+        recover(&ring(), &POINTS, &[2, 0], &[26, 12], &mut [0; 1], &mut [0; 2], &mut [0; 2]));
+    panic_with!(
+        format!("{pairs}, `word` must have as many places as there are points, and there must be at least 3·(s + k) + 2 places of scratch");
+        recover_correct(&ring(), &POINTS, &[0, 1, 2, 3], &WORD, &mut [0; 19], &mut [0; 2], &mut [0; 4]),
+        recover_correct(&ring(), &POINTS, &[0, 1, 2, 3], &WORD, &mut [0; 20], &mut [0; 2], &mut [0; 3]));
+    let few = Err(RestoreError::TooFewSymbols);
+    panic_in_debug_with!("points and shares must be checked forms";
+        recover(&ring(), &POINTS, &[0], &[97], &mut [0; 2], &mut [0; 2], &mut [0; 2]) => few);
+    panic_in_debug_with!("points and shares must be checked forms";
+        recover_correct(&ring(), &POINTS, &[0], &[97], &mut [0; 11], &mut [0; 2], &mut [0; 4]));
+}
+
+#[test]
+fn residue_systems() {
+    let system = ResidueSystem::new(&[3, 5]).unwrap();
+    let counted = "each list must have as many entries as there are moduli";
+    panic_with!(counted; system.add(&[1; 1], &[1; 2], &mut [0; 2]), system.sub(&[1; 2], &[1; 3], &mut [0; 2]),
+        system.mul(&[1; 2], &[1; 2], &mut [0; 1]), system.mul(&[1; 2], &[1; 2], &mut [0; 3]));
+    panic_with!("there must be as many residues as the system has moduli"; system.encode(7, &mut [0; 1]), system.encode(7, &mut [0; 3]));
+    panic_with!("each modulus must have a residue below it"; system.decode(&[1]), system.decode(&[1, 5]));
+    panic_with!("m and n must be at least 1"; combine(1, 0, 1, 5), combine(1, 5, 1, 0), from_remainders(1, 0, 1, 5), from_remainders(1, 5, 1, 0));
+    let double = [RingCommand::Dbl { dst: 0, a: 0 }];
+    panic_with!("there must be as many registers as numbers, and as many residues as moduli";
+        system.run(&double, &[7], 0, &mut [0; 2], &mut [0; 2]), system.run(&double, &[7], 0, &mut [0], &mut [0; 1]));
+    let register = "each register number must be below the count of the numbers, that of the wanted register too";
+    for (command, register_of_result) in [(RingCommand::Dbl { dst: 0, a: 1 }, 0), (RingCommand::Dbl { dst: 0, a: 0 }, 1)] {
+        let words = message(|| system.run(&[command], &[7], register_of_result, &mut [0], &mut [0; 2])).unwrap_or_default();
+        let wanted = ["index out of bounds: the len is 1 but the index is 1", register];
+        assert_eq!(words, wanted[usize::from(cfg!(debug_assertions))]);
+    }
+}
+
+#[test]
+fn parts_of_texts() {
+    let base = hashes::base(1000);
+    let (mut hashes, mut powers) = ([base; 5], [base; 5]);
+    let text = PrefixHashes::new(base, &[1, 2, 3, 4], &mut hashes, &mut powers).unwrap();
+    let hash_of = |from, to| message(std::panic::AssertUnwindSafe(|| text.substring_hash(from, to))).unwrap_or_default();
+    for (from, to) in [(2, 1), (0, 5), (5, 5)] {
+        assert_eq!(hash_of(from, to), "`from` must be at most `to`, which is at most the length of the text");
+        assert_eq!(place(), file!());
+    }
+}
