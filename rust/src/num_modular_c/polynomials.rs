@@ -4,7 +4,7 @@ use crate::num_modular_c::codes::{NM_BAD_ARGUMENT, NM_OK};
 use crate::num_modular_c::plans::NmFactor;
 use crate::applications::long_product::MOST_PLACES;
 use crate::applications::long_product::polynomials::{
-    multiply_cyclic_once, multiply_negacyclic_once, multiply_once, room,
+    multiply_cyclic_once, multiply_negacyclic_once, multiply_once, room_once,
 };
 
 /// Writes the lengths of the two scratch lists of the products of polynomials with n = `xs_length` and k = `ys_length`
@@ -20,9 +20,9 @@ pub fn nm_polynomial_room(
     if xs_length > MOST_PLACES || ys_length > MOST_PLACES - xs_length {
         return NM_BAD_ARGUMENT;
     }
-    let (needed, table) = room(xs_length, ys_length);
+    let (needed, most) = room_once(xs_length, ys_length);
     *words = needed;
-    *factors = 3 * table;
+    *factors = most;
     NM_OK
 }
 

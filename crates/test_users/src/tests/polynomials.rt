@@ -4,7 +4,7 @@ use super::assert_at;
 use super::long_products::digits_from;
 use long_product::polynomials::{
     multiply, multiply_cyclic, multiply_cyclic_once, multiply_negacyclic, multiply_negacyclic_once,
-    multiply_once, multiply_plain, room, square,
+    multiply_once, multiply_plain, room, room_once, square,
 };
 use long_product::{Plans, fill_plans};
 use num_modular::plans::{Factor, PlanEntry};
@@ -215,6 +215,8 @@ fn the_room_of_products(rt: HostRuntime) {
     check!(&rt, 1; room(200, 300) == (2048, 256));
     check!(&rt, 2; room(200, 313) == (4096, 512));
     check!(&rt, 3; room(199, 300) == (0, 0));
+    check!(&rt, 4; room_once(200, 300) == (2048, 768));
+    check!(&rt, 5; room_once(199, 300) == (0, 0));
 }
 
 // Whether the product of 1 + 2X and 3 + 4X modulo m isn't written to so many places.

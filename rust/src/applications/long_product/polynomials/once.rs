@@ -3,9 +3,31 @@
 use crate::applications::long_product::entries_for;
 use crate::applications::long_product::plans::filled;
 use crate::applications::long_product::polynomials::{
-    LEAST_TRANSFORMED, are_sums_faster, count_for, fill_plain, fits, fits_cyclic, has_room,
+    LEAST_TRANSFORMED, are_sums_faster, count_for, fill_plain, fits, fits_cyclic, has_room, room,
 };
 use crate::plans::PlanEntry;
+
+/// The number of words, and of factors of all three tables together, for a product by `multiply_once` and its like of
+/// polynomials with so many coefficients: what `room` returns, but for three tables.
+///
+/// # Preconditions
+///
+/// xs + ys is at most 2^32. This isn't checked: if it doesn't hold, the call panics or its result is
+/// unspecified.
+///
+/// # Examples
+///
+/// ```
+/// use num_modular::applications::long_product::polynomials::room_once;
+///
+/// assert_eq!(room_once(200, 300), (4 * 512, 3 * 256));
+/// assert_eq!(room_once(199, 300), (0, 0));
+/// ```
+#[inline]
+pub fn room_once(xs: usize, ys: usize) -> (usize, usize) {
+    let (words, table) = room(xs, ys);
+    (words, 3 * table)
+}
 
 // Writes the coefficients by the sums, or by transforms, whose plans it fills first.
 fn fill_once<F: PlanEntry<u64>>(
@@ -36,20 +58,22 @@ fn fill_once<F: PlanEntry<u64>>(
 /// Writes the coefficients of the product of the polynomials xs and ys modulo m to `out`, as `multiply` does, with plans
 /// that it fills itself. `words` and `factors` have unspecified contents afterwards. Returns false, with all lists
 /// unchanged, exactly where m is 0, the length of `out` isn't that of the product, or, where xs and ys both have
-/// `LEAST_TRANSFORMED` coefficients or more, they have more than 2^32 together, or `words` or a third of `factors` is
-/// shorter than `room` returns. No memory is allocated. For several products, `fill_plans` and `multiply` are faster.
+/// `LEAST_TRANSFORMED` coefficients or more, they have more than 2^32 together, or `words` or `factors` is shorter than
+/// `room_once` returns. No memory is allocated. For several products, `fill_plans` and `multiply` are faster.
 ///
 /// Source: that of `multiply`.
 ///
 /// # Examples
 ///
 /// ```
-/// use num_modular::applications::long_product::polynomials::multiply_once;
+/// use num_modular::applications::long_product::polynomials::{multiply_once, room_once};
 /// use num_modular::plans::Factor;
 ///
-/// let (m, mut out) = (1_000_000_007, [0; 3]);
-/// assert!(multiply_once::<Factor<u64>>(m, &[m - 1, m - 1], &[m - 1, m - 1], &mut out, &mut [], &mut []));
-/// assert_eq!(out, [1, 2, 1]);
+/// let (words, factors) = room_once(300, 300);
+/// let (mut words, mut factors) = (vec![0; words], vec![Factor::<u64>::ZERO; factors]);
+/// let mut out = [0; 599];
+/// assert!(multiply_once(1_000_000_007, &[1; 300], &[1; 300], &mut out, &mut words, &mut factors));
+/// assert_eq!((out[0], out[299], out[598]), (1, 300, 1));
 /// ```
 #[must_use]
 pub fn multiply_once<F: PlanEntry<u64>>(
@@ -73,18 +97,20 @@ pub fn multiply_once<F: PlanEntry<u64>>(
 /// Writes the cyclic product of the n numbers xs and the n numbers ys modulo m to `out`, as `multiply_cyclic` does, with
 /// plans that it fills itself. `words` and `factors` have unspecified contents afterwards. Returns false, with all lists
 /// unchanged, exactly where m is 0, the three lengths differ, or, for n from `LEAST_TRANSFORMED` on, n is above 2^31, or
-/// `words` or a third of `factors` is shorter than `room(n, n)` returns. No memory is allocated.
+/// `words` or `factors` is shorter than `room_once(n, n)` returns. No memory is allocated.
 ///
 /// Source: that of `multiply`.
 ///
 /// # Examples
 ///
 /// ```
-/// use num_modular::applications::long_product::polynomials::multiply_cyclic_once;
+/// use num_modular::applications::long_product::polynomials::{multiply_cyclic_once, room_once};
 /// use num_modular::plans::Factor;
 ///
+/// let (words, factors) = room_once(3, 3); // both are 0: so short products need no room
+/// let (mut words, mut factors) = (vec![0; words], vec![Factor::<u64>::ZERO; factors]);
 /// let mut out = [0; 3];
-/// assert!(multiply_cyclic_once::<Factor<u64>>(100, &[1, 2, 3], &[4, 5, 6], &mut out, &mut [], &mut []));
+/// assert!(multiply_cyclic_once(100, &[1, 2, 3], &[4, 5, 6], &mut out, &mut words, &mut factors));
 /// assert_eq!(out, [31, 31, 28]);
 /// ```
 #[must_use]
@@ -114,11 +140,13 @@ pub fn multiply_cyclic_once<F: PlanEntry<u64>>(
 /// # Examples
 ///
 /// ```
-/// use num_modular::applications::long_product::polynomials::multiply_negacyclic_once;
+/// use num_modular::applications::long_product::polynomials::{multiply_negacyclic_once, room_once};
 /// use num_modular::plans::Factor;
 ///
+/// let (words, factors) = room_once(3, 3); // both are 0: so short products need no room
+/// let (mut words, mut factors) = (vec![0; words], vec![Factor::<u64>::ZERO; factors]);
 /// let mut out = [0; 3];
-/// assert!(multiply_negacyclic_once::<Factor<u64>>(100, &[1, 2, 3], &[4, 5, 6], &mut out, &mut [], &mut []));
+/// assert!(multiply_negacyclic_once(100, &[1, 2, 3], &[4, 5, 6], &mut out, &mut words, &mut factors));
 /// assert_eq!(out, [77, 95, 28]); // 4 - 27, 13 - 18 and 28
 /// ```
 #[must_use]
