@@ -5,6 +5,14 @@ import re
 IN_CONSTANTS = {"Montgomery", "Normalized2by1Divisor", "PreModInv", "PreMulInv1by1", "PreMulInv2by1"}
 PARTS_IN_CONSTANTS = IN_CONSTANTS | {"OddRing", "FoldRing", "TrinomialModulus", "FixedMersenne"}
 PARTS_IN_CONSTANTS |= {f"{name}{bits}" for name in ("OddNumber", "ProthNumber", "Mersenne") for bits in (32, 64)}
+# By type: which traits it derives besides (+), and which it doesn't derive, since traits.rs has them (-).
+DERIVED = {
+    **dict.fromkeys(("Code", "ResidueSystem"), "+Debug"),
+    "ReducedInt": "-Debug +Clone +Copy",
+    **dict.fromkeys(("Montgomery", "PreMulInv2by1", "PlannedModulus", "Plan", "Plans", "Ring"), "-Debug"),
+    **dict.fromkeys(("OddRing", "FoldRing", "FixedMersenne", "TrinomialModulus"), "-Debug"),
+    **{f"{name}{bits}": "-Debug" for name in ("OddNumber", "ProthNumber", "Mersenne") for bits in (32, 64)},
+}
 BOUNDS = "T : RingWord , R : Reducer < T > + Copy"
 TAKEN = (  # what Rattle writes and Rust doesn't need
     ("final fn", "fn"),
@@ -14,7 +22,6 @@ TAKEN = (  # what Rattle writes and Rust doesn't need
     (". clone ( ) ?", ".clone()"),
     ("# [ derive ( Drop ) ] pub struct", "#[derive(Debug)]\npub struct"),
     ("# [ derive ( Drop ) ]", ""),
-    ("# [ derive ( Debug ) ] pub struct ReducedInt", "pub struct ReducedInt"),
     ("$kind :: new (", "$kind::of(", lambda it: it.kind in IN_CONSTANTS),
     ("$kind :: < T > :: new (", "$kind::<T>::of(", lambda it: it.kind in IN_CONSTANTS),
     ("Self :: new ( * m )", "Self::of(*m)"),
@@ -96,7 +103,6 @@ def bounds_of(code):
     return f"T{': ' * bool(word)}{word}, R: Reducer<T>{' + Clone' * bool(is_whole)}"
 
 
-SHOWN = (("# [ derive ( Clone , Copy ) ] pub struct", "#[derive(Debug, Clone, Copy)]\npub struct"),)
 OF_PLACES = {  # by crate or file
     # rustc warns where what only tests call is missing here, and refuses the crate where one is too many
     "modular_symbols": of_tests("mod count"),
@@ -119,7 +125,6 @@ OF_PLACES = {  # by crate or file
         ("type Base : RingWord ;", "type Base;"),
         ("-> T { pow_counted ( self , f , exp ) . 0 }", "-> T;"),
         # integers over any reducer: the bounds that their operations need, and clones of what they read of a reference
-        ("pub struct ReducedInt", "#[derive(Clone, Copy)]\npub struct ReducedInt"),
         (f"{BOUNDS} > ReducedInt", "T, R: Reducer<T>> ReducedInt"),
         (f"{BOUNDS} > PartialEq", "T: PartialEq, R: Reducer<T>> PartialEq"),
         (f"impl < {BOUNDS} > $head.. $block{{}}", lambda it: f"impl<{bounds_of(it.block)}> {it.head} {it.block}"),
@@ -137,7 +142,6 @@ OF_PLACES = {  # by crate or file
     "split": constant("splits"),
     "convolution": constant("convolves"),
     "standards": constant("standard_codes"),
-    **dict.fromkeys(("check_digits", "residue_numbers"), SHOWN),
     **{f"word/{it}": constant("extend", "nrem") for it in ("w8", "w16", "w32", "w64", "wsize")},
 }
 

@@ -1,13 +1,21 @@
 //! The traits of core that people expect of integers, errors and reducers. Written by hand, and so not proved; all
 //! computations here call proved functions.
 
+use crate::applications::lattice_rings::{ml_dsa, ml_kem};
+#[cfg(target_pointer_width = "64")]
+use crate::applications::long_product::Plans;
 use crate::applications::ring_codes::erasure::{CorrectError, RestoreError, ShareError};
 use crate::modular_folds::folds::FoldedWord;
+use crate::modular_folds::mersenne::{Mersenne32, Mersenne64};
 use crate::modular_folds::rings::{FoldModulus, FoldRing};
+use crate::modular_folds::solinas::{Trinomial, TrinomialModulus, TrinomialWord};
+use crate::modular_monty::fixed::{OddNumber32, OddNumber64};
 use crate::modular_monty::odd_ring::{OddModulus, OddRing};
+use crate::modular_monty::proth::{ProthNumber32, ProthNumber64};
 use crate::modular_prim::reducer_word::ReducerWord;
 use crate::modular_word::path_word::PathWord;
-use crate::{ModularInteger, PlainWord, PreModInv, ReducedInt, Reducer};
+use crate::plans::{Plan, PlanEntry, PlannedModulus};
+use crate::{FixedMersenne, ModularInteger, PlainWord, PreModInv, ReducedInt, Reducer};
 use core::fmt;
 use core::hash::{Hash, Hasher};
 use core::iter::{Product, Sum};
@@ -65,6 +73,97 @@ impl<T: PartialEq + Clone, R: Reducer<T> + Clone> DivAssign<&Self> for ReducedIn
     }
 }
 
+// A fixed reducer shows its alias and its modulus.
+macro_rules! shown {
+    ($($kept:ty as $ring:ident, $word:ty, $trait:ident, [$($parameters:tt)*];)*) => {$(
+        impl<$($parameters)*> fmt::Debug for $kept {
+            /// The reducer and its modulus.
+            fn fmt(&self, f: &mut fmt::Formatter) -> fmt::Result {
+                write!(f, concat!(stringify!($ring), " (mod {:?})"), $trait::<$word>::modulus(self))
+            }
+        }
+    )*};
+}
+
+shown! {
+    OddNumber32<P> as FixedMontgomery32, u32, OddModulus, [const P: u32];
+    OddNumber64<P> as FixedMontgomery64, u64, OddModulus, [const P: u64];
+    ProthNumber32<N, K> as FixedProth32, u32, OddModulus, [const N: u8, const K: u8];
+    ProthNumber64<N, K> as FixedProth64, u64, OddModulus, [const N: u8, const K: u8];
+    Mersenne32<P, K> as FixedMersenne32, u32, FoldModulus, [const P: u8, const K: u32];
+    Mersenne64<P, K> as FixedMersenne64, u64, FoldModulus, [const P: u8, const K: u64];
+    FixedMersenne<P, K> as FixedMersenne, u128, Reducer, [const P: u8, const K: u64];
+    TrinomialModulus<T, F> as TrinomialSolinas, T, FoldModulus, [T: TrinomialWord + fmt::Debug, F: Trinomial];
+}
+
+impl<T, M: fmt::Debug> fmt::Debug for OddRing<T, M> {
+    /// As the type of its modulus shows it.
+    fn fmt(&self, f: &mut fmt::Formatter) -> fmt::Result {
+        self.kept.fmt(f)
+    }
+}
+
+impl<T, M: fmt::Debug> fmt::Debug for FoldRing<T, M> {
+    /// As the type of its modulus shows it.
+    fn fmt(&self, f: &mut fmt::Formatter) -> fmt::Result {
+        self.kept.fmt(f)
+    }
+}
+
+// What is computed once from a modulus isn't shown.
+macro_rules! shown_by_modulus {
+    ($($kind:ident<T>, $bound:ident;)*) => {$(
+        impl<T: $bound + fmt::Debug> fmt::Debug for crate::$kind<T> {
+            /// The modulus.
+            fn fmt(&self, f: &mut fmt::Formatter) -> fmt::Result {
+                f.debug_struct(stringify!($kind)).field("modulus", &Reducer::modulus(self)).finish()
+            }
+        }
+    )*};
+}
+
+shown_by_modulus! {
+    Montgomery<T>, ReducerWord;
+    PreMulInv2by1<T>, PlainWord;
+}
+
+impl<T: fmt::Debug> fmt::Debug for PlannedModulus<T> {
+    /// The modulus.
+    fn fmt(&self, f: &mut fmt::Formatter) -> fmt::Result {
+        f.debug_struct("PlannedModulus").field("modulus", &self.modulus).finish()
+    }
+}
+
+impl<T: PlainWord + fmt::Debug, F: PlanEntry<T>> fmt::Debug for Plan<'_, T, F> {
+    /// The modulus, the root and the number of entries, without the table.
+    fn fmt(&self, f: &mut fmt::Formatter) -> fmt::Result {
+        let (modulus, root, length) = (self.modulus().modulus, self.root(), self.length());
+        f.debug_struct("Plan").field("modulus", &modulus).field("root", &root).field("length", &length).finish_non_exhaustive()
+    }
+}
+
+#[cfg(target_pointer_width = "64")]
+impl<F: PlanEntry<u64>> fmt::Debug for Plans<'_, F> {
+    /// The number of factors in each table.
+    fn fmt(&self, f: &mut fmt::Formatter) -> fmt::Result {
+        f.debug_struct("Plans").field("factors", &self.factors()).finish_non_exhaustive()
+    }
+}
+
+impl fmt::Debug for ml_dsa::Ring {
+    /// The modulus, without the table.
+    fn fmt(&self, f: &mut fmt::Formatter) -> fmt::Result {
+        f.debug_struct("Ring").field("modulus", &ml_dsa::MODULUS).finish_non_exhaustive()
+    }
+}
+
+impl fmt::Debug for ml_kem::Ring {
+    /// The modulus, without the table.
+    fn fmt(&self, f: &mut fmt::Formatter) -> fmt::Result {
+        f.debug_struct("Ring").field("modulus", &ml_kem::MODULUS).finish_non_exhaustive()
+    }
+}
+
 // Reducers of one type are equal where their moduli are, of which they are made.
 macro_rules! equal {
     ($($ring:ty, [$($parameters:tt)*];)*) => {$(
@@ -94,13 +193,13 @@ impl<T: PathWord> PartialEq for PreModInv<T> {
 
 impl<T: PathWord> Eq for PreModInv<T> {}
 
-impl Default for crate::applications::lattice_rings::ml_dsa::Ring {
+impl Default for ml_dsa::Ring {
     fn default() -> Self {
         Self::new()
     }
 }
 
-impl Default for crate::applications::lattice_rings::ml_kem::Ring {
+impl Default for ml_kem::Ring {
     fn default() -> Self {
         Self::new()
     }
@@ -205,6 +304,25 @@ mod tests {
         assert_eq!(std::format!("{x} {x:>4} {x:?}"), "10   10 10 (mod 97)");
         fn has_equality<T: Eq>(_: T) {}
         has_equality(x);
+    }
+
+    #[test]
+    fn reducers_and_plans_show_no_table() {
+        use crate::applications::lattice_rings::ml_kem;
+        use crate::plans::{Factor, Plan, PlannedModulus};
+        assert_eq!(std::format!("{:?}", FixedMersenne64::<61, 1>::RING), "FixedMersenne64 (mod 2305843009213693951)");
+        assert_eq!(std::format!("{:?}", FixedMersenne::<61, 1>::RING), "FixedMersenne (mod 2305843009213693951)");
+        assert_eq!(std::format!("{:?}", FixedProth32::<5, 3>::RING), "FixedProth32 (mod 97)");
+        assert_eq!(std::format!("{:?}", FixedMontgomery64::<97>::RING), "FixedMontgomery64 (mod 97)");
+        assert_eq!(std::format!("{:?}", FixedTrinomialSolinas32::<5, 4, -3>::RING), "TrinomialSolinas (mod 13)");
+        assert_eq!(std::format!("{:?}", Montgomery::<u64>::new(96)), "Montgomery { modulus: 96 }");
+        assert_eq!(std::format!("{:?}", PreMulInv2by1::<u8>::new(96)), "PreMulInv2by1 { modulus: 96 }");
+        let modulus = PlannedModulus::<u64>::new(97);
+        assert_eq!(std::format!("{modulus:?}"), "PlannedModulus { modulus: 97 }");
+        let mut table = [Factor::<u64>::ZERO; 2];
+        let plan = Plan::new(&modulus, 22, &mut table).unwrap();
+        assert_eq!(std::format!("{plan:?}"), "Plan { modulus: 97, root: 22, length: 4, .. }");
+        assert_eq!(std::format!("{:?}", ml_kem::Ring::new()), "Ring { modulus: 3329, .. }");
     }
 
     #[test]

@@ -72,7 +72,7 @@ impl<T: PathWord> Factor<T> {
 /// ntt_planned(&modulus, &mut entries, &table);
 /// assert_eq!(entries[0], 1 + 2 + 3 + 4);
 /// ```
-#[derive(Debug, PartialEq, Eq)]
+#[derive(PartialEq, Eq)]
 #[must_use]
 pub struct PlannedModulus<T> {
     /// The modulus.

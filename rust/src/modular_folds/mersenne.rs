@@ -16,7 +16,7 @@ use crate::modular_reduced::reducer::Reducer;
 /// const RING: FoldRing<u32, Mersenne32<8, 5>> = FoldRing::<u32, Mersenne32<8, 5>>::RING;
 /// assert_eq!(RING.modulus(), 251); // 2^8 - 5
 /// ```
-#[derive(Debug, Clone, Copy)]
+#[derive(Clone, Copy)]
 #[must_use]
 pub struct Mersenne32<const P: u8, const K: u32> {
     // Private, so that a value exists only for parameters in range; the modulus comes from the parameters.
@@ -159,7 +159,7 @@ impl<const P: u8, const K: u32> FoldModulus<u32> for Mersenne32<P, K> {
 /// const RING: FoldRing<u64, Mersenne64<61, 1>> = FoldRing::<u64, Mersenne64<61, 1>>::RING;
 /// assert_eq!(RING.modulus(), (1 << 61) - 1);
 /// ```
-#[derive(Debug, Clone, Copy)]
+#[derive(Clone, Copy)]
 #[must_use]
 pub struct Mersenne64<const P: u8, const K: u64> {
     // Private, so that a value exists only for parameters in range; the modulus comes from the parameters.
@@ -303,7 +303,7 @@ impl<const P: u8, const K: u64> FoldModulus<u64> for Mersenne64<P, K> {
 /// const RING: FixedMersenne<61, 1> = FixedMersenne::RING;
 /// assert_eq!(RING.mul(&(1 << 60), &6), 3); // 6 * 2^60 = 3 * 2^61
 /// ```
-#[derive(Debug, Clone, Copy)]
+#[derive(Clone, Copy)]
 #[must_use]
 pub struct FixedMersenne<const P: u8, const K: u64> {
     pub(crate) ring: FixedMersenne64<P, K>,

@@ -93,7 +93,7 @@ pub trait FoldModulus<T: FoldedWord>: Copy {
 /// assert_eq!(cube(&FixedMersenne32::<8, 5>::RING, 10), 247); // 1000 modulo 251
 /// assert_eq!(cube(&FixedTrinomialSolinas32::<5, 4, -3>::RING, 10), 12); // 1000 modulo 13
 /// ```
-#[derive(Debug, Clone, Copy)]
+#[derive(Clone, Copy)]
 #[must_use]
 pub struct FoldRing<T, M> {
     pub(crate) word: PhantomData<T>,

@@ -168,7 +168,6 @@ impl TrinomialWord for u64 {
 /// let kept = TrinomialModulus::<u32, Trinomial32<16, 8, 1>>::keep(65281);
 /// assert_eq!(kept.reduced(65536), 255); // 2^8 - 1
 /// ```
-#[derive(Debug)]
 #[must_use]
 pub struct TrinomialModulus<T, F> {
     pub(crate) word: PhantomData<T>,

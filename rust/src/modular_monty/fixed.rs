@@ -12,7 +12,7 @@ struct Computed32<const P: u32> {
 }
 
 /// The odd number P as a modulus for words of 32 bits, known at compile time.
-#[derive(Debug, Clone, Copy)]
+#[derive(Clone, Copy)]
 #[must_use]
 pub struct OddNumber32<const P: u32> {
     // Private, so that a value exists only for an odd P; the numbers come from the parameter.
@@ -105,7 +105,7 @@ struct Computed64<const P: u64> {
 }
 
 /// The odd number P as a modulus for words of 64 bits, known at compile time.
-#[derive(Debug, Clone, Copy)]
+#[derive(Clone, Copy)]
 #[must_use]
 pub struct OddNumber64<const P: u64> {
     // Private, so that a value exists only for an odd P; the numbers come from the parameter.

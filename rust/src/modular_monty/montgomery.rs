@@ -23,7 +23,6 @@ use crate::modular_reduced::reducer::Reducer;
 /// let seven = RING.transform(7);
 /// assert_eq!(RING.residue(RING.pow(seven, &100)), 1);
 /// ```
-#[derive(Debug)]
 #[must_use]
 pub struct Montgomery<T> {
     // The ring modulo k.

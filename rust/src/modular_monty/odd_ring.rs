@@ -209,7 +209,7 @@ fn is_square_of_base<T: PathWord>(m: T, negated_inverse: T, square: T) -> bool {
 /// assert_eq!(cube(&FixedMontgomery32::<101>::RING, 10), 91); // 1000 modulo 101
 /// assert_eq!(cube(&FixedProth32::<5, 3>::RING, 10), 30); // modulo 3 * 2^5 + 1 = 97
 /// ```
-#[derive(Debug, Clone, Copy)]
+#[derive(Clone, Copy)]
 #[must_use]
 pub struct OddRing<T, M> {
     pub(crate) kept: M,

@@ -19,7 +19,7 @@ struct Computed32<const N: u8, const K: u8> {
 }
 
 /// The number K * 2^N + 1 as a modulus for words of 32 bits.
-#[derive(Debug, Clone, Copy)]
+#[derive(Clone, Copy)]
 #[must_use]
 pub struct ProthNumber32<const N: u8, const K: u8> {
     // Private, so that a value exists only for parameters in range; the numbers come from the parameters.
@@ -159,7 +159,7 @@ struct Computed64<const N: u8, const K: u8> {
 }
 
 /// The number K * 2^N + 1 as a modulus for words of 64 bits.
-#[derive(Debug, Clone, Copy)]
+#[derive(Clone, Copy)]
 #[must_use]
 pub struct ProthNumber64<const N: u8, const K: u8> {
     // Private, so that a value exists only for parameters in range; the numbers come from the parameters.

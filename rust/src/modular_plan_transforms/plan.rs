@@ -29,7 +29,6 @@ use crate::modular_word::path_word::PathWord;
 /// plan.inverse(&mut entries);
 /// assert_eq!(entries, [1, 2, 3, 4]);
 /// ```
-#[derive(Debug)]
 #[must_use]
 pub struct Plan<'a, T, F> {
     modulus: PlannedModulus<T>,
