@@ -7,10 +7,15 @@ PARTS_IN_CONSTANTS = IN_CONSTANTS | {"OddRing", "FoldRing", "TrinomialModulus", 
 PARTS_IN_CONSTANTS |= {f"{name}{bits}" for name in ("OddNumber", "ProthNumber", "Mersenne") for bits in (32, 64)}
 # By type: which traits it derives besides (+), and which it doesn't derive, since traits.rs has them (-).
 DERIVED = {
-    **dict.fromkeys(("Code", "ResidueSystem"), "+Debug"),
+    **dict.fromkeys(("Code", "ResidueSystem"), "+Debug +PartialEq +Eq +Hash"),
+    **dict.fromkeys(("Normalized2by1Divisor", "PreMulInv1by1", "Factor"), "+Hash"),
+    **dict.fromkeys(("RingCommand", "RunEnd", "RestoreError", "ShareError", "CorrectError"), "+Hash"),
+    **dict.fromkeys(("PreMulInv2by1", "PlannedModulus"), "-Debug +Hash"),
+    **dict.fromkeys(("PrefixHashes", "Patterns", "System"), "+Clone +Copy"),
+    **dict.fromkeys(("Montgomery", "OddRing", "FoldRing", "TrinomialModulus", "Plan", "Plans"), "-Debug"),
+    "FixedMersenne": "-Debug +PartialEq +Eq +Hash",
     "ReducedInt": "-Debug +Clone +Copy",
-    **dict.fromkeys(("Montgomery", "PreMulInv2by1", "PlannedModulus", "Plan", "Plans", "Ring"), "-Debug"),
-    **dict.fromkeys(("OddRing", "FoldRing", "FixedMersenne", "TrinomialModulus"), "-Debug"),
+    "Ring": "-Debug +Clone",
     **{f"{name}{bits}": "-Debug" for name in ("OddNumber", "ProthNumber", "Mersenne") for bits in (32, 64)},
 }
 BOUNDS = "T : RingWord , R : Reducer < T > + Copy"

@@ -4,7 +4,7 @@
 use crate::applications::lattice_rings::{ml_dsa, ml_kem};
 #[cfg(target_pointer_width = "64")]
 use crate::applications::long_product::Plans;
-use crate::applications::ring_codes::erasure::{CorrectError, RestoreError, ShareError};
+use crate::applications::ring_codes::erasure::{CorrectError, PreparedCode, RestoreError, ShareError};
 use crate::modular_folds::folds::FoldedWord;
 use crate::modular_folds::mersenne::{Mersenne32, Mersenne64};
 use crate::modular_folds::rings::{FoldModulus, FoldRing};
@@ -164,9 +164,9 @@ impl fmt::Debug for ml_kem::Ring {
     }
 }
 
-// Reducers of one type are equal where their moduli are, of which they are made.
+// Reducers of one type are equal where their moduli are, of which they are made; equal ones hash equally.
 macro_rules! equal {
-    ($($ring:ty, [$($parameters:tt)*];)*) => {$(
+    ($($ring:ty, $word:ty, [$($parameters:tt)*];)*) => {$(
         impl<$($parameters)*> PartialEq for $ring {
             fn eq(&self, other: &Self) -> bool {
                 self.modulus() == other.modulus()
@@ -174,14 +174,23 @@ macro_rules! equal {
         }
 
         impl<$($parameters)*> Eq for $ring {}
+
+        impl<$($parameters)*> Hash for $ring
+        where
+            $word: Hash,
+        {
+            fn hash<H: Hasher>(&self, state: &mut H) {
+                self.modulus().hash(state);
+            }
+        }
     )*};
 }
 
 equal! {
-    crate::Vanilla<T>, [T: PlainWord];
-    crate::Montgomery<T>, [T: ReducerWord];
-    OddRing<T, M>, [T: ReducerWord, M: OddModulus<T>];
-    FoldRing<T, M>, [T: FoldedWord + ReducerWord, M: FoldModulus<T>];
+    crate::Vanilla<T>, T, [T: PlainWord];
+    crate::Montgomery<T>, T, [T: ReducerWord];
+    OddRing<T, M>, T, [T: ReducerWord, M: OddModulus<T>];
+    FoldRing<T, M>, T, [T: FoldedWord + ReducerWord, M: FoldModulus<T>];
 }
 
 impl<T: PathWord> PartialEq for PreModInv<T> {
@@ -192,6 +201,40 @@ impl<T: PathWord> PartialEq for PreModInv<T> {
 }
 
 impl<T: PathWord> Eq for PreModInv<T> {}
+
+impl<T: PathWord + Hash> Hash for PreModInv<T> {
+    fn hash<H: Hasher>(&self, state: &mut H) {
+        self.d_inv.hash(state);
+    }
+}
+
+impl<T: PlainWord, F: PlanEntry<T>> PartialEq for Plan<'_, T, F> {
+    /// Whether modulus, root and length are equal, which determine the table.
+    fn eq(&self, other: &Self) -> bool {
+        (self.modulus(), self.root(), self.length()) == (other.modulus(), other.root(), other.length())
+    }
+}
+
+impl<T: PlainWord, F: PlanEntry<T>> Eq for Plan<'_, T, F> {}
+
+// What only borrows is copied whatever it borrows.
+impl<T, R> Clone for PreparedCode<'_, T, R> {
+    fn clone(&self) -> Self {
+        *self
+    }
+}
+
+impl<T, R> Copy for PreparedCode<'_, T, R> {}
+
+#[cfg(target_pointer_width = "64")]
+impl<F: PlanEntry<u64>> Clone for Plans<'_, F> {
+    fn clone(&self) -> Self {
+        *self
+    }
+}
+
+#[cfg(target_pointer_width = "64")]
+impl<F: PlanEntry<u64>> Copy for Plans<'_, F> {}
 
 impl Default for ml_dsa::Ring {
     fn default() -> Self {
@@ -213,6 +256,12 @@ impl fmt::Display for RestoreError {
             RestoreError::PlaceTwice => "a place occurs twice",
             RestoreError::PointsDontFit => "the difference of two points has no inverse",
         })
+    }
+}
+
+impl<T> From<RestoreError> for CorrectError<T> {
+    fn from(fault: RestoreError) -> Self {
+        CorrectError::Restore(fault)
     }
 }
 
@@ -247,9 +296,17 @@ impl std::error::Error for ShareError {}
 #[cfg(feature = "std")]
 impl<T: fmt::Debug + fmt::Display> std::error::Error for CorrectError<T> {}
 
-// Sums and products of any number of integers. The empty ones need a modulus that the type knows.
-macro_rules! sums {
+// Sums and products of any number of integers, and the reducer of its only modulus. The empty ones need a modulus that the
+// type knows.
+macro_rules! fixed {
     ($($integer:ident<$(const $parameter:ident: $kind:ty),*> over $ring:ident;)*) => {$(
+        impl<$(const $parameter: $kind),*> Default for crate::$ring<$($parameter),*> {
+            /// `RING`.
+            fn default() -> Self {
+                Self::RING
+            }
+        }
+
         impl<$(const $parameter: $kind),*> Sum for crate::$integer<$($parameter),*> {
             fn sum<I: Iterator<Item = Self>>(items: I) -> Self {
                 let zero = Self::new(0, &crate::$ring::<$($parameter),*>::fixed_modulus());
@@ -278,7 +335,7 @@ macro_rules! sums {
     )*};
 }
 
-sums! {
+fixed! {
     FixedMontgomeryInt32<const P: u32> over FixedMontgomery32;
     FixedMontgomeryInt64<const P: u64> over FixedMontgomery64;
     FixedProthInt32<const N: u8, const K: u8> over FixedProth32;

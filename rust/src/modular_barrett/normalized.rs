@@ -17,7 +17,7 @@ use crate::modular_word::paths::div_2by1;
 /// let divisor = Normalized2by1Divisor::<u8>::new(200);
 /// assert_eq!(divisor.div_rem_2by1(1234), (6, 34)); // 6 * 200 + 34
 /// ```
-#[derive(Debug, PartialEq, Eq)]
+#[derive(Debug, PartialEq, Eq, Hash)]
 #[must_use]
 pub struct Normalized2by1Divisor<T> {
     pub(crate) divisor: T,

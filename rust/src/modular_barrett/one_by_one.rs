@@ -16,7 +16,7 @@ use crate::modular_word::paths::{div_1by1, ones};
 /// const SIXTY: PreMulInv1by1<u32> = PreMulInv1by1::<u32>::new(60);
 /// assert_eq!(SIXTY.div_rem(3725, 60), (62, 5));
 /// ```
-#[derive(Debug, Clone, Copy, PartialEq, Eq)]
+#[derive(Debug, Clone, Copy, PartialEq, Eq, Hash)]
 #[must_use]
 pub struct PreMulInv1by1<T> {
     pub(crate) multiplier: T,

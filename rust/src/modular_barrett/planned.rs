@@ -21,7 +21,7 @@ use crate::modular_word::paths::div_2by1;
 /// let factor = PlannedModulus::<u8>::new(17).factor(3);
 /// assert_eq!((factor.value(), factor.quotient()), (3, 45)); // 3 * 256 = 45 * 17 + 3
 /// ```
-#[derive(Debug, PartialEq, Eq)]
+#[derive(Debug, PartialEq, Eq, Hash)]
 #[must_use]
 pub struct Factor<T> {
     /// The number w, below the modulus m that the factor was made for.
@@ -72,7 +72,7 @@ impl<T: PathWord> Factor<T> {
 /// ntt_planned(&modulus, &mut entries, &table);
 /// assert_eq!(entries[0], 1 + 2 + 3 + 4);
 /// ```
-#[derive(PartialEq, Eq)]
+#[derive(PartialEq, Eq, Hash)]
 #[must_use]
 pub struct PlannedModulus<T> {
     /// The modulus.

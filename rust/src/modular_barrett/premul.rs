@@ -27,7 +27,7 @@ use crate::modular_word::path_word::PathWord;
 /// let x = ring.transform(123456);
 /// assert_eq!(ring.residue(ring.sqr(x)), 456 * 456 % 1000);
 /// ```
-#[derive(PartialEq, Eq)]
+#[derive(PartialEq, Eq, Hash)]
 #[must_use]
 pub struct PreMulInv2by1<T> {
     pub(crate) divider: Normalized2by1Divisor<T>,

@@ -303,7 +303,7 @@ impl<const P: u8, const K: u64> FoldModulus<u64> for Mersenne64<P, K> {
 /// const RING: FixedMersenne<61, 1> = FixedMersenne::RING;
 /// assert_eq!(RING.mul(&(1 << 60), &6), 3); // 6 * 2^60 = 3 * 2^61
 /// ```
-#[derive(Clone, Copy)]
+#[derive(Clone, Copy, PartialEq, Eq, Hash)]
 #[must_use]
 pub struct FixedMersenne<const P: u8, const K: u64> {
     pub(crate) ring: FixedMersenne64<P, K>,

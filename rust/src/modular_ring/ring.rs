@@ -18,7 +18,7 @@ use crate::modular_word::ring_word::RingWord;
 /// run(&ring, &mut registers, &[RingCommand::Load { dst: 0, n: 1000 }, RingCommand::Sqr { dst: 0, a: 0 }]);
 /// assert_eq!(registers, [27]); // 1000000 modulo 97
 /// ```
-#[derive(Debug, PartialEq, Eq)]
+#[derive(Debug, PartialEq, Eq, Hash)]
 pub enum RingCommand<T> {
     /// Writes n modulo m.
     Load {
@@ -167,7 +167,7 @@ impl<T: RingWord> AsCommand<T> for RingCommand<T> {
 /// assert_eq!(run(&ring, &mut [3], &[inverse]), RunEnd::Done);
 /// assert_eq!(run(&ring, &mut [4], &[inverse]), RunEnd::NoInverse { at: 0 });
 /// ```
-#[derive(Clone, Copy, Debug, PartialEq, Eq)]
+#[derive(Clone, Copy, Debug, PartialEq, Eq, Hash)]
 #[must_use]
 pub enum RunEnd {
     /// Every command was carried out.

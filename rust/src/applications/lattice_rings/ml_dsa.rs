@@ -23,6 +23,7 @@ pub const ZETA: u32 = 1753;
 /// Ring::new().product(&mut xs, &mut ys);
 /// assert_eq!(xs[0], MODULUS - 1); // X^255 * X is -1
 /// ```
+#[derive(Clone)]
 #[must_use]
 pub struct Ring {
     modulus: PlannedModulus<u32>,

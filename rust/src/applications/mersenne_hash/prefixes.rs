@@ -21,7 +21,7 @@ pub use searches::{Patterns, are_pattern_lengths};
 /// assert_eq!(text.substring_hash(7, 11), hash(base, b"abra"));
 /// assert_eq!(text.substring_hash(0, 4), text.substring_hash(7, 11));
 /// ```
-#[derive(Debug)]
+#[derive(Debug, Clone, Copy)]
 #[must_use]
 pub struct PrefixHashes<'a> {
     text: &'a [u8],

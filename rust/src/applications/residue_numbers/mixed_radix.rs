@@ -26,7 +26,7 @@ use core::cmp::Ordering;
 /// system.digits(&[2, 3, 2], &mut digits);
 /// assert_eq!(digits, [2, 2, 1]); // 23 = 2 + 2 * 3 + 1 * 3 * 5
 /// ```
-#[derive(Debug)]
+#[derive(Debug, Clone, Copy)]
 #[must_use]
 pub struct System<'a> {
     moduli: &'a [u64],

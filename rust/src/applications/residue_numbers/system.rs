@@ -21,7 +21,7 @@ use crate::residues::{decode, encode, is_system};
 /// system.mul(&left, &right, &mut product);
 /// assert_eq!(system.decode(&product), 72);
 /// ```
-#[derive(Debug, Clone, Copy)]
+#[derive(Debug, Clone, Copy, PartialEq, Eq, Hash)]
 #[must_use]
 pub struct ResidueSystem<'a> {
     /// The moduli.

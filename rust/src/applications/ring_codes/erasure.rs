@@ -43,7 +43,7 @@ pub use words::restore_word;
 ///
 /// assert_eq!(RestoreError::PlaceTwice.to_string(), "a place occurs twice");
 /// ```
-#[derive(Clone, Copy, Debug, PartialEq, Eq)]
+#[derive(Clone, Copy, Debug, PartialEq, Eq, Hash)]
 pub enum RestoreError {
     /// There are fewer symbols than the message has.
     TooFewSymbols,

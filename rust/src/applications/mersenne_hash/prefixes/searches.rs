@@ -20,7 +20,7 @@ use crate::hashes::{Hash, hash, is_hit};
 /// assert_eq!(text.find_any_from(&patterns, 2), Some((4, 0)));
 /// assert_eq!(text.find_any_from(&patterns, 9), None);
 /// ```
-#[derive(Debug)]
+#[derive(Debug, Clone, Copy)]
 #[must_use]
 pub struct Patterns<'a> {
     base: Hash,

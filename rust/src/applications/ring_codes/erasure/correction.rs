@@ -14,7 +14,7 @@ use crate::{Reducer, RingWord};
 ///
 /// assert_eq!(CorrectError::NoInverse(15u8).to_string(), "15 has no inverse");
 /// ```
-#[derive(Clone, Copy, Debug, PartialEq, Eq)]
+#[derive(Clone, Copy, Debug, PartialEq, Eq, Hash)]
 pub enum CorrectError<T> {
     /// The places or the points don't fit.
     Restore(RestoreError),

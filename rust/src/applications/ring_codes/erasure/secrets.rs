@@ -14,7 +14,7 @@ use crate::{Reducer, RingWord};
 /// let ring = Vanilla::<u8>::new(&97);
 /// assert_eq!(share(&ring, &[0], &[5, 7], &mut [0]), Err(ShareError::PointWithoutInverse));
 /// ```
-#[derive(Clone, Copy, Debug, PartialEq, Eq)]
+#[derive(Clone, Copy, Debug, PartialEq, Eq, Hash)]
 pub enum ShareError {
     /// A point has no inverse modulo m, so that the share there would say something of the secret. At 0 it would be the
     /// secret.

@@ -1,0 +1,88 @@
+//! The traits of core that the types implement, by type.
+
+use num_modular::applications::check_digits::Code;
+use num_modular::applications::lattice_rings::{ml_dsa, ml_kem};
+#[cfg(target_pointer_width = "64")]
+use num_modular::applications::long_product::Plans;
+use num_modular::applications::mersenne_hash::prefixes::{Patterns, PrefixHashes};
+use num_modular::applications::residue_numbers::{mixed_radix::System, ResidueSystem};
+use num_modular::applications::ring_codes::erasure::{CorrectError, PreparedCode, RestoreError, ShareError};
+use num_modular::plans::{Factor, Plan, PlannedModulus};
+use num_modular::ring::{RingCommand, RunEnd};
+use num_modular::{
+    FixedMersenne, FixedMersenne32, FixedMersenne64, FixedMersenneInt64, FixedMontgomery32, FixedMontgomery64, FixedProth32, FixedProth64,
+    FixedTrinomialSolinas32, FixedTrinomialSolinas64, Montgomery, MontgomeryInt, Normalized2by1Divisor, PreModInv, PreMulInv1by1,
+    PreMulInv2by1, Reducer, Vanilla, VanillaInt,
+};
+use std::collections::HashSet;
+use std::fmt::{Debug, Display};
+use std::hash::Hash;
+
+fn borrows<T: Debug + Copy + Send + Sync>() {}
+fn compared<T: Debug + Copy + Eq + Send + Sync>() {}
+fn hashed<T: Debug + Copy + Eq + Hash + Send + Sync>() {}
+fn made<T: Debug + Copy + Eq + Hash + Default>() {}
+fn table<T: Debug + Clone + Default>() {}
+fn error<T: Debug + Display + Copy + Eq + Hash>() {}
+
+macro_rules! are {
+    ($($bounds:ident: $($kind:ty),+;)+) => {
+        #[test]
+        fn traits() {
+            $($($bounds::<$kind>();)+)+
+        }
+    };
+}
+
+are! {
+    hashed: Vanilla<u8>, Montgomery<u64>, PreMulInv2by1<u64>, VanillaInt<u32>, MontgomeryInt<u64>, FixedMersenneInt64<61, 1>;
+    hashed: PreModInv<u64>, PreMulInv1by1<u64>, Normalized2by1Divisor<u64>;
+    made: FixedMontgomery32<97>, FixedMontgomery64<97>, FixedProth32<5, 3>, FixedProth64<5, 3>;
+    made: FixedMersenne32<31, 1>, FixedMersenne64<61, 1>, FixedMersenne<61, 1>;
+    made: FixedTrinomialSolinas32<16, 8, 1>, FixedTrinomialSolinas64<64, 32, 1>;
+    made: Factor<u64>;
+    hashed: PlannedModulus<u64>, RingCommand<u64>, RunEnd, Code<'static>, ResidueSystem<'static>;
+    compared: Plan<'static, u64, Factor<u64>>;
+    borrows: PreparedCode<'static, u64, Vanilla<u64>>, PrefixHashes<'static>, Patterns<'static>, System<'static>;
+    table: ml_dsa::Ring, ml_kem::Ring;
+    error: RestoreError, ShareError, CorrectError<u64>;
+}
+
+#[test]
+#[cfg(target_pointer_width = "64")]
+fn plans_only_borrow() {
+    borrows::<Plans<'static, Factor<u64>>>();
+}
+
+#[test]
+fn equal_reducers_hash_equally() {
+    let all: HashSet<_> = [97, 97, 101].iter().map(|m| Montgomery::<u64>::new(*m)).collect();
+    assert_eq!((all.len(), all.contains(&Montgomery::<u64>::new(101))), (2, true));
+    let all: HashSet<_> = [3u8, 3, 5].iter().map(|d| PreModInv::<u8>::from(*d)).collect();
+    assert_eq!(all.len(), 2);
+}
+
+#[test]
+fn default_reducers() {
+    assert_eq!(FixedMersenne64::<61, 1>::default().modulus(), (1 << 61) - 1);
+    assert_eq!(FixedMersenne::<61, 1>::default(), FixedMersenne::<61, 1>::RING);
+}
+
+#[test]
+fn equal_plans() {
+    let modulus = PlannedModulus::<u64>::new(97);
+    let mut tables = [[Factor::<u64>::ZERO; 2]; 3];
+    let [first, second, third] = &mut tables;
+    let plan = Plan::new(&modulus, 22, first).unwrap();
+    assert_eq!(plan, Plan::new(&modulus, 22, second).unwrap());
+    assert_ne!(plan, Plan::new(&modulus, 75, third).unwrap());
+}
+
+#[test]
+fn errors_of_places_are_errors_of_corrections() {
+    fn refuse() -> Result<(), CorrectError<u64>> {
+        Err(RestoreError::PlaceTwice)?;
+        Ok(())
+    }
+    assert_eq!(refuse(), Err(CorrectError::Restore(RestoreError::PlaceTwice)));
+}
