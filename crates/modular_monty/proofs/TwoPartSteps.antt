@@ -15,18 +15,19 @@ use Rattle.modular_word.proofs.ResidueLemmas.{difference_and}
 use Rattle.modular_reduced.specs.Forms.{IsForm}
 use Rattle.modular_reduced.proofs.FormLemmas.{Answered, ValueAnswered, answered, value_answered, form_of_value}
 use Rattle.modular_monty.specs.Montgomery.{montgomery_form, montgomery_value}
-use Rattle.modular_monty.specs.Split.{split_form, split_value, IsSplitRing}
+use Rattle.modular_monty.specs.TwoParts.{two_part_form, two_part_value, IsTwoPartRing}
 use Rattle.modular_monty.specs.MontgomeryLaws.{positive, value_of_form}
-use Rattle.modular_monty.specs.SplitLaws.{form_is, modulus_positive, form_less, within, negated_inverse, split_canonical}
+use Rattle.modular_monty.specs.TwoPartLaws.{form_is, modulus_positive, form_less, within, negated_inverse}
+use Rattle.modular_monty.specs.TwoPartLaws.{two_part_canonical}
 use Rattle.modular_monty.proofs.MontgomerySteps as odd
 
 -- the clauses of a call that returns f, which represents the value v modulo m
 abbrev pub Made : ℕ → ℕ → ℕ → ℕ → Type 0
-Made w m f v = Answered (split_form w) (split_value w) m f v
+Made w m f v = Answered (two_part_form w) (two_part_value w) m f v
 
 -- f is a checked form modulo m
 abbrev pub Checked : ℕ → ℕ → ℕ → Type 0
-Checked w m f = IsForm (split_form w) (split_value w) m f
+Checked w m f = IsForm (two_part_form w) (two_part_value w) m f
 
 -- for an odd modulus a form is its high part, and no bits are low
 pub all_high : (s f : ℕ) → s ≡ 0 → f ≡ f / 2 ^ s
@@ -35,8 +36,8 @@ all_high s f e = sym (ap (λ n. f / 2 ^ n) e ∙ div-one f)
 pub none_low : (s x y : ℕ) → s ≡ 0 → x % 2 ^ s ≡ y % 2 ^ s
 none_low s x y e = ap (λ n. x % 2 ^ n) e ∙ mod-one x ∙ sym (ap (λ n. y % 2 ^ n) e ∙ mod-one y)
 
-pub joined_none : (s u l : ℕ) → s ≡ 0 → u ≡ u * 2 ^ s + l % 2 ^ s
-joined_none s u l e = sym (ap (λ n. u * 2 ^ n + l % 2 ^ n) e ∙ omega (arith, mod-one l))
+pub one_part : (s u l : ℕ) → s ≡ 0 → u ≡ u * 2 ^ s + l % 2 ^ s
+one_part s u l e = sym (ap (λ n. u * 2 ^ n + l % 2 ^ n) e ∙ omega (arith, mod-one l))
 
 -- the parts of a form f of the value v
 pub record HasParts (w m s k f v : ℕ) : Type 0 where
@@ -44,7 +45,7 @@ pub record HasParts (w m s k f v : ℕ) : Type 0 where
   pub low : f % 2 ^ s ≡ v % 2 ^ s
   pub below : f < m
 
-module _ {w b m s k i square : ℕ} (r : IsSplitRing w b m s k i square) where
+module _ {w b m s k i square : ℕ} (r : IsTwoPartRing w b m s k i square) where
   -- what is congruent modulo m is so modulo its two parts
   by_parts : (x y : ℕ) → x % m ≡ y % m → (x % k ≡ y % k) × (x % 2 ^ s ≡ y % 2 ^ s)
   by_parts x y e =
@@ -61,14 +62,14 @@ module _ {w b m s k i square : ℕ} (r : IsSplitRing w b m s k i square) where
       let parts = by_parts (x % m) x (mod-mod x m) in
       let eu : u ≡ montgomery_form w k (x % m) =
       high.same ∙ same_product k v (x % m) (2 ^ w) (2 ^ w) (odd.same_residue x k ev ∙ sym parts.0) refl in
-      answered (split_canonical r) (record {
+      answered (two_part_canonical r) (record {
         below = mod-lt x (modulus_positive r);
         same = ef ∙ ap₂ (λ n o. n * 2 ^ s + o) eu (el ∙ sym parts.1) ∙ sym (form_is r (x % m));
       })
 
-  pub parts : {f : ℕ} → Checked w m f → HasParts w m s k f (split_value w m f)
+  pub parts : {f : ℕ} → Checked w m f → HasParts w m s k f (two_part_value w m f)
   parts {f} is =
-      let v = split_value w m f in
+      let v = two_part_value w m f in
       let u = montgomery_form w k v in
       let e : f ≡ u * 2 ^ s + v % 2 ^ s = is.same ∙ form_is r v in
       let below = mod-lt v (pow_pos s) in
@@ -86,11 +87,11 @@ module _ {w b m s k i square : ℕ} (r : IsSplitRing w b m s k i square) where
   pub high_checked : {f y : ℕ} → Checked w m f → y ≡ f / 2 ^ s → odd.Checked w k y
   high_checked {f} {y} is ey =
       let high = (parts is).high in
-      let below : f / 2 ^ s < k = omega (arith, high.same, mod-lt (split_value w m f % k * 2 ^ w) (positive r.odd)) in
+      let below : f / 2 ^ s < k = omega (arith, high.same, mod-lt (two_part_value w m f % k * 2 ^ w) (positive r.odd)) in
       odd.below_is_form r.odd y (omega (arith, below))
 
   -- and of its value
-  high_value : {f y : ℕ} → Checked w m f → y ≡ f / 2 ^ s → montgomery_value w k y ≡ split_value w m f % k
+  high_value : {f y : ℕ} → Checked w m f → y ≡ f / 2 ^ s → montgomery_value w k y ≡ two_part_value w m f % k
   high_value is ey = ap (montgomery_value w k) ey ∙ value_of_form r.odd (parts is).high
 
   -- the words that wrap at the base are right modulo the power of two
@@ -102,10 +103,10 @@ module _ {w b m s k i square : ℕ} (r : IsSplitRing w b m s k i square) where
       → {f g y z u t h : ℕ}
       → Checked w m f → Checked w m g → y ≡ f / 2 ^ s → z ≡ g / 2 ^ s
       → odd.Stands w k u (op (montgomery_value w k y) (montgomery_value w k z) % k)
-      → t ≡ op f g % b → h ≡ u * 2 ^ s + t % 2 ^ s → Made w m h (op (split_value w m f) (split_value w m g) % m)
+      → t ≡ op f g % b → h ≡ u * 2 ^ s + t % 2 ^ s → Made w m h (op (two_part_value w m f) (two_part_value w m g) % m)
   operation_made op same {f} {g} {y} {z} {u} {t} isf isg ey ez eu et eh =
-      let v = split_value w m f in
-      let x = split_value w m g in
+      let v = two_part_value w m f in
+      let x = two_part_value w m g in
       made (op v x) t eu
       (same k (montgomery_value w k y) v (montgomery_value w k z) x (odd.same_residue v k (high_value isf ey))
       (odd.same_residue x k (high_value isg ez)))
@@ -116,24 +117,24 @@ module _ {w b m s k i square : ℕ} (r : IsSplitRing w b m s k i square) where
       → ((i : ℕ) → i < n → Checked w m (x i)) → ((i : ℕ) → i < n → Checked w m (y i))
       → odd.Stands w k h ((montgomery_value w k f
       + sum_below n (λ i. montgomery_value w k (x i) * montgomery_value w k (y i))) % k)
-      → Made w m h ((split_value w m f + sum_below n (λ i. split_value w m (x i) * split_value w m (y i))) % m)
+      → Made w m h ((two_part_value w m f + sum_below n (λ i. two_part_value w m (x i) * two_part_value w m (y i))) % m)
   odd_products_made none {f} {h} n x y isf isx isy is =
-      let u = montgomery_value w k in let v = split_value w m in
+      let u = montgomery_value w k in let v = two_part_value w m in
       let same : (g : ℕ) → Checked w m g → Congruent k (u g) (v g) =
       λ g isg. mod_trans (mod_of_eq (high_value isg (all_high s g none))) (residue_of (v g)) in
       let sum : Congruent k (u f + sum_below n (λ i. u (x i) * u (y i))) (v f + sum_below n (λ i. v (x i) * v (y i))) =
       mod_add (same f isf)
       (sum_below-congruent n (λ i. u (x i) * u (y i)) (λ i. v (x i) * v (y i))
       (λ i l. mod_mul (same (x i) (isx i l)) (same (y i) (isy i l)))) in
-      made (v f + sum_below n (λ i. v (x i) * v (y i))) 0 is sum.same (none_low s 0 _ none) (joined_none s h 0 none)
+      made (v f + sum_below n (λ i. v (x i) * v (y i))) 0 is sum.same (none_low s 0 _ none) (one_part s h 0 none)
 
   -- the difference of the high parts is the high part of the difference
   high_difference : {f g y z : ℕ} → Checked w m f → Checked w m g → y ≡ f / 2 ^ s → z ≡ g / 2 ^ s
       → residue k (pos (montgomery_value w k y) -ℤ pos (montgomery_value w k z))
-      ≡ residue m (pos (split_value w m f) -ℤ pos (split_value w m g)) % k
+      ≡ residue m (pos (two_part_value w m f) -ℤ pos (two_part_value w m g)) % k
   high_difference {f} {g} {y} {z} isf isg ey ez =
-      let v = split_value w m f in
-      let x = split_value w m g in
+      let v = two_part_value w m f in
+      let x = two_part_value w m g in
       let vy = montgomery_value w k y in
       let vz = montgomery_value w k z in
       let some = positive r.odd in
@@ -149,10 +150,10 @@ module _ {w b m s k i square : ℕ} (r : IsSplitRing w b m s k i square) where
   pub difference_made : (t : ℕ) {f g y z u h : ℕ} → Checked w m f → Checked w m g → y ≡ f / 2 ^ s → z ≡ g / 2 ^ s
       → odd.Stands w k u (residue k (pos (montgomery_value w k y) -ℤ pos (montgomery_value w k z)))
       → (t + g) % 2 ^ s ≡ f % 2 ^ s → h ≡ u * 2 ^ s + t % 2 ^ s
-      → Made w m h (residue m (pos (split_value w m f) -ℤ pos (split_value w m g)))
+      → Made w m h (residue m (pos (two_part_value w m f) -ℤ pos (two_part_value w m g)))
   difference_made t {f} {g} {y} {z} {u} {h} isf isg ey ez eu et eh =
-      let v = split_value w m f in
-      let x = split_value w m g in
+      let v = two_part_value w m f in
+      let x = two_part_value w m g in
       let d = residue m (pos v -ℤ pos x) in
       let less = odd.difference_below m v x (modulus_positive r) in
       let back = by_parts (d + x) v (difference_and m v x (modulus_positive r)) in
@@ -167,15 +168,15 @@ module _ {w b m s k i square : ℕ} (r : IsSplitRing w b m s k i square) where
       → odd.Stands w k u ((residue k (pos (montgomery_value w k y) -ℤ pos (montgomery_value w k z))
       * montgomery_value w k a) % k)
       → t % 2 ^ s
-      ≡ (residue m (pos (split_value w m f) -ℤ pos (split_value w m g)) * split_value w m e) % 2 ^ s
+      ≡ (residue m (pos (two_part_value w m f) -ℤ pos (two_part_value w m g)) * two_part_value w m e) % 2 ^ s
       → h ≡ u * 2 ^ s + t % 2 ^ s
-      → Made w m h ((residue m (pos (split_value w m f) -ℤ pos (split_value w m g)) * split_value w m e) % m)
+      → Made w m h ((residue m (pos (two_part_value w m f) -ℤ pos (two_part_value w m g)) * two_part_value w m e) % m)
   difference_product_made t {f} {g} {e} {y} {z} {a} isf isg ise ey ez ea eu et eh =
-      let d = residue m (pos (split_value w m f) -ℤ pos (split_value w m g)) in
+      let d = residue m (pos (two_part_value w m f) -ℤ pos (two_part_value w m g)) in
       let c = residue k (pos (montgomery_value w k y) -ℤ pos (montgomery_value w k z)) in
-      made (d * split_value w m e) t eu
-      (same_product k c d (montgomery_value w k a) (split_value w m e)
-      (odd.same_residue d k (high_difference isf isg ey ez)) (odd.same_residue (split_value w m e) k (high_value ise ea)))
+      made (d * two_part_value w m e) t eu
+      (same_product k c d (montgomery_value w k a) (two_part_value w m e)
+      (odd.same_residue d k (high_difference isf isg ey ez)) (odd.same_residue (two_part_value w m e) k (high_value ise ea)))
       et eh
 
   -- a number below the odd part, and fewer than 2^s times the odd part, are below the modulus
@@ -195,7 +196,7 @@ module _ {w b m s k i square : ℕ} (r : IsSplitRing w b m s k i square) where
   -- the value of a form, u being its value modulo the odd part
   pub value_made : (d : ℕ) {f y u steps v : ℕ} → y ≡ f / 2 ^ s → odd.Stands w k y u
       → (d + f) % b ≡ u → steps ≡ (d * i) % 2 ^ s
-      → v ≡ u + k * steps → ValueAnswered (split_form w) (split_value w) m f v
+      → v ≡ u + k * steps → ValueAnswered (two_part_form w) (two_part_value w) m f v
   value_made d {f} {y} {u} {steps} {v} ey of ed es ev =
       let q = 2 ^ s in
       let high : f / q ≡ montgomery_form w k v =
@@ -212,7 +213,7 @@ module _ {w b m s k i square : ℕ} (r : IsSplitRing w b m s k i square) where
       ∙ ap (λ n. n % q) (let e : d + f + k * steps ≡ f + (k * steps + d) = omega arith in e)
       ∙ same_sum q f f (k * steps + d) 0 refl turns ∙ ap (λ n. n % q) (let e : f + 0 ≡ f = omega arith in e) in
       let whole : f / q * q + f % q ≡ f = let e : q * (f / q) + f % q ≡ f = div-add-mod f q in omega arith in
-      value_answered (split_canonical r) (record {
+      value_answered (two_part_canonical r) (record {
         below = omega (arith, ev, turns_below (d * i) of.below es);
         same = sym whole ∙ ap₂ (λ n o. n * q + o) high (sym low) ∙ sym (form_is r v);
       })
@@ -227,53 +228,53 @@ module _ {w b m s k i square : ℕ} (r : IsSplitRing w b m s k i square) where
       let ed : (d + f) % b ≡ u =
       ap (λ n. n % b) (let e : d + f ≡ u + b = omega (arith, r.fits) in e) ∙ add-mod_right u b
       ∙ mod-eq_of_lt (let l : u < b = omega (arith, of.below, r.odd.fits) in l) in
-      form_of_value (split_canonical r)
+      form_of_value (two_part_canonical r)
       (value_made d refl (record { below = of.below; same = of.same }) ed refl refl).form
 
   -- 0 is the form of 0
-  zero_value : split_value w m 0 ≡ 0
+  zero_value : two_part_value w m 0 ≡ 0
   zero_value =
       (made 0 0 (odd.zero_made r.odd refl).form refl refl (omega (arith, mod-eq_of_lt (pow_pos s)))).value
       ∙ mod-eq_of_lt (modulus_positive r)
 
   -- and of no other value
-  pub zero_iff : {f : ℕ} → Checked w m f → (f ≡ 0) ↔ (split_value w m f ≡ 0)
+  pub zero_iff : {f : ℕ} → Checked w m f → (f ≡ 0) ↔ (two_part_value w m f ≡ 0)
   zero_iff is = (
-    λ z. ap (split_value w m) z ∙ zero_value,
-    λ e. is.same ∙ ap (split_form w m) (e ∙ sym zero_value) ∙ sym (below_is_form 0 (modulus_positive r)).same,
+    λ z. ap (two_part_value w m) z ∙ zero_value,
+    λ e. is.same ∙ ap (two_part_form w m) (e ∙ sym zero_value) ∙ sym (below_is_form 0 (modulus_positive r)).same,
   )
 
   -- the sum of a form and itself is the form of the double
-  pub double_made : (f : ℕ) {h : ℕ} → Made w m h ((split_value w m f + split_value w m f) % m)
-      → Made w m h ((2 * split_value w m f) % m)
+  pub double_made : (f : ℕ) {h : ℕ} → Made w m h ((two_part_value w m f + two_part_value w m f) % m)
+      → Made w m h ((2 * two_part_value w m f) % m)
   double_made f {h} =
-      let twice : split_value w m f + split_value w m f ≡ 2 * split_value w m f = omega arith in
+      let twice : two_part_value w m f + two_part_value w m f ≡ 2 * two_part_value w m f = omega arith in
       subst (λ n. Made w m h (n % m)) twice
 
   -- the difference of 0 and a form is the form of the negative
   pub negative_made : (f : ℕ) {z h : ℕ} → z ≡ 0
-      → Made w m h (residue m (pos (split_value w m z) -ℤ pos (split_value w m f)))
-      → Made w m h (residue m (neg_ℤ (pos (split_value w m f))))
+      → Made w m h (residue m (pos (two_part_value w m z) -ℤ pos (two_part_value w m f)))
+      → Made w m h (residue m (neg_ℤ (pos (two_part_value w m f))))
   negative_made f {z} {h} e =
-      let v = split_value w m f in
+      let v = two_part_value w m f in
       let minus : pos 0 -ℤ pos v ≡ neg_ℤ (pos v) = omega (arith, ints) in
       subst (Made w m h)
-      (ap (λ n. residue m (pos n -ℤ pos v)) (ap (split_value w m) e ∙ zero_value) ∙ ap (residue m) minus)
+      (ap (λ n. residue m (pos n -ℤ pos v)) (ap (two_part_value w m) e ∙ zero_value) ∙ ap (residue m) minus)
 
   -- for an odd modulus, what stands for the double modulo the odd part is the form of the double
   pub odd_double_made : s ≡ 0 → {f h : ℕ} → Checked w m f
-      → odd.Stands w k h ((2 * montgomery_value w k f) % k) → Made w m h ((2 * split_value w m f) % m)
+      → odd.Stands w k h ((2 * montgomery_value w k f) % k) → Made w m h ((2 * two_part_value w m f) % m)
   odd_double_made e {f} {h} is of =
       let v = montgomery_value w k f in
       let twice : 2 * v ≡ v + v = omega arith in
       double_made f
       (operation_made (λ x y. x + y) same_sum is is (all_high s f e) (all_high s f e)
-      (subst (λ n. odd.Stands w k h (n % k)) twice of) refl (joined_none s h _ e))
+      (subst (λ n. odd.Stands w k h (n % k)) twice of) refl (one_part s h _ e))
 
   -- and so for the negative
   pub odd_negative_made : s ≡ 0 → {f h : ℕ} → Checked w m f
       → odd.Stands w k h (residue k (neg_ℤ (pos (montgomery_value w k f))))
-      → Made w m h (residue m (neg_ℤ (pos (split_value w m f))))
+      → Made w m h (residue m (neg_ℤ (pos (two_part_value w m f))))
   odd_negative_made e {f} {h} is of =
       let v = montgomery_value w k f in
       let minus : neg_ℤ (pos v) ≡ pos 0 -ℤ pos v = omega (arith, ints) in
@@ -281,13 +282,13 @@ module _ {w b m s k i square : ℕ} (r : IsSplitRing w b m s k i square) where
       ap (residue k) minus ∙ ap (λ n. residue k (pos n -ℤ pos v)) (sym (odd.zero_value r.odd)) in
       negative_made f refl
       (difference_made 0 (below_is_form 0 (modulus_positive r)) is (all_high s 0 e) (all_high s f e)
-      (subst (odd.Stands w k h) less of) (none_low s _ _ e) (joined_none s h 0 e))
+      (subst (odd.Stands w k h) less of) (none_low s _ _ e) (one_part s h 0 e))
 
   -- for an odd modulus, what is its value modulo the odd part is its value
-  pub odd_value_made : s ≡ 0 → {f u : ℕ} → odd.Stands w k f u → ValueAnswered (split_form w) (split_value w) m f u
+  pub odd_value_made : s ≡ 0 → {f u : ℕ} → odd.Stands w k f u → ValueAnswered (two_part_form w) (two_part_value w) m f u
   odd_value_made e {f} {u} of =
       let one : k * 2 ^ s ≡ k * 1 = ap (λ n. k * 2 ^ n) e in
       let below : u < m = omega (arith, of.below, r.whole) in
-      let done = made u 0 of (sym (mod-eq_of_lt of.below)) (none_low s 0 u e) (joined_none s f 0 e) in
-      value_answered (split_canonical r)
-      (record { below = below; same = done.form.same ∙ ap (split_form w m) (mod-eq_of_lt below) })
+      let done = made u 0 of (sym (mod-eq_of_lt of.below)) (none_low s 0 u e) (one_part s f 0 e) in
+      value_answered (two_part_canonical r)
+      (record { below = below; same = done.form.same ∙ ap (two_part_form w m) (mod-eq_of_lt below) })

@@ -1,8 +1,8 @@
 pub mod Montgomery
 pub mod MontgomeryLaws
 pub mod Proth
-pub mod Split
-pub mod SplitLaws
+pub mod TwoPartLaws
+pub mod TwoParts
 pub mod Values
 pub use Rattle.modular_reduced.specs.Forms
 pub use Rattle.modular_word.specs.Division

@@ -3,8 +3,9 @@
 ghost use Rattle.std.specs.Prelude.{◌≡◌, ℕ, ◌+◌, ◌*◌, ◌/◌, ◌%◌, ◌^◌, ◌<◌, ◌≤◌, ⊤, MatchOption};
 ghost use Rattle.modular_reduced.specs.Forms.{IsForm};
 ghost use Rattle.modular_monty.specs.Montgomery.{montgomery_form, montgomery_value};
-ghost use Rattle.modular_monty.specs.Split.{split_form, split_value, two_part, odd_part, IsComputedOnce, IsSplitRing};
-ghost use Rattle.modular_monty.specs.SplitLaws.{modulus_positive, split_canonical};
+ghost use Rattle.modular_monty.specs.TwoParts.{two_part_form, two_part_value, even_part, odd_part};
+ghost use Rattle.modular_monty.specs.TwoParts.{IsComputedOnce, IsTwoPartRing};
+ghost use Rattle.modular_monty.specs.TwoPartLaws.{modulus_positive, two_part_canonical};
 
 use crate::odd_ring::{OddModulus, OddRing, StoredModulus};
 use modular_prim::below::sum_by_carry;
@@ -38,7 +39,7 @@ pub struct Montgomery<T: ReducerWord> {
     odd: OddRing<T, StoredModulus<T>>,
     // The exponent s.
     twos: u32,
-    ghost ring: { IsSplitRing T.width T.base (T.number odd.kept.modulus * 2 ^ twos) twos (T.number odd.kept.modulus)
+    ghost ring: { IsTwoPartRing T.width T.base (T.number odd.kept.modulus * 2 ^ twos) twos (T.number odd.kept.modulus)
         (T.number odd.kept.negated_inverse) (T.number odd.kept.square) },
 }
 
@@ -126,7 +127,7 @@ impl<T: ReducerWord> Montgomery<T> {
 
     // The part of a form above the lowest s bits.
     fn high(&self, f: T) -> T
-        requires { IsForm (split_form T.width) (split_value T.width)
+        requires { IsForm (two_part_form T.width) (two_part_value T.width)
             (T.number self.now.odd.kept.modulus * 2 ^ self.now.twos) (T.number f) }
         ensures value { T.number result ≡ T.number f / 2 ^ self.now.twos }
         ensures form { IsForm (montgomery_form T.width) (montgomery_value T.width)
@@ -136,7 +137,7 @@ impl<T: ReducerWord> Montgomery<T> {
     }
 
     // The form with `high` above the lowest s bits, and the lowest s bits of `low` in them.
-    fn join(&self, high: T, low: T) -> T
+    fn form_of_parts(&self, high: T, low: T) -> T
         requires { T.number high < T.number self.now.odd.kept.modulus }
         ensures { T.number result ≡ T.number high * 2 ^ self.now.twos + T.number low % 2 ^ self.now.twos }
     {
@@ -148,15 +149,15 @@ impl<T: ReducerWord> Montgomery<T> {
 impl<T: ReducerWord> Reducer<T> for Montgomery<T> {
     ghost admits = { λ m. 1 ≤ m };
 
-    ghost form = { split_form T.width };
+    ghost form = { two_part_form T.width };
 
-    ghost value = { split_value T.width };
+    ghost value = { two_part_value T.width };
 
     ghost modulus = { λ r. T.number r.odd.kept.modulus * 2 ^ r.twos };
 
     ghost admitted = { λ r. modulus_positive r.ring };
 
-    ghost canonical = { λ r. split_canonical r.ring };
+    ghost canonical = { λ r. two_part_canonical r.ring };
 
     fn new(m: &T) -> Self {
         Montgomery::new(*m)
@@ -167,7 +168,7 @@ impl<T: ReducerWord> Reducer<T> for Montgomery<T> {
         if self.twos == 0 {
             return high;
         }
-        self.join(high, n)
+        self.form_of_parts(high, n)
     }
 
     fn check(&self, f: &T) -> bool {
@@ -200,7 +201,7 @@ impl<T: ReducerWord> Reducer<T> for Montgomery<T> {
             return sum_by_carry(*a, *b, self.odd.kept.modulus);
         }
         let high = self.odd.add(&self.high(*a), &self.high(*b));
-        self.join(high, a.wrapping_add(*b))
+        self.form_of_parts(high, a.wrapping_add(*b))
     }
 
     fn dbl(&self, f: T) -> T {
@@ -215,7 +216,7 @@ impl<T: ReducerWord> Reducer<T> for Montgomery<T> {
             return self.odd.sub(a, b);
         }
         let high = self.odd.sub(&self.high(*a), &self.high(*b));
-        self.join(high, a.wrapping_sub(*b))
+        self.form_of_parts(high, a.wrapping_sub(*b))
     }
 
     fn neg(&self, f: T) -> T {
@@ -244,7 +245,7 @@ impl<T: ReducerWord> Reducer<T> for Montgomery<T> {
             return self.odd.mul(a, b);
         }
         let high = self.odd.mul(&self.high(*a), &self.high(*b));
-        self.join(high, a.wrapping_mul(*b))
+        self.form_of_parts(high, a.wrapping_mul(*b))
     }
 
     fn mul_difference(&self, a: &T, b: &T, factor: &T) -> T {
@@ -282,7 +283,7 @@ impl<T: ReducerWord> Reducer<T> for Montgomery<T> {
 /// The two parts of a modulus are an odd number and a power of two. For an odd modulus the form of a value is the
 /// value times the base, modulo m.
 pub fn form_laws<T: RingWord>()
-    ensures whole { (m : ℕ) → 1 ≤ m → m < 2 ^ T.width → odd_part T.width m * two_part T.width m ≡ m }
+    ensures whole { (m : ℕ) → 1 ≤ m → m < 2 ^ T.width → odd_part T.width m * even_part T.width m ≡ m }
     ensures odd { (m : ℕ) → 1 ≤ m → m < 2 ^ T.width → odd_part T.width m % 2 ≡ 1 }
-    ensures form { (m v : ℕ) → m % 2 ≡ 1 → split_form T.width m v ≡ (v * 2 ^ T.width) % m }
+    ensures form { (m v : ℕ) → m % 2 ≡ 1 → two_part_form T.width m v ≡ (v * 2 ^ T.width) % m }
 {}

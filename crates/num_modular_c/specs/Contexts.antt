@@ -3,7 +3,7 @@ use Rattle.std.specs.Prelude.{◌≡◌, ℕ, ◌*◌, ◌^◌}
 use Rattle.std.specs.Int.Count.{count_leading_zeros}
 use Rattle.num_modular.specs.Forms.{IsForm}
 use Rattle.num_modular.specs.Reciprocals.{IsReciprocal}
-use Rattle.num_modular.specs.Split.{IsComputedOnce, split_form, split_value}
+use Rattle.num_modular.specs.TwoParts.{IsComputedOnce, two_part_form, two_part_value}
 use Rattle.num_modular_c.specs.declared.dividers.NmDivider.{NmDivider}
 use Rattle.num_modular_c.specs.declared.montgomery.NmMontgomery.{NmMontgomery}
 
@@ -18,11 +18,11 @@ IsMontgomery context = IsComputedOnce 64 (2 ^ 64) context.modulus context.negate
 
 -- f is a form modulo m
 abbrev pub IsMontgomeryForm : ℕ → ℕ → Type 0
-IsMontgomeryForm m f = IsForm (split_form 64) (split_value 64) m f
+IsMontgomeryForm m f = IsForm (two_part_form 64) (two_part_value 64) m f
 
 -- the value of the form f modulo m
 abbrev pub value_of : ℕ → ℕ → ℕ
-value_of m f = split_value 64 m f
+value_of m f = two_part_value 64 m f
 
 -- f is the form of v modulo m
 abbrev pub IsMontgomeryFormOf : ℕ → ℕ → ℕ → Type 0

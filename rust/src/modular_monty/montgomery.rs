@@ -116,7 +116,7 @@ impl<T: ReducerWord> Montgomery<T> {
 
     // The form with `high` above the lowest s bits, and the lowest s bits of `low` in them.
     #[inline]
-    fn join(&self, high: T, low: T) -> T {
+    fn form_of_parts(&self, high: T, low: T) -> T {
         high.shift_left(self.twos).plus(low.low_bits(self.twos))
     }
 }
@@ -135,7 +135,7 @@ impl<T: ReducerWord> Reducer<T> for Montgomery<T> {
         if self.twos == 0 {
             return high;
         }
-        self.join(high, n)
+        self.form_of_parts(high, n)
     }
 
     #[inline]
@@ -171,7 +171,7 @@ impl<T: ReducerWord> Reducer<T> for Montgomery<T> {
             return sum_by_carry(*a, *b, self.odd.kept.modulus);
         }
         let high = self.odd.add(&self.high(*a), &self.high(*b));
-        self.join(high, a.wrapping_add(*b))
+        self.form_of_parts(high, a.wrapping_add(*b))
     }
 
     #[inline]
@@ -187,7 +187,7 @@ impl<T: ReducerWord> Reducer<T> for Montgomery<T> {
             return self.odd.sub(a, b);
         }
         let high = self.odd.sub(&self.high(*a), &self.high(*b));
-        self.join(high, a.wrapping_sub(*b))
+        self.form_of_parts(high, a.wrapping_sub(*b))
     }
 
     #[inline]
@@ -223,7 +223,7 @@ impl<T: ReducerWord> Reducer<T> for Montgomery<T> {
             return self.odd.mul(a, b);
         }
         let high = self.odd.mul(&self.high(*a), &self.high(*b));
-        self.join(high, a.wrapping_mul(*b))
+        self.form_of_parts(high, a.wrapping_mul(*b))
     }
 
     #[inline]

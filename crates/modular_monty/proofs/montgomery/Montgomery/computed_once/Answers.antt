@@ -1,4 +1,4 @@
-use Rattle.modular_monty.specs.SplitLaws.{odd_part_is}
+use Rattle.modular_monty.specs.TwoPartLaws.{odd_part_is}
 use Rattle.modular_monty.proofs.montgomery.Montgomery.computed_once.Goals as goal
 
 pub returns : goal.returns

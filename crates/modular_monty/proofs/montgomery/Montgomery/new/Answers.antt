@@ -1,29 +1,29 @@
 -- What is kept of m: its odd part, an odd number, and the exponent of the power of two.
 use Rattle.std.proofs.Common.{◌*◌, ◌^◌, ap, ◌∙◌}
-use Rattle.modular_monty.proofs.Twos.{IsSplit, split_of, split_ring}
+use Rattle.modular_monty.proofs.Twos.{IsParted, parted_of, two_part_ring}
 use Rattle.modular_monty.proofs.montgomery.Montgomery.new.Goals as goal
 use Rattle.modular_monty.proofs.montgomery.Montgomery.new.Goals.{After-shift_right}
 
-split : (g : _) (c : After-shift_right g)
-    → IsSplit g.T.RingWord.width (g.T.RingWord.number c.args.m) c.trailing_zeros-twos.result
+parted : (g : _) (c : After-shift_right g)
+    → IsParted g.T.RingWord.width (g.T.RingWord.number c.args.m) c.trailing_zeros-twos.result
     (g.T.RingWord.number c.shift_right.result)
-split g c =
-    split_of _ _ _ _ _ g.met.T.PathWord.base_is c.requires c.trailing_zeros-twos.ensures.fits
+parted g c =
+    parted_of _ _ _ _ _ g.met.T.PathWord.base_is c.requires c.trailing_zeros-twos.ensures.fits
     c.trailing_zeros-twos.ensures.value
     c.shift_right.ensures.value
 
 pub new-requires : goal.new-requires
-new-requires g c = (split g (goal.at.new-requires g c).After-shift_right).odd
+new-requires g c = (parted g (goal.at.new-requires g c).After-shift_right).odd
 
 pub invariant_of-result : goal.invariant_of-result
 invariant_of-result g c =
     let twos = c.trailing_zeros-twos.ensures in
     record {
-      ring = split_ring c.new.result.kept.ring (split g (goal.at.invariant_of-result g c).After-shift_right)
+      ring = two_part_ring c.new.result.kept.ring (parted g (goal.at.invariant_of-result g c).After-shift_right)
           twos.fits twos.value c.new.ensures;
     }
 
 pub returns : goal.returns
 returns g c =
     ap (λ k. k * 2 ^ c.trailing_zeros-twos.result) c.new.ensures
-    ∙ (split g (goal.at.returns g c).After-shift_right).whole
+    ∙ (parted g (goal.at.returns g c).After-shift_right).whole

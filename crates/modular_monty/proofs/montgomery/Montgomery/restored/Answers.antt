@@ -1,15 +1,15 @@
 use Rattle.std.proofs.Common.{◌≡◌, ◌*◌, ◌/◌, ◌^◌, ◌<◌, sym, ap, ◌∙◌, rules}
-use Rattle.modular_monty.specs.Split.{odd_part}
-use Rattle.modular_monty.proofs.Twos.{IsSplit, split_of, split_ring}
+use Rattle.modular_monty.specs.TwoParts.{odd_part}
+use Rattle.modular_monty.proofs.Twos.{IsParted, parted_of, two_part_ring}
 use Rattle.modular_monty.proofs.montgomery.Montgomery.restored.Goals as goal
 use Rattle.modular_monty.proofs.montgomery.Montgomery.restored.Goals.{After-shift_right, After-over}
 
-split : (g : _) (c : After-shift_right g)
-    → IsSplit g.T.RingWord.width (g.T.RingWord.number c.args.m) c.trailing_zeros-twos.result
+parted : (g : _) (c : After-shift_right g)
+    → IsParted g.T.RingWord.width (g.T.RingWord.number c.args.m) c.trailing_zeros-twos.result
     (g.T.RingWord.number c.shift_right.result)
-split g c =
+parted g c =
     let some : 0 < g.T.RingWord.number c.args.m = search rules in
-    split_of _ _ _ _ _ g.met.T.PathWord.base_is some c.trailing_zeros-twos.ensures.fits
+    parted_of _ _ _ _ _ g.met.T.PathWord.base_is some c.trailing_zeros-twos.ensures.fits
     c.trailing_zeros-twos.ensures.value
     c.shift_right.ensures.value
 
@@ -23,7 +23,7 @@ invariant_of-result g c =
     let at = goal.at.invariant_of-result g c in
     record {
       ring =
-          split_ring c.over.result.kept.ring (split g at.After-shift_right) twos.fits twos.value (kept g at.After-over);
+          two_part_ring c.over.result.kept.ring (parted g at.After-shift_right) twos.fits twos.value (kept g at.After-over);
     }
 
 pub returns : goal.returns
@@ -33,6 +33,6 @@ returns g c =
     let odd : odd_part g.T.RingWord.width (g.T.RingWord.number c.args.m) ≡ g.T.RingWord.number c.shift_right.result =
     ap (λ z. g.T.RingWord.number c.args.m / 2 ^ z) (sym c.trailing_zeros-twos.ensures.value)
     ∙ sym c.shift_right.ensures.value in (
-      ap (λ k. k * 2 ^ c.trailing_zeros-twos.result) (kept g at.After-over) ∙ (split g at.After-shift_right).whole,
+      ap (λ k. k * 2 ^ c.trailing_zeros-twos.result) (kept g at.After-over) ∙ (parted g at.After-shift_right).whole,
       rw (odd, sym is.0, sym is.1, sym is.2) c.in_ok-kept.kept.ring,
     )

@@ -5,7 +5,7 @@ use Rattle.modular_reduced.proofs.FormLemmas.{form_as}
 use Rattle.modular_reduced.proofs.ListProducts.{values, value_read, products_none, products_more}
 use Rattle.modular_reduced.proofs.ListProducts.{number_checked, products_of_numbers}
 use Rattle.modular_monty.specs.Montgomery.{montgomery_value}
-use Rattle.modular_monty.specs.Split.{split_form, split_value}
+use Rattle.modular_monty.specs.TwoParts.{two_part_form, two_part_value}
 use Rattle.modular_monty.proofs.MontgomerySteps.{Stands}
 use Rattle.modular_monty.proofs.TwoPartSteps.{Made, high_checked, all_high, odd_products_made}
 use Rattle.modular_monty.proofs.montgomery.MontgomeryReducer.add_products.Goals as goal
@@ -25,14 +25,14 @@ add_products-requires-clause-checked_ys g c =
 
 -- the clauses of the result for an odd modulus
 sums : (g : _) (c : After-add_products g)
-    → let number = g.T.RingWord.number in let w = g.T.RingWord.width in let value = split_value w in
+    → let number = g.T.RingWord.number in let w = g.T.RingWord.width in let value = two_part_value w in
     let m = number c.args.self.now.odd.kept.modulus * 2 ^ c.args.self.now.twos in
     Made w m (number c.add_products.result)
     ((value m (number c.args.sum) + sum_of_products number value m c.args.xs.now c.args.ys.now) % m)
 sums g c =
     let number = g.T.RingWord.number in let w = g.T.RingWord.width in
     let k = number c.args.self.now.odd.kept.modulus in let m = k * 2 ^ c.args.self.now.twos in
-    let form = split_form w in let value = split_value w in
+    let form = two_part_form w in let value = two_part_value w in
     let xs = c.args.xs.now in let ys = c.args.ys.now in
     let x = slice_index (map number xs) in let y = slice_index (map number ys) in
     let of_odd = subst (λ n. Stands w k (number c.add_products.result)
@@ -65,7 +65,7 @@ add-total-requires-clause-left g c = c.products.invariant.form
 
 pub products-preserved : goal.products-preserved
 products-preserved g c =
-    let number = g.T.RingWord.number in let value = split_value g.T.RingWord.width in
+    let number = g.T.RingWord.number in let value = two_part_value g.T.RingWord.width in
     let m = number c.args.self.now.odd.kept.modulus * 2 ^ c.args.self.now.twos in let i = c.products.i in
     let x = values number value m c.args.xs.now in let y = values number value m c.args.ys.now in
     let within_ys : i < length c.args.ys.now = let e = c.requires.equal in omega arith in
@@ -79,7 +79,7 @@ products-preserved g c =
 
 pub returns-clause-value : goal.returns-clause-value
 returns-clause-value g c =
-    let number = g.T.RingWord.number in let value = split_value g.T.RingWord.width in
+    let number = g.T.RingWord.number in let value = two_part_value g.T.RingWord.width in
     let m = number c.args.self.now.odd.kept.modulus * 2 ^ c.args.self.now.twos in
     let x = values number value m c.args.xs.now in let y = values number value m c.args.ys.now in
     let all : c.products.i ≡ length c.args.xs.now = omega arith in

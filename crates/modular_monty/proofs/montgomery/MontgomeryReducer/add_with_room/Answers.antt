@@ -1,6 +1,6 @@
 use Rattle.std.proofs.Common.{◌≡◌, ◌+◌, ◌*◌, ◌^◌, refl, ap, arith}
 use Rattle.modular_word.proofs.Congruence.{same_sum}
-use Rattle.modular_monty.proofs.TwoPartSteps.{operation_made, high_checked, all_high, joined_none}
+use Rattle.modular_monty.proofs.TwoPartSteps.{operation_made, high_checked, all_high, one_part}
 use Rattle.modular_monty.proofs.montgomery.MontgomeryReducer.add_with_room.Goals as goal
 
 pub add_with_room-requires : goal.add_with_room-requires
@@ -18,4 +18,4 @@ pub returns-then-self-eq0 : goal.returns-then-self-eq0
 returns-then-self-eq0 g c =
     let none = c.if-self-eq0.true in
     operation_made c.args.self.now.ring (λ x y. x + y) same_sum c.requires.left c.requires.right
-    (all_high _ _ none) (all_high _ _ none) c.add_with_room.ensures.form refl (joined_none _ _ _ none)
+    (all_high _ _ none) (all_high _ _ none) c.add_with_room.ensures.form refl (one_part _ _ _ none)

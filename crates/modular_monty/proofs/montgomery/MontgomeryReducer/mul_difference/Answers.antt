@@ -1,4 +1,4 @@
-use Rattle.modular_monty.proofs.TwoPartSteps.{difference_product_made, high_checked, all_high, none_low, joined_none}
+use Rattle.modular_monty.proofs.TwoPartSteps.{difference_product_made, high_checked, all_high, none_low, one_part}
 use Rattle.modular_monty.proofs.montgomery.MontgomeryReducer.mul_difference.Goals as goal
 
 pub mul_difference-requires : goal.mul_difference-requires
@@ -16,7 +16,7 @@ returns-then-self-eq0 g c =
     let none = c.if-self-eq0.true in
     difference_product_made c.args.self.now.ring 0 c.requires.left c.requires.right c.requires.factor
     (all_high _ _ none) (all_high _ _ none) (all_high _ _ none)
-    c.mul_difference.ensures.form (none_low _ _ _ none) (joined_none _ _ _ none)
+    c.mul_difference.ensures.form (none_low _ _ _ none) (one_part _ _ _ none)
 
 pub returns-clause-form : goal.returns-clause-form
 returns-clause-form g c = rw c.sub-difference.ensures.value at c.mul.ensures.form

@@ -1,4 +1,4 @@
-use Rattle.modular_monty.specs.SplitLaws.{modulus_positive}
+use Rattle.modular_monty.specs.TwoPartLaws.{modulus_positive}
 use Rattle.modular_monty.proofs.TwoPartSteps.{below_is_form, negative_made, odd_negative_made, high_checked, all_high}
 use Rattle.modular_monty.proofs.montgomery.MontgomeryReducer.neg.Goals as goal
 

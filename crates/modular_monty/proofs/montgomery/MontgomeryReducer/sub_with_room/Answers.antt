@@ -1,5 +1,5 @@
 use Rattle.std.proofs.Common.{◌≡◌, ◌*◌, ◌^◌, ap, arith}
-use Rattle.modular_monty.proofs.TwoPartSteps.{difference_made, high_checked, all_high, none_low, joined_none}
+use Rattle.modular_monty.proofs.TwoPartSteps.{difference_made, high_checked, all_high, none_low, one_part}
 use Rattle.modular_monty.proofs.montgomery.MontgomeryReducer.sub_with_room.Goals as goal
 
 pub sub_with_room-requires : goal.sub_with_room-requires
@@ -17,4 +17,4 @@ pub returns-then-self-eq0 : goal.returns-then-self-eq0
 returns-then-self-eq0 g c =
     let none = c.if-self-eq0.true in
     difference_made c.args.self.now.ring 0 c.requires.left c.requires.right (all_high _ _ none) (all_high _ _ none)
-    c.sub_with_room.ensures.form (none_low _ _ _ none) (joined_none _ _ _ none)
+    c.sub_with_room.ensures.form (none_low _ _ _ none) (one_part _ _ _ none)

@@ -6,21 +6,21 @@ use Rattle.std.proofs.lemmas.Nat.{pow_pos, pow-add, div_below, mul-add-lt, same_
 use Rattle.modular_word.proofs.Congruence.{same_without, same_without_negated_unit, mod_of_multiple, next_is_multiple}
 use Rattle.modular_reduced.specs.Forms.{Represents, IsCanonical}
 use Rattle.modular_monty.specs.Montgomery.{montgomery_form}
-use Rattle.modular_monty.specs.Split.{two_part, odd_part, split_form, split_value, IsSplitRing}
+use Rattle.modular_monty.specs.TwoParts.{even_part, odd_part, two_part_form, two_part_value, IsTwoPartRing}
 use Rattle.modular_monty.specs.MontgomeryLaws.{positive, base_cancels, value_below-found}
 
-module _ {w b m s k i square : ℕ} (r : IsSplitRing w b m s k i square) where
-  two_part_is : two_part w m ≡ 2 ^ s
-  two_part_is = ap (λ n. 2 ^ n) (sym r.twos)
+module _ {w b m s k i square : ℕ} (r : IsTwoPartRing w b m s k i square) where
+  even_part_is : even_part w m ≡ 2 ^ s
+  even_part_is = ap (λ n. 2 ^ n) (sym r.twos)
 
   -- the odd part is the stored one
   pub odd_part_is : odd_part w m ≡ k
-  odd_part_is = ap (λ n. m / n) two_part_is ∙ ap (λ n. n / 2 ^ s) (sym r.whole) ∙ mul-div_cancel k (pow_pos s)
+  odd_part_is = ap (λ n. m / n) even_part_is ∙ ap (λ n. n / 2 ^ s) (sym r.whole) ∙ mul-div_cancel k (pow_pos s)
 
   -- the form of v, by the stored odd part and exponent
-  pub form_is : (v : ℕ) → split_form w m v ≡ montgomery_form w k v * 2 ^ s + v % 2 ^ s
-  unfolding split_form
-  form_is v = ap₂ (λ n q. montgomery_form w n v * q + v % q) odd_part_is two_part_is
+  pub form_is : (v : ℕ) → two_part_form w m v ≡ montgomery_form w k v * 2 ^ s + v % 2 ^ s
+  unfolding two_part_form
+  form_is v = ap₂ (λ n q. montgomery_form w n v * q + v % q) odd_part_is even_part_is
 
   -- the modulus is not 0
   pub modulus_positive : 0 < m
@@ -35,7 +35,7 @@ module _ {w b m s k i square : ℕ} (r : IsSplitRing w b m s k i square) where
       omega (arith, r.whole)
 
   -- a form is below the modulus
-  pub form_less : (v : ℕ) → split_form w m v < m
+  pub form_less : (v : ℕ) → two_part_form w m v < m
   form_less v =
       let below = parts_below (mod-lt (v * 2 ^ w) (positive r.odd)) (mod-lt v (pow_pos s)) in
       omega (arith, form_is v, below)
@@ -43,10 +43,10 @@ module _ {w b m s k i square : ℕ} (r : IsSplitRing w b m s k i square) where
   -- what is congruent modulo the base is congruent modulo the power of two
   pub within : (x y : ℕ) → x % b ≡ y % b → x % 2 ^ s ≡ y % 2 ^ s
   within x y e =
-      let split : b ≡ 2 ^ s * 2 ^ (w - s) =
+      let parted : b ≡ 2 ^ s * 2 ^ (w - s) =
       r.odd.base ∙ ap (λ n. 2 ^ n) (let f : w ≡ s + (w - s) = omega (arith, r.few) in f) ∙ pow-add 2 s (w - s) in
       let down : (n : ℕ) → n % b % 2 ^ s ≡ n % 2 ^ s =
-      λ n. ap (λ o. n % o % 2 ^ s) split ∙ mod_of_multiple (2 ^ s) (2 ^ (w - s)) n in
+      λ n. ap (λ o. n % o % 2 ^ s) parted ∙ mod_of_multiple (2 ^ s) (2 ^ (w - s)) n in
       sym (down x) ∙ ap (λ n. n % 2 ^ s) e ∙ down y
 
   -- the negated inverse is a negated inverse modulo the power of two as well
@@ -71,7 +71,7 @@ module _ {w b m s k i square : ℕ} (r : IsSplitRing w b m s k i square) where
       sym (whole v) ∙ ap₂ (λ n o. n * k + o) one high ∙ whole x
 
   -- values with the same form are equal
-  form_injective : (v x : ℕ) → v < m → x < m → split_form w m x ≡ split_form w m v → x ≡ v
+  form_injective : (v x : ℕ) → v < m → x < m → two_part_form w m x ≡ two_part_form w m v → x ≡ v
   form_injective v x hv hx e =
       let low : (n : ℕ) → n % 2 ^ s < 2 ^ s = λ n. mod-lt n (pow_pos s) in
       let parts =
@@ -81,15 +81,15 @@ module _ {w b m s k i square : ℕ} (r : IsSplitRing w b m s k i square) where
       one_below x v hx hv (base_cancels r.odd x v (by_base x ∙ parts.0 ∙ sym (by_base v))) parts.1
 
   -- the value of the form of v is v
-  pub split_value_of : {f v : ℕ} → Represents (split_form w) m f v → split_value w m f ≡ v
-  split_value_of {f} {v} h =
-      value_below-found (split_form w m) m v f
+  pub two_part_value_of : {f v : ℕ} → Represents (two_part_form w) m f v → two_part_value w m f ≡ v
+  two_part_value_of {f} {v} h =
+      value_below-found (two_part_form w m) m v f
       (λ x l e. form_injective v x h.below l (e ∙ h.same)) h.below (sym h.same)
 
   -- each value has exactly one form, a word, and each form exactly one value
-  pub split_canonical : IsCanonical (split_form w) (split_value w) w m
-  split_canonical = record {
+  pub two_part_canonical : IsCanonical (two_part_form w) (two_part_value w) w m
+  two_part_canonical = record {
     positive = modulus_positive;
-    one_value = λ f v h. split_value_of h;
+    one_value = λ f v h. two_part_value_of h;
     fits = λ v h. omega (arith, form_less v, r.fits, r.odd.base);
   }

@@ -1,8 +1,8 @@
 use Rattle.std.proofs.Common.{◌∙◌, ◌+◌, ap₂, arith}
 use Rattle.std.proofs.Math.Nat.{mod-lt}
 use Rattle.std.proofs.lemmas.Nat.{pow_pos}
-use Rattle.modular_monty.specs.SplitLaws.{parts_below}
-use Rattle.modular_monty.proofs.montgomery.Montgomery.join.Goals as goal
+use Rattle.modular_monty.specs.TwoPartLaws.{parts_below}
+use Rattle.modular_monty.proofs.montgomery.Montgomery.form_of_parts.Goals as goal
 
 pub shift_left-requires : goal.shift_left-requires
 shift_left-requires g c =
