@@ -23,6 +23,10 @@ TAKEN = (  # what Rattle writes and Rust doesn't need
     ("final fn", "fn"),
     ("Result < Self , AllocError > { Ok ( * self ) }", "Self {\n        *self\n    }"),
     ("Result < Self , AllocError > { Ok ( Plan { $fields.. } ) }", "Self {\n        *self\n    }"),
+    (
+        "Result < Self , AllocError > { Ok ( OwnedPlan { $fields.. } ) }",
+        "Self {\n        OwnedPlan {\n            $fields\n        }\n    }",
+    ),
     ("use std :: alloc :: AllocError ;", ""),
     (". clone ( ) ?", ".clone()"),
     ("# [ derive ( Drop ) ] pub struct", "#[derive(Debug)]\npub struct"),
@@ -67,7 +71,7 @@ OF_LIBRARY = (
     ("pub mod wsize", f"{WIDE}\npub mod wsize"),
     *of_tests("mod laws"),
     ("use modular_word :: word :: { w8 , w16 , w32 , w64 , wsize } ;", import_apart),
-    ("impl $head.. {", f"{WIDE}\nimpl $head {{", lambda it: re.search(r"\b[ui]size\b", it.head)),
+    ("impl $head.. {", f"{WIDE}\nimpl $head {{", lambda it: re.search(r"(?<!const N: )\b[ui]size\b", it.head)),
     # the label of a loop, which names it to proofs, where nothing else names it
     ("$label : for $head.. $block{}", "for $head $block", is_unnamed),
     ("$label : while $head.. $block{}", "while $head $block", is_unnamed),
@@ -144,6 +148,13 @@ OF_PLACES = {  # by crate or file
     "fixed": constant("fixed_modulus"),
     "proth": constant("fixed_modulus", "value", "shift_mul"),
     "mersenne": constant("fixed_modulus"),
+    # what lends a slice
+    "owned": (
+        ("AsSlice < F > + Drop", "AsRef<[F]>"),
+        ("AsSlice < F >", "AsRef<[F]>"),
+        (". as_slice ( )", ".as_ref()"),
+        ("use std :: convert :: AsSlice ;", ""),
+    ),
     "split": constant("splits"),
     "convolution": constant("convolves"),
     "standards": constant("standard_codes"),

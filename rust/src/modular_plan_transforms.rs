@@ -5,6 +5,7 @@ pub mod convolution;
 pub mod filled;
 pub mod join;
 mod join_blocks;
+pub mod owned;
 pub mod plan;
 pub mod products;
 pub mod split;

@@ -5,6 +5,7 @@ pub mod Convolutions
 pub mod JoinedPasses
 pub mod LastJoins
 pub mod NaturalOrder
+pub mod OwnedTables
 pub mod PlanTables
 pub mod Reductions
 pub mod SmallProducts

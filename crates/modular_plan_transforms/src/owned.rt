@@ -1,9 +1,10 @@
-//! A plan for transforms with its own table.
+//! A plan for transforms that keeps its table.
 
 ghost use Rattle.std.specs.Prelude.{◌≡◌, ℕ, ◌+◌, ◌*◌, ◌%◌, ◌^◌, ◌<◌, length, MatchOption, ⊤};
 ghost use Rattle.std.specs.Int.{trailing_zeros, w64};
 ghost use Rattle.modular_barrett.specs.Factors.{AllFactors};
 ghost use Rattle.modular_plan_passes.specs.Plans.{numbers};
+ghost use Rattle.modular_plan_transforms.specs.Tables.{IsTable};
 ghost use Rattle.modular_transform.specs.Orders.{bits_reversed};
 ghost use Rattle.modular_transform.specs.Transforms.{Suits};
 
@@ -11,14 +12,19 @@ use crate::plan::Plan;
 use crate::tables::suits;
 use modular_barrett::planned::PlannedModulus;
 use modular_plan_passes::entry::PlanEntry;
-use modular_plan_passes::plan::plan;
+use modular_plan_passes::table::fill_table;
 use modular_prim::plain_word::PlainWord;
 use modular_word::path_word::PathWord;
 use modular_word::ring_word::RingWord;
 use std::alloc::AllocError;
+use std::convert::AsSlice;
+use std::marker::PhantomData;
 
-/// A plan for transforms of 2·N entries that owns its table of N factors: an odd modulus m, a root g that suits them, and
-/// the factors of the first N powers of g. A struct can keep it, and `plan` lends it as a `Plan`.
+/// A plan for transforms of n entries that keeps its table: an odd modulus m, a root g that suits n, and a container of the
+/// n/2 factors of its powers. A struct can own one; `plan` lends it as a `Plan`.
+///
+/// The container is an array, for which `new` makes the plan, or another one that lends the same entries at each call, for
+/// `with_table`. An array is part of the value, so a large table belongs on the heap.
 ///
 /// # Examples
 ///
@@ -26,7 +32,7 @@ use std::alloc::AllocError;
 /// use num_modular::plans::{Factor, OwnedPlan, PlannedModulus};
 ///
 /// struct Ring {
-///     plan: OwnedPlan<u64, Factor<u64>, 2>,
+///     plan: OwnedPlan<u64, Factor<u64>, [Factor<u64>; 2]>,
 /// }
 ///
 /// impl Ring {
@@ -42,23 +48,24 @@ use std::alloc::AllocError;
 /// assert_eq!(product, [13, 1, 2, 3]); // X^4 is -1
 /// ```
 #[derive(Drop)]
-pub struct OwnedPlan<T: PathWord, F: PlanEntry<T>, const N: usize> {
+pub struct OwnedPlan<T: PathWord, F: PlanEntry<T>, S: AsSlice<F>> {
     modulus: PlannedModulus<T>,
     root: T,
-    table: [F; N],
+    table: S,
+    entry: PhantomData<F>,
     // m is odd, so that 2 has an inverse.
     pub ghost odd: { T.number modulus.modulus % 2 ≡ 1 },
     pub ghost root_below: { T.number root < T.number modulus.modulus },
-    // N is a power of two, and the root to that power is -1.
-    pub ghost power_of_two: { length table ≡ 2 ^ trailing_zeros w64 (length table) },
-    pub ghost half_turn: { (T.number root ^ length table + 1) % T.number modulus.modulus ≡ 0 },
-    // The entries are the factors of the first N powers of the root, in bit-reversed order.
-    pub ghost factors: { AllFactors T.base (T.number modulus.modulus) F.value F.quotient table },
-    pub ghost powers: { let bits = trailing_zeros w64 (length table) in (k : ℕ) → k < length table
-        → numbers F.value table k ≡ T.number root ^ bits_reversed bits k % T.number modulus.modulus },
+    // The number of entries is a power of two, and the root to that power is -1.
+    pub ghost power_of_two: { let count = length (S.items table) in count ≡ 2 ^ trailing_zeros w64 count },
+    pub ghost half_turn: { (T.number root ^ length (S.items table) + 1) % T.number modulus.modulus ≡ 0 },
+    // The entries are the factors of the first powers of the root, in bit-reversed order.
+    pub ghost factors: { AllFactors T.base (T.number modulus.modulus) F.value F.quotient (S.items table) },
+    pub ghost powers: { let count = length (S.items table) in (k : ℕ) → k < count → numbers F.value (S.items table) k
+        ≡ T.number root ^ bits_reversed (trailing_zeros w64 count) k % T.number modulus.modulus },
 }
 
-impl<T: PathWord, F: PlanEntry<T>, const N: usize> Clone for OwnedPlan<T, F, N> {
+impl<T: PathWord, F: PlanEntry<T>, S: AsSlice<F> + Copy> Clone for OwnedPlan<T, F, S> {
     ghost is_clone = { λ x y. (y.modulus ≡ x.modulus) × (y.root ≡ x.root) × (y.table ≡ x.table) };
 
     ghost is_infallible = { λ _. ⊤ };
@@ -68,13 +75,14 @@ impl<T: PathWord, F: PlanEntry<T>, const N: usize> Clone for OwnedPlan<T, F, N> 
             modulus: self.modulus,
             root: self.root,
             table: self.table,
+            entry: PhantomData,
         })
     }
 }
 
-impl<T: PlainWord, F: PlanEntry<T>, const N: usize> OwnedPlan<T, F, N> {
-    /// The plan by g for 2·N entries, with its table. `None` exactly where m is even, g isn't below m, or g doesn't suit
-    /// 2·N, which also needs a power of two.
+impl<T: PlainWord, F: PlanEntry<T>, const N: usize> OwnedPlan<T, F, [F; N]> {
+    /// The plan by g for n = 2·N entries, with an array of N factors. `None` exactly where m is even, g isn't below m, or g
+    /// doesn't suit n.
     ///
     /// # Examples
     ///
@@ -82,8 +90,8 @@ impl<T: PlainWord, F: PlanEntry<T>, const N: usize> OwnedPlan<T, F, N> {
     /// use num_modular::plans::{Factor, OwnedPlan, PlannedModulus};
     ///
     /// let modulus = PlannedModulus::<u64>::new(17);
-    /// assert!(OwnedPlan::<u64, Factor<u64>, 2>::new(&modulus, 4).is_some()); // 4^2 = 17 - 1
-    /// assert!(OwnedPlan::<u64, Factor<u64>, 4>::new(&modulus, 4).is_none());
+    /// assert!(OwnedPlan::<u64, Factor<u64>, [_; 2]>::new(&modulus, 4).is_some()); // 4^2 = 17 - 1
+    /// assert!(OwnedPlan::<u64, Factor<u64>, [_; 4]>::new(&modulus, 4).is_none());
     /// ```
     pub fn new(m: &PlannedModulus<T>, g: T) -> Option<Self>
         ensures { let modulus = T.number m.now.modulus in
@@ -98,22 +106,56 @@ impl<T: PlainWord, F: PlanEntry<T>, const N: usize> OwnedPlan<T, F, N> {
         }
         let one = F::entry(m.factor(m.residue(T::one())));
         let mut table = [one; N];
-        plan(m, g, &mut table);
+        fill_table(m, g, &mut table);
         Some(OwnedPlan {
             modulus: *m,
             root: g,
             table,
+            entry: PhantomData,
+        })
+    }
+}
+
+impl<T: PlainWord, F: PlanEntry<T>, S: AsSlice<F> + Drop> OwnedPlan<T, F, S> {
+    /// The plan by g with a table that is filled already, as `Plan::new` and `fill_table` fill it. `None` exactly where
+    /// `Plan::with_table` returns `None`, which tests the whole table.
+    ///
+    /// # Examples
+    ///
+    /// ```
+    /// use num_modular::plans::{Factor, OwnedPlan, Plan, PlannedModulus};
+    ///
+    /// let modulus = PlannedModulus::<u64>::new(17);
+    /// let mut table = vec![Factor::<u64>::ZERO; 2];
+    /// assert!(Plan::new(&modulus, 4, &mut table).is_some());
+    /// let owned = OwnedPlan::with_table(&modulus, 4, table).unwrap();
+    /// assert_eq!(owned.plan().length(), 4);
+    /// assert!(OwnedPlan::with_table(&modulus, 4, [Factor::<u64>::ZERO; 2]).is_none());
+    /// ```
+    pub fn with_table(m: &PlannedModulus<T>, g: T, table: S) -> Option<Self>
+        ensures { let modulus = T.number m.now.modulus in let entries = S.items table in
+            MatchOption result (modulus % 2 ≡ 1 → T.number g < modulus → Suits modulus (T.number g) (2 * length entries)
+            → IsTable T.base modulus (T.number g) F.value F.quotient entries → ⊥)
+            (λ made. (made.modulus ≡ m.now) × (made.root ≡ g) × (made.table ≡ table)) }
+    {
+        let plan = Plan::with_table(m, g, table.as_slice())?;
+        let (modulus, root) = (plan.modulus(), plan.root());
+        Some(OwnedPlan {
+            modulus,
+            root,
+            table,
+            entry: PhantomData,
         })
     }
 
-    /// The plan over its table; nothing is tested, and the table isn't copied.
+    /// The plan over its table, which is neither tested nor copied.
     ///
     /// # Examples
     ///
     /// ```
     /// use num_modular::plans::{Factor, OwnedPlan, PlannedModulus};
     ///
-    /// let owned = OwnedPlan::<u64, Factor<u64>, 2>::new(&PlannedModulus::new(97), 22).unwrap();
+    /// let owned = OwnedPlan::<u64, Factor<u64>, [_; 2]>::new(&PlannedModulus::new(97), 22).unwrap();
     /// let mut entries = [1, 2, 3, 4];
     /// owned.plan().transform(&mut entries);
     /// assert_eq!(entries[0], 1 + 2 + 3 + 4);
@@ -121,9 +163,9 @@ impl<T: PlainWord, F: PlanEntry<T>, const N: usize> OwnedPlan<T, F, N> {
     pub fn plan(&self) -> Plan<'_, T, F>
         ensures modulus { result.modulus ≡ self.now.modulus }
         ensures root { result.root ≡ self.now.root }
-        ensures entries { 2 ^ result.bits ≡ 2 * N }
-        ensures table { result.table.now ≡ self.now.table }
+        ensures entries { 2 ^ result.bits ≡ 2 * length (S.items self.now.table) }
+        ensures table { result.table.now ≡ S.items self.now.table }
     {
-        Plan::over(&self.modulus, self.root, &self.table)
+        Plan::over(&self.modulus, self.root, self.table.as_slice())
     }
 }

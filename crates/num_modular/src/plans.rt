@@ -2,9 +2,9 @@
 //! a quarter of the base. An entry of the table is a `Factor`, or a struct of the caller (`PlanEntry`). `ring` has
 //! the transforms that need no table, over any reducer, and `find_root`.
 //!
-//! `Plan` knows that its table is that of its root, and asks only for lists that fit. It borrows the table, so a struct
-//! that owns its table can't keep a `Plan`. It makes one for each call (`Plan::with_table` tests the whole table), or calls
-//! the functions over a table, which also ask for the table's factors.
+//! `Plan` knows that its table is that of its root, and asks only for lists that fit. It borrows the table. `OwnedPlan` keeps
+//! its own, so that a struct can keep one, and lends a `Plan` for each call. The functions over a table also ask for the
+//! table's factors.
 
 pub use modular_barrett::planned::{Factor, PlannedModulus};
 pub use modular_plan_passes::entry::PlanEntry;
@@ -13,6 +13,7 @@ pub use modular_plan_transforms::convolution::{
     convolve_block, convolve_negacyclic, convolve_planned, convolves,
 };
 pub use modular_plan_transforms::join::{join, join_scaled};
+pub use modular_plan_transforms::owned::OwnedPlan;
 pub use modular_plan_transforms::plan::Plan;
 pub use modular_plan_transforms::products::multiply;
 pub use modular_plan_transforms::split::{split, splits};

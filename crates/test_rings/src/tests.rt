@@ -16,6 +16,7 @@ mod hostile;
 mod integers;
 mod lists;
 mod modrun;
+mod owned_plans;
 mod plan_callers;
 mod plan_rows;
 mod plan_values;

@@ -15,6 +15,7 @@ mod fixed;
 mod hostile;
 mod integers;
 mod lists;
+mod owned_plans;
 mod plan_callers;
 mod plan_rows;
 mod plan_values;
