@@ -7,7 +7,7 @@ ghost use Rattle.modular_barrett.specs.ScaledForms.{scaled_canonical};
 
 use crate::list_products::{fixed_factor, product_by_factor, reduced_products};
 use crate::normalized::{Normalized2by1Divisor, StoredDivisor};
-use modular_prim::below::{add_below, dbl_below, neg_below, sub_below_stored, sum_by_carry};
+use modular_prim::below::{add_below, dbl_below_stored, neg_below, sub_below_stored, sum_by_carry};
 use modular_prim::inverse::fast_inverse;
 use modular_prim::plain_word::PlainWord;
 use modular_reduced::lanes::{difference_by_sign, sum_by_sign};
@@ -193,7 +193,7 @@ impl<T: PlainWord> Reducer<T> for PreMulInv2by1<T> {
     }
 
     fn dbl(&self, f: T) -> T {
-        dbl_below(f, self.divisor())
+        dbl_below_stored(f, self.divisor())
     }
 
     fn sub(&self, a: &T, b: &T) -> T {

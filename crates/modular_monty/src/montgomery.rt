@@ -8,7 +8,7 @@ ghost use Rattle.modular_monty.specs.TwoParts.{IsComputedOnce, IsTwoPartRing};
 ghost use Rattle.modular_monty.specs.TwoPartLaws.{modulus_positive, two_part_canonical};
 
 use crate::odd_ring::{OddModulus, OddRing, StoredModulus};
-use modular_prim::below::sum_by_carry;
+use modular_prim::below::{dbl_below_stored, sum_by_carry};
 use modular_prim::reducer_word::ReducerWord;
 use modular_reduced::reducer::Reducer;
 use modular_word::path_word::PathWord;
@@ -206,7 +206,7 @@ impl<T: ReducerWord> Reducer<T> for Montgomery<T> {
 
     fn dbl(&self, f: T) -> T {
         if self.twos == 0 {
-            return self.odd.dbl(f);
+            return dbl_below_stored(f, self.odd.kept.modulus);
         }
         self.add(&f, &f)
     }

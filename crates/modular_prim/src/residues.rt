@@ -3,7 +3,7 @@
 ghost use Rattle.std.specs.Prelude.{◌≡◌, ℕ, ◌+◌, ◌*◌, ◌%◌, ◌<◌, ◌≤◌, pos, ◌-ℤ◌, neg_ℤ, IsTrue};
 ghost use Rattle.modular_word.specs.Residues.{residue};
 
-use crate::below::{add_below, dbl_below, neg_below};
+use crate::below::{add_below, dbl_below_stored, neg_below};
 use crate::plain_word::PlainWord;
 use modular_word::path_word::PathWord;
 use modular_word::ring_word::RingWord;
@@ -112,7 +112,7 @@ pub fn dblm<T: PlainWord>(a: T, m: T) -> T
     if T::bits() <= 16 {
         addm(a, a, m)
     } else {
-        dbl_below(reduced(a, m), m)
+        dbl_below_stored(reduced(a, m), m)
     }
 }
 

@@ -2,7 +2,7 @@
 
 use crate::modular_barrett::list_products::{fixed_factor, product_by_factor, reduced_products};
 use crate::modular_barrett::normalized::Normalized2by1Divisor;
-use crate::modular_prim::below::{add_below, dbl_below, neg_below, sub_below_stored, sum_by_carry};
+use crate::modular_prim::below::{add_below, dbl_below_stored, neg_below, sub_below_stored, sum_by_carry};
 use crate::modular_prim::inverse::fast_inverse;
 use crate::modular_prim::plain_word::PlainWord;
 use crate::modular_reduced::lanes::{difference_by_sign, sum_by_sign};
@@ -175,7 +175,7 @@ impl<T: PlainWord> Reducer<T> for PreMulInv2by1<T> {
 
     #[inline]
     fn dbl(&self, f: T) -> T {
-        dbl_below(f, self.divisor())
+        dbl_below_stored(f, self.divisor())
     }
 
     #[inline]

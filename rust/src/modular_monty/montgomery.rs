@@ -1,7 +1,7 @@
 //! The reducer by Montgomery's representation, for every modulus.
 
 use crate::modular_monty::odd_ring::{OddRing, StoredModulus};
-use crate::modular_prim::below::sum_by_carry;
+use crate::modular_prim::below::{dbl_below_stored, sum_by_carry};
 use crate::modular_prim::reducer_word::ReducerWord;
 use crate::modular_reduced::reducer::Reducer;
 
@@ -177,7 +177,7 @@ impl<T: ReducerWord> Reducer<T> for Montgomery<T> {
     #[inline]
     fn dbl(&self, f: T) -> T {
         if self.twos == 0 {
-            return self.odd.dbl(f);
+            return dbl_below_stored(f, self.odd.kept.modulus);
         }
         self.add(&f, &f)
     }

@@ -160,26 +160,30 @@ pub fn branchless_sub_below<T: PathWord>(a: T, b: T, m: T) -> T {
     a.minus_modulo(b, m)
 }
 
-/// The residue of 2a, below m.
+/// The residue of 2a, below m, as `dbl_below` returns it, but faster in loops where m isn't a constant: at 32 bits and more
+/// LLVM turns the choice of `dbl_below` into a branch in some of them, which mispredicts.
+///
+/// # Preconditions
+///
+/// a is below m. This isn't checked: if it doesn't hold, the call panics or its result is unspecified.
+#[inline]
+pub fn dbl_below_stored<T: PathWord>(a: T, m: T) -> T {
+    if T::bits() == 8 {
+        doubled_once(a, m)
+    } else if T::bits() == 16 {
+        dbl_below(a, m)
+    } else {
+        sum_by_carry(a, a, m)
+    }
+}
+
+/// The residue of 2a, below m, by a comparison with m/2, which doesn't wait for the double.
 ///
 /// # Preconditions
 ///
 /// a is below m. This isn't checked: if it doesn't hold, the call panics or its result is unspecified.
 #[inline]
 pub fn dbl_below<T: PathWord>(a: T, m: T) -> T {
-    if T::bits() == 8 {
-        doubled_once(a, m)
-    } else if T::bits() == 16 {
-        doubled_by_half(a, m)
-    } else {
-        sum_by_carry(a, a, m)
-    }
-}
-
-// The residue of 2a, below m, by a comparison with m/2, which doesn't wait for the double. In wider words LLVM turns the
-// choice into a branch in some loops, which mispredicts. Condition: a is below m.
-#[inline]
-fn doubled_by_half<T: PathWord>(a: T, m: T) -> T {
     // Reading the word gives the proof that it fits its width.
     let _ = m.is_below(a);
     let high = m.minus(m.half());

@@ -1,6 +1,6 @@
 //! Residues of sums, differences and products of words that may be above the modulus.
 
-use crate::modular_prim::below::{add_below, dbl_below, neg_below};
+use crate::modular_prim::below::{add_below, dbl_below_stored, neg_below};
 use crate::modular_prim::plain_word::PlainWord;
 use crate::modular_word::path_word::PathWord;
 
@@ -119,7 +119,7 @@ pub fn dblm<T: PlainWord>(a: T, m: T) -> T {
     if T::bits() <= 16 {
         addm(a, a, m)
     } else {
-        dbl_below(reduced(a, m), m)
+        dbl_below_stored(reduced(a, m), m)
     }
 }
 

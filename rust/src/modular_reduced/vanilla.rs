@@ -2,7 +2,7 @@
 
 use crate::modular_reduced::lanes::{difference_by_sign, sum_by_sign};
 use crate::modular_reduced::reducer::Reducer;
-use crate::modular_prim::below::{add_below_stored, dbl_below, neg_below, sub_below_stored};
+use crate::modular_prim::below::{add_below_stored, dbl_below_stored, neg_below, sub_below_stored};
 use crate::modular_prim::inverse::fast_inverse;
 use crate::modular_prim::plain_word::PlainWord;
 
@@ -81,7 +81,7 @@ impl<T: PlainWord> Reducer<T> for Vanilla<T> {
 
     #[inline]
     fn dbl(&self, f: T) -> T {
-        dbl_below(f, self.modulus)
+        dbl_below_stored(f, self.modulus)
     }
 
     #[inline]

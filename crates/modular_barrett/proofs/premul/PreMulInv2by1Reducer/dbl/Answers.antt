@@ -3,11 +3,11 @@ use Rattle.modular_barrett.specs.ScaledForms.{scaled_canonical}
 use Rattle.modular_barrett.proofs.ScaledLemmas.{form_below, double_stands}
 use Rattle.modular_barrett.proofs.premul.PreMulInv2by1Reducer.dbl.Goals as goal
 
-pub dbl_below-requires : goal.dbl_below-requires
-dbl_below-requires g c = form_below _ _ _ _ c.divisor.ensures.scaled c.requires
+pub dbl_below_stored-requires : goal.dbl_below_stored-requires
+dbl_below_stored-requires g c = form_below _ _ _ _ c.divisor.ensures.scaled c.requires
 
 pub returns : goal.returns
 returns g c =
     answered (scaled_canonical c.args.self.now.scaling)
     (double_stands _ _ _ _ _ c.args.self.now.scaling.positive c.divisor.ensures.scaled
-    c.requires c.dbl_below.ensures.value)
+    c.requires c.dbl_below_stored.ensures.value)

@@ -3,8 +3,8 @@ use Rattle.std.proofs.Common.{◌≡◌, ◌+◌, ◌-◌, ◌*◌, ◌%◌, ◌
 use Rattle.std.proofs.Math.Nat.{mod-eq_of_lt, add-mod_right}
 use Rattle.std.proofs.lemmas.Bool.{cases_lt}
 use Rattle.modular_prim.proofs.ResidueSteps.{lifted, settled, once}
-use Rattle.modular_prim.proofs.below.doubled_by_half.Goals as goal
-use Rattle.modular_prim.proofs.below.doubled_by_half.Goals.{After-is_below-2}
+use Rattle.modular_prim.proofs.below.dbl_below.Goals as goal
+use Rattle.modular_prim.proofs.below.dbl_below.Goals.{After-is_below-2}
 
 -- where a is at least the upper half of m, the difference is the double less m
 past : (g : _) (c : After-is_below-2 g) → g.T.RingWord.number c.minus-high.result ≤ g.T.RingWord.number c.args.a
