@@ -138,10 +138,10 @@ fn write_middle_plain(by: &PreMulInv2by1<u64>, xs: &[u64], ys: &[u64], out: &mut
     }
 }
 
-// The same, by the sums or by transforms, whichever takes less time; what the other places hold isn't specified.
-// Condition: xs isn't empty, and ys isn't shorter.
+// The same, by the sums or by transforms, whichever takes less time; what the other places hold isn't specified. The
+// transforms compute the whole product. Condition: xs isn't empty, and ys isn't shorter.
 //
-// Source: Hanrot, Quercia and Zimmermann, "The middle product algorithm I".
+// Source of the middle product: Hanrot, Quercia and Zimmermann, "The middle product algorithm I".
 fn write_middle<F: PlanEntry<u64>>(
     by: &PreMulInv2by1<u64>,
     xs: &[u64],

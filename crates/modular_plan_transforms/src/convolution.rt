@@ -151,7 +151,7 @@ pub fn convolves(length: usize, factors: usize, b: usize, last: usize) -> bool
 ///
 /// So b = 0 gives the cyclic product, and b = 1 that modulo X^n + 1. The table must be that of some g: with other
 /// factors modulo m, the results are below m and meaningless. Conditions: the lists have the same length; `last`
-/// is 1 or 2, the length is `last` times a power of two, and the table has (b + 1)·n/last/2 entries or more
+/// is 1 or 2, the length is `last` times a power of two, and (b + 1)·(n/last) is at most twice the table's length
 /// (`convolves` tells); the entries are below 4m; the table's entries are factors modulo m. No memory is allocated.
 ///
 /// Source: Bernstein, "Multidigit multiplication for mathematicians", section 2: split both lists, multiply the

@@ -185,7 +185,7 @@ fn join_scaled_by<T: PlainWord, F: PlanEntry<T>, M: JoinSteps<T>>(
 ///
 /// The table must be the one by which they were split (`fill_table`), or a longer one that begins with it: with other
 /// factors modulo m, the results are below m and meaningless. Conditions: the entries are below 4m; the number of
-/// entries is `last` times a power of two, and the table has (b + 1)·count/2 entries or more (`splits` tells); the
+/// entries is `last` times a power of two, and the table has at least (b + 1)·(count/2) entries (`splits` tells); the
 /// table's entries are factors modulo m.
 ///
 /// Each pass over the list does two stages where two are left.
@@ -230,7 +230,7 @@ pub fn join<T: PlainWord, F: PlanEntry<T>>(
 /// Joins the blocks as `join` does and multiplies each coefficient by a factor. With the inverse modulo m of the
 /// number of blocks as the factor, the results are the coefficients themselves. The table must be as for
 /// `join`. Conditions: the entries are below 4m; the number of entries is `last` times a power of two, and the table has
-/// (b + 1)·count/2 entries or more (`splits` tells); the table's entries are factors modulo m; w is a factor modulo m.
+/// at least (b + 1)·(count/2) entries (`splits` tells); the table's entries are factors modulo m; w is a factor modulo m.
 ///
 /// # Examples
 ///

@@ -156,7 +156,7 @@ fn multiply_pairs<T: PlainWord, F: PlanEntry<T>>(
 /// which the lists were split: with other factors modulo m, the results are below m and meaningless.
 ///
 /// Conditions: `last` is 1 or 2; the lists have the same length, a multiple of `last`; the entries of xs are below m;
-/// the table's entries are factors modulo m, and there are (b + 1)·count/2 of them or more, count being the number
+/// the table's entries are factors modulo m, and (b + 1)·count is at most twice their number, count being the number
 /// of blocks.
 ///
 /// # Examples

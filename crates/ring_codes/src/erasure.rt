@@ -1,5 +1,6 @@
 //! Reed-Solomon codes, over any modulus: a message of k symbols is restored from any k of the n symbols of its word
-//! (`restore`), and from s symbols of which at most (s - k)/2 are wrong (`correct`).
+//! (`restore`), and from s symbols of which at most (s - k)/2 are wrong (`correct`; where m isn't a prime, it may return
+//! `NoInverse` instead).
 //!
 //! A message is the list of the coefficients of a polynomial, the constant first, and symbol i of its word is the
 //! polynomial's value at point i, modulo m. The points must fit (`points_fit`): the difference of any two has an

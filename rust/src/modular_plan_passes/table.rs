@@ -5,10 +5,11 @@ use crate::modular_barrett::planned::PlannedModulus;
 use crate::modular_prim::plain_word::PlainWord;
 
 /// Fills the table of g for transforms of n entries, n being twice its length: entry k becomes the factor of g to the
-/// power of the reversed bits of k (the twiddle factors, in bit-reversed order).
+/// power of the reversed bits of k (the twiddle factors, in bit-reversed order). So its first entries are the table for
+/// fewer entries, of the power of g that suits them.
 ///
-/// The first entries of the table are the table for
-/// fewer entries, of the power of g that suits them. The Cargo crate leaves an empty table as it is, whatever g is.
+/// The table isn't empty, since 0 isn't a power of
+/// two; the Cargo crate leaves an empty one as it is, whatever g is.
 ///
 /// # Panics
 ///

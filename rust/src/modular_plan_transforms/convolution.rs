@@ -106,9 +106,9 @@ pub const fn convolves(length: usize, factors: usize, b: usize, last: usize) -> 
 /// # Panics
 ///
 /// Panics unless the lists have the same length, and `last` is 1 or 2, the length is `last` times a
-/// power of two, and the table has (b + 1)·n/last/2 entries or more (`convolves` tells). A debug build
-/// also panics unless the entries are below 4m, and the table's entries are factors modulo m. A release
-/// build doesn't check this: if it doesn't hold, the call panics or its result is unspecified.
+/// power of two, and (b + 1)·(n/last) is at most twice the table's length (`convolves` tells). A debug
+/// build also panics unless the entries are below 4m, and the table's entries are factors modulo m. A
+/// release build doesn't check this: if it doesn't hold, the call panics or its result is unspecified.
 ///
 /// # Examples
 ///
@@ -134,7 +134,7 @@ pub fn convolve_block<T: PlainWord, F: PlanEntry<T>>(
     last: usize,
 ) -> bool {
     assert!(ys.len() == xs.len(), "the lists must have the same length: {} and {}", xs.len(), ys.len());
-    assert!(convolves(xs.len(), table.len(), b, last), "`last` must be 1 or 2, the length must be `last` times a power of two, and the table must have (b + 1)·n/last/2 entries or more: {} entries, {} factors, b = {}, last = {}", xs.len(), table.len(), b, last);
+    assert!(convolves(xs.len(), table.len(), b, last), "`last` must be 1 or 2, the length must be `last` times a power of two, and (b + 1)·(n/last) must be at most twice the table's length: {} entries, {} factors, b = {}, last = {}", xs.len(), table.len(), b, last);
     debug_assert!(xs.iter().chain(ys.iter()).all(|x| m.has_room(*x)), "the entries must be below 4m");
     crate::additions::expect_filled(m, table);
     debug_assert!(crate::additions::are_factors(m, xs.len(), table, b, last), "the table's entries must be factors modulo m");

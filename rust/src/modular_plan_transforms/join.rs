@@ -137,9 +137,9 @@ fn join_scaled_by<T: PlainWord, F: PlanEntry<T>, M: JoinSteps<T>>(
 ///
 /// # Panics
 ///
-/// Panics unless the number of entries is `last` times a power of two, and the table has (b +
-/// 1)·count/2 entries or more (`splits` tells). A debug build also panics unless the entries are below
-/// 4m, and the table's entries are factors modulo m. A release build doesn't check this: if it doesn't
+/// Panics unless the number of entries is `last` times a power of two, and the table has at least (b +
+/// 1)·(count/2) entries (`splits` tells). A debug build also panics unless the entries are below 4m,
+/// and the table's entries are factors modulo m. A release build doesn't check this: if it doesn't
 /// hold, the call panics or its result is unspecified.
 ///
 /// # Examples
@@ -164,7 +164,7 @@ pub fn join<T: PlainWord, F: PlanEntry<T>>(
     last: usize,
 ) {
     debug_assert!(xs.iter().all(|x| m.has_room(*x)), "the entries must be below 4m");
-    assert!(crate::plans::splits(xs.len(), table.len(), b, last), "the number of entries must be `last` times a power of two, and the table must have (b + 1)·count/2 entries or more: {} entries, {} factors, b = {}, last = {}", xs.len(), table.len(), b, last);
+    assert!(crate::plans::splits(xs.len(), table.len(), b, last), "the number of entries must be `last` times a power of two, and the table must have at least (b + 1)·(count/2) entries: {} entries, {} factors, b = {}, last = {}", xs.len(), table.len(), b, last);
     crate::additions::expect_filled(m, table);
     debug_assert!(crate::additions::are_factors(m, xs.len(), table, b, last), "the table's entries must be factors modulo m");
     match RoomyModulus::new(m) {
@@ -179,10 +179,10 @@ pub fn join<T: PlainWord, F: PlanEntry<T>>(
 ///
 /// # Panics
 ///
-/// Panics unless the number of entries is `last` times a power of two, and the table has (b +
-/// 1)·count/2 entries or more (`splits` tells). A debug build also panics unless the entries are below
-/// 4m, and the table's entries are factors modulo m, and w is a factor modulo m. A release build
-/// doesn't check this: if it doesn't hold, the call panics or its result is unspecified.
+/// Panics unless the number of entries is `last` times a power of two, and the table has at least (b +
+/// 1)·(count/2) entries (`splits` tells). A debug build also panics unless the entries are below 4m,
+/// and the table's entries are factors modulo m, and w is a factor modulo m. A release build doesn't
+/// check this: if it doesn't hold, the call panics or its result is unspecified.
 ///
 /// # Examples
 ///
@@ -207,7 +207,7 @@ pub fn join_scaled<T: PlainWord, F: PlanEntry<T>>(
     w: &Factor<T>,
 ) {
     debug_assert!(xs.iter().all(|x| m.has_room(*x)), "the entries must be below 4m");
-    assert!(crate::plans::splits(xs.len(), table.len(), b, last), "the number of entries must be `last` times a power of two, and the table must have (b + 1)·count/2 entries or more: {} entries, {} factors, b = {}, last = {}", xs.len(), table.len(), b, last);
+    assert!(crate::plans::splits(xs.len(), table.len(), b, last), "the number of entries must be `last` times a power of two, and the table must have at least (b + 1)·(count/2) entries: {} entries, {} factors, b = {}, last = {}", xs.len(), table.len(), b, last);
     crate::additions::expect_filled(m, table);
     debug_assert!(crate::additions::are_factors(m, xs.len(), table, b, last), "the table's entries must be factors modulo m");
     debug_assert!(crate::modular_plan_transforms::filled::are_factors(m.modulus, core::slice::from_ref(w)), "w must be a factor modulo m");

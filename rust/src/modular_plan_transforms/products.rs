@@ -107,8 +107,8 @@ fn multiply_pairs<T: PlainWord, F: PlanEntry<T>>(
 ///
 /// Panics unless `last` is 1 or 2, and the lists have the same length, a multiple of `last`. A debug
 /// build also panics unless the entries of xs are below m, and the table's entries are factors modulo
-/// m, and there are (b + 1)·count/2 of them or more, count being the number of blocks. A release build
-/// doesn't check this: if it doesn't hold, the call panics or its result is unspecified.
+/// m, and (b + 1)·count is at most twice their number, count being the number of blocks. A release
+/// build doesn't check this: if it doesn't hold, the call panics or its result is unspecified.
 ///
 /// # Examples
 ///
@@ -135,7 +135,7 @@ pub fn multiply<T: PlainWord, F: PlanEntry<T>>(
     assert!(last == 1 || last == 2, "`last` must be 1 or 2");
     assert!(ys.len() == xs.len() && (last == 1 || xs.len() % 2 == 0), "the lists must have the same length, a multiple of `last`");
     debug_assert!(xs.iter().all(|x| x.is_below(m.modulus)), "the entries of xs must be below m");
-    debug_assert!(crate::additions::are_factors(m, xs.len(), table, b, last), "the table's entries must be factors modulo m, and there must be (b + 1)·count/2 of them or more, count being the number of blocks");
+    debug_assert!(crate::additions::are_factors(m, xs.len(), table, b, last), "the table's entries must be factors modulo m, and (b + 1)·count must be at most twice their number, count being the number of blocks");
     if last == 1 {
         multiply_each(m, xs, ys);
     } else {

@@ -152,7 +152,8 @@ impl<'a, T: PlainWord, F: PlanEntry<T>> Plan<'a, T, F> {
         join_scaled(&self.modulus, xs, self.table, b, last, &part);
     }
 
-    /// Multiplies each entry of xs by the entry of ys with the same index, modulo m. Conditions: the lists have the
+    /// Multiplies each entry of xs by the entry of ys with the same index, modulo m: of lists that `split` made with
+    /// `last` = 1. For blocks of two entries there is the function `multiply`. Conditions: the lists have the
     /// same length; the entries of xs are below m.
     ///
     /// # Examples

@@ -59,7 +59,7 @@ impl<'a, T: RingWord, R: Reducer<T>> PreparedCode<'a, T, R> {
     /// Conditions: the points are checked forms; there are t·k rows, and 2·k places of scratch.
     ///
     /// The contents of `scratch` are ignored, and unspecified afterwards. The contents of `rows` are ignored, and
-    /// unspecified after `None`. It takes about 4·k² + 5·t·k products and one inversion.
+    /// unspecified after `None`. It takes about 3·k² + 4·t·k products and one inversion.
     ///
     /// Source: Lagrange's form: Knuth, The Art of Computer Programming, volume 2, section 4.6.4.
     ///

@@ -143,7 +143,8 @@ impl<'a, T: PlainWord, F: PlanEntry<T>> Plan<'a, T, F> {
         join_scaled(&self.modulus, xs, self.table, b, last, &part);
     }
 
-    /// Multiplies each entry of xs by the entry of ys with the same index, modulo m.
+    /// Multiplies each entry of xs by the entry of ys with the same index, modulo m: of lists that `split` made with
+    /// `last` = 1. For blocks of two entries there is the function `multiply`.
     ///
     /// # Panics
     ///

@@ -33,8 +33,9 @@ fn have_inverses<T: RingWord, R: Reducer<T>>(r: &R, points: &[T]) -> bool {
     r.inv(product).is_some()
 }
 
-/// Writes the shares of a secret, by Shamir's scheme: the values at the points of the polynomial whose constant is
-/// the secret. The caller draws the other coefficients at random, each from 0 to m - 1. Returns an error, with the
+/// Writes the shares of a secret, by Shamir's scheme: the values at the points of the polynomial with these k
+/// coefficients, of which the constant is the secret; if k is 0, there is none. The caller draws the other coefficients at
+/// random, each from 0 to m - 1. Returns an error, with the
 /// shares unchanged, exactly where a point or the difference of two points has no inverse modulo m. So it refuses the
 /// point 0, and points that occur twice, if m is at least 2.
 ///
@@ -128,13 +129,13 @@ pub fn recover<T: RingWord, R: Reducer<T>>(
 /// Returns the secret from s shares of which some may be forged: the constant of the only polynomial with k
 /// coefficients that differs from e of the shares, where 2·e is at most s - k. Its coefficients are written to
 /// `coefficients`, and the right shares at all points to `word`. The errors are those of `correct`: `TooManyErrors`
-/// comes only where no polynomial is that near.
+/// comes only where no polynomial is that near, and `NoInverse` only where m isn't a prime.
 ///
 /// The contents of `scratch` are ignored, and unspecified afterwards. The contents of `coefficients` and `word` are
 /// ignored, and unspecified after an error.
 ///
-/// So with s = 16 and k = 6 five forged shares do no harm. The secret is the right one if at most (s - k)/2 shares
-/// are forged; nothing is known of it if there are more.
+/// So for a prime m, with s = 16 and k = 6, five forged shares do no harm. A secret that is returned is the right one if
+/// at most (s - k)/2 shares are forged; nothing is known of it if there are more.
 ///
 /// Source: McEliece and Sarwate, "On sharing secrets and Reed-Solomon codes".
 ///
