@@ -23,8 +23,8 @@ use std::marker::PhantomData;
 /// A plan for transforms of n entries that keeps its table: an odd modulus m, a root g that suits n, and a container of the
 /// n/2 factors of its powers. A struct can own one; `plan` lends it as a `Plan`.
 ///
-/// The container is an array, for which `new` makes the plan, or another one that lends the same entries at each call, for
-/// `with_table`. An array is part of the value, so a large table belongs on the heap.
+/// The container is an array, which `new` fills, or any other that lends the same entries each time, which `with_table`
+/// takes filled. An array is part of the value: a large table may overflow the stack, and belongs in a `Vec`.
 ///
 /// # Examples
 ///
@@ -117,8 +117,10 @@ impl<T: PlainWord, F: PlanEntry<T>, const N: usize> OwnedPlan<T, F, [F; N]> {
 }
 
 impl<T: PlainWord, F: PlanEntry<T>, S: AsSlice<F> + Drop> OwnedPlan<T, F, S> {
-    /// The plan by g with a table that is filled already, as `Plan::new` and `fill_table` fill it. `None` exactly where
-    /// `Plan::with_table` returns `None`, which tests the whole table.
+    /// The plan by g with a container that is filled already, for n entries, n being twice its length. `None` exactly where
+    /// m is even, g isn't below m, g doesn't suit n, or an entry isn't the one that `fill_table` makes.
+    ///
+    /// It tests the whole table, as `Plan::with_table` does.
     ///
     /// # Examples
     ///

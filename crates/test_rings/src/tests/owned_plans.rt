@@ -6,16 +6,17 @@ use num_modular::plans::{Factor, OwnedPlan, PlannedModulus};
 use std::convert::AsSlice;
 use test_callers::plans::all_in_room;
 
-// Whether there is a plan with an array of N factors, with this modulus, root and number of entries.
-fn is_plan<const N: usize>(m: u64, root: u64) -> bool {
-    if !PlannedModulus::<u64>::admits(m) {
-        return false;
-    }
-    let m = PlannedModulus::<u64>::new(m);
-    match OwnedPlan::<u64, Factor<u64>, [Factor<u64>; N]>::new(&m, root) {
+// Whether there is a plan, with this modulus, root and number of factors.
+fn is_plan<S: AsSlice<Factor<u64>> + Drop>(
+    made: &Option<OwnedPlan<u64, Factor<u64>, S>>,
+    m: u64,
+    root: u64,
+    factors: usize,
+) -> bool {
+    match made {
         Some(owned) => {
             let plan = owned.plan();
-            plan.modulus() == m && plan.root() == root && plan.length() / 2 == N
+            plan.modulus().modulus == m && plan.root() == root && plan.length() / 2 == factors
         }
         None => false,
     }
@@ -23,17 +24,20 @@ fn is_plan<const N: usize>(m: u64, root: u64) -> bool {
 
 #[test]
 fn plans_with_arrays(rt: HostRuntime) {
-    assert_at(&rt, is_plan::<8>(17, 3), &1);
-    assert_at(&rt, is_plan::<2>(85, 13), &2);
-    assert_at(&rt, is_plan::<4>(1, 0), &3);
-    // an even modulus
-    assert_at(&rt, !is_plan::<1>(20, 19), &4);
+    let m = PlannedModulus::<u64>::new(85);
+    let by_13 = OwnedPlan::<u64, Factor<u64>, [Factor<u64>; 2]>::new(&m, 13);
+    assert_at(&rt, is_plan(&by_13, 85, 13, 2), &1);
     // a root that isn't below the modulus, and one that doesn't suit
-    assert_at(&rt, !is_plan::<2>(17, 21), &5);
-    assert_at(&rt, !is_plan::<2>(17, 2), &6);
-    // lengths that aren't twice a power of two
-    assert_at(&rt, !is_plan::<0>(17, 4), &7);
-    assert_at(&rt, !is_plan::<3>(17, 4), &8);
+    let by_98 = OwnedPlan::<u64, Factor<u64>, [Factor<u64>; 2]>::new(&m, 98);
+    assert_at(&rt, by_98.is_none(), &2);
+    let by_2 = OwnedPlan::<u64, Factor<u64>, [Factor<u64>; 2]>::new(&m, 2);
+    assert_at(&rt, by_2.is_none(), &3);
+    // a length that isn't twice a power of two, and an even modulus
+    let of_6 = OwnedPlan::<u64, Factor<u64>, [Factor<u64>; 3]>::new(&m, 13);
+    assert_at(&rt, of_6.is_none(), &4);
+    let even = PlannedModulus::<u64>::new(20);
+    let by_19 = OwnedPlan::<u64, Factor<u64>, [Factor<u64>; 1]>::new(&even, 19);
+    assert_at(&rt, by_19.is_none(), &5);
 }
 
 // Whether the plan by 4 modulo 17 transforms a list so, and back.
