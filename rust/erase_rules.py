@@ -28,6 +28,9 @@ TAKEN = (  # what Rattle writes and Rust doesn't need
         "Self {\n        OwnedPlan {\n            $fields\n        }\n    }",
     ),
     ("use std :: alloc :: AllocError ;", ""),
+    ("use std :: convert :: AsSlice ;", ""),
+    ("AsSlice < $entry > + Drop", "AsRef<[$entry]>"),
+    ("AsSlice < Factor < u64 > > + Drop", "AsRef<[Factor<u64>]>"),
     (". clone ( ) ?", ".clone()"),
     ("# [ derive ( Drop ) ] pub struct", "#[derive(Debug)]\npub struct"),
     ("# [ derive ( Drop ) ]", ""),
@@ -148,13 +151,7 @@ OF_PLACES = {  # by crate or file
     "fixed": constant("fixed_modulus"),
     "proth": constant("fixed_modulus", "value", "shift_mul"),
     "mersenne": constant("fixed_modulus"),
-    # what lends a slice
-    "owned": (
-        ("AsSlice < F > + Drop", "AsRef<[F]>"),
-        ("AsSlice < F >", "AsRef<[F]>"),
-        (". as_slice ( )", ".as_ref()"),
-        ("use std :: convert :: AsSlice ;", ""),
-    ),
+    "owned": (("AsSlice < F >", "AsRef<[F]>"), (". as_slice ( )", ".as_ref()")),  # what lends a slice
     "split": constant("splits"),
     "convolution": constant("convolves"),
     "standards": constant("standard_codes"),

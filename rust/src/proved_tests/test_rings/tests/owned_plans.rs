@@ -3,11 +3,10 @@
 use super::assert_at;
 use super::plan_rows::are_same;
 use crate::plans::{Factor, OwnedPlan, PlannedModulus};
-use std::convert::AsSlice;
 use crate::proved_tests::test_callers::plans::all_in_room;
 
 // Whether there is a plan, with this modulus, root and number of factors.
-fn is_plan<S: AsSlice<Factor<u64>> + Drop>(
+fn is_plan<S: AsRef<[Factor<u64>]>>(
     made: &Option<OwnedPlan<u64, Factor<u64>, S>>,
     m: u64,
     root: u64,
@@ -42,7 +41,7 @@ fn plans_with_arrays() {
 }
 
 // Whether the plan by 4 modulo 17 transforms a list so, and back.
-fn transforms<S: AsSlice<Factor<u64>> + Drop>(owned: &OwnedPlan<u64, Factor<u64>, S>) -> bool {
+fn transforms<S: AsRef<[Factor<u64>]>>(owned: &OwnedPlan<u64, Factor<u64>, S>) -> bool {
     let (plan, mut xs) = (owned.plan(), [1, 2, 3, 4]);
     let m = plan.modulus();
     if !plan.fits(4) || !all_in_room(&m, &xs) {
