@@ -164,7 +164,7 @@ typedef struct {
 /* The context of m. NM_BAD_ARGUMENT: m is 0. */
 NM_CHECK nm_code_t nm_montgomery(uint64_t m, nm_montgomery_t *context);
 
-/* The calls below take and write forms: words that represent values modulo m. Each value has exactly one form, which is
+/* These calls take and write forms: words that represent values modulo m. Each value has exactly one form, which is
  * below m. NM_BAD_CONTEXT: the context isn't one that nm_montgomery makes. NM_BAD_ARGUMENT: a word that must be a form
  * isn't one. */
 
@@ -192,7 +192,8 @@ NM_CHECK nm_code_t nm_montgomery_inv(const nm_montgomery_t *context, uint64_t fo
 /* --- Transforms and cyclic products of lists of words, modulo m. ---
  *
  * The words may be above m, and the results are below m. A root suits lists of n words where n is a power of
- * two and, for n above 1, the root to the power n/2 is -1 modulo m. NM_BAD_CONTEXT: as above. */
+ * two and, for n above 1, the root to the power n/2 is -1 modulo m. NM_BAD_CONTEXT: the context isn't one that
+ * nm_montgomery makes. */
 
 /* NM_OK where the root suits lists of n = length words, and NM_NO_ROOT where it doesn't. */
 NM_CHECK nm_code_t nm_montgomery_root_fits(const nm_montgomery_t *context, uint64_t root, size_t length);
@@ -241,7 +242,8 @@ typedef struct {
 /* Carries out the commands in order on the residues of the words in registers, and replaces the words by the resulting
  * residues; carried_out becomes the number of commands carried out. NM_NO_INVERSE: the inverse of command number
  * carried_out, counted from 0, doesn't exist, and the residues are those after the commands before it. NM_BAD_ARGUMENT:
- * an operation has no name, or a register number isn't below registers_length. NM_BAD_CONTEXT: as above. */
+ * an operation has no name, or a register number isn't below registers_length. NM_BAD_CONTEXT: the context isn't one
+ * that nm_montgomery makes. */
 NM_CHECK nm_code_t nm_montgomery_run(const nm_montgomery_t *context, uint64_t *registers, size_t registers_length,
                                      const nm_command_t *commands, size_t commands_length, size_t *carried_out);
 
@@ -278,8 +280,8 @@ typedef struct {
  * suit n. */
 NM_CHECK nm_code_t nm_plan(uint64_t m, uint64_t root, nm_factor_t *table, size_t table_length);
 
-/* NM_OK where the table is the one that nm_plan makes for this m and this root, and NM_BAD_CONTEXT where it isn't.
- * NM_NO_ROOT: as for nm_plan. */
+/* Tests whether the table is the one that nm_plan makes for this m and this root. NM_BAD_CONTEXT: it isn't. NM_NO_ROOT:
+ * the root doesn't suit n, twice the length of the table. */
 NM_CHECK nm_code_t nm_plan_fits(uint64_t m, uint64_t root, const nm_factor_t *table, size_t table_length);
 
 /* Replaces the n words by their transform: entry j is the sum of x_i * h^(i * j) modulo m. h is the root of the table,
@@ -308,22 +310,21 @@ NM_CHECK nm_code_t nm_join(uint64_t m, uint64_t *xs, size_t xs_length, const nm_
 NM_CHECK nm_code_t nm_convolve_planned(uint64_t m, uint64_t *xs, size_t xs_length, uint64_t *ys, size_t ys_length,
                                        const nm_factor_t *table, size_t table_length, size_t last);
 
-/* The same modulo X^n + 1: entry e is the sum of x_i * y_j over all i + j = e, less that over all i + j = e + n. The
- * second list is replaced by the result of nm_split for b = 1. The codes are those of nm_convolve_planned, except that
- * the table must have at least n / last entries. */
+/* Replaces the first list by the product of both modulo X^n + 1: entry e is the sum of x_i * y_j over all i + j = e,
+ * less that over all i + j = e + n, modulo m. The second list is replaced by the result of nm_split for b = 1. The
+ * codes are those of nm_convolve_planned, except that the table must have at least n / last entries. */
 NM_CHECK nm_code_t nm_convolve_negacyclic(uint64_t m, uint64_t *xs, size_t xs_length, uint64_t *ys, size_t ys_length,
                                           const nm_factor_t *table, size_t table_length, size_t last);
 
-/* --- The same by a plan as one value. ---
+/* --- Transforms and products by a plan, modulo m from 1 to 2^62. ---
  *
- * nm_plan fills a table, which each call above tests. nm_plan_make makes an nm_plan_t, whose table is tested once, by
- * nm_plan_make or nm_plan_check; the other calls trust it. So the caller must ensure that a plan is one that
- * nm_plan_make wrote or nm_plan_check accepted, and that neither it nor its table has changed since then. It is enough
- * that the entries of the table are factors modulo m with their quotients: where they are no root's table, the results
- * are below m and meaningless. For other entries nothing is claimed.
+ * An nm_plan_t holds a modulus, a root, and the table of the factors of its powers. nm_plan_make and nm_plan_check test
+ * the table once, and the other calls trust it. So the caller must ensure that a plan is one that nm_plan_make wrote or
+ * nm_plan_check accepted, and that neither it nor its table has changed since then. It is enough that the entries of
+ * the table are factors modulo m with their quotients: where they are no root's table, the results are below m and
+ * meaningless. For other entries nothing is claimed.
  *
- * The codes but NM_BAD_CONTEXT are those of the calls above: words must be below 4 * m, and n at most twice the length
- * of the table. NM_NO_INVERSE: n has no inverse modulo m, as for n above 1 where m is even. */
+ * Words must be below 4 * m, and the results are below m. nm_plan, which fills a table alone, makes no nm_plan_t. */
 
 /* A plan: modulus, root, and a table, which stays the caller's and must live as long as the plan. It may be copied. */
 typedef struct {
@@ -333,30 +334,46 @@ typedef struct {
     size_t table_length;
 } nm_plan_t;
 
-/* Fills the table as nm_plan does, and writes the plan. The codes are those of nm_plan. */
+/* Fills the table for transforms of n words, n being twice its length, and writes the plan. nm_montgomery_find_root
+ * finds a root that suits n. NM_NO_ROOT: the root doesn't suit n. NM_BAD_ARGUMENT: m is 0 or above 2^62. */
 NM_CHECK nm_code_t nm_plan_make(uint64_t m, uint64_t root, nm_factor_t *table, size_t table_length, nm_plan_t *plan);
 
-/* NM_OK where the plan's table is the one that nm_plan_make makes for its modulus and root, as for a plan that the
- * caller wrote over a table that is filled already. The other codes are those of nm_plan_fits. */
+/* Tests whether the plan's table is the one that nm_plan_make makes for its modulus and root, as for a plan that the
+ * caller wrote over a table that is filled already. NM_BAD_CONTEXT: it isn't. NM_NO_ROOT: the root doesn't suit n,
+ * twice the length of the table. NM_BAD_ARGUMENT: the modulus is 0 or above 2^62. */
 NM_CHECK nm_code_t nm_plan_check(const nm_plan_t *plan);
 
-/* nm_ntt_planned. */
+/* Replaces the n words by their transform: entry j is the sum of x_i * h^(i * j) modulo m. h is the plan's root, or,
+ * where the table is for more words, the power of it that suits n. NM_BAD_ARGUMENT: a word isn't below 4 * m, or n is
+ * no power of two, or above twice the length of the table. */
 NM_CHECK nm_code_t nm_plan_transform(const nm_plan_t *plan, uint64_t *xs, size_t xs_length);
 
-/* Undoes nm_plan_transform: replaces the n words by those whose transform they are. */
+/* Undoes nm_plan_transform: replaces the n words by those whose transform they are. NM_BAD_ARGUMENT: a word isn't below
+ * 4 * m, or n is no power of two, or above twice the length of the table. NM_NO_INVERSE: n has no inverse modulo m, as
+ * for n above 1 where m is even. */
 NM_CHECK nm_code_t nm_plan_inverse(const nm_plan_t *plan, uint64_t *xs, size_t xs_length);
 
-/* nm_split. */
+/* Splits block b of the tree of remainders into count = n / last blocks, which the comment of nm_split defines.
+ * NM_BAD_ARGUMENT: a word isn't below 4 * m, n isn't last times a power of two, or the table has fewer than
+ * (b + 1) * (count / 2) entries. */
 NM_CHECK nm_code_t nm_plan_split(const nm_plan_t *plan, uint64_t *xs, size_t xs_length, size_t b, size_t last);
 
-/* Undoes nm_plan_split, also the factor that nm_join leaves. NM_NO_INVERSE: of n / last. */
+/* Undoes nm_plan_split: joins count = n / last blocks to block b, without the factor that nm_join leaves.
+ * NM_BAD_ARGUMENT: a word isn't below 4 * m, n isn't last times a power of two, or the table has fewer than
+ * (b + 1) * (count / 2) entries. NM_NO_INVERSE: count has no inverse modulo m. */
 NM_CHECK nm_code_t nm_plan_join(const nm_plan_t *plan, uint64_t *xs, size_t xs_length, size_t b, size_t last);
 
-/* nm_convolve_planned for last = 1. */
+/* Replaces the first list by the cyclic product of both: entry e is the sum of x_i * y_j modulo m over all
+ * i + j = e or e + n. The second list is replaced by the result of nm_plan_split for b = 0 and last = 1.
+ * NM_BAD_ARGUMENT: a word isn't below 4 * m, the lengths differ, or n is no power of two, or above twice the length of
+ * the table. NM_NO_INVERSE: n has no inverse modulo m. */
 NM_CHECK nm_code_t nm_plan_convolve(const nm_plan_t *plan, uint64_t *xs, size_t xs_length, uint64_t *ys,
                                     size_t ys_length);
 
-/* nm_convolve_negacyclic for last = 2. NM_NO_INVERSE: of n / 2. */
+/* Replaces the first list by the product of both modulo X^n + 1: entry e is the sum of x_i * y_j over all i + j = e,
+ * less that over all i + j = e + n, modulo m. The second list is replaced by the result of nm_plan_split for b = 1 and
+ * last = 2. NM_BAD_ARGUMENT: a word isn't below 4 * m, the lengths differ, or n isn't 2 times a power of two, or is
+ * above twice the length of the table. NM_NO_INVERSE: n / 2 has no inverse modulo m. */
 NM_CHECK nm_code_t nm_plan_convolve_negacyclic(const nm_plan_t *plan, uint64_t *xs, size_t xs_length, uint64_t *ys,
                                                size_t ys_length);
 
@@ -490,7 +507,7 @@ NM_CHECK nm_code_t nm_polynomial_multiply(uint64_t m, const uint64_t *xs, size_t
                                           size_t ys_length, uint64_t *out, size_t out_length, uint64_t *words,
                                           size_t words_length, nm_factor_t *factors, size_t factors_length);
 
-/* The square. The codes are those of nm_polynomial_multiply for xs and xs. */
+/* The square of a polynomial of n coefficients. The codes are those of nm_polynomial_multiply for xs and xs. */
 NM_CHECK nm_code_t nm_polynomial_square(uint64_t m, const uint64_t *xs, size_t xs_length, uint64_t *out,
                                         size_t out_length, uint64_t *words, size_t words_length, nm_factor_t *factors,
                                         size_t factors_length);
