@@ -14,6 +14,12 @@ SOURCES = "".join(it.read_text() for it in sorted(TOP.glob("crates/num_modular_c
 TYPES = {"usize": "size_t", "i32": "int32_t", "i64": "int64_t", **{f"u{it}": f"uint{it}_t" for it in (8, 16, 32, 64)}}
 PARAMETER = re.compile(r"(\w+): ((?:&(?:'a )?|\*)(?:mut |const )?|)(\[?)(?:\w+::)*(\w+)")
 COUNT = re.compile(r"(\d+) passed, (\d+) failed")
+IN_HEADER = """#include <num_modular.h>
+static size_t room(int n, int s, int k) {
+    return NM_ERASURE_ENCODE_SCRATCH(n, k) + NM_ERASURE_RESTORE_SCRATCH(n, s, k) + NM_ERASURE_CORRECT_SCRATCH(n, s, k);
+}
+int main(void) { return room(1, 1, 1) == 0 || nm_kronecker(0, 0, 0); }
+"""
 IN_C = """the keys are equal
 (1 + 2X + 3X^2)(4 + 5X) has the coefficients 4 13 22 15
 the message is 1 2 3
@@ -153,14 +159,15 @@ def program(prefix, folder, name, sources, want):
 
 
 def header(prefix, folder):
-    """Whether the header stands by itself in C and in C++."""
+    """Whether the header stands by itself in C and in C++, and its macros convert their arguments."""
     for compiler, standard, suffix in (("cc", "-std=c99", "c"), ("c++", "-std=c++11", "cpp")):
         if not shutil.which(compiler):
             print(f"no {compiler}: the header wasn't tried with it")
             continue
         source = folder / f"header.{suffix}"
-        source.write_text("#include <num_modular.h>\nint main(void) { return (int)nm_kronecker(0, 0, 0); }\n")
-        said, status = run(compiler, standard, *WARNINGS, f"-I{prefix}/include", "-c", "-o", f"{folder}/header.o", source)
+        source.write_text(IN_HEADER)
+        words = (*WARNINGS, "-Wconversion", "-Wsign-conversion", f"-I{prefix}/include", "-c", "-o", f"{folder}/header.o")
+        said, status = run(compiler, standard, *words, source)
         yield report(f"the header with {compiler} {standard}", status == 0, said)
 
 

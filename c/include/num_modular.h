@@ -117,7 +117,7 @@ NM_CHECK nm_code_t nm_jacobi_signed(int64_t a, int64_t n, int32_t *symbol);
  * NM_BAD_ARGUMENT: the power is none of these, or n is 0. */
 NM_CHECK nm_code_t nm_legendre(uint64_t a, uint64_t n, int32_t *symbol);
 
-/* nm_legendre of signed numbers. NM_BAD_ARGUMENT: as there, or n is below 1. */
+/* nm_legendre of signed numbers. NM_BAD_ARGUMENT: as nm_legendre, or n is below 1. */
 NM_CHECK nm_code_t nm_legendre_signed(int64_t a, int64_t n, int32_t *symbol);
 
 /* The Kronecker symbol, which exists for all numbers. Returns NM_OK. */
@@ -382,21 +382,24 @@ NM_CHECK nm_code_t nm_plan_convolve_negacyclic(const nm_plan_t *plan, uint64_t *
  * A message of k symbols is the list of the coefficients of a polynomial, the constant first, and symbol i of its word
  * is the value modulo m at point i. Lists hold words that may be above m; results are below m. The message comes back
  * from any k symbols, or from s symbols of which at most (s - k)/2 are wrong, if the points fit: the difference of any
- * two has an inverse modulo m. So their number is at most the least prime that divides m.
+ * two has an inverse modulo m. So their number is at most the least prime that divides m. For a composite m,
+ * nm_erasure_correct may return NM_NO_INVERSE instead of the message.
  *
  * places are numbers of points, counted from 0, and symbol j is the one at place j. The contents of scratch are
- * unspecified after every call, whatever its code. With n points and s places: NM_BAD_ARGUMENT: word or shares hasn't n
- * entries, there aren't as many symbols as places, or scratch is shorter than the call needs. NM_BAD_CONTEXT: the
- * context isn't one that nm_montgomery makes. Where several codes fit, any one of them may come. Nothing runs in
- * constant time. */
+ * unspecified after every call, whatever its code. n is the number of points, and s that of places. NM_BAD_ARGUMENT:
+ * word or shares hasn't n entries, there aren't as many symbols as places, or scratch is shorter than the call needs.
+ * NM_BAD_CONTEXT: the context isn't one that nm_montgomery makes. Where several codes fit, any one of them may come.
+ * Nothing runs in constant time. */
 
 /* How many words scratch must have at least, with n points, s places and a message of k symbols. */
-#define NM_ERASURE_ENCODE_SCRATCH(n, k) ((size_t)(n) + (k))
-#define NM_ERASURE_RESTORE_SCRATCH(n, s, k) ((size_t)(n) + (s) + 3 * (size_t)(k))
+#define NM_ERASURE_ENCODE_SCRATCH(n, k) ((size_t)(n) + (size_t)(k))
+#define NM_ERASURE_RESTORE_SCRATCH(n, s, k) ((size_t)(n) + (size_t)(s) + 3 * (size_t)(k))
 #define NM_ERASURE_CORRECT_SCRATCH(n, s, k) (2 * (size_t)(n) + 4 * (size_t)(s) + 4 * (size_t)(k) + 2)
 
-/* The word of the message. A symbol that isn't below m comes back as its residue. Where k is above n, the call writes
- * the word, too, but no call restores the message. scratch: NM_ERASURE_ENCODE_SCRATCH(n, k) words. */
+/* The word of the message. The call doesn't test whether the points fit. nm_erasure_restore does, called with all n
+ * places, any n symbols, and k = n: it returns NM_POINTS_DONT_FIT where they don't. nm_erasure_share tests them, too.
+ * A symbol that isn't below m comes back as its residue. Where k is above n, the call writes the word, too, but no call
+ * restores the message. scratch: NM_ERASURE_ENCODE_SCRATCH(n, k) words. */
 NM_CHECK nm_code_t nm_erasure_encode(const nm_montgomery_t *context, const uint64_t *points, size_t points_length,
                                      const uint64_t *message, size_t message_length, uint64_t *word, size_t word_length,
                                      uint64_t *scratch, size_t scratch_length);
@@ -412,7 +415,7 @@ NM_CHECK nm_code_t nm_erasure_restore(const nm_montgomery_t *context, const uint
 /* The only message of k symbols, at least 1, whose word differs in e of the s symbols, where 2 * e is at most s - k;
  * that word; and e, as errors. scratch: NM_ERASURE_CORRECT_SCRATCH(n, s, k) words. NM_TOO_MANY_ERRORS: no word is that
  * near. NM_NO_INVERSE: a number above 0 without an inverse modulo m was met, and is written to number; it never comes
- * where m is a prime. The codes of nm_erasure_restore, for all s places. NM_BAD_ARGUMENT also where k is 0. */
+ * where m is a prime. The codes of nm_erasure_restore, for all s places. NM_BAD_ARGUMENT: also where k is 0. */
 NM_CHECK nm_code_t nm_erasure_correct(const nm_montgomery_t *context, const uint64_t *points, size_t points_length,
                                       const size_t *places, size_t places_length, const uint64_t *symbols,
                                       size_t symbols_length, uint64_t *message, size_t message_length, uint64_t *word,

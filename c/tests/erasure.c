@@ -29,6 +29,17 @@ static void word_rows(void) {
     LIST(NM_BAD_ARGUMENT, word, nm_erasure_encode(&of_929, counted, 7, message, 3, word, 7, NULL, 0), 0, 0, 891);
 }
 
+/* points that don't fit: the word is written, and restoring from all places tells it */
+static void equal_points_rows(void) {
+    const uint64_t equal[3] = {1, 1, 2}, fitting[3] = {1, 3, 2}, message[2] = {5, 10}, any[3] = {0, 0, 0};
+    uint64_t word[3] = {7, 7, 7}, restored[3] = {7, 7, 7};
+    LIST(NM_OK, word, nm_erasure_encode(&of_929, equal, 3, message, 2, word, 3, scratch, SCRATCH_LENGTH), 15, 15, 25);
+#define FIT(points) nm_erasure_restore(&of_929, points, 3, in_order, 3, any, 3, restored, 3, scratch, SCRATCH_LENGTH)
+    LIST(NM_POINTS_DONT_FIT, restored, FIT(equal), 7, 7, 7);
+    LIST(NM_OK, restored, FIT(fitting), 0, 0, 0);
+#undef FIT
+}
+
 /* the message from every three of the seven symbols */
 static void restore_rows(void) {
     uint64_t message[3] = {7, 7, 7};
@@ -184,6 +195,7 @@ void erasure_rows(void) {
     CODE(NM_OK, nm_montgomery(929, &of_929));
     CODE(NM_OK, nm_montgomery(1001, &of_1001));
     word_rows();
+    equal_points_rows();
     restore_rows();
     refused_rows();
     correct_rows();
