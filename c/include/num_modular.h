@@ -353,7 +353,7 @@ NM_CHECK nm_code_t nm_plan_transform(const nm_plan_t *plan, uint64_t *xs, size_t
  * for n above 1 where m is even. */
 NM_CHECK nm_code_t nm_plan_inverse(const nm_plan_t *plan, uint64_t *xs, size_t xs_length);
 
-/* Splits block b of the tree of remainders into count = n / last blocks, which the comment of nm_split defines.
+/* Splits block b of the tree of remainders into count = n / last blocks, as nm_split defines them.
  * NM_BAD_ARGUMENT: a word isn't below 4 * m, n isn't last times a power of two, or the table has fewer than
  * (b + 1) * (count / 2) entries. */
 NM_CHECK nm_code_t nm_plan_split(const nm_plan_t *plan, uint64_t *xs, size_t xs_length, size_t b, size_t last);

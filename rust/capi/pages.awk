@@ -1,5 +1,6 @@
 # Writes a manual page for each function that the header declares, in the folder `folder`: its prototype, its comment, and
-# what the header says of its section. `version` is that of the library.
+# what the header says of its section. Sentences that begin with a code are the return value. `version` is that of the
+# library.
 #
 # A comment right before declarations belongs to them. Any other comment is of the section, which begins with "--- ".
 
@@ -18,10 +19,23 @@ function summary(text) {
     return escaped(text)
 }
 
-# a comment's lines, with a paragraph for each empty one
-function prose(text,    lines, count, i, found) {
-    count = split(text, lines, "\n")
-    for (i = 1; i <= count; i++) found = found (lines[i] == "" ? ".PP" : escaped(lines[i])) "\n"
+# a comment's sentences, each on a line, with a paragraph for each empty line; those on codes are added to
+# `returned` instead
+function prose(text,    paragraphs, count, sentences, number, i, k, it, found) {
+    count = split(text, paragraphs, "\n\n")
+    for (i = 1; i <= count; i++) {
+        gsub(/\n/, " ", paragraphs[i])
+        sub(/\. *$/, "", paragraphs[i])
+        number = split(paragraphs[i], sentences, /\. /)
+        if (i > 1) found = found ".PP\n"
+        for (k = 1; k <= number; k++) {
+            it = escaped(sentences[k] ".")
+            if (match(it, /^NM_[A-Z_, ]*: /))
+                returned = returned ".TP\n.B " substr(it, 1, RLENGTH - 2) "\n" substr(it, RLENGTH + 1) "\n"
+            else if (it ~ /^The codes /) returned = returned ".PP\n" it "\n"
+            else found = found it "\n"
+        }
+    }
     return found
 }
 
@@ -37,12 +51,14 @@ function others(text, name,    found, it, seen) {
 }
 
 function page(name,    file) {
+    returned = ""
     file = folder "/" name ".3"
     printf ".TH %s 3 \"\" \"num_modular %s\" \"Library calls\"\n.nh\n.ad l\n", toupper(name), version >file
     printf ".SH NAME\n%s \\- %s\n", name, summary(own) >file
     printf ".SH SYNOPSIS\n.nf\n#include <num_modular.h>\n\n%s\n.fi\n", prototype >file
     printf ".SH DESCRIPTION\n%s", prose(own) >file
     if (section != "") printf ".PP\n%s", prose(section) >file
+    if (returned != "") printf ".SH RETURN VALUE\n.TP\n.B NM_OK\nno error.\n%s", returned >file
     printf ".SH SEE ALSO\n%s.BR num_modular (3)\n", others(own, name) >file
     close(file)
 }
