@@ -415,7 +415,7 @@ NM_CHECK nm_code_t nm_erasure_restore(const nm_montgomery_t *context, const uint
 /* The only message of k symbols, at least 1, whose word differs in e of the s symbols, where 2 * e is at most s - k;
  * that word; and e, as errors. scratch: NM_ERASURE_CORRECT_SCRATCH(n, s, k) words. NM_TOO_MANY_ERRORS: no word is that
  * near. NM_NO_INVERSE: a number above 0 without an inverse modulo m was met, and is written to number; it never comes
- * where m is a prime. The codes of nm_erasure_restore, for all s places. NM_BAD_ARGUMENT: also where k is 0. */
+ * where m is a prime. NM_BAD_ARGUMENT: also where k is 0. The codes of nm_erasure_restore, for all s places. */
 NM_CHECK nm_code_t nm_erasure_correct(const nm_montgomery_t *context, const uint64_t *points, size_t points_length,
                                       const size_t *places, size_t places_length, const uint64_t *symbols,
                                       size_t symbols_length, uint64_t *message, size_t message_length, uint64_t *word,
