@@ -79,13 +79,13 @@ def test_symbols_that_a_reduction_would_lose():
     code, word = ErasureCode(929, range(1, 8)), [1] * 7
     for bad in (929, 5000, 2**64, -1, -(2**70)):
         for k in (1, 3):
-            with pytest.raises(ValueError, match="^the secret must be from 0 to m - 1$"):
+            with pytest.raises(ValueError, match="^the secret must be from 0 to 928$"):
                 code.share(bad, k)
-        with pytest.raises(ValueError, match="^each symbol must be from 0 to m - 1$"):
+        with pytest.raises(ValueError, match="^symbol 1 must be from 0 to 928$"):
             code.encode([1, bad])
         for call in (code.restore, code.correct, code.recover, code.recover_correct):
-            for received in ([bad, *word[1:]], {0: 1, 1: 1, 6: bad}):
-                with pytest.raises(ValueError, match="^each symbol must be from 0 to m - 1$"):
+            for place, received in ((0, [bad, *word[1:]]), (3, [1, None, 1, bad, *word[4:]]), (6, {0: 1, 1: 1, 6: bad})):
+                with pytest.raises(ValueError, match=f"^symbol {place} must be from 0 to 928$"):
                     call(received, 2)
     assert code.recover(code.share(928, 3), 3) == 928
     assert ErasureCode(1, [0]).recover(ErasureCode(1, [0]).share(0, 1), 1) == 0
@@ -98,7 +98,7 @@ def test_errors():
     with pytest.raises(TooManyErrorsError, match="^no word of the code is near enough to the symbols$"):
         code.correct([1, 0, 17, 34, 57, 900, 1], 3)
     for call in (code.restore, code.correct):
-        with pytest.raises(TooFewSymbolsError):
+        with pytest.raises(TooFewSymbolsError, match="^a message of 3 symbols can't be restored from 2$"):
             call([1, 6, *[None] * 5], 3)
         for place in (-1, 7, 2**64):
             with pytest.raises(ValueError, match=f"there is no point {place}: "):
@@ -128,10 +128,10 @@ def test_errors():
 
 def test_points():
     for m, points, fault in (
-        (9, [0, 3], "^-3, the difference of the points 0 and 3, has no inverse modulo 9$"),
-        (1001, range(8), "of the points 0 and 7, has"),
-        (929, [1, 2, 930], "of the points 1 and 1, has"),
-        (4, [3, -(10**100) - 3], "of the points 3 and 1, has"),
+        (9, [0, 3], "^points 0 and 1 don't fit: 0 - 3 has no inverse modulo 9$"),
+        (1001, range(8), "points 0 and 7 don't fit: 0 - 7 has"),
+        (929, [1, 2, 930], "points 0 and 2 don't fit: 1 - 1 has"),
+        (4, [3, -(10**100) - 3], "points 0 and 1 don't fit: 3 - 1 has"),
     ):
         with pytest.raises(PointsError, match=fault):
             ErasureCode(m, points)

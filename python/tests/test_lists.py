@@ -221,9 +221,16 @@ def test_runs():
     assert ring.run(words, [("sqr", 0, 0), ("pow", 1, 0, 3), ("neg", 1, 1), ("sub", 0, 1, 0)]) is words
     assert list(words) == [(-(81**3) - 81) % 21, -(81**3) % 21]
     assert ring.run([0], [("load", 0, -1)]) == [20]
-    for command in (("pop", 0), ("add", 0, 1), ("add", 0, 1, 7), ("load", 9, 1), ("load", -1, 1), ("pow", 0, 1, -1)):
-        with pytest.raises(ValueError):
-            ring.run([0, 0], [command])
+    for command, fault in (
+        (("pop", 0), r"^command 1, \('pop', 0\): there is no operation 'pop'$"),
+        (("add", 0, 1), r"^command 1, \('add', 0, 1\), must be \('add', dst, a, b\)$"),
+        (("add", 0, 1, 7), "^command 1 names register 7, but there are 2 registers, counted from 0$"),
+        (("load", 9, 1), "^command 1 names register 9, but"),
+        (("load", -1, 1), "^the number of a register in command 1 must be from 0 to"),
+        (("pow", 0, 1, -1), "^the exponent of command 1 must be from 0 to"),
+    ):
+        with pytest.raises(ValueError, match=fault):
+            ring.run([0, 0], [("load", 1, 3), command])
 
 
 def test_types():

@@ -152,10 +152,13 @@ class ErasureCode(ByArguments):
         >>> ErasureCode(2**61 - 1, range(1, 6)).recover({0: shares[0], 4: shares[4], 2: shares[2]}, 3)
         1234567
         """
-        (first,), k = self._symbols([secret], "the secret"), _some(k)
+        secret = index(secret)
+        if not 0 <= secret < self.modulus:
+            raise ValueError(f"the secret must be from 0 to {self.modulus - 1}")
+        k = _some(k)
         self._expect_room(k)
         drawn = (secrets.randbelow(self.modulus) for _ in range(k - 1))
-        return self._encoded(lib.nm_erasure_share, [first, *drawn])
+        return self._encoded(lib.nm_erasure_share, [secret, *drawn])
 
     def recover(self, shares: Symbols, k: int) -> int:
         """The secret, computed from the first k shares that aren't lost, which must be right. The exceptions are those of
@@ -174,11 +177,14 @@ class ErasureCode(ByArguments):
         """
         return self.correct(shares, k).message[0]
 
-    def _symbols(self, numbers: Iterable[int], name: str = "each symbol") -> Any:
-        """New words with these symbols. The calls would reduce greater ones, so that others come back."""
+    def _symbols(self, numbers: Iterable[int], places: Sequence[int] | None = None) -> Any:
+        """New words with these symbols, which are at these places of a word, or at 0, 1 and so on. The calls would reduce
+        greater ones, so that others come back. A symbol may be a share, so the exception doesn't show it.
+        """
         listed = list(map(index, numbers))
         if listed and not 0 <= min(listed) <= max(listed) < self.modulus:
-            raise ValueError(f"{name} must be from 0 to m - 1")
+            at = next(at for at, symbol in enumerate(listed) if not 0 <= symbol < self.modulus)
+            raise ValueError(f"symbol {places[at] if places else at} must be from 0 to {self.modulus - 1}")
         return ffi.new("uint64_t[]", listed)
 
     def _encoded(self, call: Any, message: Iterable[int]) -> list[int]:
@@ -209,8 +215,9 @@ class ErasureCode(ByArguments):
         for place in (it for it, _ in there if not 0 <= it < n):
             raise ValueError(f"there is no point {place}: the points have the numbers from 0 to {n - 1}")
         if len(there) < k:
-            fail(lib.NM_TOO_FEW_SYMBOLS)
-        return ffi.new("size_t[]", [place for place, _ in there]), self._symbols(symbol for _, symbol in there)
+            fail(lib.NM_TOO_FEW_SYMBOLS, f"a message of {k} symbols can't be restored from {len(there)}")
+        places = [place for place, _ in there]
+        return ffi.new("size_t[]", places), self._symbols((symbol for _, symbol in there), places)
 
     def _expect_room(self, k: int) -> None:
         """Raises ValueError where a message of k symbols is too long."""
@@ -222,7 +229,7 @@ class ErasureCode(ByArguments):
         n, m = len(self._points), self.modulus
         code = self._restored(ffi.new("size_t[]", list(range(n))), ffi.new("uint64_t[]", n), ffi.new("uint64_t[]", n))
         if code == lib.NM_POINTS_DONT_FIT:
-            first, second = next(pair for pair in combinations(self._points, 2) if gcd(pair[0] - pair[1], m) > 1)
-            of = f"the difference of the points {first} and {second}"
-            raise PointsError(f"{first - second}, {of}, has no inverse modulo {m}")
+            pairs = combinations(enumerate(self._points), 2)
+            (i, first), (j, second) = next(pair for pair in pairs if gcd(pair[0][1] - pair[1][1], m) > 1)
+            raise PointsError(f"points {i} and {j} don't fit: {first} - {second} has no inverse modulo {m}")
         check(code)

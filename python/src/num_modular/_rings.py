@@ -188,7 +188,7 @@ class Montgomery(ByArguments):
         - `("load", dst, n)`
         - `("add", dst, a, b)`, and likewise "sub", "mul" and "div"
         - `("neg", dst, a)`, and likewise "dbl" (the double), "sqr" (the square) and "inv"
-        - `("pow", dst, a, exponent)`
+        - `("pow", dst, a, n)`, with the exponent n
 
         NoInverseError: a command needs an inverse that doesn't exist; see `NoInverseError` for its number and the registers.
         ValueError: a command or a register doesn't exist.
@@ -197,7 +197,7 @@ class Montgomery(ByArguments):
         [10, 20, 6]
         """
         words, is_new = words_of(registers, self.modulus)
-        listed = [self._command(it) for it in commands]
+        listed = [self._command(at, it) for at, it in enumerate(commands)]
         done = ffi.new("size_t *")
         code = lib.nm_montgomery_run(self._context, words, len(words), ffi.new("nm_command_t[]", listed), len(listed), done)
         result = list(words) if is_new else registers
@@ -207,7 +207,11 @@ class Montgomery(ByArguments):
             fault = no_inverse(int(number), self.modulus, f" in command {done[0]}")
             fault.at, fault.registers = done[0], result
             raise fault
-        check(code, "a register doesn't exist")
+        if code != lib.NM_OK:
+            count = len(words)
+            named = ((at, it[field]) for at, it in enumerate(listed) for field in ("dst", "a", "b") if field in it)
+            at, register = next(pair for pair in named if pair[1] >= count)
+            fail(code, f"command {at} names register {register}, but there are {count} registers, counted from 0")
         return result
 
     def _in_place(self, call: Any, xs: Any, root: int | None) -> Any:
@@ -224,17 +228,20 @@ class Montgomery(ByArguments):
             raise no_inverse(n, self.modulus)
         check(code, f"{root} doesn't suit {n} words")
 
-    def _command(self, words: Sequence[Any]) -> dict[str, int]:
+    def _command(self, at: int, words: Sequence[Any]) -> dict[str, int]:
+        """Command number at, for the call of the library."""
         name, *numbers = words
-        if name not in _OPERATIONS or len(numbers) != len(_OPERATIONS[name][1]):
-            raise ValueError(f"{words!r} isn't a command")
+        if name not in _OPERATIONS:
+            raise ValueError(f"command {at}, {words!r}: there is no operation {name!r}")
         operation, fields = _OPERATIONS[name]
+        if len(numbers) != len(fields):
+            raise ValueError(f"command {at}, {words!r}, must be ({name!r}, {', '.join(fields)})")
         command = {"operation": operation}
         for field, number in zip(fields, numbers):
             if field == "n":
-                command[field] = reduced(number, self.modulus) if name == "load" else word(number, "the exponent")
+                command[field] = reduced(number, self.modulus) if name == "load" else word(number, f"the exponent of command {at}")
             else:
-                command[field] = word(number, "the number of a register")
+                command[field] = word(number, f"the number of a register in command {at}")
         return command
 
 
