@@ -238,8 +238,10 @@ class Montgomery(ByArguments):
             raise ValueError(f"command {at}, {words!r}, must be ({name!r}, {', '.join(fields)})")
         command = {"operation": operation}
         for field, number in zip(fields, numbers):
-            if field == "n":
-                command[field] = reduced(number, self.modulus) if name == "load" else word(number, f"the exponent of command {at}")
+            if name == "load" and field == "n":
+                command[field] = reduced(number, self.modulus)
+            elif field == "n":
+                command[field] = word(number, f"the exponent of command {at}")
             else:
                 command[field] = word(number, f"the number of a register in command {at}")
         return command
