@@ -12,7 +12,8 @@ DERIVED = {
     **dict.fromkeys(("RingCommand", "RunEnd", "RestoreError", "ShareError", "CorrectError"), "+Hash"),
     **dict.fromkeys(("PreMulInv2by1", "PlannedModulus"), "-Debug +Hash"),
     **dict.fromkeys(("PrefixHashes", "Patterns", "System"), "+Clone +Copy"),
-    **dict.fromkeys(("Montgomery", "OddRing", "FoldRing", "TrinomialModulus", "Plan", "Plans"), "-Debug"),
+    **dict.fromkeys(("Montgomery", "OddRing", "FoldRing", "TrinomialModulus"), "-Debug"),
+    **dict.fromkeys(("Plan", "OwnedPlan", "Plans"), "-Debug"),
     "FixedMersenne": "-Debug +PartialEq +Eq +Hash",
     "ReducedInt": "-Debug +Clone +Copy",
     "Ring": "-Debug +Clone",
@@ -151,7 +152,13 @@ OF_PLACES = {  # by crate or file
     "fixed": constant("fixed_modulus"),
     "proth": constant("fixed_modulus", "value", "shift_mul"),
     "mersenne": constant("fixed_modulus"),
-    "owned": (("AsSlice < F >", "AsRef<[F]>"), (". as_slice ( )", ".as_ref()")),  # what lends a slice
+    # what lends a slice, of which Rust clones more than what is Copy
+    "owned": (
+        ("AsSlice < F > + Copy", "AsRef<[F]> + Clone"),
+        ("AsSlice < F >", "AsRef<[F]>"),
+        (". as_slice ( )", ".as_ref()"),
+        ("table : self . table ,", "table: self.table.clone(),"),
+    ),
     "split": constant("splits"),
     "convolution": constant("convolves"),
     "standards": constant("standard_codes"),

@@ -14,7 +14,7 @@ use crate::modular_monty::odd_ring::{OddModulus, OddRing};
 use crate::modular_monty::proth::{ProthNumber32, ProthNumber64};
 use crate::modular_prim::reducer_word::ReducerWord;
 use crate::modular_word::path_word::PathWord;
-use crate::plans::{Plan, PlanEntry, PlannedModulus};
+use crate::plans::{OwnedPlan, Plan, PlanEntry, PlannedModulus};
 use crate::{FixedMersenne, ModularInteger, PlainWord, PreModInv, ReducedInt, Reducer};
 use core::fmt;
 use core::hash::{Hash, Hasher};
@@ -134,11 +134,26 @@ impl<T: fmt::Debug> fmt::Debug for PlannedModulus<T> {
     }
 }
 
+fn show_plan<T, F>(name: &str, plan: &Plan<T, F>, f: &mut fmt::Formatter) -> fmt::Result
+where
+    T: PlainWord + fmt::Debug,
+    F: PlanEntry<T>,
+{
+    let (modulus, root, length) = (plan.modulus().modulus, plan.root(), plan.length());
+    f.debug_struct(name).field("modulus", &modulus).field("root", &root).field("length", &length).finish_non_exhaustive()
+}
+
 impl<T: PlainWord + fmt::Debug, F: PlanEntry<T>> fmt::Debug for Plan<'_, T, F> {
     /// The modulus, the root and the number of entries, without the table.
     fn fmt(&self, f: &mut fmt::Formatter) -> fmt::Result {
-        let (modulus, root, length) = (self.modulus().modulus, self.root(), self.length());
-        f.debug_struct("Plan").field("modulus", &modulus).field("root", &root).field("length", &length).finish_non_exhaustive()
+        show_plan("Plan", self, f)
+    }
+}
+
+impl<T: PlainWord + fmt::Debug, F: PlanEntry<T>, S: AsRef<[F]>> fmt::Debug for OwnedPlan<T, F, S> {
+    /// The modulus, the root and the number of entries, without the table.
+    fn fmt(&self, f: &mut fmt::Formatter) -> fmt::Result {
+        show_plan("OwnedPlan", &self.plan(), f)
     }
 }
 
@@ -216,6 +231,15 @@ impl<T: PlainWord, F: PlanEntry<T>> PartialEq for Plan<'_, T, F> {
 }
 
 impl<T: PlainWord, F: PlanEntry<T>> Eq for Plan<'_, T, F> {}
+
+impl<T: PlainWord, F: PlanEntry<T>, S: AsRef<[F]>> PartialEq for OwnedPlan<T, F, S> {
+    /// Whether modulus, root and length are equal, which determine the table.
+    fn eq(&self, other: &Self) -> bool {
+        self.plan() == other.plan()
+    }
+}
+
+impl<T: PlainWord, F: PlanEntry<T>, S: AsRef<[F]>> Eq for OwnedPlan<T, F, S> {}
 
 // What only borrows is copied whatever it borrows.
 impl<T, R> Clone for PreparedCode<'_, T, R> {

@@ -5,7 +5,6 @@ use num_modular::PlainWord;
 use std::mem::size_of;
 
 /// A ring of polynomials modulo X^n + 1, without bounds.
-#[derive(Debug)]
 struct Ring<T, F, S> {
     plan: OwnedPlan<T, F, S>,
 }
@@ -67,7 +66,34 @@ fn a_clone_has_its_own_table() {
     let mut xs = [67, 66, 65, 64, 1, 2, 3, 4];
     copy.plan().convolve_negacyclic(&mut xs, &mut [5, 6, 7, 8, 9, 10, 11, 12]);
     assert_eq!(xs, [5, 1, 9, 10, 8, 9, 15, 11]);
+    let modulus = PlannedModulus::<u32>::new(17);
+    let plan = OwnedPlan::with_table(&modulus, 4, vec![modulus.factor(1), modulus.factor(4)]).unwrap();
+    let copy = plan.clone();
+    drop(plan);
+    let mut xs = [1, 2, 3, 4];
+    copy.plan().convolve_negacyclic(&mut xs, &mut [0, 1, 0, 0]);
+    assert_eq!(xs, [13, 1, 2, 3]);
     assert_eq!(size_of::<OwnedPlan<u32, Entry, [Entry; 4]>>(), size_of::<PlannedModulus<u32>>() + 4 + 4 * size_of::<Entry>());
+}
+
+#[test]
+fn plans_are_compared_and_shown_without_their_tables() {
+    /// A struct that derives what its plan has.
+    #[derive(Clone, Debug, PartialEq, Eq)]
+    struct Owner<T: PlainWord, F: PlanEntry<T>, S: AsRef<[F]>>(OwnedPlan<T, F, S>);
+
+    let modulus = PlannedModulus::<u64>::new(97);
+    let by = |g: u64, count: usize| {
+        let mut table = vec![Factor::<u64>::ZERO; count];
+        assert!(Plan::new(&modulus, g, &mut table).is_some());
+        Owner(OwnedPlan::with_table(&modulus, g, table).unwrap())
+    };
+    let owner = by(22, 2);
+    assert_eq!(owner, by(22, 2));
+    assert_eq!(owner, owner.clone());
+    assert_ne!(owner, by(75, 2)); // another root of 4 entries
+    assert_ne!(by(96, 1), by(22, 2)); // another length
+    assert_eq!(format!("{owner:?}"), "Owner(OwnedPlan { modulus: 97, root: 22, length: 4, .. })");
 }
 
 #[test]

@@ -7,7 +7,7 @@ use num_modular::applications::long_product::Plans;
 use num_modular::applications::mersenne_hash::prefixes::{Patterns, PrefixHashes};
 use num_modular::applications::residue_numbers::{mixed_radix::System, ResidueSystem};
 use num_modular::applications::ring_codes::erasure::{CorrectError, PreparedCode, RestoreError, ShareError};
-use num_modular::plans::{Factor, Plan, PlannedModulus};
+use num_modular::plans::{Factor, OwnedPlan, Plan, PlannedModulus};
 use num_modular::ring::{RingCommand, RunEnd};
 use num_modular::{
     FixedMersenne, FixedMersenne32, FixedMersenne64, FixedMersenneInt64, FixedMontgomery32, FixedMontgomery64, FixedProth32, FixedProth64,
@@ -20,6 +20,7 @@ use std::hash::Hash;
 
 fn borrows<T: Debug + Copy + Send + Sync>() {}
 fn compared<T: Debug + Copy + Eq + Send + Sync>() {}
+fn kept<T: Debug + Clone + Eq + Send + Sync>() {}
 fn hashed<T: Debug + Copy + Eq + Hash + Send + Sync>() {}
 fn made<T: Debug + Copy + Eq + Hash + Default>() {}
 fn table<T: Debug + Clone + Default>() {}
@@ -43,6 +44,7 @@ are! {
     made: Factor<u64>;
     hashed: PlannedModulus<u64>, RingCommand<u64>, RunEnd, Code<'static>, ResidueSystem<'static>;
     compared: Plan<'static, u64, Factor<u64>>;
+    kept: OwnedPlan<u64, Factor<u64>, [Factor<u64>; 2]>, OwnedPlan<u64, Factor<u64>, Vec<Factor<u64>>>;
     borrows: PreparedCode<'static, u64, Vanilla<u64>>, PrefixHashes<'static>, Patterns<'static>, System<'static>;
     table: ml_dsa::Ring, ml_kem::Ring;
     error: RestoreError, ShareError, CorrectError<u64>;

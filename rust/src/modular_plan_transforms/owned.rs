@@ -36,7 +36,6 @@ use core::marker::PhantomData;
 /// ring.multiply(&mut product, &mut [0, 1, 0, 0]);
 /// assert_eq!(product, [13, 1, 2, 3]); // X^4 is -1
 /// ```
-#[derive(Debug)]
 #[must_use]
 pub struct OwnedPlan<T, F, S> {
     modulus: PlannedModulus<T>,
@@ -45,13 +44,13 @@ pub struct OwnedPlan<T, F, S> {
     entry: PhantomData<F>,
 }
 
-impl<T: PathWord, F: PlanEntry<T>, S: AsRef<[F]> + Copy> Clone for OwnedPlan<T, F, S> {
+impl<T: PathWord, F: PlanEntry<T>, S: AsRef<[F]> + Clone> Clone for OwnedPlan<T, F, S> {
     #[inline]
     fn clone(&self) -> Self {
         OwnedPlan {
             modulus: self.modulus,
             root: self.root,
-            table: self.table,
+            table: self.table.clone(),
             entry: PhantomData,
         }
     }
