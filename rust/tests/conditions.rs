@@ -248,12 +248,11 @@ fn transforms_by_plans() {
     panic_in_debug_with!("the entries must be below 4m"; planned_transform([1, 2, 3, 400]));
     let words = message(|| planned_transform([4000, 2, 3, 4])).unwrap_or_default();
     assert_eq!(words, "the entries must be below 4m");
-    let lengths = "the number of entries must be `last` times a power of two, and the table must have";
-    let split_lengths = format!("{lengths} at least (b + 1)·(count/2) entries");
-    panic_with!(format!("{split_lengths}: 3 entries, 2 factors, b = 0, last = 1"); planned_transform([1, 2, 3]));
-    panic_with!(format!("{split_lengths}: 8 entries, 2 factors, b = 0, last = 1"); planned_transform([1, 2, 3, 4, 5, 6, 7, 8]));
-    panic_with!(format!("{split_lengths}: 4 entries, 2 factors, b = 1, last = 1"); split(&modulus, &mut [1, 2, 3, 4], &table, 1, 1));
-    panic_with!(format!("{lengths} (b + 1)·count/2 entries or more: 4 entries, 1 factors, b = 0, last = 1");
+    let lengths = "the number of entries must be `last` times a power of two, and the table must have at least (b + 1)·(count/2) entries";
+    panic_with!(format!("{lengths}: 3 entries, 2 factors, b = 0, last = 1"); planned_transform([1, 2, 3]));
+    panic_with!(format!("{lengths}: 8 entries, 2 factors, b = 0, last = 1"); planned_transform([1, 2, 3, 4, 5, 6, 7, 8]));
+    panic_with!(format!("{lengths}: 4 entries, 2 factors, b = 1, last = 1"); split(&modulus, &mut [1, 2, 3, 4], &table, 1, 1));
+    panic_with!(format!("{lengths}: 4 entries, 1 factors, b = 0, last = 1");
         join(&modulus, &mut [1, 2, 3, 4], &table[..1], 0, 1));
     let other = PlannedModulus::<u64>::new(89);
     panic_in_debug_with!("the table's entries must be factors modulo m"; split(&other, &mut [1, 2, 3, 4], &table, 0, 1));
@@ -300,7 +299,7 @@ fn tables_that_were_never_filled() {
 fn products_by_plans() {
     let (modulus, table) = planned();
     panic_with!("the lists must have the same length: 2 and 4"; convolve_planned(&modulus, &mut [1, 2], &mut [1, 2, 3, 4], &table, 1));
-    let lengths = "`last` must be 1 or 2, the length must be `last` times a power of two, and the table must have (b + 1)·n/last/2 entries or more";
+    let lengths = "`last` must be 1 or 2, the length must be `last` times a power of two, and (b + 1)·(n/last) must be at most twice the table's length";
     panic_with!(format!("{lengths}: 4 entries, 2 factors, b = 0, last = 4");
         convolve_planned(&modulus, &mut [1, 2, 3, 4], &mut [1, 2, 3, 4], &table, 4));
     panic_with!(format!("{lengths}: 4 entries, 2 factors, b = 0, last = 0");
