@@ -25,7 +25,7 @@ fn ring() -> Vanilla<u64> {
 #[test]
 fn forms_and_scratch() {
     let ring = Montgomery::<u64>::new(97);
-    panic_with!("the scratch list must have as many entries as there are forms";
+    panic_with!("`scratch` must have as many entries as there are forms";
         invert_each(&ring, &mut [1; 3], &mut [0; 2]), invert_each(&ring, &mut [1; 3], &mut [0; 4]));
     panic_in_debug_with!("the forms must be checked"; invert_each(&ring, &mut [97], &mut [0]), unload_forms(&ring, &[97], &mut [0]));
     panic_with!("there must be at least as many forms as places"; unload_forms(&ring, &[1; 2], &mut [0; 3]));
@@ -38,7 +38,8 @@ fn factors_and_words_of_planned_moduli() {
     assert_eq!((modulus.multiply(96, 1000), modulus.product_sum(96, 1, 96, 2)), (96 * 1000 % 97, 96 * 3 % 97));
     panic_in_debug_with!("x must be below m"; modulus.multiply(1000, 5));
     panic_in_debug_with!("x + u must be below 2m"; modulus.product_sum(97, 1, 97, 1), modulus.product_sum(1, 1, u64::MAX, 1));
-    panic_in_debug_with!("the factor must be a residue modulo m"; modulus.product(5, &other), modulus.times(5, &other));
+    panic_in_debug_with!("the factor was made by this modulus: its value must be below m, and its quotient must be value·B/m, rounded down";
+        modulus.product(5, &other), modulus.times(5, &other));
 }
 
 #[test]
