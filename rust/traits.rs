@@ -19,7 +19,7 @@ use crate::{FixedMersenne, ModularInteger, PlainWord, PreModInv, ReducedInt, Red
 use core::fmt;
 use core::hash::{Hash, Hasher};
 use core::iter::{Product, Sum};
-use core::ops::DivAssign;
+use core::ops::{Div, DivAssign};
 
 impl<T: PartialEq + Clone + fmt::Display, R: Reducer<T> + Clone> fmt::Display for ReducedInt<T, R> {
     /// The residue.
@@ -59,19 +59,45 @@ impl<T: PartialEq + Clone + Hash, R: Reducer<T> + Clone> Hash for ReducedInt<T, 
     }
 }
 
-impl<T: PartialEq + Clone, R: Reducer<T> + Clone> DivAssign for ReducedInt<T, R> {
-    #[cfg_attr(debug_assertions, track_caller)]
-    fn div_assign(&mut self, rhs: Self) {
-        *self = self.clone() / rhs;
-    }
+// Words on the right of a division, as the proved operators have them on the right of the others.
+macro_rules! divided_by_words {
+    ($($integer:ty, $word:ty;)*) => {$(
+        impl<T: PartialEq + Clone, R: Reducer<T> + Clone> Div<$word> for $integer {
+            type Output = ReducedInt<T, R>;
+
+            /// The quotient by a word n.
+            ///
+            /// # Panics
+            ///
+            /// Panics unless n has an inverse modulo m.
+            #[cfg_attr(debug_assertions, track_caller)]
+            fn div(self, n: $word) -> ReducedInt<T, R> {
+                let divisor = self.convert(n.clone());
+                self / divisor
+            }
+        }
+    )*};
 }
 
-impl<T: PartialEq + Clone, R: Reducer<T> + Clone> DivAssign<&Self> for ReducedInt<T, R> {
-    #[cfg_attr(debug_assertions, track_caller)]
-    fn div_assign(&mut self, rhs: &Self) {
-        *self = self.clone() / rhs;
-    }
+divided_by_words! {
+    ReducedInt<T, R>, T;
+    ReducedInt<T, R>, &T;
+    &ReducedInt<T, R>, T;
+    &ReducedInt<T, R>, &T;
 }
+
+macro_rules! divided_in_place {
+    ($($divisor:ty;)*) => {$(
+        impl<T: PartialEq + Clone, R: Reducer<T> + Clone> DivAssign<$divisor> for ReducedInt<T, R> {
+            #[cfg_attr(debug_assertions, track_caller)]
+            fn div_assign(&mut self, rhs: $divisor) {
+                *self = self.clone() / rhs;
+            }
+        }
+    )*};
+}
+
+divided_in_place!(ReducedInt<T, R>; &ReducedInt<T, R>; T; &T;);
 
 // A fixed reducer shows its alias and its modulus.
 macro_rules! shown {

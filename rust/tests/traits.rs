@@ -11,7 +11,7 @@ use num_modular::plans::{Factor, OwnedPlan, Plan, PlannedModulus};
 use num_modular::ring::{RingCommand, RunEnd};
 use num_modular::{
     FixedMersenne, FixedMersenne32, FixedMersenne64, FixedMersenneInt64, FixedMontgomery32, FixedMontgomery64, FixedProth32, FixedProth64,
-    FixedTrinomialSolinas32, FixedTrinomialSolinas64, Montgomery, MontgomeryInt, Normalized2by1Divisor, PreModInv, PreMulInv1by1,
+    FixedTrinomialSolinas32, FixedTrinomialSolinas64, ModularInteger, Montgomery, MontgomeryInt, Normalized2by1Divisor, PreModInv, PreMulInv1by1,
     PreMulInv2by1, Reducer, Vanilla, VanillaInt,
 };
 use std::collections::HashSet;
@@ -78,6 +78,18 @@ fn equal_plans() {
     let plan = Plan::new(&modulus, 22, first).unwrap();
     assert_eq!(plan, Plan::new(&modulus, 22, second).unwrap());
     assert_ne!(plan, Plan::new(&modulus, 75, third).unwrap());
+}
+
+#[test]
+fn integers_are_divided_by_words() {
+    let x = VanillaInt::<u8>::new(10, &21);
+    let (borrowed, four) = (&x, &4);
+    assert_eq!([x / 4, x / four, borrowed / 4, borrowed / four].map(|it| it.residue()), [13; 4]); // 4 * 13 = 2 * 21 + 10
+    assert_eq!((x / 25).residue(), 13); // a word counts by its residue
+    let mut y = x;
+    y /= 4;
+    y /= &5;
+    assert_eq!((y * 20).residue(), 10);
 }
 
 #[test]
