@@ -84,15 +84,22 @@ impl<'a, T: PlainWord, F: PlanEntry<T>> Plan<'a, T, F> {
     /// Modulo an even m the number n would have no inverse, and so the transform would have none. Where it returns
     /// `None`, it has written nothing to the table. This isn't proved, because the result borrows the table.
     ///
+    /// g is a residue. `find_root` returns the form of a root, which over `Vanilla` is the residue itself; over another
+    /// reducer r, pass `r.residue(form)`.
+    ///
     /// # Examples
     ///
     /// ```
     /// use num_modular::plans::{Factor, Plan, PlannedModulus};
+    /// use num_modular::ring::find_root;
+    /// use num_modular::{Reducer, Vanilla};
     ///
     /// let modulus = PlannedModulus::<u64>::new(17);
     /// let mut table = [Factor::<u64>::ZERO; 2];
     /// assert!(Plan::new(&modulus, 4, &mut table).is_some()); // 4^2 = 17 - 1
     /// assert!(Plan::new(&modulus, 2, &mut table).is_none());
+    /// let root = find_root(&Vanilla::<u64>::new(&17), 4).unwrap();
+    /// assert!(Plan::new(&modulus, root, &mut table).is_some());
     /// ```
     pub fn new(m: &PlannedModulus<T>, g: T, table: &'a mut [F]) -> Option<Self>
         ensures { let modulus = T.number m.now.modulus in let n = 2 * length table.old in

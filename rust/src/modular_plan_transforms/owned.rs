@@ -60,14 +60,20 @@ impl<T: PlainWord, F: PlanEntry<T>, const N: usize> OwnedPlan<T, F, [F; N]> {
     /// The plan by g for n = 2·N entries, with an array of N factors. `None` exactly where m is even, g isn't below m, or g
     /// doesn't suit n.
     ///
+    /// g is a residue, such as `find_root` over `Vanilla` returns: other reducers return a form of it (see `Plan::new`).
+    ///
     /// # Examples
     ///
     /// ```
     /// use num_modular::plans::{Factor, OwnedPlan, PlannedModulus};
+    /// use num_modular::ring::find_root;
+    /// use num_modular::{Reducer, Vanilla};
     ///
     /// let modulus = PlannedModulus::<u64>::new(17);
     /// assert!(OwnedPlan::<u64, Factor<u64>, [_; 2]>::new(&modulus, 4).is_some()); // 4^2 = 17 - 1
     /// assert!(OwnedPlan::<u64, Factor<u64>, [_; 4]>::new(&modulus, 4).is_none());
+    /// let root = find_root(&Vanilla::<u64>::new(&17), 8).unwrap();
+    /// assert!(OwnedPlan::<u64, Factor<u64>, [_; 4]>::new(&modulus, root).is_some());
     /// ```
     pub fn new(m: &PlannedModulus<T>, g: T) -> Option<Self> {
         if !m.modulus.is_odd() {
