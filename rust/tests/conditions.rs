@@ -1,4 +1,4 @@
-//! Calls outside their conditions, which the checker refuses and rustc doesn't: each cell of the table in README.md, with the
+//! Calls outside their conditions, which the checker refuses and rustc doesn't: each line of the lists in README.md, with the
 //! words of the panic, whose place is the call. docs/DIFFERENCES.md compares some of these with the Rust crate.
 
 #![allow(unstable_name_collisions)]
