@@ -176,7 +176,8 @@ class Promise:
         uses = re.findall(r"^ghost use [^;]*;", self.of.whole, re.M)
         for place, names in re.findall(r"^use ([\w:]+?)::(\w+|\{[^}]*\});", self.of.whole, re.M):
             place = re.sub(r"^crate\b", self.crate, place) if function.crate != self.crate else place
-            uses += [f"use {place}::{it};" for it in re.findall(r"\w+", names) if re.search(rf"\b{it}\b", said)]
+            brought = (it for it in re.findall(r"\w+", names) if it != self.name)
+            uses += [f"use {place}::{it};" for it in brought if re.search(rf"\b{it}\b", said)]
         if function.file != self.of.file:
             own = "::".join(["crate" if function.crate == self.crate else self.crate, *module_of(self.of.file)])
             declared = re.findall(r"^pub (?:struct|trait|type|enum) (\w+)", self.of.whole, re.M)
