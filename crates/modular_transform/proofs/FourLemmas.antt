@@ -58,13 +58,10 @@ four_by is_p is_q is_s four = record {
       four.differences);
 }
 
--- nothing is done where there are no blocks or no columns
-pub none_done : (m : ℕ) (p q s : ℕ → ℕ) (h a b c d : ℕ) (x : ℕ → ℕ)
-    → ((n i : ℕ) → a ≤ n → n < b → c ≤ i → i < d → ⊥) → FoursDone m p q s h a b c d x x
-none_done m p q s h a b c d x empty = record {
-  fours = λ n i u v k l. absurd (empty n i u v k l);
-  kept = λ n j i u l outside. refl;
-}
+-- the same four values by powers that are congruent
+pub done_by : {m p q s h k p' q' s' : ℕ} {x y : ℕ → ℕ} → Congruent m p p' → Congruent m q q' → Congruent m s s'
+    → FourDone m p q s h k x y → FourDone m p' q' s' h k x y
+done_by is_p is_q is_s done = record { four = four_by is_p is_q is_s done.four; kept = done.kept }
 
 -- a place names its block and its column
 placed : (h c j l b t i : ℕ) → j < 4 → t < 4 → l < h → i < h
@@ -137,16 +134,6 @@ blocks_joined {m} {h} {a} {b} {c} {d} {e} x y z la lb ld one two = record {
   kept = λ n j i lj l outside.
       two.kept n j i lj l (λ u v k f. outside (omega arith) v k f)
       ∙ one.kept n j i lj l (λ u v k f. outside u (omega arith) k f);
-}
-
--- the same fours by powers that are congruent
-pub done_by : {m h a b c d : ℕ} {p q s p' q' s' : ℕ → ℕ} (x y : ℕ → ℕ)
-    → ((i : ℕ) → c ≤ i → i < d → Congruent m (p i) (p' i)) → ((i : ℕ) → c ≤ i → i < d → Congruent m (q i) (q' i))
-    → ((i : ℕ) → c ≤ i → i < d → Congruent m (s i) (s' i))
-    → FoursDone m p q s h a b c d x y → FoursDone m p' q' s' h a b c d x y
-done_by x y is_p is_q is_s done = record {
-  fours = λ n i u v k l. four_by (is_p i k l) (is_q i k l) (is_s i k l) (done.fours n i u v k l);
-  kept = done.kept;
 }
 
 -- the places of a block are places of the list

@@ -1,4 +1,5 @@
 pub mod BitReversal
+pub mod Columns
 pub mod ConvolveLemmas
 pub mod CyclicProducts
 pub mod FourLemmas

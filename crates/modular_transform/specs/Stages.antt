@@ -1,6 +1,6 @@
 -- The stages of a transform in place: blocks of h + h values, in which the values h apart form pairs (Gentleman and
 -- Sande, "Fast Fourier transforms: for fun and profit", section 2). The names are the library's own words.
-use Rattle.std.specs.Prelude.{◌≡◌, ◌≢◌, ℕ, ◌+◌, ◌*◌, ◌%◌, ◌^◌, ◌<◌, ◌≤◌, pos, ◌-ℤ◌}
+use Rattle.std.specs.Prelude.{◌≡◌, ◌≢◌, ℕ, ◌+◌, ◌*◌, ◌%◌, ◌^◌, ◌<◌, pos, ◌-ℤ◌}
 use Rattle.modular_word.specs.Congruence.{Congruent}
 use Rattle.modular_word.specs.Residues.{residue}
 use Rattle.modular_reduced.specs.Forms.{IsForm}
@@ -22,14 +22,6 @@ high h p i = p * (h + h) + (h + i)
 pub record PairDone (m power first second : ℕ) (x y : ℕ → ℕ) : Type 0 where
   pub pair : IsPair m power (x first) (x second) (y first) (y second)
   pub kept : (k : ℕ) → k ≢ first → k ≢ second → y k ≡ x k
-
--- from the values x to the values y, the pairs of the blocks from a to b - 1 in the columns from c to d - 1 are
--- done and no others
-pub record PairsDone (m : ℕ) (power : ℕ → ℕ) (h a b c d : ℕ) (x y : ℕ → ℕ) : Type 0 where
-  pub pairs : (p i : ℕ) → a ≤ p → p < b → c ≤ i → i < d
-      → IsPair m (power i) (x (low h p i)) (x (high h p i)) (y (low h p i)) (y (high h p i))
-  pub kept : (p i : ℕ) → i < h → (a ≤ p → p < b → c ≤ i → i < d → ⊥)
-      → (y (low h p i) ≡ x (low h p i)) × (y (high h p i) ≡ x (high h p i))
 
 -- from the values x to the values y, a stage with the root w is done: every pair, in column i by w^i
 pub record IsStage (m w h blocks : ℕ) (x y : ℕ → ℕ) : Type 0 where

@@ -6,7 +6,7 @@ ghost use Rattle.modular_reduced.specs.Values.{values_of, HoldValues};
 ghost use Rattle.modular_transform.specs.Transforms.{Suits, transform};
 
 use crate::order::reverse_places;
-use crate::stage::stage;
+use crate::stage::first_stage;
 use crate::two_stages::two_stages;
 use modular_reduced::reducer::Reducer;
 use modular_word::ring_word::RingWord;
@@ -87,7 +87,7 @@ pub fn ntt_counted<T: RingWord, R: Reducer<T>>(r: &R, xs: &mut [T], g: &T) -> u1
     let mut blocks = 1;
     let mut done = 0;
     if stages % 2 == 1 {
-        products += stage(r, xs, half, 1, g) as u128;
+        products += first_stage(r, xs, half, g) as u128;
         half /= 2;
         blocks = 2;
         done = 1;

@@ -1,7 +1,7 @@
 //! The number-theoretic transform in place.
 
 use crate::modular_transform::order::reverse_places;
-use crate::modular_transform::stage::stage;
+use crate::modular_transform::stage::first_stage;
 use crate::modular_transform::two_stages::two_stages;
 use crate::modular_reduced::reducer::Reducer;
 use crate::modular_word::ring_word::RingWord;
@@ -79,7 +79,7 @@ pub fn ntt_counted<T: RingWord, R: Reducer<T>>(r: &R, xs: &mut [T], g: &T) -> u1
     let mut blocks = 1;
     let mut done = 0;
     if stages % 2 == 1 {
-        products += stage(r, xs, half, 1, g) as u128;
+        products += first_stage(r, xs, half, g) as u128;
         half /= 2;
         blocks = 2;
         done = 1;

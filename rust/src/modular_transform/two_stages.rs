@@ -1,20 +1,31 @@
 //! Two stages of a transform in one pass, which loads and stores each entry once.
 
-use crate::modular_transform::stage::STRIP;
 use crate::modular_reduced::reducer::Reducer;
 use crate::modular_word::ring_word::RingWord;
 
-// Two stages of the entries at `place` and 1, 2 and 3 steps after it: first the pairs two steps apart, with the
-// powers `first` and `second`, then the pairs one step apart, with the power `both`. It takes four products.
+// The number of columns of a strip. Their powers are kept on the stack, and in each block their entries are
+// neighbours in memory.
+const STRIP: usize = 64;
+
+// The powers of a column: of its pairs two steps apart, and of its pairs one step apart.
+struct Column<T> {
+    first: T,
+    second: T,
+    both: T,
+}
+
+// Two stages of a column of a block, `step` being the number of its columns: first the pairs two steps apart, then the
+// pairs one step apart. It takes four products.
+#[inline(always)]
 fn four<T: RingWord, R: Reducer<T>>(
     r: &R,
     forms: &mut [T],
-    place: usize,
     step: usize,
-    first: &T,
-    second: &T,
-    both: &T,
+    block: usize,
+    index: usize,
+    column: &Column<T>,
 ) {
+    let place = block * (4 * step) + index;
     let (second_place, third_place, fourth_place) = (
         place + step,
         place + 2 * step,
@@ -26,16 +37,18 @@ fn four<T: RingWord, R: Reducer<T>>(
     let d = forms[fourth_place];
     let left = r.add(&a, &c);
     let right = r.add(&b, &d);
-    let left_turned = r.mul_difference(&a, &c, first);
-    let right_turned = r.mul_difference(&b, &d, second);
+    let left_turned = r.mul_difference(&a, &c, &column.first);
+    let right_turned = r.mul_difference(&b, &d, &column.second);
     forms[place] = r.add(&left, &right);
-    forms[second_place] = r.mul_difference(&left, &right, both);
+    forms[second_place] = r.mul_difference(&left, &right, &column.both);
     forms[third_place] = r.add(&left_turned, &right_turned);
-    forms[fourth_place] = r.mul_difference(&left_turned, &right_turned, both);
+    forms[fourth_place] = r.mul_difference(&left_turned, &right_turned, &column.both);
 }
 
 /// Two stages, the first with a root and 2·step columns, the second with its square and `step` columns. `turned` is
 /// the power `step` of the root. Returns the number of products.
+///
+/// The columns are processed in strips, so that consecutive accesses are close in memory.
 ///
 /// # Preconditions
 ///
@@ -51,34 +64,41 @@ pub fn two_stages<T: RingWord, R: Reducer<T>>(
     turned: &T,
 ) -> u128 {
     let one = r.transform(T::one());
-    let mut power = one;
-    let mut turned_power = *turned;
-    let mut square_power = one;
+    let mut column = Column {
+        first: one,
+        second: *turned,
+        both: one,
+    };
     let mut firsts = [one; STRIP];
     let mut seconds = [one; STRIP];
     let mut boths = [one; STRIP];
-    let mut column = 0;
+    let mut start = 0;
     let mut products = 0;
-    while column < step {
-        let width = STRIP.min(step - column);
+    while start < step {
+        let width = STRIP.min(step - start);
         for i in 0..width {
-            firsts[i] = power;
-            seconds[i] = turned_power;
-            boths[i] = square_power;
-            power = r.mul(&power, root);
-            turned_power = r.mul(&turned_power, root);
-            square_power = r.mul(&square_power, square);
+            firsts[i] = column.first;
+            seconds[i] = column.second;
+            boths[i] = column.both;
+            column = Column {
+                first: r.mul(&column.first, root),
+                second: r.mul(&column.second, root),
+                both: r.mul(&column.both, square),
+            };
             products += 3;
         }
         for block in 0..blocks {
-            let place = block * (4 * step) + column;
             for k in 0..width {
-                let (first, second, both) = (firsts[k], seconds[k], boths[k]);
-                four(r, forms, place + k, step, &first, &second, &both);
+                let column = Column {
+                    first: firsts[k],
+                    second: seconds[k],
+                    both: boths[k],
+                };
+                four(r, forms, step, block, start + k, &column);
                 products += 4;
             }
         }
-        column += width;
+        start += width;
     }
     products
 }

@@ -142,17 +142,18 @@ passes-init g c =
           let half = w.half-is in
           let blocks = w.blocks-is in
           let products = w.products-is in
-          let count = products_more z 0 n (n / 2) 1 c.roots.products w.stage.result z sizes
-          (omega (arith, squares, all, size)) w.stage.ensures.count in
+          let two : n / 2 + n / 2 ≡ n / 2 * 2 = omega arith in
+          let count = products_more z 0 n (n / 2) 1 c.roots.products w.first_stage.result z sizes
+          (omega (arith, squares, all, size)) (w.first_stage.ensures.count ∙ two) in
           record {
-            checked = subst All_forms (sym w.xs-is) w.stage.ensures.checked;
+            checked = subst All_forms (sym w.xs-is) w.first_stage.ensures.checked;
             upto = omega (arith, odd, done);
             even = omega (arith, odd, done);
             half = omega (arith, half, left, next);
             blocks = omega (arith, blocks, powers, more);
-            transforms = moved (0 + 1) w.stage.new.forms done w.xs-is
-                (blocks_more root z 0 n (n / 2) 1 root x x (of w.stage.new.forms) sizes refl (omega (arith, next, some))
-                c.requires.suits (mod_of_eq (sym (pow-one root))) start w.stage.ensures.stage);
+            transforms = moved (0 + 1) w.first_stage.new.forms done w.xs-is
+                (blocks_more root z 0 n (n / 2) 1 root x x (of w.first_stage.new.forms) sizes refl (omega (arith, next, some))
+                c.requires.suits (mod_of_eq (sym (pow-one root))) start w.first_stage.ensures.stage);
             count = omega (arith, products, count, left, rows, done);
           }
       | else-stages-eq1 w ↦
@@ -176,8 +177,8 @@ passes-init g c =
           }
     ]
 
-pub stage-requires-clause-whole : goal.stage-requires-clause-whole
-stage-requires-clause-whole g c =
+pub first_stage-requires-clause-whole : goal.first_stage-requires-clause-whole
+first_stage-requires-clause-whole g c =
     let n = length c.args.xs.now in
     let z = trailing_zeros w64 n in
     let below : n < 2 ^ 64 = c.well_formed.1.0.0 in
@@ -185,7 +186,8 @@ stage-requires-clause-whole g c =
     let odd : z % 2 ≡ 1 = c.if-stages-eq1.true in
     let zero : z - 0 ≡ z = omega arith in
     let size : n ≡ 2 ^ (z - 0) = whole ∙ ap (λ k. 2 ^ k) (sym zero) in
-    (stage_sizes z 0 n (n / 2) 1 (omega (arith, odd)) whole (ap (λ v. v / 2) size) refl).whole
+    let one = (stage_sizes z 0 n (n / 2) 1 (omega (arith, odd)) whole (ap (λ v. v / 2) size) refl).whole in
+    omega (arith, one)
 
 pub passes-preserved : goal.passes-preserved
 passes-preserved g c =
@@ -362,8 +364,8 @@ offset_bounds-roots-stages g c =
     stage_offset _ (stages_left c.passes.invariant.even c.passes-test.true).turn
     (suited_length c.requires.suits c.well_formed.1.0.0) c.well_formed.1.0.1
 
-pub stage-requires-clause-checked : goal.stage-requires-clause-checked
-stage-requires-clause-checked g c = c.requires.checked
+pub first_stage-requires-clause-checked : goal.first_stage-requires-clause-checked
+first_stage-requires-clause-checked g c = c.requires.checked
 
 pub two_stages-products-requires-clause-checked : goal.two_stages-products-requires-clause-checked
 two_stages-products-requires-clause-checked g c = c.passes.invariant.checked
@@ -392,8 +394,8 @@ pub sqr-root-requires : goal.sqr-root-requires
 sqr-root-requires g c =
     c.roots.invariant.form
 
-pub stage-requires-clause-root : goal.stage-requires-clause-root
-stage-requires-clause-root g c =
+pub first_stage-requires-clause-root : goal.first_stage-requires-clause-root
+first_stage-requires-clause-root g c =
     c.requires.root
 
 pub two_stages-products-requires-clause-some : goal.two_stages-products-requires-clause-some
