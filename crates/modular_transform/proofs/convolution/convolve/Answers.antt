@@ -6,30 +6,6 @@ use Rattle.modular_transform.proofs.ConvolveLemmas.{inverse_along}
 use Rattle.modular_transform.proofs.ValueLemmas.{held_value}
 use Rattle.modular_transform.proofs.convolution.convolve.Goals as goal
 
-pub length_form-length-requires : goal.length_form-length-requires
-length_form-length-requires g c = c.requires.suits.power_of_two
-
-pub inv-requires : goal.inv-requires
-inv-requires g c = c.length_form-length.ensures.form
-
-pub multiply-requires-clause-checked_xs : goal.multiply-requires-clause-checked_xs
-multiply-requires-clause-checked_xs g c = c.requires.checked_xs
-
-pub multiply-requires-clause-checked_ys : goal.multiply-requires-clause-checked_ys
-multiply-requires-clause-checked_ys g c = c.requires.checked_ys
-
-pub multiply-requires-clause-root : goal.multiply-requires-clause-root
-multiply-requires-clause-root g c = c.requires.root
-
-pub multiply-requires-clause-suits : goal.multiply-requires-clause-suits
-multiply-requires-clause-suits g c = c.requires.suits
-
-pub multiply-requires-clause-equal : goal.multiply-requires-clause-equal
-multiply-requires-clause-equal g c = c.requires.equal
-
-pub multiply-requires-clause-part : goal.multiply-requires-clause-part
-multiply-requires-clause-part g c = c.in-Some.ensures.checked
-
 pub multiply-requires-clause-inverse : goal.multiply-requires-clause-inverse
 multiply-requires-clause-inverse g c =
     let m = g.R.Reducer.modulus c.args.r.now in

@@ -10,21 +10,6 @@ use Rattle.modular_transform.proofs.ConvolveLemmas.{inverse_along}
 use Rattle.modular_transform.proofs.TransformBack.{undone_at, restored_at}
 use Rattle.modular_transform.proofs.inverse.intt.Goals as goal
 
-pub length_form-length-requires : goal.length_form-length-requires
-length_form-length-requires g c = c.requires.suits.power_of_two
-
-pub inv-requires : goal.inv-requires
-inv-requires g c = c.length_form-length.ensures.form
-
-pub transform_back-requires-clause-checked : goal.transform_back-requires-clause-checked
-transform_back-requires-clause-checked g c = c.requires.checked
-
-pub transform_back-requires-clause-root : goal.transform_back-requires-clause-root
-transform_back-requires-clause-root g c = c.requires.root
-
-pub transform_back-requires-clause-suits : goal.transform_back-requires-clause-suits
-transform_back-requires-clause-suits g c = c.requires.suits
-
 pub returns-in-Some-clause-inverse : goal.returns-in-Some-clause-inverse
 returns-in-Some-clause-inverse g c =
     let found = c.in-Some.ensures.form in

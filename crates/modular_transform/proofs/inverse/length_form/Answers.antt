@@ -9,9 +9,6 @@ doublings-init g c = record {
   count = first_power 2 (g.met.R.Reducer.canonical c.args.r.now) c.one.ensures c.transform-length.ensures.form;
 }
 
-pub dbl-length-requires : goal.dbl-length-requires
-dbl-length-requires g c = c.doublings.invariant.form
-
 pub doublings-preserved : goal.doublings-preserved
 doublings-preserved g c = record {
   form = c.dbl-length.ensures.checked;

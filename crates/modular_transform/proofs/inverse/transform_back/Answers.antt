@@ -1,24 +1,6 @@
 use Rattle.std.proofs.Common.{arith}
-use Rattle.modular_transform.proofs.ConvolveLemmas.{mirrored_forms}
 use Rattle.modular_transform.proofs.TransformBack.{stepped_back}
 use Rattle.modular_transform.proofs.inverse.transform_back.Goals as goal
-
-pub ntt-requires-clause-checked : goal.ntt-requires-clause-checked
-ntt-requires-clause-checked g c = c.requires.checked
-
-pub ntt-requires-clause-root : goal.ntt-requires-clause-root
-ntt-requires-clause-root g c = c.requires.root
-
-pub ntt-requires-clause-suits : goal.ntt-requires-clause-suits
-ntt-requires-clause-suits g c = c.requires.suits
-
-pub scale_list-requires-clause-checked : goal.scale_list-requires-clause-checked
-scale_list-requires-clause-checked g c =
-    mirrored_forms g.T.RingWord.number g.R.Reducer.form g.R.Reducer.value _ _ _ c.mirror.ensures
-    (omega arith) c.ntt.ensures.checked
-
-pub scale_list-requires-clause-factor : goal.scale_list-requires-clause-factor
-scale_list-requires-clause-factor g c = c.requires.part
 
 pub returns-clause-entries : goal.returns-clause-entries
 returns-clause-entries g c =

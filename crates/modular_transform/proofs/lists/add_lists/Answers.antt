@@ -1,10 +1,9 @@
 use Rattle.std.proofs.Common.{◌+◌, ◌%◌, ◌<◌, length, arith}
 use Rattle.modular_transform.specs.Entries.{entry}
-use Rattle.modular_transform.specs.EntryLaws.{form_read, done_none}
+use Rattle.modular_transform.specs.EntryLaws.{done_none}
 use Rattle.modular_reduced.proofs.ListSteps.{all_written}
 use Rattle.modular_transform.proofs.ListPairs.{pair_written}
 use Rattle.modular_transform.proofs.lists.add_lists.Goals as goal
-use borrow.Author.Count.{falls}
 
 pub roomy-init : goal.roomy-init
 roomy-init g c = record { checked = c.requires.checked_xs; done = done_none _ _ }
@@ -27,28 +26,6 @@ entries-preserved g c =
     pair_written number ring.form ring.value m c.entries.xs c.args.ys.now c.entries.i c.index-xs-i-in-entries.result
     c.index-ys-i-in-entries.result c.add.result (λ v w. (v + w) % m) (entry number ring.value m c.args.xs.now)
     (omega arith) within_ys c.index-ys-i-in-entries.is c.entries.invariant c.add.ensures.checked c.add.ensures.value
-
-pub add_with_room-requires-clause-left : goal.add_with_room-requires-clause-left
-add_with_room-requires-clause-left g c = c.roomy.invariant.checked _ _ (omega arith)
-
-pub add_with_room-requires-clause-right : goal.add_with_room-requires-clause-right
-add_with_room-requires-clause-right g c =
-    form_read g.T.RingWord.number g.R.Reducer.form g.R.Reducer.value _ c.args.ys.now _ _ c.requires.checked_ys
-    (let e = c.requires.equal in omega arith) c.index-ys-i.is
-
-pub add-requires-clause-left : goal.add-requires-clause-left
-add-requires-clause-left g c = c.entries.invariant.checked _ _ (omega arith)
-
-pub add-requires-clause-right : goal.add-requires-clause-right
-add-requires-clause-right g c =
-    form_read g.T.RingWord.number g.R.Reducer.form g.R.Reducer.value _ c.args.ys.now _ _ c.requires.checked_ys
-    (let e = c.requires.equal in omega arith) c.index-ys-i-in-entries.is
-
-pub roomy-smaller : goal.roomy-smaller
-roomy-smaller g c = falls _ _ c.roomy-test.true
-
-pub entries-smaller : goal.entries-smaller
-entries-smaller g c = falls _ _ c.entries-test.true
 
 pub returns-after-roomy-clause-checked : goal.returns-after-roomy-clause-checked
 returns-after-roomy-clause-checked g c = c.roomy.invariant.checked

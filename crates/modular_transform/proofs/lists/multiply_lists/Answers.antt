@@ -1,11 +1,8 @@
-use Rattle.std.proofs.Common.{◌*◌, ◌%◌, ◌<◌, length, ◌∙◌, ap, arith, subst, sym}
+use Rattle.std.proofs.Common.{◌*◌, ◌%◌, ◌<◌, length, ◌∙◌, ap, arith}
 use Rattle.modular_transform.specs.Entries.{entry}
-use Rattle.modular_transform.specs.EntryLaws.{entry_at, entry_read, form_read, done_none}
+use Rattle.modular_transform.specs.EntryLaws.{entry_at, entry_read, done_none}
 use Rattle.modular_reduced.proofs.ListSteps.{written_more, all_written}
-use Rattle.modular_transform.proofs.Places.{at_most}
 use Rattle.modular_transform.proofs.lists.multiply_lists.Goals as goal
-use borrow.Author.Count.{falls}
-use borrow.Author.Rules.{scaled_Fits}
 
 pub entries-init : goal.entries-init
 entries-init g c = record { checked = c.requires.checked_xs; done = done_none _ _ }
@@ -23,35 +20,6 @@ entries-preserved g c =
     written_more number ring.form value m xs i c.mul.result (λ k. (old k * y k) % m) old within before c.mul.ensures.checked
     (c.mul.ensures.value ∙ ap (λ v. (v * value m (number c.index-ys-i.result)) % m) x_is
     ∙ ap (λ v. (old i * v) % m) y_is)
-
-pub mul-requires-clause-left : goal.mul-requires-clause-left
-mul-requires-clause-left g c = c.entries.invariant.checked _ _ (omega arith)
-
-pub mul-requires-clause-right : goal.mul-requires-clause-right
-mul-requires-clause-right g c =
-    form_read g.T.RingWord.number g.R.Reducer.form g.R.Reducer.value _ c.args.ys.now _ _ c.requires.checked_ys
-    (let e = c.requires.equal in omega arith) c.index-ys-i.is
-
-pub offset_bounds-xs-i : goal.offset_bounds-xs-i
-offset_bounds-xs-i g c = scaled_Fits _ _ _ c.entries-test.true c.well_formed.1.0.1
-
-pub offset_bounds-xs-i-in-entries : goal.offset_bounds-xs-i-in-entries
-offset_bounds-xs-i-in-entries g c = scaled_Fits _ _ _ c.entries-test.true c.well_formed.1.0.1
-
-pub offset_bounds-ys-i : goal.offset_bounds-ys-i
-offset_bounds-ys-i g c = at_most c.entries-test.true (sym c.requires.equal)
-
-pub entries-smaller : goal.entries-smaller
-entries-smaller g c = falls _ _ c.entries-test.true
-
-pub bounds-xs-i : goal.bounds-xs-i
-bounds-xs-i g c = subst (λ n. c.entries.i < n) (sym c.entries.auto.xs) c.entries-test.true
-
-pub bounds-xs-i-in-entries : goal.bounds-xs-i-in-entries
-bounds-xs-i-in-entries g c = subst (λ n. c.entries.i < n) (sym c.entries.auto.xs) c.entries-test.true
-
-pub bounds-ys-i : goal.bounds-ys-i
-bounds-ys-i g c = subst (λ n. c.entries.i < n) (sym c.requires.equal) c.entries-test.true
 
 pub returns-clause-checked : goal.returns-clause-checked
 returns-clause-checked g c = c.entries.invariant.checked

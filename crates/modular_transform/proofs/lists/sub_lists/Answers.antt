@@ -1,11 +1,10 @@
 use Rattle.std.proofs.Common.{pos, ◌-ℤ◌, ◌<◌, length, arith}
 use Rattle.modular_word.specs.Residues.{residue}
 use Rattle.modular_transform.specs.Entries.{entry}
-use Rattle.modular_transform.specs.EntryLaws.{form_read, done_none}
+use Rattle.modular_transform.specs.EntryLaws.{done_none}
 use Rattle.modular_reduced.proofs.ListSteps.{all_written}
 use Rattle.modular_transform.proofs.ListPairs.{pair_written}
 use Rattle.modular_transform.proofs.lists.sub_lists.Goals as goal
-use borrow.Author.Count.{falls}
 
 pub roomy-init : goal.roomy-init
 roomy-init g c = record { checked = c.requires.checked_xs; done = done_none _ _ }
@@ -28,28 +27,6 @@ entries-preserved g c =
     pair_written number ring.form ring.value m c.entries.xs c.args.ys.now c.entries.i c.index-xs-i-in-entries.result
     c.index-ys-i-in-entries.result c.sub.result (λ v w. residue m (pos v -ℤ pos w)) (entry number ring.value m c.args.xs.now)
     (omega arith) within_ys c.index-ys-i-in-entries.is c.entries.invariant c.sub.ensures.checked c.sub.ensures.value
-
-pub sub_with_room-requires-clause-left : goal.sub_with_room-requires-clause-left
-sub_with_room-requires-clause-left g c = c.roomy.invariant.checked _ _ (omega arith)
-
-pub sub_with_room-requires-clause-right : goal.sub_with_room-requires-clause-right
-sub_with_room-requires-clause-right g c =
-    form_read g.T.RingWord.number g.R.Reducer.form g.R.Reducer.value _ c.args.ys.now _ _ c.requires.checked_ys
-    (let e = c.requires.equal in omega arith) c.index-ys-i.is
-
-pub sub-requires-clause-left : goal.sub-requires-clause-left
-sub-requires-clause-left g c = c.entries.invariant.checked _ _ (omega arith)
-
-pub sub-requires-clause-right : goal.sub-requires-clause-right
-sub-requires-clause-right g c =
-    form_read g.T.RingWord.number g.R.Reducer.form g.R.Reducer.value _ c.args.ys.now _ _ c.requires.checked_ys
-    (let e = c.requires.equal in omega arith) c.index-ys-i-in-entries.is
-
-pub roomy-smaller : goal.roomy-smaller
-roomy-smaller g c = falls _ _ c.roomy-test.true
-
-pub entries-smaller : goal.entries-smaller
-entries-smaller g c = falls _ _ c.entries-test.true
 
 pub returns-after-roomy-clause-checked : goal.returns-after-roomy-clause-checked
 returns-after-roomy-clause-checked g c = c.roomy.invariant.checked

@@ -1,9 +1,7 @@
-use Rattle.std.proofs.Common.{◌≡◌, ◌∙◌, arith, map, slice_index, ◌<◌, subst, sym}
+use Rattle.std.proofs.Common.{◌≡◌, ◌∙◌, arith, map, slice_index}
 use Rattle.modular_transform.specs.Entries.{entry}
 use Rattle.modular_transform.specs.EntryLaws.{entry_read, done_none, done_more}
 use Rattle.modular_transform.proofs.lists.unload_forms.Goals as goal
-use borrow.Author.Count.{falls}
-use borrow.Author.Rules.{scaled_Fits}
 
 pub entries-init : goal.entries-init
 entries-init g c = done_none _ _
@@ -16,12 +14,3 @@ entries-preserved g c =
     (omega arith) c.entries.invariant
     (c.residue.ensures.value ∙ entry_read number ring.value m c.args.forms.now c.entries.i c.index-forms-i.result
     (omega (arith, c.requires.within)) c.index-forms-i.is)
-
-pub offset_bounds-words-i : goal.offset_bounds-words-i
-offset_bounds-words-i g c = scaled_Fits _ _ _ c.entries-test.true c.well_formed.1.1.0.1
-
-pub bounds-words-i : goal.bounds-words-i
-bounds-words-i g c = subst (λ n. c.entries.i < n) (sym c.entries.auto.words) c.entries-test.true
-
-pub entries-smaller : goal.entries-smaller
-entries-smaller g c = falls _ _ c.entries-test.true

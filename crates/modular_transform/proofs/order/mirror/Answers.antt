@@ -7,8 +7,6 @@ use Rattle.modular_transform.proofs.Reordering.{mirror_exchange, mirrored_other,
 use Rattle.modular_transform.proofs.Reordering.{exchanged_of_swapped, reordered_passed, reordered_all}
 use Rattle.modular_transform.proofs.order.mirror.Goals as goal
 use Rattle.modular_transform.proofs.order.mirror.Goals.{then-place-other, else-place-other}
-use borrow.Author.Count.{falls}
-use Rattle.std.proofs.Math.Nat.{le_of_lt}
 
 pub places-preserved : goal.places-preserved
 places-preserved g c d =
@@ -40,18 +38,3 @@ returns g c = record {
   each = λ i d l. reordered_all (length c.args.entries.now) c.places.place (mirrored (length c.args.entries.now)) _ _
       (omega arith) (c.places.invariant d) i l;
 }
-
-pub places-smaller : goal.places-smaller
-places-smaller g c = falls _ _ c.places-test.true
-
-pub overflow_sub-other : goal.overflow_sub-other
-overflow_sub-other g c = le_of_lt c.places-test.true
-
-pub swap-requires-clause-a_in_bounds : goal.swap-requires-clause-a_in_bounds
-swap-requires-clause-a_in_bounds g c = subst (λ n. c.places.place < n) (sym c.places.auto.entries) c.places-test.true
-
-pub swap-requires-clause-b_in_bounds : goal.swap-requires-clause-b_in_bounds
-swap-requires-clause-b_in_bounds g c =
-    let same = c.places.auto.entries in
-    let from = c.places.auto.place in
-    omega (arith, same, from)

@@ -11,7 +11,6 @@ use Rattle.modular_transform.proofs.order.reverse_by_tiles.Goals.{then-tile-othe
 use Rattle.modular_transform.proofs.order.reverse_by_tiles.Goals.{then-tile-other-2-via-then-tile-other-2}
 use Rattle.modular_transform.proofs.order.reverse_by_tiles.Goals.{then-tile-other-2-via-else-tile-other-2+then-row-column}
 use Rattle.modular_transform.proofs.order.reverse_by_tiles.Goals.{else-tile-other-2+else-row-column}
-use borrow.Author.Count.{falls}
 
 spot_of : (bits n tile other row column to_row to_column : ℕ) → 6 ≤ bits → n ≡ 2 ^ bits → tile < n / 8 / 8 → row < 8
     → column < 8 → other ≡ bits_reversed (bits - 6) tile → to_row ≡ bits_reversed 3 column
@@ -196,15 +195,3 @@ returns g c =
           (λ k. get_or c.args.entries.now k d) (λ k. get_or c.tiles.entries k d) (omega arith) (omega (arith, w)) (omega (arith, w))
           (c.tiles.invariant.reordered d) i (omega (arith, w));
     }
-
-pub tiles-smaller : goal.tiles-smaller
-tiles-smaller g c = falls _ _ c.tiles-test.true
-
-pub rows-smaller : goal.rows-smaller
-rows-smaller g c = falls _ _ c.rows-test.true
-
-pub columns-smaller : goal.columns-smaller
-columns-smaller g c = falls _ _ c.columns-test.true
-
-pub next_reversed-other-requires-clause-last : goal.next_reversed-other-requires-clause-last
-next_reversed-other-requires-clause-last g c = c.tiles.invariant.last

@@ -11,7 +11,7 @@ use Rattle.modular_word.proofs.Congruence.{mod_of_eq, mod_trans}
 use Rattle.modular_word.proofs.Powers.{pow-one}
 use Rattle.modular_reduced.specs.Forms.{IsForm}
 use Rattle.modular_transform.specs.Transforms.{transform}
-use Rattle.modular_transform.proofs.Places.{stage_offset, stages_left, two_left, below_limit}
+use Rattle.modular_transform.proofs.Places.{stage_offset, stages_left, two_left}
 use Rattle.modular_transform.proofs.PowersOfTwo.{trailing_zeros_of_power, exponent_below}
 use Rattle.modular_transform.proofs.StageLemmas.{BlocksTransform, stages_start}
 use Rattle.modular_transform.proofs.StripPowers.{one_form}
@@ -22,10 +22,8 @@ use Rattle.modular_transform.proofs.ValueLemmas.{values, value_of_entry, values-
 use Rattle.modular_transform.proofs.ValueLemmas.{held_forms}
 use Rattle.modular_transform.proofs.transform.ntt_counted.Goals as goal
 use Rattle.modular_transform.proofs.transform.ntt_counted.Goals.{then-stages-eq1, else-stages-eq1}
-use lib.Count.{trailing_le}
 use mir.Syntax.{w128}
 use mir.Val.{Fits}
-use borrow.Author.Count.{falls}
 
 -- no roots are written yet
 no_roots : (m : ℕ) (x y : ℕ → ℕ) (t : ℕ) → t < 0 → Congruent m (x t) (y t)
@@ -363,60 +361,3 @@ pub offset_bounds-roots-stages : goal.offset_bounds-roots-stages
 offset_bounds-roots-stages g c =
     stage_offset _ (stages_left c.passes.invariant.even c.passes-test.true).turn
     (suited_length c.requires.suits c.well_formed.1.0.0) c.well_formed.1.0.1
-
-pub first_stage-requires-clause-checked : goal.first_stage-requires-clause-checked
-first_stage-requires-clause-checked g c = c.requires.checked
-
-pub two_stages-products-requires-clause-checked : goal.two_stages-products-requires-clause-checked
-two_stages-products-requires-clause-checked g c = c.passes.invariant.checked
-
-pub bounds-roots-i : goal.bounds-roots-i
-bounds-roots-i g c =
-    below_limit c.roots-test.true (trailing_le 64 (length c.args.xs.now))
-
-pub bounds-roots-done : goal.bounds-roots-done
-bounds-roots-done g c =
-    below_limit c.passes-test.true (trailing_le 64 (length c.args.xs.now))
-
-pub bounds-roots-done-in-passes : goal.bounds-roots-done-in-passes
-bounds-roots-done-in-passes g c =
-    below_limit (stages_left c.passes.invariant.even c.passes-test.true).next (trailing_le 64 (length c.args.xs.now))
-
-pub bounds-roots-stages : goal.bounds-roots-stages
-bounds-roots-stages g c =
-    below_limit (stages_left c.passes.invariant.even c.passes-test.true).turn (trailing_le 64 (length c.args.xs.now))
-
-pub overflow_sub-turned : goal.overflow_sub-turned
-overflow_sub-turned g c =
-    (stages_left c.passes.invariant.even c.passes-test.true).two
-
-pub sqr-root-requires : goal.sqr-root-requires
-sqr-root-requires g c =
-    c.roots.invariant.form
-
-pub first_stage-requires-clause-root : goal.first_stage-requires-clause-root
-first_stage-requires-clause-root g c =
-    c.requires.root
-
-pub two_stages-products-requires-clause-some : goal.two_stages-products-requires-clause-some
-two_stages-products-requires-clause-some g c = rw c.passes.invariant.blocks (pow_pos c.passes.done)
-
-pub two_stages-products-requires-clause-root : goal.two_stages-products-requires-clause-root
-two_stages-products-requires-clause-root g c =
-    let few = trailing_le 64 (length c.args.xs.now) in
-    c.roots.invariant.checked c.passes.done c.index-roots-done.result (omega (arith, few))
-
-pub two_stages-products-requires-clause-square : goal.two_stages-products-requires-clause-square
-two_stages-products-requires-clause-square g c =
-    let more = below_limit (stages_left c.passes.invariant.even c.passes-test.true).next
-    (trailing_le 64 (length c.args.xs.now)) in
-    c.roots.invariant.checked (c.passes.done + 1) c.index-roots-done-in-passes.result (omega (arith, more))
-
-pub two_stages-products-requires-clause-turned : goal.two_stages-products-requires-clause-turned
-two_stages-products-requires-clause-turned g c =
-    let more = below_limit (stages_left c.passes.invariant.even c.passes-test.true).turn
-    (trailing_le 64 (length c.args.xs.now)) in
-    c.roots.invariant.checked _ c.index-roots-stages.result (omega (arith, more))
-
-pub roots-smaller : goal.roots-smaller
-roots-smaller g c = falls _ _ c.roots-test.true
