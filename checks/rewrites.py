@@ -77,11 +77,6 @@ def without_count(found):
     return f"for {found[2]} in {found[3]} {found[4]}" if not re.search(rf"\b{found[1]}\b", found[4]) else found[0]
 
 
-def said_once(found):
-    """Two equal blocks in turn are one."""
-    return f"if {found[1]} | | {found[3]} {found[2]}" if found[2] == found[4] else found[0]
-
-
 def nested(found):
     """An `if` that alone fills another is one with it."""
     outer, inner, block = found.groups()
@@ -95,7 +90,7 @@ IDIOMS = (
     (rf"match ({PLAIN}) \{{ Some \( (\w+) \) => Some \( ({PLAIN}) \) , None => None , \}}", r"\1 . map ( | \2 | \3 )"),
     (rf"match ({PLAIN}) \{{ Some \( _ \) => true , None => false , \}}", r"\1 . is_some ( )"),
     (rf"(?<!else )if ({PLAIN}) \{{ if ({PLAIN}) ({BLOCK}) \}}(?! else)", nested),
-    (rf"if ({PLAIN}) ({BLOCK}) else if ({PLAIN}) ({BLOCK})", said_once),
+    (rf"if ({PLAIN}) ({BLOCK}) else if ({PLAIN}) \2(?= )", r"if \1 | | \3 \2"),
     (r"\b(\w+) > = b'0' & & \1 < = b'9'(?= )", r"\1 . is_ascii_digit ( )"),
     (r"\b(\w+) > = b'A' & & \1 < = b'Z'(?= )", r"\1 . is_ascii_uppercase ( )"),
     (r"\b(\w+) < (\S+) \| \| \1 > (\S+)(?= )", r"! ( \2 . . = \3 ) . contains ( & \1 )"),
