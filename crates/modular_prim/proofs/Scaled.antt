@@ -1,10 +1,11 @@
 -- Residues scaled by the power of two that takes the modulus to the top bit.
 use Rattle.std.proofs.Common.{◌≡◌, ℕ, suc, ◌+◌, ◌*◌, ◌/◌, ◌%◌, ◌^◌, ◌<◌, ◌≤◌, sym, ap, ◌∙◌, subst, arith}
-use Rattle.std.proofs.Math.Nat.{mod-lt, div-add-mod, mod-eq_of_lt, mul-le-mul_right}
+use Rattle.std.proofs.Math.Nat.{mod-lt, div-add-mod, mod-eq_of_lt, mul-le-mul_right, add-mod}
 use Rattle.std.proofs.Math.Nat.{mul-lt-mul_of_pos_right, add-mul-mod_self_left, pow-succ'}
 use Rattle.std.proofs.lemmas.Nat.{leading_top, shl_below, shl-shr, pow_pos, pow-add, mod-mul-add}
 use Rattle.std.specs.Int.Count.{count_leading_zeros}
 use Rattle.modular_word.specs.Division.{IsDivision}
+use Rattle.modular_word.proofs.Congruence.{mod_of_multiple}
 
 -- m scaled by 2^s has its top bit set, and is a word
 pub record IsNormalized (w b m s : ℕ) : Type 0 where
@@ -53,3 +54,14 @@ scaled_product_of m s d x y a b r h ed ea eb er =
 -- the remainder of a division
 pub remainder_of : {a d q r : ℕ} → IsDivision a d q r → r ≡ a % d
 remainder_of {a} {d} {q} {r} h = sym (ap (λ n. n % d) h.whole ∙ mod-mul-add q d r h.below)
+
+-- a remainder by a multiple of m has the residue of its number, and so has its sum with a
+pub sum_of_rest : (m p a b r : ℕ) → r ≡ b % (m * p) → (a + r) % m ≡ (a + b) % m
+sum_of_rest m p a b r e =
+    let rest : r % m ≡ b % m = ap (λ v. v % m) e ∙ mod_of_multiple m p b in
+    add-mod a r m ∙ ap (λ v. (a % m + v) % m) rest ∙ sym (add-mod a b m)
+
+-- the same for the sum less the multiple
+pub sum_less_multiple : (m p a b r x : ℕ) → r ≡ b % (m * p) → x + m * p ≡ a + r → x % m ≡ (a + b) % m
+sum_less_multiple m p a b r x e h =
+    sym (add-mul-mod_self_left x m p) ∙ ap (λ v. v % m) h ∙ sum_of_rest m p a b r e

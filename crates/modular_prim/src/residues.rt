@@ -3,7 +3,7 @@
 ghost use Rattle.std.specs.Prelude.{◌≡◌, ℕ, ◌+◌, ◌*◌, ◌%◌, ◌<◌, ◌≤◌, pos, ◌-ℤ◌, neg_ℤ, IsTrue};
 ghost use Rattle.modular_word.specs.Residues.{residue};
 
-use crate::below::{add_below, dbl_below_stored, neg_below};
+use crate::below::{add_below_stored, dbl_below_stored, neg_below, reduced_once};
 use crate::plain_word::PlainWord;
 use modular_word::path_word::PathWord;
 use modular_word::ring_word::RingWord;
@@ -49,19 +49,34 @@ fn distance<T: PathWord>(a: T, b: T) -> T
     }
 }
 
+// A word congruent to a + b modulo m. Every word is below twice the multiple of m that has its top bit set. So this
+// multiple is subtracted at most once from b, and once from the sum if that overflows. Condition: m is at least 1.
+fn congruent_sum<T: PathWord>(a: T, b: T, m: T) -> T
+    requires { 1 ≤ T.number m }
+    ensures { T.number result % T.number m ≡ (T.number a + T.number b) % T.number m }
+{
+    // Reading the word gives the proof that it fits its width.
+    let _ = m.is_below(b);
+    let multiple = m.shift_left(m.leading_zeros());
+    let rest = reduced_once(b, multiple);
+    let gap = multiple.minus(rest);
+    let (sum, over) = a.overflowing_add(rest);
+    if over { a.minus(gap) } else { sum }
+}
+
 /// The residue of a + b, below m. Condition: m is at least 1. There is no division where words have more than 16
 /// bits and both are below m.
 ///
-/// Words of more than 16 bits are divided one by one: two independent divisions overlap, and take less time than
-/// the division of the double word a + b.
+/// Other words of more than 16 bits take one division of a word, which is faster on some processors than that of the
+/// double word a + b.
 pub fn addm<T: PlainWord>(a: T, b: T, m: T) -> T
     requires { 1 ≤ T.number m }
     ensures { T.number result ≡ (T.number a + T.number b) % T.number m }
 {
     if spares_division(a, m) & spares_division(b, m) {
-        add_below(a, b, m)
+        add_below_stored(a, b, m)
     } else if T::bits() > 16 {
-        add_below(a.remainder(m), b.remainder(m), m)
+        congruent_sum(a, b, m).remainder(m)
     } else {
         T::narrow_remainder(whole_sum(a, b), m)
     }

@@ -1,6 +1,6 @@
 //! Residues of sums, differences and products of words that may be above the modulus.
 
-use crate::modular_prim::below::{add_below, dbl_below_stored, neg_below};
+use crate::modular_prim::below::{add_below_stored, dbl_below_stored, neg_below, reduced_once};
 use crate::modular_prim::plain_word::PlainWord;
 use crate::modular_word::path_word::PathWord;
 
@@ -43,11 +43,24 @@ fn distance<T: PathWord>(a: T, b: T) -> T {
     }
 }
 
+// A word congruent to a + b modulo m. Every word is below twice the multiple of m that has its top bit set. So this
+// multiple is subtracted at most once from b, and once from the sum if that overflows. Condition: m is at least 1.
+#[cfg_attr(debug_assertions, track_caller)]
+fn congruent_sum<T: PathWord>(a: T, b: T, m: T) -> T {
+    // Reading the word gives the proof that it fits its width.
+    let _ = m.is_below(b);
+    let multiple = m.shift_left(m.leading_zeros());
+    let rest = reduced_once(b, multiple);
+    let gap = multiple.minus(rest);
+    let (sum, over) = a.overflowing_add(rest);
+    if over { a.minus(gap) } else { sum }
+}
+
 /// The residue of a + b, below m. There is no division where words have more than 16
 /// bits and both are below m.
 ///
-/// Words of more than 16 bits are divided one by one: two independent divisions overlap, and take less time than
-/// the division of the double word a + b.
+/// Other words of more than 16 bits take one division of a word, which is faster on some processors than that of the
+/// double word a + b.
 ///
 /// # Panics
 ///
@@ -55,9 +68,9 @@ fn distance<T: PathWord>(a: T, b: T) -> T {
 #[cfg_attr(debug_assertions, track_caller)]
 pub fn addm<T: PlainWord>(a: T, b: T, m: T) -> T {
     if spares_division(a, m) & spares_division(b, m) {
-        add_below(a, b, m)
+        add_below_stored(a, b, m)
     } else if T::bits() > 16 {
-        add_below(a.remainder(m), b.remainder(m), m)
+        congruent_sum(a, b, m).remainder(m)
     } else {
         T::narrow_remainder(whole_sum(a, b), m)
     }
