@@ -436,6 +436,18 @@ pub fn reduce_by_folds<T: FoldedWord>(v: T::Double, p: u32, c: T, m: T) -> (T, u
     (sum_once(rest, T::zero(), m), count)
 }
 
+// v modulo m, by one fold. Conditions: m is 2^p - 1, p is at most the width, and the part of v above the bit p is below m.
+#[inline(always)]
+pub(crate) fn reduce_by_parts<T: FoldedWord>(v: T::Double, p: u32, m: T) -> T
+    requires inside { p ≤ T.width }
+    requires mask { T.number m + 1 ≡ 2 ^ p }
+    requires short { T.double_number v / 2 ^ p < T.number m }
+    ensures { T.number result ≡ T.double_number v % T.number m }
+{
+    let (low, high) = T::parts(v, p, m);
+    T::sum_of_parts(high, low, p, m)
+}
+
 // v modulo m, by folds. Kept out of line and cold, so that loops over products stay small. Condition: m is 2^p - c and more
 // than half of 2^p, and p is at most the width of the words.
 #[cold]
@@ -460,8 +472,7 @@ pub fn reduce_double_word<T: FoldedWord>(v: T::Double, p: u32, c: T, m: T) -> T
 {
     if c == T::one() {
         if T::is_short(v, p, m) {
-            let (low, high) = T::parts(v, p, m);
-            T::sum_of_parts(high, low, p, m)
+            reduce_by_parts(v, p, m)
         } else if T::bits() > 32 {
             reduce_longer_double(v, p, c, m)
         } else {

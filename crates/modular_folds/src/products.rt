@@ -5,7 +5,7 @@ ghost use Rattle.std.specs.Prelude.{◌≡◌, ℕ, ◌+◌, ◌-◌, ◌*◌, �
 ghost use Rattle.modular_folds.specs.Folds.{fold_of, IsFolding};
 
 use crate::far::has_few_folds;
-use crate::folds::FoldedWord;
+use crate::folds::{FoldedWord, reduce_by_parts};
 use modular_word::path_word::PathWord;
 use modular_word::ring_word::RingWord;
 
@@ -44,13 +44,13 @@ fn product_by_folds<T: FoldedWord>(a: T, b: T, p: u32, c: T, m: T) -> T
     T::sum_of_parts(rest.shift_right(T::bits() - p), over.times(c), p, m)
 }
 
-// Whether the two words of a product are folded separately: if c has at most half the bits of p, and either a double
-// word is longer than a machine word or one fold is enough.
+// Whether the two words of a product are folded separately: if c has at most half the bits of p, and a product can be
+// longer than a machine word.
 fn is_by_words<T: PathWord>(p: u32, c: T) -> bool
     requires { p ≤ T.width }
     ensures { IsTrue result → T.number c < 2 ^ (p / 2) }
 {
-    c.shift_right(p / 2).is_zero_word() && (T::bits() > 32 || c == T::one())
+    c.shift_right(p / 2).is_zero_word() && p > 32
 }
 
 /// a·b modulo m. Conditions: m is 2^p - c and more than half of 2^p, and p is at most the width of the words; a and
@@ -67,7 +67,9 @@ pub fn reduce_product<T: FoldedWord>(a: T, b: T, p: u32, c: T, m: T) -> T
     requires right { T.number b < T.number m }
     ensures { T.number result ≡ (T.number a * T.number b) % T.number m }
 {
-    if is_by_words(p, c) {
+    if p <= 32 && c == T::one() {
+        reduce_by_parts(a.product(b), p, m)
+    } else if is_by_words(p, c) {
         product_by_folds(a, b, p, c, m)
     } else if has_few_folds(p, c) {
         T::reduce_in_line(a.product(b), p, c, m)

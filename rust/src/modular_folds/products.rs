@@ -2,7 +2,7 @@
 //! comparisons of the numbers.
 
 use crate::modular_folds::far::has_few_folds;
-use crate::modular_folds::folds::FoldedWord;
+use crate::modular_folds::folds::{FoldedWord, reduce_by_parts};
 use crate::modular_word::path_word::PathWord;
 
 // The parts of high·c + low below and above the bit p. The lower part, as an argument and as a result, is shifted
@@ -26,11 +26,11 @@ fn product_by_folds<T: FoldedWord>(a: T, b: T, p: u32, c: T, m: T) -> T {
     T::sum_of_parts(rest.shift_right(T::bits() - p), over.times(c), p, m)
 }
 
-// Whether the two words of a product are folded separately: if c has at most half the bits of p, and either a double
-// word is longer than a machine word or one fold is enough.
+// Whether the two words of a product are folded separately: if c has at most half the bits of p, and a product can be
+// longer than a machine word.
 #[inline]
 fn is_by_words<T: PathWord>(p: u32, c: T) -> bool {
-    c.shift_right(p / 2).is_zero_word() && (T::bits() > 32 || c == T::one())
+    c.shift_right(p / 2).is_zero_word() && p > 32
 }
 
 /// a·b modulo m.
@@ -46,7 +46,9 @@ fn is_by_words<T: PathWord>(p: u32, c: T) -> bool {
 /// below m. This isn't checked: if it doesn't hold, the call panics or its result is unspecified.
 #[inline(always)]
 pub fn reduce_product<T: FoldedWord>(a: T, b: T, p: u32, c: T, m: T) -> T {
-    if is_by_words(p, c) {
+    if p <= 32 && c == T::one() {
+        reduce_by_parts(a.product(b), p, m)
+    } else if is_by_words(p, c) {
         product_by_folds(a, b, p, c, m)
     } else if has_few_folds(p, c) {
         T::reduce_in_line(a.product(b), p, c, m)

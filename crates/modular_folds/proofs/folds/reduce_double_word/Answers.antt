@@ -1,18 +1,25 @@
-use Rattle.std.proofs.Common.{◌≡◌, ◌+◌, ◌∙◌, ◌%◌, ◌^◌, ap, sym, arith}
-use Rattle.modular_folds.specs.Folds.{fold_of}
-use Rattle.modular_folds.proofs.FoldSteps.{fold_keeps, two_bits}
+use Rattle.std.proofs.Common.{◌≡◌, ◌+◌, ◌∙◌, ◌^◌, sym, arith}
+use Rattle.modular_folds.proofs.FoldSteps.{two_bits}
 use Rattle.modular_folds.proofs.folds.reduce_double_word.Goals as goal
+use Rattle.modular_folds.proofs.folds.reduce_double_word.Goals.{After-is_short}
 
-pub returns-then-is_short : goal.returns-then-is_short
-returns-then-is_short g c =
+-- the modulus of c = 1
+mask : (g : _) (c : After-is_short g) → g.T.RingWord.number c.args.m + 1 ≡ 2 ^ c.args.p
+mask g c =
     let n = g.T.RingWord.number in
-    let v = g.T.PathWord.double_number c.args.v in
     let one : n c.args.c ≡ 1 =
     (g.met.T.RingWord.equal c.args.c c.one.result).0 (sym c.eq.ensures ∙ c.if-eq.true) ∙ c.one.ensures in
-    let whole : n c.args.m + 1 ≡ 2 ^ c.args.p = omega (arith, c.requires.whole, one) in
-    let sum : n c.parts-low.result.1 + n c.parts-low.result.0 ≡ fold_of c.args.p 1 v =
-    omega (arith, c.parts-low.ensures.low, c.parts-low.ensures.high) in
-    c.sum_of_parts.ensures ∙ ap (λ k. k % n c.args.m) sum ∙ fold_keeps c.args.p 1 (n c.args.m) v whole
+    omega (arith, c.requires.whole, one)
+
+pub reduce_by_parts-requires : goal.reduce_by_parts-requires
+reduce_by_parts-requires g c = record {
+  inside = c.requires.fits;
+  mask = mask g (goal.at.reduce_by_parts-requires g c).After-is_short;
+  short = c.is_short.ensures c.if-is_short.true;
+}
+
+pub returns-then-is_short : goal.returns-then-is_short
+returns-then-is_short g c = c.reduce_by_parts.ensures
 
 pub has_few_folds-requires-clause-some : goal.has_few_folds-requires-clause-some
 has_few_folds-requires-clause-some g c = two_bits c.requires

@@ -28,7 +28,7 @@ reduce_in_line-requires g c =
     record {
       folding = c.requires.folding;
       small = c.has_few_folds.ensures c.if-has_few_folds.true;
-      product = rw c.product.ensures.value (omega (arith, high, c.requires.folding.whole));
+      product = rw c.product-then-has_few_folds.ensures.value (omega (arith, high, c.requires.folding.whole));
     }
 
 pub reduce_far-requires : goal.reduce_far-requires
@@ -39,7 +39,7 @@ returns-then-is_by_words g c = c.product_by_folds.ensures
 
 pub returns-then-has_few_folds : goal.returns-then-has_few_folds
 returns-then-has_few_folds g c =
-    c.reduce_in_line.ensures ∙ ap (λ v. v % g.T.RingWord.number c.args.m) c.product.ensures.value
+    c.reduce_in_line.ensures ∙ ap (λ v. v % g.T.RingWord.number c.args.m) c.product-then-has_few_folds.ensures.value
 
 pub returns-else-has_few_folds : goal.returns-else-has_few_folds
 returns-else-has_few_folds g c =
