@@ -132,25 +132,6 @@ fn halves<T: PlainWord, M: Bounded<T>, S: FourStep<T>>(
     columns(m, step, a, b, c, d);
 }
 
-/// Two stages of the block of 4·q entries whose first index is `first`. Condition: the entries are below the bound of
-/// the step, which is at most the limit.
-#[inline(always)]
-pub fn quarters<T: PlainWord, M: Bounded<T>, S: FourStep<T>>(
-    m: &M,
-    step: &S,
-    xs: &mut [T],
-    first: usize,
-    q: usize,
-)
-    requires { IsBlockReady T.number (S.bound step.now) (M.limit m.now) first q xs.old }
-    ensures { BlockOfFours (S.done step.now) first q q (numbers T.number xs.old) (numbers T.number xs.new) }
-{
-    let (_before, block) = xs.split_at_mut(first);
-    let (low, rest) = block.split_at_mut(q + q);
-    let (high, _after) = rest.split_at_mut(q + q);
-    halves(m, step, low, high, q);
-}
-
 /// Two stages of the four entries whose first index is `first`. Condition: they are below the bound of the step.
 #[inline(always)]
 pub fn neighbours<T: PlainWord, S: FourStep<T>>(step: &S, xs: &mut [T], first: usize)
@@ -164,4 +145,46 @@ pub fn neighbours<T: PlainWord, S: FourStep<T>>(step: &S, xs: &mut [T], first: u
     let (x, y, z, t) = four_at(xs, first, second, third, fourth);
     let four = step.four(x, y, z, t);
     set_four(xs, first, second, third, fourth, four);
+}
+
+// A block of four entries. The quarters of such blocks are too short for a loop over one to be vectorized, but compilers
+// vectorize a loop over the blocks.
+#[inline(always)]
+fn one_column<T: PlainWord, M: Bounded<T>, S: FourStep<T>>(
+    m: &M,
+    step: &S,
+    xs: &mut [T],
+    first: usize,
+)
+    requires { IsBlockReady T.number (S.bound step.now) (M.limit m.now) first 1 xs.old }
+    ensures { BlockOfFours (S.done step.now) first 1 1 (numbers T.number xs.old) (numbers T.number xs.new) }
+{
+    // Unreachable (see `is_beyond`).
+    if m.is_beyond(xs[first]) {
+        return;
+    }
+    neighbours(step, xs, first);
+}
+
+/// Two stages of the block of 4·q entries whose first index is `first`. Condition: the entries are below the bound of
+/// the step, which is at most the limit.
+#[inline(always)]
+pub fn quarters<T: PlainWord, M: Bounded<T>, S: FourStep<T>>(
+    m: &M,
+    step: &S,
+    xs: &mut [T],
+    first: usize,
+    q: usize,
+)
+    requires { IsBlockReady T.number (S.bound step.now) (M.limit m.now) first q xs.old }
+    ensures { BlockOfFours (S.done step.now) first q q (numbers T.number xs.old) (numbers T.number xs.new) }
+{
+    if q == 1 {
+        one_column(m, step, xs, first);
+    } else {
+        let (_before, block) = xs.split_at_mut(first);
+        let (low, rest) = block.split_at_mut(q + q);
+        let (high, _after) = rest.split_at_mut(q + q);
+        halves(m, step, low, high, q);
+    }
 }

@@ -96,26 +96,6 @@ fn halves<T: PlainWord, M: Bounded<T>, S: FourStep<T>>(
     columns(m, step, a, b, c, d);
 }
 
-/// Two stages of the block of 4·q entries whose first index is `first`.
-///
-/// # Preconditions
-///
-/// The entries are below the bound of the step, which is at most the limit. This isn't checked: if it
-/// doesn't hold, the call panics or its result is unspecified.
-#[inline(always)]
-pub fn quarters<T: PlainWord, M: Bounded<T>, S: FourStep<T>>(
-    m: &M,
-    step: &S,
-    xs: &mut [T],
-    first: usize,
-    q: usize,
-) {
-    let (_before, block) = xs.split_at_mut(first);
-    let (low, rest) = block.split_at_mut(q + q);
-    let (high, _after) = rest.split_at_mut(q + q);
-    halves(m, step, low, high, q);
-}
-
 /// Two stages of the four entries whose first index is `first`.
 ///
 /// # Preconditions
@@ -130,4 +110,44 @@ pub fn neighbours<T: PlainWord, S: FourStep<T>>(step: &S, xs: &mut [T], first: u
     let (x, y, z, t) = four_at(xs, first, second, third, fourth);
     let four = step.four(x, y, z, t);
     set_four(xs, first, second, third, fourth, four);
+}
+
+// A block of four entries. The quarters of such blocks are too short for a loop over one to be vectorized, but compilers
+// vectorize a loop over the blocks.
+#[inline(always)]
+fn one_column<T: PlainWord, M: Bounded<T>, S: FourStep<T>>(
+    m: &M,
+    step: &S,
+    xs: &mut [T],
+    first: usize,
+) {
+    // Unreachable (see `is_beyond`).
+    if m.is_beyond(xs[first]) {
+        panic!("the entries must be below 4m");
+    }
+    neighbours(step, xs, first);
+}
+
+/// Two stages of the block of 4·q entries whose first index is `first`.
+///
+/// # Preconditions
+///
+/// The entries are below the bound of the step, which is at most the limit. This isn't checked: if it
+/// doesn't hold, the call panics or its result is unspecified.
+#[inline(always)]
+pub fn quarters<T: PlainWord, M: Bounded<T>, S: FourStep<T>>(
+    m: &M,
+    step: &S,
+    xs: &mut [T],
+    first: usize,
+    q: usize,
+) {
+    if q == 1 {
+        one_column(m, step, xs, first);
+    } else {
+        let (_before, block) = xs.split_at_mut(first);
+        let (low, rest) = block.split_at_mut(q + q);
+        let (high, _after) = rest.split_at_mut(q + q);
+        halves(m, step, low, high, q);
+    }
 }

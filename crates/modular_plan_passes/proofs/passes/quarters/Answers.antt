@@ -26,8 +26,8 @@ halves-requires g c =
       fits = c.requires.fits;
     }
 
-pub returns : goal.returns
-returns g c =
+pub returns-else-q-eq1 : goal.returns-else-q-eq1
+returns-else-q-eq1 g c =
     let n = g.T.RingWord.number in
     let R = g.S.FourStep.done c.args.step.now in
     let front = c.split_at_mut-before.result.0.now in
