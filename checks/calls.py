@@ -125,7 +125,7 @@ class Promise:
         generics, at = (text[at + 1 : (to := closing(text, at))], to + 1) if text[at] == "<" else ("", at)
         to = closing(text, at)
         parameters, rest = text[at + 1 : to], text[to + 1 :]
-        result = re.match(r"\s*->\s*(.*?)\s*(?=\n|\{|;)", rest)[1]
+        result = (re.match(r"\s*->\s*(.*?)\s*(?=\n|\{|;)", rest) or ("", "()"))[1]
         clauses = [rest[it.start() : closing(rest, it.end() - 1) + 1] for it in CLAUSE.finditer(rest)]
         conditions = [it for it in clauses if it.startswith("requires")]
         kept = [it for it in clauses if it.startswith("ensures") and it.split()[1] in KEPT]

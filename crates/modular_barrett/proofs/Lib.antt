@@ -1,5 +1,4 @@
 pub mod DoubleWords
-pub mod FixedFactors
 pub mod Multiplier
 pub mod Quotients
 pub mod ScaledHalves

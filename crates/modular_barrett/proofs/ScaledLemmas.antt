@@ -42,6 +42,12 @@ form_below w m d f ed form =
     let h : scaled_value w m f * scale w m < m * scale w m = mul-lt-mul_of_pos_right form.below (some_scale w m) in
     omega (arith, form.same)
 
+-- and so is a value
+pub value_below : {w m d s v : ℕ} → IsScaling w m d s → v < m → v < d
+value_below {w} {m} {d} {s} is below =
+    let up : m * 1 ≤ m * 2 ^ s = mul-le-mul_left m (pow_pos s) in
+    omega (arith, below, up, is.scaled)
+
 -- the value that a form represents is its value
 pub value_is : (w m f v : ℕ) → Stands w m f v → v ≡ scaled_value w m f
 value_is w m f v h = sym (ap (λ n. n / scale w m) h.same ∙ shl-shr v (count_leading_zeros w m))

@@ -1,11 +1,7 @@
 -- Factors with a precomputed quotient (Shoup; Harvey, "Faster arithmetic for number-theoretic transforms", section 3).
-use Rattle.std.specs.Prelude.{◌≡◌, ℕ, ◌*◌, ◌/◌, ◌<◌, List, All}
+use Rattle.std.specs.Prelude.{ℕ, List, All}
+pub use Rattle.modular_reduced.specs.Factors.{IsFactor}
 use Rattle.modular_barrett.specs.declared.planned.Factor.{Factor}
-
--- w is a factor modulo m, and q its quotient w * b / m, rounded down, with b the base
-pub record IsFactor (b m w q : ℕ) : Type 0 where
-  pub below : w < m
-  pub quotient : q ≡ w * b / m
 
 -- a `Factor` is one modulo m, with its quotient; `number` gives the number of a word
 abbrev pub IsFactorOf : {T D : Type 0} → ℕ → (T → ℕ) → ℕ → Factor T D → Type 0

@@ -1,12 +1,9 @@
-//! Sums of products of two lists of scaled forms, which are reduced once for many products, and products of a list by one
-//! factor, whose quotient is computed once.
+//! Sums of products of two lists of scaled forms, which are reduced once for many products.
 
 ghost use Rattle.std.specs.Prelude.{◌≡◌, ℕ, ◌+◌, ◌*◌, ◌/◌, ◌%◌, ◌^◌, ◌<◌, ◌≤◌, length, map, slice_index};
 ghost use Rattle.modular_word.specs.Sums.{sum_below};
-ghost use Rattle.modular_barrett.specs.Factors.{IsFactorOf};
 
 use crate::normalized::{Normalized2by1Divisor, StoredDivisor};
-use crate::planned::Factor;
 use modular_prim::plain_word::PlainWord;
 use modular_reduced::list_products::carried_sum;
 use modular_word::path_word::PathWord;
@@ -61,36 +58,4 @@ pub(crate) fn reduced_products<T: PlainWord>(
     let (low, high) = T::split(sum);
     let rest = upper(divider, high, carries);
     divider.div_rem_2by1(shifted(low, rest, shift)).1
-}
-
-// The factor w with its quotient by the divisor. Condition: w is below the divisor.
-pub(crate) fn fixed_factor<T: PlainWord>(divider: &Normalized2by1Divisor<T>, w: T) -> Factor<T>
-    requires { T.number w < ⟦<Normalized2by1Divisor<T> as StoredDivisor>⟧.divisor divider.now }
-    ensures value { T.number result.value ≡ T.number w }
-    ensures factor { let d = ⟦<Normalized2by1Divisor<T> as StoredDivisor>⟧.divisor divider.now in
-        IsFactorOf T.base T.number d result }
-{
-    // Reading the word gives the proof that it fits its width.
-    let _ = w.is_below(divider.divisor());
-    let (quotient, _) = divider.div_rem_2by1(T::merge(T::zero(), w));
-    Factor { value: w, quotient }
-}
-
-// The residue of a word x times a factor. The quotient leaves a rest below 2m, of which the low word is known, and one
-// more m is subtracted where that leaves less than the fraction of the quotient has. So 2m may be above the base.
-//
-// Sources: Harvey, "Faster arithmetic for number-theoretic transforms", section 3, after Shoup; for the comparison Möller
-// and Granlund, "Improved division by invariant integers", algorithm 4.
-pub(crate) fn product_by_factor<T: PathWord>(x: T, w: &Factor<T>, m: T) -> T
-    requires { IsFactorOf T.base T.number (T.number m) w.now }
-    ensures { T.number result ≡ (T.number x * T.number w.now.value) % T.number m }
-{
-    // Reading the word gives the proof that it fits its width.
-    let _ = m.is_below(x);
-    let (fraction, whole) = T::split(x.product(w.quotient));
-    let product = x.wrapping_mul(w.value);
-    let multiple = whole.wrapping_mul(m);
-    let rest = product.wrapping_sub(multiple);
-    let less = rest.wrapping_sub(m);
-    if less.is_below(fraction) { less } else { rest }
 }

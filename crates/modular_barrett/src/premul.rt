@@ -5,13 +5,13 @@ ghost use Rattle.std.specs.Int.Count.{count_leading_zeros};
 ghost use Rattle.modular_barrett.specs.Scaling.{scale, scaled_form, scaled_value, IsScaling};
 ghost use Rattle.modular_barrett.specs.ScaledForms.{scaled_canonical};
 
-use crate::list_products::{fixed_factor, product_by_factor, reduced_products};
+use crate::list_products::reduced_products;
 use crate::normalized::{Normalized2by1Divisor, StoredDivisor};
 use modular_prim::below::{add_below, dbl_below_stored, neg_below, sub_below_stored, sum_by_carry};
 use modular_prim::inverse::fast_inverse;
 use modular_prim::plain_word::PlainWord;
 use modular_reduced::lanes::{difference_by_sign, sum_by_sign};
-use modular_reduced::list_products::block;
+use modular_reduced::list_products::{block, multiply_by_factor};
 use modular_reduced::reducer::Reducer;
 use modular_word::path_word::PathWord;
 use modular_word::ring_word::RingWord;
@@ -220,14 +220,14 @@ impl<T: PlainWord> Reducer<T> for PreMulInv2by1<T> {
         self.divider.div_rem_2by1(value.product(*b)).1
     }
 
-    // Each product takes the factor's quotient by the divisor, which is computed once.
+    // Each product takes the factor's quotient by the divisor, which is computed once. Out of line, because it is slower
+    // inside a caller's loop over short lists.
+    #[inline(never)]
     fn scale_entries(&self, xs: &mut [T], factor: &T) {
         let divisor = self.divider.divisor();
         let value = self.residue(*factor);
-        let by = fixed_factor(&self.divider, value);
-        'entries: for i in 0..xs.len() {
-            xs[i] = product_by_factor(xs[i], &by, divisor);
-        }
+        let (quotient, _) = self.divider.div_rem_2by1(T::merge(T::zero(), value));
+        multiply_by_factor(xs, value, quotient, divisor);
     }
 
     // Products are added as whole numbers and reduced once a block.

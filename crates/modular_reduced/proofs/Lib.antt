@@ -1,4 +1,5 @@
 pub mod CarriedSums
+pub mod FixedFactors
 pub mod FormLemmas
 pub mod IntegerLemmas
 pub mod ListProducts

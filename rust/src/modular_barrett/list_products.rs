@@ -1,8 +1,6 @@
-//! Sums of products of two lists of scaled forms, which are reduced once for many products, and products of a list by one
-//! factor, whose quotient is computed once.
+//! Sums of products of two lists of scaled forms, which are reduced once for many products.
 
 use crate::modular_barrett::normalized::Normalized2by1Divisor;
-use crate::modular_barrett::planned::Factor;
 use crate::modular_prim::plain_word::PlainWord;
 use crate::modular_reduced::list_products::carried_sum;
 use crate::modular_word::path_word::PathWord;
@@ -43,29 +41,4 @@ pub(crate) fn reduced_products<T: PlainWord>(
     let (low, high) = T::split(sum);
     let rest = upper(divider, high, carries);
     divider.div_rem_2by1(shifted(low, rest, shift)).1
-}
-
-// The factor w with its quotient by the divisor. Condition: w is below the divisor.
-#[inline]
-pub(crate) fn fixed_factor<T: PlainWord>(divider: &Normalized2by1Divisor<T>, w: T) -> Factor<T> {
-    // Reading the word gives the proof that it fits its width.
-    let _ = w.is_below(divider.divisor());
-    let (quotient, _) = divider.div_rem_2by1(T::merge(T::zero(), w));
-    Factor { value: w, quotient }
-}
-
-// The residue of a word x times a factor. The quotient leaves a rest below 2m, of which the low word is known, and one
-// more m is subtracted where that leaves less than the fraction of the quotient has. So 2m may be above the base.
-//
-// Sources: Harvey, "Faster arithmetic for number-theoretic transforms", section 3, after Shoup; for the comparison Möller
-// and Granlund, "Improved division by invariant integers", algorithm 4.
-pub(crate) fn product_by_factor<T: PathWord>(x: T, w: &Factor<T>, m: T) -> T {
-    // Reading the word gives the proof that it fits its width.
-    let _ = m.is_below(x);
-    let (fraction, whole) = T::split(x.product(w.quotient));
-    let product = x.wrapping_mul(w.value);
-    let multiple = whole.wrapping_mul(m);
-    let rest = product.wrapping_sub(multiple);
-    let less = rest.wrapping_sub(m);
-    if less.is_below(fraction) { less } else { rest }
 }

@@ -1,12 +1,12 @@
 //! The reducer whose forms are the values shifted to the top of the word.
 
-use crate::modular_barrett::list_products::{fixed_factor, product_by_factor, reduced_products};
+use crate::modular_barrett::list_products::reduced_products;
 use crate::modular_barrett::normalized::Normalized2by1Divisor;
 use crate::modular_prim::below::{add_below, dbl_below_stored, neg_below, sub_below_stored, sum_by_carry};
 use crate::modular_prim::inverse::fast_inverse;
 use crate::modular_prim::plain_word::PlainWord;
 use crate::modular_reduced::lanes::{difference_by_sign, sum_by_sign};
-use crate::modular_reduced::list_products::block;
+use crate::modular_reduced::list_products::{block, multiply_by_factor};
 use crate::modular_reduced::reducer::Reducer;
 use crate::modular_word::path_word::PathWord;
 
@@ -211,14 +211,14 @@ impl<T: PlainWord> Reducer<T> for PreMulInv2by1<T> {
         self.divider.div_rem_2by1(value.product(*b)).1
     }
 
-    // Each product takes the factor's quotient by the divisor, which is computed once.
+    // Each product takes the factor's quotient by the divisor, which is computed once. Out of line, because it is slower
+    // inside a caller's loop over short lists.
+    #[inline(never)]
     fn scale_entries(&self, xs: &mut [T], factor: &T) {
         let divisor = self.divider.divisor();
         let value = self.residue(*factor);
-        let by = fixed_factor(&self.divider, value);
-        for entry in xs.iter_mut() {
-            *entry = product_by_factor(*entry, &by, divisor);
-        }
+        let (quotient, _) = self.divider.div_rem_2by1(T::merge(T::zero(), value));
+        multiply_by_factor(xs, value, quotient, divisor);
     }
 
     // Products are added as whole numbers and reduced once a block.

@@ -1,6 +1,7 @@
 use Rattle.std.proofs.Common.{◌≡◌, ◌+◌, ◌*◌, sym, ◌∙◌, arith}
 use Rattle.modular_barrett.proofs.DoubleWords.{complement, sum_fits, low_word}
-use Rattle.modular_barrett.proofs.Quotients.{near, left_less, IsNear}
+use Rattle.modular_reduced.proofs.FixedFactors.{near, IsNear}
+use Rattle.modular_barrett.proofs.Quotients.{left_less}
 use Rattle.modular_barrett.proofs.planned.PlannedModulus.times_by_double_words.Goals as goal
 use Rattle.modular_barrett.proofs.planned.PlannedModulus.times_by_double_words.Goals.{After-product-3}
 

@@ -1,5 +1,6 @@
 use Rattle.std.proofs.Common.{◌*◌, ◌<◌, sym, ◌∙◌, arith}
-use Rattle.modular_barrett.proofs.Quotients.{near, left_over, IsProduct}
+use Rattle.modular_reduced.proofs.FixedFactors.{near}
+use Rattle.modular_barrett.proofs.Quotients.{left_over, IsProduct}
 use Rattle.modular_barrett.proofs.planned.PlannedModulus.times_by_words.Goals as goal
 
 pub returns : goal.returns

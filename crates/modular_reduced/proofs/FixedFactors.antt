@@ -1,19 +1,41 @@
 -- Products by a factor with its quotient, modulo any m below the base b: which of two words is the residue.
 use Rattle.std.proofs.Common.{◌≡◌, ℕ, ◌+◌, ◌-◌, ◌*◌, ◌/◌, ◌%◌, ◌<◌, ◌≤◌, sym, ap, ◌∙◌, arith, ⊎_elim}
-use Rattle.std.proofs.Math.Nat.{mod-lt, mod-mod, mod-eq_of_lt, add-mod_right, add-mul-mod_self_right, mul-le-mul_left}
-use Rattle.std.proofs.Math.Nat.{mul-le-mul_right, lt_of_mul-lt-mul_right, le_of_mul-le-mul_right, add-mod}
+use Rattle.std.proofs.Math.Nat.{mod-lt, mod-mod, div-add-mod, mod-eq_of_lt, add-mod_right, add-mul-mod_self_right}
+use Rattle.std.proofs.Math.Nat.{mul-le-mul_left, mul-le-mul_right, lt_of_mul-lt-mul_right, le_of_mul-le-mul_right, add-mod}
 use Rattle.std.proofs.lemmas.Bool.{cases_lt}
-use Rattle.std.proofs.lemmas.Nat.{div-mul-add}
-use Rattle.modular_word.specs.Division.{IsDivision}
 use Rattle.modular_word.proofs.Congruence.{mod_cancel, same_without}
-use Rattle.modular_barrett.specs.Factors.{IsFactor}
-use Rattle.modular_barrett.proofs.Quotients.{near, near_parts}
+use Rattle.modular_reduced.specs.Factors.{IsFactor}
 
--- a quotient of the factor times the base
-pub quotient_is : (b m w q r : ℕ) → IsDivision (b * w) m q r → q ≡ w * b / m
-quotient_is b m w q r h =
-    let e : q * m + r ≡ w * b = omega (arith, h.whole) in
-    sym (ap (λ v. v / m) (sym e) ∙ div-mul-add q m r h.below)
+-- x * w less the multiple of m that the quotient gives is below 2 * m
+pub record IsNear (m product whole : ℕ) : Type 0 where
+  pub at_most : whole * m ≤ product
+  pub close : product < whole * m + 2 * m
+
+-- the product by the base: that of the multiple, of the fraction and of what the quotient leaves
+pub near_parts : (b m w q x low h : ℕ) → IsFactor b m w q → x * q ≡ low + b * h
+    → (x * w) * b ≡ (h * m) * b + m * low + x * (w * b % m)
+near_parts b m w q x low h is e =
+    let f : m * (w * b / m) + w * b % m ≡ w * b = div-add-mod (w * b) m in
+    let fq : m * q ≡ m * (w * b / m) = ap (λ v. m * v) is.quotient in
+    let g : x * (m * q + w * b % m) ≡ x * (w * b) =
+    ap (λ v. x * v) (let k : m * q + w * b % m ≡ w * b = omega (arith, f, fq) in k) in
+    let me : m * (x * q) ≡ m * (low + b * h) = ap (λ v. m * v) e in
+    omega (arith, g, me)
+
+pub near : (b m w q x low h : ℕ) → IsFactor b m w q → x < b → x * q ≡ low + b * h → low < b → IsNear m (x * w) h
+near b m w q x low h is fits e low_fits =
+    let below : w < m = is.below in
+    let l : w * b % m < m = mod-lt (w * b) (omega arith) in
+    let whole : (x * w) * b ≡ (h * m) * b + m * low + x * (w * b % m) = near_parts b m w q x low h is e in
+    let first : m * (low + 1) ≤ m * b = mul-le-mul_left m (let k : low + 1 ≤ b = omega arith in k) in
+    let second : x * (w * b % m) ≤ b * (w * b % m) = mul-le-mul_right (w * b % m) (let k : x ≤ b = omega arith in k) in
+    let third : b * (w * b % m) ≤ b * m = mul-le-mul_left b (let k : w * b % m ≤ m = omega (arith, l) in k) in
+    let some : 0 < b = omega arith in
+    record {
+      at_most = le_of_mul-le-mul_right (let k : (h * m) * b ≤ (x * w) * b = omega (arith, whole) in k) some;
+      close = lt_of_mul-lt-mul_right b
+          (let k : (x * w) * b < (h * m + 2 * m) * b = omega (arith, whole, first, second, third, below) in k);
+    }
 
 -- z is the word `less` where that is below the fraction, and `r` elsewhere
 pub record IsChosen (low less r z : ℕ) : Type 0 where
