@@ -17,7 +17,7 @@ use Rattle.modular_word.proofs.Sums.{sum_below-congruent, sum_below-mul}
 use Rattle.modular_reduced.specs.Forms.{Represents, IsForm, IsCanonical}
 use Rattle.modular_reduced.proofs.FormLemmas.{Answered, InverseAnswered, answered, form_of_value, inverse_answered}
 use Rattle.modular_monty.specs.Montgomery.{montgomery_form, montgomery_value, IsOddRing}
-use Rattle.modular_monty.specs.MontgomeryLaws.{positive, base_cancels, montgomery_canonical}
+use Rattle.modular_monty.specs.MontgomeryLaws.{positive, base_cancels, value_of_form, montgomery_canonical}
 
 -- modulo m, f represents the value v
 abbrev pub Stands : ℕ → ℕ → ℕ → ℕ → Type 0
@@ -111,6 +111,24 @@ module _ {w b m i square : ℕ} (r : IsOddRing w b m i square) where
       (ap (λ n. n % m) et ∙ same_product m f (v * b) g (x * b) (same_form isf) (same_form isg)
       ∙ ap (λ n. n % m) (let e : v * b * (x * b) ≡ v * x * b * b = omega arith in e)) is
 
+  -- a word as a double word
+  pub extended_below : {t f z : ℕ} → f < m → t ≡ f + b * z → z ≡ 0 → (t ≡ f) × (t < b * m)
+  extended_below {t} {f} {z} h e ez =
+      let none : b * z ≡ b * 0 = ap (λ n. b * n) ez in
+      (omega arith, omega (arith, none, r.fits, mul-le-mul_left b (positive r)))
+
+  -- a form times what reduces another, as a double word, is the form of the product
+  pub scaled_made : {f g t o u h : ℕ} → Checked w m f → Checked w m g → t ≡ g + b * o → o ≡ 0 → IsReduction b m t u
+      → h ≡ (f * u) % m → Made w m h ((montgomery_value w m f * montgomery_value w m g) % m)
+  scaled_made {f} {g} {t} {o} {u} isf isg et eo is eh =
+      let v = montgomery_value w m f in
+      let x = montgomery_value w m g in
+      let below = form_below isg in
+      let u_is : x ≡ u = value_of_form r (value_stands below (extended_below below et eo).0 is) in
+      made (v * x)
+      (eh ∙ same_product m f (v * b) u x (same_form isf) (ap (λ n. n % m) (sym u_is))
+      ∙ ap (λ n. n % m) (let e : v * b * x ≡ v * x * b = omega arith in e))
+
   -- what reduces a form times the base and a sum of products of forms is the form of the sum
   pub products_made : {f h : ℕ} (n : ℕ) (x y : ℕ → ℕ) → Checked w m f → ((i : ℕ) → i < n → Checked w m (x i))
       → ((i : ℕ) → i < n → Checked w m (y i)) → h < m
@@ -196,12 +214,6 @@ module _ {w b m i square : ℕ} (r : IsOddRing w b m i square) where
       let minus : (n : ℕ) → pos 0 -ℤ pos n ≡ neg_ℤ (pos n) = λ n. omega (arith, ints) in
       subst (Made w m h) (ap (λ n. residue m (pos n -ℤ pos v)) zero_value ∙ ap (residue m) (minus v))
       (difference_made (below_is_form 0 (positive r)) is (eh ∙ ap (residue m) (sym (minus f))))
-
-  -- a word as a double word
-  pub extended_below : {t f z : ℕ} → f < m → t ≡ f + b * z → z ≡ 0 → (t ≡ f) × (t < b * m)
-  extended_below {t} {f} {z} h e ez =
-      let none : b * z ≡ b * 0 = ap (λ n. b * n) ez in
-      (omega arith, omega (arith, none, r.fits, mul-le-mul_left b (positive r)))
 
 -- an inverse of the value, and its form
 pub inverted : {T : Type 0} (number : T → ℕ) {form value : ℕ → ℕ → ℕ} {w m : ℕ}

@@ -6,6 +6,7 @@ use Rattle.std.proofs.Math.Nat.{add-mul-mod_self_left, div-add-mod, div-one, mod
 use Rattle.std.proofs.lemmas.Nat.{pow_pos, div_below, div-mul-add, mod-mul-add, mul-add-lt}
 use Rattle.std.proofs.lemmas.Int.{ints}
 use Rattle.modular_word.specs.Congruence.{Congruent}
+use Rattle.modular_word.specs.Reduction.{IsReduction}
 use Rattle.modular_word.specs.Residues.{residue}
 use Rattle.modular_word.specs.Sums.{sum_below}
 use Rattle.modular_word.proofs.Congruence.{mod_of_eq, mod_trans, mod_add, mod_mul, residue_of}
@@ -111,6 +112,14 @@ module _ {w b m s k i square : ℕ} (r : IsTwoPartRing w b m s k i square) where
       (same k (montgomery_value w k y) v (montgomery_value w k z) x (odd.same_residue v k (high_value isf ey))
       (odd.same_residue x k (high_value isg ez)))
       (low_word (op f g) et ∙ same (2 ^ s) f v g x (parts isf).low (parts isg).low) eh
+
+  -- the product of two forms, by what reduces the high part of one
+  pub scaled_made : {f g y z a o u x t h : ℕ} → Checked w m f → Checked w m g → y ≡ f / 2 ^ s → z ≡ g / 2 ^ s
+      → a ≡ z + b * o → o ≡ 0 → IsReduction b k a u → x ≡ (y * u) % k → t ≡ (f * g) % b → h ≡ x * 2 ^ s + t % 2 ^ s
+      → Made w m h ((two_part_value w m f * two_part_value w m g) % m)
+  scaled_made isf isg ey ez ea eo is ex et eh =
+      let high = odd.scaled_made r.odd (high_checked isf ey) (high_checked isg ez) ea eo is ex in
+      operation_made (λ x y. x * y) same_product isf isg ey ez high.form et eh
 
   -- for an odd modulus, what represents a sum of products modulo the odd part represents it
   pub odd_products_made : s ≡ 0 → {f h : ℕ} (n : ℕ) (x y : ℕ → ℕ) → Checked w m f

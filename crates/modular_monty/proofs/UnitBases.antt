@@ -1,10 +1,12 @@
 -- Reductions of small numbers, and bases that are 1 modulo m.
-use Rattle.std.proofs.Common.{◌≡◌, ℕ, suc, zero, ◌+◌, ◌*◌, ◌%◌, ◌<◌, ◌≤◌, sym, ap, ◌∙◌, arith, refl, subst, ⊎_elim}
+use Rattle.std.proofs.Common.{◌≡◌, ℕ, suc, zero, ◌+◌, ◌*◌, ◌/◌, ◌%◌, ◌<◌, ◌≤◌, sym, ap, ◌∙◌, arith, refl, subst, ⊎_elim}
 use Rattle.std.proofs.Math.Nat.{mod-eq_of_lt, mul-suc, mul-le-mul_left, mul-le-mul_right, add-mul-mod_self_left, add-mul-mod_self_right}
 use Rattle.std.proofs.Math.Nat.{lt_of_mul-lt-mul_right}
 use Rattle.std.proofs.lemmas.Bool.{cases_lt}
+use Rattle.std.proofs.lemmas.Nat.{div-mul-add}
 use Rattle.modular_word.proofs.Congruence.{same_product}
 use Rattle.modular_word.specs.Reduction.{IsReduction}
+use Rattle.modular_reduced.specs.Factors.{IsFactor}
 
 -- a number below m and a multiple of m by a word add up to less than m times the base
 pub sum_below_multiple : (B m t x : ℕ) → t < m → x < B → t + x * m < B * m
@@ -18,18 +20,31 @@ sum_fits B m t x below fits word =
     let most : B * m ≤ B * B = mul-le-mul_left B (let l : m ≤ B = omega (arith, word) in l) in
     omega (arith, sum_below_multiple B m t x below fits, most)
 
--- where its low word is 0, the high word is the reduction
+-- where its low word is 0, it is the high word times the base ..
+pub high_times_base : (B m t x low high : ℕ) → (t + x * m) % B ≡ 0 → t + x * m ≡ low + B * high → low < B
+    → high * B ≡ t + x * m
+high_times_base B m t x low high cleared parts low_fits =
+    let none : low ≡ 0 =
+    sym (mod-eq_of_lt low_fits) ∙ sym (add-mul-mod_self_left low B high) ∙ ap (λ n. n % B) (sym parts) ∙ cleared in
+    omega (arith, none, parts)
+
+-- .. so the high word is the reduction
 pub reduces_below : (B m t x low high : ℕ) → t < m → x < B → (t + x * m) % B ≡ 0 → t + x * m ≡ low + B * high → low < B
     → IsReduction B m t high
 reduces_below B m t x low high below fits cleared parts low_fits =
-    let none : low ≡ 0 =
-    sym (mod-eq_of_lt low_fits) ∙ sym (add-mul-mod_self_left low B high) ∙ ap (λ n. n % B) (sym parts) ∙ cleared in
-    let whole : high * B ≡ t + x * m = omega (arith, none, parts) in
+    let whole : high * B ≡ t + x * m = high_times_base B m t x low high cleared parts low_fits in
     let less : high * B < m * B = omega (arith, whole, sum_below_multiple B m t x below fits) in
     record {
       below = lt_of_mul-lt-mul_right B less;
       congruent = ap (λ n. n % m) whole ∙ add-mul-mod_self_right t x m;
     }
+
+-- and x is its quotient as a factor
+pub factor_of_reduction : (B m t x high : ℕ) → t < m → IsReduction B m t high → high * B ≡ t + x * m → IsFactor B m high x
+factor_of_reduction B m t x high below is whole = record {
+  below = is.below;
+  quotient = sym (ap (λ n. n / m) (let e : high * B ≡ x * m + t = omega (arith, whole) in e) ∙ div-mul-add x m t below);
+}
 
 -- the word whose successor is the base
 next_word : (B low : ℕ) → low < B → (low + 1) % B ≡ 0 → low + 1 ≡ B

@@ -7,9 +7,10 @@ ghost use Rattle.modular_monty.specs.TwoParts.{two_part_form, two_part_value, ev
 ghost use Rattle.modular_monty.specs.TwoParts.{IsComputedOnce, IsTwoPartRing};
 ghost use Rattle.modular_monty.specs.TwoPartLaws.{modulus_positive, two_part_canonical};
 
-use crate::odd_ring::{OddModulus, OddRing, StoredModulus};
+use crate::odd_ring::{OddModulus, OddRing, StoredModulus, reduced_factor};
 use modular_prim::below::{dbl_below_stored, sum_by_carry};
 use modular_prim::reducer_word::ReducerWord;
+use modular_reduced::list_products::{multiply_by_factor, product_by_factor};
 use modular_reduced::reducer::Reducer;
 use modular_word::path_word::PathWord;
 use modular_word::ring_word::RingWord;
@@ -265,6 +266,22 @@ impl<T: ReducerWord> Reducer<T> for Montgomery<T> {
             total = self.add(&total, &self.mul(&xs[i], &ys[i]));
         }
         total
+    }
+
+    // Each product takes the quotient of the factor's value by k, which the reduction to that value computes anyway.
+    fn scale_entries(&self, xs: &mut [T], factor: &T) {
+        let k = self.odd.kept.modulus;
+        let high = T::merge(self.high(*factor), T::zero());
+        let (value, quotient) = reduced_factor(k, self.odd.kept.negated_inverse, high);
+        if self.twos == 0 {
+            multiply_by_factor(xs, value, quotient, k);
+            return;
+        }
+        'entries: for i in 0..xs.len() {
+            let x = xs[i];
+            let product = product_by_factor(self.high(x), value, quotient, k);
+            xs[i] = self.form_of_parts(product, x.wrapping_mul(*factor));
+        }
     }
 
     // The form of the inverse of the value.

@@ -3,6 +3,7 @@
 
 ghost use Rattle.std.specs.Prelude.{◌≡◌, ℕ, ◌+◌, ◌*◌, ◌%◌, ◌<◌, ◌↔◌, ⊤, IsTrue, MatchOption};
 ghost use Rattle.modular_word.specs.Reduction.{IsNegatedInverse, IsReduction};
+ghost use Rattle.modular_reduced.specs.Factors.{IsFactor};
 ghost use Rattle.modular_monty.specs.Montgomery.{montgomery_form, montgomery_value, IsOddRing};
 ghost use Rattle.modular_monty.specs.MontgomeryLaws.{montgomery_canonical};
 
@@ -148,12 +149,27 @@ pub(crate) fn reduce_below_by<T: PathWord>(m: T, t: T::Double, x: T, multiple: T
     requires multiple { T.double_number multiple ≡ T.number x * T.number m }
     requires low { (T.double_number t + T.number x * T.number m) % T.base ≡ 0 }
     requires x_fits { T.number x < T.base }
-    ensures { IsReduction T.base (T.number m) (T.double_number t) (T.number result) }
+    ensures reduction { IsReduction T.base (T.number m) (T.double_number t) (T.number result) }
+    ensures whole { T.number result * T.base ≡ T.double_number t + T.number x * T.number m }
 {
     // Reading m gives the proof that it fits a word.
     let _ = m.is_below(x);
     let (_, high) = T::split(T::double_plus(t, multiple));
     high
+}
+
+// `redc` of a double word t below m, as a factor modulo m with its quotient: the word x of `clearing`, since the factor
+// times the base is x·m + t. Condition: t is below m.
+//
+// Source: for such factors Harvey, "Faster arithmetic for number-theoretic transforms", section 3, after Shoup.
+pub(crate) fn reduced_factor<T: PathWord>(m: T, negated_inverse: T, t: T::Double) -> (T, T)
+    requires inverse { IsNegatedInverse T.base (T.number m) (T.number negated_inverse) }
+    requires below { T.double_number t < T.number m }
+    ensures reduction { IsReduction T.base (T.number m) (T.double_number t) (T.number result.0) }
+    ensures factor { IsFactor T.base (T.number m) (T.number result.0) (T.number result.1) }
+{
+    let x = clearing(m, negated_inverse, t);
+    (reduce_below_by(m, t, x, x.product(m)), x)
 }
 
 // `redc` of a double word below m.
@@ -162,8 +178,7 @@ pub(crate) fn redc_below<T: PathWord>(m: T, negated_inverse: T, t: T::Double) ->
     requires below { T.double_number t < T.number m }
     ensures { IsReduction T.base (T.number m) (T.double_number t) (T.number result) }
 {
-    let x = clearing(m, negated_inverse, t);
-    reduce_below_by(m, t, x, x.product(m))
+    reduced_factor(m, negated_inverse, t).0
 }
 
 // Whether the base is 1 modulo m, given the negated inverse of m: then their product is the base less 1.

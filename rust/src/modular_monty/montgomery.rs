@@ -1,8 +1,9 @@
 //! The reducer by Montgomery's representation, for every modulus.
 
-use crate::modular_monty::odd_ring::{OddRing, StoredModulus};
+use crate::modular_monty::odd_ring::{OddRing, StoredModulus, reduced_factor};
 use crate::modular_prim::below::{dbl_below_stored, sum_by_carry};
 use crate::modular_prim::reducer_word::ReducerWord;
+use crate::modular_reduced::list_products::{multiply_by_factor, product_by_factor};
 use crate::modular_reduced::reducer::Reducer;
 
 /// The reducer of a modulus m that is at least 1, by Montgomery's representation. With m = 2^s·k for odd k, and the
@@ -247,6 +248,22 @@ impl<T: ReducerWord> Reducer<T> for Montgomery<T> {
             total = self.add(&total, &self.mul(&xs[i], &ys[i]));
         }
         total
+    }
+
+    // Each product takes the quotient of the factor's value by k, which the reduction to that value computes anyway.
+    fn scale_entries(&self, xs: &mut [T], factor: &T) {
+        let k = self.odd.kept.modulus;
+        let high = T::merge(self.high(*factor), T::zero());
+        let (value, quotient) = reduced_factor(k, self.odd.kept.negated_inverse, high);
+        if self.twos == 0 {
+            multiply_by_factor(xs, value, quotient, k);
+            return;
+        }
+        for entry in xs.iter_mut() {
+            let x = *entry;
+            let product = product_by_factor(self.high(x), value, quotient, k);
+            *entry = self.form_of_parts(product, x.wrapping_mul(*factor));
+        }
     }
 
     // The form of the inverse of the value.

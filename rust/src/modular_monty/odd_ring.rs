@@ -136,11 +136,20 @@ pub(crate) fn reduce_below_by<T: PathWord>(m: T, t: T::Double, x: T, multiple: T
     high
 }
 
+// `redc` of a double word t below m, as a factor modulo m with its quotient: the word x of `clearing`, since the factor
+// times the base is x·m + t. Condition: t is below m.
+//
+// Source: for such factors Harvey, "Faster arithmetic for number-theoretic transforms", section 3, after Shoup.
+#[inline]
+pub(crate) fn reduced_factor<T: PathWord>(m: T, negated_inverse: T, t: T::Double) -> (T, T) {
+    let x = clearing(m, negated_inverse, t);
+    (reduce_below_by(m, t, x, x.product(m)), x)
+}
+
 // `redc` of a double word below m.
 #[inline]
 pub(crate) fn redc_below<T: PathWord>(m: T, negated_inverse: T, t: T::Double) -> T {
-    let x = clearing(m, negated_inverse, t);
-    reduce_below_by(m, t, x, x.product(m))
+    reduced_factor(m, negated_inverse, t).0
 }
 
 // Whether the base is 1 modulo m, given the negated inverse of m: then their product is the base less 1.

@@ -44,6 +44,13 @@ const LISTS: &[Lists] = &[
         products: [1, 13835058055282164538, 15439085824781226515, 18446744073709551556],
         multiples: [9223372036854775744, 4611686018427388907, 16151226180300108926, 9223372036854775813],
         dot: 10827399806353839496 },
+    Lists { m: 18446744073709551615, xs: [18446744073709551614, 9223372036854775808, 12297829382473034410, 1],
+        ys: [18446744073709551614, 2, 12297829382473034411, 18446744073709551613], factor: 12297829382473034411,
+        sums: [18446744073709551613, 9223372036854775810, 6148914691236517206, 18446744073709551614],
+        differences: [0, 9223372036854775806, 18446744073709551614, 3],
+        products: [1, 1, 6148914691236517205, 18446744073709551613],
+        multiples: [6148914691236517204, 15372286728091293013, 6148914691236517205, 12297829382473034411],
+        dot: 6148914691236517205 },
     Lists { m: 10000000000000000000, xs: [9999999999999999999, 5000000000000000000, 1234567890123456789, 0],
         ys: [9999999999999999999, 5000000000000000000, 9876543210987654321, 7], factor: 2000000000000000000,
         sums: [9999999999999999998, 0, 1111111101111111110, 7],
@@ -94,19 +101,21 @@ impl Question<u64> for Lists {
     }
 }
 
-// A modulus, and the residue of the dot product of the first 600 words of two sequences, in several blocks.
+// A modulus, and the residue of the dot product of the first 600 words of two sequences, in several blocks; then that of
+// the first with 200 times the second.
 struct LongProduct {
     m: u8,
     dot: u8,
+    scaled: u8,
 }
 
 const LONG_PRODUCTS: &[LongProduct] = &[
-    LongProduct { m: 97, dot: 39 },
-    LongProduct { m: 251, dot: 18 },
-    LongProduct { m: 255, dot: 232 },
-    LongProduct { m: 96, dot: 16 },
-    LongProduct { m: 128, dot: 112 },
-    LongProduct { m: 1, dot: 0 },
+    LongProduct { m: 97, dot: 39, scaled: 40 },
+    LongProduct { m: 251, dot: 18, scaled: 86 },
+    LongProduct { m: 255, dot: 232, scaled: 245 },
+    LongProduct { m: 96, dot: 16, scaled: 32 },
+    LongProduct { m: 128, dot: 112, scaled: 0 },
+    LongProduct { m: 1, dot: 0, scaled: 0 },
 ];
 
 // The words that begin with `first`, each 5 times the one before and 7 more, modulo 256.
@@ -132,7 +141,9 @@ impl Question<u8> for LongProduct {
         let (mut xs, mut ys) = ([0; 600], [0; 600]);
         load_forms(r, &sequence(3), &mut xs);
         load_forms(r, &sequence(250), &mut ys);
-        dot_product(r, &xs, &ys) == r.transform(self.dot)
+        let dot = dot_product(r, &xs, &ys);
+        scale_list(r, &mut ys, &r.transform(200));
+        dot == r.transform(self.dot) && dot_product(r, &xs, &ys) == r.transform(self.scaled)
     }
 }
 
