@@ -8,24 +8,9 @@ use Rattle.modular_word.specs.Congruence.{Congruent}
 use Rattle.modular_word.specs.Sums.{sum_below}
 use Rattle.modular_word.proofs.Congruence.{mod_of_eq, mod_trans, mod_add, residue_of}
 use Rattle.modular_word.proofs.Sums.{sum_below-zero, sum_below-suc, sum_below-same}
-use Rattle.modular_reduced.specs.EntryLaws.{entry_read, form_read as entry_form_read}
+use Rattle.modular_reduced.specs.Entries.{entry}
 use Rattle.modular_reduced.specs.Forms.{IsForm}
-use Rattle.modular_reduced.specs.Values.{values_of, sum_of_products}
-
--- the value of the form at each index
-abbrev pub values : {T : Type 0} → (T → ℕ) → (ℕ → ℕ → ℕ) → ℕ → List T → ℕ → ℕ
-values number value m forms i = get_or (values_of number value m forms) i 0
-
--- the value of a form x that was read at index i
-pub value_read : {T : Type 0} (number : T → ℕ) (value : ℕ → ℕ → ℕ) (m : ℕ) (forms : List T) (i : ℕ) (x : T)
-    → i < length forms → x ≡ get_or forms i x → value m (number x) ≡ values number value m forms i
-value_read = entry_read
-
--- a form that was read is checked where all are
-pub form_read : {T : Type 0} (number : T → ℕ) (form value : ℕ → ℕ → ℕ) (m : ℕ) (forms : List T) (i : ℕ) (x : T)
-    → All (λ f. IsForm form value m (number f)) forms → i < length forms → x ≡ get_or forms i x
-    → IsForm form value m (number x)
-form_read = entry_form_read
+use Rattle.modular_reduced.specs.Values.{sum_of_products}
 
 -- the value s and no product
 pub products_none : (m s : ℕ) (f : ℕ → ℕ) → s < m → s ≡ (s + sum_below 0 f) % m
@@ -47,7 +32,7 @@ products_more m s i t x y f so_far term =
 
 -- the value at an index is that of the number there
 number_value : {T : Type 0} (number : T → ℕ) (value : ℕ → ℕ → ℕ) (m : ℕ) (forms : List T) (i : ℕ) → i < length forms
-    → values number value m forms i ≡ value m (get_or (map number forms) i 0)
+    → entry number value m forms i ≡ value m (get_or (map number forms) i 0)
 number_value number value m forms i below =
     let within : i < length (map number forms) = subst (λ n. i < n) (sym (length-map forms number)) below in
     ap (λ vs. get_or vs i 0) (sym (map-map (value m) number forms))
@@ -68,6 +53,6 @@ pub products_of_numbers : {T : Type 0} (number : T → ℕ) (value : ℕ → ℕ
     ≡ sum_of_products number value m xs ys
 products_of_numbers number value m xs ys equal =
     sum_below-same (length xs) (λ i. value m (get_or (map number xs) i 0) * value m (get_or (map number ys) i 0))
-    (λ i. values number value m xs i * values number value m ys i)
+    (λ i. entry number value m xs i * entry number value m ys i)
     (λ i l. sym (ap₂ (λ v w. v * w) (number_value number value m xs i l)
     (number_value number value m ys i (omega (arith, l, equal)))))

@@ -7,7 +7,7 @@ use Rattle.std.proofs.lemmas.Bool.{cases_eq}
 use Rattle.std.proofs.lemmas.Nat.{mul-mod_first, mul-mod_second}
 use Rattle.modular_word.specs.Inverses.{IsInverse, HasInverse}
 use Rattle.modular_word.proofs.Congruence.{same_product}
-use Rattle.modular_transform.specs.EntryLaws.{entry_at, hold_more}
+use Rattle.modular_reduced.specs.EntryLaws.{entry_at, hold_more}
 use Rattle.modular_ring.specs.Products.{product_below}
 
 -- the empty product

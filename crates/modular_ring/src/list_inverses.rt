@@ -1,7 +1,7 @@
 //! The inverses of all entries of a list by one inversion.
 
 ghost use Rattle.std.specs.Prelude.{◌≡◌, ℕ, ◌<◌, ◌↔◌, IsTrue, All, length};
-ghost use Rattle.modular_transform.specs.Entries.{entry};
+ghost use Rattle.modular_reduced.specs.Entries.{entry};
 ghost use Rattle.modular_reduced.specs.Forms.{IsForm};
 ghost use Rattle.modular_word.specs.Inverses.{HasInverse, IsInverse};
 

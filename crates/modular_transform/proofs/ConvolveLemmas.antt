@@ -13,9 +13,11 @@ use Rattle.modular_word.specs.Congruence.{Congruent}
 use Rattle.modular_transform.specs.Orders.{IsReordered, mirrored}
 use Rattle.modular_reduced.specs.Values.{HoldValues}
 use Rattle.modular_word.proofs.Congruence.{mod_of_eq, mod_refl, mod_sym, mod_trans, mod_mul, residue_of}
+use Rattle.modular_reduced.specs.Entries.{entry}
+use Rattle.modular_reduced.specs.EntryLaws.{entry_at}
 use Rattle.modular_transform.proofs.CyclicProducts.{HalfTurn, Mirrored, convolved}
 use Rattle.modular_transform.proofs.Reordering.{mirrored_first, mirrored_other}
-use Rattle.modular_transform.proofs.ValueLemmas.{values, held_value, value_of_entry}
+use Rattle.modular_transform.proofs.ValueLemmas.{held_value}
 
 -- a root that suits, for the convolution theorem
 half_turn_at : {m g n : ℕ} (z : ℕ) → n ≡ 2 ^ z → Suits m g n → HalfTurn m g n
@@ -79,10 +81,10 @@ inverse_along {m} {a} {b} {x} same h =
 -- the value at a place of a reordered list
 pub reordered_value : {T : Type 0} (number : T → ℕ) (value : ℕ → ℕ → ℕ) (m i : ℕ) (d : T) (s : ℕ → ℕ) (old new : List T)
     → IsReordered s old new → i < length old → i < length new → s i < length old
-    → values number value m new i ≡ values number value m old (s i)
+    → entry number value m new i ≡ entry number value m old (s i)
 reordered_value number value m i d s old new reordered l l_new l_s =
-    sym (value_of_entry number value m new i d l_new) ∙ ap (λ f. value m (number f)) (reordered.each i d l)
-    ∙ value_of_entry number value m old (s i) d l_s
+    sym (entry_at number value m new i d l_new) ∙ ap (λ f. value m (number f)) (reordered.each i d l)
+    ∙ entry_at number value m old (s i) d l_s
 
 -- the forms of the mirrored list are those of the list
 pub mirrored_forms : {T : Type 0} (number : T → ℕ) (form value : ℕ → ℕ → ℕ) (m : ℕ) (old new : List T)
@@ -99,18 +101,18 @@ pub convolution_end : {T : Type 0} (number : T → ℕ) (form value : ℕ → �
     (xs ys xs1 ys1 xs2 xs3 : List T)
     → IsCanonical form value width m → Suits m g n → IsInverse m n part
     → length xs ≡ n → length ys ≡ n → length xs1 ≡ n → length ys1 ≡ n → length xs2 ≡ n → length xs3 ≡ n
-    → HoldValues number form m xs1 (transform m g (length xs) (values number value m xs))
-    → HoldValues number form m ys1 (transform m g (length ys) (values number value m ys))
-    → HoldValues number form m xs2 (λ i. (values number value m xs1 i * values number value m ys1 i) % m)
+    → HoldValues number form m xs1 (transform m g (length xs) (entry number value m xs))
+    → HoldValues number form m ys1 (transform m g (length ys) (entry number value m ys))
+    → HoldValues number form m xs2 (λ i. (entry number value m xs1 i * entry number value m ys1 i) % m)
     → HoldValues number form m xs3
-    (λ i. (transform m g (length xs2) (values number value m xs2) (mirrored (length xs2) i) * part) % m)
-    → HoldValues number form m xs3 (cyclic_product m n (values number value m xs) (values number value m ys))
+    (λ i. (transform m g (length xs2) (entry number value m xs2) (mirrored (length xs2) i) * part) % m)
+    → HoldValues number form m xs3 (cyclic_product m n (entry number value m xs) (entry number value m ys))
 convolution_end number form value width m g n part xs ys xs1 ys1 xs2 xs3 canonical suits inverse l l_ys l1 l_ys1
     l2 l3 is1 is_ys1 is2 is3 = record {
       each = λ i d in_range.
-          let x = values number value m xs in
-          let y = values number value m ys in
-          let c = values number value m xs2 in
+          let x = entry number value m xs in
+          let y = entry number value m ys in
+          let c = entry number value m xs2 in
           let li : i < n = omega arith in
           let product : (j : ℕ) → j < n → c j ≡ (transform m g n x j * transform m g n y j) % m = λ j h.
           let x1 = held_value number form value width m xs1 (transform m g (length xs) x) j canonical is1 (omega arith)
@@ -119,8 +121,8 @@ convolution_end number form value width m g n part xs ys xs1 ys1 xs2 xs3 canonic
           (transform m g (length ys) y) j canonical is_ys1 (omega arith)
           ∙ ap (λ v. transform m g v y j) l_ys in
           held_value number form value width m xs2
-          (λ i. (values number value m xs1 i * values number value m ys1 i) % m) j canonical is2 (omega arith)
-          ∙ ap (λ v. (v * values number value m ys1 j) % m) x1 ∙ ap (λ v. (transform m g n x j * v) % m) y1 in
+          (λ i. (entry number value m xs1 i * entry number value m ys1 i) % m) j canonical is2 (omega arith)
+          ∙ ap (λ v. (v * entry number value m ys1 j) % m) x1 ∙ ap (λ v. (transform m g n x j * v) % m) y1 in
           let whole = ap (λ v. (transform m g v c (mirrored v i) * part) % m) l2
           ∙ convolved_entry g n i part x y c canonical.positive suits li inverse product in
           subst (λ v. Represents form m (number (get_or xs3 i d)) v) whole (is3.each i d in_range);

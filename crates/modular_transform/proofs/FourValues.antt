@@ -2,11 +2,13 @@
 use Rattle.std.proofs.Common.{◌≡◌, ◌≢◌, ℕ, ◌+◌, ◌*◌, ◌%◌, ◌<◌, List, length, get_or, All}
 use Rattle.std.proofs.Common.{sym, ◌∙◌, ap, arith}
 use Rattle.std.proofs.Math.ListN.{set, length-set}
+use Rattle.modular_reduced.specs.Entries.{entry}
+use Rattle.modular_reduced.specs.EntryLaws.{entry_kept, entry_read, entry_written}
 use Rattle.modular_reduced.specs.Forms.{Represents, IsForm, IsCanonical}
 use Rattle.modular_reduced.proofs.FormLemmas.{form_of_value}
 use Rattle.modular_transform.specs.Stages.{IsPair, FourDone, weighted}
 use Rattle.modular_transform.proofs.PairLemmas.{pair_along}
-use Rattle.modular_transform.proofs.ValueLemmas.{values, value_read, values-set_same, values-set_other, forms_written, pair_of}
+use Rattle.modular_transform.proofs.ValueLemmas.{forms_written, pair_of}
 
 -- the sum and the weighted difference of two forms are a pair of their values
 represented : {form value : ℕ → ℕ → ℕ} {width m power a b sum product : ℕ} → IsCanonical form value width m
@@ -21,12 +23,12 @@ represented {form} {value} {width} {m} {power} {a} {b} canonical is_a is_b is_su
 -- four words written one step apart
 pub record Written {T : Type 0} (number : T → ℕ) (value : ℕ → ℕ → ℕ) (m k step : ℕ) (old new : List T) (e f g h : T)
     : Type 0 where
-  pub first : value m (number e) ≡ values number value m new k
-  pub second : value m (number f) ≡ values number value m new (k + step)
-  pub third : value m (number g) ≡ values number value m new (k + 2 * step)
-  pub fourth : value m (number h) ≡ values number value m new (k + 3 * step)
+  pub first : value m (number e) ≡ entry number value m new k
+  pub second : value m (number f) ≡ entry number value m new (k + step)
+  pub third : value m (number g) ≡ entry number value m new (k + 2 * step)
+  pub fourth : value m (number h) ≡ entry number value m new (k + 3 * step)
   pub kept : (i : ℕ) → i ≢ k → i ≢ k + step → i ≢ k + 2 * step → i ≢ k + 3 * step
-      → values number value m new i ≡ values number value m old i
+      → entry number value m new i ≡ entry number value m old i
 
 all_written : {T : Type 0} (number : T → ℕ) (value : ℕ → ℕ → ℕ) (m k step : ℕ) (forms : List T) (e f g h : T)
     → 0 < step → k + 3 * step < length forms
@@ -40,8 +42,8 @@ all_written number value m k step forms e f g h some within =
     let of_one = length-set forms k e in
     let of_two = length-set one (k + step) f in
     let of_three = length-set two (k + 2 * step) g in
-    let same = λ (xs : List _) (i : ℕ) (x : _) (l : i < length xs). values-set_same number value m xs i x l in
-    let other = λ (xs : List _) (i j : ℕ) (x : _) (n : j ≢ i). values-set_other number value m xs i j x n in
+    let same = λ (xs : List _) (i : ℕ) (x : _) (l : i < length xs). entry_written number value m xs i x l in
+    let other = λ (xs : List _) (i j : ℕ) (x : _) (n : j ≢ i). entry_kept number value m xs i j x n in
     record {
       first = sym (other three (k + 3 * step) k h (omega arith) ∙ other two (k + 2 * step) k g (omega arith)
           ∙ other one (k + step) k f (omega arith) ∙ same forms k e (omega arith));
@@ -80,18 +82,18 @@ pub four_written : {T : Type 0} (number : T → ℕ) (form value : ℕ → ℕ �
     → Represents form m (number f) (weighted m s (value m (number left)) (value m (number right)))
     → Represents form m (number g) ((value m (number left_turned) + value m (number right_turned)) % m)
     → Represents form m (number h) (weighted m s (value m (number left_turned)) (value m (number right_turned)))
-    → FourDone m p q s step k (values number value m forms) (values number value m
+    → FourDone m p q s step k (entry number value m forms) (entry number value m
     (set (set (set (set forms k e) (k + step) f) (k + 2 * step) g) (k + 3 * step) h))
 four_written {T} number form value width m k step p q s forms a b c d left right left_turned right_turned e f g h
     canonical all some within read_a read_b read_c read_d is_left is_right is_lt is_rt is_e is_f is_g is_h =
-    let x = values number value m forms in
-    let va : value m (number a) ≡ x k = value_read number value m forms k a (omega arith) read_a in
+    let x = entry number value m forms in
+    let va : value m (number a) ≡ x k = entry_read number value m forms k a (omega arith) read_a in
     let vb : value m (number b) ≡ x (k + step) =
-    value_read number value m forms (k + step) b (omega arith) read_b in
+    entry_read number value m forms (k + step) b (omega arith) read_b in
     let vc : value m (number c) ≡ x (k + 2 * step) =
-    value_read number value m forms (k + 2 * step) c (omega arith) read_c in
+    entry_read number value m forms (k + 2 * step) c (omega arith) read_c in
     let vd : value m (number d) ≡ x (k + 3 * step) =
-    value_read number value m forms (k + 3 * step) d (omega arith) read_d in
+    entry_read number value m forms (k + 3 * step) d (omega arith) read_d in
     let w = all_written number value m k step forms e f g h some within in
     let sums = represented {power = s} canonical (form_of_value canonical is_left) (form_of_value canonical is_right)
     is_e is_f in

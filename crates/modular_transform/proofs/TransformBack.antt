@@ -10,9 +10,10 @@ use Rattle.modular_word.specs.Sums.{sum_below}
 use Rattle.modular_word.proofs.Congruence.{mod_of_eq, mod_trans, mod_sym, mod_mul, mod_pow, residue_of, mod_refl}
 use Rattle.modular_word.proofs.Powers.{pow-mul, one-pow}
 use Rattle.modular_word.proofs.Sums.{sum_below-zero, sum_below-suc, sum_below-same, sum_below-mul, sum_below-congruent}
+use Rattle.modular_reduced.specs.Entries.{entry}
 use Rattle.modular_reduced.specs.Forms.{Represents, IsCanonical}
 use Rattle.modular_reduced.specs.Values.{HoldValues}
-use Rattle.modular_transform.proofs.ValueLemmas.{values, held_value}
+use Rattle.modular_transform.proofs.ValueLemmas.{held_value}
 use Rattle.modular_transform.specs.Orders.{IsReordered, mirrored}
 use Rattle.modular_transform.specs.Transforms.{Suits, transform}
 use Rattle.modular_transform.proofs.ConvolveLemmas.{half_turn, mirrored_place, reordered_value}
@@ -176,22 +177,22 @@ restored_at m g n part j new old below suits inverse l is = elim (cases_lt 1 n) 
 pub stepped_back : {T : Type 0} (number : T → ℕ) (form value : ℕ → ℕ → ℕ) (width m g part : ℕ) (xs xs1 xs2 xs3 : List T)
     → IsCanonical form value width m
     → length xs1 ≡ length xs → length xs2 ≡ length xs → length xs3 ≡ length xs
-    → HoldValues number form m xs1 (transform m g (length xs) (values number value m xs))
+    → HoldValues number form m xs1 (transform m g (length xs) (entry number value m xs))
     → IsReordered (mirrored (length xs1)) xs1 xs2
-    → HoldValues number form m xs3 (λ i. (values number value m xs2 i * part) % m)
+    → HoldValues number form m xs3 (λ i. (entry number value m xs2 i * part) % m)
     → HoldValues number form m xs3
-    (λ i. (transform m g (length xs) (values number value m xs) (mirrored (length xs) i) * part) % m)
+    (λ i. (transform m g (length xs) (entry number value m xs) (mirrored (length xs) i) * part) % m)
 stepped_back number form value width m g part xs xs1 xs2 xs3 canonical l1 l2 l3 is1 is2 is3 = record {
   each = λ i d in_range.
       let n = length xs in
-      let x = values number value m xs in
+      let x = entry number value m xs in
       let k = mirrored n i in
       let lk : k < n = (mirrored_place n i (omega (arith, in_range, l3))).image in
       let e : mirrored (length xs1) i ≡ k = ap (λ v. mirrored v i) l1 in
-      let v2 : values number value m xs2 i ≡ transform m g n x k =
+      let v2 : entry number value m xs2 i ≡ transform m g n x k =
       reordered_value number value m i d (mirrored (length xs1)) xs1 xs2 is2
       (omega (arith, in_range, l1, l3)) (omega (arith, in_range, l2, l3)) (omega (arith, e, lk, l1))
-      ∙ ap (values number value m xs1) e
+      ∙ ap (entry number value m xs1) e
       ∙ held_value number form value width m xs1 (transform m g n x) k canonical is1 (omega (arith, lk, l1)) in
       subst (λ v. Represents form m (number (get_or xs3 i d)) v) (ap (λ v. (v * part) % m) v2) (is3.each i d in_range);
 }

@@ -11,9 +11,10 @@ use Rattle.modular_word.specs.Congruence.{Congruent}
 use Rattle.modular_transform.specs.Orders.{bits_reversed, IsReordered}
 use Rattle.modular_transform.specs.Stages.{IsStage, IsTwoStages}
 use Rattle.modular_reduced.specs.Values.{HoldValues}
-use Rattle.modular_transform.proofs.ValueLemmas.{values, value_of_entry}
 use Rattle.modular_word.proofs.Congruence.{mod_of_eq, mod_sym, mod_trans, mod_add, mod_mul, mod_pow, residue_of}
 use Rattle.modular_word.proofs.Powers.{pow-mul}
+use Rattle.modular_reduced.specs.Entries.{entry}
+use Rattle.modular_reduced.specs.EntryLaws.{entry_at}
 use Rattle.modular_transform.proofs.MinusOne.{IsMinusOne, same_minus_one}
 use Rattle.modular_transform.proofs.BitReversal.{bits_reversed_below, bits_reversed_twice}
 use Rattle.modular_transform.proofs.PairLemmas.{stage_by}
@@ -170,7 +171,7 @@ two_products_more z t n half blocks products more c sizes before is =
 -- what is left: forms in reversed order, put in plain order
 pub plain_order : {T : Type 0} (number : T → ℕ) (form value : ℕ → ℕ → ℕ) (m g n z : ℕ) (x : ℕ → ℕ) (forms new : List T)
     → n ≡ 2 ^ z → length forms ≡ n → length new ≡ n → All (λ f. IsForm form value m (number f)) forms
-    → BlocksTransform m g n z 1 x (values number value m forms) → IsReordered (bits_reversed z) forms new
+    → BlocksTransform m g n z 1 x (entry number value m forms) → IsReordered (bits_reversed z) forms new
     → HoldValues number form m new (transform m g n x)
 plain_order number form value m g n z x forms new whole len len_new checked blocks reordered = record {
   each = λ i d l.
@@ -180,9 +181,9 @@ plain_order number form value m g n z x forms new whole len len_new checked bloc
       let is = reordered.each i d (omega arith) in
       let f = get_or forms j d in
       let is_form = checked j d lj in
-      let e : value m (number f) ≡ values number value m forms j = value_of_entry number value m forms j d lj in
-      let small : values number value m forms j < m = subst (λ v. v < m) e is_form.below in
-      let t = stages_end g n z x (values number value m forms) j blocks (bits_reversed_below z i) small in
+      let e : value m (number f) ≡ entry number value m forms j = entry_at number value m forms j d lj in
+      let small : entry number value m forms j < m = subst (λ v. v < m) e is_form.below in
+      let t = stages_end g n z x (entry number value m forms) j blocks (bits_reversed_below z i) small in
       subst (λ y. Represents form m (number y) (transform m g n x i)) (sym is)
       (form_as is_form (e ∙ t ∙ ap (transform m g n x) (bits_reversed_twice z i li)));
 }

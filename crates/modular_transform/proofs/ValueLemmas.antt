@@ -1,55 +1,27 @@
 -- A list of forms as the function from places to values: what is read and what is written.
-use Rattle.std.proofs.Common.{◌≡◌, ◌≢◌, ℕ, ◌+◌, ◌*◌, ◌%◌, ◌<◌, List, [], ◌∷◌, length, map, get_or, All, pos}
-use Rattle.std.proofs.Common.{◌-ℤ◌, inl, inr, sym, ◌∙◌, ap, arith, subst, get_or-set_same, get_or-set_other}
+use Rattle.std.proofs.Common.{◌≡◌, ◌≢◌, ℕ, ◌+◌, ◌*◌, ◌%◌, ◌<◌, List, [], ◌∷◌, length, get_or, All, pos}
+use Rattle.std.proofs.Common.{◌-ℤ◌, inl, inr, sym, ◌∙◌, ap, arith, subst}
 use Rattle.std.proofs.Math.ListN.{set, length-set}
 use Rattle.std.proofs.Math.Nat.{add-mod_right}
 use Rattle.std.proofs.lemmas.Bool.{cases_lt, cases_eq}
-use Rattle.std.proofs.lemmas.List.{get_or-map, map-set}
 use Rattle.std.proofs.lemmas.List.Elements.{All-set}
 use Rattle.modular_word.specs.Congruence.{Congruent}
 use Rattle.modular_word.specs.Residues.{residue}
 use Rattle.modular_word.proofs.Congruence.{mod_of_eq, mod_refl, mod_trans, mod_add, mod_mul, residue_of}
 use Rattle.modular_word.proofs.ResidueLemmas.{residue_sub, residue_sub_wrapped}
+use Rattle.modular_reduced.specs.Entries.{entry}
+use Rattle.modular_reduced.specs.EntryLaws.{entry_at, entry_read, entry_written, entry_kept}
 use Rattle.modular_reduced.specs.Forms.{Represents, IsForm, IsCanonical}
-use Rattle.modular_reduced.specs.Values.{values_of, HoldValues}
+use Rattle.modular_reduced.specs.Values.{HoldValues}
 use Rattle.modular_reduced.proofs.FormLemmas.{form_of_value}
 use Rattle.modular_transform.specs.Stages.{IsPair, PairDone}
 
--- the value of the form at each place
-abbrev pub values : {T : Type 0} → (T → ℕ) → (ℕ → ℕ → ℕ) → ℕ → List T → ℕ → ℕ
-values number value m forms i = get_or (values_of number value m forms) i 0
-
--- the value of the form at place i
-pub value_of_entry : {T : Type 0} (number : T → ℕ) (value : ℕ → ℕ → ℕ) (m : ℕ) (forms : List T) (i : ℕ) (d : T)
-    → i < length forms → value m (number (get_or forms i d)) ≡ values number value m forms i
-value_of_entry number value m forms i d below = sym (get_or-map (λ f. value m (number f)) forms i d 0 below)
-
--- the value of a form that was read at place i
-pub value_read : {T : Type 0} (number : T → ℕ) (value : ℕ → ℕ → ℕ) (m : ℕ) (forms : List T) (i : ℕ) (x : T)
-    → i < length forms → x ≡ get_or forms i x → value m (number x) ≡ values number value m forms i
-value_read number value m forms i x below is = ap (λ f. value m (number f)) is ∙ value_of_entry number value m forms i x below
-
 -- the value of a checked form is below m
 pub values_below : {T : Type 0} (number : T → ℕ) (form value : ℕ → ℕ → ℕ) (m : ℕ) (forms : List T) (i : ℕ)
-    → All (λ f. IsForm form value m (number f)) forms → i < length forms → values number value m forms i < m
+    → All (λ f. IsForm form value m (number f)) forms → i < length forms → entry number value m forms i < m
 values_below number form value m [] i all l = absurd (omega arith)
 values_below number form value m (x ∷ xs) i all l =
-    subst (λ v. v < m) (value_of_entry number value m (x ∷ xs) i x l) (all i x l).below
-
--- after a write: the place itself ..
-pub values-set_same : {T : Type 0} (number : T → ℕ) (value : ℕ → ℕ → ℕ) (m : ℕ) (forms : List T) (i : ℕ) (x : T)
-    → i < length forms → values number value m (set forms i x) i ≡ value m (number x)
-values-set_same number value m forms i x below =
-    let l : i < length (set forms i x) = subst (λ n. i < n) (sym (length-set forms i x)) below in
-    sym (value_of_entry number value m (set forms i x) i x l)
-    ∙ ap (λ f. value m (number f)) (get_or-set_same forms i x x below)
-
--- .. and every other
-pub values-set_other : {T : Type 0} (number : T → ℕ) (value : ℕ → ℕ → ℕ) (m : ℕ) (forms : List T) (i j : ℕ) (x : T)
-    → j ≢ i → values number value m (set forms i x) j ≡ values number value m forms j
-values-set_other number value m forms i j x ne =
-    ap (λ vs. get_or vs j 0) (map-set (λ f. value m (number f)) forms i x)
-    ∙ get_or-set_other (map (λ f. value m (number f)) forms) i j (value m (number x)) 0 ne
+    subst (λ v. v < m) (entry_at number value m (x ∷ xs) i x l) (all i x l).below
 
 -- a form is written
 pub forms_written : {T : Type 0} (number : T → ℕ) (form value : ℕ → ℕ → ℕ) (width m : ℕ)
@@ -95,52 +67,52 @@ pub pair_written : {T : Type 0} (number : T → ℕ) (form value : ℕ → ℕ �
     → Represents form m (number sum) ((value m (number a) + value m (number b)) % m)
     → Represents form m (number product)
     ((residue m (pos (value m (number a)) -ℤ pos (value m (number b))) * power) % m)
-    → PairDone m power low high (values number value m forms)
-    (values number value m (set (set forms high product) low sum))
+    → PairDone m power low high (entry number value m forms)
+    (entry number value m (set (set forms high product) low sum))
 pair_written number form value width m forms low high a b sum product power canonical all order within
     read_a read_b is_sum is_product =
-    let x = values number value m forms in
-    let y = values number value m (set (set forms high product) low sum) in
+    let x = entry number value m forms in
+    let y = entry number value m (set (set forms high product) low sum) in
     let l : low < length forms = omega arith in
     let is_a : IsForm form value m (number a) =
     subst (λ f. IsForm form value m (number f)) (sym read_a) (all low a l) in
     let is_b : IsForm form value m (number b) =
     subst (λ f. IsForm form value m (number f)) (sym read_b) (all high b within) in
     let ls : low < length (set forms high product) = subst (λ n. low < n) (sym (length-set forms high product)) l in
-    let va : value m (number a) ≡ x low = value_read number value m forms low a l read_a in
-    let vb : value m (number b) ≡ x high = value_read number value m forms high b within read_b in
+    let va : value m (number a) ≡ x low = entry_read number value m forms low a l read_a in
+    let vb : value m (number b) ≡ x high = entry_read number value m forms high b within read_b in
     let ne : high ≢ low = omega arith in
-    let at_low : y low ≡ value m (number sum) = values-set_same number value m (set forms high product) low sum ls in
-    let at_high : y high ≡ value m (number product) = values-set_other number value m
-    (set forms high product) low high sum ne ∙ values-set_same number value m forms high product within in
+    let at_low : y low ≡ value m (number sum) = entry_written number value m (set forms high product) low sum ls in
+    let at_high : y high ≡ value m (number product) = entry_kept number value m
+    (set forms high product) low high sum ne ∙ entry_written number value m forms high product within in
     let done = pair_of (value m (number a)) (value m (number b)) power (y low) (y high) is_a.below is_b.below
     (at_low ∙ canonical.one_value _ _ is_sum) (at_high ∙ canonical.one_value _ _ is_product) in
     record {
       pair = subst (λ v. IsPair m power v (x high) (y low) (y high)) va
           (subst (λ v. IsPair m power (value m (number a)) v (y low) (y high)) vb done);
-      kept = λ i nl nh. values-set_other number value m (set forms high product) low i sum nl
-          ∙ values-set_other number value m forms high i product nh;
+      kept = λ i nl nh. entry_kept number value m (set forms high product) low i sum nl
+          ∙ entry_kept number value m forms high i product nh;
     }
 
 -- a loop that writes entry after entry
 pub entry_done : {T : Type 0} (number : T → ℕ) (value : ℕ → ℕ → ℕ) (m : ℕ) (forms : List T)
     (i : ℕ) (f : T) (target : ℕ → ℕ)
-    → i < length forms → ((k : ℕ) → k < i → values number value m forms k ≡ target k) → value m (number f) ≡ target i
-    → (k : ℕ) → k < i + 1 → values number value m (set forms i f) k ≡ target k
+    → i < length forms → ((k : ℕ) → k < i → entry number value m forms k ≡ target k) → value m (number f) ≡ target i
+    → (k : ℕ) → k < i + 1 → entry number value m (set forms i f) k ≡ target k
 entry_done number value m forms i f target within before is k l = elim (cases_eq k i) [
-  | inl e ↦ ap (values number value m (set forms i f)) e ∙ values-set_same number value m forms i f within ∙ is
+  | inl e ↦ ap (entry number value m (set forms i f)) e ∙ entry_written number value m forms i f within ∙ is
       ∙ ap target (sym e)
-  | inr n ↦ values-set_other number value m forms i k f n ∙ before k (omega arith)
+  | inr n ↦ entry_kept number value m forms i k f n ∙ before k (omega arith)
 ]
 
 -- the value at a place of a list that holds values
 pub held_value : {T : Type 0} (number : T → ℕ) (form value : ℕ → ℕ → ℕ) (width m : ℕ)
     (forms : List T) (v : ℕ → ℕ) (i : ℕ)
     → IsCanonical form value width m → HoldValues number form m forms v → i < length forms
-    → values number value m forms i ≡ v i
+    → entry number value m forms i ≡ v i
 held_value number form value width m [] v i canonical holds l = absurd (omega arith)
 held_value number form value width m (x ∷ xs) v i canonical holds l =
-    sym (value_of_entry number value m (x ∷ xs) i x l) ∙ canonical.one_value _ _ (holds.each i x l)
+    sym (entry_at number value m (x ∷ xs) i x l) ∙ canonical.one_value _ _ (holds.each i x l)
 
 pub held_forms : {T : Type 0} (number : T → ℕ) (form value : ℕ → ℕ → ℕ) (width m : ℕ) (forms : List T) (v : ℕ → ℕ)
     → IsCanonical form value width m → HoldValues number form m forms v

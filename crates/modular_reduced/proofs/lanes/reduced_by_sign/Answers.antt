@@ -1,4 +1,4 @@
-use Rattle.std.proofs.Common.{◌≡◌, ◌+◌, ◌*◌, ◌^◌, ◌%◌, ◌<◌, ◌≤◌, sym, arith}
+use Rattle.std.proofs.Common.{◌*◌, ◌^◌, ◌<◌, sym, arith}
 use Rattle.std.proofs.Math.Nat.{mod-eq_of_lt}
 use Rattle.modular_prim.proofs.ResidueSteps.{once}
 use Rattle.modular_reduced.proofs.Signs.{by_sign, BySign}

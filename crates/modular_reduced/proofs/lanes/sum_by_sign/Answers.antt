@@ -1,4 +1,4 @@
-use Rattle.std.proofs.Common.{◌*◌, ◌≤◌, arith}
+use Rattle.std.proofs.Common.{arith}
 use Rattle.modular_reduced.proofs.lanes.sum_by_sign.Goals as goal
 
 pub plus-requires : goal.plus-requires

@@ -2,8 +2,8 @@ use Rattle.std.proofs.Common.{◌≡◌, ℕ, ◌+◌, ◌-◌, ◌%◌, ◌<◌
 use Rattle.std.proofs.lemmas.Bool.{false≢true}
 use Rattle.std.proofs.lemmas.Nat.{mul-mod_first}
 use Rattle.modular_word.specs.Inverses.{IsInverse}
-use Rattle.modular_transform.specs.Entries.{entry}
-use Rattle.modular_transform.specs.EntryLaws.{entry_at, forms_written, done_before, hold_more}
+use Rattle.modular_reduced.specs.Entries.{entry}
+use Rattle.modular_reduced.specs.EntryLaws.{entry_at, forms_written, done_before, hold_more}
 use Rattle.modular_ring.specs.Products.{product_below}
 use Rattle.modular_ring.specs.ProductLaws.{product_none, product_step, no_inverse, inverse_before, inverse_last}
 use Rattle.modular_ring.proofs.list_inverses.invert_each.Goals as goal

@@ -1,7 +1,7 @@
 use Rattle.std.proofs.Common.{ℕ, ◌-◌, ◌%◌, length, All}
 use Rattle.modular_word.specs.Inverses.{IsInverse}
 use Rattle.modular_reduced.specs.Forms.{IsForm}
-use Rattle.modular_transform.specs.Entries.{entry, IsCheckedFormOf, HoldBelow, DoneFrom}
+use Rattle.modular_reduced.specs.Entries.{entry, IsCheckedFormOf, HoldBelow, DoneFrom}
 use Rattle.modular_ring.specs.Products.{product_below}
 use Rattle.modular_ring.proofs.list_inverses.invert_each.Given as goal
 

@@ -1,8 +1,8 @@
 use Rattle.std.proofs.Common.{length, refl, arith, subst}
+use Rattle.modular_reduced.specs.Entries.{entry}
 use Rattle.modular_reduced.specs.Values.{HoldValues}
 use Rattle.modular_transform.specs.Transforms.{transform}
 use Rattle.modular_transform.proofs.ConvolveLemmas.{convolution_end}
-use Rattle.modular_transform.proofs.ValueLemmas.{values}
 use Rattle.modular_transform.proofs.convolution.multiply.Goals as goal
 
 pub returns-clause-product : goal.returns-clause-product
@@ -25,7 +25,7 @@ returns-clause-transformed g c =
     let value = g.R.Reducer.value in
     let root = value m (number c.args.g.now) in
     subst (λ n. HoldValues number g.R.Reducer.form m c.ntt-2.new.xs
-    (transform m root n (values number value m c.args.ys.now))) c.requires.equal c.ntt-2.ensures.entries
+    (transform m root n (entry number value m c.args.ys.now))) c.requires.equal c.ntt-2.ensures.entries
 
 pub returns-clause-checked : goal.returns-clause-checked
 returns-clause-checked g c = (c.transform_back.ensures.checked, c.ntt-2.ensures.checked)

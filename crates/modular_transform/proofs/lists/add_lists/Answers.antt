@@ -1,6 +1,6 @@
 use Rattle.std.proofs.Common.{◌+◌, ◌%◌, ◌<◌, length, arith}
-use Rattle.modular_transform.specs.Entries.{entry}
-use Rattle.modular_transform.specs.EntryLaws.{done_none}
+use Rattle.modular_reduced.specs.Entries.{entry}
+use Rattle.modular_reduced.specs.EntryLaws.{done_none}
 use Rattle.modular_reduced.proofs.ListSteps.{all_written}
 use Rattle.modular_transform.proofs.ListPairs.{pair_written}
 use Rattle.modular_transform.proofs.lists.add_lists.Goals as goal

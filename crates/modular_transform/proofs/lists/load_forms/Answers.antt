@@ -1,5 +1,5 @@
 use Rattle.std.proofs.Common.{arith, ◌<◌, subst, sym, ◌≡◌, ◌∙◌, ◌%◌, ap, map, slice_index}
-use Rattle.modular_transform.specs.EntryLaws.{entry_past, entry_read, held_entry, held_forms, hold_more}
+use Rattle.modular_reduced.specs.EntryLaws.{entry_past, entry_read, held_entry, held_forms, hold_more}
 use Rattle.modular_transform.proofs.lists.load_forms.Goals as goal
 use Rattle.modular_transform.proofs.lists.load_forms.Goals.{then-i-words, else-i-words}
 

@@ -1,5 +1,5 @@
 use Rattle.std.proofs.Common.{◌%◌, map, slice_index}
-use Rattle.modular_transform.specs.Entries.{HoldBelow}
+use Rattle.modular_reduced.specs.Entries.{HoldBelow}
 use Rattle.modular_transform.proofs.lists.load_forms.Given as goal
 
 -- the first i forms are loaded

@@ -1,6 +1,6 @@
 use Rattle.std.proofs.Common.{◌*◌, ◌%◌, ◌<◌, length, ◌∙◌, ap, arith}
-use Rattle.modular_transform.specs.Entries.{entry}
-use Rattle.modular_transform.specs.EntryLaws.{entry_at, entry_read, done_none}
+use Rattle.modular_reduced.specs.Entries.{entry}
+use Rattle.modular_reduced.specs.EntryLaws.{entry_at, entry_read, done_none}
 use Rattle.modular_reduced.proofs.ListSteps.{written_more, all_written}
 use Rattle.modular_transform.proofs.lists.multiply_lists.Goals as goal
 

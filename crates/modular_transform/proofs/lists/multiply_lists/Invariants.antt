@@ -1,5 +1,5 @@
 use Rattle.std.proofs.Common.{◌*◌, ◌%◌}
-use Rattle.modular_transform.specs.Entries.{entry}
+use Rattle.modular_reduced.specs.Entries.{entry}
 use Rattle.modular_reduced.proofs.ListSteps.{WrittenBelow}
 use Rattle.modular_transform.proofs.lists.multiply_lists.Given as goal
 

@@ -1,6 +1,6 @@
 use Rattle.std.proofs.Common.{pos, ◌-ℤ◌}
 use Rattle.modular_word.specs.Residues.{residue}
-use Rattle.modular_transform.specs.Entries.{entry}
+use Rattle.modular_reduced.specs.Entries.{entry}
 use Rattle.modular_reduced.proofs.ListSteps.{WrittenBelow}
 use Rattle.modular_transform.proofs.lists.sub_lists.Given as goal
 

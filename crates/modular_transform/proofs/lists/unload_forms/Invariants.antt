@@ -1,5 +1,5 @@
 use Rattle.std.proofs.Common.{◌≡◌, map, slice_index}
-use Rattle.modular_transform.specs.Entries.{entry, DoneBelow}
+use Rattle.modular_reduced.specs.Entries.{entry, DoneBelow}
 use Rattle.modular_transform.proofs.lists.unload_forms.Given as goal
 
 -- the first i values are there

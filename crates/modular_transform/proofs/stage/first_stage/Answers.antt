@@ -1,13 +1,13 @@
 use Rattle.modular_transform.proofs.PairLemmas.{pairs_more}
 use Rattle.modular_transform.proofs.StripPowers.{power_more}
-use Rattle.modular_transform.proofs.ValueLemmas.{values}
 use Rattle.std.proofs.Common.{arith}
+use Rattle.modular_reduced.specs.Entries.{entry}
 use Rattle.modular_transform.proofs.stage.first_stage.Goals as goal
 
 pub columns-preserved : goal.columns-preserved
 columns-preserved g c =
     let m = g.R.Reducer.modulus c.args.r.now in
-    let of = values g.T.RingWord.number g.R.Reducer.value m in
+    let of = entry g.T.RingWord.number g.R.Reducer.value m in
     let w = g.R.Reducer.value m (g.T.RingWord.number c.args.root.now) in
     let before = c.columns.invariant in
     record {

@@ -1,4 +1,4 @@
-use Rattle.modular_transform.specs.EntryLaws.{forms_written}
+use Rattle.modular_reduced.specs.EntryLaws.{forms_written}
 use Rattle.modular_transform.proofs.ValueLemmas.{pair_written}
 use Rattle.modular_transform.proofs.stage.pair.Goals as goal
 

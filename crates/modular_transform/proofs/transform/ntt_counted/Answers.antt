@@ -9,6 +9,8 @@ use Rattle.std.specs.Int.{trailing_zeros, w64}
 use Rattle.modular_word.specs.Congruence.{Congruent}
 use Rattle.modular_word.proofs.Congruence.{mod_of_eq, mod_trans}
 use Rattle.modular_word.proofs.Powers.{pow-one}
+use Rattle.modular_reduced.specs.Entries.{entry}
+use Rattle.modular_reduced.specs.EntryLaws.{entry_at, entry_kept, entry_written}
 use Rattle.modular_reduced.specs.Forms.{IsForm}
 use Rattle.modular_transform.specs.Transforms.{transform}
 use Rattle.modular_transform.proofs.Places.{stage_offset, stages_left, two_left}
@@ -18,7 +20,7 @@ use Rattle.modular_transform.proofs.StripPowers.{one_form}
 use Rattle.modular_transform.proofs.TransformLemmas.{stage_sizes, two_sizes, suited_length, root_more, quarter_turn}
 use Rattle.modular_transform.proofs.TransformLemmas.{blocks_more, two_more, products_more, two_products_more}
 use Rattle.modular_transform.proofs.TransformLemmas.{blocks_all, products_all, plain_order}
-use Rattle.modular_transform.proofs.ValueLemmas.{values, value_of_entry, values-set_same, values-set_other, held_value}
+use Rattle.modular_transform.proofs.ValueLemmas.{held_value}
 use Rattle.modular_transform.proofs.ValueLemmas.{held_forms}
 use Rattle.modular_transform.proofs.transform.ntt_counted.Goals as goal
 use Rattle.modular_transform.proofs.transform.ntt_counted.Goals.{then-stages-eq1, else-stages-eq1}
@@ -31,14 +33,14 @@ no_roots m x y t l = absurd (omega arith)
 
 -- one root more is written
 root_written : {T : Type 0} (number : T → ℕ) (value : ℕ → ℕ → ℕ) (m w : ℕ) (roots : List T) (s : ℕ) (root : T)
-    → s < length roots → ((t : ℕ) → t < s → Congruent m (values number value m roots t) (w ^ (2 ^ t)))
+    → s < length roots → ((t : ℕ) → t < s → Congruent m (entry number value m roots t) (w ^ (2 ^ t)))
     → Congruent m (value m (number root)) (w ^ (2 ^ s))
-    → (t : ℕ) → t < s + 1 → Congruent m (values number value m (set roots s root) t) (w ^ (2 ^ t))
+    → (t : ℕ) → t < s + 1 → Congruent m (entry number value m (set roots s root) t) (w ^ (2 ^ t))
 root_written number value m w roots s root within before is t l = elim (cases_eq t s) [
-  | inl e ↦ mod_trans (mod_of_eq (ap (values number value m (set roots s root)) e
-      ∙ values-set_same number value m roots s root within))
+  | inl e ↦ mod_trans (mod_of_eq (ap (entry number value m (set roots s root)) e
+      ∙ entry_written number value m roots s root within))
       (subst (λ k. Congruent m (value m (number root)) (w ^ (2 ^ k))) (sym e) is)
-  | inr n ↦ mod_trans (mod_of_eq (values-set_other number value m roots s t root n)) (before t (omega arith))
+  | inr n ↦ mod_trans (mod_of_eq (entry_kept number value m roots s t root n)) (before t (omega arith))
 ]
 
 -- what is left after two stages
@@ -75,7 +77,7 @@ roots-init g c =
       checked = one_form number g.R.Reducer.form value m 64 c.args.g.now c.requires.root;
       form = c.requires.root;
       root = mod_of_eq (sym (pow-one (value m (number c.args.g.now))));
-      written = no_roots m (values number value m (replicate 64 c.args.g.now)) (λ t. value m (number c.args.g.now) ^ (2 ^ t));
+      written = no_roots m (entry number value m (replicate 64 c.args.g.now)) (λ t. value m (number c.args.g.now) ^ (2 ^ t));
       count = refl;
     }
 
@@ -113,7 +115,7 @@ passes-init g c =
     let below : n < 2 ^ 64 = c.well_formed.1.0.0 in
     let whole = suited_length c.requires.suits below in
     let root = value m (number c.args.g.now) in
-    let of = values number value m in
+    let of = entry number value m in
     let x = of c.args.xs.now in
     let d = c.if-stages-eq1.done in
     let all : c.roots.i ≡ z = le_antisymm c.roots.auto.i-end c.roots-test.false in
@@ -207,9 +209,9 @@ passes-preserved g c =
     let all : c.roots.i ≡ z = le_antisymm c.roots.auto.i-end c.roots-test.false in
     let few = exponent_below z n whole below in
     let at = λ (k : ℕ) (f : _) (l : k < z).
-    mod_trans (mod_of_eq (value_of_entry number value m c.roots.roots k f (omega (arith, l, few))))
+    mod_trans (mod_of_eq (entry_at number value m c.roots.roots k f (omega (arith, l, few))))
     (c.roots.invariant.written k (omega (arith, l, all))) in
-    let of = values number value m in
+    let of = entry number value m in
     record {
       checked = c.two_stages-products.ensures.checked;
       upto = two;
@@ -233,14 +235,14 @@ returns-clause-entries g c =
     let root = value m (number c.args.g.now) in
     let n = length c.args.xs.now in
     let z = trailing_zeros w64 n in
-    let x = values number value m c.args.xs.now in
+    let x = entry number value m c.args.xs.now in
     let before = c.passes.invariant in
     let same = c.passes.auto.xs in
     let kept = c.reverse_places.auto.entries in
     let below : n < 2 ^ 64 = c.well_formed.1.0.0 in
     plain_order number g.R.Reducer.form value m root n z x c.passes.xs c.reverse_places.new.entries
     (suited_length c.requires.suits below) (omega (arith, same)) (omega (arith, same, kept)) before.checked
-    (blocks_all root z c.passes.done n x (values number value m c.passes.xs) c.passes-test.false
+    (blocks_all root z c.passes.done n x (entry number value m c.passes.xs) c.passes-test.false
     before.upto before.transforms) c.reverse_places.ensures
 
 pub returns-clause-values : goal.returns-clause-values
@@ -250,14 +252,14 @@ returns-clause-values g c j l =
     held_value g.T.RingWord.number g.R.Reducer.form g.R.Reducer.value _ (g.R.Reducer.modulus c.args.r.now)
     c.reverse_places.new.entries (transform (g.R.Reducer.modulus c.args.r.now)
     (g.R.Reducer.value (g.R.Reducer.modulus c.args.r.now) (g.T.RingWord.number c.args.g.now)) (length c.args.xs.now)
-    (values g.T.RingWord.number g.R.Reducer.value (g.R.Reducer.modulus c.args.r.now) c.args.xs.now)) j
+    (entry g.T.RingWord.number g.R.Reducer.value (g.R.Reducer.modulus c.args.r.now) c.args.xs.now)) j
     (g.met.R.Reducer.canonical c.args.r.now) (returns-clause-entries g c) (omega (arith, kept, same))
 
 pub returns-clause-checked : goal.returns-clause-checked
 returns-clause-checked g c = held_forms g.T.RingWord.number g.R.Reducer.form g.R.Reducer.value _
     (g.R.Reducer.modulus c.args.r.now) c.reverse_places.new.entries (transform (g.R.Reducer.modulus c.args.r.now)
     (g.R.Reducer.value (g.R.Reducer.modulus c.args.r.now) (g.T.RingWord.number c.args.g.now)) (length c.args.xs.now)
-    (values g.T.RingWord.number g.R.Reducer.value (g.R.Reducer.modulus c.args.r.now) c.args.xs.now))
+    (entry g.T.RingWord.number g.R.Reducer.value (g.R.Reducer.modulus c.args.r.now) c.args.xs.now))
     (g.met.R.Reducer.canonical c.args.r.now) (returns-clause-entries g c)
 
 pub returns-clause-count : goal.returns-clause-count
@@ -288,7 +290,7 @@ two_stages-products-requires-clause-turn g c =
     let all : c.roots.i ≡ z = le_antisymm c.roots.auto.i-end c.roots-test.false in
     let few = exponent_below z n whole below in
     let at = λ (k : ℕ) (f : _) (l : k < z).
-    mod_trans (mod_of_eq (value_of_entry number value m c.roots.roots k f (omega (arith, l, few))))
+    mod_trans (mod_of_eq (entry_at number value m c.roots.roots k f (omega (arith, l, few))))
     (c.roots.invariant.written k (omega (arith, l, all))) in
     quarter_turn root z t n c.passes.half c.passes.blocks _ _ sizes two (at t c.index-roots-done.result more)
     (at (z - 2) c.index-roots-stages.result (stages_left even more).turn)

@@ -1,8 +1,8 @@
 use Rattle.std.proofs.Common.{◌≡◌, ℕ, ◌+◌, ◌-◌, ◌*◌, ◌/◌, ◌%◌, ◌^◌, ◌<◌, ◌≤◌, All, length}
 use Rattle.modular_reduced.specs.Forms.{IsForm}
 use Rattle.modular_word.specs.Congruence.{Congruent}
+use Rattle.modular_reduced.specs.Entries.{entry}
 use Rattle.modular_transform.proofs.StageLemmas.{BlocksTransform}
-use Rattle.modular_transform.proofs.ValueLemmas.{values}
 use Rattle.modular_transform.proofs.transform.ntt_counted.Given as goal
 
 -- the roots of the stages before this one are written
@@ -16,7 +16,7 @@ invariant-roots g l =
       checked : All (λ f. IsForm g.R.Reducer.form value m (number f)) l.roots;
       form : IsForm g.R.Reducer.form value m (number l.root);
       root : Congruent m (value m (number l.root)) (w ^ (2 ^ l.i));
-      written : (t : ℕ) → t < l.i → Congruent m (values number value m l.roots t) (w ^ (2 ^ t));
+      written : (t : ℕ) → t < l.i → Congruent m (entry number value m l.roots t) (w ^ (2 ^ t));
       count : l.products ≡ l.i;
     }
 
@@ -26,7 +26,7 @@ invariant-passes g l =
     let m = g.R.Reducer.modulus l.r in
     let number = g.T.RingWord.number in
     let value = g.R.Reducer.value in
-    let x = values number value m l.fn.xs in
+    let x = entry number value m l.fn.xs in
     let n = length l.fn.xs in
     let z = l.stages in
     let t = l.done in
@@ -36,7 +36,7 @@ invariant-passes g l =
       even : (z - t) % 2 ≡ 0;
       half : l.half ≡ 2 ^ (z - t) / 2;
       blocks : l.blocks ≡ 2 ^ t;
-      transforms : BlocksTransform m (value m (number l.g)) n t (2 ^ (z - t)) x (values number value m l.xs);
+      transforms : BlocksTransform m (value m (number l.g)) n t (2 ^ (z - t)) x (entry number value m l.xs);
       count : l.products + 2 ^ (z - t) ≡ t * (n / 2) + n + z;
     }
 

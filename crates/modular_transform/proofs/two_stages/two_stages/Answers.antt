@@ -1,11 +1,12 @@
 use Rattle.std.proofs.Common.{◌≡◌, ◌+◌, ◌*◌, ◌^◌, refl, arith, subst}
 use Rattle.std.proofs.Math.Nat.{le-add_right, add_assoc, le_antisymm}
+use Rattle.modular_reduced.specs.Entries.{entry}
 use Rattle.modular_transform.proofs.Columns.{IsColumn, column_more, filled_more}
 use Rattle.modular_transform.proofs.FourLemmas.{FoursDone, one_done, columns_joined, blocks_joined, done_by, block_fits}
 use Rattle.modular_transform.proofs.StripCounts.{fours_done, strip_counted, width_fits, fours_count_fits}
 use Rattle.modular_transform.proofs.StripPlaces.{strip_offset}
 use Rattle.modular_transform.proofs.TwoStages.{two_stages_done}
-use Rattle.modular_transform.proofs.ValueLemmas.{values, values_below}
+use Rattle.modular_transform.proofs.ValueLemmas.{values_below}
 use Rattle.modular_transform.proofs.two_stages.two_stages.Goals as goal
 
 pub offset_bounds-firsts-i : goal.offset_bounds-firsts-i
@@ -86,7 +87,7 @@ columns-preserved g c =
     let i = start + k in
     let l = c.columns-test.true in
     let least = c.min-width.ensures in
-    let of = values number value m in
+    let of = entry number value m in
     let x = of c.each_block.forms in
     let y = of c.columns.forms in
     let z = of c.four.new.forms in
@@ -117,7 +118,7 @@ each_block-preserved g c =
     let start = c.strips.start in
     let width = c.min-width.result in
     let least = c.min-width.ensures in
-    let of = values number value m in
+    let of = entry number value m in
     let x = of c.strips.forms in
     let y = of c.each_block.forms in
     let z = of c.columns.forms in
@@ -143,7 +144,7 @@ strips-preserved g c =
     let h = c.args.step in
     let start = c.strips.start in
     let width = c.min-width.result in
-    let of = values number value m in
+    let of = entry number value m in
     let x = of c.args.forms.now in
     let y = of c.strips.forms in
     let z = of c.each_block.forms in
@@ -172,8 +173,8 @@ returns-clause-stages g c =
     let w = value m (number c.args.root.now) in
     let v = value m (number c.args.square.now) in
     let h = c.args.step in
-    let x = values number value m c.args.forms.now in
-    let y = values number value m c.strips.forms in
+    let x = entry number value m c.args.forms.now in
+    let y = entry number value m c.strips.forms in
     let e = le_antisymm c.strips.invariant.within c.strips-test.false in
     two_stages_done m w v h c.args.blocks _ x y c.requires.whole
     (λ k l. values_below number g.R.Reducer.form value m c.args.forms.now k c.requires.checked l)

@@ -1,8 +1,8 @@
 use Rattle.std.proofs.Common.{◌≡◌, ℕ, ◌+◌, ◌-◌, ◌*◌, ◌^◌, ◌<◌, ◌≤◌, All, slice_index_or}
+use Rattle.modular_reduced.specs.Entries.{entry}
 use Rattle.modular_reduced.specs.Forms.{IsForm}
 use Rattle.modular_transform.proofs.Columns.{IsColumn}
 use Rattle.modular_transform.proofs.FourLemmas.{FoursDone}
-use Rattle.modular_transform.proofs.ValueLemmas.{values}
 use Rattle.modular_transform.proofs.two_stages.two_stages.Given as goal
 
 -- the columns before the strip are done
@@ -20,7 +20,7 @@ invariant-strips g l =
           (number l.column.both);
       within : l.start ≤ l.step;
       done : FoursDone m (λ i. w ^ i) (λ i. w ^ (l.step + i)) (λ i. v ^ i) l.step 0 l.blocks 0 l.start
-          (values number value m l.fn.forms) (values number value m l.forms);
+          (entry number value m l.fn.forms) (entry number value m l.forms);
       count : l.products ≡ l.start * (4 * l.blocks + 3);
     }
 
@@ -56,7 +56,7 @@ invariant-each_block g l =
     record {
       checked : All (λ f. IsForm g.R.Reducer.form value m (number f)) l.forms;
       done : FoursDone m (λ i. w ^ i) (λ i. w ^ (l.step + i)) (λ i. v ^ i) l.step 0 l.block l.start (l.start + l.width)
-          (values number value m l.initial.forms) (values number value m l.forms);
+          (entry number value m l.initial.forms) (entry number value m l.forms);
       count : l.products ≡ l.start * (4 * l.blocks + 3) + 3 * l.width + l.block * (4 * l.width);
     }
 
@@ -71,6 +71,6 @@ invariant-columns g l =
     record {
       checked : All (λ f. IsForm g.R.Reducer.form value m (number f)) l.forms;
       done : FoursDone m (λ i. w ^ i) (λ i. w ^ (l.step + i)) (λ i. v ^ i) l.step l.block (l.block + 1) l.start
-          (l.start + l.k) (values number value m l.initial.forms) (values number value m l.forms);
+          (l.start + l.k) (entry number value m l.initial.forms) (entry number value m l.forms);
       count : l.products ≡ l.start * (4 * l.blocks + 3) + 3 * l.width + l.block * (4 * l.width) + 4 * l.k;
     }

@@ -1,8 +1,10 @@
 use Rattle.std.proofs.Common.{◌≡◌, ◌+◌, ◌*◌, ◌%◌, ◌^◌, ◌<◌, length, map, slice_index, ◌∙◌, ap, ap₂, arith, subst, sym}
 use Rattle.modular_word.specs.Sums.{sum_below}
+use Rattle.modular_reduced.specs.Entries.{entry}
+use Rattle.modular_reduced.specs.EntryLaws.{entry_read}
 use Rattle.modular_reduced.specs.Values.{sum_of_products}
 use Rattle.modular_reduced.proofs.FormLemmas.{form_as}
-use Rattle.modular_reduced.proofs.ListProducts.{values, value_read, products_none, products_more}
+use Rattle.modular_reduced.proofs.ListProducts.{products_none, products_more}
 use Rattle.modular_reduced.proofs.ListProducts.{number_checked, products_of_numbers}
 use Rattle.modular_monty.specs.Montgomery.{montgomery_value}
 use Rattle.modular_monty.specs.TwoParts.{two_part_form, two_part_value}
@@ -67,10 +69,10 @@ pub products-preserved : goal.products-preserved
 products-preserved g c =
     let number = g.T.RingWord.number in let value = two_part_value g.T.RingWord.width in
     let m = number c.args.self.now.odd.kept.modulus * 2 ^ c.args.self.now.twos in let i = c.products.i in
-    let x = values number value m c.args.xs.now in let y = values number value m c.args.ys.now in
+    let x = entry number value m c.args.xs.now in let y = entry number value m c.args.ys.now in
     let within_ys : i < length c.args.ys.now = let e = c.requires.equal in omega arith in
-    let x_is = value_read number value m c.args.xs.now i c.index-xs-i.result (omega arith) c.index-xs-i.is in
-    let y_is = value_read number value m c.args.ys.now i c.index-ys-i.result within_ys c.index-ys-i.is in
+    let x_is = entry_read number value m c.args.xs.now i c.index-xs-i.result (omega arith) c.index-xs-i.is in
+    let y_is = entry_read number value m c.args.ys.now i c.index-ys-i.result within_ys c.index-ys-i.is in
     record {
       form = c.add-total.ensures.checked;
       value = c.add-total.ensures.value ∙ ap (λ v. (value m (number c.products.total) + v) % m) c.mul.ensures.value
@@ -81,7 +83,7 @@ pub returns-clause-value : goal.returns-clause-value
 returns-clause-value g c =
     let number = g.T.RingWord.number in let value = two_part_value g.T.RingWord.width in
     let m = number c.args.self.now.odd.kept.modulus * 2 ^ c.args.self.now.twos in
-    let x = values number value m c.args.xs.now in let y = values number value m c.args.ys.now in
+    let x = entry number value m c.args.xs.now in let y = entry number value m c.args.ys.now in
     let all : c.products.i ≡ length c.args.xs.now = omega arith in
     c.products.invariant.value ∙ ap (λ n. (value m (number c.args.sum) + sum_below n (λ k. x k * y k)) % m) all
 

@@ -1,7 +1,9 @@
 use Rattle.std.proofs.Common.{◌≡◌, ◌+◌, ◌*◌, ◌%◌, ◌<◌, length, ◌∙◌, ap, ap₂, arith}
 use Rattle.modular_word.specs.Sums.{sum_below}
+use Rattle.modular_reduced.specs.Entries.{entry}
+use Rattle.modular_reduced.specs.EntryLaws.{entry_read}
 use Rattle.modular_reduced.proofs.FormLemmas.{form_as}
-use Rattle.modular_reduced.proofs.ListProducts.{values, value_read, products_none, products_more}
+use Rattle.modular_reduced.proofs.ListProducts.{products_none, products_more}
 use Rattle.modular_reduced.proofs.reducer.Reducer.add_products.Goals as goal
 
 pub products-init : goal.products-init
@@ -17,10 +19,10 @@ pub products-preserved : goal.products-preserved
 products-preserved g c =
     let ring = g.Self.Reducer in let m = ring.modulus c.args.self.now in let number = g.T.RingWord.number in
     let value = ring.value in let i = c.products.i in
-    let x = values number value m c.args.xs.now in let y = values number value m c.args.ys.now in
+    let x = entry number value m c.args.xs.now in let y = entry number value m c.args.ys.now in
     let within_ys : i < length c.args.ys.now = let e = c.requires.equal in omega arith in
-    let x_is = value_read number value m c.args.xs.now i c.index-xs-i.result (omega arith) c.index-xs-i.is in
-    let y_is = value_read number value m c.args.ys.now i c.index-ys-i.result within_ys c.index-ys-i.is in
+    let x_is = entry_read number value m c.args.xs.now i c.index-xs-i.result (omega arith) c.index-xs-i.is in
+    let y_is = entry_read number value m c.args.ys.now i c.index-ys-i.result within_ys c.index-ys-i.is in
     record {
       form = c.add-total.ensures.checked;
       value = c.add-total.ensures.value ∙ ap (λ v. (value m (number c.products.total) + v) % m) c.mul.ensures.value
@@ -30,7 +32,7 @@ products-preserved g c =
 pub returns-clause-value : goal.returns-clause-value
 returns-clause-value g c =
     let ring = g.Self.Reducer in let m = ring.modulus c.args.self.now in let number = g.T.RingWord.number in
-    let x = values number ring.value m c.args.xs.now in let y = values number ring.value m c.args.ys.now in
+    let x = entry number ring.value m c.args.xs.now in let y = entry number ring.value m c.args.ys.now in
     let all : c.products.i ≡ length c.args.xs.now = omega arith in
     c.products.invariant.value
     ∙ ap (λ n. (ring.value m (number c.args.sum) + sum_below n (λ k. x k * y k)) % m) all
