@@ -1,10 +1,10 @@
 //! The same products with plans that are filled for one product, in a table of the caller.
 
-use crate::applications::long_product::entries_for;
 use crate::applications::long_product::plans::filled;
 use crate::applications::long_product::polynomials::{
-    LEAST_TRANSFORMED, are_sums_faster, count_for, fill_plain, fits, fits_cyclic, has_room, room,
+    LEAST_TRANSFORMED, are_sums_faster, count_for, fill_plain, fits, fits_cyclic, has_room,
 };
+use crate::applications::long_product::{entries_for, room_once_from};
 use crate::plans::PlanEntry;
 
 /// The number of words, and of factors of all three tables together, for a product by `multiply_once` and its like of
@@ -25,8 +25,7 @@ use crate::plans::PlanEntry;
 /// ```
 #[inline]
 pub fn room_once(xs: usize, ys: usize) -> (usize, usize) {
-    let (words, table) = room(xs, ys);
-    (words, 3 * table)
+    room_once_from(LEAST_TRANSFORMED, xs, ys)
 }
 
 // Writes the coefficients by the sums, or by transforms, whose plans it fills first.

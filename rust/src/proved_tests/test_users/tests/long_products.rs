@@ -1,7 +1,9 @@
 //! Products of digits of 64 bits, by rows and by transforms, and slices that are too short.
 
 use super::assert_at;
-use crate::applications::long_product::{Plans, are_plan_lengths, fill_plans, product, product_planned, room};
+use crate::applications::long_product::{
+    Plans, are_plan_lengths, fill_plans, product, product_planned, room, room_once,
+};
 use crate::plans::{Factor, PlanEntry};
 
 const NONE: Factor<u64> = Factor {
@@ -225,7 +227,10 @@ fn the_room_of_products() {
     let rt = crate::runtime::HostRuntime;
     for row in SIZES {
         let &(xs, ys, words, factors) = row;
-        let is_right = xs <= 1 << 31 && ys <= 1 << 31 && room(xs, ys) == (words, factors);
+        let is_right = xs <= 1 << 31
+            && ys <= 1 << 31
+            && room(xs, ys) == (words, factors)
+            && room_once(xs, ys) == (words, 3 * factors);
         assert_at(&rt, is_right, row);
     }
 }
