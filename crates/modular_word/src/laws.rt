@@ -31,7 +31,7 @@ pub fn residue_laws()
 {}
 
 /// Nested remainders: in a sum, a product or a power modulo m, a number may be replaced by its remainder. A tactic
-/// takes the same laws by `using(modular_word::proofs::Remainders::remainders)`.
+/// takes most of them by `using(num_modular::specs::Remainders::remainders)`; `once` is in `inner_remainders`.
 ///
 /// Source: Gauss, Disquisitiones Arithmeticae, articles 6 to 8.
 pub fn remainder_laws()
