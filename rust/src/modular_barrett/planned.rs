@@ -91,7 +91,7 @@ impl<T: PathWord> Clone for PlannedModulus<T> {
 impl<T: PathWord> Copy for PlannedModulus<T> {}
 
 impl<T: PlainWord> PlannedModulus<T> {
-    /// Whether m can be the modulus of a plan: it is at least 1, and 4m is at most the base.
+    /// Whether `new` accepts m: it is at least 1, and 4m is at most the base. A `Plan` also needs an odd m.
     ///
     /// # Examples
     ///
