@@ -27,7 +27,7 @@ fn forms_and_scratch() {
     let ring = Montgomery::<u64>::new(97);
     panic_with!("`scratch` must have as many entries as there are forms";
         invert_each(&ring, &mut [1; 3], &mut [0; 2]), invert_each(&ring, &mut [1; 3], &mut [0; 4]));
-    panic_in_debug_with!("the forms must be checked"; invert_each(&ring, &mut [97], &mut [0]), unload_forms(&ring, &[97], &mut [0]));
+    panic_in_debug_with!("the entries of `forms` must be checked forms"; invert_each(&ring, &mut [97], &mut [0]), unload_forms(&ring, &[97], &mut [0]));
     panic_with!("there must be at least as many forms as places"; unload_forms(&ring, &[1; 2], &mut [0; 3]));
 }
 

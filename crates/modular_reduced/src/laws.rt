@@ -104,7 +104,8 @@ pub fn residue_by_form<T: RingWord, R: Reducer<T>>(reducer: &R, n: T) -> T
     reducer.residue(reducer.transform(n))
 }
 
-/// Whether the values of two forms are equal, which they are exactly where the forms are. Condition: both are checked.
+/// Whether the values of two forms are equal, which they are exactly where the forms are. Condition: both are checked
+/// forms.
 pub fn same_value<T: RingWord, R: Reducer<T>>(reducer: &R, a: T, b: T) -> bool
     requires a { IsForm R.form R.value (R.modulus reducer.now) (T.number a) }
     requires b { IsForm R.form R.value (R.modulus reducer.now) (T.number b) }
@@ -128,9 +129,9 @@ pub fn is_equivalence<I: ModularInteger>(a: &I, b: &I, c: &I) -> bool
     reflexive && forth == back && transitive
 }
 
-/// Forms and values are one to one. The form of a value v fits a word, is checked, and has the value v. A checked
-/// form is the form of its value, so that forms of equal values are equal. A word that represents v is a checked
-/// form of value v.
+/// Forms and values are one to one. The form of a value v fits a word, is a checked form, and has the value v. A
+/// checked form is the form of its value, so that forms of equal values are equal. A word that represents v is a
+/// checked form of value v.
 pub fn canonical_laws<T: RingWord, R: Reducer<T>>(reducer: &R)
     ensures positive { 0 < R.modulus reducer.now }
     ensures value { let m = R.modulus reducer.now in (v : ℕ) → v < m → R.value m (R.form m v) ≡ v }

@@ -12,8 +12,8 @@ use modular_word::ring_word::RingWord;
 
 /// Arithmetic modulo m on forms: words that represent the values from 0 to m - 1.
 ///
-/// A form is checked where `check` returns true. Each value has exactly one checked form, and each checked form
-/// exactly one value. Condition of every call but `check` and `transform`: each form is checked.
+/// A word is a *checked form* where `check` returns true: it is the form of exactly one value. Each value has exactly one.
+/// Condition of every call but `check` and `transform`: each word given as a form is a checked form.
 ///
 /// # Examples
 ///

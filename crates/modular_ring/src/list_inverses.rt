@@ -9,7 +9,7 @@ use modular_reduced::reducer::Reducer;
 use modular_word::ring_word::RingWord;
 
 /// Replaces each form by its inverse. Returns false, with the forms unchanged, exactly where one has no inverse modulo
-/// m. Conditions: the forms are checked; `scratch` has as many entries as there are forms.
+/// m. Conditions: the entries of `forms` are checked forms; `scratch` has as many entries as there are forms.
 ///
 /// The contents of `scratch` are ignored, and unspecified afterwards.
 ///

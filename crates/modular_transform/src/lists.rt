@@ -36,8 +36,8 @@ pub fn load_forms<T: RingWord, R: Reducer<T>>(r: &R, words: &[T], forms: &mut [T
     }
 }
 
-/// Stores the values of the first forms, each below the modulus. Conditions: the forms are checked; there are at least
-/// as many forms as places.
+/// Stores the values of the first forms, each below the modulus. Conditions: the entries of `forms` are checked forms;
+/// there are at least as many forms as places.
 ///
 /// # Examples
 ///

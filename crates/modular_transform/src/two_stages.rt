@@ -66,7 +66,8 @@ fn four<T: RingWord, R: Reducer<T>>(
 /// Two stages, the first with a root and 2·step columns, the second with its square and `step` columns. `turned` is
 /// the power `step` of the root. Returns the number of products.
 ///
-/// Conditions: all forms are checked; `turned` is that power; there are 4·step·blocks entries, in one block or more.
+/// Conditions: entries, root, square and `turned` are checked forms; `turned` is that power; there are 4·step·blocks
+/// entries, in one block or more.
 ///
 /// The columns are processed in strips, so that consecutive accesses are close in memory.
 pub fn two_stages<T: RingWord, R: Reducer<T>>(

@@ -89,7 +89,7 @@ pub fn residue_by_form<T: RingWord, R: Reducer<T>>(reducer: &R, n: T) -> T {
 ///
 /// # Preconditions
 ///
-/// a and b are checked. This isn't checked: if it doesn't hold, the call panics or its result is
+/// a and b are checked forms. This isn't checked: if it doesn't hold, the call panics or its result is
 /// unspecified.
 #[inline]
 pub fn same_value<T: RingWord, R: Reducer<T>>(reducer: &R, a: T, b: T) -> bool {

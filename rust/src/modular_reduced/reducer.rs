@@ -2,8 +2,8 @@
 
 /// Arithmetic modulo m on forms: words that represent the values from 0 to m - 1.
 ///
-/// A form is checked where `check` returns true. Each value has exactly one checked form, and each checked form
-/// exactly one value. Condition of every call but `check` and `transform`: each form is checked.
+/// A word is a *checked form* where `check` returns true: it is the form of exactly one value. Each value has exactly one.
+/// Condition of every call but `check` and `transform`: each word given as a form is a checked form.
 ///
 /// # Examples
 ///
@@ -78,8 +78,8 @@ pub trait Reducer<T>: Sized {
     ///
     /// # Preconditions
     ///
-    /// Each form is checked. This isn't checked: if it doesn't hold, the call panics or its result is
-    /// unspecified.
+    /// Each word given as a form is a checked form. This isn't checked: if it doesn't hold, the call panics
+    /// or its result is unspecified.
     ///
     /// # Examples
     ///
@@ -95,8 +95,8 @@ pub trait Reducer<T>: Sized {
     ///
     /// # Preconditions
     ///
-    /// Each form is checked. This isn't checked: if it doesn't hold, the call panics or its result is
-    /// unspecified.
+    /// Each word given as a form is a checked form. This isn't checked: if it doesn't hold, the call panics
+    /// or its result is unspecified.
     ///
     /// # Examples
     ///
@@ -113,8 +113,8 @@ pub trait Reducer<T>: Sized {
     ///
     /// # Preconditions
     ///
-    /// Each form is checked. This isn't checked: if it doesn't hold, the call panics or its result is
-    /// unspecified.
+    /// Each word given as a form is a checked form. This isn't checked: if it doesn't hold, the call panics
+    /// or its result is unspecified.
     ///
     /// # Examples
     ///
@@ -131,8 +131,8 @@ pub trait Reducer<T>: Sized {
     ///
     /// # Preconditions
     ///
-    /// Each form is checked. This isn't checked: if it doesn't hold, the call panics or its result is
-    /// unspecified.
+    /// Each word given as a form is a checked form. This isn't checked: if it doesn't hold, the call panics
+    /// or its result is unspecified.
     ///
     /// # Examples
     ///
@@ -153,8 +153,8 @@ pub trait Reducer<T>: Sized {
     ///
     /// # Preconditions
     ///
-    /// Each form is checked. This isn't checked: if it doesn't hold, the call panics or its result is
-    /// unspecified.
+    /// Each word given as a form is a checked form. This isn't checked: if it doesn't hold, the call panics
+    /// or its result is unspecified.
     ///
     /// # Examples
     ///
@@ -170,8 +170,8 @@ pub trait Reducer<T>: Sized {
     ///
     /// # Preconditions
     ///
-    /// Each form is checked. This isn't checked: if it doesn't hold, the call panics or its result is
-    /// unspecified.
+    /// Each word given as a form is a checked form. This isn't checked: if it doesn't hold, the call panics
+    /// or its result is unspecified.
     ///
     /// # Examples
     ///
@@ -188,8 +188,8 @@ pub trait Reducer<T>: Sized {
     ///
     /// # Preconditions
     ///
-    /// Each form is checked. This isn't checked: if it doesn't hold, the call panics or its result is
-    /// unspecified.
+    /// Each word given as a form is a checked form. This isn't checked: if it doesn't hold, the call panics
+    /// or its result is unspecified.
     ///
     /// # Examples
     ///
@@ -210,8 +210,8 @@ pub trait Reducer<T>: Sized {
     ///
     /// # Preconditions
     ///
-    /// Each form is checked. This isn't checked: if it doesn't hold, the call panics or its result is
-    /// unspecified.
+    /// Each word given as a form is a checked form. This isn't checked: if it doesn't hold, the call panics
+    /// or its result is unspecified.
     ///
     /// # Examples
     ///
@@ -227,8 +227,8 @@ pub trait Reducer<T>: Sized {
     ///
     /// # Preconditions
     ///
-    /// Each form is checked. This isn't checked: if it doesn't hold, the call panics or its result is
-    /// unspecified.
+    /// Each word given as a form is a checked form. This isn't checked: if it doesn't hold, the call panics
+    /// or its result is unspecified.
     ///
     /// # Examples
     ///
@@ -245,8 +245,8 @@ pub trait Reducer<T>: Sized {
     ///
     /// # Preconditions
     ///
-    /// Each form is checked. This isn't checked: if it doesn't hold, the call panics or its result is
-    /// unspecified.
+    /// Each word given as a form is a checked form. This isn't checked: if it doesn't hold, the call panics
+    /// or its result is unspecified.
     ///
     /// # Examples
     ///
@@ -270,8 +270,8 @@ pub trait Reducer<T>: Sized {
     ///
     /// # Preconditions
     ///
-    /// Each form is checked. This isn't checked: if it doesn't hold, the call panics or its result is
-    /// unspecified.
+    /// Each word given as a form is a checked form. This isn't checked: if it doesn't hold, the call panics
+    /// or its result is unspecified.
     ///
     /// # Examples
     ///
@@ -369,8 +369,8 @@ pub trait Reducer<T>: Sized {
     ///
     /// # Preconditions
     ///
-    /// Each form is checked. This isn't checked: if it doesn't hold, the call panics or its result is
-    /// unspecified.
+    /// Each word given as a form is a checked form. This isn't checked: if it doesn't hold, the call panics
+    /// or its result is unspecified.
     ///
     /// # Examples
     ///
@@ -393,8 +393,8 @@ pub trait Reducer<T>: Sized {
     ///
     /// # Preconditions
     ///
-    /// Each form is checked. This isn't checked: if it doesn't hold, the call panics or its result is
-    /// unspecified.
+    /// Each word given as a form is a checked form. This isn't checked: if it doesn't hold, the call panics
+    /// or its result is unspecified.
     ///
     /// # Examples
     ///
@@ -411,8 +411,8 @@ pub trait Reducer<T>: Sized {
     ///
     /// # Preconditions
     ///
-    /// Each form is checked. This isn't checked: if it doesn't hold, the call panics or its result is
-    /// unspecified.
+    /// Each word given as a form is a checked form. This isn't checked: if it doesn't hold, the call panics
+    /// or its result is unspecified.
     ///
     /// # Examples
     ///
@@ -428,8 +428,8 @@ pub trait Reducer<T>: Sized {
     ///
     /// # Preconditions
     ///
-    /// Each form is checked. This isn't checked: if it doesn't hold, the call panics or its result is
-    /// unspecified.
+    /// Each word given as a form is a checked form. This isn't checked: if it doesn't hold, the call panics
+    /// or its result is unspecified.
     ///
     /// # Examples
     ///

@@ -14,8 +14,8 @@ use crate::modular_word::ring_word::RingWord;
 /// # Panics
 ///
 /// Panics unless `scratch` has as many entries as there are forms. A debug build also panics unless the
-/// forms are checked. A release build doesn't check this: if it doesn't hold, the call panics or its
-/// result is unspecified.
+/// entries of `forms` are checked forms. A release build doesn't check this: if it doesn't hold, the
+/// call panics or its result is unspecified.
 ///
 /// # Examples
 ///
@@ -31,7 +31,7 @@ use crate::modular_word::ring_word::RingWord;
 #[must_use]
 #[track_caller]
 pub fn invert_each<T: RingWord, R: Reducer<T>>(r: &R, forms: &mut [T], scratch: &mut [T]) -> bool {
-    debug_assert!(forms.iter().all(|x| r.check(x)), "the forms must be checked");
+    debug_assert!(forms.iter().all(|x| r.check(x)), "the entries of `forms` must be checked forms");
     assert!(scratch.len() == forms.len(), "`scratch` must have as many entries as there are forms");
     let mut product = r.transform(T::one());
     for i in 0..forms.len() {

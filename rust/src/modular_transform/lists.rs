@@ -31,9 +31,9 @@ pub fn load_forms<T: RingWord, R: Reducer<T>>(r: &R, words: &[T], forms: &mut [T
 ///
 /// # Panics
 ///
-/// Panics unless there are at least as many forms as places. A debug build also panics unless the forms
-/// are checked. A release build doesn't check this: if it doesn't hold, the call panics or its result
-/// is unspecified.
+/// Panics unless there are at least as many forms as places. A debug build also panics unless the
+/// entries of `forms` are checked forms. A release build doesn't check this: if it doesn't hold, the
+/// call panics or its result is unspecified.
 ///
 /// # Examples
 ///
@@ -50,7 +50,7 @@ pub fn load_forms<T: RingWord, R: Reducer<T>>(r: &R, words: &[T], forms: &mut [T
 #[inline]
 #[track_caller]
 pub fn unload_forms<T: RingWord, R: Reducer<T>>(r: &R, forms: &[T], words: &mut [T]) {
-    debug_assert!(forms.iter().all(|x| r.check(x)), "the forms must be checked");
+    debug_assert!(forms.iter().all(|x| r.check(x)), "the entries of `forms` must be checked forms");
     assert!(forms.len() >= words.len(), "there must be at least as many forms as places");
     for i in 0..words.len() {
         words[i] = r.residue(forms[i]);

@@ -52,8 +52,9 @@ fn four<T: RingWord, R: Reducer<T>>(
 ///
 /// # Preconditions
 ///
-/// All forms are checked, and `turned` is that power, and there are 4·step·blocks entries, in one block
-/// or more. This isn't checked: if it doesn't hold, the call panics or its result is unspecified.
+/// Entries, root, square and `turned` are checked forms, and `turned` is that power, and there are
+/// 4·step·blocks entries, in one block or more. This isn't checked: if it doesn't hold, the call panics
+/// or its result is unspecified.
 pub fn two_stages<T: RingWord, R: Reducer<T>>(
     r: &R,
     forms: &mut [T],
