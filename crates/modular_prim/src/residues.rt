@@ -50,7 +50,7 @@ fn distance<T: PathWord>(a: T, b: T) -> T
 }
 
 // A word congruent to a + b modulo m. Every word is below twice the multiple of m that has its top bit set. So this
-// multiple is subtracted at most once from b, and once from the sum if that overflows. Condition: m is at least 1.
+// multiple is subtracted at most once from b, and once from the sum if that overflows. Condition: the modulus is at least 1.
 fn congruent_sum<T: PathWord>(a: T, b: T, m: T) -> T
     requires { 1 ≤ T.number m }
     ensures { T.number result % T.number m ≡ (T.number a + T.number b) % T.number m }
