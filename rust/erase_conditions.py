@@ -73,7 +73,7 @@ LOOKS = {
     "debug_assert!(d.leading_zeros() == 0);": "normalized.invert_word",
     "debug_assert!(m.is_odd());": "modular_prim/inverse.inverse_by_subtraction modular_word/paths.neginv",
     "debug_assert!(n.is_odd());": "subtraction.jacobi_by_subtraction",
-    "debug_assert!(!m.is_zero_word());": "modular_prim/residues.congruent_sum",
+    "debug_assert!(m != T::zero());": "modular_prim/residues.congruent_sum",
     "debug_assert!(self.has_room(x));": "planned.residue",
     "debug_assert!(self.check(&sum) && xs.iter().chain(ys).all(|x| self.check(x)));":
     "reducer.add_products odd_ring.add_products montgomery.add_products premul.add_products",

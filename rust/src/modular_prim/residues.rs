@@ -47,7 +47,7 @@ fn distance<T: PathWord>(a: T, b: T) -> T {
 // multiple is subtracted at most once from b, and once from the sum if that overflows. Condition: the modulus is at least 1.
 #[cfg_attr(debug_assertions, track_caller)]
 fn congruent_sum<T: PathWord>(a: T, b: T, m: T) -> T {
-    debug_assert!(!m.is_zero_word(), "the modulus must be at least 1");
+    debug_assert!(m != T::zero(), "the modulus must be at least 1");
     // Reading the word gives the proof that it fits its width.
     let _ = m.is_below(b);
     let multiple = m.shift_left(m.leading_zeros());
