@@ -46,7 +46,7 @@
 extern "C" {
 #endif
 
-/* The type of the codes, which all functions but nm_version return. */
+/* The type of the codes, which all functions but nm_version and nm_strerror return. */
 typedef uint32_t nm_code_t;
 
 /* The codes. */
@@ -191,9 +191,9 @@ NM_CHECK nm_code_t nm_montgomery_inv(const nm_montgomery_t *context, uint64_t fo
 
 /* --- Transforms and cyclic products of lists of words, modulo m. ---
  *
- * The words may be above m, and the results are below m. A root suits lists of n words where n is a power of
- * two and, for n above 1, the root to the power n/2 is -1 modulo m. NM_BAD_CONTEXT: the context isn't one that
- * nm_montgomery makes. */
+ * These calls, nm_montgomery_run and the nm_erasure_ calls take and write plain words, not forms. The words may be
+ * above m, and the results are below m. A root suits lists of n words where n is a power of two and, for n above 1, the
+ * root to the power n/2 is -1 modulo m. NM_BAD_CONTEXT: the context isn't one that nm_montgomery makes. */
 
 /* NM_OK where the root suits lists of n = length words, and NM_NO_ROOT where it doesn't. */
 NM_CHECK nm_code_t nm_montgomery_root_fits(const nm_montgomery_t *context, uint64_t root, size_t length);
