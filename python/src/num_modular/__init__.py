@@ -2,8 +2,9 @@
 a library that is proved.
 
 Moduli and words of arrays are below 2^64, and exponents between -2^64 and 2^64. Integers of which only the residue counts,
-such as operands, roots and the entries of lists, may have any sign and size. A number that is out of range raises
-ValueError, a part that a text doesn't have IndexError, and what isn't an integer TypeError.
+such as operands, roots and the entries of lists, may have any sign and size; symbols of `ErasureCode` and residues for
+`decode` and `extend` must be from 0 to their modulus less 1. A number that is out of range raises ValueError, a part that a
+text doesn't have IndexError, and what isn't an integer TypeError.
 
 The methods of `Montgomery` and `Plan` take two kinds of lists. For a sequence of integers they return a new list. A
 one-dimensional, contiguous, aligned and writable array of unsigned 64-bit words (numpy's uint64, array.array("Q")) they change

@@ -72,7 +72,8 @@ class ErasureCode(ByArguments):
         return list(self._points)
 
     def encode(self, message: Iterable[int]) -> list[int]:
-        """The word of a message, a symbol for each point. ValueError: the message has more symbols than there are points.
+        """The word of a message, a symbol for each point. ValueError: the message has more symbols than there are points,
+        or a symbol isn't from 0 to m - 1.
 
         >>> ErasureCode(97, [1, 2, 3]).encode([5, 10])
         [15, 25, 35]
@@ -82,7 +83,7 @@ class ErasureCode(ByArguments):
     def encode_systematic(self, message: Iterable[int]) -> list[int]:
         """The word that begins with the k symbols of the message: its polynomial has them as values at the first k points.
         `restore_word` computes the word from any k symbols of it, while `restore` returns the coefficients. ValueError: the
-        message has more symbols than there are points.
+        message has more symbols than there are points, or a symbol isn't from 0 to m - 1.
 
         >>> ErasureCode(97, [1, 2, 3, 4]).encode_systematic([15, 25])
         [15, 25, 35, 45]
