@@ -139,6 +139,12 @@ def test_arrays_of_numpy_that_are_refused():
 
 
 def test_roots_and_lengths():
+    for n in (0, 3, 12, 2**64 - 1):
+        with pytest.raises(NoRootError, match=f"^{n} isn't a power of two$"):
+            Montgomery(97).find_root(n)
+    for n in (64, 2**63):
+        with pytest.raises(NoRootError, match=f"^no root for {n} words was found modulo 97$"):
+            Montgomery(97).find_root(n)
     with pytest.raises(NoRootError):
         Montgomery(97).ntt([1, 2, 3])
     with pytest.raises(NoRootError):
@@ -226,7 +232,8 @@ def test_runs():
         (("add", 0, 1), r"^command 1, \('add', 0, 1\), must be \('add', dst, a, b\)$"),
         (("add", 0, 1, 7), "^command 1 names register 7, but there are 2 registers, counted from 0$"),
         (("load", 9, 1), "^command 1 names register 9, but"),
-        (("load", -1, 1), "^the number of a register in command 1 must be from 0 to"),
+        (("load", -1, 1), "^command 1 names register -1, but there are 2 registers, counted from 0$"),
+        (("sqr", 0, 2**64), "^command 1 names register 18446744073709551616, but"),
         (("pow", 0, 1, -1), "^the exponent of command 1 must be from 0 to"),
     ):
         with pytest.raises(ValueError, match=fault):

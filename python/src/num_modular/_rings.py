@@ -131,8 +131,11 @@ class Montgomery(ByArguments):
         64
         """
         out = ffi.new("uint64_t *")
-        code = lib.nm_montgomery_find_root(self._context, word(n, "the number of words"), out)
-        check(code, f"no root of {n} words was found modulo {self.modulus}")
+        n = word(n, "the number of words")
+        code = lib.nm_montgomery_find_root(self._context, n, out)
+        if code != lib.NM_OK:
+            is_power = n > 0 and n & (n - 1) == 0
+            fail(code, f"no root for {n} words was found modulo {self.modulus}" if is_power else f"{n} isn't a power of two")
         return out[0]
 
     @overload
@@ -197,7 +200,7 @@ class Montgomery(ByArguments):
         [10, 20, 6]
         """
         words, is_new = words_of(registers, self.modulus)
-        listed = [self._command(at, it) for at, it in enumerate(commands)]
+        listed = [self._command(at, it, len(words)) for at, it in enumerate(commands)]
         done = ffi.new("size_t *")
         code = lib.nm_montgomery_run(self._context, words, len(words), ffi.new("nm_command_t[]", listed), len(listed), done)
         result = list(words) if is_new else registers
@@ -207,11 +210,7 @@ class Montgomery(ByArguments):
             fault = no_inverse(int(number), self.modulus, f" in command {done[0]}")
             fault.at, fault.registers = done[0], result
             raise fault
-        if code != lib.NM_OK:
-            count = len(words)
-            named = ((at, it[field]) for at, it in enumerate(listed) for field in ("dst", "a", "b") if field in it)
-            at, register = next(pair for pair in named if pair[1] >= count)
-            fail(code, f"command {at} names register {register}, but there are {count} registers, counted from 0")
+        check(code)
         return result
 
     def _in_place(self, call: Any, xs: Any, root: int | None) -> Any:
@@ -228,8 +227,8 @@ class Montgomery(ByArguments):
             raise no_inverse(n, self.modulus)
         check(code, f"{root} doesn't suit {n} words")
 
-    def _command(self, at: int, words: Sequence[Any]) -> dict[str, int]:
-        """Command number at, for the call of the library."""
+    def _command(self, at: int, words: Sequence[Any], count: int) -> dict[str, int]:
+        """Command number at on so many registers, for the call of the library."""
         name, *numbers = words
         if name not in _OPERATIONS:
             raise ValueError(f"command {at}, {words!r}: there is no operation {name!r}")
@@ -243,7 +242,11 @@ class Montgomery(ByArguments):
             elif field == "n":
                 command[field] = word(number, f"the exponent of command {at}")
             else:
-                command[field] = word(number, f"the number of a register in command {at}")
+                command[field] = register = index(number)
+                if not 0 <= register < count:
+                    raise ValueError(
+                        f"command {at} names register {register}, but there are {count} registers, counted from 0"
+                    )
         return command
 
 
