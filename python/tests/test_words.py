@@ -44,16 +44,25 @@ def test_inverses():
                 assert (told.value.number, told.value.at, told.value.registers) == (a, None, None)
 
 
+def test_long_numbers_without_an_inverse():
+    for a in (21 * 10**9000 + 6, 6 - 21 * 10**9000):
+        with pytest.raises(NoInverseError, match="^6 has no inverse modulo 21$") as told:
+            invm(a, 21)
+        assert told.value.number == a
+
+
 def test_symbols():
     assert [jacobi(a, 15) for a in range(-1, 5)] == [-1, 0, 1, 1, 0, 1]
     assert [legendre(a, 7) for a in range(7)] == [0, 1, 1, -1, 1, -1, -1]
     assert [kronecker(*it) for it in ((-1, 0), (3, -128), (-3, -128), (-10, -11), (TOP - 2, TOP - 1))] == [1, -1, 1, -1, -1]
-    assert jacobi(10**100, 97) == legendre(10**100, 97) == legendre(10**100 % 97, 97)
+    for a in (10**100, -(10**9000)):
+        assert jacobi(a, 97) == legendre(a, 97) == legendre(a % 97, 97)
     bad = [
         (jacobi, 3, 8, "n must be odd"),
         (jacobi, 3, 0, "n must be from 1"),
         (jacobi, 3, TOP + 1, "n must be from 1"),
-        (legendre, 2, 9, "the symbol of 2 over 9"),
+        (legendre, 2, 9, "^9 is no odd prime: a to the power 4 is none of 0, 1 and 8$"),
+        (legendre, 2, 15, "^15 is no odd prime: a to the power 7 is none of 0, 1 and 14$"),
         (legendre, 3, 0, "p must be from 1"),
         (kronecker, TOP, 3, "a and n must be"),
         (kronecker, TOP // 2, -3, "a and n must be"),

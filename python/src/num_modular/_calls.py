@@ -96,8 +96,10 @@ def check(code: int, words: str = "") -> None:
 
 
 def no_inverse(number: int, m: int, place: str = "") -> NoInverseError:
-    """The exception for a number that has no inverse modulo m."""
-    fault = NoInverseError(f"{number} has no inverse modulo {m}{place}")
+    """The exception for a number that has no inverse modulo m. Its text has the residue of a number that isn't a word: Python
+    refuses to write very long ones.
+    """
+    fault = NoInverseError(f"{number if abs(number) < _TOP else number % m} has no inverse modulo {m}{place}")
     fault.number = number
     return fault
 

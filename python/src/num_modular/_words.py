@@ -90,7 +90,8 @@ def legendre(a: int, p: int) -> int:
     (1, -1)
     """
     p, out = modulus(p, "p"), ffi.new("int32_t *")
-    check(lib.nm_legendre(reduced(a, p), p, out), f"the symbol of {a} over {p} isn't defined")
+    fault = f"{p} is no odd prime: a to the power {(p - 1) // 2} is none of 0, 1 and {p - 1}"
+    check(lib.nm_legendre(reduced(a, p), p, out), fault)
     return out[0]
 
 
