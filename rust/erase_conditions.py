@@ -127,24 +127,27 @@ LOOKS = {
         }.items()
     },
     "debug_assert!(points_fit(r, points));": "ring_codes/erasure.is_codeword",
-    "assert!(word.len() == points.len());": "ring_codes/erasure.encode",
+    "assert!(symbols.len() == places.len());":
+    "ring_codes/erasure.restore erasure/words.restore_word erasure/correction.correct",
+    "assert!(shares.len() == places.len());": "erasure/secrets.recover erasure/secrets.recover_correct",
     "assert!(shares.len() == points.len());": "erasure/secrets.share",
-    "assert!(weights.len() == coefficients.len() && points.len().min(values.len()) >= coefficients.len());":
-    "ring_codes/erasure.interpolate",
-    "assert!(word.len() == points.len() && weights.len() == message.len() && message.len() <= points.len());":
-    "ring_codes/erasure.is_codeword",
-    "assert!(word.len() == points.len() && weights.len() == message.len() && coefficients.len() == message.len()"
-    " && message.len() <= points.len());": "ring_codes/erasure.encode_systematic",
-    "assert!(symbols.len() == places.len() && weights.len() == message.len() && chosen.len() == message.len());":
-    "ring_codes/erasure.restore",
-    "assert!(symbols.len() == places.len() && weights.len() == message.len() && message.len() <= points.len()"
-    " && word.len() == points.len());": "erasure/words.restore_word",
-    "assert!(symbols.len() == places.len() && !message.is_empty() && word.len() == points.len()"
-    " && scratch.len() >= 3 * (places.len() + message.len()) + 2);": "erasure/correction.correct",
-    "assert!(shares.len() == places.len() && !coefficients.is_empty() && weights.len() == coefficients.len()"
-    " && chosen.len() == coefficients.len());": "erasure/secrets.recover",
-    "assert!(shares.len() == places.len() && !coefficients.is_empty() && word.len() == points.len()"
-    " && scratch.len() >= 3 * (places.len() + coefficients.len()) + 2);": "erasure/secrets.recover_correct",
+    "assert!(!message.is_empty());": "erasure/correction.correct",
+    "assert!(!coefficients.is_empty());": "erasure/secrets.recover erasure/secrets.recover_correct",
+    "assert!(word.len() == points.len());":
+    "ring_codes/erasure.encode ring_codes/erasure.is_codeword ring_codes/erasure.encode_systematic erasure/words.restore_word"
+    " erasure/correction.correct erasure/secrets.recover_correct",
+    "assert!(message.len() <= points.len());":
+    "ring_codes/erasure.is_codeword ring_codes/erasure.encode_systematic erasure/words.restore_word",
+    "assert!(points.len() >= coefficients.len());": "ring_codes/erasure.interpolate",
+    "assert!(values.len() >= coefficients.len());": "ring_codes/erasure.interpolate",
+    "assert!(weights.len() == message.len());":
+    "ring_codes/erasure.is_codeword ring_codes/erasure.encode_systematic ring_codes/erasure.restore erasure/words.restore_word",
+    "assert!(weights.len() == coefficients.len());": "ring_codes/erasure.interpolate erasure/secrets.recover",
+    "assert!(coefficients.len() == message.len());": "ring_codes/erasure.encode_systematic",
+    "assert!(chosen.len() == message.len());": "ring_codes/erasure.restore",
+    "assert!(chosen.len() == coefficients.len());": "erasure/secrets.recover",
+    "assert!(scratch.len() >= 3 * (places.len() + message.len()) + 2);": "erasure/correction.correct",
+    "assert!(scratch.len() >= 3 * (places.len() + coefficients.len()) + 2);": "erasure/secrets.recover_correct",
     "debug_assert!(r.check(g));": "erasure/powers.fill_powers",
     "assert!(word.len().is_power_of_two());": "erasure/powers.encode_by_transform",
     "debug_assert!(r.check(g) && message.iter().all(|x| r.check(x)));": "erasure/powers.encode_by_transform",
@@ -153,11 +156,12 @@ LOOKS = {
     "assert!(message.len() <= word.len());": "erasure/powers.encode_by_transform erasure/powers.encode_by_plan",
     "debug_assert!(message.iter().all(|x| plan.modulus().has_room(*x)));": "erasure/powers.encode_by_plan",
     "debug_assert!(known.iter().chain(wanted).all(|x| ring.check(x)));": "erasure/prepared.new",
-    "assert!(rows.len() == wanted.len() * known.len() && scratch.len() == 2 * known.len());": "erasure/prepared.new",
+    "assert!(rows.len() == wanted.len() * known.len());": "erasure/prepared.new",
+    "assert!(scratch.len() == 2 * known.len());": "erasure/prepared.new",
     "debug_assert!(symbols.iter().all(|x| self.ring.check(x)));": "erasure/prepared.extend",
     "debug_assert!(symbols.iter().chain(others).all(|x| self.ring.check(x)));": "erasure/prepared.is_codeword",
-    "assert!(symbols.len() == self.known.len() && others.len() == self.wanted.len());":
-    "erasure/prepared.extend erasure/prepared.is_codeword",
+    "assert!(symbols.len() == self.known.len());": "erasure/prepared.extend erasure/prepared.is_codeword",
+    "assert!(others.len() == self.wanted.len());": "erasure/prepared.extend erasure/prepared.is_codeword",
 }
 LATER = {POWER_SUITS: "let mut count = 1 ;"}  # it stands before this: a loop has computed the power that tells whether g suits
 LOOKS_OF = defaultdict(list)  # by function
@@ -175,9 +179,12 @@ SHOWN = {
     "g must be below m": f': {{}} and {{}}", {NUMBER}(g), {NUMBER}(m.modulus)',
     "g must suit n entries, n being a power of two":
     f': n = {{}}, m = {{}}, g = {{}}", 2 * table.len(), {NUMBER}(m.modulus), {NUMBER}(g)',
-    "there must be as many residues as moduli": ': {} and {}", residues.len(), moduli.len()',
+    "the list must have n entries": ': {}, n = {}", xs.len(), self.length()',
+    "the lists must have n entries": ': {} and {}, n = {}", xs.len(), ys.len(), self.length()',
     "(xs.len(),table.len(),b,last)": ': {} entries, {} factors, b = {}, last = {}", xs.len(), table.len(), b, last',
 }
+# A test that compares a length with a number shows both.
+LENGTHS = re.compile(r"assert!\((\w+\.len\(\))[=<>]=((?:(?!&&).)+)")
 FOUND = defaultdict(set)
 SHORT = ("modular_word/", "modular_prim/", "modular_symbols/reference_operations", "modular_reduced/reduced_int/operations")
 BETWEEN = (
@@ -254,7 +261,10 @@ def say(tokens, it, words):
         is_end, closed = tokens[at].text == "unreachable", beyond(tokens, at + 2) - 1
         own = parts[count] if len(parts) == len(found) else parts[-1] if is_end else "; ".join(parts)
         test = "".join(x.text for x in tokens[at:closed])
-        message = f'"{own}' + next((shown for key, shown in SHOWN.items() if own == key or test.endswith(key)), '"')
+        shown = next((shown for key, shown in SHOWN.items() if own == key or test.endswith(key)), '"')
+        if shown == '"' and (lengths := LENGTHS.fullmatch(test)):
+            shown = ': {} and {}", ' + ", ".join(lengths.groups())
+        message = f'"{own}{shown}'
         tokens[at].text = "panic" if is_end else tokens[at].text
         tokens[closed:closed] = lexed(message if is_end else f", {message}")
 
@@ -326,7 +336,7 @@ def arguments(tokens, it):
 def sections(every, debug, none):
     """The lines of the docs that say what a call does outside its condition."""
     if every or debug:
-        said = [f"Panics unless {', and '.join(every)}."] * bool(every)
+        said = [f"Panics unless {('; ' if len(every) > 2 else ', and ').join(every)}."] * bool(every)
         if debug:
             said.append(f"A debug build{' also' * bool(every)} panics unless {', and '.join(debug)}.")
             said.append("A release build doesn't check this: if it doesn't hold, the call panics or its result is unspecified.")

@@ -343,9 +343,10 @@ fn plans_as_values() {
         xs
     };
     assert_eq!(transformed(&[1, 2, 3, 4]), [10, 51, 95, 42]);
-    panic_with!("the list must have n entries"; transformed(&[1, 2]), plan.inverse(&mut [1; 8]));
+    panic_with!("the list must have n entries: 2, n = 4"; transformed(&[1, 2]));
+    panic_with!("the list must have n entries: 8, n = 4"; plan.inverse(&mut [1; 8]));
     panic_in_debug_with!("the entries must be below 4m"; transformed(&[1, 2, 3, 4000]));
-    panic_with!("the lists must have n entries"; plan.convolve(&mut [1; 4], &mut [1; 2]));
+    panic_with!("the lists must have n entries: 4 and 2, n = 4"; plan.convolve(&mut [1; 4], &mut [1; 2]));
     panic_with!("the lists must have the same length: 4 and 2"; plan.multiply(&mut [1; 4], &[1; 2]));
     assert_eq!(message(|| plan.multiply(&mut [4000; 4], &[1; 4])).unwrap_or_default(), "the entries of xs must be below m");
     panic_with!("n must be a power of two, from 2 to the number of entries of this plan"; plan.shorter(8), plan.shorter(3));

@@ -25,10 +25,11 @@ fn ring() -> Vanilla<u64> {
 #[test]
 fn forms_and_scratch() {
     let ring = Montgomery::<u64>::new(97);
-    panic_with!("`scratch` must have as many entries as there are forms";
-        invert_each(&ring, &mut [1; 3], &mut [0; 2]), invert_each(&ring, &mut [1; 3], &mut [0; 4]));
+    let scratch = "`scratch` must have as many entries as there are forms";
+    panic_with!(format!("{scratch}: 2 and 3"); invert_each(&ring, &mut [1; 3], &mut [0; 2]));
+    panic_with!(format!("{scratch}: 4 and 3"); invert_each(&ring, &mut [1; 3], &mut [0; 4]));
     panic_in_debug_with!("the entries of `forms` must be checked forms"; invert_each(&ring, &mut [97], &mut [0]), unload_forms(&ring, &[97], &mut [0]));
-    panic_with!("there must be at least as many forms as places"; unload_forms(&ring, &[1; 2], &mut [0; 3]));
+    panic_with!("there must be at least as many forms as places: 2 and 3"; unload_forms(&ring, &[1; 2], &mut [0; 3]));
 }
 
 #[test]
@@ -45,16 +46,17 @@ fn factors_and_words_of_planned_moduli() {
 #[test]
 fn words_of_codes() {
     let words = "the word must have as many places as there are points";
-    panic_with!(words; encode(&ring(), &POINTS, &[5, 7], &mut [0; 3]), encode(&ring(), &POINTS, &[5, 7], &mut [0; 5]));
+    panic_with!(format!("{words}: 3 and 4"); encode(&ring(), &POINTS, &[5, 7], &mut [0; 3]));
+    panic_with!(format!("{words}: 5 and 4"); encode(&ring(), &POINTS, &[5, 7], &mut [0; 5]));
     panic_in_debug_with!("points and message must be checked forms"; encode(&ring(), &POINTS, &[5, 97], &mut [0; 4]));
     panic_in_debug_with!("the points must be checked forms"; points_fit(&ring(), &[1, 98]));
     panic_in_debug_with!("coefficients and point must be checked forms"; evaluate(&ring(), &[97], &1), evaluate(&ring(), &[5], &97));
     panic_in_debug_with!("g must be a checked form"; fill_powers(&ring(), &97, &mut [0; 4]));
-    let systematic = "there must be k weights and k coefficients, k being the length of the message and at most the number of points";
-    panic_with!(format!("{words}, and {systematic}");
-        encode_systematic(&ring(), &POINTS, &[12, 19], &mut [0; 2], &mut [0; 2], &mut [0; 3]),
-        encode_systematic(&ring(), &POINTS, &[12, 19], &mut [0; 1], &mut [0; 2], &mut [0; 4]),
-        encode_systematic(&ring(), &POINTS, &[12, 19], &mut [0; 2], &mut [0; 3], &mut [0; 4]),
+    panic_with!(format!("{words}: 3 and 4"); encode_systematic(&ring(), &POINTS, &[12, 19], &mut [0; 2], &mut [0; 2], &mut [0; 3]));
+    panic_with!("there must be k weights: 1 and 2"; encode_systematic(&ring(), &POINTS, &[12, 19], &mut [0; 1], &mut [0; 2], &mut [0; 4]));
+    panic_with!("there must be k coefficients: 3 and 2";
+        encode_systematic(&ring(), &POINTS, &[12, 19], &mut [0; 2], &mut [0; 3], &mut [0; 4]));
+    panic_with!("k, the length of the message, must be at most the number of points: 5 and 4";
         encode_systematic(&ring(), &POINTS, &[12; 5], &mut [0; 5], &mut [0; 5], &mut [0; 4]));
     panic_in_debug_with!("points and message must be checked forms";
         encode_systematic(&ring(), &POINTS, &[97], &mut [0; 1], &mut [0; 1], &mut [0; 4]));
@@ -62,15 +64,14 @@ fn words_of_codes() {
 
 #[test]
 fn messages_of_codes() {
-    let (few, checked) = ("there must be k weights, and at least k points and k values", "points and values must be checked forms");
-    panic_with!(few; interpolate(&ring(), &[1], &WORD, &mut [0; 2], &mut [0; 2]), interpolate(&ring(), &POINTS, &[12], &mut [0; 2], &mut [0; 2]),
-        interpolate(&ring(), &POINTS, &WORD, &mut [0; 1], &mut [0; 2]));
-    panic_in_debug_with!(checked; interpolate(&ring(), &[1, 97], &WORD, &mut [0; 2], &mut [0; 2]));
-    let symbols = "the word must have as many symbols as there are points";
-    panic_with!(format!("{symbols}, and there must be k weights, k being at most the number of points");
-        is_codeword(&ring(), &POINTS, &WORD[..3], &mut [0; 2], &mut [0; 2]),
-        is_codeword(&ring(), &POINTS, &WORD, &mut [0; 1], &mut [0; 2]),
-        is_codeword(&ring(), &POINTS, &WORD, &mut [0; 5], &mut [0; 5]));
+    panic_with!("there must be at least k points: 1 and 2"; interpolate(&ring(), &[1], &WORD, &mut [0; 2], &mut [0; 2]));
+    panic_with!("there must be at least k values: 1 and 2"; interpolate(&ring(), &POINTS, &[12], &mut [0; 2], &mut [0; 2]));
+    panic_with!("there must be k weights: 1 and 2"; interpolate(&ring(), &POINTS, &WORD, &mut [0; 1], &mut [0; 2]));
+    panic_in_debug_with!("points and values must be checked forms"; interpolate(&ring(), &[1, 97], &WORD, &mut [0; 2], &mut [0; 2]));
+    panic_with!("the word must have as many symbols as there are points: 3 and 4";
+        is_codeword(&ring(), &POINTS, &WORD[..3], &mut [0; 2], &mut [0; 2]));
+    panic_with!("there must be k weights: 1 and 2"; is_codeword(&ring(), &POINTS, &WORD, &mut [0; 1], &mut [0; 2]));
+    panic_with!("k must be at most the number of points: 5 and 4"; is_codeword(&ring(), &POINTS, &WORD, &mut [0; 5], &mut [0; 5]));
     panic_in_debug_with!("the points must fit"; is_codeword(&ring(), &[1, 2, 3, 3], &WORD, &mut [0; 2], &mut [0; 2]) => false);
     panic_in_debug_with!("points and word must be checked forms"; is_codeword(&ring(), &POINTS, &[97; 4], &mut [0; 2], &mut [0; 2]));
 }
@@ -78,25 +79,25 @@ fn messages_of_codes() {
 #[test]
 fn symbols_of_codes() {
     let pairs = "there must be as many symbols as places";
-    panic_with!(format!("{pairs}, k weights, and k places in `chosen`");
-        restore(&ring(), &POINTS, &[3, 1], &[33], &mut [0; 2], &mut [0; 2], &mut [0; 2]),
-        restore(&ring(), &POINTS, &[3, 1], &[33, 19], &mut [0; 3], &mut [0; 2], &mut [0; 2]),
-        restore(&ring(), &POINTS, &[3, 1], &[33, 19], &mut [0; 2], &mut [0; 1], &mut [0; 2]));
+    let weights = "there must be k weights: 1 and 2";
+    panic_with!(format!("{pairs}: 1 and 2"); restore(&ring(), &POINTS, &[3, 1], &[33], &mut [0; 2], &mut [0; 2], &mut [0; 2]));
+    panic_with!("`chosen` must have k places: 3 and 2";
+        restore(&ring(), &POINTS, &[3, 1], &[33, 19], &mut [0; 3], &mut [0; 2], &mut [0; 2]));
+    panic_with!(weights; restore(&ring(), &POINTS, &[3, 1], &[33, 19], &mut [0; 2], &mut [0; 1], &mut [0; 2]));
     panic_in_debug_with!("points and symbols must be checked forms";
         restore(&ring(), &POINTS, &[3], &[100], &mut [0; 2], &mut [0; 2], &mut [0; 2]) => Err(RestoreError::TooFewSymbols),
         restore_word(&ring(), &POINTS, &[3], &[100], &mut [0; 2], &mut [0; 2], &mut [0; 4]) => Err(RestoreError::TooFewSymbols));
     let room = "the word must have as many places as there are points";
-    panic_with!(format!("{pairs}, there must be k weights, k being at most the number of points, and {room}");
-        restore_word(&ring(), &POINTS, &[3, 1], &[33], &mut [0; 2], &mut [0; 2], &mut [0; 4]),
-        restore_word(&ring(), &POINTS, &[3, 1], &[33, 19], &mut [0; 1], &mut [0; 2], &mut [0; 4]),
-        restore_word(&ring(), &POINTS, &[3, 1], &[33, 19], &mut [0; 2], &mut [0; 2], &mut [0; 5]));
+    panic_with!(format!("{pairs}: 1 and 2"); restore_word(&ring(), &POINTS, &[3, 1], &[33], &mut [0; 2], &mut [0; 2], &mut [0; 4]));
+    panic_with!(weights; restore_word(&ring(), &POINTS, &[3, 1], &[33, 19], &mut [0; 1], &mut [0; 2], &mut [0; 4]));
+    panic_with!(format!("{room}: 5 and 4"); restore_word(&ring(), &POINTS, &[3, 1], &[33, 19], &mut [0; 2], &mut [0; 2], &mut [0; 5]));
     let places = &[0, 1, 2, 3];
-    let scratch = "there must be at least 3·(s + k) + 2 places of scratch";
-    panic_with!(format!("{pairs}, k, the length of the message, must be at least 1, {room}, and {scratch}");
-        correct(&ring(), &POINTS, places, &WORD[..3], &mut [0; 20], &mut [0; 2], &mut [0; 4]),
-        correct(&ring(), &POINTS, places, &WORD, &mut [0; 19], &mut [0; 2], &mut [0; 4]),
-        correct(&ring(), &POINTS, places, &WORD, &mut [0; 20], &mut [], &mut [0; 4]),
-        correct(&ring(), &POINTS, places, &WORD, &mut [0; 20], &mut [0; 2], &mut [0; 5]));
+    panic_with!(format!("{pairs}: 3 and 4"); correct(&ring(), &POINTS, places, &WORD[..3], &mut [0; 20], &mut [0; 2], &mut [0; 4]));
+    panic_with!("there must be at least 3·(s + k) + 2 places of scratch: 19 and 20";
+        correct(&ring(), &POINTS, places, &WORD, &mut [0; 19], &mut [0; 2], &mut [0; 4]));
+    panic_with!("k, the length of the message, must be at least 1";
+        correct(&ring(), &POINTS, places, &WORD, &mut [0; 20], &mut [], &mut [0; 4]));
+    panic_with!(format!("{room}: 5 and 4"); correct(&ring(), &POINTS, places, &WORD, &mut [0; 20], &mut [0; 2], &mut [0; 5]));
     panic_in_debug_with!("points and symbols must be checked forms";
         correct(&ring(), &POINTS, &[3], &[100], &mut [0; 11], &mut [0; 2], &mut [0; 4]) =>
         Err(CorrectError::Restore(RestoreError::TooFewSymbols)));
@@ -104,16 +105,18 @@ fn symbols_of_codes() {
 
 #[test]
 fn shares_of_secrets() {
-    panic_with!("`shares` must have as many places as there are points"; share(&ring(), &[1, 2, 3], &[5, 7], &mut [0; 4]));
+    panic_with!("`shares` must have as many places as there are points: 4 and 3"; share(&ring(), &[1, 2, 3], &[5, 7], &mut [0; 4]));
     panic_in_debug_with!("points and coefficients must be checked forms"; share(&ring(), &[1, 2, 3], &[5, 97], &mut [0; 3]) => Ok(()));
-    let pairs = "there must be as many shares as places, k must be at least 1";
-    panic_with!(format!("{pairs}, and there must be k weights and k places in `chosen`");
+    panic_with!("there must be as many shares as places: 1 and 2";
         recover(&ring(), &POINTS, &[2, 0], &[26], &mut [0; 2], &mut [0; 2], &mut [0; 2]),
-        recover(&ring(), &POINTS, &[], &[], &mut [], &mut [], &mut []),
+        recover_correct(&ring(), &POINTS, &[2, 0], &[26], &mut [0; 20], &mut [0; 2], &mut [0; 4]));
+    panic_with!("k must be at least 1"; recover(&ring(), &POINTS, &[], &[], &mut [], &mut [], &mut []));
+    panic_with!("there must be k weights: 1 and 2"; recover(&ring(), &POINTS, &[2, 0], &[26, 12], &mut [0; 2], &mut [0; 1], &mut [0; 2]));
+    panic_with!("`chosen` must have k places: 1 and 2";
         recover(&ring(), &POINTS, &[2, 0], &[26, 12], &mut [0; 1], &mut [0; 2], &mut [0; 2]));
-    panic_with!(
-        format!("{pairs}, `word` must have as many places as there are points, and there must be at least 3·(s + k) + 2 places of scratch");
-        recover_correct(&ring(), &POINTS, &[0, 1, 2, 3], &WORD, &mut [0; 19], &mut [0; 2], &mut [0; 4]),
+    panic_with!("there must be at least 3·(s + k) + 2 places of scratch: 19 and 20";
+        recover_correct(&ring(), &POINTS, &[0, 1, 2, 3], &WORD, &mut [0; 19], &mut [0; 2], &mut [0; 4]));
+    panic_with!("`word` must have as many places as there are points: 3 and 4";
         recover_correct(&ring(), &POINTS, &[0, 1, 2, 3], &WORD, &mut [0; 20], &mut [0; 2], &mut [0; 3]));
     let few = Err(RestoreError::TooFewSymbols);
     panic_in_debug_with!("points and shares must be checked forms";
@@ -128,7 +131,9 @@ fn residue_systems() {
     let counted = "each list must have as many entries as there are moduli";
     panic_with!(counted; system.add(&[1; 1], &[1; 2], &mut [0; 2]), system.sub(&[1; 2], &[1; 3], &mut [0; 2]),
         system.mul(&[1; 2], &[1; 2], &mut [0; 1]), system.mul(&[1; 2], &[1; 2], &mut [0; 3]));
-    panic_with!("there must be as many residues as the system has moduli"; system.encode(7, &mut [0; 1]), system.encode(7, &mut [0; 3]));
+    let counted = "there must be as many residues as the system has moduli";
+    panic_with!(format!("{counted}: 1 and 2"); system.encode(7, &mut [0; 1]));
+    panic_with!(format!("{counted}: 3 and 2"); system.encode(7, &mut [0; 3]));
     panic_with!("each modulus must have a residue below it"; system.decode(&[1]), system.decode(&[1, 5]));
     panic_with!("m and n must be at least 1"; combine(1, 0, 1, 5), combine(1, 5, 1, 0), from_remainders(1, 0, 1, 5), from_remainders(1, 5, 1, 0));
     let double = [RingCommand::Dbl { dst: 0, a: 0 }];

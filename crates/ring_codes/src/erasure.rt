@@ -157,7 +157,8 @@ pub fn encode<T: RingWord, R: Reducer<T>>(r: &R, points: &[T], message: &[T], wo
 /// first k values at the first k points, k being the length of `coefficients`. Returns false exactly where these points
 /// don't fit.
 ///
-/// Conditions: points and values are checked forms; there are k weights, and at least k points and k values.
+/// Conditions: points and values are checked forms; there are at least k points; there are at least k values; there are k
+/// weights.
 ///
 /// `weights` is scratch: its contents are ignored, and unspecified afterwards. The contents of `coefficients` are ignored,
 /// and unspecified after false.
@@ -212,7 +213,7 @@ pub fn interpolate<T: RingWord, R: Reducer<T>>(
 /// is written to `message`.
 ///
 /// Conditions: points and word are checked forms; the points fit (`points_fit` tells); the word has as many symbols as
-/// there are points, and there are k weights, k being at most the number of points.
+/// there are points; k is at most the number of points; there are k weights.
 ///
 /// `weights` is scratch: its contents are ignored, and unspecified afterwards. The contents of `message` are ignored, and
 /// unspecified after false.
@@ -266,8 +267,8 @@ pub fn is_codeword<T: RingWord, R: Reducer<T>>(
 /// Writes the systematic word of a message, whose first k symbols are the message's, and the coefficients of its
 /// polynomial. Returns false, with the word unchanged, exactly where the first k points don't fit.
 ///
-/// Conditions: points and message are checked forms; the word has as many places as there are points, and there are k
-/// weights and k coefficients, k being the length of the message and at most the number of points.
+/// Conditions: points and message are checked forms; the word has as many places as there are points; k, the length of
+/// the message, is at most the number of points; there are k weights; there are k coefficients.
 ///
 /// `weights` is scratch: its contents are ignored, and unspecified afterwards. The contents of `coefficients` are ignored,
 /// and unspecified after false.
@@ -343,8 +344,8 @@ fn choose<T: RingWord>(points: &[T], places: &[usize], chosen: &mut [T]) -> Resu
 /// whichever places these are. `restore_word` also restores every lost symbol.
 ///
 /// An error names a cause that is present: too few symbols, a place without a point, a place that occurs twice,
-/// points that don't fit. Conditions: points and symbols are checked forms; there are as many symbols as places, k
-/// weights, and k places in `chosen`.
+/// points that don't fit. Conditions: points and symbols are checked forms; there are as many symbols as places; there
+/// are k weights; `chosen` has k places.
 ///
 /// `chosen` and `weights` are scratch: their contents are ignored, and unspecified afterwards. The contents of `message`
 /// are ignored, and unspecified after an error.

@@ -32,7 +32,7 @@ use crate::modular_word::ring_word::RingWord;
 #[track_caller]
 pub fn invert_each<T: RingWord, R: Reducer<T>>(r: &R, forms: &mut [T], scratch: &mut [T]) -> bool {
     debug_assert!(forms.iter().all(|x| r.check(x)), "the entries of `forms` must be checked forms");
-    assert!(scratch.len() == forms.len(), "`scratch` must have as many entries as there are forms");
+    assert!(scratch.len() == forms.len(), "`scratch` must have as many entries as there are forms: {} and {}", scratch.len(), forms.len());
     let mut product = r.transform(T::one());
     for i in 0..forms.len() {
         scratch[i] = product;

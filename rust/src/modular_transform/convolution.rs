@@ -26,9 +26,9 @@ fn multiply<T: RingWord, R: Reducer<T>>(r: &R, xs: &mut [T], ys: &mut [T], g: &T
 ///
 /// # Panics
 ///
-/// Panics unless the lists have the same length, and the length is a power of two, and g suits the
-/// length (`root_fits` tells). A debug build also panics unless g and all entries are checked forms. A
-/// release build doesn't check this: if it doesn't hold, the call panics or its result is unspecified.
+/// Panics unless the lists have the same length; the length is a power of two; g suits the length
+/// (`root_fits` tells). A debug build also panics unless g and all entries are checked forms. A release
+/// build doesn't check this: if it doesn't hold, the call panics or its result is unspecified.
 ///
 /// # Examples
 ///

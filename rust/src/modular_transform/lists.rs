@@ -51,7 +51,7 @@ pub fn load_forms<T: RingWord, R: Reducer<T>>(r: &R, words: &[T], forms: &mut [T
 #[track_caller]
 pub fn unload_forms<T: RingWord, R: Reducer<T>>(r: &R, forms: &[T], words: &mut [T]) {
     debug_assert!(forms.iter().all(|x| r.check(x)), "the entries of `forms` must be checked forms");
-    assert!(forms.len() >= words.len(), "there must be at least as many forms as places");
+    assert!(forms.len() >= words.len(), "there must be at least as many forms as places: {} and {}", forms.len(), words.len());
     for i in 0..words.len() {
         words[i] = r.residue(forms[i]);
     }

@@ -140,9 +140,8 @@ fn decode<T: RingWord, R: Reducer<T>>(
 /// factor with m; it never comes where m is a prime. `TooManyErrors` comes only where no word is that near. The other
 /// errors are those of `restore`, for all s places.
 ///
-/// Conditions: points and symbols are checked forms; there are as many symbols as places, k, the length of the message,
-/// is at least 1, the word has as many places as there are points, and there are at least 3·(s + k) + 2 places of
-/// scratch.
+/// Conditions: points and symbols are checked forms; there are as many symbols as places; k, the length of the message,
+/// is at least 1; the word has as many places as there are points; there are at least 3·(s + k) + 2 places of scratch.
 ///
 /// The contents of `scratch` are ignored, and unspecified afterwards. The contents of `message` and `word` are
 /// ignored, and unspecified after an error. It takes at most about 9·s² + n·k products and 2·s inversions.

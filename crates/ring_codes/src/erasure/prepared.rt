@@ -56,7 +56,7 @@ impl<'a, T: RingWord, R: Reducer<T>> PreparedCode<'a, T, R> {
     /// Fills the rows, t·k for k known and t wanted points, and returns the code. `None` exactly where the known points
     /// don't fit.
     ///
-    /// Conditions: the points are checked forms; there are t·k rows, and 2·k places of scratch.
+    /// Conditions: the points are checked forms; there are t·k rows; there are 2·k places of scratch.
     ///
     /// The contents of `scratch` are ignored, and unspecified afterwards. The contents of `rows` are ignored, and
     /// unspecified after `None`. It takes about 3·k² + 4·t·k products and one inversion.
@@ -105,8 +105,8 @@ impl<'a, T: RingWord, R: Reducer<T>> PreparedCode<'a, T, R> {
     /// Writes the symbols at the t wanted points to `others`, given the `symbols` at the k known points: both are of the
     /// word of one message of k symbols, the only one with the given symbols.
     ///
-    /// Conditions: the symbols are checked forms; there is a symbol for each known point, and a place for each wanted
-    /// point. It takes t·k products.
+    /// Conditions: the symbols are checked forms; there is a symbol for each known point; `others` has a place for each
+    /// wanted point. It takes t·k products.
     ///
     /// # Examples
     ///
@@ -145,8 +145,8 @@ impl<'a, T: RingWord, R: Reducer<T>> PreparedCode<'a, T, R> {
     }
 
     /// Whether `symbols`, at the k known points, and `others`, at the t wanted points, are of the word of one message of k
-    /// symbols. Conditions: the symbols are checked forms; `symbols` has a symbol for each known point, and `others`
-    /// one for each wanted point. It takes at most t·k products.
+    /// symbols. Conditions: the symbols are checked forms; `symbols` has a symbol for each known point; `others` has a
+    /// symbol for each wanted point. It takes at most t·k products.
     ///
     /// # Examples
     ///

@@ -102,7 +102,7 @@ pub fn share<T: RingWord, R: Reducer<T>>(
 
 /// Returns the secret from any k of its shares: the constant of the polynomial with k coefficients, which are
 /// written to `coefficients`. The errors are those of `restore`. Conditions: points and shares are checked forms; there
-/// are as many shares as places, k is at least 1, and there are k weights and k places in `chosen`.
+/// are as many shares as places; k is at least 1; there are k weights; `chosen` has k places.
 ///
 /// `chosen` and `weights` are scratch: their contents are ignored, and unspecified afterwards. The contents of
 /// `coefficients` are ignored, and unspecified after an error.
@@ -165,9 +165,9 @@ pub fn recover<T: RingWord, R: Reducer<T>>(
 /// Returns the secret from s shares of which some may be forged: the constant of the only polynomial with k
 /// coefficients that differs from e of the shares, where 2·e is at most s - k. Its coefficients are written to
 /// `coefficients`, and the right shares at all points to `word`. The errors are those of `correct`: `TooManyErrors`
-/// comes only where no polynomial is that near, and `NoInverse` only where m isn't a prime. Conditions: points and shares are checked forms; there are as many
-/// shares as places, k is at least 1, `word` has as many places as there are points, and there are at least
-/// 3·(s + k) + 2 places of scratch.
+/// comes only where no polynomial is that near, and `NoInverse` only where m isn't a prime. Conditions: points and
+/// shares are checked forms; there are as many shares as places; k is at least 1; `word` has as many places as there are
+/// points; there are at least 3·(s + k) + 2 places of scratch.
 ///
 /// The contents of `scratch` are ignored, and unspecified afterwards. The contents of `coefficients` and `word` are
 /// ignored, and unspecified after an error.

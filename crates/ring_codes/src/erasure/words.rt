@@ -59,8 +59,7 @@ fn fill_word<T: RingWord, R: Reducer<T>>(
 /// symbols there, whichever places these are: every lost symbol, and the message.
 ///
 /// The errors are those of `restore`. Conditions: points and symbols are checked forms; there are as many symbols as
-/// places, there are k weights, k being at most the number of points, and the word has as many places as there are
-/// points.
+/// places; the word has as many places as there are points; k is at most the number of points; there are k weights.
 ///
 /// `weights` is scratch: its contents are ignored, and unspecified afterwards. The contents of `message` and `word` are
 /// ignored, and unspecified after an error.

@@ -84,7 +84,7 @@ impl<'a> ResidueSystem<'a> {
     #[inline]
     #[track_caller]
     pub fn encode(&self, number: u128, residues: &mut [u64]) {
-        assert!(residues.len() == self.moduli.len(), "there must be as many residues as the system has moduli");
+        assert!(residues.len() == self.moduli.len(), "there must be as many residues as the system has moduli: {} and {}", residues.len(), self.moduli.len());
         encode(self.moduli, number, residues);
     }
 

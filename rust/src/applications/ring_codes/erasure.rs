@@ -139,7 +139,7 @@ pub fn evaluate<T: RingWord, R: Reducer<T>>(r: &R, coefficients: &[T], point: &T
 #[track_caller]
 pub fn encode<T: RingWord, R: Reducer<T>>(r: &R, points: &[T], message: &[T], word: &mut [T]) {
     debug_assert!(points.iter().chain(message.iter()).all(|x| r.check(x)), "points and message must be checked forms");
-    assert!(word.len() == points.len(), "the word must have as many places as there are points");
+    assert!(word.len() == points.len(), "the word must have as many places as there are points: {} and {}", word.len(), points.len());
     for i in 0..points.len() {
         word[i] = evaluate(r, message, &points[i]);
     }
@@ -156,9 +156,9 @@ pub fn encode<T: RingWord, R: Reducer<T>>(r: &R, points: &[T], message: &[T], wo
 ///
 /// # Panics
 ///
-/// Panics unless there are k weights, and at least k points and k values. A debug build also panics
-/// unless points and values are checked forms. A release build doesn't check this: if it doesn't hold,
-/// the call panics or its result is unspecified.
+/// Panics unless there are at least k points; there are at least k values; there are k weights. A debug
+/// build also panics unless points and values are checked forms. A release build doesn't check this: if
+/// it doesn't hold, the call panics or its result is unspecified.
 ///
 /// # Examples
 ///
@@ -181,7 +181,9 @@ pub fn interpolate<T: RingWord, R: Reducer<T>>(
     coefficients: &mut [T],
 ) -> bool {
     debug_assert!(points.iter().chain(values.iter()).all(|x| r.check(x)), "points and values must be checked forms");
-    assert!(weights.len() == coefficients.len() && points.len().min(values.len()) >= coefficients.len(), "there must be k weights, and at least k points and k values");
+    assert!(points.len() >= coefficients.len(), "there must be at least k points: {} and {}", points.len(), coefficients.len());
+    assert!(values.len() >= coefficients.len(), "there must be at least k values: {} and {}", values.len(), coefficients.len());
+    assert!(weights.len() == coefficients.len(), "there must be k weights: {} and {}", weights.len(), coefficients.len());
     fill_weights(r, points, weights);
     if !invert_each(r, weights, coefficients) {
         return false;
@@ -200,10 +202,10 @@ pub fn interpolate<T: RingWord, R: Reducer<T>>(
 ///
 /// # Panics
 ///
-/// Panics unless the word has as many symbols as there are points, and there are k weights, k being at
-/// most the number of points. A debug build also panics unless points and word are checked forms, and
-/// the points fit (`points_fit` tells). A release build doesn't check this: if it doesn't hold, the
-/// call panics or its result is unspecified.
+/// Panics unless the word has as many symbols as there are points; k is at most the number of points;
+/// there are k weights. A debug build also panics unless points and word are checked forms, and the
+/// points fit (`points_fit` tells). A release build doesn't check this: if it doesn't hold, the call
+/// panics or its result is unspecified.
 ///
 /// # Examples
 ///
@@ -228,7 +230,9 @@ pub fn is_codeword<T: RingWord, R: Reducer<T>>(
 ) -> bool {
     debug_assert!(points.iter().chain(word.iter()).all(|x| r.check(x)), "points and word must be checked forms");
     debug_assert!(points_fit(r, points), "the points must fit");
-    assert!(word.len() == points.len() && weights.len() == message.len() && message.len() <= points.len(), "the word must have as many symbols as there are points, and there must be k weights, k being at most the number of points");
+    assert!(word.len() == points.len(), "the word must have as many symbols as there are points: {} and {}", word.len(), points.len());
+    assert!(message.len() <= points.len(), "k must be at most the number of points: {} and {}", message.len(), points.len());
+    assert!(weights.len() == message.len(), "there must be k weights: {} and {}", weights.len(), message.len());
     if !interpolate(r, points, word, weights, message) {
         return false;
     }
@@ -249,10 +253,10 @@ pub fn is_codeword<T: RingWord, R: Reducer<T>>(
 ///
 /// # Panics
 ///
-/// Panics unless the word has as many places as there are points, and there are k weights and k
-/// coefficients, k being the length of the message and at most the number of points. A debug build also
-/// panics unless points and message are checked forms. A release build doesn't check this: if it
-/// doesn't hold, the call panics or its result is unspecified.
+/// Panics unless the word has as many places as there are points; k, the length of the message, is at
+/// most the number of points; there are k weights; there are k coefficients. A debug build also panics
+/// unless points and message are checked forms. A release build doesn't check this: if it doesn't hold,
+/// the call panics or its result is unspecified.
 ///
 /// # Examples
 ///
@@ -277,7 +281,10 @@ pub fn encode_systematic<T: RingWord, R: Reducer<T>>(
     word: &mut [T],
 ) -> bool {
     debug_assert!(points.iter().chain(message.iter()).all(|x| r.check(x)), "points and message must be checked forms");
-    assert!(word.len() == points.len() && weights.len() == message.len() && coefficients.len() == message.len() && message.len() <= points.len(), "the word must have as many places as there are points, and there must be k weights and k coefficients, k being the length of the message and at most the number of points");
+    assert!(word.len() == points.len(), "the word must have as many places as there are points: {} and {}", word.len(), points.len());
+    assert!(message.len() <= points.len(), "k, the length of the message, must be at most the number of points: {} and {}", message.len(), points.len());
+    assert!(weights.len() == message.len(), "there must be k weights: {} and {}", weights.len(), message.len());
+    assert!(coefficients.len() == message.len(), "there must be k coefficients: {} and {}", coefficients.len(), message.len());
     if !interpolate(r, points, message, weights, coefficients) {
         return false;
     }
@@ -314,9 +321,9 @@ fn choose<T: RingWord>(points: &[T], places: &[usize], chosen: &mut [T]) -> Resu
 ///
 /// # Panics
 ///
-/// Panics unless there are as many symbols as places, k weights, and k places in `chosen`. A debug
-/// build also panics unless points and symbols are checked forms. A release build doesn't check this:
-/// if it doesn't hold, the call panics or its result is unspecified.
+/// Panics unless there are as many symbols as places; there are k weights; `chosen` has k places. A
+/// debug build also panics unless points and symbols are checked forms. A release build doesn't check
+/// this: if it doesn't hold, the call panics or its result is unspecified.
 ///
 /// # Examples
 ///
@@ -342,7 +349,9 @@ pub fn restore<T: RingWord, R: Reducer<T>>(
     message: &mut [T],
 ) -> Result<(), RestoreError> {
     debug_assert!(points.iter().chain(symbols.iter()).all(|x| r.check(x)), "points and symbols must be checked forms");
-    assert!(symbols.len() == places.len() && weights.len() == message.len() && chosen.len() == message.len(), "there must be as many symbols as places, k weights, and k places in `chosen`");
+    assert!(symbols.len() == places.len(), "there must be as many symbols as places: {} and {}", symbols.len(), places.len());
+    assert!(weights.len() == message.len(), "there must be k weights: {} and {}", weights.len(), message.len());
+    assert!(chosen.len() == message.len(), "`chosen` must have k places: {} and {}", chosen.len(), message.len());
     match choose(points, places, chosen) {
         Err(error) => Err(error),
         Ok(()) => {

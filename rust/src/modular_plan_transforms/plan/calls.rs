@@ -45,7 +45,7 @@ impl<'a, T: PlainWord, F: PlanEntry<T>> Plan<'a, T, F> {
     #[inline]
     #[track_caller]
     pub fn transform(&self, xs: &mut [T]) {
-        assert!(self.fits(xs.len()), "the list must have n entries");
+        assert!(self.fits(xs.len()), "the list must have n entries: {}, n = {}", xs.len(), self.length());
         debug_assert!(xs.iter().all(|x| self.modulus.has_room(*x)), "the entries must be below 4m");
         ntt_planned(&self.modulus, xs, self.table);
     }
@@ -75,7 +75,7 @@ impl<'a, T: PlainWord, F: PlanEntry<T>> Plan<'a, T, F> {
     #[inline]
     #[track_caller]
     pub fn inverse(&self, xs: &mut [T]) {
-        assert!(self.fits(xs.len()), "the list must have n entries");
+        assert!(self.fits(xs.len()), "the list must have n entries: {}, n = {}", xs.len(), self.length());
         debug_assert!(xs.iter().all(|x| self.modulus.has_room(*x)), "the entries must be below 4m");
         let part = self.part(xs.len());
         reverse_places(xs, self.bits);
@@ -198,7 +198,7 @@ impl<'a, T: PlainWord, F: PlanEntry<T>> Plan<'a, T, F> {
     #[inline]
     #[track_caller]
     pub fn convolve_block(&self, xs: &mut [T], ys: &mut [T], b: usize, last: usize) {
-        assert!(ys.len() == xs.len(), "the lists must have the same length h");
+        assert!(ys.len() == xs.len(), "the lists must have the same length h: {} and {}", ys.len(), xs.len());
         assert!(self.convolves(xs.len(), b, last), "`last` must be 1 or 2, h must be `last` times a power of two, and (b + 1)·h/last must be at most n");
         debug_assert!(xs.iter().chain(ys.iter()).all(|x| self.modulus.has_room(*x)), "the entries must be below 4m");
         let part = self.part(xs.len() / last);
@@ -228,7 +228,7 @@ impl<'a, T: PlainWord, F: PlanEntry<T>> Plan<'a, T, F> {
     #[inline]
     #[track_caller]
     pub fn convolve(&self, xs: &mut [T], ys: &mut [T]) {
-        assert!(self.fits(xs.len()) && ys.len() == xs.len(), "the lists must have n entries");
+        assert!(self.fits(xs.len()) && ys.len() == xs.len(), "the lists must have n entries: {} and {}, n = {}", xs.len(), ys.len(), self.length());
         debug_assert!(xs.iter().chain(ys.iter()).all(|x| self.modulus.has_room(*x)), "the entries must be below 4m");
         self.convolve_block(xs, ys, 0, 1);
     }
@@ -257,7 +257,7 @@ impl<'a, T: PlainWord, F: PlanEntry<T>> Plan<'a, T, F> {
     #[inline]
     #[track_caller]
     pub fn convolve_negacyclic(&self, xs: &mut [T], ys: &mut [T]) {
-        assert!(self.fits(xs.len()) && ys.len() == xs.len(), "the lists must have n entries");
+        assert!(self.fits(xs.len()) && ys.len() == xs.len(), "the lists must have n entries: {} and {}, n = {}", xs.len(), ys.len(), self.length());
         debug_assert!(xs.iter().chain(ys.iter()).all(|x| self.modulus.has_room(*x)), "the entries must be below 4m");
         self.convolve_block(xs, ys, 1, 2);
     }

@@ -104,9 +104,9 @@ fn decode<T: RingWord, R: Reducer<T>>(
 ///
 /// # Panics
 ///
-/// Panics unless there are as many symbols as places, k, the length of the message, is at least 1, the
-/// word has as many places as there are points, and there are at least 3·(s + k) + 2 places of scratch.
-/// A debug build also panics unless points and symbols are checked forms. A release build doesn't check
+/// Panics unless there are as many symbols as places; k, the length of the message, is at least 1; the
+/// word has as many places as there are points; there are at least 3·(s + k) + 2 places of scratch. A
+/// debug build also panics unless points and symbols are checked forms. A release build doesn't check
 /// this: if it doesn't hold, the call panics or its result is unspecified.
 ///
 /// # Examples
@@ -133,7 +133,10 @@ pub fn correct<T: RingWord, R: Reducer<T>>(
     word: &mut [T],
 ) -> Result<usize, CorrectError<T>> {
     debug_assert!(points.iter().chain(symbols.iter()).all(|x| r.check(x)), "points and symbols must be checked forms");
-    assert!(symbols.len() == places.len() && !message.is_empty() && word.len() == points.len() && scratch.len() >= 3 * (places.len() + message.len()) + 2, "there must be as many symbols as places, k, the length of the message, must be at least 1, the word must have as many places as there are points, and there must be at least 3·(s + k) + 2 places of scratch");
+    assert!(symbols.len() == places.len(), "there must be as many symbols as places: {} and {}", symbols.len(), places.len());
+    assert!(!message.is_empty(), "k, the length of the message, must be at least 1");
+    assert!(word.len() == points.len(), "the word must have as many places as there are points: {} and {}", word.len(), points.len());
+    assert!(scratch.len() >= 3 * (places.len() + message.len()) + 2, "there must be at least 3·(s + k) + 2 places of scratch: {} and {}", scratch.len(), 3*(places.len()+message.len())+2);
     if places.len() < message.len() {
         return Err(CorrectError::Restore(RestoreError::TooFewSymbols));
     }

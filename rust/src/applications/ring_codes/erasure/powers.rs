@@ -45,9 +45,9 @@ pub fn fill_powers<T: RingWord, R: Reducer<T>>(r: &R, g: &T, points: &mut [T]) {
 ///
 /// # Panics
 ///
-/// Panics unless n is a power of two, and g suits n (`root_fits` tells), and the message has at most n
-/// symbols. A debug build also panics unless g and the message are checked forms. A release build
-/// doesn't check this: if it doesn't hold, the call panics or its result is unspecified.
+/// Panics unless n is a power of two; g suits n (`root_fits` tells); the message has at most n symbols.
+/// A debug build also panics unless g and the message are checked forms. A release build doesn't check
+/// this: if it doesn't hold, the call panics or its result is unspecified.
 ///
 /// # Examples
 ///
@@ -67,7 +67,7 @@ pub fn encode_by_transform<T: RingWord, R: Reducer<T>>(r: &R, g: &T, message: &[
     assert!(word.len().is_power_of_two(), "n must be a power of two");
     debug_assert!(r.check(g) && message.iter().all(|x| r.check(x)), "g and the message must be checked forms");
     assert!(r.check(g) && crate::ring::root_fits(r, g, word.len()), "g must suit n");
-    assert!(message.len() <= word.len(), "the message must have at most n symbols");
+    assert!(message.len() <= word.len(), "the message must have at most n symbols: {} and {}", message.len(), word.len());
     let zero = r.transform(T::zero());
     for i in 0..word.len() {
         word[i] = if i < message.len() { message[i] } else { zero };
@@ -107,7 +107,7 @@ pub fn encode_by_plan<T: PlainWord, F: PlanEntry<T>>(
     word: &mut [T],
 ) {
     assert!(plan.fits(word.len()), "the word must have n places");
-    assert!(message.len() <= word.len(), "the message must have at most n symbols");
+    assert!(message.len() <= word.len(), "the message must have at most n symbols: {} and {}", message.len(), word.len());
     debug_assert!(message.iter().all(|x| plan.modulus().has_room(*x)), "the symbols must be below 4m");
     for i in 0..word.len() {
         word[i] = if i < message.len() {

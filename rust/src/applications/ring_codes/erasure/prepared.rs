@@ -44,9 +44,9 @@ impl<'a, T: RingWord, R: Reducer<T>> PreparedCode<'a, T, R> {
     ///
     /// # Panics
     ///
-    /// Panics unless there are t·k rows, and 2·k places of scratch. A debug build also panics unless the
-    /// points are checked forms. A release build doesn't check this: if it doesn't hold, the call panics or
-    /// its result is unspecified.
+    /// Panics unless there are t·k rows, and there are 2·k places of scratch. A debug build also panics
+    /// unless the points are checked forms. A release build doesn't check this: if it doesn't hold, the
+    /// call panics or its result is unspecified.
     ///
     /// # Examples
     ///
@@ -68,7 +68,8 @@ impl<'a, T: RingWord, R: Reducer<T>> PreparedCode<'a, T, R> {
         scratch: &mut [T],
     ) -> Option<Self> {
         debug_assert!(known.iter().chain(wanted).all(|x| ring.check(x)), "the points must be checked forms");
-        assert!(rows.len() == wanted.len() * known.len() && scratch.len() == 2 * known.len(), "there must be t·k rows, and 2·k places of scratch");
+        assert!(rows.len() == wanted.len() * known.len(), "there must be t·k rows: {} and {}", rows.len(), wanted.len()*known.len());
+        assert!(scratch.len() == 2 * known.len(), "there must be 2·k places of scratch: {} and {}", scratch.len(), 2*known.len());
         let (weights, row) = scratch.split_at_mut(known.len());
         if !fill_weights(ring, known, row, weights) {
             return None;
@@ -89,9 +90,9 @@ impl<'a, T: RingWord, R: Reducer<T>> PreparedCode<'a, T, R> {
     ///
     /// # Panics
     ///
-    /// Panics unless there is a symbol for each known point, and a place for each wanted point. A debug
-    /// build also panics unless the symbols are checked forms. A release build doesn't check this: if it
-    /// doesn't hold, the call panics or its result is unspecified.
+    /// Panics unless there is a symbol for each known point, and `others` has a place for each wanted
+    /// point. A debug build also panics unless the symbols are checked forms. A release build doesn't check
+    /// this: if it doesn't hold, the call panics or its result is unspecified.
     ///
     /// # Examples
     ///
@@ -110,7 +111,8 @@ impl<'a, T: RingWord, R: Reducer<T>> PreparedCode<'a, T, R> {
     #[track_caller]
     pub fn extend(&self, symbols: &[T], others: &mut [T]) {
         debug_assert!(symbols.iter().all(|x| self.ring.check(x)), "the symbols must be checked forms");
-        assert!(symbols.len() == self.known.len() && others.len() == self.wanted.len(), "there must be a symbol for each known point, and a place for each wanted point");
+        assert!(symbols.len() == self.known.len(), "there must be a symbol for each known point: {} and {}", symbols.len(), self.known.len());
+        assert!(others.len() == self.wanted.len(), "`others` must have a place for each wanted point: {} and {}", others.len(), self.wanted.len());
         for (j, entry) in others[..self.wanted.len()].iter_mut().enumerate() {
             *entry = row_value(self.ring, self.rows, j * symbols.len(), symbols);
         }
@@ -122,9 +124,9 @@ impl<'a, T: RingWord, R: Reducer<T>> PreparedCode<'a, T, R> {
     ///
     /// # Panics
     ///
-    /// Panics unless `symbols` has a symbol for each known point, and `others` one for each wanted point. A
-    /// debug build also panics unless the symbols are checked forms. A release build doesn't check this: if
-    /// it doesn't hold, the call panics or its result is unspecified.
+    /// Panics unless `symbols` has a symbol for each known point, and `others` has a symbol for each wanted
+    /// point. A debug build also panics unless the symbols are checked forms. A release build doesn't check
+    /// this: if it doesn't hold, the call panics or its result is unspecified.
     ///
     /// # Examples
     ///
@@ -142,7 +144,8 @@ impl<'a, T: RingWord, R: Reducer<T>> PreparedCode<'a, T, R> {
     #[track_caller]
     pub fn is_codeword(&self, symbols: &[T], others: &[T]) -> bool {
         debug_assert!(symbols.iter().chain(others).all(|x| self.ring.check(x)), "the symbols must be checked forms");
-        assert!(symbols.len() == self.known.len() && others.len() == self.wanted.len(), "`symbols` must have a symbol for each known point, and `others` one for each wanted point");
+        assert!(symbols.len() == self.known.len(), "`symbols` must have a symbol for each known point: {} and {}", symbols.len(), self.known.len());
+        assert!(others.len() == self.wanted.len(), "`others` must have a symbol for each wanted point: {} and {}", others.len(), self.wanted.len());
         for (j, entry) in others.iter().enumerate() {
             let symbol = row_value(self.ring, self.rows, j * symbols.len(), symbols);
             if symbol != *entry {

@@ -71,7 +71,7 @@ pub fn share<T: RingWord, R: Reducer<T>>(
     shares: &mut [T],
 ) -> Result<(), ShareError> {
     debug_assert!(points.iter().chain(coefficients.iter()).all(|x| r.check(x)), "points and coefficients must be checked forms");
-    assert!(shares.len() == points.len(), "`shares` must have as many places as there are points");
+    assert!(shares.len() == points.len(), "`shares` must have as many places as there are points: {} and {}", shares.len(), points.len());
     if !have_inverses(r, points) {
         return Err(ShareError::PointWithoutInverse);
     }
@@ -92,9 +92,9 @@ pub fn share<T: RingWord, R: Reducer<T>>(
 ///
 /// # Panics
 ///
-/// Panics unless there are as many shares as places, k is at least 1, and there are k weights and k
-/// places in `chosen`. A debug build also panics unless points and shares are checked forms. A release
-/// build doesn't check this: if it doesn't hold, the call panics or its result is unspecified.
+/// Panics unless there are as many shares as places; k is at least 1; there are k weights; `chosen` has
+/// k places. A debug build also panics unless points and shares are checked forms. A release build
+/// doesn't check this: if it doesn't hold, the call panics or its result is unspecified.
 ///
 /// # Examples
 ///
@@ -119,7 +119,10 @@ pub fn recover<T: RingWord, R: Reducer<T>>(
     coefficients: &mut [T],
 ) -> Result<T, RestoreError> {
     debug_assert!(points.iter().chain(shares.iter()).all(|x| r.check(x)), "points and shares must be checked forms");
-    assert!(shares.len() == places.len() && !coefficients.is_empty() && weights.len() == coefficients.len() && chosen.len() == coefficients.len(), "there must be as many shares as places, k must be at least 1, and there must be k weights and k places in `chosen`");
+    assert!(shares.len() == places.len(), "there must be as many shares as places: {} and {}", shares.len(), places.len());
+    assert!(!coefficients.is_empty(), "k must be at least 1");
+    assert!(weights.len() == coefficients.len(), "there must be k weights: {} and {}", weights.len(), coefficients.len());
+    assert!(chosen.len() == coefficients.len(), "`chosen` must have k places: {} and {}", chosen.len(), coefficients.len());
     match restore(r, points, places, shares, chosen, weights, coefficients) {
         Ok(()) => Ok(coefficients[0]),
         Err(error) => Err(error),
@@ -141,8 +144,8 @@ pub fn recover<T: RingWord, R: Reducer<T>>(
 ///
 /// # Panics
 ///
-/// Panics unless there are as many shares as places, k is at least 1, `word` has as many places as
-/// there are points, and there are at least 3·(s + k) + 2 places of scratch. A debug build also panics
+/// Panics unless there are as many shares as places; k is at least 1; `word` has as many places as
+/// there are points; there are at least 3·(s + k) + 2 places of scratch. A debug build also panics
 /// unless points and shares are checked forms. A release build doesn't check this: if it doesn't hold,
 /// the call panics or its result is unspecified.
 ///
@@ -172,7 +175,10 @@ pub fn recover_correct<T: RingWord, R: Reducer<T>>(
     word: &mut [T],
 ) -> Result<T, CorrectError<T>> {
     debug_assert!(points.iter().chain(shares.iter()).all(|x| r.check(x)), "points and shares must be checked forms");
-    assert!(shares.len() == places.len() && !coefficients.is_empty() && word.len() == points.len() && scratch.len() >= 3 * (places.len() + coefficients.len()) + 2, "there must be as many shares as places, k must be at least 1, `word` must have as many places as there are points, and there must be at least 3·(s + k) + 2 places of scratch");
+    assert!(shares.len() == places.len(), "there must be as many shares as places: {} and {}", shares.len(), places.len());
+    assert!(!coefficients.is_empty(), "k must be at least 1");
+    assert!(word.len() == points.len(), "`word` must have as many places as there are points: {} and {}", word.len(), points.len());
+    assert!(scratch.len() >= 3 * (places.len() + coefficients.len()) + 2, "there must be at least 3·(s + k) + 2 places of scratch: {} and {}", scratch.len(), 3*(places.len()+coefficients.len())+2);
     match correct(r, points, places, shares, scratch, coefficients, word) {
         Ok(_) => Ok(coefficients[0]),
         Err(fault) => Err(fault),

@@ -44,10 +44,10 @@ fn fill_word<T: RingWord, R: Reducer<T>>(
 ///
 /// # Panics
 ///
-/// Panics unless there are as many symbols as places, there are k weights, k being at most the number
-/// of points, and the word has as many places as there are points. A debug build also panics unless
-/// points and symbols are checked forms. A release build doesn't check this: if it doesn't hold, the
-/// call panics or its result is unspecified.
+/// Panics unless there are as many symbols as places; the word has as many places as there are points;
+/// k is at most the number of points; there are k weights. A debug build also panics unless points and
+/// symbols are checked forms. A release build doesn't check this: if it doesn't hold, the call panics
+/// or its result is unspecified.
 ///
 /// # Examples
 ///
@@ -71,7 +71,10 @@ pub fn restore_word<T: RingWord, R: Reducer<T>>(
     word: &mut [T],
 ) -> Result<(), RestoreError> {
     debug_assert!(points.iter().chain(symbols.iter()).all(|x| r.check(x)), "points and symbols must be checked forms");
-    assert!(symbols.len() == places.len() && weights.len() == message.len() && message.len() <= points.len() && word.len() == points.len(), "there must be as many symbols as places, there must be k weights, k being at most the number of points, and the word must have as many places as there are points");
+    assert!(symbols.len() == places.len(), "there must be as many symbols as places: {} and {}", symbols.len(), places.len());
+    assert!(word.len() == points.len(), "the word must have as many places as there are points: {} and {}", word.len(), points.len());
+    assert!(message.len() <= points.len(), "k must be at most the number of points: {} and {}", message.len(), points.len());
+    assert!(weights.len() == message.len(), "there must be k weights: {} and {}", weights.len(), message.len());
     let chosen = &mut word[..message.len()];
     match restore(r, points, places, symbols, chosen, weights, message) {
         Err(error) => Err(error),
