@@ -159,6 +159,12 @@ OF_PLACES = {  # by crate or file
         (". as_slice ( )", ".as_ref()"),
         ("table : self . table ,", "table: self.table.clone(),"),
     ),
+    # the panic where a digit doesn't exist names the moduli
+    "modular_ring": ((
+        "( ( known . convert ( residue ) - known ) / weight ) . residue ( )",
+        "match weight.inv() {\n        Some(inverse) => ((known.convert(residue) - known) * inverse).residue(),\n"
+        "        None => unreachable!(),\n    }",
+    ),),
     "split": constant("splits"),
     "convolution": constant("convolves"),
     "standards": constant("standard_codes"),

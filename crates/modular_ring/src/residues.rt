@@ -56,6 +56,7 @@ pub fn is_system(moduli: &[u64]) -> bool
 }
 
 // The next digit of a number in the mixed radix of the moduli: the factor of `range` for which the sum has the residue.
+// Condition: the moduli are at least 1, pairwise coprime, and their product is below 2^128.
 fn next_digit(m: u64, residue: u64, number: u128, range: u128) -> u64
     requires modulus { 1 ≤ m }
     requires unit { HasInverse m range }
@@ -113,8 +114,9 @@ pub fn are_reduced(moduli: &[u64], residues: &[u64]) -> bool
     true
 }
 
-/// The only number below the product of the moduli that has these residues. Conditions: the moduli are a system
-/// (`is_system` tells); there are as many residues as moduli, each below its modulus (`are_reduced` tells).
+/// The only number below the product of the moduli that has these residues. Conditions: the moduli are at least 1,
+/// pairwise coprime, and their product is below 2^128 (`is_system` tells); there are as many residues as moduli, each
+/// below its modulus (`are_reduced` tells).
 ///
 /// Source: Garner, "The residue number system"; Knuth, The Art of Computer Programming, volume 2, section 4.3.2,
 /// (24) and (25).

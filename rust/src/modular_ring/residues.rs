@@ -42,10 +42,15 @@ pub fn is_system(moduli: &[u64]) -> bool {
 }
 
 // The next digit of a number in the mixed radix of the moduli: the factor of `range` for which the sum has the residue.
+// Condition: the moduli are at least 1, pairwise coprime, and their product is below 2^128.
+#[track_caller]
 fn next_digit(m: u64, residue: u64, number: u128, range: u128) -> u64 {
     let known = VanillaInt::<u64>::new((number % m as u128) as u64, &m);
     let weight = known.convert((range % m as u128) as u64);
-    ((known.convert(residue) - known) / weight).residue()
+    match weight.inv() {
+        Some(inverse) => ((known.convert(residue) - known) * inverse).residue(),
+        None => panic!("the moduli must be at least 1, pairwise coprime, and their product must be below 2^128"),
+    }
 }
 
 /// Writes the residues of a number.
@@ -106,8 +111,9 @@ pub fn are_reduced(moduli: &[u64], residues: &[u64]) -> bool {
 ///
 /// # Panics
 ///
-/// Panics unless the moduli are a system (`is_system` tells), and there are as many residues as moduli,
-/// each below its modulus (`are_reduced` tells).
+/// Panics unless the moduli are at least 1, pairwise coprime, and their product is below 2^128
+/// (`is_system` tells), and there are as many residues as moduli, each below its modulus (`are_reduced`
+/// tells).
 ///
 /// # Examples
 ///
@@ -118,7 +124,7 @@ pub fn are_reduced(moduli: &[u64], residues: &[u64]) -> bool {
 /// ```
 #[track_caller]
 pub fn decode(moduli: &[u64], residues: &[u64]) -> u128 {
-    assert!(crate::additions::may_be_system(moduli), "the moduli must be a system");
+    assert!(crate::additions::may_be_system(moduli), "the moduli must be at least 1, pairwise coprime, and their product must be below 2^128");
     assert!(residues.len() == moduli.len() && are_reduced(moduli, residues), "there must be as many residues as moduli, each below its modulus");
     let mut number: u128 = 0;
     let mut range: u128 = 1;
