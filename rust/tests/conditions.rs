@@ -16,7 +16,7 @@ use num_modular::prim::by_subtraction;
 use num_modular::residues;
 use num_modular::ring::{convolve, find_root, intt, ntt, ntt_counted, run, RingCommand, RunEnd};
 use num_modular::{
-    DivExact, FixedMersenne, FixedMersenne32, FixedMersenne64, FixedMontgomery32, FixedProth32, FixedTrinomialSolinas32,
+    DivExact, FixedMersenne, FixedMersenne32, FixedMersenne64, FixedMontgomery32, FixedProth32, FixedProth64, FixedTrinomialSolinas32,
     ModularAbs, ModularCoreOps, ModularPow, ModularRefOps, ModularSymbols, ModularUnaryOps, Montgomery, MontgomeryInt,
     Normalized2by1Divisor, PreModInv, PreMulInv1by1, PreMulInv2by1, Reducer, Vanilla, VanillaInt,
 };
@@ -24,7 +24,6 @@ use panics::{message, place, DIVISOR, MODULUS, SHORT};
 use std::cell::RefCell;
 
 const MODULI: &str = "the moduli must be equal: 21 and 22";
-const RANGE: &str = "the parameters must be in range";
 
 fn int(n: u8, m: u8) -> VanillaInt<u8> {
     VanillaInt::<u8>::new(n, &m)
@@ -53,16 +52,23 @@ fn texts_of_a_long_code() {
 #[test]
 fn parameters_out_of_range() {
     panic_with!("the parameter P must be odd"; FixedMontgomery32::<6>::fixed_modulus(), FixedMontgomery32::<6>::new(&6));
-    panic_with!(RANGE; FixedProth32::<31, 3>::fixed_modulus(), FixedProth32::<31, 3>::new(&2147483649));
-    panic_with!(RANGE; FixedProth32::<0, 1>::fixed_modulus(), FixedProth32::<32, 1>::fixed_modulus());
-    panic_with!(RANGE; FixedProth32::<3, 2>::fixed_modulus(), FixedProth32::<2, 5>::fixed_modulus());
-    panic_with!(RANGE; FixedMersenne32::<4, 9>::fixed_modulus(), FixedMersenne32::<4, 9>::reduce_single(1000));
-    panic_with!(RANGE; FixedMersenne32::<4, 2>::fixed_modulus(), FixedMersenne32::<33, 1>::fixed_modulus());
-    panic_with!(RANGE; FixedMersenne32::<4, 16>::reduce_single(1000), FixedMersenne32::<4, 16>::reduce_double(1000));
-    panic_with!(RANGE; FixedMersenne64::<65, 1>::fixed_modulus(), FixedMersenne::<65, 1>::fixed_modulus());
-    panic_with!(RANGE; FixedTrinomialSolinas32::<5, 2, 5>::fixed_modulus(), FixedTrinomialSolinas32::<2, 5, 1>::fixed_modulus());
-    panic_with!(RANGE; FixedTrinomialSolinas32::<33, 5, 1>::reduce_double(7), FixedTrinomialSolinas32::<33, 5, 1>::reduce_single(7));
-    panic_with!(RANGE; FixedTrinomialSolinas32::<5, 2, 4>::reduce_single(7), FixedMersenne::<65, 1>::reduce_single(7));
+    panic_with!("K·2^N + 1 must be at most 2654435769"; FixedProth32::<31, 3>::fixed_modulus(), FixedProth32::<31, 3>::new(&2147483649));
+    panic_with!("K·2^N + 1 must be at most 11400714819323199485"; FixedProth64::<63, 3>::fixed_modulus());
+    let proth = |greatest| format!("N must be from 1 to {greatest}, K must be odd, and K must be below 2^N");
+    panic_with!(proth(31); FixedProth32::<0, 1>::fixed_modulus(), FixedProth32::<32, 1>::fixed_modulus());
+    panic_with!(proth(31); FixedProth32::<3, 2>::fixed_modulus(), FixedProth32::<2, 5>::fixed_modulus());
+    panic_with!(proth(63); FixedProth64::<64, 1>::fixed_modulus(), FixedProth64::<2, 5>::fixed_modulus());
+    let mersenne = |greatest| format!("P must be at most {greatest}, K must be odd, and 2·K must be below 2^P");
+    panic_with!(mersenne(32); FixedMersenne32::<4, 9>::fixed_modulus(), FixedMersenne32::<4, 9>::reduce_single(1000));
+    panic_with!(mersenne(32); FixedMersenne32::<4, 2>::fixed_modulus(), FixedMersenne32::<33, 1>::fixed_modulus());
+    panic_with!(mersenne(32); FixedMersenne32::<4, 16>::reduce_single(1000), FixedMersenne32::<4, 16>::reduce_double(1000));
+    panic_with!(mersenne(64); FixedMersenne64::<65, 1>::fixed_modulus(), FixedMersenne::<65, 1>::fixed_modulus());
+    panic_with!(mersenne(64); FixedMersenne::<65, 1>::reduce_single(7));
+    let width = "P1 must be at most the width of a word, and P2 must be from 1 to P1 - 1";
+    panic_with!("K must be odd, and its magnitude must be below 2^P2";
+        FixedTrinomialSolinas32::<5, 2, 5>::fixed_modulus(), FixedTrinomialSolinas32::<5, 2, 4>::reduce_single(7));
+    panic_with!(width; FixedTrinomialSolinas32::<2, 5, 1>::fixed_modulus());
+    panic_with!(width; FixedTrinomialSolinas32::<33, 5, 1>::reduce_double(7), FixedTrinomialSolinas32::<33, 5, 1>::reduce_single(7));
 }
 
 #[test]

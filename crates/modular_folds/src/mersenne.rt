@@ -48,7 +48,7 @@ pub struct Mersenne32<const P: u8, const K: u32> {
 pub type FixedMersenne32<const P: u8, const K: u32> = FoldRing<u32, Mersenne32<P, K>>;
 
 impl<const P: u8, const K: u32> FoldRing<u32, Mersenne32<P, K>> {
-    /// The modulus. Condition: the parameters are in range.
+    /// The modulus. Condition: P is at most 32, K is odd, and 2·K is below 2^P.
     ///
     /// # Examples
     ///
@@ -185,7 +185,7 @@ pub struct Mersenne64<const P: u8, const K: u64> {
 pub type FixedMersenne64<const P: u8, const K: u64> = FoldRing<u64, Mersenne64<P, K>>;
 
 impl<const P: u8, const K: u64> FoldRing<u64, Mersenne64<P, K>> {
-    /// The modulus. Condition: the parameters are in range.
+    /// The modulus. Condition: P is at most 64, K is odd, and 2·K is below 2^P.
     ///
     /// # Examples
     ///

@@ -277,7 +277,8 @@ impl<T: TrinomialWord, F: Trinomial> FoldRing<T, TrinomialModulus<T, F>> {
         T::word_of(factor_of(F::p1(), F::p2(), F::k()))
     }
 
-    /// The modulus. Condition: the parameters are in range.
+    /// The modulus. Conditions: P1 is at most the width of a word, and P2 is from 1 to P1 - 1; K is odd, and its magnitude
+    /// is below 2^P2.
     ///
     /// # Examples
     ///

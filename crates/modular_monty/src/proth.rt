@@ -48,7 +48,7 @@ impl<const N: u8, const K: u8> ProthNumber32<N, K> {
         }
     };
 
-    // The modulus. Condition: the parameters are in range.
+    // The modulus. Conditions: N is from 1 to 31, K is odd, and K is below 2^N; K·2^N + 1 is at most 2654435769.
     fn value() -> u32
         requires { IsProthRange 32 greatest_proth_32 N K }
         ensures { result ≡ proth_modulus N K }
@@ -69,8 +69,8 @@ impl<const N: u8, const K: u8> ProthNumber32<N, K> {
 /// The reducer of m = K * 2^N + 1 by Montgomery's representation in words of 32 bits: the form of v
 /// is v * 2^32 modulo m.
 ///
-/// The parameters are in range where N is from 1 to 31, K is odd and below 2^N, and m, as a whole
-/// number, is at most 2654435769.
+/// The parameters are in range where N is from 1 to 31, K is odd, below 2^N and below 256, and m, as a whole
+/// number, is at most 2654435769. For other moduli there is `FixedMontgomery32`.
 ///
 /// Source: Handbook of Applied Cryptography, section 14.3.2.
 ///
@@ -195,7 +195,8 @@ impl<const N: u8, const K: u8> ProthNumber64<N, K> {
         }
     };
 
-    // The modulus. Condition: the parameters are in range.
+    // The modulus. Conditions: N is from 1 to 63, K is odd, and K is below 2^N; K·2^N + 1 is at most
+    // 11400714819323199485.
     fn value() -> u64
         requires { IsProthRange 64 greatest_proth_64 N K }
         ensures { result ≡ proth_modulus N K }
@@ -216,8 +217,8 @@ impl<const N: u8, const K: u8> ProthNumber64<N, K> {
 /// The reducer of m = K * 2^N + 1 by Montgomery's representation in words of 64 bits: the form of v
 /// is v * 2^64 modulo m.
 ///
-/// The parameters are in range where N is from 1 to 63, K is odd and below 2^N, and m, as a whole
-/// number, is at most 11400714819323199485.
+/// The parameters are in range where N is from 1 to 63, K is odd, below 2^N and below 256, and m, as a whole
+/// number, is at most 11400714819323199485. For other moduli there is `FixedMontgomery64`.
 ///
 /// Source: Handbook of Applied Cryptography, section 14.3.2.
 ///

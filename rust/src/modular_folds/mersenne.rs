@@ -45,7 +45,7 @@ impl<const P: u8, const K: u32> FoldRing<u32, Mersenne32<P, K>> {
     ///
     /// # Panics
     ///
-    /// Panics unless the parameters are in range.
+    /// Panics unless P is at most 32, K is odd, and 2·K is below 2^P.
     ///
     /// # Examples
     ///
@@ -57,7 +57,7 @@ impl<const P: u8, const K: u32> FoldRing<u32, Mersenne32<P, K>> {
     #[inline]
     #[track_caller]
     pub const fn fixed_modulus() -> u32 {
-        assert!(P <= 32 && K % 2 == 1 && 2 * (K as u64) < 1 << P, "the parameters must be in range");
+        assert!(P <= 32 && K % 2 == 1 && 2 * (K as u64) < 1 << P, "P must be at most 32, K must be odd, and 2·K must be below 2^P");
         ((1u64 << P) - K as u64) as u32
     }
 
@@ -189,7 +189,7 @@ impl<const P: u8, const K: u64> FoldRing<u64, Mersenne64<P, K>> {
     ///
     /// # Panics
     ///
-    /// Panics unless the parameters are in range.
+    /// Panics unless P is at most 64, K is odd, and 2·K is below 2^P.
     ///
     /// # Examples
     ///
@@ -201,7 +201,7 @@ impl<const P: u8, const K: u64> FoldRing<u64, Mersenne64<P, K>> {
     #[inline]
     #[track_caller]
     pub const fn fixed_modulus() -> u64 {
-        assert!(P <= 64 && K % 2 == 1 && 2 * (K as u128) < 1 << P, "the parameters must be in range");
+        assert!(P <= 64 && K % 2 == 1 && 2 * (K as u128) < 1 << P, "P must be at most 64, K must be odd, and 2·K must be below 2^P");
         ((1u128 << P) - K as u128) as u64
     }
 

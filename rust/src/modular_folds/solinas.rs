@@ -244,7 +244,8 @@ impl<T: TrinomialWord, F: Trinomial> FoldRing<T, TrinomialModulus<T, F>> {
     ///
     /// # Panics
     ///
-    /// Panics unless the parameters are in range.
+    /// Panics unless P1 is at most the width of a word, and P2 is from 1 to P1 - 1, and K is odd, and its
+    /// magnitude is below 2^P2.
     ///
     /// # Examples
     ///
@@ -256,8 +257,8 @@ impl<T: TrinomialWord, F: Trinomial> FoldRing<T, TrinomialModulus<T, F>> {
     /// ```
     #[track_caller]
     pub fn fixed_modulus() -> T {
-        assert!(F::p1() as u32 <= T::bits() && 0 < F::p2() && F::p2() < F::p1(), "the parameters must be in range");
-        assert!(F::k().unsigned_abs() % 2 == 1 && F::k().unsigned_abs() < 1 << F::p2(), "the parameters must be in range");
+        assert!(F::p1() as u32 <= T::bits() && 0 < F::p2() && F::p2() < F::p1(), "P1 must be at most the width of a word, and P2 must be from 1 to P1 - 1");
+        assert!(F::k().unsigned_abs() % 2 == 1 && F::k().unsigned_abs() < 1 << F::p2(), "K must be odd, and its magnitude must be below 2^P2");
         T::word_of(modulus_of(F::p1(), F::p2(), F::k()))
     }
 

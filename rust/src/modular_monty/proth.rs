@@ -35,12 +35,12 @@ impl<const N: u8, const K: u8> ProthNumber32<N, K> {
         }
     };
 
-    // The modulus. Condition: the parameters are in range.
+    // The modulus. Conditions: N is from 1 to 31, K is odd, and K is below 2^N; K·2^N + 1 is at most 2654435769.
     #[inline]
     #[track_caller]
     const fn value() -> u32 {
-        assert!(0 < N && N < 32 && K % 2 == 1 && (K as u32) < 1 << N, "the parameters must be in range");
-        assert!(((K as u64) << N) < 2654435769, "the parameters must be in range");
+        assert!(0 < N && N < 32 && K % 2 == 1 && (K as u32) < 1 << N, "N must be from 1 to 31, K must be odd, and K must be below 2^N");
+        assert!(((K as u64) << N) < 2654435769, "K·2^N + 1 must be at most 2654435769");
         modulus_32(N, K)
     }
 
@@ -54,8 +54,8 @@ impl<const N: u8, const K: u8> ProthNumber32<N, K> {
 /// The reducer of m = K * 2^N + 1 by Montgomery's representation in words of 32 bits: the form of v
 /// is v * 2^32 modulo m.
 ///
-/// The parameters are in range where N is from 1 to 31, K is odd and below 2^N, and m, as a whole
-/// number, is at most 2654435769.
+/// The parameters are in range where N is from 1 to 31, K is odd, below 2^N and below 256, and m, as a whole
+/// number, is at most 2654435769. For other moduli there is `FixedMontgomery32`.
 ///
 /// Source: Handbook of Applied Cryptography, section 14.3.2.
 ///
@@ -175,12 +175,13 @@ impl<const N: u8, const K: u8> ProthNumber64<N, K> {
         }
     };
 
-    // The modulus. Condition: the parameters are in range.
+    // The modulus. Conditions: N is from 1 to 63, K is odd, and K is below 2^N; K·2^N + 1 is at most
+    // 11400714819323199485.
     #[inline]
     #[track_caller]
     const fn value() -> u64 {
-        assert!(0 < N && N < 64 && K % 2 == 1 && (K as u64) < 1 << N, "the parameters must be in range");
-        assert!(((K as u128) << N) < 11400714819323199485, "the parameters must be in range");
+        assert!(0 < N && N < 64 && K % 2 == 1 && (K as u64) < 1 << N, "N must be from 1 to 63, K must be odd, and K must be below 2^N");
+        assert!(((K as u128) << N) < 11400714819323199485, "K·2^N + 1 must be at most 11400714819323199485");
         modulus_64(N, K)
     }
 
@@ -194,8 +195,8 @@ impl<const N: u8, const K: u8> ProthNumber64<N, K> {
 /// The reducer of m = K * 2^N + 1 by Montgomery's representation in words of 64 bits: the form of v
 /// is v * 2^64 modulo m.
 ///
-/// The parameters are in range where N is from 1 to 63, K is odd and below 2^N, and m, as a whole
-/// number, is at most 11400714819323199485.
+/// The parameters are in range where N is from 1 to 63, K is odd, below 2^N and below 256, and m, as a whole
+/// number, is at most 11400714819323199485. For other moduli there is `FixedMontgomery64`.
 ///
 /// Source: Handbook of Applied Cryptography, section 14.3.2.
 ///
