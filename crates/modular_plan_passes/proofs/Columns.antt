@@ -6,7 +6,7 @@ use Rattle.std.proofs.lemmas.Bool.{cases_eq, cases_lt}
 use Rattle.modular_barrett.specs.Factors.{IsFactor}
 use Rattle.modular_plan_passes.specs.Plans.{numbers}
 use Rattle.modular_plan_passes.specs.Splits.{AreAt, AreFourBelow, AreNeighbours, AreQuarters, ColumnsDone}
-use Rattle.modular_plan_passes.specs.Splits.{DoneBelow, HalvesDone}
+use Rattle.modular_plan_passes.specs.Splits.{FourDoneWithin, HalvesDone}
 use Rattle.modular_plan_passes.specs.Steps.{IsFourSplit, FourDone, BlockOfFours, StageOfFours}
 use Rattle.modular_plan_passes.proofs.Doublings.{same_factor}
 use Rattle.modular_plan_passes.proofs.Entries.{written, not_written, number_read, all_below, bounded_at}
@@ -190,7 +190,7 @@ block_of_halves number R first q f l h t l' h' lf ll lh ll' lh' done =
 
 -- the entries of a block that are below a bound
 pub fours_below : {R : ℕ → ℕ → ℕ → ℕ → ℕ → ℕ → ℕ → ℕ → Type 0} {bound first q : ℕ} (k : ℕ) {x y : ℕ → ℕ}
-    → BlockOfFours (DoneBelow bound R) first q q x y → first ≤ k → k < first + (q + q + (q + q)) → y k < bound
+    → BlockOfFours (FourDoneWithin bound R) first q q x y → first ≤ k → k < first + (q + q + (q + q)) → y k < bound
 fours_below {R} {bound} {first} {q} k {x} {y} done least l = elim (cases_lt k (first + q)) [
   | inl l0 ↦ subst (λ v. y v < bound) (let e : first + (k - first) ≡ k = omega arith in e)
       (done.fours (k - first) (omega arith)).below.first
@@ -210,7 +210,7 @@ fours_below {R} {bound} {first} {q} k {x} {y} done least l = elim (cases_lt k (f
 -- .. and with them all entries
 pub block_below : {X : Type 0} (number : X → ℕ) {bound first q : ℕ} (old new : List X)
     {R : ℕ → ℕ → ℕ → ℕ → ℕ → ℕ → ℕ → ℕ → Type 0} → length new ≡ length old → All (λ x. number x < bound) old
-    → BlockOfFours (DoneBelow bound R) first q q (numbers number old) (numbers number new) → All (λ x. number x < bound) new
+    → BlockOfFours (FourDoneWithin bound R) first q q (numbers number old) (numbers number new) → All (λ x. number x < bound) new
 block_below number {bound} {first} {q} old new {R} same all done =
     all_below number bound (length old) new same
     (λ k l. elim (cases_lt k first) [

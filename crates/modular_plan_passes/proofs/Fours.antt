@@ -5,7 +5,7 @@ use Rattle.std.proofs.Math.ListN.{set, length-set}
 use Rattle.std.proofs.Math.Nat.{mul-le-mul_right, zero-mul}
 use Rattle.std.proofs.lemmas.Bool.{cases_eq, cases_lt}
 use Rattle.modular_plan_passes.specs.Plans.{numbers}
-use Rattle.modular_plan_passes.specs.Splits.{DoneBelow}
+use Rattle.modular_plan_passes.specs.Splits.{FourDoneWithin}
 use Rattle.modular_plan_passes.specs.Steps.{IsPairSplit, IsFourSplit, FourDone, FourAt, BlockOfFours, StageOfFours}
 use Rattle.modular_plan_passes.proofs.Entries.{written, not_written}
 
@@ -135,7 +135,7 @@ four_below bound first x a b c d k le lt = elim (cases_eq k first) [
 
 -- four neighbours are a block of four
 pub neighbours_done : {R : ℕ → ℕ → ℕ → ℕ → ℕ → ℕ → ℕ → ℕ → Type 0} {bound : ℕ} (first : ℕ) {x y : ℕ → ℕ}
-    → FourDone (DoneBelow bound R) first (first + 1) (first + 2) (first + 3) x y → BlockOfFours R first 1 1 x y
+    → FourDone (FourDoneWithin bound R) first (first + 1) (first + 2) (first + 3) x y → BlockOfFours R first 1 1 x y
 neighbours_done {R} {bound} first {x} {y} step =
     let zero : first ≡ first + 0 = omega arith in
     fours_more R first 1 0 x x y (omega arith) (fours_none R first 1 x)
@@ -145,7 +145,7 @@ neighbours_done {R} {bound} first {x} {y} step =
 -- the neighbours of one more block are below a bound
 pub neighbours_below : {R : ℕ → ℕ → ℕ → ℕ → ℕ → ℕ → ℕ → ℕ → Type 0} {bound : ℕ} (p : ℕ) {x y : ℕ → ℕ}
     → ((k : ℕ) → k < p * 4 → x k < bound)
-    → FourDone (DoneBelow bound R) (p * 4) (p * 4 + 1) (p * 4 + 2) (p * 4 + 3) x y
+    → FourDone (FourDoneWithin bound R) (p * 4) (p * 4 + 1) (p * 4 + 2) (p * 4 + 3) x y
     → (k : ℕ) → k < (p + 1) * 4 → y k < bound
 neighbours_below {R} {bound} p {x} {y} before step k l = elim (cases_lt k (p * 4)) [
   | inl less ↦

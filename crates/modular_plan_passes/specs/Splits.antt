@@ -41,7 +41,7 @@ pub record AreAt (i j k l : ℕ) (x : ℕ → ℕ) (a b c d : ℕ) : Type 0 wher
   pub fourth : d ≡ x l
 
 -- R holds of four numbers before and after, and those after are below a bound
-pub record DoneBelow (bound : ℕ) (R : ℕ → ℕ → ℕ → ℕ → ℕ → ℕ → ℕ → ℕ → Type 0) (a b c d a' b' c' d' : ℕ) : Type 0 where
+pub record FourDoneWithin (bound : ℕ) (R : ℕ → ℕ → ℕ → ℕ → ℕ → ℕ → ℕ → ℕ → Type 0) (a b c d a' b' c' d' : ℕ) : Type 0 where
   pub below : AreFourBelow bound a' b' c' d'
   pub done : R a b c d a' b' c' d'
 

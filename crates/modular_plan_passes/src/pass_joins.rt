@@ -2,7 +2,7 @@
 
 ghost use Rattle.std.specs.Prelude.{ℕ, ◌*◌};
 ghost use Rattle.modular_barrett.specs.Factors.{IsFactorOf};
-ghost use Rattle.modular_plan_passes.specs.Splits.{AreFactorsOf, DoneBelow};
+ghost use Rattle.modular_plan_passes.specs.Splits.{AreFactorsOf, FourDoneWithin};
 ghost use Rattle.modular_plan_passes.specs.Joins.{IsJoinByFactors, IsLastJoin, IsMinusInverse, IsPairJoin};
 
 use crate::join_steps::JoinSteps;
@@ -45,7 +45,7 @@ pub struct JoinFour<T: PlainWord, M: JoinSteps<T>> {
 impl<T: PlainWord, M: JoinSteps<T>> FourStep<T> for JoinFour<T, M> {
     ghost bound = { λ s. M.bound s.m };
 
-    ghost done = { λ s. DoneBelow (M.bound s.m)
+    ghost done = { λ s. FourDoneWithin (M.bound s.m)
         (IsJoinByFactors (M.modulus s.m) (T.number s.w.value) (T.number s.u.value) (T.number s.v.value)) };
 
     #[inline(always)]
@@ -63,7 +63,7 @@ pub struct JoinLowered<T: PlainWord, M: JoinSteps<T>> {
 impl<T: PlainWord, M: JoinSteps<T>> FourStep<T> for JoinLowered<T, M> {
     ghost bound = { λ s. 4 * M.modulus s.step.m };
 
-    ghost done = { λ s. DoneBelow (M.bound s.step.m) (IsJoinByFactors (M.modulus s.step.m)
+    ghost done = { λ s. FourDoneWithin (M.bound s.step.m) (IsJoinByFactors (M.modulus s.step.m)
         (T.number s.step.w.value) (T.number s.step.u.value) (T.number s.step.v.value)) };
 
     #[inline(always)]
@@ -90,7 +90,7 @@ pub struct JoinByOne<T: PlainWord, M: JoinSteps<T>> {
 impl<T: PlainWord, M: JoinSteps<T>> FourStep<T> for JoinByOne<T, M> {
     ghost bound = { λ s. M.bound s.m };
 
-    ghost done = { λ s. DoneBelow (M.modulus s.m)
+    ghost done = { λ s. FourDoneWithin (M.modulus s.m)
         (IsLastJoin (M.modulus s.m) (T.number s.v.value) (T.number s.s.value)) };
 
     #[inline(always)]

@@ -2,7 +2,7 @@
 
 ghost use Rattle.std.specs.Prelude.{ℕ, ◌*◌};
 ghost use Rattle.modular_barrett.specs.Factors.{IsFactorOf};
-ghost use Rattle.modular_plan_passes.specs.Splits.{AreFactorsOf, DoneBelow};
+ghost use Rattle.modular_plan_passes.specs.Splits.{AreFactorsOf, FourDoneWithin};
 ghost use Rattle.modular_plan_passes.specs.Steps.{IsPairSplit, IsFourSplit};
 
 use crate::passes::{FourStep, PairStep};
@@ -44,7 +44,7 @@ pub struct SplitFour<T: PlainWord, M: SplitSteps<T>> {
 impl<T: PlainWord, M: SplitSteps<T>> FourStep<T> for SplitFour<T, M> {
     ghost bound = { λ s. M.limit s.m };
 
-    ghost done = { λ s. DoneBelow (M.limit s.m)
+    ghost done = { λ s. FourDoneWithin (M.limit s.m)
         (IsFourSplit (M.modulus s.m) (T.number s.w.value) (T.number s.u.value) (T.number s.v.value)) };
 
     #[inline(always)]
@@ -64,7 +64,7 @@ pub struct SplitByOne<T: PlainWord, M: SplitSteps<T>> {
 impl<T: PlainWord, M: SplitSteps<T>> FourStep<T> for SplitByOne<T, M> {
     ghost bound = { λ s. 4 * M.modulus s.m };
 
-    ghost done = { λ s. DoneBelow (M.limit s.m) (IsFourSplit (M.modulus s.m) 1 1 (T.number s.v.value)) };
+    ghost done = { λ s. FourDoneWithin (M.limit s.m) (IsFourSplit (M.modulus s.m) 1 1 (T.number s.v.value)) };
 
     #[inline(always)]
     fn four(&self, x: T, y: T, z: T, t: T) -> (T, T, T, T) {
@@ -81,7 +81,7 @@ pub struct SplitToResidues<T: PlainWord, M: SplitSteps<T>> {
 impl<T: PlainWord, M: SplitSteps<T>> FourStep<T> for SplitToResidues<T, M> {
     ghost bound = { λ s. M.limit s.step.m };
 
-    ghost done = { λ s. DoneBelow (M.modulus s.step.m) (IsFourSplit (M.modulus s.step.m)
+    ghost done = { λ s. FourDoneWithin (M.modulus s.step.m) (IsFourSplit (M.modulus s.step.m)
         (T.number s.step.w.value) (T.number s.step.u.value) (T.number s.step.v.value)) };
 
     #[inline(always)]
