@@ -16,7 +16,7 @@ use Rattle.modular_word.proofs.Congruence.{mod_add_cancel, mod_mul_cancel}
 use Rattle.modular_word.proofs.Divisors.{divides, divides_sum, divides_rest, divides_product, multiple_of}
 use Rattle.modular_word.proofs.Divisors.{Coprime-from_IsInverse}
 use Rattle.modular_word.proofs.Powers.{one-pow}
-use Rattle.modular_prim.specs.Differences.{CongruentBySign, IsPair, PairFits}
+use Rattle.modular_prim.specs.Differences.{CongruentBySign, IsDifferencePair, PairFits}
 
 -- ---- the trailing zeros
 -- the power of two that they make divides the number
@@ -123,7 +123,7 @@ difference m false d b a p q e h l =
 
 -- ---- a turn of the loop
 -- the numbers change places
-pub pair_turned : (m x a b u v k : ℕ) (s : Bool) → IsPair m x a b u v k s → IsPair m x b a v u k (not s)
+pub pair_turned : (m x a b u v k : ℕ) (s : Bool) → IsDifferencePair m x a b u v k s → IsDifferencePair m x b a v u k (not s)
 pair_turned m x a b u v k s p = record {
   whole = omega (arith, p.whole);
   above = p.below;
@@ -151,7 +151,7 @@ factors_same a b u v d t o e h =
     omega arith
 
 pub pair_next : (m x a b u v k d t o u' v' : ℕ) (s : Bool) → d + b ≡ a → Without d t o
-    → u' ≡ u + v → v' ≡ v * 2 ^ t → IsPair m x a b u v k s → IsPair m x o b u' v' (k + t) s
+    → u' ≡ u + v → v' ≡ v * 2 ^ t → IsDifferencePair m x a b u v k s → IsDifferencePair m x o b u' v' (k + t) s
 pair_next m x a b u v k d t o u' v' s e h eu ev p =
     let power : 2 ^ (k + t) ≡ 2 ^ k * 2 ^ t = pow-add 2 k t in
     let eo : o * 2 ^ (k + t) ≡ d * 2 ^ k =
@@ -207,7 +207,7 @@ pub record Ordered (base a b u v k d y f : ℕ) (s s' : Bool) : Type 0 where
   pub whole : d + y ≡ greater
   pub sum : u + v ≡ factor + f
   pub fits : PairFits base greater y factor f k
-  pub pair : (m x : ℕ) → IsPair m x a b u v k s → IsPair m x greater y factor f k s'
+  pub pair : (m x : ℕ) → IsDifferencePair m x a b u v k s → IsDifferencePair m x greater y factor f k s'
 
 same_sign : (s l : Bool) → l ≡ false → s ≡ not (beq s l)
 same_sign true false e = refl
@@ -227,7 +227,7 @@ ordered_above base a b u v k d y f s l h el e ey ef = record {
   whole = omega arith;
   sum = omega arith;
   fits = rw (ey, ef) h;
-  pair = λ m x p. rw (ey, ef) (subst (λ t. IsPair m x a b u v k t) (same_sign s l el) p);
+  pair = λ m x p. rw (ey, ef) (subst (λ t. IsDifferencePair m x a b u v k t) (same_sign s l el) p);
 }
 
 pub ordered_below : (base a b u v k d y f : ℕ) (s l : Bool) → PairFits base a b u v k → l ≡ true → d + a ≡ b → y ≡ a
@@ -239,7 +239,7 @@ ordered_below base a b u v k d y f s l h el e ey ef = record {
   sum = omega arith;
   fits = rw (ey, ef) (fits_turned base a b u v k h);
   pair = λ m x p.
-      rw (ey, ef) (subst (λ t. IsPair m x b a v u k t) (other_sign s l el) (pair_turned m x a b u v k s p));
+      rw (ey, ef) (subst (λ t. IsDifferencePair m x b a v u k t) (other_sign s l el) (pair_turned m x a b u v k s p));
 }
 
 -- the shift of a turn fits
@@ -264,7 +264,7 @@ few_twos w base a b u v k eb f =
     (cases_lt k (w + w))
 
 -- ---- the first and the last pair
-pub first_pair : (m x t o u v : ℕ) → Without x t o → u ≡ 1 → v ≡ 0 → IsPair m x o m u v t false
+pub first_pair : (m x t o u v : ℕ) → Without x t o → u ≡ 1 → v ≡ 0 → IsDifferencePair m x o m u v t false
 first_pair m x t o u v h eu ev =
     let ov : o * v ≡ o * 0 = ap (λ n. o * n) ev in
     let mu : m * u ≡ m * 1 = ap (λ n. m * n) eu in
@@ -297,7 +297,7 @@ first_fits base m x t o u v h eu ev l b =
     }
 
 -- where the numbers are equal, the factor of the one is a residue other than 0
-pub last_factor : (base m x a b u v k : ℕ) (s : Bool) → IsPair m x a b u v k s → PairFits base a b u v k → a ≡ b
+pub last_factor : (base m x a b u v k : ℕ) (s : Bool) → IsDifferencePair m x a b u v k s → PairFits base a b u v k → a ≡ b
     → (0 < u) × (u < m)
 last_factor base m x a b u v k s p f e =
     let some : (n : ℕ) → (n ≡ 0 → ⊥) → 0 < n = λ n h.
@@ -309,7 +309,7 @@ last_factor base m x a b u v k s p f e =
     (us, omega (arith, p.whole))
 
 -- their common value divides x and m, so where it isn't 1 there is no inverse
-pub last_none : (m x a b u v k y : ℕ) (s : Bool) → IsPair m x a b u v k s → a ≡ b → a ≢ 1 → IsInverse m x y → ⊥
+pub last_none : (m x a b u v k y : ℕ) (s : Bool) → IsDifferencePair m x a b u v k s → a ≡ b → a ≢ 1 → IsInverse m x y → ⊥
 last_none m x a b u v k y s p e h i =
     let c = p.common a (mod_self a) (ap (λ n. n % a) (sym e) ∙ mod_self a) in
     h ((Coprime-from_IsInverse x m y i).only_one a c.1 c.0)
@@ -348,7 +348,7 @@ factor_power m x u p w false h f =
     mod_trans (mod_mul (mod_refl x) f) (mod_trans (mod_of_eq e) (mod_sym h))
 
 -- where it is 1, the factor with its sign, without the twos, is the inverse
-pub last_inverse : (m x a b u v k w y : ℕ) (s : Bool) → m % 2 ≡ 1 → IsPair m x a b u v k s → a ≡ 1
+pub last_inverse : (m x a b u v k w y : ℕ) (s : Bool) → m % 2 ≡ 1 → IsDifferencePair m x a b u v k s → a ≡ 1
     → CongruentBySign m s w u → y < m → Congruent m (y * 2 ^ k) w → IsInverse m x y
 last_inverse m x a b u v k w y s o p e f l h =
     let r : x * y * 2 ^ k ≡ x * (y * 2 ^ k) = omega arith in

@@ -10,7 +10,7 @@ CongruentBySign m false p q = Congruent m p q
 
 -- modulo m, a * 2^k is u * x, and b * 2^k is -v * x; where `minus` is true, the signs are the other way round. A
 -- number that divides a and b divides m and x.
-pub record IsPair (m x a b u v k : ℕ) (minus : Bool) : Type 0 where
+pub record IsDifferencePair (m x a b u v k : ℕ) (minus : Bool) : Type 0 where
   pub whole : a * v + b * u ≡ m
   pub above : CongruentBySign m minus (a * 2 ^ k) (u * x)
   pub below : CongruentBySign m (not minus) (b * 2 ^ k) (v * x)

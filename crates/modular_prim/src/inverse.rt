@@ -3,7 +3,7 @@
 ghost use Rattle.std.specs.Prelude.{◌≡◌, ◌≢◌, ℕ, ◌+◌, ◌*◌, ◌%◌, ◌^◌, ◌<◌, ◌≤◌};
 ghost use Rattle.modular_word.specs.Congruence.{Congruent};
 ghost use Rattle.modular_word.specs.Inverses.{IsInversion};
-ghost use Rattle.modular_prim.specs.Differences.{IsPair, PairFits};
+ghost use Rattle.modular_prim.specs.Differences.{IsDifferencePair, PairFits};
 
 use crate::euclid::invm;
 use crate::plain_word::PlainWord;
@@ -34,9 +34,9 @@ fn one_difference<T: PathWord>(pair: Pair<T>) -> Pair<T>
     requires fits { PairFits T.base (T.number pair.above) (T.number pair.below) (T.number pair.above_factor)
         (T.number pair.below_factor) pair.twos }
     ensures pair { (m x : ℕ)
-        → IsPair m x (T.number pair.above) (T.number pair.below) (T.number pair.above_factor)
+        → IsDifferencePair m x (T.number pair.above) (T.number pair.below) (T.number pair.above_factor)
         (T.number pair.below_factor) pair.twos pair.minus
-        → IsPair m x (T.number result.above) (T.number result.below) (T.number result.above_factor)
+        → IsDifferencePair m x (T.number result.above) (T.number result.below) (T.number result.above_factor)
         (T.number result.below_factor) result.twos result.minus }
     ensures fits { PairFits T.base (T.number result.above) (T.number result.below) (T.number result.above_factor)
         (T.number result.below_factor) result.twos }
@@ -65,7 +65,7 @@ fn last_pair<T: PathWord>(x: T, m: T) -> Pair<T>
     requires some { 0 < T.number x }
     requires below { T.number x < T.number m }
     requires fits { T.number m < T.base }
-    ensures pair { IsPair (T.number m) (T.number x) (T.number result.above) (T.number result.below)
+    ensures pair { IsDifferencePair (T.number m) (T.number x) (T.number result.above) (T.number result.below)
         (T.number result.above_factor) (T.number result.below_factor) result.twos result.minus }
     ensures equal { T.number result.above ≡ T.number result.below }
     ensures some { 0 < T.number result.above }
