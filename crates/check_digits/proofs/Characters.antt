@@ -11,10 +11,10 @@ use Rattle.std.proofs.lemmas.List.{set_split, set-get_or, length-take-le, set-ap
 use Rattle.std.proofs.lemmas.List.Concat.{flat_map-cons}
 use Rattle.std.proofs.lemmas.Nat.{mul-pow, mul-mod_second, pow-mod}
 use Rattle.num_modular.specs.Inverses.{HasInverse}
-use Rattle.num_modular.specs.NumberLaws.{sum_below-first}
+use Rattle.num_modular.specs.NumberLaws.{sum_below-first, sum_below-same}
 use Rattle.num_modular.specs.Sums.{sum_below, polynomial_highest_first}
 use Rattle.check_digits.specs.Ibans.{IsDigit, IsLetter, AreOfOneKind, FindsEachCharacter, digits_of, iban_digits, iban_number}
-use Rattle.check_digits.proofs.CheckSums.{one_symbol, sum_same}
+use Rattle.check_digits.proofs.CheckSums.{one_symbol}
 
 -- the number that digits write, by its first digit
 abbrev pub written : List ℕ → ℕ
@@ -29,7 +29,7 @@ written_is (d ∷ ds) =
     let f : ℕ → ℕ = λ i. get_or (d ∷ ds) i 0 * 10 ^ (suc n - 1 - i) in
     let top : n ≡ suc n - 1 - 0 = omega arith in
     let rest : sum_below n (λ i. get_or ds i 0 * 10 ^ (n - 1 - i)) ≡ sum_below n (λ i. f (suc i)) =
-    sum_same n (λ i. get_or ds i 0 * 10 ^ (n - 1 - i)) (λ i. f (suc i))
+    sum_below-same n (λ i. get_or ds i 0 * 10 ^ (n - 1 - i)) (λ i. f (suc i))
     (λ i l.
     let same : n - 1 - i ≡ suc n - 1 - suc i = omega (arith, l) in
     ap (λ k. get_or ds i 0 * 10 ^ k) same) in

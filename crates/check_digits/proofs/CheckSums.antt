@@ -2,29 +2,18 @@
 use Rattle.std.proofs.Common.{◌↔◌, ◌≡◌, ◌≢◌, ℕ, zero, suc, ◌+◌, ◌*◌, ◌/◌, ◌%◌, ◌<◌}
 use Rattle.std.proofs.Math.ListN.{get_or-append}
 use Rattle.std.proofs.Math.Seq.{get_or-append_seam}
-use Rattle.std.proofs.Common.{◌≤◌, List, [], ◌∷◌, ◌++◌, length, length-append, get_or, set, sym, ap, ◌∙◌, refl, arith, add-one}
+use Rattle.std.proofs.Common.{◌≤◌, List, [], ◌∷◌, ◌++◌, length, length-append, get_or, set, sym, ap, ◌∙◌, refl, arith}
 use Rattle.std.proofs.Common.{⊎_elim, length-set, get_or-set_same, get_or-set_other, ℤ, pos, negsuc}
 use Rattle.std.proofs.Math.Nat.{add-mod, add-mod-mod, mod-add-mod, div-add-mod}
-use Rattle.std.proofs.Math.Nat.{add-mul-mod_self_left, zero-mod, mod-eq_of_lt, mod-lt}
+use Rattle.std.proofs.Math.Nat.{zero-mod, mod-eq_of_lt, mod-lt}
 use Rattle.std.proofs.lemmas.Bool.{cases_lt}
 use Rattle.std.proofs.lemmas.Nat.{mul-mod_first, mul-mod_second}
 use Rattle.num_modular.specs.Inverses.{HasInverse}
+use Rattle.num_modular.specs.NumberLaws.{sum_below-more, sum_below-same}
 use Rattle.num_modular.specs.Residues.{residue}
 use Rattle.num_modular.specs.Sums.{sum_below}
+use Rattle.num_modular.specs.SystemLaws.{spread, gathered}
 use Rattle.check_digits.specs.Codes.{weighted_sum, exchanged}
-
-pub sum_none : (f : ℕ → ℕ) → sum_below 0 f ≡ 0
-unfolding sum_below
-sum_none f = refl
-
-pub sum_more : (n : ℕ) (f : ℕ → ℕ) → sum_below (n + 1) f ≡ sum_below n f + f n
-unfolding sum_below
-sum_more n f = ap (λ k. sum_below k f) (add-one n)
-
-pub sum_same : (n : ℕ) (f g : ℕ → ℕ) → ((i : ℕ) → i < n → f i ≡ g i) → sum_below n f ≡ sum_below n g
-unfolding sum_below
-sum_same zero f g h = refl
-sum_same (suc n) f g h = omega (arith, sum_same n f g (λ i l. h i (omega (arith, l))), h n (omega arith))
 
 -- one more term, reduced modulo m
 pub residue_more : (m sum t v p : ℕ) → v ≡ sum % m → p ≡ t % m → (v + p) % m ≡ (sum + t) % m
@@ -76,13 +65,6 @@ exchanged_symbols ws xs p h =
     let second = changed_symbol ws (set xs p y) (suc p) x longer in
     let same = ap (λ n. get_or ws (suc p) 0 * n) (get_or-set_other xs p (suc p) y 0 ne) in
     omega (arith, first, second, same)
-
--- equal remainders, by multiples of m
-spread : (m a b : ℕ) → a % m ≡ b % m → a + m * (b / m) ≡ b + m * (a / m)
-spread m a b e = omega (arith, div-add-mod a m, div-add-mod b m)
-
-gathered : (m a b j k : ℕ) → a + m * j ≡ b + m * k → a % m ≡ b % m
-gathered m a b j k e = sym (add-mul-mod_self_left a m j) ∙ ap (λ n. n % m) e ∙ add-mul-mod_self_left b m k
 
 -- the sum of a word with a symbol changed, d being the difference of the symbols
 pub changed_sum : (m S S' w x s d : ℕ) → S' + w * x ≡ S + w * s → (d + x) % m ≡ s % m → S' % m ≡ (S + w * d) % m
@@ -139,8 +121,8 @@ appended_symbol ws xs s =
     let n = length xs in
     let f : ℕ → ℕ = λ i. get_or ws i 0 * get_or (xs ++ s ∷ []) i 0 in
     let count : length (xs ++ s ∷ []) ≡ n + 1 = (let e = length-append xs (s ∷ []) in omega (arith, e)) in
-    ap (λ k. sum_below k f) count ∙ sum_more n f
-    ∙ ap (λ v. v + f n) (sum_same n f (λ i. get_or ws i 0 * get_or xs i 0)
+    ap (λ k. sum_below k f) count ∙ sum_below-more f n
+    ∙ ap (λ v. v + f n) (sum_below-same n f (λ i. get_or ws i 0 * get_or xs i 0)
     (λ i l. ap (λ x. get_or ws i 0 * x) (get_or-append xs (s ∷ []) 0 i l)))
     ∙ ap (λ x. weighted_sum ws xs + get_or ws n 0 * x) (get_or-append_seam xs s [] 0)
 

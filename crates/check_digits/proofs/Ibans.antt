@@ -1,10 +1,10 @@
 -- Digits of texts, and the number that digits write modulo 97.
 use Rattle.std.proofs.Common.{◌≡◌, ◌↔◌, ℕ, zero, suc, ◌+◌, ◌-◌, ◌*◌, ◌%◌, ◌^◌, ◌<◌, Bool, true, ◌&&◌}
 use Rattle.std.proofs.Common.{nat_eq, List, [], ◌∷◌, length, get_or, drop, sym, ap, ◌∙◌, refl, arith}
-use Rattle.std.proofs.Math.Nat.{add-mod}
 use Rattle.std.proofs.lemmas.Bool.{and_parts, eqb-true, leb-true}
 use Rattle.std.proofs.lemmas.List.{get_or-drop}
 use Rattle.std.proofs.lemmas.Nat.{mul-mod_first}
+use Rattle.num_modular.specs.NumberLaws.{sum_below-congruent}
 use Rattle.num_modular.specs.Sums.{sum_below, polynomial_highest_first}
 use Rattle.std.proofs.Common.{append-nil, length-drop, ◌≤◌, ◌⊎◌, ⊎_elim, ◌++◌, ◌/◌, take, subst, false, nat_le, if◌then◌else◌}
 use Rattle.std.specs.List.{All, flat_map}
@@ -17,28 +17,18 @@ use Rattle.check_digits.specs.Standards.{from_right, mod_97_10}
 use Rattle.check_digits.proofs.Decisions.{each_below, passes}
 use Rattle.check_digits.proofs.Finds.{length-from_right, get_or-from_right}
 
--- sums whose terms leave the same modulo m
-sums_alike : (m n : ℕ) (f g : ℕ → ℕ) → ((i : ℕ) → i < n → f i % m ≡ g i % m) → sum_below n f % m ≡ sum_below n g % m
-unfolding sum_below
-sums_alike m zero f g h = refl
-sums_alike m (suc n) f g h =
-    add-mod (sum_below n f) (f n) m
-    ∙ ap (λ k. (k + f n % m) % m) (sums_alike m n f g (λ i l. h i (omega (arith, l))))
-    ∙ ap (λ k. (sum_below n g % m + k) % m) (h n (omega arith))
-    ∙ sym (add-mod (sum_below n g) (g n) m)
-
 -- with the powers of ten as weights, the sum of digits is congruent to the number that they form
 pub number_of_sum : (m : ℕ) (weights digits : List ℕ)
     → ((i : ℕ) → i < length digits → get_or weights i 0 ≡ 10 ^ (length digits - 1 - i) % m)
     → weighted_sum weights digits % m ≡ polynomial_highest_first (length digits) (λ i. get_or digits i 0) 10 % m
 number_of_sum m weights digits powers =
     let n = length digits in
-    sums_alike m n (λ i. get_or weights i 0 * get_or digits i 0) (λ i. get_or digits i 0 * 10 ^ (n - 1 - i))
+    (sum_below-congruent n (λ i. get_or weights i 0 * get_or digits i 0) (λ i. get_or digits i 0 * 10 ^ (n - 1 - i))
     (λ i h.
     let d = get_or digits i 0 in
     let p = 10 ^ (n - 1 - i) in
     let turn : p * d ≡ d * p = omega arith in
-    ap (λ w. (w * d) % m) (powers i h) ∙ mul-mod_first p d m ∙ ap (λ k. k % m) turn)
+    record { same = ap (λ w. (w * d) % m) (powers i h) ∙ mul-mod_first p d m ∙ ap (λ k. k % m) turn })).same
 
 -- whether the numbers of a list are the powers of ten modulo m, the last being that of 0
 abbrev pub are_powers : ℕ → List ℕ → Bool

@@ -6,10 +6,11 @@ use Rattle.std.proofs.Common.{List, [], ◌∷◌, ◌++◌, All, length, length
 use Rattle.std.proofs.Common.{length-set, get_or-set_same, get_or-set_other}
 use Rattle.std.proofs.lemmas.Bool.{cases_lt}
 use Rattle.std.proofs.lemmas.List.Elements.{All-set}
+use Rattle.num_modular.specs.NumberLaws.{sum_below-more, sum_below-same}
 use Rattle.num_modular.specs.Sums.{sum_below}
 use Rattle.check_digits.specs.Codes.{exchanged, FindsEachChange, IsCheckSymbol}
 use Rattle.check_digits.specs.Luhn.{luhn_value, luhn_sum, IsLuhn, LuhnFindsAllButNines}
-use Rattle.check_digits.proofs.CheckSums.{one_term, sum_more, sum_same}
+use Rattle.check_digits.proofs.CheckSums.{one_term}
 use Rattle.check_digits.proofs.States.{one_more, all_more}
 
 -- the sum of a word
@@ -193,8 +194,8 @@ more_sum word s =
     let count : length w ≡ n + 1 = (let e = length-append word (s ∷ []) in omega (arith, e)) in
     let f : ℕ → ℕ = λ i. luhn_value (n + 1 - 1 - i) (get_or w i 0) in
     let last : n + 1 - 1 - n ≡ 0 = omega arith in
-    ap (λ k. sum_below k (λ i. luhn_value (k - 1 - i) (get_or w i 0))) count ∙ sum_more n f
-    ∙ ap (λ v. v + f n) (sum_same n f (λ i. luhn_value (n + 1 - 1 - i) (get_or word i 0))
+    ap (λ k. sum_below k (λ i. luhn_value (k - 1 - i) (get_or w i 0))) count ∙ sum_below-more f n
+    ∙ ap (λ v. v + f n) (sum_below-same n f (λ i. luhn_value (n + 1 - 1 - i) (get_or word i 0))
     (λ i l. ap (luhn_value (n + 1 - 1 - i)) (get_or-append word (s ∷ []) 0 i l)))
     ∙ ap (λ k. luhn_sum (n + 1) word + luhn_value k (get_or w n 0)) last
     ∙ ap (λ d. luhn_sum (n + 1) word + d) (get_or-append_seam word s [] 0)

@@ -1,12 +1,11 @@
 -- Bounds of sums of products: of coefficients, and of what is reduced.
-use Rattle.std.proofs.Common.{◌≡◌, ℕ, zero, suc, ◌+◌, ◌-◌, ◌*◌, ◌/◌, ◌<◌, ◌≤◌, All, List, length, get_or, ◌∙◌, ap}
+use Rattle.std.proofs.Common.{◌≡◌, ℕ, ◌+◌, ◌-◌, ◌*◌, ◌/◌, ◌<◌, ◌≤◌, All, List, length, get_or, ◌∙◌, ap}
 use Rattle.std.proofs.Common.{arith, subst, inl, inr}
 use Rattle.std.proofs.Math.Nat.{mul-le-mul, mul-le-mul_right, mul-div-le, lt-mul-div-succ}
 use Rattle.std.proofs.lemmas.Bool.{cases_lt}
 use Rattle.std.proofs.lemmas.List.{get_or_past}
 use Rattle.num_modular.specs.Sums.{sum_below}
-use Rattle.num_modular.specs.NumberLaws.{sum_below-suc}
-use Rattle.num_modular.specs.SumLaws.{bounded}
+use Rattle.num_modular.specs.NumberLaws.{sum_below-joined, sum_below-of_zeros, sum_below-bounded}
 use Rattle.long_product.specs.Polynomials.{product_sum, FitsProduct}
 use Rattle.long_product.proofs.Coefficients.{no_back}
 
@@ -60,17 +59,11 @@ term_at_most xs ys s t e i few other =
 -- after terms of 0, some that are at most b
 bounded_after : (a d b : ℕ) (f : ℕ → ℕ) → ((i : ℕ) → i < a → f i ≡ 0) → ((i : ℕ) → f i ≤ b)
     → sum_below (a + d) f ≤ d * b
-bounded_after a zero b f none few =
-    let e : a + 0 ≡ a = omega arith in
-    let same = ap (λ n. sum_below n f) e in
-    let z = bounded a 0 f (λ i l. let n = none i l in omega (arith, n)) in
-    omega (arith, same, z)
-bounded_after a (suc d) b f none few =
-    let e : a + suc d ≡ suc (a + d) = omega arith in
-    let s = ap (λ n. sum_below n f) e ∙ sum_below-suc (a + d) f in
-    let i = bounded_after a d b f none few in
-    let l = few (a + d) in
-    omega (arith, s, i, l)
+bounded_after a d b f none few =
+    let whole = sum_below-joined a d f in
+    let z = sum_below-of_zeros a f none in
+    let l = sum_below-bounded d b (λ i. f (a + i)) (λ i k. few (a + i)) in
+    omega (arith, whole, z, l)
 
 -- no coefficient of a product is a sum of more terms than a factor has coefficients
 pub sum_by_left : (xs ys : List ℕ) (s t e : ℕ) → All (λ x. x ≤ s) xs → All (λ y. y ≤ t) ys
@@ -81,9 +74,9 @@ sum_by_left xs ys s t e few other =
     elim (cases_lt (length xs) (e + 1)) [
       | inl l ↦
           let whole = no_back xs ys e (length xs) (omega arith) (λ k. omega arith) in
-          subst (λ v. v ≤ length xs * (s * t)) whole (bounded (length xs) (s * t) f (λ i k. term i))
+          subst (λ v. v ≤ length xs * (s * t)) whole (sum_below-bounded (length xs) (s * t) f (λ i k. term i))
       | inr l ↦
-          let b = bounded (e + 1) (s * t) f (λ i k. term i) in
+          let b = sum_below-bounded (e + 1) (s * t) f (λ i k. term i) in
           let m = mul-le-mul_right (s * t) l in
           omega (arith, b, m)
     ]
@@ -100,7 +93,7 @@ sum_by_right xs ys s t e few other =
           (bounded_after (e + 1 - length ys) (length ys) (s * t) f
           (λ i k. ap (λ v. get_or xs i 0 * v) (get_or_past ys (e - i) 0 (omega arith)) ∙ omega arith) term)
       | inr l ↦
-          let b = bounded (e + 1) (s * t) f (λ i k. term i) in
+          let b = sum_below-bounded (e + 1) (s * t) f (λ i k. term i) in
           let m = mul-le-mul_right (s * t) l in
           omega (arith, b, m)
     ]

@@ -3,7 +3,7 @@ use Rattle.std.proofs.Common.{◌≡◌, ℕ, suc, ◌+◌, ◌-◌, ◌*◌, �
 use Rattle.std.proofs.Math.Nat.{mul-le-mul}
 use Rattle.std.proofs.lemmas.List.{get_or_past}
 use Rattle.num_modular.specs.Sums.{sum_below}
-use Rattle.num_modular.specs.NumberLaws.{sum_below-suc, sum_below-same, sum_below-mul}
+use Rattle.num_modular.specs.NumberLaws.{sum_below-suc, sum_below-of_zeros}
 use Rattle.num_modular.specs.NumberLaws.{residue_of, mod_add, mod_mul, mod_refl}
 use Rattle.num_modular.specs.SumLaws.{tail}
 
@@ -31,17 +31,13 @@ pub by_upper_words : (m low high upper r : ℕ) → upper ≡ (high + low / 1844
     → r ≡ (low + high * 18446744073709551616) % m
 by_upper_words m low high upper r upper_is is = is ∙ folded m low high upper upper_is
 
-no_terms : (n : ℕ) → sum_below n (λ i. 0) ≡ 0
-no_terms n = sum_below-mul n 0 (λ i. 0) ∙ omega arith
-
 -- the terms of which the second factor has no coefficient
 pub no_front : (xs ys : List ℕ) (e n : ℕ) → (0 < n → n + length ys ≤ e + 1)
     → sum_below n (λ i. get_or xs i 0 * get_or ys (e - i) 0) ≡ 0
 no_front xs ys e n few =
-    sum_below-same n (λ i. get_or xs i 0 * get_or ys (e - i) 0) (λ i. 0)
+    sum_below-of_zeros n (λ i. get_or xs i 0 * get_or ys (e - i) 0)
     (λ i l. ap (λ v. get_or xs i 0 * v) (get_or_past ys (e - i) 0 (let f = few (omega arith) in omega arith))
     ∙ omega arith)
-    ∙ no_terms n
 
 -- the terms of which the first has none
 pub no_back : (xs ys : List ℕ) (e n : ℕ) → n ≤ e + 1 → (n < e + 1 → length xs ≤ n)

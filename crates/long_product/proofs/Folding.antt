@@ -1,31 +1,15 @@
 -- Products of polynomials modulo X^n - c by the coefficients of the whole product.
-use Rattle.std.proofs.Common.{◌≡◌, ℕ, zero, suc, ◌+◌, ◌-◌, ◌*◌, ◌%◌, ◌<◌, ◌≤◌, List, length, get_or}
+use Rattle.std.proofs.Common.{◌≡◌, ℕ, ◌+◌, ◌-◌, ◌*◌, ◌%◌, ◌<◌, ◌≤◌, List, length, get_or}
 use Rattle.std.proofs.Common.{cond, eqb, ◌||◌, sym, ◌∙◌, ap, arith, inl, inr}
 use Rattle.std.proofs.lemmas.Bool.{cases_lt}
 use Rattle.std.proofs.lemmas.Bool.Decides.{eqb_tells}
 use Rattle.std.proofs.lemmas.List.{get_or_past}
 use Rattle.num_modular.specs.Sums.{sum_below}
-use Rattle.num_modular.specs.NumberLaws.{sum_below-zero, sum_below-suc, sum_below-same, sum_below-mul}
+use Rattle.num_modular.specs.NumberLaws.{sum_below-same, sum_below-add, sum_below-of_zeros}
 use Rattle.num_modular.specs.SumLaws.{single, tail}
 use Rattle.num_modular.specs.Transforms.{cyclic_product}
 use Rattle.num_modular.specs.PlanProducts.{coefficient, product_modulo}
 use Rattle.long_product.specs.Polynomials.{product_sum, folded_entry}
-
-pub no_terms : (n : ℕ) (f : ℕ → ℕ) → ((i : ℕ) → i < n → f i ≡ 0) → sum_below n f ≡ 0
-no_terms n f none = sum_below-same n f (λ i. 0) none ∙ sum_below-mul n 0 (λ i. 0) ∙ omega arith
-
-pub both_sums : (n : ℕ) (f g : ℕ → ℕ) → sum_below n (λ i. f i + g i) ≡ sum_below n f + sum_below n g
-both_sums zero f g =
-    let s = sum_below-zero (λ i. f i + g i) in
-    let a = sum_below-zero f in
-    let b = sum_below-zero g in
-    omega (arith, s, a, b)
-both_sums (suc n) f g =
-    let i = both_sums n f g in
-    let s = sum_below-suc n (λ i. f i + g i) in
-    let a = sum_below-suc n f in
-    let b = sum_below-suc n g in
-    omega (arith, i, s, a, b)
 
 -- a term at its place ..
 here : (s e v : ℕ) → s ≡ e → cond (eqb s e) v 0 ≡ v
@@ -49,7 +33,7 @@ row n s i x y few within =
           (λ j k other. elsewhere (i + j) s (x i * y j) (λ e. absurd (other (omega arith))))
           ∙ here (i + (s - i)) s (x i * y (s - i)) at
       | inr l ↦
-          no_terms n (λ j. cond (eqb (i + j) s) (x i * y j) 0)
+          sum_below-of_zeros n (λ j. cond (eqb (i + j) s) (x i * y j) 0)
           (λ j k. elsewhere (i + j) s (x i * y j) (λ e. absurd (omega arith)))
           ∙ sym (ap (λ v. x i * v) (few (s - i) l) ∙ omega arith)
     ]
@@ -64,7 +48,7 @@ coefficient_sum n s x y few_x few_y =
       | inl l ↦
           let whole : n ≡ s + 1 + (n - (s + 1)) = omega arith in
           ap (λ k. sum_below k f) whole
-          ∙ tail (s + 1) (n - (s + 1)) f (λ i a b. no_terms n (λ j. cond (eqb (i + j) s) (x i * y j) 0)
+          ∙ tail (s + 1) (n - (s + 1)) f (λ i a b. sum_below-of_zeros n (λ j. cond (eqb (i + j) s) (x i * y j) 0)
           (λ j k. elsewhere (i + j) s (x i * y j) (λ e. absurd (omega arith))))
           ∙ sum_below-same (s + 1) f g (λ i k. row n s i x y few_y (omega arith))
       | inr l ↦
@@ -98,8 +82,8 @@ cyclic m n e x y some =
     (λ i. row f i + row h i)
     (λ i l. sum_below-same n (λ j. cond (eqb (i + j) e || eqb (i + j) (e + n)) (x i * y j) 0) (λ j. f i j + h i j)
     (λ j k. both_tests n (i + j) e (x i * y j) some)
-    ∙ both_sums n (λ j. f i j) (λ j. h i j))
-    ∙ both_sums n (row f) (row h) in
+    ∙ sum_below-add n (λ j. f i j) (λ j. h i j))
+    ∙ sum_below-add n (row f) (row h) in
     ap (λ v. (coefficient n x y e + v) % m) o ∙ ap (λ v. v % m) (sym sums)
 
 -- an entry of the product modulo X^n - c ..

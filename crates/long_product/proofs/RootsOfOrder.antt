@@ -11,13 +11,12 @@ use Rattle.num_modular.specs.Inverses.{HasInverse, IsInversion}
 use Rattle.num_modular.specs.NumberLaws.{mod_of_eq, mod_refl, mod_sym, mod_trans, mod_add, mod_mul, mod_pow}
 use Rattle.num_modular.specs.NumberLaws.{mod_add_cancel, residue_of, one-pow, pow-mul}
 use Rattle.num_modular.specs.NumberLaws.{sum_below-zero, sum_below-suc, sum_below-same}
-use Rattle.num_modular.specs.NumberLaws.{sum_below-congruent, sum_below-mul}
+use Rattle.num_modular.specs.NumberLaws.{sum_below-congruent, sum_below-mul, sum_below-exchanged, sum_below-of_constant}
 use Rattle.num_modular.specs.SumLaws.{single}
 use Rattle.num_modular.specs.Sums.{sum_below}
 use Rattle.num_modular.specs.Transforms.{transform}
 use Rattle.long_product.specs.AnyLength.{IsRootOfOrder, scaled_transform}
 use Rattle.long_product.proofs.Bluestein.{powers_cancel}
-use Rattle.long_product.proofs.Folding.{no_terms, both_sums}
 
 -- the geometric series
 geometric : (n a : ℕ) → a * sum_below n (λ j. a ^ j) + 1 ≡ sum_below n (λ j. a ^ j) + a ^ n
@@ -146,10 +145,6 @@ other_places {m} {n} g h i k one root li lk other =
     (λ j l. mod_trans (mod_of_eq (together g h i j k)) (mod_pow j is.same)))
     (powers_vanish is.exponent root is.some is.few)
 
-ones : (n : ℕ) → sum_below n (λ j. 1) ≡ n
-ones zero = sum_below-zero (λ j. 1)
-ones (suc n) = let s = sum_below-suc n (λ j. 1) in let before = ones n in omega (arith, s, before)
-
 -- .. where it is n
 same_place : {m : ℕ} (g h n k : ℕ) → Congruent m (g * h) 1
     → Congruent m (sum_below n (λ j. g ^ (k * j) * h ^ (j * k))) n
@@ -157,19 +152,7 @@ same_place {m} g h n k one =
     mod_trans (sum_below-congruent n (λ j. g ^ (k * j) * h ^ (j * k)) (λ j. 1)
     (λ j l. mod_trans (mod_of_eq (together g h k j k)) (mod_trans (mod_pow j (powers_cancel g h k one))
     (mod_of_eq (one-pow j)))))
-    (mod_of_eq (ones n))
-
-exchanged : (n k : ℕ) (f : ℕ → ℕ → ℕ)
-    → sum_below n (λ i. sum_below k (λ j. f i j)) ≡ sum_below k (λ j. sum_below n (λ i. f i j))
-exchanged zero k f =
-    sum_below-zero (λ i. sum_below k (λ j. f i j))
-    ∙ sym (no_terms k (λ j. sum_below 0 (λ i. f i j)) (λ j l. sum_below-zero (λ i. f i j)))
-exchanged (suc n) k f =
-    sum_below-suc n (λ i. sum_below k (λ j. f i j))
-    ∙ ap (λ v. v + sum_below k (λ j. f n j)) (exchanged n k f)
-    ∙ sym (both_sums k (λ j. sum_below n (λ i. f i j)) (λ j. f n j))
-    ∙ sum_below-same k (λ j. sum_below n (λ i. f i j) + f n j) (λ j. sum_below (suc n) (λ i. f i j))
-    (λ j l. sym (sum_below-suc n (λ i. f i j)))
+    (mod_of_eq (sum_below-of_constant n 1 ∙ omega arith))
 
 -- g and h have the sums of both orders of a root and its inverse
 pub record AreOpposite (m g h n : ℕ) : Type 0 where
@@ -208,7 +191,7 @@ back_sum n k g h x =
     omega arith in
     t ∙ sym s ∙ sum_below-same n (λ i. h ^ (j * k) * (x i * g ^ (i * j)))
     (λ i. x i * (g ^ (i * j) * h ^ (j * k))) (λ i u. omega arith))
-    ∙ exchanged n n (λ j i. x i * (g ^ (i * j) * h ^ (j * k)))
+    ∙ sum_below-exchanged n n (λ j i. x i * (g ^ (i * j) * h ^ (j * k)))
     ∙ sum_below-same n (λ i. sum_below n (λ j. x i * (g ^ (i * j) * h ^ (j * k))))
     (λ i. x i * sum_below n (λ j. g ^ (i * j) * h ^ (j * k)))
     (λ i l. sum_below-mul n (x i) (λ j. g ^ (i * j) * h ^ (j * k)))

@@ -1,21 +1,15 @@
 -- The values of a window that moves.
-use Rattle.std.proofs.Common.{◌≡◌, ℕ, suc, ◌+◌, ◌-◌, ◌*◌, ◌%◌, ◌/◌, ◌^◌, ◌<◌, List, [], ◌∷◌, ◌++◌, length, take, drop}
+use Rattle.std.proofs.Common.{◌≡◌, ℕ, suc, ◌+◌, ◌-◌, ◌*◌, ◌%◌, ◌^◌, ◌<◌, List, [], ◌∷◌, ◌++◌, length, take, drop}
 use Rattle.std.proofs.Common.{get_or, slice_index, slice_range, arith, ap, sym, ◌∙◌, refl, length-append, length-drop}
 use Rattle.std.proofs.Common.{add-one}
 use Rattle.std.proofs.lemmas.List.{take_more, get_or-drop}
 use Rattle.std.proofs.lemmas.Nat.{mul-mod_first}
 use Rattle.std.proofs.Math.Nat.{add-mod-mod, mod-mod}
-use Rattle.std.proofs.Math.Nat.{div-add-mod, add-mul-mod_self_left, mod-eq_of_lt}
+use Rattle.std.proofs.Math.Nat.{mod-eq_of_lt}
 use Rattle.std.proofs.Math.Seq.{drop-cons}
 use Rattle.modular_word.specs.Sums.{polynomial_highest_first}
 use Rattle.modular_word.proofs.Polynomials.{value_first, residue_more}
-
--- equal remainders, by multiples of m
-spread : (m a b : ℕ) → a % m ≡ b % m → a + m * (b / m) ≡ b + m * (a / m)
-spread m a b e = omega (arith, div-add-mod a m, div-add-mod b m)
-
-gathered : (m a b j k : ℕ) → a + m * j ≡ b + m * k → a % m ≡ b % m
-gathered m a b j k e = sym (add-mul-mod_self_left a m j) ∙ ap (λ n. n % m) e ∙ add-mul-mod_self_left b m k
+use Rattle.modular_ring.specs.SystemLaws.{spread, gathered}
 
 less_at : (m r t l v j k a b : ℕ) → r + t + m * j ≡ l + m * k → l + m * a ≡ t + v + m * b
     → r + m * (j + a) ≡ v + m * (k + b)

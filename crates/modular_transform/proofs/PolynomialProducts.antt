@@ -7,7 +7,7 @@ use Rattle.std.proofs.lemmas.Bool.Decides.{eqb_tells}
 use Rattle.std.proofs.Math.Nat.{mod-eq_of_lt, mul-le-mul}
 use Rattle.modular_word.specs.Sums.{sum_below}
 use Rattle.modular_word.proofs.Sums.{sum_below-zero, sum_below-suc, sum_below-same}
-use Rattle.modular_word.proofs.Sums.{sum_below-times_sum, sum_below-of_zeros}
+use Rattle.modular_word.proofs.Sums.{sum_below-times_sum, sum_below-of_zeros, sum_below-bounded}
 use Rattle.modular_transform.specs.Transforms.{cyclic_product}
 use Rattle.modular_transform.proofs.CyclicProducts.{scaled, moved}
 
@@ -38,15 +38,7 @@ sum_at_place (suc n) s f l =
 sum_at_none : (n s : ℕ) (f : ℕ → ℕ) → n ≤ s → sum_below n (λ e. cond (eqb s e) (f e) 0) ≡ 0
 sum_at_none n s f l = sum_below-of_zeros n (λ e. cond (eqb s e) (f e) 0) (λ e t. at_other s e (f e) (omega arith))
 
--- a sum of bounded terms, and one in which at most one term counts
-sum_bounded : (n c : ℕ) (f : ℕ → ℕ) → ((i : ℕ) → i < n → f i ≤ c) → sum_below n f ≤ n * c
-sum_bounded zero c f few = let d = sum_below-zero f in omega (arith, d)
-sum_bounded (suc n) c f few =
-    let d = sum_below-suc n f in
-    let i = sum_bounded n c f (λ i l. few i (omega arith)) in
-    let l = few n (omega arith) in
-    omega (arith, d, i, l)
-
+-- a sum in which at most one bounded term counts
 row_bounded : (n i e c : ℕ) (f : ℕ → ℕ) → ((j : ℕ) → j < n → f j ≤ c)
     → sum_below n (λ j. cond (eqb (i + j) e) (f j) 0) ≤ c
 row_bounded zero i e c f few = let d = sum_below-zero (λ j. cond (eqb (i + j) e) (f j) 0) in omega (arith, d)
@@ -90,7 +82,7 @@ entry m n s t x y e few few_y small room =
     (λ i l. sum_below-same n (λ j. cond (eqb (i + j) e || eqb (i + j) (e + n)) (x i * y j) 0)
     (λ j. cond (eqb (i + j) e) (x i * y j) 0)
     (λ j k. one_place n i j e (x i * y j) (room i j l k))) in
-    let below = sum_bounded n (s * t) (λ i. sum_below n (λ j. cond (eqb (i + j) e) (x i * y j) 0))
+    let below = sum_below-bounded n (s * t) (λ i. sum_below n (λ j. cond (eqb (i + j) e) (x i * y j) 0))
     (λ i l. row_bounded n i e (s * t) (λ j. x i * y j) (λ j k. mul-le-mul (few i l) (few_y j k))) in
     ap (λ v. v % m) same ∙ mod-eq_of_lt (omega (arith, below, small))
 

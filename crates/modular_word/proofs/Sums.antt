@@ -251,6 +251,15 @@ sum_below-of_zeros (suc n) f h =
     let l = h n (omega arith) in
     omega (arith, e, l)
 
+-- n summands of at most b
+pub sum_below-bounded : (n b : ℕ) (f : ℕ → ℕ) → ((i : ℕ) → i < n → f i ≤ b) → sum_below n f ≤ n * b
+unfolding sum_below
+sum_below-bounded zero b f few = omega arith
+sum_below-bounded (suc n) b f few =
+    let i = sum_below-bounded n b f (λ i l. few i (omega arith)) in
+    let l = few n (omega arith) in
+    omega (arith, i, l)
+
 -- n summands c
 pub sum_below-of_constant : (n c : ℕ) → sum_below n (λ i. c) ≡ n * c
 unfolding sum_below

@@ -6,9 +6,9 @@ use Rattle.std.proofs.lemmas.Bool.{cases_lt}
 use Rattle.std.proofs.lemmas.Bool.Decides.{eqb_tells}
 use Rattle.std.proofs.lemmas.List.{get_or_past}
 use Rattle.modular_word.specs.Sums.{sum_below}
-use Rattle.modular_word.proofs.Sums.{sum_below-same, sum_below-of_zeros}
+use Rattle.modular_word.proofs.Sums.{sum_below-same, sum_below-of_zeros, sum_below-bounded}
 use Rattle.modular_transform.specs.Transforms.{cyclic_product}
-use Rattle.num_modular.specs.SumLaws.{single, tail, bounded}
+use Rattle.num_modular.specs.SumLaws.{single, tail}
 
 -- a term at its place ..
 placed : (n s e v : ℕ) → s ≡ e → cond (eqb s e || eqb s (e + n)) v 0 ≡ v
@@ -53,7 +53,7 @@ coefficient m n s t e x y few few_y small room below =
     ∙ sum_below-same (e + 1) f (λ i. x i * y (e - i)) (λ i l. row n e i x y below (omega arith) room (omega arith)) in
     let each : (i : ℕ) → i < e + 1 → x i * y (e - i) ≤ s * t =
     λ i l. mul-le-mul (few i (omega arith)) (few_y (e - i) (omega arith)) in
-    let most = bounded (e + 1) (s * t) (λ i. x i * y (e - i)) each in
+    let most = sum_below-bounded (e + 1) (s * t) (λ i. x i * y (e - i)) each in
     let up : (e + 1) * (s * t) ≤ n * (s * t) = mul-le-mul_right (s * t) (omega arith) in
     ap (λ v. v % m) sum ∙ mod-eq_of_lt (omega (arith, most, up, small))
 

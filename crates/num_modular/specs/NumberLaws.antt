@@ -6,8 +6,13 @@ pub use Rattle.modular_word.proofs.Congruence.{mod_of_eq, mod_refl, residue_of, 
 pub use Rattle.modular_word.proofs.Congruence.{mod_add, mod_mul, mod_pow, mod_of_multiple, mod_add_cancel}
 -- the residue of a difference, plus the subtrahend
 pub use Rattle.modular_word.proofs.ResidueLemmas.{difference_and}
--- sums over a range: the empty one, with one more term, by the first, of equal and of congruent terms, and of multiples
-pub use Rattle.modular_word.proofs.Sums.{sum_below-zero, sum_below-suc, sum_below-first}
-pub use Rattle.modular_word.proofs.Sums.{sum_below-same, sum_below-congruent, sum_below-mul}
+-- sums over a range: the empty one, with one more term, by the first term, and in two parts
+pub use Rattle.modular_word.proofs.Sums.{sum_below-zero, sum_below-suc, sum_below-first, sum_below-joined}
+pub use Rattle.modular_word.proofs.Polynomials.{sum_below-more}
+-- of equal and of congruent terms, of multiples, of sums, of zeros, of n numbers c, and of terms up to a bound
+pub use Rattle.modular_word.proofs.Sums.{sum_below-same, sum_below-congruent, sum_below-mul, sum_below-add}
+pub use Rattle.modular_word.proofs.Sums.{sum_below-of_zeros, sum_below-of_constant, sum_below-bounded}
+-- the order of two sums
+pub use Rattle.modular_word.proofs.Sums.{sum_below-exchanged}
 -- powers of 1, and powers to a product
 pub use Rattle.modular_word.proofs.Powers.{one-pow, pow-mul}
