@@ -1,30 +1,22 @@
 -- Products of moduli, and the step of Garner's method: lemmas that callers may cite.
 -- The names are the library's own words.
-use Rattle.std.proofs.Common.{◌≡◌, ℕ, zero, suc, ◌+◌, ◌*◌, ◌/◌, ◌%◌, ◌^◌, ◌<◌, ◌≤◌, List, get_or}
-use Rattle.std.proofs.Common.{length, sym, ap, subst, ◌∙◌, refl, arith, ⊎_elim, add-one, Bool, set, below_more}
+use Rattle.std.proofs.Common.{◌≡◌, ℕ, zero, suc, ◌+◌, ◌*◌, ◌/◌, ◌%◌, ◌^◌, ◌<◌, ◌≤◌, List, slice_index, get_or}
+use Rattle.std.proofs.Common.{length, sym, ap, subst, ◌∙◌, arith, ⊎_elim, Bool, set, below_more}
 use Rattle.std.proofs.Common.{true, false, IsTrue, ◌↔◌, Option, Some, None, is_some, MatchOption}
 use Rattle.std.proofs.Math.Nat.{div-add-mod, add-mul-mod_self_left, mod-eq_of_lt, mod-lt}
 use Rattle.std.proofs.Math.Nat.{mod-mod, mod-add-mod, add-mod-mod, mul-le-mul_left}
-use Rattle.std.proofs.lemmas.Nat.{mul-add-lt, mul-mod, mul-mod_second}
+use Rattle.std.proofs.lemmas.Nat.{mul-add-lt, mul-mod_second}
 use Rattle.std.proofs.lemmas.Bool.{cases_lt}
 use Rattle.std.proofs.lemmas.List.{get_or-set_same, get_or-set_other}
 use Rattle.modular_word.specs.Divisors.{Coprime, gcd}
 use Rattle.modular_word.specs.Inverses.{IsInverse, HasInverse}
+use Rattle.modular_ring.specs.Products.{product_below}
+use Rattle.modular_ring.specs.ProductLaws.{product-more, has_product}
 use Rattle.modular_ring.specs.Systems.{range_below, IsSystem}
-
--- the product of no moduli
-pub product_none : (ms : List ℕ) → range_below 0 ms ≡ 1
-unfolding range_below
-product_none ms = refl
-
--- the product with one more modulus
-pub product_more : (n : ℕ) (ms : List ℕ) → range_below (n + 1) ms ≡ range_below n ms * get_or ms n 0
-unfolding range_below
-product_more n ms = ap (λ k. range_below k ms) (add-one n)
 
 -- each modulus divides the product
 pub divides : (n j : ℕ) (ms : List ℕ) → j < n → (k : ℕ) × (range_below n ms ≡ get_or ms j 0 * k)
-unfolding range_below
+unfolding product_below
 divides zero j ms h = absurd (omega arith)
 divides (suc n) j ms h =
     ⊎_elim
@@ -39,7 +31,7 @@ divides (suc n) j ms h =
 -- products grow
 pub grows : (n k : ℕ) (ms : List ℕ) → ((i : ℕ) → i < k → 0 < get_or ms i 0) → n ≤ k
     → range_below n ms ≤ range_below k ms
-unfolding range_below
+unfolding product_below
 grows n zero ms positive h = let e : n ≡ 0 = omega arith in omega (arith, ap (λ i. range_below i ms) e)
 grows n (suc k) ms positive h =
     ⊎_elim
@@ -57,48 +49,6 @@ spread m a b e = omega (arith, div-add-mod a m, div-add-mod b m)
 -- numbers that differ by multiples of m are congruent
 pub gathered : (m a b j k : ℕ) → a + m * j ≡ b + m * k → a % m ≡ b % m
 gathered m a b j k e = sym (add-mul-mod_self_left a m j) ∙ ap (λ n. n % m) e ∙ add-mul-mod_self_left b m k
-
--- a product of numbers with inverses has one
-pub product_unit : (m a b : ℕ) → 0 < m → HasInverse m a → HasInverse m b → HasInverse m (a * b)
-product_unit m a b positive (x, p) (y, q) =
-    let turn : a * b * (x * y) ≡ a * x * (b * y) = omega arith in (
-      (x * y) % m,
-      record {
-        below = mod-lt (x * y) positive;
-        one = mul-mod_second (a * b) (x * y) m ∙ ap (λ n. n % m) turn ∙ mul-mod (a * x) (b * y) m
-            ∙ ap (λ n. (n * (b * y % m)) % m) p.one ∙ ap (λ n. (1 % m * n) % m) q.one ∙ sym (mul-mod 1 1 m);
-      },
-    )
-
--- a factor of a number with an inverse has one
-pub factor_unit : (m a b : ℕ) → 0 < m → HasInverse m (a * b) → HasInverse m a
-factor_unit m a b positive (x, p) =
-    let turn : a * (b * x) ≡ a * b * x = omega arith in (
-      (b * x) % m,
-      record {
-        below = mod-lt (b * x) positive;
-        one = mul-mod_second a (b * x) m ∙ ap (λ n. n % m) turn ∙ p.one;
-      },
-    )
-
--- 1 has an inverse
-pub unit_one : (m : ℕ) → 0 < m → HasInverse m 1
-unit_one m positive = (1 % m, record { below = mod-lt 1 positive; one = mul-mod_second 1 1 m })
-
--- the product of moduli has an inverse modulo m if each of them has one
-pub unit_of_all : (m n : ℕ) (ms : List ℕ) → 0 < m → ((j : ℕ) → j < n → HasInverse m (get_or ms j 0))
-    → HasInverse m (range_below n ms)
-unfolding range_below
-unit_of_all m zero ms positive each = unit_one m positive
-unit_of_all m (suc n) ms positive each =
-    product_unit m _ _ positive (unit_of_all m n ms positive (λ j h. each j (omega arith))) (each n (omega arith))
-
--- if the product of moduli has an inverse modulo m, each of them has one
-pub each_of_unit : (m n j : ℕ) (ms : List ℕ) → 0 < m → HasInverse m (range_below n ms) → j < n
-    → HasInverse m (get_or ms j 0)
-each_of_unit m n j ms positive unit h =
-    let (k, e) = divides n j ms h in
-    factor_unit m (get_or ms j 0) k positive (subst (HasInverse m) e unit)
 
 -- an inversion of n, reduced first, says whether n has an inverse
 pub inversion_tells : {A : Type 0} (its_modulus its_residue : A → ℕ) (m a : ℕ) (found : Option A) (b : Bool)
@@ -161,7 +111,7 @@ pub unit_here : (ms : List ℕ) (n : ℕ) → ((a m : ℕ) → 0 < m → Coprime
 unit_here ms n coprime exists system h =
     let m = get_or ms n 0 in
     let positive : 0 < m = system.positive n h in
-    unit_of_all m n ms positive (λ j l.
+    has_product m n (slice_index ms) positive (λ j l.
     (exists m (get_or ms j 0) positive).1 ((coprime (get_or ms j 0) m positive).0 (system.coprime n j l h)))
 
 -- and the product with it is a word
@@ -169,7 +119,7 @@ pub next_fits : (ms : List ℕ) (n range : ℕ) → range ≡ range_below n ms �
     → range * get_or ms n 0 < 2 ^ 128
 next_fits ms n range e system h =
     let whole : range * get_or ms n 0 ≡ range_below (n + 1) ms =
-    ap (λ k. k * get_or ms n 0) e ∙ sym (product_more n ms) in
+    ap (λ k. k * get_or ms n 0) e ∙ sym (product-more (slice_index ms) n) in
     let most : range_below (n + 1) ms ≤ range_below (length ms) ms =
     grows (n + 1) (length ms) ms system.positive (omega arith) in
     let fits : range_below (length ms) ms < 2 ^ 128 = system.fits in

@@ -1,12 +1,12 @@
 -- Residue number systems (Garner, "The residue number system", IRE Transactions on Electronic
 -- Computers 8, 1959; Knuth, The Art of Computer Programming, volume 2, section 4.3.2).
-use Rattle.std.specs.Prelude.{◌≡◌, ℕ, zero, suc, ◌*◌, ◌%◌, ◌^◌, ◌<◌, List, length, slice_index}
+use Rattle.std.specs.Prelude.{◌≡◌, ℕ, ◌%◌, ◌^◌, ◌<◌, List, length, slice_index}
 use Rattle.modular_word.specs.Divisors.{Coprime}
+use Rattle.modular_ring.specs.Products.{product_below}
 
 -- the range of the first n moduli, which is their product
-unfoldable pub range_below : ℕ → List ℕ → ℕ
-range_below zero moduli = 1
-range_below (suc n) moduli = range_below n moduli * slice_index moduli n
+abbrev pub range_below : ℕ → List ℕ → ℕ
+range_below n moduli = product_below n (slice_index moduli)
 
 -- the range of all moduli: the numbers below it have different residues
 abbrev pub range_of : List ℕ → ℕ

@@ -1,11 +1,12 @@
 -- Remainders modulo a product, seen modulo a factor of it: sums, differences and products of encodings.
-use Rattle.std.proofs.Common.{◌≡◌, ℕ, ◌+◌, ◌*◌, ◌/◌, ◌%◌, ◌<◌, List, get_or, length}
+use Rattle.std.proofs.Common.{◌≡◌, ℕ, ◌+◌, ◌*◌, ◌/◌, ◌%◌, ◌<◌, List, slice_index, get_or, length}
 use Rattle.std.proofs.Common.{sym, ap, ◌∙◌, arith, pos, ◌-ℤ◌, ℤ}
 use Rattle.std.proofs.Math.Nat.{div-add-mod, mod-eq_of_lt, mod-mod, mod-add-mod, add-mod-mod}
 use Rattle.std.proofs.lemmas.Nat.{mul-mod}
 use Rattle.num_modular.specs.Residues.{IsResidue, residue}
 use Rattle.num_modular.specs.Systems.{range_of, IsSystem, AreResidues}
-use Rattle.num_modular.specs.SystemLaws.{divides, grows, keeps, spread, gathered, product_none}
+use Rattle.num_modular.specs.ProductLaws.{product-zero}
+use Rattle.num_modular.specs.SystemLaws.{divides, grows, keeps, spread, gathered}
 
 -- the remainder modulo the range is congruent to the number
 pub remainder_within : (range m k a : ℕ) → range ≡ m * k → a % range % m ≡ a % m
@@ -53,7 +54,7 @@ ArePositive moduli = (i : ℕ) → i < length moduli → 0 < get_or moduli i 0
 -- so their product is
 pub range_positive : (moduli : List ℕ) → ArePositive moduli → 0 < range_of moduli
 range_positive moduli positive =
-    let one = product_none moduli in
+    let one = product-zero (slice_index moduli) in
     let most = grows 0 (length moduli) moduli positive (omega arith) in
     omega (arith, one, most)
 

@@ -1,5 +1,6 @@
 -- Numbers in the mixed radix of moduli: one more digit, an order, and the digit that gives a residue.
-use Rattle.std.proofs.Common.{◌≡◌, ℕ, zero, suc, ◌+◌, ◌*◌, ◌%◌, ◌<◌, ◌↔◌, List, length, get_or, set, arith, sym, ap, subst, ◌∙◌, inl, inr}
+use Rattle.std.proofs.Common.{◌≡◌, ℕ, zero, suc, ◌+◌, ◌*◌, ◌%◌, ◌<◌, ◌↔◌, List, slice_index, length, get_or, set, arith, sym}
+use Rattle.std.proofs.Common.{ap, subst, ◌∙◌, inl, inr}
 use Rattle.std.proofs.Common.{add-one}
 use Rattle.std.proofs.Math.Nat.{mul-le-mul_left, add-mod-mod, mod-add-mod}
 use Rattle.std.proofs.lemmas.Bool.{cases_lt}
@@ -8,7 +9,8 @@ use Rattle.num_modular.specs.Divisors.{Coprime}
 use Rattle.num_modular.specs.Inverses.{HasInverse}
 use Rattle.num_modular.specs.NumberLaws.{sum_below-zero, sum_below-suc, sum_below-same}
 use Rattle.num_modular.specs.Systems.{range_below}
-use Rattle.num_modular.specs.SystemLaws.{product_none, product_more, unit_of_all, within}
+use Rattle.num_modular.specs.ProductLaws.{product-zero, product-more, has_product}
+use Rattle.num_modular.specs.SystemLaws.{within}
 use Rattle.residue_numbers.specs.MixedRadix.{IsCoprimeSystem, mixed_below}
 
 -- one more digit
@@ -43,13 +45,13 @@ mixed_written n d ms ds room =
 -- digits below the moduli denote a number below their product
 pub mixed_within : (n : ℕ) (ms ds : List ℕ) → ((i : ℕ) → i < n → get_or ds i 0 < get_or ms i 0)
     → mixed_below n ms ds < range_below n ms
-mixed_within zero ms ds below = let e = mixed_none ms ds in let f = product_none ms in omega (arith, e, f)
+mixed_within zero ms ds below = let e = mixed_none ms ds in let f = product-zero (slice_index ms) in omega (arith, e, f)
 mixed_within (suc n) ms ds below =
     let one = add-one n in
     let before = mixed_within n ms ds (λ i l. below i (omega arith)) in
     let inside = within (range_below n ms) (get_or ms n 0) (mixed_below n ms ds) (get_or ds n 0) before (below n (omega arith)) in
     let number = ap (λ k. mixed_below k ms ds) (sym one) ∙ mixed_more n ms ds in
-    let range = ap (λ k. range_below k ms) (sym one) ∙ product_more n ms in
+    let range = ap (λ k. range_below k ms) (sym one) ∙ product-more (slice_index ms) n in
     omega (arith, inside, number, range)
 
 -- the first digit from the top that differs decides
@@ -83,7 +85,7 @@ pub unit_at : (ms : List ℕ) (n : ℕ) → ((m a : ℕ) → 0 < m → HasInvers
 unit_at ms n coprime system h =
     let m = get_or ms n 0 in
     let positive : 0 < m = system.positive n h in
-    unit_of_all m n ms positive (λ j l. (coprime m (get_or ms j 0) positive).1 (system.coprime n j l h))
+    has_product m n (slice_index ms) positive (λ j l. (coprime m (get_or ms j 0) positive).1 (system.coprime n j l h))
 
 -- the digit t gives the residue r
 pub digit_gives : (m number range t r v s : ℕ) → v ≡ number % m → (range * t) % m ≡ s % m → (s + v) % m ≡ r % m

@@ -1,5 +1,5 @@
 -- Runs of one list of commands modulo the range and modulo the moduli.
-use Rattle.std.proofs.Common.{◌≡◌, ℕ, zero, suc, ◌+◌, ◌*◌, ◌%◌, ◌^◌, ◌<◌, ◌==◌, if◌then◌else◌, List, Bool}
+use Rattle.std.proofs.Common.{◌≡◌, ℕ, zero, suc, ◌+◌, ◌*◌, ◌%◌, ◌^◌, ◌<◌, ◌==◌, if◌then◌else◌, List, slice_index, Bool}
 use Rattle.std.proofs.Common.{true, false, Option, Some, None, option_map, unwrap_or, IsSomeAnd, get_or}
 use Rattle.std.proofs.Common.{length, map, All, sym, ap, subst, ◌∙◌, refl, arith, pos, neg_ℤ, ◌-ℤ◌, ℤ, ◌↔◌}
 use Rattle.std.specs.List.{slice_get}
@@ -22,7 +22,8 @@ use Rattle.num_modular.specs.Ring.{whole, destination_of, outcome, value_after}
 use Rattle.num_modular.specs.Ring.{value_at, LacksInverse, IsStop, carried_out}
 use Rattle.num_modular.specs.Stops.{inverted_by, NeedsInverse}
 use Rattle.num_modular.specs.Systems.{range_below, range_of, AreResidues}
-use Rattle.num_modular.specs.SystemLaws.{divides, keeps, unit_of_all}
+use Rattle.num_modular.specs.ProductLaws.{has_product}
+use Rattle.num_modular.specs.SystemLaws.{divides, keeps}
 use Rattle.residue_numbers.proofs.Encodings.{remainder_within, sum_within, product_within}
 use Rattle.residue_numbers.proofs.Encodings.{difference_within, range_positive, ArePositive}
 
@@ -151,7 +152,7 @@ unit_above : Laws → (n : ℕ) (moduli : List ℕ) (a : ℕ) → 0 < a → 0 < 
     → ((i : ℕ) → i < n → HasInverse (get_or moduli i 0) a) → HasInverse (range_below n moduli) a
 unit_above laws n moduli a above wide positive each =
     turned laws a (range_below n moduli) above wide
-    (unit_of_all a n moduli above (λ i h. turned laws (get_or moduli i 0) a (positive i h) above (each i h)))
+    (has_product a n (slice_index moduli) above (λ i h. turned laws (get_or moduli i 0) a (positive i h) above (each i h)))
 
 pub unit_of_product : Laws → (n : ℕ) (moduli : List ℕ) (a : ℕ) → 0 < range_below n moduli
     → ((i : ℕ) → i < n → 0 < get_or moduli i 0)

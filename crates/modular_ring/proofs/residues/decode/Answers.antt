@@ -1,15 +1,16 @@
-use Rattle.std.proofs.Common.{◌≡◌, ℕ, ◌+◌, ◌*◌, ◌%◌, ◌<◌, List, length, get_or, arith, ap, sym, subst, ◌∙◌, below_more}
+use Rattle.std.proofs.Common.{◌≡◌, ℕ, ◌+◌, ◌*◌, ◌%◌, ◌<◌, List, slice_index, length, get_or, arith, ap, sym, subst, ◌∙◌, below_more}
 use Rattle.std.proofs.Math.Nat.{mod-eq_of_lt}
 use Rattle.modular_word.specs.Inverses.{HasInverse}
 use Rattle.modular_ring.specs.Systems.{range_below}
-use Rattle.modular_ring.specs.SystemLaws.{product_none, product_more, divides, keeps, within}
+use Rattle.modular_ring.specs.ProductLaws.{product-zero, product-more}
+use Rattle.modular_ring.specs.SystemLaws.{divides, keeps, within}
 use Rattle.modular_ring.specs.SystemLaws.{only_digit, unit_here, next_fits, modulo_one}
 use Rattle.modular_ring.proofs.residues.decode.Goals as goal
 use borrow.Author.Count.{falls}
 
 pub moduli-init : goal.moduli-init
 moduli-init c = record {
-  range = sym (product_none _);
+  range = sym (product-zero _);
   below = omega arith;
   each = λ i h. absurd (omega arith);
   only = λ x h. modulo_one x;
@@ -59,7 +60,7 @@ moduli-preserved c =
     (unit_here ms place c.divisor_laws.ensures.coprime c.inverse_laws.ensures.exists
     c.requires.system c.moduli-test.true) in
     record {
-      range = ap (λ k. k * m) before.range ∙ sym (product_more place ms);
+      range = ap (λ k. k * m) before.range ∙ sym (product-more (slice_index ms) place);
       below = within range m number d before.below digit.below;
       each = below_more (λ i. (number + range * d) % get_or ms i 0 ≡ get_or rs i 0) place
           (λ i h. let (k, e) = divides place i ms h in

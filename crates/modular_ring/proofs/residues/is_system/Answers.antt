@@ -1,10 +1,11 @@
-use Rattle.std.proofs.Common.{◌≡◌, ℕ, ◌*◌, ◌<◌, ◌^◌, List, length, get_or, true, false}
+use Rattle.std.proofs.Common.{◌≡◌, ℕ, ◌*◌, ◌<◌, ◌^◌, List, slice_index, length, get_or, true, false}
 use Rattle.std.proofs.Common.{arith, rules, lit<, ap, sym, subst, ◌∙◌, refl, below_more}
 use Rattle.std.proofs.lemmas.Bool.{false≢true}
 use Rattle.modular_word.specs.Divisors.{Coprime}
 use Rattle.modular_word.specs.Inverses.{HasInverse}
 use Rattle.modular_ring.specs.Systems.{range_below}
-use Rattle.modular_ring.specs.SystemLaws.{product_none, product_more, each_of_unit, unit_here, next_fits}
+use Rattle.modular_ring.specs.ProductLaws.{product-zero, product-more, has_each}
+use Rattle.modular_ring.specs.SystemLaws.{unit_here, next_fits}
 use Rattle.modular_ring.proofs.residues.is_system.Goals as goal
 use Rattle.modular_ring.proofs.residues.is_system.Goals.{then-modulus-eq0-via-then-modulus-eq0}
 use Rattle.modular_ring.proofs.residues.is_system.Goals.{then-modulus-eq0-via-else-modulus-eq0+then-not-has_inverse}
@@ -12,7 +13,7 @@ use borrow.Author.Count.{falls}
 
 pub moduli-init : goal.moduli-init
 moduli-init c = record {
-  range = sym (product_none _);
+  range = sym (product-zero _);
   fits = lit< tt;
   positive = λ i h. absurd (omega arith);
   coprime = λ i j h k. absurd (omega arith);
@@ -54,14 +55,14 @@ moduli-preserved c =
     let found : c.has_inverse.result ≡ true = first_of (search rules, cc) in
     let unit = subst (HasInverse m) c.moduli.invariant.range (c.has_inverse.ensures.0 found) in
     record {
-      range = c.in-Some.ensures.0 ∙ ap (λ k. k * m) c.moduli.invariant.range ∙ sym (product_more place ms);
+      range = c.in-Some.ensures.0 ∙ ap (λ k. k * m) c.moduli.invariant.range ∙ sym (product-more (slice_index ms) place);
       fits = c.in-Some.ensures.1;
       positive = below_more (λ i. 0 < get_or ms i 0) place c.moduli.invariant.positive positive;
       coprime = λ i j h k.
           below_more (λ i. (j : ℕ) → j < i → Coprime (get_or ms j 0) (get_or ms i 0)) place
           (λ i l j h. c.moduli.invariant.coprime i j h l)
           (λ j h. (c.divisor_laws.ensures.coprime (get_or ms j 0) m positive).1
-          ((c.inverse_laws.ensures.exists m (get_or ms j 0) positive).0 (each_of_unit m place j ms positive unit h)))
+          ((c.inverse_laws.ensures.exists m (get_or ms j 0) positive).0 (has_each m place (slice_index ms) unit j h)))
           i k j h;
     }
 

@@ -1,9 +1,10 @@
-use Rattle.std.proofs.Common.{◌≡◌, ℕ, ◌<◌, List, get_or, sym, ◌∙◌, below_more, true, false, Option, Some, None, is_some, MatchOption, ap, not}
+use Rattle.std.proofs.Common.{◌≡◌, ℕ, ◌<◌, List, slice_index, get_or, sym, ◌∙◌, below_more, true, false, Option, Some, None}
+use Rattle.std.proofs.Common.{is_some, MatchOption, ap, not}
 use Rattle.std.proofs.lemmas.Bool.{false≢true}
 use Rattle.num_modular.specs.Divisors.{Coprime}
 use Rattle.num_modular.specs.Inverses.{IsInverse, HasInverse}
 use Rattle.num_modular.specs.Systems.{range_below}
-use Rattle.num_modular.specs.SystemLaws.{each_of_unit}
+use Rattle.num_modular.specs.ProductLaws.{has_each}
 use Rattle.residue_numbers.proofs.MixedRadix.{unit_at}
 use Rattle.residue_numbers.proofs.mixed_radix.is_coprime_system.Goals as goal
 
@@ -41,6 +42,6 @@ moduli-preserved c =
           below_more (λ i. (j : ℕ) → j < i → Coprime (get_or ms j 0) (get_or ms i 0)) place
           (λ i l j h. before.coprime i j h l)
           (λ j h. (c.inverse_laws.ensures.coprime m (get_or ms j 0) positive).0
-          (each_of_unit m place j ms positive (found.0, found.2) h))
+          (has_each m place (slice_index ms) (found.0, found.2) j h))
           i k j h;
     }

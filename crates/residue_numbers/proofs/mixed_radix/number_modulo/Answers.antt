@@ -1,6 +1,6 @@
-use Rattle.std.proofs.Common.{◌≡◌, ℕ, ◌+◌, ◌-◌, ◌*◌, ◌%◌, List, get_or, arith, ap, ◌∙◌}
+use Rattle.std.proofs.Common.{◌≡◌, ℕ, ◌+◌, ◌-◌, ◌*◌, ◌%◌, List, slice_index, get_or, arith, ap, ◌∙◌}
 use Rattle.num_modular.specs.Systems.{range_below}
-use Rattle.num_modular.specs.SystemLaws.{product_none, product_more}
+use Rattle.num_modular.specs.ProductLaws.{product-zero, product-more}
 use Rattle.residue_numbers.specs.MixedRadix.{mixed_below}
 use Rattle.residue_numbers.proofs.MixedRadix.{mixed_none, mixed_more}
 use Rattle.residue_numbers.proofs.Words.{one_lower, one_lower_modulo}
@@ -14,7 +14,7 @@ digits-preserved c =
     let above = c.digits.invariant.above in
     let high : ℕ = above.0 in
     let one : place ≡ next + 1 = omega arith in
-    let range = ap (λ k. range_below k ms) one ∙ product_more next ms in
+    let range = ap (λ k. range_below k ms) one ∙ product-more (slice_index ms) next in
     let number = ap (λ k. mixed_below k ms ds) one ∙ mixed_more next ms ds in
     record {
       within = omega (arith, c.digits.invariant.within);
@@ -34,6 +34,6 @@ returns c =
     let high : ℕ = above.0 in
     let none : c.digits.place ≡ 0 = omega arith in
     let number = ap (λ k. mixed_below k ms ds) none ∙ mixed_none ms ds in
-    let range = ap (λ k. range_below k ms * high) none ∙ ap (λ r. r * high) (product_none ms) in
+    let range = ap (λ k. range_below k ms * high) none ∙ ap (λ r. r * high) (product-zero (slice_index ms)) in
     let whole : high ≡ mixed_below c.args.count ms ds = omega (arith, above.1, number, range) in
     above.2 ∙ ap (λ k. k % c.args.m) whole

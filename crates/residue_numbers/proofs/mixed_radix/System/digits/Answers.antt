@@ -1,8 +1,10 @@
-use Rattle.std.proofs.Common.{◌≡◌, ℕ, ◌+◌, ◌*◌, ◌%◌, ◌<◌, List, length, get_or, set, arith, ap, sym, subst, ◌∙◌, below_more}
+use Rattle.std.proofs.Common.{◌≡◌, ℕ, ◌+◌, ◌*◌, ◌%◌, ◌<◌, List, slice_index, length, get_or, set, arith, ap, sym, subst, ◌∙◌}
+use Rattle.std.proofs.Common.{below_more}
 use Rattle.std.proofs.Math.Nat.{mod-eq_of_lt, mod-lt}
 use Rattle.std.proofs.lemmas.List.{length-set}
 use Rattle.num_modular.specs.Systems.{range_below}
-use Rattle.num_modular.specs.SystemLaws.{product_none, product_more, divides, keeps, only_digit, modulo_one, set_more}
+use Rattle.num_modular.specs.ProductLaws.{product-zero, product-more}
+use Rattle.num_modular.specs.SystemLaws.{divides, keeps, only_digit, modulo_one, set_more}
 use Rattle.residue_numbers.specs.MixedRadix.{mixed_below}
 use Rattle.residue_numbers.proofs.MixedRadix.{mixed_none, mixed_written, mixed_within, digit_gives}
 use Rattle.residue_numbers.proofs.mixed_radix.System.digits.Goals as goal
@@ -14,7 +16,7 @@ moduli-init c =
       entries = c.requires.room;
       below = λ i h. absurd (omega arith);
       each = λ i h. absurd (omega arith);
-      only = λ x h. ap (λ k. x % k) (product_none ms) ∙ modulo_one x ∙ sym (mixed_none ms c.args.digits.now);
+      only = λ x h. ap (λ k. x % k) (product-zero (slice_index ms)) ∙ modulo_one x ∙ sym (mixed_none ms c.args.digits.now);
     }
 
 pub moduli-preserved : goal.moduli-preserved
@@ -53,7 +55,7 @@ moduli-preserved c =
           ap (λ n. n % get_or ms i 0) whole ∙ keeps range (get_or ms i 0) k number t e ∙ before.each i h)
           (ap (λ n. n % m) whole ∙ right ∙ reduced);
       only = λ x h.
-          ap (λ k. x % k) (product_more place ms)
+          ap (λ k. x % k) (product-more (slice_index ms) place)
           ∙ only_digit range m x number t (get_or self.inverses.now place 0, is)
           (before.only x (λ i l. h i (omega arith)))
           (right ∙ reduced ∙ sym (h place (omega arith))) (mixed_within place ms ds before.below) below

@@ -1,6 +1,6 @@
-use Rattle.std.proofs.Common.{◌≡◌, ℕ, ◌+◌, ◌-◌, ◌*◌, List, length, get_or, arith, ap, ◌∙◌}
+use Rattle.std.proofs.Common.{◌≡◌, ℕ, ◌+◌, ◌-◌, ◌*◌, List, slice_index, length, get_or, arith, ap, ◌∙◌}
 use Rattle.num_modular.specs.Systems.{range_below, range_of}
-use Rattle.num_modular.specs.SystemLaws.{product_none, product_more}
+use Rattle.num_modular.specs.ProductLaws.{product-zero, product-more}
 use Rattle.residue_numbers.specs.MixedRadix.{mixed_below, mixed_number}
 use Rattle.residue_numbers.proofs.MixedRadix.{mixed_none, mixed_more, mixed_within}
 use Rattle.residue_numbers.proofs.Signs.{half_more, sign_here, sign_even, sign_none}
@@ -13,7 +13,7 @@ number_more ms ds place next one = ap (λ k. mixed_below k ms ds) one ∙ mixed_
 
 range_more : (ms : List ℕ) (place next : ℕ) → place ≡ next + 1
     → range_below place ms ≡ range_below next ms * get_or ms next 0
-range_more ms place next one = ap (λ k. range_below k ms) one ∙ product_more next ms
+range_more ms place next one = ap (λ k. range_below k ms) one ∙ product-more (slice_index ms) next
 
 pub returns-then-digits-place : goal.returns-then-digits-place
 returns-then-digits-place c =
@@ -55,4 +55,4 @@ returns c =
     let none : c.digits.place ≡ 0 = omega arith in
     sign_none (mixed_number ms ds) (mixed_below c.digits.place ms ds) (range_below c.digits.place ms) (range_of ms)
     c.digits.invariant.halves (ap (λ k. mixed_below k ms ds) none ∙ mixed_none ms ds)
-    (ap (λ k. range_below k ms) none ∙ product_none ms)
+    (ap (λ k. range_below k ms) none ∙ product-zero (slice_index ms))
