@@ -3,7 +3,6 @@ use Rattle.std.proofs.Common.{◌≡◌, ◌≢◌, ℕ, zero, suc, ◌+◌, ◌
 use Rattle.std.proofs.Common.{List, [], ◌∷◌, ◌++◌, length, sym, ap, ◌∙◌, refl, arith, ⊎_elim}
 use Rattle.std.proofs.Common.{add-one, length-append, subst, All}
 use Rattle.std.proofs.Math.ListN.{get_or-append}
-use Rattle.std.proofs.Math.Seq.{get_or-append_seam}
 use Rattle.std.proofs.lemmas.List.Elements.{All-append, All-cons, All-nil}
 use Rattle.std.proofs.lemmas.Bool.{cases_lt}
 use Rattle.check_digits.specs.States.{state_after}
@@ -104,10 +103,6 @@ one_more word s = let e = length-append word (s ∷ []) in omega (arith, e)
 pub all_front : (word : List ℕ) (s : ℕ) → All (λ d. d ≤ 9) (word ++ s ∷ []) → All (λ d. d ≤ 9) word
 all_front word s all i d l =
     subst (λ n. n ≤ 9) (get_or-append word (s ∷ []) d i l) (all i d (omega (arith, one_more word s, l)))
-
-pub all_end : (word : List ℕ) (s : ℕ) → All (λ d. d ≤ 9) (word ++ s ∷ []) → s ≤ 9
-all_end word s all =
-    subst (λ n. n ≤ 9) (get_or-append_seam word s [] 0) (all (length word) 0 (omega (arith, one_more word s)))
 
 pub all_more : (word : List ℕ) (s : ℕ) → All (λ d. d ≤ 9) word → s ≤ 9 → All (λ d. d ≤ 9) (word ++ s ∷ [])
 all_more word s all most = All-append (λ d. d ≤ 9) word (s ∷ []) all (All-cons (λ d. d ≤ 9) s [] most (All-nil (λ d. d ≤ 9)))

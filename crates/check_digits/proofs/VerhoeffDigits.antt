@@ -102,10 +102,6 @@ verhoeff_distinguishes first = record {
       (ap (dihedral (dihedral c a)) (sym (image_step first i e)) ∙ same ∙ ap (dihedral (dihedral c b)) (image_step first i d)));
 }
 
--- the digits of a word by their places
-abbrev pub from_last : List ℕ → ℕ → ℕ
-from_last word j = get_or word (length word - 1 - j) 0
-
 digit_at : (word : List ℕ) → All (λ d. d ≤ 9) word → (n : ℕ) → length word ≡ n → (j : ℕ) → j < n
     → get_or word (n - 1 - j) 0 ≤ 9
 digit_at word all n count j l = all (n - 1 - j) 0 (omega (arith, count))

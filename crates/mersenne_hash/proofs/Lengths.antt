@@ -1,6 +1,6 @@
 -- Texts behind a symbol 1, with zeros in front up to one length: they tell where the text begins.
 use Rattle.std.proofs.Common.{◌≡◌, ℕ, suc, ◌+◌, ◌%◌, ◌<◌, List, ◌∷◌, ◌++◌, length, get_or, All}
-use Rattle.std.proofs.Common.{replicate, arith, ap, sym, ◌∙◌, inl, inr, length-append}
+use Rattle.std.proofs.Common.{replicate, arith, ap, sym, ◌∙◌, inl, inr}
 use Rattle.std.proofs.lemmas.Bool.{cases_eq, cases_lt}
 use Rattle.std.proofs.Math.ListN.{get_or-append}
 use Rattle.std.proofs.Math.Nat.{mod-eq_of_lt}
@@ -9,9 +9,6 @@ use Rattle.std.proofs.lemmas.List.{ext_get_or, length-replicate, get_or-replicat
 -- the text behind a symbol 1, which stands at the place d
 abbrev pub marked : ℕ → List ℕ → List ℕ
 marked d text = replicate d 0 ++ 1 ∷ text
-
-pub length_marked : (d : ℕ) (text : List ℕ) → length (marked d text) ≡ d + suc (length text)
-length_marked d text = length-append (replicate d 0) (1 ∷ text) ∙ ap (λ n. n + suc (length text)) (length-replicate d 0)
 
 -- what stands behind the zeros
 at_mark : (d : ℕ) (text : List ℕ) (i : ℕ) → get_or (marked d text) (d + i) 0 ≡ get_or (1 ∷ text) i 0

@@ -103,10 +103,6 @@ fours_more R first q i x y z within done step = record {
   after = λ k l. step.kept k (omega arith) (omega arith) (omega arith) (omega arith) ∙ done.after k l;
 }
 
-pub fours_all : {R : ℕ → ℕ → ℕ → ℕ → ℕ → ℕ → ℕ → ℕ → Type 0} {first q i : ℕ} {x y : ℕ → ℕ}
-    → BlockOfFours R first q i x y → i ≡ q → BlockOfFours R first q q x y
-fours_all {R} {first} {q} {i} {x} {y} done e = subst (λ n. BlockOfFours R first q n x y) e done
-
 -- a block of what follows
 pub block_mapped : {R S : ℕ → ℕ → ℕ → ℕ → ℕ → ℕ → ℕ → ℕ → Type 0} {first q : ℕ} {x y : ℕ → ℕ}
     → ((a b c d a' b' c' d' : ℕ) → R a b c d a' b' c' d' → S a b c d a' b' c' d') → BlockOfFours R first q q x y

@@ -1,5 +1,5 @@
 -- A convolution by three transforms: each entry at the end, and the inverse of the length.
-use Rattle.std.proofs.Common.{◌≡◌, ℕ, suc, zero, ◌+◌, ◌*◌, ◌%◌, ◌/◌, ◌^◌, ◌<◌, All, List}
+use Rattle.std.proofs.Common.{◌≡◌, ℕ, suc, zero, ◌+◌, ◌*◌, ◌%◌, ◌/◌, ◌^◌, ◌<◌, List}
 use Rattle.std.proofs.Common.{length, get_or, sym, ◌∙◌, ap, refl, arith, subst, inl, inr}
 use Rattle.std.proofs.lemmas.Nat.{mod_below}
 use Rattle.std.proofs.lemmas.Bool.{cases_eq}
@@ -7,7 +7,7 @@ use Rattle.std.proofs.Math.Nat.{two-pow-succ, zero-mod, mod-eq_of_lt}
 use Rattle.std.specs.Int.{IsPowerOfTwo, trailing_zeros, w64}
 use Rattle.modular_transform.proofs.PowersOfTwo.{power_by_zeros}
 use Rattle.modular_word.specs.Inverses.{IsInverse}
-use Rattle.modular_reduced.specs.Forms.{Represents, IsForm, IsCanonical}
+use Rattle.modular_reduced.specs.Forms.{Represents, IsCanonical}
 use Rattle.modular_transform.specs.Transforms.{transform, cyclic_product, Suits}
 use Rattle.modular_word.specs.Congruence.{Congruent}
 use Rattle.modular_transform.specs.Orders.{IsReordered, mirrored}
@@ -85,16 +85,6 @@ pub reordered_value : {T : Type 0} (number : T → ℕ) (value : ℕ → ℕ →
 reordered_value number value m i d s old new reordered l l_new l_s =
     sym (entry_at number value m new i d l_new) ∙ ap (λ f. value m (number f)) (reordered.each i d l)
     ∙ entry_at number value m old (s i) d l_s
-
--- the forms of the mirrored list are those of the list
-pub mirrored_forms : {T : Type 0} (number : T → ℕ) (form value : ℕ → ℕ → ℕ) (m : ℕ) (old new : List T)
-    → IsReordered (mirrored (length old)) old new
-    → length new ≡ length old → All (λ f. IsForm form value m (number f)) old
-    → All (λ f. IsForm form value m (number f)) new
-mirrored_forms number form value m old new reordered same all i d l =
-    let l_old : i < length old = omega arith in
-    subst (λ f. IsForm form value m (number f)) (sym (reordered.each i d l_old))
-    (all (mirrored (length old) i) d (mirrored_place (length old) i l_old).image)
 
 -- the lists on the way from xs and ys to their cyclic product
 pub convolution_end : {T : Type 0} (number : T → ℕ) (form value : ℕ → ℕ → ℕ) (width m g n part : ℕ)

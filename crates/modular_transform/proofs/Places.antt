@@ -10,9 +10,6 @@ pub stage_offset : (size : ℕ) {i z n : ℕ} → i < z → n ≡ 2 ^ z → n * 
 stage_offset size {i} {z} {n} within whole room =
     let many = below_power z in scaled_Fits i n size (omega (arith, many, within, whole)) room
 
-pub below_limit : {i n limit : ℕ} → i < n → n ≤ limit → i < limit
-below_limit within few = omega arith
-
 -- two stages are left where one is, since their number is even
 pub two_left : {done z : ℕ} → (z - done) % 2 ≡ 0 → done < z → done + 2 ≤ z
 two_left even more = omega (arith, even, more)

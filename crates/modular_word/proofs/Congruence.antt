@@ -114,11 +114,6 @@ mod_add_cancel {m = suc m} {a} {b} c h = record { same = same_without (suc m) a 
 pub mod_mul_cancel : {m a b : ℕ} (c j : ℕ) → Congruent m (c * j) 1 → Congruent m (a * c) (b * c) → Congruent m a b
 mod_mul_cancel {m} {a} {b} c j u h = record { same = same_without_unit m a b c j u.same h.same }
 
--- what is congruent modulo a multiple of m is congruent modulo m
-pub modulo_divisor : {m a b : ℕ} (q : ℕ) → Congruent (m * q) a b → Congruent m a b
-modulo_divisor {m} {a} {b} q h =
-    record { same = sym (mod_of_multiple m q a) ∙ ap (λ v. v % m) h.same ∙ mod_of_multiple m q b }
-
 -- numbers below m that are congruent are equal
 pub equal_below : {m a b : ℕ} → a < m → b < m → Congruent m a b → a ≡ b
 equal_below {m} {a} {b} p q h = sym (mod-eq_of_lt p) ∙ h.same ∙ mod-eq_of_lt q

@@ -5,7 +5,7 @@ use Rattle.std.proofs.Math.Nat.{mul-le-mul_left}
 use Rattle.std.proofs.lemmas.Bool.{cases_lt, lt-ltb, le-ltb, ltb-true, false≢true}
 use Rattle.std.proofs.Math.Bool.{beq}
 use Rattle.std.proofs.Math.Dec.{ltb}
-use Rattle.std.proofs.lemmas.Int.{ints, by_lt_z}
+use Rattle.std.proofs.lemmas.Int.{ints}
 use Rattle.std.specs.Ordering.{MatchOrdering}
 use Rattle.std.specs.declared.cmp.Ordering.{Ordering}
 use Rattle.std.specs.declared.cmp.Ordering.TheVariants.{Less, Equal, Greater}
@@ -46,12 +46,6 @@ high_of_negative range x negative = elim (cases_lt (2 * x) range) [
   | inl low ↦ let e = signed_low range x low in absurd (omega (arith, ints, e, negative))
   | inr high ↦ high
 ]
-
--- a number that represents a negative one is below one that doesn't
-pub less_of_signs : (range x y : ℕ) → signed_number range x <ℤ pos 0 → (signed_number range y <ℤ pos 0 → ⊥)
-    → signed_number range x <ℤ signed_number range y
-less_of_signs range x y negative other = by_lt_z (signed_number range y) (pos 0) (λ wrong. absurd (other wrong))
-    (λ h. omega (arith, ints, h, negative))
 
 same_bool : (l r : Bool) → beq l r ≡ true → l ≡ r
 same_bool true true e = refl

@@ -18,10 +18,6 @@ second_more v w = omega arith
 pub weights_first : (k : ℕ) → 1 ≤ k → 0 + (k - 1) + 1 ≤ 0 + k
 weights_first k some = omega arith
 
--- the numerator has a coefficient where the locator has one
-pub some_numerator : (c d k : ℕ) → 0 < d → d + k ≡ c + 1 → 1 ≤ k → 0 < c
-some_numerator c d k some lengths positive = omega arith
-
 pub few_before : (v w i k n : ℕ) → v + w + 1 ≤ i + k → i < n → n + k < 2 ^ 64 → v + w + 1 < 2 ^ 64
 few_before v w i k n weights before few = omega arith
 

@@ -217,13 +217,6 @@ row_within j n k i l b =
     let one : suc j * k ≡ j * k + k = omega arith in
     omega (arith, most, one, b)
 
--- and the whole row
-pub row_inside : (j n k : ℕ) → j < n → j * k + k ≤ n * k
-row_inside j n k l =
-    let most : suc j * k ≤ n * k = mul-le-mul_right k l in
-    let one : suc j * k ≡ j * k + k = omega arith in
-    omega (arith, most, one)
-
 -- whether there is an inverse is decided by trying each number
 tried_below : (m a b : ℕ) → b ≤ m → HasInverse m a ⊎ ((x : ℕ) → x < b → IsInverse m a x → ⊥)
 tried_below m a zero l = inr (λ x below is. absurd (omega arith))
