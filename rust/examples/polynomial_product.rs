@@ -1,6 +1,6 @@
 //! The product of two polynomials modulo the prime 119·2^23 + 1, by a plan: one table serves both transforms.
 
-use num_modular::plans::{convolve_planned, fill_table, Factor, PlannedModulus};
+use num_modular::plans::{Factor, Plan, PlannedModulus};
 use num_modular::ring::find_root;
 use num_modular::{Reducer, Vanilla};
 
@@ -12,11 +12,11 @@ fn product(x: &[u32], y: &[u32]) -> Vec<u32> {
     let root = find_root(&Vanilla::<u32>::new(&PRIME), n).expect("n divides the prime less 1");
     let modulus = PlannedModulus::<u32>::new(PRIME);
     let mut table = vec![Factor::ZERO; n / 2];
-    fill_table(&modulus, root, &mut table);
+    let plan = Plan::new(&modulus, root, &mut table).expect("the root suits n, and the modulus is odd");
     let (mut xs, mut ys) = (x.to_vec(), y.to_vec());
     xs.resize(n, 0);
     ys.resize(n, 0);
-    assert!(convolve_planned(&modulus, &mut xs, &mut ys, &table, 1));
+    plan.convolve(&mut xs, &mut ys);
     xs.truncate(places);
     xs
 }
