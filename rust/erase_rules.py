@@ -165,6 +165,8 @@ OF_PLACES = {  # by crate or file
         "match weight.inv() {\n        Some(inverse) => ((known.convert(residue) - known) * inverse).residue(),\n"
         "        None => unreachable!(),\n    }",
     ),),
+    # rustdoc shows no docs of what a public module exports of another one
+    "ring": tuple((f"pub use crate :: {it} ::", f"#[doc(inline)]\npub use crate::{it}::") for it in ("commands", "transforms")),
     "split": constant("splits"),
     "convolution": constant("convolves"),
     "standards": constant("standard_codes"),
