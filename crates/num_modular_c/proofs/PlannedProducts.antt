@@ -5,7 +5,7 @@ use Rattle.modular_plan_passes.specs.Plans.{constant}
 use Rattle.modular_plan_transforms.specs.Products.{product_modulo}
 use Rattle.modular_plan_transforms.proofs.Convolutions.{cyclic, negacyclic}
 use Rattle.num_modular.specs.Transforms.{cyclic_product}
-use Rattle.num_modular_c.specs.Plans.{IsPair, HasTwiddles, IsPlannedProduct}
+use Rattle.num_modular_c.specs.Plans.{FitPlannedProduct, HasTwiddles, IsPlannedProduct}
 use Rattle.num_modular_c.specs.declared.plans.NmFactor.{NmFactor}
 
 as_other : {m b last : ℕ} {table : List NmFactor} {p q : ℕ → ℕ → ℕ → ℕ} {others words new_others : List ℕ}
@@ -32,7 +32,7 @@ some_factor k factors some within = omega (arith, some, within)
 
 pub as_negacyclic : (n : ℕ) (x y : ℕ → ℕ) {m last : ℕ} {table : List NmFactor}
     {lefts rights others words new_others : List ℕ}
-    → IsPair m (length table) 1 last lefts rights
+    → FitPlannedProduct m (length table) 1 last lefts rights
     → IsPlannedProduct m 1 last table (λ g z e. product_modulo m n (constant g z 1) x y e) others words new_others
     → IsPlannedProduct m 1 last table (λ g z e. product_modulo m n (m - 1) x y e) others words new_others
 as_negacyclic n x y {last = last} {table} {lefts} pair is =

@@ -82,7 +82,7 @@ pub record AreJoined (m b last times : ℕ) (table : List NmFactor) (before afte
 
 -- two lists of equal length of words below 4m; so many factors suffice for their product as block b, by blocks of
 -- `last`
-pub record IsPair (m factors b last : ℕ) (words others : List ℕ) : Type 0 where
+pub record FitPlannedProduct (m factors b last : ℕ) (words others : List ℕ) : Type 0 where
   pub admitted : IsAdmitted m
   pub room : AreBelow (4 * m) words
   pub other_room : AreBelow (4 * m) others

@@ -5,8 +5,8 @@ ghost use Rattle.modular_plan_transforms.specs.Products.{product_modulo};
 ghost use Rattle.num_modular.specs.Inverses.{HasInverse};
 ghost use Rattle.num_modular.specs.Transforms.{Suits, cyclic_product};
 ghost use Rattle.num_modular_c.specs.Codes.{Did, Refused, BothRefused};
-ghost use Rattle.num_modular_c.specs.Plans.{words_of, AreFactors, AreJoined, AreSplit, IsAdmitted, IsMade, IsPair};
-ghost use Rattle.num_modular_c.specs.Plans.{IsPlannedProduct, IsSplit, IsTable, IsTransformed, IsTransformedBack};
+ghost use Rattle.num_modular_c.specs.Plans.{words_of, AreFactors, AreJoined, AreSplit, FitPlannedProduct, IsAdmitted};
+ghost use Rattle.num_modular_c.specs.Plans.{IsMade, IsPlannedProduct, IsSplit, IsTable, IsTransformed, IsTransformedBack};
 
 use crate::codes::{NM_BAD_ARGUMENT, NM_BAD_CONTEXT, NM_NO_INVERSE, NM_NO_ROOT, NM_OK};
 use crate::planned::{is_pair, is_split, product_code};
@@ -175,12 +175,12 @@ pub extern "C" fn nm_plan_join(plan: &NmPlan, xs: &mut [u64], b: usize, last: us
 pub extern "C" fn nm_plan_convolve(plan: &NmPlan, xs: &mut [u64], ys: &mut [u64]) -> u32
     requires { AreFactors plan.now.modulus plan.now.table.now }
     ensures did { let m = plan.now.modulus in let table = plan.now.table.now in let n = length xs.old in
-        IsPair m (length table) 0 1 xs.old ys.old → HasInverse m n → Did result (IsPlannedProduct m 0 1 table
+        FitPlannedProduct m (length table) 0 1 xs.old ys.old → HasInverse m n → Did result (IsPlannedProduct m 0 1 table
         (λ g z e. cyclic_product m n (words_of xs.old) (words_of ys.old) e) ys.old xs.new ys.new) }
     ensures no_inverse { let m = plan.now.modulus in
-        IsPair m (length plan.now.table.now) 0 1 xs.old ys.old → (HasInverse m (length xs.old) → ⊥)
+        FitPlannedProduct m (length plan.now.table.now) 0 1 xs.old ys.old → (HasInverse m (length xs.old) → ⊥)
         → BothRefused NM_NO_INVERSE result xs.old xs.new ys.old ys.new }
-    ensures bad_argument { (IsPair plan.now.modulus (length plan.now.table.now) 0 1 xs.old ys.old → ⊥)
+    ensures bad_argument { (FitPlannedProduct plan.now.modulus (length plan.now.table.now) 0 1 xs.old ys.old → ⊥)
         → BothRefused NM_BAD_ARGUMENT result xs.old xs.new ys.old ys.new }
 {
     if !is_pair(plan.modulus, xs, ys, plan.table.len(), 0, 1) {
@@ -196,12 +196,13 @@ pub extern "C" fn nm_plan_convolve(plan: &NmPlan, xs: &mut [u64], ys: &mut [u64]
 pub extern "C" fn nm_plan_convolve_negacyclic(plan: &NmPlan, xs: &mut [u64], ys: &mut [u64]) -> u32
     requires { AreFactors plan.now.modulus plan.now.table.now }
     ensures did { let m = plan.now.modulus in let table = plan.now.table.now in let n = length xs.old in
-        IsPair m (length table) 1 2 xs.old ys.old → HasInverse m (n / 2) → Did result (IsPlannedProduct m 1 2 table
+        FitPlannedProduct m (length table) 1 2 xs.old ys.old → HasInverse m (n / 2)
+        → Did result (IsPlannedProduct m 1 2 table
         (λ g z e. product_modulo m n (m - 1) (words_of xs.old) (words_of ys.old) e) ys.old xs.new ys.new) }
     ensures no_inverse { let m = plan.now.modulus in
-        IsPair m (length plan.now.table.now) 1 2 xs.old ys.old → (HasInverse m (length xs.old / 2) → ⊥)
+        FitPlannedProduct m (length plan.now.table.now) 1 2 xs.old ys.old → (HasInverse m (length xs.old / 2) → ⊥)
         → BothRefused NM_NO_INVERSE result xs.old xs.new ys.old ys.new }
-    ensures bad_argument { (IsPair plan.now.modulus (length plan.now.table.now) 1 2 xs.old ys.old → ⊥)
+    ensures bad_argument { (FitPlannedProduct plan.now.modulus (length plan.now.table.now) 1 2 xs.old ys.old → ⊥)
         → BothRefused NM_BAD_ARGUMENT result xs.old xs.new ys.old ys.new }
 {
     if !is_pair(plan.modulus, xs, ys, plan.table.len(), 1, 2) {

@@ -7,7 +7,7 @@ ghost use Rattle.num_modular.specs.Inverses.{HasInverse};
 ghost use Rattle.num_modular.specs.Transforms.{cyclic_product};
 ghost use Rattle.num_modular_c.specs.Codes.{Did, Refused, BothRefused};
 ghost use Rattle.num_modular_c.specs.Plans.{words_of, AreBelow, AreFactors, AreSplit, AreJoined};
-ghost use Rattle.num_modular_c.specs.Plans.{IsSplit, IsPair, IsPlannedProduct, IsTransformed};
+ghost use Rattle.num_modular_c.specs.Plans.{IsSplit, FitPlannedProduct, IsPlannedProduct, IsTransformed};
 
 use crate::codes::{NM_BAD_ARGUMENT, NM_BAD_CONTEXT, NM_NO_INVERSE, NM_OK};
 use crate::plans::NmFactor;
@@ -122,7 +122,7 @@ pub extern "C" fn nm_join(m: u64, xs: &mut [u64], table: &[NmFactor], b: usize, 
 
 // Whether `nm_convolve_planned` and `nm_convolve_negacyclic` accept two lists as block b.
 pub(crate) fn is_pair(m: u64, xs: &[u64], ys: &[u64], factors: usize, b: usize, last: usize) -> bool
-    ensures { IsTrue result ↔ IsPair m factors b last xs.now ys.now }
+    ensures { IsTrue result ↔ FitPlannedProduct m factors b last xs.now ys.now }
 {
     if !PlannedModulus::<u64>::admits(m) {
         return false;
@@ -136,11 +136,11 @@ pub(crate) fn is_pair(m: u64, xs: &[u64], ys: &[u64], factors: usize, b: usize, 
 
 // The code of a product by a table, by what it tests before it works.
 fn pair_code(m: u64, xs: &[u64], ys: &[u64], table: &[NmFactor], b: usize, last: usize) -> u32
-    ensures fits { let admitted = IsPair m (length table.now) b last xs.now ys.now in
+    ensures fits { let admitted = FitPlannedProduct m (length table.now) b last xs.now ys.now in
         (result ≡ NM_OK) ↔ (admitted × AreFactors m table.now) }
-    ensures bad_context { IsPair m (length table.now) b last xs.now ys.now → (AreFactors m table.now → ⊥)
+    ensures bad_context { FitPlannedProduct m (length table.now) b last xs.now ys.now → (AreFactors m table.now → ⊥)
         → result ≡ NM_BAD_CONTEXT }
-    ensures bad_argument { (IsPair m (length table.now) b last xs.now ys.now → ⊥) → result ≡ NM_BAD_ARGUMENT }
+    ensures bad_argument { (FitPlannedProduct m (length table.now) b last xs.now ys.now → ⊥) → result ≡ NM_BAD_ARGUMENT }
 {
     if !is_pair(m, xs, ys, table.len(), b, last) {
         return NM_BAD_ARGUMENT;
@@ -161,7 +161,7 @@ pub(crate) fn product_code(
     b: usize,
     last: usize,
 ) -> u32
-    requires pair { IsPair m (length table.now) b last xs.old ys.old }
+    requires pair { FitPlannedProduct m (length table.now) b last xs.old ys.old }
     requires factors { AreFactors m table.now }
     ensures did { let n = length xs.old in HasInverse m (n / last) → Did result (IsPlannedProduct m b last table.now
         (λ g z e. product_modulo m n (constant g z b) (words_of xs.old) (words_of ys.old) e) ys.old xs.new ys.new) }
@@ -190,15 +190,15 @@ pub extern "C" fn nm_convolve_planned(
     last: usize,
 ) -> u32
     ensures did { let n = length xs.old in
-        IsPair m (length table.now) 0 last xs.old ys.old → AreFactors m table.now → HasInverse m (n / last)
+        FitPlannedProduct m (length table.now) 0 last xs.old ys.old → AreFactors m table.now → HasInverse m (n / last)
         → Did result (IsPlannedProduct m 0 last table.now
         (λ g z e. cyclic_product m n (words_of xs.old) (words_of ys.old) e) ys.old xs.new ys.new) }
-    ensures no_inverse { IsPair m (length table.now) 0 last xs.old ys.old → AreFactors m table.now
+    ensures no_inverse { FitPlannedProduct m (length table.now) 0 last xs.old ys.old → AreFactors m table.now
         → (HasInverse m (length xs.old / last) → ⊥)
         → BothRefused NM_NO_INVERSE result xs.old xs.new ys.old ys.new }
-    ensures bad_context { IsPair m (length table.now) 0 last xs.old ys.old → (AreFactors m table.now → ⊥)
+    ensures bad_context { FitPlannedProduct m (length table.now) 0 last xs.old ys.old → (AreFactors m table.now → ⊥)
         → BothRefused NM_BAD_CONTEXT result xs.old xs.new ys.old ys.new }
-    ensures bad_argument { (IsPair m (length table.now) 0 last xs.old ys.old → ⊥)
+    ensures bad_argument { (FitPlannedProduct m (length table.now) 0 last xs.old ys.old → ⊥)
         → BothRefused NM_BAD_ARGUMENT result xs.old xs.new ys.old ys.new }
 {
     let code = pair_code(m, xs, ys, table, 0, last);
@@ -220,15 +220,15 @@ pub extern "C" fn nm_convolve_negacyclic(
     last: usize,
 ) -> u32
     ensures did { let n = length xs.old in
-        IsPair m (length table.now) 1 last xs.old ys.old → AreFactors m table.now → HasInverse m (n / last)
+        FitPlannedProduct m (length table.now) 1 last xs.old ys.old → AreFactors m table.now → HasInverse m (n / last)
         → Did result (IsPlannedProduct m 1 last table.now
         (λ g z e. product_modulo m n (m - 1) (words_of xs.old) (words_of ys.old) e) ys.old xs.new ys.new) }
-    ensures no_inverse { IsPair m (length table.now) 1 last xs.old ys.old → AreFactors m table.now
+    ensures no_inverse { FitPlannedProduct m (length table.now) 1 last xs.old ys.old → AreFactors m table.now
         → (HasInverse m (length xs.old / last) → ⊥)
         → BothRefused NM_NO_INVERSE result xs.old xs.new ys.old ys.new }
-    ensures bad_context { IsPair m (length table.now) 1 last xs.old ys.old → (AreFactors m table.now → ⊥)
+    ensures bad_context { FitPlannedProduct m (length table.now) 1 last xs.old ys.old → (AreFactors m table.now → ⊥)
         → BothRefused NM_BAD_CONTEXT result xs.old xs.new ys.old ys.new }
-    ensures bad_argument { (IsPair m (length table.now) 1 last xs.old ys.old → ⊥)
+    ensures bad_argument { (FitPlannedProduct m (length table.now) 1 last xs.old ys.old → ⊥)
         → BothRefused NM_BAD_ARGUMENT result xs.old xs.new ys.old ys.new }
 {
     let code = pair_code(m, xs, ys, table, 1, last);
