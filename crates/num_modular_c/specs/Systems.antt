@@ -4,7 +4,7 @@ use Rattle.num_modular.specs.Systems.{IsSystem, AreResidues, range_of}
 use Rattle.residue_numbers.specs.MixedRadix.{IsCoprimeSystem}
 
 -- the moduli are a system, and each residue is below its modulus
-pub record IsEncoding (moduli residues : List ℕ) : Type 0 where
+pub record AreReducedResidues (moduli residues : List ℕ) : Type 0 where
   pub count : length moduli ≡ length residues
   pub system : IsSystem moduli
   pub reduced : (i : ℕ) → i < length moduli → slice_index residues i < slice_index moduli i
@@ -20,7 +20,7 @@ abbrev pub ArePositive : List ℕ → Type 0
 ArePositive moduli = (i : ℕ) → i < length moduli → 0 < slice_index moduli i
 
 -- the moduli are coprime in pairs, and each has a residue below it; their product may be of any size
-pub record IsLongEncoding (moduli residues : List ℕ) : Type 0 where
+pub record AreLongReducedResidues (moduli residues : List ℕ) : Type 0 where
   pub count : length residues ≡ length moduli
   pub reduced : (i : ℕ) → i < length moduli → slice_index residues i < slice_index moduli i
   pub coprime : IsCoprimeSystem moduli

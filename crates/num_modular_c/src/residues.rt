@@ -4,7 +4,7 @@ ghost use Rattle.std.specs.Prelude.{◌≡◌, ℕ, ◌%◌, ◌<◌, ◌≤◌,
 ghost use Rattle.num_modular.specs.Systems.{AreResidues, range_of};
 ghost use Rattle.residue_numbers.specs.MixedRadix.{number_of_words, mixed_number, AreDigits};
 ghost use Rattle.num_modular_c.specs.Codes.{Did, Refused, BothRefused};
-ghost use Rattle.num_modular_c.specs.Systems.{IsDecoded, ArePositive, IsLongEncoding, HasDigitRoom};
+ghost use Rattle.num_modular_c.specs.Systems.{IsDecoded, ArePositive, AreLongReducedResidues, HasDigitRoom};
 
 use crate::codes::{NM_BAD_ARGUMENT, NM_OK};
 use num_modular::residues::are_reduced;
@@ -66,7 +66,7 @@ pub extern "C" fn nm_residues_encode(moduli: &[u64], words: &[u64], residues: &m
 
 // Whether residues represent a number: the moduli are coprime in pairs, and each has a residue below it.
 fn is_long_encoding(moduli: &[u64], residues: &[u64]) -> bool
-    ensures { IsTrue result ↔ IsLongEncoding moduli.now residues.now }
+    ensures { IsTrue result ↔ AreLongReducedResidues moduli.now residues.now }
 {
     residues.len() == moduli.len() && are_reduced(moduli, residues) && is_coprime_system(moduli)
 }
@@ -80,7 +80,7 @@ fn decode_long(
     digits: &mut [u64],
     inverses: &mut [u64],
 )
-    requires encoding { IsLongEncoding moduli.now residues.now }
+    requires encoding { AreLongReducedResidues moduli.now residues.now }
     requires words { length moduli.now ≤ length words.old }
     requires room { HasDigitRoom (length moduli.now) (length digits.old) (length inverses.old) }
     ensures number { IsDecoded moduli.now residues.now (number_of_words words.new) }
@@ -109,11 +109,11 @@ pub extern "C" fn nm_residues_decode(
     digits: &mut [u64],
     inverses: &mut [u64],
 ) -> u32
-    ensures did { IsLongEncoding moduli.now residues.now → length moduli.now ≤ length words.old
+    ensures did { AreLongReducedResidues moduli.now residues.now → length moduli.now ≤ length words.old
         → HasDigitRoom (length moduli.now) (length digits.old) (length inverses.old)
         → Did result (IsDecoded moduli.now residues.now (number_of_words words.new) × AreDigits moduli.now digits.new
         × (mixed_number moduli.now digits.new ≡ number_of_words words.new)) }
-    ensures bad_argument { (IsLongEncoding moduli.now residues.now → length moduli.now ≤ length words.old
+    ensures bad_argument { (AreLongReducedResidues moduli.now residues.now → length moduli.now ≤ length words.old
         → HasDigitRoom (length moduli.now) (length digits.old) (length inverses.old) → ⊥)
         → BothRefused NM_BAD_ARGUMENT result words.old words.new digits.old digits.new
         × (inverses.new ≡ inverses.old) }
@@ -140,7 +140,7 @@ fn extend_long(
     digits: &mut [u64],
     inverses: &mut [u64],
 )
-    requires encoding { IsLongEncoding moduli.now residues.now }
+    requires encoding { AreLongReducedResidues moduli.now residues.now }
     requires positive { ArePositive others.now }
     requires places { length extended.old ≡ length others.now }
     requires room { HasDigitRoom (length moduli.now) (length digits.old) (length inverses.old) }
@@ -166,11 +166,11 @@ pub extern "C" fn nm_residues_extend(
     digits: &mut [u64],
     inverses: &mut [u64],
 ) -> u32
-    ensures did { IsLongEncoding moduli.now residues.now → ArePositive others.now
+    ensures did { AreLongReducedResidues moduli.now residues.now → ArePositive others.now
         → length extended.old ≡ length others.now
         → HasDigitRoom (length moduli.now) (length digits.old) (length inverses.old)
         → Did result ((x : ℕ) → IsDecoded moduli.now residues.now x → AreResidues others.now extended.new x) }
-    ensures bad_argument { (IsLongEncoding moduli.now residues.now → ArePositive others.now
+    ensures bad_argument { (AreLongReducedResidues moduli.now residues.now → ArePositive others.now
         → length extended.old ≡ length others.now
         → HasDigitRoom (length moduli.now) (length digits.old) (length inverses.old) → ⊥)
         → BothRefused NM_BAD_ARGUMENT result extended.old extended.new digits.old digits.new

@@ -6,7 +6,7 @@ ghost use Rattle.long_product.specs.Room.{HasRoom};
 ghost use Rattle.num_modular.specs.Hashes.{IsFirst, StandsAt};
 ghost use Rattle.num_modular.specs.Sums.{polynomial_highest_first};
 ghost use Rattle.num_modular_c.specs.Codes.{Did, Refused, BothRefused};
-ghost use Rattle.num_modular_c.specs.Systems.{IsEncoding, IsDecoded};
+ghost use Rattle.num_modular_c.specs.Systems.{AreReducedResidues, IsDecoded};
 
 use crate::codes::{NM_BAD_ARGUMENT, NM_NOT_FOUND, NM_OK};
 use crate::plans::NmFactor;
@@ -56,7 +56,7 @@ pub extern "C" fn nm_find(x: u64, text: &[u8], pattern: &[u8], position: &mut us
 
 // Whether residues represent a number: the moduli are a system, and each residue is below its modulus.
 fn is_encoding(moduli: &[u64], residues: &[u64]) -> bool
-    ensures { IsTrue result ↔ IsEncoding moduli.now residues.now }
+    ensures { IsTrue result ↔ AreReducedResidues moduli.now residues.now }
 {
     moduli.len() == residues.len() && is_system(moduli) && are_reduced(moduli, residues)
 }
@@ -66,9 +66,9 @@ fn is_encoding(moduli: &[u64], residues: &[u64]) -> bool
 /// below its modulus.
 #[unsafe(no_mangle)]
 pub extern "C" fn nm_decode(moduli: &[u64], residues: &[u64], number: &mut NmDouble) -> u32
-    ensures did { IsEncoding moduli.now residues.now
+    ensures did { AreReducedResidues moduli.now residues.now
         → Did result (IsDecoded moduli.now residues.now (number.new.low + 2 ^ 64 * number.new.high)) }
-    ensures bad_argument { (IsEncoding moduli.now residues.now → ⊥)
+    ensures bad_argument { (AreReducedResidues moduli.now residues.now → ⊥)
         → Refused NM_BAD_ARGUMENT result number.old number.new }
 {
     if !is_encoding(moduli, residues) {
