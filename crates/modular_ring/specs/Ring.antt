@@ -62,11 +62,15 @@ abbrev pub value_at : ℕ → List ℕ → List (RingCommand ℕ) → ℕ → �
 value_at m start commands zero r = slice_index start r
 value_at m start commands (suc i) r = value_after m (value_at m start commands i) (slice_get commands i) r
 
+-- the register whose inverse a command needs, if it needs one
+abbrev pub inverted_by : {T : Type 0} → RingCommand T → Option ℕ
+inverted_by (Inv dst a) = Some a
+inverted_by (Div dst a b) = Some b
+inverted_by _ = None
+
 -- the command needs an inverse that doesn't exist modulo m
 abbrev pub LacksInverse : ℕ → (ℕ → ℕ) → RingCommand ℕ → Type 0
-LacksInverse m v (Inv dst a) = HasInverse m (v a) → ⊥
-LacksInverse m v (Div dst a b) = HasInverse m (v b) → ⊥
-LacksInverse m v _ = ⊥
+LacksInverse m v command = IsSomeAnd (inverted_by command) (λ r. HasInverse m (v r) → ⊥)
 
 -- command number i needs an inverse that doesn't exist
 abbrev pub LacksInverseAt : ℕ → List ℕ → List (RingCommand ℕ) → ℕ → Type 0

@@ -8,8 +8,8 @@ use Rattle.modular_word.specs.Inverses.{HasInverse, inverse_of}
 use Rattle.modular_word.proofs.InverseLemmas.{inverse_of-named, inverse_of-empty}
 use Rattle.modular_ring.specs.declared.ring.RingCommand.{RingCommand}
 use Rattle.modular_ring.specs.declared.ring.RingCommand.TheVariants.{Inv, Div}
-use Rattle.modular_ring.specs.Ring.{whole, value_at, LacksInverse, LacksInverseAt, IsStop}
-use Rattle.num_modular.specs.Stops.{inverted_by, NeedsInverse}
+use Rattle.modular_ring.specs.Ring.{whole, value_at, inverted_by, LacksInverse, LacksInverseAt, IsStop}
+use Rattle.num_modular.specs.Stops.{NeedsInverse}
 
 -- a command that lacks its inverse needs one of a register that has none
 lacking : {T : Type 0} (number : T → ℕ) (m : ℕ) (v : ℕ → ℕ) (command : RingCommand T)

@@ -1,13 +1,7 @@
 -- Which inverses the commands of a list need. The names are the library's own words.
-use Rattle.std.specs.Prelude.{◌≡◌, ℕ, List, slice_get, Option, Some, None, IsSomeAnd}
+use Rattle.std.specs.Prelude.{◌≡◌, ℕ, List, slice_get, Some, IsSomeAnd}
 use Rattle.modular_ring.specs.declared.ring.RingCommand.{RingCommand}
-use Rattle.modular_ring.specs.declared.ring.RingCommand.TheVariants.{Inv, Div}
-
--- the register whose inverse a command needs, if it needs one
-abbrev pub inverted_by : {T : Type 0} → RingCommand T → Option ℕ
-inverted_by (Inv dst a) = Some a
-inverted_by (Div dst a b) = Some b
-inverted_by _ = None
+use Rattle.modular_ring.specs.Ring.{inverted_by}
 
 -- command number i needs the inverse of register r
 abbrev pub NeedsInverse : {T : Type 0} → List (RingCommand T) → ℕ → ℕ → Type 0

@@ -16,8 +16,8 @@ ghost use Rattle.modular_transform.specs.Transforms.{cyclic_product, transform};
 ghost use Rattle.modular_plan_passes.specs.Plans.{AreRemainders};
 ghost use Rattle.num_modular.specs.Polynomials.{polynomial, polynomial_highest_first, HaveUnitDifferences};
 ghost use Rattle.modular_ring.specs.Products.{product_below};
-ghost use Rattle.modular_ring.specs.Ring.{whole, value_at, IsStop, carried_out, IsFit, values_of, HoldValues};
-ghost use Rattle.num_modular.specs.Stops.{inverted_by, NeedsInverse};
+ghost use Rattle.modular_ring.specs.Ring.{whole, value_at, inverted_by, IsStop, carried_out, IsFit, values_of, HoldValues};
+ghost use Rattle.num_modular.specs.Stops.{NeedsInverse};
 
 use crate::commands::{RingCommand, RunEnd, run};
 use modular_reduced::reducer::Reducer;

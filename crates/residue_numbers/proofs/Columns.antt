@@ -13,8 +13,8 @@ use Rattle.num_modular.specs.Inverses.{HasInverse, IsInversion, inverse_of}
 use Rattle.num_modular.specs.declared.ring.RingCommand.{RingCommand}
 use Rattle.num_modular.specs.declared.ring.RingCommand.TheVariants.{Inv, Div}
 use Rattle.num_modular.specs.declared.ring.RunEnd.TheVariants.{NoInverse}
-use Rattle.num_modular.specs.Ring.{value_after, value_at, LacksInverse, LacksInverseAt, IsStop}
-use Rattle.num_modular.specs.Stops.{inverted_by, NeedsInverse}
+use Rattle.num_modular.specs.Ring.{value_after, value_at, inverted_by, LacksInverse, LacksInverseAt, IsStop}
+use Rattle.num_modular.specs.Stops.{NeedsInverse}
 use Rattle.num_modular.specs.Systems.{range_of}
 use Rattle.residue_numbers.specs.Registers.{register, StartWith, IsCarriedOut}
 use Rattle.residue_numbers.proofs.Encodings.{ArePositive, range_positive}

@@ -19,8 +19,8 @@ use Rattle.num_modular.specs.declared.ring.RingCommand.TheVariants.{Load, Add, S
 use Rattle.num_modular.specs.declared.ring.RunEnd.{RunEnd}
 use Rattle.num_modular.specs.declared.ring.RunEnd.TheVariants.{Done}
 use Rattle.num_modular.specs.Ring.{whole, destination_of, outcome, value_after}
-use Rattle.num_modular.specs.Ring.{value_at, LacksInverse, IsStop, carried_out}
-use Rattle.num_modular.specs.Stops.{inverted_by, NeedsInverse}
+use Rattle.num_modular.specs.Ring.{value_at, inverted_by, LacksInverse, IsStop, carried_out}
+use Rattle.num_modular.specs.Stops.{NeedsInverse}
 use Rattle.num_modular.specs.Systems.{range_below, range_of, AreResidues}
 use Rattle.num_modular.specs.ProductLaws.{has_product}
 use Rattle.num_modular.specs.SystemLaws.{divides, keeps}

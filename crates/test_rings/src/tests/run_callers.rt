@@ -2,8 +2,7 @@
 
 ghost use Rattle.std.specs.Prelude.{◌≡◌, None, All, length, map};
 ghost use Rattle.modular_reduced.specs.Forms.{IsForm};
-ghost use Rattle.num_modular.specs.Ring.{whole, value_at, IsFit, values_of, HoldValues};
-ghost use Rattle.num_modular.specs.Stops.{inverted_by};
+ghost use Rattle.num_modular.specs.Ring.{whole, value_at, inverted_by, IsFit, values_of, HoldValues};
 
 use modular_reduced::reducer::Reducer;
 use modular_word::ring_word::RingWord;
