@@ -7,7 +7,7 @@ ghost use Rattle.modular_barrett.specs.ScaledForms.{scaled_canonical};
 
 use crate::list_products::reduced_products;
 use crate::normalized::{Normalized2by1Divisor, StoredDivisor};
-use modular_prim::below::{add_below, dbl_below_stored, neg_below, sub_below_stored, sum_by_carry};
+use modular_prim::below::{add_below, dbl_below_stored, neg_below, sub_below};
 use modular_prim::inverse::fast_inverse;
 use modular_prim::plain_word::PlainWord;
 use modular_reduced::lanes::{difference_by_sign, sum_by_sign};
@@ -189,7 +189,7 @@ impl<T: PlainWord> Reducer<T> for PreMulInv2by1<T> {
     }
 
     fn add(&self, a: &T, b: &T) -> T {
-        sum_by_carry(*a, *b, self.divisor())
+        add_below(*a, *b, self.divisor())
     }
 
     fn dbl(&self, f: T) -> T {
@@ -197,7 +197,7 @@ impl<T: PlainWord> Reducer<T> for PreMulInv2by1<T> {
     }
 
     fn sub(&self, a: &T, b: &T) -> T {
-        sub_below_stored(*a, *b, self.divisor())
+        sub_below(*a, *b, self.divisor())
     }
 
     fn neg(&self, f: T) -> T {

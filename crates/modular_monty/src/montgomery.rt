@@ -8,7 +8,7 @@ ghost use Rattle.modular_monty.specs.TwoParts.{IsComputedOnce, IsTwoPartRing};
 ghost use Rattle.modular_monty.specs.TwoPartLaws.{modulus_positive, two_part_canonical};
 
 use crate::odd_ring::{OddModulus, OddRing, StoredModulus, reduced_factor};
-use modular_prim::below::{dbl_below_stored, sum_by_carry};
+use modular_prim::below::{add_below, dbl_below_stored};
 use modular_prim::reducer_word::ReducerWord;
 use modular_reduced::list_products::{multiply_by_factor, product_by_factor};
 use modular_reduced::reducer::Reducer;
@@ -199,7 +199,7 @@ impl<T: ReducerWord> Reducer<T> for Montgomery<T> {
 
     fn add(&self, a: &T, b: &T) -> T {
         if self.twos == 0 {
-            return sum_by_carry(*a, *b, self.odd.kept.modulus);
+            return add_below(*a, *b, self.odd.kept.modulus);
         }
         let high = self.odd.add(&self.high(*a), &self.high(*b));
         self.form_of_parts(high, a.wrapping_add(*b))

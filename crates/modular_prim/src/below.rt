@@ -18,20 +18,6 @@ pub fn reduced_once<T: PathWord>(x: T, m: T) -> T
     if less.is_below(x) { less } else { x }
 }
 
-/// The residue of a + b, below m. Condition: both are below m.
-pub fn add_below<T: PathWord>(a: T, b: T, m: T) -> T
-    requires left { T.number a < T.number m }
-    requires right { T.number b < T.number m }
-    ensures value { T.number result ≡ (T.number a + T.number b) % T.number m }
-    ensures below { T.number result < T.number m }
-{
-    if T::bits() < 64 {
-        sum_by_carry(a, b, m)
-    } else {
-        sum_once(a, b, m)
-    }
-}
-
 /// The residue of a + b, below m. Conditions: b is at most m, and the sum below 2m.
 pub fn sum_once<T: PathWord>(a: T, b: T, m: T) -> T
     requires most { T.number b ≤ T.number m }
@@ -58,7 +44,7 @@ pub fn add_below_stored<T: PathWord>(a: T, b: T, m: T) -> T
     if T::bits() <= 16 {
         sum_by_gap(a, b, m)
     } else {
-        sum_by_carry(a, b, m)
+        add_below(a, b, m)
     }
 }
 
@@ -82,9 +68,9 @@ fn sum_by_gap<T: PathWord>(a: T, b: T, m: T) -> T
 }
 
 /// The residue of a + b, below m. The carry of a + (b - m) chooses, without a branch, so that compilers work on several
-/// entries of a list at once. At 64 bits they don't, and `sum_once` is faster there if m is a constant. Condition: both
-/// are below m.
-pub fn sum_by_carry<T: PathWord>(a: T, b: T, m: T) -> T
+/// entries of a list at once; where words of 64 bits are compared with a constant instead, LLVM may branch on random
+/// sums, which costs more than a product. Condition: both are below m.
+pub fn add_below<T: PathWord>(a: T, b: T, m: T) -> T
     requires left { T.number a < T.number m }
     requires right { T.number b < T.number m }
     ensures value { T.number result ≡ (T.number a + T.number b) % T.number m }
@@ -104,7 +90,7 @@ pub fn sub_below<T: PathWord>(a: T, b: T, m: T) -> T
     ensures value { T.number result ≡ residue (T.number m) (pos (T.number a) -ℤ pos (T.number b)) }
     ensures below { T.number result < T.number m }
 {
-    if T::bits() == 32 {
+    if T::bits() >= 32 {
         chosen_difference(a, b, m)
     } else {
         summed_difference(a, b, m)
@@ -130,8 +116,7 @@ fn chosen_difference<T: PathWord>(a: T, b: T, m: T) -> T
     }
 }
 
-// The same: the difference plus m or 0, which takes less time in several chains of words of 64 bits. Condition: both
-// are below m.
+// The same: the difference plus m or 0, as compilers work on several short words at once. Condition: both are below m.
 fn summed_difference<T: PathWord>(a: T, b: T, m: T) -> T
     requires left { T.number a < T.number m }
     requires right { T.number b < T.number m }
@@ -143,21 +128,6 @@ fn summed_difference<T: PathWord>(a: T, b: T, m: T) -> T
     let less = a.wrapping_sub(b);
     let back = if a.is_below(b) { m } else { T::zero() };
     less.wrapping_add(back)
-}
-
-/// The residue of a - b, as `sub_below` returns it, where compilers don't know the modulus. Condition: both are below m.
-#[inline(always)]
-pub fn sub_below_stored<T: PathWord>(a: T, b: T, m: T) -> T
-    requires left { T.number a < T.number m }
-    requires right { T.number b < T.number m }
-    ensures value { T.number result ≡ residue (T.number m) (pos (T.number a) -ℤ pos (T.number b)) }
-    ensures below { T.number result < T.number m }
-{
-    if T::bits() == 64 {
-        chosen_difference(a, b, m)
-    } else {
-        sub_below(a, b, m)
-    }
 }
 
 /// The residue of a - b, as `sub_below` returns it, but branchless for words of 64 bits: the latency is higher, but
@@ -183,7 +153,7 @@ pub fn dbl_below_stored<T: PathWord>(a: T, m: T) -> T
     } else if T::bits() == 16 {
         dbl_below(a, m)
     } else {
-        sum_by_carry(a, a, m)
+        add_below(a, a, m)
     }
 }
 
@@ -202,7 +172,7 @@ pub fn dbl_below<T: PathWord>(a: T, m: T) -> T
 }
 
 // The residue of 2a, below m, by a comparison of the sum. At 8 bits compilers work on more entries of a list at once
-// than by the carry of `sum_by_carry`. Condition: a is below m.
+// than by the carry of `add_below`. Condition: a is below m.
 fn doubled_once<T: PathWord>(a: T, m: T) -> T
     requires { T.number a < T.number m }
     ensures value { T.number result ≡ (2 * T.number a) % T.number m }

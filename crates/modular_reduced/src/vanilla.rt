@@ -5,7 +5,7 @@ ghost use Rattle.modular_reduced.specs.Plain.{plain_form, plain_value, plain_can
 
 use crate::lanes::{difference_by_sign, sum_by_sign};
 use crate::reducer::Reducer;
-use modular_prim::below::{add_below_stored, dbl_below_stored, neg_below, sub_below_stored};
+use modular_prim::below::{add_below_stored, dbl_below_stored, neg_below, sub_below};
 use modular_prim::inverse::fast_inverse;
 use modular_prim::plain_word::PlainWord;
 use std::alloc::AllocError;
@@ -96,7 +96,7 @@ impl<T: PlainWord> Reducer<T> for Vanilla<T> {
     }
 
     fn sub(&self, a: &T, b: &T) -> T {
-        sub_below_stored(*a, *b, self.modulus)
+        sub_below(*a, *b, self.modulus)
     }
 
     fn neg(&self, f: T) -> T {

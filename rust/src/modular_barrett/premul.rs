@@ -2,7 +2,7 @@
 
 use crate::modular_barrett::list_products::reduced_products;
 use crate::modular_barrett::normalized::Normalized2by1Divisor;
-use crate::modular_prim::below::{add_below, dbl_below_stored, neg_below, sub_below_stored, sum_by_carry};
+use crate::modular_prim::below::{add_below, dbl_below_stored, neg_below, sub_below};
 use crate::modular_prim::inverse::fast_inverse;
 use crate::modular_prim::plain_word::PlainWord;
 use crate::modular_reduced::lanes::{difference_by_sign, sum_by_sign};
@@ -170,7 +170,7 @@ impl<T: PlainWord> Reducer<T> for PreMulInv2by1<T> {
 
     #[inline]
     fn add(&self, a: &T, b: &T) -> T {
-        sum_by_carry(*a, *b, self.divisor())
+        add_below(*a, *b, self.divisor())
     }
 
     #[inline]
@@ -180,7 +180,7 @@ impl<T: PlainWord> Reducer<T> for PreMulInv2by1<T> {
 
     #[inline]
     fn sub(&self, a: &T, b: &T) -> T {
-        sub_below_stored(*a, *b, self.divisor())
+        sub_below(*a, *b, self.divisor())
     }
 
     #[inline]

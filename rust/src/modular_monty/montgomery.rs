@@ -1,7 +1,7 @@
 //! The reducer by Montgomery's representation, for every modulus.
 
 use crate::modular_monty::odd_ring::{OddRing, StoredModulus, reduced_factor};
-use crate::modular_prim::below::{dbl_below_stored, sum_by_carry};
+use crate::modular_prim::below::{add_below, dbl_below_stored};
 use crate::modular_prim::reducer_word::ReducerWord;
 use crate::modular_reduced::list_products::{multiply_by_factor, product_by_factor};
 use crate::modular_reduced::reducer::Reducer;
@@ -169,7 +169,7 @@ impl<T: ReducerWord> Reducer<T> for Montgomery<T> {
 
     fn add(&self, a: &T, b: &T) -> T {
         if self.twos == 0 {
-            return sum_by_carry(*a, *b, self.odd.kept.modulus);
+            return add_below(*a, *b, self.odd.kept.modulus);
         }
         let high = self.odd.add(&self.high(*a), &self.high(*b));
         self.form_of_parts(high, a.wrapping_add(*b))

@@ -21,21 +21,6 @@ pub fn reduced_once<T: PathWord>(x: T, m: T) -> T {
 ///
 /// # Preconditions
 ///
-/// a and b are below m. This isn't checked: if it doesn't hold, the call panics or its result is
-/// unspecified.
-#[inline]
-pub fn add_below<T: PathWord>(a: T, b: T, m: T) -> T {
-    if T::bits() < 64 {
-        sum_by_carry(a, b, m)
-    } else {
-        sum_once(a, b, m)
-    }
-}
-
-/// The residue of a + b, below m.
-///
-/// # Preconditions
-///
 /// b is at most m, and the sum below 2m. This isn't checked: if it doesn't hold, the call panics or its
 /// result is unspecified.
 #[inline]
@@ -59,7 +44,7 @@ pub fn add_below_stored<T: PathWord>(a: T, b: T, m: T) -> T {
     if T::bits() <= 16 {
         sum_by_gap(a, b, m)
     } else {
-        sum_by_carry(a, b, m)
+        add_below(a, b, m)
     }
 }
 
@@ -79,14 +64,15 @@ fn sum_by_gap<T: PathWord>(a: T, b: T, m: T) -> T {
 }
 
 /// The residue of a + b, below m. The carry of a + (b - m) chooses, without a branch, so that compilers work on several
-/// entries of a list at once. At 64 bits they don't, and `sum_once` is faster there if m is a constant.
+/// entries of a list at once; where words of 64 bits are compared with a constant instead, LLVM may branch on random
+/// sums, which costs more than a product.
 ///
 /// # Preconditions
 ///
 /// a and b are below m. This isn't checked: if it doesn't hold, the call panics or its result is
 /// unspecified.
 #[inline]
-pub fn sum_by_carry<T: PathWord>(a: T, b: T, m: T) -> T {
+pub fn add_below<T: PathWord>(a: T, b: T, m: T) -> T {
     // Reading the word gives the proof that it fits its width.
     let _ = m.is_below(a);
     let (rest, above) = a.overflowing_add(b.wrapping_sub(m));
@@ -101,7 +87,7 @@ pub fn sum_by_carry<T: PathWord>(a: T, b: T, m: T) -> T {
 /// unspecified.
 #[inline(always)]
 pub fn sub_below<T: PathWord>(a: T, b: T, m: T) -> T {
-    if T::bits() == 32 {
+    if T::bits() >= 32 {
         chosen_difference(a, b, m)
     } else {
         summed_difference(a, b, m)
@@ -122,8 +108,7 @@ fn chosen_difference<T: PathWord>(a: T, b: T, m: T) -> T {
     }
 }
 
-// The same: the difference plus m or 0, which takes less time in several chains of words of 64 bits. Condition: both
-// are below m.
+// The same: the difference plus m or 0, as compilers work on several short words at once. Condition: both are below m.
 #[inline]
 fn summed_difference<T: PathWord>(a: T, b: T, m: T) -> T {
     // Reading the word gives the proof that it fits its width.
@@ -131,21 +116,6 @@ fn summed_difference<T: PathWord>(a: T, b: T, m: T) -> T {
     let less = a.wrapping_sub(b);
     let back = if a.is_below(b) { m } else { T::zero() };
     less.wrapping_add(back)
-}
-
-/// The residue of a - b, as `sub_below` returns it, where compilers don't know the modulus.
-///
-/// # Preconditions
-///
-/// a and b are below m. This isn't checked: if it doesn't hold, the call panics or its result is
-/// unspecified.
-#[inline(always)]
-pub fn sub_below_stored<T: PathWord>(a: T, b: T, m: T) -> T {
-    if T::bits() == 64 {
-        chosen_difference(a, b, m)
-    } else {
-        sub_below(a, b, m)
-    }
 }
 
 /// The residue of a - b, as `sub_below` returns it, but branchless for words of 64 bits: the latency is higher, but
@@ -173,7 +143,7 @@ pub fn dbl_below_stored<T: PathWord>(a: T, m: T) -> T {
     } else if T::bits() == 16 {
         dbl_below(a, m)
     } else {
-        sum_by_carry(a, a, m)
+        add_below(a, a, m)
     }
 }
 
@@ -193,7 +163,7 @@ pub fn dbl_below<T: PathWord>(a: T, m: T) -> T {
 }
 
 // The residue of 2a, below m, by a comparison of the sum. At 8 bits compilers work on more entries of a list at once
-// than by the carry of `sum_by_carry`. Condition: a is below m.
+// than by the carry of `add_below`. Condition: a is below m.
 #[inline]
 fn doubled_once<T: PathWord>(a: T, m: T) -> T {
     // Reading the word gives the proof that it fits its width.

@@ -4,8 +4,8 @@ use Rattle.modular_monty.proofs.MontgomerySteps.{sum_made, form_below}
 use Rattle.modular_monty.proofs.TwoPartSteps.{operation_made, high_checked, all_high, one_part}
 use Rattle.modular_monty.proofs.montgomery.MontgomeryReducer.add.Goals as goal
 
-pub sum_by_carry-requires : goal.sum_by_carry-requires
-sum_by_carry-requires g c =
+pub add_below-requires : goal.add_below-requires
+add_below-requires g c =
     let r = c.args.self.now.ring in
     let none = c.if-self-eq0.true in
     record {
@@ -19,7 +19,7 @@ returns-then-self-eq0 g c =
     let none = c.if-self-eq0.true in
     let made =
     sum_made r.odd (high_checked r c.requires.left (all_high _ _ none))
-    (high_checked r c.requires.right (all_high _ _ none)) c.sum_by_carry.ensures.value in
+    (high_checked r c.requires.right (all_high _ _ none)) c.add_below.ensures.value in
     operation_made r (λ x y. x + y) same_sum c.requires.left c.requires.right
     (all_high _ _ none) (all_high _ _ none) made.form refl (one_part _ _ _ none)
 

@@ -9,6 +9,6 @@ returns g c =
     let m = g.T.RingWord.number s.modulus in
     answered (plain_canonical g.T.RingWord.width m s.positive s.fits)
     (record {
-      below = subst (λ n. n < m) c.sub_below_stored.ensures.value c.sub_below_stored.ensures.below;
-      same = c.sub_below_stored.ensures.value;
+      below = subst (λ n. n < m) c.sub_below.ensures.value c.sub_below.ensures.below;
+      same = c.sub_below.ensures.value;
     })
