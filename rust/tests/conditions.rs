@@ -152,6 +152,27 @@ fn lists_of_commands() {
     assert_eq!(words, wanted[usize::from(cfg!(debug_assertions))]);
 }
 
+/// Commands that each name one register past a list of `n`, and else its first.
+fn commands_past(n: usize) -> Vec<RingCommand<u64>> {
+    use RingCommand::*;
+    let ones = [(n, 0), (0, n)].into_iter().flat_map(|(dst, a)| [Neg { dst, a }, Dbl { dst, a }, Sqr { dst, a }, Inv { dst, a }, Pow { dst, a, exp: 5 }]);
+    let twos = [(n, 0, 0), (0, n, 0), (0, 0, n)]
+        .into_iter()
+        .flat_map(|(dst, a, b)| [Add { dst, a, b }, Sub { dst, a, b }, Mul { dst, a, b }, Div { dst, a, b }]);
+    ones.chain(twos).chain([Load { dst: n, n: 1 }]).collect()
+}
+
+#[test]
+fn registers_that_dont_exist() {
+    let ring = Vanilla::<u64>::new(&97);
+    for registers in [vec![], vec![1], vec![1; 8]] {
+        for command in commands_past(registers.len()) {
+            let panicked = message(|| run(&ring, &mut registers.clone(), &[command])).is_ok();
+            assert!(panicked, "{command:?} on {} registers", registers.len());
+        }
+    }
+}
+
 /// The transform of a list by the root `g` modulo 97, as residues.
 fn transform<const N: usize>(g: u64, entries: [u64; N]) -> [u64; N] {
     let ring = Montgomery::<u64>::new(97);

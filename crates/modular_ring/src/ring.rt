@@ -337,13 +337,14 @@ struct Last<T> {
     form: T,
 }
 
-// The last register before the first command: one that doesn't exist.
-fn unwritten<T: RingWord>(regs: &[T]) -> Last<T>
+// The last register before the first command: the first one, with its form. It exists where a command's registers do, so
+// that a register that doesn't exist is never answered from here.
+fn first_register<T: RingWord>(regs: &[T]) -> Last<T>
     ensures { IsHeldAt regs.now result.register result.form }
 {
     Last {
-        register: regs.len(),
-        form: T::zero(),
+        register: 0,
+        form: regs.first().copied().unwrap_or(T::zero()),
     }
 }
 
@@ -482,7 +483,7 @@ pub fn run<T: RingWord, R: Reducer<T>, C: AsCommand<T>>(
         (n : ℕ) (other : T) → n < length regs.old → R.value m (T.number (slice_index_or regs.new n other))
         ≡ value_at m start wholes (carried_out result wholes) n }
 {
-    let mut last = unwritten(regs);
+    let mut last = first_register(regs);
     'commands: for (at, command) in commands.iter().enumerate() {
         if !carry_out(r, regs, &mut last, command) {
             return RunEnd::NoInverse { at };

@@ -299,12 +299,13 @@ struct Last<T> {
     form: T,
 }
 
-// The last register before the first command: one that doesn't exist.
+// The last register before the first command: the first one, with its form. It exists where a command's registers do, so
+// that a register that doesn't exist is never answered from here.
 #[inline]
-fn unwritten<T: RingWord>(regs: &[T]) -> Last<T> {
+fn first_register<T: RingWord>(regs: &[T]) -> Last<T> {
     Last {
-        register: regs.len(),
-        form: T::zero(),
+        register: 0,
+        form: regs.first().copied().unwrap_or(T::zero()),
     }
 }
 
@@ -399,7 +400,7 @@ pub fn run<T: RingWord, R: Reducer<T>, C: AsCommand<T>>(
 ) -> RunEnd {
     debug_assert!(all_checked(r, regs), "each register must hold a checked form");
     debug_assert!(commands_fit(commands, regs.len()), "each register number must be below the number of registers");
-    let mut last = unwritten(regs);
+    let mut last = first_register(regs);
     for (at, command) in commands.iter().enumerate() {
         if !carry_out(r, regs, &mut last, command) {
             return RunEnd::NoInverse { at };

@@ -22,7 +22,7 @@ commands-init g c = record {
   held = start_holds g.T.RingWord.number g.R.Reducer.form g.R.Reducer.value
       (g.R.Reducer.modulus c.args.r.now) c.args.regs.now c.requires.checked;
   passed = λ j h. absurd (none_below j h);
-  last = c.unwritten-last.ensures;
+  last = c.first_register-last.ensures;
 }
 
 pub offset_bounds-commands-at : goal.offset_bounds-commands-at
