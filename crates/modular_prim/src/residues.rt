@@ -3,7 +3,7 @@
 ghost use Rattle.std.specs.Prelude.{◌≡◌, ℕ, ◌+◌, ◌*◌, ◌%◌, ◌<◌, ◌≤◌, pos, ◌-ℤ◌, neg_ℤ, IsTrue};
 ghost use Rattle.modular_word.specs.Residues.{residue};
 
-use crate::below::{add_below_stored, dbl_below_stored, neg_below, reduced_once};
+use crate::below::{add_below, dbl_below_stored, neg_below, reduced_once};
 use crate::plain_word::PlainWord;
 use modular_word::path_word::PathWord;
 use modular_word::ring_word::RingWord;
@@ -74,7 +74,7 @@ pub fn addm<T: PlainWord>(a: T, b: T, m: T) -> T
     ensures { T.number result ≡ (T.number a + T.number b) % T.number m }
 {
     if spares_division(a, m) & spares_division(b, m) {
-        add_below_stored(a, b, m)
+        add_below(a, b, m)
     } else if T::bits() > 16 {
         congruent_sum(a, b, m).remainder(m)
     } else {

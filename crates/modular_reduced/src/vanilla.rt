@@ -5,7 +5,7 @@ ghost use Rattle.modular_reduced.specs.Plain.{plain_form, plain_value, plain_can
 
 use crate::lanes::{difference_by_sign, sum_by_sign};
 use crate::reducer::Reducer;
-use modular_prim::below::{add_below_stored, dbl_below_stored, neg_below, sub_below};
+use modular_prim::below::{add_below, dbl_below_stored, neg_below, sub_below};
 use modular_prim::inverse::fast_inverse;
 use modular_prim::plain_word::PlainWord;
 use std::alloc::AllocError;
@@ -88,7 +88,7 @@ impl<T: PlainWord> Reducer<T> for Vanilla<T> {
     }
 
     fn add(&self, a: &T, b: &T) -> T {
-        add_below_stored(*a, *b, self.modulus)
+        add_below(*a, *b, self.modulus)
     }
 
     fn dbl(&self, f: T) -> T {

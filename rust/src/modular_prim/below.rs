@@ -33,36 +33,6 @@ pub fn sum_once<T: PathWord>(a: T, b: T, m: T) -> T {
     }
 }
 
-/// The residue of a + b, as `add_below` returns it, but faster for `Vanilla`, whose m isn't a constant.
-///
-/// # Preconditions
-///
-/// a and b are below m. This isn't checked: if it doesn't hold, the call panics or its result is
-/// unspecified.
-#[inline]
-pub fn add_below_stored<T: PathWord>(a: T, b: T, m: T) -> T {
-    if T::bits() <= 16 {
-        sum_by_gap(a, b, m)
-    } else {
-        add_below(a, b, m)
-    }
-}
-
-// The residue of a + b, below m: the difference of a and m - b, or its sum with m. At 8 and 16 bits compilers work by it
-// on several integers at once, each of which has its own modulus. Condition: both are below m.
-#[inline]
-fn sum_by_gap<T: PathWord>(a: T, b: T, m: T) -> T {
-    // Reading the word gives the proof that it fits its width.
-    let _ = m.is_below(a);
-    let gap = m.minus(b);
-    let less = a.wrapping_sub(gap);
-    if a.is_below(gap) {
-        less.wrapping_add(m)
-    } else {
-        less
-    }
-}
-
 /// The residue of a + b, below m. The carry of a + (b - m) chooses, without a branch, so that compilers work on several
 /// entries of a list at once; where words of 64 bits are compared with a constant instead, LLVM may branch on random
 /// sums, which costs more than a product.

@@ -1,6 +1,6 @@
 //! Residues of sums, differences and products of words that may be above the modulus.
 
-use crate::modular_prim::below::{add_below_stored, dbl_below_stored, neg_below, reduced_once};
+use crate::modular_prim::below::{add_below, dbl_below_stored, neg_below, reduced_once};
 use crate::modular_prim::plain_word::PlainWord;
 use crate::modular_word::path_word::PathWord;
 
@@ -69,7 +69,7 @@ fn congruent_sum<T: PathWord>(a: T, b: T, m: T) -> T {
 #[cfg_attr(debug_assertions, track_caller)]
 pub fn addm<T: PlainWord>(a: T, b: T, m: T) -> T {
     if spares_division(a, m) & spares_division(b, m) {
-        add_below_stored(a, b, m)
+        add_below(a, b, m)
     } else if T::bits() > 16 {
         congruent_sum(a, b, m).remainder(m)
     } else {

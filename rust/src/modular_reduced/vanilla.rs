@@ -2,7 +2,7 @@
 
 use crate::modular_reduced::lanes::{difference_by_sign, sum_by_sign};
 use crate::modular_reduced::reducer::Reducer;
-use crate::modular_prim::below::{add_below_stored, dbl_below_stored, neg_below, sub_below};
+use crate::modular_prim::below::{add_below, dbl_below_stored, neg_below, sub_below};
 use crate::modular_prim::inverse::fast_inverse;
 use crate::modular_prim::plain_word::PlainWord;
 
@@ -76,7 +76,7 @@ impl<T: PlainWord> Reducer<T> for Vanilla<T> {
 
     #[inline]
     fn add(&self, a: &T, b: &T) -> T {
-        add_below_stored(*a, *b, self.modulus)
+        add_below(*a, *b, self.modulus)
     }
 
     #[inline]

@@ -7,4 +7,4 @@ pub returns : goal.returns
 returns g c =
     let s = c.args.self.now in
     answered (plain_canonical g.T.RingWord.width (g.T.RingWord.number s.modulus) s.positive s.fits)
-    (record { below = mod-lt _ s.positive; same = c.add_below_stored.ensures.value })
+    (record { below = mod-lt _ s.positive; same = c.add_below.ensures.value })
