@@ -1,3 +1,4 @@
+pub mod ComparedSums
 pub mod DifferenceSteps
 pub mod DigitSteps
 pub mod DivisionCounts

@@ -33,9 +33,8 @@ pub fn sum_once<T: PathWord>(a: T, b: T, m: T) -> T {
     }
 }
 
-/// The residue of a + b, below m. The carry of a + (b - m) chooses, without a branch, so that compilers work on several
-/// entries of a list at once; where words of 64 bits are compared with a constant instead, LLVM may branch on random
-/// sums, which costs more than a product.
+/// The residue of a + b, below m, without a branch: a carry or a comparison chooses between two sums, each of which depends
+/// on a, so that LLVM keeps the choice a conditional move.
 ///
 /// # Preconditions
 ///
@@ -43,10 +42,32 @@ pub fn sum_once<T: PathWord>(a: T, b: T, m: T) -> T {
 /// unspecified.
 #[inline]
 pub fn add_below<T: PathWord>(a: T, b: T, m: T) -> T {
+    if T::bits() <= 16 {
+        sum_by_comparison(a, b, m)
+    } else {
+        sum_by_carry(a, b, m)
+    }
+}
+
+// The residue of a + b, below m. The carry of a + (b - m) chooses. Condition: both are below m.
+#[inline]
+fn sum_by_carry<T: PathWord>(a: T, b: T, m: T) -> T {
     // Reading the word gives the proof that it fits its width.
     let _ = m.is_below(a);
     let (rest, above) = a.overflowing_add(b.wrapping_sub(m));
     if above { rest } else { a.plus(b) }
+}
+
+// The same: the sum of a and b - m is below b - m exactly where it carries. LLVM works by this comparison, but not by the
+// carry of `overflowing_add`, on several integers at once, each of which has its own modulus. At 32 bits it is slower
+// in lists. Condition: both are below m.
+#[inline]
+fn sum_by_comparison<T: PathWord>(a: T, b: T, m: T) -> T {
+    // Reading the word gives the proof that it fits its width.
+    let _ = m.is_below(a);
+    let step = b.wrapping_sub(m);
+    let rest = a.wrapping_add(step);
+    if rest.is_below(step) { rest } else { a.plus(b) }
 }
 
 /// The residue of a - b, below m.
