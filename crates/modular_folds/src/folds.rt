@@ -151,7 +151,16 @@ pub(crate) fn reduced_last<V: FoldWord>(v: V, m: V) -> V
     if v.is_below(m) { v } else { v.minus(m) }
 }
 
-// The same, with the borrow of v - m as a mask. LLVM vectorizes products in independent chains, and a comparison of
+// The same of a word. LLVM compares it with m while it subtracts.
+#[inline(always)]
+fn reduced_word(x: u32, m: u32) -> u32
+    requires { x < 2 * m }
+    ensures { result ≡ x % m }
+{
+    if x < m { x } else { x - m }
+}
+
+// v modulo m, with the borrow of v - m as a mask. LLVM vectorizes products in independent chains, and a comparison of
 // 64 bits in vectors takes longer than this.
 fn reduced_by_borrow(v: u64, m: u32) -> u32
     requires { v < 2 * m }
@@ -304,14 +313,13 @@ pub trait FoldedWord: PathWord {
         requires { p ≤ Self.width }
         ensures { IsTrue result → Self.double_number v / 2 ^ p < Self.number m };
 
-    /// The parts of a double word below and above the bit p. Conditions: m is 2^p - 1, p is at most the width, and the part
-    /// above the bit p is below m.
-    fn parts(v: Self::Double, p: u32, m: Self) -> (Self, Self)
+    /// The residue of a double word, by one fold. Conditions: m is 2^p - 1, p is at most the width, and the part above the
+    /// bit p is below m.
+    fn reduce_short(v: Self::Double, p: u32, m: Self) -> Self
         requires inside { p ≤ Self.width }
         requires mask { Self.number m + 1 ≡ 2 ^ p }
         requires short { Self.double_number v / 2 ^ p < Self.number m }
-        ensures low { Self.number result.0 ≡ Self.double_number v % 2 ^ p }
-        ensures high { Self.number result.1 ≡ Self.double_number v / 2 ^ p };
+        ensures { Self.number result ≡ Self.double_number v % Self.number m };
 
     /// The residue of a + b, where m is at most 2^p. Conditions: b is at most m, and the sum below 2m.
     ///
@@ -352,9 +360,16 @@ impl FoldedWord for u32 {
         v >> p < m as u64
     }
 
+    // The parts are added as double words, which LLVM vectorizes. For m = 3 it would multiply 3 by a comparison instead.
     #[inline(always)]
-    fn parts(v: u64, p: u32, m: u32) -> (u32, u32) {
-        ((v & m as u64) as u32, (v >> p) as u32)
+    fn reduce_short(v: u64, p: u32, m: u32) -> u32 {
+        let low = v & m as u64;
+        let high = v >> p;
+        if 2 < p && p < 32 {
+            reduced_word((low + high) as u32, m)
+        } else {
+            Self::sum_of_parts(high as u32, low as u32, p, m)
+        }
     }
 
     fn sum_of_parts(a: u32, b: u32, p: u32, m: u32) -> u32 {
@@ -401,12 +416,12 @@ impl FoldedWord for u64 {
     }
 
     #[inline(always)]
-    fn parts(v: u128, p: u32, m: u64) -> (u64, u64) {
+    fn reduce_short(v: u128, p: u32, m: u64) -> u64 {
         let low = (v & m as u128) as u64;
         if p <= 32 {
-            (low, v as u64 >> p)
+            Self::sum_of_parts(v as u64 >> p, low, p, m)
         } else {
-            (low, (v >> p) as u64)
+            Self::sum_of_parts((v >> p) as u64, low, p, m)
         }
     }
 
@@ -436,18 +451,6 @@ pub fn reduce_by_folds<T: FoldedWord>(v: T::Double, p: u32, c: T, m: T) -> (T, u
     (sum_once(rest, T::zero(), m), count)
 }
 
-// v modulo m, by one fold. Conditions: m is 2^p - 1, p is at most the width, and the part of v above the bit p is below m.
-#[inline(always)]
-pub(crate) fn reduce_by_parts<T: FoldedWord>(v: T::Double, p: u32, m: T) -> T
-    requires inside { p ≤ T.width }
-    requires mask { T.number m + 1 ≡ 2 ^ p }
-    requires short { T.double_number v / 2 ^ p < T.number m }
-    ensures { T.number result ≡ T.double_number v % T.number m }
-{
-    let (low, high) = T::parts(v, p, m);
-    T::sum_of_parts(high, low, p, m)
-}
-
 // v modulo m, by folds. Kept out of line and cold, so that loops over products stay small. Condition: m is 2^p - c and more
 // than half of 2^p, and p is at most the width of the words.
 #[cold]
@@ -472,7 +475,7 @@ pub fn reduce_double_word<T: FoldedWord>(v: T::Double, p: u32, c: T, m: T) -> T
 {
     if c == T::one() {
         if T::is_short(v, p, m) {
-            reduce_by_parts(v, p, m)
+            T::reduce_short(v, p, m)
         } else if T::bits() > 32 {
             reduce_longer_double(v, p, c, m)
         } else {

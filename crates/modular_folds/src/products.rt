@@ -5,7 +5,7 @@ ghost use Rattle.std.specs.Prelude.{◌≡◌, ℕ, ◌+◌, ◌-◌, ◌*◌, �
 ghost use Rattle.modular_folds.specs.Folds.{fold_of, IsFolding};
 
 use crate::far::has_few_folds;
-use crate::folds::{FoldedWord, reduce_by_parts};
+use crate::folds::FoldedWord;
 use modular_word::path_word::PathWord;
 use modular_word::ring_word::RingWord;
 
@@ -68,7 +68,7 @@ pub fn reduce_product<T: FoldedWord>(a: T, b: T, p: u32, c: T, m: T) -> T
     ensures { T.number result ≡ (T.number a * T.number b) % T.number m }
 {
     if p <= 32 && c == T::one() {
-        reduce_by_parts(a.product(b), p, m)
+        T::reduce_short(a.product(b), p, m)
     } else if is_by_words(p, c) {
         product_by_folds(a, b, p, c, m)
     } else if has_few_folds(p, c) {

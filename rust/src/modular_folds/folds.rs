@@ -113,7 +113,13 @@ pub(crate) fn reduced_last<V: FoldWord>(v: V, m: V) -> V {
     if v.is_below(m) { v } else { v.minus(m) }
 }
 
-// The same, with the borrow of v - m as a mask. LLVM vectorizes products in independent chains, and a comparison of
+// The same of a word. LLVM compares it with m while it subtracts.
+#[inline(always)]
+fn reduced_word(x: u32, m: u32) -> u32 {
+    if x < m { x } else { x - m }
+}
+
+// v modulo m, with the borrow of v - m as a mask. LLVM vectorizes products in independent chains, and a comparison of
 // 64 bits in vectors takes longer than this.
 #[inline]
 fn reduced_by_borrow(v: u64, m: u32) -> u32 {
@@ -250,13 +256,14 @@ pub trait FoldedWord: Sized + PathWord {
     /// unspecified.
     fn is_short(v: Self::Double, p: u32, m: Self) -> bool;
 
-    /// The parts of a double word below and above the bit p.
+    /// The residue of a double word, by one fold.
     ///
     /// # Preconditions
     ///
     /// m is 2^p - 1, p is at most the width, and the part above the bit p is below m. This isn't checked:
     /// if it doesn't hold, the call panics or its result is unspecified.
-    fn parts(v: Self::Double, p: u32, m: Self) -> (Self, Self);
+    #[must_use]
+    fn reduce_short(v: Self::Double, p: u32, m: Self) -> Self;
 
     /// The residue of a + b, where m is at most 2^p.
     ///
@@ -302,9 +309,16 @@ impl FoldedWord for u32 {
         v >> p < m as u64
     }
 
+    // The parts are added as double words, which LLVM vectorizes. For m = 3 it would multiply 3 by a comparison instead.
     #[inline(always)]
-    fn parts(v: u64, p: u32, m: u32) -> (u32, u32) {
-        ((v & m as u64) as u32, (v >> p) as u32)
+    fn reduce_short(v: u64, p: u32, m: u32) -> u32 {
+        let low = v & m as u64;
+        let high = v >> p;
+        if 2 < p && p < 32 {
+            reduced_word((low + high) as u32, m)
+        } else {
+            Self::sum_of_parts(high as u32, low as u32, p, m)
+        }
     }
 
     #[inline]
@@ -355,12 +369,12 @@ impl FoldedWord for u64 {
     }
 
     #[inline(always)]
-    fn parts(v: u128, p: u32, m: u64) -> (u64, u64) {
+    fn reduce_short(v: u128, p: u32, m: u64) -> u64 {
         let low = (v & m as u128) as u64;
         if p <= 32 {
-            (low, v as u64 >> p)
+            Self::sum_of_parts(v as u64 >> p, low, p, m)
         } else {
-            (low, (v >> p) as u64)
+            Self::sum_of_parts((v >> p) as u64, low, p, m)
         }
     }
 
@@ -390,13 +404,6 @@ pub fn reduce_by_folds<T: FoldedWord>(v: T::Double, p: u32, c: T, m: T) -> (T, u
     (sum_once(rest, T::zero(), m), count)
 }
 
-// v modulo m, by one fold. Conditions: m is 2^p - 1, p is at most the width, and the part of v above the bit p is below m.
-#[inline(always)]
-pub(crate) fn reduce_by_parts<T: FoldedWord>(v: T::Double, p: u32, m: T) -> T {
-    let (low, high) = T::parts(v, p, m);
-    T::sum_of_parts(high, low, p, m)
-}
-
 // v modulo m, by folds. Kept out of line and cold, so that loops over products stay small. Condition: m is 2^p - c and more
 // than half of 2^p, and p is at most the width of the words.
 #[cold]
@@ -420,7 +427,7 @@ fn reduce_longer_double<T: FoldedWord>(v: T::Double, p: u32, c: T, m: T) -> T {
 pub fn reduce_double_word<T: FoldedWord>(v: T::Double, p: u32, c: T, m: T) -> T {
     if c == T::one() {
         if T::is_short(v, p, m) {
-            reduce_by_parts(v, p, m)
+            T::reduce_short(v, p, m)
         } else if T::bits() > 32 {
             reduce_longer_double(v, p, c, m)
         } else {

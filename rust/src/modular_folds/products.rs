@@ -2,7 +2,7 @@
 //! comparisons of the numbers.
 
 use crate::modular_folds::far::has_few_folds;
-use crate::modular_folds::folds::{FoldedWord, reduce_by_parts};
+use crate::modular_folds::folds::FoldedWord;
 use crate::modular_word::path_word::PathWord;
 
 // The parts of high·c + low below and above the bit p. The lower part, as an argument and as a result, is shifted
@@ -47,7 +47,7 @@ fn is_by_words<T: PathWord>(p: u32, c: T) -> bool {
 #[inline(always)]
 pub fn reduce_product<T: FoldedWord>(a: T, b: T, p: u32, c: T, m: T) -> T {
     if p <= 32 && c == T::one() {
-        reduce_by_parts(a.product(b), p, m)
+        T::reduce_short(a.product(b), p, m)
     } else if is_by_words(p, c) {
         product_by_folds(a, b, p, c, m)
     } else if has_few_folds(p, c) {
