@@ -3,6 +3,7 @@
 
 pub(crate) mod computed;
 pub mod fixed;
+mod known;
 mod list_products;
 pub mod montgomery;
 pub mod neg_mod_inv;

@@ -1,3 +1,4 @@
+pub mod HighWords
 pub mod KnownModuli
 pub mod MontgomerySteps
 pub mod NegatedInverses

@@ -7,9 +7,9 @@ ghost use Rattle.modular_monty.specs.Montgomery.{IsOddModulus, IsOddRing};
 ghost use Rattle.modular_monty.specs.MontgomeryLaws.{montgomery_canonical};
 
 use crate::computed::computed_once;
+use crate::known::{redc_known, sum_of_known};
 use crate::odd_ring::{OddModulus, OddRing, redc_below, unless_unit_base};
 use modular_reduced::reducer::Reducer;
-use modular_word::paths::redc;
 
 // What is precomputed of P. It is a type because proofs use what the type of a constant guarantees, not its value.
 #[derive(Clone, Copy)]
@@ -94,8 +94,12 @@ impl<const P: u32> OddModulus<u32> for OddNumber32<P> {
         Self::COMPUTED.square
     }
 
+    fn sum(&self, a: u32, b: u32) -> u32 {
+        sum_of_known(a, b, P)
+    }
+
     fn redc(&self, t: u64) -> u32 {
-        redc(P, Self::COMPUTED.negated_inverse, t)
+        redc_known(P, Self::COMPUTED.negated_inverse, t)
     }
 
     fn redc_below(&self, t: u64) -> u32 {
@@ -192,8 +196,12 @@ impl<const P: u64> OddModulus<u64> for OddNumber64<P> {
         Self::COMPUTED.square
     }
 
+    fn sum(&self, a: u64, b: u64) -> u64 {
+        sum_of_known(a, b, P)
+    }
+
     fn redc(&self, t: u128) -> u64 {
-        redc(P, Self::COMPUTED.negated_inverse, t)
+        redc_known(P, Self::COMPUTED.negated_inverse, t)
     }
 
     fn redc_below(&self, t: u128) -> u64 {

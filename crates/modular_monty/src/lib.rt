@@ -4,6 +4,7 @@
 
 mod computed;
 pub mod fixed;
+mod known;
 mod list_products;
 pub mod montgomery;
 pub mod neg_mod_inv;

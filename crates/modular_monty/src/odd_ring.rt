@@ -94,6 +94,27 @@ pub trait OddModulus<T: PathWord>: Copy {
     fn square_of_base(&self) -> T
         ensures { T.number result ≡ square self.now };
 
+    /// The sum modulo m. Conditions: both numbers are below m.
+    ///
+    /// # Examples
+    ///
+    /// ```
+    /// use num_modular::families::{OddModulus, OddRing};
+    /// use num_modular::FixedProth32;
+    ///
+    /// fn sum<M: OddModulus<u32>>(_: OddRing<u32, M>, m: u32, a: u32, b: u32) -> u32 {
+    ///     M::keep(m).sum(a, b)
+    /// }
+    /// assert_eq!(sum(FixedProth32::<5, 3>::RING, 97, 60, 50), 13); // 110 - 97
+    /// ```
+    fn sum(&self, a: T, b: T) -> T
+        requires left { T.number a < modulus self.now }
+        requires right { T.number b < modulus self.now }
+        ensures { T.number result ≡ (T.number a + T.number b) % modulus self.now }
+    {
+        add_below(a, b, self.modulus())
+    }
+
     /// Montgomery's reduction (REDC) of t, below m. Condition: t is below the modulus times the base.
     ///
     /// # Examples
@@ -313,7 +334,7 @@ impl<T: ReducerWord, M: OddModulus<T>> Reducer<T> for OddRing<T, M> {
     }
 
     fn add(&self, a: &T, b: &T) -> T {
-        add_below(*a, *b, self.kept.modulus())
+        self.kept.sum(*a, *b)
     }
 
     fn dbl(&self, f: T) -> T {

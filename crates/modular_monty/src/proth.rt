@@ -9,9 +9,10 @@ ghost use Rattle.modular_monty.specs.MontgomeryLaws.{montgomery_canonical};
 ghost use Rattle.modular_monty.specs.Proth.{IsProth, IsProthRange, greatest_proth_32, greatest_proth_64, proth_modulus};
 
 use crate::computed::computed_once;
+use crate::known::{reduce_by_known, sum_of_known};
 use crate::odd_ring::{OddModulus, OddRing, reduce_below_by, unless_unit_base};
 use modular_reduced::reducer::Reducer;
-use modular_word::paths::{clearing, reduce_by};
+use modular_word::paths::clearing;
 
 // The number k * 2^n + 1, for parameters in range.
 const fn modulus_32(n: u8, k: u8) -> u32
@@ -142,10 +143,14 @@ impl<const N: u8, const K: u8> OddModulus<u32> for ProthNumber32<N, K> {
         Self::COMPUTED.square
     }
 
+    fn sum(&self, a: u32, b: u32) -> u32 {
+        sum_of_known(a, b, Self::value())
+    }
+
     fn redc(&self, t: u64) -> u32 {
         let m = Self::value();
         let x = clearing(m, Self::COMPUTED.negated_inverse, t);
-        reduce_by(m, t, x, self.shift_mul(x))
+        reduce_by_known(m, t, x, self.shift_mul(x))
     }
 
     fn redc_below(&self, t: u64) -> u32 {
@@ -291,10 +296,14 @@ impl<const N: u8, const K: u8> OddModulus<u64> for ProthNumber64<N, K> {
         Self::COMPUTED.square
     }
 
+    fn sum(&self, a: u64, b: u64) -> u64 {
+        sum_of_known(a, b, Self::value())
+    }
+
     fn redc(&self, t: u128) -> u64 {
         let m = Self::value();
         let x = clearing(m, Self::COMPUTED.negated_inverse, t);
-        reduce_by(m, t, x, self.shift_mul(x))
+        reduce_by_known(m, t, x, self.shift_mul(x))
     }
 
     fn redc_below(&self, t: u128) -> u64 {

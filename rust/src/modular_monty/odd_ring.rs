@@ -79,6 +79,29 @@ pub trait OddModulus<T: PathWord>: Copy {
     /// ```
     fn square_of_base(&self) -> T;
 
+    /// The sum modulo m.
+    ///
+    /// # Preconditions
+    ///
+    /// Both numbers are below m. This isn't checked: if it doesn't hold, the call panics or its result is
+    /// unspecified.
+    ///
+    /// # Examples
+    ///
+    /// ```
+    /// use num_modular::families::{OddModulus, OddRing};
+    /// use num_modular::FixedProth32;
+    ///
+    /// fn sum<M: OddModulus<u32>>(_: OddRing<u32, M>, m: u32, a: u32, b: u32) -> u32 {
+    ///     M::keep(m).sum(a, b)
+    /// }
+    /// assert_eq!(sum(FixedProth32::<5, 3>::RING, 97, 60, 50), 13); // 110 - 97
+    /// ```
+    #[inline]
+    fn sum(&self, a: T, b: T) -> T {
+        add_below(a, b, self.modulus())
+    }
+
     /// Montgomery's reduction (REDC) of t, below m.
     ///
     /// # Preconditions
@@ -270,7 +293,7 @@ impl<T: ReducerWord, M: OddModulus<T>> Reducer<T> for OddRing<T, M> {
 
     #[inline]
     fn add(&self, a: &T, b: &T) -> T {
-        add_below(*a, *b, self.kept.modulus())
+        self.kept.sum(*a, *b)
     }
 
     #[inline]

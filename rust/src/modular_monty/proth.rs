@@ -1,8 +1,9 @@
 //! Reducers by Montgomery's representation whose modulus is K * 2^N + 1.
 
 use crate::modular_monty::computed::computed_once;
+use crate::modular_monty::known::{reduce_by_known, sum_of_known};
 use crate::modular_monty::odd_ring::{OddModulus, OddRing, reduce_below_by, unless_unit_base};
-use crate::modular_word::paths::{clearing, reduce_by};
+use crate::modular_word::paths::clearing;
 
 // The number k * 2^n + 1, for parameters in range.
 #[inline]
@@ -129,10 +130,15 @@ impl<const N: u8, const K: u8> OddModulus<u32> for ProthNumber32<N, K> {
     }
 
     #[inline]
+    fn sum(&self, a: u32, b: u32) -> u32 {
+        sum_of_known(a, b, Self::value())
+    }
+
+    #[inline]
     fn redc(&self, t: u64) -> u32 {
         let m = Self::value();
         let x = clearing(m, Self::COMPUTED.negated_inverse, t);
-        reduce_by(m, t, x, self.shift_mul(x))
+        reduce_by_known(m, t, x, self.shift_mul(x))
     }
 
     #[inline]
@@ -271,10 +277,15 @@ impl<const N: u8, const K: u8> OddModulus<u64> for ProthNumber64<N, K> {
     }
 
     #[inline]
+    fn sum(&self, a: u64, b: u64) -> u64 {
+        sum_of_known(a, b, Self::value())
+    }
+
+    #[inline]
     fn redc(&self, t: u128) -> u64 {
         let m = Self::value();
         let x = clearing(m, Self::COMPUTED.negated_inverse, t);
-        reduce_by(m, t, x, self.shift_mul(x))
+        reduce_by_known(m, t, x, self.shift_mul(x))
     }
 
     #[inline]

@@ -1,0 +1,73 @@
+-- The sum of t and the multiple, and that sum less m modulo the base: a carry says that the second is exact.
+use Rattle.std.proofs.Common.{◌≡◌, ◌+◌, ◌*◌, ◌/◌, ◌<◌, sym, ap, ◌∙◌, arith}
+use Rattle.std.proofs.Math.Nat.{mod-eq_of_lt}
+use Rattle.modular_word.proofs.Divisors.{multiple_of}
+use Rattle.modular_word.proofs.ReductionSteps.{complement_of, high_sum_below, above_modulus, double_carried, double_exact}
+use Rattle.modular_monty.proofs.HighWords.{high_is, no_carry}
+use Rattle.modular_monty.proofs.known.high_sum_of_two.Goals as goal
+use Rattle.modular_monty.proofs.known.high_sum_of_two.Goals.{After-merge, After-split-rest}
+
+-- the base less m
+complement : (g : _) (c : After-merge g)
+    → g.T.RingWord.number c.wrapping_sub-complement.result + g.T.RingWord.number c.args.m ≡ g.T.PathWord.base
+complement g c =
+    let n = g.T.RingWord.number in
+    complement_of g.T.PathWord.base (n c.args.m) (g.T.PathWord.double_number c.args.t)
+    (n c.wrapping_sub-complement.result) (n c.zero.result) c.requires.first c.requires.fits
+    c.wrapping_sub-complement.ensures.fits c.zero.ensures c.wrapping_sub-complement.ensures.value
+
+pub double_plus-more-requires : goal.double_plus-more-requires
+double_plus-more-requires g c =
+    let n = g.T.RingWord.number in
+    let B = g.T.PathWord.base in
+    let m = n c.args.m in
+    let x = n c.wrapping_sub-complement.result in
+    let product : B * (x + m) ≡ B * B =
+    ap (λ v. B * v) (complement g (goal.at.double_plus-more-requires g c).After-merge) in
+    omega (arith, product, c.requires.first, c.merge.ensures.value, c.zero-2.ensures)
+
+-- what is added to t
+added : (g : _) (c : After-split-rest g)
+    → g.T.PathWord.double_number c.double_plus-more.result
+    ≡ g.T.PathWord.double_number c.args.t
+    + g.T.PathWord.base * g.T.RingWord.number c.wrapping_sub-complement.result
+added g c = omega (arith, c.double_plus-more.ensures, c.merge.ensures.value, c.zero-2.ensures)
+
+pub returns-then-is_above : goal.returns-then-is_above
+returns-then-is_above g c =
+    let at = (goal.at.returns-then-is_above g c).After-split-rest in
+    let n = g.T.RingWord.number in
+    let W = g.T.PathWord.double_number in
+    let B = g.T.PathWord.base in
+    let rest = c.split-rest.ensures in
+    above_modulus (n c.args.m) _ (n c.split-rest.result.1)
+    (high_sum_below B (n c.args.m) (W c.args.t) (W c.args.multiple) c.requires.cleared c.requires.first
+    c.requires.second)
+    (double_carried B (n c.args.m) _ (n c.wrapping_sub-complement.result) (W c.args.t) (W c.args.multiple)
+    (W c.double_plus-more.result) (W c.double_overflowing_add-less.result.0) (n c.split-rest.result.0)
+    (n c.split-rest.result.1) (multiple_of B (W c.args.t + W c.args.multiple) c.requires.cleared)
+    (complement g (goal.at.returns-then-is_above g c).After-merge) (added g at)
+    (c.double_overflowing_add-less.ensures.carried c.if-is_above.true) rest.value rest.low_fits)
+
+pub returns-else-is_above : goal.returns-else-is_above
+returns-else-is_above g c =
+    let at = (goal.at.returns-else-is_above g c).After-split-rest in
+    let n = g.T.RingWord.number in
+    let W = g.T.PathWord.double_number in
+    let B = g.T.PathWord.base in
+    let rest = c.split-rest.ensures in
+    let high = c.split-high.ensures in
+    let sum = c.double_overflowing_add-sum in
+    let less =
+    double_exact B (n c.args.m) _ (n c.wrapping_sub-complement.result) (W c.args.t) (W c.args.multiple)
+    (W c.double_plus-more.result) (W c.double_overflowing_add-less.result.0) (n c.split-rest.result.0)
+    (n c.split-rest.result.1) (multiple_of B (W c.args.t + W c.args.multiple) c.requires.cleared)
+    (complement g (goal.at.returns-else-is_above g c).After-merge) (added g at)
+    (c.double_overflowing_add-less.ensures.exact c.if-is_above.false) rest.value rest.low_fits in
+    let below : (W c.args.t + W c.args.multiple) / B < n c.args.m = omega (arith, less, rest.high_fits) in
+    let exact =
+    no_carry B (n c.args.m) (W c.args.t + W c.args.multiple) (W sum.result.0) sum.result.1 c.requires.cleared below
+    c.requires.fits sum.ensures.carried sum.ensures.exact in
+    sym (mod-eq_of_lt below
+    ∙ high_is B (W c.args.t + W c.args.multiple) (n c.split-high.result.0) (n c.split-high.result.1)
+    (exact ∙ high.value) high.low_fits)
