@@ -113,8 +113,9 @@ pub(crate) fn reduced_last<V: FoldWord>(v: V, m: V) -> V {
     if v.is_below(m) { v } else { v.minus(m) }
 }
 
-// The same of a word. LLVM compares it with m while it subtracts.
-#[inline(always)]
+// The same of a word. LLVM compares it with m while it subtracts, and in vectors with a constant, if it simplifies this
+// body before it inlines it.
+#[inline]
 fn reduced_word(x: u32, m: u32) -> u32 {
     if x < m { x } else { x - m }
 }
@@ -310,7 +311,7 @@ impl FoldedWord for u32 {
     }
 
     // The parts are added as double words, which LLVM vectorizes. For m = 3 it would multiply 3 by a comparison instead.
-    #[inline(always)]
+    #[inline]
     fn reduce_short(v: u64, p: u32, m: u32) -> u32 {
         let low = v & m as u64;
         let high = v >> p;
