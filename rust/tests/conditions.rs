@@ -171,6 +171,9 @@ fn registers_that_dont_exist() {
             assert!(panicked, "{command:?} on {} registers", registers.len());
         }
     }
+    // a debug build tests all commands first
+    let stopped = message(|| run(&ring, &mut [0], &[RingCommand::Inv { dst: 1, a: 0 }]));
+    assert_eq!(stopped.err(), (!cfg!(debug_assertions)).then_some(RunEnd::NoInverse { at: 0 }));
 }
 
 /// The transform of a list by the root `g` modulo 97, as residues.

@@ -151,9 +151,9 @@ pub(crate) fn reduced_last<V: FoldWord>(v: V, m: V) -> V
     if v.is_below(m) { v } else { v.minus(m) }
 }
 
-// The same of a word. LLVM compares it with m while it subtracts, and in vectors with a constant, if it simplifies this
-// body before it inlines it.
-fn reduced_word(x: u32, m: u32) -> u32
+// `reduced_last` of a word. It isn't inlined always: LLVM then simplifies it first, and compares x with m, a constant, in
+// vectors too. Condition: x is below 2m.
+fn reduced_last_word(x: u32, m: u32) -> u32
     requires { x < 2 * m }
     ensures { result ≡ x % m }
 {
@@ -197,7 +197,7 @@ fn reduced_short(v: u64, p: u32, c: u32, m: u32) -> u32
 }
 
 // Whether folds in straight-line code reduce a double word: c is at most a fourth of 2^p, and v at most a product of
-// two numbers below 2^p. For c = 1 `parts` takes less time.
+// two numbers below 2^p. For c = 1 `reduce_by_one_fold` takes less time.
 #[inline(always)]
 fn folds_in_line<V: FoldWord>(v: V, p: u32, c: V, m: V) -> bool
     requires folding { IsFolding V.width p (V.number c) (V.number m) }
@@ -315,7 +315,7 @@ pub trait FoldedWord: PathWord {
 
     /// The residue of a double word, by one fold. Conditions: m is 2^p - 1, p is at most the width, and the part above the
     /// bit p is below m.
-    fn reduce_short(v: Self::Double, p: u32, m: Self) -> Self
+    fn reduce_by_one_fold(v: Self::Double, p: u32, m: Self) -> Self
         requires inside { p ≤ Self.width }
         requires mask { Self.number m + 1 ≡ 2 ^ p }
         requires short { Self.double_number v / 2 ^ p < Self.number m }
@@ -360,12 +360,13 @@ impl FoldedWord for u32 {
         v >> p < m as u64
     }
 
-    // The parts are added as double words, which LLVM vectorizes. For m = 3 it would multiply 3 by a comparison instead.
-    fn reduce_short(v: u64, p: u32, m: u32) -> u32 {
+    // The parts are added as double words, which LLVM vectorizes. At p = 32 the sum may exceed a word. For m = 3 LLVM would
+    // multiply 3 by the result of a comparison.
+    fn reduce_by_one_fold(v: u64, p: u32, m: u32) -> u32 {
         let low = v & m as u64;
         let high = v >> p;
         if 2 < p && p < 32 {
-            reduced_word((low + high) as u32, m)
+            reduced_last_word((low + high) as u32, m)
         } else {
             Self::sum_of_parts(high as u32, low as u32, p, m)
         }
@@ -415,7 +416,7 @@ impl FoldedWord for u64 {
     }
 
     #[inline(always)]
-    fn reduce_short(v: u128, p: u32, m: u64) -> u64 {
+    fn reduce_by_one_fold(v: u128, p: u32, m: u64) -> u64 {
         let low = (v & m as u128) as u64;
         if p <= 32 {
             Self::sum_of_parts(v as u64 >> p, low, p, m)
@@ -474,7 +475,7 @@ pub fn reduce_double_word<T: FoldedWord>(v: T::Double, p: u32, c: T, m: T) -> T
 {
     if c == T::one() {
         if T::is_short(v, p, m) {
-            T::reduce_short(v, p, m)
+            T::reduce_by_one_fold(v, p, m)
         } else if T::bits() > 32 {
             reduce_longer_double(v, p, c, m)
         } else {

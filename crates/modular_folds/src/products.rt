@@ -68,7 +68,7 @@ pub fn reduce_product<T: FoldedWord>(a: T, b: T, p: u32, c: T, m: T) -> T
     ensures { T.number result ≡ (T.number a * T.number b) % T.number m }
 {
     if p <= 32 && c == T::one() {
-        T::reduce_short(a.product(b), p, m)
+        T::reduce_by_one_fold(a.product(b), p, m)
     } else if is_by_words(p, c) {
         product_by_folds(a, b, p, c, m)
     } else if has_few_folds(p, c) {

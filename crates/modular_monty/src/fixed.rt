@@ -7,7 +7,7 @@ ghost use Rattle.modular_monty.specs.Montgomery.{IsOddModulus, IsOddRing};
 ghost use Rattle.modular_monty.specs.MontgomeryLaws.{montgomery_canonical};
 
 use crate::computed::computed_once;
-use crate::known::{redc_known, sum_of_known};
+use crate::known::{redc_known, sum_known};
 use crate::odd_ring::{OddModulus, OddRing, redc_below, unless_unit_base};
 use modular_reduced::reducer::Reducer;
 
@@ -95,7 +95,7 @@ impl<const P: u32> OddModulus<u32> for OddNumber32<P> {
     }
 
     fn sum(&self, a: u32, b: u32) -> u32 {
-        sum_of_known(a, b, P)
+        sum_known(a, b, P)
     }
 
     fn redc(&self, t: u64) -> u32 {
@@ -197,7 +197,7 @@ impl<const P: u64> OddModulus<u64> for OddNumber64<P> {
     }
 
     fn sum(&self, a: u64, b: u64) -> u64 {
-        sum_of_known(a, b, P)
+        sum_known(a, b, P)
     }
 
     fn redc(&self, t: u128) -> u64 {

@@ -1,4 +1,4 @@
-//! Sums and Montgomery's reduction modulo a number that is known at compile time, so that the choices by it take no time.
+//! Sums and Montgomery's reduction for a modulus that is known at compile time: tests of the modulus cost nothing.
 
 ghost use Rattle.std.specs.Prelude.{◌≡◌, ◌+◌, ◌*◌, ◌/◌, ◌%◌, ◌^◌, ◌<◌, ◌≤◌};
 ghost use Rattle.modular_word.specs.Reduction.{IsReduction, IsNegatedInverse};
@@ -11,7 +11,7 @@ use modular_word::ring_word::RingWord;
 
 // The residue of a + b. Condition: both are below m.
 #[inline(always)]
-pub(crate) fn sum_of_known<T: PathWord>(a: T, b: T, m: T) -> T
+pub(crate) fn sum_known<T: PathWord>(a: T, b: T, m: T) -> T
     requires left { T.number a < T.number m }
     requires right { T.number b < T.number m }
     ensures { T.number result ≡ (T.number a + T.number b) % T.number m }
@@ -40,7 +40,7 @@ fn high_sum_by_sign<T: PathWord>(t: T::Double, multiple: T::Double, m: T) -> T
 // The same where the sum may overflow: of it and the sum less m, each of which is computed from t and `multiple`, so that
 // neither waits for the other. Conditions: t and `multiple` are below m times the base.
 #[inline(always)]
-fn high_sum_of_two<T: PathWord>(t: T::Double, multiple: T::Double, m: T) -> T
+fn high_sum_by_two_sums<T: PathWord>(t: T::Double, multiple: T::Double, m: T) -> T
     requires cleared { (T.double_number t + T.double_number multiple) % T.base ≡ 0 }
     requires first { T.double_number t < T.base * T.number m }
     requires second { T.double_number multiple < T.base * T.number m }
@@ -56,7 +56,8 @@ fn high_sum_of_two<T: PathWord>(t: T::Double, multiple: T::Double, m: T) -> T
     if is_above { rest } else { high }
 }
 
-// `reduce_by`. Conditions: t is below m times the base, and the sum of t and x·m has 0 in the low word.
+// What `reduce_by` returns, for a known m. Above 32 bits that is the faster way. Conditions: t is below m times the base,
+// `multiple` is x·m, and its sum with t has 0 in the low word.
 #[inline(always)]
 pub(crate) fn reduce_by_known<T: PathWord>(m: T, t: T::Double, x: T, multiple: T::Double) -> T
     requires below { T.double_number t < T.base * T.number m }
@@ -70,7 +71,7 @@ pub(crate) fn reduce_by_known<T: PathWord>(m: T, t: T::Double, x: T, multiple: T
     if T::bits() > 32 {
         reduce_by(m, t, x, multiple)
     } else if m.has_top_bit() {
-        high_sum_of_two(t, multiple, m)
+        high_sum_by_two_sums(t, multiple, m)
     } else {
         high_sum_by_sign(t, multiple, m)
     }

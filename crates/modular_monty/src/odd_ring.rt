@@ -94,7 +94,7 @@ pub trait OddModulus<T: PathWord>: Copy {
     fn square_of_base(&self) -> T
         ensures { T.number result ≡ square self.now };
 
-    /// The sum modulo m. Conditions: both numbers are below m.
+    /// The residue of a + b, below m. Conditions: a and b are below m.
     ///
     /// # Examples
     ///

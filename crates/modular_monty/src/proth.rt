@@ -9,7 +9,7 @@ ghost use Rattle.modular_monty.specs.MontgomeryLaws.{montgomery_canonical};
 ghost use Rattle.modular_monty.specs.Proth.{IsProth, IsProthRange, greatest_proth_32, greatest_proth_64, proth_modulus};
 
 use crate::computed::computed_once;
-use crate::known::{reduce_by_known, sum_of_known};
+use crate::known::{reduce_by_known, sum_known};
 use crate::odd_ring::{OddModulus, OddRing, reduce_below_by, unless_unit_base};
 use modular_reduced::reducer::Reducer;
 use modular_word::paths::clearing;
@@ -144,7 +144,7 @@ impl<const N: u8, const K: u8> OddModulus<u32> for ProthNumber32<N, K> {
     }
 
     fn sum(&self, a: u32, b: u32) -> u32 {
-        sum_of_known(a, b, Self::value())
+        sum_known(a, b, Self::value())
     }
 
     fn redc(&self, t: u64) -> u32 {
@@ -297,7 +297,7 @@ impl<const N: u8, const K: u8> OddModulus<u64> for ProthNumber64<N, K> {
     }
 
     fn sum(&self, a: u64, b: u64) -> u64 {
-        sum_of_known(a, b, Self::value())
+        sum_known(a, b, Self::value())
     }
 
     fn redc(&self, t: u128) -> u64 {

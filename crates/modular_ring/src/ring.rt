@@ -337,8 +337,8 @@ struct Last<T> {
     form: T,
 }
 
-// The last register before the first command: the first one, with its form. It exists where a command's registers do, so
-// that a register that doesn't exist is never answered from here.
+// The last register before the first command: the first one, with its form. Any other mark would be a register that
+// doesn't exist, which a command could name. An empty list has no first one either; there each write panics.
 fn first_register<T: RingWord>(regs: &[T]) -> Last<T>
     ensures { IsHeldAt regs.now result.register result.form }
 {

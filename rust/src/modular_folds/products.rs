@@ -47,7 +47,7 @@ fn is_by_words<T: PathWord>(p: u32, c: T) -> bool {
 #[inline(always)]
 pub fn reduce_product<T: FoldedWord>(a: T, b: T, p: u32, c: T, m: T) -> T {
     if p <= 32 && c == T::one() {
-        T::reduce_short(a.product(b), p, m)
+        T::reduce_by_one_fold(a.product(b), p, m)
     } else if is_by_words(p, c) {
         product_by_folds(a, b, p, c, m)
     } else if has_few_folds(p, c) {

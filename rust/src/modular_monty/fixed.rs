@@ -1,7 +1,7 @@
 //! Reducers by Montgomery's representation whose modulus is a parameter of the type.
 
 use crate::modular_monty::computed::computed_once;
-use crate::modular_monty::known::{redc_known, sum_of_known};
+use crate::modular_monty::known::{redc_known, sum_known};
 use crate::modular_monty::odd_ring::{OddModulus, OddRing, redc_below, unless_unit_base};
 
 // What is precomputed of P. It is a type because proofs use what the type of a constant guarantees, not its value.
@@ -87,7 +87,7 @@ impl<const P: u32> OddModulus<u32> for OddNumber32<P> {
 
     #[inline]
     fn sum(&self, a: u32, b: u32) -> u32 {
-        sum_of_known(a, b, P)
+        sum_known(a, b, P)
     }
 
     #[inline]
@@ -186,7 +186,7 @@ impl<const P: u64> OddModulus<u64> for OddNumber64<P> {
 
     #[inline]
     fn sum(&self, a: u64, b: u64) -> u64 {
-        sum_of_known(a, b, P)
+        sum_known(a, b, P)
     }
 
     #[inline]

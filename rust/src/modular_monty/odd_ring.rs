@@ -79,11 +79,11 @@ pub trait OddModulus<T: PathWord>: Copy {
     /// ```
     fn square_of_base(&self) -> T;
 
-    /// The sum modulo m.
+    /// The residue of a + b, below m.
     ///
     /// # Preconditions
     ///
-    /// Both numbers are below m. This isn't checked: if it doesn't hold, the call panics or its result is
+    /// a and b are below m. This isn't checked: if it doesn't hold, the call panics or its result is
     /// unspecified.
     ///
     /// # Examples

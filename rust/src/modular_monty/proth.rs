@@ -1,7 +1,7 @@
 //! Reducers by Montgomery's representation whose modulus is K * 2^N + 1.
 
 use crate::modular_monty::computed::computed_once;
-use crate::modular_monty::known::{reduce_by_known, sum_of_known};
+use crate::modular_monty::known::{reduce_by_known, sum_known};
 use crate::modular_monty::odd_ring::{OddModulus, OddRing, reduce_below_by, unless_unit_base};
 use crate::modular_word::paths::clearing;
 
@@ -131,7 +131,7 @@ impl<const N: u8, const K: u8> OddModulus<u32> for ProthNumber32<N, K> {
 
     #[inline]
     fn sum(&self, a: u32, b: u32) -> u32 {
-        sum_of_known(a, b, Self::value())
+        sum_known(a, b, Self::value())
     }
 
     #[inline]
@@ -278,7 +278,7 @@ impl<const N: u8, const K: u8> OddModulus<u64> for ProthNumber64<N, K> {
 
     #[inline]
     fn sum(&self, a: u64, b: u64) -> u64 {
-        sum_of_known(a, b, Self::value())
+        sum_known(a, b, Self::value())
     }
 
     #[inline]

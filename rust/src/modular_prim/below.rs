@@ -33,8 +33,8 @@ pub fn sum_once<T: PathWord>(a: T, b: T, m: T) -> T {
     }
 }
 
-/// The residue of a + b, below m, without a branch: a carry or a comparison chooses between two sums, each of which depends
-/// on a, so that LLVM keeps the choice a conditional move.
+/// The residue of a + b, below m. A carry or a comparison chooses between two sums; both need a, so that LLVM selects
+/// without a branch.
 ///
 /// # Preconditions
 ///
@@ -58,9 +58,8 @@ fn sum_by_carry<T: PathWord>(a: T, b: T, m: T) -> T {
     if above { rest } else { a.plus(b) }
 }
 
-// The same: the sum of a and b - m is below b - m exactly where it carries. LLVM works by this comparison, but not by the
-// carry of `overflowing_add`, on several integers at once, each of which has its own modulus. At 32 bits it is slower
-// in lists. Condition: both are below m.
+// The same: the sum of a and b - m is below b - m exactly where it carries. LLVM vectorizes this comparison over several
+// integers, each with its own modulus, but not the carry of `overflowing_add`. Condition: both are below m.
 #[inline]
 fn sum_by_comparison<T: PathWord>(a: T, b: T, m: T) -> T {
     // Reading the word gives the proof that it fits its width.
@@ -153,8 +152,7 @@ pub fn dbl_below<T: PathWord>(a: T, m: T) -> T {
     if a.is_below(high) { twice } else { less }
 }
 
-// The residue of 2a, below m, by a comparison of the sum. At 8 bits compilers work on more entries of a list at once
-// than by the carry of `add_below`. Condition: a is below m.
+// The residue of 2a, below m, by a comparison of the sum, for lists of words of 8 bits. Condition: a is below m.
 #[inline]
 fn doubled_once<T: PathWord>(a: T, m: T) -> T {
     // Reading the word gives the proof that it fits its width.

@@ -11,15 +11,15 @@ mask g c =
     (g.met.T.RingWord.equal c.args.c c.one.result).0 (sym c.eq.ensures ∙ c.if-eq.true) ∙ c.one.ensures in
     omega (arith, c.requires.whole, one)
 
-pub reduce_short-requires : goal.reduce_short-requires
-reduce_short-requires g c = record {
+pub reduce_by_one_fold-requires : goal.reduce_by_one_fold-requires
+reduce_by_one_fold-requires g c = record {
   inside = c.requires.fits;
-  mask = mask g (goal.at.reduce_short-requires g c).After-is_short;
+  mask = mask g (goal.at.reduce_by_one_fold-requires g c).After-is_short;
   short = c.is_short.ensures c.if-is_short.true;
 }
 
 pub returns-then-is_short : goal.returns-then-is_short
-returns-then-is_short g c = c.reduce_short.ensures
+returns-then-is_short g c = c.reduce_by_one_fold.ensures
 
 pub has_few_folds-requires-clause-some : goal.has_few_folds-requires-clause-some
 has_few_folds-requires-clause-some g c = two_bits c.requires

@@ -20,7 +20,7 @@ reduced g c r is =
 
 pub returns-then-has_top_bit : goal.returns-then-has_top_bit
 returns-then-has_top_bit g c =
-    reduced g (goal.at.returns-then-has_top_bit g c).After-bits _ c.high_sum_of_two.ensures
+    reduced g (goal.at.returns-then-has_top_bit g c).After-bits _ c.high_sum_by_two_sums.ensures
 
 pub returns-else-has_top_bit : goal.returns-else-has_top_bit
 returns-else-has_top_bit g c =

@@ -1,7 +1,7 @@
 use Rattle.std.proofs.Common.{◌≡◌, ◌+◌, ◌/◌, ◌^◌, ◌∙◌, ◌%◌, ap, arith, bit_and}
 use Rattle.modular_folds.specs.Folds.{fold_of}
 use Rattle.modular_folds.proofs.FoldSteps.{masked, fold_keeps}
-use Rattle.modular_folds.proofs.folds.U64FoldedWord.reduce_short.Goals as goal
+use Rattle.modular_folds.proofs.folds.U64FoldedWord.reduce_by_one_fold.Goals as goal
 
 pub returns-then-p-le32 : goal.returns-then-p-le32
 returns-then-p-le32 c =

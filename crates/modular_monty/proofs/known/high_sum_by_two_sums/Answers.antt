@@ -4,8 +4,8 @@ use Rattle.std.proofs.Math.Nat.{mod-eq_of_lt}
 use Rattle.modular_word.proofs.Divisors.{multiple_of}
 use Rattle.modular_word.proofs.ReductionSteps.{complement_of, high_sum_below, above_modulus, double_carried, double_exact}
 use Rattle.modular_monty.proofs.HighWords.{high_is, no_carry}
-use Rattle.modular_monty.proofs.known.high_sum_of_two.Goals as goal
-use Rattle.modular_monty.proofs.known.high_sum_of_two.Goals.{After-merge, After-split-rest}
+use Rattle.modular_monty.proofs.known.high_sum_by_two_sums.Goals as goal
+use Rattle.modular_monty.proofs.known.high_sum_by_two_sums.Goals.{After-merge, After-split-rest}
 
 -- the base less m
 complement : (g : _) (c : After-merge g)
