@@ -15,7 +15,6 @@ fn main() {
     let folder = Path::new(&here).join("../crates/modular_bench/out");
     println!("cargo:rustc-link-search=native={}", folder.display());
     println!("cargo:rustc-link-lib=static=modular_bench");
-    println!("cargo:rustc-env=RUSTC_VERSION={}", compiler());
     for (prefix, name) in [("", "libmodular_bench.a"), ("within_", "libmodular_bench_within.a")] {
         println!("cargo:rerun-if-changed={}", folder.join(name).display());
         link_moved(prefix, &folder.join(name));
@@ -77,12 +76,4 @@ fn link_peers(sources: &Path) {
         println!("cargo:rustc-cfg=libfec");
         println!("cargo:rustc-link-lib=fec");
     }
-}
-
-/// The compiler's name and version.
-fn compiler() -> String {
-    let rustc = env::var("RUSTC").unwrap_or_else(|_| "rustc".to_string());
-    let output = Command::new(rustc).arg("--version").output();
-    let text = output.map(|output| String::from_utf8_lossy(&output.stdout).into_owned()).unwrap_or_default();
-    text.split_whitespace().take(2).collect::<Vec<_>>().join(" ")
 }

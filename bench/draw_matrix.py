@@ -1,29 +1,13 @@
 #!/usr/bin/env python3
-"""Reads the lines of bench/matrix, as JSON, from standard input; writes speed-matrix.json, draws speed-matrix.svg, and puts the
-summary and the table of slower calls into speed.md. `bench/run --matrix` calls it. It needs matplotlib for the picture."""
+"""Reads the lines of bench/matrix, as JSON, from standard input, and draws docs/speed-matrix.svg; `bench/run --matrix` calls it.
+It needs matplotlib."""
 import json
 import math
-import pathlib
-import re
 import sys
 from collections import defaultdict
 
-FOLDER = pathlib.Path(__file__).resolve().parent.parent / "docs"
-LIMIT = 1.05
-BEGIN, END = "<!-- written by bench/run --matrix -->", "<!-- end of what bench/run --matrix writes -->"
-KINDS = (("words", r"u\d+ modulo .*"), ("Vanilla", r"Vanilla.*"), ("PreMulInv2by1", r"PreMul.*"), ("Montgomery", r"Montgomery.*"),
-         ("Mersenne", r"FixedMersenne.*"), ("Solinas", r"FixedTrinomial.*"), ("Proth", r"FixedProth.*"), ("fixed Montgomery", r"FixedMont.*"))
-
-
-def mean(ratios):
-    """The geometric mean."""
-    return math.exp(sum(map(math.log, ratios)) / len(ratios))
-
-
-def column_of(place):
-    """The kind and the width of a place."""
-    kind = next(name for name, pattern in KINDS if re.fullmatch(pattern, place))
-    return kind, int(re.search(r"u(8|16|32|64)\b|Fixed\w*?(32|64)\b", place)[0][-2:].lstrip("u"))
+from draw_speed import plt, save
+from speed import KINDS, column_of, mean
 
 
 def grouped(lines):
@@ -34,25 +18,8 @@ def grouped(lines):
     return groups
 
 
-def text_of(lines):
-    """The summary and the table of the groups with a line above the limit, as Markdown."""
-    ratios = sorted(it["ratio"] for it in lines)
-    above = sum(it > LIMIT for it in ratios)
-    yield f"{len(lines):,} lines, mean {mean(ratios):.2f}; {above} above 1.05, {sum(it > 1.2 for it in ratios)} above 1.2.\n\n"
-    yield "| Call | Side | Where (lines above 1.05 of all, greatest) |\n|---|---|---|\n"
-    rows = defaultdict(list)
-    for (side, call, (kind, width)), group in grouped(lines).items():
-        slower = [it for it in group if it > LIMIT]
-        if slower:
-            rows[call, side].append(f"{kind} {width}: {len(slower)} of {len(group)}, {max(slower):.2f}")
-    for (call, side), places in rows.items():
-        yield f"| {call} | {side} | {'; '.join(places)} |\n"
-
-
 def draw(lines):
     """A map of the means: calls by kinds of reducers and widths, for chains and for eight chains."""
-    from draw_speed import plt, save
-
     groups = grouped(lines)
     calls = list(dict.fromkeys(it["call"] for it in lines))
     columns = sorted({column for _, _, column in groups}, key=lambda it: ([name for name, _ in KINDS].index(it[0]), it[1]))
@@ -70,18 +37,5 @@ def draw(lines):
          "A map of the time of each call, by kind of reducer and width, divided by the Rust crate's: blue is faster, red slower.")
 
 
-def main():
-    lines = [json.loads(it) for it in sys.stdin]
-    slower = [it for it in lines if it["ratio"] > LIMIT]
-    (FOLDER / "speed-matrix.json").write_text("".join(json.dumps(it) + "\n" for it in slower), encoding="utf-8")
-    page = FOLDER / "speed.md"
-    before, rest = page.read_text(encoding="utf-8").split(f"{BEGIN}\n")
-    page.write_text(f"{before}{BEGIN}\n\n{''.join(text_of(lines))}\n{END}{rest.split(END)[1]}", encoding="utf-8")
-    try:
-        draw(lines)
-    except ImportError:
-        print("no matplotlib: the picture was not drawn", file=sys.stderr)
-
-
 if __name__ == "__main__":
-    main()
+    draw([json.loads(it) for it in sys.stdin])

@@ -1,10 +1,9 @@
 #!/usr/bin/env python3
-"""Draws docs/speed-ratios.svg and docs/speed-growth.svg from docs/speed.json, which `bench/run` writes.
+"""Draws docs/speed-ratios.svg and docs/speed-growth.svg from what `bench/run` measured on the processor of bench/thresholds.txt.
 
 It needs matplotlib (Debian's python3-matplotlib). The pictures keep their words as text, have no ground of their
 own, and take their ink from the page's light or dark scheme.
 """
-import json
 import math
 import pathlib
 import re
@@ -14,6 +13,8 @@ import matplotlib
 
 matplotlib.use("svg")
 import matplotlib.pyplot as plt
+
+from speed import run_of
 
 FOLDER = pathlib.Path(__file__).resolve().parent.parent / "docs"
 INK = "#24292f"
@@ -136,7 +137,7 @@ def growths(growth):
 
 
 def main():
-    run = json.loads((FOLDER / "speed.json").read_text(encoding="utf-8"))
+    run = run_of("crate")
     ratios({table["key"]: table for table in run["tables"]})
     growths({growth["key"]: growth for growth in run["growth"]})
 

@@ -25,9 +25,9 @@ class Attack:
             edited(top / name, old, new)
 
 
-def attacks(word, names=()):
-    """The attacks whose heads have a word, or those of them that are named."""
-    found = [it for it in map(Attack, sorted((TOP / "checks/attacks").iterdir())) if word in it.head]
+def attacks(words, names=()):
+    """The attacks whose heads have one of these words, or those of them that are named."""
+    found = [it for it in map(Attack, sorted((TOP / "checks/attacks").iterdir())) if not it.head.keys().isdisjoint(words)]
     if lost := {*names}.difference(it.name for it in found):
         raise SystemExit(f"attacks: there is no attack {', '.join(sorted(lost))} of this kind")
     return [it for it in found if not names or it.name in names]

@@ -10,7 +10,8 @@ from results import report, run
 
 WARNINGS = ["-Wall", "-Wextra", "-pedantic", "-Werror"]
 SANITIZERS = ["-g", "-pthread", "-fsanitize=address,undefined", "-fno-sanitize-recover=all"]
-SOURCES = "".join(it.read_text() for it in sorted(TOP.glob("crates/num_modular_c/src/*.rt")))
+MARK = re.compile(r"^ *// (?:rust|rust instead|rattle|tests): .*\n", re.M)  # for the Cargo crate, also between attributes
+SOURCES = MARK.sub("", "".join(it.read_text() for it in sorted(TOP.glob("crates/num_modular_c/src/*.rt"))))
 TYPES = {"usize": "size_t", "i32": "int32_t", "i64": "int64_t", **{f"u{it}": f"uint{it}_t" for it in (8, 16, 32, 64)}}
 PARAMETER = re.compile(r"(\w+): ((?:&(?:'a )?|\*)(?:mut |const )?|)(\[?)(?:\w+::)*(\w+)")
 COUNT = re.compile(r"(\d+) passed, (\d+) failed")
@@ -18,8 +19,13 @@ IN_HEADER = """#include <num_modular.h>
 static size_t room(int n, int s, int k) {
     return NM_ERASURE_ENCODE_SCRATCH(n, k) + NM_ERASURE_RESTORE_SCRATCH(n, s, k) + NM_ERASURE_CORRECT_SCRATCH(n, s, k);
 }
-int main(void) { return room(1, 1, 1) == 0 || nm_kronecker(0, 0, 0); }
+int main(void) {
+    uint64_t sum;
+    (void)nm_addm(1, 1, 97, &sum);
+    return room(1, 1, 1) == 0 || nm_kronecker(0, 0, 0);
+}
 """
+UNUSED = ("(void)nm_addm", "nm_addm")
 IN_C = """the keys are equal
 (1 + 2X + 3X^2)(4 + 5X) has the coefficients 4 13 22 15
 the message is 1 2 3
@@ -159,16 +165,23 @@ def program(prefix, folder, name, sources, want):
 
 
 def header(prefix, folder):
-    """Whether the header stands by itself in C and in C++, and its macros convert their arguments."""
-    for compiler, standard, suffix in (("cc", "-std=c99", "c"), ("c++", "-std=c++11", "cpp")):
+    """Whether the header stands by itself in C and in C++, its macros convert their arguments, and a call whose code isn't
+    used is warned of, unless it is cast to void."""
+    compilers = {"cc": "c", "clang": "c", "c++": "cpp", "clang++": "cpp"}
+    standards = {"c": ("c99", "c17", "c2x"), "cpp": ("c++11", "c++17")}
+    for compiler, suffix, standard in ((it, kind, f"-std={one}") for it, kind in compilers.items() for one in standards[kind]):
         if not shutil.which(compiler):
             print(f"no {compiler}: the header wasn't tried with it")
             continue
         source = folder / f"header.{suffix}"
         source.write_text(IN_HEADER)
         words = (*WARNINGS, "-Wconversion", "-Wsign-conversion", f"-I{prefix}/include", "-c", "-o", f"{folder}/header.o")
+        words = (*words, *(["-Wold-style-cast"] if suffix == "cpp" else []))
         said, status = run(compiler, standard, *words, source)
         yield report(f"the header with {compiler} {standard}", status == 0, said)
+        source.write_text(IN_HEADER.replace(*UNUSED))
+        said, status = run(compiler, standard, *words, source)
+        yield report(f"a code that isn't used, with {compiler} {standard}", status and "unused-result" in said, said)
 
 
 def programs(prefix, folder, options=()):

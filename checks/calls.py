@@ -11,7 +11,7 @@ HOLDER = re.compile(r"^(?:pub )?(impl|trait)\b(.*)\{$", re.M)
 CLAUSE = re.compile(r"\b(?:requires|ensures)\b[^{]*\{")
 # The clauses of how many folds were taken: they stay, so that a caller has to rest on what a fold leaves.
 KEPT = ("count", "few", "none")
-PARAMETER = re.compile(r"(?:^<?|, )(?:const )?(\w+)")
+PARAMETER = re.compile(r"(?:^<?|, )(?:const |')?(\w+)")
 
 
 def closing(text, at):

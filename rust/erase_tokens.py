@@ -1,12 +1,11 @@
-"""Reads the code of a proved source without its ghost text, as tokens, and finds its parts: for rust/erase."""
-import functools
-import re
-from collections import defaultdict
-from dataclasses import dataclass
-from string import Template
-from types import SimpleNamespace
+"""Reads what a proved source and its marks say of the Cargo crate, as tokens, and finds its parts: for rust/erase.
 
-ATTRIBUTES = "allow cfg cfg_attr cold derive doc inline must_use repr test track_caller unsafe".split()
+Ghost text isn't read: clauses, ghost members and fields, `ghost use`, tactics, `prove!`, `final`, labels of loops that no
+`break` or `continue` names, the handle `rt` of assertions, and `?` behind `clone()`. ERASING.md lists the marks.
+"""
+import re
+from dataclasses import dataclass
+
 TOKEN = re.compile(
     r"""(?P<space>\s+)|(?P<comment>//[^\n]*)
     |(?P<text>b?r(?P<marks>\#*)".*?"(?P=marks)|[bc]?"(?:\\.|[^"\\])*"|b?'(?:\\(?:u\{[^}]*\}|x..|.)|[^'\\])')
@@ -14,15 +13,20 @@ TOKEN = re.compile(
     re.X | re.S,
 )
 BRACES = r"\{(?:[^{}]|\{(?:[^{}]|\{(?:[^{}]|\{(?:[^{}]|\{[^{}]*\})*\})*\})*\})*\}"
+PLACES = r"\((?:[^()]|\((?:[^()]|\((?:[^()]|\((?:[^()]|\([^()]*\))*\))*\))*\))*\)"
 PUBLIC = r"(?:pub(?:\(crate\))?\s+)?"
-# what is no code, and the end of a text
+ATTRIBUTES = "allow cfg cfg_attr cold derive doc forbid inline macro_use must_use path repr test track_caller unsafe".split()
 GHOST = re.compile(
-    rf"""(?P<clause>(?:requires|ensures)(?:\s+[a-z_]\w*)?\s*{BRACES})
-    |(?P<item>{PUBLIC}ghost\s+(?:use\b[^;]*;|[a-z_]\w*\s*[:=]\s*{BRACES}\s*[;,]))
-    |(?P<tactic>\#!?\[(?:tactic|rattlefmt)\b(?:[^][]|\[[^]]*\])*\])
-    |(?P<end>\Z)|(?P<unknown>(?:requires|ensures|ghost)\b|\#!?\[(?!(?:{'|'.join(ATTRIBUTES)})\b))""",
+    rf"""(?P<clause>\b(?:requires|ensures)(?:\s+[a-z_]\w*)?\s*{BRACES})
+    |(?P<item>\b{PUBLIC}ghost\s+(?:use\b[^;]*;|[a-z_]\w*\s*[:=]\s*{BRACES}\s*[;,]))
+    |(?P<tactic>\#!?\[(?:tactic|rattlefmt)\b(?:[^][]|\[[^]]*\])*\]|\bfinal\s+(?=fn\b)|\bprove!{PLACES};?
+        |(?<=\.clone\(\))\?|(?<=\()\$?rt;\s*
+        |'(?P<loop>\w+):\s+(?=(?:for|while|loop)\b)(?![\s\S]*(?:break|continue)\ '(?P=loop)\b))
+    |(?P<unknown>\b(?:requires|ensures|ghost)\b|\#!?\[(?!(?:{'|'.join(ATTRIBUTES)})\b))""",
     re.X,
 )
+MARK = re.compile(r"( *)// (?:rust(?P<instead> instead)?:(?P<code> .*|)|(?P<only>rattle|tests): (?P<kind>line|item))")
+GONE = "//-"  # a line that a mark takes away
 BRACKETS = {"(": ")", "{": "}", "[": "]"}
 
 
@@ -32,12 +36,12 @@ class Unknown(Exception):
 
 @dataclass
 class Token:
-    """A token of code, with the space and the comments before it; `asked`: a clause stood there that required something."""
+    """A token of code, with the space and the comments before it; `put`: it stands in a mark."""
 
     lead: str
     kind: str
     text: str
-    asked: bool = False
+    put: bool = False
 
 
 # ------------------------------------------------------------------------------------------------ reading
@@ -53,45 +57,64 @@ def without_attached(lead):
 
 def joined(first, second):
     """The space before what follows something that was taken away, from the space before both."""
-    if first.strip():
-        return first.rstrip() + (second if second.startswith("\n") else "\n" + second)
-    rest = second.lstrip()
-    lines, _, indent = second[: len(second) - len(rest)].rpartition("\n")
-    return "\n" * max(first.count("\n"), lines.count("\n") + 1) + indent + rest
+    return first.rstrip() + "\n" * max(first[len(first.rstrip()) :].count("\n"), 1) + second.lstrip("\n")
 
 
-def read(text):
-    """The tokens of the code, without ghost text. The last token is empty."""
-    tokens, at, lead, above, clause, asked = [], 0, "", None, False, False
-    while not tokens or tokens[-1].kind != "end":
-        found = GHOST.match(text, at) or TOKEN.match(text, at)
-        kind, word, begin, at = found.lastgroup, found.group(), at, found.end()
+def marked(text, is_test=False):
+    """The lines of a text as its marks change it, one for one, and the numbers of those that marks put in. `is_test`: the
+    crate's tests are written, too."""
+    lines, put, end = [], set(), ""  # `end`: what ends the lines that are left out
+    text = text.replace("// tests: item", "// rust: #[cfg(test)]") if is_test else text
+    for number, line in enumerate(text.split("\n")):
+        found = MARK.fullmatch(line)
+        if not found and re.search(r"(?<!/)//\s*(?:rust|rattle|tests)(?: instead)?\s*:", line):
+            raise Unknown(f"line {number + 1} looks like a mark, and isn't one: {line.strip()}")
+        if found and found["kind"]:
+            # in rt fmt's layout an item ends where a line of its own indent ends so
+            item = found[1] + r"(?=\S)(?!//|#\[).*[;}]\)?"
+            end, line = ".*" if found["kind"] == "line" else item, GONE
+        elif found:
+            line, is_gone = found[1] + found["code"][1:], end not in ("", ".*")
+            put |= set() if is_gone else {number}
+            end = "" if is_gone and re.fullmatch(end, line) else ".*" if found["instead"] and not is_gone else end
+            line = GONE if is_gone else line
+        elif end:
+            line, end = GONE, "" if re.fullmatch(end, line) else end
+        lines.append(line)
+    return lines, put
+
+
+def read(text, is_test=False):
+    """The tokens of the code, without ghost text. The last token is empty. `is_test`: the crate's tests are written too."""
+    lines, put = marked(text, is_test)
+    text = "\n".join(lines)
+    tokens, at, line, lead, above, clause = [], 0, 0, "", None, False
+    while at < len(text):
+        found = GHOST.match(text, at) if not clause or text[at] != "{" else None
+        found = found or TOKEN.match(text, at)
+        kind, word, at, here = found.lastgroup, found.group(), found.end(), line
+        line += word.count("\n")
         if kind in ("space", "comment"):
-            lead += word
+            lead = (lead + word).replace(f"\n{GONE}\n", "\n")
             continue
-        if kind == "unknown" or kind not in ("clause", "item", "tactic", "text") and not word.isascii():
-            raise Unknown(f"line {text.count(chr(10), 0, begin) + 1}: ghost text of an unknown kind, or an attribute, {word}")
+        if kind == "unknown" or kind in ("name", "sign", "label") and not word.isascii():
+            raise Unknown(f"line {here + 1}: ghost text of an unknown kind, or an attribute, {word}")
         if above is not None:
             lead, above = joined(above, lead), None
         if kind == "clause":
-            lead, clause, asked = "", True, asked or word.startswith("requires")
-        elif kind in ("item", "tactic"):
+            lead = ""
+        elif kind in ("item", "tactic", "loop"):
             above, lead = without_attached(lead) if kind == "item" else lead, ""
         else:
-            lead = lead if not clause else " " if word == "{" else ""
-            tokens.append(Token(lead, kind, word, asked))
-            lead, clause, asked = "", False, False
+            tokens.append(Token(lead, kind, word, here in put))
+            lead = ""
+    tokens.append(Token(lead, "end", ""))
     return tokens
 
 
 def lexed(text):
     """The tokens of a text that is put in."""
     return read(text)[:-1]
-
-
-def text_of(tokens):
-    """The text of the tokens, with the space before them."""
-    return "".join(it.lead + it.text for it in tokens)
 
 
 # ------------------------------------------------------------------------------------------------ finding
@@ -116,23 +139,16 @@ def past_angles(tokens, at):
     return beyond(tokens, at, {"<": ">"}) if tokens[at].text == "<" else at
 
 
-def parameters(tokens):
-    """The parameters between brackets, as lists of tokens."""
-    parts, depth = [[]], 0
-    for it in tokens[1:-1]:
-        depth += (it.text in "<([") - (it.text in ">)]") if it.kind == "sign" and it.text != "->" else 0
-        if it.text == "," and depth == 0:
-            parts.append([])
-        else:
-            parts[-1].append(it)
-    return [it for it in parts if it]
+def said(tokens, at, words):
+    """Whether these words stand at `at`."""
+    words = words.split()
+    return [it.text for it in tokens[at : at + len(words)]] == words
 
 
 @dataclass
 class Item:
-    """A function, trait, impl, struct, module or import: its name, of an impl that of its trait, or ""; and the indexes of its
-    first token, of the first behind its attributes, of its keyword, of what follows its name and the angle brackets there,
-    and of its body or the semicolon in its place."""
+    """A function, trait, impl, module or import: its name, of an impl its trait's or ""; and the indexes of its first token, of
+    that behind its attributes, of its keyword, of what follows its name and angle brackets, and of its body or semicolon."""
 
     name: str
     first: int
@@ -169,85 +185,7 @@ def items(tokens, keyword):
         yield Item(trait_of(tokens, opened) if is_impl else tokens[at + 1].text, first, begin, at, opened, body)
 
 
-# ------------------------------------------------------------------------------------------------ rewriting
-@functools.lru_cache(None)
-def words_of(pattern):
-    """The words of a pattern, each with the name that it gives to what stands there, or "", and the word that follows it."""
-    words = pattern.split()
-    stops = ["{" if it.endswith("{}") else it for it in words[1:]] + [""]
-    return [(word, word.strip("$.{}") if word[0] == "$" else "", stop) for word, stop in zip(words, stops)]
-
-
-def matched(tokens, at, pattern):
-    """What the names of a pattern stand for where it begins at `at`, and the index behind it; None where it doesn't match.
-    `$x` is one token, `$x..` are the tokens up to the pattern's next word, `$x{}` is a block; a name stands for the same
-    each time."""
-    found = {}
-    for word, name, stop in words_of(pattern):
-        begin = at
-        if name and word.endswith(".."):
-            while tokens[at].text != stop:
-                if tokens[at].text in (";", "}", ""):
-                    return None
-                at = beyond(tokens, at)
-        elif name and word.endswith("{}"):
-            at = beyond(tokens, at)
-        elif tokens[at].text == word or name and tokens[at].kind not in ("sign", "end"):
-            at += 1
-        else:
-            return None
-        part = tokens[begin:at]
-        if name and [it.text for it in found.setdefault(name, part)] != [it.text for it in part]:
-            return None
-    return found, at
-
-
-@functools.lru_cache(None)
-def by_first_word(rules):
-    """Rules by the first word of their patterns, those that begin with a name by ""."""
-    found = defaultdict(list)
-    for rule in rules:
-        word, name, _ = words_of(rule[0])[0]
-        found["" if name else word].append(rule)
-    return found
-
-
-def rewrite(tokens, rules):
-    """Rewrites by rules, of which the first that fits a place holds there. A rule is a pattern, the text that is written in
-    place of what matches it or a function that returns this text, and perhaps a condition. These know what the pattern's
-    names stand for there, the tokens `before` and `behind`, and the `line` feed and indent of the place. Where the text is
-    empty, an item goes with the comments right above it, and an attribute leaves them. The patterns that fit are returned."""
-    rules, fit = by_first_word(rules), set()
-    for at in range(len(tokens) - 2, -1, -1):
-        for pattern, new, *conditions in (*rules.get(tokens[at].text, ()), *rules.get("", ())):
-            if not (found := matched(tokens, at, pattern)):
-                continue
-            lead, end = tokens[at].lead, found[1]
-            it = SimpleNamespace(**{name: text_of(part).strip() for name, part in found[0].items()})
-            it.before, it.behind, it.line = tokens[at - 1].text, tokens[end].text, "".join(lead.rpartition("\n")[1:]) or " "
-            if not all(holds(it) for holds in conditions):
-                continue
-            put = lexed(lead + (new(it) if callable(new) else Template(new).substitute(vars(it))))
-            if put:
-                put[-1].asked = any(x.asked for x in tokens[at:end])
-                tokens[at:end] = put
-            elif tokens[at].text == "#":
-                tokens[end].lead = lead
-                del tokens[at:end]
-            else:
-                cut(tokens, at, end)
-            fit.add(pattern)
-            break
-    return fit
-
-
-def put_attribute(tokens, at, attribute):
-    """Puts an attribute on a line of its own between the comments at `at` and what stands there."""
-    lead = tokens[at].lead
-    tokens[at].lead = "\n" + lead[len(lead.rstrip(" ")) :]
-    tokens[at:at] = lexed(lead + attribute)
-
-
+# ------------------------------------------------------------------------------------------------ cutting
 def cut(tokens, begin, end):
     """Takes an item away, with the comments right above it."""
     tokens[end].lead = joined(without_attached(tokens[begin].lead), tokens[end].lead)

@@ -72,6 +72,14 @@ mod numbers {
         }
     }
 
+    impl<T: PartialEq + Clone, R: Reducer<T> + Clone> Pow<&T> for &ReducedInt<T, R> {
+        type Output = ReducedInt<T, R>;
+
+        fn pow(self, exp: &T) -> ReducedInt<T, R> {
+            ReducedInt::pow(self.clone(), exp)
+        }
+    }
+
     // 0 and 1 need a modulus that the type knows.
     macro_rules! constants {
         ($($ring:ident $integer:ident<$(const $parameter:ident: $kind:ty),*> $word:ty;)*) => {$(

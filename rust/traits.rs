@@ -28,10 +28,13 @@ impl<T: PartialEq + Clone + fmt::Display, R: Reducer<T> + Clone> fmt::Display fo
     }
 }
 
-impl<T: PartialEq + Clone + fmt::Debug, R: Reducer<T> + Clone> fmt::Debug for ReducedInt<T, R> {
+impl<T: fmt::Debug, R: Reducer<T>> fmt::Debug for ReducedInt<T, R> {
     /// The residue and the modulus.
     fn fmt(&self, f: &mut fmt::Formatter) -> fmt::Result {
-        write!(f, "{:?} (mod {:?})", self.residue(), self.modulus())
+        let (form, reducer) = (&self.form, &self.reducer);
+        // the sum with 0 is a copy, also of a form that can't be cloned
+        let copy = reducer.add(form, &reducer.sub(form, form));
+        write!(f, "{:?} (mod {:?})", reducer.residue(copy), reducer.modulus())
     }
 }
 
@@ -318,6 +321,8 @@ impl<T> From<RestoreError> for CorrectError<T> {
 impl fmt::Display for ShareError {
     fn fmt(&self, f: &mut fmt::Formatter) -> fmt::Result {
         f.write_str(match self {
+            ShareError::NoCoefficients => "there is no coefficient, so no secret",
+            ShareError::TooFewPoints => "there are fewer points than the shares that recover the secret",
             ShareError::PointWithoutInverse => "a point has no inverse, so that its share would tell of the secret",
             ShareError::PointsDontFit => "the difference of two points has no inverse",
         })
@@ -334,17 +339,24 @@ impl<T: fmt::Display> fmt::Display for CorrectError<T> {
     }
 }
 
-#[cfg(feature = "std")]
+#[cfg(all(feature = "std", not(has_core_error)))]
 extern crate std;
+#[cfg(has_core_error)]
+use core::error::Error;
+#[cfg(all(feature = "std", not(has_core_error)))]
+use std::error::Error;
 
-#[cfg(feature = "std")]
-impl std::error::Error for RestoreError {}
+#[cfg(any(feature = "std", has_core_error))]
+impl Error for RestoreError {}
 
-#[cfg(feature = "std")]
-impl std::error::Error for ShareError {}
+#[cfg(any(feature = "std", has_core_error))]
+impl Error for ShareError {}
 
-#[cfg(feature = "std")]
-impl<T: fmt::Debug + fmt::Display> std::error::Error for CorrectError<T> {}
+#[cfg(all(any(feature = "std", has_core_error), target_pointer_width = "64"))]
+impl Error for crate::applications::long_product::polynomials::MultiplyError {}
+
+#[cfg(any(feature = "std", has_core_error))]
+impl<T: fmt::Debug + fmt::Display> Error for CorrectError<T> {}
 
 // Sums and products of any number of integers, and the reducer of its only modulus. The empty ones need a modulus that the
 // type knows.
@@ -466,8 +478,9 @@ mod tests {
     fn errors_are_written() {
         assert_eq!(RestoreError::PlaceTwice.to_string(), "a place occurs twice");
         assert_eq!(ShareError::PointsDontFit.to_string(), RestoreError::PointsDontFit.to_string());
+        assert_eq!(ShareError::NoCoefficients.to_string(), "there is no coefficient, so no secret");
         assert_eq!(CorrectError::NoInverse(15u8).to_string(), "15 has no inverse");
-        #[cfg(feature = "std")]
+        #[cfg(any(feature = "std", has_core_error))]
         let _errors: [std::boxed::Box<dyn std::error::Error>; 3] =
             [RestoreError::PlaceTwice.into(), ShareError::PointsDontFit.into(), CorrectError::NoInverse(15u8).into()];
     }

@@ -1,4 +1,4 @@
-//! What the Rust crate answers to the uses that docs/DIFFERENCES.md names, a line each.
+//! What the Rust crate answers to the uses that rust/FROM_NUM_MODULAR.md names, and others outside a precondition, a line each.
 //!
 //! `cargo run --example differences`, and the same with `--release`: debug assertions and checks of
 //! overflow stand in the first alone. A call that doesn't return within two seconds is said so.

@@ -133,14 +133,12 @@ pub fn measured() -> Rows {
             .to_string(),
         heads: vec!["encode", "prepared encode", "by transform", "restore_word", "prepared restore", "correct"],
         ratios: vec![("prepared/encode", 1, 0), ("transform/encode", 2, 0), ("prepared/restore", 4, 3)],
-        digits: 1,
         lines: vec![
             montgomery("8 bits, modulo 257", 257, 1).speeds(),
             montgomery("16 bits, modulo 2^16 + 1", 65537, 2).speeds(),
             montgomery("32 bits, modulo 2^32 - 2^20 + 1", 4_293_918_721, 4).speeds(),
             goldilocks.speeds(),
         ],
-        has_means: false,
     }
 }
 
@@ -194,14 +192,12 @@ pub fn beside_libfec() -> Option<Rows> {
                 .to_string(),
             heads: vec!["Cargo crate", "libfec"],
             ratios: vec![("libfec/Cargo crate", 1, 0)],
-            digits: 1,
             lines: vec![
                 line("check symbols, prepared", 1, 0),
                 line("32 lost symbols, prepared", 4, 1),
                 line("32 lost symbols, restore_word", 3, 1),
                 line("16 wrong symbols, correct", 5, 2),
             ],
-            has_means: false,
         })
     }
 }

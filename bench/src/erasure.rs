@@ -281,8 +281,6 @@ pub fn measured() -> Rows {
             .to_string(),
         heads: vec!["Cargo crate MB/s", "mulm MB/s", "reducer MB/s", "FLINT MB/s"],
         ratios: vec![("Cargo crate/mulm", 1, 0), ("Cargo crate/reducer", 2, 0), ("Cargo crate/FLINT", 3, 0)],
-        digits: 1,
         lines,
-        has_means: false,
     }
 }

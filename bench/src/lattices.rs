@@ -222,8 +222,6 @@ pub fn measured() -> Rows {
         title: "The rings of `lattice_rings`, 256 coefficients".to_string(),
         heads: vec!["port us", "loop us"],
         ratios: vec![("port/loop", 0, 1)],
-        digits: 2,
         lines: with_rings(lines).concat(),
-        has_means: false,
     }
 }

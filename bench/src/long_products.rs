@@ -116,8 +116,6 @@ pub fn measured() -> Rows {
         title: "A product by `long_product` of two numbers of so many digits of 64 bits".to_string(),
         heads: vec!["with plans at hand ms", "with the plans ms", "GMP ms"],
         ratios: vec![("at hand/GMP", 0, 2), ("with the plans/GMP", 1, 2)],
-        digits: 3,
         lines: with_room(lines),
-        has_means: false,
     }
 }

@@ -3,10 +3,9 @@
 //! whole lists, searches, products of long numbers, and times and counted steps against sizes. Before anything is measured
 //! the answers are compared; where they differ it says so and ends with status 1.
 //!
-//! With a folder as argument it writes speed.json and the tables of speed.md there, else it prints the tables. With
-//! `--peers` before the folder, which the feature `peers` brings, it measures the port beside FLINT and NTL, and libfec where
-//! it is, in place of all that; with `--plans` the transforms by a plan and what stands on them alone, beside GMP too. It starts itself with
-//! `--times`, for the further processes that measure the short lines.
+//! It prints JSON. With `--peers`, which the feature `peers` brings, it measures single calls, lists and erasure codes beside
+//! FLINT, and libfec where it is, in place of all that; with `--plans` the transforms by a plan and what uses them, beside NTL,
+//! FLINT and GMP. It starts itself with `--times`, for the further processes that measure the short lines.
 
 #[cfg(feature = "peers")]
 mod codes;
@@ -38,10 +37,8 @@ mod word_lists;
 use lines::{Moduli, Table};
 use measure::{FIRST, SECOND, agree, best, operands};
 use port::{Bench, POWER, PRODUCT};
-use report::{Place, Report, Rows};
+use report::{Report, Rows};
 use std::env;
-use std::fs;
-use std::path::Path;
 use std::process::{Command, ExitCode};
 
 /// How many processes measure the short lines. Their times have stayed higher throughout one process, with the same code.
@@ -79,9 +76,7 @@ fn measured(table: &Table) -> Rows {
         title: table.title.to_string(),
         heads: vec!["port ns", "crate ns", "Cargo crate ns"],
         ratios: vec![("port/crate", 0, 1), ("Cargo crate/crate", 2, 1)],
-        digits: 1,
         lines: lines.collect(),
-        has_means: true,
     }
 }
 
@@ -95,30 +90,8 @@ fn measured_even() -> Rows {
         title: "Modulo an even number, 2^64 - 2, which the crate's `Montgomery` refuses".to_string(),
         heads: vec!["Montgomery ns", "PreMulInv2by1 ns", "Vanilla ns"],
         ratios: Vec::new(),
-        digits: 1,
         lines,
-        has_means: false,
     }
-}
-
-/// The processor, as the system names it, and the compiler.
-fn machine() -> String {
-    let text = fs::read_to_string("/proc/cpuinfo").unwrap_or_default();
-    let field = |name: &str| {
-        text.lines()
-            .find(|line| line.split(':').next().is_some_and(|head| head.trim() == name))
-            .and_then(|line| line.split(':').nth(1))
-            .map_or("unknown", str::trim)
-            .to_string()
-    };
-    let cores = text.lines().filter(|line| line.starts_with("processor")).count();
-    format!(
-        "\"{}\" (family {}, model {}, {cores} cores), with {}",
-        field("model name"),
-        field("cpu family"),
-        field("model"),
-        env!("RUSTC_VERSION"),
-    )
 }
 
 /// The lines that take nanoseconds: single operations, and lists of commands.
@@ -159,13 +132,13 @@ fn beside_crate() -> Option<Report> {
     rows.push(transforms::measured());
     rows.push(users::searches());
     rows.push(users::products());
-    Some(Report { machine: machine(), tables: rows, growth: growth::measured() })
+    Some(Report { beside: "num-modular 0.7.0".to_string(), tables: rows, growth: growth::measured() })
 }
 
 #[cfg(feature = "peers")]
 fn beside_peers() -> Option<Report> {
     (peers::agree() && erasure::agree()).then(|| Report {
-        machine: format!("{}, and FLINT {}", machine(), peers::version()),
+        beside: format!("FLINT {}", peers::version()),
         tables: [peers::measured(), word_lists::measured(), erasure::measured(), codes::measured()]
             .into_iter()
             .chain(codes::beside_libfec())
@@ -184,7 +157,7 @@ fn plans_beside_peers() -> Option<Report> {
     tables.push(long_products::measured());
     tables.push(polynomials::measured());
     tables.push(lattices::measured());
-    Some(Report { machine: format!("{}, NTL {ntl}, FLINT {flint} and GMP {gmp}", machine()), tables, growth: Vec::new() })
+    Some(Report { beside: format!("NTL {ntl}, FLINT {flint}, GMP {gmp}"), tables, growth: Vec::new() })
 }
 
 #[cfg(not(feature = "peers"))]
@@ -198,45 +171,21 @@ fn plans_beside_peers() -> Option<Report> {
     beside_peers()
 }
 
-/// What is measured, and where it is written.
-type Part = (fn() -> Option<Report>, Place);
-
-fn parts(which: Option<String>) -> Vec<Part> {
-    let peers: Part = (beside_peers, Place { numbers: "speed-peers.json", command: "bench/run --peers" });
-    let plans: Part = (plans_beside_peers, Place { numbers: "speed-plans.json", command: "bench/run --plans" });
-    match which.as_deref() {
-        None => vec![(beside_crate, Place { numbers: "speed.json", command: "bench/run" })],
-        Some("--plans") => vec![plans],
-        Some(_) => vec![peers, plans],
-    }
-}
-
-/// Measures a part, and writes or prints it.
-fn carry_out((measure, place): Part, folder: Option<&str>) -> ExitCode {
-    let Some(report) = measure() else {
-        eprintln!("nothing was measured");
-        return ExitCode::from(1);
-    };
-    match folder {
-        None => print!("{}", report.markdown()),
-        Some(folder) => {
-            if let Err(error) = report.write(Path::new(folder), &place) {
-                eprintln!("{folder}: {error}");
-                return ExitCode::from(2);
-            }
-        }
-    }
-    ExitCode::SUCCESS
-}
-
 fn main() -> ExitCode {
-    let mut words = env::args().skip(1).peekable();
-    if words.next_if_eq("--times").is_some() {
-        times_in(&mut short_lines(&lines::tables())).for_each(|time| println!("{time}"));
-        return ExitCode::SUCCESS;
-    }
-    let parts = parts(words.next_if(|word| word.starts_with("--")));
-    let folder = words.next();
-    let statuses = parts.into_iter().map(|part| carry_out(part, folder.as_deref()));
-    statuses.into_iter().find(|status| *status != ExitCode::SUCCESS).unwrap_or(ExitCode::SUCCESS)
+    let word = env::args().nth(1);
+    let report = match word.as_deref() {
+        Some("--times") => {
+            times_in(&mut short_lines(&lines::tables())).for_each(|time| println!("{time}"));
+            return ExitCode::SUCCESS;
+        }
+        Some("--peers") => beside_peers(),
+        Some("--plans") => plans_beside_peers(),
+        _ => beside_crate(),
+    };
+    let Some(report) = report else {
+        eprintln!("nothing was measured");
+        return ExitCode::FAILURE;
+    };
+    println!("{}", report.json());
+    ExitCode::SUCCESS
 }

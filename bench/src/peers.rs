@@ -150,8 +150,6 @@ pub fn measured() -> Rows {
         title: "Beside FLINT's calls".to_string(),
         heads: vec!["port ns", "FLINT ns"],
         ratios: vec![("port/FLINT", 0, 1)],
-        digits: 1,
         lines: names.zip(times()).map(|(name, times)| (name, times.to_vec())).collect(),
-        has_means: false,
     }
 }

@@ -299,9 +299,7 @@ pub fn measured() -> Vec<Rows> {
         title: title.to_string(),
         heads: heads.to_vec(),
         ratios: ratios.to_vec(),
-        digits: 3,
         lines,
-        has_means: false,
     };
     vec![
         table(

@@ -124,8 +124,6 @@ pub fn measured() -> Rows {
         title: "A product by `polynomials::multiply` of the Cargo crate, with plans at hand, of two polynomials of so many coefficients; NTL's `zz_pX`, and `ZZ_pX` modulo 2^63 - 25".to_string(),
         heads: vec!["Cargo crate ms", "FLINT ms", "NTL ms"],
         ratios: vec![("crate/FLINT", 0, 1), ("crate/NTL", 0, 2)],
-        digits: 3,
         lines: with_room(lines),
-        has_means: false,
     }
 }

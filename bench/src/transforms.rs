@@ -207,9 +207,7 @@ pub fn measured() -> Rows {
         title: "Transforms and cyclic products of whole lists over 2^64 - 2^32 + 1".to_string(),
         heads: vec!["port ms", "columns ms", "table ms"],
         ratios: vec![("port/columns", 0, 1), ("port/table", 0, 2)],
-        digits: 3,
         lines: lines.into_iter().map(|(_, line)| line).collect(),
-        has_means: false,
     }
 }
 

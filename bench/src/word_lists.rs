@@ -80,8 +80,6 @@ pub fn measured() -> Rows {
         title: "Lists of 1,000 words by the Cargo crate, and by FLINT's `nmod_vec`: an entry".to_string(),
         heads: vec!["PreMulInv2by1 ns", "Montgomery ns", "FLINT ns"],
         ratios: vec![("PreMulInv2by1/FLINT", 0, 2), ("Montgomery/FLINT", 1, 2)],
-        digits: 2,
         lines: all.collect(),
-        has_means: false,
     }
 }

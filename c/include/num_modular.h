@@ -16,7 +16,8 @@
  *   that of its second, where they don't say another.
  * - A plan of type nm_plan_t, and its table, are as nm_plan_make or nm_plan_check left them; nm_plan_check itself takes
  *   any.
- * - What a call writes, which is each argument without const, overlaps no other argument. Arguments that are const may
+ * - What a call writes, which is each argument without const, overlaps no other argument. So the two lists of a product
+ *   in place, such as nm_plan_convolve, are never the same: for a square, copy the list. Arguments that are const may
  *   overlap each other in any way, or be the same.
  * - No function allocates, keeps a state or calls back, so calls may run in several threads at the same time, and may
  *   share what all of them only read. While one call writes a value or a list, no other call or thread may access it:
@@ -28,16 +29,20 @@
 #include <stddef.h>
 #include <stdint.h>
 
-/* The version of this header; nm_version tells that of the library. */
+/* The version of this header; nm_version tells that of the library. NM_VERSION counts as nm_version does, for #if. */
 #define NM_VERSION_MAJOR 0u
 #define NM_VERSION_MINOR 7u
 #define NM_VERSION_PATCH 0u
+#define NM_VERSION (10000 * NM_VERSION_MAJOR + 100 * NM_VERSION_MINOR + NM_VERSION_PATCH)
 
-/* Before a function whose code tells whether there is a result: compilers that can warn where the code isn't used. */
+/* Before a function whose code tells whether there is a result: compilers that can warn where the code isn't used, and
+ * not where the call is cast to void. Of gcc's attributes only this one heeds the cast. */
 #if (defined(__cplusplus) && __cplusplus >= 201703L) || (defined(__STDC_VERSION__) && __STDC_VERSION__ >= 202311L)
 #define NM_CHECK [[nodiscard]]
-#elif defined(__GNUC__)
+#elif defined(__clang__)
 #define NM_CHECK __attribute__((warn_unused_result))
+#elif defined(__GNUC__) && __GNUC__ >= 10 && (!defined(__cplusplus) || __cplusplus >= 201103L)
+#define NM_CHECK __extension__ [[nodiscard]]
 #else
 #define NM_CHECK
 #endif
@@ -104,6 +109,27 @@ NM_CHECK nm_code_t nm_powm(uint64_t a, uint64_t exponent, uint64_t m, uint64_t *
 /* The inverse of a. NM_NO_INVERSE: a has none. */
 NM_CHECK nm_code_t nm_invm(uint64_t a, uint64_t m, uint64_t *inverse);
 
+/* --- Operations on lists of words modulo m, entry by entry. ---
+ *
+ * m may be any word but 0, words may be above m, and the results are below m. NM_BAD_ARGUMENT: m is 0, or the lengths
+ * of two lists differ. */
+
+/* Replaces each x_i by the sum x_i + y_i modulo m. */
+NM_CHECK nm_code_t nm_add_lists(uint64_t m, uint64_t *xs, size_t xs_length, const uint64_t *ys, size_t ys_length);
+
+/* Replaces each x_i by the difference x_i - y_i modulo m, from 0 to m - 1. */
+NM_CHECK nm_code_t nm_sub_lists(uint64_t m, uint64_t *xs, size_t xs_length, const uint64_t *ys, size_t ys_length);
+
+/* Replaces each x_i by the product x_i * y_i modulo m. */
+NM_CHECK nm_code_t nm_multiply_lists(uint64_t m, uint64_t *xs, size_t xs_length, const uint64_t *ys, size_t ys_length);
+
+/* Replaces each x_i by the product x_i * factor modulo m. */
+NM_CHECK nm_code_t nm_scale_list(uint64_t m, uint64_t *xs, size_t xs_length, uint64_t factor);
+
+/* The sum of all products x_i * y_i modulo m; 0 for empty lists. */
+NM_CHECK nm_code_t nm_dot_product(uint64_t m, const uint64_t *xs, size_t xs_length, const uint64_t *ys,
+                                  size_t ys_length, uint64_t *product);
+
 /* --- Symbols of a over n: -1, 0 or 1. --- */
 
 /* The Jacobi symbol. NM_BAD_ARGUMENT: n is even. */
@@ -112,9 +138,9 @@ NM_CHECK nm_code_t nm_jacobi(uint64_t a, uint64_t n, int32_t *symbol);
 /* The Jacobi symbol of signed numbers. NM_BAD_ARGUMENT: n is even or below 1. */
 NM_CHECK nm_code_t nm_jacobi_signed(int64_t a, int64_t n, int32_t *symbol);
 
-/* 0, 1 or -1, where a to the power (n - 1)/2, rounded down, is congruent to 0, 1 or n - 1 modulo n, tried in this
- * order. For an odd prime n it is the Legendre symbol; the call doesn't test whether n is prime.
- * NM_BAD_ARGUMENT: the power is none of these, or n is 0. */
+/* The Legendre symbol, where n is an odd prime, which the call doesn't test. In any case it is 0, 1 or -1 where a to
+ * the power (n - 1)/2, rounded down, is congruent to 0, 1 or n - 1 modulo n, tried in this order. NM_BAD_ARGUMENT: the
+ * power is none of these, or n is 0. */
 NM_CHECK nm_code_t nm_legendre(uint64_t a, uint64_t n, int32_t *symbol);
 
 /* nm_legendre of signed numbers. NM_BAD_ARGUMENT: as nm_legendre, or n is below 1. */
@@ -189,6 +215,31 @@ NM_CHECK nm_code_t nm_montgomery_pow(const nm_montgomery_t *context, uint64_t fo
 /* The form of the inverse of a form. NM_NO_INVERSE: its value has none. */
 NM_CHECK nm_code_t nm_montgomery_inv(const nm_montgomery_t *context, uint64_t form, uint64_t *inverse);
 
+/* --- Operations on lists of forms, entry by entry. ---
+ *
+ * As nm_add_lists and its like, for lists of forms, which nm_montgomery_transform makes. NM_BAD_CONTEXT: the context
+ * isn't one that nm_montgomery makes. NM_BAD_ARGUMENT: the lengths of two lists differ, or a word isn't a form. */
+
+/* Replaces each form by that of the sum with the other list's form. */
+NM_CHECK nm_code_t nm_montgomery_add_lists(const nm_montgomery_t *context, uint64_t *xs, size_t xs_length,
+                                           const uint64_t *ys, size_t ys_length);
+
+/* Replaces each form by that of the difference from the other's form. */
+NM_CHECK nm_code_t nm_montgomery_sub_lists(const nm_montgomery_t *context, uint64_t *xs, size_t xs_length,
+                                           const uint64_t *ys, size_t ys_length);
+
+/* Replaces each form by that of the product with the other list's form. */
+NM_CHECK nm_code_t nm_montgomery_multiply_lists(const nm_montgomery_t *context, uint64_t *xs, size_t xs_length,
+                                                const uint64_t *ys, size_t ys_length);
+
+/* Replaces each form by that of the product with the factor, a form. */
+NM_CHECK nm_code_t nm_montgomery_scale_list(const nm_montgomery_t *context, uint64_t *xs, size_t xs_length,
+                                            uint64_t factor);
+
+/* The form of the sum of the products of both lists' forms; that of 0 for empty lists. */
+NM_CHECK nm_code_t nm_montgomery_dot_product(const nm_montgomery_t *context, const uint64_t *xs, size_t xs_length,
+                                             const uint64_t *ys, size_t ys_length, uint64_t *product);
+
 /* --- Transforms and cyclic products of lists of words, modulo m. ---
  *
  * These calls, nm_montgomery_run and the nm_erasure_ calls take and write plain words, not forms. The words may be
@@ -239,7 +290,7 @@ typedef struct {
     uint64_t n;         /* the number that is loaded, or the exponent */
 } nm_command_t;
 
-/* Carries out the commands in order on the residues of the words in registers, and replaces the words by the resulting
+/* Carries out the commands in order, on the residues of the words in registers, and replaces the words by the resulting
  * residues; carried_out becomes the number of commands carried out. NM_NO_INVERSE: the inverse of command number
  * carried_out, counted from 0, doesn't exist, and the residues are those after the commands before it. NM_BAD_ARGUMENT:
  * an operation has no name, or a register number isn't below registers_length. NM_BAD_CONTEXT: the context isn't one
@@ -249,7 +300,7 @@ NM_CHECK nm_code_t nm_montgomery_run(const nm_montgomery_t *context, uint64_t *r
 
 /* --- Transforms and cyclic products modulo 2^64 - 2^32 + 1. --- */
 
-/* nm_solinas_NAME is nm_montgomery_NAME modulo the prime 2^64 - 2^32 + 1, without a context. */
+/* As nm_montgomery_NAME, without a context: nm_solinas_NAME computes modulo the prime 2^64 - 2^32 + 1. */
 #define NM_SOLINAS UINT64_C(18446744069414584321)
 NM_CHECK nm_code_t nm_solinas_root_fits(uint64_t root, size_t length);
 NM_CHECK nm_code_t nm_solinas_find_root(size_t length, uint64_t *root);
@@ -262,13 +313,13 @@ NM_CHECK nm_code_t nm_solinas_convolve(uint64_t *xs, size_t xs_length, uint64_t 
  * The table of a root holds the factors of its powers (twiddle factors). The caller owns it, and transforms are faster
  * with it. Words must be below 4 * m, and the results are below m. Each call tests its list and its table: the entries
  * must be factors modulo m with their quotients. A table that passes the test but is no root's, such as a reordered one,
- * is memory-safe but gives wrong results; nm_plan_fits tests whether a table is that of a root.
+ * is memory-safe but gives wrong results; nm_table_fits tests whether a table is that of a root.
  *
  * NM_BAD_ARGUMENT: m is 0 or above 2^62, or what the call's comment says. NM_BAD_CONTEXT: an entry of the table isn't a
  * factor modulo m with its quotient.
  *
  * New code should use nm_plan_make and the calls nm_plan_*, which keep modulus, root and table together and don't test
- * the table at each call; nm_plan fills a bare table, for the calls that take one. */
+ * the table at each call; nm_fill_table fills a bare table, for the calls that take one. */
 
 /* A factor w below m, and its quotient 2^64 * w / m, rounded down. */
 typedef struct {
@@ -278,11 +329,11 @@ typedef struct {
 
 /* Fills the table of the root for transforms of n words, n being twice its length. NM_NO_ROOT: the root doesn't
  * suit n. */
-NM_CHECK nm_code_t nm_plan(uint64_t m, uint64_t root, nm_factor_t *table, size_t table_length);
+NM_CHECK nm_code_t nm_fill_table(uint64_t m, uint64_t root, nm_factor_t *table, size_t table_length);
 
-/* Tests whether the table is the one that nm_plan makes for this m and this root. NM_BAD_CONTEXT: it isn't. NM_NO_ROOT:
- * the root doesn't suit n, twice the length of the table. */
-NM_CHECK nm_code_t nm_plan_fits(uint64_t m, uint64_t root, const nm_factor_t *table, size_t table_length);
+/* Tests whether a table is that of a root: the one that nm_fill_table makes for this m and this root. NM_BAD_CONTEXT:
+ * it isn't. NM_NO_ROOT: the root doesn't suit n, twice the length of the table. */
+NM_CHECK nm_code_t nm_table_fits(uint64_t m, uint64_t root, const nm_factor_t *table, size_t table_length);
 
 /* Replaces the n words by their transform: entry j is the sum of x_i * h^(i * j) modulo m. h is the root of the table,
  * or, where the table is for more words, the power of it that suits n. NM_BAD_ARGUMENT: a word isn't below
@@ -324,7 +375,7 @@ NM_CHECK nm_code_t nm_convolve_negacyclic(uint64_t m, uint64_t *xs, size_t xs_le
  * the table are factors modulo m with their quotients: where they are no root's table, the results are below m and
  * meaningless. For other entries nothing is claimed.
  *
- * Words must be below 4 * m, and the results are below m. nm_plan, which fills a table alone, makes no nm_plan_t. */
+ * Words must be below 4 * m, and the results are below m. */
 
 /* A plan: modulus, root, and a table, which stays the caller's and must live as long as the plan. It may be copied. */
 typedef struct {
@@ -334,13 +385,14 @@ typedef struct {
     size_t table_length;
 } nm_plan_t;
 
-/* Fills the table for transforms of n words, n being twice its length, and writes the plan. nm_montgomery_find_root
- * finds a root that suits n. NM_NO_ROOT: the root doesn't suit n. NM_BAD_ARGUMENT: m is 0 or above 2^62. */
+/* Fills the table for transforms of n words, n being twice its length, and writes the plan, whose root is the residue
+ * of root. nm_montgomery_find_root finds a root that suits n. NM_NO_ROOT: the root doesn't suit n. NM_BAD_ARGUMENT: m
+ * is 0 or above 2^62. */
 NM_CHECK nm_code_t nm_plan_make(uint64_t m, uint64_t root, nm_factor_t *table, size_t table_length, nm_plan_t *plan);
 
-/* Tests whether the plan's table is the one that nm_plan_make makes for its modulus and root, as for a plan that the
- * caller wrote over a table that is filled already. NM_BAD_CONTEXT: it isn't. NM_NO_ROOT: the root doesn't suit n,
- * twice the length of the table. NM_BAD_ARGUMENT: the modulus is 0 or above 2^62. */
+/* Tests whether a plan's table is that of its root: the one that nm_plan_make makes for its modulus and root, as for a
+ * plan that the caller wrote over a table that is filled already. NM_BAD_CONTEXT: it isn't. NM_NO_ROOT: the root
+ * doesn't suit n, twice the length of the table. NM_BAD_ARGUMENT: the modulus is 0 or above 2^62. */
 NM_CHECK nm_code_t nm_plan_check(const nm_plan_t *plan);
 
 /* Replaces the n words by their transform: entry j is the sum of x_i * h^(i * j) modulo m. h is the plan's root, or,
@@ -388,13 +440,20 @@ NM_CHECK nm_code_t nm_plan_convolve_negacyclic(const nm_plan_t *plan, uint64_t *
  * places are numbers of points, counted from 0, and symbol j is the one at place j. The contents of scratch are
  * unspecified after every call, whatever its code. n is the number of points, and s that of places. NM_BAD_ARGUMENT:
  * word or shares hasn't n entries, there aren't as many symbols as places, or scratch is shorter than the call needs.
- * NM_BAD_CONTEXT: the context isn't one that nm_montgomery makes. Where several codes fit, any one of them may come.
- * Nothing runs in constant time. */
+ * NM_BAD_CONTEXT: the context isn't one that nm_montgomery makes. Where several codes fit, NM_BAD_CONTEXT comes before
+ * NM_BAD_ARGUMENT, and that before the others; of these a call returns the first that its comment names, but that
+ * nm_erasure_correct may return NM_NO_INVERSE where NM_TOO_MANY_ERRORS fits, too. For secrets see docs/secrets.md. */
+
+#ifdef __cplusplus
+#  define NM_SIZE(n) static_cast<size_t>(n)
+#else
+#  define NM_SIZE(n) ((size_t)(n))
+#endif
 
 /* How many words scratch must have at least, with n points, s places and a message of k symbols. */
-#define NM_ERASURE_ENCODE_SCRATCH(n, k) ((size_t)(n) + (size_t)(k))
-#define NM_ERASURE_RESTORE_SCRATCH(n, s, k) ((size_t)(n) + (size_t)(s) + 3 * (size_t)(k))
-#define NM_ERASURE_CORRECT_SCRATCH(n, s, k) (2 * (size_t)(n) + 4 * (size_t)(s) + 4 * (size_t)(k) + 2)
+#define NM_ERASURE_ENCODE_SCRATCH(n, k) (NM_SIZE(n) + NM_SIZE(k))
+#define NM_ERASURE_RESTORE_SCRATCH(n, s, k) (NM_SIZE(n) + NM_SIZE(s) + 3 * NM_SIZE(k))
+#define NM_ERASURE_CORRECT_SCRATCH(n, s, k) (2 * NM_SIZE(n) + 4 * NM_SIZE(s) + 4 * NM_SIZE(k) + 2)
 
 /* The word of the message. The call doesn't test whether the points fit. nm_erasure_restore does, called with all n
  * places, any n symbols, and k = n: it returns NM_POINTS_DONT_FIT where they don't. nm_erasure_share tests them, too.
@@ -405,17 +464,18 @@ NM_CHECK nm_code_t nm_erasure_encode(const nm_montgomery_t *context, const uint6
                                      uint64_t *scratch, size_t scratch_length);
 
 /* The message of k symbols, by the first k places and the symbols there. scratch: NM_ERASURE_RESTORE_SCRATCH(n, s, k)
- * words. NM_TOO_FEW_SYMBOLS: s is below k. NM_PLACE_OUT_OF_RANGE, NM_PLACE_TWICE: of the first k places.
- * NM_POINTS_DONT_FIT: the points at these places don't. */
+ * words. NM_TOO_FEW_SYMBOLS: s is below k. NM_PLACE_OUT_OF_RANGE, NM_PLACE_TWICE: of the first k places, in order, one
+ * isn't below n, or occurs before. NM_POINTS_DONT_FIT: the points at these places don't. */
 NM_CHECK nm_code_t nm_erasure_restore(const nm_montgomery_t *context, const uint64_t *points, size_t points_length,
                                       const size_t *places, size_t places_length, const uint64_t *symbols,
                                       size_t symbols_length, uint64_t *message, size_t message_length,
                                       uint64_t *scratch, size_t scratch_length);
 
 /* The only message of k symbols, at least 1, whose word differs in e of the s symbols, where 2 * e is at most s - k;
- * that word; and e, as errors. scratch: NM_ERASURE_CORRECT_SCRATCH(n, s, k) words. NM_TOO_MANY_ERRORS: no word is that
- * near. NM_NO_INVERSE: a number above 0 without an inverse modulo m was met, and is written to number; it never comes
- * where m is a prime. NM_BAD_ARGUMENT: also where k is 0. The codes of nm_erasure_restore, for all s places. */
+ * that word; and e, as errors. scratch: NM_ERASURE_CORRECT_SCRATCH(n, s, k) words. NM_BAD_ARGUMENT: also where k is 0.
+ * The codes of nm_erasure_restore, for all s places. NM_TOO_MANY_ERRORS: no word is that near. NM_NO_INVERSE: a number
+ * above 0 without an inverse modulo m was met, and is written to number; it never comes where m is a prime, or where no
+ * symbol is wrong. */
 NM_CHECK nm_code_t nm_erasure_correct(const nm_montgomery_t *context, const uint64_t *points, size_t points_length,
                                       const size_t *places, size_t places_length, const uint64_t *symbols,
                                       size_t symbols_length, uint64_t *message, size_t message_length, uint64_t *word,
@@ -425,8 +485,9 @@ NM_CHECK nm_code_t nm_erasure_correct(const nm_montgomery_t *context, const uint
 /* Shares of a secret, by Shamir's scheme: the word of a message whose first symbol is the secret, and whose k - 1
  * others the caller draws at random, each from 0 to m - 1. Then k - 1 shares say nothing of the secret.
  * nm_erasure_restore gives it back as the first symbol of the message from any k shares, and nm_erasure_correct though
- * some are forged. A secret that isn't below m comes back as its residue. scratch: NM_ERASURE_ENCODE_SCRATCH(n, k) words.
- * NM_POINT_WITHOUT_INVERSE: a point, such as 0, has no inverse. NM_POINTS_DONT_FIT: the points don't. */
+ * some are forged. A secret that isn't below m comes back as its residue. scratch: NM_ERASURE_ENCODE_SCRATCH(n, k)
+ * words. NM_BAD_ARGUMENT: also if k is 0 or above n. NM_POINT_WITHOUT_INVERSE: a point, such as 0, has no inverse.
+ * NM_POINTS_DONT_FIT: the points don't. */
 NM_CHECK nm_code_t nm_erasure_share(const nm_montgomery_t *context, const uint64_t *points, size_t points_length,
                                     const uint64_t *coefficients, size_t coefficients_length, uint64_t *shares,
                                     size_t shares_length, uint64_t *scratch, size_t scratch_length);
@@ -437,18 +498,18 @@ NM_CHECK nm_code_t nm_erasure_share(const nm_montgomery_t *context, const uint64
  * highest first, modulo 2^61 - 1. Returns NM_OK. */
 nm_code_t nm_hash(uint64_t x, const uint8_t *bytes, size_t bytes_length, uint64_t *hash);
 
-/* The first position where the pattern of k bytes occurs in the text of n bytes, by hashes at the base x.
- * NM_NOT_FOUND: it occurs nowhere. The result is right for every x, but the time depends on x, and nothing is proved of
- * it. Two different texts of k bytes have one hash at fewer than k of the x from 0 to 2^61 - 2. So an x should be drawn
- * at random after text and pattern are fixed; for another, such as 0 or 1, the time may be proportional to n * k. */
+/* The first position where a pattern occurs: k bytes in the text of n bytes, by hashes at the base x. NM_NOT_FOUND: it
+ * occurs nowhere. The result is right for every x, but the time depends on x, and nothing is proved of it. Two
+ * different texts of k bytes have one hash at fewer than k of the x from 0 to 2^61 - 2. So an x should be drawn at
+ * random after text and pattern are fixed; for another, such as 0 or 1, the time may be proportional to n * k. */
 NM_CHECK nm_code_t nm_find(uint64_t x, const uint8_t *text, size_t text_length, const uint8_t *pattern,
                            size_t pattern_length, size_t *position);
 
-/* Entry i of found becomes the number of the first pattern that occurs in the text at position i, or count where none
- * does, for i from 0 to found_length - 1. The count patterns have size bytes each and stand one after the other. The
- * scratch list hashes, of count words, has unspecified contents afterwards. The result is right for every x. Each
- * position compares its hash with up to count others, and bytes where two are equal: for which x that is rare, see
- * nm_find. NM_BAD_ARGUMENT: patterns_length isn't count * size. */
+/* The patterns that occur in a text: entry i of found becomes the number of the first pattern that occurs at position
+ * i, or count where none does, for i from 0 to found_length - 1. The count patterns have size bytes each and stand one
+ * after the other. The scratch list hashes, of count words, has unspecified contents afterwards. The result is right
+ * for every x. Each position compares its hash with up to count others, and bytes where two are equal: for which x that
+ * is rare, see nm_find. NM_BAD_ARGUMENT: patterns_length isn't count * size. */
 NM_CHECK nm_code_t nm_find_all(uint64_t x, const uint8_t *text, size_t text_length, const uint8_t *patterns,
                                size_t patterns_length, size_t size, uint64_t *hashes, size_t count, size_t *found,
                                size_t found_length);
@@ -459,15 +520,15 @@ typedef struct {
     uint64_t high;
 } nm_double_t;
 
-/* The only number below the product of the n moduli that has the k residues. NM_BAD_ARGUMENT: the lengths differ, a
- * modulus is 0, two have a common divisor above 1, their product isn't below 2^128, or a residue isn't below its
- * modulus. */
+/* The number that has the residues: the only one below the product of the n moduli. NM_BAD_ARGUMENT: the lengths
+ * differ, a modulus is 0, two have a common divisor above 1, their product isn't below 2^128, or a residue isn't below
+ * its modulus. */
 NM_CHECK nm_code_t nm_decode(const uint64_t *moduli, size_t moduli_length, const uint64_t *residues,
                              size_t residues_length, nm_double_t *number);
 
-/* The lengths of the two scratch lists of nm_product for numbers of n = xs_length and k = ys_length digits: 0 where one
- * of the numbers has fewer than 400 digits, else 4 * e words and 3 * e / 2 factors, e being the least power of two that
- * is at least n + k. NM_BAD_ARGUMENT: n + k is above 2^32. */
+/* The lengths of the two scratch lists of nm_product, for numbers of n = xs_length and k = ys_length digits: 0 where
+ * one of the numbers has fewer than 400 digits, else 4 * e words and 3 * e / 2 factors, e being the least power of two
+ * that is at least n + k. NM_BAD_ARGUMENT: n + k is above 2^32. */
 NM_CHECK nm_code_t nm_product_room(size_t xs_length, size_t ys_length, size_t *words, size_t *factors);
 
 /* The digits of the product of two numbers of n and k digits, which have 64 bits, the lowest first. The scratch lists
@@ -480,8 +541,8 @@ NM_CHECK nm_code_t nm_product(const uint64_t *xs, size_t xs_length, const uint64
 
 /* --- Hashes of the parts of a text, each by one product. --- */
 
-/* Entry i of hashes becomes nm_hash of the first i of the n bytes at the base x, and entry i of powers x to the power i
- * modulo 2^61 - 1. NM_BAD_ARGUMENT: hashes or powers hasn't n + 1 entries. */
+/* The hashes of a text's beginnings: entry i of hashes becomes nm_hash of the first i of the n bytes at the base x, and
+ * entry i of powers x to the power i modulo 2^61 - 1. NM_BAD_ARGUMENT: hashes or powers hasn't n + 1 entries. */
 NM_CHECK nm_code_t nm_prefix_hashes(uint64_t x, const uint8_t *text, size_t text_length, uint64_t *hashes,
                                     size_t hashes_length, uint64_t *powers, size_t powers_length);
 
@@ -498,9 +559,9 @@ NM_CHECK nm_code_t nm_substring_hash(const uint64_t *hashes, size_t hashes_lengt
  * factors have at least 200 coefficients the product is computed by transforms, in the scratch lists words and factors,
  * else by the sums. The scratch lists have unspecified contents afterwards. */
 
-/* The lengths of the two scratch lists for factors of n = xs_length and k = ys_length coefficients: 0 where one has
- * fewer than 200, else 4 * e words and 3 * e / 2 factors, e being the least power of two that is at least n + k.
- * NM_BAD_ARGUMENT: n + k is above 2^32. */
+/* The lengths of the two scratch lists of a product: for factors of n = xs_length and k = ys_length coefficients 0
+ * where one has fewer than 200, else 4 * e words and 3 * e / 2 factors, e being the least power of two that is at least
+ * n + k. NM_BAD_ARGUMENT: n + k is above 2^32. */
 NM_CHECK nm_code_t nm_polynomial_room(size_t xs_length, size_t ys_length, size_t *words, size_t *factors);
 
 /* The product: coefficient e is the sum of x_i * y_j modulo m over i + j = e. NM_BAD_ARGUMENT: m is 0; out_length isn't
@@ -535,9 +596,9 @@ NM_CHECK nm_code_t nm_polynomial_multiply_negacyclic(uint64_t m, const uint64_t 
  * transform is computed by a product of polynomials, in the scratch lists words and factors, else by the sums. The
  * scratch lists have unspecified contents afterwards. */
 
-/* The lengths of the two scratch lists for n = length numbers: 0 where n is below 6, else 6 * n words, and from n = 200
- * on 4 * e words more and 3 * e / 2 factors, e being the least power of two that is at least 3 * n - 1.
- * NM_BAD_ARGUMENT: 3 * n is above 2^32. */
+/* The lengths of the two scratch lists of a transform: for n = length numbers 0 where n is below 6, else 6 * n words,
+ * and from n = 200 on 4 * e words more and 3 * e / 2 factors, e being the least power of two that is at least 3 * n -
+ * 1. NM_BAD_ARGUMENT: 3 * n is above 2^32. */
 NM_CHECK nm_code_t nm_transform_room(size_t length, size_t *words, size_t *factors);
 
 /* Whether g is a root of unity of this order n modulo m, for which nm_transform_inverse undoes nm_transform: n is at
@@ -566,8 +627,8 @@ NM_CHECK nm_code_t nm_transform_inverse(uint64_t m, uint64_t g, const uint64_t *
 NM_CHECK nm_code_t nm_residues_encode(const uint64_t *moduli, size_t moduli_length, const uint64_t *words,
                                       size_t words_length, uint64_t *residues, size_t residues_length);
 
-/* The only number below the product of the n moduli that has the k residues: its words, with 0 above them, and its
- * digits in the mixed radix of the moduli, of which digit i counts the product of the moduli before modulus i. The
+/* The number that has the residues, the only one below the product of the n moduli: its words, with 0 above them, and
+ * its digits in the mixed radix of the moduli, of which digit i counts the product of the moduli before modulus i. The
  * scratch list inverses has unspecified contents afterwards. It takes about 3 * n^2 products for n words.
  * NM_BAD_ARGUMENT: a modulus is 0; two have a common divisor above 1; a residue isn't below its modulus; the number of
  * residues, digits or inverses isn't n; or there are fewer than n words. */

@@ -63,6 +63,7 @@ void header_rows(void);
 void plain_rows(void);
 void symbol_rows(void);
 void divider_rows(void);
+void word_list_rows(void);
 void montgomery_rows(void);
 void run_rows(void);
 void transform_rows(void);

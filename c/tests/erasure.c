@@ -74,6 +74,15 @@ static void refused_rows(void) {
     LIST(NM_BAD_ARGUMENT, message, RESTORE(in_order, 3, 2, SCRATCH_LENGTH), 7, 7, 7);
     LIST(NM_BAD_ARGUMENT, message, RESTORE(in_order, 2, 3, SCRATCH_LENGTH), 7, 7, 7);
     LIST(NM_BAD_ARGUMENT, message, RESTORE(in_order, 3, 3, NM_ERASURE_RESTORE_SCRATCH(8, 3, 3) - 1), 7, 7, 7);
+    /* of several faults the first */
+    const size_t all_beyond[2] = {8, 8}, beyond_first[3] = {8, 1, 1}, twice_first[3] = {1, 1, 8};
+    const size_t beyond_apart[3] = {0, 7, 8}, twice_apart[3] = {0, 7, 0};
+    LIST(NM_BAD_ARGUMENT, message, RESTORE(all_beyond, 2, 3, SCRATCH_LENGTH), 7, 7, 7);
+    LIST(NM_TOO_FEW_SYMBOLS, message, RESTORE(all_beyond, 2, 2, SCRATCH_LENGTH), 7, 7, 7);
+    LIST(NM_PLACE_OUT_OF_RANGE, message, RESTORE(beyond_first, 3, 3, SCRATCH_LENGTH), 7, 7, 7);
+    LIST(NM_PLACE_TWICE, message, RESTORE(twice_first, 3, 3, SCRATCH_LENGTH), 7, 7, 7);
+    LIST(NM_PLACE_OUT_OF_RANGE, message, RESTORE(beyond_apart, 3, 3, SCRATCH_LENGTH), 7, 7, 7);
+    LIST(NM_PLACE_TWICE, message, RESTORE(twice_apart, 3, 3, SCRATCH_LENGTH), 7, 7, 7);
     LIST(NM_OK, message, RESTORE(in_order, 3, 3, NM_ERASURE_RESTORE_SCRATCH(8, 3, 3)), 1, 2, 1000);
 #undef RESTORE
     message[2] = 7;
@@ -172,8 +181,12 @@ static void secret_rows(void) {
     LIST(NM_BAD_ARGUMENT, shares, SHARE(of_929, counted + 1, 2, 6), 7, 7, 7);
     LIST(NM_BAD_ARGUMENT, shares, SHARE(of_929, counted + 1, 3, NM_ERASURE_ENCODE_SCRATCH(3, 3) - 1), 7, 7, 7);
 #undef SHARE
-    LIST(NM_OK, shares, nm_erasure_share(&of_929, counted + 1, 3, NULL, 0, shares, 3, scratch, 3), 0, 0, 0);
-    CODE(NM_OK, nm_erasure_share(&of_929, NULL, 0, coefficients, 3, NULL, 0, scratch, 3));
+    /* no secret, and fewer points than would recover it */
+    LIST(NM_BAD_ARGUMENT, shares, nm_erasure_share(&of_929, counted + 1, 3, NULL, 0, shares, 3, scratch, 6), 7, 7, 7);
+    CODE(NM_BAD_ARGUMENT, nm_erasure_share(&of_929, NULL, 0, NULL, 0, NULL, 0, scratch, 6));
+    LIST(NM_BAD_ARGUMENT, shares, nm_erasure_share(&of_929, counted + 1, 2, coefficients, 3, shares, 2, scratch, 6), 7, 7, 7);
+    CODE(NM_BAD_ARGUMENT, nm_erasure_share(&of_929, NULL, 0, coefficients, 3, NULL, 0, scratch, 6));
+    LIST(NM_OK, shares, nm_erasure_share(&of_929, counted + 1, 1, coefficients, 1, shares, 1, scratch, 2), 123, 7, 7);
     CODE(NM_BAD_ARGUMENT, nm_erasure_share(&of_929, counted + 1, 3, coefficients, 3, shares, 3, NULL, 0));
 }
 

@@ -18,6 +18,7 @@ int main(void) {
     symbol_rows();
     divider_rows();
     montgomery_rows();
+    word_list_rows();
     run_rows();
     transform_rows();
     plan_rows();

@@ -160,13 +160,12 @@ void divider_rows(void) {
 }
 
 /* the preprocessor reads codes, operations and versions */
-#if NM_OK != 0 || NM_LOAD != 0 || NM_POW != 9 || NM_NOT_FOUND != 5 || NM_VERSION_MAJOR > 0
+#if NM_OK != 0 || NM_LOAD != 0 || NM_POW != 9 || NM_NOT_FOUND != 5 || NM_VERSION != 700
 #error "a macro of the header has another value"
 #endif
 
 void header_rows(void) {
-    uint32_t version = 10000 * NM_VERSION_MAJOR + 100 * NM_VERSION_MINOR + NM_VERSION_PATCH;
-    row("nm_version()", nm_version() == version, nm_version());
+    row("nm_version()", nm_version() == NM_VERSION, nm_version());
     for (uint32_t code = 0; code <= NM_POINT_WITHOUT_INVERSE + 1; code++)
         for (uint32_t other = 0; other < code; other++)
             row("nm_strerror", strcmp(nm_strerror(code), nm_strerror(other)) != 0, code);

@@ -24,7 +24,7 @@ static void make_rows(void) {
     CODE(NM_NO_ROOT, nm_plan_make(17, 4, NULL, 0, &plan));
     row("a plan that isn't made", is_untouched(&plan), NM_OK);
     LIST(NM_OK, table, nm_plan_make(17, 21, table, 2, &plan), OF_17);
-    row("a plan", plan.modulus == 17 && plan.root == 21 && plan.table == table && plan.table_length == 2, NM_OK);
+    row("a plan", plan.modulus == 17 && plan.root == 4 && plan.table == table && plan.table_length == 2, NM_OK);
     CODE(NM_OK, nm_plan_check(&plan));
 }
 

@@ -9,42 +9,43 @@
 /* tables: a value and its quotient in turn */
 static void table_rows(void) {
     nm_factor_t table[2] = {{7, 7}, {7, 7}};
-    LIST(NM_BAD_ARGUMENT, table, nm_plan(0, 1, table, 2), 7, 7, 7, 7);
-    LIST(NM_BAD_ARGUMENT, table, nm_plan(GREATEST + 1, 1, table, 2), 7, 7, 7, 7);
-    LIST(NM_BAD_ARGUMENT, table, nm_plan(UINT64_MAX, UINT64_MAX - 1, table, 1), 7, 7, 7, 7);
-    LIST(NM_NO_ROOT, table, nm_plan(17, 3, table, 2), 7, 7, 7, 7);
-    LIST(NM_NO_ROOT, table, nm_plan(17, 4, table, 1), 7, 7, 7, 7);
-    CODE(NM_NO_ROOT, nm_plan(17, 4, NULL, 0));
-    LIST(NM_OK, table, nm_plan(17, 4, table, 2), OF_17);
-    LIST(NM_OK, table, nm_plan(17, 21, table, 2), OF_17);
-    LIST(NM_OK, table, nm_plan(85, 13, table, 2), 1, UINT64_C(217020518514230019), 13, UINT64_C(2821266740684990247));
-    LIST(NM_OK, table, nm_plan(GREATEST, GREATEST - 1, table, 1), 1, 4);
-    LIST(NM_OK, table, nm_plan(20, 19, table, 1), 1, UINT64_C(922337203685477580));
-    LIST(NM_OK, table, nm_plan(1, 5, table, 2), 0, 0, 0, 0);
+    LIST(NM_BAD_ARGUMENT, table, nm_fill_table(0, 1, table, 2), 7, 7, 7, 7);
+    LIST(NM_BAD_ARGUMENT, table, nm_fill_table(GREATEST + 1, 1, table, 2), 7, 7, 7, 7);
+    LIST(NM_BAD_ARGUMENT, table, nm_fill_table(UINT64_MAX, UINT64_MAX - 1, table, 1), 7, 7, 7, 7);
+    LIST(NM_NO_ROOT, table, nm_fill_table(17, 3, table, 2), 7, 7, 7, 7);
+    LIST(NM_NO_ROOT, table, nm_fill_table(17, 4, table, 1), 7, 7, 7, 7);
+    CODE(NM_NO_ROOT, nm_fill_table(17, 4, NULL, 0));
+    LIST(NM_OK, table, nm_fill_table(17, 4, table, 2), OF_17);
+    LIST(NM_OK, table, nm_fill_table(17, 21, table, 2), OF_17);
+    LIST(NM_OK, table, nm_fill_table(85, 13, table, 2), 1, UINT64_C(217020518514230019), 13,
+         UINT64_C(2821266740684990247));
+    LIST(NM_OK, table, nm_fill_table(GREATEST, GREATEST - 1, table, 1), 1, 4);
+    LIST(NM_OK, table, nm_fill_table(20, 19, table, 1), 1, UINT64_C(922337203685477580));
+    LIST(NM_OK, table, nm_fill_table(1, 5, table, 2), 0, 0, 0, 0);
     nm_factor_t three[3] = {{7, 7}, {7, 7}, {7, 7}};
-    LIST(NM_NO_ROOT, three, nm_plan(17, 4, three, 3), 7, 7, 7, 7, 7, 7);
+    LIST(NM_NO_ROOT, three, nm_fill_table(17, 4, three, 3), 7, 7, 7, 7, 7, 7);
 }
 
 /* which tables are those of a root */
 static void fits_rows(void) {
     nm_factor_t table[8];
-    CODE(NM_OK, nm_plan(17, 3, table, 8));
-    CODE(NM_OK, nm_plan_fits(17, 3, table, 8));
-    CODE(NM_OK, nm_plan_fits(17, 20, table, 8));
-    CODE(NM_OK, nm_plan_fits(17, 9, table, 4));
-    CODE(NM_OK, nm_plan_fits(17, 13, table, 2));
-    CODE(NM_OK, nm_plan_fits(17, 16, table, 1));
-    CODE(NM_BAD_CONTEXT, nm_plan_fits(17, 5, table, 8));
-    CODE(NM_BAD_CONTEXT, nm_plan_fits(17, 4, table, 2));
-    CODE(NM_BAD_CONTEXT, nm_plan_fits(97, 96, table, 1));
-    CODE(NM_NO_ROOT, nm_plan_fits(17, 3, table, 4));
-    CODE(NM_NO_ROOT, nm_plan_fits(17, 3, table, 7));
-    CODE(NM_NO_ROOT, nm_plan_fits(17, 3, NULL, 0));
-    CODE(NM_BAD_ARGUMENT, nm_plan_fits(0, 3, table, 8));
-    CODE(NM_BAD_ARGUMENT, nm_plan_fits(GREATEST + 1, 3, table, 8));
+    CODE(NM_OK, nm_fill_table(17, 3, table, 8));
+    CODE(NM_OK, nm_table_fits(17, 3, table, 8));
+    CODE(NM_OK, nm_table_fits(17, 20, table, 8));
+    CODE(NM_OK, nm_table_fits(17, 9, table, 4));
+    CODE(NM_OK, nm_table_fits(17, 13, table, 2));
+    CODE(NM_OK, nm_table_fits(17, 16, table, 1));
+    CODE(NM_BAD_CONTEXT, nm_table_fits(17, 5, table, 8));
+    CODE(NM_BAD_CONTEXT, nm_table_fits(17, 4, table, 2));
+    CODE(NM_BAD_CONTEXT, nm_table_fits(97, 96, table, 1));
+    CODE(NM_NO_ROOT, nm_table_fits(17, 3, table, 4));
+    CODE(NM_NO_ROOT, nm_table_fits(17, 3, table, 7));
+    CODE(NM_NO_ROOT, nm_table_fits(17, 3, NULL, 0));
+    CODE(NM_BAD_ARGUMENT, nm_table_fits(0, 3, table, 8));
+    CODE(NM_BAD_ARGUMENT, nm_table_fits(GREATEST + 1, 3, table, 8));
     nm_factor_t other = table[3];
     table[3] = table[4], table[4] = other;
-    CODE(NM_BAD_CONTEXT, nm_plan_fits(17, 3, table, 8));
+    CODE(NM_BAD_CONTEXT, nm_table_fits(17, 3, table, 8));
 }
 
 /* what every call answers of a table that isn't one of the modulus */
@@ -62,13 +63,13 @@ static void bad_table_rows(uint64_t m, const nm_factor_t *table) {
 static void changed_table_rows(void) {
     nm_factor_t table[4];
     for (int bit = 0; bit < 512; bit++) {
-        CODE(NM_OK, nm_plan(17, 9, table, 4));
+        CODE(NM_OK, nm_fill_table(17, 9, table, 4));
         nm_factor_t *entry = &table[bit / 128];
         *(bit % 128 < 64 ? &entry->value : &entry->quotient) ^= UINT64_C(1) << bit % 64;
-        CODE(NM_BAD_CONTEXT, nm_plan_fits(17, 9, table, 4));
+        CODE(NM_BAD_CONTEXT, nm_table_fits(17, 9, table, 4));
         bad_table_rows(17, table);
     }
-    CODE(NM_OK, nm_plan(17, 9, table, 4));
+    CODE(NM_OK, nm_fill_table(17, 9, table, 4));
     bad_table_rows(97, table);
     bad_table_rows(3, table);
     bad_table_rows(GREATEST, table);
@@ -78,7 +79,7 @@ static void transform_planned_rows(void) {
     nm_factor_t table[8];
     uint64_t xs[4] = {1, 2, 3, 4}, high[4] = {67, 66, 3, 4}, three[3] = {1, 2, 3}, one[1] = {67};
     uint64_t ys[16], two[2] = {UINT64_MAX, UINT64_MAX - 1};
-    CODE(NM_OK, nm_plan(17, 3, table, 8));
+    CODE(NM_OK, nm_fill_table(17, 3, table, 8));
     for (int i = 0; i < 16; i++) ys[i] = (uint64_t)i + 1;
     LIST(NM_OK, ys, nm_ntt_planned(17, ys, 16, table, 8), 0, 8, 2, 15, 7, 4, 6, 5, 9, 13, 12, 14, 11, 3, 16, 10);
     for (int i = 0; i < 16; i++) ys[i] = (uint64_t)i + 1;
@@ -89,17 +90,17 @@ static void transform_planned_rows(void) {
     CODE(NM_BAD_ARGUMENT, nm_ntt_planned(17, NULL, 0, table, 8));
     LIST(NM_BAD_ARGUMENT, xs, nm_ntt_planned(0, xs, 4, table, 8), 1, 2, 3, 4);
     LIST(NM_BAD_ARGUMENT, xs, nm_ntt_planned(GREATEST + 1, xs, 4, table, 8), 1, 2, 3, 4);
-    CODE(NM_OK, nm_plan(17, 4, table, 2));
+    CODE(NM_OK, nm_fill_table(17, 4, table, 2));
     LIST(NM_OK, xs, nm_ntt_planned(17, xs, 4, table, 2), 10, 7, 15, 6);
     LIST(NM_OK, high, nm_ntt_planned(17, high, 4, table, 2), 4, 6, 0, 3);
     high[3] = 68;
     LIST(NM_BAD_ARGUMENT, high, nm_ntt_planned(17, high, 4, table, 2), 4, 6, 0, 68);
-    CODE(NM_OK, nm_plan(GREATEST, GREATEST - 1, table, 1));
+    CODE(NM_OK, nm_fill_table(GREATEST, GREATEST - 1, table, 1));
     LIST(NM_OK, two, nm_ntt_planned(GREATEST, two, 2, table, 1), UINT64_C(4611686018427387901), 1);
     /* factors that are no root's table: the words are below m */
-    CODE(NM_OK, nm_plan(17, 4, table, 2));
+    CODE(NM_OK, nm_fill_table(17, 4, table, 2));
     table[1] = table[0];
-    CODE(NM_BAD_CONTEXT, nm_plan_fits(17, 4, table, 2));
+    CODE(NM_BAD_CONTEXT, nm_table_fits(17, 4, table, 2));
     CODE(NM_OK, nm_ntt_planned(17, xs, 4, table, 2));
     row("words below m", xs[0] < 17 && xs[1] < 17 && xs[2] < 17 && xs[3] < 17, NM_OK);
 }
@@ -108,7 +109,7 @@ static void split_rows(void) {
     nm_factor_t table[8];
     const uint64_t start[8] = {37, 65, 49, 43, 2, 57, 56, 62};
     uint64_t xs[8];
-    CODE(NM_OK, nm_plan(17, 3, table, 8));
+    CODE(NM_OK, nm_fill_table(17, 3, table, 8));
 #define RESTART memcpy(xs, start, sizeof xs)
     RESTART;
     LIST(NM_OK, xs, nm_split(17, xs, 8, table, 8, 0, 1), 14, 2, 2, 2, 3, 4, 7, 7);
@@ -138,7 +139,7 @@ static void product_rows(void) {
     nm_factor_t table[8];
     const uint64_t left[8] = {37, 65, 49, 43, 2, 57, 56, 62}, right[8] = {36, 58, 18, 59, 33, 0, 55, 22};
     uint64_t xs[8], ys[8], two[2] = {7, 9}, one[2] = {1, 0};
-    CODE(NM_OK, nm_plan(17, 3, table, 8));
+    CODE(NM_OK, nm_fill_table(17, 3, table, 8));
 #define RESTART (memcpy(xs, left, sizeof xs), memcpy(ys, right, sizeof ys))
     RESTART;
     LIST(NM_OK, xs, nm_convolve_planned(17, xs, 8, ys, 8, table, 4, 1), 9, 1, 12, 14, 3, 6, 8, 5);
@@ -169,7 +170,7 @@ static void product_rows(void) {
     CODE(NM_BAD_ARGUMENT, nm_convolve_planned(17, NULL, 0, NULL, 0, table, 8, 1));
     ys[7] = 68;
     LIST(NM_BAD_ARGUMENT, xs, nm_convolve_planned(17, xs, 8, ys, 8, table, 8, 1), 37, 65, 49, 43, 2, 57, 56, 62);
-    CODE(NM_OK, nm_plan(20, 19, table, 1));
+    CODE(NM_OK, nm_fill_table(20, 19, table, 1));
     LIST(NM_NO_INVERSE, two, nm_convolve_planned(20, two, 2, one, 2, table, 1, 1), 7, 9);
     LIST(NM_NO_INVERSE, one, NM_NO_INVERSE, 1, 0);
     LIST(NM_OK, two, nm_convolve_planned(20, two, 2, one, 2, table, 1, 2), 7, 9);
@@ -181,7 +182,7 @@ static void product_rows(void) {
 static void empty_rows(void) {
     nm_factor_t table[8];
     uint64_t one[1] = {67}, four[4] = {67, 66, 3, 4}, two[2] = {67, 66};
-    CODE(NM_OK, nm_plan(17, 3, table, 8));
+    CODE(NM_OK, nm_fill_table(17, 3, table, 8));
     CODE(NM_BAD_ARGUMENT, nm_split(17, NULL, 0, table, 8, 0, 1));
     CODE(NM_BAD_ARGUMENT, nm_split(17, NULL, 0, NULL, 0, 0, 1));
     LIST(NM_OK, one, nm_split(17, one, 1, NULL, 0, 0, 1), 16);
@@ -212,8 +213,8 @@ static void long_rows(void) {
         for (size_t i = 0; i < n; i++) xs[i] = ys[i] = (word = word * UINT64_C(6364136223846793005) + 1) % (4 * m);
         CODE(NM_OK, nm_montgomery(m, &ring));
         CODE(NM_OK, nm_montgomery_find_root(&ring, n, &root));
-        CODE(NM_OK, nm_plan(m, root, table, n / 2));
-        CODE(NM_OK, nm_plan_fits(m, root, table, n / 2));
+        CODE(NM_OK, nm_fill_table(m, root, table, n / 2));
+        CODE(NM_OK, nm_table_fits(m, root, table, n / 2));
         CODE(NM_OK, nm_ntt_planned(m, xs, n, table, n / 2));
         CODE(NM_OK, nm_montgomery_ntt(&ring, ys, n, root));
         for (size_t i = 0; i < n; i++) wrong += xs[i] != ys[i];

@@ -39,6 +39,11 @@ static void plain_refusals(void) {
     REFUSES(NM_BAD_ARGUMENT, nm_powm(5, 3, 0, words));
     REFUSES(NM_BAD_ARGUMENT, nm_invm(5, 0, words));
     REFUSES(NM_NO_INVERSE, nm_invm(7, 21, words));
+    REFUSES(NM_BAD_ARGUMENT, nm_add_lists(0, words, 2, words + 8, 2));
+    REFUSES(NM_BAD_ARGUMENT, nm_sub_lists(7, words, 2, words + 8, 1));
+    REFUSES(NM_BAD_ARGUMENT, nm_multiply_lists(0, words, 2, words + 8, 2));
+    REFUSES(NM_BAD_ARGUMENT, nm_scale_list(0, words, 2, 5));
+    REFUSES(NM_BAD_ARGUMENT, nm_dot_product(0, words + 8, 2, words + 8, 2, words));
     REFUSES(NM_BAD_ARGUMENT, nm_jacobi(3, 8, symbol));
     REFUSES(NM_BAD_ARGUMENT, nm_jacobi_signed(2, -3, symbol));
     REFUSES(NM_BAD_ARGUMENT, nm_legendre(2, 9, symbol));
@@ -72,6 +77,16 @@ static void form_refusals(const nm_montgomery_t *ring, const nm_montgomery_t *ch
     REFUSES(NM_BAD_ARGUMENT, nm_montgomery_pow(ring, 20, 5, words));
     REFUSES(NM_BAD_ARGUMENT, nm_montgomery_inv(ring, 20, words));
     REFUSES(NM_NO_INVERSE, nm_montgomery_inv(ring, 0, words));
+    REFUSES(NM_BAD_CONTEXT, nm_montgomery_add_lists(changed, words, 2, words + 8, 2));
+    REFUSES(NM_BAD_CONTEXT, nm_montgomery_sub_lists(changed, words, 2, words + 8, 2));
+    REFUSES(NM_BAD_CONTEXT, nm_montgomery_multiply_lists(changed, words, 2, words + 8, 2));
+    REFUSES(NM_BAD_CONTEXT, nm_montgomery_scale_list(changed, words, 2, 5));
+    REFUSES(NM_BAD_CONTEXT, nm_montgomery_dot_product(changed, words + 8, 2, words + 8, 2, words));
+    REFUSES(NM_BAD_ARGUMENT, nm_montgomery_add_lists(ring, words + 18, 2, words + 8, 2));
+    REFUSES(NM_BAD_ARGUMENT, nm_montgomery_sub_lists(ring, words, 2, words + 18, 2));
+    REFUSES(NM_BAD_ARGUMENT, nm_montgomery_multiply_lists(ring, words, 2, words + 8, 1));
+    REFUSES(NM_BAD_ARGUMENT, nm_montgomery_scale_list(ring, words, 2, 20));
+    REFUSES(NM_BAD_ARGUMENT, nm_montgomery_dot_product(ring, words + 8, 2, words + 8, 1, words));
 }
 
 static void list_refusals(const nm_montgomery_t *ring, const nm_montgomery_t *changed) {
@@ -102,10 +117,10 @@ static void list_refusals(const nm_montgomery_t *ring, const nm_montgomery_t *ch
 static void plan_refusals(void) {
     uint64_t *others = words + 8;
     nm_factor_t table[2];
-    CODE(NM_OK, nm_plan(20, 19, table, 1));
+    CODE(NM_OK, nm_fill_table(20, 19, table, 1));
     table[1] = table[0];
-    REFUSES(NM_BAD_ARGUMENT, nm_plan(GREATEST + 1, 1, (nm_factor_t *)words, 2));
-    REFUSES(NM_NO_ROOT, nm_plan(17, 3, (nm_factor_t *)words, 2));
+    REFUSES(NM_BAD_ARGUMENT, nm_fill_table(GREATEST + 1, 1, (nm_factor_t *)words, 2));
+    REFUSES(NM_NO_ROOT, nm_fill_table(17, 3, (nm_factor_t *)words, 2));
     REFUSES(NM_BAD_ARGUMENT, nm_ntt_planned(1, words, 4, table, 2));
     REFUSES(NM_BAD_CONTEXT, nm_ntt_planned(17, words, 4, table, 2));
     REFUSES(NM_BAD_ARGUMENT, nm_split(20, words, 8, table, 2, 0, 1));

@@ -1,5 +1,6 @@
 """Hashes and searches, beside Python's integers and its own searches."""
 import array
+import ctypes
 import random
 
 import pytest
@@ -31,13 +32,33 @@ def test_hashes():
             polynomial_hash(data, base)
 
 
+def test_buffers_that_are_refused():
+    spread, objects = memoryview(b"abcdef")[::2], (ctypes.py_object * 2)("a", "b")
+    calls = {
+        "the text": (lambda it: polynomial_hash(it, 5), lambda it: find(it, b"a"), lambda it: find_all(it, [b"a"]), PrefixHashes),
+        "the pattern": (lambda it: find(b"ab", it),),
+        "each pattern": (lambda it: find_all(b"ab", [it]),),
+    }
+    for name, call in ((name, call) for name, listed in calls.items() for call in listed):
+        with pytest.raises(ValueError, match=f"^{name} must be contiguous$"):
+            call(spread)
+        with pytest.raises(ValueError, match=f"^{name} must not hold objects$"):
+            call(objects)
+    text, kept = bytearray(b"ab"), []
+    for call in (lambda: find(text, "a"), lambda: find_all(text, ["a"]), lambda: find_all(text, [b"a", b"ab"])):
+        with pytest.raises((TypeError, ValueError)) as fault:
+            call()
+        kept.append(fault)
+        text.append(text.pop())  # BufferError: it is exported
+
+
 def test_search():
     draw = random.Random(6)
     for _ in range(500):
         text = bytes(draw.choice(b"ab") for _ in range(draw.randrange(60)))
         pattern = bytes(draw.choice(b"ab") for _ in range(draw.randrange(6)))
         for base in (None, 0, 1000, 2**64, -(2**70)):
-            assert find(text, pattern, base) == text.find(pattern)
+            assert find(text, pattern, base=base) == text.find(pattern)
 
 
 def test_searches_for_several_patterns():
@@ -51,8 +72,11 @@ def test_searches_for_several_patterns():
             if text[at : at + size] in patterns:
                 want[at] = patterns.index(text[at : at + size])
         for base in (None, 0, 1000, 2**64, -(2**70)):
-            assert find_all(text, patterns, base) == want
+            assert find_all(text, patterns, base=base) == want
     assert find_all(bytearray(b"xyx"), [memoryview(b"x")]) == {0: 0, 2: 0}
+    for call in (lambda: find(b"abcb", b"b", 2), lambda: find_all(b"abcb", [b"b"], 2)):  # 2 isn't where to begin
+        with pytest.raises(TypeError):
+            call()
     with pytest.raises(ValueError, match="same length"):
         find_all(b"abc", [b"a", b"ab"])
     with pytest.raises(TypeError, match="^each pattern must be bytes-like: encode str first$"):

@@ -1,5 +1,6 @@
 """Transforms, products and runs of commands on lists and on arrays that are changed in place."""
 import array
+import ctypes
 import inspect
 import random
 import sys
@@ -8,7 +9,7 @@ import typing
 
 import pytest
 
-from num_modular import Montgomery, NoInverseError, NoRootError, Plan
+from num_modular import ErasureCode, Montgomery, NoInverseError, NoRootError, Plan, decode, encode, multiply
 
 PRIMES = (193, 12289, 998244353, 4611686018326724609)
 
@@ -94,6 +95,37 @@ def test_arrays_are_changed_in_place():
         assert (xs, ys) == ([1, 2, 3, 0], [4, 5, 0, 0])
 
 
+@pytest.mark.parametrize("m", (1, 2, 97, 2**63 + 1, 2**64 - 1))
+def test_operations_entry_by_entry(m):
+    draw, ring = random.Random(m), Montgomery(m)
+    for n in (0, 1, 5, 100):
+        xs, ys = ([draw.choice([draw.getrandbits(64), 2**64 - 1, 0]) for _ in range(n)] for _ in range(2))
+        wide = [it - draw.randrange(-(2**70), 2**70) * m for it in xs]
+        factor = draw.getrandbits(70) - 2**69
+        rows = (
+            (ring.add_lists, ys, [(x + y) % m for x, y in zip(xs, ys)]),
+            (ring.sub_lists, ys, [(x - y) % m for x, y in zip(xs, ys)]),
+            (ring.multiply_lists, ys, [x * y % m for x, y in zip(xs, ys)]),
+            (ring.scale_list, factor, [x * factor % m for x in xs]),
+        )
+        for call, other, wanted in rows:
+            assert call(xs, other) == call(tuple(wide), other) == wanted
+            for first, second in zip(arrays(xs), arrays(ys)):
+                assert call(first, other if other is factor else second) is first and list(first) == wanted
+                assert list(second) == ys
+        for first, second in ((xs, ys), (wide, ys), *zip(arrays(xs), arrays(ys))):
+            assert ring.dot_product(first, second) == sum(x * y for x, y in zip(xs, ys)) % m
+            assert ring.dot_product(first, first) == sum(x * x for x in xs) % m
+    with pytest.raises(ValueError, match="the lists have 1 and 2 words"):
+        ring.add_lists([1], [1, 2])
+    with pytest.raises(ValueError, match="the lists have 2 and 1 words"):
+        ring.dot_product([1, 2], array.array("Q", [1]))
+    words = array.array("Q", [1, 2])
+    for call in (ring.add_lists, ring.sub_lists, ring.multiply_lists):
+        with pytest.raises(ValueError, match="overlap"):
+            call(words, words)
+
+
 def test_empty_arrays():
     for xs in arrays([]):
         assert Montgomery(97).run(xs, []) is xs
@@ -113,6 +145,7 @@ def test_arrays_that_are_refused():
         (TypeError, memoryview(bytearray(64)).cast("Q", (2, 4))),
         (ValueError, memoryview(bytes(64)).cast("Q")),
         (ValueError, memoryview(bytearray(128)).cast("Q")[::2]),
+        (ValueError, (ctypes.py_object * 8)(*range(8))),
         (TypeError, 5),
         (TypeError, [1.5, 2]),
     ]
@@ -127,14 +160,33 @@ def test_arrays_that_are_refused():
             ring.convolve(xs, ys)
 
 
+def test_kept_exceptions():
+    xs, ys, ring, plan = array.array("Q", [400, 1, 2]), array.array("Q", [1, 2]), Montgomery(97), Plan(97, 4)
+    calls = (
+        lambda: ring.ntt(xs), lambda: plan.ntt(xs), lambda: ring.run(xs, [("inv", 3, 0)]), lambda: ring.run(xs, [("load", 0, 0), ("inv", 0, 0)]),
+        lambda: ring.add_lists(xs, ys), lambda: ring.dot_product(xs, ys), lambda: ring.scale_list(xs, 1.5),
+        lambda: ring.convolve(xs, ys), lambda: plan.convolve(xs, "no list"), lambda: plan.convolve(xs, array.array("Q", [1, 2, 3])),
+    )
+    kept = []
+    for call in calls:
+        with pytest.raises((TypeError, ValueError)) as fault:
+            call()
+        kept.append(fault)
+        for words in (xs, ys):
+            words.append(words.pop())  # BufferError: it is exported
+
+
 def test_arrays_of_numpy_that_are_refused():
     numpy = pytest.importorskip("numpy")
     unaligned = numpy.frombuffer(bytearray(65), numpy.uint8)[1:].view(numpy.uint64)
     swapped = numpy.zeros(8, numpy.dtype(numpy.uint64).newbyteorder())
     read_only = numpy.zeros(8, numpy.uint64)
     read_only.flags.writeable = False
-    for xs in (unaligned, swapped, read_only, numpy.zeros((2, 4), numpy.uint64), numpy.zeros(16, numpy.uint64)[::2], numpy.zeros(8)):
+    for xs in (unaligned, swapped, read_only, numpy.zeros((2, 4), numpy.uint64), numpy.zeros(8)):
         with pytest.raises((TypeError, ValueError)):
+            Montgomery(97).ntt(xs)
+    for xs in (numpy.zeros(16, numpy.uint64)[::2], numpy.zeros(8, object)):
+        with pytest.raises(ValueError):
             Montgomery(97).ntt(xs)
 
 
@@ -234,10 +286,23 @@ def test_runs():
         (("load", 9, 1), "^command 1 names register 9, but"),
         (("load", -1, 1), "^command 1 names register -1, but there are 2 registers, counted from 0$"),
         (("sqr", 0, 2**64), "^command 1 names register 18446744073709551616, but"),
-        (("pow", 0, 1, -1), "^the exponent of command 1 must be from 0 to"),
+        (("pow", 0, 1, -(2**64)), r"^the exponent of command 1 must be between -2\^64 and 2\^64$"),
     ):
         with pytest.raises(ValueError, match=fault):
             ring.run([0, 0], [("load", 1, 3), command])
+    assert ring.run([5, 2], [("pow", 0, 0, -3), ("pow", 1, 0, 0)]) == [pow(5, -3, 21), 1]
+    with pytest.raises(NoInverseError, match="^14 has no inverse modulo 21 in command 2$") as told:
+        ring.run([5, 14], [("pow", 0, 0, -1), ("pow", 0, 0, -1), ("pow", 0, 1, -2), ("load", 0, 0)])
+    assert (told.value.at, told.value.registers, told.value.number) == (2, [5, 14], 14)
+
+
+def test_sets_are_refused():
+    code, words = ErasureCode(97, range(4)), {1, 2, 3, 4}
+    for call in (Montgomery(97).ntt, Plan(97, 4).ntt, code.encode, lambda it: multiply(it, [1], 97), lambda it: Montgomery(97).run(it, []),
+                 lambda it: ErasureCode(97, it), lambda it: encode(it, 5), lambda it: decode([5, 7], it)):
+        for it in (words, frozenset(words), dict.fromkeys(words).keys()):
+            with pytest.raises(TypeError, match="^a set has no order: pass a list$"):
+                call(it)
 
 
 def test_types():
@@ -246,7 +311,7 @@ def test_types():
         pytest.skip("typing.get_overloads is of Python 3.11")
     calls = [call for kind in (Montgomery, Plan) for name, call in vars(kind).items() if not name.startswith("_")]
     named = [call for call in calls if getattr(call, "__annotations__", {}).get("return") == "Any"]
-    assert len(named) == 10
+    assert len(named) == 14
     for call in named:
         array_kind, list_kind = (list(it.__annotations__.values()) for it in typing.get_overloads(call))
         assert (array_kind[0], array_kind[-1]) == ("Array", "Array")
@@ -254,6 +319,14 @@ def test_types():
         assert array_kind[1:-1] == list_kind[1:-1]
         names = [list(inspect.signature(it).parameters) for it in (call, *typing.get_overloads(call))]
         assert names[0] == names[1] == names[2]
+
+
+def test_a_plan_over_an_even_modulus():
+    plan = Plan(2, 2)
+    assert (plan.ntt([1, 1]), plan.intt([1]), plan.convolve([1], [1])) == ([0, 0], [1], [1])
+    for call in (plan.intt, lambda xs: plan.convolve(xs, xs)):
+        with pytest.raises(NoInverseError, match="^2 has no inverse modulo 2$"):
+            call([1, 1])
 
 
 def test_threads_share_a_plan():

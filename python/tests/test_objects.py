@@ -5,15 +5,17 @@ import pickle
 
 import pytest
 
-from num_modular import Divider, ErasureCode, Montgomery, Plan, PrefixHashes
+from num_modular import Divider, ErasureCode, Mod, Montgomery, Plan, PrefixHashes
 
 # Each object of the row is equal to the others, and to none of another row; the text of the first.
 ROWS = [
     ((Divider(7), Divider(7)), "Divider(7)"),
     ((Divider(97), Divider(97)), "Divider(97)"),
+    ((Mod(3, 98), Mod(101, 98)), "Mod(3, 98)"),
+    ((Mod(3, 99), Mod(-96, 99)), "Mod(3, 99)"),
     ((Montgomery(97), Montgomery(97)), "Montgomery(97)"),
     ((Montgomery(98), Montgomery(98)), "Montgomery(98)"),
-    ((Plan(97, 8), Plan(97, 8, 64), Plan(97, 8, 64 - 97)), "Plan(97, 8, 64)"),
+    ((Plan(97, 8), Plan(97, 8, 64), Plan(97, 8, 64 - 97), Plan(97, 8, 64 + 97)), "Plan(97, 8, 64)"),
     ((Plan(97, 4), Plan(97, 4)), "Plan(97, 4, 22)"),
     ((Plan(97, 8, 33), Plan(97, 8, 33)), "Plan(97, 8, 33)"),
     ((ErasureCode(97, range(3)), ErasureCode(97, [97, 1, -95])), "ErasureCode(97, (0, 1, 2))"),
@@ -50,9 +52,9 @@ def test_copies():
 
 
 def test_a_divider_as_the_right_operand():
-    for n in (0, 6, 100, 2**66):
+    for n in (0, 6, 100, 2**66, -1, -7, -8, -(7 << 64)):
         assert (divmod(n, Divider(7)), n // Divider(7), n % Divider(7)) == (divmod(n, 7), n // 7, n % 7)
-    for n, fault in ((-1, ValueError), (7 << 64, ValueError), (1.0, TypeError)):
+    for n, fault in ((-(7 << 64) - 1, ValueError), (7 << 64, ValueError), (1.0, TypeError)):
         for call in (lambda: divmod(n, Divider(7)), lambda: n // Divider(7), lambda: n % Divider(7)):
             with pytest.raises(fault):
                 call()

@@ -101,6 +101,9 @@ def test_roots_of_unity():
                     xs = [draw.randrange(m) for _ in range(n)]
                     assert transform_inverse(transform(xs, g, m), g, m) == xs
     assert transform_root_fits(2**70, 1, 1)
+    # these would take centuries
+    assert transform_root_fits(5, 2**64 - 1, 1) and not transform_root_fits(1, 2**64 - 1, 7)
+    assert not transform_root_fits(3, 2**63, 2**62 - 57)
 
 
 def test_what_is_no_transform():

@@ -108,8 +108,9 @@ def test_division():
         d = draw.getrandbits(draw.randrange(1, 65)) or 1
         n = draw.randrange(d << 64)
         assert Divider(d).divmod(n) == divmod(n, d)
-    for n in (7 << 64, -1, 1 << 128):
-        with pytest.raises(ValueError, match="the dividend must be from 0 to"):
+        assert Divider(d).divmod(-n - 1) == divmod(-n - 1, d)
+    for n in (7 << 64, -(7 << 64) - 1, 1 << 128):
+        with pytest.raises(ValueError, match=r"^the dividend must be from -2\^64 \* 7 to 2\^64 \* 7 - 1$"):
             Divider(7).divmod(n)
     for d in (0, -1, TOP):
         with pytest.raises(ValueError, match="the divisor must be from 1 to"):

@@ -11,10 +11,10 @@ function escaped(text) {
     return text
 }
 
-# the comment's first sentence, without its full stop
+# the comment's first sentence up to a colon, a semicolon or a comma, as the one line of a manual's index
 function summary(text) {
     gsub(/\n/, " ", text)
-    sub(/\. .*$/, "", text)
+    sub(/[.:;,] .*$/, "", text)
     sub(/\.$/, "", text)
     return escaped(text)
 }

@@ -1,4 +1,5 @@
 //! Transforms of any length, compared with the sums of their definition, and taken back.
+#![cfg(target_pointer_width = "64")]
 
 use num_modular::applications::long_product::any_length::{intt, is_root_of_order, ntt, room, LEAST_CONVOLVED};
 use num_modular::applications::long_product::fill_plans;

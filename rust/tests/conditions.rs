@@ -1,5 +1,5 @@
 //! Calls outside their conditions, which the checker refuses and rustc doesn't: each line of the lists in README.md, with the
-//! words of the panic, whose place is the call. docs/DIFFERENCES.md compares some of these with the Rust crate.
+//! words of the panic, whose place is the call. bench/examples/differences.rs makes some of these calls with the Rust crate.
 
 #![allow(unstable_name_collisions)]
 
@@ -10,15 +10,18 @@ use num_modular::applications::check_digits;
 use num_modular::hashes;
 use num_modular::monty::neg_mod_inv;
 use num_modular::plans::{
-    convolve_block, convolve_negacyclic, convolve_planned, fill_table, join, multiply, ntt_planned, split, Factor, Plan, PlanEntry, PlannedModulus,
+    convolve_block, convolve_negacyclic, convolve_planned, fill_table, join, multiply, ntt_planned, split, Factor, Plan,
+    PlanEntry, PlannedModulus,
 };
-use num_modular::prim::by_subtraction;
+use num_modular::prim::{by_subtraction, symbol_over_prime};
 use num_modular::residues;
 use num_modular::ring::{convolve, find_root, intt, ntt, ntt_counted, run, RingCommand, RunEnd};
+use num_modular::secrets::{inv_secret, invm_secret, invm_secret_counted, pow_secret, pow_secret_counted};
+use num_modular::word;
 use num_modular::{
-    DivExact, FixedMersenne, FixedMersenne32, FixedMersenne64, FixedMontgomery32, FixedProth32, FixedProth64, FixedTrinomialSolinas32,
-    ModularAbs, ModularCoreOps, ModularPow, ModularRefOps, ModularSymbols, ModularUnaryOps, Montgomery, MontgomeryInt,
-    Normalized2by1Divisor, PreModInv, PreMulInv1by1, PreMulInv2by1, Reducer, Vanilla, VanillaInt,
+    DivExact, FixedMersenne, FixedMersenne32, FixedMersenne64, FixedMontgomery32, FixedProth32, FixedProth64,
+    FixedTrinomialSolinas32, ModularAbs, ModularCoreOps, ModularPow, ModularRefOps, ModularSymbols, ModularUnaryOps,
+    Montgomery, MontgomeryInt, Normalized2by1Divisor, PreModInv, PreMulInv1by1, PreMulInv2by1, Reducer, Vanilla, VanillaInt,
 };
 use panics::{message, place, DIVISOR, MODULUS, SHORT};
 use std::cell::RefCell;
@@ -51,8 +54,8 @@ fn texts_of_a_long_code() {
 
 #[test]
 fn parameters_out_of_range() {
-    panic_with!("the parameter P must be odd"; FixedMontgomery32::<6>::fixed_modulus(), FixedMontgomery32::<6>::new(&6));
-    panic_with!("K·2^N + 1 must be at most 2654435769"; FixedProth32::<31, 3>::fixed_modulus(), FixedProth32::<31, 3>::new(&2147483649));
+    panic_with!("the parameter P must be odd"; FixedMontgomery32::<6>::fixed_modulus());
+    panic_with!("K·2^N + 1 must be at most 2654435769"; FixedProth32::<31, 3>::fixed_modulus());
     panic_with!("K·2^N + 1 must be at most 11400714819323199485"; FixedProth64::<63, 3>::fixed_modulus());
     let proth = |greatest| format!("N must be from 1 to {greatest}, K must be odd, and K must be below 2^N");
     panic_with!(proth(31); FixedProth32::<0, 1>::fixed_modulus(), FixedProth32::<32, 1>::fixed_modulus());
@@ -61,22 +64,23 @@ fn parameters_out_of_range() {
     let mersenne = |greatest| format!("P must be at most {greatest}, K must be odd, and 2·K must be below 2^P");
     panic_with!(mersenne(32); FixedMersenne32::<4, 9>::fixed_modulus(), FixedMersenne32::<4, 9>::reduce_single(1000));
     panic_with!(mersenne(32); FixedMersenne32::<4, 2>::fixed_modulus(), FixedMersenne32::<33, 1>::fixed_modulus());
-    panic_with!(mersenne(32); FixedMersenne32::<4, 16>::reduce_single(1000), FixedMersenne32::<4, 16>::reduce_double(1000));
+    panic_with!(mersenne(32); FixedMersenne32::<4, 16>::reduce_single(1000), FixedMersenne32::<4, 16>::reduce_double(1000), FixedMersenne32::<4, 16>::reduce_uncounted(1000));
     panic_with!(mersenne(64); FixedMersenne64::<65, 1>::fixed_modulus(), FixedMersenne::<65, 1>::fixed_modulus());
     panic_with!(mersenne(64); FixedMersenne::<65, 1>::reduce_single(7));
     let width = "P1 must be at most the width of a word, and P2 must be from 1 to P1 - 1";
     panic_with!("K must be odd, and its magnitude must be below 2^P2";
         FixedTrinomialSolinas32::<5, 2, 5>::fixed_modulus(), FixedTrinomialSolinas32::<5, 2, 4>::reduce_single(7));
     panic_with!(width; FixedTrinomialSolinas32::<2, 5, 1>::fixed_modulus());
-    panic_with!(width; FixedTrinomialSolinas32::<33, 5, 1>::reduce_double(7), FixedTrinomialSolinas32::<33, 5, 1>::reduce_single(7));
+    panic_with!(width; FixedTrinomialSolinas32::<33, 5, 1>::reduce_double(7), FixedTrinomialSolinas32::<33, 5, 1>::reduce_single(7), FixedTrinomialSolinas32::<33, 5, 1>::reduce_uncounted(7));
 }
 
 #[test]
 fn fixed_reducers_of_other_moduli() {
-    let other = "the modulus must be that of the parameters";
-    panic_with!(other; FixedMontgomery32::<7>::new(&9), FixedProth32::<4, 1>::new(&19));
-    panic_with!(other; FixedMersenne32::<4, 1>::new(&7), FixedMersenne64::<4, 1>::new(&7), FixedMersenne::<4, 1>::new(&7));
-    panic_with!(other; FixedTrinomialSolinas32::<5, 2, 1>::new(&7));
+    let other = |m, parameters| format!("the modulus must be that of the parameters: {m} and {parameters}");
+    panic_with!(other(9, 7); FixedMontgomery32::<7>::new(&9));
+    panic_with!(other(19, 17); FixedProth32::<4, 1>::new(&19));
+    panic_with!(other(7, 15); FixedMersenne32::<4, 1>::new(&7), FixedMersenne64::<4, 1>::new(&7), FixedMersenne::<4, 1>::new(&7));
+    panic_with!(other(7, 29); FixedTrinomialSolinas32::<5, 2, 1>::new(&7));
 }
 
 #[test]
@@ -92,6 +96,17 @@ fn operations_modulo_0() {
 }
 
 #[test]
+fn words_of_ones() {
+    assert_eq!((word::w8::ones(8), word::w64::ones(0), word::w64::ones(64)), (255, 0, u64::MAX));
+    if cfg!(debug_assertions) {
+        panic_with!("n must be at most 8"; word::w8::ones(9));
+        panic_with!("n must be at most 16"; word::w16::ones(17));
+        panic_with!("n must be at most 32"; word::w32::ones(33));
+        panic_with!("n must be at most 64"; word::w64::ones(65), word::w64::ones(u32::MAX));
+    }
+}
+
+#[test]
 fn symbols_and_quotients_that_are_not_there() {
     panic_with!("n must be odd and above 0"; 7u8.jacobi(&16), 7u8.jacobi(&0), 7i8.jacobi(&-3));
     panic_with!("`checked_legendre` must be `Some`, as it is for each odd prime n"; 2u8.legendre(&9));
@@ -102,7 +117,20 @@ fn symbols_and_quotients_that_are_not_there() {
 #[test]
 fn moduli_that_are_not_odd() {
     panic_in_debug_with!("m must be odd"; by_subtraction::inverse(3u64, 10), neg_mod_inv::neginv(4u64), neg_mod_inv::w64::neginv(4));
+    let even = &Vanilla::<u64>::new(&10);
+    panic_with!("m must be odd"; invm_secret(3u64, &10), invm_secret_counted(3u64, &10), inv_secret(even, 3));
+    panic_with!("`bits` must be at most 64: 65"; pow_secret(even, 3, &5, 65), pow_secret_counted(even, 3, &5, 65));
+    panic_in_debug_with!("the exponent must be below 2^4"; pow_secret(even, 3, &16, 4), pow_secret_counted(even, 3, &16, 4));
     panic_in_debug_with!("n must be odd"; by_subtraction::jacobi(false, 3u64, 10));
+    panic_in_debug_with!("n must be an odd prime"; symbol_over_prime(3u32, 2) => 1);
+    if cfg!(debug_assertions) {
+        panic_with!("n must be an odd prime"; symbol_over_prime(2u8, 9), symbol_over_prime(2u8, 1), symbol_over_prime(2u8, 0),
+            symbol_over_prime(3i8, -7), symbol_over_prime(1u64, u64::MAX), symbol_over_prime(1u64, 3825123056546413051));
+    }
+    assert_eq!(
+        (symbol_over_prime(2u64, 18446744073709551557), symbol_over_prime(6u8, 3), symbol_over_prime(-1i8, 7)),
+        (-1, 0, -1)
+    );
 }
 
 #[test]
@@ -148,14 +176,17 @@ fn lists_of_commands() {
     };
     panic_in_debug_with!("each register must hold a checked form"; sum([1000; 4], 2) => RunEnd::Done);
     let words = message(|| sum([1; 4], 7)).unwrap_or_default();
-    let wanted = ["index out of bounds: the len is 4 but the index is 7", "each register number must be below the number of registers"];
+    let wanted =
+        ["index out of bounds: the len is 4 but the index is 7", "each register number must be below the number of registers"];
     assert_eq!(words, wanted[usize::from(cfg!(debug_assertions))]);
 }
 
 /// Commands that each name one register past a list of `n`, and else its first.
 fn commands_past(n: usize) -> Vec<RingCommand<u64>> {
     use RingCommand::*;
-    let ones = [(n, 0), (0, n)].into_iter().flat_map(|(dst, a)| [Neg { dst, a }, Dbl { dst, a }, Sqr { dst, a }, Inv { dst, a }, Pow { dst, a, exp: 5 }]);
+    let ones = [(n, 0), (0, n)]
+        .into_iter()
+        .flat_map(|(dst, a)| [Neg { dst, a }, Dbl { dst, a }, Sqr { dst, a }, Inv { dst, a }, Pow { dst, a, exp: 5 }]);
     let twos = [(n, 0, 0), (0, n, 0), (0, 0, n)]
         .into_iter()
         .flat_map(|(dst, a, b)| [Add { dst, a, b }, Sub { dst, a, b }, Mul { dst, a, b }, Div { dst, a, b }]);
@@ -279,7 +310,8 @@ fn transforms_by_plans() {
     panic_in_debug_with!("the entries must be below 4m"; planned_transform([1, 2, 3, 400]));
     let words = message(|| planned_transform([4000, 2, 3, 4])).unwrap_or_default();
     assert_eq!(words, "the entries must be below 4m");
-    let lengths = "the number of entries must be `last` times a power of two, and the table must have at least (b + 1)·(count/2) entries";
+    let lengths =
+        "the number of entries must be `last` times a power of two, and the table must have at least (b + 1)·(count/2) entries";
     panic_with!(format!("{lengths}: 3 entries, 2 factors, b = 0, last = 1"); planned_transform([1, 2, 3]));
     panic_with!(format!("{lengths}: 8 entries, 2 factors, b = 0, last = 1"); planned_transform([1, 2, 3, 4, 5, 6, 7, 8]));
     panic_with!(format!("{lengths}: 4 entries, 2 factors, b = 1, last = 1"); split(&modulus, &mut [1, 2, 3, 4], &table, 1, 1));
@@ -426,5 +458,6 @@ fn plans_over_filled_tables() {
     assert!(Plan::with_table(&modulus, 75, &table).is_none()); // 75 suits too, but the table has the powers of 22
     assert!(Plan::with_table(&modulus, 5, &table).is_none());
     assert!(Plan::with_table(&modulus, 22, &[table[1], table[0]]).is_none());
-    assert!(Plan::with_table(&PlannedModulus::<u64>::new(193), 81, &table).is_none()); // another modulus
+    assert!(Plan::with_table(&PlannedModulus::<u64>::new(193), 81, &table).is_none());
+    // another modulus
 }

@@ -3,11 +3,14 @@
 #[macro_use]
 mod panics;
 
+use num_modular::applications::check_digits::{iban_digits, Code, EAN_8};
+#[cfg(target_pointer_width = "64")]
+use num_modular::applications::long_product::{self, any_length, polynomials};
 use num_modular::applications::mersenne_hash::prefixes::PrefixHashes;
 use num_modular::applications::residue_numbers::{combine, from_remainders, ResidueSystem};
 use num_modular::applications::ring_codes::erasure::{
-    correct, encode, encode_systematic, evaluate, fill_powers, interpolate, is_codeword, points_fit, recover, recover_correct, restore,
-    restore_word, share, CorrectError, RestoreError,
+    correct, encode, encode_systematic, evaluate, fill_powers, interpolate, is_codeword, points_fit, recover, recover_correct,
+    restore, restore_word, share, CorrectError, RestoreError,
 };
 use num_modular::hashes;
 use num_modular::plans::PlannedModulus;
@@ -40,7 +43,7 @@ fn factors_and_words_of_planned_moduli() {
     panic_in_debug_with!("x must be below m"; modulus.multiply(1000, 5));
     panic_in_debug_with!("x + u must be below 2m"; modulus.product_sum(97, 1, 97, 1), modulus.product_sum(1, 1, u64::MAX, 1));
     panic_in_debug_with!("the factor was made by this modulus: its value must be below m, and its quotient must be value·B/m, rounded down";
-        modulus.product(5, &other), modulus.times(5, &other));
+        modulus.product(5, &other), modulus.times(5, &other), modulus.times_base(&other));
 }
 
 #[test]
@@ -123,6 +126,39 @@ fn shares_of_secrets() {
         recover(&ring(), &POINTS, &[0], &[97], &mut [0; 2], &mut [0; 2], &mut [0; 2]) => few);
     panic_in_debug_with!("points and shares must be checked forms";
         recover_correct(&ring(), &POINTS, &[0], &[97], &mut [0; 11], &mut [0; 2], &mut [0; 4]));
+}
+
+#[test]
+#[cfg(target_pointer_width = "64")]
+fn room_for_products() {
+    let digits = "the product must have at most 2^32 digits";
+    let most = 1 << 32;
+    panic_with!(digits; long_product::room(most, 400), long_product::room(most, 1), long_product::room_once(usize::MAX, 2));
+    panic_with!("xs + ys must be at most 2^32"; polynomials::room(most, 200), polynomials::room_once(usize::MAX, 2));
+    panic_with!("there must be at most 2^32 places"; long_product::transform_length(most + 1));
+    panic_with!("3·n must be at most 2^32"; any_length::room(most / 3 + 1), any_length::room(most));
+    assert_eq!((long_product::room(most - 400, 400), long_product::transform_length(most)), ((4 * most, most / 2), most));
+    assert_eq!(polynomials::room(most - 1, 1), (0, 0));
+}
+
+#[test]
+fn words_of_check_digits() {
+    let (word, wrong) = ([7, 3, 5, 1, 3, 5, 3, 7], [7, 3, 5, 1, 3, 5, 3, 8]);
+    panic_with!("each place must have a weight: 9 and 8"; EAN_8.check_sum(&[0; 9]));
+    panic_with!("the code must have the place"; EAN_8.fits(8, 0));
+    panic_in_debug_with!("the word must be accepted, and it must have the place"; EAN_8.finds_change(&wrong, 0, 2));
+    panic_in_debug_with!("the word must be accepted, and it must have both places"; EAN_8.finds_exchange(&wrong, 0));
+    let uneven = Code { greatest: &[9; 9], ..EAN_8 };
+    panic_in_debug_with!("the code must have a least and a greatest symbol for each weight: 8, 9 and 8"; uneven.accepts(&word) => true);
+    if cfg!(debug_assertions) {
+        let halves = Code { weights: &[2, 1], least: &[0; 2], greatest: &[9; 2], ..EAN_8 };
+        panic_with!("the word must be accepted, and it must have the place"; EAN_8.finds_change(&word, 8, 2));
+        panic_with!("the word must be accepted, and it must have both places"; EAN_8.finds_exchange(&word, 7));
+        panic_with!("the word must have the place, and the code must have a weight with an inverse modulo m there";
+            EAN_8.restore(&word, 8), EAN_8.restore(&[0; 9], 8), halves.restore(&[1, 2], 0));
+        panic_with!("the text must have the form of an IBAN, and there must be room for 68 digits";
+            iban_digits(b"gb82west12345698765432", &mut [0; 68]), iban_digits(b"GB8", &mut [0; 68]), iban_digits(b"GB82W7", &mut [0; 28]));
+    }
 }
 
 #[test]

@@ -19,6 +19,7 @@ mod numbers {
         assert_eq!(quotient(x.convert(1), x), 68);
         assert_eq!((&x).inv(), Inv::inv(x));
         assert_eq!((Pow::pow(x, 96u64).residue(), Pow::pow(&x, 2u64).residue(), Pow::pow(x, &3u64).residue()), (1, 3, 30));
+        assert_eq!(Pow::pow(&x, &3u64).residue(), 30);
     }
 
     #[test]

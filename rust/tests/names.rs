@@ -1,4 +1,4 @@
-//! The names that the library promises: those of the Rust crate `num-modular` 0.7.0 that DIFFERENCES.md doesn't leave out, and
+//! The names that the library promises: those of the Rust crate `num-modular` 0.7.0 that FROM_NUM_MODULAR.md doesn't leave out, and
 //! this library's own. One that is missing doesn't compile. `checks/names` looks for the imported ones in the proved sources, too.
 #![cfg(target_pointer_width = "64")]
 
@@ -9,9 +9,7 @@ pub use num_modular::preinv::PreModInv;
 pub use num_modular::prim::{powm_u32, powm_u64};
 pub use num_modular::proth::{FixedProth32, FixedProth64};
 pub use num_modular::reduced::{pow_counted, ReducedInt, Reducer, Vanilla};
-pub use num_modular::ring::{
-    all_checked, commands_fit, convolve, ntt, ntt_counted, root_fits, run, RingCommand, RunEnd,
-};
+pub use num_modular::ring::{all_checked, commands_fit, convolve, ntt, ntt_counted, root_fits, run, RingCommand, RunEnd};
 pub use num_modular::solinas::{FixedTrinomialSolinas32, FixedTrinomialSolinas64};
 pub use num_modular::word::RingWord;
 
@@ -28,8 +26,8 @@ pub mod root {
         PreMulInv2by1, ReducedInt, Vanilla,
     };
     pub use num_modular::{
-        FixedMersenneInt, FixedMersenneInt32, FixedMersenneInt64, FixedMontgomeryInt32, FixedMontgomeryInt64,
-        FixedProthInt32, FixedProthInt64, FixedSolinasInt32, FixedSolinasInt64, MontgomeryInt, VanillaInt,
+        FixedMersenneInt, FixedMersenneInt32, FixedMersenneInt64, FixedMontgomeryInt32, FixedMontgomeryInt64, FixedProthInt32,
+        FixedProthInt64, FixedSolinasInt32, FixedSolinasInt64, MontgomeryInt, VanillaInt,
     };
 }
 
@@ -91,8 +89,10 @@ fn functions_of_types() {
     folds!(FixedMersenne32<31, 1>, FixedMersenne64<61, 1>, FixedMersenne<61, 1>);
     folds!(FixedTrinomialSolinas32<16, 8, 1>, FixedTrinomialSolinas64<64, 32, 1>);
     let _ = (FixedMersenne32::<31, 1>::reduce_double, FixedMersenne64::<61, 1>::reduce_double);
+    let _ = (FixedMersenne32::<31, 1>::reduce_uncounted, FixedMersenne64::<61, 1>::reduce_uncounted);
     let _ = FixedTrinomialSolinas32::<16, 8, 1>::reduce_double;
     let _ = FixedTrinomialSolinas64::<64, 32, 1>::reduce_double;
+    let _ = (FixedTrinomialSolinas32::<16, 8, 1>::reduce_uncounted, FixedTrinomialSolinas64::<64, 32, 1>::reduce_uncounted);
 }
 
 #[test]

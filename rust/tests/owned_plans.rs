@@ -112,7 +112,9 @@ fn there_is_no_plan() {
 fn a_table_of_another_plan() {
     let modulus = PlannedModulus::<u64>::new(97);
     let table = [1, 22].map(|power| modulus.factor(power));
-    let is_some = |m: u64, g: u64, table: &[Factor<u64>]| OwnedPlan::with_table(&PlannedModulus::<u64>::new(m), g, table.to_vec()).is_some();
+    let is_some = |m: u64, g: u64, table: &[Factor<u64>]| {
+        OwnedPlan::with_table(&PlannedModulus::<u64>::new(m), g, table.to_vec()).is_some()
+    };
     assert!(is_some(97, 22, &table));
     assert!(!is_some(97, 75, &table)); // 75 suits too, but the table has the powers of 22
     assert!(!is_some(193, 81, &table)); // another modulus

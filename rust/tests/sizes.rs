@@ -3,8 +3,8 @@
 
 use num_modular::{
     FixedMersenne, FixedMersenne32, FixedMersenne64, FixedMontgomery32, FixedMontgomery64, FixedProth32, FixedProth64,
-    FixedTrinomialSolinas32, FixedTrinomialSolinas64, ModularInteger, ModularRefOps, ModularSymbols, Montgomery, Normalized2by1Divisor, PreModInv,
-    PreMulInv1by1, PreMulInv2by1, ReducedInt, Reducer, Vanilla, VanillaInt,
+    FixedTrinomialSolinas32, FixedTrinomialSolinas64, ModularInteger, ModularRefOps, ModularSymbols, Montgomery,
+    Normalized2by1Divisor, PreModInv, PreMulInv1by1, PreMulInv2by1, ReducedInt, Reducer, Vanilla, VanillaInt,
 };
 use std::mem::size_of;
 
@@ -47,7 +47,7 @@ fn constants_of_constructors() {
     const RING: Montgomery<u64> = Montgomery::<u64>::new(97);
     const SIXTY: PreMulInv1by1<u32> = PreMulInv1by1::<u32>::new(60);
     const DIVISOR: Normalized2by1Divisor<u8> = Normalized2by1Divisor::<u8>::new(130);
-    const SCALED: PreMulInv2by1<usize> = PreMulInv2by1::<usize>::new(97);
+    const SCALED: PreMulInv2by1<u64> = PreMulInv2by1::<u64>::new(97);
     assert_eq!(RING.residue(RING.mul(&RING.transform(50), &RING.transform(50))), 75);
     assert_eq!(SIXTY.div_rem(3725, 60), (62, 5));
     assert_eq!(DIVISOR.div_rem_2by1(33024), (254, 4));
@@ -78,7 +78,7 @@ fn code_for_the_original_with_its_replacements() {
     fn square<T: num_modular::RingWord, R: Reducer<T>>(ring: &R, a: &T) -> T {
         ring.residue(ring.sqr(ring.transform(*a)))
     }
-    fn sum<T: num_modular::ModularRefOps>(a: T, b: T, m: &T) -> T {
+    fn sum<T: num_modular::ModularRefOps + Copy>(a: T, b: T, m: &T) -> T {
         a.addm_ref(&b, m)
     }
     // written for the original, and unchanged

@@ -6,14 +6,17 @@ use num_modular::applications::lattice_rings::{ml_dsa, ml_kem};
 use num_modular::applications::long_product::Plans;
 use num_modular::applications::mersenne_hash::prefixes::{Patterns, PrefixHashes};
 use num_modular::applications::residue_numbers::{mixed_radix::System, ResidueSystem};
+#[cfg(any(feature = "std", has_core_error))]
+use num_modular::applications::ring_codes::erasure::restore;
 use num_modular::applications::ring_codes::erasure::{CorrectError, PreparedCode, RestoreError, ShareError};
 use num_modular::plans::{Factor, OwnedPlan, Plan, PlannedModulus};
-use num_modular::ring::{RingCommand, RunEnd};
+use num_modular::ring::{run, AsCommand, RingCommand, RunEnd};
 use num_modular::{
-    FixedMersenne, FixedMersenne32, FixedMersenne64, FixedMersenneInt64, FixedMontgomery32, FixedMontgomery64, FixedProth32, FixedProth64,
-    FixedTrinomialSolinas32, FixedTrinomialSolinas64, ModularInteger, Montgomery, MontgomeryInt, Normalized2by1Divisor, PreModInv, PreMulInv1by1,
-    PreMulInv2by1, Reducer, Vanilla, VanillaInt,
+    FixedMersenne, FixedMersenne32, FixedMersenne64, FixedMersenneInt64, FixedMontgomery32, FixedMontgomery64, FixedProth32,
+    FixedProth64, FixedTrinomialSolinas32, FixedTrinomialSolinas64, ModularInteger, Montgomery, MontgomeryInt,
+    Normalized2by1Divisor, PreModInv, PreMulInv1by1, PreMulInv2by1, Reducer, Vanilla, VanillaInt,
 };
+use std::cell::Cell;
 use std::collections::HashSet;
 use std::fmt::{Debug, Display};
 use std::hash::Hash;
@@ -99,4 +102,40 @@ fn errors_of_places_are_errors_of_corrections() {
         Ok(())
     }
     assert_eq!(refuse(), Err(CorrectError::Restore(RestoreError::PlaceTwice)));
+}
+
+/// A command that returns something else each time that it is read.
+struct Alternating(Cell<u32>);
+
+impl AsCommand<u64> for Alternating {
+    fn command(&self) -> RingCommand<u64> {
+        self.0.set(self.0.get() + 1);
+        [RingCommand::Neg { dst: 1, a: 1 }, RingCommand::Load { dst: 0, n: 5 }][self.0.get() as usize % 2]
+    }
+}
+
+/// `run` carries out what it read, all of one command, whichever that was; a debug build reads the register numbers before.
+#[test]
+fn a_command_is_read_once() {
+    for reads in 0..2 {
+        let commands = [Alternating(Cell::new(reads))];
+        let mut registers = [3, 7];
+        assert_eq!(run(&Vanilla::<u64>::new(&97), &mut registers, &commands), RunEnd::Done);
+        let read = commands[0].0.get();
+        assert_eq!(registers, [[3, 90], [5, 7]][read as usize % 2]);
+        assert_eq!(read, reads + 1 + u32::from(cfg!(debug_assertions)));
+    }
+}
+
+/// Without a feature where `core` has `Error`.
+#[test]
+#[cfg(any(feature = "std", has_core_error))]
+fn errors_in_boxes() {
+    fn message(places: &[usize]) -> Result<[u64; 2], Box<dyn std::error::Error>> {
+        let (ring, mut message) = (Vanilla::<u64>::new(&97), [0; 2]);
+        restore(&ring, &[1, 2, 3, 4], places, &[33, 19], &mut [0; 2], &mut [0; 2], &mut message)?;
+        Ok(message)
+    }
+    assert_eq!(message(&[3, 1]).unwrap(), [5, 7]);
+    assert_eq!(message(&[3, 3]).unwrap_err().to_string(), "a place occurs twice");
 }

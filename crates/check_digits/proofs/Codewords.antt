@@ -1,11 +1,11 @@
 -- Words of codes with one symbol changed, or with two neighbours exchanged.
-use Rattle.std.proofs.Common.{Bool, true, false, not, IsTrue, ◌↔◌, ◌≡◌, ◌≢◌, ℕ, suc, ◌+◌, ◌-◌, ◌*◌, ◌%◌, ◌<◌, pos, ◌-ℤ◌}
+use Rattle.std.proofs.Common.{Bool, IsTrue, ◌↔◌, ◌≡◌, ◌≢◌, ℕ, suc, ◌+◌, ◌-◌, ◌*◌, ◌%◌, ◌<◌, pos, ◌-ℤ◌}
 use Rattle.std.proofs.Math.ListN.{get_or-append}
 use Rattle.std.proofs.Math.Seq.{get_or-append_seam}
-use Rattle.std.proofs.Common.{◌≤◌, List, [], ◌∷◌, ◌++◌, length, length-append, get_or, set, sym, ap, ◌∙◌, refl, subst, arith, ⊎_elim}
+use Rattle.std.proofs.Common.{◌≤◌, List, [], ◌∷◌, ◌++◌, length, length-append, get_or, set, sym, ap, ◌∙◌, subst, arith, ⊎_elim}
 use Rattle.std.proofs.Common.{length-set, get_or-set_same, get_or-set_other}
 use Rattle.std.proofs.Math.Nat.{mod-add-mod, add-mul-mod_self_left, mod-eq_of_lt}
-use Rattle.std.proofs.lemmas.Bool.{cases_eq, cases_lt, false≢true}
+use Rattle.std.proofs.lemmas.Bool.{cases_eq, cases_lt}
 use Rattle.num_modular.specs.NumberLaws.{difference_and}
 use Rattle.num_modular.specs.Residues.{residue}
 use Rattle.check_digits.specs.Codes.{weighted_sum, CheckCode, Fits, IsCodeword, exchanged}
@@ -117,19 +117,13 @@ exchange_told code word p positive is within =
     (difference_and m (get_or word (suc p) 0) (get_or word p 0) positive) in
     ((λ w. (((told.0 w).0, (told.0 w).1), (told.0 w).2)), λ h. told.1 (h.0.0, h.0.1, h.1))
 
--- the result for a changed word W, F being that its symbols fit, V that the sum doesn't show the change: where it does
-pub shown : (F W V : Type 0) → (W ↔ (F × V)) → ¬ V → (IsTrue true ↔ ¬ W) × (IsTrue true ↔ (F → ¬ V))
-shown F W V told apart = ((λ h w. apart (told.0 w).1, λ h. refl), (λ h fits. apart, λ h. refl))
-
--- and where it doesn't, by the test b of the symbols
-pub unshown : (b : Bool) (F W V : Type 0) → (IsTrue b ↔ F) → (W ↔ (F × V)) → V
-    → (IsTrue (not b) ↔ ¬ W) × (IsTrue (not b) ↔ (F → ¬ V))
-unshown true F W V t told v =
-    let fits = t.0 refl in
-    ((λ h. cc, λ h. absurd (h (told.1 (fits, v)))), (λ h. cc, λ h. absurd (h fits v)))
-unshown false F W V t told v =
-    let unfit = λ (fits : F). false≢true (t.1 fits) in
-    ((λ h w. unfit (told.0 w).0, λ h. refl), (λ h fits. absurd (unfit fits), λ h. refl))
+-- the test of a changed word W, F being that its symbols fit, and v what the sum shows of the change
+pub found : {r f : Bool} {F W : Type 0} (shown v : ℕ) → shown ≡ v → IsTrue r ↔ (IsTrue f → shown ≢ 0) → IsTrue f ↔ F
+    → W ↔ (F × (v ≡ 0)) → (IsTrue r ↔ ¬ W) × (IsTrue r ↔ (F → v ≢ 0))
+found shown v same is test told = (
+  (λ t w. let h = told.0 w in is.0 t (test.1 h.0) (same ∙ h.1), λ no. is.1 (λ f e. no (told.1 (test.0 f, sym same ∙ e)))),
+  (λ t fits e. is.0 t (test.1 fits) (same ∙ e), λ h. is.1 (λ f e. h (test.0 f) (sym same ∙ e))),
+)
 
 -- the word with one more symbol
 pub appended_word : (code : CheckCode) (word : List ℕ) (s : ℕ) → length word + 1 ≡ length code.weights

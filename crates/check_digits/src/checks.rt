@@ -12,6 +12,13 @@ ghost use Rattle.check_digits.specs.Texts.{IsSymbolText, symbols_of};
 use crate::{Code, read_symbols};
 use num_modular::{ModularCoreOps, ModularInteger, ModularUnaryOps, VanillaInt};
 
+// Whether the change of a word is found: if its symbols don't fit, or the weighted sum shows the change.
+fn is_found(fit: bool, shown: u64) -> bool
+    ensures { IsTrue result ↔ (IsTrue fit → shown ≢ 0) }
+{
+    shown != 0 || !fit
+}
+
 impl<'a> Code<'a> {
     // The residue of the weighted sum of the symbols.
     fn sum(&self, word: &[u64]) -> u64
@@ -28,7 +35,11 @@ impl<'a> Code<'a> {
         sum
     }
 
-    /// The weighted sum of the symbols, modulo the modulus. Condition: each place has a weight.
+    /// The weighted sum of the symbols: modulo the modulus.
+    ///
+    /// # Conditions
+    ///
+    /// - each place has a weight
     ///
     /// # Examples
     ///
@@ -38,14 +49,21 @@ impl<'a> Code<'a> {
     ///
     /// assert_eq!(ISBN_10.check_sum(&[0, 3, 0, 6, 4, 0, 6, 1, 5]).residue(), 9); // the digit 2 is missing
     /// ```
+    // rust: #[track_caller]
     pub fn check_sum(&self, word: &[u64]) -> VanillaInt<u64>
         requires { length word.now ≤ length self.now.weights.now }
         ensures { IsReduced self.now.modulus (weighted_sum self.now.weights.now word.now % self.now.modulus) result }
     {
+        // rust: assert!(word.len() <= self.weights.len(), "each place must have a weight: {} and {}", word.len(),
+        // rust:     self.weights.len());
         VanillaInt::<u64>::new(self.sum(word), &self.modulus)
     }
 
-    /// Whether the symbol is allowed at the place. Condition: the code has the place.
+    /// Whether the symbol is allowed at the place.
+    ///
+    /// # Conditions
+    ///
+    /// - the code has the place
     ///
     /// # Examples
     ///
@@ -55,10 +73,12 @@ impl<'a> Code<'a> {
     /// assert!(ISBN_10.fits(9, 10)); // X
     /// assert!(!ISBN_10.fits(0, 10));
     /// ```
+    // rust: #[track_caller]
     pub fn fits(&self, place: usize, symbol: u64) -> bool
         requires { place < length self.now.weights.now }
         ensures { IsTrue result ↔ Fits (code_of self.now) place symbol }
     {
+        // rust: assert!(place < self.weights.len(), "the code must have the place");
         let least = self.least;
         let greatest = self.greatest;
         least[place] <= symbol && symbol <= greatest[place]
@@ -90,6 +110,10 @@ impl<'a> Code<'a> {
 
     /// Whether the word is one of the code.
     ///
+    /// # Conditions
+    ///
+    /// - (debug) the code has a least and a greatest symbol for each weight
+    ///
     /// # Examples
     ///
     /// ```
@@ -97,17 +121,25 @@ impl<'a> Code<'a> {
     ///
     /// assert!(ISBN_10.accepts(&[0, 3, 0, 6, 4, 0, 6, 1, 5, 2]));
     /// ```
+    // rust: #[cfg_attr(debug_assertions, track_caller)]
     pub fn accepts(&self, word: &[u64]) -> bool
         ensures { IsTrue result ↔ IsCodeword (code_of self.now) word.now }
     {
+        // rust: debug_assert!(self.least.len() == self.weights.len() && self.greatest.len() == self.weights.len(),
+        // rust:     "the code must have a least and a greatest symbol for each weight: {}, {} and {}", self.least.len(),
+        // rust:     self.greatest.len(), self.weights.len());
         word.len() == self.weights.len()
             && self.fits_but(word, word.len())
             && self.sum(word) == self.residue % self.modulus
     }
 
-    /// Whether the text, in ASCII, is of a word of the code: its digits, X for 10, and between two of them at most one
+    /// Whether the text is a word of the code: in ASCII, its digits, X for 10, and between two of them at most one
     /// hyphen or space (`is_symbol_text` tells). Where these have to be isn't tested, because for an ISBN it depends on
-    /// the country and the publisher. Condition: the code has at most 68 places.
+    /// the country and the publisher.
+    ///
+    /// # Conditions
+    ///
+    /// - (debug) the code has at most 68 places
     ///
     /// # Examples
     ///
@@ -118,11 +150,13 @@ impl<'a> Code<'a> {
     /// assert!(ORCID.accepts_text(b"0000-0002-1694-233X"));
     /// assert!(!ORCID.accepts_text(b"0000-0002-1694-2339"));
     /// ```
+    // rust: #[cfg_attr(debug_assertions, track_caller)]
     pub fn accepts_text(&self, text: &[u8]) -> bool
         requires { length self.now.weights.now ≤ 68 }
         ensures { IsTrue result ↔ IsSymbolText text.now × IsCodeword (code_of self.now) (symbols_of text.now) }
     {
         prove!(self.weights.len() <= 68);
+        // rust: debug_assert!(self.weights.len() <= 68, "the code must have at most 68 places");
         let mut symbols = [0; 68];
         match read_symbols(text, &mut symbols) {
             Some(count) => self.accepts(&symbols[..count]),
@@ -130,13 +164,17 @@ impl<'a> Code<'a> {
         }
     }
 
-    /// Whether the code detects the change of one symbol of a word: the word with `symbol` at `place` isn't accepted.
+    /// Whether the code detects this: the word with `symbol` at `place` isn't accepted.
     ///
     /// It is detected exactly where the symbol isn't allowed at the place, or the weight times the difference of
     /// the symbols isn't 0 modulo m; so always where the weight has an inverse and the symbols differ modulo m.
-    /// Conditions: the word is accepted, and it has the place.
     ///
     /// Source: Gallian, "The mathematics of identification numbers", theorem 1.
+    ///
+    /// # Conditions
+    ///
+    /// - (debug) the word is accepted
+    /// - (debug) the word has the place
     ///
     /// # Examples
     ///
@@ -145,6 +183,7 @@ impl<'a> Code<'a> {
     ///
     /// assert!(EAN_8.finds_change(&[7, 3, 5, 1, 3, 5, 3, 7], 0, 2));
     /// ```
+    // rust: #[cfg_attr(debug_assertions, track_caller)]
     pub fn finds_change(&self, word: &[u64], place: usize, symbol: u64) -> bool
         requires accepted { IsCodeword (code_of self.now) word.now }
         requires within { place < length word.now }
@@ -157,24 +196,28 @@ impl<'a> Code<'a> {
             HasInverse m (slice_index self.now.weights.now place) →
             symbol % m ≢ slice_index word.now place % m → IsTrue result }
     {
+        // rust: debug_assert!(self.accepts(word) && place < word.len(),
+        // rust:     "the word must be accepted, and it must have the place");
         let m = self.modulus;
         let weights = self.weights;
         let difference = symbol.subm(word[place], &m);
         let product = weights[place].mulm(difference, &m);
-        if product != 0 {
-            return true;
-        }
-        !self.fits(place, symbol)
+        is_found(self.fits(place, symbol), product)
     }
 
-    /// Whether the code detects the exchange of two neighbours: the word with the symbols at `place` and at the
-    /// next place exchanged isn't accepted.
+    /// Whether the code detects this: the word with the symbols at `place` and at the next place exchanged isn't
+    /// accepted.
     ///
     /// It is detected exactly where one of them isn't allowed at its new place, or the difference of the weights
     /// times that of the symbols isn't 0 modulo m; so always where the difference of the weights has an inverse and
-    /// the symbols differ modulo m. Conditions: the word is accepted, and it has both places.
+    /// the symbols differ modulo m.
     ///
     /// Source: Gallian, "The mathematics of identification numbers", theorem 2.
+    ///
+    /// # Conditions
+    ///
+    /// - (debug) the word is accepted
+    /// - (debug) the word has both places
     ///
     /// # Examples
     ///
@@ -184,6 +227,7 @@ impl<'a> Code<'a> {
     /// let word = [7, 3, 5, 1, 3, 5, 3, 7];
     /// assert!(EAN_8.finds_exchange(&word, 0));
     /// ```
+    // rust: #[cfg_attr(debug_assertions, track_caller)]
     pub fn finds_exchange(&self, word: &[u64], place: usize) -> bool
         requires accepted { IsCodeword (code_of self.now) word.now }
         requires within { suc place < length word.now }
@@ -199,18 +243,17 @@ impl<'a> Code<'a> {
             HasInverse m (residue m (pos (slice_index weights place) -ℤ pos (slice_index weights (suc place)))) →
             slice_index word.now (suc place) % m ≢ slice_index word.now place % m → IsTrue result }
     {
+        // rust: debug_assert!(self.accepts(word) && place < word.len().saturating_sub(1),
+        // rust:     "the word must be accepted, and it must have both places");
         let m = self.modulus;
         let weights = self.weights;
         let weight = weights[place].subm(weights[place + 1], &m);
         let difference = word[place + 1].subm(word[place], &m);
         let product = weight.mulm(difference, &m);
-        if product != 0 {
-            return true;
-        }
-        !self.fit_exchanged(word, place)
+        is_found(self.fit_exchanged(word, place), product)
     }
 
-    /// Whether an erased symbol of this weight can be restored: the weight has an inverse modulo m.
+    /// Whether an erased symbol can be restored: that of a weight that has an inverse modulo m.
     ///
     /// # Examples
     ///
@@ -262,9 +305,13 @@ impl<'a> Code<'a> {
         self.complete(others, weights[place])
     }
 
-    /// The only symbol below m that completes the word to one of the code, in place of an erased one. `None`
-    /// exactly where no symbol below m does. The symbol at `place` is ignored. Conditions: the word has the place,
-    /// and the code a weight with an inverse modulo m there (`can_restore` tells).
+    /// The symbol that completes the word there: the only one below m that makes it one of the code, in place of an
+    /// erased one. `None` exactly where no symbol below m does. The symbol at `place` is ignored.
+    ///
+    /// # Conditions
+    ///
+    /// - (debug) the word has the place, and the code has a weight with an inverse modulo m there (`can_restore`
+    ///   tells)
     ///
     /// # Examples
     ///
@@ -273,11 +320,14 @@ impl<'a> Code<'a> {
     ///
     /// assert_eq!(EAN_8.restore(&[7, 0, 5, 1, 3, 5, 3, 7], 1), Some(3));
     /// ```
+    // rust: #[cfg_attr(debug_assertions, track_caller)]
     pub fn restore(&self, word: &[u64], place: usize) -> Option<u64>
         requires within { place < length word.now }
         requires unit { HasInverse self.now.modulus (slice_index self.now.weights.now place) }
         ensures { IsRestored (code_of self.now) word.now place result }
     {
+        // rust: debug_assert!(place < word.len() && place < self.weights.len() && self.can_restore(self.weights[place]),
+        // rust:     "the word must have the place, and the code must have a weight with an inverse modulo m there");
         if word.len() != self.weights.len() {
             return None;
         }
@@ -292,9 +342,12 @@ impl<'a> Code<'a> {
         }
     }
 
-    /// The only symbol below m that, behind the word, makes it one of the code: its check digit, where 10 is X. `None`
-    /// exactly where no symbol below m does. Condition: the last weight has an inverse modulo m, as the weight 1 of
-    /// each code of `standard_codes` has.
+    /// The check digit behind the word: the only symbol below m that makes it one of the code, where 10 is X. `None`
+    /// exactly where no symbol below m does.
+    ///
+    /// # Preconditions
+    ///
+    /// - the last weight has an inverse modulo m, as the weight 1 of each code of `standard_codes` has
     ///
     /// # Examples
     ///

@@ -43,10 +43,10 @@ fn check(word: &[u64]) -> u64
     state
 }
 
-/// Whether the digits, of which there is at least one, are right by Damm's check digit: each is at most 9, and their
+/// Whether the last digit is right by this method: Damm's. There is at least one digit, each is at most 9, and their
 /// product from the left, from 0 on, is 0 in Damm's quasigroup of order 10.
 ///
-/// `standard_finds` says what it detects: every change of one digit, and every exchange of two neighbours that differ.
+/// It detects every change of one digit, and every exchange of two neighbours that differ.
 ///
 /// Source: H. M. Damm, "Total anti-symmetrische Quasigruppen", 2004.
 ///
@@ -67,8 +67,8 @@ pub fn accepts_damm(word: &[u64]) -> bool
     check(word) == 0
 }
 
-/// The only digit that, behind the word, makes it one that `accepts_damm` accepts. `None` exactly where a symbol
-/// of the word is above 9.
+/// The check digit behind the word: the only digit that makes it one that `accepts_damm` accepts. `None` exactly where
+/// a symbol of the word is above 9.
 ///
 /// # Examples
 ///

@@ -27,7 +27,11 @@ const POWERS: [u64; 68] = [
 ];
 
 /// The code of IBANs with `count` digits: the modulus is 97, the weights are the powers of ten, and the weighted
-/// sum of a word is 1 modulo 97 (ISO/IEC 7064, MOD 97-10). Condition: there are at most 68 digits.
+/// sum of a word is 1 modulo 97 (ISO/IEC 7064, MOD 97-10).
+///
+/// # Conditions
+///
+/// - there are at most 68 digits
 ///
 /// # Examples
 ///
@@ -36,6 +40,7 @@ const POWERS: [u64; 68] = [
 ///
 /// assert_eq!(iban_code(4).weights, [30, 3, 10, 1]); // 1000 is 30 modulo 97
 /// ```
+// rust: #[track_caller]
 pub fn iban_code(count: usize) -> Code<'static>
     requires { count ≤ 68 }
     ensures modulus { result.modulus ≡ 97 }
@@ -45,6 +50,7 @@ pub fn iban_code(count: usize) -> Code<'static>
     ensures code { code_of result ≡ mod_97_10 count }
 {
     prove!(count <= 68);
+    // rust: assert!(count <= 68, "there must be at most 68 digits");
     let powers: &'static [u64] = &POWERS;
     let least: &'static [u64] = &LEAST;
     let greatest: &'static [u64] = &GREATEST;
@@ -78,8 +84,8 @@ fn all_characters(text: &[u8]) -> bool
     text.iter().all(|c| is_digit(*c) || is_letter(*c))
 }
 
-/// Whether the text, in ASCII, has the form of an IBAN: two letters A to Z, two digits, and one to
-/// thirty letters and digits, with no space.
+/// Whether the text has the form of an IBAN: in ASCII, two letters A to Z, two digits, and one to thirty letters and
+/// digits, with no space.
 ///
 /// # Examples
 ///
@@ -133,9 +139,12 @@ fn write_text(text: &[u8], digits: &mut [u64], start: usize) -> usize
     end
 }
 
-/// Writes the digits into which the standard converts an IBAN, and returns their number: the first four characters
-/// are moved to the end, and a letter is replaced by two digits, 10 for A to 35 for Z. Conditions: the text has the
-/// form of an IBAN (`has_iban_form` tells), and there is room for 68 digits.
+/// Writes the digits, and returns their number: as the standard converts it, the first four characters are moved to the
+/// end, and a letter is replaced by two digits, 10 for A to 35 for Z.
+///
+/// # Conditions
+///
+/// - (debug) the text has the form of an IBAN (`has_iban_form` tells), and there is room for 68 digits
 ///
 /// # Examples
 ///
@@ -146,12 +155,15 @@ fn write_text(text: &[u8], digits: &mut [u64], start: usize) -> usize
 /// let count = iban_digits(b"GB82W7", &mut digits);
 /// assert_eq!(digits[..count], [3, 2, 7, 1, 6, 1, 1, 8, 2]); // W, 7, G, B and 82
 /// ```
+// rust: #[cfg_attr(debug_assertions, track_caller)]
 pub fn iban_digits(text: &[u8], digits: &mut [u64]) -> usize
     requires form { IsIbanForm text.now }
     requires room { 68 ≤ length digits.old }
     ensures count { result ≤ 68 }
     ensures digits { take result digits.new ≡ iban_digits text.now }
 {
+    // rust: debug_assert!(crate::applications::check_digits::has_iban_form(text) && digits.len() >= 68,
+    // rust:     "the text must have the form of an IBAN, and there must be room for 68 digits");
     let end = write_text(&text[4..], digits, 0);
     write_text(&text[..4], digits, end)
 }
@@ -167,9 +179,10 @@ fn check_number(text: &[u8]) -> u8
 /// Whether the text is an IBAN: it has the form of one, its check digits are 02 to 98, and the number that its
 /// digits form in decimal is 1 modulo 97. The length, which depends on the country, isn't tested.
 ///
-/// `standard_finds` says which changes of one character and which exchanges of two neighbours are detected. A text
-/// with the form and such check digits is an IBAN exactly where its digits are a word of `iban_code`; so every
-/// change of one of these digits and every exchange of two neighbouring digits that differ is detected too.
+/// It detects every change of one character to another of its kind, digit or letter, and every exchange of two
+/// neighbours that differ, except of 1 and B, of 2 and M, and of 3 and X after the check digits. A text with the form
+/// and such check digits is an IBAN exactly where its digits are a word of `iban_code`; so every change of one of
+/// these digits and every exchange of two neighbouring digits that differ is detected too.
 ///
 /// # Examples
 ///
@@ -233,8 +246,8 @@ fn write_ungrouped(text: &[u8], characters: &mut [u8]) -> usize
     end
 }
 
-/// Whether the text is an IBAN as its standard prints it: in groups of four characters, with a space between two groups
-/// and no other. For an IBAN without spaces there is `accepts_iban`.
+/// Whether the text is an IBAN in groups: as its standard prints it, of four characters, with a space between two
+/// groups and no other. For an IBAN without spaces there is `accepts_iban`.
 ///
 /// # Examples
 ///
@@ -258,7 +271,7 @@ pub fn accepts_iban_text(text: &[u8]) -> bool
     accepts_iban(&characters[..count])
 }
 
-/// The check digits of an IBAN, as the two characters after those of the country: the only ones that make the text an
+/// The two check digits of an IBAN: the characters after those of the country, the only ones that make the text an
 /// IBAN. Those in the text are ignored, and may be 00. `None` exactly where the text hasn't the form of an IBAN.
 ///
 /// # Examples

@@ -40,7 +40,9 @@ pub use verhoeff::{accepts_verhoeff, verhoeff_check_digit};
 /// let code = Code { modulus: 7, residue: 0, weights: &[3, 1], least: &[0, 0], greatest: &[6, 6] };
 /// assert!(code.accepts(&[5, 6])); // 21
 /// ```
+// rust: #[derive(Debug, PartialEq, Eq, Hash)]
 #[derive(Clone, Copy)]
+// rust: #[must_use]
 pub struct Code<'a> {
     /// The modulus, at least 1.
     pub modulus: u64,

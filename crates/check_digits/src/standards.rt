@@ -10,7 +10,8 @@ ghost use Rattle.check_digits.specs.Verhoeff.{IsVerhoeff};
 
 use crate::Code;
 
-/// ISBN-10; the symbol X, which is allowed only at the last place, is 10 (ISO 2108, first to third edition).
+/// The code of a standard: ISBN-10, in which the symbol X, which is allowed only at the last place, is 10 (ISO 2108,
+/// first to third edition).
 pub const ISBN_10: Code<'static> = Code {
     modulus: 11,
     residue: 0,
@@ -19,8 +20,8 @@ pub const ISBN_10: Code<'static> = Code {
     greatest: &[9, 9, 9, 9, 9, 9, 9, 9, 9, 10],
 };
 
-/// ISBN-13: an EAN-13 that begins with 978 or 979 (ISO 2108:2017). Those that begin with 9790 are ISMN, numbers of
-/// printed music (ISO 10957), which this code accepts too.
+/// The code of a standard: ISBN-13 is an EAN-13 that begins with 978 or 979 (ISO 2108:2017). Those that begin with 9790
+/// are ISMN, numbers of printed music (ISO 10957), which this code accepts too.
 pub const ISBN_13: Code<'static> = Code {
     modulus: 10,
     residue: 0,
@@ -29,7 +30,7 @@ pub const ISBN_13: Code<'static> = Code {
     greatest: &[9, 7, 9, 9, 9, 9, 9, 9, 9, 9, 9, 9, 9],
 };
 
-/// EAN-13, which is GTIN-13 (GS1 General Specifications, section 7.9.1).
+/// The code of a standard: EAN-13 is GTIN-13 (GS1 General Specifications, section 7.9.1).
 pub const EAN_13: Code<'static> = Code {
     modulus: 10,
     residue: 0,
@@ -38,7 +39,7 @@ pub const EAN_13: Code<'static> = Code {
     greatest: &[9; 13],
 };
 
-/// EAN-8, which is GTIN-8 (GS1 General Specifications, section 7.9.1).
+/// The code of a standard: EAN-8 is GTIN-8 (GS1 General Specifications, section 7.9.1).
 pub const EAN_8: Code<'static> = Code {
     modulus: 10,
     residue: 0,
@@ -47,7 +48,7 @@ pub const EAN_8: Code<'static> = Code {
     greatest: &[9; 8],
 };
 
-/// UPC-A, which is GTIN-12 (GS1 General Specifications, section 7.9.1).
+/// The code of a standard: UPC-A is GTIN-12 (GS1 General Specifications, section 7.9.1).
 pub const UPC_A: Code<'static> = Code {
     modulus: 10,
     residue: 0,
@@ -56,7 +57,8 @@ pub const UPC_A: Code<'static> = Code {
     greatest: &[9; 12],
 };
 
-/// ISSN without its hyphen; the symbol X, which is allowed only at the last place, is 10 (ISO 3297).
+/// The code of a standard: ISSN without its hyphen, in which the symbol X, which is allowed only at the last place, is
+/// 10 (ISO 3297).
 pub const ISSN: Code<'static> = Code {
     modulus: 11,
     residue: 0,
@@ -65,8 +67,8 @@ pub const ISSN: Code<'static> = Code {
     greatest: &[9, 9, 9, 9, 9, 9, 9, 10],
 };
 
-/// ORCID without its hyphens; the symbol X, which is allowed only at the last place, is 10 (ISO/IEC 7064, MOD 11-2).
-/// ISNI (ISO 27729) has the same code.
+/// The code of a standard: ORCID without its hyphens, in which the symbol X, which is allowed only at the last place,
+/// is 10 (ISO/IEC 7064, MOD 11-2). ISNI (ISO 27729) has the same code.
 pub const ORCID: Code<'static> = Code {
     modulus: 11,
     residue: 1,
@@ -75,7 +77,7 @@ pub const ORCID: Code<'static> = Code {
     greatest: &[9, 9, 9, 9, 9, 9, 9, 9, 9, 9, 9, 9, 9, 9, 9, 10],
 };
 
-/// The routing number of a bank in the United States (American Bankers Association).
+/// The code of a standard: the routing number of a bank in the United States (American Bankers Association).
 pub const ABA_RTN: Code<'static> = Code {
     modulus: 10,
     residue: 0,
@@ -84,8 +86,8 @@ pub const ABA_RTN: Code<'static> = Code {
     greatest: &[9; 9],
 };
 
-/// The codes of ISBN-10, ISBN-13, EAN-13, EAN-8, UPC-A, ISSN, ORCID and routing numbers, in this order, each as its
-/// standard defines it.
+/// All eight codes: those of ISBN-10, ISBN-13, EAN-13, EAN-8, UPC-A, ISSN, ORCID and routing numbers, in this order,
+/// each as its standard defines it.
 ///
 /// # Examples
 ///
@@ -95,13 +97,14 @@ pub const ABA_RTN: Code<'static> = Code {
 /// let found: Vec<usize> = standard_codes().iter().map(|code| code.weights.len()).collect();
 /// assert_eq!(found, [10, 13, 13, 8, 12, 8, 16, 9]);
 /// ```
+// rust instead: pub const fn standard_codes() -> [Code<'static>; 8]
 pub fn standard_codes() -> [Code<'static>; 8]
     ensures { map code_of result ≡ isbn_10 ∷ isbn_13 ∷ ean_13 ∷ ean_8 ∷ upc_a ∷ issn ∷ orcid ∷ aba_rtn ∷ [] }
 {
     [ISBN_10, ISBN_13, EAN_13, EAN_8, UPC_A, ISSN, ORCID, ABA_RTN]
 }
 
-/// What these codes detect. All: every change of one symbol. ISBN-10, ISSN, ORCID, the digits of an IBAN, and
+/// A law: what these codes detect. All: every change of one symbol. ISBN-10, ISSN, ORCID, the digits of an IBAN, and
 /// Verhoeff's and Damm's check digits: every exchange of two neighbours that differ. ISBN-13, EAN, UPC and routing
 /// numbers: every such exchange, except of symbols that differ by 5. An IBAN as text: every change of one character to
 /// another of its kind, digit or letter, and every exchange of two neighbours that differ, except of 1 and B, of 2 and

@@ -47,8 +47,8 @@ fn are_between(text: &[u8]) -> bool
     true
 }
 
-/// Whether the text, in ASCII, is one of symbols: digits 0 to 9 and X, of which there is at least one, and between two
-/// of them there may be a single hyphen or space.
+/// Whether the text is one of symbols: in ASCII, there is at least one symbol, digits 0 to 9 and X, and between two of
+/// them there may be a single hyphen or space.
 ///
 /// # Examples
 ///
@@ -93,9 +93,9 @@ fn write_symbol(c: u8, symbols: &mut [u64], end: usize) -> usize
     end + 1
 }
 
-/// Writes the symbols of a text, in which X is 10 and single hyphens or spaces may be between symbols, and returns
-/// their number. `None` exactly where the text isn't such a text (`is_symbol_text` tells), or has more symbols than
-/// there is room for; then nothing is written.
+/// Writes the symbols, and returns their number: X is 10, and single hyphens or spaces may be between symbols. `None`
+/// exactly where the text isn't such a text, or there is too little room: `is_symbol_text` tells, and nothing is
+/// written.
 ///
 /// # Examples
 ///

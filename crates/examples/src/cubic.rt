@@ -38,5 +38,6 @@ pub fn cubic<R: Reducer<u64>>(r: &R, x: u64, a: u64, b: u64) -> u64
     ];
     let end = run(r, &mut registers, &commands);
     prove!(end == RunEnd::Done);
+    // rust: debug_assert!(end == RunEnd::Done);
     r.residue(registers[3])
 }

@@ -9,7 +9,11 @@ use num_modular::{
     PreMulInv2by1, Reducer, Vanilla,
 };
 
-/// `three_results` over the plain reducer. Condition: m is at least 1.
+/// `three_results` over the plain reducer.
+///
+/// # Preconditions
+///
+/// - m is at least 1
 ///
 /// # Examples
 ///
@@ -31,7 +35,11 @@ pub fn by_plain_remainders(
     three_results(&Vanilla::<u64>::new(&m), x, y)
 }
 
-/// `three_results` by the reciprocal of m. Condition: m is at least 1.
+/// `three_results` by the reciprocal of m.
+///
+/// # Preconditions
+///
+/// - m is at least 1
 ///
 /// # Examples
 ///
@@ -49,7 +57,11 @@ pub fn by_reciprocals(x: (u64, u64, u64, u64), y: (u64, u64, u64, u64), m: u64) 
     three_results(&PreMulInv2by1::<u64>::new(m), x, y)
 }
 
-/// `three_results` in Montgomery's representation. Condition: m is at least 1.
+/// `three_results` in Montgomery's representation.
+///
+/// # Preconditions
+///
+/// - m is at least 1
 ///
 /// # Examples
 ///

@@ -27,7 +27,11 @@ pub fn product_and_one(x: u64, y: u64) -> u64
     (x * y + 1).residue()
 }
 
-/// n modulo m by a division of two words by one, as a list of commands. Condition: m is at least 1.
+/// n modulo m by a division of two words by one, as a list of commands.
+///
+/// # Conditions
+///
+/// - (debug) m is at least 1
 ///
 /// # Examples
 ///
@@ -36,6 +40,7 @@ pub fn product_and_one(x: u64, y: u64) -> u64
 ///
 /// assert_eq!(residue_by_commands(1000, 97), 30); // 1000 - 10 * 97
 /// ```
+// rust: #[cfg_attr(debug_assertions, track_caller)]
 pub fn residue_by_commands(n: u64, m: u64) -> u64
     requires { 1 ≤ m }
     ensures { result ≡ n % m }
@@ -44,6 +49,7 @@ pub fn residue_by_commands(n: u64, m: u64) -> u64
     let mut registers = [reducer.transform(0); 2];
     let end = run(&reducer, &mut registers, &[RingCommand::Load { dst: 1, n }]);
     prove!(end == RunEnd::Done);
+    // rust: debug_assert!(end == RunEnd::Done, "m must be at least 1");
     reducer.residue(registers[1])
 }
 

@@ -6,7 +6,11 @@ ghost use Rattle.num_modular.specs.Sums.{sum_below};
 use num_modular::laws::range_laws;
 use num_modular::{Montgomery, Reducer};
 
-/// The sum of the products of the entries, modulo m. Condition: the lists have the same length.
+/// The sum of the products of the entries, modulo m.
+///
+/// # Preconditions
+///
+/// - the lists have the same length
 ///
 /// # Examples
 ///
@@ -31,7 +35,11 @@ pub fn inner_product<R: Reducer<u64>>(r: &R, xs: &[u64], ys: &[u64]) -> u64
     r.residue(sum)
 }
 
-/// The inner product of four words with four words modulo m. Condition: m is at least 1.
+/// The inner product of four words with four words modulo m.
+///
+/// # Preconditions
+///
+/// - m is at least 1
 ///
 /// # Examples
 ///

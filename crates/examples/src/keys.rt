@@ -5,8 +5,11 @@ ghost use Rattle.std.specs.Prelude.{◌≡◌, ◌*◌, ◌%◌, ◌^◌, ◌≤
 use num_modular::ModularPow;
 use num_modular::laws::power_laws;
 
-/// The word that a party publishes: the power of the base g to the party's secret, modulo m. Condition: m is at
-/// least 1.
+/// The word that a party publishes: the power of the base g to the party's secret, modulo m.
+///
+/// # Preconditions
+///
+/// - m is at least 1
 ///
 /// # Examples
 ///
@@ -23,7 +26,10 @@ pub fn known_word(g: u64, secret: u64, m: u64) -> u64
 }
 
 /// The keys of two parties, each from its own secret and the word that the other publishes: they are equal.
-/// Condition: m is at least 1.
+///
+/// # Preconditions
+///
+/// - m is at least 1
 ///
 /// # Examples
 ///

@@ -11,6 +11,7 @@ pub mod generators;
 pub mod hashes;
 pub mod inner_products;
 pub mod keys;
+// rattle: line
 pub mod laws;
 pub mod operations;
 pub mod polynomials;

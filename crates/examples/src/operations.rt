@@ -4,7 +4,11 @@ ghost use Rattle.std.specs.Prelude.{◌≡◌, ◌+◌, ◌*◌, ◌%◌, ◌≤
 
 use num_modular::{ModularOps, Montgomery, PlainWord, Reducer, UnsignedOperand};
 
-/// x·y + z modulo m. Condition: m is at least 1.
+/// x·y + z modulo m.
+///
+/// # Preconditions
+///
+/// - m is at least 1
 ///
 /// # Examples
 ///
@@ -26,7 +30,11 @@ pub fn product_and_sum<M: UnsignedOperand + Copy, T: ModularOps<T, M, T>>(
     x.mulm(y, m).addm(z, m)
 }
 
-/// x² modulo m in Montgomery's representation, for every width. Condition: m is at least 1.
+/// x² modulo m in Montgomery's representation, for every width.
+///
+/// # Preconditions
+///
+/// - m is at least 1
 ///
 /// # Examples
 ///
@@ -40,6 +48,7 @@ pub fn square<T: PlainWord>(x: T, m: T) -> T
     requires { 1 ≤ T.number m }
     ensures { T.number result ≡ (T.number x * T.number x) % T.number m }
 {
+    // rust instead: let r = Montgomery::<T>::of(m);
     let r = Montgomery::<T>::new(m);
     r.residue(r.sqr(r.transform(x)))
 }

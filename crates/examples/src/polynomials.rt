@@ -14,8 +14,11 @@ use num_modular::ring::{convolve, load_forms, unload_forms};
 /// lists have unspecified contents afterwards. Returns false, with `product` unchanged, exactly where the length n
 /// of the scratch lists has no inverse modulo m.
 ///
-/// Conditions: no coefficient is above `bound`, and m is above n·bound^2; n is at least the number of
-/// coefficients of the product; and g is the checked form of a root that suits n.
+/// # Preconditions
+///
+/// - no coefficient is above `bound`, and m is above n·bound^2
+/// - n is at least the number of coefficients of the product
+/// - g is the checked form of a root that suits n
 ///
 /// # Examples
 ///
@@ -31,6 +34,7 @@ use num_modular::ring::{convolve, load_forms, unload_forms};
 /// assert!(product_of(&ring, root, &[1, 2], &[3, 4], &mut product, &mut left, &mut right, 4));
 /// assert_eq!(product, [3, 10, 8]);
 /// ```
+// rust: #[must_use]
 pub fn product_of<R: Reducer<u64>>(
     r: &R,
     g: u64,
@@ -54,6 +58,7 @@ pub fn product_of<R: Reducer<u64>>(
         slice_index product.new e ≡ sum_below (e + 1) (λ i. slice_index xs.now i * slice_index ys.now (e - i)) }
     ensures unchanged { (IsTrue result → ⊥) → product.new ≡ product.old }
 {
+    // rust: let _ = bound;
     coefficient_laws();
     load_forms(r, xs, left);
     load_forms(r, ys, right);

@@ -6,7 +6,11 @@ ghost use Rattle.std.specs.Prelude.{◌≡◌, ℕ, ◌*◌, ◌%◌, ◌≤◌,
 
 use num_modular::{ModularInteger, MontgomeryInt, VanillaInt};
 
-/// a times the inverse of b modulo m; `None` exactly where b has none. Condition: m is at least 1.
+/// a times the inverse of b modulo m; `None` exactly where b has none.
+///
+/// # Preconditions
+///
+/// - m is at least 1
 ///
 /// # Examples
 ///
@@ -29,7 +33,10 @@ pub fn by_inverse(a: u64, b: u64, m: u64) -> Option<u64>
 }
 
 /// The number below m whose product with b is congruent to a modulo m; `None` exactly where b has no inverse.
-/// Condition: m is at least 1.
+///
+/// # Preconditions
+///
+/// - m is at least 1
 ///
 /// # Examples
 ///

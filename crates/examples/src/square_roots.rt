@@ -7,7 +7,11 @@ use num_modular::laws::prime_power_laws;
 use num_modular::{ModularPow, ModularUnaryOps};
 
 /// The power of a to the exponent (p + 1)/4 modulo p, where it is a square root of a; `None` exactly where a has no
-/// square root modulo p. Condition: p is a prime that is 3 modulo 4.
+/// square root modulo p.
+///
+/// # Preconditions
+///
+/// - p is a prime that is 3 modulo 4
 ///
 /// # Examples
 ///

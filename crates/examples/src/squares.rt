@@ -6,7 +6,11 @@ ghost use Rattle.num_modular.specs.Primes.{IsPrime};
 use num_modular::laws::prime_laws;
 use num_modular::prim::symbol_over_prime;
 
-/// Whether a is congruent to the square of a number that p doesn't divide. Condition: p is an odd prime.
+/// Whether a is congruent to the square of a number that p doesn't divide.
+///
+/// # Preconditions
+///
+/// - p is an odd prime
 ///
 /// # Examples
 ///

@@ -15,7 +15,7 @@ use Rattle.num_modular.specs.PlanLaws.{bits_reversed_below, bits_reversed_of_hig
 use Rattle.num_modular.specs.Plans.{numbers, constant, AreTwiddles, AreRemainders}
 use Rattle.num_modular.specs.PlanProducts.{coefficient, product_modulo, AreProducts}
 use Rattle.num_modular.specs.PlanLaws.{negacyclic, remainders_of_product}
-use Rattle.num_modular.specs.Polynomials.{polynomial}
+use Rattle.num_modular.specs.Polynomials.{polynomial_at}
 use Rattle.lattice_rings.specs.Rings.{IsRingProduct}
 
 -- words of 32 bits are their own numbers
@@ -68,24 +68,24 @@ constant_is g s j below =
 -- entry i of remainder j is the value of every last-th coefficient from place i on
 pub record AreValues (m g s last : ℕ) (x y : ℕ → ℕ) : Type 0 where
   pub each : (j i : ℕ) → j < 2 ^ s → i < last
-      → y (j * last + i) ≡ polynomial (2 ^ s) (λ k. x (k * last + i)) (g ^ (2 * bits_reversed s j + 1)) % m
+      → y (j * last + i) ≡ polynomial_at (2 ^ s) (λ k. x (k * last + i)) (g ^ (2 * bits_reversed s j + 1)) % m
 
 pub values_of : (m g s last : ℕ) (x y : ℕ → ℕ) → AreRemainders m g (suc s) 1 (2 ^ s) last x y → AreValues m g s last x y
 values_of m g s last x y are = record {
   each = λ j i lj li. are.each j i lj li
-      ∙ ap (λ c. polynomial (2 ^ s) (λ k. x (k * last + i)) c % m) (constant_is g s j lj);
+      ∙ ap (λ c. polynomial_at (2 ^ s) (λ k. x (k * last + i)) c % m) (constant_is g s j lj);
 }
 
 pub remainders_of : (m g s last : ℕ) (x y : ℕ → ℕ) → AreValues m g s last x y
     → AreRemainders m g (suc s) 1 (2 ^ s) last x y
 remainders_of m g s last x y are = record {
   each = λ j i lj li. are.each j i lj li
-      ∙ ap (λ c. polynomial (2 ^ s) (λ k. x (k * last + i)) c % m) (sym (constant_is g s j lj));
+      ∙ ap (λ c. polynomial_at (2 ^ s) (λ k. x (k * last + i)) c % m) (sym (constant_is g s j lj));
 }
 
 -- equal coefficients, equal values
 pub value_same : (m n c : ℕ) (x f : ℕ → ℕ) → ((k : ℕ) → k < n → x k ≡ f k)
-    → polynomial n x c % m ≡ polynomial n f c % m
+    → polynomial_at n x c % m ≡ polynomial_at n f c % m
 value_same m n c x f same =
     ap (λ v. v % m) (sum_below-same n (λ k. x k * c ^ k) (λ k. f k * c ^ k) (λ k l. ap (λ v. v * c ^ k) (same k l)))
 

@@ -4,20 +4,20 @@
 use Rattle.std.specs.Prelude.{◌≡◌, ℕ, ◌+◌, ◌*◌, ◌%◌, ◌^◌, ◌<◌}
 use Rattle.num_modular.specs.Orders.{bits_reversed}
 use Rattle.num_modular.specs.PlanProducts.{coefficient}
-use Rattle.num_modular.specs.Polynomials.{polynomial}
+use Rattle.num_modular.specs.Polynomials.{polynomial_at}
 
 -- FIPS 204: v is NTT(w), entry i being w(zeta^(2 BitRev8(i) + 1))
 pub record IsDsaTransform (w v : ℕ → ℕ) : Type 0 where
-  pub each : (i : ℕ) → i < 256 → v i ≡ polynomial 256 w (1753 ^ (2 * bits_reversed 8 i + 1)) % 8380417
+  pub each : (i : ℕ) → i < 256 → v i ≡ polynomial_at 256 w (1753 ^ (2 * bits_reversed 8 i + 1)) % 8380417
 
 -- FIPS 203: v is NTT(w), the entries 2i and 2i + 1 being the remainder of w modulo X^2 - zeta^(2 BitRev7(i) + 1),
 -- the constant first: with X^2 replaced by that power of zeta, the coefficients of w at even indexes give the
 -- constant, and those at odd indexes the coefficient of X
 pub record IsKemTransform (w v : ℕ → ℕ) : Type 0 where
   pub constant : (i : ℕ) → i < 128
-      → v (2 * i) ≡ polynomial 128 (λ k. w (2 * k)) (17 ^ (2 * bits_reversed 7 i + 1)) % 3329
+      → v (2 * i) ≡ polynomial_at 128 (λ k. w (2 * k)) (17 ^ (2 * bits_reversed 7 i + 1)) % 3329
   pub linear : (i : ℕ) → i < 128
-      → v (2 * i + 1) ≡ polynomial 128 (λ k. w (2 * k + 1)) (17 ^ (2 * bits_reversed 7 i + 1)) % 3329
+      → v (2 * i + 1) ≡ polynomial_at 128 (λ k. w (2 * k + 1)) (17 ^ (2 * bits_reversed 7 i + 1)) % 3329
 
 -- p is the product of x and y modulo X^256 + 1 and q: as X^256 is -1, the coefficients from X^256 on are subtracted
 -- from the first ones

@@ -12,10 +12,10 @@ use num_modular::plans::{Factor, Plan, PlannedModulus, fill_table};
 /// The modulus q.
 pub const MODULUS: u32 = 8380417;
 
-/// The standard's zeta, a root of unity of order 512.
+/// The standard's zeta: a root of unity of order 512.
 pub const ZETA: u32 = 1753;
 
-/// The ring with its table, of 2 KB: zeta^BitRev8(k) modulo q for k from 0 to 255, each with its quotient. For k
+/// The ring with its table: it takes 2 KB, zeta^BitRev8(k) modulo q for k from 0 to 255, each with its quotient. For k
 /// from 1 on these are the numbers of the standard's appendix B.
 ///
 /// The table is that of zeta, which suits 512 entries. In block 1, modulo X^256 + 1, the constants are the odd
@@ -31,7 +31,9 @@ pub const ZETA: u32 = 1753;
 /// Ring::new().product(&mut xs, &mut ys);
 /// assert_eq!(xs[0], MODULUS - 1); // X^255 * X is -1
 /// ```
+// rust instead: #[derive(Clone)]
 #[derive(Drop)]
+// rust: #[must_use]
 pub struct Ring {
     modulus: PlannedModulus<u32>,
     table: [Factor<u32>; 256],
@@ -41,7 +43,9 @@ pub struct Ring {
         → numbers (λ f. f.value) table k ≡ 1753 ^ bits_reversed 8 k % 8380417 },
 }
 
-/// Whether each coefficient is a residue, below q.
+/// Whether each is below q: the coefficients are residues.
+///
+/// Not for secrets.
 ///
 /// # Examples
 ///
@@ -58,7 +62,7 @@ pub fn are_residues(w: &[u32; 256]) -> bool
 }
 
 impl Ring {
-    /// The ring with its table.
+    /// The ring.
     ///
     /// # Examples
     ///
@@ -89,10 +93,13 @@ impl Ring {
         Plan::over(&self.modulus, ZETA, &self.table)
     }
 
-    /// NTT(w) in place: entry i becomes the value w(zeta^(2·BitRev8(i) + 1)), a residue. Condition: the
-    /// coefficients are residues (`are_residues` tells).
+    /// Replaces w by its NTT: entry i becomes the value w(zeta^(2·BitRev8(i) + 1)), a residue.
     ///
     /// Source: FIPS 204, section 7.5, algorithm 41.
+    ///
+    /// # Preconditions
+    ///
+    /// - the coefficients are residues (`are_residues` tells)
     ///
     /// # Examples
     ///
@@ -112,10 +119,13 @@ impl Ring {
         self.plan().split(w, 1, 1);
     }
 
-    /// The inverse of `ntt` in place: the only polynomial whose NTT is the list; its coefficients are residues.
-    /// Condition: the values are residues.
+    /// Undoes `ntt`: the list becomes the only polynomial whose NTT it is; its coefficients are residues.
     ///
     /// Source: FIPS 204, section 7.5, algorithm 42.
+    ///
+    /// # Preconditions
+    ///
+    /// - the entries are residues
     ///
     /// # Examples
     ///
@@ -137,10 +147,13 @@ impl Ring {
         self.plan().join(w, 1, 1);
     }
 
-    /// Replaces xs by the product of xs and ys modulo X^256 + 1 and q, whose coefficients are residues, and ys by
-    /// NTT(ys). Condition: the coefficients are residues.
+    /// Replaces xs by xs·ys modulo X^256 + 1 and q: its coefficients are residues, and ys becomes NTT(ys).
     ///
     /// Source: FIPS 204, section 2.5: the entrywise product of NTT(xs) and NTT(ys) is transformed back.
+    ///
+    /// # Preconditions
+    ///
+    /// - the coefficients are residues
     ///
     /// # Examples
     ///
@@ -165,10 +178,14 @@ impl Ring {
         self.inverse(xs);
     }
 
-    /// Replaces xs by the entrywise product of two transforms, whose entries are residues: the transform of the
-    /// product of the two polynomials. Condition: the entries are residues.
+    /// Multiplies the transform xs by the transform ys: remainder by remainder, with residues as entries, it becomes
+    /// the transform of the product of the two polynomials.
     ///
     /// Source: FIPS 204, section 7.6, algorithm 45.
+    ///
+    /// # Preconditions
+    ///
+    /// - the entries are residues
     ///
     /// # Examples
     ///

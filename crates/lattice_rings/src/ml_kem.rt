@@ -13,11 +13,11 @@ use num_modular::plans::{Factor, Plan, PlannedModulus, fill_table};
 /// The modulus q.
 pub const MODULUS: u32 = 3329;
 
-/// The standard's zeta, a root of unity of order 256.
+/// The standard's zeta: a root of unity of order 256.
 pub const ZETA: u32 = 17;
 
-/// The ring with its table, of 1 KB: zeta^BitRev7(k) modulo q for k from 0 to 127, the numbers of the
-/// standard's appendix A, each with its quotient.
+/// The ring with its table: it takes 1 KB, zeta^BitRev7(k) modulo q for k from 0 to 127, the numbers of the standard's
+/// appendix A, each with its quotient.
 ///
 /// The table is that of zeta, which suits 256 entries. In block 1, modulo X^256 + 1, the constants are the odd
 /// powers zeta^(2·BitRev7(i) + 1), in the standard's order. There is no root of unity of order 512 modulo q, so the
@@ -33,7 +33,9 @@ pub const ZETA: u32 = 17;
 /// Ring::new().product(&mut xs, &mut ys);
 /// assert_eq!(xs[0], MODULUS - 1); // X^255 * X is -1
 /// ```
+// rust instead: #[derive(Clone)]
 #[derive(Drop)]
+// rust: #[must_use]
 pub struct Ring {
     modulus: PlannedModulus<u32>,
     table: [Factor<u32>; 128],
@@ -43,7 +45,9 @@ pub struct Ring {
         → numbers (λ f. f.value) table k ≡ 17 ^ bits_reversed 7 k % 3329 },
 }
 
-/// Whether each coefficient is a residue, below q.
+/// Whether each is below q: the coefficients are residues.
+///
+/// Not for secrets.
 ///
 /// # Examples
 ///
@@ -76,7 +80,7 @@ fn multiply_remainders(x: (u32, u32), y: (u32, u32), c: u32) -> (u32, u32)
 }
 
 impl Ring {
-    /// The ring with its table.
+    /// The ring.
     ///
     /// # Examples
     ///
@@ -107,10 +111,14 @@ impl Ring {
         Plan::over(&self.modulus, ZETA, &self.table)
     }
 
-    /// NTT(w) in place: entries 2i and 2i + 1 become the remainder of w modulo X^2 - zeta^(2·BitRev7(i) + 1), the
-    /// constant first, with residues as coefficients. Condition: the coefficients are residues (`are_residues` tells).
+    /// Replaces w by its NTT: entries 2i and 2i + 1 become the remainder of w modulo X^2 - zeta^(2·BitRev7(i) + 1), the
+    /// constant first, with residues as coefficients.
     ///
     /// Source: FIPS 203, section 4.3, algorithm 9.
+    ///
+    /// # Preconditions
+    ///
+    /// - the coefficients are residues (`are_residues` tells)
     ///
     /// # Examples
     ///
@@ -130,10 +138,13 @@ impl Ring {
         self.plan().split(w, 1, 2);
     }
 
-    /// The inverse of `ntt` in place: the only polynomial whose NTT is the list; its coefficients are residues.
-    /// Condition: the entries are residues.
+    /// Undoes `ntt`: the list becomes the only polynomial whose NTT it is; its coefficients are residues.
     ///
     /// Source: FIPS 203, section 4.3, algorithm 10.
+    ///
+    /// # Preconditions
+    ///
+    /// - the entries are residues
     ///
     /// # Examples
     ///
@@ -157,10 +168,13 @@ impl Ring {
         self.plan().join(w, 1, 2);
     }
 
-    /// Replaces xs by the product of xs and ys modulo X^256 + 1 and q, whose coefficients are residues, and ys by
-    /// NTT(ys). Condition: the coefficients are residues.
+    /// Replaces xs by xs·ys modulo X^256 + 1 and q: its coefficients are residues, and ys becomes NTT(ys).
     ///
     /// Source: FIPS 203, section 4.3, algorithms 11 and 12: the products of the remainders are joined.
+    ///
+    /// # Preconditions
+    ///
+    /// - the coefficients are residues
     ///
     /// # Examples
     ///
@@ -185,10 +199,14 @@ impl Ring {
         self.inverse(xs);
     }
 
-    /// Replaces xs by the product of two transforms, remainder by remainder, whose entries are residues: the
-    /// transform of the product of the two polynomials. Condition: the entries are residues.
+    /// Multiplies the transform xs by the transform ys: remainder by remainder, with residues as entries, it becomes
+    /// the transform of the product of the two polynomials.
     ///
     /// Source: FIPS 203, section 4.3, algorithms 11 and 12.
+    ///
+    /// # Preconditions
+    ///
+    /// - the entries are residues
     ///
     /// # Examples
     ///

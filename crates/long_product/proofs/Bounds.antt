@@ -1,12 +1,12 @@
 -- Bounds of sums of products: of coefficients, and of what is reduced.
-use Rattle.std.proofs.Common.{◌≡◌, ℕ, ◌+◌, ◌-◌, ◌*◌, ◌/◌, ◌<◌, ◌≤◌, All, List, length, get_or, ◌∙◌, ap}
+use Rattle.std.proofs.Common.{◌≡◌, ℕ, ◌+◌, ◌-◌, ◌*◌, ◌/◌, ◌<◌, ◌≤◌, ◌↔◌, All, List, length, get_or, ◌∙◌, ap}
 use Rattle.std.proofs.Common.{arith, subst, inl, inr}
 use Rattle.std.proofs.Math.Nat.{mul-le-mul, mul-le-mul_right, mul-div-le, lt-mul-div-succ}
 use Rattle.std.proofs.lemmas.Bool.{cases_lt}
 use Rattle.std.proofs.lemmas.List.{get_or_past}
 use Rattle.num_modular.specs.Sums.{sum_below}
 use Rattle.num_modular.specs.NumberLaws.{sum_below-joined, sum_below-of_zeros, sum_below-bounded}
-use Rattle.long_product.specs.Polynomials.{product_sum, FitsProduct}
+use Rattle.long_product.specs.Polynomials.{product_sum, FitsProduct, FitsCyclic, FitsFold}
 use Rattle.long_product.proofs.Coefficients.{no_back}
 
 -- a residue and the product of a word with another
@@ -99,7 +99,7 @@ sum_by_right xs ys s t e few other =
     ]
 
 -- a product has no more places than both factors have coefficients
-pub few_places : (m xs ys places : ℕ) → FitsProduct m xs ys places → places ≤ xs + ys
+few_places : (m xs ys places : ℕ) → FitsProduct m xs ys places → places ≤ xs + ys
 few_places m xs ys places fits = elim (cases_lt 0 xs) [
   | inl left ↦ elim (cases_lt 0 ys) [
     | inl right ↦ let e = fits.some (omega (arith, left)) (omega (arith, right)) in omega (arith, e)
@@ -107,3 +107,19 @@ few_places m xs ys places fits = elim (cases_lt 0 xs) [
   ]
   | inr none ↦ let e = fits.none_left (omega (arith, none)) in omega (arith, e)
 ]
+
+-- a product that fits, and a cyclic one, as products modulo X^n - c
+pub product_folds : (m xs ys places : ℕ) → FitsProduct m xs ys places → FitsFold m 0 xs ys places
+product_folds m xs ys places fits =
+    record { modulus = fits.modulus; places = few_places m xs ys places fits; past = λ some. absurd (omega (arith, some)) }
+
+pub cyclic_folds : (m c xs ys places : ℕ) → FitsCyclic m xs ys places → FitsFold m c xs ys places
+cyclic_folds m c xs ys places fits = record {
+  modulus = fits.modulus;
+  places = omega (arith, fits.left);
+  past = λ some. omega (arith, fits.left, fits.right);
+}
+
+-- one of two conditions, in other words
+pub in_other_words : {R A B C : Type 0} → R ↔ (A × C) → A ↔ B → R ↔ (B × C)
+in_other_words is same = (λ r. let h = is.0 r in (same.0 h.0, h.1), λ h. is.1 (same.1 h.0, h.1))

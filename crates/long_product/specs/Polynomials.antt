@@ -39,6 +39,12 @@ pub record FitsCyclic (m xs ys places : ℕ) : Type 0 where
   pub left : xs ≡ places
   pub right : ys ≡ places
 
+-- m is a modulus, and there are no more places than coefficients of the product modulo X^n - c, n being the places
+pub record FitsFold (m c xs ys n : ℕ) : Type 0 where
+  pub modulus : 1 ≤ m
+  pub places : n ≤ xs + ys
+  pub past : 0 < c → 2 * n ≤ xs + ys
+
 -- there is room for the product of polynomials with so many coefficients
 abbrev pub HasProductRoom : ℕ → ℕ → ℕ → ℕ → Type 0
 HasProductRoom xs ys words table = HasRoomFrom LEAST_TRANSFORMED xs ys (xs + ys) words table

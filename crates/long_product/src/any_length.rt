@@ -1,4 +1,4 @@
-//! Transforms of any length modulo any m of up to 64 bits, by Bluestein's method.
+//! Transforms of any length modulo any m: it has up to 64 bits, and the method is Bluestein's.
 
 ghost use Rattle.std.specs.Prelude.{◌≡◌, ℕ, ◌+◌, ◌-◌, ◌*◌, ◌%◌, ◌^◌, ◌<◌, ◌≤◌, ◌↔◌, IsTrue, All, length, slice_index};
 ghost use Rattle.num_modular.specs.Inverses.{IsInverse, HasInverse};
@@ -16,13 +16,17 @@ use num_modular::laws::{inverse_laws, inverse_product_laws};
 use num_modular::plans::PlanEntry;
 use num_modular::{ModularUnaryOps, PreMulInv2by1, Reducer};
 
-/// The least number of entries for which the transform is computed by a product of polynomials; for fewer it is
-/// computed by the sums.
+/// From how many entries on scratch is needed: from this number on the transform is computed by a product of
+/// polynomials, for fewer by the sums.
 pub const LEAST_CONVOLVED: usize = 6;
 
-/// The number of words, and of factors of each of the three tables, for a transform of n entries. Both are 0 where n
-/// is below `LEAST_CONVOLVED`; else the words are 6·n more than `polynomials::room(n, 2n - 1)` returns, and the factors
-/// are as many. Condition: 3·n is at most 2^32.
+/// The scratch for n entries: the numbers of words, and of factors of each of the three tables. Both are 0 where n is
+/// below `LEAST_CONVOLVED`; else the words are 6·n more than `polynomials::room(n, 2n - 1)` returns, and the factors
+/// are as many.
+///
+/// # Conditions
+///
+/// - 3·n is at most 2^32
 ///
 /// # Examples
 ///
@@ -33,10 +37,12 @@ pub const LEAST_CONVOLVED: usize = 6;
 /// assert_eq!(any_length::room(1000), (6 * 1000 + words, factors));
 /// assert_eq!(any_length::room(5), (0, 0));
 /// ```
+// rust: #[track_caller]
 pub fn room(n: usize) -> (usize, usize)
     requires { 3 * n ≤ 2 ^ 32 }
     ensures { (words table : ℕ) → HasTransformRoom n words table ↔ ((result.0 ≤ words) × (result.1 ≤ table)) }
 {
+    // rust: assert!(n <= (1 << 32) / 3, "3·n must be at most 2^32");
     if n < LEAST_CONVOLVED {
         return (0, 0);
     }
@@ -227,11 +233,11 @@ fn fill<F: PlanEntry<u64>>(
     fill_convolved(m, part, g, h, xs, out, words, plans);
 }
 
-/// Writes the transform by g of the n numbers xs modulo m to `out`: entry j is the sum of x_i·g^(i·j) over i from 0
-/// to n - 1, modulo m. n may be any number, and m needn't be prime. `words` has unspecified contents afterwards.
-/// Returns false, with both lists unchanged, exactly where m is 0, the lengths of xs and `out` differ, g has no inverse
-/// modulo m, or, for n from `LEAST_CONVOLVED` on, 3·n - 1 is above 2^32, or `words` or a plan's table is shorter than
-/// `room(n)` returns. g and the numbers may be any words. No memory is allocated.
+/// Writes the transform by g of xs: for n numbers modulo m, entry j of `out` is the sum of x_i·g^(i·j) over i from 0 to
+/// n - 1, modulo m. n may be any number, and m needn't be prime. `words` has unspecified contents afterwards. Returns
+/// false, with both lists unchanged, exactly where m is 0, g has no inverse modulo m, or the lengths don't fit: those
+/// of xs and `out` differ, or, for n from `LEAST_CONVOLVED` on, 3·n - 1 is above 2^32, or `words` or a plan's table is
+/// shorter than `room(n)` returns. g and the numbers may be any words. No memory is allocated.
 ///
 /// The transform can be undone, by `intt`, where g is a root of order n (`is_root_of_order` tells).
 ///
@@ -253,6 +259,7 @@ fn fill<F: PlanEntry<u64>>(
 /// assert!(ntt(7, 2, &[1, 2, 3], &mut out, &mut [], &plans));
 /// assert_eq!(out, [6, 3, 1]); // 1 + 2 + 3, 1 + 4 + 12 and 1 + 8 + 48
 /// ```
+// rust: #[must_use]
 pub fn ntt<F: PlanEntry<u64>>(
     m: u64,
     g: u64,
@@ -279,7 +286,7 @@ pub fn ntt<F: PlanEntry<u64>>(
     }
 }
 
-/// Writes the inverse transform by g of the n numbers xs modulo m to `out`: entry j is the sum of x_i·g^(-i·j) over i
+/// Writes the inverse transform by g of xs: for n numbers modulo m, entry j of `out` is the sum of x_i·g^(-i·j) over i
 /// from 0 to n - 1, divided by n, modulo m. Where g is a root of order n (`is_root_of_order` tells), it undoes `ntt`.
 /// Returns false as `ntt` does, and where n has no inverse modulo m.
 ///
@@ -299,6 +306,7 @@ pub fn ntt<F: PlanEntry<u64>>(
 /// assert!(intt(7, 2, &[6, 3, 1], &mut out, &mut [], &plans));
 /// assert_eq!(out, [1, 2, 3]);
 /// ```
+// rust: #[must_use]
 pub fn intt<F: PlanEntry<u64>>(
     m: u64,
     g: u64,
@@ -330,8 +338,8 @@ pub fn intt<F: PlanEntry<u64>>(
     }
 }
 
-/// Whether g is a root of unity of order n modulo m, for which `intt` undoes `ntt`: m and n are at least 1, g^n is 1
-/// modulo m, and g^d - 1 has an inverse modulo m for each d from 1 to n - 1. Modulo a prime m these are the g of
+/// Whether `intt` by g undoes `ntt` of n entries: g is a root of unity of order n modulo m, m and n are at least 1, g^n
+/// is 1 modulo m, and g^d - 1 has an inverse modulo m for each d from 1 to n - 1. Modulo a prime m these are the g of
 /// order n. It takes 2·n products and one inverse.
 ///
 /// Source: von zur Gathen and Gerhard, Modern Computer Algebra, section 8.2: a product has an inverse exactly where all
@@ -365,8 +373,8 @@ pub fn is_root_of_order(m: u64, g: u64, n: usize) -> bool
     power == one && differences.invm(&m).is_some()
 }
 
-/// The transform by a root g of order n and what `intt` computes undo each other: both ways the result is the residues
-/// of the values. Here h is an inverse of g, and part one of n.
+/// A law, inversion: the transform by a root g of order n and what `intt` computes undo each other, and both ways the
+/// result is the residues of the values. Here h is an inverse of g, and part one of n.
 ///
 /// Source: von zur Gathen and Gerhard, Modern Computer Algebra, theorem 8.11.
 pub fn inversion_laws()

@@ -4,7 +4,11 @@ ghost use Rattle.std.specs.Prelude.{◌≡◌, ◌+◌, ◌*◌, ◌%◌, ◌^�
 
 use num_modular::{PreMulInv2by1, Reducer};
 
-/// m, shifted until its top bit is set, with the reciprocal of that. Condition: m is at least 1.
+/// m, shifted until its top bit is set, with the reciprocal of that.
+///
+/// # Preconditions
+///
+/// - m is at least 1
 pub(crate) fn reciprocal_of(m: u64) -> PreMulInv2by1<u64>
     requires { 1 ≤ m }
     ensures { ⟦<PreMulInv2by1<u64> as Reducer<u64>>⟧.modulus result ≡ m }
@@ -12,10 +16,13 @@ pub(crate) fn reciprocal_of(m: u64) -> PreMulInv2by1<u64>
     Reducer::new(&m)
 }
 
-/// The remainder of a double word modulo m, by the reciprocal: shifted as m is, it has the remainder shifted. Condition: the
-/// double word is below m·2^64.
+/// The remainder of a double word modulo m, by the reciprocal: shifted as m is, it has the remainder shifted.
 ///
 /// Source: Möller and Granlund, "Improved division by invariant integers", section 1.
+///
+/// # Preconditions
+///
+/// - the double word is below m·2^64
 pub(crate) fn remainder(by: &PreMulInv2by1<u64>, t: u128) -> u64
     requires { t < ⟦<PreMulInv2by1<u64> as Reducer<u64>>⟧.modulus by.now * 2 ^ 64 }
     ensures value { result ≡ t % ⟦<PreMulInv2by1<u64> as Reducer<u64>>⟧.modulus by.now }
@@ -42,7 +49,11 @@ fn remainder_of_double(by: &PreMulInv2by1<u64>, t: u128) -> u64
     )
 }
 
-/// The remainder of low + high·2^64, from the top. Conditions: low is below 2^127, and high below 2^126.
+/// The remainder of low + high·2^64, from the top.
+///
+/// # Preconditions
+///
+/// - low is below 2^127, and high below 2^126
 pub(crate) fn remainder_of_sum(by: &PreMulInv2by1<u64>, low: u128, high: u128) -> u64
     requires low { low < 2 ^ 127 }
     requires high { high < 2 ^ 126 }

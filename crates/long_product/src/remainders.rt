@@ -4,13 +4,18 @@ ghost use Rattle.std.specs.Prelude.{◌≡◌, ℕ, ◌+◌, ◌*◌, ◌%◌, �
 ghost use Rattle.long_product.specs.Residues.{HasResidues};
 
 use crate::garner::Garner;
+// rust instead: use crate::applications::long_product::primes::{FIRST_PRIME, SECOND_PRIME};
 use crate::primes::{FIRST_PRIME, SECOND_PRIME, THIRD_PRIME};
 use crate::reciprocal::{reciprocal_of, remainder};
+// rust instead: use crate::PreMulInv2by1;
 use num_modular::{PreMulInv2by1, Reducer};
 
-/// The least number of the three primes whose product is above terms·x·y: no sum of so many products is greater, where
-/// each has a factor that is at most x and one that is at most y. Three primes suffice. Condition: there is a product,
-/// and there are at most 2^32.
+/// The least number of the three primes whose product is above terms·x·y: no sum of so many products is greater,
+/// where each has a factor that is at most x and one that is at most y. Three primes suffice.
+///
+/// # Preconditions
+///
+/// - there is a product, and there are at most 2^32
 pub fn primes_for(terms: usize, x: u64, y: u64) -> usize
     requires some { 1 ≤ terms }
     requires few { terms ≤ 2 ^ 32 }
@@ -34,6 +39,7 @@ pub fn primes_for(terms: usize, x: u64, y: u64) -> usize
 
 // The constants of Garner's formulas, a modulus with its reciprocal, how many primes are used, and the first of them and
 // the product of the first two, modulo the modulus.
+// rattle: line
 #[derive(Drop)]
 struct Remainders {
     garner: Garner,
@@ -112,9 +118,14 @@ impl Remainders {
     }
 }
 
-/// Writes x_e + c·x_(e+n) modulo m to the n places e of `out`, where x_e is the number below the product of the first
-/// `count` primes with the residues at index e. Conditions: m is at least 1, the residues are below their primes, the
-/// three lists of them have one length, and there are n or more; 2n or more where c isn't 0.
+/// Writes x_e + c·x_(e+n) modulo m to the n places e of `out`, where x_e is the number below the product of the
+/// first `count` primes with the residues at index e.
+///
+/// # Preconditions
+///
+/// - m is at least 1, the residues are below their primes, the three lists of them have one length, and there are n
+///   or more
+/// - 2n or more where c isn't 0
 pub fn write_folded(
     count: usize,
     m: u64,

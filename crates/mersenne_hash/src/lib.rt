@@ -16,11 +16,11 @@ use num_modular::ModularInteger;
 use num_modular::hashes::{Hash, base, hash};
 use num_modular::laws::{polynomial_laws, prime_laws, range_laws};
 
-/// 2^61 - 1 is prime. So two different texts of n symbols below 2^61 - 1 have the same hash at fewer than n of the
-/// bases 0 to 2^61 - 2, and any n different bases distinguish them: for a random base the hashes are
-/// (n - 1)/(2^61 - 1)-almost universal. With a symbol 1 in front, as in `length_hash`, two different texts of at most n
-/// symbols have the same hash at no more than n bases, also where their lengths differ. The hash of two texts, one after
-/// the other, follows from theirs.
+/// A law, how rarely hashes collide: 2^61 - 1 is prime. So two different texts of n symbols below 2^61 - 1 have the
+/// same hash at fewer than n of the bases 0 to 2^61 - 2, and any n different bases distinguish them: for a random base
+/// the hashes are (n - 1)/(2^61 - 1)-almost universal. With a symbol 1 in front, as in `length_hash`, two different
+/// texts of at most n symbols have the same hash at no more than n bases, also where their lengths differ. The hash of
+/// two texts, one after the other, follows from theirs.
 ///
 /// A search in N bytes for a pattern of L bytes, as by `find`, meets a part that has the pattern's hash but isn't the
 /// pattern at no more than (N - L + 1)·(L - 1) of the bases.
@@ -66,9 +66,9 @@ pub fn length_hash(base: Hash, text: &[u8]) -> Hash
     value
 }
 
-/// Whether two texts have the same hash at each of the bases. For texts of equal length n that is whether they are equal,
-/// if there are at least n bases and no two of all the bases are congruent modulo 2^61 - 1. Where both texts are at hand
-/// `==` is faster: this is the comparison of two parties that exchange hashes alone.
+/// Whether the hashes of both are equal at each base: those of the two texts. For texts of equal length n that is
+/// whether they are equal, if there are at least n bases and no two of all the bases are congruent modulo 2^61 - 1.
+/// Where both texts are at hand `==` is faster: this is the comparison of two parties that exchange hashes alone.
 ///
 /// # Examples
 ///

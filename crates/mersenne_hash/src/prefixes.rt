@@ -1,4 +1,10 @@
-//! The hashes of all beginnings of a text, from which that of any part takes one product.
+//! The hashes of all beginnings of a text: from these that of any part takes one product.
+//!
+//! # Conditions
+//!
+//! Each call that has such arguments also requires:
+//!
+//! - the bases of the text and of the patterns are the same
 
 mod searches;
 
@@ -13,9 +19,9 @@ use num_modular::ModularInteger;
 use num_modular::hashes::{Hash, hash};
 use num_modular::laws::{range_laws, residue_laws};
 pub use searches::{Patterns, are_pattern_lengths};
+// rust: pub use crate::layers::searches::Hits;
 
-/// A text, a base, and the hashes of the text's beginnings at that base with the powers of the base, in lists of the
-/// caller.
+/// The hashes of a text's beginnings: at a base, with the powers of the base, in lists of the caller.
 ///
 /// # Examples
 ///
@@ -29,9 +35,13 @@ pub use searches::{Patterns, are_pattern_lengths};
 /// assert_eq!(text.substring_hash(7, 11), hash(base, b"abra"));
 /// assert_eq!(text.substring_hash(0, 4), text.substring_hash(7, 11));
 /// ```
+// rust instead: #[derive(Debug, Clone, Copy)]
 #[derive(Drop)]
+// rust: #[must_use]
 pub struct PrefixHashes<'a> {
+    // rust instead: pub(crate) text: &'a [u8],
     text: &'a [u8],
+    // rust instead: pub(crate) base: Hash,
     base: Hash,
     hashes: &'a [Hash],
     powers: &'a [Hash],
@@ -69,8 +79,8 @@ fn fill_prefixes(base: Hash, text: &[u8], hashes: &mut [Hash], powers: &mut [Has
 }
 
 impl<'a> PrefixHashes<'a> {
-    /// Fills both lists and returns them with the text. `None` exactly where one of them doesn't have one entry more than
-    /// the text. It takes two products for each byte.
+    /// Fills both lists and returns them with the text. `None` exactly where the lengths don't fit: one of them doesn't
+    /// have one entry more than the text. It takes two products for each byte.
     ///
     /// # Examples
     ///
@@ -105,10 +115,13 @@ impl<'a> PrefixHashes<'a> {
         })
     }
 
-    /// The hash of the part of the text from `from` up to, and without, `to`, as `hash` gives it.
-    /// Condition: `from` is at most `to`, which is at most the length of the text.
+    /// The hash of a part of the text: from `from` up to, and without, `to`, as `hash` gives it.
     ///
     /// Source: Karp and Rabin, "Efficient randomized pattern-matching algorithms".
+    ///
+    /// # Conditions
+    ///
+    /// - `from` is at most `to`, which is at most the length of the text
     ///
     /// # Examples
     ///
@@ -122,17 +135,20 @@ impl<'a> PrefixHashes<'a> {
     /// let text = PrefixHashes::new(base, &[1, 2, 3, 4], &mut hashes, &mut powers).unwrap();
     /// assert_eq!(text.substring_hash(1, 3).residue(), 2_003);
     /// ```
+    // rust: #[track_caller]
     pub fn substring_hash(&self, from: usize, to: usize) -> Hash
         requires ordered { from ≤ to }
         requires within { to ≤ length self.now.text.now }
         ensures { residue_of result ≡ hash_of (slice_range self.now.text.now from to) (residue_of self.now.base) }
     {
+        // rust: assert!(from <= to && to <= self.text.len(),
+        // rust:     "`from` must be at most `to`, which is at most the length of the text");
         range_laws();
         residue_laws();
         self.hashes[to] - self.hashes[from] * self.powers[to - from]
     }
 
-    /// The first position from `from` on where the pattern occurs; `None` exactly where it occurs nowhere there. So the
+    /// The next position of the pattern: the first from `from` on; `None` exactly where it occurs nowhere there. So the
     /// next one is found from the position after it.
     ///
     /// The result is right for every base, because the bytes of a part are compared where its hash is the pattern's.

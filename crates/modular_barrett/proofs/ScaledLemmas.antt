@@ -6,7 +6,8 @@ use Rattle.std.proofs.lemmas.Bool.{cases_lt}
 use Rattle.std.proofs.lemmas.Nat.{shl-shr, pow_pos, mul-lt}
 use Rattle.std.proofs.lemmas.Int.{ints}
 use Rattle.std.specs.Int.Count.{count_leading_zeros}
-use Rattle.modular_prim.proofs.Scaled.{remainder_of, scaled_remainder, scaled_to_top}
+use Rattle.modular_prim.proofs.DigitSteps.{remainder_is}
+use Rattle.modular_prim.proofs.Scaled.{scaled_remainder, scaled_to_top}
 use Rattle.modular_word.specs.Division.{IsDivision}
 use Rattle.modular_word.specs.Inverses.{IsInverse}
 use Rattle.modular_word.specs.Residues.{residue}
@@ -127,7 +128,7 @@ product_stands w m d a x b whole q r positive ed stands fb ew division =
     let e : x * b ≡ x * (y * p) = ap (λ n. x * n) fb.same in
     let e' : whole ≡ (x * y) * p = omega arith in
     subst (λ v. Stands w m r ((v * y) % m)) (value_is w m a x stands)
-    (stands_for w m d (x * y) r positive ed (remainder_of division ∙ ap (λ n. n % d) e'))
+    (stands_for w m d (x * y) r positive ed (remainder_is division ∙ ap (λ n. n % d) e'))
 
 -- it fits the division
 pub product_fits : (b m d s x y whole : ℕ) → d ≡ m * 2 ^ s → x < m → y < b → whole ≡ x * y → whole < d * b
@@ -142,7 +143,7 @@ pub remainder_stands : (w m d s n whole q r : ℕ) → IsScaling w m d s → who
     → Stands w m r (n % m)
 remainder_stands w m d s n whole q r is e division =
     stands_for w m d n r is.positive (divisor_is is)
-    (remainder_of division ∙ ap (λ v. v % d) (e ∙ ap (λ v. n * 2 ^ v) is.zeros))
+    (remainder_is division ∙ ap (λ v. v % d) (e ∙ ap (λ v. n * 2 ^ v) is.zeros))
 
 -- it fits the division
 pub scaled_fits : (w b m d s n whole : ℕ) → IsScaling w m d s → n < b → whole ≡ n * 2 ^ s → whole < d * b

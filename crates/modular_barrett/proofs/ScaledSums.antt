@@ -4,7 +4,7 @@ use Rattle.std.proofs.Math.Nat.{add-mul-div_left, add-mul-div_right, add-mul-mod
 use Rattle.std.proofs.Math.Nat.{mul-div_cancel_left, mul-le-mul_left, mul-le-mul_right}
 use Rattle.std.proofs.Math.Pow.{pow_mono}
 use Rattle.std.proofs.lemmas.Nat.{pow-add, pow_pos}
-use Rattle.modular_prim.proofs.Scaled.{remainder_of}
+use Rattle.modular_prim.proofs.DigitSteps.{remainder_is}
 use Rattle.modular_word.specs.Congruence.{Congruent}
 use Rattle.modular_word.specs.Division.{IsDivision}
 use Rattle.modular_word.specs.Sums.{sum_below}
@@ -63,7 +63,7 @@ sum_reduced {b} {d} {s} {p} {rest} {r} {q} low high c e v some base parts upper 
     let quotient : (low + b * rest) / p + d * (e * k) ≡ p * v =
     sym (add-mul-div_left (low + b * rest) (d * (e * k)) some) ∙ ap (λ n. n / p) whole
     ∙ mul-div_cancel_left (p * v) some in
-    remainder_of division ∙ sym (add-mul-mod_self_left ((low + b * rest) / p) d (e * k)) ∙ ap (λ n. n % d) quotient
+    remainder_is division ∙ sym (add-mul-mod_self_left ((low + b * rest) / p) d (e * k)) ∙ ap (λ n. n % d) quotient
 
 -- the sum of the products of forms, by that of the products of their values
 pub scaled_products : {m p : ℕ} (w n : ℕ) (x y : ℕ → ℕ) → p ≡ scale w m

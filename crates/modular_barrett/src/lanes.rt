@@ -6,10 +6,16 @@ ghost use Rattle.std.specs.Prelude.{◌≡◌, ◌+◌, ◌*◌, ◌%◌, ◌<�
 use modular_prim::below::reduced_once;
 use modular_prim::plain_word::PlainWord;
 use modular_reduced::lanes::reduced_by_sign;
+// rattle: line
 use modular_word::path_word::PathWord;
+// rattle: line
 use modular_word::ring_word::RingWord;
 
-/// The residue of a word below 2m. Conditions: the word is below 2m, which is at most the base.
+/// The residue of a word below 2m.
+///
+/// # Preconditions
+///
+/// - the word is below 2m, which is at most the base
 pub fn reduced<T: PlainWord>(x: T, m: T) -> T
     requires below { T.number x < 2 * T.number m }
     requires room { 2 * T.number m ≤ T.base }

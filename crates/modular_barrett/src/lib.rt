@@ -1,6 +1,7 @@
 //! Division by an invariant divisor without a division instruction, the reducer that uses it, and the moduli of plans.
 #![tactic(auto)]
 
+// rust instead: pub(crate) mod computed;
 mod computed;
 pub mod exact;
 pub mod lanes;

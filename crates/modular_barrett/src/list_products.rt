@@ -7,6 +7,7 @@ use crate::normalized::{Normalized2by1Divisor, StoredDivisor};
 use modular_prim::plain_word::PlainWord;
 use modular_reduced::list_products::carried_sum;
 use modular_word::path_word::PathWord;
+// rattle: line
 use modular_word::ring_word::RingWord;
 
 // The double word divided by a power of two, rounded down. Condition: `by` is below the width.

@@ -8,16 +8,19 @@ use modular_prim::plain_word::PlainWord;
 use modular_prim::reciprocal;
 use modular_word::path_word::PathWord;
 use modular_word::paths::div_2by1;
+// rattle: line
 use modular_word::ring_word::RingWord;
+// rattle: line
 use std::alloc::AllocError;
 
-/// The divisor of a divider, for contracts.
+/// For contracts: the divisor of a divider.
 pub trait StoredDivisor {
     // The divisor that is stored.
     ghost divisor: { Self → ℕ };
 }
 
-/// A divisor d whose top bit is set, and its reciprocal v: with B the base, (v + B)·d is B² - k for a k from 1 to d.
+/// A divisor whose top bit is set, with its reciprocal: the divisor d and the word v where, with B the base, (v + B)·d
+/// is B² - k for a k from 1 to d.
 ///
 /// Source: Möller and Granlund, "Improved division by invariant integers".
 ///
@@ -29,9 +32,14 @@ pub trait StoredDivisor {
 /// let divisor = Normalized2by1Divisor::<u8>::new(200);
 /// assert_eq!(divisor.div_rem_2by1(1234), (6, 34)); // 6 * 200 + 34
 /// ```
+// rust: #[derive(Hash)]
 #[derive(Debug, PartialEq, Eq)]
+// rust: #[must_use]
+// rust instead: pub struct Normalized2by1Divisor<T> {
 pub struct Normalized2by1Divisor<T: PathWord> {
+    // rust instead: pub(crate) divisor: T,
     divisor: T,
+    // rust instead: pub(crate) reciprocal: T,
     reciprocal: T,
     pub ghost reciprocal_is: { IsReciprocal T.base (T.number divisor) (T.number reciprocal) },
 }
@@ -41,7 +49,9 @@ impl<T: PathWord> Clone for Normalized2by1Divisor<T> {
 
     ghost is_infallible = { λ _. ⊤ };
 
+    // rust instead: fn clone(&self) -> Self {
     fn clone(&self) -> Result<Self, AllocError> {
+        // rust instead: *self
         Ok(*self)
     }
 }
@@ -90,7 +100,11 @@ impl<T: PathWord> Normalized2by1Divisor<T> {
         }
     }
 
-    /// Quotient and remainder of a double word. Condition: the dividend's high word is below the divisor.
+    /// Quotient and remainder of a double word.
+    ///
+    /// # Conditions
+    ///
+    /// - (debug) the dividend's high word is below the divisor
     ///
     /// # Examples
     ///
@@ -100,18 +114,25 @@ impl<T: PathWord> Normalized2by1Divisor<T> {
     /// let divisor = Normalized2by1Divisor::<u32>::new(4_000_000_000);
     /// assert_eq!(divisor.div_rem_2by1(12_000_000_005), (3, 5));
     /// ```
+    // rust: #[cfg_attr(debug_assertions, track_caller)]
     pub fn div_rem_2by1(&self, a: T::Double) -> (T, T)
         requires { T.double_number a < ⟦<Normalized2by1Divisor<T> as StoredDivisor>⟧.divisor self.now * T.base }
         ensures { let d = ⟦<Normalized2by1Divisor<T> as StoredDivisor>⟧.divisor self.now in
             IsDivision (T.double_number a) d (T.number result.0) (T.number result.1) }
     {
         prove!(T::split(a).1.is_below(self.divisor));
+        // rust: debug_assert!(T::split(a).1.is_below(self.divisor),
+        // rust:     "the dividend's high word must be below the divisor");
         div_2by1(self.divisor, self.reciprocal, a)
     }
 }
 
 impl<T: PlainWord> Normalized2by1Divisor<T> {
-    /// The reciprocal of a divisor. Condition: the divisor's top bit is set.
+    /// The reciprocal of d.
+    ///
+    /// # Conditions
+    ///
+    /// - (debug) the divisor's top bit is set
     ///
     /// # Examples
     ///
@@ -121,16 +142,22 @@ impl<T: PlainWord> Normalized2by1Divisor<T> {
     /// // (71 + 256) * 200 = 65400, which is 65536 less 136
     /// assert_eq!(Normalized2by1Divisor::<u8>::invert_word(200), 71);
     /// ```
+    // rust: #[cfg_attr(debug_assertions, track_caller)]
     pub fn invert_word(d: T) -> T
         requires { T.base ≤ 2 * T.number d }
         ensures { IsReciprocal T.base (T.number d) (T.number result) }
     {
+        // rust: debug_assert!(d.leading_zeros() == 0, "the divisor's top bit must be set");
         reciprocal::invert_word(d)
     }
 
-    /// A divisor with its reciprocal. Condition: the divisor's top bit is set.
+    /// A divisor with its reciprocal.
     ///
     /// In the Cargo crate this is `of`, for any word type; `new` is the same for a known one.
+    ///
+    /// # Conditions
+    ///
+    /// - the divisor's top bit is set
     ///
     /// # Examples
     ///
@@ -142,11 +169,14 @@ impl<T: PlainWord> Normalized2by1Divisor<T> {
     /// }
     /// assert_eq!(last_digits(200u8, 234), 34);
     /// ```
+    // rust: #[track_caller]
+    // rust instead: pub fn of(d: T) -> Self
     pub fn new(d: T) -> Self
         requires { T.base ≤ 2 * T.number d }
         ensures { ⟦<Normalized2by1Divisor<T> as StoredDivisor>⟧.divisor result ≡ T.number d }
     {
         prove!(T::zero().wrapping_sub(T::one()).half().is_below(d));
+        // rust: assert!(T::zero().wrapping_sub(T::one()).half().is_below(d), "the divisor's top bit must be set");
         Normalized2by1Divisor {
             divisor: d,
             reciprocal: Self::invert_word(d),

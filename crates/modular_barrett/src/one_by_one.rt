@@ -8,9 +8,10 @@ ghost use Rattle.modular_reduced.specs.Powers.{digits};
 use modular_prim::plain_word::PlainWord;
 use modular_word::path_word::PathWord;
 use modular_word::paths::{div_1by1, ones};
+// rattle: line
 use modular_word::ring_word::RingWord;
 
-/// The divisors that a divider fits, for contracts.
+/// For contracts: the divisors that a divider fits.
 pub trait FitsDivisor {
     // What is stored divides by this divisor.
     ghost fits: { Self → ℕ → Type 0 };
@@ -28,9 +29,14 @@ pub trait FitsDivisor {
 /// const SIXTY: PreMulInv1by1<u32> = PreMulInv1by1::<u32>::new(60);
 /// assert_eq!(SIXTY.div_rem(3725, 60), (62, 5));
 /// ```
+// rust: #[derive(Hash)]
 #[derive(Debug, Clone, Copy, PartialEq, Eq)]
+// rust: #[must_use]
+// rust instead: pub struct PreMulInv1by1<T> {
 pub struct PreMulInv1by1<T: PathWord> {
+    // rust instead: pub(crate) multiplier: T,
     multiplier: T,
+    // rust instead: pub(crate) shift: u32,
     shift: u32,
 }
 
@@ -48,10 +54,13 @@ impl<T: PathWord> FitsDivisor for PreMulInv1by1<T> {
 }
 
 impl<T: PathWord> PreMulInv1by1<T> {
-    /// Quotient and remainder of a word. Condition: the divider is that of the divisor d.
+    /// Quotient and remainder of a word.
     ///
-    /// Source: Granlund and Montgomery, "Division by invariant integers using multiplication", figure
-    /// 4.1.
+    /// Source: Granlund and Montgomery, "Division by invariant integers using multiplication", figure 4.1.
+    ///
+    /// # Conditions
+    ///
+    /// - (debug) the divider is that of the divisor d
     ///
     /// # Examples
     ///
@@ -61,22 +70,28 @@ impl<T: PathWord> PreMulInv1by1<T> {
     /// let seven = PreMulInv1by1::<u8>::new(7);
     /// assert_eq!(seven.div_rem(100, 7), (14, 2));
     /// ```
+    // rust: #[cfg_attr(debug_assertions, track_caller)]
     pub fn div_rem(&self, a: T, d: T) -> (T, T)
         requires { ⟦<PreMulInv1by1<T> as FitsDivisor>⟧.fits self.now (T.number d) }
         ensures { IsDivision (T.number a) (T.number d) (T.number result.0) (T.number result.1) }
     {
+        // rust: debug_assert!(crate::additions::is_multiplier(self.multiplier, self.shift, d),
+        // rust:     "the divider must be that of the divisor d");
         div_1by1(d, self.multiplier, self.shift, a)
     }
 }
 
 impl<T: PlainWord> PreMulInv1by1<T> {
-    /// The multiplier and the shift of a divisor d. With n the least number such that d is at most 2^n, and B the
-    /// base, the multiplier is B·(2^n - d)/d, rounded down, plus 1, and the shift is n - 1. Condition: the divisor
-    /// is above 1.
+    /// The multiplier and the shift of d. With n the least number such that d is at most 2^n, and B the base, the
+    /// multiplier is B·(2^n - d)/d, rounded down, plus 1, and the shift is n - 1.
     ///
     /// In the Cargo crate this is `of`, for any word type; `new` is the same for a known one.
     ///
     /// Source: Granlund and Montgomery, "Division by invariant integers using multiplication", section 4.
+    ///
+    /// # Conditions
+    ///
+    /// - the divisor is above 1
     ///
     /// # Examples
     ///
@@ -91,11 +106,14 @@ impl<T: PlainWord> PreMulInv1by1<T> {
     /// remainder_each(&mut numbers, 7);
     /// assert_eq!(numbers, [0, 2, 6]);
     /// ```
+    // rust: #[track_caller]
+    // rust instead: pub fn of(d: T) -> Self
     pub fn new(d: T) -> Self
         requires { 1 < T.number d }
         ensures { ⟦<PreMulInv1by1<T> as FitsDivisor>⟧.fits result (T.number d) }
     {
         prove!(!d.half().is_zero_word());
+        // rust: assert!(!d.half().is_zero_word(), "the divisor must be above 1");
         let less = d.minus(T::one());
         let n = binary_digits(less);
         let gap = ones::<T>(n).minus(less);

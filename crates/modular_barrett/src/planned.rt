@@ -11,7 +11,9 @@ use modular_prim::plain_word::PlainWord;
 use modular_prim::reciprocal::invert_word;
 use modular_word::path_word::PathWord;
 use modular_word::paths::div_2by1;
+// rattle: line
 use modular_word::ring_word::RingWord;
+// rattle: line
 use std::alloc::AllocError;
 
 /// A factor modulo m: a number w below m, and its quotient w·B/m, rounded down, with B the base.
@@ -29,11 +31,16 @@ use std::alloc::AllocError;
 /// let factor = PlannedModulus::<u8>::new(17).factor(3);
 /// assert_eq!((factor.value(), factor.quotient()), (3, 45)); // 3 * 256 = 45 * 17 + 3
 /// ```
+// rust: #[derive(Hash)]
 #[derive(Debug, PartialEq, Eq)]
+// rust: #[must_use]
+// rust instead: pub struct Factor<T> {
 pub struct Factor<T: PathWord> {
     /// The number w, below the modulus m that the factor was made for.
+    // rust instead: pub(crate) value: T,
     pub value: T,
     /// The quotient w·B/m, rounded down.
+    // rust instead: pub(crate) quotient: T,
     pub quotient: T,
 }
 
@@ -42,7 +49,9 @@ impl<T: PathWord> Clone for Factor<T> {
 
     ghost is_infallible = { λ _. ⊤ };
 
+    // rust instead: fn clone(&self) -> Self {
     fn clone(&self) -> Result<Self, AllocError> {
+        // rust instead: *self
         Ok(*self)
     }
 }
@@ -83,9 +92,13 @@ impl<T: PathWord> Factor<T> {
 /// ntt_planned(&modulus, &mut entries, &table);
 /// assert_eq!(entries[0], 1 + 2 + 3 + 4);
 /// ```
+// rust instead: #[derive(PartialEq, Eq, Hash)]
 #[derive(Debug, PartialEq, Eq)]
+// rust: #[must_use]
+// rust instead: pub struct PlannedModulus<T> {
 pub struct PlannedModulus<T: PathWord> {
     /// The modulus.
+    // rust instead: pub(crate) modulus: T,
     pub modulus: T,
     shift: u32,
     reciprocal: T,
@@ -100,7 +113,9 @@ impl<T: PathWord> Clone for PlannedModulus<T> {
 
     ghost is_infallible = { λ _. ⊤ };
 
+    // rust instead: fn clone(&self) -> Self {
     fn clone(&self) -> Result<Self, AllocError> {
+        // rust instead: *self
         Ok(*self)
     }
 }
@@ -129,8 +144,11 @@ impl<T: PlainWord> PlannedModulus<T> {
         }
     }
 
-    /// The modulus with its reciprocal. Condition: the modulus is at least 1 and at most 2^w/4, for words of w bits
-    /// (`admits` tells).
+    /// The modulus with its reciprocal.
+    ///
+    /// # Conditions
+    ///
+    /// - the modulus is at least 1 and at most 2^w/4, for words of w bits (`admits` tells)
     ///
     /// # Examples
     ///
@@ -140,12 +158,14 @@ impl<T: PlainWord> PlannedModulus<T> {
     /// let modulus = PlannedModulus::<u64>::new(97);
     /// assert_eq!(modulus.multiply(10, 20), 6); // 200 - 2 * 97
     /// ```
+    // rust: #[track_caller]
     pub fn new(m: T) -> Self
         requires some { 1 ≤ T.number m }
         requires room { 4 * T.number m ≤ T.base }
         ensures { T.number result.modulus ≡ T.number m }
     {
         prove!(Self::admits(m));
+        // rust: assert!(Self::admits(m), "the modulus must be at least 1 and at most 2^w/4, for words of w bits");
         let shift = m.leading_zeros();
         let reciprocal = invert_word(m.shift_left(shift));
         PlannedModulus {
@@ -155,7 +175,11 @@ impl<T: PlainWord> PlannedModulus<T> {
         }
     }
 
-    /// The factor w with its quotient, which is computed by the reciprocal. Condition: w is below m.
+    /// The factor w: its quotient is computed by the reciprocal.
+    ///
+    /// # Conditions
+    ///
+    /// - (debug) w is below m
     ///
     /// # Examples
     ///
@@ -166,20 +190,26 @@ impl<T: PlainWord> PlannedModulus<T> {
     /// let ten = modulus.factor(10);
     /// assert_eq!(modulus.product(1000, &ten), 9); // 10000 = 103 * 97 + 9
     /// ```
+    // rust: #[cfg_attr(debug_assertions, track_caller)]
     pub fn factor(&self, w: T) -> Factor<T>
         requires { T.number w < T.number self.now.modulus }
         ensures value { T.number result.value ≡ T.number w }
         ensures factor { IsFactorOf T.base T.number (T.number self.now.modulus) result }
     {
         prove!(w.is_below(self.modulus));
+        // rust: debug_assert!(w.is_below(self.modulus), "w must be below m");
         let divisor = self.modulus.shift_left(self.shift);
         let scaled = w.shift_left(self.shift);
         let (quotient, _) = div_2by1(divisor, self.reciprocal, T::merge(T::zero(), scaled));
         Factor { value: w, quotient }
     }
 
-    /// The residue of a factor times the base, below m, computed from its quotient. Condition: the factor was made by
-    /// this modulus: its value is below m, and its quotient is value·B/m, rounded down.
+    /// The residue of w·B: a factor times the base, computed from its quotient, below m.
+    ///
+    /// # Conditions
+    ///
+    /// - (debug) the factor was made by this modulus: its value is below m, and its quotient is value·B/m, rounded
+    ///   down
     ///
     /// # Examples
     ///
@@ -189,10 +219,14 @@ impl<T: PlainWord> PlannedModulus<T> {
     /// let modulus = PlannedModulus::<u8>::new(13);
     /// assert_eq!(modulus.times_base(&modulus.factor(5)), 6); // 5 * 256 = 98 * 13 + 6
     /// ```
+    // rust: #[cfg_attr(debug_assertions, track_caller)]
     pub fn times_base(&self, w: &Factor<T>) -> T
         requires { IsFactorOf T.base T.number (T.number self.now.modulus) w.now }
         ensures { T.number result ≡ (T.number w.now.value * T.base) % T.number self.now.modulus }
     {
+        // rust: debug_assert!(crate::modular_plan_transforms::filled::are_factors(self.modulus,
+        // rust:     core::slice::from_ref(w)),
+        // rust:     "the factor was made by this modulus: its value must be below m, and its quotient must be value·B/m, rounded down");
         T::zero().wrapping_sub(w.quotient.wrapping_mul(self.modulus))
     }
 
@@ -222,12 +256,16 @@ impl<T: PlainWord> PlannedModulus<T> {
         low
     }
 
-    /// A number below 2m that is congruent to the product of any word x with a factor. Condition: the factor was made
-    /// by this modulus: its value is below m, and its quotient is value·B/m, rounded down.
+    /// A number below 2m, congruent to x·w: the product of any word x with a factor.
     ///
     /// It takes the high word of one product and the low words of two.
     ///
     /// Source: Harvey, "Faster arithmetic for number-theoretic transforms", section 3.
+    ///
+    /// # Conditions
+    ///
+    /// - (debug) the factor was made by this modulus: its value is below m, and its quotient is value·B/m, rounded
+    ///   down
     ///
     /// # Examples
     ///
@@ -238,12 +276,16 @@ impl<T: PlainWord> PlannedModulus<T> {
     /// let product = modulus.times(200, &modulus.factor(5));
     /// assert!(product == 12 || product == 12 + 13); // 1000 = 76 * 13 + 12
     /// ```
+    // rust: #[cfg_attr(debug_assertions, track_caller)]
     pub fn times(&self, x: T, w: &Factor<T>) -> T
         requires { IsFactorOf T.base T.number (T.number self.now.modulus) w.now }
         ensures below { T.number result < 2 * T.number self.now.modulus }
         ensures congruent { Congruent (T.number self.now.modulus) (T.number result)
             (T.number x * T.number w.now.value) }
     {
+        // rust: debug_assert!(crate::modular_plan_transforms::filled::are_factors(self.modulus,
+        // rust:     core::slice::from_ref(w)),
+        // rust:     "the factor was made by this modulus: its value must be below m, and its quotient must be value·B/m, rounded down");
         if T::bits() == 32 {
             self.times_by_double_words(x, w)
         } else {
@@ -251,8 +293,12 @@ impl<T: PlainWord> PlannedModulus<T> {
         }
     }
 
-    /// The residue of the product of any word x with a factor, below m. Condition: the factor was made by this modulus:
-    /// its value is below m, and its quotient is value·B/m, rounded down.
+    /// The residue of x·w: the product of any word x with a factor, below m.
+    ///
+    /// # Conditions
+    ///
+    /// - (debug) the factor was made by this modulus: its value is below m, and its quotient is value·B/m, rounded
+    ///   down
     ///
     /// # Examples
     ///
@@ -262,15 +308,22 @@ impl<T: PlainWord> PlannedModulus<T> {
     /// let modulus = PlannedModulus::<u8>::new(13);
     /// assert_eq!(modulus.product(200, &modulus.factor(5)), 12);
     /// ```
+    // rust: #[cfg_attr(debug_assertions, track_caller)]
     pub fn product(&self, x: T, w: &Factor<T>) -> T
         requires { IsFactorOf T.base T.number (T.number self.now.modulus) w.now }
         ensures { T.number result ≡ (T.number x * T.number w.now.value) % T.number self.now.modulus }
     {
+        // rust: debug_assert!(crate::modular_plan_transforms::filled::are_factors(self.modulus,
+        // rust:     core::slice::from_ref(w)),
+        // rust:     "the factor was made by this modulus: its value must be below m, and its quotient must be value·B/m, rounded down");
         reduced(self.times(x, w), self.modulus)
     }
 
-    /// The residue of the product of a word x with any word y, below m, computed by the reciprocal. Condition: x is
-    /// below m.
+    /// The residue of x·y: the product of a word x with any word y, below m, computed by the reciprocal.
+    ///
+    /// # Conditions
+    ///
+    /// - (debug) x is below m
     ///
     /// # Examples
     ///
@@ -280,19 +333,26 @@ impl<T: PlainWord> PlannedModulus<T> {
     /// let modulus = PlannedModulus::<u8>::new(13);
     /// assert_eq!(modulus.multiply(5, 200), 12); // 1000 = 76 * 13 + 12
     /// ```
+    // rust: #[cfg_attr(debug_assertions, track_caller)]
     pub fn multiply(&self, x: T, y: T) -> T
         requires { T.number x < T.number self.now.modulus }
         ensures { T.number result ≡ (T.number x * T.number y) % T.number self.now.modulus }
     {
+        // rust: debug_assert!(x.is_below(self.modulus), "x must be below m");
         let divisor = self.modulus.shift_left(self.shift);
         let scaled = x.shift_left(self.shift);
         let (_, rest) = div_2by1(divisor, self.reciprocal, scaled.product(y));
         rest.shift_right(self.shift)
     }
 
-    /// The residue of x·v + u·y, below m. Condition: x + u is below 2m.
+    /// The residue of x·v + u·y: a number below m.
     ///
-    /// It divides once, by the reciprocal, modulo 2m: the high word of the sum may be at least m, but it is below 2m.
+    /// It divides once, by the reciprocal, modulo 2m: the high word of the sum may be at least m, but it is below
+    /// 2m.
+    ///
+    /// # Conditions
+    ///
+    /// - (debug) x + u is below 2m
     ///
     /// # Examples
     ///
@@ -302,12 +362,14 @@ impl<T: PlainWord> PlannedModulus<T> {
     /// let modulus = PlannedModulus::<u8>::new(13);
     /// assert_eq!(modulus.product_sum(5, 200, 7, 100), 10); // 5 * 200 + 7 * 100 = 130 * 13 + 10
     /// ```
+    // rust: #[cfg_attr(debug_assertions, track_caller)]
     pub fn product_sum(&self, x: T, v: T, u: T, y: T) -> T
         requires { T.number x + T.number u < 2 * T.number self.now.modulus }
         ensures value { T.number result ≡ (T.number x * T.number v + T.number u * T.number y)
             % T.number self.now.modulus }
         ensures below { T.number result < T.number self.now.modulus }
     {
+        // rust: debug_assert!(x.is_below(self.twice()) && u.is_below(self.twice().minus(x)), "x + u must be below 2m");
         let divisor = self.modulus.shift_left(self.shift);
         let by = self.shift - 1;
         let sum = T::double_plus(x.shift_left(by).product(v), u.shift_left(by).product(y));
@@ -347,7 +409,11 @@ impl<T: PlainWord> PlannedModulus<T> {
         x.half().is_below(self.twice())
     }
 
-    /// The residue of a word, below m. Condition: the word is below 4m (`has_room` tells).
+    /// The residue of a word: a number below m.
+    ///
+    /// # Conditions
+    ///
+    /// - (debug) the word is below 4m (`has_room` tells)
     ///
     /// # Examples
     ///
@@ -356,10 +422,12 @@ impl<T: PlainWord> PlannedModulus<T> {
     ///
     /// assert_eq!(PlannedModulus::<u8>::new(13).residue(51), 12);
     /// ```
+    // rust: #[cfg_attr(debug_assertions, track_caller)]
     pub fn residue(&self, x: T) -> T
         requires { T.number x < 4 * T.number self.now.modulus }
         ensures { T.number result ≡ T.number x % T.number self.now.modulus }
     {
+        // rust: debug_assert!(self.has_room(x), "the word must be below 4m");
         reduced(reduced(x, self.twice()), self.modulus)
     }
 }

@@ -14,11 +14,13 @@ use modular_reduced::lanes::{difference_by_sign, sum_by_sign};
 use modular_reduced::list_products::{block, multiply_by_factor};
 use modular_reduced::reducer::Reducer;
 use modular_word::path_word::PathWord;
+// rattle: line
 use modular_word::ring_word::RingWord;
+// rattle: line
 use std::alloc::AllocError;
 
-/// The reducer of a modulus m that is at least 1, by division of a double word. With s the leading zeros of m, the
-/// form of a value v is v·2^s, and the divisor is m·2^s, whose top bit is set.
+/// The reducer of any m, by reciprocals: m is at least 1, and products are reduced by a division of a double word. With
+/// s the leading zeros of m, the form of a value v is v·2^s, and the divisor is m·2^s, whose top bit is set.
 ///
 /// Sums, differences, doubles and negatives are taken modulo m·2^s without a division. A product takes one product
 /// of words and one division by the reciprocal of m·2^s.
@@ -34,9 +36,14 @@ use std::alloc::AllocError;
 /// let x = ring.transform(123456);
 /// assert_eq!(ring.residue(ring.sqr(x)), 456 * 456 % 1000);
 /// ```
+// rust instead: #[derive(PartialEq, Eq, Hash)]
 #[derive(Debug, PartialEq, Eq)]
+// rust: #[must_use]
+// rust instead: pub struct PreMulInv2by1<T> {
 pub struct PreMulInv2by1<T: PlainWord> {
+    // rust instead: pub(crate) divider: Normalized2by1Divisor<T>,
     divider: Normalized2by1Divisor<T>,
+    // rust instead: pub(crate) shift: u32,
     shift: u32,
     pub ghost scaling: { IsScaling T.width (T.number divider.divisor / 2 ^ shift) (T.number divider.divisor) shift },
 }
@@ -46,7 +53,9 @@ impl<T: PlainWord> Clone for PreMulInv2by1<T> {
 
     ghost is_infallible = { λ _. ⊤ };
 
+    // rust instead: fn clone(&self) -> Self {
     fn clone(&self) -> Result<Self, AllocError> {
+        // rust instead: *self
         Ok(*self)
     }
 }
@@ -54,9 +63,13 @@ impl<T: PlainWord> Clone for PreMulInv2by1<T> {
 impl<T: PlainWord> Copy for PreMulInv2by1<T> {}
 
 impl<T: PlainWord> PreMulInv2by1<T> {
-    /// The reducer of a modulus. Condition: the modulus is at least 1.
+    /// The reducer of m.
     ///
     /// In the Cargo crate this is `of`, for any word type; `new` is the same for a known one.
+    ///
+    /// # Conditions
+    ///
+    /// - the modulus is at least 1
     ///
     /// # Examples
     ///
@@ -69,13 +82,17 @@ impl<T: PlainWord> PreMulInv2by1<T> {
     /// }
     /// assert_eq!(square(16u8, 251), 5); // 256 - 251
     /// ```
+    // rust: #[track_caller]
+    // rust instead: pub fn of(m: T) -> Self
     pub fn new(m: T) -> Self
         requires { 1 ≤ T.number m }
         ensures { ⟦<PreMulInv2by1<T> as Reducer<T>>⟧.modulus result ≡ T.number m }
     {
         prove!(!m.is_zero_word());
+        // rust: assert!(!m.is_zero_word(), "the modulus must be at least 1");
         let shift = m.leading_zeros();
         PreMulInv2by1 {
+            // rust instead: divider: Normalized2by1Divisor::of(m.shift_left(shift)),
             divider: Normalized2by1Divisor::new(m.shift_left(shift)),
             shift,
         }
@@ -98,7 +115,7 @@ impl<T: PlainWord> PreMulInv2by1<T> {
         &self.divider
     }
 
-    /// The number of leading zeros of the modulus.
+    /// How many leading zeros m has.
     ///
     /// # Examples
     ///
@@ -113,7 +130,7 @@ impl<T: PlainWord> PreMulInv2by1<T> {
         self.shift
     }
 
-    /// The shifted modulus, whose top bit is set.
+    /// The shifted modulus: its top bit is set.
     ///
     /// # Examples
     ///
@@ -153,7 +170,9 @@ impl<T: PlainWord> Reducer<T> for PreMulInv2by1<T> {
 
     ghost canonical = { λ r. scaled_canonical r.scaling };
 
+    // rust: #[track_caller]
     fn new(m: &T) -> Self {
+        // rust instead: Self::of(*m)
         Self::new(*m)
     }
 
@@ -205,12 +224,16 @@ impl<T: PlainWord> Reducer<T> for PreMulInv2by1<T> {
     }
 
     // The divisor uses all bits, and is even, as all forms are. So the halves of the forms are added.
+    // rust: #[cfg_attr(debug_assertions, track_caller)]
     fn add_with_room(&self, a: &T, b: &T) -> T {
+        // rust: debug_assert!(!self.modulus().has_top_bit(), "2m must be below the base");
         let half = sum_by_sign(a.half(), b.half(), self.divisor().half());
         half.plus(half)
     }
 
+    // rust: #[cfg_attr(debug_assertions, track_caller)]
     fn sub_with_room(&self, a: &T, b: &T) -> T {
+        // rust: debug_assert!(!self.modulus().has_top_bit(), "2m must be below the base");
         let half = difference_by_sign(a.half(), b.half(), self.divisor().half());
         half.plus(half)
     }
@@ -231,7 +254,11 @@ impl<T: PlainWord> Reducer<T> for PreMulInv2by1<T> {
     }
 
     // Products are added as whole numbers and reduced once a block.
+    // rust: #[track_caller]
     fn add_products(&self, sum: T, xs: &[T], ys: &[T]) -> T {
+        // rust: assert!(ys.len() == xs.len(), "the lists must have the same length: {} and {}", xs.len(), ys.len());
+        // rust: debug_assert!(self.check(&sum) && xs.iter().chain(ys).all(|x| self.check(x)),
+        // rust:     "`sum` and all entries must be checked forms");
         let mut total = sum;
         let mut from = 0;
         'each_block: while from < xs.len() {
@@ -251,4 +278,5 @@ impl<T: PlainWord> Reducer<T> for PreMulInv2by1<T> {
     fn sqr(&self, f: T) -> T {
         self.mul(&f, &f)
     }
+    // rust: crate::additions::reducer_members!(T);
 }

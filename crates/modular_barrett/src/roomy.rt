@@ -6,16 +6,22 @@ ghost use Rattle.modular_barrett.specs.Factors.{IsFactorOf};
 use crate::planned::{Factor, PlannedModulus};
 use modular_prim::plain_word::PlainWord;
 use modular_word::path_word::PathWord;
+// rattle: line
 use modular_word::ring_word::RingWord;
+// rattle: line
 use std::alloc::AllocError;
 
 /// The modulus m of a plan that is at most a sixteenth of the base, so that words below 16m hold sums that aren't
 /// reduced.
 #[derive(Debug)]
+// rust: #[must_use]
+// rust instead: pub struct RoomyModulus<T> {
 pub struct RoomyModulus<T: PathWord> {
     /// The modulus.
+    // rust instead: pub(crate) planned: PlannedModulus<T>,
     pub planned: PlannedModulus<T>,
     /// The factor 1: the product with it reduces any word.
+    // rust instead: pub(crate) unit: Factor<T>,
     pub unit: Factor<T>,
     pub ghost room: { 16 * T.number planned.modulus ≤ T.base },
     pub ghost is_factor: { IsFactorOf T.base T.number (T.number planned.modulus) unit },
@@ -27,7 +33,9 @@ impl<T: PathWord> Clone for RoomyModulus<T> {
 
     ghost is_infallible = { λ _. ⊤ };
 
+    // rust instead: fn clone(&self) -> Self {
     fn clone(&self) -> Result<Self, AllocError> {
+        // rust instead: *self
         Ok(*self)
     }
 }

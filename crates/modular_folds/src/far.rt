@@ -7,6 +7,7 @@ ghost use Rattle.modular_folds.specs.Folds.{IsFolding};
 use crate::fold_word::FoldWord;
 use crate::folds::{fold_on, reduced_last};
 use modular_word::path_word::PathWord;
+// rattle: line
 use modular_word::ring_word::RingWord;
 
 // The mask of the bits below p + by, and 2^(p + by) modulo m. Compilers evaluate the loop, since p, by and m are known.
@@ -18,6 +19,7 @@ fn power_above<V: FoldWord>(p: u32, by: u32, c: V, m: V) -> (V, V)
     ensures same { V.number result.1 % V.number m ≡ 2 ^ (p + by) % V.number m }
     ensures below { V.number result.1 < V.number m }
 {
+    // rust: let _ = p;
     let mut mask = m.plus(c.minus(V::one()));
     let mut factor = c;
     let mut done = 0u32;
@@ -40,10 +42,13 @@ fn fold_above<V: FoldWord>(v: V, p: u32, by: u32, c: V, m: V) -> V
     v.shift_right(p + by).times(factor).plus(v.masked(mask))
 }
 
-/// v modulo m, by folds at bits that come nearer to p by halves, and then at p. Condition: m is 2^p - c and more than
-/// half of 2^p, and p + p / 2 is below the width of the words.
+/// v modulo m, by folds at bits that come nearer to p by halves, and then at p.
 ///
 /// Source: Hasenplaug, Gaubatz and Gopal, "Fast modular reduction" (2007).
+///
+/// # Preconditions
+///
+/// - m is 2^p - c and more than half of 2^p, and p + p / 2 is below the width of the words
 #[inline(always)]
 pub fn reduced_far<V: FoldWord>(v: V, p: u32, c: V, m: V) -> V
     requires folding { IsFolding V.width p (V.number c) (V.number m) }
@@ -60,8 +65,11 @@ pub fn reduced_far<V: FoldWord>(v: V, p: u32, c: V, m: V) -> V
     reduced_last(fold_on(near, p, mask, c, m).0, m)
 }
 
-/// Whether a product takes few folds at the bit p by c: c has at most about seven eighths of the bits of p. Condition: p is
-/// from 2 to the width of the words.
+/// Whether a product takes few folds at the bit p by c: c has at most about seven eighths of the bits of p.
+///
+/// # Preconditions
+///
+/// - p is from 2 to the width of the words
 pub fn has_few_folds<T: PathWord>(p: u32, c: T) -> bool
     requires some { 2 ≤ p }
     requires fits { p ≤ T.width }

@@ -6,37 +6,64 @@ ghost use Rattle.std.specs.Prelude.{◌≡◌, ℕ, ◌+◌, ◌-◌, ◌*◌, �
 use modular_word::ring_word::RingWord;
 
 /// A dividend that can be folded: a word of 64 or 128 bits.
+// rust instead: pub trait FoldWord: Sized + RingWord {
 pub trait FoldWord: RingWord {
-    /// The sum. Condition: the sum fits the word.
+    /// The sum.
+    ///
+    /// # Preconditions
+    ///
+    /// - the sum fits the word
+    // rust: #[must_use]
     fn plus(self, rhs: Self) -> Self
         requires { Self.number self + Self.number rhs < 2 ^ Self.width }
         ensures { Self.number result ≡ Self.number self + Self.number rhs };
 
-    /// The difference. Condition: the difference is not below 0.
+    /// The difference.
+    ///
+    /// # Preconditions
+    ///
+    /// - the difference is not below 0
+    // rust: #[must_use]
     fn minus(self, rhs: Self) -> Self
         requires { Self.number rhs ≤ Self.number self }
         ensures { Self.number result + Self.number rhs ≡ Self.number self };
 
-    /// The product. Condition: the product fits the word.
+    /// The product.
+    ///
+    /// # Preconditions
+    ///
+    /// - the product fits the word
+    // rust: #[must_use]
     fn times(self, rhs: Self) -> Self
         requires { Self.number self * Self.number rhs < 2 ^ Self.width }
         ensures { Self.number result ≡ Self.number self * Self.number rhs };
 
-    /// The product with a factor, plus a word. Condition: the result fits the word.
+    /// The product with a factor, plus a word.
     ///
     /// For a factor 2^k + 1 or 2^k - 1 it is a shift and two sums, whose latency is less than that of a product. The
     /// sums may wrap; LLVM would turn sums that don't back into a product. For the factor 1 it is one sum.
+    ///
+    /// # Preconditions
+    ///
+    /// - the result fits the word
+    // rust: #[must_use]
     fn multiply_add(self, factor: Self, addend: Self) -> Self
         requires { Self.number self * Self.number factor + Self.number addend < 2 ^ Self.width }
         ensures { Self.number result ≡ Self.number self * Self.number factor + Self.number addend };
 
-    /// The word divided by a power of two, rounded down. Condition: `by` is below the width.
+    /// The word divided by a power of two, rounded down.
+    ///
+    /// # Preconditions
+    ///
+    /// - `by` is below the width
+    // rust: #[must_use]
     fn shift_right(self, by: u32) -> Self
         requires { by < Self.width }
         ensures value { Self.number result ≡ Self.number self / 2 ^ by }
         ensures fits { Self.number self < 2 ^ Self.width };
 
     /// The bitwise and of the word and a mask.
+    // rust: #[must_use]
     fn masked(self, mask: Self) -> Self
         ensures { Self.number result ≡ bit_and (Self.number self) (Self.number mask) };
 

@@ -8,6 +8,7 @@ use crate::fold_word::FoldWord;
 use modular_prim::below::sum_once;
 use modular_reduced::lanes::reduced_by_sign;
 use modular_word::path_word::PathWord;
+// rattle: line
 use modular_word::ring_word::RingWord;
 
 // One fold at the bit p: the part above it times c, plus the part below it; and 1, or 0 where the part above is 0.
@@ -30,7 +31,11 @@ fn fold<V: FoldWord>(v: V, p: u32, mask: V, c: V) -> (V, u32)
 }
 
 /// A number below 2^p that is congruent to v modulo 2^p - 1, by two folds, and the number of those that changed
-/// something. Condition: the mask is 2^p - 1, p is at least 1 and below the width of the words, and v is below 2^(2p).
+/// something.
+///
+/// # Preconditions
+///
+/// - the mask is 2^p - 1, p is at least 1 and below the width of the words, and v is below 2^(2p)
 pub fn fold_two<V: FoldWord>(v: V, p: u32, mask: V) -> (V, u32)
     requires some { 1 ≤ p }
     requires inside { p < V.width }
@@ -46,8 +51,11 @@ pub fn fold_two<V: FoldWord>(v: V, p: u32, mask: V) -> (V, u32)
 }
 
 /// A number below 2^p that is congruent to v modulo 2^p - c, by three folds, and the number of those that changed
-/// something. Condition: the mask is 2^p - 1, p is below the width of the words, c·(c + 1) is at most 2^p, and v is below
-/// 2^(2p).
+/// something.
+///
+/// # Preconditions
+///
+/// - the mask is 2^p - 1, p is below the width of the words, c·(c + 1) is at most 2^p, and v is below 2^(2p)
 pub fn fold_three<V: FoldWord>(v: V, p: u32, mask: V, c: V) -> (V, u32)
     requires inside { p < V.width }
     requires mask { V.number mask + 1 ≡ 2 ^ p }
@@ -72,6 +80,7 @@ pub(crate) fn fold_on<V: FoldWord>(v: V, p: u32, mask: V, c: V, m: V) -> (V, u32
     ensures same { V.number result.0 % V.number m ≡ V.number v % V.number m }
     ensures count { result.1 ≡ folds p (V.number c) (V.number v) }
 {
+    // rust: let _ = m;
     let mut rest = v;
     let mut count = 0;
     'folds: while mask.is_below(rest) {
@@ -83,8 +92,11 @@ pub(crate) fn fold_on<V: FoldWord>(v: V, p: u32, mask: V, c: V, m: V) -> (V, u32
 }
 
 /// A number below 2^p that is congruent to v modulo m, and the number of folds that led to it. Where c is small and
-/// v is below 2^(2p), the folds are unrolled, without comparisons. Condition: m is 2^p - c and more than half of 2^p,
-/// and p is at most the width of the words.
+/// v is below 2^(2p), the folds are unrolled, without comparisons.
+///
+/// # Preconditions
+///
+/// - m is 2^p - c and more than half of 2^p, and p is at most the width of the words
 pub fn fold_all<V: FoldWord>(v: V, p: u32, c: V, m: V) -> (V, u32)
     requires { IsFolding V.width p (V.number c) (V.number m) }
     ensures below { V.number result.0 < 2 ^ p }
@@ -271,59 +283,95 @@ fn reduced_up_to<V: FoldWord>(v: V, most: V, p: u32, c: V, m: V) -> V
 }
 
 /// A word whose double words can be folded: u32 or u64.
+// rust instead: pub trait FoldedWord: Sized + PathWord {
 pub trait FoldedWord: PathWord {
     /// A word below 2^p that is congruent to a double word modulo m, and the number of folds at the bit p by c that
-    /// led to it. Condition: such folds reduce modulo m.
+    /// led to it.
+    ///
+    /// # Preconditions
+    ///
+    /// - folds at the bit p by c reduce modulo m
     fn fold_double(v: Self::Double, p: u32, c: Self, m: Self) -> (Self, u32)
         requires { IsFolding Self.width p (Self.number c) (Self.number m) }
         ensures below { Self.number result.0 < 2 ^ p }
         ensures same { Self.number result.0 % Self.number m ≡ Self.double_number v % Self.number m }
         ensures count { result.1 ≡ folds p (Self.number c) (Self.double_number v) };
 
-    /// The residue of a word, by folds at the bit p by c. Conditions: such folds reduce modulo m, and p is below the
-    /// width.
+    /// The residue of a word, by folds at the bit p by c.
+    ///
+    /// # Preconditions
+    ///
+    /// - folds at the bit p by c reduce modulo m
+    /// - p is below the width
+    // rust: #[must_use]
     fn reduce_longer(v: Self, p: u32, c: Self, m: Self) -> Self
         requires folding { IsFolding Self.width p (Self.number c) (Self.number m) }
         requires inside { p < Self.width }
         ensures { Self.number result ≡ Self.number v % Self.number m };
 
     /// The residue of a product of two words below 2^p, by folds at the bit p by c without comparisons of the
-    /// product. Condition: such folds reduce modulo m, and c is at most a fourth of 2^p.
+    /// product.
+    ///
+    /// # Preconditions
+    ///
+    /// - folds at the bit p by c reduce modulo m
+    /// - c is at most a fourth of 2^p
+    // rust: #[must_use]
     fn reduce_in_line(v: Self::Double, p: u32, c: Self, m: Self) -> Self
         requires folding { IsFolding Self.width p (Self.number c) (Self.number m) }
         requires small { 4 * Self.number c ≤ 2 ^ p }
         requires product { Self.double_number v / 2 ^ p < 2 ^ p }
         ensures { Self.number result ≡ Self.double_number v % Self.number m };
 
-    /// The residue of a double word, by folds at bits above p and then at p. Condition: folds at the bit p by c reduce
-    /// modulo m.
+    /// The residue of a double word, by folds at bits above p and then at p.
+    ///
+    /// # Preconditions
+    ///
+    /// - folds at the bit p by c reduce modulo m
+    // rust: #[must_use]
     fn reduce_far(v: Self::Double, p: u32, c: Self, m: Self) -> Self
         requires { IsFolding Self.width p (Self.number c) (Self.number m) }
         ensures { Self.number result ≡ Self.double_number v % Self.number m };
 
-    /// Whether `reduce_in_line` reduces a double word, and takes less time than folds with comparisons. Condition: folds
-    /// at the bit p by c reduce modulo m.
+    /// Whether `reduce_in_line` reduces a double word, and takes less time than folds with comparisons.
+    ///
+    /// # Preconditions
+    ///
+    /// - folds at the bit p by c reduce modulo m
     fn is_in_line(v: Self::Double, p: u32, c: Self, m: Self) -> bool
         requires { IsFolding Self.width p (Self.number c) (Self.number m) }
         ensures small { IsTrue result → 4 * Self.number c ≤ 2 ^ p }
         ensures product { IsTrue result → Self.double_number v / 2 ^ p < 2 ^ p };
 
-    /// Whether the part of a double word above the bit p is below m. Condition: p is at most the width.
+    /// Whether the part of a double word above the bit p is below m.
+    ///
+    /// # Preconditions
+    ///
+    /// - p is at most the width
     fn is_short(v: Self::Double, p: u32, m: Self) -> bool
         requires { p ≤ Self.width }
         ensures { IsTrue result → Self.double_number v / 2 ^ p < Self.number m };
 
-    /// The residue of a double word, by one fold. Conditions: m is 2^p - 1, p is at most the width, and the part above the
-    /// bit p is below m.
+    /// The residue of a double word, by one fold.
+    ///
+    /// # Preconditions
+    ///
+    /// - m is 2^p - 1, p is at most the width, and the part above the bit p is below m
+    // rust: #[must_use]
     fn reduce_by_one_fold(v: Self::Double, p: u32, m: Self) -> Self
         requires inside { p ≤ Self.width }
         requires mask { Self.number m + 1 ≡ 2 ^ p }
         requires short { Self.double_number v / 2 ^ p < Self.number m }
         ensures { Self.number result ≡ Self.double_number v % Self.number m };
 
-    /// The residue of a + b, where m is at most 2^p. Conditions: b is at most m, and the sum below 2m.
+    /// The residue of a + b, where m is at most 2^p.
     ///
     /// Where p is less than the width, the sum fits a word, which saves a carry.
+    ///
+    /// # Preconditions
+    ///
+    /// - b is at most m, and the sum below 2m
+    // rust: #[must_use]
     fn sum_of_parts(a: Self, b: Self, p: u32, m: Self) -> Self
         requires bound { Self.number m ≤ 2 ^ p }
         requires most { Self.number b ≤ Self.number m }
@@ -435,12 +483,15 @@ impl FoldedWord for u64 {
     }
 }
 
-/// v modulo m, and the number of folds: folds until v is below 2^p, and at most one subtraction. Condition: m is
-/// 2^p - c and more than half of 2^p, and p is at most the width of the words.
+/// v modulo m, and the number of folds: folds until v is below 2^p, and at most one subtraction.
 ///
 /// A fold replaces v = high·2^p + low by high·c + low, which is congruent modulo m. p may be the width of a word.
 ///
 /// Source: Handbook of Applied Cryptography, algorithm 14.47.
+///
+/// # Preconditions
+///
+/// - m is 2^p - c and more than half of 2^p, and p is at most the width of the words
 pub fn reduce_by_folds<T: FoldedWord>(v: T::Double, p: u32, c: T, m: T) -> (T, u32)
     requires { IsFolding T.width p (T.number c) (T.number m) }
     ensures value { T.number result.0 ≡ T.double_number v % T.number m }
@@ -462,12 +513,16 @@ fn reduce_longer_double<T: FoldedWord>(v: T::Double, p: u32, c: T, m: T) -> T
     reduce_by_folds(v, p, c, m).0
 }
 
-/// v modulo m, by folds: without further comparisons where v is at most a product of two numbers below 2^p, and that is
-/// faster. Condition: m is 2^p - c and more than half of 2^p, and p is at most the width of the words.
+/// v modulo m, by folds: without further comparisons where v is at most a product of two numbers below 2^p, and
+/// that is faster.
 ///
 /// For c = 1 one fold makes a product of two residues less than 2m.
 ///
 /// Source: Handbook of Applied Cryptography, algorithm 14.47.
+///
+/// # Preconditions
+///
+/// - m is 2^p - c and more than half of 2^p, and p is at most the width of the words
 #[inline(always)]
 pub fn reduce_double_word<T: FoldedWord>(v: T::Double, p: u32, c: T, m: T) -> T
     requires { IsFolding T.width p (T.number c) (T.number m) }
@@ -490,7 +545,7 @@ pub fn reduce_double_word<T: FoldedWord>(v: T::Double, p: u32, c: T, m: T) -> T
     }
 }
 
-/// A number below 2^p takes no folds. Where c is below 2^p and v = hi·2^p + lo isn't, v takes one fold more than
+/// Folds: a number below 2^p takes none. Where c is below 2^p and v = hi·2^p + lo isn't, v takes one fold more than
 /// hi·c + lo. Where c is less than half of 2^p, the number of folds is bounded by `IsFewFolds`.
 pub fn fold_laws()
     ensures none { (p c v : ℕ) → v < 2 ^ p → folds p c v ≡ 0 }

@@ -7,6 +7,7 @@ ghost use Rattle.modular_folds.specs.Folds.{fold_of, IsFolding};
 use crate::far::has_few_folds;
 use crate::folds::FoldedWord;
 use modular_word::path_word::PathWord;
+// rattle: line
 use modular_word::ring_word::RingWord;
 
 // The parts of high·c + low below and above the bit p. The lower part, as an argument and as a result, is shifted
@@ -53,13 +54,17 @@ fn is_by_words<T: PathWord>(p: u32, c: T) -> bool
     c.shift_right(p / 2).is_zero_word() && p > 32
 }
 
-/// a·b modulo m. Conditions: m is 2^p - c and more than half of 2^p, and p is at most the width of the words; a and
-/// b are below m.
+/// a·b modulo m.
 ///
 /// Where c isn't near 2^p, the product is folded without comparisons, by its words where that is faster. The choice depends
 /// on c and p alone.
 ///
 /// Source: Handbook of Applied Cryptography, algorithm 14.47.
+///
+/// # Preconditions
+///
+/// - m is 2^p - c and more than half of 2^p, and p is at most the width of the words
+/// - a and b are below m
 #[inline(always)]
 pub fn reduce_product<T: FoldedWord>(a: T, b: T, p: u32, c: T, m: T) -> T
     requires folding { IsFolding T.width p (T.number c) (T.number m) }
@@ -154,11 +159,15 @@ fn reduced_folded<T: PathWord>(x: T, p: u32, c: T, m: T) -> T
     }
 }
 
-/// v modulo m. Condition: m is 2^p - c and more than half of 2^p, and p is at most the width of the words.
+/// v modulo m.
 ///
 /// Where one fold makes every word less than 2m, v isn't compared. The choice depends on c and p alone.
 ///
 /// Source: Handbook of Applied Cryptography, algorithm 14.47.
+///
+/// # Preconditions
+///
+/// - m is 2^p - c and more than half of 2^p, and p is at most the width of the words
 #[inline(always)]
 pub fn reduce_word<T: FoldedWord>(v: T, p: u32, c: T, m: T) -> T
     requires { IsFolding T.width p (T.number c) (T.number m) }

@@ -8,12 +8,14 @@ use crate::folds::FoldedWord;
 use modular_prim::below::{add_below, dbl_below, neg_below, sub_below};
 use modular_prim::reducer_word::ReducerWord;
 use modular_reduced::reducer::Reducer;
+// rattle: line
 use modular_word::path_word::PathWord;
+// rattle: line
 use modular_word::ring_word::RingWord;
 use std::marker::PhantomData;
 
-/// A modulus near a power of two that the parameters of the type give: its value, and how words and products are
-/// reduced by it. A value of the type exists only for parameters in range.
+/// A modulus near a power of two: the parameters of the type give its value, and how words and products are reduced by
+/// it. A value of the type exists only for parameters in range.
 ///
 /// # Examples
 ///
@@ -33,7 +35,11 @@ pub trait FoldModulus<T: FoldedWord>: Copy {
 
     ghost modulus: { Self → ℕ };
 
-    /// The modulus of the parameters. Condition: the modulus is that of the parameters, and these are in range.
+    /// The modulus of the parameters.
+    ///
+    /// # Conditions
+    ///
+    /// - the modulus is that of the parameters, and these are in range
     ///
     /// # Examples
     ///
@@ -42,6 +48,8 @@ pub trait FoldModulus<T: FoldedWord>: Copy {
     ///
     /// assert_eq!(Mersenne32::<31, 1>::keep(2147483647).modulus(), 2147483647);
     /// ```
+    // rust: #[must_use]
+    // rust: #[track_caller]
     fn keep(m: T) -> Self
         requires { admits (T.number m) }
         ensures { modulus result ≡ T.number m };
@@ -58,7 +66,7 @@ pub trait FoldModulus<T: FoldedWord>: Copy {
     fn modulus(&self) -> T
         ensures { T.number result ≡ modulus self.now };
 
-    /// The residue of a word, below the modulus.
+    /// The residue of a word.
     ///
     /// # Examples
     ///
@@ -70,7 +78,11 @@ pub trait FoldModulus<T: FoldedWord>: Copy {
     fn reduced(&self, n: T) -> T
         ensures { T.number result ≡ T.number n % modulus self.now };
 
-    /// The residue of a product, below the modulus. Condition: both factors are below the modulus.
+    /// The residue of a product.
+    ///
+    /// # Preconditions
+    ///
+    /// - both factors are below the modulus
     ///
     /// # Examples
     ///
@@ -89,8 +101,8 @@ pub trait FoldModulus<T: FoldedWord>: Copy {
     ghost canonical: { (m : Self) → IsCanonical plain_form plain_value T.width (modulus m) };
 }
 
-/// The reducer of a modulus near a power of two, over words T: the form of a value is the value itself. It stores
-/// nothing, and `new` accepts only the modulus of the parameters.
+/// The reducer of a `FoldModulus`: one near a power of two, over words T, with the value itself as the form of a value.
+/// It stores nothing, and `new` accepts only the modulus of the parameters.
 ///
 /// # Examples
 ///
@@ -104,9 +116,14 @@ pub trait FoldModulus<T: FoldedWord>: Copy {
 /// assert_eq!(cube(&FixedMersenne32::<8, 5>::RING, 10), 247); // 1000 modulo 251
 /// assert_eq!(cube(&FixedTrinomialSolinas32::<5, 4, -3>::RING, 10), 12); // 1000 modulo 13
 /// ```
+// rust instead: #[derive(Clone, Copy)]
 #[derive(Debug, Clone, Copy)]
+// rust: #[must_use]
+// rust instead: pub struct FoldRing<T, M> {
 pub struct FoldRing<T: FoldedWord, M: FoldModulus<T>> {
+    // rust instead: pub(crate) word: PhantomData<T>,
     word: PhantomData<T>,
+    // rust instead: pub(crate) kept: M,
     kept: M,
 }
 
@@ -123,6 +140,7 @@ impl<T: FoldedWord + ReducerWord, M: FoldModulus<T>> Reducer<T> for FoldRing<T, 
 
     ghost canonical = { λ r. M.canonical r.kept };
 
+    // rust: #[track_caller]
     fn new(m: &T) -> Self {
         FoldRing {
             word: PhantomData,
@@ -177,4 +195,5 @@ impl<T: FoldedWord + ReducerWord, M: FoldModulus<T>> Reducer<T> for FoldRing<T, 
     fn sqr(&self, f: T) -> T {
         self.kept.product(f, f)
     }
+    // rust: crate::additions::reducer_members!(T);
 }

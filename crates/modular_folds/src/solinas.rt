@@ -12,12 +12,15 @@ use crate::folds::{FoldedWord, reduce_by_folds, reduce_double_word};
 use crate::products::{reduce_product, reduce_word};
 use crate::rings::{FoldModulus, FoldRing};
 use modular_prim::plain_word::PlainWord;
+// rattle: line
 use modular_word::path_word::PathWord;
+// rattle: line
 use modular_word::ring_word::RingWord;
+// rattle: line
 use std::alloc::AllocError;
 use std::marker::PhantomData;
 
-/// The trinomial 2^p1 - 2^p2 + k, as a type.
+/// A trinomial 2^p1 - 2^p2 + k, as a type.
 ///
 /// # Examples
 ///
@@ -29,6 +32,7 @@ use std::marker::PhantomData;
 /// }
 /// assert_eq!(value::<Trinomial32<16, 8, 1>>(), 65281); // 65536 - 256 + 1
 /// ```
+// rust instead: pub trait Trinomial: Sized {
 pub trait Trinomial {
     // The numbers of a type, because an invariant can't mention a signed constant parameter.
     ghost p1: { ℕ };
@@ -37,6 +41,9 @@ pub trait Trinomial {
 
     ghost k: { ℤ };
 
+    // rust: #[doc(hidden)]
+    // rust: const IN_RANGE: () = ();
+    // rust:
     /// The greater exponent.
     ///
     /// # Examples
@@ -74,7 +81,7 @@ pub trait Trinomial {
         ensures { result ≡ k };
 }
 
-/// The trinomial 2^P1 - 2^P2 + K, for words of 32 bits.
+/// The trinomial 2^P1 - 2^P2 + K: for words of 32 bits.
 ///
 /// # Examples
 ///
@@ -84,6 +91,7 @@ pub trait Trinomial {
 /// assert_eq!(TrinomialSolinas::<u32, Trinomial32<16, 8, 1>>::MODULUS, 65281); // 65536 - 256 + 1
 /// ```
 #[derive(Debug, Clone, Copy)]
+// rust: #[must_use]
 pub struct Trinomial32<const P1: u8, const P2: u8, const K: i32> {}
 
 impl<const P1: u8, const P2: u8, const K: i32> Trinomial for Trinomial32<P1, P2, K> {
@@ -93,6 +101,10 @@ impl<const P1: u8, const P2: u8, const K: i32> Trinomial for Trinomial32<P1, P2,
 
     ghost k = { K };
 
+    // rust: const IN_RANGE: () = {
+    // rust:     let _tested = crate::FixedTrinomialSolinas32::<P1, P2, K>::MODULUS;
+    // rust: };
+    // rust:
     fn p1() -> u8 {
         P1
     }
@@ -106,7 +118,7 @@ impl<const P1: u8, const P2: u8, const K: i32> Trinomial for Trinomial32<P1, P2,
     }
 }
 
-/// The trinomial 2^P1 - 2^P2 + K, for words of 64 bits.
+/// The trinomial 2^P1 - 2^P2 + K: for words of 64 bits.
 ///
 /// # Examples
 ///
@@ -116,6 +128,7 @@ impl<const P1: u8, const P2: u8, const K: i32> Trinomial for Trinomial32<P1, P2,
 /// assert_eq!(TrinomialSolinas::<u64, Trinomial64<64, 32, 1>>::MODULUS, 0xffff_ffff_0000_0001);
 /// ```
 #[derive(Debug, Clone, Copy)]
+// rust: #[must_use]
 pub struct Trinomial64<const P1: u8, const P2: u8, const K: i64> {}
 
 impl<const P1: u8, const P2: u8, const K: i64> Trinomial for Trinomial64<P1, P2, K> {
@@ -125,6 +138,10 @@ impl<const P1: u8, const P2: u8, const K: i64> Trinomial for Trinomial64<P1, P2,
 
     ghost k = { K };
 
+    // rust: const IN_RANGE: () = {
+    // rust:     let _tested = crate::FixedTrinomialSolinas64::<P1, P2, K>::MODULUS;
+    // rust: };
+    // rust:
     fn p1() -> u8 {
         P1
     }
@@ -143,6 +160,7 @@ fn factor_of(p1: u8, p2: u8, k: i64) -> u64
     requires { IsTrinomialRange 64 p1 p2 k }
     ensures { result + trinomial p1 p2 k ≡ 2 ^ p1 }
 {
+    // rust: let _ = p1;
     ((1u64 << p2) as i128 - k as i128) as u64
 }
 
@@ -163,8 +181,14 @@ fn is_low(p1: u8, p2: u8, k: i64) -> bool
 }
 
 /// A word that has trinomial reducers: u32 or u64.
+// rust instead: pub trait TrinomialWord: Sized + FoldedWord + PlainWord {
 pub trait TrinomialWord: FoldedWord + PlainWord {
-    /// The word of a given number. Condition: the number fits.
+    /// The word of a given number.
+    ///
+    /// # Preconditions
+    ///
+    /// - the number fits the word
+    // rust: #[must_use]
     fn word_of(n: u64) -> Self
         requires { n < Self.base }
         ensures { Self.number result ≡ n };
@@ -189,7 +213,7 @@ impl TrinomialWord for u64 {
     ghost narrow = { lit≤ tt };
 }
 
-/// The modulus 2^p1 - 2^p2 + k of the trinomial F, over words T.
+/// The modulus of a trinomial: that of F, 2^p1 - 2^p2 + k, over words T.
 ///
 /// # Examples
 ///
@@ -199,15 +223,19 @@ impl TrinomialWord for u64 {
 /// let kept = TrinomialModulus::<u32, Trinomial32<16, 8, 1>>::keep(65281);
 /// assert_eq!(kept.reduced(65536), 255); // 2^8 - 1
 /// ```
+// rust instead: #[must_use]
 #[derive(Debug)]
+// rust instead: pub struct TrinomialModulus<T, F> {
 pub struct TrinomialModulus<T: TrinomialWord, F: Trinomial> {
+    // rust instead: pub(crate) word: PhantomData<T>,
     word: PhantomData<T>,
+    // rust instead: pub(crate) parameters: PhantomData<F>,
     parameters: PhantomData<F>,
     ghost range: { IsTrinomialRange T.width F.p1 F.p2 F.k },
 }
 
-/// The reducer of the modulus m = 2^p1 - 2^p2 + k of the trinomial F, over words T: the form of a value is the
-/// value itself. It stores nothing.
+/// The reducer of a trinomial: that of the modulus m = 2^p1 - 2^p2 + k of F, over words T, with the value itself as the
+/// form of a value. It stores nothing.
 ///
 /// The parameters are in range where p1 is at most the width of T, p2 is from 1 to p1 - 1, and k is odd with a
 /// magnitude below 2^p2. Words and products are reduced by folds, except where p1 = p2 + 1 and k is negative: m is
@@ -225,7 +253,7 @@ pub struct TrinomialModulus<T: TrinomialWord, F: Trinomial> {
 /// ```
 pub type TrinomialSolinas<T, F> = FoldRing<T, TrinomialModulus<T, F>>;
 
-/// The reducer of the modulus 2^P1 - 2^P2 + K of at most 32 bits.
+/// The reducer of 2^P1 - 2^P2 + K: the modulus has at most 32 bits.
 ///
 /// # Examples
 ///
@@ -241,7 +269,7 @@ pub type FixedTrinomialSolinas32<const P1: u8, const P2: u8, const K: i32> = Tri
     Trinomial32<P1, P2, K>,
 >;
 
-/// The reducer of the modulus 2^P1 - 2^P2 + K of at most 64 bits.
+/// The reducer of 2^P1 - 2^P2 + K: the modulus has at most 64 bits.
 ///
 /// # Examples
 ///
@@ -261,7 +289,9 @@ impl<T: TrinomialWord, F: Trinomial> Clone for TrinomialModulus<T, F> {
 
     ghost is_infallible = { λ _. ⊤ };
 
+    // rust instead: fn clone(&self) -> Self {
     fn clone(&self) -> Result<Self, AllocError> {
+        // rust instead: *self
         Ok(*self)
     }
 }
@@ -277,8 +307,12 @@ impl<T: TrinomialWord, F: Trinomial> FoldRing<T, TrinomialModulus<T, F>> {
         T::word_of(factor_of(F::p1(), F::p2(), F::k()))
     }
 
-    /// The modulus. Conditions: P1 is at most the width of a word, and P2 is from 1 to P1 - 1; K is odd, and its magnitude
-    /// is below 2^P2.
+    /// The modulus.
+    ///
+    /// # Conditions
+    ///
+    /// - P1 is at most the width of a word, and P2 is from 1 to P1 - 1
+    /// - K is odd, and its magnitude is below 2^P2
     ///
     /// # Examples
     ///
@@ -288,17 +322,26 @@ impl<T: TrinomialWord, F: Trinomial> FoldRing<T, TrinomialModulus<T, F>> {
     /// assert_eq!(FixedTrinomialSolinas32::<5, 4, -3>::fixed_modulus(), 13); // 32 - 16 - 3
     /// assert_eq!(FixedTrinomialSolinas64::<64, 32, 1>::fixed_modulus(), 0xffff_ffff_0000_0001);
     /// ```
+    // rust: #[track_caller]
     pub fn fixed_modulus() -> T
         requires { IsTrinomialRange T.width F.p1 F.p2 F.k }
         ensures value { T.number result ≡ trinomial F.p1 F.p2 F.k }
         ensures whole { pos (T.number result) ≡ (pos (2 ^ F.p1) -ℤ pos (2 ^ F.p2)) +ℤ F.k }
     {
         prove!(F::p1() as u32 <= T::bits() && 0 < F::p2() && F::p2() < F::p1());
+        // rust: assert!(F::p1() as u32 <= T::bits() && 0 < F::p2() && F::p2() < F::p1(),
+        // rust:     "P1 must be at most the width of a word, and P2 must be from 1 to P1 - 1");
         prove!(F::k().unsigned_abs() % 2 == 1 && F::k().unsigned_abs() < 1 << F::p2());
+        // rust: assert!(F::k().unsigned_abs() % 2 == 1 && F::k().unsigned_abs() < 1 << F::p2(),
+        // rust:     "K must be odd, and its magnitude must be below 2^P2");
         T::word_of(modulus_of(F::p1(), F::p2(), F::k()))
     }
 
-    /// The residue of a word. Condition: the parameters are in range.
+    /// The residue of a word.
+    ///
+    /// # Preconditions
+    ///
+    /// - the parameters are in range
     ///
     /// # Examples
     ///
@@ -307,6 +350,8 @@ impl<T: TrinomialWord, F: Trinomial> FoldRing<T, TrinomialModulus<T, F>> {
     ///
     /// assert_eq!(FixedTrinomialSolinas32::<16, 8, 1>::reduce_single(1 << 16), 255); // 2^8 - 1
     /// ```
+    // rust: #[track_caller]
+    // rust instead: pub(crate) fn reduced_word(v: T) -> T
     pub fn reduce_single(v: T) -> T
         requires { IsTrinomialRange T.width F.p1 F.p2 F.k }
         ensures { T.number result ≡ T.number v % trinomial F.p1 F.p2 F.k }
@@ -314,7 +359,11 @@ impl<T: TrinomialWord, F: Trinomial> FoldRing<T, TrinomialModulus<T, F>> {
         Self::reduce_counted(T::merge(v, T::zero())).0
     }
 
-    /// The residue of a double word. Condition: the parameters are in range.
+    /// The residue of a double word.
+    ///
+    /// # Conditions
+    ///
+    /// - the parameters are in range
     ///
     /// # Examples
     ///
@@ -324,7 +373,32 @@ impl<T: TrinomialWord, F: Trinomial> FoldRing<T, TrinomialModulus<T, F>> {
     /// type Goldilocks = FixedTrinomialSolinas64<64, 32, 1>;
     /// assert_eq!(Goldilocks::reduce_double(1 << 64), (1 << 32) - 1);
     /// ```
+    // rust: #[track_caller]
     pub fn reduce_double(v: T::Double) -> T
+        requires { IsTrinomialRange T.width F.p1 F.p2 F.k }
+        ensures { T.number result ≡ T.double_number v % trinomial F.p1 F.p2 F.k }
+    {
+        Self::reduce_counted(v).0
+    }
+
+    /// The residue of a double word, as `reduce_double` returns it, by folds that nothing counts: in straight-line
+    /// code for a product of two residues, and at bits above p1 first for a modulus that isn't near 2^p1. That
+    /// takes less time.
+    ///
+    /// # Conditions
+    ///
+    /// - the parameters are in range
+    ///
+    /// # Examples
+    ///
+    /// ```
+    /// use num_modular::FixedTrinomialSolinas64;
+    ///
+    /// type Goldilocks = FixedTrinomialSolinas64<64, 32, 1>;
+    /// assert_eq!(Goldilocks::reduce_uncounted(1 << 64), (1 << 32) - 1);
+    /// ```
+    // rust: #[track_caller]
+    pub fn reduce_uncounted(v: T::Double) -> T
         requires { IsTrinomialRange T.width F.p1 F.p2 F.k }
         ensures { T.number result ≡ T.double_number v % trinomial F.p1 F.p2 F.k }
     {
@@ -343,8 +417,12 @@ impl<T: TrinomialWord, F: Trinomial> FoldRing<T, TrinomialModulus<T, F>> {
         T::narrow_remainder(v, Self::fixed_modulus())
     }
 
-    /// The residue of a double word, and the number of folds that make it less than 2^p1; 0 where the remainder is
-    /// a division's. Condition: the parameters are in range.
+    /// The residue of a double word and the number of folds: how many make it less than 2^p1, 0 where the remainder is
+    /// a division's.
+    ///
+    /// # Conditions
+    ///
+    /// - the parameters are in range
     ///
     /// # Examples
     ///
@@ -354,6 +432,7 @@ impl<T: TrinomialWord, F: Trinomial> FoldRing<T, TrinomialModulus<T, F>> {
     /// type Goldilocks = FixedTrinomialSolinas64<64, 32, 1>;
     /// assert_eq!(Goldilocks::reduce_counted(1 << 64), ((1 << 32) - 1, 1));
     /// ```
+    // rust: #[track_caller]
     pub fn reduce_counted(v: T::Double) -> (T, u32)
         requires { IsTrinomialRange T.width F.p1 F.p2 F.k }
         ensures value { T.number result.0 ≡ T.double_number v % trinomial F.p1 F.p2 F.k }
@@ -376,8 +455,13 @@ impl<T: TrinomialWord, F: Trinomial> FoldModulus<T> for TrinomialModulus<T, F> {
     ghost modulus = { λ m. trinomial F.p1 F.p2 F.k };
 
     // Condition: the modulus is that of the parameters.
+    // rust: #[track_caller]
     fn keep(m: T) -> Self {
         prove!(m == TrinomialSolinas::<T, F>::fixed_modulus());
+        // rust: let () = F::IN_RANGE;
+        // rust: let modulus = TrinomialSolinas::<T, F>::fixed_modulus();
+        // rust: assert!(m == modulus, "the modulus must be that of the parameters: {} and {}",
+        // rust:     crate::additions::number(m), crate::additions::number(modulus));
         TrinomialModulus {
             word: PhantomData,
             parameters: PhantomData,
@@ -390,6 +474,7 @@ impl<T: TrinomialWord, F: Trinomial> FoldModulus<T> for TrinomialModulus<T, F> {
 
     fn reduced(&self, n: T) -> T {
         if is_low(F::p1(), F::p2(), F::k()) {
+            // rust instead: TrinomialSolinas::<T, F>::reduced_word(n)
             TrinomialSolinas::<T, F>::reduce_single(n)
         } else {
             reduce_word(

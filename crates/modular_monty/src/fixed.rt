@@ -9,6 +9,7 @@ ghost use Rattle.modular_monty.specs.MontgomeryLaws.{montgomery_canonical};
 use crate::computed::computed_once;
 use crate::known::{redc_known, sum_known};
 use crate::odd_ring::{OddModulus, OddRing, redc_below, unless_unit_base};
+// rattle: line
 use modular_reduced::reducer::Reducer;
 
 // What is precomputed of P. It is a type because proofs use what the type of a constant guarantees, not its value.
@@ -20,9 +21,12 @@ struct Computed32<const P: u32> {
 }
 
 /// The odd number P as a modulus for words of 32 bits, known at compile time.
+// rust instead: #[derive(Clone, Copy)]
 #[derive(Debug, Clone, Copy)]
+// rust: #[must_use]
 pub struct OddNumber32<const P: u32> {
     // Private, so that a value exists only for an odd P; the numbers come from the parameter.
+    // rust instead: pub(crate) _made: (),
     made: (),
     ghost ring: { IsOddModulus 32 (2 ^ 32) P },
 }
@@ -37,8 +41,8 @@ impl<const P: u32> OddNumber32<P> {
     };
 }
 
-/// The reducer of the odd modulus P by Montgomery's representation in words of 32 bits: the form of v is v * 2^32
-/// modulo P. `new` accepts only P.
+/// The reducer of the odd P: Montgomery's representation in words of 32 bits, where the form of v is v * 2^32 modulo P.
+/// `new` accepts only P.
 ///
 /// Source: Handbook of Applied Cryptography, section 14.3.2.
 ///
@@ -53,7 +57,11 @@ impl<const P: u32> OddNumber32<P> {
 pub type FixedMontgomery32<const P: u32> = OddRing<u32, OddNumber32<P>>;
 
 impl<const P: u32> OddRing<u32, OddNumber32<P>> {
-    /// The modulus P. Condition: the parameter P is odd.
+    /// The modulus P.
+    ///
+    /// # Conditions
+    ///
+    /// - the parameter P is odd
     ///
     /// # Examples
     ///
@@ -62,11 +70,14 @@ impl<const P: u32> OddRing<u32, OddNumber32<P>> {
     ///
     /// assert_eq!(FixedMontgomery32::<97>::fixed_modulus(), 97);
     /// ```
+    // rust: #[track_caller]
+    // rust instead: pub const fn fixed_modulus() -> u32
     pub fn fixed_modulus() -> u32
         requires { P % 2 ≡ 1 }
         ensures { result ≡ P }
     {
         prove!(P % 2 == 1);
+        // rust: assert!(P % 2 == 1, "the parameter P must be odd");
         P
     }
 }
@@ -81,8 +92,12 @@ impl<const P: u32> OddModulus<u32> for OddNumber32<P> {
     ghost square = { λ _. (2 ^ 32 * 2 ^ 32) % P };
 
     // Condition: the modulus is that of the parameters.
+    // rust: #[track_caller]
     fn keep(m: u32) -> Self {
         prove!(m == FixedMontgomery32::<P>::fixed_modulus());
+        // rust: assert!(m == FixedMontgomery32::<P>::MODULUS, "the modulus must be that of the parameters: {} and {}",
+        // rust:     m, FixedMontgomery32::<P>::MODULUS);
+        // rust instead: OddNumber32 { _made: () }
         OddNumber32 { made: () }
     }
 
@@ -121,9 +136,12 @@ struct Computed64<const P: u64> {
 }
 
 /// The odd number P as a modulus for words of 64 bits, known at compile time.
+// rust instead: #[derive(Clone, Copy)]
 #[derive(Debug, Clone, Copy)]
+// rust: #[must_use]
 pub struct OddNumber64<const P: u64> {
     // Private, so that a value exists only for an odd P; the numbers come from the parameter.
+    // rust instead: pub(crate) _made: (),
     made: (),
     ghost ring: { IsOddModulus 64 (2 ^ 64) P },
 }
@@ -138,8 +156,8 @@ impl<const P: u64> OddNumber64<P> {
     };
 }
 
-/// The reducer of the odd modulus P by Montgomery's representation in words of 64 bits: the form of v is v * 2^64
-/// modulo P. `new` accepts only P.
+/// The reducer of the odd P: Montgomery's representation in words of 64 bits, where the form of v is v * 2^64 modulo P.
+/// `new` accepts only P.
 ///
 /// Source: Handbook of Applied Cryptography, section 14.3.2.
 ///
@@ -155,7 +173,11 @@ impl<const P: u64> OddNumber64<P> {
 pub type FixedMontgomery64<const P: u64> = OddRing<u64, OddNumber64<P>>;
 
 impl<const P: u64> OddRing<u64, OddNumber64<P>> {
-    /// The modulus P. Condition: the parameter P is odd.
+    /// The modulus P.
+    ///
+    /// # Conditions
+    ///
+    /// - the parameter P is odd
     ///
     /// # Examples
     ///
@@ -164,11 +186,14 @@ impl<const P: u64> OddRing<u64, OddNumber64<P>> {
     ///
     /// assert_eq!(FixedMontgomery64::<97>::fixed_modulus(), 97);
     /// ```
+    // rust: #[track_caller]
+    // rust instead: pub const fn fixed_modulus() -> u64
     pub fn fixed_modulus() -> u64
         requires { P % 2 ≡ 1 }
         ensures { result ≡ P }
     {
         prove!(P % 2 == 1);
+        // rust: assert!(P % 2 == 1, "the parameter P must be odd");
         P
     }
 }
@@ -183,8 +208,12 @@ impl<const P: u64> OddModulus<u64> for OddNumber64<P> {
     ghost square = { λ _. (2 ^ 64 * 2 ^ 64) % P };
 
     // Condition: the modulus is that of the parameters.
+    // rust: #[track_caller]
     fn keep(m: u64) -> Self {
         prove!(m == FixedMontgomery64::<P>::fixed_modulus());
+        // rust: assert!(m == FixedMontgomery64::<P>::MODULUS, "the modulus must be that of the parameters: {} and {}",
+        // rust:     m, FixedMontgomery64::<P>::MODULUS);
+        // rust instead: OddNumber64 { _made: () }
         OddNumber64 { made: () }
     }
 

@@ -7,6 +7,7 @@ use modular_prim::below::add_below;
 use modular_reduced::lanes::{reduced_by_sign, sum_by_sign};
 use modular_word::path_word::PathWord;
 use modular_word::paths::{clearing, reduce_by};
+// rattle: line
 use modular_word::ring_word::RingWord;
 
 // The residue of a + b. Condition: both are below m.

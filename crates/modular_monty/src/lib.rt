@@ -2,6 +2,7 @@
 //! odd number modulo the base.
 #![tactic(auto)]
 
+// rust instead: pub(crate) mod computed;
 mod computed;
 pub mod fixed;
 mod known;

@@ -7,18 +7,22 @@ ghost use Rattle.modular_monty.specs.TwoParts.{two_part_form, two_part_value, ev
 ghost use Rattle.modular_monty.specs.TwoParts.{IsComputedOnce, IsTwoPartRing};
 ghost use Rattle.modular_monty.specs.TwoPartLaws.{modulus_positive, two_part_canonical};
 
+// rust instead: use crate::modular_monty::odd_ring::{OddRing, StoredModulus, reduced_factor};
 use crate::odd_ring::{OddModulus, OddRing, StoredModulus, reduced_factor};
 use modular_prim::below::{add_below, dbl_below_stored};
 use modular_prim::reducer_word::ReducerWord;
 use modular_reduced::list_products::{multiply_by_factor, product_by_factor};
 use modular_reduced::reducer::Reducer;
+// rattle: line
 use modular_word::path_word::PathWord;
+// rattle: line
 use modular_word::ring_word::RingWord;
+// rattle: line
 use std::alloc::AllocError;
 
-/// The reducer of a modulus m that is at least 1, by Montgomery's representation. With m = 2^s·k for odd k, and the
-/// base 2 to the width of the words, the form of v has two parts. Its lowest s bits are v modulo 2^s, and the bits
-/// above them are v times the base, modulo k. So for odd m the form is v times the base, modulo m.
+/// The reducer of any m, by Montgomery's representation: m is at least 1. With m = 2^s·k for odd k, and the base 2 to
+/// the width of the words, the form of v has two parts. Its lowest s bits are v modulo 2^s, and the bits above them are
+/// v times the base, modulo k. So for odd m the form is v times the base, modulo m.
 ///
 /// A product of forms takes one product of words and one reduction, which divides by the base alone, and for even m
 /// one more wrapping product.
@@ -34,11 +38,15 @@ use std::alloc::AllocError;
 /// let seven = RING.transform(7);
 /// assert_eq!(RING.residue(RING.pow(seven, &100)), 1);
 /// ```
+// rust instead: #[must_use]
 #[derive(Debug)]
+// rust instead: pub struct Montgomery<T> {
 pub struct Montgomery<T: ReducerWord> {
     // The ring modulo k.
+    // rust instead: pub(crate) odd: OddRing<T, StoredModulus<T>>,
     odd: OddRing<T, StoredModulus<T>>,
     // The exponent s.
+    // rust instead: pub(crate) twos: u32,
     twos: u32,
     ghost ring: { IsTwoPartRing T.width T.base (T.number odd.kept.modulus * 2 ^ twos) twos (T.number odd.kept.modulus)
         (T.number odd.kept.negated_inverse) (T.number odd.kept.square) },
@@ -49,7 +57,9 @@ impl<T: ReducerWord> Clone for Montgomery<T> {
 
     ghost is_infallible = { λ _. ⊤ };
 
+    // rust instead: fn clone(&self) -> Self {
     fn clone(&self) -> Result<Self, AllocError> {
+        // rust instead: *self
         Ok(*self)
     }
 }
@@ -57,9 +67,13 @@ impl<T: ReducerWord> Clone for Montgomery<T> {
 impl<T: ReducerWord> Copy for Montgomery<T> {}
 
 impl<T: ReducerWord> Montgomery<T> {
-    /// The reducer of a modulus m. Condition: the modulus is at least 1.
+    /// The reducer of m.
     ///
     /// In the Cargo crate this is `of`, for any word type; `new` is the same for a known one.
+    ///
+    /// # Conditions
+    ///
+    /// - the modulus is at least 1
     ///
     /// # Examples
     ///
@@ -69,11 +83,14 @@ impl<T: ReducerWord> Montgomery<T> {
     /// let ring = Montgomery::of(97u8);
     /// assert_eq!(ring.residue(ring.sqr(ring.transform(10))), 3); // 100 - 97
     /// ```
+    // rust: #[track_caller]
+    // rust instead: pub fn of(m: T) -> Self
     pub fn new(m: T) -> Self
         requires { 1 ≤ T.number m }
         ensures { ⟦<Montgomery<T> as Reducer<T>>⟧.modulus result ≡ T.number m }
     {
         prove!(!m.is_zero_word());
+        // rust: assert!(!m.is_zero_word(), "the modulus must be at least 1");
         let twos = m.trailing_zeros();
         Montgomery {
             odd: OddRing::new(&m.shift_right(twos)),
@@ -99,8 +116,8 @@ impl<T: ReducerWord> Montgomery<T> {
         (self.odd.kept.negated_inverse, self.odd.kept.square)
     }
 
-    /// The reducer of m, given the two numbers that `computed_once` returned for m; `None` exactly where m is 0 or
-    /// a number is wrong. It makes no division.
+    /// The reducer of m by what `computed_once` returned: the two numbers for m; `None` exactly where m is 0 or a
+    /// number is wrong. It makes no division.
     ///
     /// # Examples
     ///
@@ -160,7 +177,9 @@ impl<T: ReducerWord> Reducer<T> for Montgomery<T> {
 
     ghost canonical = { λ r. two_part_canonical r.ring };
 
+    // rust: #[track_caller]
     fn new(m: &T) -> Self {
+        // rust instead: Montgomery::of(*m)
         Montgomery::new(*m)
     }
 
@@ -227,14 +246,18 @@ impl<T: ReducerWord> Reducer<T> for Montgomery<T> {
         self.sub(&T::zero(), &f)
     }
 
+    // rust: #[cfg_attr(debug_assertions, track_caller)]
     fn add_with_room(&self, a: &T, b: &T) -> T {
+        // rust: debug_assert!(!self.modulus().has_top_bit(), "2m must be below the base");
         if self.twos == 0 {
             return self.odd.add_with_room(a, b);
         }
         self.add(a, b)
     }
 
+    // rust: #[cfg_attr(debug_assertions, track_caller)]
     fn sub_with_room(&self, a: &T, b: &T) -> T {
+        // rust: debug_assert!(!self.modulus().has_top_bit(), "2m must be below the base");
         if self.twos == 0 {
             return self.odd.sub_with_room(a, b);
         }
@@ -257,7 +280,11 @@ impl<T: ReducerWord> Reducer<T> for Montgomery<T> {
         self.mul(&difference, factor)
     }
 
+    // rust: #[track_caller]
     fn add_products(&self, sum: T, xs: &[T], ys: &[T]) -> T {
+        // rust: assert!(ys.len() == xs.len(), "the lists must have the same length: {} and {}", xs.len(), ys.len());
+        // rust: debug_assert!(self.check(&sum) && xs.iter().chain(ys).all(|x| self.check(x)),
+        // rust:     "`sum` and all entries must be checked forms");
         if self.twos == 0 {
             return self.odd.add_products(sum, xs, ys);
         }
@@ -295,10 +322,11 @@ impl<T: ReducerWord> Reducer<T> for Montgomery<T> {
     fn sqr(&self, f: T) -> T {
         self.mul(&f, &f)
     }
+    // rust: crate::additions::reducer_members!(T);
 }
 
-/// The two parts of a modulus are an odd number and a power of two. For an odd modulus the form of a value is the
-/// value times the base, modulo m.
+/// Montgomery's forms: the two parts of a modulus are an odd number and a power of two. For an odd modulus the form of
+/// a value is the value times the base, modulo m.
 pub fn form_laws<T: RingWord>()
     ensures whole { (m : ℕ) → 1 ≤ m → m < 2 ^ T.width → odd_part T.width m * even_part T.width m ≡ m }
     ensures odd { (m : ℕ) → 1 ≤ m → m < 2 ^ T.width → odd_part T.width m % 2 ≡ 1 }

@@ -6,4 +6,5 @@ pub mod w16;
 pub mod w32;
 pub mod w64;
 pub mod w8;
+// rust: #[cfg(target_pointer_width = "64")]
 pub mod wsize;

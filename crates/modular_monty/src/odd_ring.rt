@@ -16,11 +16,13 @@ use modular_reduced::list_products::block;
 use modular_reduced::reducer::Reducer;
 use modular_word::path_word::PathWord;
 use modular_word::paths::{clearing, redc};
+// rattle: line
 use modular_word::ring_word::RingWord;
+// rattle: line
 use std::alloc::AllocError;
 use std::marker::PhantomData;
 
-/// An odd modulus, with what is precomputed of it: its negated inverse modulo the base, and the square of the base
+/// An odd modulus with what is precomputed of it: its negated inverse modulo the base, and the square of the base
 /// modulo m. A type that knows its modulus needn't store it, and a modulus of a special form may be multiplied faster.
 ///
 /// # Examples
@@ -45,7 +47,11 @@ pub trait OddModulus<T: PathWord>: Copy {
 
     ghost square: { Self → ℕ };
 
-    /// What is stored of m. Condition: the type admits the modulus.
+    /// What is stored of m.
+    ///
+    /// # Conditions
+    ///
+    /// - the type admits the modulus
     ///
     /// # Examples
     ///
@@ -58,6 +64,8 @@ pub trait OddModulus<T: PathWord>: Copy {
     /// }
     /// assert_eq!(keep(FixedProth32::<5, 3>::RING, 97).modulus(), 97);
     /// ```
+    // rust: #[must_use]
+    // rust: #[track_caller]
     fn keep(m: T) -> Self
         requires { admits (T.number m) }
         ensures { modulus result ≡ T.number m };
@@ -94,7 +102,11 @@ pub trait OddModulus<T: PathWord>: Copy {
     fn square_of_base(&self) -> T
         ensures { T.number result ≡ square self.now };
 
-    /// The residue of a + b, below m. Conditions: a and b are below m.
+    /// The residue of a + b.
+    ///
+    /// # Preconditions
+    ///
+    /// - a and b are below m
     ///
     /// # Examples
     ///
@@ -115,7 +127,11 @@ pub trait OddModulus<T: PathWord>: Copy {
         add_below(a, b, self.modulus())
     }
 
-    /// Montgomery's reduction (REDC) of t, below m. Condition: t is below the modulus times the base.
+    /// Montgomery's reduction (REDC) of t: a residue, below m.
+    ///
+    /// # Preconditions
+    ///
+    /// - t is below the modulus times the base
     ///
     /// # Examples
     ///
@@ -132,8 +148,11 @@ pub trait OddModulus<T: PathWord>: Copy {
         requires { T.double_number t < T.base * modulus self.now }
         ensures { IsReduction T.base (modulus self.now) (T.double_number t) (T.number result) };
 
-    /// Montgomery's reduction of t, as `redc` returns it, without its last subtraction. Condition: t is below the
-    /// modulus.
+    /// Montgomery's reduction of t without its last subtraction: what `redc` returns.
+    ///
+    /// # Preconditions
+    ///
+    /// - t is below the modulus
     ///
     /// # Examples
     ///
@@ -259,8 +278,8 @@ fn is_square_of_base<T: PathWord>(m: T, negated_inverse: T, square: T) -> bool
     is_one(unit) || is_one(m)
 }
 
-/// The reducer by Montgomery's representation of the modulus of M: the form of v is v times the base modulo m, the
-/// base being 2 to the width of the words T. `new` accepts the moduli that M does.
+/// Montgomery's reducer of an `OddModulus`: the form of v is v times the base modulo m, the base being 2 to the width
+/// of the words T. `new` accepts the moduli that M does.
 ///
 /// A product of forms takes one product of words and one reduction, which divides by the base alone.
 ///
@@ -278,14 +297,20 @@ fn is_square_of_base<T: PathWord>(m: T, negated_inverse: T, square: T) -> bool
 /// assert_eq!(cube(&FixedMontgomery32::<101>::RING, 10), 91); // 1000 modulo 101
 /// assert_eq!(cube(&FixedProth32::<5, 3>::RING, 10), 30); // modulo 3 * 2^5 + 1 = 97
 /// ```
+// rust instead: #[derive(Clone, Copy)]
 #[derive(Debug, Clone, Copy)]
+// rust: #[must_use]
+// rust instead: pub struct OddRing<T, M> {
 pub struct OddRing<T: PathWord, M: OddModulus<T>> {
+    // rust instead: pub(crate) kept: M,
     pub kept: M,
+    // rust instead: pub(crate) word: PhantomData<T>,
     word: PhantomData<T>,
 }
 
 impl<T: PathWord, M: OddModulus<T>> OddRing<T, M> {
-    /// The reducer of the modulus that is stored.
+    /// The reducer of a stored modulus.
+    // rust instead: pub(crate) fn over(kept: M) -> Self
     pub fn over(kept: M) -> Self
         ensures { result.kept ≡ kept }
     {
@@ -309,6 +334,7 @@ impl<T: ReducerWord, M: OddModulus<T>> Reducer<T> for OddRing<T, M> {
 
     ghost canonical = { λ r. montgomery_canonical (M.is_odd_ring r.kept) };
 
+    // rust: #[track_caller]
     fn new(m: &T) -> Self {
         OddRing::over(M::keep(*m))
     }
@@ -349,11 +375,15 @@ impl<T: ReducerWord, M: OddModulus<T>> Reducer<T> for OddRing<T, M> {
         neg_below(f, self.kept.modulus())
     }
 
+    // rust: #[cfg_attr(debug_assertions, track_caller)]
     fn add_with_room(&self, a: &T, b: &T) -> T {
+        // rust: debug_assert!(!self.modulus().has_top_bit(), "2m must be below the base");
         sum_by_sign(*a, *b, self.kept.modulus())
     }
 
+    // rust: #[cfg_attr(debug_assertions, track_caller)]
     fn sub_with_room(&self, a: &T, b: &T) -> T {
+        // rust: debug_assert!(!self.modulus().has_top_bit(), "2m must be below the base");
         difference_by_sign(*a, *b, self.kept.modulus())
     }
 
@@ -367,7 +397,11 @@ impl<T: ReducerWord, M: OddModulus<T>> Reducer<T> for OddRing<T, M> {
     }
 
     // Products are added as whole numbers and reduced once a block.
+    // rust: #[track_caller]
     fn add_products(&self, sum: T, xs: &[T], ys: &[T]) -> T {
+        // rust: assert!(ys.len() == xs.len(), "the lists must have the same length: {} and {}", xs.len(), ys.len());
+        // rust: debug_assert!(self.check(&sum) && xs.iter().chain(ys).all(|x| self.check(x)),
+        // rust:     "`sum` and all entries must be checked forms");
         let mut total = sum;
         let mut from = 0;
         'each_block: while from < xs.len() {
@@ -390,16 +424,22 @@ impl<T: ReducerWord, M: OddModulus<T>> Reducer<T> for OddRing<T, M> {
     fn sqr(&self, f: T) -> T {
         self.mul(&f, &f)
     }
+    // rust: crate::additions::reducer_members!(T);
 }
 
 /// An odd modulus that is known at run time, with what is precomputed of it.
 #[derive(Debug)]
+// rust: #[must_use]
+// rust instead: pub struct StoredModulus<T> {
 pub struct StoredModulus<T: PathWord> {
     /// The modulus m.
+    // rust instead: pub(crate) modulus: T,
     pub modulus: T,
     /// The number n below the base with m * n congruent to -1 modulo the base.
+    // rust instead: pub(crate) negated_inverse: T,
     pub negated_inverse: T,
     /// The square of the base modulo m.
+    // rust instead: pub(crate) square: T,
     pub square: T,
     ghost ring: { IsOddRing T.width T.base (T.number modulus) (T.number negated_inverse) (T.number square) },
 }
@@ -409,7 +449,9 @@ impl<T: PathWord> Clone for StoredModulus<T> {
 
     ghost is_infallible = { λ _. ⊤ };
 
+    // rust instead: fn clone(&self) -> Self {
     fn clone(&self) -> Result<Self, AllocError> {
+        // rust instead: *self
         Ok(*self)
     }
 }
@@ -448,6 +490,7 @@ impl<T: ReducerWord> OddModulus<T> for StoredModulus<T> {
 
     ghost square = { λ m. T.number m.square };
 
+    // rust: #[track_caller]
     fn keep(m: T) -> Self {
         let (negated_inverse, square) = computed_once(m);
         StoredModulus {

@@ -11,6 +11,7 @@ ghost use Rattle.modular_monty.specs.Proth.{IsProth, IsProthRange, greatest_prot
 use crate::computed::computed_once;
 use crate::known::{reduce_by_known, sum_known};
 use crate::odd_ring::{OddModulus, OddRing, reduce_below_by, unless_unit_base};
+// rattle: line
 use modular_reduced::reducer::Reducer;
 use modular_word::paths::clearing;
 
@@ -32,9 +33,12 @@ struct Computed32<const N: u8, const K: u8> {
 }
 
 /// The number K * 2^N + 1 as a modulus for words of 32 bits.
+// rust instead: #[derive(Clone, Copy)]
 #[derive(Debug, Clone, Copy)]
+// rust: #[must_use]
 pub struct ProthNumber32<const N: u8, const K: u8> {
     // Private, so that a value exists only for parameters in range; the numbers come from the parameters.
+    // rust instead: pub(crate) _made: (),
     made: (),
     ghost range: { IsProthRange 32 greatest_proth_32 N K },
     ghost ring: { IsOddModulus 32 (2 ^ 32) (proth_modulus N K) },
@@ -50,16 +54,22 @@ impl<const N: u8, const K: u8> ProthNumber32<N, K> {
     };
 
     // The modulus. Conditions: N is from 1 to 31, K is odd, and K is below 2^N; K·2^N + 1 is at most 2654435769.
+    // rust: #[track_caller]
+    // rust instead: const fn value() -> u32
     fn value() -> u32
         requires { IsProthRange 32 greatest_proth_32 N K }
         ensures { result ≡ proth_modulus N K }
     {
         prove!(0 < N && N < 32 && K % 2 == 1 && (K as u32) < 1 << N);
+        // rust: assert!(0 < N && N < 32 && K % 2 == 1 && (K as u32) < 1 << N,
+        // rust:     "N must be from 1 to 31, K must be odd, and K must be below 2^N");
         prove!(((K as u64) << N) < 2654435769);
+        // rust: assert!(((K as u64) << N) < 2654435769, "K·2^N + 1 must be at most 2654435769");
         modulus_32(N, K)
     }
 
     /// The product of x and the modulus, by a product with K and a shift.
+    // rust instead: pub const fn shift_mul(&self, x: u32) -> u64
     pub fn shift_mul(&self, x: u32) -> u64
         ensures { result ≡ x * proth_modulus N K }
     {
@@ -67,8 +77,8 @@ impl<const N: u8, const K: u8> ProthNumber32<N, K> {
     }
 }
 
-/// The reducer of m = K * 2^N + 1 by Montgomery's representation in words of 32 bits: the form of v
-/// is v * 2^32 modulo m.
+/// The reducer of K * 2^N + 1: Montgomery's representation in words of 32 bits, where the form of v is v * 2^32 modulo
+/// m.
 ///
 /// The parameters are in range where N is from 1 to 31, K is odd, below 2^N and below 256, and m, as a whole
 /// number, is at most 2654435769. For other moduli there is `FixedMontgomery32`.
@@ -86,7 +96,11 @@ impl<const N: u8, const K: u8> ProthNumber32<N, K> {
 pub type FixedProth32<const N: u8, const K: u8> = OddRing<u32, ProthNumber32<N, K>>;
 
 impl<const N: u8, const K: u8> OddRing<u32, ProthNumber32<N, K>> {
-    /// The modulus K * 2^N + 1. Condition: the parameters are in range.
+    /// The modulus K * 2^N + 1.
+    ///
+    /// # Conditions
+    ///
+    /// - the parameters are in range
     ///
     /// # Examples
     ///
@@ -95,6 +109,8 @@ impl<const N: u8, const K: u8> OddRing<u32, ProthNumber32<N, K>> {
     ///
     /// assert_eq!(FixedProth32::<5, 3>::fixed_modulus(), 97); // 3 * 2^5 + 1
     /// ```
+    // rust: #[track_caller]
+    // rust instead: pub const fn fixed_modulus() -> u32
     pub fn fixed_modulus() -> u32
         requires { IsProthRange 32 greatest_proth_32 N K }
         ensures { result ≡ proth_modulus N K }
@@ -103,7 +119,10 @@ impl<const N: u8, const K: u8> OddRing<u32, ProthNumber32<N, K>> {
     }
 
     /// Montgomery's reduction of t: the u below the modulus with u * 2^32 congruent to t.
-    /// Condition: t is below the modulus times 2^32.
+    ///
+    /// # Preconditions
+    ///
+    /// - t is below the modulus times 2^32
     ///
     /// # Examples
     ///
@@ -130,8 +149,12 @@ impl<const N: u8, const K: u8> OddModulus<u32> for ProthNumber32<N, K> {
     ghost square = { λ _. (2 ^ 32 * 2 ^ 32) % proth_modulus N K };
 
     // Condition: the modulus is that of the parameters.
+    // rust: #[track_caller]
     fn keep(m: u32) -> Self {
         prove!(m == Self::value());
+        // rust: assert!(m == FixedProth32::<N, K>::MODULUS, "the modulus must be that of the parameters: {} and {}",
+        // rust:     m, FixedProth32::<N, K>::MODULUS);
+        // rust instead: ProthNumber32 { _made: () }
         ProthNumber32 { made: () }
     }
 
@@ -183,9 +206,12 @@ struct Computed64<const N: u8, const K: u8> {
 }
 
 /// The number K * 2^N + 1 as a modulus for words of 64 bits.
+// rust instead: #[derive(Clone, Copy)]
 #[derive(Debug, Clone, Copy)]
+// rust: #[must_use]
 pub struct ProthNumber64<const N: u8, const K: u8> {
     // Private, so that a value exists only for parameters in range; the numbers come from the parameters.
+    // rust instead: pub(crate) _made: (),
     made: (),
     ghost range: { IsProthRange 64 greatest_proth_64 N K },
     ghost ring: { IsOddModulus 64 (2 ^ 64) (proth_modulus N K) },
@@ -202,16 +228,22 @@ impl<const N: u8, const K: u8> ProthNumber64<N, K> {
 
     // The modulus. Conditions: N is from 1 to 63, K is odd, and K is below 2^N; K·2^N + 1 is at most
     // 11400714819323199485.
+    // rust: #[track_caller]
+    // rust instead: const fn value() -> u64
     fn value() -> u64
         requires { IsProthRange 64 greatest_proth_64 N K }
         ensures { result ≡ proth_modulus N K }
     {
         prove!(0 < N && N < 64 && K % 2 == 1 && (K as u64) < 1 << N);
+        // rust: assert!(0 < N && N < 64 && K % 2 == 1 && (K as u64) < 1 << N,
+        // rust:     "N must be from 1 to 63, K must be odd, and K must be below 2^N");
         prove!(((K as u128) << N) < 11400714819323199485);
+        // rust: assert!(((K as u128) << N) < 11400714819323199485, "K·2^N + 1 must be at most 11400714819323199485");
         modulus_64(N, K)
     }
 
     /// The product of x and the modulus, by a product with K and a shift.
+    // rust instead: pub const fn shift_mul(&self, x: u64) -> u128
     pub fn shift_mul(&self, x: u64) -> u128
         ensures { result ≡ x * proth_modulus N K }
     {
@@ -219,8 +251,8 @@ impl<const N: u8, const K: u8> ProthNumber64<N, K> {
     }
 }
 
-/// The reducer of m = K * 2^N + 1 by Montgomery's representation in words of 64 bits: the form of v
-/// is v * 2^64 modulo m.
+/// The reducer of K * 2^N + 1: Montgomery's representation in words of 64 bits, where the form of v is v * 2^64 modulo
+/// m.
 ///
 /// The parameters are in range where N is from 1 to 63, K is odd, below 2^N and below 256, and m, as a whole
 /// number, is at most 11400714819323199485. For other moduli there is `FixedMontgomery64`.
@@ -239,7 +271,11 @@ impl<const N: u8, const K: u8> ProthNumber64<N, K> {
 pub type FixedProth64<const N: u8, const K: u8> = OddRing<u64, ProthNumber64<N, K>>;
 
 impl<const N: u8, const K: u8> OddRing<u64, ProthNumber64<N, K>> {
-    /// The modulus K * 2^N + 1. Condition: the parameters are in range.
+    /// The modulus K * 2^N + 1.
+    ///
+    /// # Conditions
+    ///
+    /// - the parameters are in range
     ///
     /// # Examples
     ///
@@ -248,6 +284,8 @@ impl<const N: u8, const K: u8> OddRing<u64, ProthNumber64<N, K>> {
     ///
     /// assert_eq!(FixedProth64::<57, 29>::fixed_modulus(), (29 << 57) + 1);
     /// ```
+    // rust: #[track_caller]
+    // rust instead: pub const fn fixed_modulus() -> u64
     pub fn fixed_modulus() -> u64
         requires { IsProthRange 64 greatest_proth_64 N K }
         ensures { result ≡ proth_modulus N K }
@@ -256,7 +294,10 @@ impl<const N: u8, const K: u8> OddRing<u64, ProthNumber64<N, K>> {
     }
 
     /// Montgomery's reduction of t: the u below the modulus with u * 2^64 congruent to t.
-    /// Condition: t is below the modulus times 2^64.
+    ///
+    /// # Preconditions
+    ///
+    /// - t is below the modulus times 2^64
     ///
     /// # Examples
     ///
@@ -283,8 +324,12 @@ impl<const N: u8, const K: u8> OddModulus<u64> for ProthNumber64<N, K> {
     ghost square = { λ _. (2 ^ 64 * 2 ^ 64) % proth_modulus N K };
 
     // Condition: the modulus is that of the parameters.
+    // rust: #[track_caller]
     fn keep(m: u64) -> Self {
         prove!(m == Self::value());
+        // rust: assert!(m == FixedProth64::<N, K>::MODULUS, "the modulus must be that of the parameters: {} and {}",
+        // rust:     m, FixedProth64::<N, K>::MODULUS);
+        // rust instead: ProthNumber64 { _made: () }
         ProthNumber64 { made: () }
     }
 

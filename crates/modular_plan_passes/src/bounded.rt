@@ -5,10 +5,13 @@ ghost use Rattle.std.specs.Prelude.{◌≡◌, ℕ, ◌+◌, ◌*◌, ◌≤◌,
 use modular_barrett::planned::PlannedModulus;
 use modular_barrett::roomy::RoomyModulus;
 use modular_prim::plain_word::PlainWord;
+// rattle: line
 use modular_word::path_word::PathWord;
+// rattle: line
 use modular_word::ring_word::RingWord;
 
 /// A modulus with a limit that the entries of a list stay below.
+// rust instead: pub trait Bounded<T: PlainWord>: Sized {
 pub trait Bounded<T: PlainWord> {
     ghost limit: { Self → ℕ };
 

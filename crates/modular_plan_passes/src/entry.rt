@@ -4,10 +4,11 @@ ghost use Rattle.std.specs.Prelude.{◌≡◌, ℕ};
 
 use modular_barrett::planned::Factor;
 use modular_word::path_word::PathWord;
+// rattle: line
 use modular_word::ring_word::RingWord;
 
-/// An entry of a table of twiddle factors: `Factor` itself, or another struct of two words, such as one with the layout
-/// of another language.
+/// An entry of a table of factors: `Factor` itself, or another struct of two words, such as one with the layout of
+/// another language.
 ///
 /// # Examples
 ///
@@ -60,6 +61,7 @@ pub trait PlanEntry<T: PathWord>: Copy {
     /// let factor = PlannedModulus::<u64>::new(17).factor(3);
     /// assert_eq!(Factor::<u64>::entry(factor), factor);
     /// ```
+    // rust: #[must_use]
     fn entry(factor: Factor<T>) -> Self
         ensures value { value result ≡ T.number factor.value }
         ensures quotient { quotient result ≡ T.number factor.quotient };

@@ -14,7 +14,9 @@ use crate::pass_joins::{JoinFour, JoinLowered, JoinPair};
 use crate::passes::{neighbours, pairs, quarters};
 use modular_barrett::planned::Factor;
 use modular_prim::plain_word::PlainWord;
+// rattle: line
 use modular_word::path_word::PathWord;
+// rattle: line
 use modular_word::ring_word::RingWord;
 
 // The index with the bits below its highest bit 2^k inverted.
@@ -22,6 +24,7 @@ fn mirrored(place: usize) -> usize
     requires { 0 < place }
     ensures { (k : ℕ) × (2 ^ k ≤ place) × (place < 2 * 2 ^ k) × (place + result + 1 ≡ 3 * 2 ^ k) }
 {
+    // rust instead: let power = 1 << crate::additions::ilog2(place);
     let power = 1 << place.ilog2();
     power + (power - 1 - (place - power))
 }
@@ -32,6 +35,7 @@ fn mirrored_run(place: usize) -> (usize, usize)
     ensures { (k : ℕ) × (2 ^ k ≤ place) × (0 < result.0) × (place + result.0 ≡ 2 * 2 ^ k)
         × (place + result.1 + 1 ≡ 3 * 2 ^ k) }
 {
+    // rust instead: let power = 1 << crate::additions::ilog2(place);
     let power = 1 << place.ilog2();
     let above = place - power;
     (power - above, power + (power - 1 - above))
@@ -53,6 +57,7 @@ fn minus_inverse<T: PlainWord, F: PlanEntry<T>, M: JoinSteps<T>>(
         let w = numbers F.value table.now in (g z : ℕ) →
         AreTwiddles modulus g z (length table.now) w → IsMinusInverse modulus (w place) (T.number result.value) }
 {
+    // rust: let _ = m;
     if place == 0 {
         return minus;
     }
@@ -65,8 +70,13 @@ fn minus_inverse<T: PlainWord, F: PlanEntry<T>, M: JoinSteps<T>>(
 }
 
 /// Minus the inverses of the factors of a block and of its halves. One mirrored index gives all three: those of the
-/// halves are at twice that index, in the opposite order. Conditions: the table's entries are factors modulo m; those of
-/// the block and of its halves are among them; `minus` is the factor -1.
+/// halves are at twice that index, in the opposite order.
+///
+/// # Preconditions
+///
+/// - the table's entries are factors modulo m
+/// - the factors of the block and of its halves are among the table's entries
+/// - `minus` is the factor -1
 pub fn minus_inverses<T: PlainWord, F: PlanEntry<T>, M: JoinSteps<T>>(
     m: &M,
     table: &[F],
@@ -82,6 +92,7 @@ pub fn minus_inverses<T: PlainWord, F: PlanEntry<T>, M: JoinSteps<T>>(
         AreTwiddles modulus g z (length table.now) w → AreMinusInverses modulus (w place) (w (2 * place)) (w (2 * place + 1))
         (T.number result.0.value) (T.number result.1.value) (T.number result.2.value) }
 {
+    // rust: let _ = m;
     if place == 0 {
         return (minus, minus, table[1].factor());
     }
@@ -97,9 +108,14 @@ pub fn minus_inverses<T: PlainWord, F: PlanEntry<T>, M: JoinSteps<T>>(
     }
 }
 
-/// Joins all blocks of a stage, block p by entry first + p of the table. Conditions: the blocks, of 2·half entries each,
-/// fill the list, and half is at least 1; the list's entries are below the bound; those of the table are factors modulo
-/// m, one for each block; `minus` is the factor -1.
+/// Joins all blocks of a stage, block p by entry first + p of the table.
+///
+/// # Preconditions
+///
+/// - the blocks, of 2·half entries each, fill the list, and half is at least 1
+/// - the list's entries are below the bound
+/// - the table's entries are factors modulo m, one for each block
+/// - `minus` is the factor -1
 pub fn join_stage<T: PlainWord, F: PlanEntry<T>, M: JoinSteps<T>>(
     m: &M,
     xs: &mut [T],
@@ -151,9 +167,14 @@ fn join_two_stages<T: PlainWord, F: PlanEntry<T>, M: JoinSteps<T>>(
 }
 
 /// Two stages of all blocks, with each power of four up to 1024 as a constant length, for the reason given at
-/// `split_known`. Conditions: the blocks, of 4·q entries each, fill the list, and q is at least 1; the list's entries are
-/// below the bound; those of the table are factors modulo m, one for each block and two for its halves; `minus` is the
-/// factor -1.
+/// `split_known`.
+///
+/// # Preconditions
+///
+/// - the blocks, of 4·q entries each, fill the list, and q is at least 1
+/// - the list's entries are below the bound
+/// - the table's entries are factors modulo m, one for each block and two for its halves
+/// - `minus` is the factor -1
 pub fn join_known<T: PlainWord, F: PlanEntry<T>, M: JoinSteps<T>>(
     m: &M,
     xs: &mut [T],
@@ -198,6 +219,7 @@ fn join_each<T: PlainWord, F: PlanEntry<T>, M: JoinSteps<T>>(
         let place = p * 4;
         // Unreachable (see `is_beyond`).
         if m.is_beyond(xs[place]) {
+            // rust instead: panic!("the entries must be below 4m");
             return;
         }
         let step = JoinFour { m: *m, w, u, v };
@@ -225,6 +247,7 @@ fn join_mirrored<T: PlainWord, F: PlanEntry<T>, M: JoinSteps<T>>(
     ensures { IsPassJoined T.number F.value (M.modulus m.now) (M.bound m.now) 1 blocks first table.now
         xs.old xs.new }
 {
+    // rust: let _ = first;
     let (mut own, _after) = table.split_at(last + 1);
     let (mut halves, _rest) = table.split_at(2 * last + 2);
     'fours: for p in 0..blocks {
@@ -235,6 +258,7 @@ fn join_mirrored<T: PlainWord, F: PlanEntry<T>, M: JoinSteps<T>>(
         let place = p * 4;
         // Unreachable (see `is_beyond`).
         if m.is_beyond(xs[place]) {
+            // rust instead: panic!("the entries must be below 4m");
             return;
         }
         let w = one[0].factor();
@@ -298,10 +322,15 @@ fn join_many<T: PlainWord, F: PlanEntry<T>, M: JoinSteps<T>>(
     }
 }
 
-/// The first two stages of all blocks of four entries, which makes them less than the bound: block p by entry
-/// first + p of the table, and its halves by the entries 2·(first + p) and 2·(first + p) + 1. Conditions: the blocks
-/// fill the list; the list's entries are below 4m; those of the table are factors modulo m, one for each block and two
-/// for its halves; `minus` is the factor -1.
+/// The first two stages of all blocks of four entries, which makes them less than the bound: block p by entry first
+/// + p of the table, and its halves by the entries 2·(first + p) and 2·(first + p) + 1.
+///
+/// # Preconditions
+///
+/// - the blocks fill the list
+/// - the list's entries are below 4m
+/// - the table's entries are factors modulo m, one for each block and two for its halves
+/// - `minus` is the factor -1
 #[inline(always)]
 pub fn join_fours<T: PlainWord, F: PlanEntry<T>, M: JoinSteps<T>>(
     m: &M,

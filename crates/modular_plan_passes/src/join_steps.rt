@@ -12,11 +12,13 @@ use modular_barrett::lanes::reduced;
 use modular_barrett::planned::{Factor, PlannedModulus};
 use modular_barrett::roomy::RoomyModulus;
 use modular_prim::plain_word::PlainWord;
+// rattle: line
 use modular_word::path_word::PathWord;
+// rattle: line
 use modular_word::ring_word::RingWord;
 
 /// A modulus m by which pairs and fours of entries are joined. Between two passes the entries stay below a bound, a
-/// multiple of m. Condition of each call: numbers x, y, z and t are below the bound, and factors are factors modulo m.
+/// multiple of m.
 pub trait JoinSteps<T: PlainWord>: Bounded<T> + Copy {
     ghost modulus: { Self → ℕ };
 
@@ -28,13 +30,21 @@ pub trait JoinSteps<T: PlainWord>: Bounded<T> + Copy {
         ensures factor { IsFactorOf T.base T.number (modulus self.now) result }
         ensures value { T.number result.value + 1 ≡ modulus self.now };
 
-    /// A number below the bound that is congruent to a word. Condition: it is below 4m.
+    /// A number below the bound that is congruent to a word.
+    ///
+    /// # Preconditions
+    ///
+    /// - x is below 4m
     fn lowered(&self, x: T) -> T
         requires { T.number x < 4 * modulus self.now }
         ensures below { T.number result < bound self.now }
         ensures congruent { Congruent (modulus self.now) (T.number result) (T.number x) };
 
     /// Numbers below the bound, congruent to x + y and (y - x)·v.
+    ///
+    /// # Preconditions
+    ///
+    /// - x and y are below the bound, and factors are factors modulo m
     fn pair(&self, x: T, y: T, v: &Factor<T>) -> (T, T)
         requires below { T.number x < bound self.now }
         requires other_below { T.number y < bound self.now }
@@ -46,6 +56,10 @@ pub trait JoinSteps<T: PlainWord>: Bounded<T> + Copy {
 
     /// Two stages of four numbers a quarter of a block apart. The factors are minus the inverses of those of the
     /// block's halves, and of the block's own.
+    ///
+    /// # Preconditions
+    ///
+    /// - x, y, z and t are below the bound, and factors are factors modulo m
     fn four(
         &self,
         x: T,
@@ -66,6 +80,10 @@ pub trait JoinSteps<T: PlainWord>: Bounded<T> + Copy {
             (T.number result.0) (T.number result.1) (T.number result.2) (T.number result.3) };
 
     /// The same where the first two factors are -1, each result times the factor s, below m.
+    ///
+    /// # Preconditions
+    ///
+    /// - x, y, z and t are below the bound, and factors are factors modulo m
     fn four_by_one(&self, x: T, y: T, z: T, t: T, v: &Factor<T>, s: &Factor<T>) -> (T, T, T, T)
         requires below { AreFourBelow (bound self.now) (T.number x) (T.number y) (T.number z) (T.number t) }
         requires factor { IsFactorOf T.base T.number (modulus self.now) v.now }
@@ -77,13 +95,21 @@ pub trait JoinSteps<T: PlainWord>: Bounded<T> + Copy {
             (T.number z * T.number s.now.value) (T.number t * T.number s.now.value)
             (T.number result.0) (T.number result.1) (T.number result.2) (T.number result.3) };
 
-    /// The residue of any word's product with a factor, below m. Condition: the factor was made by this modulus: its
-    /// value is below m, and its quotient is value·B/m, rounded down, B being the base.
+    /// The residue of any word's product with a factor, below m.
+    ///
+    /// # Preconditions
+    ///
+    /// - the factor was made by this modulus: its value is below m, and its quotient is value·B/m, rounded down, B
+    ///   being the base
     fn product(&self, x: T, w: &Factor<T>) -> T
         requires { IsFactorOf T.base T.number (modulus self.now) w.now }
         ensures { T.number result ≡ (T.number x * T.number w.now.value) % modulus self.now };
 
     /// The residue of a word below the bound, below m.
+    ///
+    /// # Preconditions
+    ///
+    /// - x is below the bound
     fn residue(&self, x: T) -> T
         requires { T.number x < bound self.now }
         ensures { T.number result ≡ T.number x % modulus self.now };

@@ -9,13 +9,20 @@ use crate::join_steps::JoinSteps;
 use crate::passes::{FourStep, PairStep};
 use modular_barrett::planned::Factor;
 use modular_prim::plain_word::PlainWord;
+// rattle: line
 use modular_word::path_word::PathWord;
+// rattle: line
 use modular_word::ring_word::RingWord;
 
 /// Joins two entries by v, minus the inverse of the factor of a block.
+// rust instead: #[derive(Debug)]
 #[derive(Drop)]
+// rust: #[must_use]
+// rust instead: pub struct JoinPair<T, M> {
 pub struct JoinPair<T: PlainWord, M: JoinSteps<T>> {
+    // rust instead: pub(crate) m: M,
     pub m: M,
+    // rust instead: pub(crate) v: Factor<T>,
     pub v: Factor<T>,
     pub ghost factor: { IsFactorOf T.base T.number (M.modulus m) v },
 }
@@ -33,11 +40,18 @@ impl<T: PlainWord, M: JoinSteps<T>> PairStep<T> for JoinPair<T, M> {
 }
 
 /// Joins four entries by minus the inverses of the factors of a block, w, and of its halves, u and v.
+// rust instead: #[derive(Debug)]
 #[derive(Drop)]
+// rust: #[must_use]
+// rust instead: pub struct JoinFour<T, M> {
 pub struct JoinFour<T: PlainWord, M: JoinSteps<T>> {
+    // rust instead: pub(crate) m: M,
     pub m: M,
+    // rust instead: pub(crate) w: Factor<T>,
     pub w: Factor<T>,
+    // rust instead: pub(crate) u: Factor<T>,
     pub u: Factor<T>,
+    // rust instead: pub(crate) v: Factor<T>,
     pub v: Factor<T>,
     pub ghost factors: { AreFactorsOf T.base T.number (M.modulus m) w u v },
 }
@@ -55,8 +69,12 @@ impl<T: PlainWord, M: JoinSteps<T>> FourStep<T> for JoinFour<T, M> {
 }
 
 /// Joins four entries below 4m.
+// rust instead: #[derive(Debug)]
 #[derive(Drop)]
+// rust: #[must_use]
+// rust instead: pub struct JoinLowered<T, M> {
 pub struct JoinLowered<T: PlainWord, M: JoinSteps<T>> {
+    // rust instead: pub(crate) step: JoinFour<T, M>,
     pub step: JoinFour<T, M>,
 }
 
@@ -78,10 +96,16 @@ impl<T: PlainWord, M: JoinSteps<T>> FourStep<T> for JoinLowered<T, M> {
 }
 
 /// Joins four entries where the first two factors are -1, and multiplies the results by s.
+// rust instead: #[derive(Debug)]
 #[derive(Drop)]
+// rust: #[must_use]
+// rust instead: pub struct JoinByOne<T, M> {
 pub struct JoinByOne<T: PlainWord, M: JoinSteps<T>> {
+    // rust instead: pub(crate) m: M,
     pub m: M,
+    // rust instead: pub(crate) v: Factor<T>,
     pub v: Factor<T>,
+    // rust instead: pub(crate) s: Factor<T>,
     pub s: Factor<T>,
     pub ghost factor: { IsFactorOf T.base T.number (M.modulus m) v },
     pub ghost scale: { IsFactorOf T.base T.number (M.modulus m) s },

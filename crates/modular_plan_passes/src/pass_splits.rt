@@ -9,13 +9,20 @@ use crate::passes::{FourStep, PairStep};
 use crate::split_steps::SplitSteps;
 use modular_barrett::planned::Factor;
 use modular_prim::plain_word::PlainWord;
+// rattle: line
 use modular_word::path_word::PathWord;
+// rattle: line
 use modular_word::ring_word::RingWord;
 
 /// Splits two entries by the factor w of a block.
+// rust instead: #[derive(Debug)]
 #[derive(Drop)]
+// rust: #[must_use]
+// rust instead: pub struct SplitPair<T, M> {
 pub struct SplitPair<T: PlainWord, M: SplitSteps<T>> {
+    // rust instead: pub(crate) m: M,
     pub m: M,
+    // rust instead: pub(crate) w: Factor<T>,
     pub w: Factor<T>,
     pub ghost factor: { IsFactorOf T.base T.number (M.modulus m) w },
 }
@@ -32,11 +39,18 @@ impl<T: PlainWord, M: SplitSteps<T>> PairStep<T> for SplitPair<T, M> {
 }
 
 /// Splits four entries by the factor w of a block, and the results by those of its halves.
+// rust instead: #[derive(Debug)]
 #[derive(Drop)]
+// rust: #[must_use]
+// rust instead: pub struct SplitFour<T, M> {
 pub struct SplitFour<T: PlainWord, M: SplitSteps<T>> {
+    // rust instead: pub(crate) m: M,
     pub m: M,
+    // rust instead: pub(crate) w: Factor<T>,
     pub w: Factor<T>,
+    // rust instead: pub(crate) u: Factor<T>,
     pub u: Factor<T>,
+    // rust instead: pub(crate) v: Factor<T>,
     pub v: Factor<T>,
     pub ghost factors: { AreFactorsOf T.base T.number (M.modulus m) w u v },
 }
@@ -54,9 +68,14 @@ impl<T: PlainWord, M: SplitSteps<T>> FourStep<T> for SplitFour<T, M> {
 }
 
 /// Splits four entries below 4m by 1, and the results by 1 and by v.
+// rust instead: #[derive(Debug)]
 #[derive(Drop)]
+// rust: #[must_use]
+// rust instead: pub struct SplitByOne<T, M> {
 pub struct SplitByOne<T: PlainWord, M: SplitSteps<T>> {
+    // rust instead: pub(crate) m: M,
     pub m: M,
+    // rust instead: pub(crate) v: Factor<T>,
     pub v: Factor<T>,
     pub ghost factor: { IsFactorOf T.base T.number (M.modulus m) v },
 }
@@ -73,8 +92,12 @@ impl<T: PlainWord, M: SplitSteps<T>> FourStep<T> for SplitByOne<T, M> {
 }
 
 /// Splits four entries, and reduces the results to residues.
+// rust instead: #[derive(Debug)]
 #[derive(Drop)]
+// rust: #[must_use]
+// rust instead: pub struct SplitToResidues<T, M> {
 pub struct SplitToResidues<T: PlainWord, M: SplitSteps<T>> {
+    // rust instead: pub(crate) step: SplitFour<T, M>,
     pub step: SplitFour<T, M>,
 }
 

@@ -10,9 +10,11 @@ ghost use Rattle.modular_plan_passes.specs.Steps.{PairDone, BlockDone, FourDone,
 use crate::bounded::Bounded;
 use crate::places::{four_at, set_four};
 use modular_prim::plain_word::PlainWord;
+// rattle: line
 use modular_word::ring_word::RingWord;
 
 /// What a stage makes of two entries half a block apart.
+// rust instead: pub trait PairStep<T: PlainWord>: Sized {
 pub trait PairStep<T: PlainWord> {
     // The bound of the entries before and after.
     ghost bound: { Self → ℕ };
@@ -20,7 +22,11 @@ pub trait PairStep<T: PlainWord> {
     // What holds of the entries before and after.
     ghost done: { Self → ℕ → ℕ → ℕ → ℕ → Type 0 };
 
-    /// What the two entries become, below the bound. Condition: they are below it.
+    /// What the two entries become, below the bound.
+    ///
+    /// # Preconditions
+    ///
+    /// - x and y are below the bound
     fn pair(&self, x: T, y: T) -> (T, T)
         requires below { T.number x < bound self.now }
         requires other_below { T.number y < bound self.now }
@@ -43,8 +49,11 @@ fn pair_at<T: PlainWord, S: PairStep<T>>(step: &S, xs: &mut [T], low: usize, hig
     xs[low] = first;
 }
 
-/// A stage of the block of half + half entries whose first index is `first`. Condition: the entries are below the bound
-/// of the step, which is at most the limit.
+/// A stage of the block of half + half entries whose first index is `first`.
+///
+/// # Preconditions
+///
+/// - the entries are below the bound of the step, which is at most the limit
 #[inline(always)]
 pub fn pairs<T: PlainWord, M: Bounded<T>, S: PairStep<T>>(
     m: &M,
@@ -62,6 +71,7 @@ pub fn pairs<T: PlainWord, M: Bounded<T>, S: PairStep<T>>(
     'pairs: for i in 0..half {
         // Unreachable (see `is_beyond`).
         if m.is_beyond(xs[first + i]) {
+            // rust instead: panic!("the entries must be below 4m");
             return;
         }
         pair_at(step, xs, first + i, first + (half + i));
@@ -69,6 +79,7 @@ pub fn pairs<T: PlainWord, M: Bounded<T>, S: PairStep<T>>(
 }
 
 /// What two stages make of four entries a quarter of a block apart.
+// rust instead: pub trait FourStep<T: PlainWord>: Sized {
 pub trait FourStep<T: PlainWord> {
     // The bound of the entries before.
     ghost bound: { Self → ℕ };
@@ -76,7 +87,11 @@ pub trait FourStep<T: PlainWord> {
     // What holds of the entries before and after.
     ghost done: { Self → ℕ → ℕ → ℕ → ℕ → ℕ → ℕ → ℕ → ℕ → Type 0 };
 
-    /// What the four entries become. Condition: they are below the bound.
+    /// What the four entries become.
+    ///
+    /// # Preconditions
+    ///
+    /// - x, y, z and t are below the bound
     fn four(&self, x: T, y: T, z: T, t: T) -> (T, T, T, T)
         requires { AreFourBelow (bound self.now) (T.number x) (T.number y) (T.number z) (T.number t) }
         ensures { done self.now (T.number x) (T.number y) (T.number z) (T.number t)
@@ -104,6 +119,7 @@ fn columns<T: PlainWord, M: Bounded<T>, S: FourStep<T>>(
         let x = first[i];
         // Unreachable (see `is_beyond`).
         if m.is_beyond(x) {
+            // rust instead: panic!("the entries must be below 4m");
             return;
         }
         let (a, b, c, d) = step.four(x, second[i], third[i], fourth[i]);
@@ -132,7 +148,11 @@ fn halves<T: PlainWord, M: Bounded<T>, S: FourStep<T>>(
     columns(m, step, a, b, c, d);
 }
 
-/// Two stages of the four entries whose first index is `first`. Condition: they are below the bound of the step.
+/// Two stages of the four entries whose first index is `first`.
+///
+/// # Preconditions
+///
+/// - the entries are below the bound of the step
 #[inline(always)]
 pub fn neighbours<T: PlainWord, S: FourStep<T>>(step: &S, xs: &mut [T], first: usize)
     requires { AreNeighbours T.number (S.bound step.now) first xs.old }
@@ -161,13 +181,17 @@ fn one_column<T: PlainWord, M: Bounded<T>, S: FourStep<T>>(
 {
     // Unreachable (see `is_beyond`).
     if m.is_beyond(xs[first]) {
+        // rust instead: panic!("the entries must be below 4m");
         return;
     }
     neighbours(step, xs, first);
 }
 
-/// Two stages of the block of 4·q entries whose first index is `first`. Condition: the entries are below the bound of
-/// the step, which is at most the limit.
+/// Two stages of the block of 4·q entries whose first index is `first`.
+///
+/// # Preconditions
+///
+/// - the entries are below the bound of the step, which is at most the limit
 #[inline(always)]
 pub fn quarters<T: PlainWord, M: Bounded<T>, S: FourStep<T>>(
     m: &M,

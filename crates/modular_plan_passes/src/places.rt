@@ -9,6 +9,7 @@ ghost use Rattle.modular_plan_passes.specs.Steps.{FourDone};
 use crate::entry::PlanEntry;
 use modular_barrett::planned::Factor;
 use modular_prim::plain_word::PlainWord;
+// rattle: line
 use modular_word::path_word::PathWord;
 
 // The entries at four indexes.

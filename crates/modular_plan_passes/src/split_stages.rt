@@ -12,11 +12,16 @@ use crate::passes::{neighbours, pairs, quarters};
 use crate::places::factors_at;
 use crate::split_steps::SplitSteps;
 use modular_prim::plain_word::PlainWord;
+// rattle: line
 use modular_word::path_word::PathWord;
 
-/// Splits all blocks of a stage, block p by entry first + p of the table. Conditions: the blocks, of 2·half entries each,
-/// fill the list, and half is at least 1; the list's entries are below the limit; those of the table are factors modulo
-/// m, one for each block.
+/// Splits all blocks of a stage, block p by entry first + p of the table.
+///
+/// # Preconditions
+///
+/// - the blocks, of 2·half entries each, fill the list, and half is at least 1
+/// - the list's entries are below the limit
+/// - the table's entries are factors modulo m, one for each block
 pub fn split_stage<T: PlainWord, M: SplitSteps<T>, F: PlanEntry<T>>(
     m: &M,
     xs: &mut [T],
@@ -92,10 +97,14 @@ fn split_known<T: PlainWord, M: SplitSteps<T>, F: PlanEntry<T>>(
     }
 }
 
-/// A pass of two stages, block p by entry first + p of the table. The first pass of a transform takes one product in
-/// place of four, since a root's table begins with 1. Conditions: the blocks, of 4·q entries each, fill the list, and
-/// q is at least 1; the list's entries are below the limit, and below 4m where there is only one block; those of the
-/// table are factors modulo m, one for each block and two for its halves.
+/// A pass of two stages, block p by entry first + p of the table. The first pass of a transform takes one product
+/// in place of four, since a root's table begins with 1.
+///
+/// # Preconditions
+///
+/// - the blocks, of 4·q entries each, fill the list, and q is at least 1
+/// - the list's entries are below the limit, and below 4m where there is only one block
+/// - the table's entries are factors modulo m, one for each block and two for its halves
 pub fn split_pass<T: PlainWord, M: SplitSteps<T>, F: PlanEntry<T>>(
     m: &M,
     xs: &mut [T],
@@ -120,8 +129,12 @@ pub fn split_pass<T: PlainWord, M: SplitSteps<T>, F: PlanEntry<T>>(
 }
 
 /// The last two stages, which also reduce: those of `split_pass` on each four neighbours, and their residues.
-/// Conditions: the blocks, of four entries each, fill the list; the list's entries are below the limit; those of the
-/// table are factors modulo m, one for each block and two for its halves.
+///
+/// # Preconditions
+///
+/// - the blocks, of four entries each, fill the list
+/// - the list's entries are below the limit
+/// - the table's entries are factors modulo m, one for each block and two for its halves
 pub fn split_fours<T: PlainWord, M: SplitSteps<T>, F: PlanEntry<T>>(
     m: &M,
     xs: &mut [T],
@@ -139,6 +152,7 @@ pub fn split_fours<T: PlainWord, M: SplitSteps<T>, F: PlanEntry<T>>(
         let place = p * 4;
         // Unreachable (see `is_beyond`).
         if m.is_beyond(xs[place]) {
+            // rust instead: panic!("the entries must be below 4m");
             return;
         }
         let step = SplitFour { m: *m, w, u, v };

@@ -11,15 +11,21 @@ use modular_barrett::lanes::reduced;
 use modular_barrett::planned::{Factor, PlannedModulus};
 use modular_barrett::roomy::RoomyModulus;
 use modular_prim::plain_word::PlainWord;
+// rattle: line
 use modular_word::path_word::PathWord;
+// rattle: line
 use modular_word::ring_word::RingWord;
 
 /// A modulus m by which pairs and fours of entries are split. Between two passes the entries stay below the limit, a
-/// multiple of m. Condition of each call: entries x, y, z and t are below it, and factors are factors modulo m.
+/// multiple of m.
 pub trait SplitSteps<T: PlainWord>: Bounded<T> + Copy {
     ghost modulus: { Self → ℕ };
 
     /// Numbers below the limit, congruent to x + y·w and x - y·w.
+    ///
+    /// # Preconditions
+    ///
+    /// - x and y are below the limit, and factors are factors modulo m
     fn pair(&self, x: T, y: T, w: &Factor<T>) -> (T, T)
         requires below { T.number x < Self.limit self.now }
         requires factor { IsFactorOf T.base T.number (modulus self.now) w.now }
@@ -30,6 +36,10 @@ pub trait SplitSteps<T: PlainWord>: Bounded<T> + Copy {
 
     /// Two stages of four numbers a quarter of a block apart, with the factor w of the block, and u and v of its
     /// halves.
+    ///
+    /// # Preconditions
+    ///
+    /// - x, y, z and t are below the limit, and factors are factors modulo m
     fn four(
         &self,
         x: T,
@@ -49,6 +59,10 @@ pub trait SplitSteps<T: PlainWord>: Bounded<T> + Copy {
             (T.number result.0) (T.number result.1) (T.number result.2) (T.number result.3) };
 
     /// The same for numbers below 4m, where w and u are 1.
+    ///
+    /// # Preconditions
+    ///
+    /// - x, y, z and t are below the limit, and factors are factors modulo m
     fn four_by_one(&self, x: T, y: T, z: T, t: T, v: &Factor<T>) -> (T, T, T, T)
         requires below { AreFourBelow (4 * modulus self.now) (T.number x) (T.number y) (T.number z) (T.number t) }
         requires factor { IsFactorOf T.base T.number (modulus self.now) v.now }
@@ -59,6 +73,10 @@ pub trait SplitSteps<T: PlainWord>: Bounded<T> + Copy {
             (T.number result.0) (T.number result.1) (T.number result.2) (T.number result.3) };
 
     /// The residue of an entry, below m.
+    ///
+    /// # Preconditions
+    ///
+    /// - x is below the limit
     fn residue(&self, x: T) -> T
         requires { T.number x < Self.limit self.now }
         ensures { T.number result ≡ T.number x % modulus self.now };

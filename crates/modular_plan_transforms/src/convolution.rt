@@ -16,8 +16,10 @@ use crate::tables::inverse_of_count;
 use modular_barrett::planned::{Factor, PlannedModulus};
 use modular_plan_passes::entry::PlanEntry;
 use modular_prim::plain_word::PlainWord;
+// rattle: line
 use modular_word::path_word::PathWord;
 use modular_word::paths::neginv;
+// rattle: line
 use modular_word::ring_word::RingWord;
 
 // Splits the first of the two lists for `join_products`. For single entries and an odd modulus that takes any
@@ -117,8 +119,8 @@ pub(crate) fn convolve_scaled<T: PlainWord, F: PlanEntry<T>>(
     join_products(m, xs, ys, table, b, last, part);
 }
 
-/// Whether `convolve_block` accepts lists of `length` entries as block b, down to blocks of `last`, and a table of
-/// `factors` factors.
+/// Whether `convolve_block` accepts these sizes: lists of `length` entries as block b, down to blocks of `last`, and a
+/// table of `factors` factors.
 ///
 /// # Examples
 ///
@@ -129,6 +131,7 @@ pub(crate) fn convolve_scaled<T: PlainWord, F: PlanEntry<T>>(
 /// assert!(convolves(4, 2, 1, 2)); // block 1 of four entries needs two factors with blocks of 2,
 /// assert!(!convolves(4, 2, 1, 1)); // and four with blocks of 1
 /// ```
+// rust instead: pub const fn convolves(length: usize, factors: usize, b: usize, last: usize) -> bool
 pub fn convolves(length: usize, factors: usize, b: usize, last: usize) -> bool
     ensures { IsTrue result ↔ AreSmallBlocks length factors b last }
 {
@@ -144,18 +147,23 @@ pub fn convolves(length: usize, factors: usize, b: usize, last: usize) -> bool
     true
 }
 
-/// Replaces xs by the product of two polynomials modulo X^n - c, and ys by the remainders of the second as `split`
-/// computes them. Here n is the length of the lists, the table is that of g (`fill_table`), and c is the power of g by
-/// the reversed bits of b. Returns false, with both lists unchanged, exactly where the number n/last of blocks has no
-/// inverse modulo m.
+/// Replaces xs by xs·ys modulo X^n - c: ys becomes its remainders, as `split` computes them. Here n is the length of
+/// the lists, the table is that of g (`fill_table`), and c is the power of g by the reversed bits of b. Returns false,
+/// with both lists unchanged, exactly where n/last, the number of blocks, has no inverse modulo m.
 ///
 /// So b = 0 gives the cyclic product, and b = 1 that modulo X^n + 1. The table must be that of some g: with other
-/// factors modulo m, the results are below m and meaningless. Conditions: the lists have the same length; `last`
-/// is 1 or 2, the length is `last` times a power of two, and (b + 1)·(n/last) is at most twice the table's length
-/// (`convolves` tells); the entries are below 4m; the table's entries are factors modulo m. No memory is allocated.
+/// factors modulo m, the results are below m and meaningless. No memory is allocated.
 ///
 /// Source: Bernstein, "Multidigit multiplication for mathematicians", section 2: split both lists, multiply the
 /// remainders, join the products.
+///
+/// # Conditions
+///
+/// - the lists have the same length
+/// - `last` is 1 or 2, the length is `last` times a power of two, and (b + 1)·(n/last) is at most twice the table's
+///   length (`convolves` tells)
+/// - (debug) the entries are below 4m
+/// - (debug) the table's entries are factors modulo m
 ///
 /// # Examples
 ///
@@ -169,6 +177,8 @@ pub fn convolves(length: usize, factors: usize, b: usize, last: usize) -> bool
 /// assert!(convolve_block(&modulus, &mut xs, &mut ys, &table, 1, 2));
 /// assert_eq!(xs, [16, 0, 0, 0]); // X^3 * X is -1 modulo X^4 + 1
 /// ```
+// rust: #[must_use]
+// rust: #[track_caller]
 pub fn convolve_block<T: PlainWord, F: PlanEntry<T>>(
     m: &PlannedModulus<T>,
     xs: &mut [T],
@@ -194,6 +204,14 @@ pub fn convolve_block<T: PlainWord, F: PlanEntry<T>>(
         AreTwiddles modulus g z (length table.now) (numbers F.value table.now) →
         AreRemainders modulus g z b (length xs.old / last) last (numbers T.number ys.old) (numbers T.number ys.new) }
 {
+    // rust: assert!(ys.len() == xs.len(), "the lists must have the same length: {} and {}", xs.len(), ys.len());
+    // rust: assert!(convolves(xs.len(), table.len(), b, last),
+    // rust:     "`last` must be 1 or 2, the length must be `last` times a power of two, and (b + 1)·(n/last) must be at most twice the table's length: {} entries, {} factors, b = {}, last = {}",
+    // rust:     xs.len(), table.len(), b, last);
+    // rust: debug_assert!(xs.iter().chain(ys.iter()).all(|x| m.has_room(*x)), "the entries must be below 4m");
+    // rust: crate::additions::expect_filled(m, table);
+    // rust: debug_assert!(crate::additions::are_factors(m, xs.len(), table, b, last),
+    // rust:     "the table's entries must be factors modulo m");
     match inverse_of_count(m, xs.len() / last) {
         Some(part) => {
             convolve_scaled(m, xs, ys, table, b, last, &part);
@@ -203,10 +221,13 @@ pub fn convolve_block<T: PlainWord, F: PlanEntry<T>>(
     }
 }
 
-/// Replaces xs by the cyclic product of xs and ys, as `convolve_block` for b = 0: entry e becomes the sum of
-/// x_i·y_j modulo m over i + j = e or e + n. Returns false, with both lists unchanged, exactly where the number
-/// n/last of blocks has no inverse modulo m. The table must be as for `convolve_block`. Conditions: those of
-/// `convolve_block`.
+/// Replaces xs by the cyclic product xs·ys: as `convolve_block` for b = 0, entry e becomes the sum of x_i·y_j modulo m
+/// over i + j = e or e + n. Returns false as `convolve_block` does: with both lists unchanged, exactly where the number
+/// n/last of blocks has no inverse modulo m. The table must be as for `convolve_block`.
+///
+/// # Conditions
+///
+/// - the conditions of `convolve_block` hold, as far as that tests them
 ///
 /// # Examples
 ///
@@ -220,6 +241,8 @@ pub fn convolve_block<T: PlainWord, F: PlanEntry<T>>(
 /// assert!(convolve_planned(&modulus, &mut xs, &mut ys, &table, 1));
 /// assert_eq!(xs, [3, 10, 8, 0]); // (1 + 2X)(3 + 4X)
 /// ```
+// rust: #[must_use]
+// rust: #[track_caller]
 pub fn convolve_planned<T: PlainWord, F: PlanEntry<T>>(
     m: &PlannedModulus<T>,
     xs: &mut [T],
@@ -247,10 +270,13 @@ pub fn convolve_planned<T: PlainWord, F: PlanEntry<T>>(
     convolve_block(m, xs, ys, table, 0, last)
 }
 
-/// Replaces xs by the product of xs and ys modulo X^n + 1, as `convolve_block` for b = 1: entry e becomes the sum
-/// of x_i·y_j modulo m over i + j = e, less that over i + j = e + n. Returns false, with both lists unchanged,
-/// exactly where the number n/last of blocks has no inverse modulo m. The table must be as for
-/// `convolve_block`. Conditions: those of `convolve_block`.
+/// Replaces xs by xs·ys modulo X^n + 1: as `convolve_block` for b = 1, entry e becomes the sum of x_i·y_j modulo m over
+/// i + j = e, less that over i + j = e + n. Returns false as `convolve_block` does: with both lists unchanged, exactly
+/// where the number n/last of blocks has no inverse modulo m. The table must be as for `convolve_block`.
+///
+/// # Conditions
+///
+/// - the conditions of `convolve_block` hold, as far as that tests them
 ///
 /// # Examples
 ///
@@ -264,6 +290,8 @@ pub fn convolve_planned<T: PlainWord, F: PlanEntry<T>>(
 /// assert!(convolve_negacyclic(&modulus, &mut xs, &mut ys, &table, 2));
 /// assert_eq!(xs, [13, 1, 2, 3]); // times X; -4 + 17
 /// ```
+// rust: #[must_use]
+// rust: #[track_caller]
 pub fn convolve_negacyclic<T: PlainWord, F: PlanEntry<T>>(
     m: &PlannedModulus<T>,
     xs: &mut [T],

@@ -12,6 +12,7 @@ use modular_plan_passes::entry::PlanEntry;
 use modular_prim::plain_word::PlainWord;
 use modular_transform::order::next_reversed;
 use modular_word::path_word::PathWord;
+// rattle: line
 use modular_word::ring_word::RingWord;
 
 // Whether a factor is below m and has its quotient q, tested without a division: with the number r that makes q·m + r
@@ -71,8 +72,12 @@ fn are_powers<T: PlainWord, F: PlanEntry<T>>(
     true
 }
 
-/// Whether the table is that of g (`fill_table`). Conditions: g is below m; g suits n entries, n being twice the
-/// length of the table.
+/// Whether the table is that of g (`fill_table`).
+///
+/// # Preconditions
+///
+/// - g is below m
+/// - g suits n entries, n being twice the length of the table
 pub fn is_table<T: PlainWord, F: PlanEntry<T>>(m: &PlannedModulus<T>, g: T, table: &[F]) -> bool
     requires below { T.number g < T.number m.now.modulus }
     requires suits { Suits (T.number m.now.modulus) (T.number g) (2 * length table.now) }

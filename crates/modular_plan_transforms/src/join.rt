@@ -16,7 +16,9 @@ use modular_plan_passes::join_steps::JoinSteps;
 use modular_plan_passes::pass_joins::JoinByOne;
 use modular_plan_passes::passes::quarters;
 use modular_prim::plain_word::PlainWord;
+// rattle: line
 use modular_word::path_word::PathWord;
+// rattle: line
 use modular_word::ring_word::RingWord;
 
 // Replaces each entry by a congruent one below the bound.
@@ -118,6 +120,7 @@ fn scale_each<T: PlainWord, M: JoinSteps<T>>(m: &M, xs: &mut [T], w: &Factor<T>)
         let x = xs[i];
         // Unreachable (see `is_beyond`).
         if m.is_beyond(x) {
+            // rust instead: panic!("the entries must be below 4m");
             return;
         }
         xs[i] = m.product(x, w);
@@ -179,19 +182,24 @@ fn join_scaled_by<T: PlainWord, F: PlanEntry<T>, M: JoinSteps<T>>(
     join_last(m, xs, table, b, size, &minus, w);
 }
 
-/// Joins the blocks of `last` entries into block b of the tree of remainders, which undoes `split` but for a
-/// factor: where the entries are the remainders of a polynomial modulo X^last - c, as `split` computes them, entry
-/// i becomes its coefficient x_i times the number count of blocks, modulo m.
+/// Undoes `split`, times the number of blocks: the blocks of `last` entries are joined into block b of the tree of
+/// remainders, and where the entries are the remainders of a polynomial modulo X^last - c, as `split` computes them,
+/// entry i becomes its coefficient x_i times the number count of blocks, modulo m.
 ///
-/// The table must be the one by which they were split (`fill_table`), or a longer one that begins with it: with other
-/// factors modulo m, the results are below m and meaningless. Conditions: the entries are below 4m; the number of
-/// entries is `last` times a power of two, and the table has at least (b + 1)·(count/2) entries (`splits` tells); the
-/// table's entries are factors modulo m.
+/// The table must be the one by which they were split (`fill_table`), or a longer one that begins with it: with
+/// other factors modulo m, the results are below m and meaningless.
 ///
 /// Each pass over the list does two stages where two are left.
 ///
 /// Source: each step undoes one of `split` but for the factor 2, as in Gentleman and Sande, "Fast Fourier
 /// transforms: for fun and profit", section 2.
+///
+/// # Conditions
+///
+/// - `splits` accepts the sizes: the number of entries is `last` times a power of two, and the table has at least
+///   (b + 1)·(count/2) entries
+/// - (debug) the entries are below 4m
+/// - (debug) the table's entries are factors modulo m
 ///
 /// # Examples
 ///
@@ -205,6 +213,7 @@ fn join_scaled_by<T: PlainWord, F: PlanEntry<T>, M: JoinSteps<T>>(
 /// join(&modulus, &mut entries, &table, 0, 1);
 /// assert_eq!(entries, [4, 8, 12, 16]);
 /// ```
+// rust: #[track_caller]
 pub fn join<T: PlainWord, F: PlanEntry<T>>(
     m: &PlannedModulus<T>,
     xs: &mut [T],
@@ -221,16 +230,30 @@ pub fn join<T: PlainWord, F: PlanEntry<T>>(
         AreRemainders modulus g z b (length xs.old / last) last x (λ i. numbers T.number xs.old i % modulus) →
         (i : ℕ) → i < length xs.old → numbers T.number xs.new i ≡ (length xs.old / last * x i) % modulus }
 {
+    // rust: debug_assert!(xs.iter().all(|x| m.has_room(*x)), "the entries must be below 4m");
+    // rust: assert!(crate::plans::splits(xs.len(), table.len(), b, last),
+    // rust:     "the number of entries must be `last` times a power of two, and the table must have at least (b + 1)·(count/2) entries: {} entries, {} factors, b = {}, last = {}",
+    // rust:     xs.len(), table.len(), b, last);
+    // rust: crate::additions::expect_filled(m, table);
+    // rust: debug_assert!(crate::additions::are_factors(m, xs.len(), table, b, last),
+    // rust:     "the table's entries must be factors modulo m");
     match RoomyModulus::new(m) {
         Some(roomy) => join_reduced(&roomy, xs, table, b, last),
         None => join_reduced(m, xs, table, b, last),
     }
 }
 
-/// Joins the blocks as `join` does and multiplies each coefficient by a factor. With the inverse modulo m of the
-/// number of blocks as the factor, the results are the coefficients themselves. The table must be as for
-/// `join`. Conditions: the entries are below 4m; the number of entries is `last` times a power of two, and the table has
-/// at least (b + 1)·(count/2) entries (`splits` tells); the table's entries are factors modulo m; w is a factor modulo m.
+/// Undoes `split`, times a factor and the number of blocks: it joins the blocks as `join` does and multiplies each
+/// coefficient by the factor. With the inverse modulo m of the number of blocks as the factor, the results are the
+/// coefficients themselves. The table must be as for `join`.
+///
+/// # Conditions
+///
+/// - `splits` accepts the sizes: the number of entries is `last` times a power of two, and the table has at least
+///   (b + 1)·(count/2) entries
+/// - (debug) the entries are below 4m
+/// - (debug) the table's entries are factors modulo m
+/// - (debug) w is a factor modulo m
 ///
 /// # Examples
 ///
@@ -244,6 +267,7 @@ pub fn join<T: PlainWord, F: PlanEntry<T>>(
 /// join_scaled(&modulus, &mut entries, &table, 0, 1, &modulus.factor(13)); // 4 * 13 = 3 * 17 + 1
 /// assert_eq!(entries, [1, 2, 3, 4]);
 /// ```
+// rust: #[track_caller]
 pub fn join_scaled<T: PlainWord, F: PlanEntry<T>>(
     m: &PlannedModulus<T>,
     xs: &mut [T],
@@ -263,6 +287,15 @@ pub fn join_scaled<T: PlainWord, F: PlanEntry<T>>(
         (i : ℕ) → i < length xs.old
         → numbers T.number xs.new i ≡ (length xs.old / last * x i * T.number w.now.value) % modulus }
 {
+    // rust: debug_assert!(xs.iter().all(|x| m.has_room(*x)), "the entries must be below 4m");
+    // rust: assert!(crate::plans::splits(xs.len(), table.len(), b, last),
+    // rust:     "the number of entries must be `last` times a power of two, and the table must have at least (b + 1)·(count/2) entries: {} entries, {} factors, b = {}, last = {}",
+    // rust:     xs.len(), table.len(), b, last);
+    // rust: crate::additions::expect_filled(m, table);
+    // rust: debug_assert!(crate::additions::are_factors(m, xs.len(), table, b, last),
+    // rust:     "the table's entries must be factors modulo m");
+    // rust: debug_assert!(crate::modular_plan_transforms::filled::are_factors(m.modulus, core::slice::from_ref(w)),
+    // rust:     "w must be a factor modulo m");
     match RoomyModulus::new(m) {
         Some(roomy) => join_scaled_by(&roomy, xs, table, b, last, w),
         None => join_scaled_by(m, xs, table, b, last, w),

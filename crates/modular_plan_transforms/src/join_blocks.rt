@@ -10,13 +10,21 @@ use modular_plan_passes::entry::PlanEntry;
 use modular_plan_passes::join_stages::{join_known, join_stage};
 use modular_plan_passes::join_steps::JoinSteps;
 use modular_prim::plain_word::PlainWord;
+// rattle: line
 use modular_word::path_word::PathWord;
+// rattle: line
 use modular_word::ring_word::RingWord;
 
 /// The stages that start from blocks of `last` entries. The result is the number of blocks times the list whose
-/// remainders the entries are, below the bound. Conditions: the list's entries are below the bound; `last` is at least 1,
-/// the number of entries is `last` times a power of two, and the table has (b + 1)·(count/2) entries or more, count
-/// being the number of blocks; the table's entries are factors modulo m; `minus` is the factor -1.
+/// remainders the entries are, below the bound.
+///
+/// # Preconditions
+///
+/// - the list's entries are below the bound
+/// - `last` is at least 1, the number of entries is `last` times a power of two, and the table has (b +
+///   1)·(count/2) entries or more, count being the number of blocks
+/// - the table's entries are factors modulo m
+/// - `minus` is the factor -1
 pub fn join_blocks<T: PlainWord, F: PlanEntry<T>, M: JoinSteps<T>>(
     m: &M,
     xs: &mut [T],
@@ -48,8 +56,11 @@ pub fn join_blocks<T: PlainWord, F: PlanEntry<T>, M: JoinSteps<T>>(
     }
 }
 
-/// The passes of two stages while more than four blocks are left. Returns the length of the blocks then. Conditions:
-/// those of `join_blocks`.
+/// The passes of two stages while more than four blocks are left. Returns the length of the blocks then.
+///
+/// # Preconditions
+///
+/// - the conditions of `join_blocks` hold
 pub fn join_passes<T: PlainWord, F: PlanEntry<T>, M: JoinSteps<T>>(
     m: &M,
     xs: &mut [T],

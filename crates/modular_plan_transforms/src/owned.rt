@@ -15,13 +15,16 @@ use modular_plan_passes::entry::PlanEntry;
 use modular_plan_passes::table::fill_table;
 use modular_prim::plain_word::PlainWord;
 use modular_word::path_word::PathWord;
+// rattle: line
 use modular_word::ring_word::RingWord;
+// rattle: line
 use std::alloc::AllocError;
+// rattle: line
 use std::convert::AsSlice;
 use std::marker::PhantomData;
 
-/// A plan for transforms of n entries that keeps its table: an odd modulus m, a root g that suits n, and a container of the
-/// n/2 factors of its powers. A struct can own one; `plan` lends it as a `Plan`.
+/// A plan that keeps its table: for transforms of n entries, it has an odd modulus m, a root g that suits n, and a
+/// container of the n/2 factors of its powers. A struct can own one; `plan` lends it as a `Plan`.
 ///
 /// The container is an array, which `new` fills, or any other that lends the same entries each time, which `with_table`
 /// takes filled. An array is part of the value: a large table may overflow the stack, and belongs in a `Vec`.
@@ -47,11 +50,17 @@ use std::marker::PhantomData;
 /// ring.multiply(&mut product, &mut [0, 1, 0, 0]);
 /// assert_eq!(product, [13, 1, 2, 3]); // X^4 is -1
 /// ```
+// rust instead: #[must_use]
 #[derive(Drop)]
+// rust instead: pub struct OwnedPlan<T, F, S> {
 pub struct OwnedPlan<T: PathWord, F: PlanEntry<T>, S: AsSlice<F>> {
+    // rust instead: pub(crate) modulus: PlannedModulus<T>,
     modulus: PlannedModulus<T>,
+    // rust instead: pub(crate) root: T,
     root: T,
+    // rust instead: pub(crate) table: S,
     table: S,
+    // rust instead: pub(crate) entry: PhantomData<F>,
     entry: PhantomData<F>,
     // m is odd, so that 2 has an inverse.
     pub ghost odd: { T.number modulus.modulus % 2 ≡ 1 },
@@ -65,24 +74,29 @@ pub struct OwnedPlan<T: PathWord, F: PlanEntry<T>, S: AsSlice<F>> {
         ≡ T.number root ^ bits_reversed (trailing_zeros w64 count) k % T.number modulus.modulus },
 }
 
+// rust instead: impl<T: PathWord, F: PlanEntry<T>, S: AsRef<[F]> + Clone> Clone for OwnedPlan<T, F, S> {
 impl<T: PathWord, F: PlanEntry<T>, S: AsSlice<F> + Copy> Clone for OwnedPlan<T, F, S> {
     ghost is_clone = { λ x y. (y.modulus ≡ x.modulus) × (y.root ≡ x.root) × (y.table ≡ x.table) };
 
     ghost is_infallible = { λ _. ⊤ };
 
+    // rust instead: fn clone(&self) -> Self {
     fn clone(&self) -> Result<Self, AllocError> {
+        // rust instead: OwnedPlan {
         Ok(OwnedPlan {
             modulus: self.modulus,
             root: self.root,
+            // rust instead: table: self.table.clone(),
             table: self.table,
             entry: PhantomData,
+            // rust instead: }
         })
     }
 }
 
 impl<T: PlainWord, F: PlanEntry<T>, const N: usize> OwnedPlan<T, F, [F; N]> {
-    /// The plan by g for n = 2·N entries, with an array of N factors. `None` exactly where m is even, g isn't below m, or g
-    /// doesn't suit n.
+    /// The plan of g: for n = 2·N entries, its table is an array of N factors. `None` exactly as `Plan::new`: where m
+    /// is even, g isn't below m, or g doesn't suit n.
     ///
     /// g is a residue, such as `find_root` over `Vanilla` returns: other reducers return a form of it (see `Plan::new`).
     ///
@@ -122,9 +136,11 @@ impl<T: PlainWord, F: PlanEntry<T>, const N: usize> OwnedPlan<T, F, [F; N]> {
     }
 }
 
+// rust instead: impl<T: PlainWord, F: PlanEntry<T>, S: AsRef<[F]>> OwnedPlan<T, F, S> {
 impl<T: PlainWord, F: PlanEntry<T>, S: AsSlice<F> + Drop> OwnedPlan<T, F, S> {
-    /// The plan by g with a container that is filled already, for n entries, n being twice its length. `None` exactly where
-    /// m is even, g isn't below m, g doesn't suit n, or an entry isn't the one that `fill_table` makes.
+    /// The plan of g over a filled container: for n entries, n being twice its length. `None` exactly as
+    /// `Plan::with_table`: where m is even, g isn't below m, g doesn't suit n, or an entry isn't the one that
+    /// `fill_table` makes.
     ///
     /// It tests the whole table, as `Plan::with_table` does.
     ///
@@ -146,6 +162,7 @@ impl<T: PlainWord, F: PlanEntry<T>, S: AsSlice<F> + Drop> OwnedPlan<T, F, S> {
             → IsTable T.base modulus (T.number g) F.value F.quotient entries → ⊥)
             (λ made. (made.modulus ≡ m.now) × (made.root ≡ g) × (made.table ≡ table)) }
     {
+        // rust instead: let plan = Plan::with_table(m, g, table.as_ref())?;
         let plan = Plan::with_table(m, g, table.as_slice())?;
         let (modulus, root) = (plan.modulus(), plan.root());
         Some(OwnedPlan {
@@ -156,7 +173,7 @@ impl<T: PlainWord, F: PlanEntry<T>, S: AsSlice<F> + Drop> OwnedPlan<T, F, S> {
         })
     }
 
-    /// The plan over its table, which is neither tested nor copied.
+    /// The plan over its table: that is neither tested nor copied.
     ///
     /// # Examples
     ///
@@ -174,6 +191,7 @@ impl<T: PlainWord, F: PlanEntry<T>, S: AsSlice<F> + Drop> OwnedPlan<T, F, S> {
         ensures entries { 2 ^ result.bits ≡ 2 * length (S.items self.now.table) }
         ensures table { result.table.now ≡ S.items self.now.table }
     {
+        // rust instead: Plan::over(&self.modulus, self.root, self.table.as_ref())
         Plan::over(&self.modulus, self.root, self.table.as_slice())
     }
 }

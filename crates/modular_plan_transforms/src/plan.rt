@@ -22,11 +22,13 @@ use modular_plan_passes::entry::PlanEntry;
 use modular_plan_passes::table::fill_table;
 use modular_prim::plain_word::PlainWord;
 use modular_word::path_word::PathWord;
+// rattle: line
 use modular_word::ring_word::RingWord;
+// rattle: line
 use std::alloc::AllocError;
 
-/// A plan for transforms of n = 2^bits entries: an odd modulus m, a root g that suits n, and the table of the n/2
-/// factors of its powers, which the caller owns.
+/// A modulus, a root and its table, for transforms of n entries: n is 2^bits, m is odd, g suits n, and the table of the
+/// n/2 factors of its powers is the caller's.
 ///
 /// # Examples
 ///
@@ -42,7 +44,9 @@ use std::alloc::AllocError;
 /// plan.inverse(&mut entries);
 /// assert_eq!(entries, [1, 2, 3, 4]);
 /// ```
+// rust instead: #[must_use]
 #[derive(Debug)]
+// rust instead: pub struct Plan<'a, T, F> {
 pub struct Plan<'a, T: PathWord, F: PlanEntry<T>> {
     modulus: PlannedModulus<T>,
     root: T,
@@ -65,7 +69,10 @@ impl<'a, T: PathWord, F: PlanEntry<T>> Clone for Plan<'a, T, F> {
 
     ghost is_infallible = { λ _. ⊤ };
 
+    // rust instead: fn clone(&self) -> Self {
     fn clone(&self) -> Result<Self, AllocError> {
+        // rust: *self
+        // rattle: item
         Ok(Plan {
             modulus: self.modulus,
             root: self.root,
@@ -78,11 +85,11 @@ impl<'a, T: PathWord, F: PlanEntry<T>> Clone for Plan<'a, T, F> {
 impl<'a, T: PathWord, F: PlanEntry<T>> Copy for Plan<'a, T, F> {}
 
 impl<'a, T: PlainWord, F: PlanEntry<T>> Plan<'a, T, F> {
-    /// Fills the table of g for n entries, n being twice the length of the table, and returns the plan. `None`
-    /// exactly where m is even, g isn't below m, or g doesn't suit n.
+    /// Fills the table of g and returns the plan: for n entries, n being twice the length of the table. `None` exactly
+    /// where m is even, g isn't below m, or g doesn't suit n.
     ///
     /// Modulo an even m the number n would have no inverse, and so the transform would have none. Where it returns
-    /// `None`, it has written nothing to the table. This isn't proved, because the result borrows the table.
+    /// `None`, it has written nothing to the table.
     ///
     /// g is a residue. `find_root` returns the form of a root, which over `Vanilla` is the residue itself; over another
     /// reducer r, pass `r.residue(form)`.
@@ -117,9 +124,9 @@ impl<'a, T: PlainWord, F: PlanEntry<T>> Plan<'a, T, F> {
         Some(Plan::over(m, g, table))
     }
 
-    /// The plan of g over a table that is filled already, for n entries, n being twice its length. `None` exactly where m
-    /// is even, g isn't below m, g doesn't suit n, or the table isn't that of g: an entry isn't the factor
-    /// of its power, or has another quotient.
+    /// The plan of g over a filled table: for n entries, n being twice its length. `None` exactly as `Plan::new`, or
+    /// where the table isn't that of g: m is even, g isn't below m, g doesn't suit n, or an entry isn't the factor of
+    /// its power, or has another quotient.
     ///
     /// It takes a product for each entry's power and one for its quotient.
     ///
@@ -151,9 +158,15 @@ impl<'a, T: PlainWord, F: PlanEntry<T>> Plan<'a, T, F> {
         Some(Plan::over(m, g, table))
     }
 
-    /// The plan of g over its table, for n entries, n being twice its length; nothing is tested. A struct that
-    /// owns its table makes its plan so at each call. Conditions: m is odd; g is below m and suits n; the table is that of g
-    /// (`fill_table`).
+    /// The plan of g over a filled table, which isn't tested: for n entries, n being twice its length. A struct that
+    /// owns its table makes its plan so at each call.
+    ///
+    /// # Preconditions
+    ///
+    /// - m is odd
+    /// - g is below m and suits n
+    /// - the table is that of g (`fill_table`)
+    // rust instead: pub(crate) fn over(m: &PlannedModulus<T>, g: T, table: &'a [F]) -> Self
     pub fn over(m: &PlannedModulus<T>, g: T, table: &'a [F]) -> Self
         requires odd { T.number m.now.modulus % 2 ≡ 1 }
         requires below { T.number g < T.number m.now.modulus }
@@ -172,9 +185,11 @@ impl<'a, T: PlainWord, F: PlanEntry<T>> Plan<'a, T, F> {
         }
     }
 
-    /// The plan for n entries, of the power of the root that suits them, with the first n/2 entries of the
-    /// table. Condition: n is a power of two, from 2 to the number of entries of this plan (`has_shorter`
-    /// tells).
+    /// The plan for n entries: it has the power of the root that suits them, and the first n/2 entries of the table.
+    ///
+    /// # Conditions
+    ///
+    /// - n is a power of two, from 2 to the number of entries of this plan (`has_shorter` tells)
     ///
     /// # Examples
     ///
@@ -186,6 +201,7 @@ impl<'a, T: PlainWord, F: PlanEntry<T>> Plan<'a, T, F> {
     /// let shorter = plan.shorter(4);
     /// assert_eq!((shorter.bits(), shorter.root()), (2, 4));
     /// ```
+    // rust: #[track_caller]
     pub fn shorter(&self, n: usize) -> Plan<'a, T, F>
         requires power { IsPowerOfTwo n }
         requires some { 2 ≤ n }
@@ -196,6 +212,7 @@ impl<'a, T: PlainWord, F: PlanEntry<T>> Plan<'a, T, F> {
         ensures entries { 2 ^ result.bits ≡ n }
         ensures table { result.table.now ≡ take (n / 2) self.now.table.now }
     {
+        // rust: assert!(self.has_shorter(n), "n must be a power of two, from 2 to the number of entries of this plan");
         let half = n / 2;
         Plan {
             modulus: self.modulus,
@@ -205,7 +222,7 @@ impl<'a, T: PlainWord, F: PlanEntry<T>> Plan<'a, T, F> {
         }
     }
 
-    /// Whether there is a shorter plan for n entries: n is a power of two, from 2 to the number of entries of this plan.
+    /// Whether `shorter` accepts n: n is a power of two, from 2 to the number of entries of this plan.
     ///
     /// # Examples
     ///
@@ -263,8 +280,8 @@ impl<'a, T: PlainWord, F: PlanEntry<T>> Plan<'a, T, F> {
         self.root
     }
 
-    /// The number n of entries, twice the length of the table. Where no `usize` holds it, which takes a table of entries
-    /// without a size, it is the greatest `usize`.
+    /// The number n of entries: twice the length of the table. Where no `usize` holds it, which takes a table of
+    /// entries without a size, it is the greatest `usize`.
     ///
     /// # Examples
     ///
@@ -282,7 +299,7 @@ impl<'a, T: PlainWord, F: PlanEntry<T>> Plan<'a, T, F> {
         self.table.len().saturating_mul(2)
     }
 
-    /// The binary logarithm of the number n of entries.
+    /// log2 of n: the binary logarithm of the number of entries.
     ///
     /// # Examples
     ///
@@ -299,7 +316,7 @@ impl<'a, T: PlainWord, F: PlanEntry<T>> Plan<'a, T, F> {
         self.bits
     }
 
-    /// Whether a number of entries is n, the number of entries of the lists that the plan transforms.
+    /// Whether a list has n entries: the number of those that the plan transforms.
     ///
     /// # Examples
     ///
@@ -317,7 +334,8 @@ impl<'a, T: PlainWord, F: PlanEntry<T>> Plan<'a, T, F> {
         entries / 2 == self.table.len() && entries % 2 == 0
     }
 
-    /// Whether `split` and `join` accept a list with this number of entries as block b, with blocks of `last` entries.
+    /// Whether `split` and `join` accept these sizes: a list with this number of entries as block b, with blocks of
+    /// `last` entries.
     ///
     /// # Examples
     ///
@@ -335,7 +353,8 @@ impl<'a, T: PlainWord, F: PlanEntry<T>> Plan<'a, T, F> {
         splits(entries, self.table.len(), b, last)
     }
 
-    /// Whether `convolve_block` accepts lists with this number of entries as block b, with blocks of `last` entries.
+    /// Whether `convolve_block` accepts these sizes: lists with this number of entries as block b, with blocks of
+    /// `last` entries.
     ///
     /// # Examples
     ///

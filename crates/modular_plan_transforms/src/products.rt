@@ -12,6 +12,7 @@ use modular_barrett::planned::PlannedModulus;
 use modular_plan_passes::bounded::Bounded;
 use modular_plan_passes::entry::PlanEntry;
 use modular_prim::plain_word::PlainWord;
+// rattle: line
 use modular_word::path_word::PathWord;
 
 // Multiplies each entry of xs by the entry of ys with the same index.
@@ -26,6 +27,7 @@ pub(crate) fn multiply_each<T: PlainWord>(m: &PlannedModulus<T>, xs: &mut [T], y
         let x = xs[i];
         // Unreachable (see `is_beyond`).
         if m.is_beyond(x) {
+            // rust instead: panic!("the entries of xs must be below m");
             return;
         }
         xs[i] = m.multiply(x, ys[i]);
@@ -65,6 +67,7 @@ pub(crate) fn reduce_products<T: PlainWord>(
         let y = ys[i];
         // Unreachable (see `is_beyond`).
         if m.is_beyond(y) {
+            // rust instead: panic!("the entries must be below 4m");
             return;
         }
         xs[i] = reduced_product(m, inverse, xs[i], y);
@@ -150,14 +153,18 @@ fn multiply_pairs<T: PlainWord, F: PlanEntry<T>>(
     }
 }
 
-/// Multiplies the blocks of `last` entries of the two lists, below block b of the tree of remainders, as
-/// polynomials modulo X^last - c, with the constants c of `split`. So the products of two lists of remainders are
-/// the remainders of a product. For `last` = 1 entries of equal index are multiplied. The table must be the one by
-/// which the lists were split: with other factors modulo m, the results are below m and meaningless.
+/// Multiplies xs by ys, block by block: the blocks of `last` entries, below block b of the tree of remainders, as
+/// polynomials modulo X^last - c, with the constants c of `split`. So the products of two lists of remainders are the
+/// remainders of a product. For `last` = 1 entries of equal index are multiplied. The table must be the one by which
+/// the lists were split: with other factors modulo m, the results are below m and meaningless.
 ///
-/// Conditions: `last` is 1 or 2; the lists have the same length, a multiple of `last`; the entries of xs are below m;
-/// the table's entries are factors modulo m, and (b + 1)·count is at most twice their number, count being the number
-/// of blocks.
+/// # Conditions
+///
+/// - `last` is 1 or 2
+/// - the lists have the same length, a multiple of `last`
+/// - (debug) the entries of xs are below m
+/// - (debug) the table's entries are factors modulo m, and (b + 1)·count is at most twice their number, count being
+///   the number of blocks
 ///
 /// # Examples
 ///
@@ -171,6 +178,7 @@ fn multiply_pairs<T: PlainWord, F: PlanEntry<T>>(
 /// multiply(&modulus, &mut entries, &[5, 7], &table, 0, 1);
 /// assert_eq!(entries, [10, 4]); // 21 - 17
 /// ```
+// rust: #[track_caller]
 pub fn multiply<T: PlainWord, F: PlanEntry<T>>(
     m: &PlannedModulus<T>,
     xs: &mut [T],
@@ -192,6 +200,12 @@ pub fn multiply<T: PlainWord, F: PlanEntry<T>>(
         AreProducts modulus g z b (length xs.old / last) last (numbers T.number xs.old)
         (numbers T.number ys.now) (numbers T.number xs.new) }
 {
+    // rust: assert!(last == 1 || last == 2, "`last` must be 1 or 2");
+    // rust: assert!(ys.len() == xs.len() && (last == 1 || xs.len() % 2 == 0),
+    // rust:     "the lists must have the same length, a multiple of `last`");
+    // rust: debug_assert!(xs.iter().all(|x| x.is_below(m.modulus)), "the entries of xs must be below m");
+    // rust: debug_assert!(crate::additions::are_factors(m, xs.len(), table, b, last),
+    // rust:     "the table's entries must be factors modulo m, and (b + 1)·count must be at most twice their number, count being the number of blocks");
     if last == 1 {
         multiply_each(m, xs, ys);
     } else {

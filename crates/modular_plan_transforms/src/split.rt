@@ -13,6 +13,7 @@ use modular_plan_passes::entry::PlanEntry;
 use modular_plan_passes::split_stages::split_fours;
 use modular_plan_passes::split_steps::SplitSteps;
 use modular_prim::plain_word::PlainWord;
+// rattle: line
 use modular_word::path_word::PathWord;
 
 // Replaces each entry by its residue.
@@ -27,8 +28,8 @@ fn reduce_each<T: PlainWord, M: SplitSteps<T>>(m: &M, xs: &mut [T])
     }
 }
 
-/// Whether `split` accepts a list of `length` entries, from block b down to blocks of `last`, and a table of
-/// `factors` factors.
+/// Whether `split` and `join` accept these sizes: a list of `length` entries, from block b down to blocks of `last`,
+/// and a table of `factors` factors.
 ///
 /// # Examples
 ///
@@ -38,6 +39,7 @@ fn reduce_each<T: PlainWord, M: SplitSteps<T>>(m: &M, xs: &mut [T])
 /// assert!(splits(4, 2, 0, 1)); // two factors suffice for four entries
 /// assert!(!splits(8, 2, 0, 1));
 /// ```
+// rust instead: pub const fn splits(length: usize, factors: usize, b: usize, last: usize) -> bool
 pub fn splits(length: usize, factors: usize, b: usize, last: usize) -> bool
     ensures { IsTrue result ↔ AreBlocks length factors b last }
 {
@@ -81,8 +83,11 @@ fn split_by<T: PlainWord, M: SplitSteps<T>, F: PlanEntry<T>>(
     }
 }
 
-/// `split` without the residues: the entries are any words that are congruent to the remainders. Conditions: those
-/// of `split`.
+/// `split` without the residues: the entries are any words that are congruent to the remainders.
+///
+/// # Preconditions
+///
+/// - the conditions of `split` hold
 pub fn split_loosely<T: PlainWord, F: PlanEntry<T>>(
     m: &PlannedModulus<T>,
     xs: &mut [T],
@@ -104,20 +109,26 @@ pub fn split_loosely<T: PlainWord, F: PlanEntry<T>>(
     }
 }
 
-/// Splits block b of the tree of remainders into blocks of `last` entries: entry i of block j becomes the sum over
-/// k of x_(k·last + i)·c^k modulo m, the coefficient of the remainder modulo X^last - c. Here the table is that of a
-/// root g (`fill_table`), count is the number of blocks, and c is the power of g by the reversed bits of b·count + j.
+/// Splits block b into its remainders modulo X^last - c: in the tree of remainders, entry i of block j becomes the sum
+/// over k of x_(k·last + i)·c^k modulo m, a coefficient of the remainder. Here the table is that of a root g
+/// (`fill_table`), count is the number of blocks, and c is the power of g by the reversed bits of b·count + j.
 ///
-/// So b = 0 and last = 1 give the transform by g, in bit-reversed order (`split_laws`); b = 1 starts from a polynomial
-/// modulo X^n + 1. The table must be that of some root, of any length that suffices: with other factors modulo m, the
-/// results are below m and meaningless. Conditions: the entries are below 4m; the number of entries is `last` times a
-/// power of two, and the table has at least (b + 1)·(count/2) entries (`splits` tells); the table's entries are factors
-/// modulo m.
+// rust instead: /// So b = 0 and last = 1 give the transform by g, in bit-reversed order; b = 1 starts from a
+/// So b = 0 and last = 1 give the transform by g, in bit-reversed order (`split_laws`); b = 1 starts from a
+/// polynomial modulo X^n + 1. The table must be that of some root, of any length that suffices: with other factors
+/// modulo m, the results are below m and meaningless.
 ///
 /// Each pass over the list does two stages; a single one comes first where their number is odd.
 ///
 /// Source: the sums and differences of Cooley and Tukey with one factor for each block, as in Bernstein,
 /// "Multidigit multiplication for mathematicians", section 2.
+///
+/// # Conditions
+///
+/// - `splits` accepts the sizes: the number of entries is `last` times a power of two, and the table has at least
+///   (b + 1)·(count/2) entries
+/// - (debug) the entries are below 4m
+/// - (debug) the table's entries are factors modulo m
 ///
 /// # Examples
 ///
@@ -131,6 +142,7 @@ pub fn split_loosely<T: PlainWord, F: PlanEntry<T>>(
 /// split(&modulus, &mut entries, &table, 0, 1);
 /// assert_eq!(entries, [10, 15, 7, 6]); // 1 + 2X + 3X^2 + 4X^3 at 1, -1, 4 and -4
 /// ```
+// rust: #[track_caller]
 pub fn split<T: PlainWord, F: PlanEntry<T>>(
     m: &PlannedModulus<T>,
     xs: &mut [T],
@@ -146,6 +158,13 @@ pub fn split<T: PlainWord, F: PlanEntry<T>>(
         AreTwiddles modulus g z (length table.now) (numbers F.value table.now) →
         AreRemainders modulus g z b (length xs.old / last) last (numbers T.number xs.old) (numbers T.number xs.new) }
 {
+    // rust: debug_assert!(xs.iter().all(|x| m.has_room(*x)), "the entries must be below 4m");
+    // rust: assert!(crate::plans::splits(xs.len(), table.len(), b, last),
+    // rust:     "the number of entries must be `last` times a power of two, and the table must have at least (b + 1)·(count/2) entries: {} entries, {} factors, b = {}, last = {}",
+    // rust:     xs.len(), table.len(), b, last);
+    // rust: crate::additions::expect_filled(m, table);
+    // rust: debug_assert!(crate::additions::are_factors(m, xs.len(), table, b, last),
+    // rust:     "the table's entries must be factors modulo m");
     match RoomyModulus::new(m) {
         Some(roomy) => split_by(&roomy, xs, table, b, last),
         None => split_by(m, xs, table, b, last),

@@ -9,12 +9,18 @@ use modular_plan_passes::entry::PlanEntry;
 use modular_plan_passes::split_stages::{split_pass, split_stage};
 use modular_plan_passes::split_steps::SplitSteps;
 use modular_prim::plain_word::PlainWord;
+// rattle: line
 use modular_word::path_word::PathWord;
 
-/// All stages from block b down to blocks of `last` entries. Where their number is odd, a single stage comes first, so
-/// that each other pass does two. Conditions: the entries are below 4m; `last` is at least 1, the number of entries is
-/// `last` times a power of two, and the table has (b + 1)·(count/2) entries or more, count being the number of blocks;
-/// the table's entries are factors modulo m.
+/// All stages from block b down to blocks of `last` entries. Where their number is odd, a single stage comes first,
+/// so that each other pass does two.
+///
+/// # Preconditions
+///
+/// - the entries are below 4m
+/// - `last` is at least 1, the number of entries is `last` times a power of two, and the table has (b +
+///   1)·(count/2) entries or more, count being the number of blocks
+/// - the table's entries are factors modulo m
 pub fn split_blocks<T: PlainWord, M: SplitSteps<T>, F: PlanEntry<T>>(
     m: &M,
     xs: &mut [T],

@@ -8,7 +8,9 @@ ghost use Rattle.modular_transform.specs.Transforms.{Suits};
 
 use modular_barrett::planned::{Factor, PlannedModulus};
 use modular_prim::plain_word::PlainWord;
+// rattle: line
 use modular_word::path_word::PathWord;
+// rattle: line
 use modular_word::ring_word::RingWord;
 
 // The power of g to the exponent `count`, below m, by squarings.
@@ -72,10 +74,14 @@ pub(crate) fn inverse_of_power<T: PlainWord>(m: &PlannedModulus<T>, bits: u32) -
     part
 }
 
-/// The factor of the inverse of a number of blocks modulo m, with which `join_scaled` divides by that number. `None` exactly
-/// where there is no inverse: m is even, and there are two blocks or more. Condition: the number is a power of two.
+/// The factor of the inverse of a number of blocks modulo m, with which `join_scaled` divides by that number.
+/// `None` exactly where there is no inverse: m is even, and there are two blocks or more.
 ///
 /// Source: halvings of 1.
+///
+/// # Preconditions
+///
+/// - the number is a power of two
 pub fn inverse_of_count<T: PlainWord>(m: &PlannedModulus<T>, count: usize) -> Option<Factor<T>>
     requires { IsPowerOfTwo count }
     ensures { MatchOption result (HasInverse (T.number m.now.modulus) count → ⊥)

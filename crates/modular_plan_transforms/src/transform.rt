@@ -12,15 +12,18 @@ use modular_plan_passes::entry::PlanEntry;
 use modular_prim::plain_word::PlainWord;
 use modular_transform::order::reverse_places;
 
-/// The transform of n entries in place, in natural order: entry j becomes the sum over i of x_i·h^(i·j) modulo m, below
-/// m. Here the table is that of a root g (`fill_table`), and h is g, or, where the table is for more entries, the power of
-/// g that suits n entries. The table must be that of some root: with other factors modulo m, the results are below m and
-/// meaningless.
-///
-/// Conditions: the entries are below 4m; n is a power of two, and at most twice as many as the table's factors;
-/// these are factors modulo m.
+/// Replaces xs by its transform, in natural order: entry j becomes the sum over i of x_i·h^(i·j) modulo m, below m.
+/// Here the table is that of a root g (`fill_table`), and h is g, or, where the table is for more entries, the power of
+/// g that suits n entries. The table must be that of some root: with other factors modulo m, the results are below m
+/// and meaningless.
 ///
 /// Source: `split`, and a reversal of the bits of the indexes.
+///
+/// # Conditions
+///
+/// - n is a power of two, and at most twice as many as the table's factors
+/// - (debug) the entries are below 4m
+/// - (debug) the table's entries are factors modulo m
 ///
 /// # Examples
 ///
@@ -34,6 +37,7 @@ use modular_transform::order::reverse_places;
 /// ntt_planned(&modulus, &mut entries, &table);
 /// assert_eq!(entries, [10, 7, 15, 6]); // 1 + 2X + 3X^2 + 4X^3 at 1, 4, -1 and -4
 /// ```
+// rust: #[track_caller]
 pub fn ntt_planned<T: PlainWord, F: PlanEntry<T>>(m: &PlannedModulus<T>, xs: &mut [T], table: &[F])
     requires entries { All (λ x. T.number x < 4 * T.number m.now.modulus) xs.old }
     requires factors { AllFactors T.base (T.number m.now.modulus) F.value F.quotient table.now }

@@ -2,9 +2,8 @@
 use Rattle.std.proofs.Common.{◌≡◌, ℕ, suc, ◌+◌, ◌*◌, ◌/◌, ◌%◌, ◌^◌, ◌<◌, ◌≤◌, sym, ap, ◌∙◌, subst, arith}
 use Rattle.std.proofs.Math.Nat.{mod-lt, div-add-mod, mod-eq_of_lt, mul-le-mul_right, add-mod}
 use Rattle.std.proofs.Math.Nat.{mul-lt-mul_of_pos_right, add-mul-mod_self_left, pow-succ'}
-use Rattle.std.proofs.lemmas.Nat.{leading_top, shl_below, shl-shr, pow_pos, pow-add, mod-mul-add}
+use Rattle.std.proofs.lemmas.Nat.{leading_top, shl_below, shl-shr, pow_pos, pow-add}
 use Rattle.std.specs.Int.Count.{count_leading_zeros}
-use Rattle.modular_word.specs.Division.{IsDivision}
 use Rattle.modular_word.proofs.Congruence.{mod_of_multiple}
 
 -- m scaled by 2^s has its top bit set, and is a word
@@ -50,10 +49,6 @@ scaled_product_of m s d x y a b r h ed ea eb er =
     let p : x * (y * 2 ^ s) ≡ x * y * 2 ^ s = omega arith in
     er ∙ ap (λ v. (v * b) % d) un ∙ ap (λ v. (x * v) % d) eb ∙ ap (λ v. (x * (y * 2 ^ s)) % v) ed
     ∙ ap (λ v. v % (m * 2 ^ s)) p ∙ scaled_remainder (x * y) m (2 ^ s) h (pow_pos s)
-
--- the remainder of a division
-pub remainder_of : {a d q r : ℕ} → IsDivision a d q r → r ≡ a % d
-remainder_of {a} {d} {q} {r} h = sym (ap (λ n. n % d) h.whole ∙ mod-mul-add q d r h.below)
 
 -- a remainder by a multiple of m has the residue of its number, and so has its sum with a
 pub sum_of_rest : (m p a b r : ℕ) → r ≡ b % (m * p) → (a + r) % m ≡ (a + b) % m

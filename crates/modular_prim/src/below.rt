@@ -6,7 +6,11 @@ ghost use Rattle.modular_word.specs.Residues.{residue};
 use modular_word::path_word::PathWord;
 
 /// The residue of a word below 2m: the smaller of x and x - m modulo the base, which compilers select without a
-/// branch. Condition: the word is below 2m.
+/// branch.
+///
+/// # Preconditions
+///
+/// - the word is below 2m
 pub fn reduced_once<T: PathWord>(x: T, m: T) -> T
     requires { T.number x < 2 * T.number m }
     ensures value { T.number result ≡ T.number x % T.number m }
@@ -18,7 +22,11 @@ pub fn reduced_once<T: PathWord>(x: T, m: T) -> T
     if less.is_below(x) { less } else { x }
 }
 
-/// The residue of a + b, below m. Conditions: b is at most m, and the sum below 2m.
+/// The residue of a + b, below m.
+///
+/// # Preconditions
+///
+/// - b is at most m, and the sum below 2m
 pub fn sum_once<T: PathWord>(a: T, b: T, m: T) -> T
     requires most { T.number b ≤ T.number m }
     requires twice { T.number a + T.number b < 2 * T.number m }
@@ -33,8 +41,12 @@ pub fn sum_once<T: PathWord>(a: T, b: T, m: T) -> T
     }
 }
 
-/// The residue of a + b, below m. A carry or a comparison chooses between two sums; both need a, so that LLVM selects
-/// without a branch. Condition: both are below m.
+/// The residue of a + b, below m. A carry or a comparison chooses between two sums; both need a, so that LLVM
+/// selects without a branch.
+///
+/// # Preconditions
+///
+/// - a and b are below m
 pub fn add_below<T: PathWord>(a: T, b: T, m: T) -> T
     requires left { T.number a < T.number m }
     requires right { T.number b < T.number m }
@@ -76,7 +88,11 @@ fn sum_by_comparison<T: PathWord>(a: T, b: T, m: T) -> T
     if rest.is_below(step) { rest } else { a.plus(b) }
 }
 
-/// The residue of a - b, below m. Condition: both are below m.
+/// The residue of a - b, below m.
+///
+/// # Preconditions
+///
+/// - a and b are below m
 #[inline(always)]
 pub fn sub_below<T: PathWord>(a: T, b: T, m: T) -> T
     requires left { T.number a < T.number m }
@@ -84,6 +100,9 @@ pub fn sub_below<T: PathWord>(a: T, b: T, m: T) -> T
     ensures value { T.number result ≡ residue (T.number m) (pos (T.number a) -ℤ pos (T.number b)) }
     ensures below { T.number result < T.number m }
 {
+    // This test, which depends on m alone, makes LLVM load m before it compares a and b. Otherwise it branches on a and b
+    // around the load.
+    // rust: assert!(!m.is_zero_word(), "m must be at least 1");
     if T::bits() >= 32 {
         chosen_difference(a, b, m)
     } else {
@@ -125,7 +144,11 @@ fn summed_difference<T: PathWord>(a: T, b: T, m: T) -> T
 }
 
 /// The residue of a - b, as `sub_below` returns it, but branchless for words of 64 bits: the latency is higher, but
-/// no branch mispredicts where either number may be the greater. Condition: both are below m.
+/// no branch mispredicts where either number may be the greater.
+///
+/// # Preconditions
+///
+/// - a and b are below m
 pub fn branchless_sub_below<T: PathWord>(a: T, b: T, m: T) -> T
     requires left { T.number a < T.number m }
     requires right { T.number b < T.number m }
@@ -135,8 +158,12 @@ pub fn branchless_sub_below<T: PathWord>(a: T, b: T, m: T) -> T
     a.minus_modulo(b, m)
 }
 
-/// The residue of 2a, below m, as `dbl_below` returns it, but faster in loops where m isn't a constant: at 32 bits and more
-/// LLVM turns the choice of `dbl_below` into a branch in some of them, which mispredicts. Condition: a is below m.
+/// The residue of 2a, below m, as `dbl_below` returns it, but faster in loops where m isn't a constant: at 32 bits
+/// and more LLVM turns the choice of `dbl_below` into a branch in some of them, which mispredicts.
+///
+/// # Preconditions
+///
+/// - a is below m
 pub fn dbl_below_stored<T: PathWord>(a: T, m: T) -> T
     requires { T.number a < T.number m }
     ensures value { T.number result ≡ (2 * T.number a) % T.number m }
@@ -151,7 +178,11 @@ pub fn dbl_below_stored<T: PathWord>(a: T, m: T) -> T
     }
 }
 
-/// The residue of 2a, below m, by a comparison with m/2, which doesn't wait for the double. Condition: a is below m.
+/// The residue of 2a, below m, by a comparison with m/2, which doesn't wait for the double.
+///
+/// # Preconditions
+///
+/// - a is below m
 pub fn dbl_below<T: PathWord>(a: T, m: T) -> T
     requires { T.number a < T.number m }
     ensures value { T.number result ≡ (2 * T.number a) % T.number m }
@@ -178,11 +209,17 @@ fn doubled_once<T: PathWord>(a: T, m: T) -> T
     if over || !sum.is_below(m) { less } else { sum }
 }
 
-/// The residue of -a, below m. Condition: a is below m.
+/// The residue of -a, below m.
+///
+/// # Preconditions
+///
+/// - a is below m
 pub fn neg_below<T: PathWord>(a: T, m: T) -> T
     requires { T.number a < T.number m }
     ensures value { T.number result ≡ residue (T.number m) (neg_ℤ (pos (T.number a))) }
     ensures below { T.number result < T.number m }
 {
+    // As in `sub_below`.
+    // rust: assert!(!m.is_zero_word(), "m must be at least 1");
     if a.is_zero_word() { a } else { m.minus(a) }
 }

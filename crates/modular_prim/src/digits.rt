@@ -7,6 +7,7 @@ ghost use Rattle.modular_word.specs.Division.{IsDivision};
 use crate::plain_word::PlainWord;
 use modular_word::path_word::PathWord;
 use modular_word::paths::two;
+// rattle: line
 use modular_word::ring_word::RingWord;
 
 // The digit k and the rest of a, if a is at least the multiple k·d; else the pair `before`, for a smaller digit.
@@ -85,9 +86,13 @@ fn has_two_digits<T: PathWord>(a: T, d: T) -> bool
 }
 
 /// Quotient and remainder of a by d. Where the quotient is below 16 and words have more than 16 bits, they are
-/// computed in two digits of base 4, else by a division instruction. Condition: d is at least 1.
+/// computed in two digits of base 4, else by a division instruction.
 ///
 /// In Euclid's algorithm 9 quotients of 10 are below 16 (Knuth, "The Art of Computer Programming", section 4.5.3).
+///
+/// # Preconditions
+///
+/// - d is at least 1
 pub fn division<T: PlainWord>(a: T, d: T) -> (T, T)
     requires { 1 ≤ T.number d }
     ensures division { IsDivision (T.number a) (T.number d) (T.number result.0) (T.number result.1) }
@@ -138,8 +143,12 @@ fn has_four_digits<T: PathWord>(a: T, d: T) -> bool
     false
 }
 
-/// The remainder of a by d: in two digits of base 4 where the quotient is below 16 and words have more than 16 bits, in
-/// four where it is below 256 and words have more than 32, else by a division instruction. Condition: d is at least 1.
+/// The remainder of a by d: in two digits of base 4 where the quotient is below 16 and words have more than 16
+/// bits, in four where it is below 256 and words have more than 32, else by a division instruction.
+///
+/// # Preconditions
+///
+/// - d is at least 1
 pub fn rest<T: PlainWord>(a: T, d: T) -> T
     requires { 1 ≤ T.number d }
     ensures rest { T.number result ≡ T.number a % T.number d }

@@ -5,10 +5,11 @@ ghost use Rattle.modular_word.specs.Division.{IsExactQuotient};
 
 use crate::numbered::Numbered;
 use crate::plain_word::PlainWord;
+// rattle: line
 use modular_word::ring_word::RingWord;
 
-/// Exact division by a divisor, given what was precomputed of it: a multiplier (`PreMulInv1by1`), an inverse
-/// (`PreModInv`), or `()`.
+/// Exact division, given what was precomputed of the divisor: a multiplier (`PreMulInv1by1`), an inverse (`PreModInv`),
+/// or `()`.
 ///
 /// With `()` nothing is precomputed, and the quotient is that of the machine's division, for words of 8 to 128 bits
 /// but not usize, as in the Rust crate; the divisor must be at least 1.
@@ -29,8 +30,11 @@ pub trait DivExact<Rhs: Numbered, Precompute>: Numbered + Sized {
     // What is stored is that of the divisor.
     ghost fits: { Rhs → Precompute → Type 0 };
 
-    /// The quotient by d; `None` exactly where d doesn't divide the number. Condition: d is at least 1, and `pre` was
-    /// made of it or is `()`.
+    /// The quotient by d; `None` exactly where d doesn't divide.
+    ///
+    /// # Conditions
+    ///
+    /// - (debug) d is at least 1, and `pre` was made of it or is `()`
     ///
     /// # Examples
     ///
@@ -41,12 +45,13 @@ pub trait DivExact<Rhs: Numbered, Precompute>: Numbered + Sized {
     /// assert_eq!(3600u32.div_exact(60, &sixty), Some(60));
     /// assert_eq!(3601u32.div_exact(60, &sixty), None);
     /// ```
+    // rust: #[cfg_attr(debug_assertions, track_caller)]
     fn div_exact(self, d: Rhs, pre: &Precompute) -> Option<Self::Output>
         requires { fits d pre.now }
         ensures { IsExactQuotient Self.Output.whole_number (Self.whole_number self) (Rhs.whole_number d) result };
 }
 
-/// Exact division in place by a divisor, given what was precomputed of it, or `()`.
+/// Exact division in place: given what was precomputed of the divisor, or `()`.
 ///
 /// # Examples
 ///
@@ -57,9 +62,14 @@ pub trait DivExact<Rhs: Numbered, Precompute>: Numbered + Sized {
 /// assert!(n.div_exact_assign(7, &()));
 /// assert_eq!(n, 13);
 /// ```
+// rust instead: pub trait DivExactAssign<Rhs, Precompute>: Sized + DivExact<Rhs, Precompute, Output = Self> {
 pub trait DivExactAssign<Rhs: Numbered, Precompute>: DivExact<Rhs, Precompute, Output = Self> {
-    /// Replaces the number by its quotient by d and returns true. Where d doesn't divide the number, returns false
-    /// and leaves it unchanged. Condition: d is at least 1, and `pre` was made of it or is `()`.
+    /// Whether d divides the number, which then becomes the quotient: if so, it returns true. Where d doesn't divide
+    /// the number, it returns false and leaves it unchanged.
+    ///
+    /// # Conditions
+    ///
+    /// - (debug) d is at least 1, and `pre` was made of it or is `()`
     ///
     /// # Examples
     ///
@@ -71,6 +81,8 @@ pub trait DivExactAssign<Rhs: Numbered, Precompute>: DivExact<Rhs, Precompute, O
     /// assert!(!n.div_exact_assign(7, &seven));
     /// assert_eq!(n, 92);
     /// ```
+    // rust: #[must_use]
+    // rust: #[cfg_attr(debug_assertions, track_caller)]
     fn div_exact_assign(&mut self, d: Rhs, pre: &Precompute) -> bool
         requires { Self.fits d pre.now }
         ensures exact { IsTrue result → Self.whole_number self.new * Rhs.whole_number d ≡ Self.whole_number self.old }
@@ -78,7 +90,13 @@ pub trait DivExactAssign<Rhs: Numbered, Precompute>: DivExact<Rhs, Precompute, O
         ensures none { IsFalse result → (k : ℕ) → k * Rhs.whole_number d ≢ Self.whole_number self.old };
 }
 
-/// The body of `div_exact_assign` for words, by `div_exact`. Condition: what is stored fits d.
+/// The body of `div_exact_assign` for words, by `div_exact`.
+///
+/// # Preconditions
+///
+/// - what is stored fits d
+// rust: #[must_use]
+// rust: #[cfg_attr(debug_assertions, track_caller)]
 pub fn assign_exact<N: DivExact<Rhs, Precompute, Output = N> + Copy, Rhs: Numbered, Precompute>(
     number: &mut N,
     d: Rhs,
@@ -98,11 +116,17 @@ pub fn assign_exact<N: DivExact<Rhs, Precompute, Output = N> + Copy, Rhs: Number
     }
 }
 
-/// The quotient by d; `None` exactly where d doesn't divide n. Condition: the divisor is at least 1.
+/// The quotient by d; `None` exactly where d doesn't divide n.
+///
+/// # Conditions
+///
+/// - the divisor is at least 1
+// rust: #[cfg_attr(debug_assertions, track_caller)]
 pub fn exact_quotient<T: PlainWord>(n: T, d: T) -> Option<T>
     requires { 1 ≤ T.number d }
     ensures { IsExactQuotient T.number (T.number n) (T.number d) result }
 {
+    // rust: assert!(!d.is_zero_word(), "the divisor must be at least 1");
     if n.remainder(d).is_zero_word() {
         Some(n.quotient(d))
     } else {
@@ -110,11 +134,17 @@ pub fn exact_quotient<T: PlainWord>(n: T, d: T) -> Option<T>
     }
 }
 
-/// The quotient of two words by d; `None` exactly where d doesn't divide n. Condition: the divisor is at least 1.
+/// The quotient of two words by d; `None` exactly where d doesn't divide n.
+///
+/// # Conditions
+///
+/// - the divisor is at least 1
+// rust: #[cfg_attr(debug_assertions, track_caller)]
 fn exact_quotient_128(n: u128, d: u128) -> Option<u128>
     requires { 1 ≤ d }
     ensures { IsExactQuotient (λ x. x) n d result }
 {
+    // rust: assert!(d != 0, "the divisor must be at least 1");
     let quotient = n / d;
     if quotient * d == n {
         Some(quotient)
@@ -128,6 +158,7 @@ impl DivExact<u8, ()> for u8 {
 
     ghost fits = { λ d _. 1 ≤ d };
 
+    // rust: #[cfg_attr(debug_assertions, track_caller)]
     fn div_exact(self, d: u8, _pre: &()) -> Option<u8> {
         exact_quotient(self, d)
     }
@@ -138,6 +169,7 @@ impl DivExact<u16, ()> for u16 {
 
     ghost fits = { λ d _. 1 ≤ d };
 
+    // rust: #[cfg_attr(debug_assertions, track_caller)]
     fn div_exact(self, d: u16, _pre: &()) -> Option<u16> {
         exact_quotient(self, d)
     }
@@ -148,6 +180,7 @@ impl DivExact<u32, ()> for u32 {
 
     ghost fits = { λ d _. 1 ≤ d };
 
+    // rust: #[cfg_attr(debug_assertions, track_caller)]
     fn div_exact(self, d: u32, _pre: &()) -> Option<u32> {
         exact_quotient(self, d)
     }
@@ -158,6 +191,7 @@ impl DivExact<u64, ()> for u64 {
 
     ghost fits = { λ d _. 1 ≤ d };
 
+    // rust: #[cfg_attr(debug_assertions, track_caller)]
     fn div_exact(self, d: u64, _pre: &()) -> Option<u64> {
         exact_quotient(self, d)
     }
@@ -168,36 +202,42 @@ impl DivExact<u128, ()> for u128 {
 
     ghost fits = { λ d _. 1 ≤ d };
 
+    // rust: #[cfg_attr(debug_assertions, track_caller)]
     fn div_exact(self, d: u128, _pre: &()) -> Option<u128> {
         exact_quotient_128(self, d)
     }
 }
 
 impl DivExactAssign<u8, ()> for u8 {
+    // rust: #[cfg_attr(debug_assertions, track_caller)]
     fn div_exact_assign(&mut self, d: u8, pre: &()) -> bool {
         assign_exact(self, d, pre)
     }
 }
 
 impl DivExactAssign<u16, ()> for u16 {
+    // rust: #[cfg_attr(debug_assertions, track_caller)]
     fn div_exact_assign(&mut self, d: u16, pre: &()) -> bool {
         assign_exact(self, d, pre)
     }
 }
 
 impl DivExactAssign<u32, ()> for u32 {
+    // rust: #[cfg_attr(debug_assertions, track_caller)]
     fn div_exact_assign(&mut self, d: u32, pre: &()) -> bool {
         assign_exact(self, d, pre)
     }
 }
 
 impl DivExactAssign<u64, ()> for u64 {
+    // rust: #[cfg_attr(debug_assertions, track_caller)]
     fn div_exact_assign(&mut self, d: u64, pre: &()) -> bool {
         assign_exact(self, d, pre)
     }
 }
 
 impl DivExactAssign<u128, ()> for u128 {
+    // rust: #[cfg_attr(debug_assertions, track_caller)]
     fn div_exact_assign(&mut self, d: u128, pre: &()) -> bool {
         assign_exact(self, d, pre)
     }

@@ -10,11 +10,13 @@ use crate::plain_word::PlainWord;
 use crate::residues::reduced;
 use modular_word::path_word::PathWord;
 use modular_word::paths::{neginv, redc};
+// rattle: line
 use modular_word::ring_word::RingWord;
 
 // Two numbers that the algorithm reduces to the greatest common divisor of x and m, each with a factor. Modulo m,
 // and multiplied by 2^twos, one is its factor times x, the other is minus its factor times x; `minus` tells which.
 #[derive(Clone, Copy)]
+// rust instead: struct Pair<T> {
 struct Pair<T: PathWord> {
     above: T,
     below: T,
@@ -130,13 +132,17 @@ fn inverse_below<T: PathWord>(x: T, m: T) -> Option<T>
     Some(without_twos(factor, pair.twos, m))
 }
 
-/// The inverse of a modulo m, below m; `None` exactly where there is none. a may be above m. Condition: m is odd.
+/// The inverse of a modulo m; `None` exactly where there is none. a may be above m.
 ///
 /// Each turn of the loop replaces the greater of two numbers by the odd part of their difference, until they are
 /// equal. It keeps their factors up to a power of two, which Montgomery's reduction removes at the end. The only
 /// division is the reduction of an a that isn't below m.
 ///
 /// Source: Kaliski, "The Montgomery inverse and its applications", IEEE Transactions on Computers 44, 1995.
+///
+/// # Conditions
+///
+/// - (debug) m is odd
 ///
 /// # Examples
 ///
@@ -146,17 +152,22 @@ fn inverse_below<T: PathWord>(x: T, m: T) -> Option<T>
 /// assert_eq!(inverse(3u64, 7), Some(5)); // 3 * 5 = 15
 /// assert_eq!(inverse(6u64, 9), None); // 3 divides both
 /// ```
+// rust: #[cfg_attr(debug_assertions, track_caller)]
 pub fn inverse_by_subtraction<T: PlainWord>(a: T, m: T) -> Option<T>
     requires { T.number m % 2 ≡ 1 }
     ensures { IsInversion T.number (T.number m) (T.number a) result }
 {
+    // rust: debug_assert!(m.is_odd(), "m must be odd");
     inverse_below(reduced(a, m), m)
 }
 
-/// The inverse of a modulo m, below m; `None` exactly where there is none. Condition: m is at least 1; a may be
-/// above it.
+/// The inverse of a modulo m, below m; `None` exactly where there is none.
 ///
 /// For an odd m it is computed by subtraction, as in `inverse_by_subtraction`, for an even one as in `invm`.
+///
+/// # Preconditions
+///
+/// - m is at least 1
 pub fn fast_inverse<T: PlainWord>(a: T, m: T) -> Option<T>
     requires { 1 ≤ T.number m }
     ensures { IsInversion T.number (T.number m) (T.number a) result }

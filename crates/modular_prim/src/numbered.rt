@@ -2,7 +2,7 @@
 
 ghost use Rattle.std.specs.Prelude.{ℕ, ℤ, pos};
 
-/// An operand of the modular operations: an unsigned word, or a reference to one. It has no methods.
+/// An operand: an unsigned word, or a reference to one, for the modular operations. It has no methods.
 pub trait Numbered {
     // The whole number of an operand, with which one contract covers operands by value and by reference.
     ghost whole_number: { Self → ℕ };

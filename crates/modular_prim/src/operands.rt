@@ -8,14 +8,17 @@ use crate::{euclid, power, residues};
 impl<T: PlainWord> ModularCoreOps<T, &T> for T {
     type Output = T;
 
+    // rust: #[cfg_attr(debug_assertions, track_caller)]
     fn addm(self, rhs: T, m: &T) -> T {
         residues::addm(self, rhs, *m)
     }
 
+    // rust: #[cfg_attr(debug_assertions, track_caller)]
     fn subm(self, rhs: T, m: &T) -> T {
         residues::subm(self, rhs, *m)
     }
 
+    // rust: #[cfg_attr(debug_assertions, track_caller)]
     fn mulm(self, rhs: T, m: &T) -> T {
         residues::mulm(self, rhs, *m)
     }
@@ -24,14 +27,17 @@ impl<T: PlainWord> ModularCoreOps<T, &T> for T {
 impl<T: PlainWord> ModularCoreOps<&T, &T> for T {
     type Output = T;
 
+    // rust: #[cfg_attr(debug_assertions, track_caller)]
     fn addm(self, rhs: &T, m: &T) -> T {
         residues::addm(self, *rhs, *m)
     }
 
+    // rust: #[cfg_attr(debug_assertions, track_caller)]
     fn subm(self, rhs: &T, m: &T) -> T {
         residues::subm(self, *rhs, *m)
     }
 
+    // rust: #[cfg_attr(debug_assertions, track_caller)]
     fn mulm(self, rhs: &T, m: &T) -> T {
         residues::mulm(self, *rhs, *m)
     }
@@ -40,14 +46,17 @@ impl<T: PlainWord> ModularCoreOps<&T, &T> for T {
 impl<T: PlainWord> ModularCoreOps<T, &T> for &T {
     type Output = T;
 
+    // rust: #[cfg_attr(debug_assertions, track_caller)]
     fn addm(self, rhs: T, m: &T) -> T {
         residues::addm(*self, rhs, *m)
     }
 
+    // rust: #[cfg_attr(debug_assertions, track_caller)]
     fn subm(self, rhs: T, m: &T) -> T {
         residues::subm(*self, rhs, *m)
     }
 
+    // rust: #[cfg_attr(debug_assertions, track_caller)]
     fn mulm(self, rhs: T, m: &T) -> T {
         residues::mulm(*self, rhs, *m)
     }
@@ -56,14 +65,17 @@ impl<T: PlainWord> ModularCoreOps<T, &T> for &T {
 impl<T: PlainWord> ModularCoreOps<&T, &T> for &T {
     type Output = T;
 
+    // rust: #[cfg_attr(debug_assertions, track_caller)]
     fn addm(self, rhs: &T, m: &T) -> T {
         residues::addm(*self, *rhs, *m)
     }
 
+    // rust: #[cfg_attr(debug_assertions, track_caller)]
     fn subm(self, rhs: &T, m: &T) -> T {
         residues::subm(*self, *rhs, *m)
     }
 
+    // rust: #[cfg_attr(debug_assertions, track_caller)]
     fn mulm(self, rhs: &T, m: &T) -> T {
         residues::mulm(*self, *rhs, *m)
     }
@@ -72,18 +84,22 @@ impl<T: PlainWord> ModularCoreOps<&T, &T> for &T {
 impl<T: PlainWord> ModularUnaryOps<&T> for T {
     type Output = T;
 
+    // rust: #[cfg_attr(debug_assertions, track_caller)]
     fn negm(self, m: &T) -> T {
         residues::negm(self, *m)
     }
 
+    // rust: #[cfg_attr(debug_assertions, track_caller)]
     fn invm(self, m: &T) -> Option<T> {
         euclid::invm(self, *m)
     }
 
+    // rust: #[cfg_attr(debug_assertions, track_caller)]
     fn dblm(self, m: &T) -> T {
         residues::dblm(self, *m)
     }
 
+    // rust: #[cfg_attr(debug_assertions, track_caller)]
     fn sqm(self, m: &T) -> T {
         residues::sqm(self, *m)
     }
@@ -92,18 +108,22 @@ impl<T: PlainWord> ModularUnaryOps<&T> for T {
 impl<T: PlainWord> ModularUnaryOps<&T> for &T {
     type Output = T;
 
+    // rust: #[cfg_attr(debug_assertions, track_caller)]
     fn negm(self, m: &T) -> T {
         residues::negm(*self, *m)
     }
 
+    // rust: #[cfg_attr(debug_assertions, track_caller)]
     fn invm(self, m: &T) -> Option<T> {
         euclid::invm(*self, *m)
     }
 
+    // rust: #[cfg_attr(debug_assertions, track_caller)]
     fn dblm(self, m: &T) -> T {
         residues::dblm(*self, *m)
     }
 
+    // rust: #[cfg_attr(debug_assertions, track_caller)]
     fn sqm(self, m: &T) -> T {
         residues::sqm(*self, *m)
     }
@@ -112,6 +132,7 @@ impl<T: PlainWord> ModularUnaryOps<&T> for &T {
 impl<T: PlainWord> ModularPow<T, &T> for T {
     type Output = T;
 
+    // rust: #[cfg_attr(debug_assertions, track_caller)]
     fn powm(self, exp: T, m: &T) -> T {
         power::powm(self, exp, *m)
     }
@@ -120,6 +141,7 @@ impl<T: PlainWord> ModularPow<T, &T> for T {
 impl<T: PlainWord> ModularPow<&T, &T> for T {
     type Output = T;
 
+    // rust: #[cfg_attr(debug_assertions, track_caller)]
     fn powm(self, exp: &T, m: &T) -> T {
         power::powm(self, *exp, *m)
     }
@@ -128,6 +150,7 @@ impl<T: PlainWord> ModularPow<&T, &T> for T {
 impl<T: PlainWord> ModularPow<T, &T> for &T {
     type Output = T;
 
+    // rust: #[cfg_attr(debug_assertions, track_caller)]
     fn powm(self, exp: T, m: &T) -> T {
         power::powm(*self, exp, *m)
     }
@@ -136,6 +159,7 @@ impl<T: PlainWord> ModularPow<T, &T> for &T {
 impl<T: PlainWord> ModularPow<&T, &T> for &T {
     type Output = T;
 
+    // rust: #[cfg_attr(debug_assertions, track_caller)]
     fn powm(self, exp: &T, m: &T) -> T {
         power::powm(*self, *exp, *m)
     }

@@ -8,13 +8,19 @@ use crate::reciprocal::invert_word;
 use crate::residues::{mulm, reduced, sqm};
 use modular_word::path_word::PathWord;
 use modular_word::paths::{div_2by1, neginv, redc, two};
+// rust: #[cfg_attr(debug_assertions, track_caller)]
+// rattle: line
 use modular_word::ring_word::RingWord;
 
-/// The residue of the power of `base` to `exp`, below m; that of 1 for the exponent 0. Condition: m is at least 1.
+/// The residue of the power of `base` to `exp`, below m; that of 1 for the exponent 0.
 ///
 /// The exponents 0, 1 and 2 take one division at most, and 3 takes two in words of at most 16 bits or where the square of
 /// m fits a word. Otherwise no step of the loop divides a double word of more than 16 bits: products are reduced by
 /// Montgomery's reduction for an odd m, by the reciprocal of m for an even one.
+///
+/// # Conditions
+///
+/// - m is at least 1
 pub fn powm<T: PlainWord>(base: T, exp: T, m: T) -> T
     requires { 1 ≤ T.number m }
     ensures { T.number result ≡ T.number base ^ T.number exp % T.number m }
@@ -42,6 +48,7 @@ fn divides_fast<T: PathWord>(m: T) -> bool {
 }
 
 // The residue of the third power, by a division for each product. Condition: m is at least 1.
+// rust: #[cfg_attr(debug_assertions, track_caller)]
 fn cube<T: PlainWord>(base: T, m: T) -> T
     requires { 1 ≤ T.number m }
     ensures { T.number result ≡ T.number base ^ 3 % T.number m }
@@ -161,7 +168,7 @@ fn power_or_zero<T: PlainWord>(base: T, exp: T, m: T) -> T
     }
 }
 
-/// `powm` of words of 32 bits, below m; 0 for m = 0.
+/// base^exp modulo m: `powm` of words of 32 bits, below m, and 0 for m = 0.
 ///
 /// # Examples
 ///
@@ -178,7 +185,7 @@ pub fn powm_u32(base: u32, exp: u32, m: u32) -> u32
     power_or_zero(base, exp, m)
 }
 
-/// `powm` of words of 64 bits, below m; 0 for m = 0.
+/// base^exp modulo m: `powm` of words of 64 bits, below m, and 0 for m = 0.
 ///
 /// # Examples
 ///

@@ -4,14 +4,19 @@ ghost use Rattle.std.specs.Prelude.{◌*◌, ◌≤◌};
 ghost use Rattle.modular_word.specs.Reciprocals.{IsReciprocal};
 
 use crate::plain_word::PlainWord;
+// rattle: line
 use modular_word::path_word::PathWord;
 use modular_word::paths::ones;
+// rattle: line
 use modular_word::ring_word::RingWord;
 
-/// The reciprocal of a divisor d: (B² - 1)/d - B, rounded down, with B the base. Condition: the divisor's top bit
-/// is set.
+/// The reciprocal of a divisor d: (B² - 1)/d - B, rounded down, with B the base.
 ///
 /// Source: Möller and Granlund, "Improved division by invariant integers", section 3.
+///
+/// # Preconditions
+///
+/// - the divisor's top bit is set
 // Not inlined: compilers would lose that the high word of the quotient is 0, and multiply by it too.
 #[inline(never)]
 pub fn invert_word<T: PlainWord>(d: T) -> T

@@ -8,23 +8,37 @@ use crate::inverse::fast_inverse;
 use crate::plain_word::PlainWord;
 use modular_word::path_word::PathWord;
 use modular_word::paths::ones;
+// rattle: line
 use modular_word::ring_word::RingWord;
 
 /// A machine word with what reducers divide for: inverses, and a number that is computed once for each modulus. It
 /// has no quotient and no remainder, so that code over this trait alone can't reduce a product by one.
+// rust instead: pub trait ReducerWord: Sized + PathWord {
 pub trait ReducerWord: PathWord {
-    /// The inverse of a modulo m, below m; `None` exactly where there is none. Condition: m is at least 1; a may be
-    /// above it.
+    /// The inverse of a modulo m, below m; `None` exactly where there is none.
+    ///
+    /// # Preconditions
+    ///
+    /// - m is at least 1
     fn inverse(a: Self, m: Self) -> Option<Self>
         requires { 1 ≤ Self.number m }
         ensures { IsInversion Self.number (Self.number m) (Self.number a) result };
 
-    /// The same by Euclid's algorithm for every m. Condition: m is at least 1; a may be above it.
+    /// The same by Euclid's algorithm for every m.
+    ///
+    /// # Preconditions
+    ///
+    /// - m is at least 1
     fn inverse_by_euclid(a: Self, m: Self) -> Option<Self>
         requires { 1 ≤ Self.number m }
         ensures { IsInversion Self.number (Self.number m) (Self.number a) result };
 
-    /// The square of the base, modulo m. Condition: m is at least 1.
+    /// The square of the base, modulo m.
+    ///
+    /// # Preconditions
+    ///
+    /// - m is at least 1
+    // rust: #[must_use]
     fn square_of_base(m: Self) -> Self
         requires { 1 ≤ Self.number m }
         ensures value { Self.number result ≡ (Self.base * Self.base) % Self.number m }

@@ -6,6 +6,7 @@ ghost use Rattle.modular_word.specs.Residues.{residue};
 use crate::below::{add_below, dbl_below_stored, neg_below, reduced_once};
 use crate::plain_word::PlainWord;
 use modular_word::path_word::PathWord;
+// rattle: line
 use modular_word::ring_word::RingWord;
 
 // Whether a word is below m. Always false for words of at most 16 bits, where a mispredicted branch takes longer
@@ -16,8 +17,12 @@ fn spares_division<T: PathWord>(a: T, m: T) -> bool
     T::bits() > 16 && a.is_below(m)
 }
 
-/// The residue of a word, below m. Condition: m is at least 1. A word of more than 16 bits that is below m is
-/// returned without a division.
+/// The residue of a word, below m. A word of more than 16 bits that is below m is returned without a division.
+///
+/// # Conditions
+///
+/// - m is at least 1
+// rust: #[cfg_attr(debug_assertions, track_caller)]
 pub fn reduced<T: PlainWord>(a: T, m: T) -> T
     requires { 1 ≤ T.number m }
     ensures value { T.number result ≡ T.number a % T.number m }
@@ -51,10 +56,12 @@ fn distance<T: PathWord>(a: T, b: T) -> T
 
 // A word congruent to a + b modulo m. Every word is below twice the multiple of m that has its top bit set. So this
 // multiple is subtracted at most once from b, and once from the sum if that overflows. Condition: the modulus is at least 1.
+// rust: #[cfg_attr(debug_assertions, track_caller)]
 fn congruent_sum<T: PathWord>(a: T, b: T, m: T) -> T
     requires { 1 ≤ T.number m }
     ensures { T.number result % T.number m ≡ (T.number a + T.number b) % T.number m }
 {
+    // rust: debug_assert!(m != T::zero(), "the modulus must be at least 1");
     // Reading the word gives the proof that it fits its width.
     let _ = m.is_below(b);
     let multiple = m.shift_left(m.leading_zeros());
@@ -64,11 +71,15 @@ fn congruent_sum<T: PathWord>(a: T, b: T, m: T) -> T
     if over { a.minus(gap) } else { sum }
 }
 
-/// The residue of a + b, below m. Condition: m is at least 1. There is no division where words have more than 16
-/// bits and both are below m.
+/// The residue of a + b, below m. There is no division where words have more than 16 bits and both are below m.
 ///
 /// Other words of more than 16 bits take one division of a word, which is faster on some processors than that of the
 /// double word a + b.
+///
+/// # Conditions
+///
+/// - m is at least 1
+// rust: #[cfg_attr(debug_assertions, track_caller)]
 pub fn addm<T: PlainWord>(a: T, b: T, m: T) -> T
     requires { 1 ≤ T.number m }
     ensures { T.number result ≡ (T.number a + T.number b) % T.number m }
@@ -82,10 +93,15 @@ pub fn addm<T: PlainWord>(a: T, b: T, m: T) -> T
     }
 }
 
-/// The residue of a - b, below m. Condition: m is at least 1. There is no division where words have more than 16
-/// bits and differ by less than m.
+/// The residue of a - b, below m. There is no division where words have more than 16 bits and differ by less than
+/// m.
 ///
 /// One remainder serves both cases of a comparison of a and b, which often mispredicts.
+///
+/// # Conditions
+///
+/// - m is at least 1
+// rust: #[cfg_attr(debug_assertions, track_caller)]
 pub fn subm<T: PlainWord>(a: T, b: T, m: T) -> T
     requires { 1 ≤ T.number m }
     ensures { T.number result ≡ residue (T.number m) (pos (T.number a) -ℤ pos (T.number b)) }
@@ -103,7 +119,12 @@ pub fn subm<T: PlainWord>(a: T, b: T, m: T) -> T
     }
 }
 
-/// The residue of a·b, below m. Condition: m is at least 1.
+/// The residue of a·b, below m.
+///
+/// # Conditions
+///
+/// - m is at least 1
+// rust: #[cfg_attr(debug_assertions, track_caller)]
 pub fn mulm<T: PlainWord>(a: T, b: T, m: T) -> T
     requires { 1 ≤ T.number m }
     ensures { T.number result ≡ (T.number a * T.number b) % T.number m }
@@ -111,7 +132,12 @@ pub fn mulm<T: PlainWord>(a: T, b: T, m: T) -> T
     T::narrow_remainder(a.product(b), m)
 }
 
-/// The residue of -a, below m. Condition: m is at least 1.
+/// The residue of -a, below m.
+///
+/// # Conditions
+///
+/// - m is at least 1
+// rust: #[cfg_attr(debug_assertions, track_caller)]
 pub fn negm<T: PlainWord>(a: T, m: T) -> T
     requires { 1 ≤ T.number m }
     ensures { T.number result ≡ residue (T.number m) (neg_ℤ (pos (T.number a))) }
@@ -119,7 +145,12 @@ pub fn negm<T: PlainWord>(a: T, m: T) -> T
     neg_below(reduced(a, m), m)
 }
 
-/// The residue of 2a, below m. Condition: m is at least 1.
+/// The residue of 2a, below m.
+///
+/// # Conditions
+///
+/// - m is at least 1
+// rust: #[cfg_attr(debug_assertions, track_caller)]
 pub fn dblm<T: PlainWord>(a: T, m: T) -> T
     requires { 1 ≤ T.number m }
     ensures { T.number result ≡ (2 * T.number a) % T.number m }
@@ -131,7 +162,12 @@ pub fn dblm<T: PlainWord>(a: T, m: T) -> T
     }
 }
 
-/// The residue of a·a, below m. Condition: m is at least 1.
+/// The residue of a·a, below m.
+///
+/// # Conditions
+///
+/// - m is at least 1
+// rust: #[cfg_attr(debug_assertions, track_caller)]
 pub fn sqm<T: PlainWord>(a: T, m: T) -> T
     requires { 1 ≤ T.number m }
     ensures { T.number result ≡ (T.number a * T.number a) % T.number m }

@@ -19,7 +19,8 @@ test_true a b e = grind (arith, nat_tests)
 test_false : (a b : ℕ) → nat_le a b ≡ false → b < a
 test_false a b e = grind (arith, nat_tests)
 
-self_below : (e : ℕ) → e < 2 ^ e
+-- a number is below the power of two with it as exponent
+pub self_below : (e : ℕ) → e < 2 ^ e
 self_below zero = omega arith
 self_below (suc e) = let h = self_below e in let s = pow-suc 2 e in omega arith
 

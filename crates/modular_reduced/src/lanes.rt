@@ -7,7 +7,11 @@ ghost use Rattle.modular_word.specs.Residues.{residue};
 
 use modular_word::path_word::PathWord;
 
-/// The residue of a word below 2m. Conditions: the word is below 2m, which is at most the base.
+/// The residue of a word below 2m.
+///
+/// # Preconditions
+///
+/// - the word is below 2m, which is at most the base
 pub fn reduced_by_sign<T: PathWord>(x: T, m: T) -> T
     requires below { T.number x < 2 * T.number m }
     requires room { 2 * T.number m ≤ 2 ^ T.width }
@@ -18,7 +22,11 @@ pub fn reduced_by_sign<T: PathWord>(x: T, m: T) -> T
     if less.has_top_bit() { x } else { less }
 }
 
-/// The residue of a + b, below m. Conditions: both are below m, and 2m is at most the base.
+/// The residue of a + b, below m.
+///
+/// # Preconditions
+///
+/// - a and b are below m, and 2m is at most the base
 pub fn sum_by_sign<T: PathWord>(a: T, b: T, m: T) -> T
     requires left { T.number a < T.number m }
     requires right { T.number b < T.number m }
@@ -29,7 +37,11 @@ pub fn sum_by_sign<T: PathWord>(a: T, b: T, m: T) -> T
     reduced_by_sign(a.plus(b), m)
 }
 
-/// The residue of a - b, below m. Conditions: both are below m, and 2m is at most the base.
+/// The residue of a - b, below m.
+///
+/// # Preconditions
+///
+/// - a and b are below m, and 2m is at most the base
 pub fn difference_by_sign<T: PathWord>(a: T, b: T, m: T) -> T
     requires left { T.number a < T.number m }
     requires right { T.number b < T.number m }

@@ -10,7 +10,11 @@ use crate::modular_integer::ModularInteger;
 use crate::reducer::Reducer;
 use modular_word::ring_word::RingWord;
 
-/// Addition is commutative: a + b and b + a. Condition: a and b are checked forms.
+/// Both sides of this law: addition is commutative, a + b and b + a.
+///
+/// # Preconditions
+///
+/// - a and b are checked forms
 pub fn sums_commute<T: RingWord, R: Reducer<T>>(reducer: &R, a: T, b: T) -> (T, T)
     requires a { IsForm R.form R.value (R.modulus reducer.now) (T.number a) }
     requires b { IsForm R.form R.value (R.modulus reducer.now) (T.number b) }
@@ -23,7 +27,11 @@ pub fn sums_commute<T: RingWord, R: Reducer<T>>(reducer: &R, a: T, b: T) -> (T, 
     (reducer.add(&a, &b), reducer.add(&b, &a))
 }
 
-/// Addition is associative: (a + b) + c and a + (b + c). Condition: a, b and c are checked forms.
+/// Both sides of this law: addition is associative, (a + b) + c and a + (b + c).
+///
+/// # Preconditions
+///
+/// - a, b and c are checked forms
 pub fn sums_associate<T: RingWord, R: Reducer<T>>(reducer: &R, a: T, b: T, c: T) -> (T, T)
     requires a { IsForm R.form R.value (R.modulus reducer.now) (T.number a) }
     requires b { IsForm R.form R.value (R.modulus reducer.now) (T.number b) }
@@ -39,7 +47,11 @@ pub fn sums_associate<T: RingWord, R: Reducer<T>>(reducer: &R, a: T, b: T, c: T)
     (left, right)
 }
 
-/// Multiplication is commutative: a b and b a. Condition: a and b are checked forms.
+/// Both sides of this law: multiplication is commutative, a b and b a.
+///
+/// # Preconditions
+///
+/// - a and b are checked forms
 pub fn products_commute<T: RingWord, R: Reducer<T>>(reducer: &R, a: T, b: T) -> (T, T)
     requires a { IsForm R.form R.value (R.modulus reducer.now) (T.number a) }
     requires b { IsForm R.form R.value (R.modulus reducer.now) (T.number b) }
@@ -52,7 +64,11 @@ pub fn products_commute<T: RingWord, R: Reducer<T>>(reducer: &R, a: T, b: T) -> 
     (reducer.mul(&a, &b), reducer.mul(&b, &a))
 }
 
-/// Multiplication is associative: (a b) c and a (b c). Condition: a, b and c are checked forms.
+/// Both sides of this law: multiplication is associative, (a b) c and a (b c).
+///
+/// # Preconditions
+///
+/// - a, b and c are checked forms
 pub fn products_associate<T: RingWord, R: Reducer<T>>(reducer: &R, a: T, b: T, c: T) -> (T, T)
     requires a { IsForm R.form R.value (R.modulus reducer.now) (T.number a) }
     requires b { IsForm R.form R.value (R.modulus reducer.now) (T.number b) }
@@ -68,7 +84,11 @@ pub fn products_associate<T: RingWord, R: Reducer<T>>(reducer: &R, a: T, b: T, c
     (left, right)
 }
 
-/// Multiplication distributes over addition: a (b + c) and a b + a c. Condition: a, b and c are checked forms.
+/// Both sides of this law: multiplication distributes over addition, a (b + c) and a b + a c.
+///
+/// # Preconditions
+///
+/// - a, b and c are checked forms
 pub fn products_distribute<T: RingWord, R: Reducer<T>>(reducer: &R, a: T, b: T, c: T) -> (T, T)
     requires a { IsForm R.form R.value (R.modulus reducer.now) (T.number a) }
     requires b { IsForm R.form R.value (R.modulus reducer.now) (T.number b) }
@@ -85,8 +105,11 @@ pub fn products_distribute<T: RingWord, R: Reducer<T>>(reducer: &R, a: T, b: T, 
     (left, right)
 }
 
-/// The negative is the additive inverse: returns -a, and a + (-a), which is the form of 0. Condition: a is a
-/// checked form.
+/// The negative, and its sum with a: returns -a, and a + (-a), which is the form of 0.
+///
+/// # Preconditions
+///
+/// - a is a checked form
 pub fn negative_cancels<T: RingWord, R: Reducer<T>>(reducer: &R, a: T) -> (T, T)
     requires { IsForm R.form R.value (R.modulus reducer.now) (T.number a) }
     ensures negative { let m = R.modulus reducer.now in
@@ -97,15 +120,18 @@ pub fn negative_cancels<T: RingWord, R: Reducer<T>>(reducer: &R, a: T) -> (T, T)
     (negative, reducer.add(&a, &negative))
 }
 
-/// n mod m, computed from its form.
+/// n mod m, by its form.
 pub fn residue_by_form<T: RingWord, R: Reducer<T>>(reducer: &R, n: T) -> T
     ensures { T.number result ≡ T.number n % R.modulus reducer.now }
 {
     reducer.residue(reducer.transform(n))
 }
 
-/// Whether the values of two forms are equal, which they are exactly where the forms are. Condition: both are checked
-/// forms.
+/// Whether two forms are of equal values: that is exactly where the forms are equal.
+///
+/// # Preconditions
+///
+/// - a and b are checked forms
 pub fn same_value<T: RingWord, R: Reducer<T>>(reducer: &R, a: T, b: T) -> bool
     requires a { IsForm R.form R.value (R.modulus reducer.now) (T.number a) }
     requires b { IsForm R.form R.value (R.modulus reducer.now) (T.number b) }
@@ -116,7 +142,7 @@ pub fn same_value<T: RingWord, R: Reducer<T>>(reducer: &R, a: T, b: T) -> bool
     reducer.residue(a) == reducer.residue(b)
 }
 
-/// Whether `==` is reflexive at a, symmetric at a and b, and transitive at a, b and c: it always is.
+/// Whether `==` is an equivalence: it always is.
 pub fn is_equivalence<I: ModularInteger>(a: &I, b: &I, c: &I) -> bool
     ensures { IsTrue result }
 {
@@ -129,9 +155,9 @@ pub fn is_equivalence<I: ModularInteger>(a: &I, b: &I, c: &I) -> bool
     reflexive && forth == back && transitive
 }
 
-/// Forms and values are one to one. The form of a value v fits a word, is a checked form, and has the value v. A
-/// checked form is the form of its value, so that forms of equal values are equal. A word that represents v is a
-/// checked form of value v.
+/// Each value has one form: forms and values are one to one. The form of a value v fits a word, is a checked form, and
+/// has the value v. A checked form is the form of its value, so that forms of equal values are equal. A word that
+/// represents v is a checked form of value v.
 pub fn canonical_laws<T: RingWord, R: Reducer<T>>(reducer: &R)
     ensures positive { 0 < R.modulus reducer.now }
     ensures value { let m = R.modulus reducer.now in (v : ℕ) → v < m → R.value m (R.form m v) ≡ v }

@@ -2,6 +2,7 @@
 #![tactic(auto)]
 
 pub mod lanes;
+// tests: item
 pub mod laws;
 pub mod list_products;
 pub mod modular_integer;

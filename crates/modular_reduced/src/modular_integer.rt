@@ -4,6 +4,7 @@ ghost use Rattle.modular_reduced.specs.Integers.{IsInteger};
 ghost use Rattle.modular_word.specs.Residues.{residue};
 ghost use Rattle.std.specs.Prelude.{◌≡◌, ℕ, ◌+◌, ◌*◌, ◌%◌, ◌<◌, ◌↔◌, IsTrue, pos, ◌-ℤ◌, neg_ℤ};
 
+// rattle: line
 use modular_word::ring_word::RingWord;
 use std::ops::{Add, Mul, Neg, Sub};
 
@@ -22,12 +23,14 @@ use std::ops::{Add, Mul, Neg, Sub};
 /// }
 /// assert_eq!(cube(MontgomeryInt::<u64>::new(10, &97)).residue(), 30); // 1000 modulo 97
 /// ```
+// rust instead: pub trait ModularInteger: Sized + PartialEq
 pub trait ModularInteger: PartialEq
     + Add<Self, Output = Self>
     + Sub<Self, Output = Self>
     + Mul<Self, Output = Self>
     + Neg<Output = Self> {
     /// The type of moduli and residues.
+    // rust instead: type Base;
     type Base: RingWord;
 
     // The modulus. The laws below say what the operators and `==` return.
@@ -73,7 +76,7 @@ pub trait ModularInteger: PartialEq
     fn is_zero(&self) -> bool
         ensures { IsTrue result ↔ (residue_number self.now ≡ 0) };
 
-    /// The integer n mod m, with the modulus of `self`.
+    /// n modulo m, with this modulus: that of `self`.
     ///
     /// # Examples
     ///
@@ -84,6 +87,7 @@ pub trait ModularInteger: PartialEq
     /// let y = x.convert(100);
     /// assert_eq!((y.residue(), y.modulus()), (3, 97));
     /// ```
+    // rust: #[must_use]
     fn convert(&self, n: Self::Base) -> Self
         ensures { let m = modulus_number self.now in
             IsInteger modulus_number residue_number m (Self.Base.number n % m) result };
@@ -97,6 +101,7 @@ pub trait ModularInteger: PartialEq
     ///
     /// assert_eq!(MontgomeryInt::<u64>::new(50, &97).double().residue(), 3);
     /// ```
+    // rust: #[must_use]
     fn double(self) -> Self
         ensures { let m = modulus_number self in
             IsInteger modulus_number residue_number m ((2 * residue_number self) % m) result };
@@ -110,6 +115,7 @@ pub trait ModularInteger: PartialEq
     ///
     /// assert_eq!(MontgomeryInt::<u64>::new(10, &97).square().residue(), 3);
     /// ```
+    // rust: #[must_use]
     fn square(self) -> Self
         ensures { let m = modulus_number self in
             IsInteger modulus_number residue_number m ((residue_number self * residue_number self) % m) result };

@@ -31,14 +31,18 @@ fn binary_power<T: RingWord, R: Reducer<T>>(reducer: &R, base: T, exp: T) -> (T,
     (product, count)
 }
 
-/// The power of a form, and how many products of the reducer it took.
+/// The power, and how many products it took: those of the reducer for the power of a form.
 ///
 /// The exponent 1 takes none, since the power is the base, and the exponent 2 takes one. Any other exponent takes a
 /// square for each binary digit and a product for each digit 1, starting from the form of 1; so the power to the
-/// exponent 0 is the form of 1 mod m. Condition: the base is a checked form.
+/// exponent 0 is the form of 1 mod m.
 ///
 /// Source: Knuth, The Art of Computer Programming, volume 2, section 4.6.3, algorithm A, with a square at the last
 /// digit too.
+///
+/// # Preconditions
+///
+/// - the base is a checked form
 ///
 /// # Examples
 ///
@@ -71,7 +75,7 @@ pub fn pow_counted<T: RingWord, R: Reducer<T>>(reducer: &R, base: T, exp: &T) ->
     binary_power(reducer, base, *exp)
 }
 
-/// The number of binary digits of e is the least k with e below 2^k.
+/// Binary digits: the number of those of e is the least k with e below 2^k.
 pub fn digit_laws()
     ensures above { (e : ℕ) → e < 2 ^ digits e }
     ensures least { (e k : ℕ) → e < 2 ^ k → digits e ≤ k }

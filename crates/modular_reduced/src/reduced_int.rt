@@ -3,9 +3,12 @@
 ghost use Rattle.modular_reduced.specs.Forms.{IsForm};
 ghost use Rattle.std.specs.Prelude.{◌≡◌, ⊤};
 
+// rattle: line
 use crate::reducer::Reducer;
 use crate::vanilla::Vanilla;
+// rattle: line
 use modular_word::ring_word::RingWord;
+// rattle: line
 use std::alloc::AllocError;
 
 mod add;
@@ -17,7 +20,7 @@ mod neg_div;
 mod operations;
 mod sub;
 
-/// An integer modulo m: a form, and its reducer.
+/// An integer modulo m, with its reducer: a form, and the reducer.
 ///
 /// | Operators | Return modulo m | Condition |
 /// |---|---|---|
@@ -39,15 +42,20 @@ mod sub;
 /// assert_eq!((x * y + 1).residue(), 7);
 /// assert_eq!((x / y * y).residue(), 10);
 /// ```
+// rust instead: #[derive(Clone, Copy)]
 #[derive(Debug)]
+// rust: #[must_use]
+// rust instead: pub struct ReducedInt<T, R> {
 pub struct ReducedInt<T: RingWord, R: Reducer<T>> {
+    // rust instead: pub(crate) form: T,
     form: T,
+    // rust instead: pub(crate) reducer: R,
     reducer: R,
     // Contracts use the modulus (`modulus_of`), the residue (`residue_of`), and the form (`form_of`).
     ghost checked: { IsForm R.form R.value (R.modulus reducer) (T.number form) },
 }
 
-/// Integers modulo m by plain reduction: the form of a residue is the residue.
+/// An integer over `Vanilla`: modulo m, where the form of a residue is the residue.
 ///
 /// # Examples
 ///
@@ -59,8 +67,10 @@ pub struct ReducedInt<T: RingWord, R: Reducer<T>> {
 /// ```
 pub type VanillaInt<T> = ReducedInt<T, Vanilla<T>>;
 
+// rattle: line
 impl<T: RingWord, R: Reducer<T> + Copy> Copy for ReducedInt<T, R> {}
 
+// rattle: item
 impl<T: RingWord, R: Reducer<T> + Copy> Clone for ReducedInt<T, R> {
     ghost is_clone = { λ x y. x ≡ y };
 

@@ -7,13 +7,14 @@ ghost use Rattle.modular_word.specs.Residues.{residue};
 ghost use Rattle.modular_reduced.specs.Forms.{Represents, IsForm, IsCanonical, IsInverseForm};
 ghost use Rattle.modular_reduced.specs.Values.{values_of, HoldValues, sum_of_products};
 
+// rattle: line
 use crate::power::pow_counted;
+// rattle: line
 use modular_word::ring_word::RingWord;
 
 /// Arithmetic modulo m on forms: words that represent the values from 0 to m - 1.
 ///
 /// A word is a *checked form* where `check` returns true: it is the form of exactly one value. Each value has exactly one.
-/// Condition of every call but `check` and `transform`: each word given as a form is a checked form.
 ///
 /// # Examples
 ///
@@ -25,6 +26,7 @@ use modular_word::ring_word::RingWord;
 /// assert_eq!(ring.residue(ring.mul(&x, &y)), 3000 % 97);
 /// assert_eq!(ring.inv(y).map(|f| ring.residue(f)), Some(65));
 /// ```
+// rust instead: pub trait Reducer<T>: Sized {
 pub trait Reducer<T: RingWord> {
     // The moduli that `new` accepts.
     ghost admits: { ℕ → Type 0 };
@@ -38,7 +40,11 @@ pub trait Reducer<T: RingWord> {
     // The modulus of a reducer.
     ghost modulus: { Self → ℕ };
 
-    /// The reducer of a modulus. Condition: the reducer admits the modulus.
+    /// The reducer of m.
+    ///
+    /// # Conditions
+    ///
+    /// - the reducer admits the modulus
     ///
     /// # Examples
     ///
@@ -51,11 +57,13 @@ pub trait Reducer<T: RingWord> {
     /// }
     /// assert_eq!(product::<Vanilla<u64>>(1000, 3, 97), 90); // 3000 modulo 97
     /// ```
+    // rust: #[must_use]
+    // rust: #[track_caller]
     fn new(m: &T) -> Self
         requires { admits (T.number m.now) }
         ensures { modulus result ≡ T.number m.now };
 
-    /// The form of n mod m, for every word n.
+    /// The form of n mod m: for every word n.
     ///
     /// # Examples
     ///
@@ -99,6 +107,10 @@ pub trait Reducer<T: RingWord> {
 
     /// The value of a form: a number below the modulus.
     ///
+    /// # Preconditions
+    ///
+    /// - `f` is a checked form
+    ///
     /// # Examples
     ///
     /// ```
@@ -112,7 +124,11 @@ pub trait Reducer<T: RingWord> {
         ensures form { Represents form (modulus self.now) (T.number f) (T.number result) }
         ensures value { T.number result ≡ value (modulus self.now) (T.number f) };
 
-    /// Whether the value of a form is 0.
+    /// Whether the value is 0.
+    ///
+    /// # Preconditions
+    ///
+    /// - `f` is a checked form
     ///
     /// # Examples
     ///
@@ -128,6 +144,10 @@ pub trait Reducer<T: RingWord> {
         ensures { IsTrue result ↔ (value (modulus self.now) (T.number f.now) ≡ 0) };
 
     /// The form of the sum modulo m.
+    ///
+    /// # Preconditions
+    ///
+    /// - `a` and `b` are checked forms
     ///
     /// # Examples
     ///
@@ -147,7 +167,11 @@ pub trait Reducer<T: RingWord> {
         ensures value { let m = modulus self.now in
             value m (T.number result) ≡ (value m (T.number a.now) + value m (T.number b.now)) % m };
 
-    /// `add`, in place of the first operand.
+    /// Replaces a by the result: that of `add`.
+    ///
+    /// # Preconditions
+    ///
+    /// - `a` and `b` are checked forms
     ///
     /// # Examples
     ///
@@ -173,6 +197,10 @@ pub trait Reducer<T: RingWord> {
 
     /// The form of the double modulo m.
     ///
+    /// # Preconditions
+    ///
+    /// - `f` is a checked form
+    ///
     /// # Examples
     ///
     /// ```
@@ -188,6 +216,10 @@ pub trait Reducer<T: RingWord> {
         ensures value { let m = modulus self.now in value m (T.number result) ≡ (2 * value m (T.number f)) % m };
 
     /// The form of the difference modulo m.
+    ///
+    /// # Preconditions
+    ///
+    /// - `a` and `b` are checked forms
     ///
     /// # Examples
     ///
@@ -207,7 +239,11 @@ pub trait Reducer<T: RingWord> {
         ensures value { let m = modulus self.now in
             value m (T.number result) ≡ residue m (pos (value m (T.number a.now)) -ℤ pos (value m (T.number b.now))) };
 
-    /// `sub`, in place of the first operand.
+    /// Replaces a by the result: that of `sub`.
+    ///
+    /// # Preconditions
+    ///
+    /// - `a` and `b` are checked forms
     ///
     /// # Examples
     ///
@@ -233,6 +269,10 @@ pub trait Reducer<T: RingWord> {
 
     /// The form of the negative modulo m.
     ///
+    /// # Preconditions
+    ///
+    /// - `f` is a checked form
+    ///
     /// # Examples
     ///
     /// ```
@@ -250,6 +290,10 @@ pub trait Reducer<T: RingWord> {
             value m (T.number result) ≡ residue m (neg_ℤ (pos (value m (T.number f)))) };
 
     /// The form of the product modulo m.
+    ///
+    /// # Preconditions
+    ///
+    /// - `a` and `b` are checked forms
     ///
     /// # Examples
     ///
@@ -269,7 +313,11 @@ pub trait Reducer<T: RingWord> {
         ensures value { let m = modulus self.now in
             value m (T.number result) ≡ (value m (T.number a.now) * value m (T.number b.now)) % m };
 
-    /// `mul`, in place of the first operand.
+    /// Replaces a by the result: that of `mul`.
+    ///
+    /// # Preconditions
+    ///
+    /// - `a` and `b` are checked forms
     ///
     /// # Examples
     ///
@@ -293,10 +341,14 @@ pub trait Reducer<T: RingWord> {
         *a = self.mul(a, b);
     }
 
-    /// The form of (a - b) times a factor modulo m: what `mul` returns for the result of `sub`.
+    /// The form of (a - b)·factor: modulo m, what `mul` returns for the result of `sub`.
     ///
     /// A reducer may override it with a faster body for callers in which the comparison of a and b mispredicts, as
     /// in the butterflies of a transform.
+    ///
+    /// # Preconditions
+    ///
+    /// - `a`, `b` and `factor` are checked forms
     ///
     /// # Examples
     ///
@@ -323,9 +375,13 @@ pub trait Reducer<T: RingWord> {
         self.mul(&difference, factor)
     }
 
-    /// The form of the sum modulo m, as `add` returns it. Condition: 2m is below the base.
+    /// The same as without `_with_room`, faster in loops: the form of the sum modulo m, as `add` returns it.
     ///
     /// A reducer may override it with a body of which compilers do several at once in a loop over a list.
+    ///
+    /// # Preconditions
+    ///
+    /// - 2m is below the base
     ///
     /// # Examples
     ///
@@ -348,9 +404,13 @@ pub trait Reducer<T: RingWord> {
         self.add(a, b)
     }
 
-    /// The form of the difference modulo m, as `sub` returns it. Condition: 2m is below the base.
+    /// The same as without `_with_room`, faster in loops: the form of the difference modulo m, as `sub` returns it.
     ///
     /// A reducer may override it as `add_with_room`.
+    ///
+    /// # Preconditions
+    ///
+    /// - 2m is below the base
     ///
     /// # Examples
     ///
@@ -373,10 +433,14 @@ pub trait Reducer<T: RingWord> {
         self.sub(a, b)
     }
 
-    /// The form of `sum` plus the products of two lists, entry by entry, modulo m. Conditions: the lists have the same
-    /// length; `sum` and all entries are checked forms.
+    /// The form of `sum` + Σ x_i·y_i: entry by entry, modulo m.
     ///
     /// A reducer may override it with a body that reduces once for many products.
+    ///
+    /// # Conditions
+    ///
+    /// - the lists have the same length
+    /// - (debug) `sum` and all entries are checked forms
     ///
     /// # Examples
     ///
@@ -387,6 +451,7 @@ pub trait Reducer<T: RingWord> {
     /// let [x, y, z] = [90, 2, 10].map(|n| ring.transform(n));
     /// assert_eq!(ring.residue(ring.add_products(z, &[x, y], &[y, z])), 16); // 10 + 180 + 20 - 2 * 97
     /// ```
+    // rust: #[track_caller]
     fn add_products(&self, sum: T, xs: &[T], ys: &[T]) -> T
         requires equal { length ys.now ≡ length xs.now }
         requires sum { IsForm form value (modulus self.now) (T.number sum) }
@@ -398,6 +463,9 @@ pub trait Reducer<T: RingWord> {
         ensures value { let m = modulus self.now in value m (T.number result)
             ≡ (value m (T.number sum) + sum_of_products T.number value m xs.now ys.now) % m }
     {
+        // rust: assert!(ys.len() == xs.len(), "the lists must have the same length: {} and {}", xs.len(), ys.len());
+        // rust: debug_assert!(self.check(&sum) && xs.iter().chain(ys).all(|x| self.check(x)),
+        // rust:     "`sum` and all entries must be checked forms");
         let mut total = sum;
         'products: for i in 0..xs.len() {
             total = self.add(&total, &self.mul(&xs[i], &ys[i]));
@@ -405,9 +473,13 @@ pub trait Reducer<T: RingWord> {
         total
     }
 
-    /// Multiplies each entry of a list by one factor, as `mul` does.
+    /// Multiplies each entry by one factor: as `mul` does.
     ///
     /// A reducer may override it with a body that precomputes a quotient of the factor once for the list.
+    ///
+    /// # Preconditions
+    ///
+    /// - the entries of `xs` and `factor` are checked forms
     ///
     /// # Examples
     ///
@@ -429,12 +501,20 @@ pub trait Reducer<T: RingWord> {
             ≡ (slice_index (values_of T.number value m xs.old) i * value m (T.number factor.now)) % m }
         ensures checked { All (λ f. IsForm form value (modulus self.now) (T.number f)) xs.new }
     {
+        // rust instead: for x in xs.iter_mut() {
         'entries: for i in 0..xs.len() {
+            // rust instead: *x = self.mul(x, factor);
             xs[i] = self.mul(&xs[i], factor);
         }
     }
 
-    /// The form of the inverse modulo m; `None` exactly where there is none.
+    /// The form of the inverse; `None` exactly where there is none.
+    ///
+    /// Not for secrets.
+    ///
+    /// # Preconditions
+    ///
+    /// - `f` is a checked form
     ///
     /// # Examples
     ///
@@ -454,6 +534,10 @@ pub trait Reducer<T: RingWord> {
 
     /// The form of the square modulo m.
     ///
+    /// # Preconditions
+    ///
+    /// - `f` is a checked form
+    ///
     /// # Examples
     ///
     /// ```
@@ -470,7 +554,11 @@ pub trait Reducer<T: RingWord> {
         ensures value { let m = modulus self.now in
             value m (T.number result) ≡ (value m (T.number f) * value m (T.number f)) % m };
 
-    /// The form of the power to the exponent `exp` modulo m; that of 1 for the exponent 0.
+    /// The form of the power: to the exponent `exp` modulo m; that of 1 for the exponent 0.
+    ///
+    /// # Preconditions
+    ///
+    /// - `f` is a checked form
     ///
     /// # Examples
     ///
@@ -487,9 +575,17 @@ pub trait Reducer<T: RingWord> {
         ensures checked { IsForm form value (modulus self.now) (T.number result) }
         ensures value { let m = modulus self.now in
             value m (T.number result) ≡ value m (T.number f) ^ T.number exp.now % m }
+    // rust: ;
+    // rattle: item
     {
         pow_counted(self, f, exp).0
     }
+
+    // rust: // For messages: a word needn't be a number.
+    // rust: #[doc(hidden)]
+    // rust: fn shown_modulus(&self) -> Option<u128> {
+    // rust:     None
+    // rust: }
 
     // The modulus of a reducer is one that `new` accepts.
     ghost admitted: { (r : Self) → admits (modulus r) };

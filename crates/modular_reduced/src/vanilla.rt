@@ -8,14 +8,17 @@ use crate::reducer::Reducer;
 use modular_prim::below::{add_below, dbl_below_stored, neg_below, sub_below};
 use modular_prim::inverse::fast_inverse;
 use modular_prim::plain_word::PlainWord;
+// rattle: line
 use std::alloc::AllocError;
 
-/// The plain reducer of a modulus that is at least 1: the form of a value is the value.
+/// The plain reducer of any m: m is at least 1, and the form of a value is the value.
 ///
 /// Sums, differences, doubles and negatives take no division. A product is the remainder of a double word by a
 /// word. An inverse is computed by subtraction for an odd modulus, by Euclid's algorithm for an even one.
 ///
 /// Source: Handbook of Applied Cryptography, section 14.3.1.
+///
+/// It divides: not for secrets.
 ///
 /// # Examples
 ///
@@ -27,6 +30,8 @@ use std::alloc::AllocError;
 /// assert_eq!(ring.inv(3), Some(67)); // 3 * 67 = 201
 /// ```
 #[derive(Debug)]
+// rust: #[must_use]
+// rust instead: pub struct Vanilla<T> {
 pub struct Vanilla<T: PlainWord> {
     modulus: T,
     ghost positive: { 1 ≤ T.number modulus },
@@ -38,7 +43,9 @@ impl<T: PlainWord> Clone for Vanilla<T> {
 
     ghost is_infallible = { λ _. Unit {0} };
 
+    // rust instead: fn clone(&self) -> Self {
     fn clone(&self) -> Result<Self, AllocError> {
+        // rust instead: *self
         Ok(*self)
     }
 }
@@ -59,11 +66,13 @@ impl<T: PlainWord> Reducer<T> for Vanilla<T> {
     ghost canonical = { λ r. plain_canonical T.width (T.number r.modulus) r.positive r.fits };
 
     // Condition: the modulus is at least 1.
+    // rust: #[track_caller]
     fn new(m: &T) -> Self {
         let modulus = *m;
         // Reading the word gives the proof that it fits its width.
         let _ = modulus.is_odd();
         prove!(!modulus.is_zero_word());
+        // rust: assert!(!modulus.is_zero_word(), "the modulus must be at least 1");
         Vanilla { modulus }
     }
 
@@ -107,11 +116,15 @@ impl<T: PlainWord> Reducer<T> for Vanilla<T> {
         T::narrow_remainder(a.product(*b), self.modulus)
     }
 
+    // rust: #[cfg_attr(debug_assertions, track_caller)]
     fn add_with_room(&self, a: &T, b: &T) -> T {
+        // rust: debug_assert!(!self.modulus().has_top_bit(), "2m must be below the base");
         sum_by_sign(*a, *b, self.modulus)
     }
 
+    // rust: #[cfg_attr(debug_assertions, track_caller)]
     fn sub_with_room(&self, a: &T, b: &T) -> T {
+        // rust: debug_assert!(!self.modulus().has_top_bit(), "2m must be below the base");
         difference_by_sign(*a, *b, self.modulus)
     }
 
@@ -122,4 +135,5 @@ impl<T: PlainWord> Reducer<T> for Vanilla<T> {
     fn sqr(&self, f: T) -> T {
         T::narrow_remainder(f.product(f), self.modulus)
     }
+    // rust: crate::additions::reducer_members!(T);
 }

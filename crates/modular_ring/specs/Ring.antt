@@ -2,7 +2,7 @@
 -- straight-line program, and where it isn't executable (Bürgisser, Clausen and Shokrollahi, Algebraic Complexity
 -- Theory, section 4.1). The table has no forms and no widths.
 use Rattle.std.specs.Prelude.{◌≡◌, ℕ, suc, zero, ◌+◌, ◌*◌, ◌%◌, ◌^◌, ◌<◌, ◌==◌, if◌then◌else◌, pos, ◌-ℤ◌, neg_ℤ}
-use Rattle.std.specs.Prelude.{List, length, slice_get, slice_index, slice_index_or}
+use Rattle.std.specs.Prelude.{List, length, slice_get, slice_index}
 use Rattle.std.specs.Prelude.{Option, Some, None, option_map, IsSomeAnd, unwrap_or}
 use Rattle.modular_word.specs.Residues.{residue}
 use Rattle.modular_word.specs.Inverses.{HasInverse, inverse_of}
@@ -105,14 +105,3 @@ IsFormOf number form m None None = Unit {0}
 IsFormOf number form m (Some w) (Some f) = Represents form m (number f) w
 IsFormOf number form m (Some w) None = ⊥
 IsFormOf number form m None (Some f) = ⊥
-
--- register n, if there is one, holds the form
-abbrev pub IsHeldAt : {T : Type 0} → List T → ℕ → T → Type 0
-IsHeldAt registers n form = n < length registers → form ≡ slice_index_or registers n form
-
--- the command writes a sum, a difference or a product
-abbrev pub Combines : {T : Type 0} → RingCommand T → Type 0
-Combines (Add dst a b) = Unit {0}
-Combines (Sub dst a b) = Unit {0}
-Combines (Mul dst a b) = Unit {0}
-Combines _ = ⊥

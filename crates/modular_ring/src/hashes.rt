@@ -68,8 +68,8 @@ pub fn hash(base: Hash, text: &[u8]) -> Hash
     value
 }
 
-/// The hash of a window that moves by one byte: `first` is the byte that it drops at its start, `next` the byte
-/// that it gains at its end. The result is the hash of the moved window where `window` is that of the old one, and
+/// The hash of the next window: it moves by one byte, `first` is the byte that it drops at its start, and `next` the
+/// byte that it gains at its end. The result is the hash of the moved window where `window` is that of the old one, and
 /// `power` is the power of the base to the window's length.
 ///
 /// Source: Karp and Rabin, "Efficient randomized pattern-matching algorithms".
@@ -96,11 +96,15 @@ pub fn roll(base: Hash, power: Hash, window: Hash, first: u8, next: u8) -> Hash
     longer - power * first as u64
 }
 
-/// Whether the pattern occurs in the text at a position, given its hash, `wanted`, and that of the window there, both by
-/// one base (`hash`, `roll`). The bytes are compared only where the two are equal. Conditions: the text has as many bytes
-/// from the position on as the pattern; the hashes are equal if the pattern occurs there.
+/// Whether the pattern occurs at a position: the hashes of the pattern, `wanted`, and of the window there are given,
+/// both by one base (`hash`, `roll`). The bytes are compared only where the two are equal.
 ///
 /// Source: Karp and Rabin, "Efficient randomized pattern-matching algorithms".
+///
+/// # Conditions
+///
+/// - (debug) the text has as many bytes from the position `at` on as the pattern
+/// - (debug) the hashes are equal if the pattern occurs at `at`
 ///
 /// # Examples
 ///
@@ -112,16 +116,21 @@ pub fn roll(base: Hash, power: Hash, window: Hash, first: u8, next: u8) -> Hash
 /// assert!(is_hit(wanted, hash(base, b"cad"), b"abracadabra", b"cad", 4));
 /// assert!(!is_hit(wanted, hash(base, b"aca"), b"abracadabra", b"cad", 3));
 /// ```
+// rust: #[cfg_attr(debug_assertions, track_caller)]
 pub fn is_hit(wanted: Hash, window: Hash, text: &[u8], pattern: &[u8], at: usize) -> bool
     requires within { at + length pattern.now ≤ length text.now }
     requires alike { slice_range text.now at (at + length pattern.now) ≡ pattern.now →
         residue_of window ≡ residue_of wanted }
     ensures { IsTrue result ↔ StandsAt text.now pattern.now at }
 {
+    // rust: debug_assert!(at <= text.len() && pattern.len() <= text.len() - at,
+    // rust:     "the text must have as many bytes from the position on as the pattern");
+    // rust: debug_assert!(window == wanted || &text[at..at + pattern.len()] != pattern,
+    // rust:     "the hashes must be equal if the pattern occurs there");
     window == wanted && &text[at..at + pattern.len()] == pattern
 }
 
-/// The first position where the pattern occurs in the text; `None` exactly where it occurs nowhere.
+/// The first position of the pattern; `None` exactly where it occurs nowhere.
 ///
 /// The result is right for every base, because the bytes of a window are compared where its hash is the pattern's.
 /// For a base that is drawn at random after text and pattern are fixed, few other windows have that hash. For the base
@@ -129,6 +138,8 @@ pub fn is_hit(wanted: Hash, window: Hash, text: &[u8], pattern: &[u8], at: usize
 /// then compares the pattern at each position.
 ///
 /// Source: Karp and Rabin, "Efficient randomized pattern-matching algorithms".
+///
+/// Not for secrets.
 ///
 /// # Examples
 ///

@@ -8,13 +8,18 @@ ghost use Rattle.modular_word.specs.Inverses.{HasInverse, IsInverse};
 use modular_reduced::reducer::Reducer;
 use modular_word::ring_word::RingWord;
 
-/// Replaces each form by its inverse. Returns false, with the forms unchanged, exactly where one has no inverse modulo
-/// m. Conditions: the entries of `forms` are checked forms; `scratch` has as many entries as there are forms.
+/// Replaces each form by its inverse. Returns false, with the forms unchanged, exactly where one has no inverse
+/// modulo m.
 ///
 /// The contents of `scratch` are ignored, and unspecified afterwards.
 ///
 /// Source: Montgomery, "Speeding the Pollard and elliptic curve methods of factorization", section 10.3.1: the
 /// inverses come from that of the product of all forms.
+///
+/// # Conditions
+///
+/// - `scratch` has as many entries as there are forms
+/// - (debug) the entries of `forms` are checked forms
 ///
 /// # Examples
 ///
@@ -28,6 +33,8 @@ use modular_word::ring_word::RingWord;
 /// assert_eq!(forms, [6, 13]); // 3 * 6 = 17 + 1, and 4 * 13 = 3 * 17 + 1
 /// ```
 #[tactic(auto, using(modular_word::proofs::Remainders::remainders, crate::specs::ProductLaws::products_so_far))]
+// rust: #[must_use]
+// rust: #[track_caller]
 pub fn invert_each<T: RingWord, R: Reducer<T>>(r: &R, forms: &mut [T], scratch: &mut [T]) -> bool
     requires checked { All (λ f. IsForm R.form R.value (R.modulus r.now) (T.number f)) forms.old }
     requires equal { length scratch.old ≡ length forms.old }
@@ -38,6 +45,9 @@ pub fn invert_each<T: RingWord, R: Reducer<T>>(r: &R, forms: &mut [T], scratch: 
     ensures checked { All (λ f. IsForm R.form R.value (R.modulus r.now) (T.number f)) forms.new }
     ensures unchanged { (IsTrue result → ⊥) → forms.new ≡ forms.old }
 {
+    // rust: debug_assert!(forms.iter().all(|x| r.check(x)), "the entries of `forms` must be checked forms");
+    // rust: assert!(scratch.len() == forms.len(), "`scratch` must have as many entries as there are forms: {} and {}",
+    // rust:     scratch.len(), forms.len());
     let mut product = r.transform(T::one());
     'forward: for i in 0..forms.len() {
         scratch[i] = product;

@@ -27,7 +27,7 @@ fn next_range(range: u128, m: u64) -> Option<u128>
     range.checked_mul(m as u128)
 }
 
-/// Whether the moduli are those of a system: each is above 0, any two are coprime, and their product is below 2^128.
+/// Whether the moduli are a system: each is above 0, any two are coprime, and their product is below 2^128.
 ///
 /// # Examples
 ///
@@ -43,6 +43,7 @@ pub fn is_system(moduli: &[u64]) -> bool
     divisor_laws();
     inverse_laws();
     let mut range: u128 = 1;
+    // rust instead: for modulus in moduli {
     'moduli: for (place, modulus) in moduli.iter().enumerate() {
         if *modulus == 0 || !has_inverse(range, *modulus) {
             return false;
@@ -57,6 +58,7 @@ pub fn is_system(moduli: &[u64]) -> bool
 
 // The next digit of a number in the mixed radix of the moduli: the factor of `range` for which the sum has the residue.
 // Condition: the moduli are at least 1, pairwise coprime, and their product is below 2^128.
+// rust: #[track_caller]
 fn next_digit(m: u64, residue: u64, number: u128, range: u128) -> u64
     requires modulus { 1 ≤ m }
     requires unit { HasInverse m range }
@@ -67,10 +69,19 @@ fn next_digit(m: u64, residue: u64, number: u128, range: u128) -> u64
     residue_laws();
     let known = VanillaInt::<u64>::new((number % m as u128) as u64, &m);
     let weight = known.convert((range % m as u128) as u64);
+    // rust: match weight.inv() {
+    // rust instead: Some(inverse) => ((known.convert(residue) - known) * inverse).residue(),
     ((known.convert(residue) - known) / weight).residue()
+    // rust: None => panic!("the moduli must be at least 1, pairwise coprime, and their product must be below 2^128"),
+    // rust: }
 }
 
-/// Writes the residues of a number. Conditions: each modulus is above 0; there are as many residues as moduli.
+/// Writes the residues of a number.
+///
+/// # Conditions
+///
+/// - each modulus is above 0
+/// - there are as many residues as moduli
 ///
 /// # Examples
 ///
@@ -81,17 +92,25 @@ fn next_digit(m: u64, residue: u64, number: u128, range: u128) -> u64
 /// encode(&[3, 5, 7], 23, &mut residues);
 /// assert_eq!(residues, [2, 3, 2]);
 /// ```
+// rust: #[track_caller]
 pub fn encode(moduli: &[u64], number: u128, residues: &mut [u64])
     requires positive { (i : ℕ) → i < length moduli.now → 0 < slice_index moduli.now i }
     requires room { length residues.old ≡ length moduli.now }
     ensures { AreResidues moduli.now residues.new number }
 {
+    // rust: assert!(moduli.iter().all(|m| *m > 0), "each modulus must be above 0");
+    // rust: assert!(residues.len() == moduli.len(), "there must be as many residues as moduli: {} and {}",
+    // rust:     residues.len(), moduli.len());
     'moduli: for (place, modulus) in moduli.iter().enumerate() {
         residues[place] = (number % *modulus as u128) as u64;
     }
 }
 
-/// Whether each residue is below its modulus. Condition: there are as many residues as moduli.
+/// Whether each residue is below its modulus.
+///
+/// # Conditions
+///
+/// - there are as many residues as moduli
 ///
 /// # Examples
 ///
@@ -101,11 +120,14 @@ pub fn encode(moduli: &[u64], number: u128, residues: &mut [u64])
 /// assert!(are_reduced(&[3, 5, 7], &[2, 3, 2]));
 /// assert!(!are_reduced(&[3, 5, 7], &[3, 3, 2]));
 /// ```
+// rust: #[track_caller]
 pub fn are_reduced(moduli: &[u64], residues: &[u64]) -> bool
     requires { length residues.now ≡ length moduli.now }
     ensures { IsTrue result
         ↔ ((i : ℕ) → i < length moduli.now → slice_index residues.now i < slice_index moduli.now i) }
 {
+    // rust: assert!(residues.len() == moduli.len(), "there must be as many residues as moduli: {} and {}",
+    // rust:     residues.len(), moduli.len());
     'moduli: for (place, modulus) in moduli.iter().enumerate() {
         if residues[place] >= *modulus {
             return false;
@@ -114,12 +136,15 @@ pub fn are_reduced(moduli: &[u64], residues: &[u64]) -> bool
     true
 }
 
-/// The only number below the product of the moduli that has these residues. Conditions: the moduli are at least 1,
-/// pairwise coprime, and their product is below 2^128 (`is_system` tells); there are as many residues as moduli, each
-/// below its modulus (`are_reduced` tells).
+/// The number below the product of the moduli: the only one that has these residues.
 ///
 /// Source: Garner, "The residue number system"; Knuth, The Art of Computer Programming, volume 2, section 4.3.2,
 /// (24) and (25).
+///
+/// # Conditions
+///
+/// - the moduli are at least 1, pairwise coprime, and their product is below 2^128 (`is_system` tells)
+/// - there are as many residues as moduli, each below its modulus (`are_reduced` tells)
 ///
 /// # Examples
 ///
@@ -128,6 +153,7 @@ pub fn are_reduced(moduli: &[u64], residues: &[u64]) -> bool
 ///
 /// assert_eq!(decode(&[3, 5, 7], &[2, 3, 2]), 23); // Sunzi's example
 /// ```
+// rust: #[track_caller]
 pub fn decode(moduli: &[u64], residues: &[u64]) -> u128
     requires system { IsSystem moduli.now }
     requires count { length residues.now ≡ length moduli.now }
@@ -136,6 +162,10 @@ pub fn decode(moduli: &[u64], residues: &[u64]) -> u128
     ensures number { AreResidues moduli.now residues.now result }
     ensures only { (x : ℕ) → x < range_of moduli.now → AreResidues moduli.now residues.now x → x ≡ result }
 {
+    // rust: assert!(crate::additions::may_be_system(moduli),
+    // rust:     "the moduli must be at least 1, pairwise coprime, and their product must be below 2^128");
+    // rust: assert!(residues.len() == moduli.len() && are_reduced(moduli, residues),
+    // rust:     "there must be as many residues as moduli, each below its modulus");
     divisor_laws();
     inverse_laws();
     let mut number: u128 = 0;

@@ -6,14 +6,16 @@ ghost use Rattle.modular_word.specs.Inverses.{inverse_of};
 ghost use Rattle.modular_reduced.specs.Forms.{IsForm};
 ghost use Rattle.modular_ring.specs.Ring.{whole, destination_of, outcome, value_at, IsStop};
 ghost use Rattle.modular_ring.specs.Ring.{value_after, LacksInverse, carried_out, IsFit, values_of, HoldValues};
-ghost use Rattle.modular_ring.specs.Ring.{IsFormOf, IsHeldAt, Combines};
+ghost use Rattle.modular_ring.specs.Ring.{IsFormOf};
+ghost use Rattle.modular_ring.specs.RunSteps.{IsHeldAt, Combines};
 ghost use Rattle.modular_ring.specs.declared.ring.RingCommand.{RingCommand};
 
 use modular_reduced::reducer::Reducer;
 use modular_word::ring_word::RingWord;
+// rattle: line
 use std::alloc::AllocError;
 
-/// A command on registers, each given by its index in a slice of forms.
+/// A command on registers: each is given by its index in a slice of forms.
 ///
 /// Operands are read before `dst` is written, so `dst` may be an operand.
 ///
@@ -28,6 +30,7 @@ use std::alloc::AllocError;
 /// run(&ring, &mut registers, &[RingCommand::Load { dst: 0, n: 1000 }, RingCommand::Sqr { dst: 0, a: 0 }]);
 /// assert_eq!(registers, [27]); // 1000000 modulo 97
 /// ```
+// rust: #[derive(Hash)]
 #[derive(Debug, PartialEq, Eq)]
 pub enum RingCommand<T> {
     /// Writes n modulo m.
@@ -85,7 +88,7 @@ pub enum RingCommand<T> {
         /// The register of the operand.
         a: usize,
     },
-    /// Writes the inverse of a register; the run stops where there is none.
+    /// Writes the inverse of a register: the run stops where there is none.
     Inv {
         /// The register that is written.
         dst: usize,
@@ -102,7 +105,7 @@ pub enum RingCommand<T> {
         /// The register of the divisor.
         b: usize,
     },
-    /// Writes a power of a register; 1 modulo m for the exponent 0.
+    /// Writes a power of a register: 1 modulo m for the exponent 0.
     Pow {
         /// The register that is written.
         dst: usize,
@@ -118,7 +121,9 @@ impl<T: Copy> Clone for RingCommand<T> {
 
     ghost is_infallible = { λ _. Unit {0} };
 
+    // rust instead: fn clone(&self) -> Self {
     fn clone(&self) -> Result<Self, AllocError> {
+        // rust instead: *self
         Ok(*self)
     }
 }
@@ -146,6 +151,7 @@ impl<T: Copy> Copy for RingCommand<T> {}
 /// run(&Vanilla::<u64>::new(&97), &mut registers, &[Square(0)]);
 /// assert_eq!(registers, [3]); // 100 - 97
 /// ```
+// rust instead: pub trait AsCommand<T: RingWord>: Sized {
 pub trait AsCommand<T: RingWord> {
     // The command that it represents.
     ghost command: { Self → RingCommand T };
@@ -185,11 +191,13 @@ impl<T: RingWord> AsCommand<T> for RingCommand<T> {
 /// assert_eq!(run(&ring, &mut [3], &[inverse]), RunEnd::Done);
 /// assert_eq!(run(&ring, &mut [4], &[inverse]), RunEnd::NoInverse { at: 0 });
 /// ```
+// rust: #[derive(Hash)]
 #[derive(Clone, Copy, Debug, PartialEq, Eq)]
+// rust: #[must_use]
 pub enum RunEnd {
     /// Every command was carried out.
     Done,
-    /// The inverse of a command doesn't exist; neither that command nor a later one wrote anything.
+    /// The inverse of this command doesn't exist: neither that command nor a later one wrote anything.
     NoInverse {
         /// The number of that command, counted from 0.
         at: usize,
@@ -228,7 +236,7 @@ fn command_fits<T: RingWord>(command: &RingCommand<T>, len: usize) -> bool
     }
 }
 
-/// Whether each register number of the commands is below `len`.
+/// Whether each register number is below `len`.
 ///
 /// # Examples
 ///
@@ -247,7 +255,7 @@ pub fn commands_fit<T: RingWord, C: AsCommand<T>>(commands: &[C], len: usize) ->
         .all(|command| command_fits(&command.command(), len))
 }
 
-/// Whether each register holds a checked form of the reducer.
+/// Whether each register holds a checked form.
 ///
 /// # Examples
 ///
@@ -303,21 +311,23 @@ fn quotient<T: RingWord, R: Reducer<T>>(r: &R, a: &T, b: T) -> Option<T>
 // Kept out of line and cold, so that the loop of `run` stays small and sums, differences and products go straight on.
 #[cold]
 #[inline(never)]
-fn computed_form<T: RingWord, R: Reducer<T>, C: AsCommand<T>>(
+// rust: #[track_caller]
+fn computed_form<T: RingWord, R: Reducer<T>>(
     r: &R,
     regs: &[T],
-    command: &C,
+    command: RingCommand<T>,
 ) -> Option<T>
     requires checked { All (λ f. IsForm R.form R.value (R.modulus r.now) (T.number f)) regs.now }
-    requires fit { IsFit (length regs.now) (C.command command.now) }
-    requires other { Combines (C.command command.now) → ⊥ }
+    requires fit { IsFit (length regs.now) command }
+    requires other { Combines command → ⊥ }
     ensures { let m = R.modulus r.now in
         (v : ℕ → ℕ) → HoldValues T.number R.form m regs.now v →
-        IsFormOf T.number R.form m (outcome m v (whole T.number (C.command command.now))) result }
+        IsFormOf T.number R.form m (outcome m v (whole T.number command)) result }
 {
-    match command.command() {
+    match command {
         RingCommand::Load { n, .. } => Some(r.transform(n)),
         RingCommand::Add { .. } | RingCommand::Sub { .. } | RingCommand::Mul { .. } => {
+            // rust instead: panic!("the command must be no sum, difference or product, since `run` computes these itself")
             unreachable!()
         }
         RingCommand::Neg { a, .. } => Some(r.neg(regs[a])),
@@ -380,27 +390,26 @@ fn write<T: RingWord>(regs: &mut [T], last: &mut Last<T>, dst: usize, form: T)
 // take as long as the command. Each has an arm of its own up to the write, since one for the three is slower. Only the
 // first operand is looked for in `last`: the test takes time in every command.
 #[inline(always)]
-fn carry_out<T: RingWord, R: Reducer<T>, C: AsCommand<T>>(
+fn carry_out<T: RingWord, R: Reducer<T>>(
     r: &R,
     regs: &mut [T],
     last: &mut Last<T>,
-    command: &C,
+    command: RingCommand<T>,
 ) -> bool
     requires checked { All (λ f. IsForm R.form R.value (R.modulus r.now) (T.number f)) regs.old }
-    requires fit { IsFit (length regs.old) (C.command command.now) }
+    requires fit { IsFit (length regs.old) command }
     requires holds { IsHeldAt regs.old last.old.register last.old.form }
     ensures count { length regs.new ≡ length regs.old }
     ensures values { let m = R.modulus r.now in
         IsTrue result → (v : ℕ → ℕ) → HoldValues T.number R.form m regs.old v →
-        HoldValues T.number R.form m regs.new (value_after m v (Some (whole T.number (C.command command.now)))) }
+        HoldValues T.number R.form m regs.new (value_after m v (Some (whole T.number command))) }
     ensures missing { let m = R.modulus r.now in
         (v : ℕ → ℕ) → HoldValues T.number R.form m regs.old v →
-        IsFalse result ↔ LacksInverse m v (whole T.number (C.command command.now)) }
+        IsFalse result ↔ LacksInverse m v (whole T.number command) }
     ensures kept { IsFalse result → regs.new ≡ regs.old }
     ensures holds { IsHeldAt regs.new last.new.register last.new.form }
 {
-    let read = command.command();
-    match read {
+    match command {
         RingCommand::Add { dst, a, b } => {
             let form = r.add(&held(regs, last, a), &regs[b]);
             write(regs, last, dst, form);
@@ -420,7 +429,7 @@ fn carry_out<T: RingWord, R: Reducer<T>, C: AsCommand<T>>(
             let Some(form) = computed_form(r, regs, command) else {
                 return false;
             };
-            write(regs, last, destination(&read), form);
+            write(regs, last, destination(&command), form);
             true
         }
     }
@@ -428,11 +437,16 @@ fn carry_out<T: RingWord, R: Reducer<T>, C: AsCommand<T>>(
 
 /// Carries out the commands in order, up to the first whose inverse doesn't exist.
 ///
-/// Conditions: each register holds a checked form (`all_checked` tells); each register number is below the number
-/// of registers (`commands_fit` tells). The run stops exactly at the first `Inv` or `Div` whose operand (for `Div`:
-/// b) has no inverse modulo m. That command and all later ones write nothing; what earlier ones wrote remains. Each
-/// register then holds the checked form of its value after the commands that were carried out, computed on whole
-/// numbers modulo m. No memory is allocated.
+/// The run stops exactly at the first `Inv` or `Div` whose operand (for `Div`: b) has no inverse modulo m. That
+/// command and all later ones write nothing; what earlier ones wrote remains. Each register then holds the checked
+/// form of its value after the commands that were carried out, computed on whole numbers modulo m. No memory is
+/// allocated, and each command that is reached is read once.
+///
+/// # Conditions
+///
+/// - each register number is below the number of registers (`commands_fit` tells): a release build panics at the first
+///   command that it reaches and that names another one
+/// - (debug) each register holds a checked form (`all_checked` tells)
 ///
 /// # Examples
 ///
@@ -446,6 +460,7 @@ fn carry_out<T: RingWord, R: Reducer<T>, C: AsCommand<T>>(
 /// run(&ring, &mut registers, &commands);
 /// assert_eq!(registers.map(|f| ring.residue(f)), [3, 34]);
 /// ```
+// rust: #[cfg_attr(debug_assertions, track_caller)]
 pub fn run<T: RingWord, R: Reducer<T>, C: AsCommand<T>>(
     r: &R,
     regs: &mut [T],
@@ -483,9 +498,12 @@ pub fn run<T: RingWord, R: Reducer<T>, C: AsCommand<T>>(
         (n : ℕ) (other : T) → n < length regs.old → R.value m (T.number (slice_index_or regs.new n other))
         ≡ value_at m start wholes (carried_out result wholes) n }
 {
+    // rust: debug_assert!(all_checked(r, regs), "each register must hold a checked form");
+    // rust: debug_assert!(commands_fit(commands, regs.len()),
+    // rust:     "each register number must be below the number of registers");
     let mut last = first_register(regs);
     'commands: for (at, command) in commands.iter().enumerate() {
-        if !carry_out(r, regs, &mut last, command) {
+        if !carry_out(r, regs, &mut last, command.command()) {
             return RunEnd::NoInverse { at };
         }
     }

@@ -1,7 +1,9 @@
 -- The count of the half system, one number after the other.
 use Rattle.std.proofs.Common.{◌≡◌, ℕ, suc, ◌+◌, ◌-◌, ◌*◌, ◌/◌, ◌%◌, ◌<◌, ◌≤◌, ◌≢◌, Bool, true}
 use Rattle.std.proofs.Common.{false, not, cond, ltb, eqb, ℤ, pos, negsuc, ◌*ℤ◌, nat_abs}
-use Rattle.std.proofs.Common.{Option, Some, None, is_some, zero, sym, ◌∙◌, ap, refl, arith}
+use Rattle.std.proofs.Common.{Option, Some, None, is_some, zero, IsTrue, ◌↔◌, inl, inr, sym, ◌∙◌, ap, refl, arith}
+use Rattle.std.proofs.Math.Bool.{beq}
+use Rattle.std.proofs.lemmas.Bool.{cases_lt, false≢true}
 use Rattle.std.proofs.lemmas.Bool.Decides.{nat_tests}
 use Rattle.modular_word.specs.Divisors.{gcd}
 use Rattle.modular_word.specs.Inverses.{IsInversion}
@@ -29,18 +31,20 @@ counted_none z n x e = record {
   parity = ap (λ v. sum_to (above z n) v % 2) e ∙ ap (λ v. v % 2) (sum_to-zero (above z n));
 }
 
-above_high : (z : ℤ) (n x : ℕ) → (n - 1) / 2 < residue n (z *ℤ pos x) → above z n x ≡ 1
-above_high z n x h = grind (arith, nat_tests)
+above_is : (z : ℤ) (n x : ℕ) (b : Bool) → IsTrue b ↔ ((n - 1) / 2 < residue n (z *ℤ pos x)) → above z n x ≡ cond b 1 0
+above_is z n x true is = let h = is.0 refl in grind (arith, nat_tests)
+above_is z n x false is =
+    let h : residue n (z *ℤ pos x) ≤ (n - 1) / 2 = elim (cases_lt ((n - 1) / 2) (residue n (z *ℤ pos x))) [
+      | inl more ↦ absurd (false≢true (is.1 more))
+      | inr few ↦ few
+    ] in
+    grind (arith, nat_tests)
 
-above_low : (z : ℤ) (n x : ℕ) → residue n (z *ℤ pos x) ≤ (n - 1) / 2 → above z n x ≡ 0
-above_low z n x h = grind (arith, nat_tests)
-
-other_parity : (s t : ℕ) (odd : Bool) → s % 2 ≡ cond odd 1 0 → t ≡ 1 → (s + t) % 2 ≡ cond (not odd) 1 0
-other_parity s t true e f = omega arith
-other_parity s t false e f = omega arith
-
-same_parity : (s t : ℕ) (odd : Bool) → s % 2 ≡ cond odd 1 0 → t ≡ 0 → (s + t) % 2 ≡ cond odd 1 0
-same_parity s t odd e f = omega arith
+next_parity : (s t : ℕ) (odd b : Bool) → s % 2 ≡ cond odd 1 0 → t ≡ cond b 1 0 → (s + t) % 2 ≡ cond (not (beq odd b)) 1 0
+next_parity s t true true e f = omega arith
+next_parity s t true false e f = omega arith
+next_parity s t false true e f = omega arith
+next_parity s t false false e f = omega arith
 
 -- the next number y, by the numbers that the loop computes: half of n, the residue s of z and that of s * y
 pub record Next (z : ℤ) (n x one y half s r : ℕ) : Type 0 where
@@ -70,30 +74,16 @@ sum_next {z = z} {n = n} {x = x} {y = y} t =
     ap (λ v. sum_to (above z n) v) e ∙ sum_to-suc (above z n) x
     ∙ sym (ap (λ v. sum_to (above z n) x + above z n v) e)
 
-pub counted_high : {z : ℤ} {n x one y half s r : ℕ} {odd : Bool} → Next z n x one y half s r
-    → CountedTo z n x odd → half < r
-    → CountedTo z n y (not odd)
-counted_high {z = z} {n = n} {x = x} {y = y} {odd = odd} t c h = record {
+pub counted_next : {z : ℤ} {n x one y half s r : ℕ} {odd b : Bool} → Next z n x one y half s r
+    → CountedTo z n x odd → IsTrue b ↔ (half < r) → CountedTo z n y (not (beq odd b))
+counted_next {z = z} {n = n} {x = x} {y = y} {odd = odd} {b = b} t c is = record {
   within = next_within t;
   parity =
       let o = t.odd_modulus in
       let e = t.half_is in
       let f = next_residue t in
-      ap (λ v. v % 2) (sum_next t)
-      ∙ other_parity (sum_to (above z n) x) (above z n y) odd c.parity (above_high z n y (omega arith));
-}
-
-pub counted_low : {z : ℤ} {n x one y half s r : ℕ} {odd : Bool} → Next z n x one y half s r
-    → CountedTo z n x odd → r ≤ half
-    → CountedTo z n y odd
-counted_low {z = z} {n = n} {x = x} {y = y} {odd = odd} t c h = record {
-  within = next_within t;
-  parity =
-      let o = t.odd_modulus in
-      let e = t.half_is in
-      let f = next_residue t in
-      ap (λ v. v % 2) (sum_next t)
-      ∙ same_parity (sum_to (above z n) x) (above z n y) odd c.parity (above_low z n y (omega arith));
+      ap (λ v. v % 2) (sum_next t) ∙ next_parity (sum_to (above z n) x) (above z n y) odd b c.parity
+      (above_is z n y b ((λ h. let l = is.0 h in omega arith), λ h. is.1 (omega arith)));
 }
 
 -- the symbol at the end of the count

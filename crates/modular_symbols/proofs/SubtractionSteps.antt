@@ -1,7 +1,6 @@
 -- What the loop of differences keeps.
 use Rattle.std.proofs.Common.{◌≡◌, ◌≢◌, ℕ, ◌+◌, ◌-◌, ◌*◌, ◌/◌, ◌%◌, ◌^◌, ◌<◌, Bool, true, false}
-use Rattle.std.proofs.Common.{eqb, if◌then◌else◌, ℤ, pos, negsuc, sym, ◌∙◌, ap, arith, subst, refl}
-use Rattle.std.proofs.lemmas.Bool.{eq-eqb, ne_eqb}
+use Rattle.std.proofs.Common.{eqb, if◌then◌else◌, ℤ, pos, sym, ◌∙◌, ap, arith, subst, refl}
 use Rattle.std.proofs.Math.Nat.{add-mod_left, add-mod_right, mod-eq_of_lt, mod_self, zero-mod}
 use Rattle.std.specs.Int.Count.{count_trailing_zeros}
 use Rattle.modular_word.proofs.Congruence.{mod_cancel}
@@ -9,7 +8,7 @@ use Rattle.modular_symbols.specs.Jacobi.{jacobi}
 use Rattle.modular_symbols.specs.Kronecker.{signed}
 use Rattle.modular_symbols.proofs.JacobiLaws.{jacobi-residue}
 use Rattle.modular_symbols.proofs.TurnBits.{is_odd, odd-sum}
-use Rattle.modular_symbols.proofs.TurnedSymbols.{Keeps, kept_one, kept_none, signed-other, turned_twice}
+use Rattle.modular_symbols.proofs.TurnedSymbols.{Keeps, kept_last, signed-other, turned_twice}
 use Rattle.modular_symbols.proofs.TwoPart.{SplitAt, split_at, fewer_zeros, split_opposite, Halved, halved_split}
 
 -- numbers that leave the same remainder have the same symbol
@@ -122,19 +121,8 @@ kept_equal w x y t k e =
           ∙ k.value;
     }
 
-kept_equal_one : (w : ℤ) (x y : ℕ) (t : Bool) → Keeps w x y t → x ≡ y → y ≡ 1 → signed t (pos 1) ≡ w
-kept_equal_one w x y t k e f = kept_one w 0 y t (kept_equal w x y t k e) refl f
-
--- t negates, as the lowest bit of b says
-pub kept_equal_turned : (w : ℤ) (x y t b : ℕ) → Keeps w x y (is_odd t) → x ≡ y → y ≡ 1
-    → b % 2 ≡ t % 2 → b % 2 ≡ 1 → negsuc 0 ≡ w
-kept_equal_turned w x y t b k e f g h =
-    sym (ap (λ v. signed v (pos 1)) (eq-eqb (t % 2) 1 (sym g ∙ h))) ∙ kept_equal_one w x y (is_odd t) k e f
-
-pub kept_equal_not_turned : (w : ℤ) (x y t b : ℕ) → Keeps w x y (is_odd t) → x ≡ y → y ≡ 1
-    → b % 2 ≡ t % 2 → b % 2 ≢ 1 → pos 1 ≡ w
-kept_equal_not_turned w x y t b k e f g h =
-    sym (ap (λ v. signed v (pos 1)) (ne_eqb (t % 2) 1 (λ z. h (g ∙ z)))) ∙ kept_equal_one w x y (is_odd t) k e f
-
-pub kept_equal_none : (w : ℤ) (x y : ℕ) (t : Bool) → Keeps w x y t → x ≡ y → y ≢ 1 → pos 0 ≡ w
-kept_equal_none w x y t k e f = kept_none w 0 y t (kept_equal w x y t k e) refl f
+pub kept_equal_last : (w s : ℤ) (x y t b : ℕ) → Keeps w x y (is_odd t) → x ≡ y → b % 2 ≡ t % 2
+    → (y ≡ 1 → s ≡ signed (is_odd b) (pos 1)) → (y ≢ 1 → s ≡ pos 0) → s ≡ w
+kept_equal_last w s x y t b k e f one more =
+    kept_last w s 0 y (is_odd t) (kept_equal w x y (is_odd t) k e) refl
+    (λ h. one h ∙ ap (λ v. signed (eqb v 1) (pos 1)) f) more

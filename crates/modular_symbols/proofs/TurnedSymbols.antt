@@ -152,11 +152,17 @@ kept_turned w x y r s t u k o e = record {
 }
 
 -- at the end
-pub kept_one : (w : ℤ) (x y : ℕ) (t : Bool) → Keeps w x y t → x ≡ 0 → y ≡ 1 → signed t (pos 1) ≡ w
+kept_one : (w : ℤ) (x y : ℕ) (t : Bool) → Keeps w x y t → x ≡ 0 → y ≡ 1 → signed t (pos 1) ≡ w
 kept_one w x y t k e f =
     sym (ap (λ z. signed t z) (ap (λ v. jacobi (pos v) y) e ∙ ap (λ v. jacobi (pos 0) v) f ∙ jacobi-zero_one)) ∙ k.value
 
-pub kept_none : (w : ℤ) (x y : ℕ) (t : Bool) → Keeps w x y t → x ≡ 0 → y ≢ 1 → pos 0 ≡ w
+kept_none : (w : ℤ) (x y : ℕ) (t : Bool) → Keeps w x y t → x ≡ 0 → y ≢ 1 → pos 0 ≡ w
 kept_none w x y t k e f =
     let o = k.odd in
     sym (ap (λ z. signed t z) (ap (λ v. jacobi (pos v) y) e ∙ jacobi-zero y (omega arith)) ∙ signed-zero t) ∙ k.value
+
+-- so the last symbol is the symbol
+pub kept_last : (w s : ℤ) (x y : ℕ) (t : Bool) → Keeps w x y t → x ≡ 0 → (y ≡ 1 → s ≡ signed t (pos 1))
+    → (y ≢ 1 → s ≡ pos 0) → s ≡ w
+kept_last w s x y t k e one more = ⊎_elim (λ f. one f ∙ kept_one w x y t k e f) (λ f. more f ∙ kept_none w x y t k e f)
+    (cases_eq y 1)

@@ -9,13 +9,19 @@ use modular_prim::abs::signed_residue;
 use modular_prim::euclid::invm;
 use modular_prim::plain_word::PlainWord;
 use modular_prim::residues::mulm;
+// rattle: line
 use modular_word::path_word::PathWord;
+// rattle: line
 use modular_word::ring_word::RingWord;
 
 /// The Jacobi symbol over n of a number, given by its sign and its magnitude: -1, 0 or 1, by a count of residues of
-/// the half system 1, .., (n - 1)/2. Condition: n is odd.
+/// the half system 1, .., (n - 1)/2.
 ///
 /// Source: Schering, "Zur Theorie der quadratischen Reste" (Gauss's lemma over any odd number).
+///
+/// # Preconditions
+///
+/// - n is odd
 #[tactic(auto, using(crate::proofs::CountSteps::counted_none))]
 pub fn jacobi_by_count<T: PlainWord>(a_minus: bool, a: T, n: T) -> i8
     requires { T.number n % 2 ≡ 1 }
@@ -30,9 +36,7 @@ pub fn jacobi_by_count<T: PlainWord>(a_minus: bool, a: T, n: T) -> i8
     let mut odd = false;
     'half_system: while x.is_below(half) {
         x = x.plus(T::one());
-        if half.is_below(mulm(residue, x, n)) {
-            odd = !odd;
-        }
+        odd ^= half.is_below(mulm(residue, x, n));
     }
     if odd { -1 } else { 1 }
 }

@@ -6,11 +6,13 @@ ghost use Rattle.modular_symbols.specs.Kronecker.{signed};
 ghost use Rattle.modular_symbols.specs.Steps.{jacobi_steps};
 ghost use Rattle.modular_word.specs.Residues.{residue};
 
-use crate::turns::{is_turned_by_swap, is_turned_by_twos};
+use crate::turns::{is_turned_by_swap, is_turned_by_twos, last_symbol};
 use modular_prim::abs::signed_residue;
 use modular_prim::digits;
 use modular_prim::plain_word::PlainWord;
+// rattle: line
 use modular_word::path_word::PathWord;
+// rattle: line
 use modular_word::ring_word::RingWord;
 
 // Whether replacing `a`·2^twos over n by n over `a` negates the symbol.
@@ -90,14 +92,14 @@ fn halve_and_swap<T: PlainWord>(a: T, n: T) -> (i8, u32)
         below = odd;
         count += twos + 1;
     }
-    if below == T::one() {
-        if turned { (-1, count) } else { (1, count) }
-    } else {
-        (0, count)
-    }
+    (last_symbol(below, turned), count)
 }
 
-/// The Jacobi symbol over n of a number, given by its sign and its magnitude. Condition: n is odd.
+/// The Jacobi symbol over n of a number, given by its sign and its magnitude.
+///
+/// # Preconditions
+///
+/// - n is odd
 pub fn jacobi_by_halving<T: PlainWord>(a_minus: bool, a: T, n: T) -> i8
     requires { T.number n % 2 ≡ 1 }
     ensures { result ≡ jacobi (signed a_minus (pos (T.number a))) (T.number n) }
@@ -106,12 +108,16 @@ pub fn jacobi_by_halving<T: PlainWord>(a_minus: bool, a: T, n: T) -> i8
 }
 
 /// The Jacobi symbol over n of a number, given by its sign and its magnitude, and the number of halvings and swaps,
-/// counted from its residue. Condition: n is odd.
+/// counted from its residue.
 ///
 /// Each turn of the loop removes all factors 2 of the upper number, swaps the two numbers and reduces, by the
 /// division of Euclid's algorithm.
 ///
 /// Source: Cohen, "A Course in Computational Algebraic Number Theory", algorithm 1.4.10, without its first steps.
+///
+/// # Preconditions
+///
+/// - n is odd
 pub fn jacobi_counted<T: PlainWord>(a_minus: bool, a: T, n: T) -> (i8, u32)
     requires { T.number n % 2 ≡ 1 }
     ensures symbol { result.0 ≡ jacobi (signed a_minus (pos (T.number a))) (T.number n) }
@@ -122,8 +128,8 @@ pub fn jacobi_counted<T: PlainWord>(a_minus: bool, a: T, n: T) -> (i8, u32)
     halve_and_swap(signed_residue(a_minus, a, n), n)
 }
 
-/// 0 takes no steps. 2^z times an odd number takes z halvings, a swap, and the steps of the residue after the swap.
-/// 2 to the number of steps is at most 2·a·n, for a from 1 to n - 1.
+/// Steps to a Jacobi symbol: 0 takes none. 2^z times an odd number takes z halvings, a swap, and the steps of the
+/// residue after the swap. 2 to the number of steps is at most 2·a·n, for a from 1 to n - 1.
 pub fn step_laws()
     ensures none { (n : ℕ) → jacobi_steps 0 n ≡ 0 }
     ensures turn { (odd z n : ℕ) → odd % 2 ≡ 1 → jacobi_steps (odd * 2 ^ z) n ≡ z + 1 + jacobi_steps (n % odd) odd }

@@ -2,9 +2,11 @@
 //! modular operations.
 #![tactic(auto)]
 
+// tests: item
 pub mod count;
 pub mod counted;
 pub mod halving;
+// rattle: line
 pub mod laws;
 pub mod low_part;
 pub mod magnitudes;

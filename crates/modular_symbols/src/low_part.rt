@@ -5,6 +5,7 @@ ghost use Rattle.std.specs.Prelude.{◌≡◌, ◌%◌, ◌^◌};
 use modular_prim::plain_word::PlainWord;
 
 /// A machine word whose lowest bits can be read.
+// rust instead: pub trait LowPart: Sized + PlainWord {
 pub trait LowPart: PlainWord {
     /// The lowest 32 bits; the whole word where it has no more.
     fn low_part(self) -> u32
@@ -35,6 +36,7 @@ impl LowPart for u64 {
     }
 }
 
+// rust: #[cfg(target_pointer_width = "64")]
 impl LowPart for usize {
     fn low_part(self) -> u32 {
         (self & 0xffff_ffff) as u32

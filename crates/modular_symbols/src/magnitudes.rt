@@ -6,15 +6,22 @@ ghost use Rattle.modular_symbols.specs.Kronecker.{signed, kronecker_above, krone
 ghost use Rattle.modular_symbols.specs.Legendre.{checked_legendre_of};
 ghost use Rattle.modular_symbols.specs.Primes.{IsOddPrime};
 
+use crate::counted::checked_jacobi_counted;
 use crate::halving::jacobi_by_halving;
 use crate::turns::is_minus_over_two;
 use modular_prim::abs::signed_residue;
 use modular_prim::plain_word::PlainWord;
 use modular_prim::power::powm;
+// rattle: line
 use modular_word::path_word::PathWord;
+// rattle: line
 use modular_word::ring_word::RingWord;
 
-/// The Jacobi symbol of a number over n. Condition: n is odd.
+/// The Jacobi symbol of a number over n.
+///
+/// # Preconditions
+///
+/// - n is odd
 pub fn jacobi_symbol<T: PlainWord>(a_minus: bool, a: T, n: T) -> i8
     requires { T.number n % 2 ≡ 1 }
     ensures { result ≡ jacobi (signed a_minus (pos (T.number a))) (T.number n) }
@@ -22,24 +29,30 @@ pub fn jacobi_symbol<T: PlainWord>(a_minus: bool, a: T, n: T) -> i8
     jacobi_by_halving(a_minus, a, n)
 }
 
-/// The Jacobi symbol; `None` exactly for an even n and for n below 1. Condition: a negative n has a
-/// magnitude of at least 1.
+/// The Jacobi symbol; `None` exactly for an even n and for n below 1.
+///
+/// # Preconditions
+///
+/// - a negative n has a magnitude of at least 1
 pub fn checked_jacobi<T: PlainWord>(a_minus: bool, a: T, n_minus: bool, n: T) -> Option<i8>
     requires { IsTrue n_minus → 0 < T.number n }
     ensures { result ≡ checked_jacobi_of (signed a_minus (pos (T.number a))) (signed n_minus (pos (T.number n))) }
 {
     if n_minus {
-        None
-    } else if n.is_odd() {
-        Some(jacobi_symbol(a_minus, a, n))
-    } else {
-        None
+        return None;
+    }
+    match checked_jacobi_counted(a_minus, a, n) {
+        Some((symbol, _)) => Some(symbol),
+        None => None,
     }
 }
 
 /// 0, 1 or -1, where a^((n - 1)/2), with the exponent rounded down, is congruent to 0, 1 or n - 1 modulo n, tried
 /// in this order; `None` where it is none of these, and for n below 1. Over an odd prime it is the Jacobi symbol.
-/// Condition: a negative n has a magnitude of at least 1.
+///
+/// # Preconditions
+///
+/// - a negative n has a magnitude of at least 1
 pub fn checked_legendre<T: PlainWord>(a_minus: bool, a: T, n_minus: bool, n: T) -> Option<i8>
     requires { IsTrue n_minus → 0 < T.number n }
     ensures class { result ≡ checked_legendre_of (signed a_minus (pos (T.number a)))
@@ -100,7 +113,11 @@ fn symbol_above<T: PlainWord>(a_minus: bool, a: T, n: T) -> i8
     }
 }
 
-/// The Kronecker symbol. Condition: a negative number has a magnitude of at least 1.
+/// The Kronecker symbol.
+///
+/// # Preconditions
+///
+/// - a negative number has a magnitude of at least 1
 pub fn kronecker_symbol<T: PlainWord>(a_minus: bool, a: T, n_minus: bool, n: T) -> i8
     requires a_sign { IsTrue a_minus → 0 < T.number a }
     requires n_sign { IsTrue n_minus → 0 < T.number n }

@@ -7,6 +7,7 @@ ghost use Rattle.modular_symbols.specs.Kronecker.{signed};
 use crate::low_part::LowPart;
 pub use modular_prim::numbered::IntegerValued;
 use modular_prim::numbered::Numbered;
+// rattle: line
 use modular_prim::plain_word::PlainWord;
 
 /// An unsigned operand: its integer is its whole number, which `==` compares.
@@ -43,7 +44,7 @@ pub trait SymbolWord: IntegerValued + Copy {
     /// The unsigned word that holds every magnitude, also that of the least number.
     type Magnitude: LowPart;
 
-    /// Whether the number is negative, and its magnitude.
+    /// Whether it is negative, and its magnitude.
     ///
     /// # Examples
     ///
@@ -120,6 +121,7 @@ impl SymbolWord for u64 {
     }
 }
 
+// rust: #[cfg(target_pointer_width = "64")]
 impl SymbolWord for usize {
     type Magnitude = usize;
 
@@ -160,6 +162,7 @@ impl SymbolWord for i64 {
     }
 }
 
+// rust: #[cfg(target_pointer_width = "64")]
 impl SymbolWord for isize {
     type Magnitude = usize;
 

@@ -3,13 +3,15 @@
 ghost use Rattle.std.specs.Prelude.{◌≡◌};
 ghost use Rattle.std.proofs.Common.{sym, ◌∙◌};
 
+// rattle: line
 use crate::operands::{SymbolWord, UnsignedOperand};
 use crate::symbols::ModularSymbols;
 use modular_prim::numbered::Numbered;
 use modular_prim::operations::{ModularCoreOps, ModularPow, ModularUnaryOps};
+// rattle: line
 use modular_prim::plain_word::PlainWord;
 
-/// All modular operations and the symbols of a word, with operands by value and the modulus by reference.
+/// All operations and symbols of words, by value: the modulus is passed by reference.
 ///
 /// # Examples
 ///
@@ -21,6 +23,7 @@ use modular_prim::plain_word::PlainWord;
 /// }
 /// assert_eq!(sum_of_squares(200u8, 100, 251), 51); // 50000 = 199 * 251 + 51
 /// ```
+// rust instead: pub trait ModularOps<Rhs = Self, Modulus = Self, Output = Self>: Sized
 pub trait ModularOps<Rhs: Numbered, Modulus: UnsignedOperand, Output: Numbered>: UnsignedOperand
     + ModularCoreOps<Rhs, Modulus, Output = Output>
     + ModularUnaryOps<Modulus, Output = Output>
@@ -31,6 +34,15 @@ pub trait ModularOps<Rhs: Numbered, Modulus: UnsignedOperand, Output: Numbered>:
 
     ghost one_answer: { (x y : Output) → Output.whole_number x ≡ Output.whole_number y → x ≡ y };
 }
+
+// rust: impl<Rhs, Modulus, Output, Any> ModularOps<Rhs, Modulus, Output> for Any
+// rust: where
+// rust:     Any: ModularCoreOps<Rhs, Modulus, Output = Output>
+// rust:         + ModularUnaryOps<Modulus, Output = Output>
+// rust:         + ModularPow<Rhs, Modulus, Output = Output>
+// rust:         + ModularSymbols<Modulus>
+// rust: {
+// rust: }
 
 impl<T: PlainWord + SymbolWord + UnsignedOperand> ModularOps<T, &T, T> for T {
     ghost one_operand = { λ x y e. T.injective x y (sym (T.numbered x) ∙ e ∙ T.numbered y) };

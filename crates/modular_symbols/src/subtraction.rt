@@ -5,10 +5,13 @@ ghost use Rattle.modular_symbols.specs.Jacobi.{jacobi};
 ghost use Rattle.modular_symbols.specs.Kronecker.{signed};
 
 use crate::low_part::LowPart;
-use crate::turns::{turn_by_swap, turn_by_twos};
+use crate::turns::{last_symbol, turn_by_swap, turn_by_twos};
 use modular_prim::abs::signed_residue;
+// rattle: line
 use modular_prim::plain_word::PlainWord;
+// rattle: line
 use modular_word::path_word::PathWord;
+// rattle: line
 use modular_word::ring_word::RingWord;
 
 // The odd part of a, or of n where a is 0; the lowest bit of the second result is 1 where this negates the symbol
@@ -69,23 +72,19 @@ fn subtract_and_halve<T: LowPart>(a: T, n: T) -> i8
         swaps = all_swaps;
         twos = all_twos;
     }
-    if below == T::one() {
-        if ((swaps >> 1) ^ twos) % 2 == 1 {
-            -1
-        } else {
-            1
-        }
-    } else {
-        0
-    }
+    last_symbol(below, ((swaps >> 1) ^ twos) % 2 == 1)
 }
 
-/// The Jacobi symbol over n of a number, given by its sign and its magnitude. Condition: n is odd.
+/// The Jacobi symbol of a, or of -a if `a_minus`: the number over n is given by its sign and its magnitude.
 ///
 /// Each turn of the loop replaces the greater of two odd numbers by the odd part of their difference, until they
 /// are equal. The only division is the reduction of a magnitude that isn't below n.
 ///
 /// Source: Shallit and Sorenson, "A binary algorithm for the Jacobi symbol", ACM SIGSAM Bulletin 27, 1993.
+///
+/// # Conditions
+///
+/// - (debug) n is odd
 ///
 /// # Examples
 ///
@@ -95,9 +94,11 @@ fn subtract_and_halve<T: LowPart>(a: T, n: T) -> i8
 /// assert_eq!(jacobi(false, 2u64, 15), 1);
 /// assert_eq!(jacobi(true, 1u64, 7), -1); // of -1 over 7
 /// ```
+// rust: #[cfg_attr(debug_assertions, track_caller)]
 pub fn jacobi_by_subtraction<T: LowPart>(a_minus: bool, a: T, n: T) -> i8
     requires { T.number n % 2 ≡ 1 }
     ensures { result ≡ jacobi (signed a_minus (pos (T.number a))) (T.number n) }
 {
+    // rust: debug_assert!(n.is_odd(), "n must be odd");
     subtract_and_halve(signed_residue(a_minus, a, n), n)
 }

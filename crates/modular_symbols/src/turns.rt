@@ -1,12 +1,14 @@
 //! What negates a Jacobi symbol: removing a power of 2 from the upper number, and swapping two odd numbers.
 
-ghost use Rattle.std.specs.Prelude.{◌≡◌, ℕ, ◌*◌, ◌/◌, ◌%◌, ◌^◌, ◌==◌, ◌||◌, pos, if◌then◌else◌};
+ghost use Rattle.std.specs.Prelude.{◌≡◌, ◌≢◌, ℕ, ◌*◌, ◌/◌, ◌%◌, ◌^◌, ◌==◌, ◌||◌, pos, if◌then◌else◌};
 ghost use Rattle.modular_symbols.specs.Jacobi.{jacobi};
 ghost use Rattle.modular_symbols.specs.Kronecker.{signed};
 
 use crate::low_part::LowPart;
 use modular_prim::plain_word::PlainWord;
+// rattle: line
 use modular_word::path_word::PathWord;
+// rattle: line
 use modular_word::ring_word::RingWord;
 
 // Whether an odd number is 3 modulo 4.
@@ -17,7 +19,11 @@ fn leaves_3<T: PlainWord>(n: T) -> bool
     n.half().is_odd()
 }
 
-/// Whether the symbol of 2 over an odd number is -1: the number is 3 or 5 modulo 8. Condition: it is odd.
+/// Whether the symbol of 2 over an odd number is -1: the number is 3 or 5 modulo 8.
+///
+/// # Preconditions
+///
+/// - n is odd
 pub fn is_minus_over_two<T: PlainWord>(n: T) -> bool
     requires { T.number n % 2 ≡ 1 }
     ensures { result ≡ (T.number n % 8 == 3) || (T.number n % 8 == 5) }
@@ -40,6 +46,18 @@ pub(crate) fn is_turned_by_swap<T: PlainWord>(a: T, n: T) -> bool
     ensures { jacobi (pos (T.number a)) (T.number n) ≡ signed result (jacobi (pos (T.number n)) (T.number a)) }
 {
     leaves_3(a) & leaves_3(n)
+}
+
+// The symbol over the last number of a loop, of 0: turned or not over 1, and 0 over a greater one.
+pub(crate) fn last_symbol<T: PlainWord>(n: T, turned: bool) -> i8
+    ensures one { T.number n ≡ 1 → result ≡ signed turned (pos 1) }
+    ensures more { T.number n ≢ 1 → result ≡ pos 0 }
+{
+    if n == T::one() {
+        if turned { -1 } else { 1 }
+    } else {
+        0
+    }
 }
 
 // In the lowest bit, whether removing 2^twos from the upper number negates the symbol over an odd n. The other bits

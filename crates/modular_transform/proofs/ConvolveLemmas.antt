@@ -17,7 +17,7 @@ use Rattle.modular_reduced.specs.Entries.{entry}
 use Rattle.modular_reduced.specs.EntryLaws.{entry_at}
 use Rattle.modular_transform.proofs.CyclicProducts.{HalfTurn, Mirrored, convolved}
 use Rattle.modular_transform.proofs.Reordering.{mirrored_first, mirrored_other}
-use Rattle.modular_transform.proofs.ValueLemmas.{held_value}
+use Rattle.modular_reduced.proofs.ListSteps.{held_values}
 
 -- a root that suits, for the convolution theorem
 half_turn_at : {m g n : ℕ} (z : ℕ) → n ≡ 2 ^ z → Suits m g n → HalfTurn m g n
@@ -105,12 +105,12 @@ convolution_end number form value width m g n part xs ys xs1 ys1 xs2 xs3 canonic
           let c = entry number value m xs2 in
           let li : i < n = omega arith in
           let product : (j : ℕ) → j < n → c j ≡ (transform m g n x j * transform m g n y j) % m = λ j h.
-          let x1 = held_value number form value width m xs1 (transform m g (length xs) x) j canonical is1 (omega arith)
+          let x1 = held_values number xs1 (transform m g (length xs) x) j canonical is1 (omega arith)
           ∙ ap (λ v. transform m g v x j) l in
-          let y1 = held_value number form value width m ys1
+          let y1 = held_values number ys1
           (transform m g (length ys) y) j canonical is_ys1 (omega arith)
           ∙ ap (λ v. transform m g v y j) l_ys in
-          held_value number form value width m xs2
+          held_values number xs2
           (λ i. (entry number value m xs1 i * entry number value m ys1 i) % m) j canonical is2 (omega arith)
           ∙ ap (λ v. (v * entry number value m ys1 j) % m) x1 ∙ ap (λ v. (transform m g n x j * v) % m) y1 in
           let whole = ap (λ v. (transform m g v c (mirrored v i) * part) % m) l2

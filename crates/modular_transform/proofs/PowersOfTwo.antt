@@ -75,11 +75,6 @@ exponent_above_zero (suc z) n whole other = omega arith
 pub beyond_one : (n : ℕ) → IsPowerOfTwo n → n ≢ 1 → 1 < n
 beyond_one n p other = let q = pow_pos p.0 in let e = p.1 in omega arith
 
--- a number is below the power of two with it as exponent
-pub below_power : (z : ℕ) → z < 2 ^ z
-below_power zero = let one : 2 ^ 0 ≡ 1 = refl in omega (arith, one)
-below_power (suc z) = let two = two-pow-succ z in let before = below_power z in omega (arith, two, before)
-
 -- the exponent of a power of two that is a word
 pub exponent_below : (z n : ℕ) → n ≡ 2 ^ z → n < 2 ^ 64 → z < 64
 exponent_below z n is below = elim (cases_lt z 64) [

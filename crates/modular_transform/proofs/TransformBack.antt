@@ -13,7 +13,7 @@ use Rattle.modular_word.proofs.Sums.{sum_below-zero, sum_below-suc, sum_below-sa
 use Rattle.modular_reduced.specs.Entries.{entry}
 use Rattle.modular_reduced.specs.Forms.{Represents, IsCanonical}
 use Rattle.modular_reduced.specs.Values.{HoldValues}
-use Rattle.modular_transform.proofs.ValueLemmas.{held_value}
+use Rattle.modular_reduced.proofs.ListSteps.{held_values}
 use Rattle.modular_transform.specs.Orders.{IsReordered, mirrored}
 use Rattle.modular_transform.specs.Transforms.{Suits, transform}
 use Rattle.modular_transform.proofs.ConvolveLemmas.{half_turn, mirrored_place, reordered_value}
@@ -193,6 +193,6 @@ stepped_back number form value width m g part xs xs1 xs2 xs3 canonical l1 l2 l3 
       reordered_value number value m i d (mirrored (length xs1)) xs1 xs2 is2
       (omega (arith, in_range, l1, l3)) (omega (arith, in_range, l2, l3)) (omega (arith, e, lk, l1))
       ∙ ap (entry number value m xs1) e
-      ∙ held_value number form value width m xs1 (transform m g n x) k canonical is1 (omega (arith, lk, l1)) in
+      ∙ held_values number xs1 (transform m g n x) k canonical is1 (omega (arith, lk, l1)) in
       subst (λ v. Represents form m (number (get_or xs3 i d)) v) (ap (λ v. (v * part) % m) v2) (is3.each i d in_range);
 }

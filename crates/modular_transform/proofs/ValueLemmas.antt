@@ -12,7 +12,6 @@ use Rattle.modular_word.proofs.ResidueLemmas.{residue_sub, residue_sub_wrapped}
 use Rattle.modular_reduced.specs.Entries.{entry}
 use Rattle.modular_reduced.specs.EntryLaws.{entry_at, entry_read, entry_written, entry_kept}
 use Rattle.modular_reduced.specs.Forms.{Represents, IsForm, IsCanonical}
-use Rattle.modular_reduced.specs.Values.{HoldValues}
 use Rattle.modular_reduced.proofs.FormLemmas.{form_of_value}
 use Rattle.modular_transform.specs.Stages.{IsPair, PairDone}
 
@@ -104,17 +103,3 @@ entry_done number value m forms i f target within before is k l = elim (cases_eq
       ∙ ap target (sym e)
   | inr n ↦ entry_kept number value m forms i k f n ∙ before k (omega arith)
 ]
-
--- the value at a place of a list that holds values
-pub held_value : {T : Type 0} (number : T → ℕ) (form value : ℕ → ℕ → ℕ) (width m : ℕ)
-    (forms : List T) (v : ℕ → ℕ) (i : ℕ)
-    → IsCanonical form value width m → HoldValues number form m forms v → i < length forms
-    → entry number value m forms i ≡ v i
-held_value number form value width m [] v i canonical holds l = absurd (omega arith)
-held_value number form value width m (x ∷ xs) v i canonical holds l =
-    sym (entry_at number value m (x ∷ xs) i x l) ∙ canonical.one_value _ _ (holds.each i x l)
-
-pub held_forms : {T : Type 0} (number : T → ℕ) (form value : ℕ → ℕ → ℕ) (width m : ℕ) (forms : List T) (v : ℕ → ℕ)
-    → IsCanonical form value width m → HoldValues number form m forms v
-    → All (λ f. IsForm form value m (number f)) forms
-held_forms number form value width m forms v canonical holds i d l = form_of_value canonical (holds.each i d l)

@@ -40,15 +40,21 @@ fn multiply<T: RingWord, R: Reducer<T>>(r: &R, xs: &mut [T], ys: &mut [T], g: &T
     transform_back(r, xs, g, part);
 }
 
-/// Replaces xs by the cyclic product of xs and ys, and ys by its transform by g. Returns false, with both lists
+/// Replaces xs by the cyclic product xs·ys, and ys by its transform: that by g. Returns false, with both lists
 /// unchanged, exactly where their length n has no inverse modulo m.
 ///
-/// Entry e of xs becomes the form of the sum of x_i·y_j modulo m over i + j = e or e + n. Conditions: the lists
-/// have the same length; the length is a power of two; g and all entries are checked forms; g suits the length
-/// (`root_fits` tells). No memory is allocated. n may be too large for a word.
+/// Entry e of xs becomes the form of the sum of x_i·y_j modulo m over i + j = e or e + n. No memory is allocated. n
+/// may be too large for a word.
 ///
 /// Source: Knuth, The Art of Computer Programming, volume 2, section 4.3.3, part C: transform both lists, multiply
 /// entry by entry, transform back.
+///
+/// # Conditions
+///
+/// - the lists have the same length
+/// - the length is a power of two
+/// - g suits the length (`root_fits` tells)
+/// - (debug) g and all entries are checked forms
 ///
 /// # Examples
 ///
@@ -62,6 +68,8 @@ fn multiply<T: RingWord, R: Reducer<T>>(r: &R, xs: &mut [T], ys: &mut [T], g: &T
 /// assert!(convolve(&ring, &mut xs, &mut ys, &root));
 /// assert_eq!(xs, [3, 10, 8, 0]); // (1 + 2X)(3 + 4X)
 /// ```
+// rust: #[must_use]
+// rust: #[track_caller]
 pub fn convolve<T: RingWord, R: Reducer<T>>(r: &R, xs: &mut [T], ys: &mut [T], g: &T) -> bool
     requires checked_xs { All (λ f. IsForm R.form R.value (R.modulus r.now) (T.number f)) xs.old }
     requires checked_ys { All (λ f. IsForm R.form R.value (R.modulus r.now) (T.number f)) ys.old }
@@ -89,6 +97,13 @@ pub fn convolve<T: RingWord, R: Reducer<T>>(r: &R, xs: &mut [T], ys: &mut [T], g
         All (λ f. IsForm R.form R.value m (T.number f)) xs.new
         × All (λ f. IsForm R.form R.value m (T.number f)) ys.new }
 {
+    // rust: assert!(ys.len() == xs.len(), "the lists must have the same length: {} and {}", xs.len(), ys.len());
+    // rust: assert!(xs.len().is_power_of_two(), "the length must be a power of two: {}", xs.len());
+    // rust: debug_assert!(r.check(g) && xs.iter().all(|x| r.check(x)) && ys.iter().all(|y| r.check(y)),
+    // rust:     "g and all entries must be checked forms");
+    // rust: assert!(r.check(g) && crate::ring::root_fits(r, g, xs.len()),
+    // rust:     "g must suit the length: n = {}, m = {}, g = {}", xs.len(), crate::additions::number(r.modulus()),
+    // rust:     crate::additions::number(r.residue(*g)));
     let length = length_form(r, xs.len());
     match r.inv(length) {
         Some(part) => {

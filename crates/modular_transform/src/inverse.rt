@@ -49,11 +49,16 @@ pub(crate) fn transform_back<T: RingWord, R: Reducer<T>>(r: &R, xs: &mut [T], g:
 /// Undoes `ntt`: replaces the entries by those whose transform by g they are. Returns false, with the entries
 /// unchanged, exactly where their number n has no inverse modulo m.
 ///
-/// Conditions: the length is a power of two; g and the entries are checked forms; g suits the length (`root_fits`
-/// tells). The modulus needn't be prime. No memory is allocated. n may be too large for a word.
+/// The modulus needn't be prime. No memory is allocated. n may be too large for a word.
 ///
-/// Source: Pollard, "The fast Fourier transform in a finite field", section 2: the transform by the inverse of g, which
-/// is that by g in another order, divided by n.
+/// Source: Pollard, "The fast Fourier transform in a finite field", section 2: the transform by the inverse of g,
+/// which is that by g in another order, divided by n.
+///
+/// # Conditions
+///
+/// - the length is a power of two
+/// - g suits the length (`root_fits` tells)
+/// - (debug) g and the entries are checked forms
 ///
 /// # Examples
 ///
@@ -69,6 +74,8 @@ pub(crate) fn transform_back<T: RingWord, R: Reducer<T>>(r: &R, xs: &mut [T], g:
 /// assert!(intt(&ring, &mut entries, &root));
 /// assert_eq!(entries, [1, 2, 3, 4]);
 /// ```
+// rust: #[must_use]
+// rust: #[track_caller]
 pub fn intt<T: RingWord, R: Reducer<T>>(r: &R, xs: &mut [T], g: &T) -> bool
     requires checked { All (λ f. IsForm R.form R.value (R.modulus r.now) (T.number f)) xs.old }
     requires root { IsForm R.form R.value (R.modulus r.now) (T.number g.now) }
@@ -86,6 +93,11 @@ pub fn intt<T: RingWord, R: Reducer<T>>(r: &R, xs: &mut [T], g: &T) -> bool
         (i : ℕ) → i < length xs.old → slice_index (values_of T.number R.value m xs.new) i ≡ x i % m }
     ensures checked { All (λ f. IsForm R.form R.value (R.modulus r.now) (T.number f)) xs.new }
 {
+    // rust: assert!(xs.len().is_power_of_two(), "the length must be a power of two: {}", xs.len());
+    // rust: debug_assert!(r.check(g) && xs.iter().all(|x| r.check(x)), "g and the entries must be checked forms");
+    // rust: assert!(r.check(g) && crate::ring::root_fits(r, g, xs.len()),
+    // rust:     "g must suit the length: n = {}, m = {}, g = {}", xs.len(), crate::additions::number(r.modulus()),
+    // rust:     crate::additions::number(r.residue(*g)));
     let length = length_form(r, xs.len());
     match r.inv(length) {
         Some(part) => {

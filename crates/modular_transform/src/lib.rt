@@ -4,9 +4,11 @@
 
 pub mod convolution;
 pub mod inverse;
+// rattle: line
 pub mod laws;
 pub mod lists;
 pub mod order;
+// tests: item
 pub mod plain;
 pub mod roots;
 pub mod stage;

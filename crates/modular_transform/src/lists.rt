@@ -9,8 +9,8 @@ ghost use Rattle.modular_reduced.specs.Values.{values_of, HoldValues, sum_of_pro
 use modular_reduced::reducer::Reducer;
 use modular_word::ring_word::RingWord;
 
-/// Stores the forms of the words, and the form of 0 at each place after the last word. Words that exceed the length
-/// of `forms` are ignored.
+/// Stores the forms of the words, then of 0: at each place after the last word. Words that exceed the length of `forms`
+/// are ignored.
 ///
 /// The result is what `convolve` and `ntt` take: the values are the residues of the words.
 ///
@@ -36,8 +36,12 @@ pub fn load_forms<T: RingWord, R: Reducer<T>>(r: &R, words: &[T], forms: &mut [T
     }
 }
 
-/// Stores the values of the first forms, each below the modulus. Conditions: the entries of `forms` are checked forms;
-/// there are at least as many forms as places.
+/// Stores the values of the first forms: each is below the modulus.
+///
+/// # Conditions
+///
+/// - there are at least as many forms as places
+/// - (debug) the entries of `forms` are checked forms
 ///
 /// # Examples
 ///
@@ -51,12 +55,16 @@ pub fn load_forms<T: RingWord, R: Reducer<T>>(r: &R, words: &[T], forms: &mut [T
 /// unload_forms(&ring, &forms, &mut words);
 /// assert_eq!(words, [3, 2]);
 /// ```
+// rust: #[track_caller]
 pub fn unload_forms<T: RingWord, R: Reducer<T>>(r: &R, forms: &[T], words: &mut [T])
     requires checked { All (λ f. IsForm R.form R.value (R.modulus r.now) (T.number f)) forms.now }
     requires within { length words.old ≤ length forms.now }
     ensures values { let m = R.modulus r.now in (i : ℕ) → i < length words.old →
         slice_index (map T.number words.new) i ≡ slice_index (values_of T.number R.value m forms.now) i }
 {
+    // rust: debug_assert!(forms.iter().all(|x| r.check(x)), "the entries of `forms` must be checked forms");
+    // rust: assert!(forms.len() >= words.len(), "there must be at least as many forms as places: {} and {}",
+    // rust:     forms.len(), words.len());
     'entries: for i in 0..words.len() {
         words[i] = r.residue(forms[i]);
     }
@@ -70,8 +78,12 @@ fn takes_room<T: RingWord, R: Reducer<T>>(r: &R) -> bool
     T::bits() == 64 && !r.modulus().has_top_bit()
 }
 
-/// Adds to each entry of xs the entry of ys with the same index. Conditions: the lists have the same length; all
-/// entries are checked forms.
+/// Changes xs by ys, entry by entry: it adds to each entry of xs the entry of ys with the same index.
+///
+/// # Conditions
+///
+/// - the lists have the same length
+/// - (debug) the entries of both lists are checked forms
 ///
 /// # Examples
 ///
@@ -84,6 +96,7 @@ fn takes_room<T: RingWord, R: Reducer<T>>(r: &R) -> bool
 /// add_lists(&ring, &mut xs, &[10, 3]);
 /// assert_eq!(xs, [3, 5]);
 /// ```
+// rust: #[track_caller]
 pub fn add_lists<T: RingWord, R: Reducer<T>>(r: &R, xs: &mut [T], ys: &[T])
     requires equal { length ys.now ≡ length xs.old }
     requires checked_xs { All (λ f. IsForm R.form R.value (R.modulus r.now) (T.number f)) xs.old }
@@ -98,6 +111,8 @@ pub fn add_lists<T: RingWord, R: Reducer<T>>(r: &R, xs: &mut [T], ys: &[T])
         + slice_index (values_of T.number R.value m ys.now) i) % m }
     ensures checked { All (λ f. IsForm R.form R.value (R.modulus r.now) (T.number f)) xs.new }
 {
+    // rust: assert!(ys.len() == xs.len(), "the lists must have the same length: {} and {}", xs.len(), ys.len());
+    // rust: debug_assert!(xs.iter().chain(ys.iter()).all(|x| r.check(x)), "all entries must be checked forms");
     if takes_room::<T, R>(r) {
         'roomy: for i in 0..xs.len() {
             xs[i] = r.add_with_room(&xs[i], &ys[i]);
@@ -109,8 +124,12 @@ pub fn add_lists<T: RingWord, R: Reducer<T>>(r: &R, xs: &mut [T], ys: &[T])
     }
 }
 
-/// Subtracts from each entry of xs the entry of ys with the same index. Conditions: the lists have the same length; all
-/// entries are checked forms.
+/// Changes xs by ys, entry by entry: it subtracts from each entry of xs the entry of ys with the same index.
+///
+/// # Conditions
+///
+/// - the lists have the same length
+/// - (debug) the entries of both lists are checked forms
 ///
 /// # Examples
 ///
@@ -123,6 +142,7 @@ pub fn add_lists<T: RingWord, R: Reducer<T>>(r: &R, xs: &mut [T], ys: &[T])
 /// sub_lists(&ring, &mut xs, &[10, 3]);
 /// assert_eq!(xs, [80, 96]);
 /// ```
+// rust: #[track_caller]
 pub fn sub_lists<T: RingWord, R: Reducer<T>>(r: &R, xs: &mut [T], ys: &[T])
     requires equal { length ys.now ≡ length xs.old }
     requires checked_xs { All (λ f. IsForm R.form R.value (R.modulus r.now) (T.number f)) xs.old }
@@ -137,6 +157,8 @@ pub fn sub_lists<T: RingWord, R: Reducer<T>>(r: &R, xs: &mut [T], ys: &[T])
         -ℤ pos (slice_index (values_of T.number R.value m ys.now) i)) }
     ensures checked { All (λ f. IsForm R.form R.value (R.modulus r.now) (T.number f)) xs.new }
 {
+    // rust: assert!(ys.len() == xs.len(), "the lists must have the same length: {} and {}", xs.len(), ys.len());
+    // rust: debug_assert!(xs.iter().chain(ys.iter()).all(|x| r.check(x)), "all entries must be checked forms");
     if takes_room::<T, R>(r) {
         'roomy: for i in 0..xs.len() {
             xs[i] = r.sub_with_room(&xs[i], &ys[i]);
@@ -148,8 +170,12 @@ pub fn sub_lists<T: RingWord, R: Reducer<T>>(r: &R, xs: &mut [T], ys: &[T])
     }
 }
 
-/// Multiplies each entry of xs by the entry of ys with the same index. Conditions: the lists have the same length; all
-/// entries are checked forms.
+/// Changes xs by ys, entry by entry: it multiplies each entry of xs by the entry of ys with the same index.
+///
+/// # Conditions
+///
+/// - the lists have the same length
+/// - (debug) the entries of both lists are checked forms
 ///
 /// # Examples
 ///
@@ -162,6 +188,7 @@ pub fn sub_lists<T: RingWord, R: Reducer<T>>(r: &R, xs: &mut [T], ys: &[T])
 /// multiply_lists(&ring, &mut xs, &[10, 3]);
 /// assert_eq!(xs, [27, 6]); // 900 - 9 * 97
 /// ```
+// rust: #[track_caller]
 pub fn multiply_lists<T: RingWord, R: Reducer<T>>(r: &R, xs: &mut [T], ys: &[T])
     requires equal { length ys.now ≡ length xs.old }
     requires checked_xs { All (λ f. IsForm R.form R.value (R.modulus r.now) (T.number f)) xs.old }
@@ -176,12 +203,18 @@ pub fn multiply_lists<T: RingWord, R: Reducer<T>>(r: &R, xs: &mut [T], ys: &[T])
         * slice_index (values_of T.number R.value m ys.now) i) % m }
     ensures checked { All (λ f. IsForm R.form R.value (R.modulus r.now) (T.number f)) xs.new }
 {
+    // rust: assert!(ys.len() == xs.len(), "the lists must have the same length: {} and {}", xs.len(), ys.len());
+    // rust: debug_assert!(xs.iter().chain(ys.iter()).all(|x| r.check(x)), "all entries must be checked forms");
     'entries: for i in 0..xs.len() {
         xs[i] = r.mul(&xs[i], &ys[i]);
     }
 }
 
-/// Multiplies each entry by one factor. Condition: the factor and all entries are checked forms.
+/// Multiplies each entry by one factor.
+///
+/// # Conditions
+///
+/// - (debug) the factor and all entries are checked forms
 ///
 /// # Examples
 ///
@@ -194,6 +227,7 @@ pub fn multiply_lists<T: RingWord, R: Reducer<T>>(r: &R, xs: &mut [T], ys: &[T])
 /// scale_list(&ring, &mut xs, &10);
 /// assert_eq!(xs, [27, 20]); // 900 - 9 * 97
 /// ```
+// rust: #[cfg_attr(debug_assertions, track_caller)]
 pub fn scale_list<T: RingWord, R: Reducer<T>>(r: &R, xs: &mut [T], factor: &T)
     requires checked { All (λ f. IsForm R.form R.value (R.modulus r.now) (T.number f)) xs.old }
     requires factor { IsForm R.form R.value (R.modulus r.now) (T.number factor.now) }
@@ -205,11 +239,17 @@ pub fn scale_list<T: RingWord, R: Reducer<T>>(r: &R, xs: &mut [T], factor: &T)
         ≡ (slice_index (values_of T.number R.value m xs.old) i * R.value m (T.number factor.now)) % m }
     ensures checked { All (λ f. IsForm R.form R.value (R.modulus r.now) (T.number f)) xs.new }
 {
+    // rust: debug_assert!(r.check(factor) && xs.iter().all(|x| r.check(x)),
+    // rust:     "the factor and all entries must be checked forms");
     r.scale_entries(xs, factor);
 }
 
-/// The form of the sum of the products of two lists, entry by entry: that of 0 for lists without entries. A reducer may
-/// reduce once for many products. Conditions: the lists have the same length; all entries are checked forms.
+/// The form of Σ x_i·y_i: that of 0 for lists without entries. A reducer may reduce once for many products.
+///
+/// # Conditions
+///
+/// - the lists have the same length
+/// - (debug) the entries of both lists are checked forms
 ///
 /// # Examples
 ///
@@ -220,6 +260,7 @@ pub fn scale_list<T: RingWord, R: Reducer<T>>(r: &R, xs: &mut [T], factor: &T)
 /// let ring = Vanilla::<u64>::new(&97);
 /// assert_eq!(dot_product(&ring, &[90, 2], &[10, 3]), 33); // 900 + 6 - 9 * 97
 /// ```
+// rust: #[track_caller]
 pub fn dot_product<T: RingWord, R: Reducer<T>>(r: &R, xs: &[T], ys: &[T]) -> T
     requires equal { length ys.now ≡ length xs.now }
     requires checked_xs { All (λ f. IsForm R.form R.value (R.modulus r.now) (T.number f)) xs.now }
@@ -230,5 +271,7 @@ pub fn dot_product<T: RingWord, R: Reducer<T>>(r: &R, xs: &[T], ys: &[T]) -> T
     ensures value { let m = R.modulus r.now in
         R.value m (T.number result) ≡ sum_of_products T.number R.value m xs.now ys.now % m }
 {
+    // rust: assert!(ys.len() == xs.len(), "the lists must have the same length: {} and {}", xs.len(), ys.len());
+    // rust: debug_assert!(xs.iter().chain(ys.iter()).all(|x| r.check(x)), "all entries must be checked forms");
     r.add_products(r.transform(T::zero()), xs, ys)
 }

@@ -8,8 +8,12 @@ const SIDE: usize = 8;
 
 const SIDE_BITS: u32 = 3;
 
-/// Moves each entry to the index with the bits in the opposite order. Conditions: there are 2^bits entries; `bits`
-/// is at most 64.
+/// Moves each entry to the index with the bits in the opposite order.
+///
+/// # Preconditions
+///
+/// - there are 2^bits entries
+/// - `bits` is at most 64
 pub fn reverse_places<T: Copy>(entries: &mut [T], bits: u32)
     requires few { bits ≤ 64 }
     requires whole { length entries.old ≡ 2 ^ bits }
@@ -68,10 +72,14 @@ fn reverse_by_tiles<T: Copy>(entries: &mut [T], bits: u32)
     }
 }
 
-/// The reversed bits of `place`, from those of `place` - 1, in `last`. Conditions: `place` is below 2^bits; `bits` is at
-/// most 63.
+/// The reversed bits of `place`, from those of `place` - 1, in `last`.
 ///
 /// Where `place` ends in t zeros, the lowest bits of `place` - 1 are a zero and t ones, and these t + 1 bits change.
+///
+/// # Preconditions
+///
+/// - `place` is below 2^bits
+/// - `bits` is at most 63
 pub fn next_reversed(last: usize, place: usize, bits: u32) -> usize
     requires few { bits ≤ 63 }
     requires below { place < 2 ^ bits }

@@ -8,8 +8,12 @@ ghost use Rattle.modular_transform.specs.Transforms.{Suits, transform, cyclic_pr
 
 use modular_word::plain::power_of;
 
-/// Whether g suits transforms of n entries modulo m: n is a power of two, and for n above 1 the power
-/// n/2 of g is -1 modulo m. Condition: m is at least 1.
+/// Whether g suits transforms of n entries modulo m: n is a power of two, and for n above 1 the power n/2 of g is
+/// -1 modulo m.
+///
+/// # Preconditions
+///
+/// - m is at least 1
 pub fn suits(m: u64, g: u64, n: usize) -> bool
     requires { 1 ≤ m }
     ensures { IsTrue result ↔ Suits m g n }
@@ -23,7 +27,11 @@ pub fn suits(m: u64, g: u64, n: usize) -> bool
     (power_of(g, n as u64 / 2, m) as u128 + 1) % m as u128 == 0
 }
 
-/// Entry j of the transform by g of the entries modulo m, computed from the definition. Condition: m is at least 1.
+/// Entry j of the transform by g of the entries modulo m, computed from the definition.
+///
+/// # Preconditions
+///
+/// - m is at least 1
 pub fn transform_entry(m: u64, g: u64, xs: &[u64], j: usize) -> u64
     requires { 1 ≤ m }
     ensures { result ≡ transform m g (length xs.now) (slice_index xs.now) j }
@@ -70,8 +78,11 @@ fn row_sum(m: u64, x: u64, i: usize, ys: &[u64], e: usize) -> u64
     sum
 }
 
-/// Entry e of the cyclic product of two lists modulo m, computed from the definition. Conditions: m is at least 1,
-/// the lists have the same length, and e is below it.
+/// Entry e of the cyclic product of two lists modulo m, computed from the definition.
+///
+/// # Preconditions
+///
+/// - m is at least 1, the lists have the same length, and e is below it
 pub fn product_entry(m: u64, xs: &[u64], ys: &[u64], e: usize) -> u64
     requires modulus { 1 ≤ m }
     requires equal { length xs.now ≡ length ys.now }

@@ -27,7 +27,10 @@ fn pair<T: RingWord, R: Reducer<T>>(r: &R, forms: &mut [T], first: usize, second
 /// The first stage with a root: entry i and the one `half` after it become their sum, and their difference times the
 /// power i of the root. Returns the number of products.
 ///
-/// Conditions: all entries and the root are checked forms; there are 2·half entries.
+/// # Preconditions
+///
+/// - all entries and the root are checked forms
+/// - there are 2·half entries
 pub fn first_stage<T: RingWord, R: Reducer<T>>(
     r: &R,
     forms: &mut [T],

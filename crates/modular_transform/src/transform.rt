@@ -11,8 +11,12 @@ use crate::two_stages::two_stages;
 use modular_reduced::reducer::Reducer;
 use modular_word::ring_word::RingWord;
 
-/// Whether g suits transforms of n entries: n is a power of two, and for n above 1 the value of g to the power n/2
-/// is -1 modulo m. Condition: g is a checked form. n may be too large for a word.
+/// Whether g suits n entries: n is a power of two, and for n above 1 the value of g to the power n/2 is -1 modulo m. n
+/// may be too large for a word.
+///
+/// # Preconditions
+///
+/// - g is a checked form
 ///
 /// # Examples
 ///
@@ -42,12 +46,16 @@ pub fn root_fits<T: RingWord, R: Reducer<T>>(r: &R, g: &T, n: usize) -> bool
     r.is_zero(&r.add(&power, &one))
 }
 
-/// Transforms as `ntt` does, and returns the number of products of the reducer: n·z/2 + n - 1 + z for n = 2^z.
-/// Conditions: the length is a power of two; g and the entries are checked forms; g suits the length (`root_fits`
-/// tells).
+/// `ntt`, and the number of products: n·z/2 + n - 1 + z for n = 2^z.
 ///
 /// The z stages have half blocks of n/2, n/4, .., 1 entries. A stage takes a product for each of its n/2 pairs, a
 /// product for the power of each column, and a square for the root of the next stage.
+///
+/// # Conditions
+///
+/// - the length is a power of two
+/// - g suits the length (`root_fits` tells)
+/// - (debug) g and the entries are checked forms
 ///
 /// # Examples
 ///
@@ -60,6 +68,7 @@ pub fn root_fits<T: RingWord, R: Reducer<T>>(r: &R, g: &T, n: usize) -> bool
 /// assert_eq!(ntt_counted(&ring, &mut forms, &4), 4 * 2 / 2 + 4 - 1 + 2);
 /// assert_eq!(forms, [10, 7, 15, 6]);
 /// ```
+// rust: #[track_caller]
 pub fn ntt_counted<T: RingWord, R: Reducer<T>>(r: &R, xs: &mut [T], g: &T) -> u128
     requires checked { All (λ f. IsForm R.form R.value (R.modulus r.now) (T.number f)) xs.old }
     requires root { IsForm R.form R.value (R.modulus r.now) (T.number g.now) }
@@ -74,6 +83,10 @@ pub fn ntt_counted<T: RingWord, R: Reducer<T>>(r: &R, xs: &mut [T], g: &T) -> u1
     ensures checked { All (λ f. IsForm R.form R.value (R.modulus r.now) (T.number f)) xs.new }
     ensures count { (z : ℕ) → length xs.old ≡ 2 ^ z → result ≡ length xs.old * z / 2 + length xs.old - 1 + z }
 {
+    // rust: assert!(xs.len().is_power_of_two(), "the length must be a power of two: {}", xs.len());
+    // rust: debug_assert!(r.check(g) && xs.iter().all(|x| r.check(x)), "g and the entries must be checked forms");
+    // rust: assert!(r.check(g) && root_fits(r, g, xs.len()), "g must suit the length: n = {}, m = {}, g = {}", xs.len(),
+    // rust:     crate::additions::number(r.modulus()), crate::additions::number(r.residue(*g)));
     let stages = xs.len().trailing_zeros();
     let mut roots = [*g; 64];
     let mut root = *g;
@@ -104,14 +117,19 @@ pub fn ntt_counted<T: RingWord, R: Reducer<T>>(r: &R, xs: &mut [T], g: &T) -> u1
     products
 }
 
-/// Replaces the entries by their transform by g: entry j becomes the form of the sum of x_i·g^(i·j) modulo m, x_i
-/// being the value of entry i.
+/// Replaces xs by its transform by g: entry j becomes the form of the sum of x_i·g^(i·j) modulo m, x_i being the value
+/// of entry i.
 ///
-/// Conditions: the length is a power of two; g and the entries are checked forms; g suits the length (`root_fits`
-/// tells). The modulus needn't be prime. No memory is allocated.
+/// The modulus needn't be prime. No memory is allocated.
 ///
 /// Source: the decimation in frequency of Gentleman and Sande, "Fast Fourier transforms: for fun and profit", over
 /// residues: Pollard, "The fast Fourier transform in a finite field".
+///
+/// # Conditions
+///
+/// - the length is a power of two
+/// - g suits the length (`root_fits` tells)
+/// - (debug) g and the entries are checked forms
 ///
 /// # Examples
 ///
@@ -126,6 +144,7 @@ pub fn ntt_counted<T: RingWord, R: Reducer<T>>(r: &R, xs: &mut [T], g: &T) -> u1
 /// ntt(&ring, &mut forms, &root);
 /// assert_eq!(ring.residue(forms[0]), 10);
 /// ```
+// rust: #[track_caller]
 pub fn ntt<T: RingWord, R: Reducer<T>>(r: &R, xs: &mut [T], g: &T)
     requires checked { All (λ f. IsForm R.form R.value (R.modulus r.now) (T.number f)) xs.old }
     requires root { IsForm R.form R.value (R.modulus r.now) (T.number g.now) }

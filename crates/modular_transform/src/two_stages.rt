@@ -14,7 +14,9 @@ use modular_word::ring_word::RingWord;
 const STRIP: usize = 64;
 
 // The powers of a column: of its pairs two steps apart, and of its pairs one step apart.
+// rattle: line
 #[derive(Drop)]
+// rust instead: struct Column<T> {
 struct Column<T: RingWord> {
     first: T,
     second: T,
@@ -66,10 +68,13 @@ fn four<T: RingWord, R: Reducer<T>>(
 /// Two stages, the first with a root and 2·step columns, the second with its square and `step` columns. `turned` is
 /// the power `step` of the root. Returns the number of products.
 ///
-/// Conditions: entries, root, square and `turned` are checked forms; `turned` is that power; there are 4·step·blocks
-/// entries, in one block or more.
-///
 /// The columns are processed in strips, so that consecutive accesses are close in memory.
+///
+/// # Preconditions
+///
+/// - entries, root, square and `turned` are checked forms
+/// - `turned` is that power
+/// - there are 4·step·blocks entries, in one block or more
 pub fn two_stages<T: RingWord, R: Reducer<T>>(
     r: &R,
     forms: &mut [T],

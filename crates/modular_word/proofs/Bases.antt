@@ -1,6 +1,5 @@
 -- The base of a word of w bits: how numbers pass between `< 2 ^ w` and `< b`.
 use Rattle.std.proofs.Common.{◌≡◌, ℕ, ◌+◌, ◌-◌, ◌*◌, ◌^◌, ◌<◌, ◌≤◌, sym, ap, ◌∙◌, arith}
-use Rattle.std.proofs.Math.Nat.{lt_of_mul-lt-mul_left}
 use Rattle.std.proofs.lemmas.Nat.{pow-add, pow_pos}
 
 -- a word of at least 8 bits has at least 256 numbers
@@ -21,7 +20,3 @@ below_power w b n e h = omega arith
 -- the words of a double word: 2 ^ (w + w) numbers
 pub double_base : (w b : ℕ) → b ≡ 2 ^ w → b * b ≡ 2 ^ (w + w)
 double_base w b e = ap (λ v. v * v) e ∙ sym (pow-add 2 w w)
-
--- the words of a number below the square of the base
-pub high_below_base : (b low high : ℕ) → low + b * high < b * b → high < b
-high_below_base b low high h = lt_of_mul-lt-mul_left b (let k : b * high < b * b = omega arith in k)

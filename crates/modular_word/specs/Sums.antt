@@ -8,8 +8,8 @@ sum_below (suc n) f = sum_below n f + f n
 
 -- the value at x of the polynomial with the coefficients c 0, .., c (n - 1), the constant first
 -- (Knuth, The Art of Computer Programming, volume 2, section 4.6.4)
-abbrev pub polynomial : ℕ → (ℕ → ℕ) → ℕ → ℕ
-polynomial n c x = sum_below n (λ i. c i * x ^ i)
+abbrev pub polynomial_at : ℕ → (ℕ → ℕ) → ℕ → ℕ
+polynomial_at n c x = sum_below n (λ i. c i * x ^ i)
 
 -- the same with the highest first, as in numerals and texts
 abbrev pub polynomial_highest_first : ℕ → (ℕ → ℕ) → ℕ → ℕ

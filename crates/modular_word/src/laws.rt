@@ -11,8 +11,8 @@ ghost use Rattle.modular_word.specs.Sums.{sum_below, sum_to, count_to, polynomia
 
 use crate::path_word::PathWord;
 
-/// A number is below the base exactly where it is below 2^w, for words of w bits. The base is at least 256. Its
-/// square is the number of double words, and the high word of a double word is below it.
+/// The base of words: a number is below it exactly where it is below 2^w, for words of w bits. The base is at least
+/// 256. Its square is the number of double words, and the high word of a double word is below it.
 pub fn base_laws<T: PathWord>()
     ensures at_least { 256 ≤ T.base }
     ensures same { (n : ℕ) → n < T.base ↔ (n < 2 ^ T.width) }
@@ -20,7 +20,7 @@ pub fn base_laws<T: PathWord>()
     ensures high { (low high : ℕ) → low + T.base * high < T.base * T.base → high < T.base }
 {}
 
-/// A whole number has exactly one residue modulo m, which `residue` computes. The residue of a - b, plus b, is
+/// Residues: a whole number has exactly one modulo m, which `residue` computes. The residue of a - b, plus b, is
 /// congruent to a modulo m.
 ///
 /// Source: Gauss, Disquisitiones Arithmeticae, articles 1 to 4.
@@ -43,8 +43,8 @@ pub fn remainder_laws()
     ensures powers { (m a k : ℕ) → (a % m) ^ k % m ≡ a ^ k % m }
 {}
 
-/// Congruence modulo m is an equivalence; a number is congruent to its residue. Sums, products and powers preserve
-/// it. A term cancels, and so does a factor that has an inverse.
+/// Congruence modulo m: it is an equivalence, and a number is congruent to its residue. Sums, products and powers
+/// preserve it. A term cancels, and so does a factor that has an inverse.
 ///
 /// Source: Gauss, Disquisitiones Arithmeticae, articles 2, 6 to 8 and 22.
 pub fn congruence_laws()
@@ -58,7 +58,7 @@ pub fn congruence_laws()
     ensures quotients { (m a b c j : ℕ) → Congruent m (c * j) 1 → Congruent m (a * c) (b * c) → Congruent m a b }
 {}
 
-/// The laws of exponents.
+/// Exponents.
 pub fn power_laws()
     ensures one { (k : ℕ) → 1 ^ k ≡ 1 }
     ensures first { (a : ℕ) → a ^ 1 ≡ a }
@@ -66,8 +66,8 @@ pub fn power_laws()
     ensures product { (a b c : ℕ) → a ^ (b * c) ≡ (a ^ b) ^ c }
 {}
 
-/// Two numbers have exactly one greatest common divisor, `gcd`. They are coprime exactly where it is 1, and whether
-/// a number is coprime to n depends only on its residue modulo n.
+/// Greatest common divisors: two numbers have exactly one, `gcd`. They are coprime exactly where it is 1, and whether a
+/// number is coprime to n depends only on its residue modulo n.
 ///
 /// Source: Euclid, Elements, book VII, propositions 1 and 2.
 pub fn divisor_laws()
@@ -76,8 +76,8 @@ pub fn divisor_laws()
     ensures residue { (a n : ℕ) → Coprime (a % n) n ↔ Coprime a n }
 {}
 
-/// An inverse exists exactly where the greatest common divisor is 1, that is, where the numbers are coprime. There
-/// is at most one, and `inverse_of` is it, or `None` where there is none. It depends only on the residue.
+/// When an inverse exists: exactly where the greatest common divisor is 1, that is, where the numbers are coprime.
+/// There is at most one, and `inverse_of` is it, or `None` where there is none. It depends only on the residue.
 ///
 /// Source: Gauss, Disquisitiones Arithmeticae, articles 29 and 31.
 pub fn inverse_laws()
@@ -97,9 +97,9 @@ pub fn euclids_lemma()
     ensures { (a n x : ℕ) → 0 < n → Coprime a n → (a * x) % n ≡ 0 → x % n ≡ 0 }
 {}
 
-/// A double sum may be taken in either order. A sum over a range keeps its value where its terms are permuted or
-/// reversed. Terms of equal parities have sums of equal parities. How many numbers of a range pass a test, and how
-/// many fail it, add up to the length of the range. A sum from 1 to h is a sum from 0 to h - 1.
+/// Sums: a double sum may be taken in either order. A sum over a range keeps its value where its terms are permuted or
+/// reversed. Terms of equal parities have sums of equal parities. How many numbers of a range pass a test, and how many
+/// fail it, add up to the length of the range. A sum from 1 to h is a sum from 0 to h - 1.
 ///
 /// Source: Graham, Knuth and Patashnik, Concrete Mathematics, chapter 2.
 pub fn sum_laws()
@@ -113,9 +113,9 @@ pub fn sum_laws()
     ensures from_zero { (f : ℕ → ℕ) (h : ℕ) → sum_to f h ≡ sum_below h (λ x. f (suc x)) }
 {}
 
-/// An empty sum is 0, and extending a range by one adds one term. So a polynomial by its coefficients, the highest
-/// first, satisfies Horner's rule: with one more coefficient it is x times the former polynomial, plus that
-/// coefficient.
+/// Sums over ranges: an empty sum is 0, and extending a range by one adds one term. So a polynomial by its
+/// coefficients, the highest first, satisfies Horner's rule: with one more coefficient it is x times the former
+/// polynomial, plus that coefficient.
 ///
 /// Source: Knuth, The Art of Computer Programming, volume 2, section 4.6.4.
 pub fn range_laws()
@@ -125,9 +125,9 @@ pub fn range_laws()
         polynomial_highest_first (n + 1) c x ≡ polynomial_highest_first n c x * x + c n }
 {}
 
-/// The linear congruence a·y = b modulo m is solved by b·x where x is an inverse of a. So where x is the inverse of
-/// m modulo n, there is a formula for the number below m·n that is congruent to a modulo m and to b modulo n: the
-/// Chinese remainder theorem for two moduli.
+/// Linear congruences: a·y = b modulo m is solved by b·x where x is an inverse of a. So where x is the inverse of m
+/// modulo n, there is a formula for the number below m·n that is congruent to a modulo m and to b modulo n: the Chinese
+/// remainder theorem for two moduli.
 ///
 /// Source: Gauss, Disquisitiones Arithmeticae, articles 29, 31 and 36; Knuth, The Art of Computer
 /// Programming, volume 2, section 4.3.2.

@@ -2,10 +2,12 @@
 //! reduction, each written once for every width.
 #![tactic(auto)]
 
+// rattle: line
 pub mod laws;
 pub mod machine_words;
 pub mod path_word;
 pub mod paths;
+// tests: item
 pub mod plain;
 pub mod ring_word;
 pub mod word;

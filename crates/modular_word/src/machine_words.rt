@@ -386,6 +386,7 @@ impl PathWord for u64 {
     ghost base_is = { refl };
 }
 
+// rust: #[cfg(target_pointer_width = "64")]
 impl PathWord for usize {
     type Double = u128;
 

@@ -7,6 +7,7 @@ ghost use Rattle.std.specs.Int.Count.{count_leading_zeros, count_trailing_zeros}
 use crate::ring_word::RingWord;
 
 /// A machine word with its double word.
+// rust instead: pub trait PathWord: Sized + RingWord {
 pub trait PathWord: RingWord {
     /// The type that holds the product of two words.
     type Double: Copy;
@@ -17,20 +18,35 @@ pub trait PathWord: RingWord {
     // The base of the words: 2^w for w bits.
     ghost base: { ℕ };
 
-    /// The sum. Condition: it fits a word.
+    /// The sum.
+    ///
+    /// # Preconditions
+    ///
+    /// - the sum fits a word
+    // rust: #[must_use]
     fn plus(self, rhs: Self) -> Self
         requires { Self.number self + Self.number rhs < base }
         ensures { Self.number result ≡ Self.number self + Self.number rhs };
 
-    /// The difference. Condition: it is not below 0.
+    /// The difference.
+    ///
+    /// # Preconditions
+    ///
+    /// - the difference is not below 0
+    // rust: #[must_use]
     fn minus(self, rhs: Self) -> Self
         requires { Self.number rhs ≤ Self.number self }
         ensures value { Self.number result + Self.number rhs ≡ Self.number self }
         ensures fits { Self.number self < base };
 
-    /// The difference modulo m, below m. Conditions: both are below m.
+    /// The difference modulo m, below m.
     ///
     /// Words of 64 bits take no branch, which would mispredict half the time where either may be the greater.
+    ///
+    /// # Preconditions
+    ///
+    /// - both numbers are below `m`
+    // rust: #[must_use]
     fn minus_modulo(self, rhs: Self, m: Self) -> Self
         requires left { Self.number self < Self.number m }
         requires right { Self.number rhs < Self.number m }
@@ -39,12 +55,18 @@ pub trait PathWord: RingWord {
         ensures plain { Self.number rhs ≤ Self.number self →
             Self.number result + Self.number rhs ≡ Self.number self };
 
-    /// The product. Condition: it fits a word.
+    /// The product.
+    ///
+    /// # Preconditions
+    ///
+    /// - the product fits a word
+    // rust: #[must_use]
     fn times(self, rhs: Self) -> Self
         requires { Self.number self * Self.number rhs < base }
         ensures { Self.number result ≡ Self.number self * Self.number rhs };
 
     /// The sum modulo the base.
+    // rust: #[must_use]
     fn wrapping_add(self, rhs: Self) -> Self
         ensures value { Self.number result ≡ (Self.number self + Self.number rhs) % base }
         ensures fits { Self.number result < base };
@@ -56,29 +78,46 @@ pub trait PathWord: RingWord {
         ensures fits { Self.number result.0 < base };
 
     /// The difference modulo the base: the word whose sum with `rhs`, modulo the base, is `self`.
+    // rust: #[must_use]
     fn wrapping_sub(self, rhs: Self) -> Self
         ensures value { (Self.number result + Self.number rhs) % base ≡ Self.number self }
         ensures fits { Self.number result < base };
 
     /// The product modulo the base.
+    // rust: #[must_use]
     fn wrapping_mul(self, rhs: Self) -> Self
         ensures value { Self.number result ≡ (Self.number self * Self.number rhs) % base }
         ensures fits { Self.number result < base }
         ensures self_fits { Self.number self < base };
 
-    /// The word divided by a power of two, rounded down. Condition: `by` is below the width.
+    /// The word divided by a power of two, rounded down.
+    ///
+    /// # Preconditions
+    ///
+    /// - `by` is below the width
+    // rust: #[must_use]
     fn shift_right(self, by: u32) -> Self
         requires { by < Self.width }
         ensures value { Self.number result ≡ Self.number self / 2 ^ by }
         ensures fits { Self.number self < base };
 
-    /// The word times a power of two. Condition: `by` is below the width, and the product fits.
+    /// The word times a power of two.
+    ///
+    /// # Preconditions
+    ///
+    /// - `by` is below the width, and the product fits
+    // rust: #[must_use]
     fn shift_left(self, by: u32) -> Self
         requires by { by < Self.width }
         requires fits { Self.number self * 2 ^ by < base }
         ensures { Self.number result ≡ Self.number self * 2 ^ by };
 
-    /// The word modulo a power of two. Condition: `count` is below the width.
+    /// The word modulo a power of two.
+    ///
+    /// # Preconditions
+    ///
+    /// - `count` is below the width
+    // rust: #[must_use]
     fn low_bits(self, count: u32) -> Self
         requires { count < Self.width }
         ensures value { Self.number result ≡ Self.number self % 2 ^ count }
@@ -106,7 +145,11 @@ pub trait PathWord: RingWord {
         ensures fits { Self.number self < base }
         ensures other_fits { Self.number rhs < base };
 
-    /// The word times a power of two, as a double word. Condition: `by` is below the width.
+    /// The word times a power of two, as a double word.
+    ///
+    /// # Preconditions
+    ///
+    /// - `by` is below the width
     fn shift_left_wide(self, by: u32) -> Self::Double
         requires { by < Self.width }
         ensures value { double_number result ≡ Self.number self * 2 ^ by }
@@ -124,7 +167,11 @@ pub trait PathWord: RingWord {
         ensures low_fits { Self.number low < base }
         ensures high_fits { Self.number high < base };
 
-    /// The sum of two double words. Condition: it fits a double word.
+    /// The sum of two double words.
+    ///
+    /// # Preconditions
+    ///
+    /// - the result fits a double word
     fn double_plus(first: Self::Double, second: Self::Double) -> Self::Double
         requires { double_number first + double_number second < base * base }
         ensures { double_number result ≡ double_number first + double_number second };

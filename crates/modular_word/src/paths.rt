@@ -8,7 +8,11 @@ ghost use Rattle.modular_word.specs.Reduction.{IsReduction, IsNegatedInverse};
 
 use crate::path_word::PathWord;
 
-/// The word whose low n bits are ones: 2^n - 1. Condition: n is at most the width.
+/// The word whose low n bits are ones: 2^n - 1.
+///
+/// # Preconditions
+///
+/// - n is at most the width
 #[tactic(auto, using(crate::proofs::Shifts::ones_shifted))]
 pub fn ones<T: PathWord>(n: u32) -> T
     requires { n ≤ T.width }
@@ -28,10 +32,14 @@ pub fn two<T: PathWord>() -> T
     T::one().plus(T::one())
 }
 
-/// Quotient and remainder of a double word by a divisor d whose top bit is set, by the reciprocal of d. Conditions:
-/// `reciprocal` is that of d, and the high word of the dividend is below d.
+/// Quotient and remainder of a double word by a divisor d whose top bit is set, by the reciprocal of d.
 ///
 /// Source: Möller and Granlund, "Improved division by invariant integers", algorithm 4.
+///
+/// # Preconditions
+///
+/// - `reciprocal` is the reciprocal of d
+/// - the high word of the dividend is below d
 pub fn div_2by1<T: PathWord>(d: T, reciprocal: T, a: T::Double) -> (T, T)
     requires reciprocal { IsReciprocal T.base (T.number d) (T.number reciprocal) }
     requires high { T.double_number a < T.number d * T.base }
@@ -63,15 +71,19 @@ fn quotient_1by1<T: PathWord>(d: T, multiplier: T, shift: u32, a: T) -> T
     ensures above { T.number a < T.number result * T.number d + T.number d }
     ensures fits { T.number a < T.base }
 {
+    // rust: let _ = d;
     let (_, t) = T::split(multiplier.product(a));
     t.plus(a.minus(t).shift_right(1)).shift_right(shift)
 }
 
-/// Quotient and remainder of a word by a divisor, by the divisor's multiplier and shift. Condition:
-/// the two are those of d.
+/// Quotient and remainder of a word by a divisor, by the divisor's multiplier and shift.
 ///
 /// Source: Granlund and Montgomery, "Division by invariant integers using multiplication",
 /// figure 4.1.
+///
+/// # Preconditions
+///
+/// - `multiplier` and `shift` are those of d
 pub fn div_1by1<T: PathWord>(d: T, multiplier: T, shift: u32, a: T) -> (T, T)
     requires { IsMultiplier T.width T.base (T.number d) (T.number multiplier) shift }
     ensures { IsDivision (T.number a) (T.number d) (T.number result.0) (T.number result.1) }
@@ -82,22 +94,30 @@ pub fn div_1by1<T: PathWord>(d: T, multiplier: T, shift: u32, a: T) -> (T, T)
 }
 
 /// The quotient of a word by an odd divisor d, by the inverse of d; `None` exactly where d doesn't divide it.
-/// Condition: `inverse` is that of d modulo the base, and `limit` the greatest quotient of a word by d.
 ///
 /// Source: Granlund and Montgomery, "Division by invariant integers using multiplication",
 /// section 9.
+///
+/// # Preconditions
+///
+/// - `inverse` is the inverse of d modulo the base, and `limit` the greatest quotient of a word by d
 pub fn exact_1<T: PathWord>(d: T, inverse: T, limit: T, n: T) -> Option<T>
     requires { IsExactDivisor T.base (T.number d) (T.number inverse) (T.number limit) }
     ensures { IsExactQuotient T.number (T.number n) (T.number d) result }
 {
+    // rust: let _ = d;
     let q = n.wrapping_mul(inverse);
     if limit.is_below(q) { None } else { Some(q) }
 }
 
 /// The quotient of a double word by an odd divisor d, by the inverse of d; `None` exactly where d doesn't divide
-/// it. Condition: as `exact_1`.
+/// it.
 ///
 /// Source: that of `exact_1`, applied to one word at a time from the lowest.
+///
+/// # Preconditions
+///
+/// - the conditions of `exact_1` hold
 pub fn exact_2<T: PathWord>(d: T, inverse: T, limit: T, n: T::Double) -> Option<T::Double>
     requires { IsExactDivisor T.base (T.number d) (T.number inverse) (T.number limit) }
     ensures { IsExactQuotient T.double_number (T.double_number n) (T.number d) result }
@@ -112,11 +132,15 @@ pub fn exact_2<T: PathWord>(d: T, inverse: T, limit: T, n: T::Double) -> Option<
     Some(T::merge(q0, q1))
 }
 
-/// The word x whose product with m is -1 modulo the base. Condition: m is odd.
+/// The x with m * x = -1 modulo the base.
 ///
 /// m is its own inverse modulo 8, and each step doubles the number of correct bits.
 ///
 /// Source: Dumas, "On Newton-Raphson iteration for multiplicative inverses modulo prime powers".
+///
+/// # Conditions
+///
+/// - (debug) m is odd
 ///
 /// # Examples
 ///
@@ -125,10 +149,12 @@ pub fn exact_2<T: PathWord>(d: T, inverse: T, limit: T, n: T::Double) -> Option<
 ///
 /// assert_eq!(neginv(3u8), 85); // 3 * 85 = 255
 /// ```
+// rust: #[cfg_attr(debug_assertions, track_caller)]
 pub fn neginv<T: PathWord>(m: T) -> T
     requires { T.number m % 2 ≡ 1 }
     ensures { IsNegatedInverse T.base (T.number m) (T.number result) }
 {
+    // rust: debug_assert!(m.is_odd(), "m must be odd");
     let two = two::<T>();
     let mut inverse = m;
     let mut bits = 3;
@@ -139,13 +165,17 @@ pub fn neginv<T: PathWord>(m: T) -> T
     T::zero().wrapping_sub(inverse)
 }
 
-/// The word x for which the low word of t + x·m is 0: the first step of Montgomery's reduction. Condition: m times
-/// `negated_inverse` is -1 modulo the base.
+/// The word x for which the low word of t + x·m is 0: the first step of Montgomery's reduction.
+///
+/// # Preconditions
+///
+/// - m times `negated_inverse` is -1 modulo the base
 pub fn clearing<T: PathWord>(m: T, negated_inverse: T, t: T::Double) -> T
     requires { IsNegatedInverse T.base (T.number m) (T.number negated_inverse) }
     ensures low { (T.double_number t + T.number result * T.number m) % T.base ≡ 0 }
     ensures fits { T.number result < T.base }
 {
+    // rust: let _ = m;
     let (low, _) = T::split(t);
     low.wrapping_mul(negated_inverse)
 }
@@ -189,10 +219,14 @@ fn high_sum_by_double_words<T: PathWord>(t: T::Double, multiple: T::Double, m: T
 
 /// The second step of Montgomery's reduction of t, given the word x of `clearing` and the product x·m: (t + x·m)
 /// divided by the base, less m where that is at least m. The caller passes x·m because a modulus of a special form
-/// may compute it faster. Conditions: t is below m times the base, and the sum of t and x·m has 0 in the low word.
+/// may compute it faster.
 ///
 /// The sum may overflow a double word; its carry is counted. Where a double word is longer than a machine word, adding
 /// single words is faster.
+///
+/// # Preconditions
+///
+/// - t is below m times the base, and the sum of t and x·m has 0 in the low word
 pub fn reduce_by<T: PathWord>(m: T, t: T::Double, x: T, multiple: T::Double) -> T
     requires below { T.double_number t < T.base * T.number m }
     requires multiple { T.double_number multiple ≡ T.number x * T.number m }
@@ -209,10 +243,13 @@ pub fn reduce_by<T: PathWord>(m: T, t: T::Double, x: T, multiple: T::Double) -> 
     }
 }
 
-/// Montgomery's reduction of a double word t modulo an odd m, below m. Conditions: m times `negated_inverse` is -1
-/// modulo the base, and t is below m times the base.
+/// Montgomery's reduction of a double word t modulo an odd m, below m.
 ///
 /// Source: Handbook of Applied Cryptography, algorithm 14.32, for one word.
+///
+/// # Preconditions
+///
+/// - m times `negated_inverse` is -1 modulo the base, and t is below m times the base
 pub fn redc<T: PathWord>(m: T, negated_inverse: T, t: T::Double) -> T
     requires inverse { IsNegatedInverse T.base (T.number m) (T.number negated_inverse) }
     requires below { T.double_number t < T.base * T.number m }

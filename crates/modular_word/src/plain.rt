@@ -18,9 +18,13 @@ fn computed_residue(z: i64, m: u64) -> u64
     }
 }
 
-/// The residue of a signed number modulo m. Condition: m is at least 1.
+/// The residue of a signed number modulo m.
 ///
 /// The definition and the equation agree: the result is `residue m z`, and the only residue of z modulo m.
+///
+/// # Preconditions
+///
+/// - m is at least 1
 pub fn residue_of(z: i64, m: u64) -> u64
     requires { 1 ≤ m }
     ensures computed { result ≡ residue m z }
@@ -30,7 +34,11 @@ pub fn residue_of(z: i64, m: u64) -> u64
     computed_residue(z, m)
 }
 
-/// The residue modulo m of the power of `base` to `exp`. Condition: m is at least 1.
+/// The residue modulo m of the power of `base` to `exp`.
+///
+/// # Preconditions
+///
+/// - m is at least 1
 pub fn power_of(base: u64, exp: u64, m: u64) -> u64
     requires { 1 ≤ m }
     ensures { result ≡ base ^ exp % m }
@@ -43,7 +51,10 @@ pub fn power_of(base: u64, exp: u64, m: u64) -> u64
 }
 
 /// The inverse of a modulo m, by trying each number below m; `None` exactly where there is none.
-/// Condition: m is at least 1.
+///
+/// # Preconditions
+///
+/// - m is at least 1
 pub fn inverse_by_search(a: u64, m: u64) -> Option<u64>
     requires { 1 ≤ m }
     ensures { IsInversion (λ x. x) m a result }
@@ -56,8 +67,12 @@ pub fn inverse_by_search(a: u64, m: u64) -> Option<u64>
     None
 }
 
-/// The greatest common divisor of a and n, by trying each number up to n. Condition: n is at
-/// least 1. It is 1 exactly where a has an inverse modulo n.
+/// The greatest common divisor of a and n, by trying each number up to n. It is 1 exactly where a has an inverse
+/// modulo n.
+///
+/// # Preconditions
+///
+/// - n is at least 1
 pub fn greatest_common_divisor(a: u64, n: u64) -> u64
     requires { 1 ≤ n }
     ensures computed { result ≡ gcd a n }

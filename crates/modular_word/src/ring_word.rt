@@ -3,12 +3,12 @@
 ghost use Rattle.std.proofs.Common.{lit≤, rules};
 ghost use Rattle.std.specs.Prelude.{◌≡◌, ℕ, ◌+◌, ◌*◌, ◌/◌, ◌%◌, ◌^◌, ◌<◌, ◌≤◌, ◌↔◌, true, IsTrue};
 
-/// A machine word, from 8 to 128 bits wide: a whole number, which `==` compares.
+/// A machine word: a whole number of 8 to 128 bits, which `==` compares.
 ///
 /// # Examples
 ///
 /// ```
-/// use num_modular::RingWord;
+/// use num_modular::word::RingWord;
 ///
 /// fn binary_digits<T: RingWord>(n: T) -> u32 {
 ///     if n.is_zero_word() { 0 } else { 1 + binary_digits(n.half()) }
@@ -27,10 +27,11 @@ pub trait RingWord: Copy + Eq {
     /// # Examples
     ///
     /// ```
-    /// use num_modular::RingWord;
+    /// use num_modular::word::RingWord;
     ///
     /// assert_eq!(u8::zero(), 0);
     /// ```
+    // rust: #[must_use]
     fn zero() -> Self
         ensures { number result ≡ 0 };
 
@@ -39,10 +40,11 @@ pub trait RingWord: Copy + Eq {
     /// # Examples
     ///
     /// ```
-    /// use num_modular::RingWord;
+    /// use num_modular::word::RingWord;
     ///
     /// assert_eq!(u8::one(), 1);
     /// ```
+    // rust: #[must_use]
     fn one() -> Self
         ensures { number result ≡ 1 };
 
@@ -51,7 +53,7 @@ pub trait RingWord: Copy + Eq {
     /// # Examples
     ///
     /// ```
-    /// use num_modular::RingWord;
+    /// use num_modular::word::RingWord;
     ///
     /// assert_eq!((u8::bits(), u64::bits()), (8, 64));
     /// ```
@@ -63,7 +65,7 @@ pub trait RingWord: Copy + Eq {
     /// # Examples
     ///
     /// ```
-    /// use num_modular::RingWord;
+    /// use num_modular::word::RingWord;
     ///
     /// assert!(0u8.is_zero_word());
     /// assert!(!5u8.is_zero_word());
@@ -77,7 +79,7 @@ pub trait RingWord: Copy + Eq {
     /// # Examples
     ///
     /// ```
-    /// use num_modular::RingWord;
+    /// use num_modular::word::RingWord;
     ///
     /// assert!(5u8.is_odd());
     /// assert!(!6u8.is_odd());
@@ -91,10 +93,11 @@ pub trait RingWord: Copy + Eq {
     /// # Examples
     ///
     /// ```
-    /// use num_modular::RingWord;
+    /// use num_modular::word::RingWord;
     ///
     /// assert_eq!(7u8.half(), 3);
     /// ```
+    // rust: #[must_use]
     fn half(self) -> Self
         ensures value { number result ≡ number self / 2 }
         ensures fits { number self < 2 ^ width };
@@ -104,7 +107,7 @@ pub trait RingWord: Copy + Eq {
     /// # Examples
     ///
     /// ```
-    /// use num_modular::RingWord;
+    /// use num_modular::word::RingWord;
     ///
     /// assert!(128u8.has_top_bit());
     /// assert!(!127u8.has_top_bit());
@@ -292,6 +295,7 @@ impl RingWord for u64 {
     ghost equal = { Prim.search rules };
 }
 
+// rust: #[cfg(target_pointer_width = "64")]
 impl RingWord for usize {
     ghost number = { λ x. x };
 

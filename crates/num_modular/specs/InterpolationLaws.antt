@@ -14,14 +14,14 @@ use Rattle.modular_word.proofs.ResidueLemmas.{difference_and}
 use Rattle.modular_word.proofs.Sums.{sum_below-zero, sum_below-of_zeros}
 use Rattle.modular_symbols.specs.Primes.{IsPrime}
 use Rattle.modular_symbols.proofs.PrimeLaws.{inverse_to}
-use Rattle.num_modular.specs.Polynomials.{polynomial, polynomial_highest_first, HaveUnitDifferences}
+use Rattle.num_modular.specs.Polynomials.{polynomial_at, polynomial_highest_first, HaveUnitDifferences}
 use Rattle.num_modular.specs.PolynomialLaws.{polynomial-none, polynomial-first, polynomial-same}
 use Rattle.num_modular.specs.SumLaws.{tail}
 
 -- for each coefficient the value at a of what begins with it; all but the first are the quotient by X - a
 rests : ℕ → ℕ → (ℕ → ℕ) → ℕ → ℕ
 rests zero a c i = 0
-rests (suc n) a c zero = polynomial (suc n) c a
+rests (suc n) a c zero = polynomial_at (suc n) c a
 rests (suc n) a c (suc i) = rests n a (λ j. c (suc j)) i
 
 -- one coefficient more
@@ -37,8 +37,8 @@ more x a c v w q f g r is_f is_g is_r e =
 
 -- X times the polynomial leaves at a what it leaves at x, and X - a times the rests
 divided : (n a x : ℕ) (c : ℕ → ℕ)
-    → x * polynomial n c x + a * polynomial n (rests n a c) x
-    ≡ a * polynomial n c a + x * polynomial n (rests n a c) x
+    → x * polynomial_at n c x + a * polynomial_at n (rests n a c) x
+    ≡ a * polynomial_at n c a + x * polynomial_at n (rests n a c) x
 unfolding rests
 divided zero a x c =
     let p = ap (λ k. x * k) (polynomial-none c x) in
@@ -59,16 +59,16 @@ at_other m a b p s q u e is =
 
 -- where two polynomials are congruent at a and at b, so are the quotients by X - a at b
 same_quotient : (m n a b : ℕ) (c d : ℕ → ℕ) → HasInverse m (residue m (pos b -ℤ pos a))
-    → Congruent m (polynomial (suc n) c a) (polynomial (suc n) d a)
-    → Congruent m (polynomial (suc n) c b) (polynomial (suc n) d b)
-    → Congruent m (polynomial n (rests n a (λ j. c (suc j))) b)
-    (polynomial n (rests n a (λ j. d (suc j))) b)
+    → Congruent m (polynomial_at (suc n) c a) (polynomial_at (suc n) d a)
+    → Congruent m (polynomial_at (suc n) c b) (polynomial_at (suc n) d b)
+    → Congruent m (polynomial_at n (rests n a (λ j. c (suc j))) b)
+    (polynomial_at n (rests n a (λ j. d (suc j))) b)
 same_quotient m n a b c d unit at_a at_b =
     let below = unit.1.below in
     let u : ℕ = residue m (pos b -ℤ pos a) in
     let is : Congruent m (u + a) b = record { same = difference_and m b a (omega (arith, below)) } in
-    let whole : (e : ℕ → ℕ) → polynomial (suc n) e b + a * polynomial n (rests n a (λ j. e (suc j))) b
-    ≡ polynomial (suc n) e a + b * polynomial n (rests n a (λ j. e (suc j))) b =
+    let whole : (e : ℕ → ℕ) → polynomial_at (suc n) e b + a * polynomial_at n (rests n a (λ j. e (suc j))) b
+    ≡ polynomial_at (suc n) e a + b * polynomial_at n (rests n a (λ j. e (suc j))) b =
     λ e.
     let f = polynomial-first n e b in
     let g = polynomial-first n e a in
@@ -76,10 +76,10 @@ same_quotient m n a b c d unit at_a at_b =
     omega (arith, f, g, h) in
     let left = at_other m a b _ _ _ u (whole c) is in
     let right = at_other m a b _ _ _ u (whole d) is in
-    let q : ℕ = polynomial n (rests n a (λ j. c (suc j))) b in
-    let r : ℕ = polynomial n (rests n a (λ j. d (suc j))) b in
-    let s : ℕ = polynomial (suc n) c a in
-    let t : ℕ = polynomial (suc n) d a in
+    let q : ℕ = polynomial_at n (rests n a (λ j. c (suc j))) b in
+    let r : ℕ = polynomial_at n (rests n a (λ j. d (suc j))) b in
+    let s : ℕ = polynomial_at (suc n) c a in
+    let t : ℕ = polynomial_at (suc n) d a in
     let both : Congruent m (s + q * u) (s + r * u) =
     mod_trans (mod_sym left) (mod_trans at_b (mod_trans right (mod_add (mod_sym at_a) (mod_refl (r * u))))) in
     let swap : s + q * u ≡ q * u + s = omega arith in
@@ -88,7 +88,7 @@ same_quotient m n a b c d unit at_a at_b =
     (mod_add_cancel s (mod_trans (mod_of_eq (sym swap)) (mod_trans both (mod_of_eq swap_other))))
 
 values_behind : (m n a : ℕ) (c d : ℕ → ℕ) → ((i : ℕ) → i < n → Congruent m (rests n a c i) (rests n a d i))
-    → Congruent m (polynomial n c a) (polynomial n d a)
+    → Congruent m (polynomial_at n c a) (polynomial_at n d a)
 unfolding rests
 values_behind m zero a c d same = mod_of_eq (polynomial-none c a ∙ sym (polynomial-none d a))
 values_behind m (suc n) a c d same = same zero (omega arith)
@@ -99,10 +99,10 @@ from_rests : (m n a : ℕ) (c d : ℕ → ℕ) → ((i : ℕ) → i < n → Cong
 unfolding rests
 from_rests m zero a c d same i l = absurd (omega arith)
 from_rests m (suc n) a c d same zero l =
-    let behind : Congruent m (polynomial n (λ j. c (suc j)) a) (polynomial n (λ j. d (suc j)) a) =
+    let behind : Congruent m (polynomial_at n (λ j. c (suc j)) a) (polynomial_at n (λ j. d (suc j)) a) =
     values_behind m n a (λ j. c (suc j)) (λ j. d (suc j)) (λ i k. same (suc i) (omega arith)) in
     let whole = same zero (omega arith) in
-    let w : ℕ = polynomial n (λ j. c (suc j)) a in
+    let w : ℕ = polynomial_at n (λ j. c (suc j)) a in
     mod_add_cancel (a * w)
     (mod_trans (mod_of_eq (sym (polynomial-first n c a))) (mod_trans whole (mod_trans (mod_of_eq (polynomial-first n d a))
     (mod_add (mod_refl (d 0)) (mod_mul (mod_refl a) (mod_sym behind))))))
@@ -110,7 +110,7 @@ from_rests m (suc n) a c d same (suc i) l =
     from_rests m n a (λ j. c (suc j)) (λ j. d (suc j)) (λ i k. same (suc i) (omega arith)) i (omega arith)
 
 whole_rests : (m n a : ℕ) (c d : ℕ → ℕ)
-    → Congruent m (polynomial (suc n) c a) (polynomial (suc n) d a)
+    → Congruent m (polynomial_at (suc n) c a) (polynomial_at (suc n) d a)
     → ((i : ℕ) → i < n → Congruent m (rests n a (λ j. c (suc j)) i) (rests n a (λ j. d (suc j)) i))
     → (i : ℕ) → i < suc n → Congruent m (rests (suc n) a c i) (rests (suc n) a d i)
 unfolding rests
@@ -119,7 +119,7 @@ whole_rests m n a c d here behind (suc i) l = behind i (omega arith)
 
 -- two polynomials with n coefficients and congruent values at n numbers with unit differences
 pub same_coefficients : (m n : ℕ) (c d x : ℕ → ℕ) → HaveUnitDifferences m n x
-    → ((i : ℕ) → i < n → Congruent m (polynomial n c (x i)) (polynomial n d (x i)))
+    → ((i : ℕ) → i < n → Congruent m (polynomial_at n c (x i)) (polynomial_at n d (x i)))
     → (i : ℕ) → i < n → Congruent m (c i) (d i)
 same_coefficients m zero c d x apart same i l = absurd (omega arith)
 same_coefficients m (suc n) c d x apart same i l =
@@ -133,11 +133,11 @@ same_coefficients m (suc n) c d x apart same i l =
 
 -- a list of coefficients, followed by any number of zeros
 polynomial-padded : (n : ℕ) (cs : List ℕ) (x : ℕ) → length cs ≤ n
-    → polynomial n (λ i. get_or cs i 0) x ≡ polynomial (length cs) (slice_index cs) x
+    → polynomial_at n (λ i. get_or cs i 0) x ≡ polynomial_at (length cs) (slice_index cs) x
 polynomial-padded n cs x l =
     let d : ℕ = n - length cs in
     let whole : n ≡ length cs + d = omega arith in
-    ap (λ k. polynomial k (λ i. get_or cs i 0) x) whole
+    ap (λ k. polynomial_at k (λ i. get_or cs i 0) x) whole
     ∙ tail (length cs) d (λ i. get_or cs i 0 * x ^ i)
     (λ i past before. let z = ap (λ k. k * x ^ i) (get_or_past cs i 0 past) in omega (arith, z))
 
@@ -145,8 +145,8 @@ polynomial-padded n cs x l =
 pub same_lists : (m : ℕ) (cs ds points : List ℕ) → HaveUnitDifferences m (length points) (λ i. get_or points i 0)
     → length cs ≤ length points → length ds ≤ length points
     → ((i : ℕ) → i < length points
-    → polynomial (length cs) (slice_index cs) (get_or points i 0) % m
-    ≡ polynomial (length ds) (slice_index ds) (get_or points i 0) % m)
+    → polynomial_at (length cs) (slice_index cs) (get_or points i 0) % m
+    ≡ polynomial_at (length ds) (slice_index ds) (get_or points i 0) % m)
     → (i : ℕ) → i < length points → get_or cs i 0 % m ≡ get_or ds i 0 % m
 same_lists m cs ds points apart few few_ds same i l =
     let n : ℕ = length points in
@@ -159,11 +159,11 @@ same_lists m cs ds points apart few few_ds same i l =
 -- .. where the values are 0
 pub zero_list : (m : ℕ) (cs points : List ℕ) → HaveUnitDifferences m (length points) (λ i. get_or points i 0)
     → length cs ≤ length points
-    → ((i : ℕ) → i < length points → polynomial (length cs) (slice_index cs) (get_or points i 0) % m ≡ 0)
+    → ((i : ℕ) → i < length points → polynomial_at (length cs) (slice_index cs) (get_or points i 0) % m ≡ 0)
     → (i : ℕ) → i < length cs → get_or cs i 0 % m ≡ 0
 zero_list m cs points apart few zeros i l =
     let n : ℕ = length points in
-    let none : (x : ℕ) → polynomial n (λ i. 0) x ≡ 0 =
+    let none : (x : ℕ) → polynomial_at n (λ i. 0) x ≡ 0 =
     λ x. sum_below-of_zeros n (λ i. 0 * x ^ i) (λ i l. omega arith) in
     (same_coefficients m n (λ i. get_or cs i 0) (λ i. 0) (λ i. get_or points i 0) apart
     (λ i l. let x : ℕ = get_or points i 0 in record {
@@ -172,7 +172,7 @@ zero_list m cs points apart few zeros i l =
     }) i (omega (arith, l, few))).same ∙ zero-mod m
 
 -- the highest coefficient first
-pub reversed : (n : ℕ) (c : ℕ → ℕ) (x : ℕ) → polynomial_highest_first n c x ≡ polynomial n (λ i. c (n - 1 - i)) x
+pub reversed : (n : ℕ) (c : ℕ → ℕ) (x : ℕ) → polynomial_highest_first n c x ≡ polynomial_at n (λ i. c (n - 1 - i)) x
 reversed zero c x = sum_below-zero (λ i. c i * x ^ (0 - 1 - i)) ∙ sym (polynomial-none (λ i. c (0 - 1 - i)) x)
 reversed (suc n) c x =
     let i = ap (λ k. k * x) (reversed n c x) in

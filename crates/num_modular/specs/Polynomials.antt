@@ -3,7 +3,7 @@
 use Rattle.std.specs.Prelude.{◌≢◌, ℕ, ◌<◌, pos, ◌-ℤ◌}
 use Rattle.modular_word.specs.Inverses.{HasInverse}
 use Rattle.modular_word.specs.Residues.{residue}
-pub use Rattle.modular_word.specs.Sums.{polynomial, polynomial_highest_first}
+pub use Rattle.modular_word.specs.Sums.{polynomial_at, polynomial_highest_first}
 
 -- the difference of any two of the numbers x 0, .., x (n - 1) has an inverse modulo m
 pub record HaveUnitDifferences (m n : ℕ) (x : ℕ → ℕ) : Type 0 where

@@ -1,5 +1,11 @@
 //! The generic types behind the aliases of the root, and the types of their moduli. Code over `OddRing` or `FoldRing`
 //! that is generic in the modulus covers its whole family.
+//!
+//! # Conditions
+//!
+//! Each call that has such arguments also requires:
+//!
+//! - the parameters are in range
 
 pub use modular_folds::mersenne::{Mersenne32, Mersenne64};
 pub use modular_folds::rings::{FoldModulus, FoldRing};

@@ -8,15 +8,69 @@
 //! - `families`: the generic types behind the aliases
 //! - `hashes`: polynomial hashes and a search
 //! - `residues`: residue number systems
+//! - `secrets`: powers and inverses of secrets
+// rattle: line
 //! - `laws`: what proofs may cite; `modrun`: the body of the program
+// rust: //! - `applications`: check digits, erasure codes, long products and other modules that use the library
 #![tactic(auto)]
+// rust: #![cfg_attr(not(test), no_std)]
+// rust: #![forbid(unsafe_code)]
+// rust: // The proofs name the loops and branches of the sources, so these stay as they are where clippy has a shorter form.
+// rust: #![allow(clippy::collapsible_if, clippy::if_same_then_else, clippy::manual_find, clippy::manual_map)]
+// rust: #![allow(clippy::manual_range_contains, clippy::needless_range_loop, clippy::redundant_field_names)]
+// rust: #![allow(clippy::single_match)]
+// rust: #![doc = include_str!("../README.md")]
 
+// rust: #[path = "../additions.rs"]
+// rust: mod additions;
+// rust: #[cfg(any(feature = "num-traits", feature = "serde"))]
+// rust: #[path = "../features.rs"]
+// rust: mod features;
+// rust: #[cfg(doctest)]
+// rust: #[doc = include_str!("../FROM_NUM_MODULAR.md")]
+// rust: mod from_num_modular {}
+// rust: #[path = "../layers/mod.rs"]
+// rust: mod layers;
+// rust: #[path = "../traits.rs"]
+// rust: mod traits;
+
+// rust: mod modular_barrett;
+// rust: mod modular_folds;
+// rust: mod modular_monty;
+// rust: mod modular_plan_passes;
+// rust: mod modular_plan_transforms;
+// rust: mod modular_prim;
+// rust: mod modular_reduced;
+// rust: mod modular_ring;
+// rust: mod modular_secret;
+// rust: mod modular_symbols;
+// rust: mod modular_transform;
+// rust: mod modular_word;
+// rust: #[cfg(feature = "capi")]
+// rust: #[doc(hidden)]
+// rust: pub mod num_modular_c;
+
+// rust: /// Modules that use the library, each proved in its field's own words: hashes, residue systems, check digits, erasure
+// rust: /// codes, products of long numbers (where a usize has 64 bits), and the rings of FIPS 204 and 203.
+// rust: pub mod applications {
+// rust:     pub mod check_digits;
+// rust:     #[doc(hidden)]
+// rust:     pub mod examples;
+// rust:     pub mod lattice_rings;
+// rust:     #[cfg(target_pointer_width = "64")]
+// rust:     pub mod long_product;
+// rust:     pub mod mersenne_hash;
+// rust:     pub mod residue_numbers;
+// rust:     pub mod ring_codes;
+// rust: }
 pub mod barrett;
 pub mod commands;
 pub mod families;
 pub mod hashes;
+// tests: item
 pub mod laws;
 pub mod mersenne;
+// rattle: line
 pub mod modrun;
 pub mod monty;
 pub mod plans;
@@ -26,6 +80,7 @@ pub mod proth;
 pub mod reduced;
 pub mod residues;
 pub mod ring;
+pub mod secrets;
 pub mod solinas;
 pub mod transforms;
 pub mod word;
@@ -51,9 +106,10 @@ pub use modular_symbols::operands::{IntegerValued, SymbolWord, UnsignedOperand};
 pub use modular_symbols::operations::ModularOps;
 pub use modular_symbols::reference_operations::ModularRefOps;
 pub use modular_symbols::symbols::ModularSymbols;
+// rust instead: pub use crate::additions::RingWord;
 pub use modular_word::ring_word::RingWord;
 
-/// An integer modulo a number that is at least 1, over `Montgomery`.
+/// An integer over `Montgomery`: modulo a number that is at least 1.
 ///
 /// # Examples
 ///
@@ -65,7 +121,7 @@ pub use modular_word::ring_word::RingWord;
 /// ```
 pub type MontgomeryInt<T> = ReducedInt<T, Montgomery<T>>;
 
-/// An integer modulo the odd parameter P, over `FixedMontgomery32`.
+/// An integer over the fixed reducer of this name: over `FixedMontgomery32`, modulo the odd parameter P.
 ///
 /// # Examples
 ///
@@ -77,7 +133,7 @@ pub type MontgomeryInt<T> = ReducedInt<T, Montgomery<T>>;
 /// ```
 pub type FixedMontgomeryInt32<const P: u32> = ReducedInt<u32, FixedMontgomery32<P>>;
 
-/// An integer modulo the odd parameter P, over `FixedMontgomery64`.
+/// An integer over the fixed reducer of this name: over `FixedMontgomery64`, modulo the odd parameter P.
 ///
 /// # Examples
 ///
@@ -89,8 +145,8 @@ pub type FixedMontgomeryInt32<const P: u32> = ReducedInt<u32, FixedMontgomery32<
 /// ```
 pub type FixedMontgomeryInt64<const P: u64> = ReducedInt<u64, FixedMontgomery64<P>>;
 
-/// An integer modulo K * 2^N + 1, over `FixedProth32`: N is from 1 to 31, K odd and below 2^N, and the modulus at
-/// most 2654435769.
+/// An integer over the fixed reducer of this name: over `FixedProth32`, modulo K * 2^N + 1, where N is from 1 to 31, K
+/// odd and below 2^N, and the modulus at most 2654435769.
 ///
 /// # Examples
 ///
@@ -102,8 +158,8 @@ pub type FixedMontgomeryInt64<const P: u64> = ReducedInt<u64, FixedMontgomery64<
 /// ```
 pub type FixedProthInt32<const N: u8, const K: u8> = ReducedInt<u32, FixedProth32<N, K>>;
 
-/// An integer modulo K * 2^N + 1, over `FixedProth64`: N is from 1 to 63, K odd and below 2^N, and the modulus at
-/// most 11400714819323199485.
+/// An integer over the fixed reducer of this name: over `FixedProth64`, modulo K * 2^N + 1, where N is from 1 to 63, K
+/// odd and below 2^N, and the modulus at most 11400714819323199485.
 ///
 /// # Examples
 ///
@@ -115,8 +171,8 @@ pub type FixedProthInt32<const N: u8, const K: u8> = ReducedInt<u32, FixedProth3
 /// ```
 pub type FixedProthInt64<const N: u8, const K: u8> = ReducedInt<u64, FixedProth64<N, K>>;
 
-/// An integer modulo 2^P - K of at most 64 bits, over `FixedMersenne`: P is at most 64, K odd and less than half of
-/// 2^P.
+/// An integer over the fixed reducer of this name: over `FixedMersenne`, modulo 2^P - K, where P is at most 64, K odd
+/// and less than half of 2^P.
 ///
 /// # Examples
 ///
@@ -128,8 +184,8 @@ pub type FixedProthInt64<const N: u8, const K: u8> = ReducedInt<u64, FixedProth6
 /// ```
 pub type FixedMersenneInt<const P: u8, const K: u64> = ReducedInt<umax, FixedMersenne<P, K>>;
 
-/// An integer modulo 2^P - K of at most 32 bits, over `FixedMersenne32`: P is at most 32, K odd and less than half
-/// of 2^P.
+/// An integer over the fixed reducer of this name: over `FixedMersenne32`, modulo 2^P - K, where P is at most 32, K odd
+/// and less than half of 2^P.
 ///
 /// # Examples
 ///
@@ -141,8 +197,8 @@ pub type FixedMersenneInt<const P: u8, const K: u64> = ReducedInt<umax, FixedMer
 /// ```
 pub type FixedMersenneInt32<const P: u8, const K: u32> = ReducedInt<u32, FixedMersenne32<P, K>>;
 
-/// An integer modulo 2^P - K of at most 64 bits, over `FixedMersenne64`: P is at most 64, K odd and less than half
-/// of 2^P.
+/// An integer over the fixed reducer of this name: over `FixedMersenne64`, modulo 2^P - K, where P is at most 64, K odd
+/// and less than half of 2^P.
 ///
 /// # Examples
 ///
@@ -154,8 +210,8 @@ pub type FixedMersenneInt32<const P: u8, const K: u32> = ReducedInt<u32, FixedMe
 /// ```
 pub type FixedMersenneInt64<const P: u8, const K: u64> = ReducedInt<u64, FixedMersenne64<P, K>>;
 
-/// An integer modulo 2^P1 - 2^P2 + K of at most 32 bits, over `FixedTrinomialSolinas32`: P1 is at most 32, P2 from
-/// 1 to P1 - 1, K odd with a magnitude below 2^P2.
+/// An integer over the fixed reducer of this name: over `FixedTrinomialSolinas32`, modulo 2^P1 - 2^P2 + K, where P1 is
+/// at most 32, P2 from 1 to P1 - 1, K odd with a magnitude below 2^P2.
 ///
 /// # Examples
 ///
@@ -170,8 +226,8 @@ pub type FixedSolinasInt32<const P1: u8, const P2: u8, const K: i32> = ReducedIn
     FixedTrinomialSolinas32<P1, P2, K>,
 >;
 
-/// An integer modulo 2^P1 - 2^P2 + K of at most 64 bits, over `FixedTrinomialSolinas64`: P1 is at most 64, P2 from
-/// 1 to P1 - 1, K odd with a magnitude below 2^P2.
+/// An integer over the fixed reducer of this name: over `FixedTrinomialSolinas64`, modulo 2^P1 - 2^P2 + K, where P1 is
+/// at most 64, P2 from 1 to P1 - 1, K odd with a magnitude below 2^P2.
 ///
 /// # Examples
 ///
@@ -210,3 +266,18 @@ pub type umax = u128;
 /// ```
 #[allow(non_camel_case_types)]
 pub type imax = i128;
+
+// tests: item
+// rust: #[macro_use]
+// rust: #[path = "../runtime.rs"]
+// rust: mod runtime;
+
+// tests: item
+// rust: #[allow(clippy::all, dead_code, unused_imports, unused_must_use, unused_variables, unstable_name_collisions)]
+// rust: mod proved_tests {
+// rust:     pub mod test_callers;
+// rust:     pub mod test_operations;
+// rust:     pub mod test_rings;
+// rust:     pub mod test_secrets;
+// rust:     pub mod test_users;
+// rust: }

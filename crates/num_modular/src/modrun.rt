@@ -21,14 +21,14 @@ use std::io::Write;
 
 mod words;
 
-/// The reducers that the program's first word can name.
+/// The reducers that the program's first word names.
 #[derive(Clone, Copy, Debug, PartialEq, Eq)]
 pub enum ReducerName {
-    /// `vanilla`, for moduli that are at least 1.
+    /// `vanilla`: for moduli that are at least 1.
     Vanilla,
-    /// `premul`, for moduli that are at least 1.
+    /// `premul`: for moduli that are at least 1.
     PreMul,
-    /// `montgomery`, for moduli that are at least 1.
+    /// `montgomery`: for moduli that are at least 1.
     Montgomery,
 }
 
@@ -38,7 +38,7 @@ enum Fault {
     OutOfMemory,
 }
 
-/// Runs the program `modrun REDUCER MODULUS COMMAND...` on the words after its name, and returns its exit status.
+/// Runs the program and returns its status: that of `modrun REDUCER MODULUS COMMAND...`, on the words after its name.
 ///
 /// All words are read before the run, from left to right, and the first fault gives the status. Eight registers
 /// start with the residue 0; after the run their residues are written to `out`, separated by single spaces and

@@ -1,4 +1,4 @@
-//! Montgomery's representation, and the negated inverse modulo the base, which it uses.
+//! Montgomery's representation: its reducers, and the negated inverse modulo the base, which it uses.
 
 pub use modular_monty::fixed::{FixedMontgomery32, FixedMontgomery64};
 pub use modular_monty::montgomery::Montgomery;

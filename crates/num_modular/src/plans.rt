@@ -1,10 +1,18 @@
-//! Transforms by a table of twiddle factors with their quotients, which the caller owns, for moduli that are at most
-//! a quarter of the base. An entry of the table is a `Factor`, or a struct of the caller (`PlanEntry`). `ring` has
+//! Transforms by a table: it has twiddle factors with their quotients, and is the caller's. Moduli are at most a quarter
+//! of the base. An entry of the table is a `Factor`, or a struct of the caller (`PlanEntry`). `ring` has
 //! the transforms that need no table, over any reducer, and `find_root`.
 //!
 //! `Plan` knows that its table is that of its root, and asks only for lists that fit. It borrows the table. `OwnedPlan` keeps
 //! its own, so that a struct can keep one, and lends a `Plan` for each call. The functions over a table also ask for the
 //! table's factors.
+//!
+//! # Conditions
+//!
+//! Each call that has such arguments also requires:
+//!
+//! - the entries are below 4m
+//! - the table's entries are factors modulo m
+//! - the factor was made by this modulus
 
 pub use modular_barrett::planned::{Factor, PlannedModulus};
 pub use modular_plan_passes::entry::PlanEntry;

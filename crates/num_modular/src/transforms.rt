@@ -1,4 +1,11 @@
 //! Transforms and cyclic products in place, over any reducer, their roots, and lists of forms.
+//!
+//! # Conditions
+//!
+//! Each call that has such arguments also requires:
+//!
+//! - the lists have the same length
+//! - g suits the length
 
 pub use modular_ring::list_inverses::invert_each;
 pub use modular_transform::convolution::convolve;

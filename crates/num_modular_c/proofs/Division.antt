@@ -4,13 +4,14 @@ use Rattle.std.proofs.Math.Nat.{mod-lt, mul-le-mul_right}
 use Rattle.std.proofs.lemmas.Nat.{pow_pos, shl-shr}
 use Rattle.modular_word.specs.Division.{IsDivision}
 use Rattle.modular_word.proofs.Congruence.{factor_cancel}
-use Rattle.modular_prim.proofs.Scaled.{remainder_of, scaled_below, scaled_remainder}
+use Rattle.modular_prim.proofs.DigitSteps.{remainder_is}
+use Rattle.modular_prim.proofs.Scaled.{scaled_below, scaled_remainder}
 
 -- the quotient stays, and the remainder is scaled too
 pub unscaled : {n d q r : ℕ} (s : ℕ) → 0 < d → IsDivision (n * 2 ^ s) (d * 2 ^ s) q r → IsDivision n d q (r / 2 ^ s)
 unscaled {n} {d} {q} {r} s some h =
     let p = 2 ^ s in
-    let left : r ≡ n % d * p = remainder_of h ∙ scaled_remainder n d p some (pow_pos s) in
+    let left : r ≡ n % d * p = remainder_is h ∙ scaled_remainder n d p some (pow_pos s) in
     let down : r / p ≡ n % d = ap (λ v. v / p) left ∙ shl-shr (n % d) s in
     let whole : p * n ≡ p * (q * d + n % d) = omega (arith, h.whole, left) in
     record {

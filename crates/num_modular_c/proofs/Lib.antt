@@ -7,3 +7,4 @@ pub mod Rooms
 pub mod SameTerms
 pub mod ShorterBack
 pub mod Wholes
+pub mod WordLists

@@ -6,7 +6,6 @@ use Rattle.num_modular.specs.declared.ring.RingCommand.TheVariants.{Load, Add, S
 use Rattle.num_modular_c.specs.declared.commands.NmCommand.{NmCommand}
 use Rattle.num_modular_c.specs.declared.commands.TheConstants.{NM_LOAD, NM_ADD, NM_SUB, NM_MUL}
 use Rattle.num_modular_c.specs.declared.commands.TheConstants.{NM_NEG, NM_DBL, NM_SQR, NM_INV, NM_DIV}
-use Rattle.num_modular_c.specs.declared.commands.TheConstants.{OPERATIONS}
 
 -- the ring command of a command; an operation without a name counts as a power
 abbrev pub ring_command_of : NmCommand → RingCommand ℕ
@@ -22,9 +21,9 @@ ring_command_of c =
     else if c.operation == NM_DIV then Div c.dst c.a c.b
     else Pow c.dst c.a c.n
 
--- the command has an operation with a name, and register numbers below count
+-- the command has one of the ten operations, 0 for a load to 9 for a power, and register numbers below count
 abbrev pub IsAdmittedBy : ℕ → NmCommand → Type 0
-IsAdmittedBy count c = (c.operation < OPERATIONS) × IsFit count (ring_command_of c)
+IsAdmittedBy count c = (c.operation < 10) × IsFit count (ring_command_of c)
 
 -- the residues of words modulo m
 abbrev pub residues_of : ℕ → List ℕ → List ℕ

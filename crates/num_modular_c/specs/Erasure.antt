@@ -1,7 +1,7 @@
 -- Erasure codes for C: which lengths the calls accept, and what they answer. The names are the library's own words.
 use Rattle.std.specs.Prelude.{◌≡◌, ℕ, ◌+◌, ◌-◌, ◌*◌, ◌%◌, ◌<◌, ◌≤◌, List, length, slice_index}
 use Rattle.num_modular.specs.Polynomials.{HaveUnitDifferences}
-use Rattle.ring_codes.specs.Correction.{IsNear, IsPlaceFault, IsFarFault, IsInverseFault}
+use Rattle.ring_codes.specs.Correction.{IsNear, IsCorrectFault}
 use Rattle.ring_codes.specs.Erasure.{IsEncoding, ArePlaces, IsFault, IsShareFault, distance}
 use Rattle.ring_codes.specs.declared.erasure.RestoreError.{RestoreError}
 use Rattle.ring_codes.specs.declared.erasure.RestoreError.TheVariants.{TooFewSymbols, PlaceOutOfRange, PlaceTwice, PointsDontFit}
@@ -9,7 +9,7 @@ use Rattle.ring_codes.specs.declared.erasure.correction.CorrectError.{CorrectErr
 use Rattle.ring_codes.specs.declared.erasure.correction.CorrectError.TheVariants.{Restore, TooManyErrors, NoInverse}
 use Rattle.ring_codes.specs.declared.erasure.secrets.ShareError.{ShareError}
 use Rattle.ring_codes.specs.declared.erasure.secrets.ShareError.TheVariants as refused
-use Rattle.num_modular_c.specs.declared.codes.TheConstants.{NM_NO_INVERSE, NM_TOO_FEW_SYMBOLS, NM_PLACE_OUT_OF_RANGE}
+use Rattle.num_modular_c.specs.declared.codes.TheConstants.{NM_BAD_ARGUMENT, NM_NO_INVERSE, NM_TOO_FEW_SYMBOLS, NM_PLACE_OUT_OF_RANGE}
 use Rattle.num_modular_c.specs.declared.codes.TheConstants.{NM_PLACE_TWICE, NM_POINTS_DONT_FIT, NM_TOO_MANY_ERRORS}
 use Rattle.num_modular_c.specs.declared.codes.TheConstants.{NM_POINT_WITHOUT_INVERSE}
 
@@ -17,6 +17,12 @@ use Rattle.num_modular_c.specs.declared.codes.TheConstants.{NM_POINT_WITHOUT_INV
 pub record FitsEncode (n k places room : ℕ) : Type 0 where
   pub word : places ≡ n
   pub scratch : n + k ≤ room
+
+-- the same for k coefficients whose first is a secret: there is one, and k of the n shares recover it
+pub record FitsShare (n k places room : ℕ) : Type 0 where
+  pub lengths : FitsEncode n k places room
+  pub some : 1 ≤ k
+  pub enough : k ≤ n
 
 -- lengths for s places and t symbols: each place has its symbol, and scratch holds points, symbols, and three lists like
 -- the message
@@ -40,6 +46,8 @@ code_of PointsDontFit = NM_POINTS_DONT_FIT
 
 -- the code of an error of `share`
 abbrev pub share_code_of : ShareError → ℕ
+share_code_of refused.NoCoefficients = NM_BAD_ARGUMENT
+share_code_of refused.TooFewPoints = NM_BAD_ARGUMENT
 share_code_of refused.PointWithoutInverse = NM_POINT_WITHOUT_INVERSE
 share_code_of refused.PointsDontFit = NM_POINTS_DONT_FIT
 
@@ -65,7 +73,7 @@ pub record IsRestored (m k n : ℕ) (x : ℕ → ℕ) (places : List ℕ) (y mes
   pub original : (sent word : ℕ → ℕ) → IsEncoding m k n x sent word
       → ((i : ℕ) → i < k → y i ≡ word (slice_index places i)) → (i : ℕ) → i < k → message i ≡ sent i % m
 
--- restoring failed for a reason that is present
+-- restoring failed for the first reason
 pub record IsRestoreFailure (m k n : ℕ) (x : ℕ → ℕ) (places : List ℕ) (code : ℕ) (before after : List ℕ) : Type 0 where
   pub error : RestoreError
   pub code_is : code ≡ code_of error
@@ -82,18 +90,16 @@ pub record IsCorrected (m k n : ℕ) (x : ℕ → ℕ) (places : List ℕ) (y me
   pub only_message : (sent other : ℕ → ℕ) → IsEncoding m k n x sent other → IsNear k places y other
       → (i : ℕ) → i < k → message i ≡ sent i % m
 
--- correcting failed for a reason that is present; `TooManyErrors` comes only where no word is near
+-- correcting failed, for this reason
 pub record IsCorrectFailure (m k n : ℕ) (x : ℕ → ℕ) (places : List ℕ) (y : ℕ → ℕ) (code before after : ℕ) : Type 0 where
   pub error : CorrectError ℕ
   pub code_is : code ≡ correct_code_of error
-  pub reason : IsPlaceFault m k n x places error
-  pub far : IsFarFault m k n x places y error
-  pub inverse : IsInverseFault (λ a. a) m error
+  pub reason : IsCorrectFault (λ a. a) m k n x places y error
   pub number : after ≡ number_after error before
 
--- sharing failed for a reason that is present
-pub record IsShareFailure (m n : ℕ) (x : ℕ → ℕ) (code : ℕ) (before after : List ℕ) : Type 0 where
+-- sharing failed, for the first reason
+pub record IsShareFailure (m k n : ℕ) (x : ℕ → ℕ) (code : ℕ) (before after : List ℕ) : Type 0 where
   pub error : ShareError
   pub code_is : code ≡ share_code_of error
-  pub reason : IsShareFault m n x error
+  pub reason : IsShareFault m k n x error
   pub unchanged : after ≡ before

@@ -6,3 +6,4 @@ pub mod Systems
 pub mod Plans
 pub mod Prefixes
 pub mod Erasure
+pub mod Lists

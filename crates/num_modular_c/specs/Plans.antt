@@ -39,10 +39,10 @@ pub record IsSplit (m factors b last : ℕ) (words : List ℕ) : Type 0 where
   pub room : AreBelow (4 * m) words
   pub blocks : AreBlocks (length words) factors b last
 
--- the plan has this modulus and root, and its table, of so many entries, is that of the root
+-- the plan has this modulus and the residue of this root, and its table, of so many entries, is that of the root
 pub record IsMade (m g count : ℕ) (plan : NmPlan) : Type 0 where
   pub modulus : plan.modulus ≡ m
-  pub root : plan.root ≡ g
+  pub root : plan.root ≡ g % m
   pub entries : length plan.table.now ≡ count
   pub table : IsTable m (g % m) plan.table.now
 

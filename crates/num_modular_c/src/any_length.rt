@@ -100,6 +100,7 @@ fn table_length(n: usize) -> usize
 
 // The plans in three tables of so many factors. Conditions: that is a power of two that is at most 2^31, and the tables are
 // within the list.
+// rust: #[track_caller]
 fn plans_in<'a>(factors: &'a mut [NmFactor], table: usize) -> Plans<'a, NmFactor>
     requires lengths { ArePlanLengths table table table }
     requires room { 3 * table ≤ length factors.old }
@@ -110,6 +111,7 @@ fn plans_in<'a>(factors: &'a mut [NmFactor], table: usize) -> Plans<'a, NmFactor
     let (third, _spare) = rest.split_at_mut(table);
     match fill_plans(first, second, third) {
         Some(plans) => plans,
+        // rust instead: None => panic!("that must be a power of two that is at most 2^31, and the tables must be within the list"),
         None => unreachable!(),
     }
 }

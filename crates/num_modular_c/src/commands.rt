@@ -33,6 +33,7 @@ const OPERATIONS: u32 = NM_POW + 1;
 /// A command on registers, each given by its index. Fields that an operation doesn't use may have any value.
 #[repr(C)]
 #[derive(Clone, Copy)]
+// rust: #[must_use]
 pub struct NmCommand {
     /// The operation: `NM_LOAD` to `NM_POW`.
     pub operation: u32,

@@ -16,6 +16,7 @@ use num_modular::word::w64::merge;
 /// A divisor and its reciprocal, as `nm_divider` computes it.
 #[repr(C)]
 #[derive(Clone, Copy)]
+// rust: #[must_use]
 pub struct NmDivider {
     /// The divisor.
     pub divisor: u64,
@@ -26,6 +27,7 @@ pub struct NmDivider {
 /// A quotient and a remainder.
 #[repr(C)]
 #[derive(Clone, Copy)]
+// rust: #[must_use]
 pub struct NmDivision {
     /// The quotient, rounded down.
     pub quotient: u64,

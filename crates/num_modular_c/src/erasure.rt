@@ -6,7 +6,7 @@ ghost use Rattle.num_modular.specs.Polynomials.{HaveUnitDifferences};
 ghost use Rattle.num_modular_c.specs.Codes.{Did, Refused, BothRefused};
 ghost use Rattle.num_modular_c.specs.Commands.{residues_of};
 ghost use Rattle.num_modular_c.specs.Contexts.{IsMontgomery};
-ghost use Rattle.num_modular_c.specs.Erasure.{FitsEncode, FitsRestore, FitsCorrect, ArePlaced, IsRestored};
+ghost use Rattle.num_modular_c.specs.Erasure.{FitsEncode, FitsShare, FitsRestore, FitsCorrect, ArePlaced, IsRestored};
 ghost use Rattle.num_modular_c.specs.Erasure.{IsRestoreFailure, IsCorrected, IsCorrectFailure, IsShareFailure};
 ghost use Rattle.num_modular_c.specs.Erasure.{code_of, share_code_of, correct_code_of, number_after};
 ghost use Rattle.ring_codes.specs.Correction.{AreFit};
@@ -23,7 +23,7 @@ use ring_codes::erasure::{
     CorrectError, RestoreError, ShareError, correct, encode, restore, share,
 };
 
-// Whether the lists of `nm_erasure_encode` and `nm_erasure_share` have fitting lengths.
+// Whether the lists of `nm_erasure_encode` have fitting lengths.
 fn fits_encode(n: usize, k: usize, word: usize, scratch: usize) -> bool
     ensures { IsTrue result ↔ FitsEncode n k word scratch }
 {
@@ -82,6 +82,13 @@ pub extern "C" fn nm_erasure_encode(
     NM_OK
 }
 
+// Whether the lists of `nm_erasure_share` have fitting lengths.
+fn fits_share(n: usize, k: usize, shares: usize, scratch: usize) -> bool
+    ensures { IsTrue result ↔ FitsShare n k shares scratch }
+{
+    1 <= k && k <= n && fits_encode(n, k, shares, scratch)
+}
+
 // Writes the shares of a secret.
 fn shared<R: Reducer<u64>>(
     r: &R,
@@ -90,17 +97,17 @@ fn shared<R: Reducer<u64>>(
     shares: &mut [u64],
     scratch: &mut [u64],
 ) -> u32
-    requires { FitsEncode (length points.now) (length coefficients.now) (length shares.old) (length scratch.old) }
+    requires { FitsShare (length points.now) (length coefficients.now) (length shares.old) (length scratch.old) }
     ensures did { let m = R.modulus r.now in let x = slice_index (residues_of m points.now) in
         ((i : ℕ) → i < length points.now → HasInverse m (x i)) → HaveUnitDifferences m (length points.now) x →
         Did result (IsEncoding m (length coefficients.now) (length points.now) x
         (slice_index (residues_of m coefficients.now)) (slice_index shares.new)) }
     ensures failure { let m = R.modulus r.now in let x = slice_index (residues_of m points.now) in
         (((i : ℕ) → i < length points.now → HasInverse m (x i)) × HaveUnitDifferences m (length points.now) x → ⊥) →
-        IsShareFailure m (length points.now) x result shares.old shares.new }
+        IsShareFailure m (length coefficients.now) (length points.now) x result shares.old shares.new }
 {
     let (xs, rest) = scratch.split_at_mut(points.len());
-    let forms = &mut rest[..coefficients.len()];
+    let (forms, _) = rest.split_at_mut(coefficients.len());
     load_from(r, points, xs);
     load_from(r, coefficients, forms);
     match share(r, xs, forms, shares) {
@@ -118,6 +125,8 @@ fn share_code(error: ShareError) -> u32
     ensures not_ok { 1 ≤ result }
 {
     match error {
+        ShareError::NoCoefficients => NM_BAD_ARGUMENT,
+        ShareError::TooFewPoints => NM_BAD_ARGUMENT,
         ShareError::PointWithoutInverse => NM_POINT_WITHOUT_INVERSE,
         ShareError::PointsDontFit => NM_POINTS_DONT_FIT,
     }
@@ -137,9 +146,9 @@ fn restore_code(error: RestoreError) -> u32
 }
 
 /// Writes the shares of a secret, by Shamir's scheme: the word of a message whose first symbol is the secret, and whose
-/// others the caller draws at random, each from 0 to m - 1. The codes are those of `nm_erasure_encode`, and
-/// `NM_POINT_WITHOUT_INVERSE`: a point has no inverse modulo m; `NM_POINTS_DONT_FIT`: the difference of two points
-/// has none.
+/// others the caller draws at random, each from 0 to m - 1. Any k of the n shares recover it. The codes are those of
+/// `nm_erasure_encode`, `NM_BAD_ARGUMENT` also where k is 0 or above n, and `NM_POINT_WITHOUT_INVERSE`: a point has no
+/// inverse modulo m; `NM_POINTS_DONT_FIT`: the difference of two points has none.
 #[unsafe(no_mangle)]
 pub extern "C" fn nm_erasure_share(
     context: &NmMontgomery,
@@ -150,23 +159,23 @@ pub extern "C" fn nm_erasure_share(
 ) -> u32
     ensures did { let m = context.now.modulus in let n = length points.now in let k = length coefficients.now in
         let x = slice_index (residues_of m points.now) in
-        IsMontgomery context.now → FitsEncode n k (length shares.old) (length scratch.old) →
+        IsMontgomery context.now → FitsShare n k (length shares.old) (length scratch.old) →
         ((i : ℕ) → i < n → HasInverse m (x i)) → HaveUnitDifferences m n x →
         Did result (IsEncoding m k n x (slice_index (residues_of m coefficients.now)) (slice_index shares.new)) }
     ensures failure { let m = context.now.modulus in let n = length points.now in let k = length coefficients.now in
         let x = slice_index (residues_of m points.now) in
-        IsMontgomery context.now → FitsEncode n k (length shares.old) (length scratch.old) →
+        IsMontgomery context.now → FitsShare n k (length shares.old) (length scratch.old) →
         (((i : ℕ) → i < n → HasInverse m (x i)) × HaveUnitDifferences m n x → ⊥) →
-        IsShareFailure m n x result shares.old shares.new }
+        IsShareFailure m k n x result shares.old shares.new }
     ensures bad_argument { IsMontgomery context.now →
-        (FitsEncode (length points.now) (length coefficients.now) (length shares.old) (length scratch.old) → ⊥) →
+        (FitsShare (length points.now) (length coefficients.now) (length shares.old) (length scratch.old) → ⊥) →
         Refused NM_BAD_ARGUMENT result shares.old shares.new }
     ensures bad_context { (IsMontgomery context.now → ⊥) → Refused NM_BAD_CONTEXT result shares.old shares.new }
 {
     let Some(ring) = reducer(context) else {
         return NM_BAD_CONTEXT;
     };
-    if !fits_encode(
+    if !fits_share(
         points.len(),
         coefficients.len(),
         shares.len(),
@@ -222,8 +231,9 @@ fn restored<R: Reducer<u64>>(
 /// Writes the message of k symbols, k being the length of `message`, by the first k places and the symbols there,
 /// whichever places these are. The contents of `scratch` are unspecified afterwards. `NM_BAD_ARGUMENT`: there isn't a
 /// symbol for each place, or `scratch` is shorter than n + s + 3·k, with n points and s places. `NM_BAD_CONTEXT`: as for
-/// `nm_erasure_encode`. `NM_TOO_FEW_SYMBOLS`: s is below k. `NM_PLACE_OUT_OF_RANGE`: one of these places isn't below n.
-/// `NM_PLACE_TWICE`: one occurs twice. `NM_POINTS_DONT_FIT`: the difference of two points at them has no inverse.
+/// `nm_erasure_encode`. `NM_TOO_FEW_SYMBOLS`: s is below k. `NM_PLACE_OUT_OF_RANGE`, `NM_PLACE_TWICE`: of these places,
+/// in order, the first that isn't below n, or occurs before. `NM_POINTS_DONT_FIT`: the difference of two points at them
+/// has no inverse. Of several faults the first in this order counts, a context's and an argument's before all.
 #[unsafe(no_mangle)]
 pub extern "C" fn nm_erasure_restore(
     context: &NmMontgomery,
@@ -330,8 +340,8 @@ fn corrected<R: Reducer<u64>>(
 ///
 /// `NM_BAD_ARGUMENT`: there isn't a symbol for each place, k is 0, `word` isn't as long as `points`, or `scratch` is
 /// shorter than 2·n + 4·s + 4·k + 2, with n points. `NM_TOO_MANY_ERRORS`: no word is that near. `NM_NO_INVERSE`: a
-/// number above 0 without an inverse was met, which is written to `number`; it never comes where m is a prime. The
-/// other codes are those of `nm_erasure_restore`, for all s places.
+/// number above 0 without an inverse was met, which is written to `number`; it never comes where m is a prime, or where
+/// no symbol is wrong. The other codes are those of `nm_erasure_restore`, for all s places.
 #[unsafe(no_mangle)]
 pub extern "C" fn nm_erasure_correct(
     context: &NmMontgomery,

@@ -12,6 +12,7 @@ use num_modular::{Montgomery, Reducer};
 /// A modulus m and what `nm_montgomery` precomputes of it.
 #[repr(C)]
 #[derive(Clone, Copy)]
+// rust: #[must_use]
 pub struct NmMontgomery {
     /// The modulus.
     pub modulus: u64,
@@ -30,7 +31,7 @@ pub(crate) fn reducer(context: &NmMontgomery) -> Option<Montgomery<u64>>
 }
 
 // Whether a word is a form: it is below the modulus.
-fn is_form(ring: &Montgomery<u64>, word: u64) -> bool
+pub(crate) fn is_form(ring: &Montgomery<u64>, word: u64) -> bool
     ensures below { IsTrue result ↔ (word < ⟦<Montgomery<u64> as Reducer<u64>>⟧.modulus ring.now) }
     ensures form { IsTrue result → IsMontgomeryForm (⟦<Montgomery<u64> as Reducer<u64>>⟧.modulus ring.now) word }
 {
@@ -91,6 +92,7 @@ pub extern "C" fn nm_montgomery_residue(context: &NmMontgomery, form: u64, value
 
 /// Writes the form of the sum of two forms. The codes are those of `nm_montgomery_residue`.
 #[unsafe(no_mangle)]
+// rust: #[inline]
 pub extern "C" fn nm_montgomery_add(context: &NmMontgomery, a: u64, b: u64, sum: &mut u64) -> u32
     ensures did { let m = context.now.modulus in IsMontgomery context.now → a < m → b < m
         → Did result (IsMontgomeryFormOf m sum.new ((value_of m a + value_of m b) % m)) }
@@ -111,6 +113,7 @@ pub extern "C" fn nm_montgomery_add(context: &NmMontgomery, a: u64, b: u64, sum:
 
 /// Writes the form of the difference of two forms. The codes are those of `nm_montgomery_residue`.
 #[unsafe(no_mangle)]
+// rust: #[inline]
 pub extern "C" fn nm_montgomery_sub(
     context: &NmMontgomery,
     a: u64,
@@ -136,6 +139,7 @@ pub extern "C" fn nm_montgomery_sub(
 
 /// Writes the form of the product of two forms. The codes are those of `nm_montgomery_residue`.
 #[unsafe(no_mangle)]
+// rust: #[inline]
 pub extern "C" fn nm_montgomery_mul(
     context: &NmMontgomery,
     a: u64,
@@ -187,6 +191,7 @@ pub extern "C" fn nm_montgomery_pow(
 /// Writes the form of the inverse of a form. `NM_NO_INVERSE`: its value has none. The other codes are those of
 /// `nm_montgomery_residue`.
 #[unsafe(no_mangle)]
+// rust: #[inline]
 pub extern "C" fn nm_montgomery_inv(context: &NmMontgomery, form: u64, inverse: &mut u64) -> u32
     ensures did { let m = context.now.modulus in
         IsMontgomery context.now → form < m → HasInverse m (value_of m form)

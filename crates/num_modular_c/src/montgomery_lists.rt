@@ -10,6 +10,7 @@ ghost use Rattle.num_modular_c.specs.Commands.{ring_command_of, residues_of, IsA
 ghost use Rattle.num_modular_c.specs.Contexts.{IsMontgomery};
 ghost use Rattle.num_modular_c.specs.Transforms.{residues, IsInverseTransform, IsConvolution};
 
+// rust instead: use crate::num_modular_c::codes::NM_BAD_CONTEXT;
 use crate::codes::{NM_BAD_ARGUMENT, NM_BAD_CONTEXT, NM_NO_INVERSE, NM_NO_ROOT, NM_OK};
 use crate::commands::NmCommand;
 use crate::montgomery::{NmMontgomery, reducer};

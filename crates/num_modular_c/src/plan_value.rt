@@ -8,9 +8,10 @@ ghost use Rattle.num_modular_c.specs.Codes.{Did, Refused, BothRefused};
 ghost use Rattle.num_modular_c.specs.Plans.{words_of, AreFactors, AreJoined, AreSplit, FitPlannedProduct, IsAdmitted};
 ghost use Rattle.num_modular_c.specs.Plans.{IsMade, IsPlannedProduct, IsSplit, IsTable, IsTransformed, IsTransformedBack};
 
+// rust instead: use crate::num_modular_c::codes::{NM_BAD_ARGUMENT, NM_NO_INVERSE, NM_OK};
 use crate::codes::{NM_BAD_ARGUMENT, NM_BAD_CONTEXT, NM_NO_INVERSE, NM_NO_ROOT, NM_OK};
 use crate::planned::{is_pair, is_split, product_code};
-use crate::plans::{NmFactor, nm_plan, nm_plan_fits};
+use crate::plans::{NmFactor, nm_fill_table, nm_table_fits};
 use modular_barrett::planned::PlannedModulus;
 use modular_plan_transforms::join::join_scaled;
 use modular_plan_transforms::split::split;
@@ -21,6 +22,7 @@ use modular_transform::order::reverse_places;
 /// A plan: a modulus m, a root, and the table of the factors of its powers, which the caller owns.
 #[repr(C)]
 #[derive(Clone, Copy)]
+// rust: #[must_use]
 pub struct NmPlan<'a> {
     /// The modulus.
     pub modulus: u64,
@@ -30,9 +32,9 @@ pub struct NmPlan<'a> {
     pub table: &'a [NmFactor],
 }
 
-/// Fills the table of the root for transforms of n words, n being twice its length, and writes the
-/// plan. The codes are those of `nm_plan`. No clause says that a failed call leaves the table unchanged, because the plan
-/// borrows it.
+/// Fills the table of the root for transforms of n words, n being twice its length, and writes the plan, in which the root
+/// is the residue. The codes are those of `nm_fill_table`. No clause says that a failed call leaves the table unchanged,
+/// because the plan borrows it.
 #[unsafe(no_mangle)]
 pub extern "C" fn nm_plan_make<'a>(
     m: u64,
@@ -46,11 +48,14 @@ pub extern "C" fn nm_plan_make<'a>(
         → Refused NM_NO_ROOT result plan.old plan.new }
     ensures bad_argument { (IsAdmitted m → ⊥) → Refused NM_BAD_ARGUMENT result plan.old plan.new }
 {
-    let code = nm_plan(m, root, table);
+    if m == 0 {
+        return NM_BAD_ARGUMENT;
+    }
+    let code = nm_fill_table(m, root, table);
     if code == NM_OK {
         *plan = NmPlan {
             modulus: m,
-            root,
+            root: root % m,
             table,
         };
     }
@@ -58,7 +63,7 @@ pub extern "C" fn nm_plan_make<'a>(
 }
 
 /// Tests whether the plan's table is the one that `nm_plan_make` makes for its modulus and its root. The codes are
-/// those of `nm_plan_fits`.
+/// those of `nm_table_fits`.
 #[unsafe(no_mangle)]
 pub extern "C" fn nm_plan_check(plan: &NmPlan) -> u32
     ensures fits { let m = plan.now.modulus in let g = plan.now.root % m in let table = plan.now.table.now in
@@ -69,7 +74,7 @@ pub extern "C" fn nm_plan_check(plan: &NmPlan) -> u32
         IsAdmitted m → (Suits m g (2 * length plan.now.table.now) → ⊥) → result ≡ NM_NO_ROOT }
     ensures bad_argument { (IsAdmitted plan.now.modulus → ⊥) → result ≡ NM_BAD_ARGUMENT }
 {
-    nm_plan_fits(plan.modulus, plan.root, plan.table)
+    nm_table_fits(plan.modulus, plan.root, plan.table)
 }
 
 /// Replaces the n words by their transform: where the table is that of g, entry j is the sum of x_i·h^(i·j) modulo m.

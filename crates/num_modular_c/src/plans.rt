@@ -5,6 +5,7 @@ ghost use Rattle.num_modular.specs.Transforms.{Suits};
 ghost use Rattle.num_modular_c.specs.Codes.{Did, Refused};
 ghost use Rattle.num_modular_c.specs.Plans.{IsAdmitted, IsTable};
 
+// rust instead: use crate::num_modular_c::codes::{NM_BAD_ARGUMENT, NM_BAD_CONTEXT, NM_OK};
 use crate::codes::{NM_BAD_ARGUMENT, NM_BAD_CONTEXT, NM_NO_ROOT, NM_OK};
 use crate::transforms::root_code;
 use modular_barrett::planned::{Factor, PlannedModulus};
@@ -13,9 +14,10 @@ use modular_plan_passes::table::fill_table;
 use modular_plan_transforms::filled::is_table;
 use num_modular::Montgomery;
 
-/// A factor below a modulus m with its quotient, as `nm_plan` computes them.
+/// A factor below a modulus m with its quotient, as `nm_fill_table` computes them.
 #[repr(C)]
 #[derive(Clone, Copy)]
+// rust: #[must_use]
 pub struct NmFactor {
     /// The factor.
     pub value: u64,
@@ -61,7 +63,7 @@ fn plan_code(m: u64, root: u64, n: usize) -> u32
 /// Fills the table of the root for transforms of n words, n being twice its length.
 /// `NM_BAD_ARGUMENT`: m is 0 or above 2^62. `NM_NO_ROOT`: the root doesn't suit n.
 #[unsafe(no_mangle)]
-pub extern "C" fn nm_plan(m: u64, root: u64, table: &mut [NmFactor]) -> u32
+pub extern "C" fn nm_fill_table(m: u64, root: u64, table: &mut [NmFactor]) -> u32
     ensures did { IsAdmitted m → Suits m (root % m) (2 * length table.old)
         → Did result (IsTable m (root % m) table.new) }
     ensures no_root { IsAdmitted m → (Suits m (root % m) (2 * length table.old) → ⊥)
@@ -75,10 +77,10 @@ pub extern "C" fn nm_plan(m: u64, root: u64, table: &mut [NmFactor]) -> u32
     code
 }
 
-/// Tests whether the table is the one that `nm_plan` makes for this modulus and this root. `NM_BAD_CONTEXT`: it
-/// isn't. The other codes are those of `nm_plan`.
+/// Tests whether the table is the one that `nm_fill_table` makes for this modulus and this root. `NM_BAD_CONTEXT`: it
+/// isn't. The other codes are those of `nm_fill_table`.
 #[unsafe(no_mangle)]
-pub extern "C" fn nm_plan_fits(m: u64, root: u64, table: &[NmFactor]) -> u32
+pub extern "C" fn nm_table_fits(m: u64, root: u64, table: &[NmFactor]) -> u32
     ensures fits { IsAdmitted m → Suits m (root % m) (2 * length table.now) → IsTable m (root % m) table.now
         → result ≡ NM_OK }
     ensures bad_context { IsAdmitted m → Suits m (root % m) (2 * length table.now)

@@ -23,6 +23,7 @@ fn are_positive(moduli: &[u64]) -> bool
 }
 
 // The residue modulo m of the number that words denote, in the system of this one modulus. Condition: m is at least 1.
+// rust: #[track_caller]
 fn residue_of_words(m: u64, words: &[u64]) -> u64
     requires { 1 ≤ m }
     ensures { result ≡ number_of_words words.now % m }
@@ -32,6 +33,7 @@ fn residue_of_words(m: u64, words: &[u64]) -> u64
     let mut residues = [0; 1];
     match System::new(&moduli, &mut inverses) {
         Some(system) => system.encode(words, &mut residues),
+        // rust instead: None => panic!("m must be at least 1"),
         None => unreachable!(),
     }
     residues[0]
@@ -73,6 +75,7 @@ fn is_long_encoding(moduli: &[u64], residues: &[u64]) -> bool
 
 // Writes the digits of a number, and its words. Conditions: the moduli are above 0 and coprime in pairs, each has a
 // residue below it, room for a digit and for an inverse, and there are no fewer words.
+// rust: #[track_caller]
 fn decode_long(
     moduli: &[u64],
     residues: &[u64],
@@ -92,6 +95,7 @@ fn decode_long(
             system.digits(residues, digits);
             system.words(digits, words);
         }
+        // rust instead: None => panic!("the moduli must be above 0 and coprime in pairs, each must have a residue below it, room for a digit and for an inverse, and there must be no fewer words"),
         None => unreachable!(),
     }
 }
@@ -132,6 +136,7 @@ pub extern "C" fn nm_residues_decode(
 // Writes the digits of a number, and its residues modulo other moduli. Conditions: the moduli are above 0 and coprime in
 // pairs, and each has a residue below it, room for a digit and for an inverse; the others are above 0, and each has room
 // for a residue.
+// rust: #[track_caller]
 fn extend_long(
     moduli: &[u64],
     residues: &[u64],
@@ -148,6 +153,7 @@ fn extend_long(
 {
     match System::new(moduli, inverses) {
         Some(system) => system.extend(residues, digits, others, extended),
+        // rust instead: None => panic!("the others must be above 0, and each must have room for a residue"),
         None => unreachable!(),
     }
 }

@@ -7,6 +7,7 @@ ghost use Rattle.num_modular.specs.Transforms.{Suits, transform};
 ghost use Rattle.num_modular_c.specs.Codes.{Did, Refused, BothRefused};
 ghost use Rattle.num_modular_c.specs.Transforms.{residues, IsInverseTransform, IsConvolution};
 
+// rattle: line
 use crate::codes::{NM_BAD_ARGUMENT, NM_NO_INVERSE, NM_NO_ROOT, NM_OK};
 use crate::transforms::{found_root, multiplied, root_code, transformed, transformed_back};
 use num_modular::{FixedTrinomialSolinas64, Reducer};

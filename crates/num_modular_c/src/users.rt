@@ -19,6 +19,7 @@ use num_modular::word::w64::split;
 /// A number of two words.
 #[repr(C)]
 #[derive(Clone, Copy)]
+// rust: #[must_use]
 pub struct NmDouble {
     /// The number modulo 2^64.
     pub low: u64,

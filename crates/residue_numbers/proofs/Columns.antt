@@ -1,24 +1,29 @@
 -- Runs of one list of commands modulo each modulus of a system, up to the first command whose inverse doesn't exist modulo
 -- one of them.
 use Rattle.std.proofs.Common.{◌≡◌, ℕ, zero, suc, ◌+◌, ◌-◌, ◌*◌, ◌%◌, ◌<◌, ◌≤◌, ◌↔◌, List, [], ◌∷◌, length, map, take, drop, All}
-use Rattle.std.proofs.Common.{get_or, sym, ap, subst, ◌∙◌, refl, arith, inl, inr, Option, Some, None, IsSomeAnd}
+use Rattle.std.proofs.Common.{get_or, sym, ap, subst, ◌∙◌, refl, arith, below_more, inl, inr, Option, Some, None, IsSomeAnd}
 use Rattle.std.specs.List.{slice_get}
 use Rattle.std.proofs.Math.Path.{fun_ext}
 use Rattle.std.proofs.Math.Nat.{mul-le-mul_left}
-use Rattle.std.proofs.lemmas.Bool.{cases_lt}
+use Rattle.std.proofs.lemmas.Bool.{cases_lt, cases_eq}
 use Rattle.std.proofs.lemmas.List.{get_or-take, get_or-drop, get_or-map, length-map, length-take-le, take-map}
 use Rattle.std.proofs.lemmas.Grind.{get_or_default_zero, same_number_lists}
 use Rattle.std.proofs.lemmas.Option.{slice_get_past}
 use Rattle.num_modular.specs.Inverses.{HasInverse, IsInversion, inverse_of}
 use Rattle.num_modular.specs.declared.ring.RingCommand.{RingCommand}
 use Rattle.num_modular.specs.declared.ring.RingCommand.TheVariants.{Inv, Div}
-use Rattle.num_modular.specs.declared.ring.RunEnd.TheVariants.{NoInverse}
-use Rattle.num_modular.specs.Ring.{value_after, value_at, inverted_by, LacksInverse, LacksInverseAt, IsStop}
+use Rattle.num_modular.specs.declared.ring.RunEnd.{RunEnd}
+use Rattle.num_modular.specs.declared.ring.RunEnd.TheVariants.{Done, NoInverse}
+use Rattle.num_modular.specs.Ring.{whole, value_after, value_at, inverted_by, LacksInverse, LacksInverseAt, IsStop, carried_out}
 use Rattle.num_modular.specs.Stops.{NeedsInverse}
 use Rattle.num_modular.specs.Systems.{range_of}
-use Rattle.residue_numbers.specs.Registers.{register, StartWith, IsCarriedOut}
+use Rattle.residue_numbers.specs.Registers.{register, StartWith, IsCarriedOut, IsColumnRun, IsRun, value_modulo}
 use Rattle.residue_numbers.proofs.Encodings.{ArePositive, range_positive}
 use Rattle.residue_numbers.proofs.Runs.{Laws, IsFactor, inverse_within, values_within, units_below, lacks_none, starts, begins, factor}
+
+-- a command over whole numbers
+abbrev pub over_whole : {C : Type 0} → (C → RingCommand ℕ) → C → RingCommand ℕ
+over_whole command_of c = whole (λ n. n) (command_of c)
 
 -- `inverse_of` is the inverse, or there is none
 abbrev pub Named : Type 0
@@ -73,18 +78,18 @@ module _ (laws : Laws) (named : Named) (moduli start : List ℕ) (commands : Lis
       (slice_get commands j) (each i h j b) r needs)
 
   -- and the values there leave those modulo each modulus
-  pub values_left : (i : ℕ) → i < length moduli → (r : ℕ) → value_at (range_of moduli) start commands done r % get_or moduli i 0
+  values_left : (i : ℕ) → i < length moduli → (r : ℕ) → value_at (range_of moduli) start commands done r % get_or moduli i 0
       ≡ value_at (get_or moduli i 0) (starts (get_or moduli i 0) start) commands done r
   values_left i h =
       values_within laws (factor moduli positive i h) start (starts (get_or moduli i 0) start) commands done
       (begins (get_or moduli i 0) start (positive i h)) (λ j r b needs. units j r b needs)
 
-  pub carried_before : (at : ℕ) → at < done → LacksInverseAt (range_of moduli) start commands at → ⊥
+  carried_before : (at : ℕ) → at < done → LacksInverseAt (range_of moduli) start commands at → ⊥
   carried_before at h lacks =
       lacks_none (range_of moduli) (value_at (range_of moduli) start commands at) (slice_get commands at) lacks
       (λ r needs. units at r h needs)
 
-  pub carried_next : (i : ℕ) → i < length moduli
+  carried_next : (i : ℕ) → i < length moduli
       → LacksInverseAt (get_or moduli i 0) (starts (get_or moduli i 0) start) commands done
       → LacksInverseAt (range_of moduli) start commands done
   carried_next i h lacks =
@@ -96,7 +101,7 @@ module _ (laws : Laws) (named : Named) (moduli start : List ℕ) (commands : Lis
 stopped_at : {done at : ℕ} → NoInverse done ≡ NoInverse at → done ≡ at
 stopped_at e = cc
 
-pub stop_exactly : (m : ℕ) (start : List ℕ) (commands : List (RingCommand ℕ)) (done : ℕ)
+stop_exactly : (m : ℕ) (start : List ℕ) (commands : List (RingCommand ℕ)) (done : ℕ)
     → ((at : ℕ) → at < done → LacksInverseAt m start commands at → ⊥) → LacksInverseAt m start commands done
     → (at : ℕ) → (NoInverse done ≡ NoInverse at) ↔ IsStop m start commands at
 stop_exactly m start commands done before next at = (
@@ -111,7 +116,7 @@ stop_exactly m start commands done before next at = (
 )
 
 -- where all are carried out, there is none
-pub no_stop_at_all : (m : ℕ) (start : List ℕ) (commands : List (RingCommand ℕ))
+no_stop_at_all : (m : ℕ) (start : List ℕ) (commands : List (RingCommand ℕ))
     → ((at : ℕ) → at < length commands → LacksInverseAt m start commands at → ⊥) → (at : ℕ) → IsStop m start commands at → ⊥
 no_stop_at_all m start commands before at stop = elim (cases_lt at (length commands)) [
   | inl below ↦ before at below stop.lacks
@@ -125,7 +130,7 @@ read_prefix [] (suc k) i h = refl
 read_prefix (x ∷ xs) (suc k) zero h = refl
 read_prefix (x ∷ xs) (suc k) (suc i) h = read_prefix xs k i (omega (arith, h))
 
-pub value_prefix : (m : ℕ) (start : List ℕ) (commands : List (RingCommand ℕ)) (k i : ℕ) → i ≤ k
+value_prefix : (m : ℕ) (start : List ℕ) (commands : List (RingCommand ℕ)) (k i : ℕ) → i ≤ k
     → (r : ℕ) → value_at m start (take k commands) i r ≡ value_at m start commands i r
 value_prefix m start commands k zero h r = refl
 value_prefix m start commands k (suc i) h r =
@@ -150,31 +155,24 @@ prefix_lacks m start commands k i h lacks =
     subst (λ v. IsSomeAnd (slice_get (take k commands) i) (LacksInverse m v)) (sym same)
     (subst (λ o. IsSomeAnd o (LacksInverse m (value_at m start commands i))) (sym (read_prefix commands k i h)) lacks)
 
--- what is carried out of the first k commands
-pub record IsCarriedPart (m : ℕ) (start : List ℕ) (commands : List (RingCommand ℕ)) (k done : ℕ) : Type 0 where
-  pub before : (at : ℕ) → at < done → LacksInverseAt m start commands at → ⊥
-  pub next : done < k → LacksInverseAt m start commands done
-
-pub part_of : {C : Type 0} (f : C → RingCommand ℕ) (commands : List C) (m : ℕ) (start : List ℕ) (k done : ℕ)
-    → k ≤ length commands → done ≤ k → IsCarriedOut m start (map f (take k commands)) done
-    → IsCarriedPart m start (map f commands) k done
-part_of f commands m start k done within most carried =
-    let same = take-map f k commands in
-    let count : length (map f (take k commands)) ≡ k = length-map (take k commands) f ∙ length-take-le k commands within in
-    record {
+-- what is carried out of the first k commands alone
+part_of : {C : Type 0} (f : C → RingCommand ℕ) (commands : List C) (m : ℕ) (start : List ℕ) (k done : ℕ) → done ≤ k
+    → IsCarriedOut m start (map f (take k commands)) k done → IsCarriedOut m start (map f commands) k done
+part_of f commands m start k done most carried =
+    let same = take-map f k commands in record {
       before = λ at h lacks. carried.before at h (subst (λ cs. LacksInverseAt m start cs at) same
           (prefix_lacks m start (map f commands) k at (omega (arith, h, most)) lacks));
       next = λ h. lacks_of_prefix m start (map f commands) k done h (subst (λ cs. LacksInverseAt m start cs done) (sym same)
-          (carried.next (omega (arith, count, h))));
+          (carried.next h));
     }
 
-pub value_of_part : {C : Type 0} (f : C → RingCommand ℕ) (commands : List C) (m : ℕ) (start : List ℕ) (k done r : ℕ)
+value_of_part : {C : Type 0} (f : C → RingCommand ℕ) (commands : List C) (m : ℕ) (start : List ℕ) (k done r : ℕ)
     → done ≤ k → value_at m start (map f (take k commands)) done r ≡ value_at m start (map f commands) done r
 value_of_part f commands m start k done r most =
     ap (λ cs. value_at m start cs done r) (sym (take-map f k commands)) ∙ value_prefix m start (map f commands) k done most r
 
 -- where a run has no stop, no command lacks its inverse
-pub none_lacks : (m : ℕ) (start : List ℕ) (commands : List (RingCommand ℕ)) → ((at : ℕ) → IsStop m start commands at → ⊥)
+none_lacks : (m : ℕ) (start : List ℕ) (commands : List (RingCommand ℕ)) → ((at : ℕ) → IsStop m start commands at → ⊥)
     → (n at : ℕ) → at < n → LacksInverseAt m start commands at → ⊥
 none_lacks m start commands never zero at h lacks = absurd (omega (arith, h))
 none_lacks m start commands never (suc n) at h lacks = elim (cases_lt at n) [
@@ -188,7 +186,7 @@ none_lacks m start commands never (suc n) at h lacks = elim (cases_lt at n) [
 ]
 
 -- a command that lacks its inverse is one of the list
-pub lacks_within : (m : ℕ) (start : List ℕ) (commands : List (RingCommand ℕ)) (at : ℕ) → LacksInverseAt m start commands at
+lacks_within : (m : ℕ) (start : List ℕ) (commands : List (RingCommand ℕ)) (at : ℕ) → LacksInverseAt m start commands at
     → at < length commands
 lacks_within m start commands at lacks = elim (cases_lt at (length commands)) [
   | inl below ↦ below
@@ -213,7 +211,7 @@ other_place n r q i j h k e = elim (cases_lt r q) [
 ]
 
 -- a word of a register
-pub register_word : (n : ℕ) (words : List ℕ) (r i : ℕ) → i < n → get_or (register n words r) i 0 ≡ get_or words (r * n + i) 0
+register_word : (n : ℕ) (words : List ℕ) (r i : ℕ) → i < n → get_or (register n words r) i 0 ≡ get_or words (r * n + i) 0
 register_word n words r i h =
     get_or-take (r * n + n - r * n) (drop (r * n) words) i 0 (omega (arith, h)) ∙ get_or-drop (r * n) words i 0
 
@@ -228,22 +226,13 @@ pub all_of_each : (P : ℕ → Type 0) (xs : List ℕ) → ((i : ℕ) → i < le
 all_of_each P xs each i d h = subst P (sym (get_or_default_zero xs i d h)) (each i h)
 
 -- the values that a column starts with are the residues of the numbers
-pub start_is : (m n place : ℕ) (words values start : List ℕ) → length values ≡ length start
+start_is : (m n place : ℕ) (words values start : List ℕ) → length values ≡ length start
     → ((r : ℕ) → r < length start → get_or values r 0 ≡ get_or words (r * n + place) 0 % m)
     → ((r : ℕ) → r < length start → get_or words (r * n + place) 0 % m ≡ get_or start r 0 % m) → values ≡ starts m start
 start_is m n place words values start count loaded congruent =
     same_number_lists values (starts m start) (count ∙ sym (length-map start (λ k. k % m))) (λ r h.
     let within : r < length start = omega (arith, h, count) in
     loaded r within ∙ congruent r within ∙ sym (get_or-map (λ k. k % m) start r 0 0 within))
-
--- the same, where the modulus and the count of the moduli are had otherwise
-pub column_at : (moduli words start : List ℕ) → StartWith moduli words start → (place n m : ℕ) → place < length moduli
-    → n ≡ length moduli → m ≡ get_or moduli place 0 → (r : ℕ) → r < length start
-    → get_or words (r * n + place) 0 % m ≡ get_or start r 0 % m
-column_at moduli words start with place n m h count modulus r k =
-    subst (λ q. get_or words (r * q + place) 0 % m ≡ get_or start r 0 % m) (sym count)
-    (subst (λ q. get_or words (r * length moduli + place) 0 % q ≡ get_or start r 0 % q) (sym modulus)
-    (column moduli words start with place h r k))
 
 -- the modulus of a reducer of the list
 pub modulus_of : {R : Type 0} (modulus : R → ℕ) (reducers : List R) (moduli : List ℕ) (place : ℕ) (reducer : R)
@@ -255,3 +244,178 @@ modulus_of modulus reducers moduli place reducer all h is =
 pub count_of : {R : Type 0} (modulus : R → ℕ) (reducers : List R) (moduli : List ℕ) → map modulus reducers ≡ moduli
     → length reducers ≡ length moduli
 count_of modulus reducers moduli all = sym (length-map reducers modulus) ∙ ap length all
+
+-- the end of a run tells what it carried out
+pub record IsCarriedBy (m : ℕ) (start : List ℕ) (commands : List (RingCommand ℕ)) (end : RunEnd) (count done : ℕ)
+    : Type 0 where
+  pub carried : IsCarriedOut m start commands count done
+  pub most : done ≤ count
+  pub same : carried_out end commands ≡ done
+
+carried_by_end : (m : ℕ) (start : List ℕ) (commands : List (RingCommand ℕ)) (end : RunEnd) (count done : ℕ)
+    → length commands ≡ count → ((at : ℕ) → (end ≡ NoInverse at) ↔ IsStop m start commands at)
+    → ((end ≡ Done) ↔ ((at : ℕ) → IsStop m start commands at → ⊥)) → (end ≡ Done → done ≡ count)
+    → ((at : ℕ) → end ≡ NoInverse at → done ≡ at) → IsCarriedBy m start commands end count done
+carried_by_end m start commands Done count done long stops never all stopped =
+    let e = all refl in record {
+      carried = record {
+        before = λ at h. none_lacks m start commands (never.0 refl) done at h;
+        next = λ h. absurd (omega (arith, h, e));
+      };
+      most = omega (arith, e);
+      same = long ∙ sym e;
+    }
+carried_by_end m start commands (NoInverse at) count done long stops never all stopped =
+    let stop = (stops at).0 refl in
+    let within = lacks_within m start commands at stop.lacks in
+    subst (IsCarriedBy m start commands (NoInverse at) count) (sym (stopped at refl)) record {
+      carried = record { before = stop.first; next = λ h. stop.lacks };
+      most = omega (arith, within, long);
+      same = refl;
+    }
+
+-- the same for the first commands of a list
+pub by_end : {C : Type 0} (f : C → RingCommand ℕ) (commands : List C) (m : ℕ) (start : List ℕ) (end : RunEnd) (count done : ℕ)
+    → count ≤ length commands → ((at : ℕ) → (end ≡ NoInverse at) ↔ IsStop m start (map f (take count commands)) at)
+    → ((end ≡ Done) ↔ ((at : ℕ) → IsStop m start (map f (take count commands)) at → ⊥)) → (end ≡ Done → done ≡ count)
+    → ((at : ℕ) → end ≡ NoInverse at → done ≡ at) → IsCarriedBy m start (map f (take count commands)) end count done
+by_end f commands m start end count done within =
+    carried_by_end m start (map f (take count commands)) end count done
+    (length-map (take count commands) f ∙ length-take-le count commands within)
+
+-- a run modulo one modulus, from the inputs at its place
+pub column_run : {C : Type 0} (f : C → RingCommand ℕ) (commands : List C) (moduli words start values registers : List ℕ)
+    (m place count done : ℕ) (end : RunEnd) → m ≡ get_or moduli place 0 → place < length moduli → StartWith moduli words start
+    → length values ≡ length start
+    → ((r : ℕ) → r < length start → get_or values r 0 ≡ get_or words (r * length moduli + place) 0 % m)
+    → IsCarriedBy m values (map f (take count commands)) end count done
+    → ((r : ℕ) → r < length start → get_or registers (r * length moduli + place) 0
+    ≡ value_at m values (map f (take count commands)) (carried_out end (map f (take count commands))) r)
+    → IsColumnRun moduli place start (map f commands) count registers done
+column_run f commands moduli words start values registers m place count done end modulus inside with entries loaded by written =
+    let p = get_or moduli place 0 in
+    let cs = map f (take count commands) in
+    let same = start_is m (length moduli) place words values start entries loaded (λ r h.
+    subst (λ q. get_or words (r * length moduli + place) 0 % q ≡ get_or start r 0 % q) (sym modulus)
+    (column moduli words start with place inside r h)) in
+    record {
+      carried = part_of f commands p (starts p start) count done by.most
+          (subst (λ q. IsCarriedOut q (starts q start) cs count done) modulus
+          (subst (λ s. IsCarriedOut m s cs count done) same by.carried));
+      values = λ r h.
+          written r h ∙ ap (λ k. value_at m values cs k r) by.same ∙ ap (λ s. value_at m s cs done r) same
+          ∙ ap (λ q. value_at q (starts q start) cs done r) modulus
+          ∙ value_of_part f commands p (starts p start) count done r by.most;
+    }
+
+-- a place is one, or it is another
+at_or_not : (P : ℕ → Type 0) (i place : ℕ) → P place → ((i ≡ place → ⊥) → P i) → P i
+at_or_not P i place at not = elim (cases_eq i place) [ inl e ↦ subst P (sym e) at | inr other ↦ not other ]
+
+-- a column changes the words at its place alone
+abbrev pub IsKept : List ℕ → List ℕ → List ℕ → List ℕ → ℕ → Type 0
+IsKept moduli start before after place = (r i : ℕ) → r < length start → i < length moduli → (i ≡ place → ⊥)
+    → get_or after (r * length moduli + i) 0 ≡ get_or before (r * length moduli + i) 0
+
+-- as many commands as can be carried out modulo each of the moduli before a place; the registers hold the values there from
+-- the place `again` on
+pub record AreRunBefore (moduli start : List ℕ) (commands : List (RingCommand ℕ)) (registers : List ℕ) (done again place : ℕ)
+    : Type 0 where
+  pub each : (i : ℕ) → i < place → NoneLacks moduli start commands done i
+  pub next : done < length commands → (i : ℕ) × (i < place)
+      × LacksInverseAt (get_or moduli i 0) (starts (get_or moduli i 0) start) commands done
+  pub values : (r i : ℕ) → r < length start → again ≤ i → i < place
+      → get_or registers (r * length moduli + i) 0 ≡ value_modulo moduli i start commands done r
+
+pub more_run : (moduli start : List ℕ) (commands : List (RingCommand ℕ)) (before after : List ℕ)
+    (count done again next place : ℕ) → AreRunBefore moduli start commands before count again place
+    → IsColumnRun moduli place start commands count after done → IsKept moduli start before after place → done ≤ count
+    → place < length moduli → (done < count → next ≡ place) → (count ≤ done → next ≡ again)
+    → AreRunBefore moduli start commands after done next (place + 1)
+more_run moduli start commands before after count done again next place was here kept most inside less all = record {
+  each = below_more (λ i. NoneLacks moduli start commands done i) place
+      (λ i h at l. was.each i h at (omega (arith, l, most))) here.carried.before;
+  next = λ h. elim (cases_lt done count) [
+    | inl fewer ↦ (place, omega arith, here.carried.next fewer)
+    | inr same ↦
+        let e : count ≡ done = omega (arith, same, most) in
+        let (i, l, lacks) = was.next (omega (arith, h, e)) in
+        (i, omega (arith, l), subst (LacksInverseAt (get_or moduli i 0) (starts (get_or moduli i 0) start) commands) e lacks)
+  ];
+  values = λ r i h from to. at_or_not (λ q. get_or after (r * length moduli + q) 0 ≡ value_modulo moduli q start commands done r)
+      i place (here.values r h) (λ other. elim (cases_lt done count) [
+        | inl fewer ↦ let e = less fewer in absurd (omega (arith, e, from, to, other))
+        | inr same ↦
+            let e : count ≡ done = omega (arith, same, most) in
+            let old = all same in
+            let earlier : i < place = omega (arith, to, other) in
+            kept r i h (omega (arith, earlier, inside)) other ∙ was.values r i h (omega (arith, from, old)) earlier
+            ∙ ap (λ k. value_modulo moduli i start commands k r) e
+      ]);
+}
+
+-- the registers hold the values at all places but those from a place to before `again`
+abbrev pub HoldBut : List ℕ → List ℕ → List (RingCommand ℕ) → List ℕ → ℕ → ℕ → ℕ → Type 0
+HoldBut moduli start commands registers done again place = (r i : ℕ) → r < length start → i < length moduli
+    → (place ≤ i → again ≤ i) → get_or registers (r * length moduli + i) 0 ≡ value_modulo moduli i start commands done r
+
+pub more_again : (moduli start : List ℕ) (commands : List (RingCommand ℕ)) (before after : List ℕ) (count done again place : ℕ)
+    → HoldBut moduli start commands before count again place → IsColumnRun moduli place start commands count after done
+    → IsKept moduli start before after place → done ≤ count → NoneLacks moduli start commands count place
+    → HoldBut moduli start commands after count again (place + 1)
+more_again moduli start commands before after count done again place was here kept most none r i h within side =
+    let all : done ≡ count = elim (cases_lt done count) [
+      | inl less ↦ absurd (none done less (here.carried.next less))
+      | inr more ↦ omega (arith, more, most)
+    ] in
+    at_or_not (λ q. get_or after (r * length moduli + q) 0 ≡ value_modulo moduli q start commands count r) i place
+    (here.values r h ∙ ap (λ k. value_modulo moduli place start commands k r) all)
+    (λ other. kept r i h within other ∙ was r i h within (λ l. side (omega (arith, l, other))))
+
+-- all moduli are run, and those before `again` once more
+pub all_run : Laws → Named → (moduli start : List ℕ) (commands : List (RingCommand ℕ)) (first last : List ℕ)
+    (done again place : ℕ) → ArePositive moduli → AreRunBefore moduli start commands first done again (length moduli)
+    → HoldBut moduli start commands last done again place → again ≤ place → IsRun moduli start commands last done
+all_run laws named moduli start commands first last done again place positive was held past = record {
+  carried = record {
+    before = carried_before laws named moduli start commands done positive was.each;
+    next = λ h.
+        let (i, l, lacks) = was.next h in
+        carried_next laws named moduli start commands done positive was.each i l lacks;
+  };
+  residues = λ r h. record {
+    each = λ i l.
+        register_word (length moduli) last r i l ∙ held r i h l (λ from. omega (arith, past, from))
+        ∙ sym (values_left laws named moduli start commands done positive was.each i l r);
+  };
+}
+
+-- where a run ends that carries so many commands out
+pub record IsEnd (m : ℕ) (start : List ℕ) (commands : List (RingCommand ℕ)) (end : RunEnd) (done : ℕ) : Type 0 where
+  pub stops : (at : ℕ) → (end ≡ NoInverse at) ↔ IsStop m start commands at
+  pub never : (end ≡ Done) ↔ ((at : ℕ) → IsStop m start commands at → ⊥)
+  pub same : carried_out end commands ≡ done
+
+pub ends : {C : Type 0} (f : C → RingCommand ℕ) (commands : List C) (m : ℕ) (start : List ℕ) (end : RunEnd) (done : ℕ)
+    → IsCarriedOut m start (map f commands) (length (map f commands)) done → done ≤ length commands
+    → (done ≡ length commands → end ≡ Done) → (done < length commands → end ≡ NoInverse done)
+    → IsEnd m start (map f commands) end done
+ends f commands m start end done is most all part =
+    let long = length-map commands f in
+    elim (cases_lt done (length commands)) [
+      | inl less ↦
+          let next = is.next (omega (arith, less, long)) in
+          subst (λ e. IsEnd m start (map f commands) e done) (sym (part less)) record {
+            stops = stop_exactly m start (map f commands) done is.before next;
+            never = (λ e. cc, λ none. absurd (none done record { lacks = next; first = is.before }));
+            same = refl;
+          }
+      | inr other ↦
+          let e : done ≡ length commands = omega (arith, most, other) in
+          let none = no_stop_at_all m start (map f commands) (λ at h. is.before at (omega (arith, h, e, long))) in
+          subst (λ d. IsEnd m start (map f commands) d done) (sym (all e)) record {
+            stops = λ at. (λ wrong. cc, λ stop. absurd (none at stop));
+            never = (λ done. none, λ none. refl);
+            same = long ∙ sym e;
+          }
+    ]

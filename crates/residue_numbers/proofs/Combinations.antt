@@ -1,6 +1,6 @@
 -- Numbers with two remainders, for moduli m = g·u and n = g·v whose greatest common divisor is g.
-use Rattle.std.proofs.Common.{◌≡◌, ℕ, ◌+◌, ◌*◌, ◌/◌, ◌%◌, ◌<◌, ◌≤◌, arith, sym, ap, ◌∙◌, inl, inr}
-use Rattle.std.proofs.Math.Nat.{div-add-mod, add-mul-mod_self_left, mod-eq_of_lt, mod-zero, mod-mod, mul-mod_right}
+use Rattle.std.proofs.Common.{◌≡◌, ℕ, ◌+◌, ◌*◌, ◌/◌, ◌%◌, ◌<◌, ◌≤◌, ◌↔◌, arith, sym, ap, ◌∙◌, inl, inr}
+use Rattle.std.proofs.Math.Nat.{mod-lt, div-add-mod, add-mul-mod_self_left, mod-eq_of_lt, mod-zero, mod-mod, mul-mod_right}
 use Rattle.std.proofs.Math.Nat.{mul-div_cancel_left, mul-le-mul_left}
 use Rattle.std.specs.Int.{IsGcd}
 use Rattle.std.proofs.lemmas.Nat.Gcd.{le_of_dvd, dvd_of_mod-eq-zero, mod-eq-zero_of_dvd}
@@ -10,7 +10,7 @@ use Rattle.num_modular.specs.Divisors.{Coprime, IsGreatestCommonDivisor}
 use Rattle.num_modular.specs.Inverses.{HasInverse}
 use Rattle.num_modular.specs.NumberLaws.{mod_of_multiple, mod_add_cancel}
 use Rattle.num_modular.specs.SystemLaws.{spread, gathered, within}
-use Rattle.residue_numbers.specs.Combinations.{IsLeastCommonMultiple, IsCommon, IsCombination}
+use Rattle.residue_numbers.specs.Combinations.{AreParts, IsLeastCommonMultiple, IsCommon, IsCombination}
 
 -- a factor with an inverse cancels, as `congruence_laws` states it
 abbrev pub Quotients : Type 0
@@ -21,7 +21,7 @@ cancelled : (g x y : ℕ) → 0 < g → g * x ≡ g * y → x ≡ y
 cancelled g x y h e = sym (mul-div_cancel_left x h) ∙ ap (λ k. k / g) e ∙ mul-div_cancel_left y h
 
 -- what is congruent modulo a multiple of g is congruent modulo g
-pub to_divisor : (g q n a b : ℕ) → n ≡ g * q → a % n ≡ b % n → a % g ≡ b % g
+to_divisor : (g q n a b : ℕ) → n ≡ g * q → a % n ≡ b % n → a % g ≡ b % g
 to_divisor g q n a b e h =
     sym (ap (λ k. a % k % g) e ∙ mod_of_multiple g q a) ∙ ap (λ w. w % g) h
     ∙ (ap (λ k. b % k % g) e ∙ mod_of_multiple g q b)
@@ -46,30 +46,6 @@ euclid_is m n d g above is greatest =
     (is.2 g (dvd_of_mod-eq-zero g greatest.first) (dvd_of_mod-eq-zero g greatest.second)) in
     omega (arith, most, least)
 
--- m and n by their greatest common divisor
-pub record AreParts (m n g : ℕ) : Type 0 where
-  pub positive : 0 < g
-  pub first : m ≡ g * (m / g)
-  pub second : n ≡ g * (n / g)
-  pub step : 0 < n / g
-
-pub parts_of : (m n g : ℕ) → 0 < n → IsGreatestCommonDivisor m n g → AreParts m n g
-parts_of m n g above greatest =
-    let first : m ≡ g * (m / g) = let e = greatest.first in omega (arith, e) in
-    let second : n ≡ g * (n / g) = let e = greatest.second in omega (arith, e) in
-    record {
-      positive = positive_divisor g n above greatest.second;
-      first = first;
-      second = second;
-      step = elim (cases_lt 0 (n / g)) [
-        | inl one ↦ one
-        | inr none ↦
-            let zero_is : n / g ≡ 0 = omega (arith, none) in
-            let e = ap (λ k. g * k) zero_is in
-            absurd (omega (arith, second, e, above))
-      ];
-    }
-
 -- a common divisor d of u and v makes g·d one of m and n
 at_most_one : (g d : ℕ) → 0 < g → g * d ≤ g → d ≤ 1
 at_most_one g d positive most = elim (cases_lt 1 d) [
@@ -78,7 +54,7 @@ at_most_one g d positive most = elim (cases_lt 1 d) [
 ]
 
 -- u and v are coprime
-pub coprime_parts : (m n g u v : ℕ) → 0 < n → IsGreatestCommonDivisor m n g → m ≡ g * u → n ≡ g * v → 0 < g → Coprime u v
+coprime_parts : (m n g u v : ℕ) → 0 < n → IsGreatestCommonDivisor m n g → m ≡ g * u → n ≡ g * v → 0 < g → Coprime u v
 coprime_parts m n g u v above greatest m_is n_is positive = record {
   only_one = λ d first second.
       let i : u ≡ d * (u / d) = omega (arith, first) in
@@ -97,8 +73,28 @@ coprime_parts m n g u v above greatest m_is n_is positive = record {
       ];
 }
 
+-- the parts by the greatest common divisor
+pub parts_of : (m n g : ℕ) → 0 < n → IsGreatestCommonDivisor m n g → AreParts m n g
+parts_of m n g above greatest =
+    let first : m ≡ g * (m / g) = let e = greatest.first in omega (arith, e) in
+    let second : n ≡ g * (n / g) = let e = greatest.second in omega (arith, e) in
+    let positive = positive_divisor g n above greatest.second in
+    record {
+      positive = positive;
+      first = first;
+      second = second;
+      step = elim (cases_lt 0 (n / g)) [
+        | inl one ↦ one
+        | inr none ↦
+            let zero_is : n / g ≡ 0 = omega (arith, none) in
+            let e = ap (λ k. g * k) zero_is in
+            absurd (omega (arith, second, e, above))
+      ];
+      coprime = coprime_parts m n g (m / g) (n / g) above greatest first second positive;
+    }
+
 -- the number with the steps t is congruent to b modulo n
-pub solved : (m n g u v a b s k t : ℕ) → m ≡ g * u → n ≡ g * v → s ≡ g * k → (u * t) % v ≡ k % v
+solved : (m n g u v a b s k t : ℕ) → m ≡ g * u → n ≡ g * v → s ≡ g * k → (u * t) % v ≡ k % v
     → (s + a) % n ≡ b % n → (a + m * t) % n ≡ b % n
 solved m n g u v a b s k t m_is n_is s_is steps difference =
     let p : ℕ = k / v in
@@ -111,7 +107,7 @@ solved m n g u v a b s k t m_is n_is s_is steps difference =
     gathered n (a + m * t) (s + a) p q (omega (arith, whole, m_times, n_first, n_second, s_is)) ∙ difference
 
 -- and the only one below m·v
-pub only_one : Quotients → (m n g u v a b t y : ℕ) → 0 < g → m ≡ g * u → n ≡ g * v → HasInverse v u → a < m → t < v
+only_one : Quotients → (m n g u v a b t y : ℕ) → 0 < g → m ≡ g * u → n ≡ g * v → HasInverse v u → a < m → t < v
     → (a + m * t) % n ≡ b % n → y % m ≡ a → y % n ≡ b % n → y % (m * v) ≡ a + m * t
 only_one quotients m n g u v a b t y positive m_is n_is (j, inverse) a_below t_below is first second =
     let q : ℕ = y / m in
@@ -139,7 +135,7 @@ only_one quotients m n g u v a b t y positive m_is n_is (j, inverse) a_below t_b
     ap (λ k. k % (m * v)) sum ∙ add-mul-mod_self_left x (m * v) (q / v) ∙ mod-eq_of_lt (within m v a t a_below t_below)
 
 -- the least common multiple
-pub multiple_is : Quotients → (m n g u v : ℕ) → 0 < g → 0 < m → 0 < v → m ≡ g * u → n ≡ g * v → HasInverse v u
+multiple_is : Quotients → (m n g u v : ℕ) → 0 < g → 0 < m → 0 < v → m ≡ g * u → n ≡ g * v → HasInverse v u
     → IsLeastCommonMultiple m n (m * v)
 multiple_is quotients m n g u v positive above one m_is n_is unit = record {
   positive = let e = within m v 0 0 above one in omega (arith, e);
@@ -153,36 +149,38 @@ multiple_is quotients m n g u v positive above one m_is n_is unit = record {
 }
 
 -- the combination
-pub combined : Quotients → (m n g u v a b s k t : ℕ) → 0 < g → 0 < m → 0 < v → m ≡ g * u → n ≡ g * v → HasInverse v u
-    → s ≡ g * k → (u * t) % v ≡ k % v → t < v → (s + a % m) % n ≡ b % n → a % m < m
-    → IsCombination a m b n (a % m + m * t) (m * v)
-combined quotients m n g u v a b s k t positive above one m_is n_is unit s_is steps below difference reduced =
-    let is = solved m n g u v (a % m) b s k t m_is n_is s_is steps difference in
+pub combined : Quotients → (m n g a b s t : ℕ) → AreParts m n g → 0 < m → HasInverse (n / g) (m / g) → s % g ≡ 0
+    → (m / g * t) % (n / g) ≡ (s / g) % (n / g) → t < n / g → (s + a % m) % n ≡ b % n
+    → IsCombination a m b n (a % m + m * t) (m * (n / g))
+combined quotients m n g a b s t parts above unit divides steps below difference =
+    let reduced = mod-lt a above in
+    let s_is : s ≡ g * (s / g) = omega (arith, divides) in
+    let is = solved m n g (m / g) (n / g) (a % m) b s (s / g) t parts.first parts.second s_is steps difference in
     record {
-      multiple = multiple_is quotients m n g u v positive above one m_is n_is unit;
-      below = within m v (a % m) t reduced below;
+      multiple = multiple_is quotients m n g (m / g) (n / g) parts.positive above parts.step parts.first parts.second unit;
+      below = within m (n / g) (a % m) t reduced below;
       common = record { first = add-mul-mod_self_left (a % m) m t ∙ mod-mod a m; second = is };
       only = λ y common.
-          only_one quotients m n g u v (a % m) b t y positive m_is n_is unit reduced below is common.first common.second;
+          only_one quotients m n g (m / g) (n / g) (a % m) b t y parts.positive parts.first parts.second unit reduced below is
+          common.first common.second;
     }
 
--- where g doesn't divide the difference s, a and b differ modulo g
-pub divides_exactly : (m n g u v a b s : ℕ) → m ≡ g * u → n ≡ g * v → (s + a % m) % n ≡ b % n → a % g ≡ b % g → s % g ≡ 0
-divides_exactly m n g u v a b s m_is n_is difference same =
-    let reduced : a % m % g ≡ a % g = to_divisor g u m (a % m) a m_is (mod-mod a m) in
-    let none : 0 + a % m ≡ a % m = omega arith in
-    let sum : (s + a % m) % g ≡ (0 + a % m) % g =
-    to_divisor g v n (s + a % m) b n_is difference ∙ sym same ∙ sym reduced ∙ ap (λ w. w % g) (sym none) in
-    (mod_add_cancel {m = g} {a = s} {b = 0} (a % m) record { same = sum }).same ∙ (let e : 0 % g ≡ 0 = omega arith in e)
-
-pub same_exactly : (m n g u v a b s : ℕ) → m ≡ g * u → n ≡ g * v → (s + a % m) % n ≡ b % n → s % g ≡ 0 → a % g ≡ b % g
-same_exactly m n g u v a b s m_is n_is difference divides =
-    let reduced : a % m % g ≡ a % g = to_divisor g u m (a % m) a m_is (mod-mod a m) in
-    let s_is : s + a % m ≡ a % m + g * (s / g) = omega (arith, divides) in
-    sym reduced ∙ sym (add-mul-mod_self_left (a % m) g (s / g)) ∙ ap (λ w. w % g) (sym s_is)
-    ∙ to_divisor g v n (s + a % m) b n_is difference
+-- g divides the difference s exactly where a and b are congruent modulo g
+pub divides_exactly : (m n g a b s : ℕ) → AreParts m n g → (s + a % m) % n ≡ b % n → (s % g ≡ 0) ↔ (a % g ≡ b % g)
+divides_exactly m n g a b s parts difference =
+    let reduced : a % m % g ≡ a % g = to_divisor g (m / g) m (a % m) a parts.first (mod-mod a m) in
+    let sum : (s + a % m) % g ≡ b % g = to_divisor g (n / g) n (s + a % m) b parts.second difference in (
+      λ divides.
+          let s_is : s + a % m ≡ a % m + g * (s / g) = omega (arith, divides) in
+          sym reduced ∙ sym (add-mul-mod_self_left (a % m) g (s / g)) ∙ ap (λ w. w % g) (sym s_is) ∙ sum,
+      λ same.
+          let none : 0 + a % m ≡ a % m = omega arith in
+          (mod_add_cancel {m = g} {a = s} {b = 0} (a % m)
+          record { same = sum ∙ sym same ∙ sym reduced ∙ ap (λ w. w % g) (sym none) }).same
+          ∙ (let e : 0 % g ≡ 0 = omega arith in e),
+    )
 
 -- numbers that have a common one are congruent modulo g
-pub same_of_common : (m n g u v a b y : ℕ) → m ≡ g * u → n ≡ g * v → IsCommon a m b n y → a % g ≡ b % g
-same_of_common m n g u v a b y m_is n_is common =
-    sym (to_divisor g u m y a m_is common.first) ∙ to_divisor g v n y b n_is common.second
+pub same_of_common : (m n g a b y : ℕ) → AreParts m n g → IsCommon a m b n y → a % g ≡ b % g
+same_of_common m n g a b y parts common =
+    sym (to_divisor g (m / g) m y a parts.first common.first) ∙ to_divisor g (n / g) n y b parts.second common.second

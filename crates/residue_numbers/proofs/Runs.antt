@@ -36,6 +36,19 @@ pub record Laws : Type 0 where
   pub coprime : (m a : ℕ) → 0 < m → HasInverse m a ↔ Coprime a m
   pub has_residue : (m a : ℕ) → HasInverse m (a % m) ↔ HasInverse m a
 
+pub laws_of : ((m : ℕ) (z : ℤ) → 0 < m → IsResidue m z (residue m z))
+    → ((m a b : ℕ) → 0 < m → (residue m (pos a -ℤ pos b) + b) % m ≡ a % m) → ((m a k : ℕ) → (a % m) ^ k % m ≡ a ^ k % m)
+    → ((m a x : ℕ) → IsInverse m a x → inverse_of m a ≡ Some x) → ((m a : ℕ) → 0 < m → HasInverse m a ↔ Coprime a m)
+    → ((m a : ℕ) → HasInverse m (a % m) ↔ HasInverse m a) → Laws
+laws_of is_residue sum powers found coprime has_residue = record {
+  is_residue = is_residue;
+  sum = sum;
+  powers = powers;
+  found = found;
+  coprime = coprime;
+  has_residue = has_residue;
+}
+
 -- a factor m of the range, both above 0
 pub record IsFactor (range m : ℕ) : Type 0 where
   pub times : ℕ

@@ -1,6 +1,15 @@
 -- Numbers with two remainders, for moduli that may have common divisors (Gauss, Disquisitiones Arithmeticae, articles 32
 -- to 35; Ore, "The general Chinese remainder theorem", American Mathematical Monthly 59, 1952).
-use Rattle.std.specs.Prelude.{◌≡◌, ℕ, ◌%◌, ◌<◌}
+use Rattle.std.specs.Prelude.{◌≡◌, ℕ, ◌*◌, ◌/◌, ◌%◌, ◌<◌}
+use Rattle.num_modular.specs.Divisors.{Coprime}
+
+-- m and n are multiples of g by coprime numbers, and g and n are above 0
+pub record AreParts (m n g : ℕ) : Type 0 where
+  pub positive : 0 < g
+  pub first : m ≡ g * (m / g)
+  pub second : n ≡ g * (n / g)
+  pub step : 0 < n / g
+  pub coprime : Coprime (m / g) (n / g)
 
 -- l is the least common multiple of m and n: a multiple of both, above 0, that divides every other
 pub record IsLeastCommonMultiple (m n l : ℕ) : Type 0 where

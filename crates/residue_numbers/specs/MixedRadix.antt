@@ -2,7 +2,7 @@
 -- Electronic Computers 8, 1959; Knuth, The Art of Computer Programming, volume 2, section 4.1 and 4.3.2).
 use Rattle.std.specs.Prelude.{ℕ, ◌*◌, ◌<◌, List, length, slice_index}
 use Rattle.num_modular.specs.Divisors.{Coprime}
-use Rattle.num_modular.specs.Sums.{sum_below, polynomial}
+use Rattle.num_modular.specs.Sums.{sum_below, polynomial_at}
 use Rattle.num_modular.specs.Systems.{range_below}
 
 -- the moduli are above 0, and any two are coprime
@@ -24,4 +24,4 @@ pub record AreDigits (moduli digits : List ℕ) : Type 0 where
 
 -- the number that words of 64 bits denote, the lowest first
 abbrev pub number_of_words : List ℕ → ℕ
-number_of_words words = polynomial (length words) (slice_index words) 18446744073709551616
+number_of_words words = polynomial_at (length words) (slice_index words) 18446744073709551616

@@ -47,14 +47,17 @@ fn residue_by_run(
 }
 
 impl<'a> ResidueSystem<'a> {
-    /// Runs the commands modulo each modulus, from registers that start with the numbers, and writes the residues
-    /// of one register: those of its value after the commands, computed on whole numbers modulo the product of the
-    /// moduli. Returns whether all commands were carried out, which is exactly where each inverse that they need
-    /// exists modulo the product. Where it returns false, some of the residues may be unwritten. The contents of
-    /// the registers are ignored.
+    /// Whether commands were carried out, with the residues of one register: modulo each modulus, from registers that
+    /// start with the numbers, it writes those of the register's value after the commands, computed on whole numbers
+    /// modulo the product of the moduli. All are carried out exactly where each inverse that they need exists modulo
+    /// the product. Where it returns false, some of the residues may be unwritten. The contents of the registers are
+    /// ignored.
     ///
-    /// Conditions: each register number is below the count of the numbers (`commands_fit` tells), that of the
-    /// wanted register too; there are as many registers as numbers, and as many residues as moduli.
+    /// # Conditions
+    ///
+    /// - there are as many registers as numbers, and as many residues as moduli
+    /// - (debug) each register number, and that of the wanted register, is below the count of the numbers
+    ///   (`commands_fit` tells)
     ///
     /// # Examples
     ///
@@ -68,6 +71,8 @@ impl<'a> ResidueSystem<'a> {
     /// assert!(system.run(&commands, &[3, 4], 0, &mut registers, &mut residues));
     /// assert_eq!(system.decode(&residues), 24); // 2 * (3 * 4)
     /// ```
+    // rust: #[must_use]
+    // rust: #[track_caller]
     pub fn run(
         &self,
         commands: &[RingCommand<u64>],
@@ -86,6 +91,10 @@ impl<'a> ResidueSystem<'a> {
             let value = value_at (range_of self.now.moduli.now) numbers.now wholes (length wholes) register in
             IsTrue result → AreResidues self.now.moduli.now residues.new value }
     {
+        // rust: debug_assert!(crate::ring::commands_fit(commands, numbers.len()) && register < numbers.len(),
+        // rust:     "each register number must be below the count of the numbers, that of the wanted register too");
+        // rust: assert!(registers.len() == numbers.len() && residues.len() == self.moduli.len(),
+        // rust:     "there must be as many registers as numbers, and as many residues as moduli");
         residue_laws();
         remainder_laws();
         inverse_laws();

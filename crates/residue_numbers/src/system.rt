@@ -10,8 +10,8 @@ use num_modular::ModularCoreOps;
 use num_modular::laws::residue_laws;
 use num_modular::residues::{decode, encode, is_system};
 
-/// A residue number system: up to eight moduli above 0, any two of which are coprime, and whose product, the range,
-/// is below 2^128.
+/// A system of at most eight moduli: these are above 0, any two are coprime, and their product, the range, is below
+/// 2^128.
 ///
 /// Source: Garner, "The residue number system"; Knuth, The Art of Computer Programming, volume 2,
 /// section 4.3.2.
@@ -28,9 +28,12 @@ use num_modular::residues::{decode, encode, is_system};
 /// system.mul(&left, &right, &mut product);
 /// assert_eq!(system.decode(&product), 72);
 /// ```
+// rust: #[derive(Debug, PartialEq, Eq, Hash)]
 #[derive(Clone, Copy)]
+// rust: #[must_use]
 pub struct ResidueSystem<'a> {
     /// The moduli.
+    // rust instead: pub(crate) moduli: &'a [u64],
     pub moduli: &'a [u64],
     pub ghost small: { IsSmallSystem moduli.now },
 }
@@ -56,8 +59,8 @@ fn result_at(operation: Operation, m: u64, left: u64, right: u64) -> u64
 }
 
 impl<'a> ResidueSystem<'a> {
-    /// The system of these moduli; `None` exactly where a modulus is 0, two have a common divisor above 1, the
-    /// product is at least 2^128, or there are more than eight.
+    /// The system of these moduli; `None` exactly where a modulus is 0, two aren't coprime, the product is at least
+    /// 2^128, or there are more than eight.
     ///
     /// # Examples
     ///
@@ -77,7 +80,11 @@ impl<'a> ResidueSystem<'a> {
         Some(ResidueSystem { moduli })
     }
 
-    /// The residues of a number. Condition: there are as many residues as the system has moduli.
+    /// The residues of a number.
+    ///
+    /// # Conditions
+    ///
+    /// - there are as many residues as the system has moduli
     ///
     /// # Examples
     ///
@@ -88,16 +95,23 @@ impl<'a> ResidueSystem<'a> {
     /// ResidueSystem::new(&[3, 5, 7]).unwrap().encode(23, &mut residues);
     /// assert_eq!(residues, [2, 3, 2]);
     /// ```
+    // rust: #[track_caller]
     pub fn encode(&self, number: u128, residues: &mut [u64])
         requires { length residues.old ≡ length self.now.moduli.now }
         ensures { AreResidues self.now.moduli.now residues.new number }
     {
+        // rust: assert!(residues.len() == self.moduli.len(),
+        // rust:     "there must be as many residues as the system has moduli: {} and {}", residues.len(),
+        // rust:     self.moduli.len());
         encode(self.moduli, number, residues);
     }
 
-    /// The only number below the product of the moduli that has these residues. So `decode` and `encode` undo each
-    /// other: `decode` returns a number below the product from its residues, and `encode` the residues from the
-    /// number. Condition: each modulus has a residue below it (`are_reduced` of `num_modular::residues` tells).
+    /// The number with these residues: the only one below the product of the moduli. So `decode` and `encode` undo each
+    /// other: `decode` returns a number below the product from its residues, and `encode` the residues from the number.
+    ///
+    /// # Conditions
+    ///
+    /// - each modulus has a residue below it (`are_reduced` of `num_modular::residues` tells)
     ///
     /// # Examples
     ///
@@ -107,6 +121,7 @@ impl<'a> ResidueSystem<'a> {
     /// let system = ResidueSystem::new(&[3, 5, 7]).unwrap();
     /// assert_eq!(system.decode(&[2, 3, 2]), 23);
     /// ```
+    // rust: #[track_caller]
     pub fn decode(&self, residues: &[u64]) -> u128
         requires count { length residues.now ≡ length self.now.moduli.now }
         requires reduced { (i : ℕ) → i < length self.now.moduli.now →
@@ -116,6 +131,8 @@ impl<'a> ResidueSystem<'a> {
         ensures only { (x : ℕ) → x < range_of self.now.moduli.now →
             AreResidues self.now.moduli.now residues.now x → x ≡ result }
     {
+        // rust: assert!(residues.len() == self.moduli.len() && crate::residues::are_reduced(self.moduli, residues),
+        // rust:     "each modulus must have a residue below it");
         decode(self.moduli, residues)
     }
 
@@ -134,8 +151,12 @@ impl<'a> ResidueSystem<'a> {
         }
     }
 
-    /// The sums of residues, each modulo its modulus: from those of x and of y the residues of x + y
-    /// modulo the product of the moduli. Condition: each list has as many entries as there are moduli.
+    /// Writes the results, entry by entry: the sums of residues, each modulo its modulus, from those of x and of y the
+    /// residues of x + y modulo the product of the moduli.
+    ///
+    /// # Conditions
+    ///
+    /// - each list has as many entries as there are moduli
     ///
     /// # Examples
     ///
@@ -147,6 +168,7 @@ impl<'a> ResidueSystem<'a> {
     /// system.add(&[2, 3, 2], &[1, 0, 3], &mut sums); // 23 + 10
     /// assert_eq!(system.decode(&sums), 33);
     /// ```
+    // rust: #[track_caller]
     pub fn add(&self, left: &[u64], right: &[u64], sums: &mut [u64])
         requires left { length left.now ≡ length self.now.moduli.now }
         requires right { length right.now ≡ length self.now.moduli.now }
@@ -157,11 +179,17 @@ impl<'a> ResidueSystem<'a> {
             AreResidues moduli left.now x → AreResidues moduli right.now y →
             AreResidues moduli sums.new ((x + y) % range_of moduli) }
     {
+        // rust: assert!(left.len() == self.moduli.len() && right.len() == self.moduli.len()
+        // rust:     && sums.len() == self.moduli.len(), "each list must have as many entries as there are moduli");
         self.combine(Operation::Sum, left, right, sums);
     }
 
-    /// The differences of residues, each modulo its modulus: from those of x and of y the residues of
-    /// x - y modulo the product of the moduli. Condition: each list has as many entries as there are moduli.
+    /// Writes the results, entry by entry: the differences of residues, each modulo its modulus, from those of x and of
+    /// y the residues of x - y modulo the product of the moduli.
+    ///
+    /// # Conditions
+    ///
+    /// - each list has as many entries as there are moduli
     ///
     /// # Examples
     ///
@@ -173,6 +201,7 @@ impl<'a> ResidueSystem<'a> {
     /// system.sub(&[2, 3, 2], &[1, 0, 3], &mut differences); // 23 - 10
     /// assert_eq!(system.decode(&differences), 13);
     /// ```
+    // rust: #[track_caller]
     pub fn sub(&self, left: &[u64], right: &[u64], differences: &mut [u64])
         requires left { length left.now ≡ length self.now.moduli.now }
         requires right { length right.now ≡ length self.now.moduli.now }
@@ -184,12 +213,19 @@ impl<'a> ResidueSystem<'a> {
             AreResidues moduli left.now x → AreResidues moduli right.now y →
             AreResidues moduli differences.new (residue (range_of moduli) (pos x -ℤ pos y)) }
     {
+        // rust: assert!(left.len() == self.moduli.len() && right.len() == self.moduli.len()
+        // rust:     && differences.len() == self.moduli.len(),
+        // rust:     "each list must have as many entries as there are moduli");
         residue_laws();
         self.combine(Operation::Difference, left, right, differences);
     }
 
-    /// The products of residues, each modulo its modulus: from those of x and of y the residues of
-    /// x·y modulo the product of the moduli. Condition: each list has as many entries as there are moduli.
+    /// Writes the results, entry by entry: the products of residues, each modulo its modulus, from those of x and of y
+    /// the residues of x·y modulo the product of the moduli.
+    ///
+    /// # Conditions
+    ///
+    /// - each list has as many entries as there are moduli
     ///
     /// # Examples
     ///
@@ -201,6 +237,7 @@ impl<'a> ResidueSystem<'a> {
     /// system.mul(&[2, 3, 2], &[1, 0, 3], &mut products); // 23 * 10 = 2 * 105 + 20
     /// assert_eq!(system.decode(&products), 20);
     /// ```
+    // rust: #[track_caller]
     pub fn mul(&self, left: &[u64], right: &[u64], products: &mut [u64])
         requires left { length left.now ≡ length self.now.moduli.now }
         requires right { length right.now ≡ length self.now.moduli.now }
@@ -211,6 +248,8 @@ impl<'a> ResidueSystem<'a> {
             AreResidues moduli left.now x → AreResidues moduli right.now y →
             AreResidues moduli products.new ((x * y) % range_of moduli) }
     {
+        // rust: assert!(left.len() == self.moduli.len() && right.len() == self.moduli.len()
+        // rust:     && products.len() == self.moduli.len(), "each list must have as many entries as there are moduli");
         self.combine(Operation::Product, left, right, products);
     }
 }

@@ -99,7 +99,7 @@ selected (suc n) (suc k) a b few =
     ]
 
 -- two messages of k symbols whose words agree at k places
-same_messages : (m k n : ℕ) (points a b u v : ℕ → ℕ) → HaveUnitDifferences m n points → IsEncoding m k n points a u
+pub same_messages : (m k n : ℕ) (points a b u v : ℕ → ℕ) → HaveUnitDifferences m n points → IsEncoding m k n points a u
     → IsEncoding m k n points b v → distance n u v + k ≤ n → (i : ℕ) → i < k → Congruent m (a i) (b i)
 same_messages m k n points a b u v fit is_u is_v few =
     let s = selected n k u v few in

@@ -11,7 +11,7 @@ use Rattle.num_modular.specs.Inverses.{HasInverse}
 use Rattle.num_modular.specs.NumberLaws.{mod_of_eq, mod_refl, residue_of, mod_sym, mod_trans, mod_add, mod_mul}
 use Rattle.num_modular.specs.NumberLaws.{mod_add_cancel}
 use Rattle.num_modular.specs.NumberLaws.{sum_below-zero, sum_below-suc}
-use Rattle.num_modular.specs.Polynomials.{polynomial}
+use Rattle.num_modular.specs.Polynomials.{polynomial_at}
 use Rattle.num_modular.specs.PolynomialLaws.{polynomial-first, polynomial-congruent}
 use Rattle.num_modular.specs.Residues.{residue}
 use Rattle.ring_codes.proofs.NewtonForms.{subtracted}
@@ -29,7 +29,7 @@ left_alone_other m a q b none =
     let e : a + q * 0 ≡ a = omega arith in
     mod_trans (mod_add (mod_refl a) (mod_mul (mod_refl q) none)) (mod_of_eq e)
 
-times : (n p : ℕ) (f : ℕ → ℕ) (X : ℕ) → polynomial n (λ l. p * f l) X ≡ p * polynomial n f X
+times : (n p : ℕ) (f : ℕ → ℕ) (X : ℕ) → polynomial_at n (λ l. p * f l) X ≡ p * polynomial_at n f X
 times zero p f X =
     let s = sum_below-zero (λ i. p * f i * X ^ i) in
     let t = ap (λ v. p * v) (sum_below-zero (λ i. f i * X ^ i)) in
@@ -42,7 +42,7 @@ times (suc n) p f X =
 
 -- coefficients e with e l + b·g l congruent to h l
 with_multiple : (m n b X : ℕ) (e g h : ℕ → ℕ) → ((l : ℕ) → l < n → Congruent m (e l + b * g l) (h l))
-    → Congruent m (polynomial n e X + b * polynomial n g X) (polynomial n h X)
+    → Congruent m (polynomial_at n e X + b * polynomial_at n g X) (polynomial_at n h X)
 with_multiple m n b X e g h each =
     mod_trans (mod_of_eq (sym (combined n e g b X)))
     (polynomial-congruent n (λ i. e i + b * g i) h X X each (mod_refl X))
@@ -56,23 +56,23 @@ pub shifted_next : (f : ℕ → ℕ) (i : ℕ) → shifted f (i + 1) ≡ f i
 unfolding shifted
 shifted_next f i = let e : i + 1 ≡ suc i = omega arith in ap (shifted f) e
 
-pub shifted-values : (n X : ℕ) (f : ℕ → ℕ) → polynomial (suc n) (shifted f) X ≡ X * polynomial n f X
+pub shifted-values : (n X : ℕ) (f : ℕ → ℕ) → polynomial_at (suc n) (shifted f) X ≡ X * polynomial_at n f X
 unfolding shifted
 shifted-values n X f = let e = polynomial-first n (shifted f) X in omega (arith, e)
 
 -- .. where the last coefficient is 0
 shifted-whole : (m n X : ℕ) (f : ℕ → ℕ) → ((l : ℕ) → suc l ≡ n → Congruent m (f l) 0)
-    → Congruent m (polynomial n (shifted f) X) (X * polynomial n f X)
+    → Congruent m (polynomial_at n (shifted f) X) (X * polynomial_at n f X)
 shifted-whole m zero X f last =
     let s = sum_below-zero (λ i. shifted f i * X ^ i) in
     let t = ap (λ v. X * v) (sum_below-zero (λ i. f i * X ^ i)) in
     mod_of_eq (omega (arith, s, t))
 shifted-whole m (suc n) X f last =
     let s = sum_below-suc n (λ i. f i * X ^ i) in
-    let q : ℕ = polynomial n f X in
+    let q : ℕ = polynomial_at n f X in
     let none : Congruent m (q + X ^ n * f n) q =
     left_alone_other m q (X ^ n) (f n) (last n refl) in
-    let whole : polynomial (suc n) f X ≡ q + X ^ n * f n = omega (arith, s) in
+    let whole : polynomial_at (suc n) f X ≡ q + X ^ n * f n = omega (arith, s) in
     mod_trans (mod_of_eq (shifted-values n X f))
     (mod_mul (mod_refl X) (mod_trans (mod_sym none) (mod_of_eq (sym whole))))
 
@@ -151,20 +151,20 @@ pub raised : (m k c d i u a : ℕ) (x y n e f g : ℕ → ℕ) → d + k ≡ c +
     → ((l : ℕ) → c ≤ l → f l ≡ 0) → ((l : ℕ) → d ≤ l → g l ≡ 0)
     → IsKeyPair m k c d i u x y n e → IsKeyPair m k c d (i + 1) (u + 2) x y f g
 raised m k c d i u a x y n e f g lengths room point each_n each_e past_n past_e pair =
-    let value_n : (X : ℕ) → Congruent m (polynomial c f X + a * polynomial c n X)
-    (X * polynomial c n X) =
+    let value_n : (X : ℕ) → Congruent m (polynomial_at c f X + a * polynomial_at c n X)
+    (X * polynomial_at c n X) =
     λ X. mod_trans (with_multiple m c a X f n (shifted n) each_n)
     (shifted-whole m c X n (λ l s. pair.leads.numerator_behind l (omega arith))) in
-    let value_e : (X : ℕ) → Congruent m (polynomial d g X + a * polynomial d e X)
-    (X * polynomial d e X) =
+    let value_e : (X : ℕ) → Congruent m (polynomial_at d g X + a * polynomial_at d e X)
+    (X * polynomial_at d e X) =
     λ X. mod_trans (with_multiple m d a X g e (shifted e) each_e)
     (shifted-whole m d X e (λ l s. pair.leads.locator_behind l (omega arith))) in
     record {
       solves = λ j l. elim (cases_eq j i) [
         | inl s ↦
             let at : x j ≡ a = ap x s ∙ point in
-            let root_n = mod_trans (value_n (x j)) (mod_of_eq (ap (λ v. v * polynomial c n (x j)) at)) in
-            let root_e = mod_trans (value_e (x j)) (mod_of_eq (ap (λ v. v * polynomial d e (x j)) at)) in
+            let root_n = mod_trans (value_n (x j)) (mod_of_eq (ap (λ v. v * polynomial_at c n (x j)) at)) in
+            let root_e = mod_trans (value_e (x j)) (mod_of_eq (ap (λ v. v * polynomial_at d e (x j)) at)) in
             raised_root m a (y j) _ _ _ _ root_n root_e
         | inr other ↦ raised_value m a (x j) (y j) _ _ _ _ (value_n (x j)) (value_e (x j))
             (pair.solves j (omega arith))
@@ -227,8 +227,8 @@ pub eliminated : (m k c d i u v p q : ℕ) (x y h g n e f t : ℕ → ℕ) → d
     → ((l : ℕ) → l < c → Congruent m (f l + q * h l) (p * n l))
     → ((l : ℕ) → l < d → Congruent m (t l + q * g l) (p * e l))
     → ((l : ℕ) → c ≤ l → f l ≡ 0) → ((l : ℕ) → d ≤ l → t l ≡ 0)
-    → Congruent m (p + y i * polynomial d g (x i)) (polynomial c h (x i))
-    → Congruent m (q + y i * polynomial d e (x i)) (polynomial c n (x i))
+    → Congruent m (p + y i * polynomial_at d g (x i)) (polynomial_at c h (x i))
+    → Congruent m (q + y i * polynomial_at d e (x i)) (polynomial_at c n (x i))
     → IsKeyPair m k c d i u x y h g → IsKeyPair m k c d i v x y n e → IsKeyPair m k c d (i + 1) v x y f t
 eliminated m k c d i u v p q x y h g n e f t lengths room less inverse each_n each_e past_n past_e is_p is_q pivot own =
     let nothing : (j : ℕ) → 0 + y j ≡ y j = λ j. omega arith in
@@ -239,19 +239,19 @@ eliminated m k c d i u v p q x y h g n e f t lengths room less inverse each_n ea
           let whole_n = mod_trans at_n (mod_of_eq (times c p n (x j))) in
           let whole_e = mod_trans at_e (mod_of_eq (times d p e (x j))) in
           elim (cases_eq j i) [
-            | inl s ↦ subst (λ j. Congruent m (polynomial c f (x j)) (y j * polynomial d t (x j))) (sym s)
+            | inl s ↦ subst (λ j. Congruent m (polynomial_at c f (x j)) (y j * polynomial_at d t (x j))) (sym s)
                 (eliminated_value m p q p q (y i) _ _ _ _ _ _
-                (subst (λ j. Congruent m (polynomial c f (x j) + q * polynomial c h (x j)) (p * polynomial c n (x j))) s whole_n)
-                (subst (λ j. Congruent m (polynomial d t (x j) + q * polynomial d g (x j)) (p * polynomial d e (x j))) s whole_e)
+                (subst (λ j. Congruent m (polynomial_at c f (x j) + q * polynomial_at c h (x j)) (p * polynomial_at c n (x j))) s whole_n)
+                (subst (λ j. Congruent m (polynomial_at d t (x j) + q * polynomial_at d g (x j)) (p * polynomial_at d e (x j))) s whole_e)
                 is_p is_q (let w : q * p ≡ p * q = omega arith in w))
             | inr other ↦
                 let before : j < i = omega arith in
                 let z : q * 0 ≡ p * 0 = omega arith in
                 eliminated_value m p q 0 0 (y j) _ _ _ _ _ _ whole_n whole_e
-                (mod_trans (mod_of_eq (let w : 0 + y j * polynomial d g (x j) ≡ y j * polynomial d
+                (mod_trans (mod_of_eq (let w : 0 + y j * polynomial_at d g (x j) ≡ y j * polynomial_at d
                 g (x j) = omega arith in w))
                 (mod_sym (pivot.solves j before)))
-                (mod_trans (mod_of_eq (let w : 0 + y j * polynomial d e (x j) ≡ y j * polynomial d
+                (mod_trans (mod_of_eq (let w : 0 + y j * polynomial_at d e (x j) ≡ y j * polynomial_at d
                 e (x j) = omega arith in w))
                 (mod_sym (own.solves j before))) z
           ];
@@ -270,21 +270,21 @@ discrepancy_value m y n e value located product d positive is_n is_e is_product 
 
 -- at the point and the symbol that were passed
 pub at_point : (m c d p a b s t : ℕ) (n e : ℕ → ℕ) → s ≡ a → t ≡ b
-    → Congruent m (p + b * polynomial d e a) (polynomial c n a)
-    → Congruent m (p + t * polynomial d e s) (polynomial c n s)
+    → Congruent m (p + b * polynomial_at d e a) (polynomial_at c n a)
+    → Congruent m (p + t * polynomial_at d e s) (polynomial_at c n s)
 at_point m c d p a b s t n e at_a at_b h =
-    subst (λ a. Congruent m (p + t * polynomial d e a) (polynomial c n a)) (sym at_a)
-    (subst (λ b. Congruent m (p + b * polynomial d e a) (polynomial c n a)) (sym at_b) h)
+    subst (λ a. Congruent m (p + t * polynomial_at d e a) (polynomial_at c n a)) (sym at_a)
+    (subst (λ b. Congruent m (p + b * polynomial_at d e a) (polynomial_at c n a)) (sym at_b) h)
 
 -- a pair without a discrepancy solves the key equation there too
 kept_pair : (m k c d i u p : ℕ) (x y n e : ℕ → ℕ) → p ≡ 0
-    → Congruent m (p + y i * polynomial d e (x i)) (polynomial c n (x i))
+    → Congruent m (p + y i * polynomial_at d e (x i)) (polynomial_at c n (x i))
     → IsKeyPair m k c d i u x y n e → IsKeyPair m k c d (i + 1) u x y n e
 kept_pair m k c d i u p x y n e none is pair = record {
   solves = λ j l. elim (cases_eq j i) [
     | inl s ↦
-        let z : y i * polynomial d e (x i) ≡ p + y i * polynomial d e (x i) = omega (arith, none) in
-        subst (λ j. Congruent m (polynomial c n (x j)) (y j * polynomial d e (x j))) (sym s)
+        let z : y i * polynomial_at d e (x i) ≡ p + y i * polynomial_at d e (x i) = omega (arith, none) in
+        subst (λ j. Congruent m (polynomial_at c n (x j)) (y j * polynomial_at d e (x j))) (sym s)
         (mod_sym (mod_trans (mod_of_eq z) is))
     | inr other ↦ pair.solves j (omega arith)
   ];
@@ -293,8 +293,8 @@ kept_pair m k c d i u p x y n e none is pair = record {
 
 -- the next two pairs where neither, the second or the first alone has a discrepancy
 pub neither : (m k c d i v w p q : ℕ) (x y h g n e : ℕ → ℕ) → p ≡ 0 → q ≡ 0
-    → Congruent m (p + y i * polynomial d g (x i)) (polynomial c h (x i))
-    → Congruent m (q + y i * polynomial d e (x i)) (polynomial c n (x i))
+    → Congruent m (p + y i * polynomial_at d g (x i)) (polynomial_at c h (x i))
+    → Congruent m (q + y i * polynomial_at d e (x i)) (polynomial_at c n (x i))
     → AreKeyPairs m k c d i v w x y h g n e → AreKeyPairs m k c d (i + 1) v w x y h g n e
 neither m k c d i v w p q x y h g n e none_p none_q is_p is_q pairs = record {
   first = λ l. kept_pair m k c d i (2 * v) p x y h g none_p is_p (pairs.first l);
@@ -321,7 +321,7 @@ raised_odd m k c d i w x y n e f t raises pair l =
     subst (λ u. IsKeyPair m k c d (i + 1) u x y f t) s (raises (2 * w + 1) (omega arith) (pair (omega arith)))
 
 pub second_alone : (m k c d i v w p : ℕ) (x y h g n e f t : ℕ → ℕ) → p ≡ 0
-    → Congruent m (p + y i * polynomial d g (x i)) (polynomial c h (x i))
+    → Congruent m (p + y i * polynomial_at d g (x i)) (polynomial_at c h (x i))
     → Raises m k c d i x y n e f t
     → AreKeyPairs m k c d i v w x y h g n e → AreKeyPairs m k c d (i + 1) v (w + 1) x y h g f t
 second_alone m k c d i v w p x y h g n e f t none is raises pairs = record {
@@ -330,7 +330,7 @@ second_alone m k c d i v w p x y h g n e f t none is raises pairs = record {
 }
 
 pub first_alone : (m k c d i v w q : ℕ) (x y h g n e f t : ℕ → ℕ) → q ≡ 0
-    → Congruent m (q + y i * polynomial d e (x i)) (polynomial c n (x i))
+    → Congruent m (q + y i * polynomial_at d e (x i)) (polynomial_at c n (x i))
     → Raises m k c d i x y h g f t
     → AreKeyPairs m k c d i v w x y h g n e → AreKeyPairs m k c d (i + 1) (v + 1) w x y f t n e
 first_alone m k c d i v w q x y h g n e f t none is raises pairs = record {

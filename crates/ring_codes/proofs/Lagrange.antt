@@ -11,7 +11,7 @@ use Rattle.num_modular.specs.Inverses.{IsInverse, HasInverse}
 use Rattle.num_modular.specs.ProductLaws.{has_both, has_each, has_product}
 use Rattle.num_modular.specs.NumberLaws.{mod_of_eq, mod_refl, residue_of, mod_sym, mod_trans, mod_add, mod_mul}
 use Rattle.num_modular.specs.NumberLaws.{sum_below-zero, sum_below-suc, sum_below-congruent}
-use Rattle.num_modular.specs.Polynomials.{polynomial, HaveUnitDifferences}
+use Rattle.num_modular.specs.Polynomials.{polynomial_at, HaveUnitDifferences}
 use Rattle.num_modular.specs.PolynomialLaws.{polynomial-none, polynomial-congruent}
 use Rattle.num_modular.specs.Products.{product_below}
 use Rattle.num_modular.specs.Residues.{residue}
@@ -28,13 +28,13 @@ use Rattle.ring_codes.proofs.Secrecy.{raised, raised_behind, value_raised, throu
 record IsPolynomial (m d : ℕ) (F : ℕ → ℕ) : Type 0 where
   coefficient : ℕ → ℕ
   behind : (i : ℕ) → d ≤ i → coefficient i ≡ 0
-  value : (X : ℕ) → Congruent m (polynomial d coefficient X) (F X)
+  value : (X : ℕ) → Congruent m (polynomial_at d coefficient X) (F X)
 
 moved : (m d e : ℕ) (F G : ℕ → ℕ) → d ≡ e → ((X : ℕ) → F X ≡ G X) → IsPolynomial m d F → IsPolynomial m e G
 moved m d e F G count same p = record {
   coefficient = p.coefficient;
   behind = λ i l. p.behind i (omega (arith, l, count));
-  value = λ X. mod_trans (mod_of_eq (ap (λ n. polynomial n p.coefficient X) (sym count)))
+  value = λ X. mod_trans (mod_of_eq (ap (λ n. polynomial_at n p.coefficient X) (sym count)))
       (mod_trans (p.value X) (mod_of_eq (same X)));
 }
 
@@ -53,8 +53,8 @@ times_difference m d a F positive p = record {
   coefficient = raised 0 ((m - 1) * a) p.coefficient;
   behind = raised_behind d 0 ((m - 1) * a) p.coefficient p.behind;
   value = λ X.
-      let e : 0 + (X + (m - 1) * a) * polynomial d p.coefficient X
-      ≡ polynomial d p.coefficient X * (X + (m - 1) * a) = omega arith in
+      let e : 0 + (X + (m - 1) * a) * polynomial_at d p.coefficient X
+      ≡ polynomial_at d p.coefficient X * (X + (m - 1) * a) = omega arith in
       mod_trans (mod_of_eq (value_raised d 0 ((m - 1) * a) X p.coefficient (p.behind d (omega arith)) ∙ e))
       (mod_mul (p.value X) (mod_sym (difference_alike m X a positive)));
 }
@@ -119,15 +119,15 @@ none_at m k i l x within below other =
 -- the sum of the values, each times the inverse w and the product
 lagrange : (m k X : ℕ) (x w c : ℕ → ℕ) → 0 < m → HaveUnitDifferences m k x
     → ((i : ℕ) → i < k → IsInverse m (product_but m k x i (x i)) (w i))
-    → Congruent m (sum_below k (λ i. (polynomial k c (x i) * w i) * product_but m k x i X))
-    (polynomial k c X)
+    → Congruent m (sum_below k (λ i. (polynomial_at k c (x i) * w i) * product_but m k x i X))
+    (polynomial_at k c X)
 lagrange m k X x w c positive fit inverse =
-    let v : ℕ → ℕ = λ i. polynomial k c (x i) * w i in
+    let v : ℕ → ℕ = λ i. polynomial_at k c (x i) * w i in
     let whole = sum_of m k k v (product_but m k x) (λ i l. product_is m k i x positive l) in
-    let at : (l : ℕ) → l < k → Congruent m (polynomial k whole.coefficient (x l)) (polynomial k c (x l)) =
+    let at : (l : ℕ) → l < k → Congruent m (polynomial_at k whole.coefficient (x l)) (polynomial_at k c (x l)) =
     λ l b.
     let p : ℕ = product_but m k x l (x l) in
-    let y : ℕ = polynomial k c (x l) in
+    let y : ℕ = polynomial_at k c (x l) in
     let alone = single k l (λ i. v i * product_but m k x i (x l)) b
     (λ i d other.
     let z = ap (λ u. v i * u) (none_at m k i l x d b (λ e. other (sym e))) in omega (arith, z)) in
@@ -146,11 +146,11 @@ pub rows_from : (m k n : ℕ) (x y w rows : ℕ → ℕ) → 0 < m → HaveUnitD
     → AreRows m k n x y rows
 rows_from m k n x y w rows positive fit inverse each = record {
   value = λ j c l.
-      mod_trans (sum_below-congruent k (λ i. rows (j * k + i) * polynomial k c (x i))
-      (λ i. (polynomial k c (x i) * w i) * product_but m k x i (y j))
+      mod_trans (sum_below-congruent k (λ i. rows (j * k + i) * polynomial_at k c (x i))
+      (λ i. (polynomial_at k c (x i) * w i) * product_but m k x i (y j))
       (λ i b.
       let p : ℕ = product_but m k x i (y j) in
-      let v : ℕ = polynomial k c (x i) in
+      let v : ℕ = polynomial_at k c (x i) in
       let e : p * w i * v ≡ v * w i * p = omega arith in
       mod_trans (mod_mul (each j i l b) (mod_refl v)) (mod_of_eq e)))
       (lagrange m k (y j) x w c positive fit inverse);
@@ -195,12 +195,12 @@ all_from_fit m k x positive fit i l =
 
 -- symbols at wanted points, from the symbols at the known points
 pub value_from_row : (m k n j : ℕ) (x y rows symbols c : ℕ → ℕ) → AreRows m k n x y rows → IsEncoding m k k x c symbols
-    → j < n → sum_below k (λ i. rows (j * k + i) * symbols i) % m ≡ polynomial k c (y j) % m
+    → j < n → sum_below k (λ i. rows (j * k + i) * symbols i) % m ≡ polynomial_at k c (y j) % m
 value_from_row m k n j x y rows symbols c are is l =
     (mod_trans (sum_below-congruent k (λ i. rows (j * k + i) * symbols i)
-    (λ i. rows (j * k + i) * polynomial k c (x i))
+    (λ i. rows (j * k + i) * polynomial_at k c (x i))
     (λ i b. mod_mul (mod_refl (rows (j * k + i)))
-    (mod_trans (mod_of_eq (is.symbol i b)) (residue_of (polynomial k c (x i))))))
+    (mod_trans (mod_of_eq (is.symbol i b)) (residue_of (polynomial_at k c (x i))))))
     (are.value j c l)).same
 
 -- any symbols at the known points are of a message

@@ -10,7 +10,7 @@ use Rattle.num_modular.specs.Congruence.{Congruent}
 use Rattle.num_modular.specs.Inverses.{IsInverse, HasInverse}
 use Rattle.num_modular.specs.NumberLaws.{mod_of_eq, mod_refl, residue_of, mod_sym, mod_trans, mod_add, mod_mul}
 use Rattle.num_modular.specs.NumberLaws.{sum_below-zero, sum_below-suc, sum_below-same}
-use Rattle.num_modular.specs.Polynomials.{polynomial, HaveUnitDifferences}
+use Rattle.num_modular.specs.Polynomials.{polynomial_at, HaveUnitDifferences}
 use Rattle.num_modular.specs.PolynomialLaws.{polynomial-none, polynomial-first, polynomial-congruent}
 use Rattle.num_modular.specs.SumLaws.{tail}
 use Rattle.ring_codes.proofs.Distances.{Selection, selected, counted, counted_same, counted_other, extended, at_end, before_end}
@@ -28,19 +28,19 @@ product zero f e i = 0
 product (suc k) f e i = shifted (product k (λ j. f (suc j)) e) i + f 0 * e i
 
 padded : (d n X : ℕ) (e : ℕ → ℕ) → d ≤ n → ((l : ℕ) → d ≤ l → e l ≡ 0)
-    → polynomial n e X ≡ polynomial d e X
+    → polynomial_at n e X ≡ polynomial_at d e X
 padded d n X e l past =
     let b : ℕ = n - d in
     let whole : n ≡ d + b = omega arith in
-    ap (λ k. polynomial k e X) whole
+    ap (λ k. polynomial_at k e X) whole
     ∙ tail d b (λ i. e i * X ^ i) (λ i above below. let z = ap (λ k. k * X ^ i) (past i above) in omega (arith, z))
 
 product_value : (k d n X : ℕ) (f e : ℕ → ℕ) → 1 ≤ d → k + d ≤ n + 1 → ((l : ℕ) → d ≤ l → e l ≡ 0)
-    → polynomial n (product k f e) X ≡ polynomial k f X * polynomial d e X
+    → polynomial_at n (product k f e) X ≡ polynomial_at k f X * polynomial_at d e X
 unfolding product
 product_value zero d n X f e some room past =
     let z = no_value n X in
-    let k = ap (λ v. v * polynomial d e X) (polynomial-none f X) in
+    let k = ap (λ v. v * polynomial_at d e X) (polynomial-none f X) in
     omega (arith, z, k)
 product_value (suc k) d zero X f e some room past = absurd (omega arith)
 product_value (suc k) d (suc n) X f e some room past =
@@ -49,7 +49,7 @@ product_value (suc k) d (suc n) X f e some room past =
     let first = shifted-values n X p in
     let i = ap (λ v. X * v) (product_value k d n X (λ j. f (suc j)) e some (omega arith) past) in
     let whole = ap (λ v. f 0 * v) (padded d (suc n) X e (omega arith) past) in
-    let split = ap (λ v. v * polynomial d e X) (polynomial-first k f X) in
+    let split = ap (λ v. v * polynomial_at d e X) (polynomial-first k f X) in
     omega (arith, both, first, i, whole, split)
 
 product_none : (m k d l : ℕ) (f e : ℕ → ℕ) → ((j : ℕ) → Congruent m (e j) 0) → Congruent m (product k f e l) 0
@@ -83,25 +83,25 @@ selected_fit m n k x a b s fit = rising_fit m n k x s.place s.within s.rising fi
 -- the numerator is the product of a near message and the locator
 near_numerator : (m k c d n : ℕ) (x y p e sent : ℕ → ℕ) → 1 ≤ d → d + k ≡ c + 1 → HaveUnitDifferences m n x
     → ((l : ℕ) → d ≤ l → e l ≡ 0) → Solves m c d n x y p e
-    → distance n y (λ j. polynomial k sent (x j) % m) + c ≤ n
+    → distance n y (λ j. polynomial_at k sent (x j) % m) + c ≤ n
     → (l : ℕ) → l < c → Congruent m (p l) (product k sent e l)
 near_numerator m k c d n x y p e sent some lengths fit past solves near =
-    let s = selected n c y (λ j. polynomial k sent (x j) % m) near in
+    let s = selected n c y (λ j. polynomial_at k sent (x j) % m) near in
     same_coefficients m c p (product k sent e) (λ i. x (s.place i))
-    (selected_fit m n c x y (λ j. polynomial k sent (x j) % m) s fit)
+    (selected_fit m n c x y (λ j. polynomial_at k sent (x j) % m) s fit)
     (λ i l.
     let X : ℕ = x (s.place i) in
-    let symbol : Congruent m (y (s.place i)) (polynomial k sent X) =
-    mod_trans (mod_of_eq (s.same i l)) (residue_of (polynomial k sent X)) in
+    let symbol : Congruent m (y (s.place i)) (polynomial_at k sent X) =
+    mod_trans (mod_of_eq (s.same i l)) (residue_of (polynomial_at k sent X)) in
     mod_trans (solves (s.place i) (s.within i l))
-    (mod_trans (mod_mul symbol (mod_refl (polynomial d e X)))
+    (mod_trans (mod_mul symbol (mod_refl (polynomial_at d e X)))
     (mod_of_eq (sym (product_value k d c X sent e some (omega arith) past)))))
 
 -- .. so its values are
 pub near_value : (m k c d n : ℕ) (x y p e sent : ℕ → ℕ) → 1 ≤ d → d + k ≡ c + 1 → HaveUnitDifferences m n x
     → ((l : ℕ) → d ≤ l → e l ≡ 0) → Solves m c d n x y p e
-    → distance n y (λ j. polynomial k sent (x j) % m) + c ≤ n
-    → (X : ℕ) → Congruent m (polynomial c p X) (polynomial k sent X * polynomial d e X)
+    → distance n y (λ j. polynomial_at k sent (x j) % m) + c ≤ n
+    → (X : ℕ) → Congruent m (polynomial_at c p X) (polynomial_at k sent X * polynomial_at d e X)
 near_value m k c d n x y p e sent some lengths fit past solves near X =
     mod_trans (polynomial-congruent c p (product k sent e) X X
     (near_numerator m k c d n x y p e sent some lengths fit past solves near) (mod_refl X))
@@ -117,12 +117,12 @@ no_lead m k c d u p e lengths room none_p none_e leads = elim leads.unit [
 -- the locator of a pair isn't 0 at so many points where a near message exists
 pub enough_units : (m k c d n u : ℕ) (x y p e sent : ℕ → ℕ) → 1 ≤ d → d + k ≡ c + 1 → c ≤ n → u < 2 * c
     → HaveUnitDifferences m n x → ((l : ℕ) → d ≤ l → e l ≡ 0) → IsKeyPair m k c d n u x y p e
-    → distance n y (λ j. polynomial k sent (x j) % m) + c ≤ n
-    → distance n (λ j. polynomial d e (x j) % m) (λ j. 0) < k → HasInverse m 0
+    → distance n y (λ j. polynomial_at k sent (x j) % m) + c ≤ n
+    → distance n (λ j. polynomial_at d e (x j) % m) (λ j. 0) < k → HasInverse m 0
 enough_units m k c d n u x y p e sent some lengths few room fit past pair near zeros =
-    let s = selected n d (λ j. polynomial d e (x j) % m) (λ j. 0) (omega (arith, zeros)) in
+    let s = selected n d (λ j. polynomial_at d e (x j) % m) (λ j. 0) (omega (arith, zeros)) in
     let none_at = same_coefficients m d e (λ i. 0) (λ i. x (s.place i))
-    (selected_fit m n d x (λ j. polynomial d e (x j) % m) (λ j. 0) s fit)
+    (selected_fit m n d x (λ j. polynomial_at d e (x j) % m) (λ j. 0) s fit)
     (λ i l. record { same = s.same i l ∙ sym (ap (λ v. v % m) (no_value d (x (s.place i))) ∙ zero-mod m) }) in
     let none : (l : ℕ) → Congruent m (e l) 0 =
     λ l. elim (cases_lt l d) [ inl b ↦ none_at l b | inr b ↦ mod_of_eq (past l b) ] in
@@ -146,16 +146,16 @@ quotient_is m n e q w is product =
 -- the quotients are the values of a near message
 pub near_quotients : (m k c d n u : ℕ) (x y p e sent chosen values : ℕ → ℕ) → 1 ≤ d → d + k ≡ c + 1
     → HaveUnitDifferences m n x → ((l : ℕ) → d ≤ l → e l ≡ 0) → IsKeyPair m k c d n u x y p e
-    → distance n y (λ j. polynomial k sent (x j) % m) + c ≤ n
-    → AreQuotients m n k x (polynomial c p) (polynomial d e) chosen values
+    → distance n y (λ j. polynomial_at k sent (x j) % m) + c ≤ n
+    → AreQuotients m n k x (polynomial_at c p) (polynomial_at d e) chosen values
     → ((i : ℕ) → i < k → values i < m) → IsEncoding m k k chosen sent values
 near_quotients m k c d n u x y p e sent chosen values some lengths fit past pair near are below = record {
   symbol = λ i l.
       let X : ℕ = x (are.place i) in
-      let same = quotient_is m _ _ (values i) (polynomial k sent X) (are.quotient i l)
+      let same = quotient_is m _ _ (values i) (polynomial_at k sent X) (are.quotient i l)
       (near_value m k c d n x y p e sent some lengths fit past pair.solves near X) in
       sym (mod-eq_of_lt (below i l)) ∙ same.same
-      ∙ ap (λ v. polynomial k sent v % m) (sym (are.chosen_there i l));
+      ∙ ap (λ v. polynomial_at k sent v % m) (sym (are.chosen_there i l));
 }
 
 -- the chosen points fit
@@ -184,15 +184,15 @@ distance_same n a b d same =
 pub distance_taken : {T : Type 0} (number : T → ℕ) (value : ℕ → ℕ → ℕ) (m count k : ℕ) (X Y : List T) (sent : ℕ → ℕ)
     → count ≤ length X → length Y ≡ length X
     → distance (length (take count X)) (entry number value m (take count Y))
-    (λ j. polynomial k sent (entry number value m (take count X) j) % m)
-    ≤ distance (length X) (entry number value m Y) (λ j. polynomial k sent (entry number value m X j) % m)
+    (λ j. polynomial_at k sent (entry number value m (take count X) j) % m)
+    ≤ distance (length X) (entry number value m Y) (λ j. polynomial_at k sent (entry number value m X j) % m)
 distance_taken number value m count k X Y sent within each =
     let x = entry number value m X in let y = entry number value m Y in
     let xs = entry number value m (take count X) in let ys = entry number value m (take count Y) in
-    let word : (ℕ → ℕ) → ℕ → ℕ = λ x j. polynomial k sent (x j) % m in
+    let word : (ℕ → ℕ) → ℕ → ℕ = λ x j. polynomial_at k sent (x j) % m in
     let alike = sum_below-same count (λ i. counted (ys i) (word xs i)) (λ i. counted (y i) (word x i))
     (λ i l. ap (λ v. counted v (word xs i)) (entry_front number value m Y count i l (omega (arith, within, each)))
-    ∙ ap (λ a. counted (y i) (polynomial k sent a % m)) (entry_front number value m X count i l within)) in
+    ∙ ap (λ a. counted (y i) (polynomial_at k sent a % m)) (entry_front number value m X count i l within)) in
     let front = distance_front count (length X) y (word x) within in
     subst (λ n. distance n ys (word xs) ≤ distance (length X) y (word x)) (sym (length-take-le count X within))
     (omega (arith, alike, front))
@@ -392,18 +392,18 @@ half_of a = (omega arith, omega arith)
 pub near_there : (m k n s r : ℕ) (X x place y sent other : ℕ → ℕ) → s ≡ r → IsEncoding m k n X sent other
     → ((i : ℕ) → i < r → place i < n) → ((i : ℕ) → i < r → x i ≡ X (place i))
     → 2 * distance r y (λ j. other (place j)) ≤ r - k
-    → 2 * distance s y (λ j. polynomial k sent (x j) % m) ≤ s - k
+    → 2 * distance s y (λ j. polynomial_at k sent (x j) % m) ≤ s - k
 near_there m k n s r X x place y sent other count is within at near =
-    let same = distance_same r y (λ j. other (place j)) (λ j. polynomial k sent (x j) % m)
-    (λ i l. is.symbol (place i) (within i l) ∙ ap (λ a. polynomial k sent a % m) (sym (at i l))) in
-    subst (λ s. 2 * distance s y (λ j. polynomial k sent (x j) % m) ≤ s - k) (sym count)
+    let same = distance_same r y (λ j. other (place j)) (λ j. polynomial_at k sent (x j) % m)
+    (λ i l. is.symbol (place i) (within i l) ∙ ap (λ a. polynomial_at k sent a % m) (sym (at i l))) in
+    subst (λ s. 2 * distance s y (λ j. polynomial_at k sent (x j) % m) ≤ s - k) (sym count)
     (omega (arith, same, near))
 
 -- the words of messages that are congruent
 pub same_word : (m k j n : ℕ) (X mine sent word other : ℕ → ℕ) → j ≡ k → IsEncoding m j n X mine word
     → IsEncoding m k n X sent other → ((i : ℕ) → i < k → mine i ≡ sent i % m) → (i : ℕ) → i < n → word i ≡ other i
 same_word m k j n X mine sent word other count is_mine is_sent same i l =
-    is_mine.symbol i l ∙ ap (λ j. polynomial j mine (X i) % m) count
+    is_mine.symbol i l ∙ ap (λ j. polynomial_at j mine (X i) % m) count
     ∙ (polynomial-congruent k mine sent (X i) (X i)
     (λ i b. record { same = ap (λ v. v % m) (same i b) ∙ mod-mod (sent i) m }) (mod_refl (X i))).same
     ∙ sym (is_sent.symbol i l)

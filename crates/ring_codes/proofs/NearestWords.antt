@@ -9,7 +9,7 @@ use Rattle.num_modular.specs.Congruence.{Congruent}
 use Rattle.num_modular.specs.Inverses.{HasInverse}
 use Rattle.num_modular.specs.NumberLaws.{mod_of_eq, mod_refl, mod_sym, mod_trans, mod_mul, mod_add_cancel}
 use Rattle.num_modular.specs.NumberLaws.{difference_and, sum_below-zero, sum_below-suc}
-use Rattle.num_modular.specs.Polynomials.{polynomial, HaveUnitDifferences}
+use Rattle.num_modular.specs.Polynomials.{polynomial_at, HaveUnitDifferences}
 use Rattle.num_modular.specs.PolynomialLaws.{polynomial-none, polynomial-first}
 use Rattle.num_modular.specs.ProductLaws.{has_product}
 use Rattle.num_modular.specs.Products.{product_below}
@@ -43,7 +43,7 @@ highest (suc d) r =
     omega (arith, p, q)
 
 pub combined : (n : ℕ) (f g : ℕ → ℕ) (a X : ℕ)
-    → polynomial n (λ i. f i + a * g i) X ≡ polynomial n f X + a * polynomial n g X
+    → polynomial_at n (λ i. f i + a * g i) X ≡ polynomial_at n f X + a * polynomial_at n g X
 combined zero f g a X =
     let p = sum_below-zero (λ i. (f i + a * g i) * X ^ i) in
     let q = sum_below-zero (λ i. f i * X ^ i) in
@@ -57,7 +57,7 @@ combined (suc n) f g a X =
     omega (arith, i, p, q, r)
 
 -- its values are the products
-value_is : (d X : ℕ) (r : ℕ → ℕ) → polynomial (suc d) (expanded d r) X ≡ product_below d (λ j. X + r j)
+value_is : (d X : ℕ) (r : ℕ → ℕ) → polynomial_at (suc d) (expanded d r) X ≡ product_below d (λ j. X + r j)
 unfolding expanded product_below
 value_is zero X r =
     let f = polynomial-first 0 (expanded 0 r) X in
@@ -65,12 +65,12 @@ value_is zero X r =
     omega (arith, f, z)
 value_is (suc d) X r =
     let w : ℕ → ℕ = expanded d r in
-    let p : ℕ = polynomial (suc d) w X in
+    let p : ℕ = polynomial_at (suc d) w X in
     let first = polynomial-first (suc d) (expanded (suc d) r) X in
     let rest = ap (λ v. X * v) (combined (suc d) w (λ i. w (suc i)) (r d) X) in
     let more = sum_below-suc (suc d) (λ i. w i * X ^ i) in
     let none = ap (λ v. v * X ^ suc d) (none_behind d (suc d) r (omega arith)) in
-    let same : polynomial (suc (suc d)) w X ≡ p = omega (arith, more, none) in
+    let same : polynomial_at (suc (suc d)) w X ≡ p = omega (arith, more, none) in
     let whole = ap (λ v. r d * v) (sym same ∙ polynomial-first (suc d) w X) in
     let product = ap (λ v. v * (X + r d)) (value_is d X r) in
     omega (arith, first, rest, whole, product)
@@ -120,7 +120,7 @@ product_zero m (suc n) l f below none = elim (cases_eq l n) [
       ∙ ap (λ v. (v * f n) % m) (product_zero m n l f (omega arith) none) ∙ ap (λ v. v % m) z ∙ zero-mod m
 ]
 
-pub no_value : (n X : ℕ) → polynomial n (λ i. 0) X ≡ 0
+pub no_value : (n X : ℕ) → polynomial_at n (λ i. 0) X ≡ 0
 no_value zero X = sum_below-zero (λ i. 0 * X ^ i)
 no_value (suc n) X = let s = sum_below-suc n (λ i. 0 * X ^ i) in let i = no_value n X in omega (arith, s, i)
 
@@ -144,10 +144,10 @@ bound_met m zero n x two some few fit = absurd (omega arith)
 bound_met m (suc d) n x two some few fit =
     let positive : 0 < m = omega arith in
     let r : ℕ → ℕ = λ j. (m - 1) * x j in
-    let value : (i : ℕ) → polynomial (suc d) (expanded d r) (x i) % m
+    let value : (i : ℕ) → polynomial_at (suc d) (expanded d r) (x i) % m
     ≡ product_below d (λ j. x i + r j) % m =
     λ i. ap (λ v. v % m) (value_is d (x i) r) in
-    let apart = agree_first n d (λ i. polynomial (suc d) (expanded d r) (x i) % m) (λ i. 0)
+    let apart = agree_first n d (λ i. polynomial_at (suc d) (expanded d r) (x i) % m) (λ i. 0)
     (λ i l. value i ∙ product_zero m d i (λ j. x i + r j) l (at_root m (x i) positive))
     (λ i l k z. unit_not_zero m (product_below d (λ j. x i + r j)) two
     (has_product m d (λ j. x i + r j) positive
@@ -157,7 +157,7 @@ bound_met m (suc d) n x two some few fit =
     let none = zero-mod m in (
       expanded d r,
       (λ i. 0),
-      (λ i. polynomial (suc d) (expanded d r) (x i) % m),
+      (λ i. polynomial_at (suc d) (expanded d r) (x i) % m),
       (λ i. 0),
       record { symbol = λ i l. refl },
       record { symbol = λ i l. sym (ap (λ v. v % m) (no_value (suc d) (x i)) ∙ zero-mod m) },

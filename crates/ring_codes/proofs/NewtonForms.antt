@@ -11,7 +11,7 @@ use Rattle.num_modular.specs.Inverses.{IsInverse, HasInverse, IsInversion}
 use Rattle.num_modular.specs.NumberLaws.{mod_of_eq, mod_refl, residue_of, mod_sym, mod_trans, mod_add, mod_mul}
 use Rattle.num_modular.specs.NumberLaws.{mod_add_cancel}
 use Rattle.num_modular.specs.NumberLaws.{difference_and, sum_below-zero, sum_below-suc}
-use Rattle.num_modular.specs.Polynomials.{polynomial, HaveUnitDifferences}
+use Rattle.num_modular.specs.Polynomials.{polynomial_at, HaveUnitDifferences}
 use Rattle.num_modular.specs.PolynomialLaws.{polynomial-none, polynomial-first, polynomial-same}
 use Rattle.num_modular.specs.ProductLaws.{has_each, has_product}
 use Rattle.num_modular.specs.Products.{product_below}
@@ -139,7 +139,7 @@ one_divided m i c d x y known rest w before kept is_known is_rest inverse is bel
 
 -- coefficients e with e l + a·s (l + 1) = s l are those of s less a times what is left of s
 taken : (m n a X : ℕ) (e s : ℕ → ℕ) → ((l : ℕ) → l < n → Congruent m (e l + a * s (suc l)) (s l))
-    → Congruent m (polynomial n e X + a * polynomial n (λ l. s (suc l)) X) (polynomial n s X)
+    → Congruent m (polynomial_at n e X + a * polynomial_at n (λ l. s (suc l)) X) (polynomial_at n s X)
 taken m zero a X e s each =
     let p = sum_below-zero (λ i. e i * X ^ i) in
     let q = ap (λ v. a * v) (sum_below-zero (λ i. s (suc i) * X ^ i)) in
@@ -150,25 +150,25 @@ taken m (suc n) a X e s each =
     let p = sum_below-suc n (λ i. e i * X ^ i) in
     let q = ap (λ v. a * v) (sum_below-suc n (λ i. s (suc i) * X ^ i)) in
     let r = sum_below-suc n (λ i. s i * X ^ i) in
-    let split : polynomial (suc n) e X + a * polynomial (suc n) (λ l. s (suc l)) X
-    ≡ (polynomial n e X + a * polynomial n (λ l. s (suc l)) X) + (e n + a * s (suc n)) * X ^ n =
+    let split : polynomial_at (suc n) e X + a * polynomial_at (suc n) (λ l. s (suc l)) X
+    ≡ (polynomial_at n e X + a * polynomial_at n (λ l. s (suc l)) X) + (e n + a * s (suc n)) * X ^ n =
     omega (arith, p, q) in
     mod_trans (mod_of_eq split) (mod_trans (mod_add i (mod_mul (each n (omega arith)) (mod_refl (X ^ n))))
     (mod_of_eq (sym r)))
 
 pub one_expanded : (m n a X : ℕ) (e s : ℕ → ℕ) → 0 < m
     → ((l : ℕ) → l < n → Congruent m (e l + a * s (suc l)) (s l)) → e n ≡ s n
-    → Congruent m (polynomial (suc n) e X)
-    (s 0 + residue m (pos X -ℤ pos a) * polynomial n (λ l. s (suc l)) X)
+    → Congruent m (polynomial_at (suc n) e X)
+    (s 0 + residue m (pos X -ℤ pos a) * polynomial_at n (λ l. s (suc l)) X)
 one_expanded m n a X e s positive each last =
-    let q : ℕ = polynomial n (λ l. s (suc l)) X in
+    let q : ℕ = polynomial_at n (λ l. s (suc l)) X in
     let u : ℕ = residue m (pos X -ℤ pos a) in
     let top = ap (λ v. v * X ^ n) last in
     let p = sum_below-suc n (λ i. e i * X ^ i) in
     let r = sum_below-suc n (λ i. s i * X ^ i) in
-    let split : polynomial (suc n) e X + a * q ≡ (polynomial n e X + a * q) + s n * X ^ n =
+    let split : polynomial_at (suc n) e X + a * q ≡ (polynomial_at n e X + a * q) + s n * X ^ n =
     omega (arith, p, top) in
-    let whole : Congruent m (polynomial (suc n) e X + a * q) (s 0 + X * q) =
+    let whole : Congruent m (polynomial_at (suc n) e X + a * q) (s 0 + X * q) =
     mod_trans (mod_of_eq split) (mod_trans (mod_add (taken m n a X e s each) (mod_refl (s n * X ^ n)))
     (mod_of_eq (sym r ∙ polynomial-first n s X))) in
     let is : Congruent m (u + a) X = record { same = difference_and m X a positive } in
@@ -242,26 +242,26 @@ products_from_fit m n x positive fit i l =
 
 -- one step of Horner's rule, the coefficients taken from the last
 pub value_more : (m n k : ℕ) (c : ℕ → ℕ) (a value product sum : ℕ) → k < n
-    → value ≡ polynomial k (λ i. c (n - k + i)) a % m → product ≡ (value * a) % m
+    → value ≡ polynomial_at k (λ i. c (n - k + i)) a % m → product ≡ (value * a) % m
     → sum ≡ (c (n - 1 - k) + product) % m
-    → sum ≡ polynomial (k + 1) (λ i. c (n - (k + 1) + i)) a % m
+    → sum ≡ polynomial_at (k + 1) (λ i. c (n - (k + 1) + i)) a % m
 value_more m n k c a value product sum l is_value is_product is =
-    let v : ℕ = polynomial k (λ i. c (n - k + i)) a in
+    let v : ℕ = polynomial_at k (λ i. c (n - k + i)) a in
     let e = polynomial-first k (λ i. c (n - (k + 1) + i)) a in
     let f : c (n - (k + 1) + 0) ≡ c (n - 1 - k) = ap c (omega arith) in
     let g = ap (λ w. a * w) (polynomial-same k (λ i. c (n - (k + 1) + suc i)) (λ i. c (n - k + i)) a
     (λ i b. ap c (let t : n - (k + 1) + suc i ≡ n - k + i = omega arith in t))) in
-    let whole : c (n - 1 - k) + v * a ≡ polynomial (suc k) (λ i. c (n - (k + 1) + i)) a = omega (arith, e, f, g) in
+    let whole : c (n - 1 - k) + v * a ≡ polynomial_at (suc k) (λ i. c (n - (k + 1) + i)) a = omega (arith, e, f, g) in
     let product_is : Congruent m product (v * a) =
     mod_trans (mod_of_eq is_product) (mod_trans (residue_of (value * a))
     (mod_mul (mod_trans (mod_of_eq is_value) (residue_of v)) (mod_refl a))) in
     is ∙ (mod_add (mod_refl (c (n - 1 - k))) product_is).same ∙ ap (λ w. w % m) whole
-    ∙ ap (λ j. polynomial j (λ i. c (n - (k + 1) + i)) a % m) (let t : suc k ≡ k + 1 = omega arith in t)
+    ∙ ap (λ j. polynomial_at j (λ i. c (n - (k + 1) + i)) a % m) (let t : suc k ≡ k + 1 = omega arith in t)
 
-pub value_none : (m a value : ℕ) (c : ℕ → ℕ) → value ≡ 0 % m → value ≡ polynomial 0 c a % m
+pub value_none : (m a value : ℕ) (c : ℕ → ℕ) → value ≡ 0 % m → value ≡ polynomial_at 0 c a % m
 value_none m a value c is = is ∙ ap (λ v. v % m) (sym (polynomial-none c a))
 
-pub value_all : (n a : ℕ) (c : ℕ → ℕ) → polynomial n (λ i. c (n - n + i)) a ≡ polynomial n c a
+pub value_all : (n a : ℕ) (c : ℕ → ℕ) → polynomial_at n (λ i. c (n - n + i)) a ≡ polynomial_at n c a
 value_all n a c = polynomial-same n (λ i. c (n - n + i)) c a (λ i l. ap c (let e : n - n + i ≡ i = omega arith in e))
 
 -- .. of Newton's form
@@ -299,12 +299,12 @@ form_all m n a c x =
 
 -- one point more of the coefficients: e are the coefficients behind it before, f after
 pub expanded_more : (m n k : ℕ) (c e f x : ℕ → ℕ) → 0 < m → k < n
-    → ((a : ℕ) → Congruent m (polynomial k (λ i. e (n - k + i)) a)
+    → ((a : ℕ) → Congruent m (polynomial_at k (λ i. e (n - k + i)) a)
     (newton_form m k (λ i. c (n - k + i)) (λ i. x (n - k + i)) a))
     → ((i : ℕ) → i < n - k → e i ≡ c i)
     → ((i : ℕ) → n - 1 - k ≤ i → i + 1 < n → Congruent m (f i + x (n - 1 - k) * e (i + 1)) (e i))
     → ((i : ℕ) → n ≤ i + 1 → f i ≡ e i)
-    → (a : ℕ) → Congruent m (polynomial (k + 1) (λ i. f (n - (k + 1) + i)) a)
+    → (a : ℕ) → Congruent m (polynomial_at (k + 1) (λ i. f (n - (k + 1) + i)) a)
     (newton_form m (k + 1) (λ i. c (n - (k + 1) + i)) (λ i. x (n - (k + 1) + i)) a)
 expanded_more m n k c e f x positive l before kept done last a =
     let from : ℕ = n - (k + 1) in
@@ -315,7 +315,7 @@ expanded_more m n k c e f x positive l before kept done last a =
     λ i b. let t : from + i + 1 ≡ from + suc i = omega arith in
     mod_trans (mod_of_eq (ap (λ w. f (from + i) + x (n - 1 - k) * e w) (sym t)))
     (done (from + i) (omega arith) (omega arith)) in
-    let q : ℕ = polynomial k (λ i. e (from + suc i)) a in
+    let q : ℕ = polynomial_at k (λ i. e (from + suc i)) a in
     let rest : Congruent m q (newton_form m k (λ i. c (from + suc i)) (λ i. x (from + suc i)) a) =
     mod_trans (mod_of_eq (polynomial-same k (λ i. e (from + suc i)) (λ i. e (n - k + i)) a (λ i b. ap e (shift i))))
     (mod_trans (before a)
@@ -325,18 +325,18 @@ expanded_more m n k c e f x positive l before kept done last a =
     (last (from + k) (omega arith)) in
     let first : Congruent m (e (from + 0)) (c (from + 0)) = mod_of_eq (kept (from + 0) (omega arith)) in
     let next : suc k ≡ k + 1 = omega arith in
-    mod_trans (mod_of_eq (ap (λ j. polynomial j (λ i. f (from + i)) a) (sym next)))
+    mod_trans (mod_of_eq (ap (λ j. polynomial_at j (λ i. f (from + i)) a) (sym next)))
     (mod_trans one
     (mod_trans (mod_add first (mod_mul (mod_of_eq (ap (λ w. minus m a (x w)) here)) rest))
     (mod_of_eq (sym (form-first m k (λ i. c (from + i)) (λ i. x (from + i)) a)
     ∙ ap (λ j. newton_form m j (λ i. c (from + i)) (λ i. x (from + i)) a) next))))
 
 pub expanded_all : (m n k : ℕ) (c e x : ℕ → ℕ) → k ≡ n
-    → ((a : ℕ) → Congruent m (polynomial k (λ i. e (n - k + i)) a)
+    → ((a : ℕ) → Congruent m (polynomial_at k (λ i. e (n - k + i)) a)
     (newton_form m k (λ i. c (n - k + i)) (λ i. x (n - k + i)) a))
-    → (a : ℕ) → Congruent m (polynomial n e a) (newton_form m n c x a)
+    → (a : ℕ) → Congruent m (polynomial_at n e a) (newton_form m n c x a)
 expanded_all m n k c e x is same a =
-    mod_trans (mod_of_eq (sym (ap (λ k. polynomial k (λ i. e (n - k + i)) a) is ∙ value_all n a e)))
+    mod_trans (mod_of_eq (sym (ap (λ k. polynomial_at k (λ i. e (n - k + i)) a) is ∙ value_all n a e)))
     (mod_trans (same a)
     (mod_of_eq (ap (λ k. newton_form m k (λ i. c (n - k + i)) (λ i. x (n - k + i)) a) is ∙ form_all m n a c x)))
 
@@ -371,9 +371,9 @@ inverse_of_product m a v x e h =
 
 -- the coefficients from Newton's form have its values
 pub interpolated : (m n a b old y i : ℕ) (e f x : ℕ → ℕ) → a ≡ n → b ≡ n
-    → ((q : ℕ) → Congruent m (polynomial a e q) (newton_form m a f x q))
-    → newton_form m b f x (x i) % m ≡ old → old ≡ y → y ≡ polynomial n e (x i) % m
+    → ((q : ℕ) → Congruent m (polynomial_at a e q) (newton_form m a f x q))
+    → newton_form m b f x (x i) % m ≡ old → old ≡ y → y ≡ polynomial_at n e (x i) % m
 interpolated m n a b old y i e f x is_a is_b same value is =
     let s = same (x i) in
-    sym (ap (λ k. polynomial k e (x i) % m) (sym is_a) ∙ s.same
+    sym (ap (λ k. polynomial_at k e (x i) % m) (sym is_a) ∙ s.same
     ∙ ap (λ k. newton_form m k f x (x i) % m) (is_a ∙ sym is_b) ∙ value ∙ is)

@@ -9,7 +9,7 @@ use Rattle.num_modular.specs.Inverses.{HasInverse}
 use Rattle.num_modular.specs.NumberLaws.{mod_of_eq, mod_refl, residue_of, mod_sym, mod_trans, mod_add, mod_mul, mod_pow}
 use Rattle.num_modular.specs.NumberLaws.{mod_add_cancel}
 use Rattle.num_modular.specs.NumberLaws.{difference_and, sum_below-congruent, pow-mul, one-pow}
-use Rattle.num_modular.specs.Polynomials.{polynomial, HaveUnitDifferences}
+use Rattle.num_modular.specs.Polynomials.{polynomial_at, HaveUnitDifferences}
 use Rattle.num_modular.specs.ProductLaws.{has_both}
 use Rattle.num_modular.specs.Residues.{residue}
 use Rattle.num_modular.specs.SumLaws.{tail}
@@ -181,7 +181,7 @@ powers_fit m g n x odd suits powers = record {
 -- values at the powers are the transform of the coefficients, followed by zeros
 pub value_by_transform : (m g k n j : ℕ) (points message x : ℕ → ℕ) → k ≤ n → ArePowers m g n points
     → ((i : ℕ) → i < k → x i ≡ message i) → ((i : ℕ) → k ≤ i → i < n → x i ≡ 0) → j < n
-    → transform m g n x j ≡ polynomial k message (points j) % m
+    → transform m g n x j ≡ polynomial_at k message (points j) % m
 value_by_transform m g k n j points message x few powers same none within =
     let d : ℕ = n - k in
     let whole : n ≡ k + d = omega (arith, few) in

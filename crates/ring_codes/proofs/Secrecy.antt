@@ -9,7 +9,7 @@ use Rattle.num_modular.specs.Inverses.{IsInverse, HasInverse}
 use Rattle.num_modular.specs.NumberLaws.{mod_of_eq, mod_refl, residue_of, mod_sym, mod_trans, mod_add, mod_mul}
 use Rattle.num_modular.specs.NumberLaws.{mod_add_cancel}
 use Rattle.num_modular.specs.NumberLaws.{sum_below-suc}
-use Rattle.num_modular.specs.Polynomials.{polynomial, HaveUnitDifferences}
+use Rattle.num_modular.specs.Polynomials.{polynomial_at, HaveUnitDifferences}
 use Rattle.num_modular.specs.PolynomialLaws.{polynomial-first, polynomial-congruent}
 use Rattle.num_modular.specs.Residues.{residue}
 use Rattle.ring_codes.specs.Secrets.{FitsShares, IsPerfectlySecret}
@@ -47,14 +47,14 @@ raised_behind d v r h none (suc i) l =
     omega (arith, p, q)
 
 pub value_raised : (d v r X : ℕ) (h : ℕ → ℕ) → h d ≡ 0
-    → polynomial (suc d) (raised v r h) X ≡ v + (X + r) * polynomial d h X
+    → polynomial_at (suc d) (raised v r h) X ≡ v + (X + r) * polynomial_at d h X
 unfolding raised
 value_raised d v r X h none =
     let first = polynomial-first d (raised v r h) X in
     let rest = ap (λ w. X * w) (combined d h (λ i. h (suc i)) r X) in
     let more = sum_below-suc d (λ i. h i * X ^ i) in
     let gone = ap (λ w. w * X ^ d) none in
-    let same : polynomial (suc d) h X ≡ polynomial d h X = omega (arith, more, gone) in
+    let same : polynomial_at (suc d) h X ≡ polynomial_at d h X = omega (arith, more, gone) in
     let whole = ap (λ w. r * w) (sym same ∙ polynomial-first d h X) in
     omega (arith, first, rest, whole)
 
@@ -76,12 +76,12 @@ divided m X r d u H v w positive unit inverse value =
 values_raised : (m d : ℕ) (x v u h : ℕ → ℕ) → 0 < m → h d ≡ 0
     → ((i : ℕ) → i < d → IsInverse m (residue m (pos (x (suc i)) -ℤ pos (x 0))) (u i))
     → ((i : ℕ) → i < d
-    → Congruent m (polynomial d h (x (suc i))) ((v (suc i) + (m - 1) * v 0) * u i))
+    → Congruent m (polynomial_at d h (x (suc i))) ((v (suc i) + (m - 1) * v 0) * u i))
     → (i : ℕ) → i < suc d
-    → Congruent m (polynomial (suc d) (raised (v 0) ((m - 1) * x 0) h) (x i)) (v i)
+    → Congruent m (polynomial_at (suc d) (raised (v 0) ((m - 1) * x 0) h) (x i)) (v i)
 values_raised m d x v u h positive none units values zero l =
     let r : ℕ = (m - 1) * x 0 in
-    let H : ℕ = polynomial d h (x 0) in
+    let H : ℕ = polynomial_at d h (x 0) in
     let root : Congruent m (x 0 + r) 0 = record { same = at_root m (x 0) positive ∙ sym (zero-mod m) } in
     let gone : v 0 + 0 * H ≡ v 0 = omega arith in
     mod_trans (mod_of_eq (value_raised d (v 0) r (x 0) h none))
@@ -90,13 +90,13 @@ values_raised m d x v u h positive none units values (suc i) l =
     let r : ℕ = (m - 1) * x 0 in
     mod_trans (mod_of_eq (value_raised d (v 0) r (x (suc i)) h none))
     (divided m (x (suc i)) r (residue m (pos (x (suc i)) -ℤ pos (x 0))) (u i)
-    (polynomial d h (x (suc i))) (v 0) (v (suc i)) positive
+    (polynomial_at d h (x (suc i))) (v 0) (v (suc i)) positive
     (difference_alike m (x (suc i)) (x 0) positive) (units i (omega arith)) (values i (omega arith)))
 
 -- d coefficients with these values at d points
 pub through : (m d : ℕ) (x v : ℕ → ℕ) → 0 < m → HaveUnitDifferences m d x
     → (h : ℕ → ℕ) × ((i : ℕ) → d ≤ i → h i ≡ 0)
-    × ((i : ℕ) → i < d → Congruent m (polynomial d h (x i)) (v i))
+    × ((i : ℕ) → i < d → Congruent m (polynomial_at d h (x i)) (v i))
 through m zero x v positive fit = ((λ i. 0), (λ i l. refl), λ i l. absurd (omega arith))
 through m (suc d) x v positive fit =
     let u = inverses m d (λ i. residue m (pos (x (suc i)) -ℤ pos (x 0)))
@@ -120,16 +120,16 @@ without_unit m X u a b inverse same =
 
 -- what two such lists have behind the secret has the same values
 same_behind : (m d secret X u share : ℕ) (a b : ℕ → ℕ) → IsInverse m X u → a 0 ≡ secret → b 0 ≡ secret
-    → share ≡ polynomial (suc d) a X % m → share ≡ polynomial (suc d) b X % m
-    → Congruent m (polynomial d (λ i. a (suc i)) X) (polynomial d (λ i. b (suc i)) X)
+    → share ≡ polynomial_at (suc d) a X % m → share ≡ polynomial_at (suc d) b X % m
+    → Congruent m (polynomial_at d (λ i. a (suc i)) X) (polynomial_at d (λ i. b (suc i)) X)
 same_behind m d secret X u share a b inverse is_a is_b at_a at_b =
-    let A : ℕ = polynomial d (λ i. a (suc i)) X in
-    let B : ℕ = polynomial d (λ i. b (suc i)) X in
+    let A : ℕ = polynomial_at d (λ i. a (suc i)) X in
+    let B : ℕ = polynomial_at d (λ i. b (suc i)) X in
     let f = polynomial-first d a X in
     let g = polynomial-first d b X in
-    let left : X * A + secret ≡ polynomial (suc d) a X = omega (arith, f, is_a) in
-    let right : polynomial (suc d) b X ≡ X * B + secret = omega (arith, g, is_b) in
-    let both : Congruent m (polynomial (suc d) a X) (polynomial (suc d) b X) =
+    let left : X * A + secret ≡ polynomial_at (suc d) a X = omega (arith, f, is_a) in
+    let right : polynomial_at (suc d) b X ≡ X * B + secret = omega (arith, g, is_b) in
+    let both : Congruent m (polynomial_at (suc d) a X) (polynomial_at (suc d) b X) =
     record { same = sym at_a ∙ at_b } in
     without_unit m X u A B inverse
     (mod_add_cancel secret (mod_trans (mod_of_eq left) (mod_trans both (mod_of_eq right))))
@@ -153,12 +153,12 @@ fitting m d secret x y small shares each fit =
     let u = inverses m d x each in
     let g = through m d x (λ i. (y i + (m - 1) * secret) * u.0 i) positive fit in
     let f : ℕ → ℕ = raised secret 0 g.0 in
-    let value : (i : ℕ) → i < d → Congruent m (polynomial (suc d) (λ i. f i % m) (x i)) (y i) =
+    let value : (i : ℕ) → i < d → Congruent m (polynomial_at (suc d) (λ i. f i % m) (x i)) (y i) =
     λ i l.
     let same : x i ≡ x i + 0 = omega arith in
     mod_trans (polynomial-congruent (suc d) (λ i. f i % m) f (x i) (x i) (λ i l. residue_of (f i)) (mod_refl (x i)))
     (mod_trans (mod_of_eq (value_raised d secret 0 (x i) g.0 (g.1 d (omega arith))))
-    (divided m (x i) 0 (x i) (u.0 i) (polynomial d g.0 (x i)) secret (y i) positive (mod_of_eq same)
+    (divided m (x i) 0 (x i) (u.0 i) (polynomial_at d g.0 (x i)) secret (y i) positive (mod_of_eq same)
     (u.1 i l) (g.2 i l))) in
     let first : secret + 0 * g.0 0 ≡ secret = omega arith in (
       (λ i. f i % m),

@@ -4,17 +4,17 @@ use Rattle.std.proofs.Common.{◌≡◌, ◌≢◌, ◌⊎◌, ℕ, zero, suc, �
 use Rattle.std.proofs.Math.Nat.{add-mul-mod_self_left, pow-zero, pow-suc, mul-le-mul_left, mul-div_cancel_left}
 use Rattle.std.proofs.lemmas.Bool.{cases_eq, cases_lt}
 use Rattle.num_modular.specs.NumberLaws.{sum_below-zero, sum_below-suc}
-use Rattle.num_modular.specs.Polynomials.{polynomial}
+use Rattle.num_modular.specs.Polynomials.{polynomial_at}
 use Rattle.num_modular.specs.PolynomialLaws.{polynomial-none, polynomial-first}
 use Rattle.ring_codes.specs.Erasure.{distance}
 use Rattle.ring_codes.proofs.Distances.{extended, at_end, before_end, counted, counted_same, counted_other}
 
 -- the number with these digits
-below_power : (r m : ℕ) (c : ℕ → ℕ) → ((i : ℕ) → i < r → c i < m) → polynomial r c m < m ^ r
+below_power : (r m : ℕ) (c : ℕ → ℕ) → ((i : ℕ) → i < r → c i < m) → polynomial_at r c m < m ^ r
 below_power zero m c small = let z = polynomial-none c m in let o = pow-zero m in omega (arith, z, o)
 below_power (suc r) m c small =
     let rest = below_power r m (λ i. c (suc i)) (λ i l. small (suc i) (omega arith)) in
-    let v : ℕ = polynomial r (λ i. c (suc i)) m in
+    let v : ℕ = polynomial_at r (λ i. c (suc i)) m in
     let most : m * suc v ≤ m * m ^ r = mul-le-mul_left m rest in
     let one : m * suc v ≡ m * v + m = omega arith in
     let first = small 0 (omega arith) in
@@ -30,11 +30,11 @@ digit r c d (suc i) l first rest = rest i (omega arith)
 
 -- the number tells its digits
 same_digits : (r m : ℕ) (c d : ℕ → ℕ) → ((i : ℕ) → i < r → c i < m) → ((i : ℕ) → i < r → d i < m)
-    → polynomial r c m ≡ polynomial r d m → (i : ℕ) → i < r → c i ≡ d i
+    → polynomial_at r c m ≡ polynomial_at r d m → (i : ℕ) → i < r → c i ≡ d i
 same_digits zero m c d small_c small_d same i l = absurd (omega arith)
 same_digits (suc r) m c d small_c small_d same i l =
-    let v : ℕ = polynomial r (λ i. c (suc i)) m in
-    let w : ℕ = polynomial r (λ i. d (suc i)) m in
+    let v : ℕ = polynomial_at r (λ i. c (suc i)) m in
+    let w : ℕ = polynomial_at r (λ i. d (suc i)) m in
     let c_small = small_c 0 (omega arith) in
     let d_small = small_d 0 (omega arith) in
     let positive : 0 < m = omega (arith, c_small) in
@@ -133,7 +133,7 @@ bound m n d size words some few small apart =
     let r : ℕ = n - d + 1 in
     let digits : (a : ℕ) → a < size → (i : ℕ) → i < r → words a i < m =
     λ a l i b. small a i l (omega (arith, b, some, few)) in
-    pigeonholes (m ^ r) size (λ a. polynomial r (words a) m) (λ a l. below_power r m (words a) (digits a l))
+    pigeonholes (m ^ r) size (λ a. polynomial_at r (words a) m) (λ a l. below_power r m (words a) (digits a l))
     (λ a b l k differ same.
     let far = apart a b l k differ in
     let near = few_behind n r (words a) (words b)

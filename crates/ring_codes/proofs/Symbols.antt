@@ -97,6 +97,6 @@ fit_same m n x y same fit = record {
 pub no_fault : (m k n : ℕ) (x : ℕ → ℕ) (places : List ℕ) (e : RestoreError) → ArePlaces k n places
     → HaveUnitDifferences m k (λ i. x (get_or places i 0)) → IsFault m k n x places e → ⊥
 no_fault m k n x places TooFewSymbols right fit h = let l = right.enough in omega (arith, l, h)
-no_fault m k n x places PlaceOutOfRange right fit h = let l = right.within h.0 h.1 in let o = h.2 in omega (arith, l, o)
-no_fault m k n x places PlaceTwice right fit h = right.distinct h.0 h.1 h.2 h.3 h.4
-no_fault m k n x places PointsDontFit right fit h = h fit
+no_fault m k n x places PlaceOutOfRange right fit h = let l = right.within h.0 h.1 in let o = h.4 in omega (arith, l, o)
+no_fault m k n x places PlaceTwice right fit h = right.distinct h.0 h.1 h.2 h.3 h.6
+no_fault m k n x places PointsDontFit right fit h = h.1 fit

@@ -4,7 +4,7 @@
 use Rattle.std.specs.Prelude.{◌≡◌, ◌≢◌, ℕ, zero, suc, ◌+◌, ◌*◌, ◌<◌, ◌⊎◌}
 use Rattle.num_modular.specs.Congruence.{Congruent}
 use Rattle.num_modular.specs.Inverses.{IsInverse, HasInverse}
-use Rattle.num_modular.specs.Polynomials.{polynomial}
+use Rattle.num_modular.specs.Polynomials.{polynomial_at}
 
 -- the coefficients of X times a polynomial
 unfoldable pub shifted : (ℕ → ℕ) → ℕ → ℕ
@@ -14,7 +14,7 @@ shifted f (suc i) = f i
 -- at the first i points x the numerator with c coefficients is the symbol y times the locator with d coefficients
 abbrev pub Solves : ℕ → ℕ → ℕ → ℕ → (ℕ → ℕ) → (ℕ → ℕ) → (ℕ → ℕ) → (ℕ → ℕ) → Type 0
 Solves m c d i x y numerator locator = (j : ℕ) → j < i →
-    Congruent m (polynomial c numerator (x j)) (y j * polynomial d locator (x j))
+    Congruent m (polynomial_at c numerator (x j)) (y j * polynomial_at d locator (x j))
 
 -- in the order 1, Y·X^0, X, Y·X^1, .. of the coefficients, those of the locator after k - 1 of the numerator: the
 -- coefficients behind number u are 0, and coefficient u has an inverse (2·l is the number of the numerator's

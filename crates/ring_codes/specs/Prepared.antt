@@ -2,7 +2,7 @@
 -- Art of Computer Programming, volume 2, section 4.6.4).
 use Rattle.std.specs.Prelude.{ℕ, ◌+◌, ◌-◌, ◌*◌, ◌<◌, pos, ◌-ℤ◌}
 use Rattle.num_modular.specs.Congruence.{Congruent}
-use Rattle.num_modular.specs.Polynomials.{polynomial}
+use Rattle.num_modular.specs.Polynomials.{polynomial_at}
 use Rattle.num_modular.specs.Products.{product_below}
 use Rattle.num_modular.specs.Residues.{residue}
 use Rattle.num_modular.specs.Sums.{sum_below}
@@ -17,4 +17,4 @@ product_but m k x i a =
 -- j, add up to the value at the point y j modulo m
 pub record AreRows (m k n : ℕ) (x y rows : ℕ → ℕ) : Type 0 where
   pub value : (j : ℕ) (c : ℕ → ℕ) → j < n →
-      Congruent m (sum_below k (λ i. rows (j * k + i) * polynomial k c (x i))) (polynomial k c (y j))
+      Congruent m (sum_below k (λ i. rows (j * k + i) * polynomial_at k c (x i))) (polynomial_at k c (y j))

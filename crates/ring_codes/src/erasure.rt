@@ -13,7 +13,18 @@
 //!
 //! Points, messages and words are lists of checked forms of a reducer; `load_forms` and `unload_forms` of
 //! `num_modular::ring` convert from words and back. No memory is allocated: the caller passes the scratch lists.
-//! The calls don't run in constant time.
+//! Which calls are for secrets, `docs/secrets.md` in the repository says.
+//!
+//! # Conditions
+//!
+//! Each call that has such arguments also requires:
+//!
+//! - there are as many symbols as places
+//! - the word has as many places as there are points
+//! - there are k weights
+//! - `chosen` has k places
+//! - k is at most the number of points
+//! - k is at least 1
 //!
 //! Source: Reed and Solomon, "Polynomial codes over certain finite fields".
 
@@ -21,9 +32,10 @@ ghost use Rattle.std.specs.Prelude.{◌≡◌, ℕ, ◌%◌, ◌<◌, ◌≤◌,
 ghost use Rattle.std.specs.Prelude.{length, slice_index, slice_index_or};
 ghost use Rattle.num_modular.specs.Entries.{entry};
 ghost use Rattle.num_modular.specs.Forms.{IsForm};
-ghost use Rattle.num_modular.specs.Polynomials.{polynomial, HaveUnitDifferences};
+ghost use Rattle.num_modular.specs.Polynomials.{polynomial_at, HaveUnitDifferences};
 ghost use Rattle.ring_codes.specs.Erasure.{IsEncoding, IsErasureCodeword, ArePlaces, IsFault};
 
+// rattle: line
 mod bounds;
 mod correction;
 mod key_equation;
@@ -44,8 +56,9 @@ pub use prepared::PreparedCode;
 pub use secrets::{ShareError, recover, recover_correct, secrecy_laws, share};
 use words::index_of;
 pub use words::restore_word;
+// rust: pub use crate::layers::codes::{Code, Corrected};
 
-/// Why a message can't be restored.
+/// Why a message can't be restored: the first cause, as `restore` names it.
 ///
 /// # Examples
 ///
@@ -54,20 +67,24 @@ pub use words::restore_word;
 ///
 /// assert_eq!(RestoreError::PlaceTwice.to_string(), "a place occurs twice");
 /// ```
+// rust: #[derive(Hash)]
 #[derive(Clone, Copy, Debug, PartialEq, Eq)]
 pub enum RestoreError {
-    /// There are fewer symbols than the message has.
+    /// Fewer symbols than the message has.
     TooFewSymbols,
-    /// A place is not below the number of points.
+    /// A place isn't the number of a point.
     PlaceOutOfRange,
     /// A place occurs twice.
     PlaceTwice,
-    /// The difference of two of the points has no inverse modulo m.
+    /// The points don't fit: the difference of two of them has no inverse modulo m.
     PointsDontFit,
 }
 
-/// Whether the points fit: the difference of any two has an inverse modulo m. Condition: the points are checked
-/// forms.
+/// Whether the points fit: the difference of any two has an inverse modulo m.
+///
+/// # Conditions
+///
+/// - (debug) the points are checked forms
 ///
 /// # Examples
 ///
@@ -79,11 +96,13 @@ pub enum RestoreError {
 /// assert!(points_fit(&ring, &[0, 1, 2]));
 /// assert!(!points_fit(&ring, &[0, 1, 3])); // 3 has no inverse modulo 15
 /// ```
+// rust: #[cfg_attr(debug_assertions, track_caller)]
 pub fn points_fit<T: RingWord, R: Reducer<T>>(r: &R, points: &[T]) -> bool
     requires { All (λ f. IsForm R.form R.value (R.modulus r.now) (T.number f)) points.now }
     ensures { let m = R.modulus r.now in
         IsTrue result ↔ HaveUnitDifferences m (length points.now) (entry T.number R.value m points.now) }
 {
+    // rust: debug_assert!(points.iter().all(|x| r.check(x)), "the points must be checked forms");
     let mut product = r.transform(T::one());
     'points: for i in 0..points.len() {
         let differences = differences_before(r, points, i);
@@ -92,8 +111,11 @@ pub fn points_fit<T: RingWord, R: Reducer<T>>(r: &R, points: &[T]) -> bool
     r.inv(product).is_some()
 }
 
-/// The form of the value of a polynomial at a point, given its coefficients, the constant first, by Horner's rule.
-/// Condition: coefficients and point are checked forms.
+/// The polynomial's value at a point: its form, given the coefficients, the constant first, by Horner's rule.
+///
+/// # Conditions
+///
+/// - (debug) coefficients and point are checked forms
 ///
 /// # Examples
 ///
@@ -104,14 +126,17 @@ pub fn points_fit<T: RingWord, R: Reducer<T>>(r: &R, points: &[T]) -> bool
 /// let ring = Vanilla::<u8>::new(&97);
 /// assert_eq!(evaluate(&ring, &[5, 7], &2), 19); // 5 + 7 * 2
 /// ```
+// rust: #[cfg_attr(debug_assertions, track_caller)]
 pub fn evaluate<T: RingWord, R: Reducer<T>>(r: &R, coefficients: &[T], point: &T) -> T
     requires coefficients { All (λ f. IsForm R.form R.value (R.modulus r.now) (T.number f)) coefficients.now }
     requires point { IsForm R.form R.value (R.modulus r.now) (T.number point.now) }
     ensures checked { IsForm R.form R.value (R.modulus r.now) (T.number result) }
     ensures value { let m = R.modulus r.now in R.value m (T.number result)
-        ≡ polynomial (length coefficients.now) (entry T.number R.value m coefficients.now)
+        ≡ polynomial_at (length coefficients.now) (entry T.number R.value m coefficients.now)
         (R.value m (T.number point.now)) % m }
 {
+    // rust: debug_assert!(coefficients.iter().chain([point]).all(|x| r.check(x)),
+    // rust:     "coefficients and point must be checked forms");
     let mut value = r.transform(T::zero());
     'coefficients: for k in 0..coefficients.len() {
         let i = coefficients.len() - 1 - k;
@@ -121,12 +146,16 @@ pub fn evaluate<T: RingWord, R: Reducer<T>>(r: &R, coefficients: &[T], point: &T
     value
 }
 
-/// Writes the word of a message: symbol i is the value at point i. Conditions: points and message are checked forms;
-/// the word has as many places as there are points.
+/// Writes the word of a message: symbol i is the value at point i.
 ///
-/// It takes n·k products.
+/// It takes n·k products. Where k is above n, no list of symbols restores the message.
 ///
 /// Source: Reed and Solomon, "Polynomial codes over certain finite fields".
+///
+/// # Conditions
+///
+/// - the word has as many places as there are points
+/// - (debug) points and message are checked forms
 ///
 /// # Examples
 ///
@@ -139,6 +168,7 @@ pub fn evaluate<T: RingWord, R: Reducer<T>>(r: &R, coefficients: &[T], point: &T
 /// encode(&ring, &[1, 2, 3, 4], &[5, 7], &mut word);
 /// assert_eq!(word, [12, 19, 26, 33]); // 5 + 7X at 1, 2, 3 and 4
 /// ```
+// rust: #[track_caller]
 pub fn encode<T: RingWord, R: Reducer<T>>(r: &R, points: &[T], message: &[T], word: &mut [T])
     requires points { All (λ f. IsForm R.form R.value (R.modulus r.now) (T.number f)) points.now }
     requires message { All (λ f. IsForm R.form R.value (R.modulus r.now) (T.number f)) message.now }
@@ -148,22 +178,30 @@ pub fn encode<T: RingWord, R: Reducer<T>>(r: &R, points: &[T], message: &[T], wo
         IsEncoding m (length message.now) (length points.now) (entry T.number R.value m points.now)
         (entry T.number R.value m message.now) (entry T.number R.value m word.new) }
 {
+    // rust: debug_assert!(points.iter().chain(message.iter()).all(|x| r.check(x)),
+    // rust:     "points and message must be checked forms");
+    // rust: assert!(word.len() == points.len(), "the word must have as many places as there are points: {} and {}",
+    // rust:     word.len(), points.len());
     'points: for i in 0..points.len() {
         word[i] = evaluate(r, message, &points[i]);
     }
 }
 
-/// Writes the coefficients, the constant first, of the only polynomial modulo m with k coefficients that has the
-/// first k values at the first k points, k being the length of `coefficients`. Returns false exactly where these points
-/// don't fit.
-///
-/// Conditions: points and values are checked forms; there are at least k points; there are at least k values; there are k
-/// weights.
+/// Writes the coefficients of the polynomial through k points: the constant first, of the only one modulo m with k
+/// coefficients that has the first k values at the first k points, k being the length of `coefficients`. Returns false
+/// exactly where these points don't fit.
 ///
 /// `weights` is scratch: its contents are ignored, and unspecified afterwards. The contents of `coefficients` are ignored,
 /// and unspecified after false.
 ///
 /// Source: Knuth, The Art of Computer Programming, volume 2, section 4.6.4 (Newton's divided differences).
+///
+/// # Conditions
+///
+/// - there are at least k points
+/// - there are at least k values
+/// - there are k weights
+/// - (debug) points and values are checked forms
 ///
 /// # Examples
 ///
@@ -176,6 +214,8 @@ pub fn encode<T: RingWord, R: Reducer<T>>(r: &R, points: &[T], message: &[T], wo
 /// assert!(interpolate(&ring, &[3, 4], &[26, 33], &mut weights, &mut coefficients));
 /// assert_eq!(coefficients, [5, 7]); // 5 + 7 * 3 = 26, and 5 + 7 * 4 = 33
 /// ```
+// rust: #[must_use]
+// rust: #[track_caller]
 pub fn interpolate<T: RingWord, R: Reducer<T>>(
     r: &R,
     points: &[T],
@@ -199,6 +239,14 @@ pub fn interpolate<T: RingWord, R: Reducer<T>>(
         other (entry T.number R.value m values.now) →
         (i : ℕ) → i < length coefficients.old → entry T.number R.value m coefficients.new i ≡ other i % m }
 {
+    // rust: debug_assert!(points.iter().chain(values.iter()).all(|x| r.check(x)),
+    // rust:     "points and values must be checked forms");
+    // rust: assert!(points.len() >= coefficients.len(), "there must be at least k points: {} and {}", points.len(),
+    // rust:     coefficients.len());
+    // rust: assert!(values.len() >= coefficients.len(), "there must be at least k values: {} and {}", values.len(),
+    // rust:     coefficients.len());
+    // rust: assert!(weights.len() == coefficients.len(), "there must be k weights: {} and {}", weights.len(),
+    // rust:     coefficients.len());
     fill_weights(r, points, weights);
     if !invert_each(r, weights, coefficients) {
         return false;
@@ -209,14 +257,19 @@ pub fn interpolate<T: RingWord, R: Reducer<T>>(
     true
 }
 
-/// Whether a word is that of some message of k symbols, k being the length of `message`. Where it is, the message
-/// is written to `message`.
+/// Whether the word is that of a message: of k symbols, k being the length of `message`. Where it is, the message is
+/// written to `message`.
 ///
-/// Conditions: points and word are checked forms; the points fit (`points_fit` tells); the word has as many symbols as
-/// there are points; k is at most the number of points; there are k weights.
+/// `weights` is scratch: its contents are ignored, and unspecified afterwards. The contents of `message` are
+/// ignored, and unspecified after false.
 ///
-/// `weights` is scratch: its contents are ignored, and unspecified afterwards. The contents of `message` are ignored, and
-/// unspecified after false.
+/// # Conditions
+///
+/// - the word has as many symbols as there are points
+/// - k is at most the number of points
+/// - there are k weights
+/// - (debug) points and word are checked forms
+/// - (debug) the points fit (`points_fit` tells)
 ///
 /// # Examples
 ///
@@ -230,6 +283,8 @@ pub fn interpolate<T: RingWord, R: Reducer<T>>(
 /// assert_eq!(message, [5, 7]);
 /// assert!(!is_codeword(&ring, &[1, 2, 3, 4], &[12, 19, 26, 34], &mut weights, &mut message));
 /// ```
+// rust: #[must_use]
+// rust: #[track_caller]
 pub fn is_codeword<T: RingWord, R: Reducer<T>>(
     r: &R,
     points: &[T],
@@ -252,6 +307,14 @@ pub fn is_codeword<T: RingWord, R: Reducer<T>>(
         (entry T.number R.value m message.new) (entry T.number R.value m word.now) }
     ensures checked { IsTrue result → All (λ f. IsForm R.form R.value (R.modulus r.now) (T.number f)) message.new }
 {
+    // rust: debug_assert!(points.iter().chain(word.iter()).all(|x| r.check(x)),
+    // rust:     "points and word must be checked forms");
+    // rust: debug_assert!(points_fit(r, points), "the points must fit");
+    // rust: assert!(word.len() == points.len(), "the word must have as many symbols as there are points: {} and {}",
+    // rust:     word.len(), points.len());
+    // rust: assert!(message.len() <= points.len(), "k must be at most the number of points: {} and {}", message.len(),
+    // rust:     points.len());
+    // rust: assert!(weights.len() == message.len(), "there must be k weights: {} and {}", weights.len(), message.len());
     if !interpolate(r, points, word, weights, message) {
         return false;
     }
@@ -264,14 +327,19 @@ pub fn is_codeword<T: RingWord, R: Reducer<T>>(
     true
 }
 
-/// Writes the systematic word of a message, whose first k symbols are the message's, and the coefficients of its
-/// polynomial. Returns false, with the word unchanged, exactly where the first k points don't fit.
+/// Writes the word that begins with the message: the systematic one, and the coefficients of its polynomial. Returns
+/// false, with the word unchanged, exactly where the first k points don't fit.
 ///
-/// Conditions: points and message are checked forms; the word has as many places as there are points; k, the length of
-/// the message, is at most the number of points; there are k weights; there are k coefficients.
+/// `weights` is scratch: its contents are ignored, and unspecified afterwards. The contents of `coefficients` are
+/// ignored, and unspecified after false.
 ///
-/// `weights` is scratch: its contents are ignored, and unspecified afterwards. The contents of `coefficients` are ignored,
-/// and unspecified after false.
+/// # Conditions
+///
+/// - the word has as many places as there are points
+/// - k, the length of the message, is at most the number of points
+/// - there are k weights
+/// - there are k coefficients
+/// - (debug) points and message are checked forms
 ///
 /// # Examples
 ///
@@ -284,6 +352,8 @@ pub fn is_codeword<T: RingWord, R: Reducer<T>>(
 /// assert!(encode_systematic(&ring, &[1, 2, 3, 4], &[12, 19], &mut weights, &mut coefficients, &mut word));
 /// assert_eq!(word, [12, 19, 26, 33]); // 5 + 7X
 /// ```
+// rust: #[must_use]
+// rust: #[track_caller]
 pub fn encode_systematic<T: RingWord, R: Reducer<T>>(
     r: &R,
     points: &[T],
@@ -309,6 +379,16 @@ pub fn encode_systematic<T: RingWord, R: Reducer<T>>(
     ensures forms { IsTrue result → All (λ f. IsForm R.form R.value (R.modulus r.now) (T.number f)) coefficients.new }
     ensures unchanged { (IsTrue result → ⊥) → word.new ≡ word.old }
 {
+    // rust: debug_assert!(points.iter().chain(message.iter()).all(|x| r.check(x)),
+    // rust:     "points and message must be checked forms");
+    // rust: assert!(word.len() == points.len(), "the word must have as many places as there are points: {} and {}",
+    // rust:     word.len(), points.len());
+    // rust: assert!(message.len() <= points.len(),
+    // rust:     "k, the length of the message, must be at most the number of points: {} and {}", message.len(),
+    // rust:     points.len());
+    // rust: assert!(weights.len() == message.len(), "there must be k weights: {} and {}", weights.len(), message.len());
+    // rust: assert!(coefficients.len() == message.len(), "there must be k coefficients: {} and {}", coefficients.len(),
+    // rust:     message.len());
     if !interpolate(r, points, message, weights, coefficients) {
         return false;
     }
@@ -340,15 +420,25 @@ fn choose<T: RingWord>(points: &[T], places: &[usize], chosen: &mut [T]) -> Resu
     Ok(())
 }
 
-/// Restores a message of k symbols, k being the length of `message`, from the first k places and the symbols there,
-/// whichever places these are. `restore_word` also restores every lost symbol.
+/// Restores the message from any k places: its k symbols, k being the length of `message`, from the first k places and
+/// the symbols there. `restore_word` also restores every lost symbol.
 ///
-/// An error names a cause that is present: too few symbols, a place without a point, a place that occurs twice,
-/// points that don't fit. Conditions: points and symbols are checked forms; there are as many symbols as places; there
-/// are k weights; `chosen` has k places.
+/// It restores what `encode` was given. Of a word that `encode_systematic` wrote, these are the coefficients; its message
+/// is the first k symbols of the word that `restore_word` restores.
 ///
-/// `chosen` and `weights` are scratch: their contents are ignored, and unspecified afterwards. The contents of `message`
-/// are ignored, and unspecified after an error.
+/// `chosen` and `weights` are scratch: their contents are ignored, and unspecified afterwards. The contents of
+/// `message` are ignored, and unspecified after an error.
+///
+/// # Errors
+///
+/// The first cause: too few symbols; then the first place that has no point or occurs before; then points that don't fit.
+///
+/// # Conditions
+///
+/// - there are as many symbols as places
+/// - there are k weights
+/// - `chosen` has k places
+/// - (debug) points and symbols are checked forms
 ///
 /// # Examples
 ///
@@ -362,6 +452,7 @@ fn choose<T: RingWord>(points: &[T], places: &[usize], chosen: &mut [T]) -> Resu
 /// restore(&ring, &[1, 2, 3, 4], &[3, 1], &[33, 19], &mut chosen, &mut weights, &mut message).unwrap();
 /// assert_eq!(message, [5, 7]);
 /// ```
+// rust: #[track_caller]
 pub fn restore<T: RingWord, R: Reducer<T>>(
     r: &R,
     points: &[T],
@@ -392,6 +483,13 @@ pub fn restore<T: RingWord, R: Reducer<T>>(
         entry T.number R.value m symbols.now i ≡ word (slice_index places.now i)) →
         (i : ℕ) → i < length message.old → entry T.number R.value m message.new i ≡ original i % m }
 {
+    // rust: debug_assert!(points.iter().chain(symbols.iter()).all(|x| r.check(x)),
+    // rust:     "points and symbols must be checked forms");
+    // rust: assert!(symbols.len() == places.len(), "there must be as many symbols as places: {} and {}", symbols.len(),
+    // rust:     places.len());
+    // rust: assert!(weights.len() == message.len(), "there must be k weights: {} and {}", weights.len(), message.len());
+    // rust: assert!(chosen.len() == message.len(), "`chosen` must have k places: {} and {}", chosen.len(),
+    // rust:     message.len());
     match choose(points, places, chosen) {
         Err(error) => Err(error),
         Ok(()) => {

@@ -12,7 +12,11 @@ pub fn sum_modulo_5() -> u8
     3u8.addm(4, &5)
 }
 
-/// The inverse of a modulo m; `None` exactly where there is none. Condition: m is at least 1.
+/// The inverse of a modulo m; `None` exactly where there is none.
+///
+/// # Preconditions
+///
+/// - m is at least 1
 pub fn inverse_modulo(a: u8, m: u8) -> Option<u8>
     requires { 1 ≤ m }
     ensures { IsInversion (λ x. x) m a result }

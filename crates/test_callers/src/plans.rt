@@ -15,6 +15,7 @@ use modular_word::path_word::PathWord;
 pub fn all_in_room<T: PlainWord>(m: &PlannedModulus<T>, xs: &[T]) -> bool
     ensures { IsTrue result → All (λ x. T.number x < 4 * T.number m.now.modulus) xs.now }
 {
+    // rust instead: 'entries: for i in 0..xs.len() {
     'entries: for i in 0..xs.len() {
         if !m.has_room(xs[i]) {
             return false;

@@ -5,8 +5,12 @@ ghost use Rattle.modular_ring.specs.Systems.{AreResidues, IsSystem};
 
 use modular_ring::residues::{are_reduced, decode, is_system};
 
-/// The number with these residues; `None` exactly where the moduli are no system, or a residue isn't below its modulus.
-/// Condition: the lists have the same length.
+/// The number with these residues; `None` exactly where the moduli are no system, or a residue isn't below its
+/// modulus.
+///
+/// # Preconditions
+///
+/// - the lists have the same length
 pub fn number_of(moduli: &[u64], residues: &[u64]) -> Option<u128>
     requires { length residues.now ≡ length moduli.now }
     ensures { MatchOption result (IsSystem moduli.now

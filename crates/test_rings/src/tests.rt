@@ -15,6 +15,7 @@ mod fixed;
 mod hostile;
 mod integers;
 mod lists;
+// rattle: line
 mod modrun;
 mod owned_plans;
 mod plan_callers;

@@ -1,4 +1,4 @@
-"""Arithmetic modulo m, transforms, products of long numbers and of polynomials, hashes, residue systems and erasure codes, by
+"""Arithmetic modulo m, integers modulo m with operators, transforms, products of long numbers and of polynomials, hashes, residue systems and erasure codes, by
 a library that is proved.
 
 Moduli and words of arrays are below 2^64, and exponents between -2^64 and 2^64. Integers of which only the residue counts,
@@ -6,16 +6,17 @@ such as operands, roots and the entries of lists, may have any sign and size; sy
 `decode` and `extend` must be from 0 to their modulus less 1. A number that is out of range raises ValueError, a part that a
 text doesn't have IndexError, and what isn't an integer TypeError.
 
-The methods of `Montgomery` and `Plan` take two kinds of lists. For a sequence of integers they return a new list. A
+A call takes longer than `x * y % m` in Python, so pass lists where you can: `Montgomery.add_lists` and its like compute entry
+by entry. The methods of `Montgomery` and `Plan` take two kinds of lists. For a sequence of integers they return a new list. A
 one-dimensional, contiguous, aligned and writable array of unsigned 64-bit words (numpy's uint64, array.array("Q")) they change
 in place and return. All other calls only read their lists.
 
-Nothing is claimed about constant time, so timing may reveal secrets.
+Python's integers themselves take time that depends on their values, so timing may reveal secrets.
 """
 from num_modular._calls import NoInverseError, NoRootError, PointsError, TooFewSymbolsError, TooManyErrorsError
 from num_modular._codes import Correction, ErasureCode
 from num_modular._hashes import PrefixHashes, find, find_all, polynomial_hash
-from num_modular._numbers import decode, encode, extend, product
+from num_modular._numbers import crt, decode, encode, extend, product
 from num_modular._polynomials import (
     multiply,
     multiply_cyclic,
@@ -25,6 +26,7 @@ from num_modular._polynomials import (
     transform_inverse,
     transform_root_fits,
 )
+from num_modular._residues import Mod
 from num_modular._rings import Divider, Montgomery, Plan
 from num_modular._words import addm, invm, jacobi, kronecker, legendre, mulm, powm, subm
 
@@ -34,6 +36,7 @@ __all__ = [
     "Correction",
     "Divider",
     "ErasureCode",
+    "Mod",
     "Montgomery",
     "NoInverseError",
     "NoRootError",
@@ -43,6 +46,7 @@ __all__ = [
     "TooFewSymbolsError",
     "TooManyErrorsError",
     "addm",
+    "crt",
     "decode",
     "encode",
     "extend",

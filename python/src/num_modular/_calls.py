@@ -5,10 +5,11 @@ since cffi's messages name no argument.
 """
 from __future__ import annotations
 
+import re
 import sys
-from collections.abc import Iterable
+from collections.abc import Iterable, Set
 from operator import index
-from typing import Any, NoReturn
+from typing import Any, NoReturn, TypeVar
 
 from num_modular._library import ffi, lib
 
@@ -19,6 +20,7 @@ if lib.nm_version() // 100 != 100 * lib.NM_VERSION_MAJOR + lib.NM_VERSION_MINOR:
 # The formats of words of 64 bits that the struct module and memoryview write, in the order of this machine's bytes.
 _LITTLE = sys.byteorder == "little"
 _TOP = 1 << 64
+_Listed = TypeVar("_Listed")
 _FORMATS = {"Q", "@Q", "=Q", "<Q" if _LITTLE else ">Q", "N", "@N"} | ({"L", "@L"} if ffi.sizeof("long") == 8 else set())
 
 
@@ -45,8 +47,8 @@ class ByArguments:
         return f"{type(self).__name__}({', '.join(map(repr, self._arguments()))})"
 
 
-class NoInverseError(ValueError):
-    """A number that a call must invert has no inverse modulo m: `number`.
+class NoInverseError(ValueError, ZeroDivisionError):
+    """A number that a call must invert, or divide by, has no inverse modulo m: `number`.
 
     Only `Montgomery.run` sets `at`, the number of the command that failed, counted from 0, and `registers`, those after the
     commands before it.
@@ -118,11 +120,11 @@ def modulus(m: int, name: str = "the modulus") -> int:
     return m if 0 < m < _TOP else word(m, name, 1)  # each call pays for this test: one function less
 
 
-def exponent_of(n: int) -> int:
+def exponent_of(n: int, name: str = "the exponent") -> int:
     """An exponent. ValueError: its absolute value isn't below 2^64."""
     n = index(n)
     if abs(n) >= _TOP:
-        raise ValueError("the exponent must be between -2^64 and 2^64")
+        raise ValueError(f"{name} must be between -2^64 and 2^64")
     return n
 
 
@@ -132,32 +134,51 @@ def reduced(n: int, m: int) -> int:
     return n if 0 <= n < _TOP else n % m
 
 
+def ordered(items: _Listed) -> _Listed:
+    """What is to be read as a list. TypeError: it is a set."""
+    if isinstance(items, Set):
+        raise TypeError("a set has no order: pass a list")
+    return items
+
+
 def new_words(numbers: Iterable[int], m: int, limit: int = _TOP) -> Any:
     """New words that are congruent modulo m to these integers, and below the limit, which is at least m."""
-    listed = list(map(index, numbers))
+    listed = list(map(index, ordered(numbers)))
     if listed and not 0 <= min(listed) <= max(listed) < limit:
         listed = [it % m for it in listed]
     return ffi.new("uint64_t[]", listed)
 
 
+def check_buffer(view: memoryview, name: str) -> None:
+    """Raises ValueError where a buffer isn't contiguous or holds objects."""
+    if not view.c_contiguous:
+        raise ValueError(f"{name} must be contiguous")
+    if "O" in view.format and "O" in re.sub(":.*?:", "", view.format):  # without the names of fields
+        raise ValueError(f"{name} must not hold objects")
+
+
 def words_of(array: Any, m: int, limit: int = _TOP) -> tuple[Any, bool]:
-    """The words of an array, in the caller's memory, and False; or `new_words` of a sequence of integers, and True."""
+    """The words of an array, in the caller's memory, and False; or `new_words` of a sequence of integers, and True.
+
+    The caller releases them by `with`, since an exception that is kept would otherwise keep the array exported.
+    """
     try:
         view = memoryview(array)
     except TypeError:
         return new_words(array, m, limit), True
-    if view.format not in _FORMATS or view.ndim != 1:
-        found = f"{view.ndim} of format {view.format!r}"
-        raise TypeError(f"the array must have one dimension of unsigned words of 64 bits, not {found}: convert it to an "
-                        "array of numpy.uint64 or array('Q'), or pass a list")
-    if view.readonly:
-        raise ValueError("the array must be writable")
-    if not view.c_contiguous:
-        raise ValueError("the array must be contiguous")
-    if view.nbytes == 0:  # an empty array need not be aligned
-        return ffi.new("uint64_t[]", 0), False
+    with view:
+        check_buffer(view, "the array")
+        if view.format not in _FORMATS or view.ndim != 1:
+            found = f"{view.ndim} of format {view.format!r}"
+            raise TypeError(f"the array must have one dimension of unsigned words of 64 bits, not {found}: convert it to an "
+                            "array of numpy.uint64 or array('Q'), or pass a list")
+        if view.readonly:
+            raise ValueError("the array must be writable")
+        if view.nbytes == 0:  # an empty array need not be aligned
+            return ffi.new("uint64_t[]", 0), False
     words = ffi.from_buffer("uint64_t[]", array, require_writable=True)
     if int(ffi.cast("uintptr_t", words)) % ffi.alignof("uint64_t"):
+        ffi.release(words)
         raise ValueError("the array must be aligned to words of 64 bits")
     return words, False
 
@@ -177,9 +198,18 @@ def apart(first: Any, second: Any) -> None:
 
 def pair_of(first: Any, second: Any, m: int, limit: int = _TOP) -> tuple[Any, Any, bool]:
     """The words of two lists, and whether the first are new. ValueError: the lengths differ, or the arrays overlap."""
-    (xs, is_new), (ys, _) = words_of(first, m, limit), words_of(second, m, limit)
-    apart(xs, ys)
-    same_length(xs, ys)
+    xs, is_new = words_of(first, m, limit)
+    try:
+        ys, _ = words_of(second, m, limit)
+        try:
+            apart(xs, ys)
+            same_length(xs, ys)
+        except ValueError:
+            ffi.release(ys)
+            raise
+    except (TypeError, ValueError):
+        ffi.release(xs)
+        raise
     return xs, ys, is_new
 
 

@@ -8,7 +8,7 @@ from math import gcd
 from operator import index
 from typing import Any, NamedTuple, Optional, Union
 
-from num_modular._calls import ByArguments, PointsError, check, fail, modulus, no_inverse
+from num_modular._calls import ByArguments, PointsError, check, fail, modulus, no_inverse, ordered
 from num_modular._library import ffi, lib
 
 # The symbols of a word: a list with one for each point, None where it is lost; or a dict from numbers of points to symbols.
@@ -32,7 +32,8 @@ def _some(k: int) -> int:
 
 
 class ErasureCode(ByArguments):
-    """Reed-Solomon codes and Shamir's secret sharing modulo m, from 1 to 2^64 - 1.
+    """Reed-Solomon codes and Shamir's secret sharing modulo m, from 1 to 2^64 - 1. Fields that aren't the numbers modulo a
+    prime, such as GF(2^8), aren't here.
 
     The points are numbers modulo m. A message is a list of numbers modulo m, the coefficients of a polynomial, the constant
     first. Symbol i of its word is the value of the polynomial at point i. Any k symbols determine a message of k symbols,
@@ -55,7 +56,7 @@ class ErasureCode(ByArguments):
     def __init__(self, m: int, points: Iterable[int]) -> None:
         self._context = ffi.new("nm_montgomery_t *")
         check(lib.nm_montgomery(modulus(m), self._context))
-        self._points = ffi.new("uint64_t[]", [index(it) % self.modulus for it in points])
+        self._points = ffi.new("uint64_t[]", [index(it) % self.modulus for it in ordered(points)])
         self._expect_fitting()
 
     def _arguments(self) -> tuple[Any, ...]:
@@ -123,7 +124,8 @@ class ErasureCode(ByArguments):
         with that word, and the number of symbols from which it differs. There is at most one such message.
 
         ValueError: k is below 1. TooFewSymbolsError: s is below k. TooManyErrorsError: there is no such message.
-        NoInverseError: the method met a number without an inverse, which never happens for a prime m.
+        NoInverseError: the method met a number without an inverse, which never happens for a prime m, or where no symbol is
+        wrong.
 
         >>> ErasureCode(929, range(7)).correct([1, 0, 17, 34, 57, 900, 121], 3)
         Correction(message=[1, 2, 3], word=[1, 6, 17, 34, 57, 86, 121], errors=2)
@@ -182,7 +184,7 @@ class ErasureCode(ByArguments):
         """New words with these symbols, which are at these places of a word, or at 0, 1 and so on. The calls would reduce
         greater ones, so that others come back. A symbol may be a share, so the exception doesn't show it.
         """
-        listed = list(map(index, numbers))
+        listed = list(map(index, ordered(numbers)))
         if listed and not 0 <= min(listed) <= max(listed) < self.modulus:
             at = next(at for at, symbol in enumerate(listed) if not 0 <= symbol < self.modulus)
             raise ValueError(f"symbol {places[at] if places else at} must be from 0 to {self.modulus - 1}")
@@ -209,7 +211,7 @@ class ErasureCode(ByArguments):
     def _received(self, word: Symbols, k: int) -> tuple[Any, Any]:
         """The symbols that aren't lost, at least k, after the numbers of their points."""
         n, is_dict = len(self._points), isinstance(word, Mapping)
-        pairs = list(word.items() if is_dict else enumerate(word))
+        pairs = list(word.items() if is_dict else enumerate(ordered(word)))
         if not is_dict and len(pairs) != n:
             raise ValueError(f"the word has {len(pairs)} symbols, not {n}")
         there = [(index(place), symbol) for place, symbol in pairs if symbol is not None]

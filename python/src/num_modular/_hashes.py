@@ -6,7 +6,7 @@ from collections.abc import Iterable
 from operator import index
 from typing import Any
 
-from num_modular._calls import ByArguments, check
+from num_modular._calls import ByArguments, check, check_buffer, ordered
 from num_modular._library import ffi, lib
 
 _MODULUS = (1 << 61) - 1
@@ -18,11 +18,21 @@ def _residue(base: int | None) -> int:
 
 
 def _bytes(data: Any, name: str = "the text") -> Any:
-    """The bytes of an object that has a contiguous buffer, whatever the size of its elements."""
+    """The bytes of an object that has a contiguous buffer, whatever the size of its elements. The caller releases them by
+    `with`, as for `words_of`."""
     try:
-        return ffi.from_buffer("uint8_t[]", data)
+        view = memoryview(data)
     except TypeError:
         raise TypeError(f"{name} must be bytes-like: encode str first") from None
+    with view:
+        check_buffer(view, name)
+    return ffi.from_buffer("uint8_t[]", data)
+
+
+def _copied(data: Any, name: str) -> bytes:
+    """The bytes of such an object, copied."""
+    with _bytes(data, name) as read:
+        return ffi.buffer(read)[:]
 
 
 def polynomial_hash(data: bytes, base: int) -> int:
@@ -32,40 +42,44 @@ def polynomial_hash(data: bytes, base: int) -> int:
     >>> polynomial_hash(b"abc", 1000)
     97098099
     """
-    read, out = _bytes(data), ffi.new("uint64_t *")
-    check(lib.nm_hash(_residue(index(base)), read, len(read), out))
+    base, out = _residue(index(base)), ffi.new("uint64_t *")
+    with _bytes(data) as read:
+        check(lib.nm_hash(base, read, len(read), out))
     return out[0]
 
 
-def find(text: bytes, pattern: bytes, base: int | None = None) -> int:
+def find(text: bytes, pattern: bytes, *, base: int | None = None) -> int:
     """The first position of the pattern in the text, or -1, as `bytes.find` returns it; by hashes at the base, which is drawn
     at random where none is given. The result is right for every base, but a search at a base that is known before may be slow.
 
     >>> find(b"a longer text", b"longer"), find(b"abc", b"d")
     (2, -1)
     """
-    first, second, out = _bytes(text), _bytes(pattern, "the pattern"), ffi.new("size_t *")
-    code = lib.nm_find(_residue(base), first, len(first), second, len(second), out)
+    at, out = _residue(base), ffi.new("size_t *")
+    with _bytes(text) as first, _bytes(pattern, "the pattern") as second:
+        code = lib.nm_find(at, first, len(first), second, len(second), out)
     if code == lib.NM_NOT_FOUND:
         return -1
     check(code)
     return out[0]
 
 
-def find_all(text: bytes, patterns: Iterable[bytes], base: int | None = None) -> dict[int, int]:
+def find_all(text: bytes, patterns: Iterable[bytes], *, base: int | None = None) -> dict[int, int]:
     """The positions of the text where one of the patterns occurs, in ascending order, each with the number of the first
     pattern that occurs there, counted from 0. The base is as for `find`. ValueError: the patterns don't have the same length.
 
     >>> find_all(b"abracadabra", [b"abra", b"cada"])
     {0: 0, 4: 1, 7: 0}
     """
-    read, listed = _bytes(text), [ffi.buffer(_bytes(it, "each pattern"))[:] for it in patterns]
-    count, size = len(listed), len(listed[0]) if listed else 0
-    if any(len(it) != size for it in listed):
-        raise ValueError("the patterns must have the same length")
-    joined, places = _bytes(b"".join(listed)), max(len(read) - size + 1, 0)
-    hashes, found = ffi.new("uint64_t[]", count), ffi.new("size_t[]", places)
-    check(lib.nm_find_all(_residue(base), read, len(read), joined, len(joined), size, hashes, count, found, places))
+    at = _residue(base)
+    with _bytes(text) as read:
+        listed = [_copied(it, "each pattern") for it in ordered(patterns)]
+        count, size = len(listed), len(listed[0]) if listed else 0
+        if any(len(it) != size for it in listed):
+            raise ValueError("the patterns must have the same length")
+        joined, places = b"".join(listed), max(len(read) - size + 1, 0)
+        hashes, found = ffi.new("uint64_t[]", count), ffi.new("size_t[]", places)
+        check(lib.nm_find_all(at, read, len(read), joined, len(joined), size, hashes, count, found, places))
     return {at: number for at, number in enumerate(found) if number < count}
 
 
@@ -81,11 +95,10 @@ class PrefixHashes(ByArguments):
     __slots__ = ("_base", "_hashes", "_powers", "_text")
 
     def __init__(self, text: bytes, base: int | None = None) -> None:
-        self._text, self._base = ffi.buffer(_bytes(text))[:], _residue(base)
-        read = _bytes(self._text)
-        n = len(read) + 1
+        self._text, self._base = _copied(text, "the text"), _residue(base)
+        n = len(self._text) + 1
         self._hashes, self._powers = ffi.new("uint64_t[]", n), ffi.new("uint64_t[]", n)
-        check(lib.nm_prefix_hashes(self._base, read, len(read), self._hashes, n, self._powers, n))
+        check(lib.nm_prefix_hashes(self._base, self._text, n - 1, self._hashes, n, self._powers, n))
 
     def _arguments(self) -> tuple[Any, ...]:
         return self._text, self._base

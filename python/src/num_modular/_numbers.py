@@ -7,7 +7,7 @@ from math import gcd
 from operator import index
 from typing import Any
 
-from num_modular._calls import check, modulus, scratch_for
+from num_modular._calls import check, modulus, ordered, scratch_for
 from num_modular._library import ffi, lib
 
 _WORD = 8  # bytes
@@ -40,14 +40,14 @@ def encode(moduli: Iterable[int], x: int) -> list[int]:
     >>> encode([3, 5, 7], 23)
     [2, 3, 2]
     """
-    x, listed = index(x), [index(m) for m in moduli]
+    x, listed = index(x), [index(m) for m in ordered(moduli)]
     if any(m < 1 for m in listed):
         raise ValueError("each modulus must be at least 1")
     return [x % m for m in listed]
 
 
 def decode(moduli: Iterable[int], residues: Iterable[int]) -> int:
-    """The number below the product of the moduli, any number of them, that has these residues.
+    """The number below the product of the moduli, any number of them, that has these residues: see also `crt`.
 
     ValueError: the lengths differ, a modulus isn't from 1 to 2^64 - 1, two have a common divisor above 1, or a residue isn't
     from 0 to its modulus less 1.
@@ -63,6 +63,18 @@ def decode(moduli: Iterable[int], residues: Iterable[int]) -> int:
     return sum(word << 64 * place for place, word in enumerate(words))
 
 
+def crt(residues: Iterable[int], moduli: Iterable[int]) -> int:
+    """The least number from 0 up that is congruent to each of the residues, any integers, modulo its modulus (the Chinese
+    remainder theorem): `decode` for residues of any size. ValueError: as for `decode`.
+
+    >>> crt([2, 3, 2], [3, 5, 7]), crt([-1, -1], [3, 5])
+    (23, 14)
+    """
+    listed, found = [modulus(m) for m in ordered(moduli)], [index(it) for it in ordered(residues)]
+    _expect_pairs(listed, found)
+    return decode(listed, [it % m for it, m in zip(found, listed)])
+
+
 def extend(moduli: Iterable[int], residues: Iterable[int], others: Iterable[int]) -> list[int]:
     """The residues modulo the others, which may have common divisors, of the number that `decode` returns. ValueError: as for
     `decode`, or one of the others isn't from 1 to 2^64 - 1.
@@ -71,7 +83,7 @@ def extend(moduli: Iterable[int], residues: Iterable[int], others: Iterable[int]
     [3, 3]
     """
     first, second, n = _system(moduli, residues)
-    third = ffi.new("uint64_t[]", [modulus(it, "each of the others") for it in others])
+    third = ffi.new("uint64_t[]", [modulus(it, "each of the others") for it in ordered(others)])
     k = len(third)
     digits, inverses, out = (ffi.new("uint64_t[]", it) for it in (n, n, k))
     code = lib.nm_residues_extend(first, n, second, n, third, k, out, k, digits, n, inverses, n)
@@ -82,13 +94,18 @@ def extend(moduli: Iterable[int], residues: Iterable[int], others: Iterable[int]
 
 def _system(moduli: Iterable[int], residues: Iterable[int]) -> tuple[Any, Any, int]:
     """New words with the moduli and with the residues, and their number. ValueError: they aren't as `decode` needs them."""
-    listed, found = [modulus(m) for m in moduli], [index(it) for it in residues]
-    if len(listed) != len(found):
-        raise ValueError(f"the number of moduli is {len(listed)}, and that of residues {len(found)}")
+    listed, found = [modulus(m) for m in ordered(moduli)], [index(it) for it in ordered(residues)]
+    _expect_pairs(listed, found)
     for m, residue in zip(listed, found):
         if not 0 <= residue < m:
             raise ValueError(f"the residue {residue} modulo {m} must be from 0 to {m - 1}")
     return ffi.new("uint64_t[]", listed), ffi.new("uint64_t[]", found), len(listed)
+
+
+def _expect_pairs(moduli: Sequence[int], residues: Sequence[int]) -> None:
+    """Raises ValueError where there aren't as many residues as moduli."""
+    if len(moduli) != len(residues):
+        raise ValueError(f"the number of moduli is {len(moduli)}, and that of residues {len(residues)}")
 
 
 def _fault(moduli: Sequence[int]) -> str:

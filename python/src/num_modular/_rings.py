@@ -14,6 +14,7 @@ from num_modular._calls import (
     no_inverse,
     pair_of,
     reduced,
+    same_length,
     word,
     words_of,
 )
@@ -43,7 +44,8 @@ _OPERATIONS = {
 
 class Divider(ByArguments):
     """A divisor d from 1 to 2^64 - 1 and its reciprocal, by which numbers are divided without a division. It may be the
-    right operand of divmod, // and %. ValueError: d is out of range.
+    right operand of divmod, // and %. In Python a call takes longer than `n % d`: the class serves to get what the library
+    for C computes. ValueError: d is out of range.
 
     >>> Divider(60).divmod(1000), divmod(1000, Divider(60)), 1000 // Divider(60), 1000 % Divider(60)
     ((16, 40), (16, 40), 16, 40)
@@ -65,16 +67,17 @@ class Divider(ByArguments):
         return self._divider.divisor
 
     def divmod(self, n: int) -> tuple[int, int]:
-        """The quotient and the remainder of n, from 0 to 2^64 * d - 1. ValueError: n is out of range.
+        """The quotient, rounded down, and the remainder of n, from -2^64 * d to 2^64 * d - 1. ValueError: n is out of range.
 
         >>> Divider(7).divmod(2**66)
         (10540996613548315209, 1)
         """
         n, out = index(n), ffi.new("nm_division_t *")
-        if not 0 <= n >> 64 < self.divisor:
-            raise ValueError(f"the dividend must be from 0 to 2^64 * {self.divisor} - 1")
-        check(lib.nm_div_rem_2by1(self._divider, n & (1 << 64) - 1, n >> 64, out))
-        return out.quotient, out.remainder
+        size = n if n >= 0 else -1 - n
+        if size >> 64 >= self.divisor:
+            raise ValueError(f"the dividend must be from -2^64 * {self.divisor} to 2^64 * {self.divisor} - 1")
+        check(lib.nm_div_rem_2by1(self._divider, size & (1 << 64) - 1, size >> 64, out))
+        return (out.quotient, out.remainder) if n >= 0 else (-1 - out.quotient, self.divisor - 1 - out.remainder)
 
     def __rdivmod__(self, n: int) -> tuple[int, int]:
         return self.divmod(n)
@@ -122,6 +125,70 @@ class Montgomery(ByArguments):
         check(lib.nm_montgomery_transform(self._context, reduced(a, self.modulus), out))
         check(lib.nm_montgomery_pow(self._context, out[0], exponent, out))
         check(lib.nm_montgomery_residue(self._context, out[0], out))
+        return out[0]
+
+    @overload
+    def add_lists(self, xs: Array, ys: Words) -> Array: ...
+    @overload
+    def add_lists(self, xs: Sequence[int], ys: Words) -> list[int]: ...
+    def add_lists(self, xs: Any, ys: Any) -> Any:
+        """The sums x_i + y_i modulo m of two lists, entry by entry. ValueError: the lengths differ, or the arrays overlap.
+
+        >>> Montgomery(97).add_lists([90, 2], [10, -3])
+        [3, 96]
+        """
+        return self._entries(lib.nm_add_lists, xs, ys)
+
+    @overload
+    def sub_lists(self, xs: Array, ys: Words) -> Array: ...
+    @overload
+    def sub_lists(self, xs: Sequence[int], ys: Words) -> list[int]: ...
+    def sub_lists(self, xs: Any, ys: Any) -> Any:
+        """The differences x_i - y_i modulo m. ValueError: as for `add_lists`.
+
+        >>> Montgomery(97).sub_lists([90, 2], [10, 3])
+        [80, 96]
+        """
+        return self._entries(lib.nm_sub_lists, xs, ys)
+
+    @overload
+    def multiply_lists(self, xs: Array, ys: Words) -> Array: ...
+    @overload
+    def multiply_lists(self, xs: Sequence[int], ys: Words) -> list[int]: ...
+    def multiply_lists(self, xs: Any, ys: Any) -> Any:
+        """The products x_i * y_i modulo m. ValueError: as for `add_lists`.
+
+        >>> Montgomery(97).multiply_lists([90, 2], [10, 3])
+        [27, 6]
+        """
+        return self._entries(lib.nm_multiply_lists, xs, ys)
+
+    @overload
+    def scale_list(self, xs: Array, factor: int) -> Array: ...
+    @overload
+    def scale_list(self, xs: Sequence[int], factor: int) -> list[int]: ...
+    def scale_list(self, xs: Any, factor: int) -> Any:
+        """The products x_i * factor modulo m.
+
+        >>> Montgomery(97).scale_list([90, 2], 10)
+        [27, 20]
+        """
+        factor = reduced(factor, self.modulus)
+        words, is_new = words_of(xs, self.modulus)
+        with words:
+            check(lib.nm_scale_list(self.modulus, words, len(words), factor))
+            return list(words) if is_new else xs
+
+    def dot_product(self, xs: Words, ys: Words) -> int:
+        """The sum of all products x_i * y_i modulo m; 0 for empty lists. Both lists stay. ValueError: the lengths differ.
+
+        >>> Montgomery(97).dot_product([90, 2], [10, 3])
+        33
+        """
+        out = ffi.new("uint64_t *")
+        with words_of(xs, self.modulus)[0] as first, words_of(ys, self.modulus)[0] as second:
+            same_length(first, second)
+            check(lib.nm_dot_product(self.modulus, first, len(first), second, len(second), out))
         return out[0]
 
     def find_root(self, n: int) -> int:
@@ -177,8 +244,9 @@ class Montgomery(ByArguments):
         [4, 13, 22, 15]
         """
         first, second, is_new = pair_of(xs, ys, self.modulus)
-        self._transform(lib.nm_montgomery_convolve, root, first, second)
-        return list(first) if is_new else xs
+        with first, second:
+            self._transform(lib.nm_montgomery_convolve, root, first, second)
+            return list(first) if is_new else xs
 
     @overload
     def run(self, registers: Array, commands: Iterable[Sequence[Any]]) -> Array: ...
@@ -191,7 +259,7 @@ class Montgomery(ByArguments):
         - `("load", dst, n)`
         - `("add", dst, a, b)`, and likewise "sub", "mul" and "div"
         - `("neg", dst, a)`, and likewise "dbl" (the double), "sqr" (the square) and "inv"
-        - `("pow", dst, a, n)`, with the exponent n
+        - `("pow", dst, a, n)`, with the exponent n, between -2^64 and 2^64
 
         NoInverseError: a command needs an inverse that doesn't exist; see `NoInverseError` for its number and the registers.
         ValueError: a command or a register doesn't exist.
@@ -200,23 +268,33 @@ class Montgomery(ByArguments):
         [10, 20, 6]
         """
         words, is_new = words_of(registers, self.modulus)
-        listed = [self._command(at, it, len(words)) for at, it in enumerate(commands)]
-        done = ffi.new("size_t *")
-        code = lib.nm_montgomery_run(self._context, words, len(words), ffi.new("nm_command_t[]", listed), len(listed), done)
-        result = list(words) if is_new else registers
+        with words:
+            found = [(at, one) for at, it in enumerate(commands) for one in self._commands(at, it, len(words))]
+            listed, done = [it for _, it in found], ffi.new("size_t *")
+            read = ffi.new("nm_command_t[]", listed)
+            code = lib.nm_montgomery_run(self._context, words, len(words), read, len(listed), done)
+            result = list(words) if is_new else registers
         if code == lib.NM_NO_INVERSE:
             command = listed[done[0]]
             number = result[command["a" if command["operation"] == lib.NM_INV else "b"]]
-            fault = no_inverse(int(number), self.modulus, f" in command {done[0]}")
-            fault.at, fault.registers = done[0], result
+            at = found[done[0]][0]
+            fault = no_inverse(int(number), self.modulus, f" in command {at}")
+            fault.at, fault.registers = at, result
             raise fault
         check(code)
         return result
 
+    def _entries(self, call: Any, xs: Any, ys: Any) -> Any:
+        first, second, is_new = pair_of(xs, ys, self.modulus)
+        with first, second:
+            check(call(self.modulus, first, len(first), second, len(second)))
+            return list(first) if is_new else xs
+
     def _in_place(self, call: Any, xs: Any, root: int | None) -> Any:
         words, is_new = words_of(xs, self.modulus)
-        self._transform(call, root, words)
-        return list(words) if is_new else xs
+        with words:
+            self._transform(call, root, words)
+            return list(words) if is_new else xs
 
     def _transform(self, call: Any, root: int | None, *lists: Any) -> None:
         """Calls a function that changes lists of the same length by the root, and raises the exception of its code."""
@@ -227,8 +305,8 @@ class Montgomery(ByArguments):
             raise no_inverse(n, self.modulus)
         check(code, f"{root} doesn't suit {n} words")
 
-    def _command(self, at: int, words: Sequence[Any], count: int) -> dict[str, int]:
-        """Command number at on so many registers, for the call of the library."""
+    def _commands(self, at: int, words: Sequence[Any], count: int) -> list[dict[str, int]]:
+        """Command number at on so many registers, for the call of the library: two commands for a negative exponent."""
         name, *numbers = words
         if name not in _OPERATIONS:
             raise ValueError(f"command {at}, {words!r}: there is no operation {name!r}")
@@ -240,14 +318,17 @@ class Montgomery(ByArguments):
             if name == "load" and field == "n":
                 command[field] = reduced(number, self.modulus)
             elif field == "n":
-                command[field] = word(number, f"the exponent of command {at}")
+                command[field] = exponent_of(number, f"the exponent of command {at}")
             else:
                 command[field] = register = index(number)
                 if not 0 <= register < count:
                     raise ValueError(
                         f"command {at} names register {register}, but there are {count} registers, counted from 0"
                     )
-        return command
+        if name == "pow" and command["n"] < 0:
+            inverse = {"operation": lib.NM_INV, "dst": command["dst"], "a": command["a"]}
+            return [inverse, {**command, "a": command["dst"], "n": -command["n"]}]
+        return [command]
 
 
 class Plan(ByArguments):
@@ -268,7 +349,7 @@ class Plan(ByArguments):
         if not 1 <= m <= 1 << 62:
             raise ValueError("the modulus must be from 1 to 2^62")
         ring = Montgomery(m)
-        root = ring.find_root(n) if root is None else reduced(root, m)
+        root = ring.find_root(n) if root is None else index(root) % m
         fault = f"{root} doesn't suit {n} words"
         check(lib.nm_montgomery_root_fits(ring._context, root, n), fault)  # before memory is asked for the table
         # The plan points to the table, which lives as long as this object, and is never handed out.
@@ -290,7 +371,7 @@ class Plan(ByArguments):
 
     @property
     def root(self) -> int:
-        """The root, which suits lists of the plan's length."""
+        """The root, which suits lists of the plan's length, from 0 to m - 1."""
         return self._plan.root
 
     @overload
@@ -377,17 +458,19 @@ class Plan(ByArguments):
 
     def _in_place(self, call: Any, xs: Any, *block: int) -> Any:
         words, is_new = words_of(xs, self.modulus, 4 * self.modulus)
-        code = call(self._plan, words, len(words), *block)
-        if code != lib.NM_OK:
-            self._refuse(code, [words], *block)
-        return list(words) if is_new else xs
+        with words:
+            code = call(self._plan, words, len(words), *block)
+            if code != lib.NM_OK:
+                self._refuse(code, [words], *block)
+            return list(words) if is_new else xs
 
     def _product(self, call: Any, xs: Any, ys: Any, last: int) -> Any:
         first, second, is_new = pair_of(xs, ys, self.modulus, 4 * self.modulus)
-        code = call(self._plan, first, len(first), second, len(second))
-        if code != lib.NM_OK:
-            self._refuse(code, [first, second], 0, last)
-        return list(first) if is_new else xs
+        with first, second:
+            code = call(self._plan, first, len(first), second, len(second))
+            if code != lib.NM_OK:
+                self._refuse(code, [first, second], 0, last)
+            return list(first) if is_new else xs
 
     def _refuse(self, code: int, lists: list[Any], b: int = 0, last: int = 1) -> NoReturn:
         """Raises the exception of a code, for lists of the same length that are block b, split down to last words."""

@@ -12,12 +12,7 @@ fn panic(_: &core::panic::PanicInfo<'_>) -> ! {
 }
 
 // A debug build keeps tables of `core` that name this symbol of std's; nothing unwinds, so it is never called.
-core::arch::global_asm!(
-    ".weak rust_eh_personality",
-    ".hidden rust_eh_personality",
-    "rust_eh_personality:",
-    ".byte 0",
-);
+core::arch::global_asm!(".weak rust_eh_personality", ".hidden rust_eh_personality", "rust_eh_personality:", ".byte 0",);
 
 /// The list of a pointer and a length.
 ///

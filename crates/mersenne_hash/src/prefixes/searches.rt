@@ -9,7 +9,7 @@ ghost use Rattle.mersenne_hash.specs.Patterns.{pattern_of, IsFirstPattern, IsNex
 use crate::prefixes::PrefixHashes;
 use num_modular::hashes::{Hash, hash, is_hit};
 
-/// Patterns of one length, a base, and the patterns' hashes at that base, in a list of the caller.
+/// Patterns of one length, with their hashes: at a base, in a list of the caller.
 ///
 /// # Examples
 ///
@@ -26,18 +26,24 @@ use num_modular::hashes::{Hash, hash, is_hit};
 /// assert_eq!(text.find_any_from(&patterns, 2), Some((4, 0)));
 /// assert_eq!(text.find_any_from(&patterns, 9), None);
 /// ```
+// rust instead: #[derive(Debug, Clone, Copy)]
 #[derive(Drop)]
+// rust: #[must_use]
 pub struct Patterns<'a> {
+    // rust instead: pub(crate) base: Hash,
     base: Hash,
+    // rust instead: pub(crate) size: usize,
     size: usize,
+    // rust instead: pub(crate) symbols: &'a [u8],
     symbols: &'a [u8],
+    // rust instead: pub(crate) hashes: &'a [Hash],
     hashes: &'a [Hash],
     pub ghost whole: { length symbols.now ≡ length hashes.now * size },
     pub ghost hashed: { (k : ℕ) → k < length hashes.now → slice_index (map residue_of hashes.now) k
         ≡ hash_of (pattern_of symbols.now size k) (residue_of base) },
 }
 
-/// Whether `Patterns::new` accepts a list of this length, for that many patterns of this size: it is their product.
+/// Whether `Patterns::new` accepts these lengths: that of the list is that many times the size.
 ///
 /// # Examples
 ///
@@ -70,12 +76,11 @@ fn fill_hashes(base: Hash, size: usize, symbols: &[u8], hashes: &mut [Hash])
 }
 
 impl<'a> Patterns<'a> {
-    /// The patterns of this size that stand one after the other in `symbols`, as many as there are entries for hashes,
-    /// which it fills. `None` exactly where the length of `symbols` isn't that many times the size. It takes one product
-    /// for each symbol.
+    /// The patterns that stand one after the other: of this size, in `symbols`, as many as there are entries for
+    /// hashes, which it fills. `None` exactly where the lengths don't fit: that of `symbols` isn't that many times the
+    /// size. It takes one product for each symbol.
     ///
     /// After `None` the hashes are what they were: the lengths are tested, by `are_pattern_lengths`, before one is written.
-    /// This isn't proved, because the result borrows them: a caller that needs the proof calls the test first.
     ///
     /// # Examples
     ///
@@ -124,10 +129,13 @@ impl<'a> Patterns<'a> {
 }
 
 impl<'a> PrefixHashes<'a> {
-    /// The number of the first pattern that occurs at a position; `None` exactly where none occurs there. Condition: the
-    /// bases of the text and of the patterns are the same.
+    /// The number of the first pattern at a position: the first that occurs there; `None` exactly where none does.
     ///
     /// The result is right for every base, because the bytes are compared where the hashes are equal.
+    ///
+    /// # Conditions
+    ///
+    /// - the bases of the text and of the patterns are the same
     ///
     /// # Examples
     ///
@@ -143,12 +151,14 @@ impl<'a> PrefixHashes<'a> {
     /// assert_eq!(text.pattern_at(&patterns, 0), Some(1));
     /// assert_eq!(text.pattern_at(&patterns, 3), None);
     /// ```
+    // rust: #[track_caller]
     pub fn pattern_at(&self, patterns: &Patterns<'_>, at: usize) -> Option<usize>
         requires { patterns.now.base ≡ self.now.base }
         ensures { let n = length patterns.now.hashes.now in
             MatchOption result (IsFirstPattern self.now.text.now patterns.now.symbols.now patterns.now.size n at n)
             (λ k. (k < n) × IsFirstPattern self.now.text.now patterns.now.symbols.now patterns.now.size n at k) }
     {
+        // rust: assert!(patterns.base == self.base, "the bases of the text and of the patterns must be the same");
         let size = patterns.size;
         if at > self.text.len() || self.text.len() - at < size {
             return None;
@@ -164,11 +174,14 @@ impl<'a> PrefixHashes<'a> {
         None
     }
 
-    /// The first position from `from` on where one of the patterns occurs, and the number of the first of them that does;
-    /// `None` exactly where none occurs there. So the next one is found from the position after it. Condition: the bases
-    /// of the text and of the patterns are the same.
+    /// The next position of a pattern, and which it is: the first from `from` on, and the number of the first pattern
+    /// that occurs there; `None` exactly where none occurs there. So the next one is found from the position after it.
     ///
     /// Source: Karp and Rabin, "Efficient randomized pattern-matching algorithms", section 4.
+    ///
+    /// # Conditions
+    ///
+    /// - the bases of the text and of the patterns are the same
     ///
     /// # Examples
     ///
@@ -184,6 +197,7 @@ impl<'a> PrefixHashes<'a> {
     /// assert_eq!(text.find_any_from(&patterns, 0), Some((1, 1)));
     /// assert_eq!(text.find_any_from(&patterns, 2), None);
     /// ```
+    // rust: #[track_caller]
     pub fn find_any_from(&self, patterns: &Patterns<'_>, from: usize) -> Option<(usize, usize)>
         requires { patterns.now.base ≡ self.now.base }
         ensures { let n = length patterns.now.hashes.now in
@@ -192,6 +206,7 @@ impl<'a> PrefixHashes<'a> {
             StandsAt self.now.text.now (pattern_of symbols patterns.now.size k) i → ⊥)
             (λ found. IsNextPattern self.now.text.now symbols patterns.now.size n from found.0 found.1) }
     {
+        // rust: assert!(patterns.base == self.base, "the bases of the text and of the patterns must be the same");
         'places: for at in from..self.text.len() + 1 {
             if let Some(k) = self.pattern_at(patterns, at) {
                 return Some((at, k));
@@ -200,8 +215,12 @@ impl<'a> PrefixHashes<'a> {
         None
     }
 
-    /// Writes for each position of the list, from 0 on, the number of the first pattern that occurs there, or the count
-    /// of the patterns where none does. Condition: the bases of the text and of the patterns are the same.
+    /// Writes which pattern occurs at each position: from 0 on, the number of the first that does, or the count of the
+    /// patterns where none does.
+    ///
+    /// # Conditions
+    ///
+    /// - the bases of the text and of the patterns are the same
     ///
     /// # Examples
     ///
@@ -218,12 +237,14 @@ impl<'a> PrefixHashes<'a> {
     /// text.find_all(&patterns, &mut found);
     /// assert_eq!(found, [1, 0, 1, 2]);
     /// ```
+    // rust: #[track_caller]
     pub fn find_all(&self, patterns: &Patterns<'_>, found: &mut [usize])
         requires { patterns.now.base ≡ self.now.base }
         ensures { (i : ℕ) → i < length found.old →
             IsFirstPattern self.now.text.now patterns.now.symbols.now patterns.now.size (length patterns.now.hashes.now) i
             (slice_index found.new i) }
     {
+        // rust: assert!(patterns.base == self.base, "the bases of the text and of the patterns must be the same");
         let count = patterns.hashes.len();
         'places: for at in 0..found.len() {
             found[at] = self.pattern_at(patterns, at).unwrap_or(count);

@@ -4,7 +4,11 @@ ghost use Rattle.std.specs.Prelude.{◌≡◌, ◌-◌, ◌*◌, ◌%◌, ◌^�
 
 use modular_word::word::w8::Word;
 
-/// The word x with m * x = -1 modulo 2^8. Condition: m is odd.
+/// The word x with m * x = -1 modulo 2^8.
+///
+/// # Conditions
+///
+/// - (debug) m is odd
 ///
 /// # Examples
 ///
@@ -14,6 +18,7 @@ use modular_word::word::w8::Word;
 /// assert_eq!(neginv(3), 0x55);
 /// assert_eq!(3 * neginv(3), u8::MAX); // -1 modulo 2^8
 /// ```
+// rust: #[cfg_attr(debug_assertions, track_caller)]
 pub fn neginv(m: Word) -> Word
     requires { m % 2 ≡ 1 }
     ensures { (m * result) % 2 ^ 8 ≡ 2 ^ 8 - 1 }

@@ -4,7 +4,11 @@ ghost use Rattle.std.specs.Prelude.{◌≡◌, ◌-◌, ◌*◌, ◌%◌, ◌^�
 
 use modular_word::word::wsize::Word;
 
-/// The word x with m * x = -1 modulo 2^64. Condition: m is odd.
+/// The word x with m * x = -1 modulo 2^64.
+///
+/// # Conditions
+///
+/// - (debug) m is odd
 ///
 /// # Examples
 ///
@@ -14,6 +18,7 @@ use modular_word::word::wsize::Word;
 /// assert_eq!(neginv(3), 0x5555_5555_5555_5555);
 /// assert_eq!(3 * neginv(3), usize::MAX); // -1 modulo 2^64
 /// ```
+// rust: #[cfg_attr(debug_assertions, track_caller)]
 pub fn neginv(m: Word) -> Word
     requires { m % 2 ≡ 1 }
     ensures { (m * result) % 2 ^ 64 ≡ 2 ^ 64 - 1 }

@@ -6,8 +6,11 @@ ghost use Rattle.modular_word.specs.Inverses.{IsInversion};
 
 use crate::euclid;
 
-/// The inverse of a modulo m, `None` exactly where there is none, and the number of divisions.
-/// Condition: m is at least 1.
+/// The inverse of a modulo m and the number of divisions: the inverse is `None` exactly where there is none.
+///
+/// # Conditions
+///
+/// - m is at least 1
 ///
 /// # Examples
 ///
@@ -17,6 +20,7 @@ use crate::euclid;
 /// assert_eq!(invm_counted(3, 7), (Some(5), 2)); // 7 by 3, and 3 by 1
 /// assert_eq!(invm_counted(3, 6), (None, 1)); // 6 by 3
 /// ```
+// rust: #[cfg_attr(debug_assertions, track_caller)]
 pub fn invm_counted(a: u16, m: u16) -> (Option<u16>, u32)
     requires { 1 ≤ m }
     ensures inverse { IsInversion (λ x. x) m a result.0 }

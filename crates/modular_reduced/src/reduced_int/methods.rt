@@ -6,10 +6,16 @@ ghost use Rattle.std.specs.Prelude.{◌≡◌, ℕ, ◌%◌, ◌^◌, MatchOptio
 
 use super::ReducedInt;
 use crate::reducer::Reducer;
+// rattle: line
 use modular_word::ring_word::RingWord;
 
+// rust instead: impl<T, R: Reducer<T>> ReducedInt<T, R> {
 impl<T: RingWord, R: Reducer<T> + Copy> ReducedInt<T, R> {
-    /// The integer n mod m. Condition: the reducer admits m.
+    /// n modulo m.
+    ///
+    /// # Conditions
+    ///
+    /// - the reducer admits m
     ///
     /// # Examples
     ///
@@ -18,6 +24,7 @@ impl<T: RingWord, R: Reducer<T> + Copy> ReducedInt<T, R> {
     ///
     /// assert_eq!(VanillaInt::<u8>::new(200, &7).residue(), 4);
     /// ```
+    // rust: #[track_caller]
     pub fn new(n: T, m: &T) -> Self
         requires { R.admits (T.number m.now) }
         ensures { IsReduced (T.number m.now) (T.number n % T.number m.now) result }
@@ -67,7 +74,7 @@ impl<T: RingWord, R: Reducer<T> + Copy> ReducedInt<T, R> {
         })
     }
 
-    /// The power to the exponent `exp`; 1 mod m for the exponent 0. `pow_counted` says how many products it takes.
+    /// The power: to the exponent `exp`, 1 mod m for the exponent 0. `pow_counted` says how many products it takes.
     ///
     /// # Examples
     ///

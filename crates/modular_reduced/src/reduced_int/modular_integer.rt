@@ -6,8 +6,10 @@ ghost use Rattle.std.proofs.Common.{rules};
 use super::ReducedInt;
 use crate::modular_integer::ModularInteger;
 use crate::reducer::Reducer;
+// rattle: line
 use modular_word::ring_word::RingWord;
 
+// rust instead: impl<T: PartialEq + Clone, R: Reducer<T> + Clone> ModularInteger for ReducedInt<T, R> {
 impl<T: RingWord, R: Reducer<T> + Copy> ModularInteger for ReducedInt<T, R> {
     type Base = T;
 
@@ -20,6 +22,7 @@ impl<T: RingWord, R: Reducer<T> + Copy> ModularInteger for ReducedInt<T, R> {
     }
 
     fn residue(&self) -> T {
+        // rust instead: self.reducer.residue(self.form.clone())
         self.reducer.residue(self.form)
     }
 
@@ -30,6 +33,7 @@ impl<T: RingWord, R: Reducer<T> + Copy> ModularInteger for ReducedInt<T, R> {
     fn convert(&self, n: T) -> Self {
         ReducedInt {
             form: self.reducer.transform(n),
+            // rust instead: reducer: self.reducer.clone(),
             reducer: self.reducer,
         }
     }

@@ -4,10 +4,13 @@ ghost use Rattle.modular_reduced.specs.Integers.{CanDivide, IsNegative, IsQuotie
 
 use super::ReducedInt;
 use super::operations::{negative, quotient};
+// rust: use super::operations::inverse_form;
 use crate::reducer::Reducer;
+// rattle: line
 use modular_word::ring_word::RingWord;
 use std::ops::{Div, Neg};
 
+// rust instead: impl<T, R: Reducer<T>> Neg for ReducedInt<T, R> {
 impl<T: RingWord, R: Reducer<T> + Copy> Neg for ReducedInt<T, R> {
     type Output = ReducedInt<T, R>;
 
@@ -18,16 +21,19 @@ impl<T: RingWord, R: Reducer<T> + Copy> Neg for ReducedInt<T, R> {
     }
 }
 
+// rust instead: impl<T: Clone, R: Reducer<T> + Clone> Neg for &ReducedInt<T, R> {
 impl<T: RingWord, R: Reducer<T> + Copy> Neg for &ReducedInt<T, R> {
     type Output = ReducedInt<T, R>;
 
     ghost neg_gives = { λ x z. IsNegative x.now z };
 
     fn neg(self) -> ReducedInt<T, R> {
+        // rust instead: negative(self.clone())
         negative(*self)
     }
 }
 
+// rust instead: impl<T: PartialEq, R: Reducer<T>> Div<ReducedInt<T, R>> for ReducedInt<T, R> {
 impl<T: RingWord, R: Reducer<T> + Copy> Div<ReducedInt<T, R>> for ReducedInt<T, R> {
     type Output = ReducedInt<T, R>;
 
@@ -35,11 +41,13 @@ impl<T: RingWord, R: Reducer<T> + Copy> Div<ReducedInt<T, R>> for ReducedInt<T, 
 
     ghost div_gives = { λ x y z. IsQuotient x y z };
 
+    // rust: #[cfg_attr(debug_assertions, track_caller)]
     fn div(self, rhs: ReducedInt<T, R>) -> ReducedInt<T, R> {
         quotient(self, rhs)
     }
 }
 
+// rust instead: impl<T: PartialEq + Clone, R: Reducer<T>> Div<&ReducedInt<T, R>> for ReducedInt<T, R> {
 impl<T: RingWord, R: Reducer<T> + Copy> Div<&ReducedInt<T, R>> for ReducedInt<T, R> {
     type Output = ReducedInt<T, R>;
 
@@ -47,11 +55,15 @@ impl<T: RingWord, R: Reducer<T> + Copy> Div<&ReducedInt<T, R>> for ReducedInt<T,
 
     ghost div_gives = { λ x y z. IsQuotient x y.now z };
 
+    // rust: #[cfg_attr(debug_assertions, track_caller)]
     fn div(self, rhs: &ReducedInt<T, R>) -> ReducedInt<T, R> {
+        // rust: let inverse = inverse_form(&self.reducer, &rhs.reducer, rhs.form.clone());
+        // rust instead: ReducedInt { form: self.reducer.mul(&self.form, &inverse), reducer: self.reducer }
         quotient(self, *rhs)
     }
 }
 
+// rust instead: impl<T: PartialEq, R: Reducer<T>> Div<ReducedInt<T, R>> for &ReducedInt<T, R> {
 impl<T: RingWord, R: Reducer<T> + Copy> Div<ReducedInt<T, R>> for &ReducedInt<T, R> {
     type Output = ReducedInt<T, R>;
 
@@ -59,11 +71,15 @@ impl<T: RingWord, R: Reducer<T> + Copy> Div<ReducedInt<T, R>> for &ReducedInt<T,
 
     ghost div_gives = { λ x y z. IsQuotient x.now y z };
 
+    // rust: #[cfg_attr(debug_assertions, track_caller)]
     fn div(self, rhs: ReducedInt<T, R>) -> ReducedInt<T, R> {
+        // rust: let inverse = inverse_form(&self.reducer, &rhs.reducer, rhs.form);
+        // rust instead: ReducedInt { form: rhs.reducer.mul(&self.form, &inverse), reducer: rhs.reducer }
         quotient(*self, rhs)
     }
 }
 
+// rust instead: impl<T: PartialEq + Clone, R: Reducer<T> + Clone> Div<&ReducedInt<T, R>> for &ReducedInt<T, R> {
 impl<T: RingWord, R: Reducer<T> + Copy> Div<&ReducedInt<T, R>> for &ReducedInt<T, R> {
     type Output = ReducedInt<T, R>;
 
@@ -71,7 +87,9 @@ impl<T: RingWord, R: Reducer<T> + Copy> Div<&ReducedInt<T, R>> for &ReducedInt<T
 
     ghost div_gives = { λ x y z. IsQuotient x.now y.now z };
 
+    // rust: #[cfg_attr(debug_assertions, track_caller)]
     fn div(self, rhs: &ReducedInt<T, R>) -> ReducedInt<T, R> {
+        // rust instead: quotient(self.clone(), rhs.clone())
         quotient(*self, *rhs)
     }
 }

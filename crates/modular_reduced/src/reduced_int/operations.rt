@@ -1,3 +1,6 @@
+// rattle: line
+// rattle: line
+// rattle: line
 //! The operations of integers, to which the operators of all kinds of operands delegate.
 
 ghost use Rattle.modular_reduced.specs.Integers.{CanDivide, IsDifference, IsNegative, IsProduct};
@@ -6,9 +9,16 @@ ghost use Rattle.std.specs.Prelude.{◌≡◌, ◌%◌};
 
 use super::ReducedInt;
 use crate::reducer::Reducer;
+// rattle: line
 use modular_word::ring_word::RingWord;
 
-/// The sum. Condition: the moduli are equal.
+/// The sum.
+///
+/// # Conditions
+///
+/// - (debug) the moduli are equal
+// rust: #[cfg_attr(debug_assertions, track_caller)]
+// rust instead: pub fn sum<T: PartialEq, R: Reducer<T>>(
 pub fn sum<T: RingWord, R: Reducer<T> + Copy>(
     x: ReducedInt<T, R>,
     y: &ReducedInt<T, R>,
@@ -17,6 +27,9 @@ pub fn sum<T: RingWord, R: Reducer<T> + Copy>(
     ensures { IsSum x (residue_of y.now) result }
 {
     prove!(x.reducer.modulus() == y.reducer.modulus());
+    // rust: debug_assert!(x.reducer.modulus() == y.reducer.modulus(), "the moduli must be equal: {} and {}",
+    // rust:     crate::additions::ShownModulus(x.reducer.shown_modulus()),
+    // rust:     crate::additions::ShownModulus(y.reducer.shown_modulus()));
     ReducedInt {
         form: x.reducer.add(&x.form, &y.form),
         reducer: x.reducer,
@@ -24,6 +37,7 @@ pub fn sum<T: RingWord, R: Reducer<T> + Copy>(
 }
 
 /// The sum of an integer and a word.
+// rust instead: pub fn sum_with<T, R: Reducer<T>>(x: ReducedInt<T, R>, n: T) -> ReducedInt<T, R>
 pub fn sum_with<T: RingWord, R: Reducer<T> + Copy>(x: ReducedInt<T, R>, n: T) -> ReducedInt<T, R>
     ensures { IsSum x (T.number n) result }
 {
@@ -34,30 +48,52 @@ pub fn sum_with<T: RingWord, R: Reducer<T> + Copy>(x: ReducedInt<T, R>, n: T) ->
     }
 }
 
-/// The integer becomes the sum. Condition: the moduli are equal.
+/// The integer becomes the sum.
+///
+/// # Conditions
+///
+/// - (debug) the moduli are equal
+// rust: #[cfg_attr(debug_assertions, track_caller)]
+// rust instead: pub fn sum_assign<T: PartialEq, R: Reducer<T>>(x: &mut ReducedInt<T, R>, y: &ReducedInt<T, R>)
 pub fn sum_assign<T: RingWord, R: Reducer<T> + Copy>(x: &mut ReducedInt<T, R>, y: &ReducedInt<T, R>)
     requires { modulus_of x.old ≡ modulus_of y.now }
     ensures { IsSum x.old (residue_of y.now) x.new }
 {
     prove!(x.reducer.modulus() == y.reducer.modulus());
+    // rust: debug_assert!(x.reducer.modulus() == y.reducer.modulus(), "the moduli must be equal: {} and {}",
+    // rust:     crate::additions::ShownModulus(x.reducer.shown_modulus()),
+    // rust:     crate::additions::ShownModulus(y.reducer.shown_modulus()));
+    // rattle: line
     *x = ReducedInt {
+        // rust instead: x.form = x.reducer.add(&x.form, &y.form);
         form: x.reducer.add(&x.form, &y.form),
+        // rattle: line
         reducer: x.reducer,
+        // rattle: line
     };
 }
 
 /// The integer becomes the sum of it and a word.
+// rust instead: pub fn sum_assign_with<T, R: Reducer<T>>(x: &mut ReducedInt<T, R>, n: T)
 pub fn sum_assign_with<T: RingWord, R: Reducer<T> + Copy>(x: &mut ReducedInt<T, R>, n: T)
     ensures { IsSum x.old (T.number n) x.new }
 {
     let form = x.reducer.transform(n);
+    // rust: x.form = x.reducer.add(&x.form, &form);
+    // rattle: item
     *x = ReducedInt {
         form: x.reducer.add(&x.form, &form),
         reducer: x.reducer,
     };
 }
 
-/// The difference. Condition: the moduli are equal.
+/// The difference.
+///
+/// # Conditions
+///
+/// - (debug) the moduli are equal
+// rust: #[cfg_attr(debug_assertions, track_caller)]
+// rust instead: pub fn difference<T: PartialEq, R: Reducer<T>>(
 pub fn difference<T: RingWord, R: Reducer<T> + Copy>(
     x: ReducedInt<T, R>,
     y: &ReducedInt<T, R>,
@@ -66,6 +102,9 @@ pub fn difference<T: RingWord, R: Reducer<T> + Copy>(
     ensures { IsDifference x (residue_of y.now) result }
 {
     prove!(x.reducer.modulus() == y.reducer.modulus());
+    // rust: debug_assert!(x.reducer.modulus() == y.reducer.modulus(), "the moduli must be equal: {} and {}",
+    // rust:     crate::additions::ShownModulus(x.reducer.shown_modulus()),
+    // rust:     crate::additions::ShownModulus(y.reducer.shown_modulus()));
     ReducedInt {
         form: x.reducer.sub(&x.form, &y.form),
         reducer: x.reducer,
@@ -73,6 +112,7 @@ pub fn difference<T: RingWord, R: Reducer<T> + Copy>(
 }
 
 /// The difference of an integer and a word.
+// rust instead: pub fn difference_with<T, R: Reducer<T>>(
 pub fn difference_with<T: RingWord, R: Reducer<T> + Copy>(
     x: ReducedInt<T, R>,
     n: T,
@@ -86,7 +126,13 @@ pub fn difference_with<T: RingWord, R: Reducer<T> + Copy>(
     }
 }
 
-/// The integer becomes the difference. Condition: the moduli are equal.
+/// The integer becomes the difference.
+///
+/// # Conditions
+///
+/// - (debug) the moduli are equal
+// rust: #[cfg_attr(debug_assertions, track_caller)]
+// rust instead: pub fn difference_assign<T: PartialEq, R: Reducer<T>>(
 pub fn difference_assign<T: RingWord, R: Reducer<T> + Copy>(
     x: &mut ReducedInt<T, R>,
     y: &ReducedInt<T, R>,
@@ -95,6 +141,11 @@ pub fn difference_assign<T: RingWord, R: Reducer<T> + Copy>(
     ensures { IsDifference x.old (residue_of y.now) x.new }
 {
     prove!(x.reducer.modulus() == y.reducer.modulus());
+    // rust: debug_assert!(x.reducer.modulus() == y.reducer.modulus(), "the moduli must be equal: {} and {}",
+    // rust:     crate::additions::ShownModulus(x.reducer.shown_modulus()),
+    // rust:     crate::additions::ShownModulus(y.reducer.shown_modulus()));
+    // rust: x.form = x.reducer.sub(&x.form, &y.form);
+    // rattle: item
     *x = ReducedInt {
         form: x.reducer.sub(&x.form, &y.form),
         reducer: x.reducer,
@@ -102,17 +153,26 @@ pub fn difference_assign<T: RingWord, R: Reducer<T> + Copy>(
 }
 
 /// The integer becomes the difference of it and a word.
+// rust instead: pub fn difference_assign_with<T, R: Reducer<T>>(x: &mut ReducedInt<T, R>, n: T)
 pub fn difference_assign_with<T: RingWord, R: Reducer<T> + Copy>(x: &mut ReducedInt<T, R>, n: T)
     ensures { IsDifference x.old (T.number n) x.new }
 {
     let form = x.reducer.transform(n);
+    // rust: x.form = x.reducer.sub(&x.form, &form);
+    // rattle: item
     *x = ReducedInt {
         form: x.reducer.sub(&x.form, &form),
         reducer: x.reducer,
     };
 }
 
-/// The product. Condition: the moduli are equal.
+/// The product.
+///
+/// # Conditions
+///
+/// - (debug) the moduli are equal
+// rust: #[cfg_attr(debug_assertions, track_caller)]
+// rust instead: pub fn product<T: PartialEq, R: Reducer<T>>(
 pub fn product<T: RingWord, R: Reducer<T> + Copy>(
     x: ReducedInt<T, R>,
     y: &ReducedInt<T, R>,
@@ -121,6 +181,9 @@ pub fn product<T: RingWord, R: Reducer<T> + Copy>(
     ensures { IsProduct x (residue_of y.now) result }
 {
     prove!(x.reducer.modulus() == y.reducer.modulus());
+    // rust: debug_assert!(x.reducer.modulus() == y.reducer.modulus(), "the moduli must be equal: {} and {}",
+    // rust:     crate::additions::ShownModulus(x.reducer.shown_modulus()),
+    // rust:     crate::additions::ShownModulus(y.reducer.shown_modulus()));
     ReducedInt {
         form: x.reducer.mul(&x.form, &y.form),
         reducer: x.reducer,
@@ -128,6 +191,7 @@ pub fn product<T: RingWord, R: Reducer<T> + Copy>(
 }
 
 /// The product of an integer and a word.
+// rust instead: pub fn product_with<T, R: Reducer<T>>(
 pub fn product_with<T: RingWord, R: Reducer<T> + Copy>(
     x: ReducedInt<T, R>,
     n: T,
@@ -141,7 +205,13 @@ pub fn product_with<T: RingWord, R: Reducer<T> + Copy>(
     }
 }
 
-/// The integer becomes the product. Condition: the moduli are equal.
+/// The integer becomes the product.
+///
+/// # Conditions
+///
+/// - (debug) the moduli are equal
+// rust: #[cfg_attr(debug_assertions, track_caller)]
+// rust instead: pub fn product_assign<T: PartialEq, R: Reducer<T>>(
 pub fn product_assign<T: RingWord, R: Reducer<T> + Copy>(
     x: &mut ReducedInt<T, R>,
     y: &ReducedInt<T, R>,
@@ -150,6 +220,11 @@ pub fn product_assign<T: RingWord, R: Reducer<T> + Copy>(
     ensures { IsProduct x.old (residue_of y.now) x.new }
 {
     prove!(x.reducer.modulus() == y.reducer.modulus());
+    // rust: debug_assert!(x.reducer.modulus() == y.reducer.modulus(), "the moduli must be equal: {} and {}",
+    // rust:     crate::additions::ShownModulus(x.reducer.shown_modulus()),
+    // rust:     crate::additions::ShownModulus(y.reducer.shown_modulus()));
+    // rust: x.form = x.reducer.mul(&x.form, &y.form);
+    // rattle: item
     *x = ReducedInt {
         form: x.reducer.mul(&x.form, &y.form),
         reducer: x.reducer,
@@ -157,18 +232,27 @@ pub fn product_assign<T: RingWord, R: Reducer<T> + Copy>(
 }
 
 /// The integer becomes the product of it and a word.
+// rust instead: pub fn product_assign_with<T, R: Reducer<T>>(x: &mut ReducedInt<T, R>, n: T)
 pub fn product_assign_with<T: RingWord, R: Reducer<T> + Copy>(x: &mut ReducedInt<T, R>, n: T)
     ensures { IsProduct x.old (T.number n) x.new }
 {
     let form = x.reducer.transform(n);
+    // rust: x.form = x.reducer.mul(&x.form, &form);
+    // rattle: item
     *x = ReducedInt {
         form: x.reducer.mul(&x.form, &form),
         reducer: x.reducer,
     };
 }
 
-/// The quotient: the integer whose product with y is x. Conditions: the moduli are equal; the divisor has an
-/// inverse modulo m.
+/// The quotient: the integer whose product with y is x.
+///
+/// # Conditions
+///
+/// - the divisor has an inverse modulo m
+/// - (debug) the moduli are equal
+// rust: #[cfg_attr(debug_assertions, track_caller)]
+// rust instead: pub fn quotient<T: PartialEq, R: Reducer<T>>(
 pub fn quotient<T: RingWord, R: Reducer<T> + Copy>(
     x: ReducedInt<T, R>,
     y: ReducedInt<T, R>,
@@ -176,7 +260,11 @@ pub fn quotient<T: RingWord, R: Reducer<T> + Copy>(
     requires { CanDivide x y }
     ensures { IsQuotient x y result }
 {
+    // rust: debug_assert!(y.reducer.modulus() == x.reducer.modulus(), "the moduli must be equal: {} and {}",
+    // rust:     crate::additions::ShownModulus(x.reducer.shown_modulus()),
+    // rust:     crate::additions::ShownModulus(y.reducer.shown_modulus()));
     let Some(inverse) = y.reducer.inv(y.form) else {
+        // rust instead: panic!("the divisor must have an inverse modulo m")
         unreachable!()
     };
     ReducedInt {
@@ -185,7 +273,53 @@ pub fn quotient<T: RingWord, R: Reducer<T> + Copy>(
     }
 }
 
+// rust: /// The operation of a borrowed integer and one that is moved, whose reducer the result has: so nothing is cloned.
+// rust: ///
+// rust: /// # Panics
+// rust: ///
+// rust: /// A debug build panics unless the moduli are equal.
+// rust: #[cfg_attr(debug_assertions, track_caller)]
+// rust: #[inline]
+// rust: pub fn with_moved<T: PartialEq, R: Reducer<T>>(
+// rust:     x: &ReducedInt<T, R>,
+// rust:     y: ReducedInt<T, R>,
+// rust:     operation: impl Fn(&R, &T, &T) -> T,
+// rust: ) -> ReducedInt<T, R> {
+// rust:     debug_assert!(x.reducer.modulus() == y.reducer.modulus(), "the moduli must be equal: {} and {}",
+// rust:         crate::additions::ShownModulus(x.reducer.shown_modulus()),
+// rust:         crate::additions::ShownModulus(y.reducer.shown_modulus()));
+// rust:     ReducedInt { form: operation(&y.reducer, &x.form, &y.form), reducer: y.reducer }
+// rust: }
+// rust:
+// rust: /// The operation of a borrowed integer and a word: only the reducer is cloned.
+// rust: #[inline]
+// rust: pub fn with_word<T, R: Reducer<T> + Clone>(
+// rust:     x: &ReducedInt<T, R>,
+// rust:     n: T,
+// rust:     operation: impl Fn(&R, &T, &T) -> T,
+// rust: ) -> ReducedInt<T, R> {
+// rust:     let form = x.reducer.transform(n);
+// rust:     ReducedInt { form: operation(&x.reducer, &x.form, &form), reducer: x.reducer.clone() }
+// rust: }
+// rust:
+// rust: /// The form of the inverse of a divisor, which it takes: so no reducer is cloned.
+// rust: ///
+// rust: /// # Panics
+// rust: ///
+// rust: /// Panics unless the divisor has an inverse modulo m. A debug build also panics unless the moduli are equal.
+// rust: #[cfg_attr(debug_assertions, track_caller)]
+// rust: #[inline]
+// rust: pub fn inverse_form<T: PartialEq, R: Reducer<T>>(x: &R, y: &R, divisor: T) -> T {
+// rust:     debug_assert!(x.modulus() == y.modulus(), "the moduli must be equal: {} and {}",
+// rust:         crate::additions::ShownModulus(x.shown_modulus()), crate::additions::ShownModulus(y.shown_modulus()));
+// rust:     match y.inv(divisor) {
+// rust:         Some(inverse) => inverse,
+// rust:         None => panic!("the divisor must have an inverse modulo m"),
+// rust:     }
+// rust: }
+
 /// The negative.
+// rust instead: pub fn negative<T, R: Reducer<T>>(x: ReducedInt<T, R>) -> ReducedInt<T, R>
 pub fn negative<T: RingWord, R: Reducer<T> + Copy>(x: ReducedInt<T, R>) -> ReducedInt<T, R>
     ensures { IsNegative x result }
 {

@@ -4,8 +4,8 @@ ghost use Rattle.std.specs.Prelude.{◌≡◌, ◌%◌, ◌≤◌, pos, IfSome, 
 ghost use Rattle.modular_symbols.specs.Jacobi.{checked_jacobi_of};
 ghost use Rattle.modular_symbols.specs.Steps.{jacobi_steps};
 
-/// The Jacobi symbol of a over n and the number of halvings and swaps, counted from the residue of a; `None`
-/// exactly for an even n.
+/// The Jacobi symbol and the number of steps: the symbol is that of a over n, and the steps are halvings and swaps,
+/// counted from the residue of a; `None` exactly for an even n.
 ///
 /// # Examples
 ///
@@ -20,5 +20,5 @@ pub fn checked_jacobi_counted(a: u16, n: u16) -> Option<(i8, u32)>
     ensures count { IfSome result (λ found. found.1 ≡ jacobi_steps (a % n) n) }
     ensures at_most { IfSome result (λ found. found.1 ≤ 32) }
 {
-    super::checked_jacobi_counted(a, n)
+    super::checked_jacobi_counted(false, a, n)
 }

@@ -29,7 +29,11 @@ pub type Word = u64;
 /// ```
 pub type DoubleWord = u128;
 
-/// The word whose low n bits are ones: 2^n - 1. Condition: n is at most 64.
+/// The word whose low n bits are ones: 2^n - 1.
+///
+/// # Conditions
+///
+/// - (debug) n is at most 64
 ///
 /// # Examples
 ///
@@ -39,10 +43,12 @@ pub type DoubleWord = u128;
 /// assert_eq!(ones(3), 0b111);
 /// assert_eq!(ones(64), u64::MAX);
 /// ```
+// rust: #[cfg_attr(debug_assertions, track_caller)]
 pub fn ones(n: u32) -> Word
     requires { n ≤ 64 }
     ensures { result + 1 ≡ 2 ^ n }
 {
+    // rust: debug_assert!(n <= Word::BITS, "n must be at most 64");
     paths::ones(n)
 }
 
@@ -55,6 +61,7 @@ pub fn ones(n: u32) -> Word
 ///
 /// assert_eq!(extend(10_000_000_000), 10_000_000_000_u128);
 /// ```
+// rust instead: pub const fn extend(word: Word) -> DoubleWord
 pub fn extend(word: Word) -> DoubleWord
     ensures { result ≡ word }
 {
@@ -151,7 +158,11 @@ pub fn wsqr(a: Word) -> DoubleWord
     a.product(a)
 }
 
-/// The remainder of a double word by a word. Condition: the modulus is at least 1.
+/// The remainder of a double word by a word.
+///
+/// # Conditions
+///
+/// - the modulus is at least 1
 ///
 /// # Examples
 ///
@@ -160,9 +171,12 @@ pub fn wsqr(a: Word) -> DoubleWord
 ///
 /// assert_eq!(nrem(100_000_000_000_000_000_000, 97), 73);
 /// ```
+// rust: #[cfg_attr(debug_assertions, track_caller)]
+// rust instead: pub const fn nrem(n: DoubleWord, d: Word) -> Word
 pub fn nrem(n: DoubleWord, d: Word) -> Word
     requires { 1 ≤ d }
     ensures { result ≡ n % d }
 {
+    // rust: assert!(d != 0, "the modulus must be at least 1");
     (n % extend(d)) as Word
 }

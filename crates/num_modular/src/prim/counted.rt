@@ -25,6 +25,7 @@ pub mod w64 {
 }
 
 /// Words of the pointer width.
+// rust: #[cfg(target_pointer_width = "64")]
 pub mod wsize {
     pub use modular_prim::counted::wsize::invm_counted;
     pub use modular_symbols::counted::wsize::checked_jacobi_counted;

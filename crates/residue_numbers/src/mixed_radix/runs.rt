@@ -4,7 +4,7 @@ ghost use Rattle.std.specs.Prelude.{◌≡◌, ◌≢◌, ℕ, ◌+◌, ◌*◌,
 ghost use Rattle.num_modular.specs.Forms.{IsForm};
 ghost use Rattle.num_modular.specs.Ring.{whole, value_at, IsStop, IsFit, carried_out, values_of};
 ghost use Rattle.num_modular.specs.Systems.{range_of, AreResidues};
-ghost use Rattle.residue_numbers.specs.Registers.{register, StartWith, IsCarriedOut};
+ghost use Rattle.residue_numbers.specs.Registers.{register, StartWith, IsColumnRun, IsRun};
 
 use crate::mixed_radix::System;
 use num_modular::Reducer;
@@ -51,47 +51,42 @@ fn unload_column<R: Reducer<u64>>(
     }
 }
 
-// Runs the commands modulo one modulus, from the words at its place, and writes the residues there. Returns how many
-// commands were carried out.
-fn run_column<R: Reducer<u64>, C: AsCommand<u64>>(
-    reducer: &R,
-    count: usize,
-    place: usize,
-    commands: &[C],
-    inputs: &[u64],
-    forms: &mut [u64],
-    registers: &mut [u64],
-) -> usize
-    requires fit { All (λ c. IsFit (length forms.old) (C.command c)) commands.now }
-    requires within { place < count }
-    requires inputs { length inputs.now ≡ length forms.old * count }
-    requires room { length registers.old ≡ length forms.old * count }
-    ensures most { result ≤ length commands.now }
-    ensures carried { let m = R.modulus reducer.now in
-        let wholes = map (λ c. whole (λ n. n) (C.command c)) commands.now in
-        (start : List ℕ) → length start ≡ length forms.old →
-        ((r : ℕ) → r < length start → slice_index inputs.now (r * count + place) % m ≡ slice_index start r % m) →
-        IsCarriedOut m (map (λ n. n % m) start) wholes result }
-    ensures values { let m = R.modulus reducer.now in
-        let wholes = map (λ c. whole (λ n. n) (C.command c)) commands.now in
-        (start : List ℕ) → length start ≡ length forms.old →
-        ((r : ℕ) → r < length start → slice_index inputs.now (r * count + place) % m ≡ slice_index start r % m) →
-        (r : ℕ) → r < length start →
-        slice_index registers.new (r * count + place) ≡ value_at m (map (λ n. n % m) start) wholes result r }
-    ensures kept { (r i : ℕ) → r < length forms.old → i < count → i ≢ place →
-        slice_index registers.new (r * count + i) ≡ slice_index registers.old (r * count + i) }
+// How many of `count` commands a run carried out that ended so.
+fn carried_by(end: RunEnd, count: usize) -> usize
+    ensures done { end ≡ RunEnd.Done → result ≡ count }
+    ensures stopped { (at : ℕ) → end ≡ RunEnd.NoInverse at → result ≡ at }
 {
-    load_column(reducer, count, place, inputs, forms);
-    let end = run(reducer, forms, commands);
-    unload_column(reducer, count, place, forms, registers);
     match end {
-        RunEnd::Done => commands.len(),
+        RunEnd::Done => count,
         RunEnd::NoInverse { at } => at,
     }
 }
 
+// The end of a run that carried out so many of `count` commands.
+fn end_after(carried: usize, count: usize) -> RunEnd
+    ensures all { carried ≡ count → result ≡ RunEnd.Done }
+    ensures part { carried < count → result ≡ RunEnd.NoInverse carried }
+{
+    if carried == count {
+        RunEnd::Done
+    } else {
+        RunEnd::NoInverse { at: carried }
+    }
+}
+
+// The first place whose registers are those after `done` commands: this one, if fewer commands than before were carried out
+// here, otherwise the one before.
+fn first_kept(done: usize, before: usize, place: usize, again: usize) -> usize
+    requires { again ≤ place }
+    ensures most { result ≤ place }
+    ensures less { done < before → result ≡ place }
+    ensures all { before ≤ done → result ≡ again }
+{
+    if done < before { place } else { again }
+}
+
 impl<'a> System<'a> {
-    /// Whether the system's moduli are those of the reducers, in their order.
+    /// Whether the reducers have the system's moduli: in their order.
     ///
     /// # Examples
     ///
@@ -118,9 +113,10 @@ impl<'a> System<'a> {
         true
     }
 
-    /// Carries out the commands in order on numbers modulo the product M of the moduli, up to the first whose inverse
-    /// doesn't exist modulo M, that is, modulo one of the moduli. Each modulus has a reducer, over which the commands are
-    /// run as `num_modular::ring::run` does; a modulus is run twice where a later one stops before it.
+    /// Carries out commands up to the first missing inverse: in order, on numbers modulo the product M of the moduli,
+    /// up to the first whose inverse doesn't exist modulo M, that is, modulo one of the moduli. Each modulus has a
+    /// reducer, over which the commands are run as `num_modular::ring::run` does; a modulus is run twice where a later
+    /// one stops before it. Each of these runs reads the commands anew.
     ///
     /// A register takes as many words as there are moduli, and the registers stand one after the other in a list. The
     /// inputs are words that are congruent, modulo each modulus, to the numbers that the registers start with: such as the
@@ -129,9 +125,11 @@ impl<'a> System<'a> {
     /// commands that were carried out; `digits` returns the number. The contents of `forms`, which has one entry a
     /// register, are ignored, and so are those of `registers`.
     ///
-    /// Conditions: the moduli are those of the reducers (`has_moduli_of` tells); each register number is below the length
-    /// of `forms` (`commands_fit` of `num_modular::ring` tells); for each modulus, each entry of `forms` has an input
-    /// and room for a residue.
+    /// # Conditions
+    ///
+    /// - the moduli are those of the reducers (`has_moduli_of` tells)
+    /// - for each modulus, each entry of `forms` has an input and room for a residue
+    /// - (debug) each register number is below the length of `forms` (`commands_fit` of `num_modular::ring` tells)
     ///
     /// # Examples
     ///
@@ -151,6 +149,7 @@ impl<'a> System<'a> {
     /// assert_eq!(end, RunEnd::Done);
     /// assert_eq!(registers, [2, 2, 1, 1, 4, 2]); // 92, and 79, since 4 * 79 = 3 * 105 + 1
     /// ```
+    // rust: #[track_caller]
     pub fn run<R: Reducer<u64>, C: AsCommand<u64>>(
         &self,
         reducers: &[R],
@@ -181,43 +180,83 @@ impl<'a> System<'a> {
             (r : ℕ) → r < length start → AreResidues moduli (register (length moduli) registers.new r)
             (value_at (range_of moduli) start wholes (carried_out result wholes) r) }
     {
+        // rust: assert!(self.has_moduli_of(reducers), "the moduli must be those of the reducers");
+        // rust: debug_assert!(commands.iter().all(|c| crate::ring::commands_fit(&[c.command()], forms.len())),
+        // rust:     "each register number must be below the length of `forms`");
+        // rust: assert!(inputs.len() == forms.len() * reducers.len() && registers.len() == inputs.len(),
+        // rust:     "for each modulus, each entry of `forms` must have an input and room for a residue");
+        let carried = self.carry_out(reducers, commands, inputs, forms, registers);
+        end_after(carried, commands.len())
+    }
+
+    // Does as `run`, and returns how many commands were carried out.
+    fn carry_out<R: Reducer<u64>, C: AsCommand<u64>>(
+        &self,
+        reducers: &[R],
+        commands: &[C],
+        inputs: &[u64],
+        forms: &mut [u64],
+        registers: &mut [u64],
+    ) -> usize
+        requires reducers { map R.modulus reducers.now ≡ self.now.moduli.now }
+        requires fit { All (λ c. IsFit (length forms.old) (C.command c)) commands.now }
+        requires inputs { length inputs.now ≡ length forms.old * length self.now.moduli.now }
+        requires room { length registers.old ≡ length forms.old * length self.now.moduli.now }
+        ensures most { result ≤ length commands.now }
+        ensures run { let moduli = self.now.moduli.now in
+            let wholes = map (λ c. whole (λ n. n) (C.command c)) commands.now in
+            (start : List ℕ) → length start ≡ length forms.old → StartWith moduli inputs.now start →
+            IsRun moduli start wholes registers.new result }
+    {
         inverse_laws();
         remainder_laws();
         residue_laws();
-        let count = reducers.len();
         let mut carried = commands.len();
         let mut again = 0;
-        'moduli: for place in 0..count {
-            let done = run_column(
-                &reducers[place],
-                count,
-                place,
-                &commands[..carried],
-                inputs,
-                forms,
-                registers,
-            );
-            if done < carried {
-                again = place;
-            }
-            carried = done;
+        'moduli: for place in 0..self.moduli.len() {
+            let before = carried;
+            carried = self.run_column(reducers, place, commands, before, inputs, forms, registers);
+            again = first_kept(carried, before, place, again);
         }
         // The moduli before the one with the stop were run beyond it.
         'again: for place in 0..again {
-            run_column(
-                &reducers[place],
-                count,
-                place,
-                &commands[..carried],
-                inputs,
-                forms,
-                registers,
-            );
+            self.run_column(reducers, place, commands, carried, inputs, forms, registers);
         }
-        if carried == commands.len() {
-            RunEnd::Done
-        } else {
-            RunEnd::NoInverse { at: carried }
-        }
+        carried
+    }
+
+    // Runs the first `count` commands modulo one modulus, from the inputs at its place, and writes the residues there.
+    // Returns how many were carried out.
+    fn run_column<R: Reducer<u64>, C: AsCommand<u64>>(
+        &self,
+        reducers: &[R],
+        place: usize,
+        commands: &[C],
+        count: usize,
+        inputs: &[u64],
+        forms: &mut [u64],
+        registers: &mut [u64],
+    ) -> usize
+        requires reducers { map R.modulus reducers.now ≡ self.now.moduli.now }
+        requires within { place < length self.now.moduli.now }
+        requires count { count ≤ length commands.now }
+        requires fit { All (λ c. IsFit (length forms.old) (C.command c)) commands.now }
+        requires inputs { length inputs.now ≡ length forms.old * length self.now.moduli.now }
+        requires room { length registers.old ≡ length forms.old * length self.now.moduli.now }
+        ensures most { result ≤ count }
+        ensures run { let moduli = self.now.moduli.now in
+            let wholes = map (λ c. whole (λ n. n) (C.command c)) commands.now in
+            (start : List ℕ) → length start ≡ length forms.old → StartWith moduli inputs.now start →
+            IsColumnRun moduli place start wholes count registers.new result }
+        ensures kept { let n = length self.now.moduli.now in
+            (r i : ℕ) → r < length forms.old → i < n → i ≢ place →
+            slice_index registers.new (r * n + i) ≡ slice_index registers.old (r * n + i) }
+    {
+        let moduli = self.moduli.len();
+        let reducer = &reducers[place];
+        load_column(reducer, moduli, place, inputs, forms);
+        let end = run(reducer, forms, &commands[..count]);
+        unload_column(reducer, moduli, place, forms, registers);
+        carried_by(end, count)
     }
 }

@@ -4,8 +4,8 @@ ghost use Rattle.std.specs.Prelude.{◌≡◌, ◌≢◌, ℕ, ◌+◌, ◌-◌,
 ghost use Rattle.num_modular.specs.Polynomials.{HaveUnitDifferences};
 ghost use Rattle.ring_codes.specs.Erasure.{IsEncoding, IsErasureCodeword, distance};
 
-/// Singleton's bound, for any code: words of n symbols below m, any two of which differ in at least d places, where
-/// 1 ≤ d ≤ n, are at most m^(n - d + 1).
+/// A law, Singleton's bound: for any code, words of n symbols below m, any two of which differ in at least d places,
+/// where 1 ≤ d ≤ n, are at most m^(n - d + 1).
 ///
 /// A code that meets the bound is called maximum distance separable (MDS). Reed and Solomon's is one: it has m^k words,
 /// and d = n - k + 1 (`distance_laws`).
@@ -18,10 +18,10 @@ pub fn singleton_law()
         size ≤ m ^ (n - d + 1) }
 {}
 
-/// The words of two messages of k symbols that differ modulo m differ in at least n - k + 1 of n symbols, and so do
-/// two different words. So changing at most n - k symbols of a word never gives a word. The bound is met: if k is at
-/// least 1 and m at least 2, the words of some two such messages differ in exactly n - k + 1 symbols, for example those
-/// of (X - p_1)·..·(X - p_(k-1)) and of 0.
+/// A law, the distance of words: those of two messages of k symbols that differ modulo m differ in at least n - k + 1
+/// of n symbols, and so do two different words. So changing at most n - k symbols of a word never gives a word. The
+/// bound is met: if k is at least 1 and m at least 2, the words of some two such messages differ in exactly n - k + 1
+/// symbols, for example those of (X - p_1)·..·(X - p_(k-1)) and of 0.
 ///
 /// Source: Reed and Solomon, "Polynomial codes over certain finite fields"; Singleton, "Maximum distance
 /// q-nary codes".

@@ -4,18 +4,23 @@
 //! its locator E.
 
 ghost use Rattle.std.specs.Prelude.{◌≡◌, ◌≢◌, ℕ, zero, suc, ◌+◌, ◌*◌, ◌%◌, ◌<◌, ◌≤◌};
-ghost use Rattle.std.specs.Prelude.{◌^◌, All, IsOk, IfOk, IfErr, length, take, drop};
+ghost use Rattle.std.specs.Prelude.{◌^◌, All, IsOk, IfOk, IfErr, MatchResult, length, take, drop};
 ghost use Rattle.num_modular.specs.Congruence.{Congruent};
 ghost use Rattle.num_modular.specs.Entries.{entry};
 ghost use Rattle.num_modular.specs.Forms.{IsForm};
-ghost use Rattle.num_modular.specs.Polynomials.{polynomial};
+ghost use Rattle.num_modular.specs.Polynomials.{polynomial_at};
+ghost use Rattle.ring_codes.specs.KeyAdvance.{AreAdvanced};
 ghost use Rattle.ring_codes.specs.KeyEquations.{shifted, IsKeyPair, AreKeyPairs, IsWithoutInverse};
 
 use super::evaluate;
 use num_modular::{Reducer, RingWord};
 
-/// The form of N(x) - y·E(x), for a point x with the symbol y. Conditions: all are checked forms; the numerator is
-/// within the pair.
+/// The form of N(x) - y·E(x), for a point x with the symbol y.
+///
+/// # Preconditions
+///
+/// - point, symbol and pair are checked forms
+/// - the numerator is within the pair
 pub fn discrepancy<T: RingWord, R: Reducer<T>>(
     r: &R,
     point: &T,
@@ -28,11 +33,10 @@ pub fn discrepancy<T: RingWord, R: Reducer<T>>(
     requires pair { All (λ f. IsForm R.form R.value (R.modulus r.now) (T.number f)) pair.now }
     requires within { split ≤ length pair.now }
     ensures checked { IsForm R.form R.value (R.modulus r.now) (T.number result) }
-    ensures value { let m = R.modulus r.now in let x = R.value m (T.number point.now) in
-        (d : ℕ) → length pair.now ≡ split + d →
-        Congruent m (R.value m (T.number result) + R.value m (T.number symbol.now)
-        * polynomial d (entry T.number R.value m (drop split pair.now)) x)
-        (polynomial split (entry T.number R.value m (take split pair.now)) x) }
+    ensures value { let m = R.modulus r.now in let entries = entry T.number R.value m in (d x y : ℕ) →
+        length pair.now ≡ split + d → x ≡ R.value m (T.number point.now) → y ≡ R.value m (T.number symbol.now) →
+        Congruent m (R.value m (T.number result) + y * polynomial_at d (entries (drop split pair.now)) x)
+        (polynomial_at split (entries (take split pair.now)) x) }
 {
     let value = evaluate(r, &pair[..split], point);
     let located = evaluate(r, &pair[split..], point);
@@ -40,8 +44,11 @@ pub fn discrepancy<T: RingWord, R: Reducer<T>>(
     r.sub(&value, &product)
 }
 
-/// Multiplies a polynomial by X - x, in place; the coefficient that has no place is dropped. Condition: all are
-/// checked forms.
+/// Multiplies a polynomial by X - x, in place; the coefficient that has no place is dropped.
+///
+/// # Preconditions
+///
+/// - point and coefficients are checked forms
 pub fn multiply_by_root<T: RingWord, R: Reducer<T>>(r: &R, point: &T, coefficients: &mut [T])
     requires point { IsForm R.form R.value (R.modulus r.now) (T.number point.now) }
     requires coefficients { All (λ f. IsForm R.form R.value (R.modulus r.now) (T.number f)) coefficients.old }
@@ -60,8 +67,12 @@ pub fn multiply_by_root<T: RingWord, R: Reducer<T>>(r: &R, point: &T, coefficien
     }
 }
 
-/// Replaces each coefficient c by a·c - b·p, p being the other polynomial's. Conditions: all are checked forms; the
-/// polynomials have as many coefficients.
+/// Replaces each coefficient c by a·c - b·p, p being the other polynomial's.
+///
+/// # Preconditions
+///
+/// - all are checked forms
+/// - the polynomials have as many coefficients
 pub fn eliminate<T: RingWord, R: Reducer<T>>(
     r: &R,
     a: &T,
@@ -87,7 +98,11 @@ pub fn eliminate<T: RingWord, R: Reducer<T>>(
     }
 }
 
-/// Writes 1 at a place, and 0 elsewhere. Condition: there is such a place.
+/// Writes 1 at a place, and 0 elsewhere.
+///
+/// # Preconditions
+///
+/// - the list has that place
 pub fn set_unit<T: RingWord, R: Reducer<T>>(r: &R, place: usize, coefficients: &mut [T])
     requires { place < length coefficients.old }
     ensures checked { All (λ f. IsForm R.form R.value (R.modulus r.now) (T.number f)) coefficients.new }
@@ -102,7 +117,12 @@ pub fn set_unit<T: RingWord, R: Reducer<T>>(r: &R, place: usize, coefficients: &
     coefficients[place] = one;
 }
 
-/// Multiplies a pair by X - x. Conditions: all are checked forms; the numerator is within the pair.
+/// Multiplies a pair by X - x.
+///
+/// # Preconditions
+///
+/// - point and pair are checked forms
+/// - the numerator is within the pair
 pub fn raise<T: RingWord, R: Reducer<T>>(r: &R, point: &T, pair: &mut [T], split: usize)
     requires point { IsForm R.form R.value (R.modulus r.now) (T.number point.now) }
     requires pair { All (λ f. IsForm R.form R.value (R.modulus r.now) (T.number f)) pair.old }
@@ -120,9 +140,12 @@ pub fn raise<T: RingWord, R: Reducer<T>>(r: &R, point: &T, pair: &mut [T], split
     multiply_by_root(r, point, locator);
 }
 
-/// With the discrepancies p of the pivot and d of the other pair at a point x, replaces the other pair by
-/// p·other - d·pivot and multiplies the pivot by X - x. Where p has no inverse, it returns p instead. Conditions: all
-/// are checked forms, p isn't 0, both pairs have as many coefficients, and the numerators are within them.
+/// With the discrepancies p of the pivot and d of the other pair at a point x, replaces the other pair by p·other -
+/// d·pivot and multiplies the pivot by X - x. Where p has no inverse, it returns p instead.
+///
+/// # Preconditions
+///
+/// - all are checked forms, p isn't 0, both pairs have as many coefficients, and the numerators are within them
 pub fn reduce<T: RingWord, R: Reducer<T>>(
     r: &R,
     point: &T,
@@ -156,10 +179,10 @@ pub fn reduce<T: RingWord, R: Reducer<T>>(
         let ol = entry T.number R.value m (drop split other.old) in
         IsOk result → (d k i u v : ℕ) (x y : ℕ → ℕ) →
         length other.old ≡ split + d → d + k ≡ split + 1 → v < 2 * split → u < v →
-        Congruent m (R.value m (T.number pivot_discrepancy.now) + y i * polynomial d pl (x i))
-        (polynomial split pn (x i)) →
-        Congruent m (R.value m (T.number discrepancy.now) + y i * polynomial d ol (x i))
-        (polynomial split on (x i)) →
+        Congruent m (R.value m (T.number pivot_discrepancy.now) + y i * polynomial_at d pl (x i))
+        (polynomial_at split pn (x i)) →
+        Congruent m (R.value m (T.number discrepancy.now) + y i * polynomial_at d ol (x i))
+        (polynomial_at split on (x i)) →
         IsKeyPair m k split d i u x y pn pl → IsKeyPair m k split d i v x y on ol →
         IsKeyPair m k split d (i + 1) v x y (entry T.number R.value m (take split other.new))
         (entry T.number R.value m (drop split other.new)) }
@@ -174,9 +197,12 @@ pub fn reduce<T: RingWord, R: Reducer<T>>(
     }
 }
 
-/// Makes two pairs solve the key equation at one more point, and returns their new weights. Where a number without an
-/// inverse modulo m is in the way, it returns that number. Conditions: all are checked forms, both pairs have as many
-/// coefficients, and the numerators are within them.
+/// Makes two pairs solve the key equation at one more point, and returns their new weights. Where a number without
+/// an inverse modulo m is in the way, it returns that number.
+///
+/// # Preconditions
+///
+/// - all are checked forms, both pairs have as many coefficients, and the numerators are within them
 pub fn advance<T: RingWord, R: Reducer<T>>(
     r: &R,
     point: &T,
@@ -193,19 +219,11 @@ pub fn advance<T: RingWord, R: Reducer<T>>(
     requires equal { length first.old ≡ length second.old }
     requires within { split ≤ length first.old }
     requires few { weights.0 + weights.1 + 1 < 2 ^ 64 }
-    ensures inverse { IfErr result (λ a. IsWithoutInverse (R.modulus r.now) (T.number a)) }
-    ensures checked_first { IsOk result → All (λ f. IsForm R.form R.value (R.modulus r.now) (T.number f)) first.new }
-    ensures checked_second { IsOk result → All (λ f. IsForm R.form R.value (R.modulus r.now) (T.number f)) second.new }
-    ensures weights { IfOk result (λ w. w.0 + w.1 ≤ weights.0 + weights.1 + 1) }
-    ensures pairs { let m = R.modulus r.now in IfOk result (λ w. (d k i : ℕ) (x y : ℕ → ℕ) →
-        length first.old ≡ split + d → d + k ≡ split + 1 → x i ≡ R.value m (T.number point.now) →
-        y i ≡ R.value m (T.number symbol.now) →
-        AreKeyPairs m k split d i weights.0 weights.1 x y
-        (entry T.number R.value m (take split first.old)) (entry T.number R.value m (drop split first.old))
-        (entry T.number R.value m (take split second.old)) (entry T.number R.value m (drop split second.old)) →
-        AreKeyPairs m k split d (i + 1) w.0 w.1 x y
-        (entry T.number R.value m (take split first.new)) (entry T.number R.value m (drop split first.new))
-        (entry T.number R.value m (take split second.new)) (entry T.number R.value m (drop split second.new))) }
+    ensures { let m = R.modulus r.now in MatchResult result
+        (λ w. AreAdvanced (λ f. IsForm R.form R.value m (T.number f)) (entry T.number R.value m) m split
+        (R.value m (T.number point.now)) (R.value m (T.number symbol.now)) first.old second.old weights.0 weights.1
+        first.new second.new w.0 w.1)
+        (λ a. IsWithoutInverse m (T.number a)) }
 {
     let first_discrepancy = discrepancy(r, point, symbol, first, split);
     let second_discrepancy = discrepancy(r, point, symbol, second, split);
@@ -249,13 +267,19 @@ pub fn advance<T: RingWord, R: Reducer<T>>(
     }
 }
 
-/// Finds two pairs that solve the key equation at s points, and returns their weights, of which one is small: they add
-/// up to at most s + k - 1. The pairs at the start are (1, 0) and (0, 1), with the weights 0 and k - 1. Conditions:
-/// points and symbols are checked forms; each point has its symbol; k is at least 1; both numerators have `split`
-/// coefficients, the locators k - 1 fewer, but one at least. What the pairs hold before is ignored.
+/// Finds two pairs that solve the key equation at s points, and returns their weights, of which one is small: they
+/// add up to at most s + k - 1. The pairs at the start are (1, 0) and (0, 1), with the weights 0 and k - 1. What
+/// the pairs hold before is ignored.
 ///
 /// Source: Kötter, "On algebraic decoding of algebraic-geometric and cyclic codes"; without division, as Berlekamp,
 /// "Bounded distance + 1 soft-decision Reed-Solomon decoding".
+///
+/// # Preconditions
+///
+/// - points and symbols are checked forms
+/// - each point has its symbol
+/// - k is at least 1
+/// - both numerators have `split` coefficients, the locators k - 1 fewer, but one at least
 pub fn solve<T: RingWord, R: Reducer<T>>(
     r: &R,
     points: &[T],

@@ -5,14 +5,18 @@ ghost use Rattle.num_modular.specs.Congruence.{Congruent};
 ghost use Rattle.num_modular.specs.Entries.{entry};
 ghost use Rattle.num_modular.specs.Forms.{IsForm};
 ghost use Rattle.num_modular.specs.Inverses.{IsInverse};
-ghost use Rattle.num_modular.specs.Polynomials.{polynomial};
+ghost use Rattle.num_modular.specs.Polynomials.{polynomial_at};
 ghost use Rattle.num_modular.specs.Products.{product_below};
 ghost use Rattle.ring_codes.specs.Newton.{difference, newton_form};
 
 use num_modular::{Reducer, RingWord};
 
-/// The form of the product of the differences of a point and each point before it. Conditions: the points are
-/// checked forms; there is a point at the place.
+/// The form of the product of the differences of a point and each point before it.
+///
+/// # Preconditions
+///
+/// - the points are checked forms
+/// - there is a point at the place
 pub fn differences_before<T: RingWord, R: Reducer<T>>(r: &R, points: &[T], place: usize) -> T
     requires checked { All (λ f. IsForm R.form R.value (R.modulus r.now) (T.number f)) points.now }
     requires within { place < length points.now }
@@ -29,7 +33,12 @@ pub fn differences_before<T: RingWord, R: Reducer<T>>(r: &R, points: &[T], place
 }
 
 /// Writes, for each point, the product of its differences from those before it, for as many points as there are
-/// weights. Conditions: the points are checked forms; there are as many points as weights or more.
+/// weights.
+///
+/// # Preconditions
+///
+/// - the points are checked forms
+/// - there are as many points as weights or more
 pub fn fill_weights<T: RingWord, R: Reducer<T>>(r: &R, points: &[T], weights: &mut [T])
     requires checked { All (λ f. IsForm R.form R.value (R.modulus r.now) (T.number f)) points.now }
     requires within { length weights.old ≤ length points.now }
@@ -43,8 +52,12 @@ pub fn fill_weights<T: RingWord, R: Reducer<T>>(r: &R, points: &[T], weights: &m
     }
 }
 
-/// The value at a point of Newton's form with the first `count` coefficients. Conditions: all are checked
-/// forms; there are at least `count` points and coefficients.
+/// The value at a point of Newton's form with the first `count` coefficients.
+///
+/// # Preconditions
+///
+/// - points, form and point are checked forms
+/// - there are at least `count` points and coefficients
 pub fn newton_value<T: RingWord, R: Reducer<T>>(
     r: &R,
     points: &[T],
@@ -72,9 +85,14 @@ pub fn newton_value<T: RingWord, R: Reducer<T>>(
     value
 }
 
-/// Replaces the values at the points by the coefficients of Newton's form, by divided differences: the difference of
-/// each value and of the form so far is divided once. Conditions: all are checked forms; there are as many points and
-/// inverses as values or more; each inverse is that of the product of the point's differences from those before it.
+/// Replaces the values at the points by the coefficients of Newton's form, by divided differences: the difference
+/// of each value and of the form so far is divided once.
+///
+/// # Preconditions
+///
+/// - points, inverses and values are checked forms
+/// - there are as many points and inverses as values or more
+/// - each inverse is that of the product of the point's differences from those before it
 pub fn divide_differences<T: RingWord, R: Reducer<T>>(
     r: &R,
     points: &[T],
@@ -102,8 +120,12 @@ pub fn divide_differences<T: RingWord, R: Reducer<T>>(
     }
 }
 
-/// Subtracts, from each value from an index on but the last, the point times the next value. Conditions: all are
-/// checked forms; there is a value at the place.
+/// Subtracts, from each value from an index on but the last, the point times the next value.
+///
+/// # Preconditions
+///
+/// - point and values are checked forms
+/// - there is a value at the place
 pub fn subtract_multiples<T: RingWord, R: Reducer<T>>(
     r: &R,
     point: &T,
@@ -129,15 +151,19 @@ pub fn subtract_multiples<T: RingWord, R: Reducer<T>>(
     }
 }
 
-/// Replaces the coefficients of Newton's form by those of the polynomial, the constant first. Conditions: all are
-/// checked forms; there are as many points as coefficients or more.
+/// Replaces the coefficients of Newton's form by those of the polynomial, the constant first.
+///
+/// # Preconditions
+///
+/// - points and form are checked forms
+/// - there are as many points as coefficients or more
 pub fn expand<T: RingWord, R: Reducer<T>>(r: &R, points: &[T], form: &mut [T])
     requires points { All (λ f. IsForm R.form R.value (R.modulus r.now) (T.number f)) points.now }
     requires form { All (λ f. IsForm R.form R.value (R.modulus r.now) (T.number f)) form.old }
     requires within { length form.old ≤ length points.now }
     ensures checked { All (λ f. IsForm R.form R.value (R.modulus r.now) (T.number f)) form.new }
     ensures same { let m = R.modulus r.now in (a : ℕ) →
-        Congruent m (polynomial (length form.old) (entry T.number R.value m form.new) a)
+        Congruent m (polynomial_at (length form.old) (entry T.number R.value m form.new) a)
         (newton_form m (length form.old) (entry T.number R.value m form.old)
         (entry T.number R.value m points.now) a) }
 {

@@ -14,10 +14,15 @@ use num_modular::ring::ntt;
 use num_modular::word::PlainWord;
 use num_modular::{Reducer, RingWord};
 
-/// Writes the points g^0, g^1, .. modulo m, as many as the list holds. Condition: g is a checked form.
+/// Writes the points g^0, g^1, ..: modulo m, as many as the list holds.
 ///
-/// Where m is odd and g suits their number n (`root_fits` tells), the points fit (`root_laws`): `restore`, `correct` and
-/// the other calls accept them.
+// rust instead: /// Where m is odd and g suits their number n (`root_fits` tells), the points fit: `restore`,
+/// Where m is odd and g suits their number n (`root_fits` tells), the points fit (`root_laws`): `restore`,
+/// `correct` and the other calls accept them.
+///
+/// # Conditions
+///
+/// - (debug) g is a checked form
 ///
 /// # Examples
 ///
@@ -31,12 +36,14 @@ use num_modular::{Reducer, RingWord};
 /// assert_eq!(points, [1, 13, 84, 72]);
 /// assert!(points_fit(&ring, &points));
 /// ```
+// rust: #[cfg_attr(debug_assertions, track_caller)]
 pub fn fill_powers<T: RingWord, R: Reducer<T>>(r: &R, g: &T, points: &mut [T])
     requires { IsForm R.form R.value (R.modulus r.now) (T.number g.now) }
     ensures checked { All (λ f. IsForm R.form R.value (R.modulus r.now) (T.number f)) points.new }
     ensures powers { let m = R.modulus r.now in
         ArePowers m (R.value m (T.number g.now)) (length points.old) (entry T.number R.value m points.new) }
 {
+    // rust: debug_assert!(r.check(g), "g must be a checked form");
     let mut power = r.transform(T::one());
     'powers: for i in 0..points.len() {
         points[i] = power;
@@ -44,13 +51,17 @@ pub fn fill_powers<T: RingWord, R: Reducer<T>>(r: &R, g: &T, points: &mut [T])
     }
 }
 
-/// Writes the word of a message at the points g^0, .., g^(n - 1), n being the length of the word: what `encode` writes
-/// at these points, by one transform instead of n·k products.
-///
-/// Conditions: n is a power of two; g and the message are checked forms; g suits n (`root_fits` tells); the message has
-/// at most n symbols.
+/// Writes the word at the powers of a root: at the points g^0, .., g^(n - 1), n being the length of the word, it is
+/// what `encode` writes, by one transform instead of n·k products.
 ///
 /// Source: `ntt` of the message followed by zeros.
+///
+/// # Conditions
+///
+/// - n is a power of two
+/// - g suits n (`root_fits` tells)
+/// - the message has at most n symbols
+/// - (debug) g and the message are checked forms
 ///
 /// # Examples
 ///
@@ -64,6 +75,7 @@ pub fn fill_powers<T: RingWord, R: Reducer<T>>(r: &R, g: &T, points: &mut [T])
 /// encode(&ring, &[1, 13, 84, 72], &[1, 2, 3], &mut same);
 /// assert_eq!((word, same), ([6, 24, 2, 57], [6, 24, 2, 57]));
 /// ```
+// rust: #[track_caller]
 pub fn encode_by_transform<T: RingWord, R: Reducer<T>>(r: &R, g: &T, message: &[T], word: &mut [T])
     requires root { IsForm R.form R.value (R.modulus r.now) (T.number g.now) }
     requires message { All (λ f. IsForm R.form R.value (R.modulus r.now) (T.number f)) message.now }
@@ -75,6 +87,11 @@ pub fn encode_by_transform<T: RingWord, R: Reducer<T>>(r: &R, g: &T, message: &[
         IsEncoding m (length message.now) (length word.old) points
         (entry T.number R.value m message.now) (entry T.number R.value m word.new) }
 {
+    // rust: assert!(word.len().is_power_of_two(), "n must be a power of two");
+    // rust: debug_assert!(r.check(g) && message.iter().all(|x| r.check(x)), "g and the message must be checked forms");
+    // rust: assert!(r.check(g) && crate::ring::root_fits(r, g, word.len()), "g must suit n");
+    // rust: assert!(message.len() <= word.len(), "the message must have at most n symbols: {} and {}", message.len(),
+    // rust:     word.len());
     let zero = r.transform(T::zero());
     'symbols: for i in 0..word.len() {
         word[i] = if i < message.len() { message[i] } else { zero };
@@ -82,12 +99,16 @@ pub fn encode_by_transform<T: RingWord, R: Reducer<T>>(r: &R, g: &T, message: &[
     ntt(r, word, g);
 }
 
-/// Writes the word of a message at the points g^0, .., g^(n - 1), g being the root of a plan for n entries: one transform
-/// with the plan's table. Symbols are plain words, and those of the word are below m.
-///
-/// Conditions: the word has n places (`Plan::fits` tells); the message has at most n symbols; the symbols are below 4m.
+/// Writes the word at the powers of a root: at the points g^0, .., g^(n - 1), g being the root of a plan for n entries,
+/// by one transform with the plan's table. Symbols are plain words, and those of the word are below m.
 ///
 /// Source: `Plan::transform` of the message followed by zeros.
+///
+/// # Conditions
+///
+/// - the word has n places (`Plan::fits` tells)
+/// - the message has at most n symbols
+/// - (debug) the symbols are below 4m
 ///
 /// # Examples
 ///
@@ -102,6 +123,7 @@ pub fn encode_by_transform<T: RingWord, R: Reducer<T>>(r: &R, g: &T, message: &[
 /// encode_by_plan(&plan, &[1, 2, 3], &mut word);
 /// assert_eq!(word, [6, 42, 2, 51]);
 /// ```
+// rust: #[track_caller]
 pub fn encode_by_plan<T: PlainWord, F: PlanEntry<T>>(
     plan: &Plan<T, F>,
     message: &[T],
@@ -116,6 +138,10 @@ pub fn encode_by_plan<T: PlainWord, F: PlanEntry<T>>(
         IsEncoding m (length message.now) (length word.old) points
         (numbers T.number message.now) (numbers T.number word.new) }
 {
+    // rust: assert!(plan.fits(word.len()), "the word must have n places");
+    // rust: assert!(message.len() <= word.len(), "the message must have at most n symbols: {} and {}", message.len(),
+    // rust:     word.len());
+    // rust: debug_assert!(message.iter().all(|x| plan.modulus().has_room(*x)), "the symbols must be below 4m");
     'symbols: for i in 0..word.len() {
         word[i] = if i < message.len() {
             message[i]
@@ -126,9 +152,9 @@ pub fn encode_by_plan<T: PlainWord, F: PlanEntry<T>>(
     plan.transform(word);
 }
 
-/// Where m is odd and g suits n, the points g^0, .., g^(n - 1) fit: the difference of any two has an inverse modulo
-/// m. At these points the word of a message of k symbols is its transform by g, the message being followed by n - k
-/// zeros.
+/// A law, powers of a root as points: where m is odd and g suits n, the points g^0, .., g^(n - 1) fit, as the
+/// difference of any two has an inverse modulo m. At these points the word of a message of k symbols is its transform
+/// by g, the message being followed by n - k zeros.
 ///
 /// For g^i and g^j with i > j the difference is g^j·(g^(i - j) - 1), and the second factor divides -2, the last power
 /// being -1 after some squarings of g^(i - j).

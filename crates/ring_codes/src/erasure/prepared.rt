@@ -33,7 +33,10 @@ use num_modular::{Reducer, RingWord};
 /// code.extend(message, checks);
 /// assert_eq!(word, [3, 2, 1, 0, 928, 927, 926]);
 /// ```
+// rust instead: #[derive(Debug)]
 #[derive(Drop)]
+// rust: #[must_use]
+// rust instead: pub struct PreparedCode<'a, T, R> {
 pub struct PreparedCode<'a, T: RingWord, R: Reducer<T>> {
     ring: &'a R,
     known: &'a [T],
@@ -53,15 +56,19 @@ pub struct PreparedCode<'a, T: RingWord, R: Reducer<T>> {
 }
 
 impl<'a, T: RingWord, R: Reducer<T>> PreparedCode<'a, T, R> {
-    /// Fills the rows, t·k for k known and t wanted points, and returns the code. `None` exactly where the known points
+    /// Fills the rows and returns the code: t·k for k known and t wanted points. `None` exactly where the known points
     /// don't fit.
-    ///
-    /// Conditions: the points are checked forms; there are t·k rows; there are 2·k places of scratch.
     ///
     /// The contents of `scratch` are ignored, and unspecified afterwards. The contents of `rows` are ignored, and
     /// unspecified after `None`. It takes about 3·k² + 4·t·k products and one inversion.
     ///
     /// Source: Lagrange's form: Knuth, The Art of Computer Programming, volume 2, section 4.6.4.
+    ///
+    /// # Conditions
+    ///
+    /// - there are t·k rows
+    /// - there are 2·k places of scratch
+    /// - (debug) the points are checked forms
     ///
     /// # Examples
     ///
@@ -74,6 +81,7 @@ impl<'a, T: RingWord, R: Reducer<T>> PreparedCode<'a, T, R> {
     /// assert!(PreparedCode::new(&ring, &[0, 1], &[2], &mut rows, &mut scratch).is_some());
     /// assert!(PreparedCode::new(&ring, &[0, 3], &[2], &mut rows, &mut scratch).is_none()); // 3 has no inverse
     /// ```
+    // rust: #[track_caller]
     pub fn new(
         ring: &'a R,
         known: &'a [T],
@@ -89,6 +97,11 @@ impl<'a, T: RingWord, R: Reducer<T>> PreparedCode<'a, T, R> {
             (HaveUnitDifferences m (length known.now) (entry T.number R.value m known.now) → ⊥)
             (λ made. (made.ring.now ≡ ring.now) × (made.known.now ≡ known.now) × (made.wanted.now ≡ wanted.now)) }
     {
+        // rust: debug_assert!(known.iter().chain(wanted).all(|x| ring.check(x)), "the points must be checked forms");
+        // rust: assert!(rows.len() == wanted.len() * known.len(), "there must be t·k rows: {} and {}", rows.len(),
+        // rust:     wanted.len()*known.len());
+        // rust: assert!(scratch.len() == 2 * known.len(), "there must be 2·k places of scratch: {} and {}",
+        // rust:     scratch.len(), 2*known.len());
         let (weights, row) = scratch.split_at_mut(known.len());
         if !fill_weights(ring, known, row, weights) {
             return None;
@@ -102,11 +115,16 @@ impl<'a, T: RingWord, R: Reducer<T>> PreparedCode<'a, T, R> {
         })
     }
 
-    /// Writes the symbols at the t wanted points to `others`, given the `symbols` at the k known points: both are of the
-    /// word of one message of k symbols, the only one with the given symbols.
+    /// Writes the symbols at the wanted points: to `others`, given the `symbols` at the k known points, so that both
+    /// are of the word of one message of k symbols, the only one with the given symbols.
     ///
-    /// Conditions: the symbols are checked forms; there is a symbol for each known point; `others` has a place for each
-    /// wanted point. It takes t·k products.
+    /// It takes t·k products.
+    ///
+    /// # Conditions
+    ///
+    /// - there is a symbol for each known point
+    /// - `others` has a place for each wanted point
+    /// - (debug) the symbols are checked forms
     ///
     /// # Examples
     ///
@@ -121,6 +139,7 @@ impl<'a, T: RingWord, R: Reducer<T>> PreparedCode<'a, T, R> {
     /// code.extend(&[121, 6, 57], &mut lost);
     /// assert_eq!(lost, [1, 17]);
     /// ```
+    // rust: #[track_caller]
     pub fn extend(&self, symbols: &[T], others: &mut [T])
         requires symbols { All (λ f. IsForm R.form R.value (R.modulus self.now.ring.now) (T.number f)) symbols.now }
         requires given { length symbols.now ≡ length self.now.known.now }
@@ -139,14 +158,24 @@ impl<'a, T: RingWord, R: Reducer<T>> PreparedCode<'a, T, R> {
             IsEncoding m k (length self.now.wanted.now) (entry T.number R.value m self.now.wanted.now) message
             (entry T.number R.value m others.new) }
     {
+        // rust: debug_assert!(symbols.iter().all(|x| self.ring.check(x)), "the symbols must be checked forms");
+        // rust: assert!(symbols.len() == self.known.len(), "there must be a symbol for each known point: {} and {}",
+        // rust:     symbols.len(), self.known.len());
+        // rust: assert!(others.len() == self.wanted.len(),
+        // rust:     "`others` must have a place for each wanted point: {} and {}", others.len(), self.wanted.len());
         'wanted: for j in 0..self.wanted.len() {
             others[j] = row_value(self.ring, self.rows, j * symbols.len(), symbols);
         }
     }
 
-    /// Whether `symbols`, at the k known points, and `others`, at the t wanted points, are of the word of one message of k
-    /// symbols. Conditions: the symbols are checked forms; `symbols` has a symbol for each known point; `others` has a
-    /// symbol for each wanted point. It takes at most t·k products.
+    /// Whether all symbols are of one word: `symbols`, at the k known points, and `others`, at the t wanted points, of
+    /// one message of k symbols. It takes at most t·k products.
+    ///
+    /// # Conditions
+    ///
+    /// - `symbols` has a symbol for each known point
+    /// - `others` has a symbol for each wanted point
+    /// - (debug) the symbols are checked forms
     ///
     /// # Examples
     ///
@@ -160,6 +189,7 @@ impl<'a, T: RingWord, R: Reducer<T>> PreparedCode<'a, T, R> {
     /// assert!(code.is_codeword(&[3, 2, 1], &[0, 928]));
     /// assert!(!code.is_codeword(&[3, 2, 1], &[0, 927]));
     /// ```
+    // rust: #[track_caller]
     pub fn is_codeword(&self, symbols: &[T], others: &[T]) -> bool
         requires symbols { All (λ f. IsForm R.form R.value (R.modulus self.now.ring.now) (T.number f)) symbols.now }
         requires others { All (λ f. IsForm R.form R.value (R.modulus self.now.ring.now) (T.number f)) others.now }
@@ -172,6 +202,12 @@ impl<'a, T: RingWord, R: Reducer<T>> PreparedCode<'a, T, R> {
             IsEncoding m k (length self.now.wanted.now) (entry T.number R.value m self.now.wanted.now) message
             (entry T.number R.value m others.now)) }
     {
+        // rust: debug_assert!(symbols.iter().chain(others).all(|x| self.ring.check(x)),
+        // rust:     "the symbols must be checked forms");
+        // rust: assert!(symbols.len() == self.known.len(),
+        // rust:     "`symbols` must have a symbol for each known point: {} and {}", symbols.len(), self.known.len());
+        // rust: assert!(others.len() == self.wanted.len(),
+        // rust:     "`others` must have a symbol for each wanted point: {} and {}", others.len(), self.wanted.len());
         'wanted: for j in 0..others.len() {
             let symbol = row_value(self.ring, self.rows, j * symbols.len(), symbols);
             if symbol != others[j] {

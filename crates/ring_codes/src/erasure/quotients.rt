@@ -6,15 +6,19 @@ ghost use Rattle.num_modular.specs.Congruence.{Congruent};
 ghost use Rattle.num_modular.specs.Entries.{entry};
 ghost use Rattle.num_modular.specs.Forms.{IsForm};
 ghost use Rattle.num_modular.specs.Inverses.{HasInverse};
-ghost use Rattle.num_modular.specs.Polynomials.{polynomial, HaveUnitDifferences};
+ghost use Rattle.num_modular.specs.Polynomials.{polynomial_at, HaveUnitDifferences};
 ghost use Rattle.ring_codes.specs.Erasure.{distance};
 ghost use Rattle.ring_codes.specs.KeyEquations.{IsKeyPair, AreKeyPairs, AreQuotients, IsQuotient, IsWithoutInverse};
 
 use super::{evaluate, interpolate};
 use num_modular::{Reducer, RingWord};
 
-/// The form of N(x)/E(x); `None` where E(x) is 0 and has no inverse. Where E(x) is another number without an inverse
-/// modulo m, it returns that number. Condition: all are checked forms.
+/// The form of N(x)/E(x); `None` where E(x) is 0 and has no inverse. Where E(x) is another number without an
+/// inverse modulo m, it returns that number.
+///
+/// # Preconditions
+///
+/// - point, numerator and locator are checked forms
 pub fn quotient<T: RingWord, R: Reducer<T>>(
     r: &R,
     point: &T,
@@ -26,8 +30,8 @@ pub fn quotient<T: RingWord, R: Reducer<T>>(
     requires locator { All (λ f. IsForm R.form R.value (R.modulus r.now) (T.number f)) locator.now }
     ensures inverse { IfErr result (λ a. IsWithoutInverse (R.modulus r.now) (T.number a)) }
     ensures quotient { let m = R.modulus r.now in let x = R.value m (T.number point.now) in
-        let n = polynomial (length numerator.now) (entry T.number R.value m numerator.now) x in
-        let e = polynomial (length locator.now) (entry T.number R.value m locator.now) x in
+        let n = polynomial_at (length numerator.now) (entry T.number R.value m numerator.now) x in
+        let e = polynomial_at (length locator.now) (entry T.number R.value m locator.now) x in
         IfOk result (λ found. MatchOption found ((e % m ≡ 0) × (HasInverse m 0 → ⊥))
         (λ f. IsForm R.form R.value m (T.number f) × IsQuotient m n e (R.value m (T.number f)))) }
 {
@@ -47,9 +51,14 @@ pub fn quotient<T: RingWord, R: Reducer<T>>(
     }
 }
 
-/// Writes the first k points at which E(x) has an inverse, and the quotients N(x)/E(x) there, k being the number of the
-/// places for them. Returns false where there are fewer. Where E(x) isn't 0 and has no inverse modulo m, it returns
-/// that number. Conditions: all are checked forms; k is at least 1 and at most the number of points.
+/// Writes the first k points at which E(x) has an inverse, and the quotients N(x)/E(x) there, k being the number of
+/// the places for them. Returns false where there are fewer. Where E(x) isn't 0 and has no inverse modulo m, it
+/// returns that number.
+///
+/// # Preconditions
+///
+/// - all are checked forms
+/// - k is at least 1 and at most the number of points
 pub fn divide<T: RingWord, R: Reducer<T>>(
     r: &R,
     points: &[T],
@@ -70,13 +79,13 @@ pub fn divide<T: RingWord, R: Reducer<T>>(
     ensures checked_values { IfOk result (λ b. IsTrue b →
         All (λ f. IsForm R.form R.value (R.modulus r.now) (T.number f)) values.new) }
     ensures quotients { let m = R.modulus r.now in
-        let n = polynomial (length numerator.now) (entry T.number R.value m numerator.now) in
-        let e = polynomial (length locator.now) (entry T.number R.value m locator.now) in
+        let n = polynomial_at (length numerator.now) (entry T.number R.value m numerator.now) in
+        let e = polynomial_at (length locator.now) (entry T.number R.value m locator.now) in
         IfOk result (λ b. IsTrue b → AreQuotients m (length points.now) (length chosen.old)
         (entry T.number R.value m points.now) n e (entry T.number R.value m chosen.new)
         (entry T.number R.value m values.new)) }
     ensures zeros { let m = R.modulus r.now in
-        let e = polynomial (length locator.now) (entry T.number R.value m locator.now) in
+        let e = polynomial_at (length locator.now) (entry T.number R.value m locator.now) in
         IfOk result (λ b. (IsTrue b → ⊥) → (HasInverse m 0 → ⊥)
         × (distance (length points.now) (λ j. e (entry T.number R.value m points.now j) % m) (λ j. 0)
         < length chosen.old)) }
@@ -100,9 +109,15 @@ pub fn divide<T: RingWord, R: Reducer<T>>(
 }
 
 /// Writes the message whose values are the quotients of a pair: one list, whose first `split` coefficients are its
-/// numerator's. Returns false where fewer than k quotients exist. Conditions: those of `divide`; the numerator is within
-/// the pair; there are three places of scratch for each symbol of the message; the points fit. The contents of `scratch`
-/// are ignored, and unspecified afterwards.
+/// numerator's. Returns false where fewer than k quotients exist. The contents of `scratch` are ignored, and
+/// unspecified afterwards.
+///
+/// # Preconditions
+///
+/// - the conditions of `divide` hold
+/// - the numerator is within the pair
+/// - there are three places of scratch for each symbol of the message
+/// - the points fit
 pub fn divide_pair<T: RingWord, R: Reducer<T>>(
     r: &R,
     points: &[T],
@@ -127,7 +142,7 @@ pub fn divide_pair<T: RingWord, R: Reducer<T>>(
         IfOk result (λ b. (d u : ℕ) (y sent : ℕ → ℕ) → length pair.now ≡ split + d → 1 ≤ d →
         d + k ≡ split + 1 → split ≤ s → u < 2 * split → IsKeyPair m k split d s u x y
         (entry T.number R.value m (take split pair.now)) (entry T.number R.value m (drop split pair.now)) →
-        distance s y (λ j. polynomial k sent (x j) % m) + split ≤ s →
+        distance s y (λ j. polynomial_at k sent (x j) % m) + split ≤ s →
         IsTrue b × ((i : ℕ) → i < k → entry T.number R.value m message.new i ≡ sent i % m)) }
 {
     let k = message.len();
@@ -143,9 +158,12 @@ pub fn divide_pair<T: RingWord, R: Reducer<T>>(
     }
 }
 
-/// Writes the message whose values are the quotients of the lighter of two pairs, given their weights. It is the only
-/// message that can have a near word; returns false where there is none. Conditions: those of `divide_pair`, for both
-/// pairs.
+/// Writes the message whose values are the quotients of the lighter of two pairs, given their weights. It is the
+/// only message that can have a near word; returns false where there is none.
+///
+/// # Preconditions
+///
+/// - the conditions of `divide_pair` hold, for both pairs
 pub fn divide_lighter<T: RingWord, R: Reducer<T>>(
     r: &R,
     points: &[T],
@@ -176,7 +194,7 @@ pub fn divide_lighter<T: RingWord, R: Reducer<T>>(
         AreKeyPairs m k split d s pair_weights.0 pair_weights.1 x y
         (entry T.number R.value m (take split first.now)) (entry T.number R.value m (drop split first.now))
         (entry T.number R.value m (take split second.now)) (entry T.number R.value m (drop split second.now)) →
-        distance s y (λ j. polynomial k sent (x j) % m) + split ≤ s →
+        distance s y (λ j. polynomial_at k sent (x j) % m) + split ≤ s →
         IsTrue b × ((i : ℕ) → i < k → entry T.number R.value m message.new i ≡ sent i % m)) }
 {
     if pair_weights.0 <= pair_weights.1 {

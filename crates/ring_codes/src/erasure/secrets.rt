@@ -1,13 +1,13 @@
 //! Shamir's secret sharing, by the erasure codes.
 
 ghost use Rattle.std.specs.Prelude.{◌≡◌, ℕ, ◌+◌, ◌-◌, ◌*◌, ◌%◌, ◌<◌, ◌≤◌, ◌↔◌};
-ghost use Rattle.std.specs.Prelude.{IsTrue, IsOk, IfErr, IfOk, All, length, slice_index};
+ghost use Rattle.std.specs.Prelude.{IsTrue, IsOk, IfErr, MatchResult, IfOk, All, length, slice_index};
 ghost use Rattle.num_modular.specs.Entries.{entry};
 ghost use Rattle.num_modular.specs.Forms.{IsForm};
 ghost use Rattle.num_modular.specs.Inverses.{HasInverse};
 ghost use Rattle.num_modular.specs.Polynomials.{HaveUnitDifferences};
-ghost use Rattle.ring_codes.specs.Correction.{IsNear, AreFit, IsPlaceFault, IsFarFault, IsInverseFault};
-ghost use Rattle.ring_codes.specs.Erasure.{IsEncoding, ArePlaces, IsFault, IsShareFault};
+ghost use Rattle.ring_codes.specs.Correction.{IsRecovered, IsCorrectFault};
+ghost use Rattle.ring_codes.specs.Erasure.{IsEncoding, ArePlaces, AreShares, IsFault, IsShareFault};
 ghost use Rattle.ring_codes.specs.Secrets.{IsPerfectlySecret};
 
 use super::{CorrectError, RestoreError, correct, encode, points_fit, restore};
@@ -22,14 +22,19 @@ use num_modular::{Reducer, RingWord};
 /// use num_modular::{Reducer, Vanilla};
 ///
 /// let ring = Vanilla::<u8>::new(&97);
-/// assert_eq!(share(&ring, &[0], &[5, 7], &mut [0]), Err(ShareError::PointWithoutInverse));
+/// assert_eq!(share(&ring, &[0, 1], &[5, 7], &mut [0; 2]), Err(ShareError::PointWithoutInverse));
+/// assert_eq!(share(&ring, &[1], &[5, 7], &mut [0]), Err(ShareError::TooFewPoints));
 /// ```
+// rust: #[derive(Hash)]
 #[derive(Clone, Copy, Debug, PartialEq, Eq)]
 pub enum ShareError {
-    /// A point has no inverse modulo m, so that the share there would say something of the secret. At 0 it would be the
-    /// secret.
+    /// There is no coefficient, so no secret.
+    NoCoefficients,
+    /// There are fewer points than coefficients, so that all shares together don't recover the secret.
+    TooFewPoints,
+    /// A point has no inverse modulo m: the share there would say something of the secret. At 0 it would be the secret.
     PointWithoutInverse,
-    /// The difference of two of the points has no inverse modulo m.
+    /// The points don't fit: the difference of two of them has no inverse modulo m.
     PointsDontFit,
 }
 
@@ -46,18 +51,26 @@ fn have_inverses<T: RingWord, R: Reducer<T>>(r: &R, points: &[T]) -> bool
     r.inv(product).is_some()
 }
 
-/// Writes the shares of a secret, by Shamir's scheme: the values at the points of the polynomial with these k
-/// coefficients, of which the constant is the secret; if k is 0, there is none. The caller draws the other coefficients at
-/// random, each from 0 to m - 1. Returns an error, with the
-/// shares unchanged, exactly where a point or the difference of two points has no inverse modulo m. So it refuses the
-/// point 0, and points that occur twice, if m is at least 2. Conditions: points and coefficients are checked forms;
-/// `shares` has as many places as there are points.
+/// Writes the shares of a secret: the values at the points of the polynomial with these k coefficients, of which the
+/// constant is the secret. The caller draws the other coefficients at random, each from 0 to m - 1. Any k of the n
+/// shares recover the secret (`recover`).
 ///
 /// k - 1 shares say nothing about the secret, if the other k - 1 coefficients are uniform, and independent of each
 /// other and of the secret. A point without an inverse would tell something: modulo 15 the share s + 3·c at 3 is the
-/// secret s modulo 3. The call doesn't run in constant time.
+/// secret s modulo 3. Of timing `docs/secrets.md` in the repository says more.
 ///
 /// Source: Shamir, "How to share a secret".
+///
+/// # Errors
+///
+/// Exactly where k is 0, k is above n, or a point or the difference of two points has no inverse modulo m; of several, the
+/// first in this order. The shares are then unchanged. So it refuses the point 0, and points that occur twice, if m is at
+/// least 2.
+///
+/// # Conditions
+///
+/// - `shares` has as many places as there are points
+/// - (debug) points and coefficients are checked forms
 ///
 /// # Examples
 ///
@@ -70,6 +83,7 @@ fn have_inverses<T: RingWord, R: Reducer<T>>(r: &R, points: &[T]) -> bool
 /// share(&ring, &[1, 2, 3], &[5, 7], &mut shares).unwrap(); // 5 is the secret, 7 is drawn at random
 /// assert_eq!(shares, [12, 19, 26]);
 /// ```
+// rust: #[track_caller]
 pub fn share<T: RingWord, R: Reducer<T>>(
     r: &R,
     points: &[T],
@@ -79,17 +93,21 @@ pub fn share<T: RingWord, R: Reducer<T>>(
     requires points { All (λ f. IsForm R.form R.value (R.modulus r.now) (T.number f)) points.now }
     requires coefficients { All (λ f. IsForm R.form R.value (R.modulus r.now) (T.number f)) coefficients.now }
     requires room { length shares.old ≡ length points.now }
-    ensures accepted { let m = R.modulus r.now in IsOk result ↔
-        (((i : ℕ) → i < length points.now → HasInverse m (entry T.number R.value m points.now i))
-        × HaveUnitDifferences m (length points.now) (entry T.number R.value m points.now)) }
-    ensures fault { let m = R.modulus r.now in
-        IfErr result (λ e. IsShareFault m (length points.now) (entry T.number R.value m points.now) e) }
-    ensures checked { IsOk result → All (λ f. IsForm R.form R.value (R.modulus r.now) (T.number f)) shares.new }
-    ensures encoding { let m = R.modulus r.now in IsOk result →
-        IsEncoding m (length coefficients.now) (length points.now) (entry T.number R.value m points.now)
-        (entry T.number R.value m coefficients.now) (entry T.number R.value m shares.new) }
-    ensures unchanged { IfErr result (λ e. shares.new ≡ shares.old) }
+    ensures { let m = R.modulus r.now in let entries = entry T.number R.value m in MatchResult result
+        (λ _. AreShares (λ f. IsForm R.form R.value m (T.number f)) entries m points.now coefficients.now shares.new)
+        (λ e. IsShareFault m (length coefficients.now) (length points.now) (entries points.now) e
+        × (shares.new ≡ shares.old)) }
 {
+    // rust: debug_assert!(points.iter().chain(coefficients.iter()).all(|x| r.check(x)),
+    // rust:     "points and coefficients must be checked forms");
+    // rust: assert!(shares.len() == points.len(), "`shares` must have as many places as there are points: {} and {}",
+    // rust:     shares.len(), points.len());
+    if coefficients.is_empty() {
+        return Err(ShareError::NoCoefficients);
+    }
+    if points.len() < coefficients.len() {
+        return Err(ShareError::TooFewPoints);
+    }
     if !have_inverses(r, points) {
         return Err(ShareError::PointWithoutInverse);
     }
@@ -100,14 +118,25 @@ pub fn share<T: RingWord, R: Reducer<T>>(
     Ok(())
 }
 
-/// Returns the secret from any k of its shares: the constant of the polynomial with k coefficients, which are
-/// written to `coefficients`. The errors are those of `restore`. Conditions: points and shares are checked forms; there
-/// are as many shares as places; k is at least 1; there are k weights; `chosen` has k places.
+/// The secret from any k shares: the constant of the polynomial with k coefficients, which are written to
+/// `coefficients`.
 ///
 /// `chosen` and `weights` are scratch: their contents are ignored, and unspecified afterwards. The contents of
 /// `coefficients` are ignored, and unspecified after an error.
 ///
 /// Source: Shamir, "How to share a secret".
+///
+/// # Errors
+///
+/// Those of `restore`.
+///
+/// # Conditions
+///
+/// - there are as many shares as places
+/// - k is at least 1
+/// - there are k weights
+/// - `chosen` has k places
+/// - (debug) points and shares are checked forms
 ///
 /// # Examples
 ///
@@ -120,6 +149,7 @@ pub fn share<T: RingWord, R: Reducer<T>>(
 /// let secret = recover(&ring, &[1, 2, 3], &[2, 0], &[26, 12], &mut chosen, &mut weights, &mut coefficients);
 /// assert_eq!(secret, Ok(5));
 /// ```
+// rust: #[track_caller]
 pub fn recover<T: RingWord, R: Reducer<T>>(
     r: &R,
     points: &[T],
@@ -156,18 +186,24 @@ pub fn recover<T: RingWord, R: Reducer<T>>(
         entry T.number R.value m shares.now i ≡ word (slice_index places.now i)) →
         (i : ℕ) → i < length coefficients.old → entry T.number R.value m coefficients.new i ≡ original i % m }
 {
+    // rust: debug_assert!(points.iter().chain(shares.iter()).all(|x| r.check(x)),
+    // rust:     "points and shares must be checked forms");
+    // rust: assert!(shares.len() == places.len(), "there must be as many shares as places: {} and {}", shares.len(),
+    // rust:     places.len());
+    // rust: assert!(!coefficients.is_empty(), "k must be at least 1");
+    // rust: assert!(weights.len() == coefficients.len(), "there must be k weights: {} and {}", weights.len(),
+    // rust:     coefficients.len());
+    // rust: assert!(chosen.len() == coefficients.len(), "`chosen` must have k places: {} and {}", chosen.len(),
+    // rust:     coefficients.len());
     match restore(r, points, places, shares, chosen, weights, coefficients) {
         Ok(()) => Ok(coefficients[0]),
         Err(error) => Err(error),
     }
 }
 
-/// Returns the secret from s shares of which some may be forged: the constant of the only polynomial with k
-/// coefficients that differs from e of the shares, where 2·e is at most s - k. Its coefficients are written to
-/// `coefficients`, and the right shares at all points to `word`. The errors are those of `correct`: `TooManyErrors`
-/// comes only where no polynomial is that near, and `NoInverse` only where m isn't a prime. Conditions: points and
-/// shares are checked forms; there are as many shares as places; k is at least 1; `word` has as many places as there are
-/// points; there are at least 3·(s + k) + 2 places of scratch.
+/// The secret from s shares, of which some are forged: the constant of the only polynomial with k coefficients that
+/// differs from e of the shares, where 2·e is at most s - k. Its coefficients are written to `coefficients`, and the
+/// right shares at all points to `word`.
 ///
 /// The contents of `scratch` are ignored, and unspecified afterwards. The contents of `coefficients` and `word` are
 /// ignored, and unspecified after an error.
@@ -176,6 +212,21 @@ pub fn recover<T: RingWord, R: Reducer<T>>(
 /// at most (s - k)/2 shares are forged; nothing is known of it if there are more.
 ///
 /// Source: McEliece and Sarwate, "On sharing secrets and Reed-Solomon codes".
+///
+/// Not for secrets.
+///
+/// # Errors
+///
+/// Those of `correct`: `TooManyErrors` comes only where no polynomial is that near, and `NoInverse` only where m isn't a
+/// prime.
+///
+/// # Conditions
+///
+/// - there are as many shares as places
+/// - k is at least 1
+/// - `word` has as many places as there are points
+/// - there are at least 3·(s + k) + 2 places of scratch
+/// - (debug) points and shares are checked forms
 ///
 /// # Examples
 ///
@@ -191,6 +242,7 @@ pub fn recover<T: RingWord, R: Reducer<T>>(
 ///     recover_correct(&ring, &[1, 2, 3, 4], &[0, 1, 2, 3], &shares, &mut scratch, &mut coefficients, &mut word);
 /// assert_eq!(secret, Ok(5));
 /// ```
+// rust: #[track_caller]
 pub fn recover_correct<T: RingWord, R: Reducer<T>>(
     r: &R,
     points: &[T],
@@ -206,28 +258,22 @@ pub fn recover_correct<T: RingWord, R: Reducer<T>>(
     requires some { 0 < length coefficients.old }
     requires scratch { 3 * (length places.now + length coefficients.old) + 2 ≤ length scratch.old }
     requires room { length word.old ≡ length points.now }
-    ensures accepted { let m = R.modulus r.now in IsOk result →
-        AreFit m (length coefficients.old) (length points.now) (entry T.number R.value m points.now) places.now }
-    ensures checked { IfOk result (λ secret. IsForm R.form R.value (R.modulus r.now) (T.number secret)) }
-    ensures secret { let m = R.modulus r.now in IfOk result (λ secret. (original other : ℕ → ℕ) →
-        IsEncoding m (length coefficients.old) (length points.now) (entry T.number R.value m points.now)
-        original other →
-        IsNear (length coefficients.old) places.now (entry T.number R.value m shares.now) other →
-        R.value m (T.number secret) ≡ original 0 % m) }
-    ensures right { let m = R.modulus r.now in IsOk result →
-        IsEncoding m (length coefficients.old) (length points.now) (entry T.number R.value m points.now)
-        (entry T.number R.value m coefficients.new) (entry T.number R.value m word.new)
-        × IsNear (length coefficients.old) places.now (entry T.number R.value m shares.now)
-        (entry T.number R.value m word.new) }
-    ensures forms { IsOk result → All (λ f. IsForm R.form R.value (R.modulus r.now) (T.number f)) coefficients.new }
-    ensures shares { IsOk result → All (λ f. IsForm R.form R.value (R.modulus r.now) (T.number f)) word.new }
-    ensures fault { let m = R.modulus r.now in IfErr result (λ e. IsPlaceFault m (length coefficients.old)
-        (length points.now) (entry T.number R.value m points.now) places.now e) }
-    ensures complete { let m = R.modulus r.now in IfErr result (λ e. IsFarFault m (length coefficients.old)
-        (length points.now) (entry T.number R.value m points.now) places.now
-        (entry T.number R.value m shares.now) e) }
-    ensures inverse { let m = R.modulus r.now in IfErr result (λ e. IsInverseFault T.number m e) }
+    ensures { let m = R.modulus r.now in let entries = entry T.number R.value m in MatchResult result
+        (λ secret. IsRecovered (λ f. IsForm R.form R.value m (T.number f)) (λ f. R.value m (T.number f)) entries m
+        (length coefficients.old) points.now places.now shares.now coefficients.new word.new secret)
+        (λ e. IsCorrectFault T.number m (length coefficients.old) (length points.now) (entries points.now) places.now
+        (entries shares.now) e) }
 {
+    // rust: debug_assert!(points.iter().chain(shares.iter()).all(|x| r.check(x)),
+    // rust:     "points and shares must be checked forms");
+    // rust: assert!(shares.len() == places.len(), "there must be as many shares as places: {} and {}", shares.len(),
+    // rust:     places.len());
+    // rust: assert!(!coefficients.is_empty(), "k must be at least 1");
+    // rust: assert!(word.len() == points.len(), "`word` must have as many places as there are points: {} and {}",
+    // rust:     word.len(), points.len());
+    // rust: assert!(scratch.len() >= 3 * (places.len() + coefficients.len()) + 2,
+    // rust:     "there must be at least 3·(s + k) + 2 places of scratch: {} and {}", scratch.len(),
+    // rust:     3*(places.len()+coefficients.len())+2);
     match correct(r, points, places, shares, scratch, coefficients, word) {
         Ok(_) => Ok(coefficients[0]),
         Err(fault) => Err(fault),

@@ -4,13 +4,17 @@ ghost use Rattle.std.specs.Prelude.{◌≡◌, ◌≢◌, ℕ, ◌%◌, ◌<◌,
 ghost use Rattle.std.specs.Prelude.{length, slice_index, MatchOption};
 ghost use Rattle.num_modular.specs.Entries.{entry};
 ghost use Rattle.num_modular.specs.Forms.{IsForm};
-ghost use Rattle.num_modular.specs.Polynomials.{polynomial, HaveUnitDifferences};
+ghost use Rattle.num_modular.specs.Polynomials.{polynomial_at, HaveUnitDifferences};
 ghost use Rattle.ring_codes.specs.Erasure.{IsEncoding, IsErasureCodeword, ArePlaces, IsFault};
 
 use super::{RestoreError, evaluate, restore};
 use num_modular::{Reducer, RingWord};
 
-/// An index below `count` of a place in the list; `None` exactly where there is none. Condition: the list has so many.
+/// An index below `count` of a place in the list; `None` exactly where there is none.
+///
+/// # Preconditions
+///
+/// - the list has at least that many entries
 pub fn index_of(places: &[usize], count: usize, place: usize) -> Option<usize>
     requires { count ≤ length places.now }
     ensures { MatchOption result ((j : ℕ) → j < count → slice_index places.now j ≢ place)
@@ -55,16 +59,28 @@ fn fill_word<T: RingWord, R: Reducer<T>>(
     }
 }
 
-/// Restores the whole word of a message of k symbols, k being the length of `message`, from the first k places and the
-/// symbols there, whichever places these are: every lost symbol, and the message.
+/// Restores the message and its whole word: the message has k symbols, k being the length of `message`, and the first k
+/// places and the symbols there are used, whichever places these are.
 ///
-/// The errors are those of `restore`. Conditions: points and symbols are checked forms; there are as many symbols as
-/// places; the word has as many places as there are points; k is at most the number of points; there are k weights.
+/// Of a word that `encode_systematic` wrote, `message` gets the coefficients, as from `restore`; its message is the first k
+/// symbols of `word`.
 ///
 /// `weights` is scratch: its contents are ignored, and unspecified afterwards. The contents of `message` and `word` are
 /// ignored, and unspecified after an error.
 ///
 /// Source: Reed and Solomon, "Polynomial codes over certain finite fields".
+///
+/// # Errors
+///
+/// Those of `restore`.
+///
+/// # Conditions
+///
+/// - there are as many symbols as places
+/// - the word has as many places as there are points
+/// - k is at most the number of points
+/// - there are k weights
+/// - (debug) points and symbols are checked forms
 ///
 /// # Examples
 ///
@@ -77,6 +93,7 @@ fn fill_word<T: RingWord, R: Reducer<T>>(
 /// restore_word(&ring, &[1, 2, 3, 4], &[3, 1], &[33, 19], &mut weights, &mut message, &mut word).unwrap();
 /// assert_eq!((message, word), ([5, 7], [12, 19, 26, 33]));
 /// ```
+// rust: #[track_caller]
 pub fn restore_word<T: RingWord, R: Reducer<T>>(
     r: &R,
     points: &[T],
@@ -115,6 +132,15 @@ pub fn restore_word<T: RingWord, R: Reducer<T>>(
         entry T.number R.value m symbols.now i ≡ word (slice_index places.now i)) →
         (i : ℕ) → i < length message.old → entry T.number R.value m message.new i ≡ sent i % m }
 {
+    // rust: debug_assert!(points.iter().chain(symbols.iter()).all(|x| r.check(x)),
+    // rust:     "points and symbols must be checked forms");
+    // rust: assert!(symbols.len() == places.len(), "there must be as many symbols as places: {} and {}", symbols.len(),
+    // rust:     places.len());
+    // rust: assert!(word.len() == points.len(), "the word must have as many places as there are points: {} and {}",
+    // rust:     word.len(), points.len());
+    // rust: assert!(message.len() <= points.len(), "k must be at most the number of points: {} and {}", message.len(),
+    // rust:     points.len());
+    // rust: assert!(weights.len() == message.len(), "there must be k weights: {} and {}", weights.len(), message.len());
     let chosen = &mut word[..message.len()];
     match restore(r, points, places, symbols, chosen, weights, message) {
         Err(error) => Err(error),

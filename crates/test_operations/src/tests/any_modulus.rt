@@ -25,7 +25,9 @@ fn is_right<T: PlainWord>(row: &(Reducers, T, Row<T>)) -> bool {
         return false;
     }
     let plain = is_right_modulo(&Vanilla::<T>::new(&m), m, &row.2);
+    // rust instead: let scaled = is_right_modulo(&PreMulInv2by1::<T>::of(m), m, &row.2);
     let scaled = is_right_modulo(&PreMulInv2by1::<T>::new(m), m, &row.2);
+    // rust instead: let montgomery = is_right_modulo(&Montgomery::<T>::of(m), m, &row.2);
     let montgomery = is_right_modulo(&Montgomery::<T>::new(m), m, &row.2);
     match row.0 {
         Reducers::Each => plain && scaled && montgomery,

@@ -4,7 +4,11 @@ ghost use Rattle.std.specs.Prelude.{◌≡◌, ◌+◌, ◌%◌};
 
 use modular_reduced::modular_integer::ModularInteger;
 
-/// The residue of the sum of two integers whose words have 64 bits, of any type. Condition: their moduli are equal.
+/// The residue of the sum of two integers whose words have 64 bits, of any type.
+///
+/// # Preconditions
+///
+/// - their moduli are equal
 pub fn residue_of_sum<I: ModularInteger<Base = u64> + Copy>(a: I, b: I) -> u64
     requires { I.modulus_number a ≡ I.modulus_number b }
     ensures { result ≡ (I.residue_number a + I.residue_number b) % I.modulus_number a }

@@ -11,7 +11,10 @@ use modular_reduced::reducer::Reducer;
 use modular_word::ring_word::RingWord;
 
 /// The value at x of the polynomial with these coefficients, the highest first, by Horner's rule.
-/// Condition: all moduli are equal.
+///
+/// # Preconditions
+///
+/// - all moduli are equal
 pub fn horner<I: ModularInteger + Copy>(coefficients: &[I], x: I) -> I
     requires { All (λ c. I.modulus_number c ≡ I.modulus_number x) coefficients.now }
     ensures { let m = I.modulus_number x in
@@ -20,6 +23,7 @@ pub fn horner<I: ModularInteger + Copy>(coefficients: &[I], x: I) -> I
         (polynomial_highest_first (length numbers) (slice_index numbers) (I.residue_number x) % m) result }
 {
     let mut value = x - x;
+    // rust instead: 'terms: for c in coefficients {
     'terms: for c in coefficients {
         value = value * x + *c;
     }

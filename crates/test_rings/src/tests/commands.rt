@@ -84,6 +84,7 @@ const TOO_LARGE: &[RingCommand<u8>] = &[
 fn the_conditions_are_told(rt: HostRuntime) {
     let rt = &rt;
     check!(rt, 1; commands_fit::<u8, RingCommand<u8>>(&[], 0));
+    // rust instead: 'commands: for &command in TOO_LARGE {
     'commands: for &command in TOO_LARGE {
         check!(rt, 2; !commands_fit(&[command], 3) && commands_fit(&[command], 4));
     }

@@ -8,6 +8,7 @@ use num_modular::word::RingWord;
 
 /// A modulus m, m - 1 and a greatest word, and what each reducer of m returns: the edges of its words, and the end of the
 /// run of the commands with the residues after it.
+// rust instead: #[derive(Debug)]
 #[derive(Drop)]
 pub struct Edges<T> {
     pub m: T,

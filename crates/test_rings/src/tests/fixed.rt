@@ -21,6 +21,7 @@ use num_modular::{
 use std::marker::PhantomData;
 
 // A run from zeros modulo m.
+// rattle: line
 #[derive(Drop)]
 struct Run<'a, T> {
     m: T,

@@ -8,6 +8,7 @@ use num_modular::{ModularAbs, ModularInteger, ReducedInt, Reducer, imax};
 
 /// What an integer x modulo m returns with a word n: the residues of x, x + n, x - n, x * n, -x, 2 * x, the square, and
 /// the power n; and that of its inverse, if there is one.
+// rust instead: #[derive(Debug)]
 #[derive(Drop)]
 pub struct Integer<T> {
     pub m: T,

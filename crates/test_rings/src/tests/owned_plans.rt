@@ -3,10 +3,12 @@
 use super::assert_at;
 use super::plan_rows::are_same;
 use num_modular::plans::{Factor, OwnedPlan, PlannedModulus};
+// rattle: line
 use std::convert::AsSlice;
 use test_callers::plans::all_in_room;
 
 // Whether there is a plan, with this modulus, root and number of factors.
+// rust instead: fn is_plan<S: AsRef<[Factor<u64>]>>(
 fn is_plan<S: AsSlice<Factor<u64>> + Drop>(
     made: &Option<OwnedPlan<u64, Factor<u64>, S>>,
     m: u64,
@@ -41,6 +43,7 @@ fn plans_with_arrays(rt: HostRuntime) {
 }
 
 // Whether the plan by 4 modulo 17 transforms a list so, and back.
+// rust instead: fn transforms<S: AsRef<[Factor<u64>]>>(owned: &OwnedPlan<u64, Factor<u64>, S>) -> bool {
 fn transforms<S: AsSlice<Factor<u64>> + Drop>(owned: &OwnedPlan<u64, Factor<u64>, S>) -> bool {
     let (plan, mut xs) = (owned.plan(), [1, 2, 3, 4]);
     let m = plan.modulus();

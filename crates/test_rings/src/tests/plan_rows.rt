@@ -42,6 +42,7 @@ pub struct Row<'a, T> {
 pub fn all_below<T: PlainWord>(m: &PlannedModulus<T>, xs: &[T]) -> bool
     ensures { IsTrue result → All (λ x. T.number x < T.number m.now.modulus) xs.now }
 {
+    // rust instead: 'entries: for i in 0..xs.len() {
     'entries: for i in 0..xs.len() {
         if !xs[i].is_below(m.modulus) {
             return false;

@@ -5,6 +5,7 @@ use num_modular::word::{PlainWord, RingWord};
 use num_modular::{Montgomery, PreMulInv2by1, Reducer, Vanilla};
 
 /// A row that each reducer of its modulus can be asked.
+// rust instead: pub trait Question<T: RingWord>: Sized {
 pub trait Question<T: RingWord> {
     type Answer: Copy;
 

@@ -27,6 +27,7 @@ fn commands<T: RingWord>(x: T, y: T, exp: T) -> [RingCommand<T>; 12] {
 }
 
 // Commands over three registers of value 0.
+// rattle: line
 #[derive(Drop)]
 struct Run<'a, T> {
     m: T,

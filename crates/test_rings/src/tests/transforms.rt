@@ -235,6 +235,7 @@ fn known_roots_transforms_and_products(rt: HostRuntime) {
 
 // A modulus, a root for so many entries, and two lists that begin with as many; then their plain sums: the transforms of
 // both, and the cyclic product.
+// rattle: line
 #[derive(Drop)]
 struct Sums {
     m: u64,

@@ -54,20 +54,6 @@ fn holds<R: Reducer<u64>, const S: usize>(r: &R, row: &Row<S>) -> bool
     corrected::<R, 7, S, 3>(r, &[0, 1, 2, 3, 4, 5, 6], row.places, row.symbols) == row.found
 }
 
-// Whether this is the message, or a number without an inverse was in the way.
-fn is_or_has_no_inverse<R: Reducer<u64>, const K: usize>(
-    r: &R,
-    found: Found<K>,
-    want: Found<K>,
-) -> bool {
-    match found {
-        Err(CorrectError::NoInverse(a)) => a != 0
-            && a < r.modulus()
-            && r.inv(r.transform(a)).is_none(),
-        _ => found == want,
-    }
-}
-
 const TWO_ERRORS: &Row<7> = &Row {
     places: &[0, 1, 2, 3, 4, 5, 6],
     symbols: &[1, 0, 17, 34, 57, 900, 121],
@@ -113,25 +99,41 @@ fn assert_rows<R: Reducer<u64>>(rt: &impl Abort, r: &R) {
     check!(rt, 6; holds(r, TOO_FEW));
 }
 
-// Modulo composite numbers; the last row was found by search.
-fn assert_composite<R: Reducer<u64>>(rt: &impl Abort, r: &R, small: &R, product: &R) {
-    let places = &[0, 1, 2, 3, 4, 5, 6];
-    let found = corrected(
-        r,
-        &[0, 1, 2, 3, 4, 5, 6],
-        places,
-        &[0, 197, 891, 892, 265, 947, 624],
-    );
-    check!(rt, 11; is_or_has_no_inverse(r, found, Ok(([500, 700, 999], 2))));
-    let found = corrected(small, &[1, 2, 3], &[0, 1, 2], &[7, 8, 7]);
-    check!(rt, 12; is_or_has_no_inverse(small, found, Ok(([7], 1))));
-    let found = corrected::<_, 5, 5, 2>(
-        product,
-        &[0, 1, 2, 3, 4],
-        &[0, 1, 2, 3, 4],
-        &[2, 10, 4, 26, 34],
-    );
-    check!(rt, 13; found == Err(CorrectError::NoInverse(14)));
+// The message or the error of these symbols at the points 0 to 6.
+fn found_of_seven<R: Reducer<u64>>(r: &R, symbols: &[u64; 7]) -> Found<3> {
+    corrected(r, &[0, 1, 2, 3, 4, 5, 6], &[0, 1, 2, 3, 4, 5, 6], symbols)
+}
+
+// The message or the error of these symbols at the points 1 to 3.
+fn found_of_three<R: Reducer<u64>>(r: &R, symbols: &[u64; 3]) -> Found<1> {
+    corrected(r, &[1, 2, 3], &[0, 1, 2], symbols)
+}
+
+// Modulo composite numbers. Without a wrong symbol the message is found, whatever divides the symbols.
+fn assert_without_errors<R: Reducer<u64>>(rt: &impl Abort, r: &R, small: &R, square: &R) {
+    let found = found_of_seven(r, &[500, 197, 891, 580, 265, 947, 624]);
+    check!(rt, 11; found == Ok(([500, 700, 999], 0)));
+    check!(rt, 12; found_of_seven(r, &[11, 11, 11, 11, 11, 11, 11]) == Ok(([11, 0, 0], 0)));
+    check!(rt, 13; found_of_three(small, &[5, 5, 5]) == Ok(([5], 0)));
+    let found = found_of_seven(square, &[101, 308, 525, 752, 989, 1236, 1493]);
+    check!(rt, 14; found == Ok(([101, 202, 5], 0)));
+}
+
+// With wrong symbols. At these rows no number without an inverse is in the way.
+fn assert_composite<R: Reducer<u64>>(rt: &impl Abort, r: &R, small: &R, square: &R) {
+    let found = found_of_seven(r, &[502, 197, 891, 585, 265, 947, 624]);
+    check!(rt, 15; found == Ok(([500, 700, 999], 2)));
+    check!(rt, 16; found_of_three(small, &[7, 8, 7]) == Ok(([7], 1)));
+    check!(rt, 17; found_of_three(small, &[5, 5, 9]) == Ok(([5], 1)));
+    let found = found_of_seven(square, &[101, 309, 525, 752, 989, 1344, 1493]);
+    check!(rt, 18; found == Ok(([101, 202, 5], 2)));
+}
+
+// Numbers without an inverse are in the way; the row was found by search.
+fn stops_at_fourteen<R: Reducer<u64>>(r: &R) -> bool {
+    let places = &[0, 1, 2, 3, 4];
+    corrected::<_, 5, 5, 2>(r, &[0, 1, 2, 3, 4], places, &[2, 10, 4, 26, 34])
+        == Err(CorrectError::NoInverse(14))
 }
 
 // The points are 3^(16·i) modulo 257.
@@ -153,9 +155,13 @@ fn assert_corrections<R: Reducer<u64> + Copy>(rt: &impl Abort)
     requires of_257 { R.admits 257 }
     requires of_929 { R.admits 929 }
     requires of_1001 { R.admits 1001 }
+    requires of_10201 { R.admits 10201 }
 {
     assert_rows(rt, &R::new(&929));
-    assert_composite(rt, &R::new(&1001), &R::new(&15), &R::new(&35));
+    let (product, small, square) = (&R::new(&1001), &R::new(&15), &R::new(&10201));
+    assert_without_errors(rt, product, small, square);
+    assert_composite(rt, product, small, square);
+    check!(rt, 19; stops_at_fourteen(&R::new(&35)));
     check!(rt, 21; corrects_four(&R::new(&257)));
 }
 

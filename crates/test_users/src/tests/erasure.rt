@@ -311,10 +311,10 @@ fn assert_refused<R: Reducer<u64>>(rt: &impl Abort, r: &R) {
 }
 
 // The shares of a secret at these points.
-fn shares_of<R: Reducer<u64>, const N: usize>(
+fn shares_of<R: Reducer<u64>, const N: usize, const K: usize>(
     r: &R,
     points: &[u64; N],
-    coefficients: &[u64; 3],
+    coefficients: &[u64; K],
 ) -> Result<[u64; N], ShareError> {
     let points = forms_of(r, points);
     let coefficients = forms_of(r, coefficients);
@@ -374,6 +374,18 @@ fn assert_secrets<R: Reducer<u64>>(rt: &impl Abort, r: &R, composite: &R) {
     check!(rt, 39; shares_of(composite, &[1, 2, 8], coefficients) == refused);
 }
 
+// Without a secret, and with fewer points than would recover it; of several faults the first comes.
+fn assert_counts_refused<R: Reducer<u64>>(rt: &impl Abort, r: &R) {
+    check!(rt, 51; shares_of(r, &[1, 2, 3], &[]) == Err(ShareError::NoCoefficients));
+    check!(rt, 52; shares_of(r, &[], &[]) == Err(ShareError::NoCoefficients));
+    check!(rt, 53; shares_of(r, &[0, 0], &[]) == Err(ShareError::NoCoefficients));
+    check!(rt, 54; shares_of(r, &[1, 2], &[123, 456, 789]) == Err(ShareError::TooFewPoints));
+    check!(rt, 55; shares_of(r, &[], &[123]) == Err(ShareError::TooFewPoints));
+    check!(rt, 56; shares_of(r, &[0], &[123, 456]) == Err(ShareError::TooFewPoints));
+    check!(rt, 57; shares_of(r, &[0, 0], &[123, 456]) == Err(ShareError::PointWithoutInverse));
+    check!(rt, 58; shares_of(r, &[1, 2], &[123, 456]) == Ok([579, 106]));
+}
+
 // Generic in the reducer, as each call with a known one takes long to prove.
 fn assert_codes<R: Reducer<u64> + Copy>(rt: &impl Abort)
     requires of_257 { R.admits 257 }
@@ -386,6 +398,7 @@ fn assert_codes<R: Reducer<u64> + Copy>(rt: &impl Abort)
     assert_fit(rt, prime, composite);
     assert_refused(rt, composite);
     assert_secrets(rt, prime, composite);
+    assert_counts_refused(rt, prime);
     check!(rt, 41; restores_many(&R::new(&257)));
 }
 

@@ -1,5 +1,6 @@
 //! Known values of calls that only this crate makes.
 
+// rattle: line
 mod modrun;
 
 use num_modular::DivExact;

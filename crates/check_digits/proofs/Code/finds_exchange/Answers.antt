@@ -1,9 +1,9 @@
-use Rattle.std.proofs.Common.{◌≡◌, ℕ, suc, List, ◌+◌, ◌*◌, ◌%◌, pos, ◌-ℤ◌, add-one, get_or, refl, sym, ap, ◌∙◌}
+use Rattle.std.proofs.Common.{◌≡◌, ℕ, suc, List, ◌+◌, ◌*◌, ◌%◌, pos, ◌-ℤ◌, add-one, get_or, ap, ◌∙◌}
 use Rattle.num_modular.specs.NumberLaws.{difference_and}
 use Rattle.num_modular.specs.Residues.{residue}
 use Rattle.check_digits.specs.Codes.{code_of}
 use Rattle.check_digits.proofs.CheckSums.{unit_finds}
-use Rattle.check_digits.proofs.Codewords.{exchange_told, shown, unshown}
+use Rattle.check_digits.proofs.Codewords.{exchange_told, found}
 use Rattle.check_digits.proofs.Code.finds_exchange.Goals as goal
 
 -- the product is that of the clauses, whose next place is a successor
@@ -16,38 +16,19 @@ is_product m ws xs p e d v weights symbols product =
     ∙ ap (λ k. (residue m (pos (get_or ws p 0) -ℤ pos (get_or ws (suc p) 0)) * k) % m)
     (symbols ∙ ap (λ j. residue m (pos (get_or xs j 0) -ℤ pos (get_or xs p 0))) (add-one p))
 
-pub returns-then-product-ne0-clause-refused : goal.returns-then-product-ne0-clause-refused
-returns-then-product-ne0-clause-refused c =
-    let told = exchange_told (code_of c.args.self.now) c.args.word.now c.args.place c.args.self.now.positive
-    c.requires.accepted c.requires.within in
-    let is = is_product c.args.self.now.modulus c.args.self.now.weights.now c.args.word.now c.args.place _ _ _
-    c.subm-weight.ensures c.subm-difference.ensures c.mulm-product.ensures in
-    (shown _ _ _ told (λ none. c.if-product-ne0.true (is ∙ none))).0
-
-pub returns-then-product-ne0-clause-product : goal.returns-then-product-ne0-clause-product
-returns-then-product-ne0-clause-product c =
-    let is = is_product c.args.self.now.modulus c.args.self.now.weights.now c.args.word.now c.args.place _ _ _
-    c.subm-weight.ensures c.subm-difference.ensures c.mulm-product.ensures in
-    ((λ h fits none. c.if-product-ne0.true (is ∙ none)), λ h. refl)
-
-pub returns-then-product-ne0-clause-unit : goal.returns-then-product-ne0-clause-unit
-returns-then-product-ne0-clause-unit c inverse apart = refl
-
 pub returns-clause-refused : goal.returns-clause-refused
 returns-clause-refused c =
-    let told = exchange_told (code_of c.args.self.now) c.args.word.now c.args.place c.args.self.now.positive
-    c.requires.accepted c.requires.within in
-    let is = is_product c.args.self.now.modulus c.args.self.now.weights.now c.args.word.now c.args.place _ _ _
-    c.subm-weight.ensures c.subm-difference.ensures c.mulm-product.ensures in
-    (unshown c.fit_exchanged.result _ _ _ c.fit_exchanged.ensures told (sym is ∙ c.if-product-ne0.false)).0
+    (found _ _ (is_product c.args.self.now.modulus c.args.self.now.weights.now c.args.word.now c.args.place _ _ _
+    c.subm-weight.ensures c.subm-difference.ensures c.mulm-product.ensures) c.is_found.ensures c.fit_exchanged.ensures
+    (exchange_told (code_of c.args.self.now) c.args.word.now c.args.place c.args.self.now.positive c.requires.accepted
+    c.requires.within)).0
 
 pub returns-clause-product : goal.returns-clause-product
 returns-clause-product c =
-    let told = exchange_told (code_of c.args.self.now) c.args.word.now c.args.place c.args.self.now.positive
-    c.requires.accepted c.requires.within in
-    let is = is_product c.args.self.now.modulus c.args.self.now.weights.now c.args.word.now c.args.place _ _ _
-    c.subm-weight.ensures c.subm-difference.ensures c.mulm-product.ensures in
-    (unshown c.fit_exchanged.result _ _ _ c.fit_exchanged.ensures told (sym is ∙ c.if-product-ne0.false)).1
+    (found _ _ (is_product c.args.self.now.modulus c.args.self.now.weights.now c.args.word.now c.args.place _ _ _
+    c.subm-weight.ensures c.subm-difference.ensures c.mulm-product.ensures) c.is_found.ensures c.fit_exchanged.ensures
+    (exchange_told (code_of c.args.self.now) c.args.word.now c.args.place c.args.self.now.positive c.requires.accepted
+    c.requires.within)).1
 
 pub returns-clause-unit : goal.returns-clause-unit
 returns-clause-unit c inverse apart =

@@ -1,4 +1,4 @@
-use Rattle.std.proofs.Common.{◌≡◌, ℕ, ◌*◌, ◌%◌, ◌∙◌, length, get_or, ap, refl, sym, subst, arith}
+use Rattle.std.proofs.Common.{ℕ, ◌∙◌, length, get_or, ap, refl, sym, subst, arith}
 use Rattle.std.proofs.lemmas.Bool.{false≢true}
 use Rattle.long_product.specs.AnyLength.{scaled_transform, FitsTransform}
 use Rattle.long_product.proofs.RootsOfOrder.{transform_undone}
@@ -17,24 +17,8 @@ returns-then-not-fits-clause-values g c t = absurd (false≢true t)
 pub returns-then-not-fits-clause-unchanged : goal.returns-then-not-fits-clause-unchanged
 returns-then-not-fits-clause-unchanged g c h = (refl, refl)
 
-pub fill-requires-clause-fits : goal.fill-requires-clause-fits
-fill-requires-clause-fits g c =
-    subst (FitsTransform c.args.m (length c.args.xs.now) (length c.args.out.now) (length c.args.words.now))
-    c.factors.ensures (c.if-not-fits.ensures.0 refl)
-
 pub returns-then-not-fits-clause-undone : goal.returns-then-not-fits-clause-undone
 returns-then-not-fits-clause-undone g c t = absurd (false≢true t)
-
-pub invm-requires : goal.invm-requires
-invm-requires g c = (c.if-not-fits.ensures.0 refl).modulus
-
-pub invm-requires-2 : goal.invm-requires-2
-invm-requires-2 g c = (c.if-not-fits.ensures.0 refl).modulus
-
-pub fill-requires-clause-inverse : goal.fill-requires-clause-inverse
-fill-requires-clause-inverse g c =
-    let swapped = λ (a b : ℕ). let e : a * b ≡ b * a = omega arith in e in
-    ap (λ v. v % c.args.m) (swapped c.in-Some-Some.inverse c.args.g) ∙ c.in-Some-Some.ensures.one
 
 pub returns-in-Some-Some-clause-fits : goal.returns-in-Some-Some-clause-fits
 returns-in-Some-Some-clause-fits g c = (

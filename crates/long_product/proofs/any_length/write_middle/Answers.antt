@@ -12,9 +12,6 @@ entries_for-n-requires-clause-room g c =
     (sym c.factors.ensures)
     (c.requires.room.scratch long (omega (arith, enough, long)))
 
-pub multiply_modulo-requires-clause-folded : goal.multiply_modulo-requires-clause-folded
-multiply_modulo-requires-clause-folded g c some = absurd (omega (arith, some))
-
 pub returns : goal.returns
 returns g c e l k =
     let xs = c.args.xs.now in

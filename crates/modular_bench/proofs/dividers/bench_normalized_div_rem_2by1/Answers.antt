@@ -1,5 +1,5 @@
 use Rattle.std.proofs.Common.{◌/◌, ◌%◌, subst, ap, ◌∙◌, bit_xor}
-use Rattle.modular_prim.proofs.Scaled.{remainder_of}
+use Rattle.modular_prim.proofs.DigitSteps.{remainder_is}
 use Rattle.modular_word.specs.Division.{IsDivision}
 use Rattle.modular_bench.proofs.Steps.{iterate_more, quotient_of}
 use Rattle.modular_bench.specs.Steps.{mixed_division_of_two}
@@ -18,7 +18,7 @@ steps-preserved c =
       below = division.below;
       both =
           ap (λ v. (bit_xor v y, r)) (quotient_of division)
-          ∙ ap (λ v. (bit_xor (c.merge.result / m) y, v)) (remainder_of division)
+          ∙ ap (λ v. (bit_xor (c.merge.result / m) y, v)) (remainder_is division)
           ∙ ap (λ whole. (bit_xor (whole / m) y, whole % m)) c.merge.ensures
           ∙ ap step c.steps.invariant.both ∙ iterate_more step c.steps.counter (c.args.x, y % m);
     }

@@ -70,9 +70,6 @@ fold_on-requires-2 g c = record {
   mask = ones _ _ c.one.ensures c.minus.ensures c.plus-mask.ensures c.requires.whole;
 }
 
-pub returns-then-is_below : goal.returns-then-is_below
-returns-then-is_below g c = c.fold_on.ensures
-
 pub returns-then-eq : goal.returns-then-eq
 returns-then-eq g c =
     let n = g.V.RingWord.number in
@@ -94,6 +91,3 @@ returns-then-is_zero_word g c =
       same = rw is at c.fold_three.ensures.same;
       count = c.fold_three.ensures.count;
     }
-
-pub returns : goal.returns
-returns g c = c.fold_on-2.ensures

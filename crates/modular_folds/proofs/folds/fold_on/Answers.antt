@@ -33,9 +33,6 @@ returns g c =
       count = omega (arith, c.folds.invariant.count, folds-none c.args.p (n c.args.c) (n c.folds.rest) low);
     }
 
-pub fold-next-requires-clause-mask : goal.fold-next-requires-clause-mask
-fold-next-requires-clause-mask g c = c.requires.mask
-
 pub fold-next-requires-clause-less : goal.fold-next-requires-clause-less
 fold-next-requires-clause-less g c = omega (arith, c.requires.folding.whole, c.requires.folding.half)
 

@@ -18,9 +18,6 @@ reduce_by_one_fold-requires g c = record {
   short = c.is_short.ensures c.if-is_short.true;
 }
 
-pub returns-then-is_short : goal.returns-then-is_short
-returns-then-is_short g c = c.reduce_by_one_fold.ensures
-
 pub has_few_folds-requires-clause-some : goal.has_few_folds-requires-clause-some
 has_few_folds-requires-clause-some g c = two_bits c.requires
 

@@ -11,12 +11,6 @@ unfolded w p c v most fits =
     let none : v / 2 ^ p ≡ 0 = div-eq_of_lt low in
     omega (arith, once_below (2 ^ p) v low, ap (λ h. h * c) none)
 
-pub shift_right-high-requires : goal.shift_right-high-requires
-shift_right-high-requires g c = rw c.bits.ensures at c.if-p-bits.true
-
-pub low_bits-requires : goal.low_bits-requires
-low_bits-requires g c = rw c.bits.ensures at c.if-p-bits.true
-
 pub times-requires : goal.times-requires
 times-requires g c =
     let n = g.T.RingWord.number in

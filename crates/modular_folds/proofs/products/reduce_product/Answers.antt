@@ -3,9 +3,6 @@ use Rattle.modular_folds.proofs.FoldSteps.{two_bits}
 use Rattle.modular_folds.proofs.ProductFolds.{product_high}
 use Rattle.modular_folds.proofs.products.reduce_product.Goals as goal
 
-pub is_by_words-requires : goal.is_by_words-requires
-is_by_words-requires g c = c.requires.folding.fits
-
 pub product_by_folds-requires : goal.product_by_folds-requires
 product_by_folds-requires g c = record {
   folding = c.requires.folding;
@@ -17,9 +14,6 @@ product_by_folds-requires g c = record {
 pub has_few_folds-requires-clause-some : goal.has_few_folds-requires-clause-some
 has_few_folds-requires-clause-some g c = two_bits c.requires.folding
 
-pub has_few_folds-requires-clause-fits : goal.has_few_folds-requires-clause-fits
-has_few_folds-requires-clause-fits g c = c.requires.folding.fits
-
 pub reduce_in_line-requires : goal.reduce_in_line-requires
 reduce_in_line-requires g c =
     let n = g.T.RingWord.number in
@@ -30,12 +24,6 @@ reduce_in_line-requires g c =
       small = c.has_few_folds.ensures c.if-has_few_folds.true;
       product = rw c.product-then-has_few_folds.ensures.value (omega (arith, high, c.requires.folding.whole));
     }
-
-pub reduce_far-requires : goal.reduce_far-requires
-reduce_far-requires g c = c.requires.folding
-
-pub returns-then-is_by_words : goal.returns-then-is_by_words
-returns-then-is_by_words g c = c.product_by_folds.ensures
 
 pub returns-then-has_few_folds : goal.returns-then-has_few_folds
 returns-then-has_few_folds g c =

@@ -2,9 +2,6 @@ use Rattle.std.proofs.Common.{◌+◌, ◌*◌, ap, ◌∙◌, arith}
 use Rattle.modular_prim.proofs.DigitSteps.{quotient_is, remainder_is}
 use Rattle.modular_prim.proofs.euclid.step.Goals as goal
 
-pub division-quotient-requires : goal.division-quotient-requires
-division-quotient-requires g c = c.requires.some
-
 pub times-requires : goal.times-requires
 times-requires g c =
     let times = ap (λ v. v * g.T.RingWord.number c.args.t) (quotient_is c.division-quotient.ensures.division) in

@@ -17,18 +17,6 @@ last_pair-pair-requires-clause-some g c =
     false≢true (sym c.if-is_zero_word.false ∙ c.is_zero_word.ensures.zero.1 e) in
     omega (arith, some)
 
-pub last_pair-pair-requires-clause-below : goal.last_pair-pair-requires-clause-below
-last_pair-pair-requires-clause-below g c = c.requires.below
-
-pub last_pair-pair-requires-clause-fits : goal.last_pair-pair-requires-clause-fits
-last_pair-pair-requires-clause-fits g c = c.is_below-has_units.ensures.other_fits
-
-pub minus-factor-requires : goal.minus-factor-requires
-minus-factor-requires g c = omega (arith, c.last_pair-pair.ensures.factor_below)
-
-pub without_twos-requires-clause-odd : goal.without_twos-requires-clause-odd
-without_twos-requires-clause-odd g c = c.requires.odd
-
 pub without_twos-requires-clause-below : goal.without_twos-requires-clause-below
 without_twos-requires-clause-below g c =
     let n = g.T.RingWord.number in

@@ -24,24 +24,6 @@ returns-clause-factor_below g c =
     (last_factor _ _ _ _ _ _ _ _ _ c.differences.invariant.pair c.differences.invariant.fits
     ((g.met.T.RingWord.equal p.above p.below).0 (search rules))).1
 
-pub one_difference-pair-requires-clause-fits : goal.one_difference-pair-requires-clause-fits
-one_difference-pair-requires-clause-fits g c = c.differences.invariant.fits
-
-pub differences-smaller : goal.differences-smaller
-differences-smaller g c = c.one_difference-pair.ensures.less
-
-pub differences-preserved : goal.differences-preserved
-differences-preserved g c = record {
-  pair = c.one_difference-pair.ensures.pair _ _ c.differences.invariant.pair;
-  fits = c.one_difference-pair.ensures.fits;
-}
-
-pub returns-clause-pair : goal.returns-clause-pair
-returns-clause-pair g c = c.differences.invariant.pair
-
-pub returns-clause-some : goal.returns-clause-some
-returns-clause-some g c = c.differences.invariant.fits.above_some
-
 pub returns-clause-factor_some : goal.returns-clause-factor_some
 returns-clause-factor_some g c =
     let p = c.differences.pair in

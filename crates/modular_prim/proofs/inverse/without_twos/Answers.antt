@@ -20,12 +20,6 @@ words-preserved g c =
       value = subst (λ v. Congruent (n c.args.m) (n c.redc-rest.result * 2 ^ v) (n c.args.w)) (sym longer) next;
     }
 
-pub neginv-negated_inverse-requires : goal.neginv-negated_inverse-requires
-neginv-negated_inverse-requires g c = c.requires.odd
-
-pub redc-rest-requires-clause-inverse : goal.redc-rest-requires-clause-inverse
-redc-rest-requires-clause-inverse g c = c.neginv-negated_inverse.ensures
-
 pub redc-rest-requires-clause-below : goal.redc-rest-requires-clause-below
 redc-rest-requires-clause-below g c =
     let n = g.T.RingWord.number in
@@ -34,9 +28,6 @@ redc-rest-requires-clause-below g c =
     let some : 1 ≤ base = omega (arith, c.merge.ensures.low_fits) in
     let one : 1 * n c.args.m ≤ base * n c.args.m = mul-le-mul_right (n c.args.m) some in
     omega (arith, whole, one, c.words.invariant.below)
-
-pub redc-requires-clause-inverse : goal.redc-requires-clause-inverse
-redc-requires-clause-inverse g c = c.neginv-negated_inverse.ensures
 
 pub redc-requires-clause-below : goal.redc-requires-clause-below
 redc-requires-clause-below g c =

@@ -1,19 +1,13 @@
 use Rattle.std.proofs.Common.{◌+◌, ◌*◌, ◌%◌, ◌<◌, ◌≤◌, ap, ◌∙◌, arith}
 use Rattle.std.proofs.Math.Nat.{mul-le-mul_left, mul-le-mul_right}
-use Rattle.modular_prim.proofs.Scaled.{remainder_of}
+use Rattle.modular_prim.proofs.DigitSteps.{remainder_is}
 use Rattle.modular_prim.proofs.power.scaled_product.Goals as goal
 
 pub returns : goal.returns
 returns g c =
     let n = g.T.RingWord.number in
-    remainder_of c.div_2by1.ensures
+    remainder_is c.div_2by1.ensures
     ∙ ap (λ v. v % n c.args.divisor) (c.product.ensures.value ∙ ap (λ v. v * n c.args.b) c.shift_right.ensures.value)
-
-pub shift_right-requires : goal.shift_right-requires
-shift_right-requires g c = c.requires.shift
-
-pub div_2by1-requires-clause-reciprocal : goal.div_2by1-requires-clause-reciprocal
-div_2by1-requires-clause-reciprocal g c = c.requires.reciprocal
 
 pub div_2by1-requires-clause-high : goal.div_2by1-requires-clause-high
 div_2by1-requires-clause-high g c =

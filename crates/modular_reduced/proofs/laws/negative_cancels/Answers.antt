@@ -6,15 +6,3 @@ returns-clause-zero g c =
     let v = g.R.Reducer.value (g.R.Reducer.modulus c.args.reducer.now) (g.T.RingWord.number c.args.a) in
     law.negative_cancels v (g.met.R.Reducer.canonical c.args.reducer.now) c.requires.below
     c.neg-negative.ensures.form c.add.ensures.form
-
-pub neg-negative-requires : goal.neg-negative-requires
-neg-negative-requires g c = c.requires
-
-pub add-requires-clause-left : goal.add-requires-clause-left
-add-requires-clause-left g c = c.requires
-
-pub add-requires-clause-right : goal.add-requires-clause-right
-add-requires-clause-right g c = c.neg-negative.ensures.checked
-
-pub returns-clause-negative : goal.returns-clause-negative
-returns-clause-negative g c = c.neg-negative.ensures.form

@@ -31,15 +31,6 @@ overflow_add-count-in-digits g c =
       | else-is_odd w ↦ omega (arith, c.digits.invariant.counted)
     ]
 
-pub mul-product-requires-clause-left : goal.mul-product-requires-clause-left
-mul-product-requires-clause-left g c = c.digits.invariant.so_far.product_form
-
-pub mul-product-requires-clause-right : goal.mul-product-requires-clause-right
-mul-product-requires-clause-right g c = c.digits.invariant.so_far.power_form
-
-pub sqr-power-requires : goal.sqr-power-requires
-sqr-power-requires g c = c.digits.invariant.so_far.power_form
-
 pub digits-preserved : goal.digits-preserved
 digits-preserved g c =
     let number = g.T.RingWord.number in

@@ -43,9 +43,6 @@ pub slice_bounds-hash-end : goal.slice_bounds-hash-end
 slice_bounds-hash-end c =
     sym (length-take-le (length c.args.pattern.now) c.args.text.now c.if-length-text.false)
 
-pub overflow_sub-last : goal.overflow_sub-last
-overflow_sub-last c = c.if-length-text.false
-
 pub windows-smaller : goal.windows-smaller
 windows-smaller c = falls _ _ c.windows-test.true
 

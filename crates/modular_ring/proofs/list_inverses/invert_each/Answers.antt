@@ -64,23 +64,11 @@ forward-preserved g c =
 pub returns-in_default-clause-inverses : goal.returns-in_default-clause-inverses
 returns-in_default-clause-inverses g c = λ t. absurd (false≢true t)
 
-pub returns-in_default-clause-checked : goal.returns-in_default-clause-checked
-returns-in_default-clause-checked g c = c.requires.checked
-
 pub returns-in_default-clause-unchanged : goal.returns-in_default-clause-unchanged
 returns-in_default-clause-unchanged g c = λ t. refl
 
-pub mul-product-requires-clause-left : goal.mul-product-requires-clause-left
-mul-product-requires-clause-left g c = c.forward.invariant.0.checked
-
 pub mul-product-requires-clause-right : goal.mul-product-requires-clause-right
 mul-product-requires-clause-right g c = c.requires.checked _ _ c.forward-test.true
-
-pub mul-before-requires-clause-left : goal.mul-before-requires-clause-left
-mul-before-requires-clause-left g c = c.backward.invariant.0
-
-pub mul-requires-clause-left : goal.mul-requires-clause-left
-mul-requires-clause-left g c = c.backward.invariant.0
 
 pub mul-requires-clause-right : goal.mul-requires-clause-right
 mul-requires-clause-right g c = (c.forward.invariant.1.each _ _ (omega arith)).checked
@@ -102,12 +90,6 @@ bounds-scratch-i g c = omega arith
 
 pub returns-clause-inverses : goal.returns-clause-inverses
 returns-clause-inverses g c = λ t i l. c.backward.invariant.3.done i (omega arith) l
-
-pub returns-clause-checked : goal.returns-clause-checked
-returns-clause-checked g c = c.backward.invariant.2
-
-pub inv-requires : goal.inv-requires
-inv-requires g c = c.forward.invariant.0.checked
 
 pub offset_bounds-scratch-i : goal.offset_bounds-scratch-i
 offset_bounds-scratch-i g c = scaled_Fits _ _ _ c.forward-test.true c.well_formed.1.0.1
@@ -156,9 +138,6 @@ backward-init g c =
       c.requires.checked,
       record { done = λ k low up. absurd (omega arith); kept = λ k l. refl },
     )
-
-pub bounds-forms-i : goal.bounds-forms-i
-bounds-forms-i g c = c.forward-test.true
 
 pub overflow_sub-i : goal.overflow_sub-i
 overflow_sub-i g c = some_left _ c.backward.auto.forms c.backward-test.true

@@ -78,9 +78,6 @@ returns-clause-only c x below are =
     subst (λ n. x < n) (sym (c.moduli.invariant.range ∙ ap (λ n. range_below n ms) full)) below in
     sym (mod-eq_of_lt inside) ∙ c.moduli.invariant.only x (λ i h. sym (are.each i (omega arith)))
 
-pub bounds-moduli-place : goal.bounds-moduli-place
-bounds-moduli-place c = c.moduli-test.true
-
 pub next_digit-digit-requires-clause-modulus : goal.next_digit-digit-requires-clause-modulus
 next_digit-digit-requires-clause-modulus c = c.requires.system.positive c.moduli.place c.moduli-test.true
 

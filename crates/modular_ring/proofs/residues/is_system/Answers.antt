@@ -9,7 +9,6 @@ use Rattle.modular_ring.specs.SystemLaws.{unit_here, next_fits}
 use Rattle.modular_ring.proofs.residues.is_system.Goals as goal
 use Rattle.modular_ring.proofs.residues.is_system.Goals.{then-modulus-eq0-via-then-modulus-eq0}
 use Rattle.modular_ring.proofs.residues.is_system.Goals.{then-modulus-eq0-via-else-modulus-eq0+then-not-has_inverse}
-use borrow.Author.Count.{falls}
 
 pub moduli-init : goal.moduli-init
 moduli-init c = record {
@@ -78,9 +77,3 @@ returns c =
       }),
       λ system. refl,
     )
-
-pub bounds-moduli-place : goal.bounds-moduli-place
-bounds-moduli-place c = c.moduli-test.true
-
-pub moduli-smaller : goal.moduli-smaller
-moduli-smaller c = falls _ _ c.moduli-test.true

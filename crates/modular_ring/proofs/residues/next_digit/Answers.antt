@@ -5,18 +5,6 @@ use Rattle.modular_word.specs.Residues.{residue}
 use Rattle.modular_ring.specs.SystemLaws.{digit_right}
 use Rattle.modular_ring.proofs.residues.next_digit.Goals as goal
 
-pub nonzero_rem-number : goal.nonzero_rem-number
-nonzero_rem-number c = c.requires.modulus
-
-pub nonzero_rem-range : goal.nonzero_rem-range
-nonzero_rem-range c = c.requires.modulus
-
-pub new-known-requires : goal.new-known-requires
-new-known-requires c = c.requires.modulus
-
-pub sub-requires : goal.sub-requires
-sub-requires c = c.convert.ensures.modulus
-
 pub div-requires : goal.div-requires
 div-requires c =
     let m = c.args.m in

@@ -1,9 +1,10 @@
-use Rattle.std.proofs.Common.{◌≡◌, ℕ, ◌+◌, ◌*◌, ◌%◌, ◌-ℤ◌, pos, List, Some, length, get_or, refl, ap, sym, subst, ◌∙◌}
+use Rattle.std.proofs.Common.{◌≡◌, ℕ, ◌+◌, ◌*◌, ◌%◌, ◌-ℤ◌, pos, List, Some, length, get_or, refl, ap}
 use Rattle.std.proofs.Math.ListN.{set}
 use Rattle.modular_word.specs.Residues.{residue}
 use Rattle.modular_ring.specs.declared.ring.RingCommand.{RingCommand}
 use Rattle.modular_ring.specs.declared.ring.RingCommand.TheVariants.{Add, Sub, Mul}
-use Rattle.modular_ring.specs.Ring.{Combines, HoldValues, IsFit, IsFormOf, whole, destination_of, outcome, value_after}
+use Rattle.modular_ring.specs.Ring.{HoldValues, IsFit, IsFormOf, whole, destination_of, outcome, value_after}
+use Rattle.modular_ring.specs.RunSteps.{Combines}
 use Rattle.modular_ring.proofs.RunLemmas.{after_found, destination_below, finds_here, lacks_here, form_of_two, read_checked}
 use Rattle.modular_ring.proofs.ring.carry_out.Goals as goal
 use borrow.Author.Rules.{scaled_Fits}
@@ -30,112 +31,103 @@ neither _ no_sum no_difference no_product combines = combines
 pub returns-in-Add-clause-values : goal.returns-in-Add-clause-values
 returns-in-Add-clause-values g c done v holds =
     let m = g.R.Reducer.modulus c.args.r.now in
-    let fit = rw (sym c.command-read.ensures ∙ c.in-Add.is) at c.requires.fit in
-    rw (sym c.command-read.ensures ∙ c.in-Add.is) (after_write g.T.RingWord.number g.R.Reducer.form m
+    let fit = rw c.in-Add.is at c.requires.fit in
+    rw c.in-Add.is (after_write g.T.RingWord.number g.R.Reducer.form m
     (Add c.in-Add.dst c.in-Add.a c.in-Add.b) c.add-form.result holds fit c.write.ensures.written
     (form_of_two {v = v} (λ x y. (x + y) % m) c.in-Add.a c.in-Add.b
     c.held.result _ (g.met.R.Reducer.canonical c.args.r.now) holds fit.1 fit.2 c.held.ensures
     (ap (get_or c.args.regs.now c.in-Add.b) c.index-regs-b.is) c.add-form.ensures.form))
 
 pub held-requires-clause-within : goal.held-requires-clause-within
-held-requires-clause-within g c = (rw (sym c.command-read.ensures ∙ c.in-Add.is) at c.requires.fit).1
-
-pub held-requires-clause-holds : goal.held-requires-clause-holds
-held-requires-clause-holds g c = c.requires.holds
+held-requires-clause-within g c = (rw c.in-Add.is at c.requires.fit).1
 
 pub offset_bounds-regs-b : goal.offset_bounds-regs-b
-offset_bounds-regs-b g c = scaled_Fits _ _ _ (rw (sym c.command-read.ensures ∙ c.in-Add.is) at c.requires.fit).2 c.well_formed.1.0.1
+offset_bounds-regs-b g c = scaled_Fits _ _ _ (rw c.in-Add.is at c.requires.fit).2 c.well_formed.1.0.1
 
 pub bounds-regs-b : goal.bounds-regs-b
-bounds-regs-b g c = (rw (sym c.command-read.ensures ∙ c.in-Add.is) at c.requires.fit).2
+bounds-regs-b g c = (rw c.in-Add.is at c.requires.fit).2
 
 pub add-form-requires-clause-left : goal.add-form-requires-clause-left
 add-form-requires-clause-left g c =
     read_checked g.T.RingWord.number g.R.Reducer.form g.R.Reducer.value _ c.args.regs.now _ _ c.requires.checked
-    (rw (sym c.command-read.ensures ∙ c.in-Add.is) at c.requires.fit).1 c.held.ensures
+    (rw c.in-Add.is at c.requires.fit).1 c.held.ensures
 
 pub add-form-requires-clause-right : goal.add-form-requires-clause-right
-add-form-requires-clause-right g c = c.requires.checked c.in-Add.b _ (rw (sym c.command-read.ensures ∙ c.in-Add.is) at c.requires.fit).2
+add-form-requires-clause-right g c = c.requires.checked c.in-Add.b _ (rw c.in-Add.is at c.requires.fit).2
 
 pub write-requires : goal.write-requires
-write-requires g c = (rw (sym c.command-read.ensures ∙ c.in-Add.is) at c.requires.fit).0
+write-requires g c = (rw c.in-Add.is at c.requires.fit).0
 
 pub returns-in-Sub-clause-values : goal.returns-in-Sub-clause-values
 returns-in-Sub-clause-values g c done v holds =
     let m = g.R.Reducer.modulus c.args.r.now in
-    let fit = rw (sym c.command-read.ensures ∙ c.in-Sub.is) at c.requires.fit in
-    rw (sym c.command-read.ensures ∙ c.in-Sub.is) (after_write g.T.RingWord.number g.R.Reducer.form m
+    let fit = rw c.in-Sub.is at c.requires.fit in
+    rw c.in-Sub.is (after_write g.T.RingWord.number g.R.Reducer.form m
     (Sub c.in-Sub.dst c.in-Sub.a c.in-Sub.b) c.sub-form.result holds fit c.write-in-Sub.ensures.written
     (form_of_two {v = v} (λ x y. residue m (pos x -ℤ pos y)) c.in-Sub.a c.in-Sub.b
     c.held-in-Sub.result _ (g.met.R.Reducer.canonical c.args.r.now) holds fit.1 fit.2 c.held-in-Sub.ensures
     (ap (get_or c.args.regs.now c.in-Sub.b) c.index-regs-b-in-Sub.is) c.sub-form.ensures.form))
 
 pub held-requires-in-Sub-clause-within : goal.held-requires-in-Sub-clause-within
-held-requires-in-Sub-clause-within g c = (rw (sym c.command-read.ensures ∙ c.in-Sub.is) at c.requires.fit).1
-
-pub held-requires-in-Sub-clause-holds : goal.held-requires-in-Sub-clause-holds
-held-requires-in-Sub-clause-holds g c = c.requires.holds
+held-requires-in-Sub-clause-within g c = (rw c.in-Sub.is at c.requires.fit).1
 
 pub offset_bounds-regs-b-in-Sub : goal.offset_bounds-regs-b-in-Sub
-offset_bounds-regs-b-in-Sub g c = scaled_Fits _ _ _ (rw (sym c.command-read.ensures ∙ c.in-Sub.is) at c.requires.fit).2 c.well_formed.1.0.1
+offset_bounds-regs-b-in-Sub g c = scaled_Fits _ _ _ (rw c.in-Sub.is at c.requires.fit).2 c.well_formed.1.0.1
 
 pub bounds-regs-b-in-Sub : goal.bounds-regs-b-in-Sub
-bounds-regs-b-in-Sub g c = (rw (sym c.command-read.ensures ∙ c.in-Sub.is) at c.requires.fit).2
+bounds-regs-b-in-Sub g c = (rw c.in-Sub.is at c.requires.fit).2
 
 pub sub-form-requires-clause-left : goal.sub-form-requires-clause-left
 sub-form-requires-clause-left g c =
     read_checked g.T.RingWord.number g.R.Reducer.form g.R.Reducer.value _ c.args.regs.now _ _ c.requires.checked
-    (rw (sym c.command-read.ensures ∙ c.in-Sub.is) at c.requires.fit).1 c.held-in-Sub.ensures
+    (rw c.in-Sub.is at c.requires.fit).1 c.held-in-Sub.ensures
 
 pub sub-form-requires-clause-right : goal.sub-form-requires-clause-right
-sub-form-requires-clause-right g c = c.requires.checked c.in-Sub.b _ (rw (sym c.command-read.ensures ∙ c.in-Sub.is) at c.requires.fit).2
+sub-form-requires-clause-right g c = c.requires.checked c.in-Sub.b _ (rw c.in-Sub.is at c.requires.fit).2
 
 pub write-requires-in-Sub : goal.write-requires-in-Sub
-write-requires-in-Sub g c = (rw (sym c.command-read.ensures ∙ c.in-Sub.is) at c.requires.fit).0
+write-requires-in-Sub g c = (rw c.in-Sub.is at c.requires.fit).0
 
 pub returns-in-Mul-clause-values : goal.returns-in-Mul-clause-values
 returns-in-Mul-clause-values g c done v holds =
     let m = g.R.Reducer.modulus c.args.r.now in
-    let fit = rw (sym c.command-read.ensures ∙ c.in-Mul.is) at c.requires.fit in
-    rw (sym c.command-read.ensures ∙ c.in-Mul.is) (after_write g.T.RingWord.number g.R.Reducer.form m
+    let fit = rw c.in-Mul.is at c.requires.fit in
+    rw c.in-Mul.is (after_write g.T.RingWord.number g.R.Reducer.form m
     (Mul c.in-Mul.dst c.in-Mul.a c.in-Mul.b) c.mul-form.result holds fit c.write-in-Mul.ensures.written
     (form_of_two {v = v} (λ x y. (x * y) % m) c.in-Mul.a c.in-Mul.b
     c.held-in-Mul.result _ (g.met.R.Reducer.canonical c.args.r.now) holds fit.1 fit.2 c.held-in-Mul.ensures
     (ap (get_or c.args.regs.now c.in-Mul.b) c.index-regs-b-in-Mul.is) c.mul-form.ensures.form))
 
 pub held-requires-in-Mul-clause-within : goal.held-requires-in-Mul-clause-within
-held-requires-in-Mul-clause-within g c = (rw (sym c.command-read.ensures ∙ c.in-Mul.is) at c.requires.fit).1
-
-pub held-requires-in-Mul-clause-holds : goal.held-requires-in-Mul-clause-holds
-held-requires-in-Mul-clause-holds g c = c.requires.holds
+held-requires-in-Mul-clause-within g c = (rw c.in-Mul.is at c.requires.fit).1
 
 pub mul-form-requires-clause-left : goal.mul-form-requires-clause-left
 mul-form-requires-clause-left g c =
     read_checked g.T.RingWord.number g.R.Reducer.form g.R.Reducer.value _ c.args.regs.now _ _ c.requires.checked
-    (rw (sym c.command-read.ensures ∙ c.in-Mul.is) at c.requires.fit).1 c.held-in-Mul.ensures
+    (rw c.in-Mul.is at c.requires.fit).1 c.held-in-Mul.ensures
 
 pub write-requires-in-Mul : goal.write-requires-in-Mul
-write-requires-in-Mul g c = (rw (sym c.command-read.ensures ∙ c.in-Mul.is) at c.requires.fit).0
+write-requires-in-Mul g c = (rw c.in-Mul.is at c.requires.fit).0
 
 pub returns-in-Some-clause-values : goal.returns-in-Some-clause-values
 returns-in-Some-clause-values g c done v holds =
     let number = g.T.RingWord.number in
     let m = g.R.Reducer.modulus c.args.r.now in
-    rw (c.write-in_default.ensures.written, c.destination.ensures.value, c.command-read.ensures) (after_found number g.R.Reducer.form
-    (g.R.Reducer.modulus c.args.r.now) c.args.regs.now v (whole number (g.C.AsCommand.command c.args.command.now)) c.in-Some.form _ refl holds
-    (destination_below number (length c.args.regs.now) (g.C.AsCommand.command c.args.command.now) c.requires.fit) (c.in-Some.ensures v holds))
+    rw (c.write-in_default.ensures.written, c.destination.ensures.value) (after_found number g.R.Reducer.form
+    (g.R.Reducer.modulus c.args.r.now) c.args.regs.now v (whole number c.args.command) c.in-Some.form _ refl holds
+    (destination_below number (length c.args.regs.now) c.args.command c.requires.fit) (c.in-Some.ensures v holds))
 
 pub returns-in-Some-clause-missing : goal.returns-in-Some-clause-missing
 returns-in-Some-clause-missing g c v holds = (
   λ e. cc,
   λ lacks. absurd (finds_here g.T.RingWord.number g.R.Reducer.form (g.R.Reducer.modulus c.args.r.now) v
-      (whole g.T.RingWord.number (g.C.AsCommand.command c.args.command.now)) c.in-Some.form (c.in-Some.ensures v holds) lacks),
+      (whole g.T.RingWord.number c.args.command) c.in-Some.form (c.in-Some.ensures v holds) lacks),
 )
 
 pub returns-in_default-computed_form-clause-missing : goal.returns-in_default-computed_form-clause-missing
 returns-in_default-computed_form-clause-missing g c v holds = (
   λ e. lacks_here g.T.RingWord.number g.R.Reducer.form (g.R.Reducer.modulus c.args.r.now) v
-      (whole g.T.RingWord.number (g.C.AsCommand.command c.args.command.now)) (c.in_default-computed_form.ensures v holds),
+      (whole g.T.RingWord.number c.args.command) (c.in_default-computed_form.ensures v holds),
   λ lacks. refl,
 )
 
@@ -143,9 +135,9 @@ pub computed_form-requires : goal.computed_form-requires
 computed_form-requires g c = record {
   checked = c.requires.checked;
   fit = c.requires.fit;
-  other = subst (λ w. Combines w → ⊥) c.command-read.ensures (neither c.command-read.result c.in_default.not-Add c.in_default.not-Sub c.in_default.not-Mul);
+  other = neither c.args.command c.in_default.not-Add c.in_default.not-Sub c.in_default.not-Mul;
 }
 
 pub write-requires-in_default : goal.write-requires-in_default
 write-requires-in_default g c =
-    c.destination.ensures.within (length c.args.regs.now) (rw (sym c.command-read.ensures) at c.requires.fit)
+    c.destination.ensures.within (length c.args.regs.now) c.requires.fit

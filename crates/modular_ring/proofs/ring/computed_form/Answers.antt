@@ -1,4 +1,4 @@
-use Rattle.std.proofs.Common.{◌*◌, ◌%◌, ◌^◌, subst, sym, ◌∙◌, option_map, pos, neg_ℤ}
+use Rattle.std.proofs.Common.{◌*◌, ◌%◌, ◌^◌, subst, option_map, pos, neg_ℤ}
 use Rattle.std.proofs.Math.Nat.{le_of_lt}
 use Rattle.modular_word.specs.Inverses.{inverse_of}
 use Rattle.modular_word.specs.Residues.{residue}
@@ -7,47 +7,47 @@ use Rattle.modular_ring.proofs.RunLemmas.{value_of, inverse_form, form_of_one, r
 use Rattle.modular_ring.proofs.ring.computed_form.Goals as goal
 
 pub returns-in-Load : goal.returns-in-Load
-returns-in-Load g c v holds = rw (sym c.command.ensures ∙ c.in-Load.is) c.transform.ensures.form
+returns-in-Load g c v holds = rw c.in-Load.is c.transform.ensures.form
 
 pub returns-in-Neg : goal.returns-in-Neg
 returns-in-Neg g c v holds =
     let m = g.R.Reducer.modulus c.args.r.now in
     let canonical = g.met.R.Reducer.canonical c.args.r.now in
-    let fit = rw (sym c.command.ensures ∙ c.in-Neg.is) at c.requires.fit in
-    rw (sym c.command.ensures ∙ c.in-Neg.is) (form_of_one {v = v} (λ x. residue m (neg_ℤ (pos x))) c.in-Neg.a c.index-regs-a.result
+    let fit = rw c.in-Neg.is at c.requires.fit in
+    rw c.in-Neg.is (form_of_one {v = v} (λ x. residue m (neg_ℤ (pos x))) c.in-Neg.a c.index-regs-a.result
     canonical holds fit.1 c.index-regs-a.is c.neg.ensures.form)
 
 pub returns-in-Dbl : goal.returns-in-Dbl
 returns-in-Dbl g c v holds =
     let m = g.R.Reducer.modulus c.args.r.now in
     let canonical = g.met.R.Reducer.canonical c.args.r.now in
-    let fit = rw (sym c.command.ensures ∙ c.in-Dbl.is) at c.requires.fit in
-    rw (sym c.command.ensures ∙ c.in-Dbl.is) (form_of_one {v = v} (λ x. (2 * x) % m) c.in-Dbl.a c.index-regs-a-in-Dbl.result canonical holds fit.1
+    let fit = rw c.in-Dbl.is at c.requires.fit in
+    rw c.in-Dbl.is (form_of_one {v = v} (λ x. (2 * x) % m) c.in-Dbl.a c.index-regs-a-in-Dbl.result canonical holds fit.1
     c.index-regs-a-in-Dbl.is c.dbl.ensures.form)
 
 pub returns-in-Sqr : goal.returns-in-Sqr
 returns-in-Sqr g c v holds =
     let m = g.R.Reducer.modulus c.args.r.now in
     let canonical = g.met.R.Reducer.canonical c.args.r.now in
-    let fit = rw (sym c.command.ensures ∙ c.in-Sqr.is) at c.requires.fit in
-    rw (sym c.command.ensures ∙ c.in-Sqr.is) (form_of_one {v = v} (λ x. (x * x) % m) c.in-Sqr.a c.index-regs-a-in-Sqr.result canonical holds fit.1
+    let fit = rw c.in-Sqr.is at c.requires.fit in
+    rw c.in-Sqr.is (form_of_one {v = v} (λ x. (x * x) % m) c.in-Sqr.a c.index-regs-a-in-Sqr.result canonical holds fit.1
     c.index-regs-a-in-Sqr.is c.sqr.ensures.form)
 
 pub returns-in-Pow : goal.returns-in-Pow
 returns-in-Pow g c v holds =
     let m = g.R.Reducer.modulus c.args.r.now in
     let canonical = g.met.R.Reducer.canonical c.args.r.now in
-    let fit = rw (sym c.command.ensures ∙ c.in-Pow.is) at c.requires.fit in
-    rw (sym c.command.ensures ∙ c.in-Pow.is) (form_of_one {v = v} (λ x. x ^ g.T.RingWord.number c.in-Pow.exp % m) c.in-Pow.a
+    let fit = rw c.in-Pow.is at c.requires.fit in
+    rw c.in-Pow.is (form_of_one {v = v} (λ x. x ^ g.T.RingWord.number c.in-Pow.exp % m) c.in-Pow.a
     c.index-regs-a-in-Pow.result canonical holds fit.1 c.index-regs-a-in-Pow.is c.pow.ensures.form)
 
 pub returns-in-Inv : goal.returns-in-Inv
 returns-in-Inv g c v holds =
     let m = g.R.Reducer.modulus c.args.r.now in
     let canonical = g.met.R.Reducer.canonical c.args.r.now in
-    let fit = rw (sym c.command.ensures ∙ c.in-Inv.is) at c.requires.fit in
+    let fit = rw c.in-Inv.is at c.requires.fit in
     let is = value_of {v = v} c.in-Inv.a c.index-regs-a-in-Inv.result canonical holds fit.1 c.index-regs-a-in-Inv.is in
-    rw (sym c.command.ensures ∙ c.in-Inv.is) (subst (λ u. IsFormOf g.T.RingWord.number g.R.Reducer.form m (inverse_of m u) c.inv.result) is
+    rw c.in-Inv.is (subst (λ u. IsFormOf g.T.RingWord.number g.R.Reducer.form m (inverse_of m u) c.inv.result) is
     (inverse_form g.T.RingWord.number g.R.Reducer.form m _ c.inv.result c.inv.ensures.form))
 
 pub returns-in-Div : goal.returns-in-Div
@@ -55,7 +55,7 @@ returns-in-Div g c v holds =
     let m = g.R.Reducer.modulus c.args.r.now in
     let canonical = g.met.R.Reducer.canonical c.args.r.now in
     let number = g.T.RingWord.number in
-    let fit = rw (sym c.command.ensures ∙ c.in-Div.is) at c.requires.fit in
+    let fit = rw c.in-Div.is at c.requires.fit in
     let is_a = value_of {v = v} c.in-Div.a c.index-regs-a-in-Div.result canonical holds
     fit.1 c.index-regs-a-in-Div.is in
     let is_b = value_of {v = v} c.in-Div.b c.index-regs-b.result canonical holds
@@ -63,71 +63,71 @@ returns-in-Div g c v holds =
     let first = subst (λ u. IsFormOf number g.R.Reducer.form m (option_map
     (λ y. (g.R.Reducer.value m (number c.index-regs-a-in-Div.result) * y) % m) (inverse_of m u)) c.quotient.result) is_b
     c.quotient.ensures in
-    rw (sym c.command.ensures ∙ c.in-Div.is) (subst (λ u. IsFormOf number g.R.Reducer.form m
+    rw c.in-Div.is (subst (λ u. IsFormOf number g.R.Reducer.form m
     (option_map (λ y. (u * y) % m) (inverse_of m (v c.in-Div.b))) c.quotient.result) is_a first)
 
 pub offset_bounds-regs-a : goal.offset_bounds-regs-a
-offset_bounds-regs-a g c = le_of_lt (rw (sym c.command.ensures ∙ c.in-Neg.is) at c.requires.fit).1
+offset_bounds-regs-a g c = le_of_lt (rw c.in-Neg.is at c.requires.fit).1
 
 pub bounds-regs-a : goal.bounds-regs-a
-bounds-regs-a g c = (rw (sym c.command.ensures ∙ c.in-Neg.is) at c.requires.fit).1
+bounds-regs-a g c = (rw c.in-Neg.is at c.requires.fit).1
 
 pub neg-requires : goal.neg-requires
 neg-requires g c =
     read_checked g.T.RingWord.number g.R.Reducer.form g.R.Reducer.value _ c.args.regs.now _ _ c.requires.checked
-    (rw (sym c.command.ensures ∙ c.in-Neg.is) at c.requires.fit).1 c.index-regs-a.is
+    (rw c.in-Neg.is at c.requires.fit).1 c.index-regs-a.is
 
 pub offset_bounds-regs-a-in-Dbl : goal.offset_bounds-regs-a-in-Dbl
-offset_bounds-regs-a-in-Dbl g c = le_of_lt (rw (sym c.command.ensures ∙ c.in-Dbl.is) at c.requires.fit).1
+offset_bounds-regs-a-in-Dbl g c = le_of_lt (rw c.in-Dbl.is at c.requires.fit).1
 
 pub bounds-regs-a-in-Dbl : goal.bounds-regs-a-in-Dbl
-bounds-regs-a-in-Dbl g c = (rw (sym c.command.ensures ∙ c.in-Dbl.is) at c.requires.fit).1
+bounds-regs-a-in-Dbl g c = (rw c.in-Dbl.is at c.requires.fit).1
 
 pub dbl-requires : goal.dbl-requires
 dbl-requires g c =
     read_checked g.T.RingWord.number g.R.Reducer.form g.R.Reducer.value _ c.args.regs.now _ _ c.requires.checked
-    (rw (sym c.command.ensures ∙ c.in-Dbl.is) at c.requires.fit).1 c.index-regs-a-in-Dbl.is
+    (rw c.in-Dbl.is at c.requires.fit).1 c.index-regs-a-in-Dbl.is
 
 pub offset_bounds-regs-a-in-Sqr : goal.offset_bounds-regs-a-in-Sqr
-offset_bounds-regs-a-in-Sqr g c = le_of_lt (rw (sym c.command.ensures ∙ c.in-Sqr.is) at c.requires.fit).1
+offset_bounds-regs-a-in-Sqr g c = le_of_lt (rw c.in-Sqr.is at c.requires.fit).1
 
 pub bounds-regs-a-in-Sqr : goal.bounds-regs-a-in-Sqr
-bounds-regs-a-in-Sqr g c = (rw (sym c.command.ensures ∙ c.in-Sqr.is) at c.requires.fit).1
+bounds-regs-a-in-Sqr g c = (rw c.in-Sqr.is at c.requires.fit).1
 
 pub sqr-requires : goal.sqr-requires
 sqr-requires g c =
     read_checked g.T.RingWord.number g.R.Reducer.form g.R.Reducer.value _ c.args.regs.now _ _ c.requires.checked
-    (rw (sym c.command.ensures ∙ c.in-Sqr.is) at c.requires.fit).1 c.index-regs-a-in-Sqr.is
+    (rw c.in-Sqr.is at c.requires.fit).1 c.index-regs-a-in-Sqr.is
 
 pub offset_bounds-regs-a-in-Inv : goal.offset_bounds-regs-a-in-Inv
-offset_bounds-regs-a-in-Inv g c = le_of_lt (rw (sym c.command.ensures ∙ c.in-Inv.is) at c.requires.fit).1
+offset_bounds-regs-a-in-Inv g c = le_of_lt (rw c.in-Inv.is at c.requires.fit).1
 
 pub bounds-regs-a-in-Inv : goal.bounds-regs-a-in-Inv
-bounds-regs-a-in-Inv g c = (rw (sym c.command.ensures ∙ c.in-Inv.is) at c.requires.fit).1
+bounds-regs-a-in-Inv g c = (rw c.in-Inv.is at c.requires.fit).1
 
 pub inv-requires : goal.inv-requires
 inv-requires g c =
     read_checked g.T.RingWord.number g.R.Reducer.form g.R.Reducer.value _ c.args.regs.now _ _ c.requires.checked
-    (rw (sym c.command.ensures ∙ c.in-Inv.is) at c.requires.fit).1 c.index-regs-a-in-Inv.is
+    (rw c.in-Inv.is at c.requires.fit).1 c.index-regs-a-in-Inv.is
 
 pub offset_bounds-regs-a-in-Pow : goal.offset_bounds-regs-a-in-Pow
-offset_bounds-regs-a-in-Pow g c = le_of_lt (rw (sym c.command.ensures ∙ c.in-Pow.is) at c.requires.fit).1
+offset_bounds-regs-a-in-Pow g c = le_of_lt (rw c.in-Pow.is at c.requires.fit).1
 
 pub bounds-regs-a-in-Pow : goal.bounds-regs-a-in-Pow
-bounds-regs-a-in-Pow g c = (rw (sym c.command.ensures ∙ c.in-Pow.is) at c.requires.fit).1
+bounds-regs-a-in-Pow g c = (rw c.in-Pow.is at c.requires.fit).1
 
 pub pow-requires : goal.pow-requires
 pow-requires g c =
     read_checked g.T.RingWord.number g.R.Reducer.form g.R.Reducer.value _ c.args.regs.now _ _ c.requires.checked
-    (rw (sym c.command.ensures ∙ c.in-Pow.is) at c.requires.fit).1 c.index-regs-a-in-Pow.is
+    (rw c.in-Pow.is at c.requires.fit).1 c.index-regs-a-in-Pow.is
 
 pub offset_bounds-regs-a-in-Div : goal.offset_bounds-regs-a-in-Div
-offset_bounds-regs-a-in-Div g c = le_of_lt (rw (sym c.command.ensures ∙ c.in-Div.is) at c.requires.fit).1
+offset_bounds-regs-a-in-Div g c = le_of_lt (rw c.in-Div.is at c.requires.fit).1
 
 pub bounds-regs-a-in-Div : goal.bounds-regs-a-in-Div
-bounds-regs-a-in-Div g c = (rw (sym c.command.ensures ∙ c.in-Div.is) at c.requires.fit).1
+bounds-regs-a-in-Div g c = (rw c.in-Div.is at c.requires.fit).1
 
 pub quotient-requires-clause-dividend : goal.quotient-requires-clause-dividend
 quotient-requires-clause-dividend g c =
     read_checked g.T.RingWord.number g.R.Reducer.form g.R.Reducer.value _ c.args.regs.now _ _ c.requires.checked
-    (rw (sym c.command.ensures ∙ c.in-Div.is) at c.requires.fit).1 c.index-regs-a-in-Div.is
+    (rw c.in-Div.is at c.requires.fit).1 c.index-regs-a-in-Div.is

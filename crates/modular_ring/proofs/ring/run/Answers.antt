@@ -28,9 +28,6 @@ commands-init g c = record {
 pub offset_bounds-commands-at : goal.offset_bounds-commands-at
 offset_bounds-commands-at g c = le_of_lt c.commands-test.true
 
-pub bounds-commands-at : goal.bounds-commands-at
-bounds-commands-at g c = c.commands-test.true
-
 pub carry_out-requires-clause-checked : goal.carry_out-requires-clause-checked
 carry_out-requires-clause-checked g c =
     all_forms (g.met.R.Reducer.canonical c.args.r.now) c.commands.invariant.held
@@ -50,11 +47,8 @@ fit_here command_of {count} commands at command fit within is same =
 
 pub carry_out-requires-clause-fit : goal.carry_out-requires-clause-fit
 carry_out-requires-clause-fit g c =
-    fit_here g.C.AsCommand.command c.args.commands.now c.commands.at c.index-commands-at.result c.requires.fit c.commands-test.true
-    c.index-commands-at.is c.commands.auto.regs
-
-pub carry_out-requires-clause-holds : goal.carry_out-requires-clause-holds
-carry_out-requires-clause-holds g c = c.commands.invariant.last
+    rw c.command.ensures (fit_here g.C.AsCommand.command c.args.commands.now c.commands.at c.index-commands-at.result c.requires.fit c.commands-test.true
+    c.index-commands-at.is c.commands.auto.regs)
 
 pub commands-smaller : goal.commands-smaller
 commands-smaller g c = falls _ _ c.commands-test.true
@@ -78,9 +72,9 @@ commands-preserved g c =
     let held = c.commands.invariant.held in
     record {
       held = after_command number g.R.Reducer.form m start wholes at c.carry_out.new.regs (read_as command) is
-          (c.carry_out.ensures.values told (value_at m start wholes at) held);
+          ((rw c.command.ensures at c.carry_out.ensures.values) told (value_at m start wholes at) held);
       passed = below_more (λ j. LacksInverseAt m start wholes j → ⊥) at c.commands.invariant.passed (λ lacks. absurd (true_not_false told
-          ((c.carry_out.ensures.missing (value_at m start wholes at) held).1
+          (((rw c.command.ensures at c.carry_out.ensures.missing) (value_at m start wholes at) held).1
           (lacks_of m start wholes at (read_as command) is lacks))));
       last = c.carry_out.ensures.holds;
     }
@@ -106,7 +100,7 @@ returns-then-not-carry_out-clause-stops g c =
     c.commands-test.true c.index-commands-at.is in
     let told = c.if-not-carry_out.true in
     let read_as = over_wholes number g.C.AsCommand.command in
-    let lacks = (c.carry_out.ensures.missing (value_at m start (map read_as c.args.commands.now) c.commands.at)
+    let lacks = ((rw c.command.ensures at c.carry_out.ensures.missing) (value_at m start (map read_as c.args.commands.now) c.commands.at)
     c.commands.invariant.held).0 told in
     stops_at (stop_here read_as m start c.args.commands.now c.commands.at read lacks c.commands.invariant.passed)
 
@@ -119,7 +113,7 @@ returns-then-not-carry_out-clause-done g c =
     c.commands-test.true c.index-commands-at.is in
     let told = c.if-not-carry_out.true in
     let read_as = over_wholes number g.C.AsCommand.command in
-    let lacks = (c.carry_out.ensures.missing (value_at m start (map read_as c.args.commands.now) c.commands.at)
+    let lacks = ((rw c.command.ensures at c.carry_out.ensures.missing) (value_at m start (map read_as c.args.commands.now) c.commands.at)
     c.commands.invariant.held).0 told in
     not_done (stop_here read_as m start c.args.commands.now c.commands.at read lacks c.commands.invariant.passed)
 

@@ -1,5 +1,6 @@
 use Rattle.std.proofs.Common.{ℕ, ◌<◌, map}
-use Rattle.modular_ring.specs.Ring.{whole, value_at, LacksInverseAt, values_of, HoldValues, IsHeldAt}
+use Rattle.modular_ring.specs.Ring.{whole, value_at, LacksInverseAt, values_of, HoldValues}
+use Rattle.modular_ring.specs.RunSteps.{IsHeldAt}
 use Rattle.modular_ring.proofs.ring.run.Given as goal
 
 -- the registers hold the row of the table, no inverse was missing, and the last form is that of its register

@@ -1,7 +1,7 @@
 -- The count one number on, and the symbol at its end.
 use Rattle.std.proofs.Common.{◌<◌, ◌≤◌, cond, pos, negsuc, sym, ap, ◌∙◌, arith}
 use Rattle.modular_symbols.specs.Kronecker.{signed}
-use Rattle.modular_symbols.proofs.CountSteps.{Next, counted_none, counted_high, counted_low, counted_all}
+use Rattle.modular_symbols.proofs.CountSteps.{counted_none, counted_next, counted_all}
 use Rattle.modular_symbols.proofs.CountSteps.{shared_divisor, no_inverse, with_inverse}
 use Rattle.modular_symbols.proofs.count.jacobi_by_count.Goals as goal
 
@@ -12,41 +12,16 @@ returns-then-is_none g c =
     sym (shared_divisor (signed c.args.a_minus (pos (n c.args.a))) (n c.args.n)
     (no_inverse n (n c.args.n) (n c.args.a) c.args.a_minus c.invm.result p c.invm.ensures c.if-is_none.ensures))
 
-pub half_system-preserved-then-is_below : goal.half_system-preserved-then-is_below
-half_system-preserved-then-is_below g c =
-    let n = g.T.RingWord.number in
-    let before = c.is_below.ensures.below.0 c.half_system-test.true in
-    let high : n c.half-half.result < n c.mulm.result = grind arith in
-    let next : Next (signed c.args.a_minus (pos (n c.args.a))) (n c.args.n) (n c.half_system.x)
-    (n c.one.result) (n c.plus-x.result)
-    (n c.half-half.result) (n c.signed_residue-residue.result) (n c.mulm.result) = record {
-      odd_modulus = c.requires;
-      half_is = c.half-half.ensures.value;
-      one_is = c.one.ensures;
-      before = before;
-      follows = c.plus-x.ensures;
-      residue_is = c.signed_residue-residue.ensures;
-      product = c.mulm.ensures;
-    } in
-    counted_high next c.half_system.invariant high
-
 pub half_system-preserved : goal.half_system-preserved
-half_system-preserved g c =
-    let n = g.T.RingWord.number in
-    let before = c.is_below.ensures.below.0 c.half_system-test.true in
-    let low : n c.mulm.result ≤ n c.half-half.result = grind arith in
-    let next : Next (signed c.args.a_minus (pos (n c.args.a))) (n c.args.n) (n c.half_system.x)
-    (n c.one.result) (n c.plus-x.result)
-    (n c.half-half.result) (n c.signed_residue-residue.result) (n c.mulm.result) = record {
-      odd_modulus = c.requires;
-      half_is = c.half-half.ensures.value;
-      one_is = c.one.ensures;
-      before = before;
-      follows = c.plus-x.ensures;
-      residue_is = c.signed_residue-residue.ensures;
-      product = c.mulm.ensures;
-    } in
-    counted_low next c.half_system.invariant low
+half_system-preserved g c = counted_next record {
+  odd_modulus = c.requires;
+  half_is = c.half-half.ensures.value;
+  one_is = c.one.ensures;
+  before = c.is_below.ensures.below.0 c.half_system-test.true;
+  follows = c.plus-x.ensures;
+  residue_is = c.signed_residue-residue.ensures;
+  product = c.mulm.ensures;
+} c.half_system.invariant c.is_below-odd.ensures.below
 
 pub returns-then-odd : goal.returns-then-odd
 returns-then-odd g c =
@@ -91,10 +66,5 @@ mulm-requires g c = omega (arith, c.requires)
 
 pub half_system-smaller : goal.half_system-smaller
 half_system-smaller g c =
-    let before = c.is_below.ensures.below.0 c.half_system-test.true in
-    omega (arith, before, c.plus-x.ensures, c.one.ensures)
-
-pub half_system-smaller-then-is_below : goal.half_system-smaller-then-is_below
-half_system-smaller-then-is_below g c =
     let before = c.is_below.ensures.below.0 c.half_system-test.true in
     omega (arith, before, c.plus-x.ensures, c.one.ensures)

@@ -1,10 +1,10 @@
 -- Each turn of the loop keeps the symbol up to its sign, and counts its steps.
-use Rattle.std.proofs.Common.{arith, ◌≢◌, ◌+◌, ◌*◌, ◌≤◌, ◌∙◌, pos, sym, ap}
+use Rattle.modular_symbols.proofs.SymbolBytes.{in_byte}
+use Rattle.std.proofs.Common.{rules, arith, ◌≢◌, ◌+◌, ◌*◌, ◌≤◌, ◌∙◌, pos, sym}
 use Rattle.std.proofs.lemmas.Bool.{false≢true}
 use Rattle.modular_symbols.specs.Jacobi.{jacobi}
-use Rattle.modular_symbols.specs.Kronecker.{signed}
 use Rattle.modular_symbols.proofs.HalvingSteps.{smaller, kept_swapped}
-use Rattle.modular_symbols.proofs.TurnedSymbols.{kept_start, kept_one, kept_none}
+use Rattle.modular_symbols.proofs.TurnedSymbols.{kept_start, kept_last}
 use Rattle.modular_symbols.proofs.TwoPart.{halved_by}
 use Rattle.modular_symbols.proofs.StepCounts.{counts_start, counts_turn, counts_end, counts_few}
 use Rattle.modular_symbols.proofs.halving.halve_and_swap.Goals as goal
@@ -87,47 +87,15 @@ pub overflow_add-count-in-swaps : goal.overflow_add-count-in-swaps
 overflow_add-count-in-swaps g c =
     omega (arith, few g (goal.at.overflow_add-count-in-swaps g c).After-rest-above, g.met.T.RingWord.width_to)
 
-pub returns-then-turned-clause-symbol : goal.returns-then-turned-clause-symbol
-returns-then-turned-clause-symbol g c =
-    let n = g.T.RingWord.number in
-    ap (λ t. signed t (pos 1)) (sym c.if-turned.true)
-    ∙ kept_one _ (n c.swaps.above) (n c.swaps.below) c.swaps.turned c.swaps.invariant.symbol
-    (c.is_zero_word.ensures.zero.0 c.swaps-test.false)
-    ((g.met.T.RingWord.equal c.swaps.below c.one.result).0 (sym c.eq.ensures ∙ c.if-eq.true) ∙ c.one.ensures)
+pub returns-clause-symbol : goal.returns-clause-symbol
+returns-clause-symbol g c =
+    in_byte c.last_symbol.result (search rules)
+    ∙ kept_last _ _ _ _ c.swaps.turned c.swaps.invariant.symbol (c.is_zero_word.ensures.zero.0 c.swaps-test.false)
+    c.last_symbol.ensures.one c.last_symbol.ensures.more
 
-pub returns-then-turned-clause-count : goal.returns-then-turned-clause-count
-returns-then-turned-clause-count g c = counts_end _ _ _ _ _ _ c.swaps.invariant.counts
-    (c.is_zero_word.ensures.zero.0 c.swaps-test.false)
+pub returns-clause-count : goal.returns-clause-count
+returns-clause-count g c =
+    counts_end _ _ _ _ _ _ c.swaps.invariant.counts (c.is_zero_word.ensures.zero.0 c.swaps-test.false)
 
-pub returns-then-turned-clause-at_most : goal.returns-then-turned-clause-at_most
-returns-then-turned-clause-at_most g c = omega (arith, (counts_few _ _ _ _ _ _ c.swaps.invariant.counts c.requires.below))
-
-pub returns-else-turned-clause-symbol : goal.returns-else-turned-clause-symbol
-returns-else-turned-clause-symbol g c =
-    let n = g.T.RingWord.number in
-    ap (λ t. signed t (pos 1)) (sym c.if-turned.false)
-    ∙ kept_one _ (n c.swaps.above) (n c.swaps.below) c.swaps.turned c.swaps.invariant.symbol
-    (c.is_zero_word.ensures.zero.0 c.swaps-test.false)
-    ((g.met.T.RingWord.equal c.swaps.below c.one.result).0 (sym c.eq.ensures ∙ c.if-eq.true) ∙ c.one.ensures)
-
-pub returns-else-turned-clause-count : goal.returns-else-turned-clause-count
-returns-else-turned-clause-count g c = counts_end _ _ _ _ _ _ c.swaps.invariant.counts
-    (c.is_zero_word.ensures.zero.0 c.swaps-test.false)
-
-pub returns-else-turned-clause-at_most : goal.returns-else-turned-clause-at_most
-returns-else-turned-clause-at_most g c = omega (arith, (counts_few _ _ _ _ _ _ c.swaps.invariant.counts c.requires.below))
-
-pub returns-else-eq-clause-symbol : goal.returns-else-eq-clause-symbol
-returns-else-eq-clause-symbol g c =
-    let n = g.T.RingWord.number in
-    kept_none _ (n c.swaps.above) (n c.swaps.below) c.swaps.turned c.swaps.invariant.symbol
-    (c.is_zero_word.ensures.zero.0 c.swaps-test.false)
-    (λ e. let one = (g.met.T.RingWord.equal c.swaps.below c.one.result).1 (e ∙ sym c.one.ensures) in
-    false≢true (sym c.if-eq.false ∙ c.eq.ensures ∙ one))
-
-pub returns-else-eq-clause-count : goal.returns-else-eq-clause-count
-returns-else-eq-clause-count g c = counts_end _ _ _ _ _ _ c.swaps.invariant.counts
-    (c.is_zero_word.ensures.zero.0 c.swaps-test.false)
-
-pub returns-else-eq-clause-at_most : goal.returns-else-eq-clause-at_most
-returns-else-eq-clause-at_most g c = omega (arith, (counts_few _ _ _ _ _ _ c.swaps.invariant.counts c.requires.below))
+pub returns-clause-at_most : goal.returns-clause-at_most
+returns-clause-at_most g c = omega (arith, (counts_few _ _ _ _ _ _ c.swaps.invariant.counts c.requires.below))

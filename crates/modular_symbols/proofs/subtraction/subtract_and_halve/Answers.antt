@@ -1,8 +1,9 @@
 -- The turns of the loop, and the symbol of two equal numbers.
-use Rattle.std.proofs.Common.{◌≡◌, ◌+◌, ◌/◌, not, pos, sym, ap, ◌∙◌, arith}
+use Rattle.modular_symbols.proofs.SymbolBytes.{in_byte}
+use Rattle.std.proofs.Common.{rules, ◌≡◌, ◌+◌, ◌/◌, not, pos, sym, ap, ◌∙◌, arith}
 use Rattle.modular_symbols.specs.Jacobi.{jacobi}
 use Rattle.modular_symbols.specs.Kronecker.{signed}
-use Rattle.modular_symbols.proofs.SubtractionSteps.{kept_equal_turned, kept_equal_not_turned, kept_equal_none}
+use Rattle.modular_symbols.proofs.SubtractionSteps.{kept_equal_last}
 use Rattle.std.proofs.lemmas.Bool.{false≢true}
 use Rattle.modular_symbols.proofs.TurnBits.{is_odd, xor-parity, is_by_not}
 use Rattle.modular_symbols.proofs.subtraction.subtract_and_halve.Goals as goal
@@ -47,32 +48,11 @@ differences-preserved g c =
       };
     }
 
-pub returns-then-swaps-twos-eq1 : goal.returns-then-swaps-twos-eq1
-returns-then-swaps-twos-eq1 g c =
+pub returns : goal.returns
+returns g c =
     let n = g.T.RingWord.number in
-    kept_equal_turned _ (n c.differences.above) (n c.differences.below) (c.differences.swaps / 2 + c.differences.twos) _
+    in_byte c.last_symbol.result (search rules)
+    ∙ kept_equal_last _ _ (n c.differences.above) (n c.differences.below) (c.differences.swaps / 2 + c.differences.twos) _
     c.differences.invariant.symbol ((g.met.T.RingWord.equal c.differences.above c.differences.below).0
-    (is_by_not _ (sym c.ne.ensures ∙ c.differences-test.false)))
-    ((g.met.T.RingWord.equal c.differences.below c.one.result).0 (sym c.eq.ensures ∙ c.if-eq.true) ∙ c.one.ensures)
-    (xor-parity (c.differences.swaps / 2) c.differences.twos) c.if-swaps-twos-eq1.true
-
-pub returns-else-swaps-twos-eq1 : goal.returns-else-swaps-twos-eq1
-returns-else-swaps-twos-eq1 g c =
-    let n = g.T.RingWord.number in
-    kept_equal_not_turned _ (n c.differences.above) (n c.differences.below)
-    (c.differences.swaps / 2 + c.differences.twos) _
-    c.differences.invariant.symbol ((g.met.T.RingWord.equal c.differences.above c.differences.below).0
-    (is_by_not _ (sym c.ne.ensures ∙ c.differences-test.false)))
-    ((g.met.T.RingWord.equal c.differences.below c.one.result).0 (sym c.eq.ensures ∙ c.if-eq.true) ∙ c.one.ensures)
-    (xor-parity (c.differences.swaps / 2) c.differences.twos) c.if-swaps-twos-eq1.false
-
-pub returns-else-eq : goal.returns-else-eq
-returns-else-eq g c =
-    let n = g.T.RingWord.number in
-    kept_equal_none _ (n c.differences.above) (n c.differences.below)
-    (is_odd (c.differences.swaps / 2 + c.differences.twos))
-    c.differences.invariant.symbol ((g.met.T.RingWord.equal c.differences.above c.differences.below).0
-    (is_by_not _ (sym c.ne.ensures ∙ c.differences-test.false)))
-    (λ e.
-    let one = (g.met.T.RingWord.equal c.differences.below c.one.result).1 (e ∙ sym c.one.ensures) in
-    false≢true (sym c.if-eq.false ∙ c.eq.ensures ∙ one))
+    (is_by_not _ (sym c.ne.ensures ∙ c.differences-test.false))) (xor-parity (c.differences.swaps / 2) c.differences.twos)
+    c.last_symbol.ensures.one c.last_symbol.ensures.more

@@ -3,7 +3,7 @@ use Rattle.std.proofs.lemmas.Bool.{false≢true}
 use Rattle.modular_word.specs.Inverses.{IsInverse}
 use Rattle.modular_word.proofs.Congruence.{mod_sym}
 use Rattle.modular_transform.proofs.ConvolveLemmas.{inverse_along}
-use Rattle.modular_transform.proofs.ValueLemmas.{held_value}
+use Rattle.modular_reduced.proofs.ListSteps.{held_values}
 use Rattle.modular_transform.proofs.convolution.convolve.Goals as goal
 
 pub multiply-requires-clause-inverse : goal.multiply-requires-clause-inverse
@@ -29,12 +29,12 @@ returns-in-Some-clause-transformed g c h = c.multiply.ensures.transformed
 
 pub returns-in-Some-clause-values : goal.returns-in-Some-clause-values
 returns-in-Some-clause-values g c h e l =
-    held_value g.T.RingWord.number g.R.Reducer.form g.R.Reducer.value _ _ c.multiply.new.xs _ e
+    held_values g.T.RingWord.number c.multiply.new.xs _ e
     (g.met.R.Reducer.canonical c.args.r.now) c.multiply.ensures.product (omega arith)
 
 pub returns-in-Some-clause-transformed_values : goal.returns-in-Some-clause-transformed_values
 returns-in-Some-clause-transformed_values g c h j l =
-    held_value g.T.RingWord.number g.R.Reducer.form g.R.Reducer.value _ _ c.multiply.new.ys _ j
+    held_values g.T.RingWord.number c.multiply.new.ys _ j
     (g.met.R.Reducer.canonical c.args.r.now) c.multiply.ensures.transformed
     (let equal = c.requires.equal in omega arith)
 

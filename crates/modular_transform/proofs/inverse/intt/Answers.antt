@@ -4,7 +4,8 @@ use Rattle.std.proofs.Math.Nat.{mod-eq_of_lt}
 use Rattle.modular_word.specs.Inverses.{IsInverse}
 use Rattle.modular_word.proofs.Congruence.{mod_sym}
 use Rattle.modular_reduced.specs.Entries.{entry}
-use Rattle.modular_transform.proofs.ValueLemmas.{values_below, held_value}
+use Rattle.modular_reduced.proofs.ListSteps.{held_values}
+use Rattle.modular_transform.proofs.ValueLemmas.{values_below}
 use Rattle.modular_transform.specs.Orders.{mirrored}
 use Rattle.modular_transform.specs.Transforms.{transform}
 use Rattle.modular_transform.proofs.ConvolveLemmas.{inverse_along}
@@ -35,7 +36,7 @@ returns-in-Some-clause-values g c h j l =
     let old = entry number value m c.args.xs.now in
     let below = values_below number g.R.Reducer.form value m c.args.xs.now j c.requires.checked l in
     restored_at m root n part j (entry number value m c.transform_back.new.xs) old c.requires.root.below c.requires.suits
-    inverse l (λ i k. held_value number g.R.Reducer.form value g.T.RingWord.width m c.transform_back.new.xs
+    inverse l (λ i k. held_values number c.transform_back.new.xs
     (λ i. (transform m root n old (mirrored n i) * part) % m) i canonical c.transform_back.ensures.entries (omega arith))
     ∙ mod-eq_of_lt below
 
@@ -53,7 +54,7 @@ returns-in-Some-clause-undone g c h x are i l =
     let inverse : IsInverse m n part
     = subst (IsInverse m n) (sym part_is) (inverse_along c.length_form-length.ensures.counted found.1) in
     let old = entry number value m c.args.xs.now in
-    held_value number g.R.Reducer.form value g.T.RingWord.width m c.transform_back.new.xs
+    held_values number c.transform_back.new.xs
     (λ i. (transform m root n old (mirrored n i) * part) % m) i canonical c.transform_back.ensures.entries (omega arith)
     ∙ undone_at m root n part i x old canonical.positive c.requires.suits inverse l are
 

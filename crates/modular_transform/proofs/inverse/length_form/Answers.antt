@@ -15,8 +15,5 @@ doublings-preserved g c = record {
   count = doubled_more _ _ c.doublings._done c.doublings.invariant.count c.dbl-length.ensures.value;
 }
 
-pub returns-clause-form : goal.returns-clause-form
-returns-clause-form g c = c.doublings.invariant.form
-
 pub returns-clause-counted : goal.returns-clause-counted
 returns-clause-counted g c = doubled_all _ _ c.doublings.invariant.count (omega arith) c.requires (omega arith)

@@ -11,6 +11,3 @@ returns-clause-entries g c =
     (value m (number c.args.part.now)) c.args.xs.now c.ntt.new.xs c.mirror.new.entries c.scale_list.new.xs
     (g.met.R.Reducer.canonical c.args.r.now) (omega arith) (omega arith) (omega arith)
     c.ntt.ensures.entries c.mirror.ensures c.scale_list.ensures.entries
-
-pub returns-clause-checked : goal.returns-clause-checked
-returns-clause-checked g c = c.scale_list.ensures.checked

@@ -1,12 +1,8 @@
 use Rattle.std.proofs.Common.{◌+◌, ◌%◌, ◌<◌, length, arith}
 use Rattle.modular_reduced.specs.Entries.{entry}
-use Rattle.modular_reduced.specs.EntryLaws.{done_none}
 use Rattle.modular_reduced.proofs.ListSteps.{all_written}
 use Rattle.modular_transform.proofs.ListPairs.{pair_written}
 use Rattle.modular_transform.proofs.lists.add_lists.Goals as goal
-
-pub roomy-init : goal.roomy-init
-roomy-init g c = record { checked = c.requires.checked_xs; done = done_none _ _ }
 
 pub roomy-preserved : goal.roomy-preserved
 roomy-preserved g c =
@@ -16,9 +12,6 @@ roomy-preserved g c =
     c.index-ys-i.result c.add_with_room.result (λ v w. (v + w) % m) (entry number ring.value m c.args.xs.now)
     (omega arith) within_ys c.index-ys-i.is c.roomy.invariant c.add_with_room.ensures.checked c.add_with_room.ensures.value
 
-pub entries-init : goal.entries-init
-entries-init g c = record { checked = c.requires.checked_xs; done = done_none _ _ }
-
 pub entries-preserved : goal.entries-preserved
 entries-preserved g c =
     let ring = g.R.Reducer in let m = ring.modulus c.args.r.now in let number = g.T.RingWord.number in
@@ -27,22 +20,10 @@ entries-preserved g c =
     c.index-ys-i-in-entries.result c.add.result (λ v w. (v + w) % m) (entry number ring.value m c.args.xs.now)
     (omega arith) within_ys c.index-ys-i-in-entries.is c.entries.invariant c.add.ensures.checked c.add.ensures.value
 
-pub returns-after-roomy-clause-checked : goal.returns-after-roomy-clause-checked
-returns-after-roomy-clause-checked g c = c.roomy.invariant.checked
-
-pub returns-after-roomy-clause-values : goal.returns-after-roomy-clause-values
-returns-after-roomy-clause-values g c = λ k l. c.roomy.invariant.done.done k (omega (arith, l))
-
 pub returns-after-roomy-clause-entries : goal.returns-after-roomy-clause-entries
 returns-after-roomy-clause-entries g c =
     let ring = g.R.Reducer in let m = ring.modulus c.args.r.now in
     all_written g.T.RingWord.number ring.form ring.value m c.roomy.xs _ _ _ c.roomy.invariant (omega arith)
-
-pub returns-after-entries-clause-checked : goal.returns-after-entries-clause-checked
-returns-after-entries-clause-checked g c = c.entries.invariant.checked
-
-pub returns-after-entries-clause-values : goal.returns-after-entries-clause-values
-returns-after-entries-clause-values g c = λ k l. c.entries.invariant.done.done k (omega (arith, l))
 
 pub returns-after-entries-clause-entries : goal.returns-after-entries-clause-entries
 returns-after-entries-clause-entries g c =

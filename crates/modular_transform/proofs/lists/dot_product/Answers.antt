@@ -14,6 +14,3 @@ returns-clause-value g c =
 
 pub returns-clause-form : goal.returns-clause-form
 returns-clause-form g c = form_as c.add_products.ensures.checked (returns-clause-value g c)
-
-pub returns-clause-checked : goal.returns-clause-checked
-returns-clause-checked g c = c.add_products.ensures.checked

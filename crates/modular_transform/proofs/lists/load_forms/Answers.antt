@@ -1,5 +1,5 @@
 use Rattle.std.proofs.Common.{arith, ◌<◌, subst, sym, ◌≡◌, ◌∙◌, ◌%◌, ap, map, slice_index}
-use Rattle.modular_reduced.specs.EntryLaws.{entry_past, entry_read, held_entry, held_forms, hold_more}
+use Rattle.modular_reduced.specs.EntryLaws.{entry_past, entry_read, held_entry, hold_more}
 use Rattle.modular_transform.proofs.lists.load_forms.Goals as goal
 use Rattle.modular_transform.proofs.lists.load_forms.Goals.{then-i-words, else-i-words}
 
@@ -8,9 +8,6 @@ returns-clause-values g c i l =
     let ring = g.R.Reducer in let m = ring.modulus c.args.r.now in
     held_entry g.T.RingWord.number ring.form ring.value m c.entries.forms _ _ i c.entries.invariant
     (omega arith) (omega arith)
-
-pub entries-init : goal.entries-init
-entries-init g c = record { each = λ k d l. absurd (omega (arith, l)) }
 
 pub entries-preserved : goal.entries-preserved
 entries-preserved g c =
@@ -28,8 +25,3 @@ entries-preserved g c =
     hold_more number ring.form ring.value m c.entries.forms i c.transform.result
     (λ k. slice_index (map number words) k % m) within c.entries.invariant c.transform.ensures.checked
     (c.transform.ensures.value ∙ ap (λ v. v % m) is)
-
-pub returns-clause-checked : goal.returns-clause-checked
-returns-clause-checked g c =
-    let ring = g.R.Reducer in let m = ring.modulus c.args.r.now in let number = g.T.RingWord.number in
-    held_forms number ring.form ring.value m c.entries.forms _ _ c.entries.invariant (omega arith)

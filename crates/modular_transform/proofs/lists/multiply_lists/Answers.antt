@@ -1,11 +1,8 @@
 use Rattle.std.proofs.Common.{◌*◌, ◌%◌, ◌<◌, length, ◌∙◌, ap, arith}
 use Rattle.modular_reduced.specs.Entries.{entry}
-use Rattle.modular_reduced.specs.EntryLaws.{entry_at, entry_read, done_none}
+use Rattle.modular_reduced.specs.EntryLaws.{entry_at, entry_read}
 use Rattle.modular_reduced.proofs.ListSteps.{written_more, all_written}
 use Rattle.modular_transform.proofs.lists.multiply_lists.Goals as goal
-
-pub entries-init : goal.entries-init
-entries-init g c = record { checked = c.requires.checked_xs; done = done_none _ _ }
 
 pub entries-preserved : goal.entries-preserved
 entries-preserved g c =
@@ -20,12 +17,6 @@ entries-preserved g c =
     written_more number ring.form value m xs i c.mul.result (λ k. (old k * y k) % m) old within before c.mul.ensures.checked
     (c.mul.ensures.value ∙ ap (λ v. (v * value m (number c.index-ys-i.result)) % m) x_is
     ∙ ap (λ v. (old i * v) % m) y_is)
-
-pub returns-clause-checked : goal.returns-clause-checked
-returns-clause-checked g c = c.entries.invariant.checked
-
-pub returns-clause-values : goal.returns-clause-values
-returns-clause-values g c = λ k l. c.entries.invariant.done.done k (omega (arith, l))
 
 pub returns-clause-entries : goal.returns-clause-entries
 returns-clause-entries g c =

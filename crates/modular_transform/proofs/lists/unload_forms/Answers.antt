@@ -1,10 +1,7 @@
 use Rattle.std.proofs.Common.{◌≡◌, ◌∙◌, arith, map, slice_index}
 use Rattle.modular_reduced.specs.Entries.{entry}
-use Rattle.modular_reduced.specs.EntryLaws.{entry_read, done_none, done_more}
+use Rattle.modular_reduced.specs.EntryLaws.{entry_read, done_more}
 use Rattle.modular_transform.proofs.lists.unload_forms.Goals as goal
-
-pub entries-init : goal.entries-init
-entries-init g c = done_none _ _
 
 pub entries-preserved : goal.entries-preserved
 entries-preserved g c =

@@ -1,4 +1,3 @@
-use Rattle.modular_reduced.specs.EntryLaws.{forms_written}
 use Rattle.modular_transform.proofs.ValueLemmas.{pair_written}
 use Rattle.modular_transform.proofs.stage.pair.Goals as goal
 
@@ -8,9 +7,3 @@ returns-clause-done g c =
     c.index-forms-first.result c.index-forms-second.result c.add.result c.mul_difference.result _
     (g.met.R.Reducer.canonical c.args.r.now) c.requires.checked c.requires.within.0 c.requires.within.1
     c.index-forms-first.is c.index-forms-second.is c.add.ensures.form c.mul_difference.ensures.form
-
-pub returns-clause-checked : goal.returns-clause-checked
-returns-clause-checked g c =
-    let number = g.T.RingWord.number in let form = g.R.Reducer.form in let value = g.R.Reducer.value in
-    forms_written number form value _ _ _ _ c.add.ensures.checked
-    (forms_written number form value _ _ _ _ c.mul_difference.ensures.checked c.requires.checked)

@@ -13,15 +13,15 @@ use Rattle.modular_reduced.specs.Entries.{entry}
 use Rattle.modular_reduced.specs.EntryLaws.{entry_at, entry_kept, entry_written}
 use Rattle.modular_reduced.specs.Forms.{IsForm}
 use Rattle.modular_transform.specs.Transforms.{transform}
-use Rattle.modular_transform.proofs.Places.{stage_offset, stages_left, two_left}
+use Rattle.modular_transform.specs.Transforms.{Suits}
+use Rattle.modular_transform.proofs.Places.{StagesLeft, stage_offset, stages_left, two_left}
 use Rattle.modular_transform.proofs.PowersOfTwo.{trailing_zeros_of_power, exponent_below}
 use Rattle.modular_transform.proofs.StageLemmas.{BlocksTransform, stages_start}
 use Rattle.modular_transform.proofs.StripPowers.{one_form}
-use Rattle.modular_transform.proofs.TransformLemmas.{stage_sizes, two_sizes, suited_length, root_more, quarter_turn}
+use Rattle.modular_transform.proofs.TransformLemmas.{TwoSizes, stage_sizes, two_sizes, suited_length, root_more, quarter_turn}
 use Rattle.modular_transform.proofs.TransformLemmas.{blocks_more, two_more, products_more, two_products_more}
 use Rattle.modular_transform.proofs.TransformLemmas.{blocks_all, products_all, plain_order}
-use Rattle.modular_transform.proofs.ValueLemmas.{held_value}
-use Rattle.modular_transform.proofs.ValueLemmas.{held_forms}
+use Rattle.modular_reduced.proofs.ListSteps.{held_checked, held_values}
 use Rattle.modular_transform.proofs.transform.ntt_counted.Goals as goal
 use Rattle.modular_transform.proofs.transform.ntt_counted.Goals.{then-stages-eq1, else-stages-eq1}
 use mir.Syntax.{w128}
@@ -67,6 +67,25 @@ products_fit : (t rest : ℕ) {z n all c : ℕ} → all + rest ≡ (t + 2) * (n 
 products_fit t rest {z} {n} count is few two below =
     let rows = mul-le (t + 2) (n / 2) 64 (2 ^ 64) (omega (arith, two, few)) (omega (arith, below)) in
     record { fits = omega (arith, count, rows, few, is, below) }
+
+-- what a pass over two of the stages that are left says of the sizes
+record Pass (z t n half blocks : ℕ) : Type 0 where
+  whole : n ≡ 2 ^ z
+  few : z < 64
+  two : t + 2 ≤ z
+  left : StagesLeft t z
+  sizes : TwoSizes z t n half blocks
+
+pass_of : {m g n t half blocks : ℕ} → Suits m g n → n < 2 ^ 64 → (trailing_zeros w64 n - t) % 2 ≡ 0
+    → t < trailing_zeros w64 n → half ≡ 2 ^ (trailing_zeros w64 n - t) / 2 → blocks ≡ 2 ^ t
+    → Pass (trailing_zeros w64 n) t n half blocks
+pass_of suits below even more is_half is_blocks = let whole = suited_length suits below in record {
+  whole = whole;
+  few = exponent_below _ _ whole below;
+  two = two_left even more;
+  left = stages_left even more;
+  sizes = two_sizes _ _ _ _ _ more even whole is_half is_blocks;
+}
 
 pub roots-init : goal.roots-init
 roots-init g c =
@@ -196,35 +215,28 @@ passes-preserved g c =
     let value = g.R.Reducer.value in
     let n = length c.args.xs.now in
     let z = trailing_zeros w64 n in
-    let below : n < 2 ^ 64 = c.well_formed.1.0.0 in
-    let whole = suited_length c.requires.suits below in
     let root = value m (number c.args.g.now) in
     let t = c.passes.done in
     let before = c.passes.invariant in
-    let even : (z - t) % 2 ≡ 0 = before.even in
-    let upto : t ≤ z = before.upto in
-    let more : t < z = c.passes-test.true in
-    let two = two_left even more in
-    let sizes = two_sizes z t n c.passes.half c.passes.blocks more even whole before.half before.blocks in
+    let pass = pass_of c.requires.suits c.well_formed.1.0.0 before.even c.passes-test.true before.half before.blocks in
     let all : c.roots.i ≡ z = le_antisymm c.roots.auto.i-end c.roots-test.false in
-    let few = exponent_below z n whole below in
     let at = λ (k : ℕ) (f : _) (l : k < z).
-    mod_trans (mod_of_eq (entry_at number value m c.roots.roots k f (omega (arith, l, few))))
+    mod_trans (mod_of_eq (entry_at number value m c.roots.roots k f (omega (arith, l, pass.few))))
     (c.roots.invariant.written k (omega (arith, l, all))) in
     let of = entry number value m in
     record {
       checked = c.two_stages-products.ensures.checked;
-      upto = two;
-      even = even_left t even two;
-      half = half_left c.passes.half sizes.quarter;
-      blocks = blocks_left t c.passes.blocks sizes.second.more;
+      upto = pass.two;
+      even = even_left t before.even pass.two;
+      half = half_left c.passes.half pass.sizes.quarter;
+      blocks = blocks_left t c.passes.blocks pass.sizes.second.more;
       transforms = two_more root z t n c.passes.half c.passes.blocks _ _ (of c.args.xs.now) (of c.passes.xs)
-          (of c.two_stages-products.new.forms) sizes before.blocks c.requires.suits
-          (at t c.index-roots-done.result more)
-          (at (t + 1) c.index-roots-done-in-passes.result (stages_left even more).next)
+          (of c.two_stages-products.new.forms) pass.sizes before.blocks c.requires.suits
+          (at t c.index-roots-done.result c.passes-test.true)
+          (at (t + 1) c.index-roots-done-in-passes.result pass.left.next)
           before.transforms c.two_stages-products.ensures.stages;
       count = two_products_more z t n c.passes.half c.passes.blocks c.passes.products c.two_stages-products.result z
-          sizes before.count c.two_stages-products.ensures.count;
+          pass.sizes before.count c.two_stages-products.ensures.count;
     }
 
 pub returns-clause-entries : goal.returns-clause-entries
@@ -249,15 +261,13 @@ pub returns-clause-values : goal.returns-clause-values
 returns-clause-values g c j l =
     let kept = c.reverse_places.auto.entries in
     let same = c.passes.auto.xs in
-    held_value g.T.RingWord.number g.R.Reducer.form g.R.Reducer.value _ (g.R.Reducer.modulus c.args.r.now)
-    c.reverse_places.new.entries (transform (g.R.Reducer.modulus c.args.r.now)
+    held_values g.T.RingWord.number c.reverse_places.new.entries (transform (g.R.Reducer.modulus c.args.r.now)
     (g.R.Reducer.value (g.R.Reducer.modulus c.args.r.now) (g.T.RingWord.number c.args.g.now)) (length c.args.xs.now)
     (entry g.T.RingWord.number g.R.Reducer.value (g.R.Reducer.modulus c.args.r.now) c.args.xs.now)) j
     (g.met.R.Reducer.canonical c.args.r.now) (returns-clause-entries g c) (omega (arith, kept, same))
 
 pub returns-clause-checked : goal.returns-clause-checked
-returns-clause-checked g c = held_forms g.T.RingWord.number g.R.Reducer.form g.R.Reducer.value _
-    (g.R.Reducer.modulus c.args.r.now) c.reverse_places.new.entries (transform (g.R.Reducer.modulus c.args.r.now)
+returns-clause-checked g c = held_checked g.T.RingWord.number c.reverse_places.new.entries (transform (g.R.Reducer.modulus c.args.r.now)
     (g.R.Reducer.value (g.R.Reducer.modulus c.args.r.now) (g.T.RingWord.number c.args.g.now)) (length c.args.xs.now)
     (entry g.T.RingWord.number g.R.Reducer.value (g.R.Reducer.modulus c.args.r.now) c.args.xs.now))
     (g.met.R.Reducer.canonical c.args.r.now) (returns-clause-entries g c)
@@ -278,68 +288,39 @@ two_stages-products-requires-clause-turn g c =
     let value = g.R.Reducer.value in
     let n = length c.args.xs.now in
     let z = trailing_zeros w64 n in
-    let below : n < 2 ^ 64 = c.well_formed.1.0.0 in
-    let whole = suited_length c.requires.suits below in
     let root = value m (number c.args.g.now) in
     let t = c.passes.done in
     let before = c.passes.invariant in
-    let even : (z - t) % 2 ≡ 0 = before.even in
-    let more : t < z = c.passes-test.true in
-    let two = two_left even more in
-    let sizes = two_sizes z t n c.passes.half c.passes.blocks more even whole before.half before.blocks in
+    let pass = pass_of c.requires.suits c.well_formed.1.0.0 before.even c.passes-test.true before.half before.blocks in
     let all : c.roots.i ≡ z = le_antisymm c.roots.auto.i-end c.roots-test.false in
-    let few = exponent_below z n whole below in
     let at = λ (k : ℕ) (f : _) (l : k < z).
-    mod_trans (mod_of_eq (entry_at number value m c.roots.roots k f (omega (arith, l, few))))
+    mod_trans (mod_of_eq (entry_at number value m c.roots.roots k f (omega (arith, l, pass.few))))
     (c.roots.invariant.written k (omega (arith, l, all))) in
-    quarter_turn root z t n c.passes.half c.passes.blocks _ _ sizes two (at t c.index-roots-done.result more)
-    (at (z - 2) c.index-roots-stages.result (stages_left even more).turn)
+    quarter_turn root z t n c.passes.half c.passes.blocks _ _ pass.sizes pass.two (at t c.index-roots-done.result c.passes-test.true)
+    (at (z - 2) c.index-roots-stages.result pass.left.turn)
 
 pub two_stages-products-requires-clause-whole : goal.two_stages-products-requires-clause-whole
 two_stages-products-requires-clause-whole g c =
-    let n = length c.args.xs.now in
-    let z = trailing_zeros w64 n in
-    let below : n < 2 ^ 64 = c.well_formed.1.0.0 in
-    let whole = suited_length c.requires.suits below in
-    let t = c.passes.done in
     let before = c.passes.invariant in
-    let even : (z - t) % 2 ≡ 0 = before.even in
-    let more : t < z = c.passes-test.true in
-    let sizes = two_sizes z t n c.passes.half c.passes.blocks more even whole before.half before.blocks in
-    let same : length c.passes.xs ≡ n = c.passes.auto.xs ∙ c.if-stages-eq1.auto.xs in
+    let pass = pass_of c.requires.suits c.well_formed.1.0.0 before.even c.passes-test.true before.half before.blocks in
+    let same : length c.passes.xs ≡ length c.args.xs.now = c.passes.auto.xs ∙ c.if-stages-eq1.auto.xs in
     let h = c.passes.half / 2 in
     let fours : c.passes.blocks * (4 * h) ≡ c.passes.blocks * (h + h + (h + h)) = omega arith in
-    fours ∙ ap (λ v. c.passes.blocks * (v + v)) (sym sizes.halved) ∙ sizes.first.whole ∙ sym same
+    fours ∙ ap (λ v. c.passes.blocks * (v + v)) (sym pass.sizes.halved) ∙ pass.sizes.first.whole ∙ sym same
 
 pub overflow_mul-blocks : goal.overflow_mul-blocks
 overflow_mul-blocks g c =
-    let n = length c.args.xs.now in
-    let z = trailing_zeros w64 n in
-    let below : n < 2 ^ 64 = c.well_formed.1.0.0 in
-    let whole = suited_length c.requires.suits below in
-    let t = c.passes.done in
     let before = c.passes.invariant in
-    let even : (z - t) % 2 ≡ 0 = before.even in
-    let more : t < z = c.passes-test.true in
-    let two = two_left even more in
-    let sizes = two_sizes z t n c.passes.half c.passes.blocks more even whole before.half before.blocks in
-    blocks_fit t c.passes.blocks sizes.second.more whole below two
+    let pass = pass_of c.requires.suits c.well_formed.1.0.0 before.even c.passes-test.true before.half before.blocks in
+    blocks_fit c.passes.done c.passes.blocks pass.sizes.second.more pass.whole c.well_formed.1.0.0 pass.two
 
 pub overflow_add-products-in-passes : goal.overflow_add-products-in-passes
 overflow_add-products-in-passes g c =
-    let n = length c.args.xs.now in
-    let z = trailing_zeros w64 n in
-    let below : n < 2 ^ 64 = c.well_formed.1.0.0 in
-    let whole = suited_length c.requires.suits below in
-    let t = c.passes.done in
     let before = c.passes.invariant in
-    let even : (z - t) % 2 ≡ 0 = before.even in
-    let more : t < z = c.passes-test.true in
-    let two = two_left even more in
-    let sizes = two_sizes z t n c.passes.half c.passes.blocks more even whole before.half before.blocks in
-    let few = exponent_below z n whole below in
-    products_fit t (2 ^ (z - (t + 2))) (two_products_more z t n c.passes.half c.passes.blocks c.passes.products c.two_stages-products.result z
-    sizes before.count c.two_stages-products.ensures.count) refl few two below
+    let pass = pass_of c.requires.suits c.well_formed.1.0.0 before.even c.passes-test.true before.half before.blocks in
+    products_fit c.passes.done _ (two_products_more _ _ _ c.passes.half c.passes.blocks c.passes.products
+    c.two_stages-products.result _ pass.sizes before.count c.two_stages-products.ensures.count) refl pass.few pass.two
+    c.well_formed.1.0.0
 
 pub reverse_places-requires-clause-whole : goal.reverse_places-requires-clause-whole
 reverse_places-requires-clause-whole g c =

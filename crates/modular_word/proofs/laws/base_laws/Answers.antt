@@ -1,5 +1,5 @@
 -- The laws of the base, from the word's own.
-use Rattle.modular_word.proofs.Bases.{base_at_least, below_base, below_power, double_base, high_below_base}
+use Rattle.modular_word.proofs.Bases.{base_at_least, below_base, below_power, double_base}
 use Rattle.modular_word.proofs.laws.base_laws.Goals as goal
 
 pub returns-clause-at_least : goal.returns-clause-at_least
@@ -14,6 +14,3 @@ returns-clause-same g c n =
 
 pub returns-clause-double : goal.returns-clause-double
 returns-clause-double g c = double_base g.T.RingWord.width g.T.PathWord.base g.met.T.PathWord.base_is
-
-pub returns-clause-high : goal.returns-clause-high
-returns-clause-high g c low high h = high_below_base g.T.PathWord.base low high h

@@ -1,16 +1,7 @@
 -- The laws of congruence, from the lemmas on the relation.
-use Rattle.modular_word.proofs.Congruence.{residue_of, mod_sym, mod_trans, mod_add, mod_mul}
+use Rattle.modular_word.proofs.Congruence.{mod_add, mod_mul}
 use Rattle.modular_word.proofs.Congruence.{mod_pow, mod_add_cancel, mod_mul_cancel}
 use Rattle.modular_word.proofs.laws.congruence_laws.Goals as goal
-
-pub returns-clause-residue : goal.returns-clause-residue
-returns-clause-residue c m a = residue_of a
-
-pub returns-clause-symmetric : goal.returns-clause-symmetric
-returns-clause-symmetric c m a b h = mod_sym h
-
-pub returns-clause-transitive : goal.returns-clause-transitive
-returns-clause-transitive c m a b d h k = mod_trans h k
 
 pub returns-clause-sums : goal.returns-clause-sums
 returns-clause-sums c m a b d e h k = mod_add h k

@@ -1,12 +1,9 @@
 -- The laws of nested remainders, from std's.
 use Rattle.std.proofs.Common.{sym}
-use Rattle.std.proofs.Math.Nat.{mod-mod, mod-add-mod}
+use Rattle.std.proofs.Math.Nat.{mod-add-mod}
 use Rattle.std.proofs.lemmas.Nat.{mul-mod, mul-mod_first, pow-mod}
 use Rattle.modular_word.proofs.Remainders.{sum_of_remainders}
 use Rattle.modular_word.proofs.laws.remainder_laws.Goals as goal
-
-pub returns-clause-once : goal.returns-clause-once
-returns-clause-once c m a = mod-mod a m
 
 pub returns-clause-sums : goal.returns-clause-sums
 returns-clause-sums c m a b = sum_of_remainders a b m

@@ -34,11 +34,6 @@ divisors-preserved c =
           w.greatest-is ∙ c.divisors.invariant ∙ sym (gcd_up_to-miss a n k miss) ∙ sym step
     ]
 
-pub returns-clause-computed : goal.returns-clause-computed
-returns-clause-computed c =
-    let e : c.divisors.below ≡ c.args.n = omega arith in
-    c.divisors.invariant ∙ ap (λ v. gcd_up_to c.args.a c.args.n v) e
-
 pub returns-clause-greatest : goal.returns-clause-greatest
 returns-clause-greatest c =
     let e : c.divisors.below ≡ c.args.n = omega arith in

@@ -1,11 +1,8 @@
 -- One more factor.
-use Rattle.std.proofs.Common.{◌≡◌, ◌*◌, ◌%◌, ◌^◌, sym, ap, ◌∙◌, add-one, arith}
-use Rattle.std.proofs.Math.Nat.{pow-suc, pow-zero}
+use Rattle.std.proofs.Common.{◌*◌, ◌%◌, ◌^◌, sym, ap, ◌∙◌, add-one}
+use Rattle.std.proofs.Math.Nat.{pow-suc}
 use Rattle.std.proofs.lemmas.Nat.{mul-mod_first}
 use Rattle.modular_word.proofs.plain.power_of.Goals as goal
-
-pub loop-init : goal.loop-init
-loop-init c = ap (λ n. n % c.args.m) (sym (pow-zero c.args.base))
 
 pub loop-preserved : goal.loop-preserved
 loop-preserved c =
@@ -13,8 +10,3 @@ loop-preserved c =
     let k = c.loop.counter in
     ap (λ n. n * a % c.args.m) c.loop.invariant ∙ mul-mod_first (a ^ k) a c.args.m
     ∙ ap (λ n. n % c.args.m) (sym (pow-suc a k)) ∙ ap (λ n. a ^ n % c.args.m) (sym (add-one k))
-
-pub returns : goal.returns
-returns c =
-    let e : c.loop.counter ≡ c.args.exp = omega arith in
-    c.loop.invariant ∙ ap (λ n. c.args.base ^ n % c.args.m) e

@@ -2,7 +2,7 @@ use Rattle.std.proofs.Common.{◌∙◌, slice_index, sym, refl}
 use Rattle.num_modular_c.proofs.Moved.{moved}
 use Rattle.num_modular_c.proofs.Rooms.{fits, left, correct_rooms, correct_room, some_left, not_zero}
 use Rattle.num_modular_c.specs.Erasure.{IsCorrected}
-use Rattle.ring_codes.specs.Correction.{AreFit, IsPlaceFault, IsFarFault}
+use Rattle.ring_codes.specs.Correction.{AreFit, IsCorrectFault}
 use Rattle.num_modular_c.proofs.erasure.corrected.Goals as goal
 
 pub returns-in-Ok-clause-ok : goal.returns-in-Ok-clause-ok
@@ -11,18 +11,18 @@ returns-in-Ok-clause-ok g c ok =
     let places = c.args.places.now in
     let points = c.load_from.auto.forms ∙ c.split_at_mut-xs.ensures.front_len in
     let last = c.split_at_mut-forms.ensures.front_len in
-    let right = c.in-Ok.ensures.right in
+    let right = c.in-Ok.ensures in
     let both = moved (λ k n x y z w. AreFit m k n (slice_index x) places
     × IsCorrected m k n (slice_index x) places (slice_index y) (slice_index z) (slice_index w) c.in-Ok.count)
     last points c.load_from.ensures.values c.load_from-2.ensures.values
     (sym c.unload_from.ensures) (sym c.unload_from-in-Ok.ensures) (
-      c.in-Ok.ensures.accepted refl,
+      right.fit,
       record {
-        encoding = right.0;
-        errors = right.1;
-        few = right.2;
-        only_word = λ sent other is near. (c.in-Ok.ensures.only refl sent other is near).0;
-        only_message = λ sent other is near. (c.in-Ok.ensures.only refl sent other is near).1;
+        encoding = right.encoding;
+        errors = right.count;
+        few = right.few;
+        only_word = λ sent other is near. (right.only sent other is near).0;
+        only_message = λ sent other is near. (right.only sent other is near).1;
       },
     ) in
     (both.0, refl, both.1)
@@ -33,16 +33,13 @@ returns-in-Err-clause-failure g c bad =
     let places = c.args.places.now in
     let points = c.load_from.auto.forms ∙ c.split_at_mut-xs.ensures.front_len in
     let last = c.split_at_mut-forms.ensures.front_len in
-    let both = moved (λ k n x y z w. IsPlaceFault m k n (slice_index x) places c.in-Err.error
-    × IsFarFault m k n (slice_index x) places (slice_index y) c.in-Err.error)
+    let reason = moved (λ k n x y z w. IsCorrectFault (λ a. a) m k n (slice_index x) places (slice_index y) c.in-Err.error)
     last points c.load_from.ensures.values c.load_from-2.ensures.values
-    c.load_from-2.ensures.values c.load_from-2.ensures.values (c.in-Err.ensures.fault, c.in-Err.ensures.complete) in (
+    c.load_from-2.ensures.values c.load_from-2.ensures.values c.in-Err.ensures in (
       record {
         error = c.in-Err.error;
         code_is = c.correct_code.ensures.code;
-        reason = both.0;
-        far = both.1;
-        inverse = c.in-Err.ensures.inverse;
+        reason = reason;
         number = c.correct_code.ensures.number;
       },
       refl,
@@ -100,13 +97,13 @@ correct-requires-clause-room g c =
     ∙ sym (c.load_from.auto.forms ∙ c.split_at_mut-xs.ensures.front_len)
 
 pub unload_from-requires-clause-checked : goal.unload_from-requires-clause-checked
-unload_from-requires-clause-checked g c = c.in-Ok.ensures.forms refl
+unload_from-requires-clause-checked g c = c.in-Ok.ensures.forms
 
 pub unload_from-requires-clause-room : goal.unload_from-requires-clause-room
 unload_from-requires-clause-room g c = sym (c.correct.auto.message ∙ c.split_at_mut-forms.ensures.front_len)
 
 pub unload_from-requires-in-Ok-clause-checked : goal.unload_from-requires-in-Ok-clause-checked
-unload_from-requires-in-Ok-clause-checked g c = c.in-Ok.ensures.checked refl
+unload_from-requires-in-Ok-clause-checked g c = c.in-Ok.ensures.checked
 
 pub unload_from-requires-in-Ok-clause-room : goal.unload_from-requires-in-Ok-clause-room
 unload_from-requires-in-Ok-clause-room g c =

@@ -8,26 +8,26 @@ returns-then-code-eq-NM_OK-clause-did c admitted suits = (
     modulus = refl;
     root = refl;
     entries = omega arith;
-    table = (c.nm_plan-code.ensures.did admitted suits).1;
+    table = (c.nm_fill_table-code.ensures.did admitted suits).1;
   },
 )
 
 pub returns-then-code-eq-NM_OK-clause-no_root : goal.returns-then-code-eq-NM_OK-clause-no_root
 returns-then-code-eq-NM_OK-clause-no_root c admitted none =
-    let other = (c.nm_plan-code.ensures.no_root admitted none).0 in
+    let other = (c.nm_fill_table-code.ensures.no_root admitted none).0 in
     absurd (omega (arith, other, c.if-code-eq-NM_OK.true))
 
 pub returns-then-code-eq-NM_OK-clause-bad_argument : goal.returns-then-code-eq-NM_OK-clause-bad_argument
 returns-then-code-eq-NM_OK-clause-bad_argument c none =
-    let other = (c.nm_plan-code.ensures.bad_argument none).0 in
+    let other = (c.nm_fill_table-code.ensures.bad_argument none).0 in
     absurd (omega (arith, other, c.if-code-eq-NM_OK.true))
 
 pub returns-else-code-eq-NM_OK-clause-did : goal.returns-else-code-eq-NM_OK-clause-did
 returns-else-code-eq-NM_OK-clause-did c admitted suits =
-    absurd (c.if-code-eq-NM_OK.false (c.nm_plan-code.ensures.did admitted suits).0)
+    absurd (c.if-code-eq-NM_OK.false (c.nm_fill_table-code.ensures.did admitted suits).0)
 
 pub returns-else-code-eq-NM_OK-clause-no_root : goal.returns-else-code-eq-NM_OK-clause-no_root
-returns-else-code-eq-NM_OK-clause-no_root c admitted none = ((c.nm_plan-code.ensures.no_root admitted none).0, refl)
+returns-else-code-eq-NM_OK-clause-no_root c admitted none = ((c.nm_fill_table-code.ensures.no_root admitted none).0, refl)
 
 pub returns-else-code-eq-NM_OK-clause-bad_argument : goal.returns-else-code-eq-NM_OK-clause-bad_argument
-returns-else-code-eq-NM_OK-clause-bad_argument c none = ((c.nm_plan-code.ensures.bad_argument none).0, refl)
+returns-else-code-eq-NM_OK-clause-bad_argument c none = ((c.nm_fill_table-code.ensures.bad_argument none).0, refl)

@@ -26,7 +26,13 @@ pub returns-then-place-points-clause-chosen : goal.returns-then-place-points-cla
 returns-then-place-points-clause-chosen g c t = absurd (false≢true t)
 
 pub returns-then-place-points-clause-fault : goal.returns-then-place-points-clause-fault
-returns-then-place-points-clause-fault g c m x = (c.places.i, omega arith, c.if-place-points.true)
+returns-then-place-points-clause-fault g c m x = (
+  c.places.i,
+  omega arith,
+  omega arith,
+  record { enough = omega arith; within = c.places.invariant.0; distinct = c.places.invariant.1 },
+  c.if-place-points.true,
+)
 
 pub returns-then-is_some-clause-places : goal.returns-then-is_some-clause-places
 returns-then-is_some-clause-places g c t = absurd (false≢true t)
@@ -36,8 +42,15 @@ returns-then-is_some-clause-chosen g c t = absurd (false≢true t)
 
 pub returns-then-is_some-clause-fault : goal.returns-then-is_some-clause-fault
 returns-then-is_some-clause-fault g c m x =
-    let twice = (index_tells _ _ _ _ _ c.index_of.ensures c.is_some.ensures).0 c.if-is_some.true in
-    (twice.0, c.places.i, twice.1, omega arith, twice.2)
+    let twice = (index_tells _ _ _ _ _ c.index_of.ensures c.is_some.ensures).0 c.if-is_some.true in (
+      twice.0,
+      c.places.i,
+      twice.1,
+      omega arith,
+      omega arith,
+      record { enough = omega arith; within = c.places.invariant.0; distinct = c.places.invariant.1 },
+      twice.2,
+    )
 
 pub places-preserved : goal.places-preserved
 places-preserved g c =

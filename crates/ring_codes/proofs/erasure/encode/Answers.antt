@@ -1,5 +1,5 @@
 use Rattle.num_modular.specs.Callers.{◌%◌, length, arith, ◌∙◌, ap, entry, entry_read, form_read, hold_more, held_forms, held_entry}
-use Rattle.num_modular.specs.Polynomials.{polynomial}
+use Rattle.num_modular.specs.Polynomials.{polynomial_at}
 use borrow.Author.Rules.{scaled_Fits}
 use borrow.Author.Count.{falls}
 use Rattle.num_modular.specs.Callers.{◌<◌, subst, sym}
@@ -21,10 +21,10 @@ points-preserved g c =
     let points = c.args.points.now in let message = c.args.message.now in let i = c.points.i in
     let point = entry_read number ring.value m points i _ (omega arith) c.index-points-i.is in
     hold_more number ring.form ring.value m c.points.word i c.evaluate.result
-    (λ i. polynomial (length message) (entry number ring.value m message) (entry number ring.value m points i) % m)
+    (λ i. polynomial_at (length message) (entry number ring.value m message) (entry number ring.value m points i) % m)
     (omega arith) c.points.invariant c.evaluate.ensures.checked
     (c.evaluate.ensures.value
-    ∙ ap (λ a. polynomial (length message) (entry number ring.value m message) a % m) point)
+    ∙ ap (λ a. polynomial_at (length message) (entry number ring.value m message) a % m) point)
 
 pub returns-clause-checked : goal.returns-clause-checked
 returns-clause-checked g c =

@@ -1,5 +1,5 @@
 use Rattle.num_modular.specs.Callers.{◌%◌, length, HoldBelow, entry}
-use Rattle.num_modular.specs.Polynomials.{polynomial}
+use Rattle.num_modular.specs.Polynomials.{polynomial_at}
 use Rattle.ring_codes.proofs.erasure.encode.Given as goal
 
 -- the symbols at the points so far
@@ -7,5 +7,5 @@ abbrev pub invariant-points : goal.invariant-points
 invariant-points g l =
     let ring = g.R.Reducer in let m = ring.modulus l.fn.r in let number = g.T.RingWord.number in
     HoldBelow number ring.form ring.value m l.word
-    (λ i. polynomial (length l.fn.message) (entry number ring.value m l.fn.message)
+    (λ i. polynomial_at (length l.fn.message) (entry number ring.value m l.fn.message)
     (entry number ring.value m l.fn.points i) % m) l.i

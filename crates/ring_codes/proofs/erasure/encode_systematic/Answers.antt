@@ -1,6 +1,6 @@
 use Rattle.std.proofs.lemmas.Bool.{false≢true}
 use Rattle.num_modular.specs.Callers.{◌≡◌, ◌%◌, length, entry, ◌∙◌, ap, sym, refl, subst, arith}
-use Rattle.num_modular.specs.Polynomials.{polynomial, HaveUnitDifferences}
+use Rattle.num_modular.specs.Polynomials.{polynomial_at, HaveUnitDifferences}
 use Rattle.num_modular.specs.Callers.{◌≤◌}
 use Rattle.std.proofs.Math.Nat.{le_refl}
 use Rattle.ring_codes.proofs.erasure.encode_systematic.Goals as goal
@@ -29,7 +29,7 @@ returns-clause-encoding g c t =
     let count : length form ≡ length c.args.message.now = omega (arith, c.requires.coefficients) in
     record {
       symbol = λ i l. c.encode.ensures.encoding.symbol i l
-          ∙ ap (λ k. polynomial k (entry number ring.value m form) (x i) % m) count;
+          ∙ ap (λ k. polynomial_at k (entry number ring.value m form) (x i) % m) count;
     }
 
 pub returns-clause-systematic : goal.returns-clause-systematic
@@ -40,7 +40,7 @@ returns-clause-systematic g c t i l =
     let count : length form ≡ length c.args.coefficients.now = omega arith in
     let values = c.if-not-interpolate.ensures.values refl in
     c.encode.ensures.encoding.symbol i (omega (arith, l, c.requires.few))
-    ∙ ap (λ k. polynomial k (entry number ring.value m form) (x i) % m) count
+    ∙ ap (λ k. polynomial_at k (entry number ring.value m form) (x i) % m) count
     ∙ sym (values.symbol i (omega (arith, l, c.requires.coefficients)))
 
 pub interpolate-requires-clause-points : goal.interpolate-requires-clause-points

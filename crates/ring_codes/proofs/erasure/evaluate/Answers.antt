@@ -1,4 +1,4 @@
-use Rattle.num_modular.specs.Polynomials.{polynomial}
+use Rattle.num_modular.specs.Polynomials.{polynomial_at}
 use Rattle.num_modular.specs.Callers.{ℕ, ◌+◌, ◌-◌, ◌%◌, length, ◌∙◌, ap, arith, entry, entry_read, ◌≡◌, form_read}
 use Rattle.ring_codes.proofs.NewtonForms.{value_none, value_more, value_all}
 use borrow.Author.Count.{falls}
@@ -52,7 +52,7 @@ returns-clause-value g c =
     let a = ring.value m (number c.args.point.now) in
     let count : c.coefficients.k ≡ n = omega arith in
     c.coefficients.invariant.same
-    ∙ ap (λ k. polynomial k (λ i. cs (n - k + i)) a % m) count ∙ ap (λ v. v % m) (value_all n a cs)
+    ∙ ap (λ k. polynomial_at k (λ i. cs (n - k + i)) a % m) count ∙ ap (λ v. v % m) (value_all n a cs)
 
 pub offset_bounds-coefficients-i : goal.offset_bounds-coefficients-i
 offset_bounds-coefficients-i g c = le_of_lt (back_within _ _ _ c.coefficients-test.true (le_refl _))

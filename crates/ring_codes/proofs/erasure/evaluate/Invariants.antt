@@ -1,5 +1,5 @@
 use Rattle.num_modular.specs.Callers.{◌+◌, ◌-◌, ◌%◌, length, IsCheckedFormOf, entry}
-use Rattle.num_modular.specs.Polynomials.{polynomial}
+use Rattle.num_modular.specs.Polynomials.{polynomial_at}
 use Rattle.ring_codes.proofs.erasure.evaluate.Given as goal
 
 -- the value of the last k coefficients
@@ -8,5 +8,5 @@ invariant-coefficients g l =
     let ring = g.R.Reducer in let m = ring.modulus l.fn.r in let number = g.T.RingWord.number in
     let from = length l.fn.coefficients - l.k in
     IsCheckedFormOf ring.form ring.value m (number l.value)
-    (polynomial l.k (λ i. entry number ring.value m l.fn.coefficients (from + i))
+    (polynomial_at l.k (λ i. entry number ring.value m l.fn.coefficients (from + i))
     (ring.value m (number l.fn.point)) % m)

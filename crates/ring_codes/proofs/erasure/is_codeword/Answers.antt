@@ -3,7 +3,7 @@ use Rattle.std.proofs.Math.Nat.{mod-mod}
 use Rattle.std.proofs.lemmas.Bool.{false≢true}
 use Rattle.num_modular.specs.Callers.{◌≡◌, ◌%◌, length, entry, entry_read, form_read, ◌∙◌, ap, sym, refl, arith}
 use Rattle.num_modular.specs.NumberLaws.{mod_refl}
-use Rattle.num_modular.specs.Polynomials.{polynomial}
+use Rattle.num_modular.specs.Polynomials.{polynomial_at}
 use Rattle.num_modular.specs.PolynomialLaws.{polynomial-congruent}
 use Rattle.ring_codes.proofs.Symbols.{same_forms, told_same, told_other}
 use borrow.Author.Count.{falls}
@@ -30,8 +30,8 @@ returns-then-ne-clause-codeword g c =
           absurd (told_other _ _ _ c.ne.ensures c.if-ne.true
           (g.met.T.RingWord.equal c.evaluate-symbol.result c.index-word-i.result)
           (same_forms ring.form ring.value m _ _ c.evaluate-symbol.ensures.checked is
-          (c.evaluate-symbol.ensures.value ∙ ap (λ a. polynomial (length c.interpolate.new.coefficients) mine a % m) point
-          ∙ ap (λ k. polynomial k mine (x i) % m) count ∙ same.same
+          (c.evaluate-symbol.ensures.value ∙ ap (λ a. polynomial_at (length c.interpolate.new.coefficients) mine a % m) point
+          ∙ ap (λ k. polynomial_at k mine (x i) % m) count ∙ same.same
           ∙ sym (encoding.symbol i (omega arith)) ∙ sym symbol))),
     )
 
@@ -46,7 +46,7 @@ places-preserved g c =
     (g.met.T.RingWord.equal c.evaluate-symbol.result c.index-word-i.result) in
     below_more _ _ c.places.invariant
     (sym symbol ∙ sym (ap (ring.value m) same) ∙ c.evaluate-symbol.ensures.value
-    ∙ ap (λ a. polynomial (length c.interpolate.new.coefficients) mine a % m) point)
+    ∙ ap (λ a. polynomial_at (length c.interpolate.new.coefficients) mine a % m) point)
 
 pub returns-clause-message : goal.returns-clause-message
 returns-clause-message g c t =
@@ -55,7 +55,7 @@ returns-clause-message g c t =
     let mine = entry number ring.value m c.interpolate.new.coefficients in
     let count : length c.interpolate.new.coefficients ≡ length c.args.message.now = omega arith in
     record {
-      symbol = λ i l. c.places.invariant i (omega arith) ∙ ap (λ k. polynomial k mine (x i) % m) count;
+      symbol = λ i l. c.places.invariant i (omega arith) ∙ ap (λ k. polynomial_at k mine (x i) % m) count;
     }
 
 pub returns-clause-codeword : goal.returns-clause-codeword
@@ -92,7 +92,7 @@ places-init g c k l =
     let mine = entry number ring.value m c.interpolate.new.coefficients in
     let count : length c.args.message.now ≡ length c.interpolate.new.coefficients = omega arith in
     (c.if-not-interpolate.ensures.values refl).symbol k (omega (arith, l))
-    ∙ ap (λ n. polynomial n mine (entry number ring.value m c.args.points.now k) % m) count
+    ∙ ap (λ n. polynomial_at n mine (entry number ring.value m c.args.points.now k) % m) count
 
 pub evaluate-symbol-requires-clause-coefficients : goal.evaluate-symbol-requires-clause-coefficients
 evaluate-symbol-requires-clause-coefficients g c = c.if-not-interpolate.ensures.checked refl

@@ -1,7 +1,7 @@
 use Rattle.std.proofs.Common.{slice_index}
 use Rattle.std.proofs.lemmas.Bool.{false≢true}
 use Rattle.num_modular.specs.Callers.{◌≡◌, ℕ, ◌%◌, ◌<◌, length, entry, ◌∙◌, ap, sym, refl, subst, arith, IsForm}
-use Rattle.num_modular.specs.Polynomials.{polynomial}
+use Rattle.num_modular.specs.Polynomials.{polynomial_at}
 use Rattle.ring_codes.specs.Erasure.{ArePlaces, IsFault}
 use Rattle.ring_codes.proofs.Symbols.{entry_chosen, fit_same, no_fault}
 use Rattle.num_modular.specs.Callers.{◌≤◌}
@@ -52,7 +52,7 @@ returns-then-interpolate-clause-symbols g c t =
     let right = ((returns-then-interpolate-clause-accepted g c).0 refl).0 in
     record {
       symbol = λ i l. (c.if-interpolate.ensures.values refl).symbol i l
-          ∙ ap (λ a. polynomial k (entry number ring.value m c.interpolate.new.coefficients) a % m)
+          ∙ ap (λ a. polynomial_at k (entry number ring.value m c.interpolate.new.coefficients) a % m)
           (entry_chosen number ring.value m points chosen i (slice_index places i)
           (λ d. c.in-Ok.ensures.chosen refl i d (omega (arith, c.requires.chosen, l)))
           (omega (arith, c.requires.chosen, l)) (right.within i l));
@@ -67,7 +67,7 @@ returns-then-interpolate-clause-original g c t original word is read =
     c.if-interpolate.ensures.only refl original
     (record {
       symbol = λ i l. read i l ∙ is.symbol (slice_index places i) (right.within i l)
-          ∙ ap (λ a. polynomial k original a % m)
+          ∙ ap (λ a. polynomial_at k original a % m)
           (sym (entry_chosen number ring.value m points chosen i (slice_index places i)
           (λ d. c.in-Ok.ensures.chosen refl i d (omega (arith, c.requires.chosen, l)))
           (omega (arith, c.requires.chosen, l)) (right.within i l)));
@@ -88,10 +88,10 @@ returns-else-interpolate-clause-accepted g c =
     )
 
 pub returns-else-interpolate-clause-fault : goal.returns-else-interpolate-clause-fault
-returns-else-interpolate-clause-fault g c fit =
+returns-else-interpolate-clause-fault g c =
     let n = length c.args.points.now in
     let right = subst (λ k. ArePlaces k n c.args.places.now) c.requires.chosen (c.in-Ok.ensures.places refl) in
-    false≢true ((returns-else-interpolate-clause-accepted g c).1 (right, fit))
+    (right, λ fit. false≢true ((returns-else-interpolate-clause-accepted g c).1 (right, fit)))
 
 pub interpolate-requires-clause-points : goal.interpolate-requires-clause-points
 interpolate-requires-clause-points g c i d l =

@@ -28,6 +28,7 @@ fn wider_words_and_copies(rt: HostRuntime) {
     let divider = Normalized2by1Divisor::<u8>::new(130);
     let copy = divider;
     check!(rt, 5; copy == divider);
+    // rust instead: check!(rt, 6; divider != Normalized2by1Divisor::of(131));
     check!(rt, 6; divider != Normalized2by1Divisor::new(131));
     check!(rt, 7; is_printed(rt.alloc(), &divider));
 }

@@ -33,6 +33,7 @@ fn wider_words_and_copies(rt: HostRuntime) {
     let divider = PreMulInv1by1::<u8>::new(7);
     let copy = divider;
     check!(rt, 5; copy == divider);
+    // rust instead: check!(rt, 6; divider != PreMulInv1by1::of(5));
     check!(rt, 6; divider != PreMulInv1by1::new(5));
     check!(rt, 7; is_printed(rt.alloc(), &divider));
 }

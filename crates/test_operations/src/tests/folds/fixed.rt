@@ -36,6 +36,8 @@ fn residues_by_mersenne_numbers(rt: HostRuntime) {
     check!(rt, 11; FixedMersenne64::<64, 59>::reduce_counted(u128::MAX).0 == 3480);
     check!(rt, 12; FixedMersenne::<64, 59>::reduce_counted(u128::MAX).0 == 3480);
     check!(rt, 13; FixedMersenne32::<32, 5>::reduce_single(u32::MAX) == 4);
+    check!(rt, 14; FixedMersenne32::<32, 5>::reduce_uncounted(u64::MAX) == 24);
+    check!(rt, 15; FixedMersenne64::<64, 59>::reduce_uncounted(u128::MAX) == 3480);
 }
 
 #[test]
@@ -53,4 +55,6 @@ fn residues_by_solinas_numbers(rt: HostRuntime) {
     check!(rt, 10; FixedTrinomialSolinas32::<4, 2, 1>::reduce_counted(255) == (8, 3));
     check!(rt, 11; FixedTrinomialSolinas32::<5, 4, -3>::reduce_counted(31) == (5, 0));
     check!(rt, 12; FixedTrinomialSolinas32::<32, 31, -1>::reduce_single(u32::MAX) == 1);
+    check!(rt, 13; FixedTrinomialSolinas32::<32, 31, -1>::reduce_uncounted(u64::MAX) == 3);
+    check!(rt, 14; FixedTrinomialSolinas32::<4, 2, 1>::reduce_uncounted(255) == 8);
 }

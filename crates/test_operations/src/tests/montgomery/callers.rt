@@ -14,7 +14,11 @@ fn product_by_forms<T: RingWord, R: Reducer<T>>(ring: &R, a: T, b: T) -> T
     ring.residue(ring.mul(&ring.transform(a), &ring.transform(b)))
 }
 
-/// The remainder of a * b by m, whose only divisions are those that make the reducer. Condition: m is at least 1.
+/// The remainder of a * b by m, whose only divisions are those that make the reducer.
+///
+/// # Preconditions
+///
+/// - m is at least 1
 pub fn product_modulo(a: u64, b: u64, m: u64) -> u64
     requires { 1 ≤ m }
     ensures { result ≡ (a * b) % m }

@@ -19,6 +19,7 @@ fn are_computed<T: PlainWord>(row: &(T, T, T)) -> bool {
     if m.is_zero_word() {
         return false;
     }
+    // rust instead: Montgomery::<T>::of(m).computed_once() == (row.1, row.2) && is_restored(m, row.1, row.2)
     Montgomery::<T>::new(m).computed_once() == (row.1, row.2) && is_restored(m, row.1, row.2)
 }
 

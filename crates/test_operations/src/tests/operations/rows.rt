@@ -99,6 +99,7 @@ fn answers<T: PlainWord>(operation: Operation, a: &T, b: &T, m: &T) -> (T, T, T,
 }
 
 // What the operation returns by its name for references.
+// rust instead: fn answer_of_references<T: ModularRefOps + Copy>(operation: Operation, a: &T, b: &T, m: &T) -> T
 fn answer_of_references<T: ModularRefOps>(operation: Operation, a: &T, b: &T, m: &T) -> T
     requires { 1 ≤ T.whole_number m.now }
 {

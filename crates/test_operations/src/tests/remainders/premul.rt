@@ -17,6 +17,7 @@ fn parts(rt: HostRuntime) {
     let copy = ring;
     check!(rt, 5; copy == ring);
     // the same divisor for another modulus
+    // rust instead: check!(rt, 6; ring != PreMulInv2by1::of(42));
     check!(rt, 6; ring != PreMulInv2by1::new(42));
     check!(rt, 7; is_printed(rt.alloc(), &ring));
 }

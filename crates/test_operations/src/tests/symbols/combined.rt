@@ -7,8 +7,11 @@ use modular_symbols::operands::UnsignedOperand;
 use modular_symbols::operations::ModularOps;
 use modular_symbols::reference_operations::ModularRefOps;
 
-/// The Jacobi symbol over m of the residue of x·y; `None` exactly for an even m. Condition: m is at
-/// least 1.
+/// The Jacobi symbol over m of the residue of x·y; `None` exactly for an even m.
+///
+/// # Preconditions
+///
+/// - m is at least 1
 pub fn product_symbol<M: UnsignedOperand + Copy, T: ModularOps<T, M, T> + Copy>(
     x: T,
     y: T,
@@ -22,6 +25,7 @@ pub fn product_symbol<M: UnsignedOperand + Copy, T: ModularOps<T, M, T> + Copy>(
 }
 
 /// The same over plain references.
+// rust instead: pub fn product_symbol_ref<T: ModularRefOps + Copy>(x: &T, y: &T, m: &T) -> Option<i8>
 pub fn product_symbol_ref<T: ModularRefOps>(x: &T, y: &T, m: &T) -> Option<i8>
     requires { 1 ≤ T.whole_number m.now }
     ensures { result

@@ -1,4 +1,4 @@
-use Rattle.std.proofs.Common.{◌%◌, ◌∙◌, ap, refl, arith}
+use Rattle.std.proofs.Common.{◌%◌, ◌∙◌, ap, arith}
 use Rattle.modular_folds.specs.Solinas.{IsLowTrinomial}
 use Rattle.modular_folds.specs.SolinasLaws.{trinomial_folding}
 use Rattle.modular_folds.proofs.TrinomialSteps.{term_read, range_passed, low_read, low_passed, factor_is}
@@ -22,21 +22,6 @@ reduce_by_folds-requires g c =
     let d = (goal.at.reduce_by_folds-requires g c).After-p1-else-is_low in
     trinomial_folding c.requires _ _ _ (high g d) c.p1-else-is_low.ensures c.factor.ensures c.fixed_modulus.ensures.value
 
-pub remainder-requires : goal.remainder-requires
-remainder-requires g c = c.requires
-
-pub factor-requires : goal.factor-requires
-factor-requires g c = c.requires
-
-pub fixed_modulus-requires : goal.fixed_modulus-requires
-fixed_modulus-requires g c = c.requires
-
-pub returns-then-is_low-clause-value : goal.returns-then-is_low-clause-value
-returns-then-is_low-clause-value g c = c.remainder.ensures
-
-pub returns-then-is_low-clause-none : goal.returns-then-is_low-clause-none
-returns-then-is_low-clause-none g c low = refl
-
 pub returns-then-is_low-clause-few : goal.returns-then-is_low-clause-few
 returns-then-is_low-clause-few g c = record {
   at_most = λ w l f. omega arith;
@@ -53,10 +38,6 @@ pub returns-then-is_low-clause-count : goal.returns-then-is_low-clause-count
 returns-then-is_low-clause-count g c high =
     let read = term_read c.k.result c.k.type_inv c.k.ensures in
     absurd (high (low_read c.p1.ensures c.p2.ensures read (c.is_low.ensures.0 c.if-is_low.true)))
-
-pub returns-else-is_low-clause-none : goal.returns-else-is_low-clause-none
-returns-else-is_low-clause-none g c low =
-    absurd (high g (goal.at.returns-else-is_low-clause-none g c).After-p1-else-is_low low)
 
 pub returns-else-is_low-clause-count : goal.returns-else-is_low-clause-count
 returns-else-is_low-clause-count g c _ =

@@ -4,6 +4,3 @@ use Rattle.modular_folds.proofs.solinas.FoldRing+T+TrinomialModulus+T+F.remainde
 
 pub narrow_remainder-requires : goal.narrow_remainder-requires
 narrow_remainder-requires g c = omega (arith, trinomial_positive c.requires, c.fixed_modulus.ensures.value)
-
-pub returns : goal.returns
-returns g c = rw c.fixed_modulus.ensures.value at c.narrow_remainder.ensures.value

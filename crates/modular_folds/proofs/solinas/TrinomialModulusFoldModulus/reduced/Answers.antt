@@ -7,21 +7,9 @@ is_low-requires g c =
     range_passed c.p1.ensures c.p2.ensures (term_read c.k.result c.k.type_inv c.k.ensures)
     g.met.T.TrinomialWord.narrow c.args.self.now.range
 
-pub factor-requires : goal.factor-requires
-factor-requires g c = c.args.self.now.range
-
-pub reduce_single-requires : goal.reduce_single-requires
-reduce_single-requires g c = c.args.self.now.range
-
-pub returns-then-is_low : goal.returns-then-is_low
-returns-then-is_low g c = c.reduce_single.ensures
-
 pub reduce_word-requires : goal.reduce_word-requires
 reduce_word-requires g c =
     let read = term_read c.k.result c.k.type_inv c.k.ensures in
     trinomial_folding c.args.self.now.range _ _ _
     (λ low. let t = c.is_low.ensures.1 (low_passed c.p1.ensures c.p2.ensures read low) in cc (t, c.if-is_low.false))
     c.p1-else-is_low.ensures c.factor.ensures c.modulus.ensures
-
-pub returns-else-is_low : goal.returns-else-is_low
-returns-else-is_low g c = rw c.modulus.ensures at c.reduce_word.ensures

@@ -2,7 +2,7 @@ use Rattle.std.proofs.Common.{◌≡◌, ℕ, ◌<◌, List, arith, get_or, leng
 use Rattle.std.proofs.lemmas.Bool.{false≢true}
 use Rattle.num_modular.specs.Ring.{whole, value_at, IsStop}
 use Rattle.num_modular.specs.SystemLaws.{set_more}
-use Rattle.residue_numbers.proofs.Runs.{Laws, starts, never_whole, residues_whole, never_within}
+use Rattle.residue_numbers.proofs.Runs.{laws_of, starts, never_whole, residues_whole, never_within}
 use Rattle.residue_numbers.proofs.system.ResidueSystem.run.Goals as goal
 
 pub moduli-preserved : goal.moduli-preserved
@@ -23,14 +23,8 @@ moduli-preserved c =
 
 pub returns-in-None-clause-done : goal.returns-in-None-clause-done
 returns-in-None-clause-done c =
-    let laws : Laws = record {
-      is_residue = c.residue_laws.ensures.residue;
-      sum = c.residue_laws.ensures.difference;
-      powers = c.remainder_laws.ensures.powers;
-      found = c.inverse_laws.ensures.found;
-      coprime = c.inverse_laws.ensures.coprime;
-      has_residue = c.inverse_laws.ensures.has_residue;
-    } in (
+    let laws = laws_of c.residue_laws.ensures.residue c.residue_laws.ensures.difference c.remainder_laws.ensures.powers
+    c.inverse_laws.ensures.found c.inverse_laws.ensures.coprime c.inverse_laws.ensures.has_residue in (
       (λ t. absurd (false≢true t)),
       λ never. c.in-None.ensures.done.1
           (never_within laws c.stop_laws.ensures.each c.args.self.now.moduli.now c.args.numbers.now c.args.commands.now
@@ -42,14 +36,8 @@ returns-in-None-clause-residues c t = absurd (false≢true t)
 
 pub returns-clause-done : goal.returns-clause-done
 returns-clause-done c =
-    let laws : Laws = record {
-      is_residue = c.residue_laws.ensures.residue;
-      sum = c.residue_laws.ensures.difference;
-      powers = c.remainder_laws.ensures.powers;
-      found = c.inverse_laws.ensures.found;
-      coprime = c.inverse_laws.ensures.coprime;
-      has_residue = c.inverse_laws.ensures.has_residue;
-    } in (
+    let laws = laws_of c.residue_laws.ensures.residue c.residue_laws.ensures.difference c.remainder_laws.ensures.powers
+    c.inverse_laws.ensures.found c.inverse_laws.ensures.coprime c.inverse_laws.ensures.has_residue in (
       (λ t. never_whole laws c.stop_laws.ensures.each c.args.self.now.moduli.now c.args.numbers.now c.args.commands.now
           c.args.self.now.small.system.positive (λ i h. c.moduli.invariant.done i (omega arith))),
       λ never. refl,
@@ -57,14 +45,8 @@ returns-clause-done c =
 
 pub returns-clause-residues : goal.returns-clause-residues
 returns-clause-residues c t =
-    let laws : Laws = record {
-      is_residue = c.residue_laws.ensures.residue;
-      sum = c.residue_laws.ensures.difference;
-      powers = c.remainder_laws.ensures.powers;
-      found = c.inverse_laws.ensures.found;
-      coprime = c.inverse_laws.ensures.coprime;
-      has_residue = c.inverse_laws.ensures.has_residue;
-    } in
+    let laws = laws_of c.residue_laws.ensures.residue c.residue_laws.ensures.difference c.remainder_laws.ensures.powers
+    c.inverse_laws.ensures.found c.inverse_laws.ensures.coprime c.inverse_laws.ensures.has_residue in
     residues_whole laws c.stop_laws.ensures.each c.args.self.now.moduli.now c.args.numbers.now c.moduli.residues
     c.args.commands.now c.args.register
     c.args.self.now.small.system.positive (λ i h. c.moduli.invariant.done i (omega arith))

@@ -2,13 +2,13 @@ use Rattle.std.proofs.Common.{All, sym, take, drop, length-take-le, length-drop}
 use Rattle.std.proofs.lemmas.List.Elements.{All-take, All-drop}
 use Rattle.num_modular.specs.Callers.{◌≡◌, ◌+◌, ◌*◌, IsForm, entry, subst, arith, length}
 use Rattle.num_modular.specs.Congruence.{Congruent}
-use Rattle.num_modular.specs.Polynomials.{polynomial}
+use Rattle.num_modular.specs.Polynomials.{polynomial_at}
 use Rattle.ring_codes.proofs.Pairs.{rest_whole}
-use Rattle.ring_codes.proofs.KeyPairs.{discrepancy_value}
+use Rattle.ring_codes.proofs.KeyPairs.{at_point, discrepancy_value}
 use Rattle.ring_codes.proofs.erasure.key_equation.discrepancy.Goals as goal
 
 pub returns-clause-value : goal.returns-clause-value
-returns-clause-value g c d whole =
+returns-clause-value g c d s t whole at_s at_t =
     let ring = g.R.Reducer in let m = ring.modulus c.args.r.now in let number = g.T.RingWord.number in
     let positive = (g.met.R.Reducer.canonical c.args.r.now).positive in
     let pair = c.args.pair.now in let split = c.args.split in
@@ -22,10 +22,11 @@ returns-clause-value g c d whole =
     let back : length (drop split pair) ≡ d = omega (arith, left, whole) in
     let one = discrepancy_value m _ _ _ _ _ _ _ positive c.evaluate-value.ensures.value c.evaluate-located.ensures.value
     c.mul-product.ensures.value c.sub.ensures.value in
-    subst (λ k. Congruent m (v + y * polynomial d e x) (polynomial k n x)) front
-    (subst (λ k. Congruent m (v + y * polynomial k e x) (polynomial (length (take split pair)) n x)) back
-    (subst (λ xs. Congruent m (v + y * polynomial (length xs) (entry number ring.value m xs) x)
-    (polynomial (length (take split pair)) n x)) (rest_whole pair split) one))
+    at_point m split d v x y s t n e at_s at_t
+    (subst (λ k. Congruent m (v + y * polynomial_at d e x) (polynomial_at k n x)) front
+    (subst (λ k. Congruent m (v + y * polynomial_at k e x) (polynomial_at (length (take split pair)) n x)) back
+    (subst (λ xs. Congruent m (v + y * polynomial_at (length xs) (entry number ring.value m xs) x)
+    (polynomial_at (length (take split pair)) n x)) (rest_whole pair split) one)))
 
 pub evaluate-value-requires-clause-coefficients : goal.evaluate-value-requires-clause-coefficients
 evaluate-value-requires-clause-coefficients g c =

@@ -15,8 +15,8 @@ symbols-preserved g c =
     let so_far = c.symbols.invariant in let i = c.symbols.i in
     let w = c.in-Ok.ensures.weights in let before = so_far.2 in
     let long = c.symbols.auto.first ∙ c.set_unit.auto.coefficients in (
-      c.in-Ok.ensures.checked_first refl,
-      c.in-Ok.ensures.checked_second refl,
+      c.in-Ok.ensures.checked_first,
+      c.in-Ok.ensures.checked_second,
       omega (arith, w, before),
       c.in-Ok.ensures.pairs _ c.args.k i _ _ (omega (arith, long, c.requires.some)) (omega (arith, c.requires.some, c.requires.lengths))
           (sym (entry_read number ring.value m c.args.points.now i _ c.symbols-test.true c.index-points-i.is))
@@ -104,7 +104,7 @@ pub advance-requires-clause-few : goal.advance-requires-clause-few
 advance-requires-clause-few g c = few_before _ _ _ _ _ c.symbols.invariant.2 c.symbols-test.true c.requires.few
 
 pub returns-in-Err-clause-inverse : goal.returns-in-Err-clause-inverse
-returns-in-Err-clause-inverse g c = c.in-Err.ensures.inverse
+returns-in-Err-clause-inverse g c = c.in-Err.ensures
 
 pub returns-in-Err-clause-checked_first : goal.returns-in-Err-clause-checked_first
 returns-in-Err-clause-checked_first g c t = absurd (false≢true t)

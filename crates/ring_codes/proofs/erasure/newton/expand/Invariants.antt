@@ -1,6 +1,6 @@
 use Rattle.num_modular.specs.Callers.{◌≡◌, ℕ, ◌+◌, ◌-◌, ◌<◌, All, length, IsForm, entry}
 use Rattle.num_modular.specs.Congruence.{Congruent}
-use Rattle.num_modular.specs.Polynomials.{polynomial}
+use Rattle.num_modular.specs.Polynomials.{polynomial_at}
 use Rattle.ring_codes.specs.Newton.{newton_form}
 use Rattle.ring_codes.proofs.erasure.newton.expand.Given as goal
 
@@ -10,7 +10,7 @@ invariant-points g l =
     let ring = g.R.Reducer in let m = ring.modulus l.fn.r in let number = g.T.RingWord.number in
     let from = length l.fn.form - l.k in
     All (λ f. IsForm ring.form ring.value m (number f)) l.form
-    × ((a : ℕ) → Congruent m (polynomial l.k (λ i. entry number ring.value m l.form (from + i)) a)
+    × ((a : ℕ) → Congruent m (polynomial_at l.k (λ i. entry number ring.value m l.form (from + i)) a)
     (newton_form m l.k (λ i. entry number ring.value m l.fn.form (from + i))
     (λ i. entry number ring.value m l.fn.points (from + i)) a))
     × ((i : ℕ) → i < from → entry number ring.value m l.form i ≡ entry number ring.value m l.fn.form i)

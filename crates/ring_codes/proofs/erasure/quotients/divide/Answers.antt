@@ -1,6 +1,6 @@
 use Rattle.num_modular.specs.Callers.{◌+◌, ◌%◌, ◌<◌, ◌∙◌, ap, sym, arith, subst, length}
 use Rattle.num_modular.specs.Callers.{entry, entry_read, form_read}
-use Rattle.num_modular.specs.Polynomials.{polynomial}
+use Rattle.num_modular.specs.Polynomials.{polynomial_at}
 use Rattle.std.proofs.Common.{length-set}
 use Rattle.ring_codes.specs.KeyEquations.{IsQuotient}
 use Rattle.ring_codes.proofs.NearPairs.{found_none, found_kept, found_more, found_all, zeros_kept, zeros_more, none_counted}
@@ -19,7 +19,7 @@ points-init g c =
       c.requires.some,
       omega arith,
       λ l. absurd (omega arith),
-      (let z = none_counted (λ j. polynomial (length c.args.locator.now) (entry number ring.value m c.args.locator.now) (entry number ring.value m c.args.points.now j) % m) (λ j. 0) in omega (arith, z)),
+      (let z = none_counted (λ j. polynomial_at (length c.args.locator.now) (entry number ring.value m c.args.locator.now) (entry number ring.value m c.args.points.now j) % m) (λ j. 0) in omega (arith, z)),
       found_none number ring.form ring.value m _ _ _ _ _,
     )
 
@@ -28,7 +28,7 @@ points-preserved-in-Ok-None g c =
     let ring = g.R.Reducer in let m = ring.modulus c.args.r.now in let number = g.T.RingWord.number in
     let i = c.points.i in let so_far = c.points.invariant in
     let x = entry number ring.value m c.args.points.now in
-    let e = polynomial (length c.args.locator.now) (entry number ring.value m c.args.locator.now) in
+    let e = polynomial_at (length c.args.locator.now) (entry number ring.value m c.args.locator.now) in
     let few = so_far.1 in
     let none = rw c.in-Ok-None.field-0-is at c.in-Ok-None.ensures.quotient in
     let point = entry_read number ring.value m c.args.points.now i _ (omega arith) c.index-points-i.is in (
@@ -44,8 +44,8 @@ points-preserved g c =
     let ring = g.R.Reducer in let m = ring.modulus c.args.r.now in let number = g.T.RingWord.number in
     let i = c.points.i in let so_far = c.points.invariant in
     let points = c.args.points.now in let x = entry number ring.value m points in
-    let p = polynomial (length c.args.numerator.now) (entry number ring.value m c.args.numerator.now) in
-    let e = polynomial (length c.args.locator.now) (entry number ring.value m c.args.locator.now) in
+    let p = polynomial_at (length c.args.numerator.now) (entry number ring.value m c.args.numerator.now) in
+    let e = polynomial_at (length c.args.locator.now) (entry number ring.value m c.args.locator.now) in
     let few = so_far.1 in let below = so_far.0 in
     let within : i < length points = omega arith in
     let is = rw c.in-Ok-Some.field-0-is at c.in-Ok-Some.ensures.quotient in
@@ -71,8 +71,8 @@ returns-then-found-chosen-clause-quotients g c t =
     let ring = g.R.Reducer in let m = ring.modulus c.args.r.now in let number = g.T.RingWord.number in
     let i = c.points.i in let so_far = c.points.invariant in
     let points = c.args.points.now in let x = entry number ring.value m points in
-    let p = polynomial (length c.args.numerator.now) (entry number ring.value m c.args.numerator.now) in
-    let e = polynomial (length c.args.locator.now) (entry number ring.value m c.args.locator.now) in
+    let p = polynomial_at (length c.args.numerator.now) (entry number ring.value m c.args.numerator.now) in
+    let e = polynomial_at (length c.args.locator.now) (entry number ring.value m c.args.locator.now) in
     let few = so_far.1 in let below = so_far.0 in
     let within : i < length points = omega arith in
     let is = rw c.in-Ok-Some.field-0-is at c.in-Ok-Some.ensures.quotient in
@@ -163,8 +163,8 @@ returns-then-found-chosen-clause-checked_values g c t =
     let ring = g.R.Reducer in let m = ring.modulus c.args.r.now in let number = g.T.RingWord.number in
     let i = c.points.i in let so_far = c.points.invariant in
     let points = c.args.points.now in let x = entry number ring.value m points in
-    let p = polynomial (length c.args.numerator.now) (entry number ring.value m c.args.numerator.now) in
-    let e = polynomial (length c.args.locator.now) (entry number ring.value m c.args.locator.now) in
+    let p = polynomial_at (length c.args.numerator.now) (entry number ring.value m c.args.numerator.now) in
+    let e = polynomial_at (length c.args.locator.now) (entry number ring.value m c.args.locator.now) in
     let below = so_far.0 in let within : i < length points = c.points-test.true in
     let is = rw c.in-Ok-Some.field-0-is at c.in-Ok-Some.ensures.quotient in
     let point = entry_read number ring.value m points i _ within c.index-points-i.is in
@@ -184,8 +184,8 @@ returns-then-found-chosen-clause-checked_chosen g c t =
     let ring = g.R.Reducer in let m = ring.modulus c.args.r.now in let number = g.T.RingWord.number in
     let i = c.points.i in let so_far = c.points.invariant in
     let points = c.args.points.now in let x = entry number ring.value m points in
-    let p = polynomial (length c.args.numerator.now) (entry number ring.value m c.args.numerator.now) in
-    let e = polynomial (length c.args.locator.now) (entry number ring.value m c.args.locator.now) in
+    let p = polynomial_at (length c.args.numerator.now) (entry number ring.value m c.args.numerator.now) in
+    let e = polynomial_at (length c.args.locator.now) (entry number ring.value m c.args.locator.now) in
     let below = so_far.0 in let within : i < length points = c.points-test.true in
     let is = rw c.in-Ok-Some.field-0-is at c.in-Ok-Some.ensures.quotient in
     let point = entry_read number ring.value m points i _ within c.index-points-i.is in
@@ -204,7 +204,7 @@ pub returns-clause-zeros : goal.returns-clause-zeros
 returns-clause-zeros g c h =
     let ring = g.R.Reducer in let m = ring.modulus c.args.r.now in let number = g.T.RingWord.number in
     let x = entry number ring.value m c.args.points.now in
-    let e = polynomial (length c.args.locator.now) (entry number ring.value m c.args.locator.now) in
+    let e = polynomial_at (length c.args.locator.now) (entry number ring.value m c.args.locator.now) in
     let below = c.points.invariant.0 in let few = c.requires.few in let zeros = c.points.invariant.3 in
     let all : c.points.i ≡ length c.args.points.now = omega arith in (
       c.points.invariant.2 (omega (arith, below, few)),

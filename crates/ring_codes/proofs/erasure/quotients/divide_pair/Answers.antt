@@ -3,7 +3,7 @@ use Rattle.std.proofs.lemmas.List.Elements.{All-take, All-drop}
 use Rattle.num_modular.specs.Callers.{◌≡◌, ◌%◌, ◌<◌, ◌∙◌, IsForm, sym, arith, subst, length}
 use Rattle.num_modular.specs.Callers.{entry, entry_past}
 use Rattle.std.proofs.lemmas.Bool.{false≢true}
-use Rattle.num_modular.specs.Polynomials.{polynomial}
+use Rattle.num_modular.specs.Polynomials.{polynomial_at}
 use Rattle.ring_codes.specs.Erasure.{distance}
 use Rattle.ring_codes.specs.KeyEquations.{AreQuotients}
 use Rattle.ring_codes.proofs.Pairs.{rest_whole}
@@ -27,11 +27,11 @@ returns-in-Ok-true-clause-message g c d u y sent whole some lengths few room pai
     let values = entry number ring.value m c.divide.new.values in
     let forms = c.in-Ok-true.ensures.checked_values c.in-Ok-true.field-0-test in
     let whole = c.divide.auto.values ∙ c.split_at_mut-values.ensures.front_len in
-    let are = subst (λ cn. AreQuotients m n k x (polynomial cn p) (polynomial d e) chosen values) is_c
-    (subst (λ d. AreQuotients m n k x (polynomial (length (take split list)) p) (polynomial d e) chosen values) is_d
-    (subst (λ k. AreQuotients m n k x (polynomial (length (take split list)) p) (polynomial (length (drop split list)) e) chosen values) c.split_at_mut-chosen.ensures.front_len
-    (subst (λ xs. AreQuotients m n (length c.split_at_mut-chosen.result.0.now) x (polynomial (length (take split list)) p)
-    (polynomial (length xs) (entry number ring.value m xs)) chosen values) (rest_whole list split)
+    let are = subst (λ cn. AreQuotients m n k x (polynomial_at cn p) (polynomial_at d e) chosen values) is_c
+    (subst (λ d. AreQuotients m n k x (polynomial_at (length (take split list)) p) (polynomial_at d e) chosen values) is_d
+    (subst (λ k. AreQuotients m n k x (polynomial_at (length (take split list)) p) (polynomial_at (length (drop split list)) e) chosen values) c.split_at_mut-chosen.ensures.front_len
+    (subst (λ xs. AreQuotients m n (length c.split_at_mut-chosen.result.0.now) x (polynomial_at (length (take split list)) p)
+    (polynomial_at (length xs) (entry number ring.value m xs)) chosen values) (rest_whole list split)
     (c.in-Ok-true.ensures.quotients c.in-Ok-true.field-0-test)))) in
     let fit = c.interpolate.ensures.fit.1 (chosen_fit m n k x _ _ chosen values c.requires.fit are) in (
       fit,
@@ -52,10 +52,10 @@ returns-in-Ok-false-clause-message g c d u y sent whole some lengths few room pa
     let p = entry number ring.value m (take split list) in
     let e = entry number ring.value m (drop split list) in
     let zeros = c.in-Ok-false.ensures.zeros (λ t. false≢true (sym c.in-Ok-false.field-0-test ∙ t)) in
-    let fewer = subst (λ k. distance n (λ j. polynomial (length (drop split list)) e (x j) % m) (λ j. 0) < k) c.split_at_mut-chosen.ensures.front_len
-    (subst (λ xs. distance n (λ j. polynomial (length xs) (entry number ring.value m xs) (x j) % m) (λ j. 0)
+    let fewer = subst (λ k. distance n (λ j. polynomial_at (length (drop split list)) e (x j) % m) (λ j. 0) < k) c.split_at_mut-chosen.ensures.front_len
+    (subst (λ xs. distance n (λ j. polynomial_at (length xs) (entry number ring.value m xs) (x j) % m) (λ j. 0)
     < length c.split_at_mut-chosen.result.0.now) (rest_whole list split) zeros.1) in
-    let fewer_still = subst (λ d. distance n (λ j. polynomial d e (x j) % m) (λ j. 0) < k) is_d fewer in
+    let fewer_still = subst (λ d. distance n (λ j. polynomial_at d e (x j) % m) (λ j. 0) < k) is_d fewer in
     absurd (zeros.0 (enough_units m k split d n u x y p e sent some lengths few room c.requires.fit
     (λ l b. entry_past number ring.value m (drop split list) l (omega (arith, b, is_d))) pair near fewer_still))
 

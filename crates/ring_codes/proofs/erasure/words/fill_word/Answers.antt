@@ -1,5 +1,5 @@
 use Rattle.num_modular.specs.Callers.{◌%◌, length, arith, entry, hold_more, held_forms, held_entry}
-use Rattle.num_modular.specs.Polynomials.{polynomial}
+use Rattle.num_modular.specs.Polynomials.{polynomial_at}
 use borrow.Author.Rules.{scaled_Fits}
 use Rattle.num_modular.specs.Callers.{entry_read, form_read, ap}
 use Rattle.std.proofs.Math.Nat.{le_of_lt, le_trans}
@@ -38,7 +38,7 @@ points-preserved g c =
     let ring = g.R.Reducer in let m = ring.modulus c.args.r.now in let number = g.T.RingWord.number in
     let message = c.args.message.now in let i = c.points.i in
     let word : ℕ → ℕ =
-    λ a. polynomial (length message) (entry number ring.value m message) a % m in
+    λ a. polynomial_at (length message) (entry number ring.value m message) a % m in
     let points = entry number ring.value m c.args.points.now in
     let held : IsCheckedFormOf ring.form ring.value m (number c.match-index_of.word) (word (points i)) =
     elim c.match-index_of.branch [

@@ -1,4 +1,0 @@
-use Rattle.modular_folds.proofs.mersenne.FixedMersenne.product.Goals as goal
-
-pub returns : goal.returns
-returns g c = c.reduce_single.ensures

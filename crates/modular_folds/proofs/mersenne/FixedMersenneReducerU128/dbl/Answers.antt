@@ -1,4 +1,0 @@
-use Rattle.modular_folds.proofs.mersenne.FixedMersenneReducerU128.dbl.Goals as goal
-
-pub returns : goal.returns
-returns g c = rw c.narrow.ensures at c.dbl.ensures

@@ -1,0 +1,15 @@
+-- What the steps of `run` ask of each other: the register that it wrote last is kept beside the list.
+use Rattle.std.specs.Prelude.{◌≡◌, ℕ, ◌<◌, List, length, slice_index_or}
+use Rattle.modular_ring.specs.declared.ring.RingCommand.{RingCommand}
+use Rattle.modular_ring.specs.declared.ring.RingCommand.TheVariants.{Add, Sub, Mul}
+
+-- register n, if there is one, holds the form
+abbrev pub IsHeldAt : {T : Type 0} → List T → ℕ → T → Type 0
+IsHeldAt registers n form = n < length registers → form ≡ slice_index_or registers n form
+
+-- the command writes a sum, a difference or a product
+abbrev pub Combines : {T : Type 0} → RingCommand T → Type 0
+Combines (Add dst a b) = Unit {0}
+Combines (Sub dst a b) = Unit {0}
+Combines (Mul dst a b) = Unit {0}
+Combines _ = ⊥

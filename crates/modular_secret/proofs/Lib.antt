@@ -1,0 +1,3 @@
+pub mod ExponentSteps
+pub mod HalvingSteps
+pub mod Masks

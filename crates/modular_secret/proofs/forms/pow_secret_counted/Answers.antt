@@ -1,0 +1,39 @@
+use Rattle.std.proofs.Common.{◌≡◌, ◌-◌, ◌^◌, sym, subst, arith, ◌<◌}
+use Rattle.modular_reduced.proofs.PowerForms.{power_start, power_end}
+use Rattle.modular_secret.proofs.ExponentSteps.{half_below, none_left, power_step}
+use Rattle.modular_secret.proofs.forms.pow_secret_counted.Goals as goal
+
+pub digits-init : goal.digits-init
+digits-init g c =
+    let all : c.args.bits - 0 ≡ c.args.bits = omega arith in
+    record {
+      so_far = power_start (g.met.R.Reducer.canonical c.args.reducer.now) c.requires.form c.one.ensures
+          c.transform-product.ensures.form;
+      below = subst (λ n. g.T.RingWord.number c.args.exp.now < 2 ^ n) (sym all) c.requires.fits;
+      count = omega arith;
+    }
+
+pub digits-preserved : goal.digits-preserved
+digits-preserved g c =
+    let canonical = g.met.R.Reducer.canonical c.args.reducer.now in
+    let half = c.half-rest.ensures.value in
+    let chosen = c.chosen-product.ensures in
+    let mask = c.odd_mask.ensures in
+    record {
+      so_far = power_step canonical c.digits.invariant.so_far c.mul-longer.ensures.form c.sqr-power.ensures.form half
+          (λ e. chosen.all (mask.all e)) (λ e. chosen.none (mask.none e));
+      below = half_below _ _ c.args.bits c.digits._done (omega arith) c.digits.invariant.below half;
+      count = omega (arith, c.digits.invariant.count);
+    }
+
+pub returns-clause-form : goal.returns-clause-form
+returns-clause-form g c =
+    power_end c.digits.invariant.so_far (none_left _ c.args.bits c.digits._done c.digits.invariant.below (omega arith))
+
+pub returns-clause-checked : goal.returns-clause-checked
+returns-clause-checked g c = c.digits.invariant.so_far.product_form
+
+pub returns-clause-value : goal.returns-clause-value
+returns-clause-value g c =
+    (g.met.R.Reducer.canonical c.args.reducer.now).one_value _ _
+    (power_end c.digits.invariant.so_far (none_left _ c.args.bits c.digits._done c.digits.invariant.below (omega arith)))

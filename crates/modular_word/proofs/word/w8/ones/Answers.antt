@@ -1,4 +1,0 @@
-use Rattle.modular_word.proofs.word.w8.ones.Goals as goal
-
-pub returns : goal.returns
-returns c = c.ones.ensures

@@ -1,9 +1,0 @@
-//! Known values of the symbols.
-
-mod callers;
-mod combined;
-mod counted;
-mod loops;
-mod primes;
-mod references;
-mod tables;
