@@ -1,5 +1,6 @@
 pub mod Counts
 pub mod Distances
+pub mod EncodedParts
 pub mod KeyPairs
 pub mod Lagrange
 pub mod NearPairs

@@ -1,5 +1,5 @@
 -- Pairs of polynomials as one list each: the coefficients of the numerator, and after them those of the locator.
-use Rattle.std.proofs.Common.{◌≡◌, ◌≢◌, ℕ, ◌+◌, ◌-◌, ◌*◌, ◌%◌, ◌<◌, ◌≤◌, List, [], ◌∷◌, ◌++◌, length, take, drop}
+use Rattle.std.proofs.Common.{◌≡◌, ◌≢◌, ℕ, ◌+◌, ◌-◌, ◌*◌, ◌%◌, ◌<◌, ◌≤◌, List, [], ◌∷◌, ◌++◌, length, take, drop, slice_range}
 use Rattle.std.proofs.Common.{ap, sym, ◌∙◌, arith, inl, inr, subst, take_all, take_at, drop_at, get_or-drop, length-drop, length-take-le}
 use Rattle.std.proofs.lemmas.Bool.{cases_lt}
 use Rattle.num_modular.specs.Callers.{entry, entry_at, entry_past}
@@ -27,6 +27,20 @@ entry_back {T} number value m forms k i =
         sym (entry_at number value m (drop k (x ∷ xs)) i x (omega (arith, left, b)))
         ∙ ap (λ f. value m (number f)) (get_or-drop k (x ∷ xs) i x)
         ∙ entry_at number value m (x ∷ xs) (k + i) x b
+
+-- the length and the entries of a slice
+pub slice_length : {T : Type 0} (forms : List T) (from to : ℕ) → from ≤ to → to ≤ length forms
+    → length (slice_range forms from to) ≡ to - from
+slice_length forms from to ordered within =
+    let left = length-drop from forms in length-take-le (to - from) (drop from forms) (omega (arith, left, ordered, within))
+
+pub entry_slice : {T : Type 0} (number : T → ℕ) (value : ℕ → ℕ → ℕ) (m : ℕ) (forms : List T) (from to i : ℕ)
+    → from ≤ to → to ≤ length forms → i < to - from
+    → entry number value m (slice_range forms from to) i ≡ entry number value m forms (from + i)
+entry_slice number value m forms from to i ordered within l =
+    let left = length-drop from forms in
+    entry_front number value m (drop from forms) (to - from) i l (omega (arith, left, ordered, within))
+    ∙ entry_back number value m forms from i
 
 -- what a slice from c on reads
 pub rest_whole : {T : Type 0} (forms : List T) (c : ℕ) → take (length forms - c) (drop c forms) ≡ drop c forms

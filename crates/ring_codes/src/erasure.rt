@@ -44,6 +44,7 @@ mod powers;
 mod prepared;
 mod quotients;
 mod secrets;
+mod values;
 mod words;
 
 pub use bounds::{distance_laws, singleton_law};
@@ -54,9 +55,13 @@ use num_modular::{Reducer, RingWord};
 pub use powers::{encode_by_plan, encode_by_transform, fill_powers, root_laws};
 pub use prepared::PreparedCode;
 pub use secrets::{ShareError, recover, recover_correct, secrecy_laws, share};
+use values::evaluate_each;
 use words::index_of;
 pub use words::restore_word;
 // rust: pub use crate::layers::codes::{Code, Corrected};
+
+/// How many points `encode` takes side by side.
+const SIDE: usize = 8;
 
 /// Why a message can't be restored: the first cause, as `restore` names it.
 ///
@@ -182,9 +187,17 @@ pub fn encode<T: RingWord, R: Reducer<T>>(r: &R, points: &[T], message: &[T], wo
     // rust:     "points and message must be checked forms");
     // rust: assert!(word.len() == points.len(), "the word must have as many places as there are points: {} and {}",
     // rust:     word.len(), points.len());
-    'points: for i in 0..points.len() {
-        word[i] = evaluate(r, message, &points[i]);
+    let mut from = 0;
+    'groups: for _done in 0..points.len() / SIDE {
+        evaluate_each(
+            r,
+            message,
+            &points[from..from + SIDE],
+            &mut word[from..from + SIDE],
+        );
+        from += SIDE;
     }
+    evaluate_each(r, message, &points[from..], &mut word[from..]);
 }
 
 /// Writes the coefficients of the polynomial through k points: the constant first, of the only one modulo m with k

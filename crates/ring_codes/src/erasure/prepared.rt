@@ -9,7 +9,7 @@ ghost use Rattle.num_modular.specs.Sums.{sum_below};
 ghost use Rattle.ring_codes.specs.Erasure.{IsEncoding};
 ghost use Rattle.ring_codes.specs.Prepared.{product_but, AreRows};
 
-use num_modular::ring::invert_each;
+use num_modular::ring::{dot_product, invert_each};
 use num_modular::{Reducer, RingWord};
 
 /// A code prepared for many words. The k symbols at its known points give those at its t wanted points by k·t products.
@@ -311,10 +311,5 @@ fn row_value<T: RingWord, R: Reducer<T>>(r: &R, rows: &[T], start: usize, symbol
         ≡ sum_below (length symbols.now) (λ i. entry T.number R.value m rows.now (start + i)
         * entry T.number R.value m symbols.now i) % m }
 {
-    let mut sum = r.transform(T::zero());
-    'factors: for i in 0..symbols.len() {
-        let product = r.mul(&rows[start + i], &symbols[i]);
-        sum = r.add(&sum, &product);
-    }
-    sum
+    dot_product(r, &rows[start..start + symbols.len()], symbols)
 }

@@ -36,6 +36,7 @@ mod powers;
 mod prepared;
 mod quotients;
 mod secrets;
+mod values;
 mod words;
 
 pub use crate::layers::codes::{Code, Corrected};
@@ -46,8 +47,12 @@ use newton::{differences_before, divide_differences, expand, fill_weights};
 pub use powers::{encode_by_plan, encode_by_transform, fill_powers};
 pub use prepared::PreparedCode;
 pub use secrets::{recover, recover_correct, share, ShareError};
+use values::evaluate_each;
 use words::index_of;
 pub use words::restore_word;
+
+/// How many points `encode` takes side by side.
+const SIDE: usize = 8;
 
 /// Why a message can't be restored: the first cause, as `restore` names it.
 ///
@@ -154,7 +159,6 @@ pub fn evaluate<T: RingWord, R: Reducer<T>>(r: &R, coefficients: &[T], point: &T
 /// assert_eq!(word, [12, 19, 26, 33]); // 5 + 7X at 1, 2, 3 and 4
 /// ```
 #[track_caller]
-#[inline]
 pub fn encode<T: RingWord, R: Reducer<T>>(r: &R, points: &[T], message: &[T], word: &mut [T]) {
     debug_assert!(points.iter().chain(message.iter()).all(|x| r.check(x)), "points and message must be checked forms");
     assert!(
@@ -163,9 +167,12 @@ pub fn encode<T: RingWord, R: Reducer<T>>(r: &R, points: &[T], message: &[T], wo
         word.len(),
         points.len()
     );
-    for i in 0..points.len() {
-        word[i] = evaluate(r, message, &points[i]);
+    let mut from = 0;
+    for _done in 0..points.len() / SIDE {
+        evaluate_each(r, message, &points[from..from + SIDE], &mut word[from..from + SIDE]);
+        from += SIDE;
     }
+    evaluate_each(r, message, &points[from..], &mut word[from..]);
 }
 
 /// Writes the coefficients of the polynomial through k points: the constant first, of the only one modulo m with k

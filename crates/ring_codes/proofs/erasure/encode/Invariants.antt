@@ -1,11 +1,12 @@
-use Rattle.num_modular.specs.Callers.{◌%◌, length, HoldBelow, entry}
+use Rattle.num_modular.specs.Callers.{◌*◌, ◌%◌, ◌≡◌, length, HoldBelow, entry}
 use Rattle.num_modular.specs.Polynomials.{polynomial_at}
 use Rattle.ring_codes.proofs.erasure.encode.Given as goal
 
--- the symbols at the points so far
-abbrev pub invariant-points : goal.invariant-points
-invariant-points g l =
+-- the symbols at the points of the groups so far
+abbrev pub invariant-groups : goal.invariant-groups
+invariant-groups g l =
     let ring = g.R.Reducer in let m = ring.modulus l.fn.r in let number = g.T.RingWord.number in
-    HoldBelow number ring.form ring.value m l.word
+    (l.from ≡ 8 * l._done)
+    × HoldBelow number ring.form ring.value m l.word
     (λ i. polynomial_at (length l.fn.message) (entry number ring.value m l.fn.message)
-    (entry number ring.value m l.fn.points i) % m) l.i
+    (entry number ring.value m l.fn.points i) % m) l.from

@@ -1,0 +1,51 @@
+use Rattle.num_modular.specs.Polynomials.{polynomial_at}
+use Rattle.num_modular.specs.Callers.{ℕ, ◌+◌, ◌-◌, ◌*◌, ◌%◌, ◌≡◌, length, ◌∙◌, ap, refl, arith}
+use Rattle.num_modular.specs.Callers.{entry, entry_read, form_read, hold_more, held_forms, held_entry}
+use Rattle.ring_codes.proofs.NewtonForms.{value_none, value_more, value_all}
+use Rattle.ring_codes.proofs.erasure.values.evaluate_each.Goals as goal
+
+pub zeros-init : goal.zeros-init
+zeros-init g c = record { each = λ k d l. absurd (omega arith) }
+
+pub zeros-preserved : goal.zeros-preserved
+zeros-preserved g c =
+    let ring = g.R.Reducer in let m = ring.modulus c.args.r.now in
+    hold_more g.T.RingWord.number ring.form ring.value m c.zeros.values c.zeros.i c.transform-zero.result (λ i. 0 % m)
+    (omega arith) c.zeros.invariant c.transform-zero.ensures.checked
+    (c.transform-zero.ensures.value ∙ ap (λ v. v % m) c.zero.ensures)
+
+pub coefficients-init : goal.coefficients-init
+coefficients-init g c =
+    let ring = g.R.Reducer in let m = ring.modulus c.args.r.now in let number = g.T.RingWord.number in (
+      held_forms number ring.form ring.value m c.zeros.values _ _ c.zeros.invariant (omega arith),
+      λ j l. value_none m _ _ _
+          (held_entry number ring.form ring.value m c.zeros.values _ _ j c.zeros.invariant (omega arith) (omega arith)),
+    )
+
+pub step_each-requires-clause-coefficient : goal.step_each-requires-clause-coefficient
+step_each-requires-clause-coefficient g c =
+    let ring = g.R.Reducer in let m = ring.modulus c.args.r.now in
+    form_read g.T.RingWord.number ring.form ring.value m c.args.coefficients.now _ _ c.requires.coefficients (omega arith)
+    c.index-coefficients-i.is
+
+pub coefficients-preserved : goal.coefficients-preserved
+coefficients-preserved g c =
+    let ring = g.R.Reducer in let m = ring.modulus c.args.r.now in let number = g.T.RingWord.number in
+    let cs = c.args.coefficients.now in let n = length cs in let k = c.coefficients.k in let i : ℕ = n - 1 - k in
+    let read = entry_read number ring.value m cs i _ (omega arith) c.index-coefficients-i.is in
+    let x = entry number ring.value m c.args.points.now in let v = entry number ring.value m c.coefficients.values in (
+      c.step_each.ensures.checked,
+      λ j l. value_more m n k (entry number ring.value m cs) (x j) (v j) (v j * x j % m) _ (omega arith)
+          (c.coefficients.invariant.1 j l) refl
+          (c.step_each.ensures.values j l ∙ ap (λ a. (a + v j * x j % m) % m) read),
+    )
+
+pub returns-clause-encoding : goal.returns-clause-encoding
+returns-clause-encoding g c =
+    let ring = g.R.Reducer in let m = ring.modulus c.args.r.now in let number = g.T.RingWord.number in
+    let cs = entry number ring.value m c.args.coefficients.now in let n = length c.args.coefficients.now in
+    let count : c.coefficients.k ≡ n = omega arith in record {
+      symbol = λ j l. let a = entry number ring.value m c.args.points.now j in
+          c.coefficients.invariant.1 j l ∙ ap (λ k. polynomial_at k (λ i. cs (n - k + i)) a % m) count
+          ∙ ap (λ v. v % m) (value_all n a cs);
+    }

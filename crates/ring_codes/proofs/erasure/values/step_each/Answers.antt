@@ -1,0 +1,24 @@
+use Rattle.num_modular.specs.Callers.{◌+◌, ◌*◌, ◌%◌, ◌∙◌, ap, arith}
+use Rattle.num_modular.specs.Callers.{entry, entry_at, entry_read, forms_written, done_none, done_more}
+use Rattle.ring_codes.proofs.erasure.values.step_each.Goals as goal
+
+pub points-init : goal.points-init
+points-init g c = (c.requires.values, done_none _ _)
+
+pub points-preserved : goal.points-preserved
+points-preserved g c =
+    let ring = g.R.Reducer in let m = ring.modulus c.args.r.now in let number = g.T.RingWord.number in
+    let list = c.points.values in let i = c.points.i in let so_far = c.points.invariant in
+    let old = entry number ring.value m c.args.values.now in
+    let a = ring.value m (number c.args.coefficient.now) in
+    let point = entry_read number ring.value m c.args.points.now i _ (omega arith) c.index-points-i.is in
+    let here = entry_at number ring.value m list i c.index-values-i.result (omega arith) ∙ so_far.1.kept i (omega arith) in
+    let product = c.mul-product.ensures.value
+    ∙ ap (λ v. (v * ring.value m (number c.index-points-i.result)) % m) here ∙ ap (λ v. (old i * v) % m) point in (
+      forms_written number ring.form ring.value m list i c.add.result c.add.ensures.checked so_far.0,
+      done_more number ring.value m list i c.add.result _ old (omega arith) so_far.1
+          (c.add.ensures.value ∙ ap (λ v. (a + v) % m) product),
+    )
+
+pub returns-clause-values : goal.returns-clause-values
+returns-clause-values g c i l = c.points.invariant.1.done i (omega arith)
