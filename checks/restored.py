@@ -17,7 +17,7 @@ OF_SOURCE = (
     (r"\( rt : HostRuntime \)", "( )"),
 )
 OF_BOTH = (
-    (r"# \[ inline \] ", ""),
+    (r"# \[ (?:inline|must_use) \] ", ""),
     (r"\) \] # \[ derive \(", ","),
     (rf"let (?:Some \( ((?:mut )?\w+) \)) = ([^{{}};]*) else ({BLOCK}) ;", r"let \1 = match \2 { Some ( it ) => it , None => \3 } ;"),
     (r"=> \{ ([^{};]+) \} (?:, )?", r"=> \1 , "),

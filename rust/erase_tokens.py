@@ -44,7 +44,6 @@ class Token:
     put: bool = False
 
 
-# ------------------------------------------------------------------------------------------------ reading
 def attached(lead):
     """Where the comments begin that stand right above an item; the module's own docs don't count."""
     return re.search(r"(?:^[ \t]*//(?!!).*\n)*.*\Z", lead, re.M).start()
@@ -117,7 +116,6 @@ def lexed(text):
     return read(text)[:-1]
 
 
-# ------------------------------------------------------------------------------------------------ finding
 def backwards(tokens, *words):
     """The indexes of the tokens that are one of these words, the last first: what stands behind may be changed."""
     return (at for at in range(len(tokens) - 1, -1, -1) if at < len(tokens) and tokens[at].text in words)
@@ -185,7 +183,6 @@ def items(tokens, keyword):
         yield Item(trait_of(tokens, opened) if is_impl else tokens[at + 1].text, first, begin, at, opened, body)
 
 
-# ------------------------------------------------------------------------------------------------ cutting
 def cut(tokens, begin, end):
     """Takes an item away, with the comments right above it."""
     tokens[end].lead = joined(without_attached(tokens[begin].lead), tokens[end].lead)

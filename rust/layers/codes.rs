@@ -98,6 +98,7 @@ impl<T: RingWord, R: Reducer<T>, const N: usize, const K: usize> Code<T, R, N, K
     /// assert!(Code::<_, _, 3, 2>::new(ring, [0, 1, 2]).is_some());
     /// assert!(Code::<_, _, 3, 2>::new(ring, [0, 1, 3]).is_none()); // 3 has no inverse modulo 15
     /// ```
+    #[must_use]
     #[track_caller]
     pub fn new(ring: R, points: [T; N]) -> Option<Self> {
         let _fits = Self::SCRATCH;
@@ -119,6 +120,7 @@ impl<T: RingWord, R: Reducer<T>, const N: usize, const K: usize> Code<T, R, N, K
     /// let code = Code::<u64, _, 3, 2>::new(Vanilla::new(&97), [1, 2, 3]).unwrap();
     /// assert_eq!(code.points(), &[1, 2, 3]);
     /// ```
+    #[must_use]
     #[inline]
     pub fn points(&self) -> &[T; N] {
         &self.points
@@ -137,6 +139,7 @@ impl<T: RingWord, R: Reducer<T>, const N: usize, const K: usize> Code<T, R, N, K
     /// let word = code.encode(&[5, 7].map(|x| ring.transform(x)));
     /// assert_eq!(word.map(|x| code.ring().residue(x)), [12, 19, 26]);
     /// ```
+    #[must_use]
     #[inline]
     pub fn ring(&self) -> &R {
         &self.ring
@@ -172,8 +175,9 @@ impl<T: RingWord, R: Reducer<T>, const N: usize, const K: usize> Code<T, R, N, K
         word
     }
 
-    /// The word that begins with the message, as [`encode_systematic`](erasure::encode_systematic) writes it. The message is
-    /// the first K symbols of what `restore_word` and `correct` return.
+    /// The word that begins with the message, as [`encode_systematic`](erasure::encode_systematic) writes it.
+    ///
+    /// The message is the first K symbols of what [`restore_word`](Code::restore_word) and [`correct`](Code::correct) return.
     ///
     /// # Panics
     ///
@@ -202,8 +206,9 @@ impl<T: RingWord, R: Reducer<T>, const N: usize, const K: usize> Code<T, R, N, K
         word
     }
 
-    /// The message of a word of which symbols are lost; `None` exactly where fewer than K are left. The first K that are left
-    /// are used, as by [`restore`](erasure::restore).
+    /// The message of a word of which symbols are lost; `None` exactly where fewer than K are left.
+    ///
+    /// The first K that are left are used, as by [`restore`](erasure::restore).
     ///
     /// # Panics
     ///
@@ -221,6 +226,7 @@ impl<T: RingWord, R: Reducer<T>, const N: usize, const K: usize> Code<T, R, N, K
     /// assert_eq!(code.restore(&[None, Some(19), None, Some(33)]), Some([5, 7]));
     /// assert_eq!(code.restore(&[None, Some(19), None, None]), None);
     /// ```
+    #[must_use]
     #[track_caller]
     pub fn restore(&self, word: &[Option<T>; N]) -> Option<[T; K]> {
         let zero = self.zero();
@@ -231,8 +237,9 @@ impl<T: RingWord, R: Reducer<T>, const N: usize, const K: usize> Code<T, R, N, K
         Some(message)
     }
 
-    /// The whole word, of which symbols are lost; `None` exactly where fewer than K are left. The first K that are left are
-    /// used, as by [`restore_word`](erasure::restore_word).
+    /// The whole word, of which symbols are lost; `None` exactly where fewer than K are left.
+    ///
+    /// The first K that are left are used, as by [`restore_word`](erasure::restore_word).
     ///
     /// # Panics
     ///
@@ -249,6 +256,7 @@ impl<T: RingWord, R: Reducer<T>, const N: usize, const K: usize> Code<T, R, N, K
     /// let code = Code::<u64, _, 4, 2>::new(Vanilla::new(&97), [1, 2, 3, 4]).unwrap();
     /// assert_eq!(code.restore_word(&[None, Some(19), None, Some(33)]), Some([12, 19, 26, 33]));
     /// ```
+    #[must_use]
     #[track_caller]
     pub fn restore_word(&self, word: &[Option<T>; N]) -> Option<[T; N]> {
         let zero = self.zero();
@@ -259,8 +267,9 @@ impl<T: RingWord, R: Reducer<T>, const N: usize, const K: usize> Code<T, R, N, K
         Some(whole)
     }
 
-    /// Corrects a word of which symbols are lost or wrong, as [`correct`](erasure::correct) does: e wrong ones and d lost ones
-    /// if 2·e + d is at most N - K.
+    /// Corrects a word of which symbols are lost or wrong, as [`correct`](erasure::correct) does.
+    ///
+    /// It corrects e wrong ones and d lost ones if 2·e + d is at most N - K.
     ///
     /// # Errors
     ///
@@ -314,6 +323,7 @@ impl<T: RingWord, R: Reducer<T>, const N: usize, const K: usize> Code<T, R, N, K
     /// assert_eq!(code.message(&[12, 19, 26, 33]), Some([5, 7]));
     /// assert_eq!(code.message(&[12, 19, 26, 34]), None);
     /// ```
+    #[must_use]
     #[track_caller]
     pub fn message(&self, word: &[T; N]) -> Option<[T; K]> {
         let zero = self.zero();
@@ -325,8 +335,9 @@ impl<T: RingWord, R: Reducer<T>, const N: usize, const K: usize> Code<T, R, N, K
         }
     }
 
-    /// The shares of the secret `coefficients[0]`, which any K of them recover, as [`share`](erasure::share) writes them. The
-    /// other coefficients are to be drawn at random.
+    /// The shares of the secret `coefficients[0]`, which any K of them recover, as [`share`](erasure::share) writes them.
+    ///
+    /// The other coefficients are to be drawn at random.
     ///
     /// # Errors
     ///
@@ -371,6 +382,7 @@ impl<T: RingWord, R: Reducer<T>, const N: usize, const K: usize> Code<T, R, N, K
     /// let code = Code::<u64, _, 3, 2>::new(Vanilla::new(&97), [1, 2, 3]).unwrap();
     /// assert_eq!(code.recover(&[Some(12), None, Some(26)]), Some(5));
     /// ```
+    #[must_use]
     #[track_caller]
     pub fn recover(&self, shares: &[Option<T>; N]) -> Option<T> {
         self.restore(shares).map(|coefficients| coefficients[0])

@@ -7,9 +7,11 @@ use core::iter::repeat;
 use core::marker::PhantomData;
 
 impl<T: PlainWord, F: PlanEntry<T>, S: AsRef<[F]> + AsMut<[F]> + FromIterator<F>> OwnedPlan<T, F, S> {
-    /// The plan of g for n entries, with a table of its own, such as a `Vec`: it makes the table of n/2 factors and fills it,
-    /// and doesn't test it again. `None` exactly as [`Plan::new`](crate::plans::Plan::new): where m is even, g isn't below m,
-    /// or g doesn't suit n. Written by hand, over proved calls.
+    /// The plan of g for n entries, with a table of its own, such as a `Vec`.
+    ///
+    /// It makes the table of n/2 factors and fills it, and doesn't test it again. `None` exactly as
+    /// [`Plan::new`](crate::plans::Plan::new): where m is even, g isn't below m, or g doesn't suit n. Written by hand, over
+    /// proved calls.
     ///
     /// # Examples
     ///
@@ -23,6 +25,7 @@ impl<T: PlainWord, F: PlanEntry<T>, S: AsRef<[F]> + AsMut<[F]> + FromIterator<F>
     /// assert_eq!(entries[0], 1 + 2 + 3 + 4);
     /// assert!(OwnedPlan::<u64, Factor<u64>, Vec<_>>::with_length(&modulus, 4, 8).is_none());
     /// ```
+    #[must_use]
     pub fn with_length(m: &PlannedModulus<T>, g: T, n: usize) -> Option<Self> {
         if !m.modulus().is_odd() || n % 2 != 0 || !suits(m, g, n / 2) {
             return None;

@@ -133,6 +133,7 @@ impl<const X: usize, const Y: usize, const Z: usize> Products<X, Y, Z> {
     /// assert!(Products::<3, 3, 5>::new(u64::MAX).is_some());
     /// assert!(Products::<3, 3, 5>::new(0).is_none());
     /// ```
+    #[must_use]
     pub fn new(m: u64) -> Option<Self> {
         let () = Self::FITS;
         if m == 0 {

@@ -29,8 +29,10 @@ pub struct Hits<'t, 'p> {
 }
 
 impl<'t> PrefixHashes<'t> {
-    /// All positions of the pattern, the least first, also where two overlap. The pattern is hashed once, and the hits are those
-    /// of [`find_any_from`](PrefixHashes::find_any_from). Written by hand, over proved calls.
+    /// All positions of the pattern, the least first, also where two overlap.
+    ///
+    /// The pattern is hashed once, and the hits are those of [`find_any_from`](PrefixHashes::find_any_from). Written by hand,
+    /// over proved calls.
     ///
     /// # Examples
     ///

@@ -57,6 +57,7 @@ impl<const N: usize> OwnedResidueSystem<N> {
     /// assert!(OwnedResidueSystem::new([3, 5, 7]).is_some());
     /// assert!(OwnedResidueSystem::new([4, 6]).is_none()); // 2 divides both
     /// ```
+    #[must_use]
     pub fn new(moduli: [u64; N]) -> Option<Self> {
         let _system = ResidueSystem::new(&moduli)?;
         Some(OwnedResidueSystem { moduli })
@@ -148,6 +149,7 @@ impl<const N: usize> OwnedSystem<N> {
     /// assert!(OwnedSystem::new([3, 5, 7]).is_some());
     /// assert!(OwnedSystem::new([4, 6]).is_none()); // 2 divides both
     /// ```
+    #[must_use]
     pub fn new(moduli: [u64; N]) -> Option<Self> {
         let mut inverses = [0; N];
         let _system = System::new(&moduli, &mut inverses)?;

@@ -16,7 +16,7 @@
 // The proofs name the loops and branches of the sources, so these stay as they are where clippy has a shorter form.
 #![allow(clippy::collapsible_if, clippy::if_same_then_else, clippy::manual_find, clippy::manual_map)]
 #![allow(clippy::manual_range_contains, clippy::needless_range_loop, clippy::redundant_field_names)]
-#![allow(clippy::single_match)]
+#![allow(clippy::double_must_use, clippy::single_match)]
 #![doc = include_str!("../README.md")]
 
 #[path = "../additions.rs"]

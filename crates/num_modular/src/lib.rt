@@ -18,7 +18,7 @@
 // rust: // The proofs name the loops and branches of the sources, so these stay as they are where clippy has a shorter form.
 // rust: #![allow(clippy::collapsible_if, clippy::if_same_then_else, clippy::manual_find, clippy::manual_map)]
 // rust: #![allow(clippy::manual_range_contains, clippy::needless_range_loop, clippy::redundant_field_names)]
-// rust: #![allow(clippy::single_match)]
+// rust: #![allow(clippy::double_must_use, clippy::single_match)]
 // rust: #![doc = include_str!("../README.md")]
 
 // rust: #[path = "../additions.rs"]

@@ -18,6 +18,7 @@ use crate::ModularInteger;
 /// assert_eq!(hash(base, b"\0a"), hash(base, b"a"));
 /// assert_ne!(length_hash(base, b"\0a"), length_hash(base, b"a"));
 /// ```
+#[must_use]
 #[inline]
 pub fn length_hash(base: Hash, text: &[u8]) -> Hash {
     let mut value = base.convert(1);
@@ -39,6 +40,7 @@ pub fn length_hash(base: Hash, text: &[u8]) -> Hash {
 /// assert!(same_hashes(&[2, 3, 5], b"abc", b"abc"));
 /// assert!(!same_hashes(&[2, 3, 5], b"abc", b"abd"));
 /// ```
+#[must_use]
 #[inline]
 pub fn same_hashes(bases: &[u64], first: &[u8], second: &[u8]) -> bool {
     for place in 0..bases.len() {

@@ -13,6 +13,7 @@ use crate::modular_word::path_word::PathWord;
 ///
 /// A release build doesn't test this: where it doesn't hold, the call panics or its result is unspecified.
 #[cfg_attr(debug_assertions, track_caller)]
+#[must_use]
 #[inline]
 pub fn exact_quotient<T: PathWord>(n: T, d: T, divider: &PreMulInv1by1<T>) -> Option<T> {
     let (q, r) = divider.div_rem(n, d);

@@ -13,6 +13,7 @@ use crate::modular_reduced::lanes::reduced_by_sign;
 /// - the word is below 2m, which is at most the base
 ///
 /// No build tests this: where it doesn't hold, the call panics or its result is unspecified.
+#[must_use]
 #[inline]
 pub fn reduced<T: PlainWord>(x: T, m: T) -> T {
     // Those instructions find the smaller of two words of 32 bits in more steps.

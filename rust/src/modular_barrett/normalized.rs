@@ -45,6 +45,7 @@ impl<T: PathWord> Normalized2by1Divisor<T> {
     ///
     /// assert_eq!(Normalized2by1Divisor::<u8>::new(200).divisor(), 200);
     /// ```
+    #[must_use]
     #[inline]
     pub const fn divisor(&self) -> T {
         self.divisor
@@ -61,6 +62,7 @@ impl<T: PathWord> Normalized2by1Divisor<T> {
     /// assert_eq!(divisor.div_rem_1by1(234), (1, 34));
     /// assert_eq!(divisor.div_rem_1by1(34), (0, 34));
     /// ```
+    #[must_use]
     #[inline]
     pub fn div_rem_1by1(&self, a: T) -> (T, T) {
         if a.is_below(self.divisor) {
@@ -87,6 +89,7 @@ impl<T: PathWord> Normalized2by1Divisor<T> {
     /// assert_eq!(divisor.div_rem_2by1(12_000_000_005), (3, 5));
     /// ```
     #[cfg_attr(debug_assertions, track_caller)]
+    #[must_use]
     #[inline]
     pub fn div_rem_2by1(&self, a: T::Double) -> (T, T) {
         debug_assert!(T::split(a).1.is_below(self.divisor), "the dividend's high word must be below the divisor");
@@ -112,6 +115,7 @@ impl<T: PlainWord> Normalized2by1Divisor<T> {
     /// assert_eq!(Normalized2by1Divisor::<u8>::invert_word(200), 71);
     /// ```
     #[cfg_attr(debug_assertions, track_caller)]
+    #[must_use]
     #[inline]
     pub fn invert_word(d: T) -> T {
         debug_assert!(d.leading_zeros() == 0, "the divisor's top bit must be set");
@@ -137,6 +141,7 @@ impl<T: PlainWord> Normalized2by1Divisor<T> {
     /// assert_eq!(last_digits(200u8, 234), 34);
     /// ```
     #[track_caller]
+    #[must_use]
     #[inline]
     pub fn of(d: T) -> Self {
         assert!(T::zero().wrapping_sub(T::one()).half().is_below(d), "the divisor's top bit must be set");

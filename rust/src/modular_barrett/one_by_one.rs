@@ -50,6 +50,7 @@ impl<T: PathWord> PreMulInv1by1<T> {
     /// assert_eq!(seven.div_rem(100, 7), (14, 2));
     /// ```
     #[cfg_attr(debug_assertions, track_caller)]
+    #[must_use]
     #[inline]
     pub fn div_rem(&self, a: T, d: T) -> (T, T) {
         debug_assert!(
@@ -86,6 +87,7 @@ impl<T: PlainWord> PreMulInv1by1<T> {
     /// assert_eq!(numbers, [0, 2, 6]);
     /// ```
     #[track_caller]
+    #[must_use]
     pub fn of(d: T) -> Self {
         assert!(!d.half().is_zero_word(), "the divisor must be above 1");
         let less = d.minus(T::one());

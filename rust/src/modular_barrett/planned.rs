@@ -53,6 +53,7 @@ impl<T: PathWord> Factor<T> {
     /// assert!(modulus.factor(1).is_one());
     /// assert!(!modulus.factor(2).is_one());
     /// ```
+    #[must_use]
     #[inline]
     pub fn is_one(&self) -> bool {
         self.value == T::one()
@@ -103,6 +104,7 @@ impl<T: PlainWord> PlannedModulus<T> {
     /// assert!(PlannedModulus::<u8>::admits(64)); // 256 / 4
     /// assert!(!PlannedModulus::<u8>::admits(65));
     /// ```
+    #[must_use]
     #[inline]
     pub fn admits(m: T) -> bool {
         let greatest = T::one().shift_left(T::bits() - 2);
@@ -128,6 +130,7 @@ impl<T: PlainWord> PlannedModulus<T> {
     /// assert_eq!(modulus.multiply(10, 20), 6); // 200 - 2 * 97
     /// ```
     #[track_caller]
+    #[must_use]
     #[inline]
     pub fn new(m: T) -> Self {
         assert!(Self::admits(m), "the modulus must be at least 1 and at most 2^w/4, for words of w bits");
@@ -154,6 +157,7 @@ impl<T: PlainWord> PlannedModulus<T> {
     /// assert_eq!(modulus.product(1000, &ten), 9); // 10000 = 103 * 97 + 9
     /// ```
     #[cfg_attr(debug_assertions, track_caller)]
+    #[must_use]
     pub fn factor(&self, w: T) -> Factor<T> {
         debug_assert!(w.is_below(self.modulus), "w must be below m");
         let divisor = self.modulus.shift_left(self.shift);
@@ -180,6 +184,7 @@ impl<T: PlainWord> PlannedModulus<T> {
     /// assert_eq!(modulus.times_base(&modulus.factor(5)), 6); // 5 * 256 = 98 * 13 + 6
     /// ```
     #[cfg_attr(debug_assertions, track_caller)]
+    #[must_use]
     #[inline]
     pub fn times_base(&self, w: &Factor<T>) -> T {
         debug_assert!(
@@ -229,6 +234,7 @@ impl<T: PlainWord> PlannedModulus<T> {
     /// assert!(product == 12 || product == 12 + 13); // 1000 = 76 * 13 + 12
     /// ```
     #[cfg_attr(debug_assertions, track_caller)]
+    #[must_use]
     #[inline]
     pub fn times(&self, x: T, w: &Factor<T>) -> T {
         debug_assert!(
@@ -260,6 +266,7 @@ impl<T: PlainWord> PlannedModulus<T> {
     /// assert_eq!(modulus.product(200, &modulus.factor(5)), 12);
     /// ```
     #[cfg_attr(debug_assertions, track_caller)]
+    #[must_use]
     #[inline]
     pub fn product(&self, x: T, w: &Factor<T>) -> T {
         debug_assert!(
@@ -286,6 +293,7 @@ impl<T: PlainWord> PlannedModulus<T> {
     /// assert_eq!(modulus.multiply(5, 200), 12); // 1000 = 76 * 13 + 12
     /// ```
     #[cfg_attr(debug_assertions, track_caller)]
+    #[must_use]
     #[inline]
     pub fn multiply(&self, x: T, y: T) -> T {
         debug_assert!(x.is_below(self.modulus), "x must be below m");
@@ -315,6 +323,7 @@ impl<T: PlainWord> PlannedModulus<T> {
     /// assert_eq!(modulus.product_sum(5, 200, 7, 100), 10); // 5 * 200 + 7 * 100 = 130 * 13 + 10
     /// ```
     #[cfg_attr(debug_assertions, track_caller)]
+    #[must_use]
     pub fn product_sum(&self, x: T, v: T, u: T, y: T) -> T {
         debug_assert!(x.is_below(self.twice()) && u.is_below(self.twice().minus(x)), "x + u must be below 2m");
         let divisor = self.modulus.shift_left(self.shift);
@@ -333,6 +342,7 @@ impl<T: PlainWord> PlannedModulus<T> {
     ///
     /// assert_eq!(PlannedModulus::<u8>::new(13).twice(), 26);
     /// ```
+    #[must_use]
     #[inline]
     pub fn twice(&self) -> T {
         self.modulus.plus(self.modulus)
@@ -349,6 +359,7 @@ impl<T: PlainWord> PlannedModulus<T> {
     /// assert!(modulus.has_room(51));
     /// assert!(!modulus.has_room(52)); // 4 * 13
     /// ```
+    #[must_use]
     #[inline]
     pub fn has_room(&self, x: T) -> bool {
         x.half().is_below(self.twice())
@@ -370,6 +381,7 @@ impl<T: PlainWord> PlannedModulus<T> {
     /// assert_eq!(PlannedModulus::<u8>::new(13).residue(51), 12);
     /// ```
     #[cfg_attr(debug_assertions, track_caller)]
+    #[must_use]
     #[inline]
     pub fn residue(&self, x: T) -> T {
         debug_assert!(self.has_room(x), "the word must be below 4m");

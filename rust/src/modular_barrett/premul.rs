@@ -65,6 +65,7 @@ impl<T: PlainWord> PreMulInv2by1<T> {
     /// assert_eq!(square(16u8, 251), 5); // 256 - 251
     /// ```
     #[track_caller]
+    #[must_use]
     #[inline]
     pub fn of(m: T) -> Self {
         assert!(!m.is_zero_word(), "the modulus must be at least 1");
@@ -82,6 +83,7 @@ impl<T: PlainWord> PreMulInv2by1<T> {
     /// let ring = PreMulInv2by1::<u8>::new(10);
     /// assert_eq!(ring.divider().divisor(), 160); // 10 * 2^4
     /// ```
+    #[must_use]
     #[inline]
     pub const fn divider(&self) -> &Normalized2by1Divisor<T> {
         &self.divider
@@ -96,6 +98,7 @@ impl<T: PlainWord> PreMulInv2by1<T> {
     ///
     /// assert_eq!(PreMulInv2by1::<u8>::new(10).shift(), 4); // 00001010
     /// ```
+    #[must_use]
     #[inline]
     pub const fn shift(&self) -> u32 {
         self.shift
@@ -110,6 +113,7 @@ impl<T: PlainWord> PreMulInv2by1<T> {
     ///
     /// assert_eq!(PreMulInv2by1::<u8>::new(10).divisor(), 160); // 10 * 2^4
     /// ```
+    #[must_use]
     #[inline]
     pub const fn divisor(&self) -> T {
         self.divider.divisor()

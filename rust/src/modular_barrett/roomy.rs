@@ -27,6 +27,7 @@ impl<T: PathWord> Copy for RoomyModulus<T> {}
 
 impl<T: PlainWord> RoomyModulus<T> {
     /// The modulus of a plan; `None` exactly where it is above a sixteenth of the base.
+    #[must_use]
     pub fn new(planned: &PlannedModulus<T>) -> Option<Self> {
         let greatest = T::one().shift_left(T::bits() - 4);
         if greatest.is_below(planned.modulus) {
@@ -38,12 +39,14 @@ impl<T: PlainWord> RoomyModulus<T> {
     }
 
     /// The residue of any word, below m, by its product with 1.
+    #[must_use]
     #[inline]
     pub fn residue(&self, x: T) -> T {
         self.planned.product(x, &self.unit)
     }
 
     /// The word 4m.
+    #[must_use]
     #[inline]
     pub fn fourfold(&self) -> T {
         let twice = self.planned.twice();
@@ -51,6 +54,7 @@ impl<T: PlainWord> RoomyModulus<T> {
     }
 
     /// The word 8m.
+    #[must_use]
     #[inline]
     pub fn eightfold(&self) -> T {
         let fourfold = self.fourfold();

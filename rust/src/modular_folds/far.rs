@@ -38,6 +38,7 @@ fn fold_above<V: FoldWord>(v: V, p: u32, by: u32, c: V, m: V) -> V {
 ///
 /// No build tests this: where it doesn't hold, the call panics or its result is unspecified.
 #[inline(always)]
+#[must_use]
 pub fn reduced_far<V: FoldWord>(v: V, p: u32, c: V, m: V) -> V {
     let half = fold_above(v, p, p / 2, c, m);
     let fourth = fold_above(half, p, p / 4, c, m);
@@ -56,6 +57,7 @@ pub fn reduced_far<V: FoldWord>(v: V, p: u32, c: V, m: V) -> V {
 /// - p is from 2 to the width of the words
 ///
 /// No build tests this: where it doesn't hold, the call panics or its result is unspecified.
+#[must_use]
 #[inline]
 pub fn has_few_folds<T: PathWord>(p: u32, c: T) -> bool {
     c.shift_right(p - 2 - p / 8).is_zero_word()

@@ -28,6 +28,7 @@ fn fold<V: FoldWord>(v: V, p: u32, mask: V, c: V) -> (V, u32) {
 /// - the mask is 2^p - 1, p is at least 1 and below the width of the words, and v is below 2^(2p)
 ///
 /// No build tests this: where it doesn't hold, the call panics or its result is unspecified.
+#[must_use]
 #[inline]
 pub fn fold_two<V: FoldWord>(v: V, p: u32, mask: V) -> (V, u32) {
     let (first, one) = fold(v, p, mask, V::one());
@@ -43,6 +44,7 @@ pub fn fold_two<V: FoldWord>(v: V, p: u32, mask: V) -> (V, u32) {
 /// - the mask is 2^p - 1, p is below the width of the words, c·(c + 1) is at most 2^p, and v is below 2^(2p)
 ///
 /// No build tests this: where it doesn't hold, the call panics or its result is unspecified.
+#[must_use]
 pub fn fold_three<V: FoldWord>(v: V, p: u32, mask: V, c: V) -> (V, u32) {
     let (first, one) = fold(v, p, mask, c);
     let (second, two) = fold(first, p, mask, c);
@@ -72,6 +74,7 @@ pub(crate) fn fold_on<V: FoldWord>(v: V, p: u32, mask: V, c: V, m: V) -> (V, u32
 /// - m is 2^p - c and more than half of 2^p, and p is at most the width of the words
 ///
 /// No build tests this: where it doesn't hold, the call panics or its result is unspecified.
+#[must_use]
 pub fn fold_all<V: FoldWord>(v: V, p: u32, c: V, m: V) -> (V, u32) {
     let mask = m.plus(c.minus(V::one()));
     if !mask.is_below(v) {
@@ -427,6 +430,7 @@ impl FoldedWord for u64 {
 /// - m is 2^p - c and more than half of 2^p, and p is at most the width of the words
 ///
 /// No build tests this: where it doesn't hold, the call panics or its result is unspecified.
+#[must_use]
 #[inline]
 pub fn reduce_by_folds<T: FoldedWord>(v: T::Double, p: u32, c: T, m: T) -> (T, u32) {
     let (rest, count) = T::fold_double(v, p, c, m);
@@ -454,6 +458,7 @@ fn reduce_longer_double<T: FoldedWord>(v: T::Double, p: u32, c: T, m: T) -> T {
 ///
 /// No build tests this: where it doesn't hold, the call panics or its result is unspecified.
 #[inline(always)]
+#[must_use]
 pub fn reduce_double_word<T: FoldedWord>(v: T::Double, p: u32, c: T, m: T) -> T {
     if c == T::one() {
         if T::is_short(v, p, m) {

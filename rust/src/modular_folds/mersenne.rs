@@ -56,6 +56,7 @@ impl<const P: u8, const K: u32> FoldRing<u32, Mersenne32<P, K>> {
     /// assert_eq!(FixedMersenne32::<8, 5>::fixed_modulus(), 251); // 2^8 - 5
     /// ```
     #[track_caller]
+    #[must_use]
     #[inline]
     pub const fn fixed_modulus() -> u32 {
         assert!(
@@ -79,6 +80,7 @@ impl<const P: u8, const K: u32> FoldRing<u32, Mersenne32<P, K>> {
     /// assert_eq!(FixedMersenne32::<31, 1>::reduce_double(1 << 40), 1 << 9);
     /// ```
     #[track_caller]
+    #[must_use]
     #[inline]
     pub fn reduce_double(v: u64) -> u32 {
         Self::reduce_counted(v).0
@@ -99,6 +101,7 @@ impl<const P: u8, const K: u32> FoldRing<u32, Mersenne32<P, K>> {
     /// assert_eq!(FixedMersenne32::<8, 5>::reduce_uncounted(1000), 247); // 1000 - 3 * 251
     /// ```
     #[track_caller]
+    #[must_use]
     #[inline]
     pub fn reduce_uncounted(v: u64) -> u32 {
         reduce_double_word(v, P as u32, K, Self::fixed_modulus())
@@ -120,6 +123,7 @@ impl<const P: u8, const K: u32> FoldRing<u32, Mersenne32<P, K>> {
     /// assert_eq!(FixedMersenne32::<8, 5>::reduce_counted(251), (0, 0));
     /// ```
     #[track_caller]
+    #[must_use]
     #[inline]
     pub fn reduce_counted(v: u64) -> (u32, u32) {
         reduce_by_folds::<u32>(v, P as u32, K, Self::fixed_modulus())
@@ -207,6 +211,7 @@ impl<const P: u8, const K: u64> FoldRing<u64, Mersenne64<P, K>> {
     /// assert_eq!(FixedMersenne64::<61, 1>::fixed_modulus(), (1 << 61) - 1);
     /// ```
     #[track_caller]
+    #[must_use]
     #[inline]
     pub const fn fixed_modulus() -> u64 {
         assert!(
@@ -230,6 +235,7 @@ impl<const P: u8, const K: u64> FoldRing<u64, Mersenne64<P, K>> {
     /// assert_eq!(FixedMersenne64::<61, 1>::reduce_double(1 << 100), 1 << 39);
     /// ```
     #[track_caller]
+    #[must_use]
     #[inline]
     pub fn reduce_double(v: u128) -> u64 {
         Self::reduce_counted(v).0
@@ -250,6 +256,7 @@ impl<const P: u8, const K: u64> FoldRing<u64, Mersenne64<P, K>> {
     /// assert_eq!(FixedMersenne64::<61, 1>::reduce_uncounted(1 << 100), 1 << 39);
     /// ```
     #[track_caller]
+    #[must_use]
     #[inline]
     pub fn reduce_uncounted(v: u128) -> u64 {
         reduce_double_word(v, P as u32, K, Self::fixed_modulus())
@@ -269,6 +276,7 @@ impl<const P: u8, const K: u64> FoldRing<u64, Mersenne64<P, K>> {
     /// assert_eq!(FixedMersenne64::<61, 1>::reduce_counted(1 << 100), (1 << 39, 1));
     /// ```
     #[track_caller]
+    #[must_use]
     #[inline]
     pub fn reduce_counted(v: u128) -> (u64, u32) {
         reduce_by_folds::<u64>(v, P as u32, K, Self::fixed_modulus())
@@ -340,6 +348,7 @@ impl<const P: u8, const K: u64> FixedMersenne<P, K> {
     /// assert_eq!(FixedMersenne::<61, 1>::fixed_modulus(), (1 << 61) - 1);
     /// ```
     #[track_caller]
+    #[must_use]
     #[inline]
     pub const fn fixed_modulus() -> u128 {
         FixedMersenne64::<P, K>::fixed_modulus() as u128
@@ -380,6 +389,7 @@ impl<const P: u8, const K: u64> FixedMersenne<P, K> {
     /// assert_eq!(FixedMersenne::<61, 1>::reduce_counted(1 << 100), (1 << 39, 1));
     /// ```
     #[track_caller]
+    #[must_use]
     #[inline]
     pub fn reduce_counted(v: u128) -> (u128, u32) {
         let (rest, count) = FixedMersenne64::<P, K>::reduce_counted(v);

@@ -48,6 +48,7 @@ fn is_by_words<T: PathWord>(p: u32, c: T) -> bool {
 ///
 /// No build tests this: where it doesn't hold, the call panics or its result is unspecified.
 #[inline(always)]
+#[must_use]
 pub fn reduce_product<T: FoldedWord>(a: T, b: T, p: u32, c: T, m: T) -> T {
     if p <= 32 && c == T::one() {
         T::reduce_by_one_fold(a.product(b), p, m)
@@ -134,6 +135,7 @@ fn reduced_folded<T: PathWord>(x: T, p: u32, c: T, m: T) -> T {
 ///
 /// No build tests this: where it doesn't hold, the call panics or its result is unspecified.
 #[inline(always)]
+#[must_use]
 pub fn reduce_word<T: FoldedWord>(v: T, p: u32, c: T, m: T) -> T {
     if is_once(p, c) {
         reduced_folded(fold_word(v, p, c), p, c, m)

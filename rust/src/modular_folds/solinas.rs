@@ -265,6 +265,7 @@ impl<T: TrinomialWord, F: Trinomial> FoldRing<T, TrinomialModulus<T, F>> {
     /// assert_eq!(FixedTrinomialSolinas64::<64, 32, 1>::fixed_modulus(), 0xffff_ffff_0000_0001);
     /// ```
     #[track_caller]
+    #[must_use]
     #[inline]
     pub fn fixed_modulus() -> T {
         assert!(
@@ -314,6 +315,7 @@ impl<T: TrinomialWord, F: Trinomial> FoldRing<T, TrinomialModulus<T, F>> {
     /// assert_eq!(Goldilocks::reduce_double(1 << 64), (1 << 32) - 1);
     /// ```
     #[track_caller]
+    #[must_use]
     #[inline]
     pub fn reduce_double(v: T::Double) -> T {
         Self::reduce_counted(v).0
@@ -336,6 +338,7 @@ impl<T: TrinomialWord, F: Trinomial> FoldRing<T, TrinomialModulus<T, F>> {
     /// assert_eq!(Goldilocks::reduce_uncounted(1 << 64), (1 << 32) - 1);
     /// ```
     #[track_caller]
+    #[must_use]
     #[inline]
     pub fn reduce_uncounted(v: T::Double) -> T {
         if is_low(F::p1(), F::p2(), F::k()) {
@@ -367,6 +370,7 @@ impl<T: TrinomialWord, F: Trinomial> FoldRing<T, TrinomialModulus<T, F>> {
     /// assert_eq!(Goldilocks::reduce_counted(1 << 64), ((1 << 32) - 1, 1));
     /// ```
     #[track_caller]
+    #[must_use]
     #[inline]
     pub fn reduce_counted(v: T::Double) -> (T, u32) {
         if is_low(F::p1(), F::p2(), F::k()) {

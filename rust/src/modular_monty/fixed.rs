@@ -57,6 +57,7 @@ impl<const P: u32> OddRing<u32, OddNumber32<P>> {
     /// assert_eq!(FixedMontgomery32::<97>::fixed_modulus(), 97);
     /// ```
     #[track_caller]
+    #[must_use]
     #[inline]
     pub const fn fixed_modulus() -> u32 {
         assert!(P % 2 == 1, "the parameter P must be odd");
@@ -158,6 +159,7 @@ impl<const P: u64> OddRing<u64, OddNumber64<P>> {
     /// assert_eq!(FixedMontgomery64::<97>::fixed_modulus(), 97);
     /// ```
     #[track_caller]
+    #[must_use]
     #[inline]
     pub const fn fixed_modulus() -> u64 {
         assert!(P % 2 == 1, "the parameter P must be odd");

@@ -60,6 +60,7 @@ impl<T: ReducerWord> Montgomery<T> {
     /// assert_eq!(ring.residue(ring.sqr(ring.transform(10))), 3); // 100 - 97
     /// ```
     #[track_caller]
+    #[must_use]
     #[inline]
     pub fn of(m: T) -> Self {
         assert!(!m.is_zero_word(), "the modulus must be at least 1");
@@ -78,6 +79,7 @@ impl<T: ReducerWord> Montgomery<T> {
     /// // 95 * 97 is -1 modulo 256, and 256^2 = 675 * 97 + 61
     /// assert_eq!(Montgomery::<u8>::new(97).computed_once(), (95, 61));
     /// ```
+    #[must_use]
     #[inline]
     pub fn computed_once(&self) -> (T, T) {
         (self.odd.kept.negated_inverse, self.odd.kept.square)
@@ -95,6 +97,7 @@ impl<T: ReducerWord> Montgomery<T> {
     /// assert_eq!(ring.modulus(), 97);
     /// assert!(Montgomery::<u8>::restored(97, 95, 62).is_none());
     /// ```
+    #[must_use]
     pub fn restored(m: T, negated_inverse: T, square: T) -> Option<Self> {
         if m.is_zero_word() {
             return None;

@@ -391,6 +391,7 @@ impl<T: PathWord> Copy for StoredModulus<T> {}
 impl<T: PathWord> StoredModulus<T> {
     /// What is stored of m, given the two numbers that were precomputed of it earlier; `None` exactly where m is
     /// even or one of the numbers is wrong. It makes no division.
+    #[must_use]
     #[inline]
     pub fn restored(m: T, negated_inverse: T, square: T) -> Option<StoredModulus<T>> {
         if m.is_odd() && is_negated_inverse(m, negated_inverse) && is_square_of_base(m, negated_inverse, square) {

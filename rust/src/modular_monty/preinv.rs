@@ -68,6 +68,7 @@ impl<T: PlainWord> PreModInv<T> {
     /// assert_eq!(92u8.div_exact(7, &seven), None);
     /// ```
     #[track_caller]
+    #[must_use]
     #[inline]
     pub fn from(d: T) -> Self {
         assert!(d.is_odd(), "the divisor must be odd");

@@ -47,6 +47,7 @@ impl<const N: u8, const K: u8> ProthNumber32<N, K> {
     }
 
     /// The product of x and the modulus, by a product with K and a shift.
+    #[must_use]
     #[inline]
     pub const fn shift_mul(&self, x: u32) -> u64 {
         ((x as u64 * K as u64) << N) + x as u64
@@ -86,6 +87,7 @@ impl<const N: u8, const K: u8> OddRing<u32, ProthNumber32<N, K>> {
     /// assert_eq!(FixedProth32::<5, 3>::fixed_modulus(), 97); // 3 * 2^5 + 1
     /// ```
     #[track_caller]
+    #[must_use]
     #[inline]
     pub const fn fixed_modulus() -> u32 {
         ProthNumber32::<N, K>::value()
@@ -106,6 +108,7 @@ impl<const N: u8, const K: u8> OddRing<u32, ProthNumber32<N, K>> {
     ///
     /// assert_eq!(FixedProth32::<5, 3>::RING.reduce(96 << 32), 96);
     /// ```
+    #[must_use]
     #[inline]
     pub fn reduce(&self, t: u64) -> u32 {
         self.kept.redc(t)
@@ -199,6 +202,7 @@ impl<const N: u8, const K: u8> ProthNumber64<N, K> {
     }
 
     /// The product of x and the modulus, by a product with K and a shift.
+    #[must_use]
     #[inline]
     pub const fn shift_mul(&self, x: u64) -> u128 {
         ((x as u128 * K as u128) << N) + x as u128
@@ -239,6 +243,7 @@ impl<const N: u8, const K: u8> OddRing<u64, ProthNumber64<N, K>> {
     /// assert_eq!(FixedProth64::<57, 29>::fixed_modulus(), (29 << 57) + 1);
     /// ```
     #[track_caller]
+    #[must_use]
     #[inline]
     pub const fn fixed_modulus() -> u64 {
         ProthNumber64::<N, K>::value()
@@ -259,6 +264,7 @@ impl<const N: u8, const K: u8> OddRing<u64, ProthNumber64<N, K>> {
     ///
     /// assert_eq!(FixedProth64::<57, 29>::RING.reduce(1000 << 64), 1000);
     /// ```
+    #[must_use]
     #[inline]
     pub fn reduce(&self, t: u128) -> u64 {
         self.kept.redc(t)

@@ -72,6 +72,7 @@ pub(crate) fn convolve_scaled<T: PlainWord, F: PlanEntry<T>>(
 /// assert!(convolves(4, 2, 1, 2)); // block 1 of four entries needs two factors with blocks of 2,
 /// assert!(!convolves(4, 2, 1, 1)); // and four with blocks of 1
 /// ```
+#[must_use]
 #[inline]
 pub const fn convolves(length: usize, factors: usize, b: usize, last: usize) -> bool {
     if last > 2 {

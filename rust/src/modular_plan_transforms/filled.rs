@@ -24,6 +24,7 @@ fn is_factor<T: PathWord>(m: T, w: &Factor<T>) -> bool {
 }
 
 /// Whether each entry is a factor below m with its quotient.
+#[must_use]
 #[inline]
 pub fn are_factors<T: PathWord, F: PlanEntry<T>>(m: T, table: &[F]) -> bool {
     for place in 0..table.len() {
@@ -58,6 +59,7 @@ fn are_powers<T: PlainWord, F: PlanEntry<T>>(m: &PlannedModulus<T>, g: T, table:
 /// - g suits n entries, n being twice the length of the table
 ///
 /// No build tests this: where it doesn't hold, the call panics or its result is unspecified.
+#[must_use]
 #[inline]
 pub fn is_table<T: PlainWord, F: PlanEntry<T>>(m: &PlannedModulus<T>, g: T, table: &[F]) -> bool {
     let bits = table.len().trailing_zeros();

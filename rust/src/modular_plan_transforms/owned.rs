@@ -71,6 +71,7 @@ impl<T: PlainWord, F: PlanEntry<T>, const N: usize> OwnedPlan<T, F, [F; N]> {
     /// let root = find_root(&Vanilla::<u64>::new(&17), 8).unwrap();
     /// assert!(OwnedPlan::<u64, Factor<u64>, [_; 4]>::new(&modulus, root).is_some());
     /// ```
+    #[must_use]
     pub fn new(m: &PlannedModulus<T>, g: T) -> Option<Self> {
         if !m.modulus.is_odd() {
             return None;
@@ -104,6 +105,7 @@ impl<T: PlainWord, F: PlanEntry<T>, S: AsRef<[F]>> OwnedPlan<T, F, S> {
     /// assert_eq!(owned.plan().length(), 4);
     /// assert!(OwnedPlan::with_table(&modulus, 4, [Factor::<u64>::ZERO; 2]).is_none());
     /// ```
+    #[must_use]
     #[inline]
     pub fn with_table(m: &PlannedModulus<T>, g: T, table: S) -> Option<Self> {
         let plan = Plan::with_table(m, g, table.as_ref())?;
@@ -123,6 +125,7 @@ impl<T: PlainWord, F: PlanEntry<T>, S: AsRef<[F]>> OwnedPlan<T, F, S> {
     /// owned.plan().transform(&mut entries);
     /// assert_eq!(entries[0], 1 + 2 + 3 + 4);
     /// ```
+    #[must_use]
     #[inline]
     pub fn plan(&self) -> Plan<'_, T, F> {
         Plan::over(&self.modulus, self.root, self.table.as_ref())

@@ -99,6 +99,7 @@ impl<'a, T: PlainWord, F: PlanEntry<T>> Plan<'a, T, F> {
     /// assert!(Plan::with_table(&modulus, 4, &table).is_some()); // 4^2 = 17 - 1
     /// assert!(Plan::with_table(&modulus, 13, &table).is_none()); // its table has 1 and 13
     /// ```
+    #[must_use]
     pub fn with_table(m: &PlannedModulus<T>, g: T, table: &'a [F]) -> Option<Self> {
         if !m.modulus.is_odd() {
             return None;
@@ -145,6 +146,7 @@ impl<'a, T: PlainWord, F: PlanEntry<T>> Plan<'a, T, F> {
     /// assert_eq!((shorter.bits(), shorter.root()), (2, 4));
     /// ```
     #[track_caller]
+    #[must_use]
     #[inline]
     pub fn shorter(&self, n: usize) -> Plan<'a, T, F> {
         assert!(self.has_shorter(n), "n must be a power of two, from 2 to the number of entries of this plan");
@@ -169,6 +171,7 @@ impl<'a, T: PlainWord, F: PlanEntry<T>> Plan<'a, T, F> {
     /// assert!(plan.has_shorter(4) && plan.has_shorter(8));
     /// assert!(!plan.has_shorter(1) && !plan.has_shorter(16));
     /// ```
+    #[must_use]
     #[inline]
     pub fn has_shorter(&self, n: usize) -> bool {
         if !n.is_power_of_two() {
@@ -191,6 +194,7 @@ impl<'a, T: PlainWord, F: PlanEntry<T>> Plan<'a, T, F> {
     /// let plan = Plan::new(&PlannedModulus::<u64>::new(17), 4, &mut table).unwrap();
     /// assert_eq!(plan.modulus().modulus(), 17);
     /// ```
+    #[must_use]
     #[inline]
     pub fn modulus(&self) -> PlannedModulus<T> {
         self.modulus
@@ -207,6 +211,7 @@ impl<'a, T: PlainWord, F: PlanEntry<T>> Plan<'a, T, F> {
     /// let plan = Plan::new(&PlannedModulus::<u64>::new(17), 4, &mut table).unwrap();
     /// assert_eq!(plan.root(), 4);
     /// ```
+    #[must_use]
     #[inline]
     pub fn root(&self) -> T {
         self.root
@@ -224,6 +229,7 @@ impl<'a, T: PlainWord, F: PlanEntry<T>> Plan<'a, T, F> {
     /// let plan = Plan::new(&PlannedModulus::<u64>::new(17), 4, &mut table).unwrap();
     /// assert_eq!(plan.length(), 4);
     /// ```
+    #[must_use]
     #[inline]
     pub fn length(&self) -> usize {
         self.table.len().saturating_mul(2)
@@ -240,6 +246,7 @@ impl<'a, T: PlainWord, F: PlanEntry<T>> Plan<'a, T, F> {
     /// let plan = Plan::new(&PlannedModulus::<u64>::new(17), 4, &mut table).unwrap();
     /// assert_eq!(plan.bits(), 2); // four entries
     /// ```
+    #[must_use]
     #[inline]
     pub fn bits(&self) -> u32 {
         self.bits
@@ -257,6 +264,7 @@ impl<'a, T: PlainWord, F: PlanEntry<T>> Plan<'a, T, F> {
     /// assert!(plan.fits(4));
     /// assert!(!plan.fits(8));
     /// ```
+    #[must_use]
     #[inline]
     pub fn fits(&self, entries: usize) -> bool {
         entries / 2 == self.table.len() && entries % 2 == 0
@@ -275,6 +283,7 @@ impl<'a, T: PlainWord, F: PlanEntry<T>> Plan<'a, T, F> {
     /// assert!(plan.splits(4, 0, 1));
     /// assert!(!plan.splits(8, 0, 1));
     /// ```
+    #[must_use]
     #[inline]
     pub fn splits(&self, entries: usize, b: usize, last: usize) -> bool {
         splits(entries, self.table.len(), b, last)
@@ -293,6 +302,7 @@ impl<'a, T: PlainWord, F: PlanEntry<T>> Plan<'a, T, F> {
     /// assert!(plan.convolves(4, 1, 2));
     /// assert!(!plan.convolves(4, 1, 1));
     /// ```
+    #[must_use]
     #[inline]
     pub fn convolves(&self, entries: usize, b: usize, last: usize) -> bool {
         convolves(entries, self.table.len(), b, last)

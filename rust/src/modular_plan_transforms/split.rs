@@ -28,6 +28,7 @@ fn reduce_each<T: PlainWord, M: SplitSteps<T>>(m: &M, xs: &mut [T]) {
 /// assert!(splits(4, 2, 0, 1)); // two factors suffice for four entries
 /// assert!(!splits(8, 2, 0, 1));
 /// ```
+#[must_use]
 #[inline]
 pub const fn splits(length: usize, factors: usize, b: usize, last: usize) -> bool {
     if last == 0 {

@@ -62,6 +62,7 @@ pub(crate) fn inverse_of_power<T: PlainWord>(m: &PlannedModulus<T>, bits: u32) -
 /// - the number is a power of two
 ///
 /// No build tests this: where it doesn't hold, the call panics or its result is unspecified.
+#[must_use]
 #[inline]
 pub fn inverse_of_count<T: PlainWord>(m: &PlannedModulus<T>, count: usize) -> Option<Factor<T>> {
     if m.modulus.is_odd() {

@@ -12,6 +12,7 @@ use crate::modular_prim::residues::reduced;
 ///
 /// Panics unless m is at least 1.
 #[cfg_attr(debug_assertions, track_caller)]
+#[must_use]
 #[inline]
 pub fn signed_residue<T: PlainWord>(negative: bool, magnitude: T, m: T) -> T {
     let rest = reduced(magnitude, m);

@@ -11,6 +11,7 @@ use crate::modular_word::path_word::PathWord;
 /// - the word is below 2m
 ///
 /// No build tests this: where it doesn't hold, the call panics or its result is unspecified.
+#[must_use]
 #[inline]
 pub fn reduced_once<T: PathWord>(x: T, m: T) -> T {
     // Reading the word gives the proof that it fits its width.
@@ -30,6 +31,7 @@ pub fn reduced_once<T: PathWord>(x: T, m: T) -> T {
 /// - b is at most m, and the sum below 2m
 ///
 /// No build tests this: where it doesn't hold, the call panics or its result is unspecified.
+#[must_use]
 #[inline]
 pub fn sum_once<T: PathWord>(a: T, b: T, m: T) -> T {
     let gap = m.minus(b);
@@ -48,6 +50,7 @@ pub fn sum_once<T: PathWord>(a: T, b: T, m: T) -> T {
 /// - a and b are below m
 ///
 /// No build tests this: where it doesn't hold, the call panics or its result is unspecified.
+#[must_use]
 #[inline]
 pub fn add_below<T: PathWord>(a: T, b: T, m: T) -> T {
     if T::bits() <= 16 {
@@ -93,6 +96,7 @@ fn sum_by_comparison<T: PathWord>(a: T, b: T, m: T) -> T {
 ///
 /// No build tests this: where it doesn't hold, the call panics or its result is unspecified.
 #[inline(always)]
+#[must_use]
 pub fn sub_below<T: PathWord>(a: T, b: T, m: T) -> T {
     // This test, which depends on m alone, makes LLVM load m before it compares a and b. Otherwise it branches on a and b
     // around the load.
@@ -136,6 +140,7 @@ fn summed_difference<T: PathWord>(a: T, b: T, m: T) -> T {
 /// - a and b are below m
 ///
 /// No build tests this: where it doesn't hold, the call panics or its result is unspecified.
+#[must_use]
 #[inline]
 pub fn branchless_sub_below<T: PathWord>(a: T, b: T, m: T) -> T {
     a.minus_modulo(b, m)
@@ -149,6 +154,7 @@ pub fn branchless_sub_below<T: PathWord>(a: T, b: T, m: T) -> T {
 /// - a is below m
 ///
 /// No build tests this: where it doesn't hold, the call panics or its result is unspecified.
+#[must_use]
 #[inline]
 pub fn dbl_below_stored<T: PathWord>(a: T, m: T) -> T {
     if T::bits() == 8 {
@@ -167,6 +173,7 @@ pub fn dbl_below_stored<T: PathWord>(a: T, m: T) -> T {
 /// - a is below m
 ///
 /// No build tests this: where it doesn't hold, the call panics or its result is unspecified.
+#[must_use]
 #[inline]
 pub fn dbl_below<T: PathWord>(a: T, m: T) -> T {
     // Reading the word gives the proof that it fits its width.
@@ -202,6 +209,7 @@ fn doubled_once<T: PathWord>(a: T, m: T) -> T {
 /// - a is below m
 ///
 /// No build tests this: where it doesn't hold, the call panics or its result is unspecified.
+#[must_use]
 #[inline]
 pub fn neg_below<T: PathWord>(a: T, m: T) -> T {
     // As in `sub_below`.

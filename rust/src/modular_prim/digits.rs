@@ -73,6 +73,7 @@ fn has_two_digits<T: PathWord>(a: T, d: T) -> bool {
 /// - d is at least 1
 ///
 /// No build tests this: where it doesn't hold, the call panics or its result is unspecified.
+#[must_use]
 #[inline]
 pub fn division<T: PlainWord>(a: T, d: T) -> (T, T) {
     if has_two_digits(a, d) {
@@ -121,6 +122,7 @@ fn has_four_digits<T: PathWord>(a: T, d: T) -> bool {
 /// - d is at least 1
 ///
 /// No build tests this: where it doesn't hold, the call panics or its result is unspecified.
+#[must_use]
 #[inline]
 pub fn rest<T: PlainWord>(a: T, d: T) -> T {
     if has_short_quotient(a, d) {

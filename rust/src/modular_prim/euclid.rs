@@ -22,6 +22,7 @@ fn step<T: PlainWord>(last_r: T, r: T, last_t: T, t: T) -> (T, T) {
 ///
 /// Panics unless m is at least 1.
 #[cfg_attr(debug_assertions, track_caller)]
+#[must_use]
 #[inline]
 pub fn invm<T: PlainWord>(a: T, m: T) -> Option<T> {
     invm_counted(a, m).0
@@ -38,6 +39,7 @@ pub fn invm<T: PlainWord>(a: T, m: T) -> Option<T> {
 ///
 /// Panics unless m is at least 1.
 #[cfg_attr(debug_assertions, track_caller)]
+#[must_use]
 pub fn invm_counted<T: PlainWord>(a: T, m: T) -> (Option<T>, u32) {
     let mut last_r = m;
     let mut r = a;

@@ -109,6 +109,7 @@ pub fn assign_exact<N: DivExact<Rhs, Precompute, Output = N> + Copy, Rhs, Precom
 ///
 /// Panics unless the divisor is at least 1.
 #[cfg_attr(debug_assertions, track_caller)]
+#[must_use]
 #[inline]
 pub fn exact_quotient<T: PlainWord>(n: T, d: T) -> Option<T> {
     assert!(!d.is_zero_word(), "the divisor must be at least 1");

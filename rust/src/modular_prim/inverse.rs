@@ -113,6 +113,7 @@ fn inverse_below<T: PathWord>(x: T, m: T) -> Option<T> {
 /// assert_eq!(inverse(6u64, 9), None); // 3 divides both
 /// ```
 #[cfg_attr(debug_assertions, track_caller)]
+#[must_use]
 #[inline]
 pub fn inverse_by_subtraction<T: PlainWord>(a: T, m: T) -> Option<T> {
     debug_assert!(m.is_odd(), "m must be odd");
@@ -128,6 +129,7 @@ pub fn inverse_by_subtraction<T: PlainWord>(a: T, m: T) -> Option<T> {
 /// - m is at least 1
 ///
 /// No build tests this: where it doesn't hold, the call panics or its result is unspecified.
+#[must_use]
 #[inline]
 pub fn fast_inverse<T: PlainWord>(a: T, m: T) -> Option<T> {
     if m.is_odd() {

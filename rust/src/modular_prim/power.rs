@@ -17,6 +17,7 @@ use crate::modular_word::paths::{div_2by1, neginv, redc, two};
 /// # Panics
 ///
 /// Panics unless m is at least 1.
+#[must_use]
 pub fn powm<T: PlainWord>(base: T, exp: T, m: T) -> T {
     let one = T::one();
     if two::<T>().is_below(exp) {
@@ -140,6 +141,7 @@ fn power_or_zero<T: PlainWord>(base: T, exp: T, m: T) -> T {
 /// assert_eq!(powm_u32(2, 10, 1000), 24); // 1024 modulo 1000
 /// assert_eq!(powm_u32(2, 10, 0), 0);
 /// ```
+#[must_use]
 #[inline]
 pub fn powm_u32(base: u32, exp: u32, m: u32) -> u32 {
     power_or_zero(base, exp, m)
@@ -155,6 +157,7 @@ pub fn powm_u32(base: u32, exp: u32, m: u32) -> u32 {
 /// assert_eq!(powm_u64(3, 100, 101), 1); // Fermat's little theorem
 /// assert_eq!(powm_u64(3, 100, 0), 0);
 /// ```
+#[must_use]
 #[inline]
 pub fn powm_u64(base: u64, exp: u64, m: u64) -> u64 {
     power_or_zero(base, exp, m)

@@ -15,6 +15,7 @@ use crate::modular_word::paths::ones;
 /// No build tests this: where it doesn't hold, the call panics or its result is unspecified.
 // Not inlined: compilers would lose that the high word of the quotient is 0, and multiply by it too.
 #[inline(never)]
+#[must_use]
 pub fn invert_word<T: PlainWord>(d: T) -> T {
     let greatest = ones::<T>(T::bits());
     // Taking d·B from the dividend takes B from the quotient and keeps its low word. The quotient then fits a word,

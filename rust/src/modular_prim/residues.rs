@@ -18,6 +18,7 @@ fn spares_division<T: PathWord>(a: T, m: T) -> bool {
 ///
 /// Panics unless m is at least 1.
 #[cfg_attr(debug_assertions, track_caller)]
+#[must_use]
 #[inline]
 pub fn reduced<T: PlainWord>(a: T, m: T) -> T {
     if spares_division(a, m) {
@@ -70,6 +71,7 @@ fn congruent_sum<T: PathWord>(a: T, b: T, m: T) -> T {
 ///
 /// Panics unless m is at least 1.
 #[cfg_attr(debug_assertions, track_caller)]
+#[must_use]
 pub fn addm<T: PlainWord>(a: T, b: T, m: T) -> T {
     if spares_division(a, m) & spares_division(b, m) {
         add_below(a, b, m)
@@ -89,6 +91,7 @@ pub fn addm<T: PlainWord>(a: T, b: T, m: T) -> T {
 ///
 /// Panics unless m is at least 1.
 #[cfg_attr(debug_assertions, track_caller)]
+#[must_use]
 pub fn subm<T: PlainWord>(a: T, b: T, m: T) -> T {
     let apart = distance(a, b);
     if spares_division(apart, m) {
@@ -113,6 +116,7 @@ pub fn subm<T: PlainWord>(a: T, b: T, m: T) -> T {
 ///
 /// Panics unless m is at least 1.
 #[cfg_attr(debug_assertions, track_caller)]
+#[must_use]
 #[inline]
 pub fn mulm<T: PlainWord>(a: T, b: T, m: T) -> T {
     T::narrow_remainder(a.product(b), m)
@@ -124,6 +128,7 @@ pub fn mulm<T: PlainWord>(a: T, b: T, m: T) -> T {
 ///
 /// Panics unless m is at least 1.
 #[cfg_attr(debug_assertions, track_caller)]
+#[must_use]
 #[inline]
 pub fn negm<T: PlainWord>(a: T, m: T) -> T {
     neg_below(reduced(a, m), m)
@@ -135,6 +140,7 @@ pub fn negm<T: PlainWord>(a: T, m: T) -> T {
 ///
 /// Panics unless m is at least 1.
 #[cfg_attr(debug_assertions, track_caller)]
+#[must_use]
 #[inline]
 pub fn dblm<T: PlainWord>(a: T, m: T) -> T {
     if T::bits() <= 16 {
@@ -150,6 +156,7 @@ pub fn dblm<T: PlainWord>(a: T, m: T) -> T {
 ///
 /// Panics unless m is at least 1.
 #[cfg_attr(debug_assertions, track_caller)]
+#[must_use]
 #[inline]
 pub fn sqm<T: PlainWord>(a: T, m: T) -> T {
     mulm(a, a, m)

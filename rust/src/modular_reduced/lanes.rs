@@ -12,6 +12,7 @@ use crate::modular_word::path_word::PathWord;
 /// - the word is below 2m, which is at most the base
 ///
 /// No build tests this: where it doesn't hold, the call panics or its result is unspecified.
+#[must_use]
 #[inline]
 pub fn reduced_by_sign<T: PathWord>(x: T, m: T) -> T {
     let less = x.wrapping_sub(m);
@@ -29,6 +30,7 @@ pub fn reduced_by_sign<T: PathWord>(x: T, m: T) -> T {
 /// - a and b are below m, and 2m is at most the base
 ///
 /// No build tests this: where it doesn't hold, the call panics or its result is unspecified.
+#[must_use]
 #[inline]
 pub fn sum_by_sign<T: PathWord>(a: T, b: T, m: T) -> T {
     reduced_by_sign(a.plus(b), m)
@@ -41,6 +43,7 @@ pub fn sum_by_sign<T: PathWord>(a: T, b: T, m: T) -> T {
 /// - a and b are below m, and 2m is at most the base
 ///
 /// No build tests this: where it doesn't hold, the call panics or its result is unspecified.
+#[must_use]
 #[inline]
 pub fn difference_by_sign<T: PathWord>(a: T, b: T, m: T) -> T {
     let less = a.wrapping_sub(b);

@@ -47,6 +47,7 @@ fn binary_power<T: RingWord, R: Reducer<T>>(reducer: &R, base: T, exp: T) -> (T,
 /// // 3^5 = 243 = 2 * 97 + 49; 5 has three binary digits, two of which are 1
 /// assert_eq!(pow_counted(&ring, 3, &5), (49, 3 + 2));
 /// ```
+#[must_use]
 pub fn pow_counted<T: RingWord, R: Reducer<T>>(reducer: &R, base: T, exp: &T) -> (T, u32) {
     if *exp == T::one() {
         return (base, 0);

@@ -28,6 +28,7 @@ pub type Hash = ReducedInt<u64, FixedMersenne64<61, 1>>;
 ///
 /// assert_eq!(base(1 << 61).residue(), 1);
 /// ```
+#[must_use]
 #[inline]
 pub fn base(n: u64) -> Hash {
     Hash::new(n, &FixedMersenne64::<61, 1>::fixed_modulus())
@@ -47,6 +48,7 @@ pub fn base(n: u64) -> Hash {
 ///
 /// assert_eq!(hash(base(1000), &[1, 2, 3]).residue(), 1_002_003);
 /// ```
+#[must_use]
 #[inline]
 pub fn hash(base: Hash, text: &[u8]) -> Hash {
     let mut value = base.convert(0);
@@ -71,6 +73,7 @@ pub fn hash(base: Hash, text: &[u8]) -> Hash {
 /// let window = hash(base, &[1, 2, 3]);
 /// assert_eq!(roll(base, base.pow(&3), window, 1, 4), hash(base, &[2, 3, 4]));
 /// ```
+#[must_use]
 #[inline]
 pub fn roll(base: Hash, power: Hash, window: Hash, first: u8, next: u8) -> Hash {
     let longer = window * base + next as u64;
@@ -102,6 +105,7 @@ pub fn roll(base: Hash, power: Hash, window: Hash, first: u8, next: u8) -> Hash 
 /// assert!(!is_hit(wanted, hash(base, b"aca"), b"abracadabra", b"cad", 3));
 /// ```
 #[cfg_attr(debug_assertions, track_caller)]
+#[must_use]
 #[inline]
 pub fn is_hit(wanted: Hash, window: Hash, text: &[u8], pattern: &[u8], at: usize) -> bool {
     debug_assert!(
@@ -135,6 +139,7 @@ pub fn is_hit(wanted: Hash, window: Hash, text: &[u8], pattern: &[u8], at: usize
 /// assert_eq!(find(base, b"abracadabra", b"cad"), Some(4));
 /// assert_eq!(find(base, b"abracadabra", b"cab"), None);
 /// ```
+#[must_use]
 pub fn find(base: Hash, text: &[u8], pattern: &[u8]) -> Option<usize> {
     let length = pattern.len();
     if length > text.len() {

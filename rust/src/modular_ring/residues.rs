@@ -25,6 +25,7 @@ fn next_range(range: u128, m: u64) -> Option<u128> {
 /// assert!(is_system(&[3, 5, 7]));
 /// assert!(!is_system(&[4, 6])); // 2 divides both
 /// ```
+#[must_use]
 #[inline]
 pub fn is_system(moduli: &[u64]) -> bool {
     let mut range: u128 = 1;
@@ -101,6 +102,7 @@ pub fn encode(moduli: &[u64], number: u128, residues: &mut [u64]) {
 /// assert!(!are_reduced(&[3, 5, 7], &[3, 3, 2]));
 /// ```
 #[track_caller]
+#[must_use]
 #[inline]
 pub fn are_reduced(moduli: &[u64], residues: &[u64]) -> bool {
     assert!(
@@ -137,6 +139,7 @@ pub fn are_reduced(moduli: &[u64], residues: &[u64]) -> bool {
 /// assert_eq!(decode(&[3, 5, 7], &[2, 3, 2]), 23); // Sunzi's example
 /// ```
 #[track_caller]
+#[must_use]
 pub fn decode(moduli: &[u64], residues: &[u64]) -> u128 {
     assert!(
         crate::additions::may_be_system(moduli),

@@ -219,6 +219,7 @@ fn command_fits<T: RingWord>(command: &RingCommand<T>, len: usize) -> bool {
 /// assert!(commands_fit(&commands, 3));
 /// assert!(!commands_fit(&commands, 2));
 /// ```
+#[must_use]
 #[inline]
 pub fn commands_fit<T: RingWord, C: AsCommand<T>>(commands: &[C], len: usize) -> bool {
     commands.iter().all(|command| command_fits(&command.command(), len))
@@ -236,6 +237,7 @@ pub fn commands_fit<T: RingWord, C: AsCommand<T>>(commands: &[C], len: usize) ->
 /// assert!(all_checked(&ring, &[0, 96]));
 /// assert!(!all_checked(&ring, &[0, 97]));
 /// ```
+#[must_use]
 #[inline]
 pub fn all_checked<T: RingWord, R: Reducer<T>>(r: &R, regs: &[T]) -> bool {
     regs.iter().all(|form| r.check(form))

@@ -27,6 +27,7 @@ use crate::modular_secret::secret_word::{chosen, odd_mask, SecretWord};
 /// assert_eq!(pow_secret_counted(&ring, 3, &0, 4), (1, 8));
 /// ```
 #[track_caller]
+#[must_use]
 pub fn pow_secret_counted<T: SecretWord, R: Reducer<T>>(reducer: &R, base: T, exp: &T, bits: u32) -> (T, u32) {
     assert!(bits <= T::bits(), "`bits` must be at most {}: {bits}", T::bits());
     debug_assert!(reducer.check(&base), "the base must be a checked form");
@@ -74,6 +75,7 @@ pub fn pow_secret_counted<T: SecretWord, R: Reducer<T>>(reducer: &R, base: T, ex
 /// assert_eq!(power, ring.pow(ring.transform(2), &secret));
 /// ```
 #[track_caller]
+#[must_use]
 #[inline]
 pub fn pow_secret<T: SecretWord, R: Reducer<T>>(reducer: &R, base: T, exp: &T, bits: u32) -> T {
     pow_secret_counted(reducer, base, exp, bits).0
@@ -103,6 +105,7 @@ pub fn pow_secret<T: SecretWord, R: Reducer<T>>(reducer: &R, base: T, exp: &T, b
 /// assert_eq!(inv_secret(&ring, secret), ring.inv(secret));
 /// ```
 #[track_caller]
+#[must_use]
 #[inline]
 pub fn inv_secret<T: SecretWord, R: Reducer<T>>(reducer: &R, f: T) -> Option<T> {
     debug_assert!(reducer.check(&f), "`f` must be a checked form");

@@ -84,6 +84,7 @@ fn divided_by_twos<T: SecretWord>(v: T, m: T) -> T {
 /// assert_eq!(invm_secret_counted(6u64, &9), (None, 127)); // 3 divides both
 /// ```
 #[track_caller]
+#[must_use]
 pub fn invm_secret_counted<T: SecretWord>(a: T, m: &T) -> (Option<T>, u32) {
     assert!(m.is_odd(), "m must be odd");
     let (pair, count) = last_pair(a, *m);
@@ -120,6 +121,7 @@ pub fn invm_secret_counted<T: SecretWord>(a: T, m: &T) -> (Option<T>, u32) {
 /// assert_eq!(invm_secret(6u64, &9), None); // 3 divides both
 /// ```
 #[track_caller]
+#[must_use]
 #[inline]
 pub fn invm_secret<T: SecretWord>(a: T, m: &T) -> Option<T> {
     invm_secret_counted(a, m).0

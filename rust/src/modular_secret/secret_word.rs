@@ -148,12 +148,14 @@ impl SecretWord for usize {
 }
 
 /// The mask that has all bits set where the word is odd.
+#[must_use]
 #[inline]
 pub fn odd_mask<T: SecretWord>(x: T) -> T {
     T::zero().wrapping_sub(x.low_bits(1))
 }
 
 /// The second word where the mask has all bits set; the first where it has none.
+#[must_use]
 #[inline]
 pub fn chosen<T: SecretWord>(first: T, second: T, mask: T) -> T {
     // Reading the words gives the proof that they fit their width.

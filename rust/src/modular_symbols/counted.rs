@@ -13,6 +13,7 @@ pub mod wsize;
 
 /// The Jacobi symbol over n of a number, given by its sign and its magnitude, and the number of halvings and swaps, counted
 /// from its residue; `None` exactly for an even n.
+#[must_use]
 #[inline]
 pub fn checked_jacobi_counted<T: PlainWord>(a_minus: bool, a: T, n: T) -> Option<(i8, u32)> {
     if n.is_odd() {

@@ -74,6 +74,7 @@ fn halve_and_swap<T: PlainWord>(a: T, n: T) -> (i8, u32) {
 /// - n is odd
 ///
 /// No build tests this: where it doesn't hold, the call panics or its result is unspecified.
+#[must_use]
 #[inline]
 pub fn jacobi_by_halving<T: PlainWord>(a_minus: bool, a: T, n: T) -> i8 {
     jacobi_counted(a_minus, a, n).0
@@ -92,6 +93,7 @@ pub fn jacobi_by_halving<T: PlainWord>(a_minus: bool, a: T, n: T) -> i8 {
 /// - n is odd
 ///
 /// No build tests this: where it doesn't hold, the call panics or its result is unspecified.
+#[must_use]
 #[inline]
 pub fn jacobi_counted<T: PlainWord>(a_minus: bool, a: T, n: T) -> (i8, u32) {
     halve_and_swap(signed_residue(a_minus, a, n), n)

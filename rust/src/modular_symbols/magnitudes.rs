@@ -15,6 +15,7 @@ use crate::modular_symbols::turns::is_minus_over_two;
 /// - n is odd
 ///
 /// No build tests this: where it doesn't hold, the call panics or its result is unspecified.
+#[must_use]
 #[inline]
 pub fn jacobi_symbol<T: PlainWord>(a_minus: bool, a: T, n: T) -> i8 {
     jacobi_by_halving(a_minus, a, n)
@@ -27,6 +28,7 @@ pub fn jacobi_symbol<T: PlainWord>(a_minus: bool, a: T, n: T) -> i8 {
 /// - a negative n has a magnitude of at least 1
 ///
 /// No build tests this: where it doesn't hold, the call panics or its result is unspecified.
+#[must_use]
 #[inline]
 pub fn checked_jacobi<T: PlainWord>(a_minus: bool, a: T, n_minus: bool, n: T) -> Option<i8> {
     if n_minus {
@@ -46,6 +48,7 @@ pub fn checked_jacobi<T: PlainWord>(a_minus: bool, a: T, n_minus: bool, n: T) ->
 /// - a negative n has a magnitude of at least 1
 ///
 /// No build tests this: where it doesn't hold, the call panics or its result is unspecified.
+#[must_use]
 #[inline]
 pub fn checked_legendre<T: PlainWord>(a_minus: bool, a: T, n_minus: bool, n: T) -> Option<i8> {
     class_of_power(a_minus, a, n_minus, n)
@@ -102,6 +105,7 @@ fn symbol_above<T: PlainWord>(a_minus: bool, a: T, n: T) -> i8 {
 /// - a negative number has a magnitude of at least 1
 ///
 /// No build tests this: where it doesn't hold, the call panics or its result is unspecified.
+#[must_use]
 #[inline]
 pub fn kronecker_symbol<T: PlainWord>(a_minus: bool, a: T, n_minus: bool, n: T) -> i8 {
     if n.is_zero_word() {

@@ -68,6 +68,7 @@ fn subtract_and_halve<T: LowPart>(a: T, n: T) -> i8 {
 /// assert_eq!(jacobi(true, 1u64, 7), -1); // of -1 over 7
 /// ```
 #[cfg_attr(debug_assertions, track_caller)]
+#[must_use]
 #[inline]
 pub fn jacobi_by_subtraction<T: LowPart>(a_minus: bool, a: T, n: T) -> i8 {
     debug_assert!(n.is_odd(), "n must be odd");

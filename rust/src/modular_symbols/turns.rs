@@ -17,6 +17,7 @@ fn leaves_3<T: PlainWord>(n: T) -> bool {
 /// - n is odd
 ///
 /// No build tests this: where it doesn't hold, the call panics or its result is unspecified.
+#[must_use]
 #[inline]
 pub fn is_minus_over_two<T: PlainWord>(n: T) -> bool {
     n.half().plus(T::one()).half().is_odd()

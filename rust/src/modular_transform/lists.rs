@@ -216,6 +216,7 @@ pub fn scale_list<T: RingWord, R: Reducer<T>>(r: &R, xs: &mut [T], factor: &T) {
 /// assert_eq!(dot_product(&ring, &[90, 2], &[10, 3]), 33); // 900 + 6 - 9 * 97
 /// ```
 #[track_caller]
+#[must_use]
 #[inline]
 pub fn dot_product<T: RingWord, R: Reducer<T>>(r: &R, xs: &[T], ys: &[T]) -> T {
     assert!(ys.len() == xs.len(), "the lists must have the same length: {} and {}", xs.len(), ys.len());

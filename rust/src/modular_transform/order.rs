@@ -71,6 +71,7 @@ fn reverse_by_tiles<T: Copy>(entries: &mut [T], bits: u32) {
 /// - `bits` is at most 63
 ///
 /// No build tests this: where it doesn't hold, the call panics or its result is unspecified.
+#[must_use]
 #[inline]
 pub fn next_reversed(last: usize, place: usize, bits: u32) -> usize {
     if place == 0 {

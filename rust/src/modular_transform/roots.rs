@@ -32,6 +32,7 @@ fn exponent<T: RingWord, R: Reducer<T>>(r: &R, n: usize) -> T {
 /// assert_eq!(find_root(&ring, 8), Some(9)); // 3^2, and 9^4 = 386 * 17 - 1
 /// assert_eq!(find_root(&ring, 32), None);
 /// ```
+#[must_use]
 pub fn find_root<T: RingWord, R: Reducer<T>>(r: &R, n: usize) -> Option<T> {
     if !n.is_power_of_two() {
         return None;

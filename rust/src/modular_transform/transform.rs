@@ -26,6 +26,7 @@ use crate::modular_word::ring_word::RingWord;
 /// assert!(root_fits(&ring, &22, 4)); // 22^2 = 5 * 97 - 1
 /// assert!(!root_fits(&ring, &22, 8));
 /// ```
+#[must_use]
 pub fn root_fits<T: RingWord, R: Reducer<T>>(r: &R, g: &T, n: usize) -> bool {
     if !n.is_power_of_two() {
         return false;

@@ -11,6 +11,7 @@ use crate::modular_word::path_word::PathWord;
 /// - n is at most the width
 ///
 /// No build tests this: where it doesn't hold, the call panics or its result is unspecified.
+#[must_use]
 #[inline]
 pub fn ones<T: PathWord>(n: u32) -> T {
     if n == 0 {
@@ -21,6 +22,7 @@ pub fn ones<T: PathWord>(n: u32) -> T {
 }
 
 /// The word 2.
+#[must_use]
 #[inline]
 pub fn two<T: PathWord>() -> T {
     T::one().plus(T::one())
@@ -36,6 +38,7 @@ pub fn two<T: PathWord>() -> T {
 /// - the high word of the dividend is below d
 ///
 /// No build tests this: where it doesn't hold, the call panics or its result is unspecified.
+#[must_use]
 pub fn div_2by1<T: PathWord>(d: T, reciprocal: T, a: T::Double) -> (T, T) {
     let (low, high) = T::split(a);
     let (q0, q1) = T::split(T::double_plus(reciprocal.product(high), a));
@@ -74,6 +77,7 @@ fn quotient_1by1<T: PathWord>(d: T, multiplier: T, shift: u32, a: T) -> T {
 /// - `multiplier` and `shift` are those of d
 ///
 /// No build tests this: where it doesn't hold, the call panics or its result is unspecified.
+#[must_use]
 #[inline]
 pub fn div_1by1<T: PathWord>(d: T, multiplier: T, shift: u32, a: T) -> (T, T) {
     let q = quotient_1by1(d, multiplier, shift, a);
@@ -91,6 +95,7 @@ pub fn div_1by1<T: PathWord>(d: T, multiplier: T, shift: u32, a: T) -> (T, T) {
 /// - `inverse` is the inverse of d modulo the base, and `limit` the greatest quotient of a word by d
 ///
 /// No build tests this: where it doesn't hold, the call panics or its result is unspecified.
+#[must_use]
 #[inline]
 pub fn exact_1<T: PathWord>(d: T, inverse: T, limit: T, n: T) -> Option<T> {
     let _ = d;
@@ -112,6 +117,7 @@ pub fn exact_1<T: PathWord>(d: T, inverse: T, limit: T, n: T) -> Option<T> {
 /// - the conditions of `exact_1` hold
 ///
 /// No build tests this: where it doesn't hold, the call panics or its result is unspecified.
+#[must_use]
 pub fn exact_2<T: PathWord>(d: T, inverse: T, limit: T, n: T::Double) -> Option<T::Double> {
     let (n0, n1) = T::split(n);
     let q0 = n0.wrapping_mul(inverse);
@@ -143,6 +149,7 @@ pub fn exact_2<T: PathWord>(d: T, inverse: T, limit: T, n: T::Double) -> Option<
 /// assert_eq!(neginv(3u8), 85); // 3 * 85 = 255
 /// ```
 #[cfg_attr(debug_assertions, track_caller)]
+#[must_use]
 pub fn neginv<T: PathWord>(m: T) -> T {
     debug_assert!(m.is_odd(), "m must be odd");
     let two = two::<T>();
@@ -162,6 +169,7 @@ pub fn neginv<T: PathWord>(m: T) -> T {
 /// - m times `negated_inverse` is -1 modulo the base
 ///
 /// No build tests this: where it doesn't hold, the call panics or its result is unspecified.
+#[must_use]
 #[inline]
 pub fn clearing<T: PathWord>(m: T, negated_inverse: T, t: T::Double) -> T {
     let _ = m;
@@ -210,6 +218,7 @@ fn high_sum_by_double_words<T: PathWord>(t: T::Double, multiple: T::Double, m: T
 /// - t is below m times the base, and the sum of t and x·m has 0 in the low word
 ///
 /// No build tests this: where it doesn't hold, the call panics or its result is unspecified.
+#[must_use]
 #[inline]
 pub fn reduce_by<T: PathWord>(m: T, t: T::Double, x: T, multiple: T::Double) -> T {
     // Reading m gives the proof that it fits a word.
@@ -230,6 +239,7 @@ pub fn reduce_by<T: PathWord>(m: T, t: T::Double, x: T, multiple: T::Double) -> 
 /// - m times `negated_inverse` is -1 modulo the base, and t is below m times the base
 ///
 /// No build tests this: where it doesn't hold, the call panics or its result is unspecified.
+#[must_use]
 #[inline]
 pub fn redc<T: PathWord>(m: T, negated_inverse: T, t: T::Double) -> T {
     let x = clearing(m, negated_inverse, t);

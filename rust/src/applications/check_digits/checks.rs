@@ -38,6 +38,7 @@ impl<'a> Code<'a> {
     /// assert_eq!(ISBN_10.check_sum(&[0, 3, 0, 6, 4, 0, 6, 1, 5]).residue(), 9); // the digit 2 is missing
     /// ```
     #[track_caller]
+    #[must_use]
     #[inline]
     pub fn check_sum(&self, word: &[u64]) -> VanillaInt<u64> {
         assert!(word.len() <= self.weights.len(), "each place must have a weight: {} and {}", word.len(), self.weights.len());
@@ -59,6 +60,7 @@ impl<'a> Code<'a> {
     /// assert!(!ISBN_10.fits(0, 10));
     /// ```
     #[track_caller]
+    #[must_use]
     #[inline]
     pub fn fits(&self, place: usize, symbol: u64) -> bool {
         assert!(place < self.weights.len(), "the code must have the place");
@@ -100,6 +102,7 @@ impl<'a> Code<'a> {
     /// assert!(ISBN_10.accepts(&[0, 3, 0, 6, 4, 0, 6, 1, 5, 2]));
     /// ```
     #[cfg_attr(debug_assertions, track_caller)]
+    #[must_use]
     #[inline]
     pub fn accepts(&self, word: &[u64]) -> bool {
         debug_assert!(
@@ -132,6 +135,7 @@ impl<'a> Code<'a> {
     /// assert!(!ORCID.accepts_text(b"0000-0002-1694-2339"));
     /// ```
     #[cfg_attr(debug_assertions, track_caller)]
+    #[must_use]
     #[inline]
     pub fn accepts_text(&self, text: &[u8]) -> bool {
         debug_assert!(self.weights.len() <= 68, "the code must have at most 68 places");
@@ -166,6 +170,7 @@ impl<'a> Code<'a> {
     /// assert!(EAN_8.finds_change(&[7, 3, 5, 1, 3, 5, 3, 7], 0, 2));
     /// ```
     #[cfg_attr(debug_assertions, track_caller)]
+    #[must_use]
     #[inline]
     pub fn finds_change(&self, word: &[u64], place: usize, symbol: u64) -> bool {
         debug_assert!(self.accepts(word) && place < word.len(), "the word must be accepted, and it must have the place");
@@ -203,6 +208,7 @@ impl<'a> Code<'a> {
     /// assert!(EAN_8.finds_exchange(&word, 0));
     /// ```
     #[cfg_attr(debug_assertions, track_caller)]
+    #[must_use]
     pub fn finds_exchange(&self, word: &[u64], place: usize) -> bool {
         debug_assert!(
             self.accepts(word) && place < word.len().saturating_sub(1),
@@ -226,6 +232,7 @@ impl<'a> Code<'a> {
     /// assert!(EAN_8.can_restore(3));
     /// assert!(!EAN_8.can_restore(5)); // 5 and 10 have the divisor 5
     /// ```
+    #[must_use]
     #[inline]
     pub fn can_restore(&self, weight: u64) -> bool {
         weight.invm(&self.modulus).is_some()
@@ -267,6 +274,7 @@ impl<'a> Code<'a> {
     /// assert_eq!(EAN_8.restore(&[7, 0, 5, 1, 3, 5, 3, 7], 1), Some(3));
     /// ```
     #[cfg_attr(debug_assertions, track_caller)]
+    #[must_use]
     pub fn restore(&self, word: &[u64], place: usize) -> Option<u64> {
         debug_assert!(
             place < word.len() && place < self.weights.len() && self.can_restore(self.weights[place]),
@@ -303,6 +311,7 @@ impl<'a> Code<'a> {
     /// assert_eq!(EAN_8.check_digit(&[7, 3, 5, 1, 3, 5, 3]), Some(7));
     /// assert_eq!(ISBN_10.check_digit(&[0, 8, 0, 4, 4, 2, 9, 5, 7]), Some(10)); // X
     /// ```
+    #[must_use]
     pub fn check_digit(&self, word: &[u64]) -> Option<u64> {
         let place = word.len();
         let weights = self.weights;

@@ -41,6 +41,7 @@ fn check(word: &[u64]) -> u64 {
 /// assert!(accepts_damm(&[5, 7, 2, 4]));
 /// assert!(!accepts_damm(&[5, 2, 7, 4]));
 /// ```
+#[must_use]
 #[inline]
 pub fn accepts_damm(word: &[u64]) -> bool {
     if word.is_empty() || !are_digits(word) {
@@ -59,6 +60,7 @@ pub fn accepts_damm(word: &[u64]) -> bool {
 ///
 /// assert_eq!(damm_check_digit(&[5, 7, 2]), Some(4));
 /// ```
+#[must_use]
 #[inline]
 pub fn damm_check_digit(word: &[u64]) -> Option<u64> {
     if are_digits(word) {

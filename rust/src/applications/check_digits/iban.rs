@@ -33,6 +33,7 @@ const POWERS: [u64; 68] = [
 /// assert_eq!(iban_code(4).weights, [30, 3, 10, 1]); // 1000 is 30 modulo 97
 /// ```
 #[track_caller]
+#[must_use]
 pub fn iban_code(count: usize) -> Code<'static> {
     assert!(count <= 68, "there must be at most 68 digits");
     let powers: &'static [u64] = &POWERS;
@@ -76,6 +77,7 @@ fn all_characters(text: &[u8]) -> bool {
 /// assert!(has_iban_form(b"GB00WEST12345698765432"));
 /// assert!(!has_iban_form(b"GB00 WEST"));
 /// ```
+#[must_use]
 pub fn has_iban_form(text: &[u8]) -> bool {
     if text.len() < 5 || text.len() > 34 {
         return false;
@@ -158,6 +160,7 @@ fn check_number(text: &[u8]) -> u8 {
 ///
 /// assert!(accepts_iban(b"GB82WEST12345698765432"));
 /// ```
+#[must_use]
 pub fn accepts_iban(text: &[u8]) -> bool {
     if !has_iban_form(text) {
         return false;
@@ -212,6 +215,7 @@ fn write_ungrouped(text: &[u8], characters: &mut [u8]) -> usize {
 ///
 /// assert!(accepts_iban_text(b"GB82 WEST 1234 5698 7654 32"));
 /// ```
+#[must_use]
 #[inline]
 pub fn accepts_iban_text(text: &[u8]) -> bool {
     // 34 characters and 8 spaces
@@ -236,6 +240,7 @@ pub fn accepts_iban_text(text: &[u8]) -> bool {
 ///
 /// assert_eq!(iban_check_digits(b"GB00WEST12345698765432"), Some(*b"82"));
 /// ```
+#[must_use]
 pub fn iban_check_digits(text: &[u8]) -> Option<[u8; 2]> {
     if !has_iban_form(text) {
         return None;

@@ -37,6 +37,7 @@ fn sum(word: &[u64], places: usize) -> u64 {
 /// assert!(accepts_luhn(&[7, 9, 9, 2, 7, 3, 9, 8, 7, 1, 3]));
 /// assert!(!accepts_luhn(&[7, 9, 9, 2, 7, 3, 9, 8, 7, 1, 0]));
 /// ```
+#[must_use]
 #[inline]
 pub fn accepts_luhn(word: &[u64]) -> bool {
     if word.is_empty() || !are_digits(word) {
@@ -55,6 +56,7 @@ pub fn accepts_luhn(word: &[u64]) -> bool {
 ///
 /// assert_eq!(luhn_check_digit(&[7, 9, 9, 2, 7, 3, 9, 8, 7, 1]), Some(3));
 /// ```
+#[must_use]
 #[inline]
 pub fn luhn_check_digit(word: &[u64]) -> Option<u64> {
     if are_digits(word) {

@@ -65,6 +65,7 @@ pub const ABA_RTN: Code<'static> =
 /// let found: Vec<usize> = standard_codes().iter().map(|code| code.weights.len()).collect();
 /// assert_eq!(found, [10, 13, 13, 8, 12, 8, 16, 9]);
 /// ```
+#[must_use]
 #[inline]
 pub const fn standard_codes() -> [Code<'static>; 8] {
     [ISBN_10, ISBN_13, EAN_13, EAN_8, UPC_A, ISSN, ORCID, ABA_RTN]

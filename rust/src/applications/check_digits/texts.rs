@@ -47,6 +47,7 @@ fn are_between(text: &[u8]) -> bool {
 /// assert!(is_symbol_text(b"0378-5955"));
 /// assert!(!is_symbol_text(b"0378--5955"));
 /// ```
+#[must_use]
 #[inline]
 pub fn is_symbol_text(text: &[u8]) -> bool {
     has_symbol(text, 0) && all_characters(text) && are_between(text)

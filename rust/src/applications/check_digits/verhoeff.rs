@@ -49,6 +49,7 @@ fn product(word: &[u64], first: usize) -> u64 {
 /// assert!(accepts_verhoeff(&[2, 3, 6, 3]));
 /// assert!(!accepts_verhoeff(&[3, 2, 6, 3]));
 /// ```
+#[must_use]
 #[inline]
 pub fn accepts_verhoeff(word: &[u64]) -> bool {
     if word.is_empty() || !are_digits(word) {
@@ -67,6 +68,7 @@ pub fn accepts_verhoeff(word: &[u64]) -> bool {
 ///
 /// assert_eq!(verhoeff_check_digit(&[2, 3, 6]), Some(3));
 /// ```
+#[must_use]
 #[inline]
 pub fn verhoeff_check_digit(word: &[u64]) -> Option<u64> {
     if !are_digits(word) {

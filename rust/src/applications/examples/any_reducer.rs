@@ -14,6 +14,7 @@ use crate::{Reducer, RingWord};
 /// let ring = Montgomery::<u64>::new(97);
 /// assert_eq!(round_trip(&ring, 100), 3);
 /// ```
+#[must_use]
 #[inline]
 pub fn round_trip<T: RingWord, R: Reducer<T>>(r: &R, x: T) -> T {
     r.residue(r.transform(x))
@@ -30,6 +31,7 @@ pub fn round_trip<T: RingWord, R: Reducer<T>>(r: &R, x: T) -> T {
 /// let ring = Montgomery::<u64>::new(97);
 /// assert_eq!(product_and_one(&ring, 10, 20), 7); // 201 - 2 * 97
 /// ```
+#[must_use]
 #[inline]
 pub fn product_and_one<T: RingWord, R: Reducer<T>>(r: &R, x: T, y: T) -> T {
     let product = r.mul(&r.transform(x), &r.transform(y));
@@ -53,6 +55,7 @@ fn product<T: RingWord, R: Reducer<T>>(r: &R, x: T, y: T) -> T {
 /// let ring = Montgomery::<u64>::new(50);
 /// assert_eq!(inner_product_of_four(&ring, (1, 2, 3, 4), (5, 6, 7, 8)), 20); // 5 + 12 + 21 + 32 - 50
 /// ```
+#[must_use]
 pub fn inner_product_of_four<T: RingWord, R: Reducer<T>>(r: &R, x: (T, T, T, T), y: (T, T, T, T)) -> T {
     let left = r.add(&product(r, x.0, y.0), &product(r, x.1, y.1));
     let right = r.add(&product(r, x.2, y.2), &product(r, x.3, y.3));
@@ -70,6 +73,7 @@ pub fn inner_product_of_four<T: RingWord, R: Reducer<T>>(r: &R, x: (T, T, T, T),
 /// let ring = Montgomery::<u64>::new(50);
 /// assert_eq!(three_results(&ring, (1, 2, 3, 4), (5, 6, 7, 8)), (1, 6, 20));
 /// ```
+#[must_use]
 #[inline]
 pub fn three_results<T: RingWord, R: Reducer<T>>(r: &R, x: (T, T, T, T), y: (T, T, T, T)) -> (T, T, T) {
     (round_trip(r, x.0), product_and_one(r, x.0, y.0), inner_product_of_four(r, x, y))

@@ -20,6 +20,7 @@ use crate::{PreMulInv2by1, Reducer};
 /// assert_eq!(residue_over_copies(1000, 97), 30); // 1000 - 10 * 97
 /// ```
 #[cfg_attr(debug_assertions, track_caller)]
+#[must_use]
 pub fn residue_over_copies(n: u64, m: u64) -> u64 {
     let reducer = PreMulInv2by1::<u64>::new(m);
     let mut registers = [reducer.transform(n); 2];
@@ -44,6 +45,7 @@ pub fn residue_over_copies(n: u64, m: u64) -> u64 {
 /// assert_eq!(product_by_commands(10, 20, 97), 6); // 200 - 2 * 97
 /// ```
 #[cfg_attr(debug_assertions, track_caller)]
+#[must_use]
 pub fn product_by_commands(x: u64, n: u64, m: u64) -> u64 {
     let reducer = PreMulInv2by1::<u64>::new(m);
     let mut registers = [reducer.transform(0); 2];

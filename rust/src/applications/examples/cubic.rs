@@ -15,6 +15,7 @@ use crate::Reducer;
 /// let ring = Vanilla::<u64>::new(&97);
 /// assert_eq!(cubic(&ring, 5, 2, 7), 45); // 125 + 2 * 5 + 7 - 97
 /// ```
+#[must_use]
 pub fn cubic<R: Reducer<u64>>(r: &R, x: u64, a: u64, b: u64) -> u64 {
     let mut registers = [r.transform(x), r.transform(a), r.transform(b), r.transform(x)];
     let commands = [

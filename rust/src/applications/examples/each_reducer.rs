@@ -22,6 +22,7 @@ use crate::{
 ///
 /// assert_eq!(by_plain_remainders((1, 2, 3, 4), (5, 6, 7, 8), 50), (1, 6, 20)); // the last is 70 - 50
 /// ```
+#[must_use]
 #[inline]
 pub fn by_plain_remainders(x: (u64, u64, u64, u64), y: (u64, u64, u64, u64), m: u64) -> (u64, u64, u64) {
     three_results(&Vanilla::<u64>::new(&m), x, y)
@@ -42,6 +43,7 @@ pub fn by_plain_remainders(x: (u64, u64, u64, u64), y: (u64, u64, u64, u64), m: 
 ///
 /// assert_eq!(by_reciprocals((1, 2, 3, 4), (5, 6, 7, 8), 50), (1, 6, 20)); // the last is 70 - 50
 /// ```
+#[must_use]
 #[inline]
 pub fn by_reciprocals(x: (u64, u64, u64, u64), y: (u64, u64, u64, u64), m: u64) -> (u64, u64, u64) {
     three_results(&PreMulInv2by1::<u64>::new(m), x, y)
@@ -62,6 +64,7 @@ pub fn by_reciprocals(x: (u64, u64, u64, u64), y: (u64, u64, u64, u64), m: u64) 
 ///
 /// assert_eq!(by_montgomery((1, 2, 3, 4), (5, 6, 7, 8), 50), (1, 6, 20)); // the last is 70 - 50
 /// ```
+#[must_use]
 #[inline]
 pub fn by_montgomery(x: (u64, u64, u64, u64), y: (u64, u64, u64, u64), m: u64) -> (u64, u64, u64) {
     three_results(&Montgomery::<u64>::new(m), x, y)
@@ -77,6 +80,7 @@ pub fn by_montgomery(x: (u64, u64, u64, u64), y: (u64, u64, u64, u64), m: u64) -
 /// // the residues of 10, 51 and 700
 /// assert_eq!(modulo_13((10, 20, 30, 40), (5, 6, 7, 8)), (10, 12, 11));
 /// ```
+#[must_use]
 #[inline]
 pub fn modulo_13(x: (u32, u32, u32, u32), y: (u32, u32, u32, u32)) -> (u32, u32, u32) {
     three_results(&FixedMontgomery32::<13>::new(&13), x, y)
@@ -92,6 +96,7 @@ pub fn modulo_13(x: (u32, u32, u32, u32), y: (u32, u32, u32, u32)) -> (u32, u32,
 /// // the residues of 10, 51 and 700
 /// assert_eq!(modulo_15((10, 20, 30, 40), (5, 6, 7, 8)), (10, 6, 10));
 /// ```
+#[must_use]
 #[inline]
 pub fn modulo_15(x: (u64, u64, u64, u64), y: (u64, u64, u64, u64)) -> (u64, u64, u64) {
     three_results(&FixedMontgomery64::<15>::new(&15), x, y)
@@ -107,6 +112,7 @@ pub fn modulo_15(x: (u64, u64, u64, u64), y: (u64, u64, u64, u64)) -> (u64, u64,
 /// // the residues of 10, 51 and 700
 /// assert_eq!(modulo_17((10, 20, 30, 40), (5, 6, 7, 8)), (10, 0, 3));
 /// ```
+#[must_use]
 #[inline]
 pub fn modulo_17(x: (u32, u32, u32, u32), y: (u32, u32, u32, u32)) -> (u32, u32, u32) {
     three_results(&FixedProth32::<4, 1>::new(&17), x, y)
@@ -122,6 +128,7 @@ pub fn modulo_17(x: (u32, u32, u32, u32), y: (u32, u32, u32, u32)) -> (u32, u32,
 /// // the residues of 10, 51 and 700
 /// assert_eq!(modulo_97((10, 20, 30, 40), (5, 6, 7, 8)), (10, 51, 21));
 /// ```
+#[must_use]
 #[inline]
 pub fn modulo_97(x: (u64, u64, u64, u64), y: (u64, u64, u64, u64)) -> (u64, u64, u64) {
     three_results(&FixedProth64::<5, 3>::new(&97), x, y)
@@ -137,6 +144,7 @@ pub fn modulo_97(x: (u64, u64, u64, u64), y: (u64, u64, u64, u64)) -> (u64, u64,
 /// // the residues of 10, 51 and 700
 /// assert_eq!(modulo_31((10, 20, 30, 40), (5, 6, 7, 8)), (10, 20, 18));
 /// ```
+#[must_use]
 #[inline]
 pub fn modulo_31(x: (u32, u32, u32, u32), y: (u32, u32, u32, u32)) -> (u32, u32, u32) {
     three_results(&FixedMersenne32::<5, 1>::new(&31), x, y)
@@ -152,6 +160,7 @@ pub fn modulo_31(x: (u32, u32, u32, u32), y: (u32, u32, u32, u32)) -> (u32, u32,
 /// // the residues of 10, 51 and 700
 /// assert_eq!(modulo_29((10, 20, 30, 40), (5, 6, 7, 8)), (10, 22, 4));
 /// ```
+#[must_use]
 #[inline]
 pub fn modulo_29(x: (u64, u64, u64, u64), y: (u64, u64, u64, u64)) -> (u64, u64, u64) {
     three_results(&FixedMersenne64::<5, 3>::new(&29), x, y)
@@ -167,6 +176,7 @@ pub fn modulo_29(x: (u64, u64, u64, u64), y: (u64, u64, u64, u64)) -> (u64, u64,
 /// // the residues of 10, 51 and 700
 /// assert_eq!(modulo_127((10, 20, 30, 40), (5, 6, 7, 8)), (10, 51, 65));
 /// ```
+#[must_use]
 #[inline]
 pub fn modulo_127(x: (u128, u128, u128, u128), y: (u128, u128, u128, u128)) -> (u128, u128, u128) {
     three_results(&FixedMersenne::<7, 1>::new(&127), x, y)
@@ -182,6 +192,7 @@ pub fn modulo_127(x: (u128, u128, u128, u128), y: (u128, u128, u128, u128)) -> (
 /// // the residues of 10, 51 and 700
 /// assert_eq!(modulo_241((10, 20, 30, 40), (5, 6, 7, 8)), (10, 51, 218));
 /// ```
+#[must_use]
 #[inline]
 pub fn modulo_241(x: (u32, u32, u32, u32), y: (u32, u32, u32, u32)) -> (u32, u32, u32) {
     three_results(&FixedTrinomialSolinas32::<8, 4, 1>::new(&241), x, y)
@@ -197,6 +208,7 @@ pub fn modulo_241(x: (u32, u32, u32, u32), y: (u32, u32, u32, u32)) -> (u32, u32
 /// // the residues of 10, 51 and 700
 /// assert_eq!(modulo_247((10, 20, 30, 40), (5, 6, 7, 8)), (10, 51, 206));
 /// ```
+#[must_use]
 #[inline]
 pub fn modulo_247(x: (u64, u64, u64, u64), y: (u64, u64, u64, u64)) -> (u64, u64, u64) {
     three_results(&FixedTrinomialSolinas64::<8, 3, -1>::new(&247), x, y)

@@ -13,6 +13,7 @@ use crate::{FixedMersenne64, ModularInteger, ModularSymbols, MontgomeryInt, PreM
 ///
 /// assert_eq!(product_and_one(10, 20), 7); // 201 - 2 * 97
 /// ```
+#[must_use]
 #[inline]
 pub fn product_and_one(x: u64, y: u64) -> u64 {
     let x = MontgomeryInt::<u64>::new(x, &97);
@@ -36,6 +37,7 @@ pub fn product_and_one(x: u64, y: u64) -> u64 {
 /// assert_eq!(residue_by_commands(1000, 97), 30); // 1000 - 10 * 97
 /// ```
 #[cfg_attr(debug_assertions, track_caller)]
+#[must_use]
 pub fn residue_by_commands(n: u64, m: u64) -> u64 {
     let reducer = PreMulInv2by1::<u64>::new(m);
     let mut registers = [reducer.transform(0); 2];
@@ -53,6 +55,7 @@ pub fn residue_by_commands(n: u64, m: u64) -> u64 {
 ///
 /// assert_eq!(product_by_folds(1 << 60, 6), 3); // 6 * 2^60 = 3 * 2^61
 /// ```
+#[must_use]
 #[inline]
 pub fn product_by_folds(x: u64, y: u64) -> u64 {
     let ring = FixedMersenne64::<61, 1>::new(&FixedMersenne64::<61, 1>::fixed_modulus());
@@ -68,6 +71,7 @@ pub fn product_by_folds(x: u64, y: u64) -> u64 {
 ///
 /// assert_eq!(minutes_and_seconds(3725), (62, 5));
 /// ```
+#[must_use]
 #[inline]
 pub fn minutes_and_seconds(seconds: u32) -> (u32, u32) {
     let sixty = PreMulInv1by1::<u32>::new(60);
@@ -84,6 +88,7 @@ pub fn minutes_and_seconds(seconds: u32) -> (u32, u32) {
 /// assert_eq!(symbol(2, 15), Some(1));
 /// assert_eq!(symbol(2, 14), None);
 /// ```
+#[must_use]
 #[inline]
 pub fn symbol(x: u64, n: u64) -> Option<i8> {
     x.checked_jacobi(&n)
@@ -100,6 +105,7 @@ pub fn symbol(x: u64, n: u64) -> Option<i8> {
 /// let ring = Montgomery::<u64>::new(10);
 /// assert_eq!(sum_of_squares(&ring, 3, 4), 5); // 25 - 2 * 10
 /// ```
+#[must_use]
 #[inline]
 pub fn sum_of_squares<T: RingWord, R: Reducer<T>>(ring: &R, x: T, y: T) -> T {
     let x = ring.transform(x);

@@ -13,6 +13,7 @@ use crate::{FixedMersenneInt64, ModularInteger};
 ///
 /// assert_eq!(hash(&[1, 2, 3], 1000), 1_002_003);
 /// ```
+#[must_use]
 #[inline]
 pub fn hash(bytes: &[u8], x: u64) -> u64 {
     let point = FixedMersenneInt64::<61, 1>::new(x, &2305843009213693951);

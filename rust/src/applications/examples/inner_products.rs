@@ -20,6 +20,7 @@ use crate::{Montgomery, Reducer};
 /// let ring = Montgomery::<u64>::new(20);
 /// assert_eq!(inner_product(&ring, &[1, 2, 3], &[4, 5, 6]), 12); // 4 + 10 + 18 - 20
 /// ```
+#[must_use]
 pub fn inner_product<R: Reducer<u64>>(r: &R, xs: &[u64], ys: &[u64]) -> u64 {
     let mut sum = r.transform(0);
     for i in 0..xs.len() {
@@ -44,6 +45,7 @@ pub fn inner_product<R: Reducer<u64>>(r: &R, xs: &[u64], ys: &[u64]) -> u64 {
 ///
 /// assert_eq!(inner_product_of_four([1, 2, 3, 4], [5, 6, 7, 8], 50), 20); // 5 + 12 + 21 + 32 - 50
 /// ```
+#[must_use]
 #[inline]
 pub fn inner_product_of_four(x: [u64; 4], y: [u64; 4], m: u64) -> u64 {
     inner_product(&Montgomery::<u64>::new(m), &x, &y)

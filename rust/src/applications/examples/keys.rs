@@ -17,6 +17,7 @@ use crate::ModularPow;
 ///
 /// assert_eq!(known_word(5, 6, 23), 8); // 5^6 = 15625 = 679 * 23 + 8
 /// ```
+#[must_use]
 #[inline]
 pub fn known_word(g: u64, secret: u64, m: u64) -> u64 {
     g.powm(secret, &m)
@@ -38,6 +39,7 @@ pub fn known_word(g: u64, secret: u64, m: u64) -> u64 {
 /// // the parties publish 5^6 = 8 and 5^15 = 19 modulo 23
 /// assert_eq!(keys(5, 6, 15, 23), (2, 2)); // 19^6 and 8^15
 /// ```
+#[must_use]
 #[inline]
 pub fn keys(g: u64, first: u64, second: u64, m: u64) -> (u64, u64) {
     let from_second = known_word(g, second, m).powm(first, &m);

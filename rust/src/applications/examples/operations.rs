@@ -18,6 +18,7 @@ use crate::{ModularOps, Montgomery, PlainWord, Reducer};
 ///
 /// assert_eq!(product_and_sum(10u8, 20, 5, &97), 11); // 205 - 2 * 97
 /// ```
+#[must_use]
 #[inline]
 pub fn product_and_sum<M: Eq + Copy, T: ModularOps<T, M, T>>(x: T, y: T, z: T, m: M) -> T {
     x.mulm(y, m).addm(z, m)
@@ -38,6 +39,7 @@ pub fn product_and_sum<M: Eq + Copy, T: ModularOps<T, M, T>>(x: T, y: T, z: T, m
 ///
 /// assert_eq!(square(16u8, 251), 5); // 256 - 251
 /// ```
+#[must_use]
 #[inline]
 pub fn square<T: PlainWord>(x: T, m: T) -> T {
     let r = Montgomery::<T>::of(m);

@@ -19,6 +19,7 @@ use crate::{ModularInteger, MontgomeryInt, VanillaInt};
 /// assert_eq!(by_inverse(10, 5, 21), Some(2));
 /// assert_eq!(by_inverse(10, 6, 21), None); // 3 divides 6 and 21
 /// ```
+#[must_use]
 #[inline]
 pub fn by_inverse(a: u64, b: u64, m: u64) -> Option<u64> {
     let b = MontgomeryInt::<u64>::new(b, &m);
@@ -43,6 +44,7 @@ pub fn by_inverse(a: u64, b: u64, m: u64) -> Option<u64> {
 /// assert_eq!(by_operator(10, 4, 21), Some(13)); // 13 * 4 = 2 * 21 + 10
 /// assert_eq!(by_operator(10, 6, 21), None); // 3 divides 6 and 21
 /// ```
+#[must_use]
 #[inline]
 pub fn by_operator(a: u64, b: u64, m: u64) -> Option<u64> {
     let b = MontgomeryInt::<u64>::new(b, &m);
@@ -63,6 +65,7 @@ pub fn by_operator(a: u64, b: u64, m: u64) -> Option<u64> {
 ///
 /// assert_eq!(ten_by_five(), 2);
 /// ```
+#[must_use]
 #[inline]
 pub fn ten_by_five() -> u8 {
     let ten = VanillaInt::<u8>::new(10, &21);

@@ -20,6 +20,7 @@ use crate::{ModularPow, ModularUnaryOps};
 /// assert_eq!(square_root(2, 7), Some(4)); // 4 * 4 = 2 * 7 + 2
 /// assert_eq!(square_root(3, 7), None);
 /// ```
+#[must_use]
 #[inline]
 pub fn square_root(a: u64, p: u64) -> Option<u64> {
     let root = a.powm(p / 4 + 1, &p);

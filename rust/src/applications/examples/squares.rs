@@ -19,6 +19,7 @@ use crate::prim::symbol_over_prime;
 /// assert!(is_quadratic_residue(2, 7)); // 3 * 3 = 7 + 2
 /// assert!(!is_quadratic_residue(3, 7));
 /// ```
+#[must_use]
 #[inline]
 pub fn is_quadratic_residue(a: u64, p: u64) -> bool {
     symbol_over_prime(a, p) == 1

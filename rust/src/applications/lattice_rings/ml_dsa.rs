@@ -44,6 +44,7 @@ pub struct Ring {
 /// assert!(are_residues(&[MODULUS - 1; 256]));
 /// assert!(!are_residues(&[MODULUS; 256]));
 /// ```
+#[must_use]
 #[inline]
 pub fn are_residues(w: &[u32; 256]) -> bool {
     w.iter().all(|x| *x < MODULUS)
@@ -63,6 +64,7 @@ impl Ring {
     /// ring.ntt(&mut w);
     /// assert_eq!(w, [7; 256]); // a constant has the same value everywhere
     /// ```
+    #[must_use]
     #[inline]
     pub fn new() -> Self {
         let modulus = PlannedModulus::new(MODULUS);

@@ -45,6 +45,7 @@ pub struct Ring {
 /// assert!(are_residues(&[MODULUS - 1; 256]));
 /// assert!(!are_residues(&[MODULUS; 256]));
 /// ```
+#[must_use]
 #[inline]
 pub fn are_residues(w: &[u32; 256]) -> bool {
     w.iter().all(|x| *x < MODULUS)
@@ -71,6 +72,7 @@ impl Ring {
     /// ring.ntt(&mut w);
     /// assert_eq!(w[..4], [7, 0, 7, 0]); // the remainders of a constant
     /// ```
+    #[must_use]
     #[inline]
     pub fn new() -> Self {
         let modulus = PlannedModulus::new(MODULUS);

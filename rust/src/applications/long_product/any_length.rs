@@ -30,6 +30,7 @@ pub const LEAST_CONVOLVED: usize = 6;
 /// assert_eq!(any_length::room(5), (0, 0));
 /// ```
 #[track_caller]
+#[must_use]
 #[inline]
 pub fn room(n: usize) -> (usize, usize) {
     assert!(n <= (1 << 32) / 3, "3·n must be at most 2^32");
@@ -270,6 +271,7 @@ pub fn intt<F: PlanEntry<u64>>(m: u64, g: u64, xs: &[u64], out: &mut [u64], word
 /// assert!(!is_root_of_order(7, 6, 6)); // 6^2 is 1
 /// assert!(!is_root_of_order(15, 4, 2)); // 3 divides 4 - 1 and 15
 /// ```
+#[must_use]
 pub fn is_root_of_order(m: u64, g: u64, n: usize) -> bool {
     if m == 0 || n == 0 {
         return false;

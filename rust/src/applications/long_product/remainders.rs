@@ -14,6 +14,7 @@ use crate::PreMulInv2by1;
 /// - there is a product, and there are at most 2^32
 ///
 /// No build tests this: where it doesn't hold, the call panics or its result is unspecified.
+#[must_use]
 #[inline]
 pub fn primes_for(terms: usize, x: u64, y: u64) -> usize {
     let product = x as u128 * y as u128;

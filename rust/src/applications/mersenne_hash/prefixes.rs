@@ -96,6 +96,7 @@ impl<'a> PrefixHashes<'a> {
     /// assert_eq!(text.substring_hash(1, 3).residue(), 2_003);
     /// ```
     #[track_caller]
+    #[must_use]
     #[inline]
     pub fn substring_hash(&self, from: usize, to: usize) -> Hash {
         assert!(from <= to && to <= self.text.len(), "`from` must be at most `to`, which is at most the length of the text");
@@ -122,6 +123,7 @@ impl<'a> PrefixHashes<'a> {
     /// assert_eq!(text.find_from(b"bra", 2), Some(8));
     /// assert_eq!(text.find_from(b"bra", 9), None);
     /// ```
+    #[must_use]
     pub fn find_from(&self, pattern: &[u8], from: usize) -> Option<usize> {
         let length = pattern.len();
         if length > self.text.len() {

@@ -50,6 +50,7 @@ fn quotient_modulo(k: u64, u: u64, v: u64) -> u64 {
 /// assert_eq!(combine(1, 4, 2, 6), None); // one is odd, the other even
 /// ```
 #[track_caller]
+#[must_use]
 pub fn combine(a: u64, m: u64, b: u64, n: u64) -> Option<(u128, u128)> {
     assert!(m > 0 && n > 0, "m and n must be at least 1");
     let divisor = common_divisor(m, n);

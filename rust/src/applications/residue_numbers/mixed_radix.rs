@@ -67,6 +67,7 @@ fn inverse_at(moduli: &[u64], place: usize) -> Option<u64> {
 /// assert!(is_coprime_system(&[3, 5, 7]));
 /// assert!(!is_coprime_system(&[6, 35, 10])); // 2 divides 6 and 10
 /// ```
+#[must_use]
 #[inline]
 pub fn is_coprime_system(moduli: &[u64]) -> bool {
     for place in 0..moduli.len() {
@@ -186,6 +187,7 @@ impl<'a> System<'a> {
     /// assert_eq!(system.compare(&[2, 2, 1], &[0, 3, 1]), Ordering::Less); // 23 and 24
     /// ```
     #[track_caller]
+    #[must_use]
     #[inline]
     pub fn compare(&self, left: &[u64], right: &[u64]) -> Ordering {
         assert!(

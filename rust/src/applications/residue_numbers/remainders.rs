@@ -19,6 +19,7 @@ use crate::{ModularCoreOps, ModularUnaryOps};
 /// assert_eq!(from_remainders(2, 4, 3, 6), None); // 4 has no inverse modulo 6
 /// ```
 #[track_caller]
+#[must_use]
 pub fn from_remainders(a: u32, m: u32, b: u32, n: u32) -> Option<u64> {
     assert!(m > 0 && n > 0, "m and n must be at least 1");
     let a = a % m;

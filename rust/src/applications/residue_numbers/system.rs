@@ -59,6 +59,7 @@ impl<'a> ResidueSystem<'a> {
     /// assert!(ResidueSystem::new(&[3, 5, 7]).is_some());
     /// assert!(ResidueSystem::new(&[4, 6]).is_none()); // 2 divides both
     /// ```
+    #[must_use]
     #[inline]
     pub fn new(moduli: &'a [u64]) -> Option<Self> {
         if moduli.len() > 8 || !is_system(moduli) {
@@ -110,6 +111,7 @@ impl<'a> ResidueSystem<'a> {
     /// assert_eq!(system.decode(&[2, 3, 2]), 23);
     /// ```
     #[track_caller]
+    #[must_use]
     #[inline]
     pub fn decode(&self, residues: &[u64]) -> u128 {
         assert!(

@@ -94,6 +94,7 @@ pub enum RestoreError {
 /// assert!(!points_fit(&ring, &[0, 1, 3])); // 3 has no inverse modulo 15
 /// ```
 #[cfg_attr(debug_assertions, track_caller)]
+#[must_use]
 pub fn points_fit<T: RingWord, R: Reducer<T>>(r: &R, points: &[T]) -> bool {
     debug_assert!(points.iter().all(|x| r.check(x)), "the points must be checked forms");
     let mut product = r.transform(T::one());
@@ -122,6 +123,7 @@ pub fn points_fit<T: RingWord, R: Reducer<T>>(r: &R, points: &[T]) -> bool {
 /// assert_eq!(evaluate(&ring, &[5, 7], &2), 19); // 5 + 7 * 2
 /// ```
 #[cfg_attr(debug_assertions, track_caller)]
+#[must_use]
 pub fn evaluate<T: RingWord, R: Reducer<T>>(r: &R, coefficients: &[T], point: &T) -> T {
     debug_assert!(coefficients.iter().chain([point]).all(|x| r.check(x)), "coefficients and point must be checked forms");
     let mut value = r.transform(T::zero());

@@ -20,6 +20,7 @@ use crate::modular_word::word::w16::Word;
 /// assert_eq!(3 * neginv(3), u16::MAX); // -1 modulo 2^16
 /// ```
 #[cfg_attr(debug_assertions, track_caller)]
+#[must_use]
 #[inline]
 pub fn neginv(m: Word) -> Word {
     super::neginv(m)

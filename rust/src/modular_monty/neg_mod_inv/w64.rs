@@ -20,6 +20,7 @@ use crate::modular_word::word::w64::Word;
 /// assert_eq!(3 * neginv(3), u64::MAX); // -1 modulo 2^64
 /// ```
 #[cfg_attr(debug_assertions, track_caller)]
+#[must_use]
 #[inline]
 pub fn neginv(m: Word) -> Word {
     super::neginv(m)

@@ -20,6 +20,7 @@ use crate::modular_word::word::w8::Word;
 /// assert_eq!(3 * neginv(3), u8::MAX); // -1 modulo 2^8
 /// ```
 #[cfg_attr(debug_assertions, track_caller)]
+#[must_use]
 #[inline]
 pub fn neginv(m: Word) -> Word {
     super::neginv(m)

@@ -18,6 +18,7 @@ use crate::modular_prim::euclid;
 /// assert_eq!(invm_counted(3, 6), (None, 1)); // 6 by 3
 /// ```
 #[cfg_attr(debug_assertions, track_caller)]
+#[must_use]
 #[inline]
 pub fn invm_counted(a: u16, m: u16) -> (Option<u16>, u32) {
     euclid::invm_counted(a, m)

@@ -19,6 +19,7 @@ impl<T, R: Reducer<T>> ReducedInt<T, R> {
     /// assert_eq!(VanillaInt::<u8>::new(200, &7).residue(), 4);
     /// ```
     #[track_caller]
+    #[must_use]
     #[inline]
     pub fn new(n: T, m: &T) -> Self {
         let reducer = R::new(m);
@@ -36,6 +37,7 @@ impl<T, R: Reducer<T>> ReducedInt<T, R> {
     /// let x = FixedMontgomeryInt32::<97>::new(1, &97);
     /// assert_eq!(*x.repr() as u64, (1 << 32) % 97); // the Montgomery form of 1
     /// ```
+    #[must_use]
     #[inline]
     pub fn repr(&self) -> &T {
         &self.form
@@ -52,6 +54,7 @@ impl<T, R: Reducer<T>> ReducedInt<T, R> {
     /// assert_eq!(x.inv().map(|y| y.residue()), Some(7)); // 3 * 7 = 21
     /// assert!(x.convert(4).inv().is_none());
     /// ```
+    #[must_use]
     #[inline]
     pub fn inv(self) -> Option<Self> {
         let form = self.reducer.inv(self.form)?;
@@ -68,6 +71,7 @@ impl<T, R: Reducer<T>> ReducedInt<T, R> {
     /// let x = VanillaInt::<u64>::new(2, &1000);
     /// assert_eq!(x.pow(&10).residue(), 24); // 1024 modulo 1000
     /// ```
+    #[must_use]
     #[inline]
     pub fn pow(self, exp: &T) -> Self {
         ReducedInt { form: self.reducer.pow(self.form, exp), reducer: self.reducer }

@@ -12,6 +12,7 @@ use crate::modular_reduced::reducer::Reducer;
 ///
 /// A release build doesn't test this: where it doesn't hold, the call panics or its result is unspecified.
 #[cfg_attr(debug_assertions, track_caller)]
+#[must_use]
 #[inline]
 pub fn sum<T: PartialEq, R: Reducer<T>>(x: ReducedInt<T, R>, y: &ReducedInt<T, R>) -> ReducedInt<T, R> {
     debug_assert!(
@@ -24,6 +25,7 @@ pub fn sum<T: PartialEq, R: Reducer<T>>(x: ReducedInt<T, R>, y: &ReducedInt<T, R
 }
 
 /// The sum of an integer and a word.
+#[must_use]
 #[inline]
 pub fn sum_with<T, R: Reducer<T>>(x: ReducedInt<T, R>, n: T) -> ReducedInt<T, R> {
     let form = x.reducer.transform(n);
@@ -64,6 +66,7 @@ pub fn sum_assign_with<T, R: Reducer<T>>(x: &mut ReducedInt<T, R>, n: T) {
 ///
 /// A release build doesn't test this: where it doesn't hold, the call panics or its result is unspecified.
 #[cfg_attr(debug_assertions, track_caller)]
+#[must_use]
 #[inline]
 pub fn difference<T: PartialEq, R: Reducer<T>>(x: ReducedInt<T, R>, y: &ReducedInt<T, R>) -> ReducedInt<T, R> {
     debug_assert!(
@@ -76,6 +79,7 @@ pub fn difference<T: PartialEq, R: Reducer<T>>(x: ReducedInt<T, R>, y: &ReducedI
 }
 
 /// The difference of an integer and a word.
+#[must_use]
 #[inline]
 pub fn difference_with<T, R: Reducer<T>>(x: ReducedInt<T, R>, n: T) -> ReducedInt<T, R> {
     let form = x.reducer.transform(n);
@@ -116,6 +120,7 @@ pub fn difference_assign_with<T, R: Reducer<T>>(x: &mut ReducedInt<T, R>, n: T) 
 ///
 /// A release build doesn't test this: where it doesn't hold, the call panics or its result is unspecified.
 #[cfg_attr(debug_assertions, track_caller)]
+#[must_use]
 #[inline]
 pub fn product<T: PartialEq, R: Reducer<T>>(x: ReducedInt<T, R>, y: &ReducedInt<T, R>) -> ReducedInt<T, R> {
     debug_assert!(
@@ -128,6 +133,7 @@ pub fn product<T: PartialEq, R: Reducer<T>>(x: ReducedInt<T, R>, y: &ReducedInt<
 }
 
 /// The product of an integer and a word.
+#[must_use]
 #[inline]
 pub fn product_with<T, R: Reducer<T>>(x: ReducedInt<T, R>, n: T) -> ReducedInt<T, R> {
     let form = x.reducer.transform(n);
@@ -170,6 +176,7 @@ pub fn product_assign_with<T, R: Reducer<T>>(x: &mut ReducedInt<T, R>, n: T) {
 ///
 /// A release build doesn't test this: where it doesn't hold, the call panics or its result is unspecified.
 #[cfg_attr(debug_assertions, track_caller)]
+#[must_use]
 #[inline]
 pub fn quotient<T: PartialEq, R: Reducer<T>>(x: ReducedInt<T, R>, y: ReducedInt<T, R>) -> ReducedInt<T, R> {
     debug_assert!(
@@ -194,6 +201,7 @@ pub fn quotient<T: PartialEq, R: Reducer<T>>(x: ReducedInt<T, R>, y: ReducedInt<
 /// A debug build panics unless the moduli are equal.
 #[cfg_attr(debug_assertions, track_caller)]
 #[inline]
+#[must_use]
 pub fn with_moved<T: PartialEq, R: Reducer<T>>(
     x: &ReducedInt<T, R>,
     y: ReducedInt<T, R>,
@@ -210,6 +218,7 @@ pub fn with_moved<T: PartialEq, R: Reducer<T>>(
 
 /// The operation of a borrowed integer and a word: only the reducer is cloned.
 #[inline]
+#[must_use]
 pub fn with_word<T, R: Reducer<T> + Clone>(
     x: &ReducedInt<T, R>,
     n: T,
@@ -226,6 +235,7 @@ pub fn with_word<T, R: Reducer<T> + Clone>(
 /// Panics unless the divisor has an inverse modulo m. A debug build also panics unless the moduli are equal.
 #[cfg_attr(debug_assertions, track_caller)]
 #[inline]
+#[must_use]
 pub fn inverse_form<T: PartialEq, R: Reducer<T>>(x: &R, y: &R, divisor: T) -> T {
     debug_assert!(
         x.modulus() == y.modulus(),
@@ -240,6 +250,7 @@ pub fn inverse_form<T: PartialEq, R: Reducer<T>>(x: &R, y: &R, divisor: T) -> T 
 }
 
 /// The negative.
+#[must_use]
 #[inline]
 pub fn negative<T, R: Reducer<T>>(x: ReducedInt<T, R>) -> ReducedInt<T, R> {
     ReducedInt { form: x.reducer.neg(x.form), reducer: x.reducer }

@@ -12,6 +12,7 @@
 /// assert_eq!(checked_jacobi_counted(2, 15), Some((1, 2))); // 2 is halved, 15 reduced modulo 1
 /// assert_eq!(checked_jacobi_counted(2, 14), None);
 /// ```
+#[must_use]
 #[inline]
 pub fn checked_jacobi_counted(a: usize, n: usize) -> Option<(i8, u32)> {
     super::checked_jacobi_counted(false, a, n)

@@ -44,6 +44,7 @@ pub type DoubleWord = u64;
 /// assert_eq!(ones(32), u32::MAX);
 /// ```
 #[cfg_attr(debug_assertions, track_caller)]
+#[must_use]
 #[inline]
 pub fn ones(n: u32) -> Word {
     debug_assert!(n <= Word::BITS, "n must be at most 32");
@@ -59,6 +60,7 @@ pub fn ones(n: u32) -> Word {
 ///
 /// assert_eq!(extend(4_000_000_000), 4_000_000_000_u64);
 /// ```
+#[must_use]
 #[inline]
 pub const fn extend(word: Word) -> DoubleWord {
     word as DoubleWord
@@ -73,6 +75,7 @@ pub const fn extend(word: Word) -> DoubleWord {
 ///
 /// assert_eq!(low(0x0123_4567_89ab_cdef), 0x89ab_cdef);
 /// ```
+#[must_use]
 #[inline]
 pub fn low(dw: DoubleWord) -> Word {
     Word::split(dw).0
@@ -87,6 +90,7 @@ pub fn low(dw: DoubleWord) -> Word {
 ///
 /// assert_eq!(high(0x0123_4567_89ab_cdef), 0x0123_4567);
 /// ```
+#[must_use]
 #[inline]
 pub fn high(dw: DoubleWord) -> Word {
     Word::split(dw).1
@@ -101,6 +105,7 @@ pub fn high(dw: DoubleWord) -> Word {
 ///
 /// assert_eq!(split(0x0123_4567_89ab_cdef), (0x89ab_cdef, 0x0123_4567));
 /// ```
+#[must_use]
 #[inline]
 pub fn split(dw: DoubleWord) -> (Word, Word) {
     Word::split(dw)
@@ -115,6 +120,7 @@ pub fn split(dw: DoubleWord) -> (Word, Word) {
 ///
 /// assert_eq!(merge(0x89ab_cdef, 0x0123_4567), 0x0123_4567_89ab_cdef);
 /// ```
+#[must_use]
 #[inline]
 pub fn merge(low: Word, high: Word) -> DoubleWord {
     Word::merge(low, high)
@@ -129,6 +135,7 @@ pub fn merge(low: Word, high: Word) -> DoubleWord {
 ///
 /// assert_eq!(wmul(4_000_000_000, 5), 20_000_000_000);
 /// ```
+#[must_use]
 #[inline]
 pub fn wmul(a: Word, b: Word) -> DoubleWord {
     a.product(b)
@@ -143,6 +150,7 @@ pub fn wmul(a: Word, b: Word) -> DoubleWord {
 ///
 /// assert_eq!(wsqr(1_000_000), 1_000_000_000_000);
 /// ```
+#[must_use]
 #[inline]
 pub fn wsqr(a: Word) -> DoubleWord {
     a.product(a)
@@ -162,6 +170,7 @@ pub fn wsqr(a: Word) -> DoubleWord {
 /// assert_eq!(nrem(1_000_000_000_000, 97), 50);
 /// ```
 #[cfg_attr(debug_assertions, track_caller)]
+#[must_use]
 #[inline]
 pub const fn nrem(n: DoubleWord, d: Word) -> Word {
     assert!(d != 0, "the modulus must be at least 1");

@@ -24,6 +24,7 @@ use crate::plans::PlanEntry;
 /// assert_eq!(room_once(199, 300), (0, 0));
 /// ```
 #[track_caller]
+#[must_use]
 #[inline]
 pub fn room_once(xs: usize, ys: usize) -> (usize, usize) {
     assert!(xs <= 1 << 32 && ys <= (1 << 32) - xs, "xs + ys must be at most 2^32");

@@ -40,6 +40,7 @@ pub struct Patterns<'a> {
 /// assert!(are_pattern_lengths(6, 2, 3));
 /// assert!(!are_pattern_lengths(7, 2, 3));
 /// ```
+#[must_use]
 #[inline]
 pub fn are_pattern_lengths(symbols: usize, count: usize, size: usize) -> bool {
     match count.checked_mul(size) {
@@ -94,6 +95,7 @@ impl<'a> Patterns<'a> {
     /// let mut hashes = [base(2); 2];
     /// assert_eq!(Patterns::new(base(1000), 2, b"abcd", &mut hashes).unwrap().base(), base(1000));
     /// ```
+    #[must_use]
     #[inline]
     pub fn base(&self) -> Hash {
         self.base
@@ -124,6 +126,7 @@ impl<'a> PrefixHashes<'a> {
     /// assert_eq!(text.pattern_at(&patterns, 3), None);
     /// ```
     #[track_caller]
+    #[must_use]
     pub fn pattern_at(&self, patterns: &Patterns<'_>, at: usize) -> Option<usize> {
         assert!(patterns.base == self.base, "the bases of the text and of the patterns must be the same");
         let size = patterns.size;
@@ -165,6 +168,7 @@ impl<'a> PrefixHashes<'a> {
     /// assert_eq!(text.find_any_from(&patterns, 2), None);
     /// ```
     #[track_caller]
+    #[must_use]
     #[inline]
     pub fn find_any_from(&self, patterns: &Patterns<'_>, from: usize) -> Option<(usize, usize)> {
         assert!(patterns.base == self.base, "the bases of the text and of the patterns must be the same");

@@ -21,6 +21,7 @@ impl<'a> System<'a> {
     /// assert_eq!(system.residue_modulo(10, &[2, 2, 1]), 3); // 23
     /// ```
     #[track_caller]
+    #[must_use]
     #[inline]
     pub fn residue_modulo(&self, m: u64, digits: &[u64]) -> u64 {
         assert!(

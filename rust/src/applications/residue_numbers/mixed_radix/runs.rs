@@ -65,6 +65,7 @@ impl<'a> System<'a> {
     /// assert!(system.has_moduli_of(&[3, 5].map(Montgomery::<u64>::new)));
     /// assert!(!system.has_moduli_of(&[5, 3].map(Montgomery::<u64>::new)));
     /// ```
+    #[must_use]
     #[inline]
     pub fn has_moduli_of<R: Reducer<u64>>(&self, reducers: &[R]) -> bool {
         if reducers.len() != self.moduli.len() {

@@ -26,6 +26,7 @@ impl<'a> System<'a> {
     /// assert!(!system.is_negative(&[1, 2, 3])); // 52
     /// ```
     #[track_caller]
+    #[must_use]
     pub fn is_negative(&self, digits: &[u64]) -> bool {
         assert!(
             digits.len() == self.moduli.len() && crate::residues::are_reduced(self.moduli, digits),
@@ -64,6 +65,7 @@ impl<'a> System<'a> {
     /// assert_eq!(system.compare_signed(&[2, 4, 6], &[0, 0, 0]), Ordering::Less); // -1 and 0
     /// ```
     #[track_caller]
+    #[must_use]
     #[inline]
     pub fn compare_signed(&self, left: &[u64], right: &[u64]) -> Ordering {
         assert!(

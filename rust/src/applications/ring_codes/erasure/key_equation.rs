@@ -15,6 +15,7 @@ use crate::{Reducer, RingWord};
 /// - the numerator is within the pair
 ///
 /// No build tests this: where it doesn't hold, the call panics or its result is unspecified.
+#[must_use]
 #[inline]
 pub fn discrepancy<T: RingWord, R: Reducer<T>>(r: &R, point: &T, symbol: &T, pair: &[T], split: usize) -> T {
     let value = evaluate(r, &pair[..split], point);

@@ -11,6 +11,7 @@ use crate::{Reducer, RingWord};
 /// - there is a point at the place
 ///
 /// No build tests this: where it doesn't hold, the call panics or its result is unspecified.
+#[must_use]
 #[inline]
 pub fn differences_before<T: RingWord, R: Reducer<T>>(r: &R, points: &[T], place: usize) -> T {
     let mut product = r.transform(T::one());
@@ -45,6 +46,7 @@ pub fn fill_weights<T: RingWord, R: Reducer<T>>(r: &R, points: &[T], weights: &m
 /// - there are at least `count` points and coefficients
 ///
 /// No build tests this: where it doesn't hold, the call panics or its result is unspecified.
+#[must_use]
 pub fn newton_value<T: RingWord, R: Reducer<T>>(r: &R, points: &[T], form: &[T], count: usize, point: &T) -> T {
     let mut value = r.transform(T::zero());
     for k in 0..count {

@@ -165,6 +165,7 @@ impl<'a, T: RingWord, R: Reducer<T>> PreparedCode<'a, T, R> {
     /// assert!(!code.is_codeword(&[3, 2, 1], &[0, 927]));
     /// ```
     #[track_caller]
+    #[must_use]
     #[inline]
     pub fn is_codeword(&self, symbols: &[T], others: &[T]) -> bool {
         debug_assert!(symbols.iter().chain(others).all(|x| self.ring.check(x)), "the symbols must be checked forms");

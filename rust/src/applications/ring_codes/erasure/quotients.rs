@@ -12,6 +12,7 @@ use crate::{Reducer, RingWord};
 /// - point, numerator and locator are checked forms
 ///
 /// No build tests this: where it doesn't hold, the call panics or its result is unspecified.
+#[must_use]
 pub fn quotient<T: RingWord, R: Reducer<T>>(r: &R, point: &T, numerator: &[T], locator: &[T]) -> Result<Option<T>, T> {
     let value = evaluate(r, locator, point);
     match r.inv(value) {

@@ -11,6 +11,7 @@ use crate::{Reducer, RingWord};
 /// - the list has at least that many entries
 ///
 /// No build tests this: where it doesn't hold, the call panics or its result is unspecified.
+#[must_use]
 #[inline]
 pub fn index_of(places: &[usize], count: usize, place: usize) -> Option<usize> {
     for j in 0..count {
