@@ -4,6 +4,7 @@
 mod panics;
 
 use num_modular::applications::check_digits::{iban_digits, Code, EAN_8};
+use num_modular::applications::lattice_rings::{ml_dsa, ml_kem};
 #[cfg(target_pointer_width = "64")]
 use num_modular::applications::long_product::{self, any_length, polynomials};
 use num_modular::applications::mersenne_hash::prefixes::PrefixHashes;
@@ -16,7 +17,7 @@ use num_modular::hashes;
 use num_modular::plans::PlannedModulus;
 use num_modular::ring::{invert_each, unload_forms, RingCommand};
 use num_modular::{Montgomery, Reducer, Vanilla};
-use panics::{message, place, SHORT};
+use panics::{message, place, MODULUS, SHORT};
 
 const POINTS: [u64; 4] = [1, 2, 3, 4];
 const WORD: [u64; 4] = [12, 19, 26, 33]; // 5 + 7X at these points
@@ -150,8 +151,11 @@ fn words_of_check_digits() {
     panic_in_debug_with!("the word must be accepted, and it must have both places"; EAN_8.finds_exchange(&wrong, 0));
     let uneven = Code { greatest: &[9; 9], ..EAN_8 };
     panic_in_debug_with!("the code must have a least and a greatest symbol for each weight: 8, 9 and 8"; uneven.accepts(&word) => true);
+    let none = Code { modulus: 0, ..EAN_8 };
+    panic_with!(MODULUS; none.accepts(&word), none.check_sum(&word));
     if cfg!(debug_assertions) {
         let halves = Code { weights: &[2, 1], least: &[0; 2], greatest: &[9; 2], ..EAN_8 };
+        panic_with!("the last weight must have an inverse modulo m"; Code { weights: &[1, 2], ..halves }.check_digit(&[1]));
         panic_with!("the word must be accepted, and it must have the place"; EAN_8.finds_change(&word, 8, 2));
         panic_with!("the word must be accepted, and it must have both places"; EAN_8.finds_exchange(&word, 7));
         panic_with!("the word must have the place, and the code must have a weight with an inverse modulo m there";
@@ -159,6 +163,18 @@ fn words_of_check_digits() {
         panic_with!("the text must have the form of an IBAN, and there must be room for 68 digits";
             iban_digits(b"gb82west12345698765432", &mut [0; 68]), iban_digits(b"GB8", &mut [0; 68]), iban_digits(b"GB82W7", &mut [0; 28]));
     }
+}
+
+#[test]
+fn entries_of_lattice_rings() {
+    let (dsa, kem) = (ml_dsa::Ring::new(), ml_kem::Ring::new());
+    let (zeros, dsa_above, kem_above) = ([0; 256], [ml_dsa::MODULUS; 256], [ml_kem::MODULUS; 256]);
+    panic_in_debug_with!("the coefficients must be residues";
+        dsa.ntt(&mut dsa_above.clone()), kem.ntt(&mut kem_above.clone()),
+        dsa.product(&mut zeros.clone(), &mut dsa_above.clone()), kem.product(&mut kem_above.clone(), &mut zeros.clone()));
+    panic_in_debug_with!("the entries must be residues";
+        dsa.inverse(&mut dsa_above.clone()), kem.inverse(&mut kem_above.clone()),
+        dsa.multiply(&mut zeros.clone(), &dsa_above), kem.multiply(&mut zeros.clone(), &kem_above));
 }
 
 #[test]

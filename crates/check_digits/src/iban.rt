@@ -84,8 +84,8 @@ fn all_characters(text: &[u8]) -> bool
     text.iter().all(|c| is_digit(*c) || is_letter(*c))
 }
 
-/// Whether the text has the form of an IBAN: in ASCII, two letters A to Z, two digits, and one to thirty letters and
-/// digits, with no space.
+/// Whether the text has the form of an IBAN: it has two letters A to Z, two digits, and one to thirty letters and
+/// digits, in ASCII, with no space.
 ///
 /// # Examples
 ///
@@ -246,7 +246,7 @@ fn write_ungrouped(text: &[u8], characters: &mut [u8]) -> usize
     end
 }
 
-/// Whether the text is an IBAN in groups: as its standard prints it, of four characters, with a space between two
+/// Whether the text is an IBAN in groups: its standard prints groups of four characters, with a space between two
 /// groups and no other. For an IBAN without spaces there is `accepts_iban`.
 ///
 /// # Examples

@@ -10,8 +10,8 @@ ghost use Rattle.check_digits.specs.Verhoeff.{IsVerhoeff};
 
 use crate::Code;
 
-/// The code of a standard: ISBN-10, in which the symbol X, which is allowed only at the last place, is 10 (ISO 2108,
-/// first to third edition).
+/// The code of a standard: ISBN-10 (ISO 2108, first to third edition). The symbol X, which is allowed only at the last
+/// place, is 10.
 pub const ISBN_10: Code<'static> = Code {
     modulus: 11,
     residue: 0,
@@ -57,8 +57,8 @@ pub const UPC_A: Code<'static> = Code {
     greatest: &[9; 12],
 };
 
-/// The code of a standard: ISSN without its hyphen, in which the symbol X, which is allowed only at the last place, is
-/// 10 (ISO 3297).
+/// The code of a standard: ISSN without its hyphen (ISO 3297). The symbol X, which is allowed only at the last place,
+/// is 10.
 pub const ISSN: Code<'static> = Code {
     modulus: 11,
     residue: 0,
@@ -67,8 +67,8 @@ pub const ISSN: Code<'static> = Code {
     greatest: &[9, 9, 9, 9, 9, 9, 9, 10],
 };
 
-/// The code of a standard: ORCID without its hyphens, in which the symbol X, which is allowed only at the last place,
-/// is 10 (ISO/IEC 7064, MOD 11-2). ISNI (ISO 27729) has the same code.
+/// The code of a standard: ORCID without its hyphens (ISO/IEC 7064, MOD 11-2). The symbol X, which is allowed only at
+/// the last place, is 10. ISNI (ISO 27729) has the same code.
 pub const ORCID: Code<'static> = Code {
     modulus: 11,
     residue: 1,

@@ -97,9 +97,9 @@ impl Ring {
     ///
     /// Source: FIPS 204, section 7.5, algorithm 41.
     ///
-    /// # Preconditions
+    /// # Conditions
     ///
-    /// - the coefficients are residues (`are_residues` tells)
+    /// - (debug) the coefficients are residues (`are_residues` tells)
     ///
     /// # Examples
     ///
@@ -111,11 +111,13 @@ impl Ring {
     /// Ring::new().ntt(&mut w);
     /// assert_eq!(w[0], ZETA); // the value of X at zeta
     /// ```
+    // rust: #[cfg_attr(debug_assertions, track_caller)]
     pub fn ntt(&self, w: &mut [u32; 256])
         requires { All (λ x. x < 8380417) w.old }
         ensures residues { All (λ x. x < 8380417) w.new }
         ensures values { IsDsaTransform (slice_index w.old) (slice_index w.new) }
     {
+        // rust: debug_assert!(are_residues(w), "the coefficients must be residues");
         self.plan().split(w, 1, 1);
     }
 
@@ -123,9 +125,9 @@ impl Ring {
     ///
     /// Source: FIPS 204, section 7.5, algorithm 42.
     ///
-    /// # Preconditions
+    /// # Conditions
     ///
-    /// - the entries are residues
+    /// - (debug) the entries are residues
     ///
     /// # Examples
     ///
@@ -136,6 +138,7 @@ impl Ring {
     /// Ring::new().inverse(&mut w);
     /// assert_eq!((w[0], w[1]), (7, 0)); // the constant 7
     /// ```
+    // rust: #[cfg_attr(debug_assertions, track_caller)]
     pub fn inverse(&self, w: &mut [u32; 256])
         requires { All (λ x. x < 8380417) w.old }
         ensures residues { All (λ x. x < 8380417) w.new }
@@ -143,6 +146,7 @@ impl Ring {
         ensures unique { (x : ℕ → ℕ) → IsDsaTransform x (slice_index w.old) →
             (i : ℕ) → i < 256 → slice_index w.new i ≡ x i % 8380417 }
     {
+        // rust: debug_assert!(are_residues(w), "the entries must be residues");
         transform_laws();
         self.plan().join(w, 1, 1);
     }
@@ -151,9 +155,9 @@ impl Ring {
     ///
     /// Source: FIPS 204, section 2.5: the entrywise product of NTT(xs) and NTT(ys) is transformed back.
     ///
-    /// # Preconditions
+    /// # Conditions
     ///
-    /// - the coefficients are residues
+    /// - (debug) the coefficients are residues
     ///
     /// # Examples
     ///
@@ -165,6 +169,7 @@ impl Ring {
     /// Ring::new().product(&mut xs, &mut ys);
     /// assert_eq!((xs[0], xs[1]), (MODULUS - 1, 5)); // (5 + X^255) * X
     /// ```
+    // rust: #[cfg_attr(debug_assertions, track_caller)]
     pub fn product(&self, xs: &mut [u32; 256], ys: &mut [u32; 256])
         requires xs { All (λ x. x < 8380417) xs.old }
         requires ys { All (λ x. x < 8380417) ys.old }
@@ -172,6 +177,7 @@ impl Ring {
         ensures product { IsRingProduct 8380417 (slice_index xs.old) (slice_index ys.old) (slice_index xs.new) }
         ensures transform { IsDsaTransform (slice_index ys.old) (slice_index ys.new) }
     {
+        // rust: debug_assert!(are_residues(xs) && are_residues(ys), "the coefficients must be residues");
         self.ntt(xs);
         self.ntt(ys);
         self.multiply(xs, ys);
@@ -183,9 +189,9 @@ impl Ring {
     ///
     /// Source: FIPS 204, section 7.6, algorithm 45.
     ///
-    /// # Preconditions
+    /// # Conditions
     ///
-    /// - the entries are residues
+    /// - (debug) the entries are residues
     ///
     /// # Examples
     ///
@@ -200,6 +206,7 @@ impl Ring {
     /// ring.multiply(&mut w, &other);
     /// assert_eq!(w[0], ZETA * ZETA); // the value of X^2 at zeta, below q
     /// ```
+    // rust: #[cfg_attr(debug_assertions, track_caller)]
     pub fn multiply(&self, xs: &mut [u32; 256], ys: &[u32; 256])
         requires xs { All (λ x. x < 8380417) xs.old }
         requires ys { All (λ x. x < 8380417) ys.now }
@@ -208,6 +215,7 @@ impl Ring {
         ensures product { (x y p : ℕ → ℕ) → IsRingProduct 8380417 x y p → IsDsaTransform x (slice_index xs.old) →
             IsDsaTransform y (slice_index ys.now) → IsDsaTransform p (slice_index xs.new) }
     {
+        // rust: debug_assert!(are_residues(xs) && are_residues(ys), "the entries must be residues");
         self.plan().multiply(xs, ys);
     }
 }

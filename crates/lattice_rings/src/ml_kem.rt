@@ -116,9 +116,9 @@ impl Ring {
     ///
     /// Source: FIPS 203, section 4.3, algorithm 9.
     ///
-    /// # Preconditions
+    /// # Conditions
     ///
-    /// - the coefficients are residues (`are_residues` tells)
+    /// - (debug) the coefficients are residues (`are_residues` tells)
     ///
     /// # Examples
     ///
@@ -130,11 +130,13 @@ impl Ring {
     /// Ring::new().ntt(&mut w);
     /// assert_eq!(w[..2], [ZETA, 0]); // X^2 modulo X^2 - zeta
     /// ```
+    // rust: #[cfg_attr(debug_assertions, track_caller)]
     pub fn ntt(&self, w: &mut [u32; 256])
         requires { All (λ x. x < 3329) w.old }
         ensures residues { All (λ x. x < 3329) w.new }
         ensures remainders { IsKemTransform (slice_index w.old) (slice_index w.new) }
     {
+        // rust: debug_assert!(are_residues(w), "the coefficients must be residues");
         self.plan().split(w, 1, 2);
     }
 
@@ -142,9 +144,9 @@ impl Ring {
     ///
     /// Source: FIPS 203, section 4.3, algorithm 10.
     ///
-    /// # Preconditions
+    /// # Conditions
     ///
-    /// - the entries are residues
+    /// - (debug) the entries are residues
     ///
     /// # Examples
     ///
@@ -157,6 +159,7 @@ impl Ring {
     /// ring.inverse(&mut w);
     /// assert_eq!(w, [1; 256]);
     /// ```
+    // rust: #[cfg_attr(debug_assertions, track_caller)]
     pub fn inverse(&self, w: &mut [u32; 256])
         requires { All (λ x. x < 3329) w.old }
         ensures residues { All (λ x. x < 3329) w.new }
@@ -164,6 +167,7 @@ impl Ring {
         ensures unique { (x : ℕ → ℕ) → IsKemTransform x (slice_index w.old) →
             (i : ℕ) → i < 256 → slice_index w.new i ≡ x i % 3329 }
     {
+        // rust: debug_assert!(are_residues(w), "the entries must be residues");
         transform_laws();
         self.plan().join(w, 1, 2);
     }
@@ -172,9 +176,9 @@ impl Ring {
     ///
     /// Source: FIPS 203, section 4.3, algorithms 11 and 12: the products of the remainders are joined.
     ///
-    /// # Preconditions
+    /// # Conditions
     ///
-    /// - the coefficients are residues
+    /// - (debug) the coefficients are residues
     ///
     /// # Examples
     ///
@@ -186,6 +190,7 @@ impl Ring {
     /// Ring::new().product(&mut xs, &mut ys);
     /// assert_eq!((xs[0], xs[1]), (MODULUS - 1, 5)); // (5 + X^255) * X
     /// ```
+    // rust: #[cfg_attr(debug_assertions, track_caller)]
     pub fn product(&self, xs: &mut [u32; 256], ys: &mut [u32; 256])
         requires xs { All (λ x. x < 3329) xs.old }
         requires ys { All (λ x. x < 3329) ys.old }
@@ -193,6 +198,7 @@ impl Ring {
         ensures product { IsRingProduct 3329 (slice_index xs.old) (slice_index ys.old) (slice_index xs.new) }
         ensures transform { IsKemTransform (slice_index ys.old) (slice_index ys.new) }
     {
+        // rust: debug_assert!(are_residues(xs) && are_residues(ys), "the coefficients must be residues");
         self.ntt(xs);
         self.ntt(ys);
         self.multiply(xs, ys);
@@ -204,9 +210,9 @@ impl Ring {
     ///
     /// Source: FIPS 203, section 4.3, algorithms 11 and 12.
     ///
-    /// # Preconditions
+    /// # Conditions
     ///
-    /// - the entries are residues
+    /// - (debug) the entries are residues
     ///
     /// # Examples
     ///
@@ -221,6 +227,7 @@ impl Ring {
     /// ring.multiply(&mut w, &other);
     /// assert_eq!(w[..2], [ZETA, 0]); // X * X modulo X^2 - zeta
     /// ```
+    // rust: #[cfg_attr(debug_assertions, track_caller)]
     pub fn multiply(&self, xs: &mut [u32; 256], ys: &[u32; 256])
         requires xs { All (λ x. x < 3329) xs.old }
         requires ys { All (λ x. x < 3329) ys.now }
@@ -229,6 +236,7 @@ impl Ring {
         ensures product { (x y p : ℕ → ℕ) → IsRingProduct 3329 x y p → IsKemTransform x (slice_index xs.old) →
             IsKemTransform y (slice_index ys.now) → IsKemTransform p (slice_index xs.new) }
     {
+        // rust: debug_assert!(are_residues(xs) && are_residues(ys), "the entries must be residues");
         'remainders: for i in 0..128 {
             let (x, y) = ((xs[2 * i], xs[2 * i + 1]), (ys[2 * i], ys[2 * i + 1]));
             let (constant, linear) = multiply_remainders(x, y, self.square(i));

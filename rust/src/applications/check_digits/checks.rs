@@ -12,8 +12,10 @@ fn is_found(fit: bool, shown: u64) -> bool {
 
 impl<'a> Code<'a> {
     // The residue of the weighted sum of the symbols.
+    #[cfg_attr(debug_assertions, track_caller)]
     fn sum(&self, word: &[u64]) -> u64 {
         let m = self.modulus;
+        assert!(m > 0, "the modulus must be at least 1");
         let weights = self.weights;
         let mut sum = 0 % m;
         for (place, symbol) in word.iter().enumerate() {
@@ -115,9 +117,9 @@ impl<'a> Code<'a> {
         word.len() == self.weights.len() && self.fits_but(word, word.len()) && self.sum(word) == self.residue % self.modulus
     }
 
-    /// Whether the text is a word of the code: in ASCII, its digits, X for 10, and between two of them at most one
-    /// hyphen or space (`is_symbol_text` tells). Where these have to be isn't tested, because for an ISBN it depends on
-    /// the country and the publisher.
+    /// Whether the text is a word of the code. It has the word's digits in ASCII, X for 10, and between two of them at
+    /// most one hyphen or space (`is_symbol_text` tells). Where these have to be isn't tested, because for an ISBN it
+    /// depends on the country and the publisher.
     ///
     /// # Panics
     ///
@@ -297,11 +299,12 @@ impl<'a> Code<'a> {
     /// The check digit behind the word: the only symbol below m that makes it one of the code, where 10 is X. `None`
     /// exactly where no symbol below m does.
     ///
-    /// # Preconditions
+    /// # Panics
     ///
-    /// - the last weight has an inverse modulo m, as the weight 1 of each code of `standard_codes` has
+    /// A debug build panics unless the last weight has an inverse modulo m, as the weight 1 of each code of
+    /// `standard_codes` has.
     ///
-    /// No build tests this: where it doesn't hold, the call panics or its result is unspecified.
+    /// A release build doesn't test this: where it doesn't hold, the call panics or its result is unspecified.
     ///
     /// # Examples
     ///
@@ -311,8 +314,13 @@ impl<'a> Code<'a> {
     /// assert_eq!(EAN_8.check_digit(&[7, 3, 5, 1, 3, 5, 3]), Some(7));
     /// assert_eq!(ISBN_10.check_digit(&[0, 8, 0, 4, 4, 2, 9, 5, 7]), Some(10)); // X
     /// ```
+    #[cfg_attr(debug_assertions, track_caller)]
     #[must_use]
     pub fn check_digit(&self, word: &[u64]) -> Option<u64> {
+        debug_assert!(
+            self.weights.last().map_or(true, |it| self.can_restore(*it)),
+            "the last weight must have an inverse modulo m"
+        );
         let place = word.len();
         let weights = self.weights;
         if place + 1 != weights.len() {

@@ -84,11 +84,11 @@ impl Ring {
     ///
     /// Source: FIPS 204, section 7.5, algorithm 41.
     ///
-    /// # Preconditions
+    /// # Panics
     ///
-    /// - the coefficients are residues (`are_residues` tells)
+    /// A debug build panics unless the coefficients are residues (`are_residues` tells).
     ///
-    /// No build tests this: where it doesn't hold, the call panics or its result is unspecified.
+    /// A release build doesn't test this: where it doesn't hold, the call panics or its result is unspecified.
     ///
     /// # Examples
     ///
@@ -100,8 +100,10 @@ impl Ring {
     /// Ring::new().ntt(&mut w);
     /// assert_eq!(w[0], ZETA); // the value of X at zeta
     /// ```
+    #[cfg_attr(debug_assertions, track_caller)]
     #[inline]
     pub fn ntt(&self, w: &mut [u32; 256]) {
+        debug_assert!(are_residues(w), "the coefficients must be residues");
         self.plan().split(w, 1, 1);
     }
 
@@ -109,11 +111,11 @@ impl Ring {
     ///
     /// Source: FIPS 204, section 7.5, algorithm 42.
     ///
-    /// # Preconditions
+    /// # Panics
     ///
-    /// - the entries are residues
+    /// A debug build panics unless the entries are residues.
     ///
-    /// No build tests this: where it doesn't hold, the call panics or its result is unspecified.
+    /// A release build doesn't test this: where it doesn't hold, the call panics or its result is unspecified.
     ///
     /// # Examples
     ///
@@ -124,8 +126,10 @@ impl Ring {
     /// Ring::new().inverse(&mut w);
     /// assert_eq!((w[0], w[1]), (7, 0)); // the constant 7
     /// ```
+    #[cfg_attr(debug_assertions, track_caller)]
     #[inline]
     pub fn inverse(&self, w: &mut [u32; 256]) {
+        debug_assert!(are_residues(w), "the entries must be residues");
         self.plan().join(w, 1, 1);
     }
 
@@ -133,11 +137,11 @@ impl Ring {
     ///
     /// Source: FIPS 204, section 2.5: the entrywise product of NTT(xs) and NTT(ys) is transformed back.
     ///
-    /// # Preconditions
+    /// # Panics
     ///
-    /// - the coefficients are residues
+    /// A debug build panics unless the coefficients are residues.
     ///
-    /// No build tests this: where it doesn't hold, the call panics or its result is unspecified.
+    /// A release build doesn't test this: where it doesn't hold, the call panics or its result is unspecified.
     ///
     /// # Examples
     ///
@@ -149,8 +153,10 @@ impl Ring {
     /// Ring::new().product(&mut xs, &mut ys);
     /// assert_eq!((xs[0], xs[1]), (MODULUS - 1, 5)); // (5 + X^255) * X
     /// ```
+    #[cfg_attr(debug_assertions, track_caller)]
     #[inline]
     pub fn product(&self, xs: &mut [u32; 256], ys: &mut [u32; 256]) {
+        debug_assert!(are_residues(xs) && are_residues(ys), "the coefficients must be residues");
         self.ntt(xs);
         self.ntt(ys);
         self.multiply(xs, ys);
@@ -162,11 +168,11 @@ impl Ring {
     ///
     /// Source: FIPS 204, section 7.6, algorithm 45.
     ///
-    /// # Preconditions
+    /// # Panics
     ///
-    /// - the entries are residues
+    /// A debug build panics unless the entries are residues.
     ///
-    /// No build tests this: where it doesn't hold, the call panics or its result is unspecified.
+    /// A release build doesn't test this: where it doesn't hold, the call panics or its result is unspecified.
     ///
     /// # Examples
     ///
@@ -181,8 +187,10 @@ impl Ring {
     /// ring.multiply(&mut w, &other);
     /// assert_eq!(w[0], ZETA * ZETA); // the value of X^2 at zeta, below q
     /// ```
+    #[cfg_attr(debug_assertions, track_caller)]
     #[inline]
     pub fn multiply(&self, xs: &mut [u32; 256], ys: &[u32; 256]) {
+        debug_assert!(are_residues(xs) && are_residues(ys), "the entries must be residues");
         self.plan().multiply(xs, ys);
     }
 }

@@ -93,11 +93,11 @@ impl Ring {
     ///
     /// Source: FIPS 203, section 4.3, algorithm 9.
     ///
-    /// # Preconditions
+    /// # Panics
     ///
-    /// - the coefficients are residues (`are_residues` tells)
+    /// A debug build panics unless the coefficients are residues (`are_residues` tells).
     ///
-    /// No build tests this: where it doesn't hold, the call panics or its result is unspecified.
+    /// A release build doesn't test this: where it doesn't hold, the call panics or its result is unspecified.
     ///
     /// # Examples
     ///
@@ -109,8 +109,10 @@ impl Ring {
     /// Ring::new().ntt(&mut w);
     /// assert_eq!(w[..2], [ZETA, 0]); // X^2 modulo X^2 - zeta
     /// ```
+    #[cfg_attr(debug_assertions, track_caller)]
     #[inline]
     pub fn ntt(&self, w: &mut [u32; 256]) {
+        debug_assert!(are_residues(w), "the coefficients must be residues");
         self.plan().split(w, 1, 2);
     }
 
@@ -118,11 +120,11 @@ impl Ring {
     ///
     /// Source: FIPS 203, section 4.3, algorithm 10.
     ///
-    /// # Preconditions
+    /// # Panics
     ///
-    /// - the entries are residues
+    /// A debug build panics unless the entries are residues.
     ///
-    /// No build tests this: where it doesn't hold, the call panics or its result is unspecified.
+    /// A release build doesn't test this: where it doesn't hold, the call panics or its result is unspecified.
     ///
     /// # Examples
     ///
@@ -135,8 +137,10 @@ impl Ring {
     /// ring.inverse(&mut w);
     /// assert_eq!(w, [1; 256]);
     /// ```
+    #[cfg_attr(debug_assertions, track_caller)]
     #[inline]
     pub fn inverse(&self, w: &mut [u32; 256]) {
+        debug_assert!(are_residues(w), "the entries must be residues");
         self.plan().join(w, 1, 2);
     }
 
@@ -144,11 +148,11 @@ impl Ring {
     ///
     /// Source: FIPS 203, section 4.3, algorithms 11 and 12: the products of the remainders are joined.
     ///
-    /// # Preconditions
+    /// # Panics
     ///
-    /// - the coefficients are residues
+    /// A debug build panics unless the coefficients are residues.
     ///
-    /// No build tests this: where it doesn't hold, the call panics or its result is unspecified.
+    /// A release build doesn't test this: where it doesn't hold, the call panics or its result is unspecified.
     ///
     /// # Examples
     ///
@@ -160,8 +164,10 @@ impl Ring {
     /// Ring::new().product(&mut xs, &mut ys);
     /// assert_eq!((xs[0], xs[1]), (MODULUS - 1, 5)); // (5 + X^255) * X
     /// ```
+    #[cfg_attr(debug_assertions, track_caller)]
     #[inline]
     pub fn product(&self, xs: &mut [u32; 256], ys: &mut [u32; 256]) {
+        debug_assert!(are_residues(xs) && are_residues(ys), "the coefficients must be residues");
         self.ntt(xs);
         self.ntt(ys);
         self.multiply(xs, ys);
@@ -173,11 +179,11 @@ impl Ring {
     ///
     /// Source: FIPS 203, section 4.3, algorithms 11 and 12.
     ///
-    /// # Preconditions
+    /// # Panics
     ///
-    /// - the entries are residues
+    /// A debug build panics unless the entries are residues.
     ///
-    /// No build tests this: where it doesn't hold, the call panics or its result is unspecified.
+    /// A release build doesn't test this: where it doesn't hold, the call panics or its result is unspecified.
     ///
     /// # Examples
     ///
@@ -192,7 +198,9 @@ impl Ring {
     /// ring.multiply(&mut w, &other);
     /// assert_eq!(w[..2], [ZETA, 0]); // X * X modulo X^2 - zeta
     /// ```
+    #[cfg_attr(debug_assertions, track_caller)]
     pub fn multiply(&self, xs: &mut [u32; 256], ys: &[u32; 256]) {
+        debug_assert!(are_residues(xs) && are_residues(ys), "the entries must be residues");
         for i in 0..128 {
             let (x, y) = ((xs[2 * i], xs[2 * i + 1]), (ys[2 * i], ys[2 * i + 1]));
             let (constant, linear) = multiply_remainders(x, y, self.square(i));
