@@ -16,13 +16,9 @@ fn shifted<T: PathWord>(low: T, high: T, by: u32) -> T::Double {
     T::double_plus(above, T::merge(low.shift_right(by), T::zero()))
 }
 
-// The remainder of a word with carries above it. A sum of one or two products
-// usually has no carry, and needs no division by the reciprocal.
+// The remainder of a word with carries above it.
 #[inline]
 fn upper<T: PlainWord>(divider: &Normalized2by1Divisor<T>, word: T, carries: T) -> T {
-    if carries.is_zero_word() {
-        return divider.div_rem_1by1(word).1;
-    }
     let rest = divider.div_rem_1by1(carries).1;
     divider.div_rem_2by1(T::merge(word, rest)).1
 }
