@@ -7,12 +7,9 @@ use crate::modular_prim::reducer_word::ReducerWord;
 use crate::modular_reduced::list_products::sum_of_residues;
 use crate::modular_reduced::reducer::Reducer;
 
-// The remainder of a word modulo m. It is often below m, as the high word of few products is.
+// The remainder of a word modulo m.
 #[inline]
 fn remainder<T: ReducerWord, M: OddModulus<T>>(ring: &OddRing<T, M>, x: T) -> T {
-    if x.is_below(ring.kept.modulus()) {
-        return x;
-    }
     ring.residue(ring.transform(x))
 }
 
@@ -27,8 +24,5 @@ pub(crate) fn reduced_products<T: ReducerWord, M: OddModulus<T>>(
     let (sum, carries) = sum_of_residues(ring.kept.modulus(), xs, ys, from, to);
     let (low, high) = T::split(sum);
     let reduced = ring.kept.redc(T::merge(low, remainder(ring, high)));
-    if carries.is_zero_word() {
-        return reduced;
-    }
     add_below(reduced, ring.transform(carries), ring.kept.modulus())
 }

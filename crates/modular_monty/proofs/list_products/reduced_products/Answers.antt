@@ -1,4 +1,4 @@
-use Rattle.std.proofs.Common.{◌≡◌, ℕ, ◌+◌, ◌*◌, map, slice_index, ap, arith}
+use Rattle.std.proofs.Common.{ℕ, ◌+◌, ◌*◌, map, slice_index}
 use Rattle.modular_word.specs.Congruence.{Congruent}
 use Rattle.modular_word.specs.Sums.{sum_below}
 use Rattle.modular_word.proofs.Congruence.{mod_of_eq, mod_trans}
@@ -19,16 +19,6 @@ lowest : (g : _) (c : After-redc-reduced g)
 lowest g c =
     low_reduced (g.T.RingWord.number c.split-low.result.0) (so_far g c c.args.from) c.redc-reduced.ensures c.merge.ensures.value c.remainder.ensures.congruent
     c.split-low.ensures.value
-
-pub returns-then-is_zero_word-clause-congruent : goal.returns-then-is_zero_word-clause-congruent
-returns-then-is_zero_word-clause-congruent g c =
-    let b = g.T.PathWord.base in let number = g.T.RingWord.number in
-    let at = (goal.at.returns-then-is_zero_word-clause-congruent g c).After-redc-reduced in
-    let none : b * b * number c.sum_of_residues-sum.result.1 ≡ b * b * 0 =
-    ap (λ n. b * b * n) (c.is_zero_word.ensures.zero.0 c.if-is_zero_word.true) in
-    let whole : g.T.PathWord.double_number c.sum_of_residues-sum.result.0 + so_far g at c.args.from ≡ so_far g at c.args.to =
-    omega (arith, none, c.sum_of_residues-sum.ensures) in
-    mod_trans (lowest g at) (mod_of_eq whole)
 
 pub returns-clause-congruent : goal.returns-clause-congruent
 returns-clause-congruent g c =
