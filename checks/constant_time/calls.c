@@ -50,6 +50,17 @@ static void lists(const nm_montgomery_t *context, uint64_t root) {
     TRIED(0, "nm_montgomery_run", nm_montgomery_run(context, xs, LENGTH(xs), commands, LENGTH(commands), &done));
 }
 
+static void form_lists(const nm_montgomery_t *context) {
+    uint64_t xs[4] = {1, 2, 3, 5}, ys[4] = {2, 0, 7, 1}, product;
+    SECRET(xs);
+    SECRET(ys);
+    TRIED(8, "nm_montgomery_add_lists", nm_montgomery_add_lists(context, xs, 4, ys, 4));
+    TRIED(8, "nm_montgomery_sub_lists", nm_montgomery_sub_lists(context, xs, 4, ys, 4));
+    TRIED(8, "nm_montgomery_multiply_lists", nm_montgomery_multiply_lists(context, xs, 4, ys, 4));
+    TRIED(5, "nm_montgomery_scale_list", nm_montgomery_scale_list(context, xs, 4, ys[0]));
+    TRIED(8, "nm_montgomery_dot_product", nm_montgomery_dot_product(context, xs, 4, ys, 4, &product));
+}
+
 static void codes(const nm_montgomery_t *context) {
     const uint64_t points[5] = {1, 2, 3, 4, 5};
     const size_t places[3] = {3, 0, 4};
@@ -71,6 +82,7 @@ int main(void) {
         forms(&context, 0, m - 1);
         forms(&context, m / 3, m / 2);
         if (nm_montgomery_find_root(&context, 8, &root) == NM_OK) lists(&context, root);
+        form_lists(&context);
         if (m % 2 == 1) codes(&context);
     }
     return 0;
