@@ -6,7 +6,7 @@
  * contents are equal, but for the table of nm_plan_make. A body that writes and then restores would meet that, too.
  * That such a call doesn't write at all is tested, with outputs in a read-only page.
  *
- * A context, divider, plan, modulus or base comes first, but in the five operations on words and in the symbols, where
+ * A context, divider, plan, modulus or base comes first, but in the seven operations on words and in the symbols, where
  * the modulus follows the operands as in the Rust crate.
  *
  * The caller must ensure these preconditions, which the library can't test:
@@ -108,6 +108,15 @@ NM_CHECK nm_code_t nm_powm(uint64_t a, uint64_t exponent, uint64_t m, uint64_t *
 
 /* The inverse of a. NM_NO_INVERSE: a has none. */
 NM_CHECK nm_code_t nm_invm(uint64_t a, uint64_t m, uint64_t *inverse);
+
+/* The residue of a to the power of a secret exponent below 2^bits, by the same products for all. a is secret, too. For
+ * a form, pass what nm_montgomery_residue makes of it. NM_BAD_ARGUMENT: bits is above 64, or the exponent isn't below
+ * 2^bits. */
+NM_CHECK nm_code_t nm_powm_secret(uint64_t a, uint64_t exponent, uint32_t bits, uint64_t m, uint64_t *power);
+
+/* The inverse of a secret a for an odd m, by the same steps for all. NM_NO_INVERSE: a has none. NM_BAD_ARGUMENT: m is
+ * even. */
+NM_CHECK nm_code_t nm_invm_secret(uint64_t a, uint64_t m, uint64_t *inverse);
 
 /* --- Operations on lists of words modulo m, entry by entry. ---
  *

@@ -45,9 +45,40 @@ static void power_rows(void) {
     WORD(NM_BAD_ARGUMENT, 0, nm_invm(5, 0, &out));
 }
 
+/* Powers and inverses of Python's pow. */
+static void secret_rows(void) {
+    static const struct { uint64_t a, exponent, m, power; uint32_t bits; } powers[] = {
+        {3, 5, 97, 49, 4}, {3, 0, 97, 1, 0}, {0, 0, 1, 0, 64}, {5, 3, 10, 5, 2}, {255, 255, 10, 5, 8},
+        {3, UINT64_C(9223372036854775778), UINT64_C(18446744073709551557), UINT64_C(18446744073709551556), 63},
+        {UINT64_C(18446744073709551615), UINT64_C(18446744073709551615), UINT64_C(18446744073709551614), 1, 64},
+        {7, 1, UINT64_C(1099511627776), 7, 1},
+        {UINT64_C(1099511627779), UINT64_C(8589934592), UINT64_C(1099511627776), UINT64_C(996432412673), 34},
+    };
+    static const struct { uint64_t a, m, inverse; } inverses[] = {
+        {3, 7, 5}, {8, 11, 7}, {18, 11, 8}, {0, 1, 0},
+        {999, UINT64_C(9223372036854775807), UINT64_C(3619181019466538655)},
+        {UINT64_C(18446744073709551615), UINT64_C(18446744073709551557), UINT64_C(1590236558078409617)},
+        {2, UINT64_C(18446744073709551615), UINT64_C(9223372036854775808)},
+    };
+    for (size_t i = 0; i < sizeof powers / sizeof *powers; i++)
+        WORD(NM_OK, powers[i].power, nm_powm_secret(powers[i].a, powers[i].exponent, powers[i].bits, powers[i].m, &out));
+    for (size_t i = 0; i < sizeof inverses / sizeof *inverses; i++)
+        WORD(NM_OK, inverses[i].inverse, nm_invm_secret(inverses[i].a, inverses[i].m, &out));
+    WORD(NM_BAD_ARGUMENT, 0, nm_powm_secret(3, 5, 3, 0, &out));
+    WORD(NM_BAD_ARGUMENT, 0, nm_powm_secret(3, 5, 65, 7, &out));
+    WORD(NM_BAD_ARGUMENT, 0, nm_powm_secret(3, 8, 3, 7, &out));
+    WORD(NM_BAD_ARGUMENT, 0, nm_powm_secret(3, 1, 0, 7, &out));
+    WORD(NM_BAD_ARGUMENT, 0, nm_powm_secret(3, UINT64_C(1) << 63, 63, 7, &out));
+    WORD(NM_NO_INVERSE, 0, nm_invm_secret(0, 21, &out));
+    WORD(NM_NO_INVERSE, 0, nm_invm_secret(14, 21, &out));
+    WORD(NM_BAD_ARGUMENT, 0, nm_invm_secret(3, 0, &out));
+    WORD(NM_BAD_ARGUMENT, 0, nm_invm_secret(3, 10, &out));
+}
+
 void plain_rows(void) {
     residue_rows();
     power_rows();
+    secret_rows();
 }
 
 struct symbol_row { int64_t n, a; int32_t symbol; };

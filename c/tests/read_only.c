@@ -39,6 +39,9 @@ static void plain_refusals(void) {
     REFUSES(NM_BAD_ARGUMENT, nm_powm(5, 3, 0, words));
     REFUSES(NM_BAD_ARGUMENT, nm_invm(5, 0, words));
     REFUSES(NM_NO_INVERSE, nm_invm(7, 21, words));
+    REFUSES(NM_BAD_ARGUMENT, nm_powm_secret(3, 8, 3, 7, words));
+    REFUSES(NM_BAD_ARGUMENT, nm_invm_secret(5, 10, words));
+    REFUSES(NM_NO_INVERSE, nm_invm_secret(7, 21, words));
     REFUSES(NM_BAD_ARGUMENT, nm_add_lists(0, words, 2, words + 8, 2));
     REFUSES(NM_BAD_ARGUMENT, nm_sub_lists(7, words, 2, words + 8, 1));
     REFUSES(NM_BAD_ARGUMENT, nm_multiply_lists(0, words, 2, words + 8, 2));

@@ -5,7 +5,21 @@ import random
 import pytest
 
 import num_modular
-from num_modular import Divider, Montgomery, NoInverseError, addm, invm, jacobi, kronecker, legendre, mulm, powm, subm
+from num_modular import (
+    Divider,
+    Montgomery,
+    NoInverseError,
+    addm,
+    invm,
+    invm_secret,
+    jacobi,
+    kronecker,
+    legendre,
+    mulm,
+    powm,
+    powm_secret,
+    subm,
+)
 from num_modular._library import lib
 
 TOP = 1 << 64
@@ -30,6 +44,7 @@ def test_operations():
     for a, b, e, m in cases(3000):
         assert (addm(a, b, m), subm(a, b, m), mulm(a, b, m)) == ((a + b) % m, (a - b) % m, a * b % m)
         assert powm(a, e, m) == pow(a, e, m) == Montgomery(m).pow(a, e)
+        assert powm_secret(a, e, m) == powm_secret(a, e, m, bits=e.bit_length()) == pow(a, e, m)
 
 
 def test_inverses():
@@ -42,6 +57,19 @@ def test_inverses():
                 with pytest.raises(NoInverseError) as told:
                     call()
                 assert (told.value.number, told.value.at, told.value.registers) == (a, None, None)
+
+
+def test_secret_inverses():
+    for a, _, _, m in cases(2000):
+        if m % 2 == 0:
+            with pytest.raises(ValueError, match="^m must be odd$"):
+                invm_secret(a, m)
+        elif math.gcd(a, m) == 1:
+            assert invm_secret(a, m) == pow(a, -1, m)
+        else:
+            with pytest.raises(NoInverseError) as told:
+                invm_secret(a, m)
+            assert told.value.number == a
 
 
 def test_long_numbers_without_an_inverse():
@@ -72,7 +100,7 @@ def test_symbols():
             symbol(a, n)
 
 
-@pytest.mark.parametrize("call", [addm, subm, mulm, powm])
+@pytest.mark.parametrize("call", [addm, subm, mulm, powm, powm_secret])
 def test_out_of_range(call):
     for m in (0, TOP, -5):
         with pytest.raises(ValueError, match="^the modulus must be from 1 to 2.64 - 1$"):
@@ -97,6 +125,9 @@ def test_exponents_out_of_range():
         for call in (lambda: powm(3, exponent, 7), lambda: Montgomery(7).pow(3, exponent)):
             with pytest.raises(ValueError, match="^the exponent must be between"):
                 call()
+    for exponent, bits in ((-1, 64), (TOP, 64), (8, 3), (1, 0), (1, -1), (1, 65)):
+        with pytest.raises(ValueError, match="^bits must be from 0 to 64, and the exponent from 0 to 2.bits - 1$"):
+            powm_secret(3, exponent, 7, bits=bits)
     for call in (lambda: powm(3, "2", 7), lambda: Montgomery(7).pow(3, "2"), lambda: kronecker("3", 5)):
         with pytest.raises(TypeError, match="cannot be interpreted as an integer"):
             call()

@@ -19,6 +19,7 @@ pub mod prefixes;
 pub mod residues;
 pub mod runs;
 pub mod searches;
+pub mod secrets;
 pub mod solinas;
 pub mod symbols;
 pub mod transforms;

@@ -20,6 +20,7 @@ mod prefixes;
 mod residues;
 mod runs;
 mod searches;
+mod secrets;
 mod solinas;
 mod symbols;
 mod transforms;

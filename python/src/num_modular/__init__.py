@@ -28,7 +28,7 @@ from num_modular._polynomials import (
 )
 from num_modular._residues import Mod
 from num_modular._rings import Divider, Montgomery, Plan
-from num_modular._words import addm, invm, jacobi, kronecker, legendre, mulm, powm, subm
+from num_modular._words import addm, invm, invm_secret, jacobi, kronecker, legendre, mulm, powm, powm_secret, subm
 
 __version__ = "0.7.0"
 
@@ -53,6 +53,7 @@ __all__ = [
     "find",
     "find_all",
     "invm",
+    "invm_secret",
     "jacobi",
     "kronecker",
     "legendre",
@@ -62,6 +63,7 @@ __all__ = [
     "mulm",
     "polynomial_hash",
     "powm",
+    "powm_secret",
     "product",
     "square",
     "subm",

@@ -69,6 +69,36 @@ def invm(a: int, m: int) -> int:
     return out[0]
 
 
+def powm_secret(a: int, exponent: int, m: int, bits: int = 64) -> int:
+    """What `powm` returns, by the same products for every a and every exponent below 2^bits. Python's own integers still take
+    time that depends on them.
+
+    ValueError: the exponent isn't from 0 to 2^bits - 1, or bits isn't from 0 to 64.
+
+    >>> powm_secret(3, 1000, 97, bits=10)
+    36
+    """
+    m, exponent, bits, out = modulus(m), index(exponent), index(bits), ffi.new("uint64_t *")
+    if not 0 <= bits <= 64 or not 0 <= exponent < 1 << bits:
+        raise ValueError("bits must be from 0 to 64, and the exponent from 0 to 2^bits - 1")
+    check(lib.nm_powm_secret(reduced(a, m), exponent, bits, m, out))
+    return out[0]
+
+
+def invm_secret(a: int, m: int) -> int:
+    """What `invm` returns, by the same steps for every a, as in `powm_secret`. ValueError: m is even.
+
+    >>> invm_secret(3, 7)
+    5
+    """
+    m, out = modulus(m), ffi.new("uint64_t *")
+    code = lib.nm_invm_secret(reduced(a, m), m, out)
+    if code == lib.NM_NO_INVERSE:
+        raise no_inverse(a, m)
+    check(code, "m must be odd")
+    return out[0]
+
+
 def jacobi(a: int, n: int) -> int:
     """The Jacobi symbol of a over an odd n from 1 to 2^64 - 1: -1, 0 or 1. ValueError: n is even.
 

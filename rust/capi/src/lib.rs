@@ -740,6 +740,16 @@ pub unsafe extern "C" fn nm_find_all(
 }
 
 #[no_mangle]
+pub unsafe extern "C" fn nm_powm_secret(a: u64, exponent: u64, bits: u32, m: u64, power: &mut u64) -> u32 {
+    c::secrets::nm_powm_secret(a, exponent, bits, m, power)
+}
+
+#[no_mangle]
+pub unsafe extern "C" fn nm_invm_secret(a: u64, m: u64, inverse: &mut u64) -> u32 {
+    c::secrets::nm_invm_secret(a, m, inverse)
+}
+
+#[no_mangle]
 pub unsafe extern "C" fn nm_solinas_root_fits(root: u64, length: usize) -> u32 {
     c::solinas::nm_solinas_root_fits(root, length)
 }
