@@ -139,6 +139,12 @@ def names(prefix):
     yield report("the tests pass NULL for each list", lists and lists <= empty, f"{sorted(lists - empty)}")
 
 
+def counts_in(said):
+    """How many passed and failed, by the last line of what a program said; None where it has no such line."""
+    counts = COUNT.fullmatch(said.strip().rpartition("\n")[2])
+    return counts and (int(counts[1]), int(counts[2]))
+
+
 def page(prefix, folder):
     """The example of c/README.md, which prints what the page says."""
     text = (TOP / "c/README.md").read_text()
@@ -158,10 +164,10 @@ def program(prefix, folder, name, sources, want):
         yield report(f"{name} is compiled", False, said)
         return
     said, status = run(file)
-    counts = COUNT.fullmatch(said.strip().rpartition("\n")[2])
+    counts = counts_in(said)
     yield report(f"{name} under the sanitizers", status == 0 and (counts if want is None else said == want), said)
     if want is None and counts:
-        yield int(counts[1]), int(counts[2])
+        yield counts
 
 
 def header(prefix, folder):
