@@ -16,9 +16,9 @@
  *   that of its second, where they don't say another.
  * - A plan of type nm_plan_t, and its table, are as nm_plan_make or nm_plan_check left them; nm_plan_check itself takes
  *   any.
- * - What a call writes, which is each argument without const, overlaps no other argument. So the two lists of a product
- *   in place, such as nm_plan_convolve, are never the same: for a square, copy the list. Arguments that are const may
- *   overlap each other in any way, or be the same.
+ * - What a call writes, which is each argument without const, overlaps no other argument. Of the six products in place,
+ *   such as nm_plan_convolve, this header tests whether both lists are one, and returns NM_BAD_ARGUMENT; for a square
+ *   copy the list. Arguments that are const may overlap each other in any way, or be the same.
  * - No function allocates, keeps a state or calls back, so calls may run in several threads at the same time, and may
  *   share what all of them only read. While one call writes a value or a list, no other call or thread may access it:
  *   the library has no locks.
@@ -654,6 +654,40 @@ NM_CHECK nm_code_t nm_residues_extend(const uint64_t *moduli, size_t moduli_leng
                                       size_t residues_length, const uint64_t *others, size_t others_length,
                                       uint64_t *extended, size_t extended_length, uint64_t *digits,
                                       size_t digits_length, uint64_t *inverses, size_t inverses_length);
+
+/* --- One list twice. --- */
+
+/* The six products in place, as a program calls them: NM_BAD_ARGUMENT where both lists are one, and not empty; else what
+ * the library's function of the name does. */
+NM_CHECK static inline nm_code_t NM_montgomery_convolve(const nm_montgomery_t *context, uint64_t *xs, size_t n,
+                                                        uint64_t *ys, size_t k, uint64_t root) {
+    return xs == ys && n ? NM_BAD_ARGUMENT : nm_montgomery_convolve(context, xs, n, ys, k, root);
+}
+NM_CHECK static inline nm_code_t NM_solinas_convolve(uint64_t *xs, size_t n, uint64_t *ys, size_t k, uint64_t root) {
+    return xs == ys && n ? NM_BAD_ARGUMENT : nm_solinas_convolve(xs, n, ys, k, root);
+}
+NM_CHECK static inline nm_code_t NM_convolve_planned(uint64_t m, uint64_t *xs, size_t n, uint64_t *ys, size_t k,
+                                                     const nm_factor_t *table, size_t factors, size_t last) {
+    return xs == ys && n ? NM_BAD_ARGUMENT : nm_convolve_planned(m, xs, n, ys, k, table, factors, last);
+}
+NM_CHECK static inline nm_code_t NM_convolve_negacyclic(uint64_t m, uint64_t *xs, size_t n, uint64_t *ys, size_t k,
+                                                        const nm_factor_t *table, size_t factors, size_t last) {
+    return xs == ys && n ? NM_BAD_ARGUMENT : nm_convolve_negacyclic(m, xs, n, ys, k, table, factors, last);
+}
+NM_CHECK static inline nm_code_t NM_plan_convolve(const nm_plan_t *plan, uint64_t *xs, size_t n, uint64_t *ys,
+                                                  size_t k) {
+    return xs == ys && n ? NM_BAD_ARGUMENT : nm_plan_convolve(plan, xs, n, ys, k);
+}
+NM_CHECK static inline nm_code_t NM_plan_convolve_negacyclic(const nm_plan_t *plan, uint64_t *xs, size_t n,
+                                                             uint64_t *ys, size_t k) {
+    return xs == ys && n ? NM_BAD_ARGUMENT : nm_plan_convolve_negacyclic(plan, xs, n, ys, k);
+}
+#define nm_montgomery_convolve NM_montgomery_convolve
+#define nm_solinas_convolve NM_solinas_convolve
+#define nm_convolve_planned NM_convolve_planned
+#define nm_convolve_negacyclic NM_convolve_negacyclic
+#define nm_plan_convolve NM_plan_convolve
+#define nm_plan_convolve_negacyclic NM_plan_convolve_negacyclic
 
 #ifdef __cplusplus
 }

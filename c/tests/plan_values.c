@@ -158,6 +158,8 @@ static void product_rows(void) {
 #define STILL(call)                                                                                                    \
     LIST(NM_BAD_ARGUMENT, xs, call, 37, 65, 49, 43, 2, 57, 56, 62);                                                    \
     LIST(NM_BAD_ARGUMENT, ys, NM_BAD_ARGUMENT, 36, 58, 18, 59, 33, 0, 55, 22)
+    STILL(nm_plan_convolve(&plan, xs, 8, xs, 8));
+    STILL(nm_plan_convolve_negacyclic(&plan, xs, 8, xs, 8));
     STILL(nm_plan_convolve(&plan, xs, 8, ys, 4));
     STILL(nm_plan_convolve(&plan, xs, 8, NULL, 0));
     STILL(nm_plan_convolve(&plan, NULL, 0, ys, 8));

@@ -157,6 +157,8 @@ static void product_rows(void) {
 #define STILL(call)                                                                                                    \
     LIST(NM_BAD_ARGUMENT, xs, call, 37, 65, 49, 43, 2, 57, 56, 62);                                                    \
     LIST(NM_BAD_ARGUMENT, ys, NM_BAD_ARGUMENT, 36, 58, 18, 59, 33, 0, 55, 22)
+    STILL(nm_convolve_planned(17, xs, 8, xs, 8, table, 8, 1));
+    STILL(nm_convolve_negacyclic(17, xs, 8, xs, 8, table, 8, 1));
     STILL(nm_convolve_planned(17, xs, 8, ys, 4, table, 8, 1));
     STILL(nm_convolve_planned(17, xs, 8, NULL, 0, table, 8, 1));
     STILL(nm_convolve_planned(17, xs, 8, ys, 8, table, 3, 1));

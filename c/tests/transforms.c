@@ -46,6 +46,7 @@ static void list_rows(void) {
     CODE(NM_NO_ROOT, nm_montgomery_intt(&ring, NULL, 0, 19));
     CODE(NM_NO_ROOT, nm_montgomery_convolve(&ring, NULL, 0, NULL, 0, 19));
     CODE(NM_OK, nm_montgomery(17, &ring));
+    LIST(NM_BAD_ARGUMENT, xs, nm_montgomery_convolve(&ring, xs, 4, xs, 4, 4), 1, 2, 3, 4);
     LIST(NM_BAD_ARGUMENT, xs, nm_montgomery_convolve(&ring, xs, 4, ys, 2, 4), 1, 2, 3, 4);
     LIST(NM_BAD_ARGUMENT, xs, nm_montgomery_convolve(&ring, xs, 4, NULL, 0, 4), 1, 2, 3, 4);
     LIST(NM_NO_ROOT, ys, nm_montgomery_convolve(&ring, xs, 4, ys, 4, 3), 0, 1, 0, 0);
@@ -63,6 +64,7 @@ static void solinas_rows(void) {
     uint64_t xs[8] = {1, 2, 3}, ys[8] = {4, 5}, root = UINT64_C(18446744069397807105);
     LIST(NM_NO_ROOT, xs, nm_solinas_ntt(xs, 8, 7), 1, 2, 3, 0, 0, 0, 0, 0);
     LIST(NM_NO_ROOT, xs, nm_solinas_ntt(xs, 7, root), 1, 2, 3, 0, 0, 0, 0, 0);
+    LIST(NM_BAD_ARGUMENT, xs, nm_solinas_convolve(xs, 8, xs, 8, root), 1, 2, 3, 0, 0, 0, 0, 0);
     LIST(NM_NO_ROOT, xs, nm_solinas_convolve(xs, 8, ys, 8, 7), 1, 2, 3, 0, 0, 0, 0, 0);
     LIST(NM_BAD_ARGUMENT, ys, nm_solinas_convolve(xs, 8, ys, 4, root), 4, 5, 0, 0, 0, 0, 0, 0);
     LIST(NM_NO_ROOT, xs, nm_solinas_intt(xs, 8, 7), 1, 2, 3, 0, 0, 0, 0, 0);
