@@ -611,8 +611,8 @@ NM_CHECK nm_code_t nm_polynomial_multiply_negacyclic(uint64_t m, const uint64_t 
 NM_CHECK nm_code_t nm_transform_room(size_t length, size_t *words, size_t *factors);
 
 /* Whether g is a root of unity of this order n modulo m, for which nm_transform_inverse undoes nm_transform: n is at
- * least 1, g^n is 1, and g^d - 1 has an inverse for each d from 1 to n - 1. It takes 2 * n products and one inverse.
- * NM_NO_ROOT: it isn't. NM_BAD_ARGUMENT: m is 0. */
+ * least 1, g^n is 1, and g^d - 1 has an inverse for each d from 1 to n - 1. It takes 2 * n products and one inverse
+ * where g^n is 1 and n is below m. NM_NO_ROOT: it isn't. NM_BAD_ARGUMENT: m is 0. */
 NM_CHECK nm_code_t nm_transform_root_fits(uint64_t m, uint64_t g, size_t order);
 
 /* The transform by g: entry j is the sum of x_i * g^(i * j) modulo m over i from 0 to n - 1. NM_NO_INVERSE: g has no

@@ -53,6 +53,12 @@ static void root_rows(void) {
     CODE(NM_OK, nm_transform_root_fits(7, 1, 1));
     CODE(NM_NO_ROOT, nm_transform_root_fits(7, 1, 0));
     CODE(NM_BAD_ARGUMENT, nm_transform_root_fits(0, 1, 1));
+    /* these take no time, though the order is great */
+    CODE(NM_NO_ROOT, nm_transform_root_fits(7, 1, SIZE_MAX));
+    CODE(NM_OK, nm_transform_root_fits(1, 1, SIZE_MAX));
+    CODE(NM_NO_ROOT, nm_transform_root_fits((UINT64_C(1) << 61) - 1, 3, (size_t)1 << 60));
+    CODE(NM_OK, nm_transform_root_fits(7, 3, 6));
+    CODE(NM_NO_ROOT, nm_transform_root_fits(7, 1, 7));
 }
 
 #define REFUSED(code, call) LIST(code, out, call, 7, 7, 7)

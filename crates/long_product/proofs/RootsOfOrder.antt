@@ -33,7 +33,7 @@ geometric (suc n) a =
     omega (arith, before, s, t, p)
 
 -- what a number times a unit is congruent to 0 with, is congruent to 0
-unit_cancels : {m : ℕ} (t u s : ℕ) → (t * u) % m ≡ 1 % m → Congruent m (t * s) 0 → Congruent m s 0
+pub unit_cancels : {m : ℕ} (t u s : ℕ) → (t * u) % m ≡ 1 % m → Congruent m (t * s) 0 → Congruent m s 0
 unit_cancels {m} t u s unit none =
     let one : Congruent m (t * u) 1 = record { same = unit } in
     let a : s ≡ s * 1 = omega arith in
@@ -58,7 +58,7 @@ turned {m} g n d whole =
     (mod_trans (mod_pow d turn) (mod_of_eq (one-pow d)))
 
 -- so where a power is 0, 0 is congruent to 1
-nothing_else : {m : ℕ} (g n d : ℕ) → g ^ n % m ≡ 1 % m → 0 < n → g ^ d ≤ 0 → Congruent m 0 1
+pub nothing_else : {m : ℕ} (g n d : ℕ) → g ^ n % m ≡ 1 % m → 0 < n → g ^ d ≤ 0 → Congruent m 0 1
 nothing_else {m} g n d whole some none =
     let a = g ^ d in
     let k : ℕ = n - 1 in

@@ -1,6 +1,7 @@
 -- Transforms of any length. The names are the library's own words.
 use Rattle.std.specs.Prelude.{◌≡◌, ℕ, ◌-◌, ◌*◌, ◌%◌, ◌^◌, ◌<◌, ◌≤◌}
 use Rattle.num_modular.specs.Inverses.{HasInverse}
+use Rattle.num_modular.specs.Roots.{root_by}
 use Rattle.num_modular.specs.Sums.{sum_below}
 use Rattle.long_product.specs.Polynomials.{HasProductRoom}
 use Rattle.long_product.specs.declared.any_length.TheConstants.{LEAST_CONVOLVED}
@@ -12,6 +13,12 @@ pub record IsRootOfOrder (m g n : ℕ) : Type 0 where
   pub some : 1 ≤ n
   pub whole_turn : g ^ n % m ≡ 1 % m
   pub no_shorter : (d : ℕ) → 1 ≤ d → d < n → HasInverse m (g ^ d - 1)
+
+-- x is the least number that is at least 2 and gives a root of order n
+pub record IsFirstBaseOfOrder (m n x : ℕ) : Type 0 where
+  pub from : 2 ≤ x
+  pub root : IsRootOfOrder m (root_by m n x) n
+  pub least : (y : ℕ) → 2 ≤ y → y < x → IsRootOfOrder m (root_by m n y) n → ⊥
 
 -- the binomial coefficient n over 2: the sum of the numbers below n (Graham, Knuth and Patashnik, "Concrete
 -- Mathematics", section 5.1)

@@ -1,11 +1,13 @@
 //! Transforms of any length modulo any m: it has up to 64 bits, and the method is Bluestein's.
 
-ghost use Rattle.std.specs.Prelude.{◌≡◌, ℕ, ◌+◌, ◌-◌, ◌*◌, ◌%◌, ◌^◌, ◌<◌, ◌≤◌, ◌↔◌, IsTrue, All, length, slice_index};
+ghost use Rattle.std.specs.Prelude.{◌≡◌, ℕ, ◌+◌, ◌-◌, ◌*◌, ◌%◌, ◌^◌, ◌<◌, ◌≤◌, ◌↔◌};
+ghost use Rattle.std.specs.Prelude.{IsTrue, All, MatchOption, length, slice_index};
 ghost use Rattle.num_modular.specs.Inverses.{IsInverse, HasInverse};
+ghost use Rattle.num_modular.specs.Roots.{root_by};
 ghost use Rattle.num_modular.specs.Sums.{sum_below};
 ghost use Rattle.num_modular.specs.Transforms.{transform};
 ghost use Rattle.long_product.specs.AnyLength.{IsRootOfOrder, choose_two, scaled_transform};
-ghost use Rattle.long_product.specs.AnyLength.{HasTransformRoom, FitsTransform};
+ghost use Rattle.long_product.specs.AnyLength.{HasTransformRoom, FitsTransform, IsFirstBaseOfOrder};
 ghost use Rattle.long_product.specs.Polynomials.{product_entry, HasProductRoom};
 
 use crate::plans::Plans;
@@ -14,7 +16,7 @@ use crate::reciprocal::{reciprocal_of, remainder};
 use crate::{entries_for, polynomials};
 use num_modular::laws::{inverse_laws, inverse_product_laws};
 use num_modular::plans::PlanEntry;
-use num_modular::{ModularUnaryOps, PreMulInv2by1, Reducer};
+use num_modular::{ModularPow, ModularUnaryOps, PreMulInv2by1, Reducer};
 
 /// From how many entries on scratch is needed: from this number on the transform is computed by a product of
 /// polynomials, for fewer by the sums.
@@ -340,7 +342,7 @@ pub fn intt<F: PlanEntry<u64>>(
 
 /// Whether `intt` by g undoes `ntt` of n entries: g is a root of unity of order n modulo m, m and n are at least 1, g^n
 /// is 1 modulo m, and g^d - 1 has an inverse modulo m for each d from 1 to n - 1. Modulo a prime m these are the g of
-/// order n. It takes 2·n products and one inverse.
+/// order n. It takes 2·n products and one inverse where g^n is 1 and n is below m, else at most a power of g.
 ///
 /// Source: von zur Gathen and Gerhard, Modern Computer Algebra, section 8.2: a product has an inverse exactly where all
 /// factors have.
@@ -360,17 +362,57 @@ pub fn is_root_of_order(m: u64, g: u64, n: usize) -> bool
     if m == 0 || n == 0 {
         return false;
     }
+    if m == 1 {
+        return true;
+    }
+    if n as u64 >= m {
+        return false;
+    }
+    if g.powm(n as u64, &m) != 1 {
+        return false;
+    }
     inverse_product_laws();
     let by = reciprocal_of(m);
     let mut power = remainder(&by, g as u128);
-    let one = remainder(&by, 1);
-    let mut differences = one;
+    let mut differences = remainder(&by, 1);
     'exponents: for _done in 1..n {
         let difference = remainder(&by, power as u128 + (m - 1) as u128);
         differences = residue_of_product(&by, differences, difference);
         power = residue_of_product(&by, g, power);
     }
-    power == one && differences.invm(&m).is_some()
+    differences.invm(&m).is_some()
+}
+
+/// A root of order n modulo m: x to the power (m - 1)/n, rounded down, for the least x from 2 to 255 for which
+/// `is_root_of_order` holds. `None` exactly where m is 0 or there is none. So it is for a prime m and an n that doesn't
+/// divide m - 1.
+///
+/// Source: Pollard, "The fast Fourier transform in a finite field", section 3.
+///
+/// # Examples
+///
+/// ```
+/// use num_modular::applications::long_product::any_length::find_root_of_order;
+///
+/// assert_eq!(find_root_of_order(31, 5), Some(2)); // 2^6, and 2^5 is 32
+/// assert_eq!(find_root_of_order(31, 7), None);
+/// ```
+pub fn find_root_of_order(m: u64, n: usize) -> Option<u64>
+    ensures { MatchOption result
+        (1 ≤ m → (x : ℕ) → 2 ≤ x → x < 256 → IsRootOfOrder m (root_by m n x) n → ⊥)
+        (λ g. (x : ℕ) × (x < 256) × IsFirstBaseOfOrder m n x × (g ≡ root_by m n x)) }
+{
+    if m == 0 || n == 0 {
+        return None;
+    }
+    let exponent = (m - 1) / n as u64;
+    'bases: for x in 2u64..256 {
+        let g = x.powm(exponent, &m);
+        if is_root_of_order(m, g, n) {
+            return Some(g);
+        }
+    }
+    None
 }
 
 /// A law, inversion: the transform by a root g of order n and what `intt` computes undo each other, and both ways the

@@ -86,15 +86,13 @@ def transform_inverse(xs: Iterable[int], g: int, m: int) -> list[int]:
 
 def transform_root_fits(g: int, n: int, m: int) -> bool:
     """Whether g is a root of unity of order n modulo m by which `transform_inverse` undoes `transform`: n is at least 1, g^n
-    is 1, and g^d - 1 has an inverse for each d from 1 to n - 1. It computes about 2 * n products where n is below m.
-    ValueError: m is out of range.
+    is 1, and g^d - 1 has an inverse for each d from 1 to n - 1. It computes about 2 * n products where g^n is 1 and n is below
+    m. ValueError: m is out of range.
 
     >>> transform_root_fits(2, 3, 7), transform_root_fits(2, 6, 7)
     (True, False)
     """
     m, g, n = modulus(m), index(g), word(n, "the order")
-    if n >= m:  # the powers of such a root are n residues, none of them 0 unless m is 1
-        return m == 1
     code = lib.nm_transform_root_fits(m, g % m, n)
     if code == lib.NM_NO_ROOT:
         return False

@@ -28,7 +28,7 @@ pub fn nm_transform_room(length: usize, words: &mut usize, factors: &mut usize) 
 
 /// Tests whether g is a root of unity of this order n modulo m, for which `nm_transform_inverse` undoes `nm_transform`:
 /// n is at least 1, g^n is 1, and g^d - 1 has an inverse for each d from 1 to n - 1. It takes 2·n products and one
-/// inverse. `NM_NO_ROOT`: it isn't. `NM_BAD_ARGUMENT`: m is 0.
+/// inverse where g^n is 1 and n is below m. `NM_NO_ROOT`: it isn't. `NM_BAD_ARGUMENT`: m is 0.
 #[inline]
 pub fn nm_transform_root_fits(m: u64, g: u64, order: usize) -> u32 {
     if m == 0 {

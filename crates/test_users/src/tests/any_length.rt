@@ -1,7 +1,7 @@
 //! Transforms of any length modulo any m, by the sums and by products of polynomials, and back.
 
 use super::assert_at;
-use long_product::any_length::{LEAST_CONVOLVED, intt, is_root_of_order, ntt, room};
+use long_product::any_length::{LEAST_CONVOLVED, find_root_of_order, intt, is_root_of_order, ntt, room};
 use long_product::{Plans, fill_plans, polynomials};
 use num_modular::plans::{Factor, PlanEntry};
 
@@ -109,6 +109,12 @@ const ROOTS: &[(u64, u64, usize, bool)] = &[
     (7, 1, 1, true),
     (7, 1, 0, false),
     (0, 1, 1, false),
+    // These take no time, though the order is great.
+    (7, 1, 18446744073709551615, false),
+    (1, 1, 18446744073709551615, true),
+    (2305843009213693951, 3, 1152921504606846976, false),
+    (7, 3, 6, true),
+    (7, 1, 7, false),
 ];
 
 #[test]
@@ -145,4 +151,28 @@ fn refuse<F: PlanEntry<u64>>(a: &mut [F], b: &mut [F], c: &mut [F]) -> bool {
 fn refusals(rt: HostRuntime) {
     let (mut a, mut b, mut c) = ([NONE; 1], [NONE; 1], [NONE; 1]);
     check!(&rt, 1; refuse(&mut a, &mut b, &mut c));
+}
+
+// A modulus, an order, and the root of it that is found, computed by trying each x; m where there is none.
+const FOUND: &[(u64, usize, u64)] = &[
+    (31, 5, 2),
+    (31, 7, 31),
+    (7, 3, 4),
+    (7, 6, 3),
+    (15, 2, 14),
+    (97, 96, 5),
+    (1009, 504, 121),
+    (91, 3, 91),
+    (1, 5, 0),
+    (7, 0, 7),
+    (7, 18446744073709551615, 7),
+    (0, 1, 0),
+];
+
+#[test]
+fn roots_that_are_found(rt: HostRuntime) {
+    for row in FOUND {
+        let &(m, n, known) = row;
+        assert_at(&rt, find_root_of_order(m, n).unwrap_or(m) == known, row);
+    }
 }

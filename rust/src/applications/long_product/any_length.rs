@@ -6,7 +6,7 @@ use crate::applications::long_product::polynomials::{are_sums_faster, count_for,
 use crate::applications::long_product::reciprocal::{reciprocal_of, remainder};
 use crate::applications::long_product::{entries_for, polynomials};
 use crate::plans::PlanEntry;
-use crate::{ModularUnaryOps, PreMulInv2by1, Reducer};
+use crate::{ModularPow, ModularUnaryOps, PreMulInv2by1, Reducer};
 
 /// From how many entries on scratch is needed: from this number on the transform is computed by a product of
 /// polynomials, for fewer by the sums.
@@ -257,7 +257,7 @@ pub fn intt<F: PlanEntry<u64>>(m: u64, g: u64, xs: &[u64], out: &mut [u64], word
 
 /// Whether `intt` by g undoes `ntt` of n entries: g is a root of unity of order n modulo m, m and n are at least 1, g^n
 /// is 1 modulo m, and g^d - 1 has an inverse modulo m for each d from 1 to n - 1. Modulo a prime m these are the g of
-/// order n. It takes 2·n products and one inverse.
+/// order n. It takes 2·n products and one inverse where g^n is 1 and n is below m, else at most a power of g.
 ///
 /// Source: von zur Gathen and Gerhard, Modern Computer Algebra, section 8.2: a product has an inverse exactly where all
 /// factors have.
@@ -276,14 +276,50 @@ pub fn is_root_of_order(m: u64, g: u64, n: usize) -> bool {
     if m == 0 || n == 0 {
         return false;
     }
+    if m == 1 {
+        return true;
+    }
+    if n as u64 >= m {
+        return false;
+    }
+    if g.powm(n as u64, &m) != 1 {
+        return false;
+    }
     let by = reciprocal_of(m);
     let mut power = remainder(&by, g as u128);
-    let one = remainder(&by, 1);
-    let mut differences = one;
+    let mut differences = remainder(&by, 1);
     for _done in 1..n {
         let difference = remainder(&by, power as u128 + (m - 1) as u128);
         differences = residue_of_product(&by, differences, difference);
         power = residue_of_product(&by, g, power);
     }
-    power == one && differences.invm(&m).is_some()
+    differences.invm(&m).is_some()
+}
+
+/// A root of order n modulo m: x to the power (m - 1)/n, rounded down, for the least x from 2 to 255 for which
+/// `is_root_of_order` holds. `None` exactly where m is 0 or there is none. So it is for a prime m and an n that doesn't
+/// divide m - 1.
+///
+/// Source: Pollard, "The fast Fourier transform in a finite field", section 3.
+///
+/// # Examples
+///
+/// ```
+/// use num_modular::applications::long_product::any_length::find_root_of_order;
+///
+/// assert_eq!(find_root_of_order(31, 5), Some(2)); // 2^6, and 2^5 is 32
+/// assert_eq!(find_root_of_order(31, 7), None);
+/// ```
+pub fn find_root_of_order(m: u64, n: usize) -> Option<u64> {
+    if m == 0 || n == 0 {
+        return None;
+    }
+    let exponent = (m - 1) / n as u64;
+    for x in 2u64..256 {
+        let g = x.powm(exponent, &m);
+        if is_root_of_order(m, g, n) {
+            return Some(g);
+        }
+    }
+    None
 }

@@ -1,0 +1,92 @@
+-- A root of order n modulo m has n different powers, none of them 0, so that n is below m.
+use Rattle.std.proofs.Common.{◌≡◌, ◌≢◌, ℕ, zero, suc, ◌+◌, ◌-◌, ◌*◌, ◌%◌, ◌^◌, ◌<◌, ◌≤◌, inl, inr}
+use Rattle.std.proofs.Common.{sym, ◌∙◌, ap, arith, cond, eqb}
+use Rattle.std.proofs.Math.Nat.{mod-lt, mod-eq_of_lt, zero-mod}
+use Rattle.std.proofs.lemmas.Bool.{cases_lt}
+use Rattle.std.proofs.lemmas.Bool.Decides.{eqb_tells}
+use Rattle.std.proofs.lemmas.Nat.{pow-add}
+use Rattle.num_modular.specs.Congruence.{Congruent}
+use Rattle.num_modular.specs.NumberLaws.{mod_of_eq, mod_refl, mod_sym, mod_trans, mod_mul, mod_add_cancel}
+use Rattle.long_product.specs.AnyLength.{IsRootOfOrder}
+use Rattle.long_product.proofs.RootsOfOrder.{nothing_else, unit_cancels}
+
+-- different numbers below a bound are at most as many
+few_below : (most size : ℕ) (f : ℕ → ℕ) → ((i : ℕ) → i < size → f i < most)
+    → ((i j : ℕ) → i < j → j < size → f i ≢ f j) → size ≤ most
+few_below zero zero f below apart = omega arith
+few_below zero (suc size) f below apart = let l = below 0 (omega arith) in absurd (omega (arith, l))
+few_below (suc most) zero f below apart = omega arith
+few_below (suc most) (suc size) f below apart =
+    let last = below size (omega arith) in
+    let l = few_below most size (λ i. cond (eqb (f i) most) (f size) (f i))
+    (λ i k. elim (eqb_tells (f i) most) [
+      | inl is ↦
+          let e = is.1 in
+          let other = apart i size k (omega arith) in
+          rw is.0 (omega (arith, last, e, other))
+      | inr not ↦
+          let before = below i (omega arith) in
+          let other = not.1 in
+          rw not.0 (omega (arith, before, other))
+    ])
+    (λ i j k t. elim (eqb_tells (f i) most) [
+      | inl is ↦ elim (eqb_tells (f j) most) [
+        | inl too ↦ λ e. apart i j k (omega arith) (is.1 ∙ sym too.1)
+        | inr not ↦ λ e. apart j size t (omega arith) (sym (rw (is.0, not.0) at e))
+      ]
+      | inr not ↦ elim (eqb_tells (f j) most) [
+        | inl is ↦ λ e. apart i size (omega (arith, k, t)) (omega arith) (rw (not.0, is.0) at e)
+        | inr neither ↦ λ e. apart i j k (omega arith) (rw (not.0, neither.0) at e)
+      ]
+    ]) in
+    omega (arith, l)
+
+-- where a power up to n is 0, 0 is congruent to 1 ..
+power_none : {m : ℕ} (g n i : ℕ) → g ^ n % m ≡ 1 % m → i ≤ n → Congruent m (g ^ i) 0 → Congruent m 0 1
+power_none {m} g n i whole few none =
+    let k : ℕ = n - i in
+    let e : n ≡ k + i = omega arith in
+    let p : g ^ n ≡ g ^ k * g ^ i = ap (λ j. g ^ j) e ∙ pow-add g k i in
+    let z : g ^ k * 0 ≡ 0 = omega arith in
+    mod_trans (mod_of_eq (sym z)) (mod_trans (mod_mul (mod_refl (g ^ k)) (mod_sym none))
+    (mod_trans (mod_of_eq (sym p)) (record { same = whole })))
+
+-- .. and where two of them are congruent
+power_twice : {m g n : ℕ} (i d : ℕ) → IsRootOfOrder m g n → 0 < d → i + d < n → Congruent m (g ^ (i + d)) (g ^ i)
+    → Congruent m 0 1
+power_twice {m} {g} {n} i d root some few same =
+    let a = g ^ d in
+    let s = g ^ i in
+    let unit = root.no_shorter d some (omega arith) in
+    elim (cases_lt 0 a) [
+      | inl l ↦
+          let e : a ≡ (a - 1) + 1 = omega arith in
+          let t : g ^ (i + d) ≡ (a - 1) * s + s = pow-add g i d ∙ ap (λ v. s * v) e ∙ omega arith in
+          let z : s ≡ 0 + s = omega arith in
+          power_none g n i root.whole_turn (omega arith)
+          (unit_cancels (a - 1) unit.0 s unit.1.one
+          (mod_add_cancel s (mod_trans (mod_of_eq (sym t)) (mod_trans same (mod_of_eq z)))))
+      | inr l ↦ nothing_else g n d root.whole_turn (omega arith) l
+    ]
+
+never : (m : ℕ) → 1 < m → Congruent m 0 1 → ⊥
+never m more is = let s : 0 ≡ 1 = sym (zero-mod m) ∙ is.same ∙ mod-eq_of_lt more in absurd (omega (arith, s))
+
+-- modulo a number above 1 the order is below it
+pub order_below : (m g n : ℕ) → 2 ≤ m → IsRootOfOrder m g n → n < m
+order_below m g n more root =
+    let some : 0 < m = omega (arith, more) in
+    let f = λ (i : ℕ). g ^ i % m in
+    let apart_from_zero : (i : ℕ) → i < n → f i ≢ 0 = λ i l e.
+    never m more (power_none g n i root.whole_turn (omega (arith, l)) (record { same = e ∙ sym (zero-mod m) })) in
+    let l = few_below (m - 1) n (λ i. f i - 1)
+    (λ i l. let b = mod-lt (g ^ i) some in let o = apart_from_zero i l in omega (arith, b, o, more))
+    (λ i j l k e.
+    let first = apart_from_zero i (omega (arith, l, k)) in
+    let second = apart_from_zero j k in
+    let d : ℕ = j - i in
+    let whole : i + d ≡ j = omega arith in
+    let same : f j ≡ f i = omega (arith, e, first, second) in
+    never m more (power_twice i d root (omega (arith, l)) (omega (arith, whole, k))
+    (record { same = ap (λ v. g ^ v % m) whole ∙ same }))) in
+    omega (arith, l, more)
