@@ -18,7 +18,7 @@
  *   any.
  * - What a call writes, which is each argument without const, overlaps no other argument. Of the six products in place,
  *   such as nm_plan_convolve, this header tests whether both lists are one, and returns NM_BAD_ARGUMENT; for a square
- *   copy the list. Arguments that are const may overlap each other in any way, or be the same.
+ *   call nm_plan_square. Arguments that are const may overlap each other in any way, or be the same.
  * - No function allocates, keeps a state or calls back, so calls may run in several threads at the same time, and may
  *   share what all of them only read. While one call writes a value or a list, no other call or thread may access it:
  *   the library has no locks.
@@ -430,6 +430,10 @@ NM_CHECK nm_code_t nm_plan_join(const nm_plan_t *plan, uint64_t *xs, size_t xs_l
  * the table. NM_NO_INVERSE: n has no inverse modulo m. */
 NM_CHECK nm_code_t nm_plan_convolve(const nm_plan_t *plan, uint64_t *xs, size_t xs_length, uint64_t *ys,
                                     size_t ys_length);
+
+/* Replaces the n words by their cyclic product with themselves: entry e is the sum of x_i * x_j modulo m over all
+ * i + j = e or e + n. The codes are those of nm_plan_convolve for xs and a copy of it. */
+NM_CHECK nm_code_t nm_plan_square(const nm_plan_t *plan, uint64_t *xs, size_t xs_length);
 
 /* Replaces the first list by the product of both modulo X^n + 1: entry e is the sum of x_i * y_j over all i + j = e,
  * less that over all i + j = e + n, modulo m. The second list is replaced by the result of nm_plan_split for b = 1 and

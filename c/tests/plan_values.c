@@ -182,6 +182,24 @@ static void product_rows(void) {
 #undef RESTART
 }
 
+static void square_rows(void) {
+    nm_factor_t table[4];
+    nm_plan_t plan = untouched;
+    uint64_t xs[8] = {37, 65, 49, 43, 2, 57, 56, 62}, four[4] = {1, 2, 3, 4}, two[2] = {7, 9}, one[1] = {67};
+    CODE(NM_OK, nm_plan_make(17, 9, table, 4, &plan));
+    LIST(NM_OK, xs, nm_plan_square(&plan, xs, 8), 1, 1, 13, 0, 0, 13, 1, 14);
+    LIST(NM_OK, four, nm_plan_square(&plan, four, 4), 9, 11, 9, 3);
+    LIST(NM_OK, one, nm_plan_square(&plan, one, 1), 1);
+    CODE(NM_BAD_ARGUMENT, nm_plan_square(&plan, NULL, 0));
+    LIST(NM_BAD_ARGUMENT, four, nm_plan_square(&plan, four, 3), 9, 11, 9, 3);
+    plan.table_length = 3, four[3] = 68;
+    LIST(NM_BAD_ARGUMENT, four, nm_plan_square(&plan, four, 4), 9, 11, 9, 68);
+    LIST(NM_BAD_ARGUMENT, xs, nm_plan_square(&plan, xs, 8), 1, 1, 13, 0, 0, 13, 1, 14);
+    CODE(NM_OK, nm_plan_make(20, 19, table, 1, &plan));
+    LIST(NM_NO_INVERSE, two, nm_plan_square(&plan, two, 2), 7, 9);
+    LIST(NM_OK, one, nm_plan_square(&plan, one, 1), 1);
+}
+
 /* lists of 2^6 to 2^16 words modulo a prime of 62 bits by one plan: as the calls that test the table have it, and back */
 static void long_rows(void) {
     size_t most = 65536, wrong = 0;
@@ -202,6 +220,10 @@ static void long_rows(void) {
             for (size_t i = 0; i < n; i++) wrong += xs[i] != ys[i];
             CODE(NM_OK, nm_plan_inverse(&plan, xs, n));
             for (size_t i = 0; i < n; i++) wrong += xs[i] != zs[i] % m;
+            memcpy(ys, xs, n * sizeof *ys), memcpy(zs, xs, n * sizeof *zs);
+            CODE(NM_OK, nm_plan_square(&plan, xs, n));
+            CODE(NM_OK, nm_plan_convolve(&plan, ys, n, zs, n));
+            for (size_t i = 0; i < n; i++) wrong += xs[i] != ys[i];
         }
         row("long lists by a plan", wrong == 0, NM_OK);
     }
@@ -214,5 +236,6 @@ void plan_value_rows(void) {
     value_transform_rows();
     split_rows();
     product_rows();
+    square_rows();
     long_rows();
 }

@@ -153,11 +153,13 @@ static void plan_value_refusals(void) {
     REFUSES(NM_BAD_ARGUMENT, nm_plan_join(&small, words, 4, 0, 1));
     REFUSES(NM_BAD_ARGUMENT, nm_plan_convolve(&small, words, 4, others, 4));
     REFUSES(NM_BAD_ARGUMENT, nm_plan_convolve_negacyclic(&small, words, 4, others, 4));
+    REFUSES(NM_BAD_ARGUMENT, nm_plan_square(&small, words, 4));
     CODE(NM_OK, nm_plan_make(20, 19, table, 1, &plan));
     table[1] = table[0], plan.table_length = 2;
     REFUSES(NM_NO_INVERSE, nm_plan_inverse(&plan, words, 2));
     REFUSES(NM_NO_INVERSE, nm_plan_join(&plan, words, 2, 0, 1));
     REFUSES(NM_NO_INVERSE, nm_plan_convolve(&plan, words, 2, others, 2));
+    REFUSES(NM_NO_INVERSE, nm_plan_square(&plan, words, 2));
     REFUSES(NM_NO_INVERSE, nm_plan_convolve_negacyclic(&plan, words, 4, others, 4));
 }
 

@@ -38,6 +38,7 @@ def test_transforms_and_products(m):
         assert ring.intt(transform(xs, plan.root, m)) == ring.intt([it - m for it in ring.ntt(xs)], plan.root - m) == xs
         assert plan.convolve(xs, ys) == ring.convolve(xs, ys) == product(xs, ys, m, 1)
         assert plan.convolve_negacyclic(xs, ys) == product(xs, ys, m, -1)
+        assert plan.square(xs) == product(xs, xs, m, 1)
         assert Plan(m, 2 * n).convolve(xs, ys) == product(xs, ys, m, 1)
 
 
@@ -66,7 +67,7 @@ def test_remainders(m):
 def test_lists_of_any_integers(m):
     xs, ys = [2**64, -(2**70), 4 * m, 5], [10**100, -(10**100), 4 * m - 1, 2**64 - 1]
     plan, ring, rest = Plan(m, 4), Montgomery(m), [it % m for it in xs]
-    for call in (plan.ntt, plan.intt, plan.split, plan.join, ring.ntt, ring.intt):
+    for call in (plan.ntt, plan.intt, plan.split, plan.join, plan.square, ring.ntt, ring.intt):
         assert call(xs) == call(rest)
     for call in (plan.convolve, plan.convolve_negacyclic, ring.convolve):
         assert call(xs, ys) == call(rest, [it % m for it in ys])
@@ -93,6 +94,8 @@ def test_arrays_are_changed_in_place():
             assert list(second) != ys
         assert call(xs, ys) == [4, 13, 22, 15]
         assert (xs, ys) == ([1, 2, 3, 0], [4, 5, 0, 0])
+    for words in arrays([1, 2, 3, 0]):
+        assert Plan(97, 4).square(words) is words and list(words) == [10, 4, 10, 12]
 
 
 @pytest.mark.parametrize("m", (1, 2, 97, 2**63 + 1, 2**64 - 1))
@@ -229,6 +232,7 @@ def test_roots_and_lengths():
         (lambda: plan.join(ones), 4),
         (lambda: plan.join(ones, 0, 2), 2),
         (lambda: plan.convolve(ones, ones), 4),
+        (lambda: plan.square(ones), 4),
         (lambda: plan.convolve_negacyclic(ones, ones), 2),
     ]
     for call, number in without:
@@ -246,7 +250,7 @@ def test_roots_and_lengths():
         (array.array("Q", [1, 388]), "word 388 isn't below 388"),
     ]
     for xs, fault in bad:
-        for call in (plan.ntt, plan.intt, plan.split, plan.join):
+        for call in (plan.ntt, plan.intt, plan.split, plan.join, plan.square):
             with pytest.raises(ValueError, match=fault):
                 call(xs)
         for call in (plan.convolve, plan.convolve_negacyclic):
@@ -311,7 +315,7 @@ def test_types():
         pytest.skip("typing.get_overloads is of Python 3.11")
     calls = [call for kind in (Montgomery, Plan) for name, call in vars(kind).items() if not name.startswith("_")]
     named = [call for call in calls if getattr(call, "__annotations__", {}).get("return") == "Any"]
-    assert len(named) == 14
+    assert len(named) == 15
     for call in named:
         array_kind, list_kind = (list(it.__annotations__.values()) for it in typing.get_overloads(call))
         assert (array_kind[0], array_kind[-1]) == ("Array", "Array")

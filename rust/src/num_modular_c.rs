@@ -11,6 +11,7 @@ pub mod lists;
 pub mod montgomery;
 pub mod montgomery_lists;
 pub mod plain;
+pub mod plan_squares;
 pub mod plan_value;
 pub mod planned;
 pub mod plans;

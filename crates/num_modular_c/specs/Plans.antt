@@ -5,7 +5,7 @@ use Rattle.modular_plan_passes.specs.Plans.{numbers, AreTwiddles, AreRemainders}
 use Rattle.modular_plan_transforms.specs.Tables.{IsTable as IsTableOf}
 use Rattle.num_modular.specs.PlanConditions.{AreBlocks}
 use Rattle.num_modular.specs.ProductConditions.{AreSmallBlocks}
-use Rattle.num_modular.specs.Transforms.{transform}
+use Rattle.num_modular.specs.Transforms.{transform, cyclic_product}
 use Rattle.num_modular_c.specs.declared.plan_value.NmPlan.{NmPlan}
 use Rattle.num_modular_c.specs.declared.plans.NmFactor.{NmFactor}
 
@@ -98,3 +98,10 @@ pub record IsPlannedProduct (m b last : ℕ) (table : List NmFactor) (p : ℕ �
   pub others_below : AreBelow m new_others
   pub remainders : (g z : ℕ) → HasTwiddles m g z table
       → AreRemainders m g z b (length others / last) last (words_of others) (words_of new_others)
+
+-- after a square: for each g whose table it is, entry e of the words is that of the cyclic product of those before with
+-- themselves
+pub record IsPlannedSquare (m : ℕ) (table : List NmFactor) (before after : List ℕ) : Type 0 where
+  pub below : AreBelow m after
+  pub square : (g z e : ℕ) → HasTwiddles m g z table → e < length before
+      → words_of after e ≡ cyclic_product m (length before) (words_of before) (words_of before) e

@@ -12,6 +12,7 @@ mod lists;
 mod montgomery;
 mod montgomery_lists;
 mod plain;
+mod plan_squares;
 mod plan_value;
 mod planned;
 mod plans;

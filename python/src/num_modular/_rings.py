@@ -456,6 +456,18 @@ class Plan(ByArguments):
         """
         return self._product(lib.nm_plan_convolve_negacyclic, xs, ys, 2)
 
+    @overload
+    def square(self, xs: Array) -> Array: ...
+    @overload
+    def square(self, xs: Sequence[int]) -> list[int]: ...
+    def square(self, xs: Any) -> Any:
+        """The cyclic product of a list of n words with itself, as `convolve` of two equal lists, but faster.
+
+        >>> Plan(97, 4).square([1, 2, 0, 0])
+        [1, 4, 4, 0]
+        """
+        return self._in_place(lib.nm_plan_square, xs)
+
     def _in_place(self, call: Any, xs: Any, *block: int) -> Any:
         words, is_new = words_of(xs, self.modulus, 4 * self.modulus)
         with words:

@@ -396,6 +396,11 @@ pub unsafe extern "C" fn nm_invm(a: u64, m: u64, inverse: &mut u64) -> u32 {
 }
 
 #[no_mangle]
+pub unsafe extern "C" fn nm_plan_square(plan: &NmPlan, xs: *mut u64, xs_length: usize) -> u32 {
+    c::plan_squares::nm_plan_square(&plan.lent(), list_mut(xs, xs_length))
+}
+
+#[no_mangle]
 pub unsafe extern "C" fn nm_plan_make(
     m: u64,
     root: u64,
