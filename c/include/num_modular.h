@@ -619,6 +619,10 @@ NM_CHECK nm_code_t nm_transform_room(size_t length, size_t *words, size_t *facto
  * where g^n is 1 and n is below m. NM_NO_ROOT: it isn't. NM_BAD_ARGUMENT: m is 0. */
 NM_CHECK nm_code_t nm_transform_root_fits(uint64_t m, uint64_t g, size_t order);
 
+/* A root of unity of this order n modulo m, as nm_transform_root_fits tests it: x to the power (m - 1)/n, rounded down,
+ * for the least x from 2 to 255 for which it is one. NM_NO_ROOT: it is for no x. NM_BAD_ARGUMENT: m is 0. */
+NM_CHECK nm_code_t nm_transform_find_root(uint64_t m, size_t order, uint64_t *root);
+
 /* The transform by g: entry j is the sum of x_i * g^(i * j) modulo m over i from 0 to n - 1. NM_NO_INVERSE: g has no
  * inverse modulo m. NM_BAD_ARGUMENT: m is 0; out_length isn't n; or a scratch list is shorter than nm_transform_room
  * writes, or that refuses. */

@@ -61,6 +61,21 @@ static void root_rows(void) {
     CODE(NM_NO_ROOT, nm_transform_root_fits(7, 1, 7));
 }
 
+static void found_rows(void) {
+    WORD(NM_OK, 2, nm_transform_find_root(31, 5, &out));
+    WORD(NM_NO_ROOT, 0, nm_transform_find_root(31, 7, &out));
+    WORD(NM_OK, 4, nm_transform_find_root(7, 3, &out));
+    WORD(NM_OK, 3, nm_transform_find_root(7, 6, &out));
+    WORD(NM_OK, 14, nm_transform_find_root(15, 2, &out));
+    WORD(NM_OK, 5, nm_transform_find_root(97, 96, &out));
+    WORD(NM_OK, 121, nm_transform_find_root(1009, 504, &out));
+    WORD(NM_NO_ROOT, 0, nm_transform_find_root(91, 3, &out));
+    WORD(NM_OK, 0, nm_transform_find_root(1, 5, &out));
+    WORD(NM_NO_ROOT, 0, nm_transform_find_root(7, 0, &out));
+    WORD(NM_NO_ROOT, 0, nm_transform_find_root(7, SIZE_MAX, &out));
+    WORD(NM_BAD_ARGUMENT, 0, nm_transform_find_root(0, 1, &out));
+}
+
 #define REFUSED(code, call) LIST(code, out, call, 7, 7, 7)
 
 static void refused_rows(void) {
@@ -131,6 +146,7 @@ void any_length_rows(void) {
     known_rows();
     room_rows();
     root_rows();
+    found_rows();
     refused_rows();
     ones_rows(41, 2, 20, 120, 0);
     ones_rows(1009, 121, 504, 6 * 504 + 8192, 3072);

@@ -258,6 +258,8 @@ static void any_length_refusals(void) {
     nm_factor_t *factors = (nm_factor_t *)(words + 900);
     REFUSES(CAUGHT, nm_transform(7, 2, xs, 3, words, 3, NULL, 0, NULL, 0));
     REFUSES(NM_BAD_ARGUMENT, nm_transform_room((size_t)UINT64_C(1431655766), (size_t *)words, (size_t *)words + 1));
+    REFUSES(NM_BAD_ARGUMENT, nm_transform_find_root(0, 3, words));
+    REFUSES(NM_NO_ROOT, nm_transform_find_root(31, 7, words));
     REFUSES(NM_BAD_ARGUMENT, nm_transform(0, 2, xs, 3, words, 3, scratch, 2, factors, 3));
     REFUSES(NM_BAD_ARGUMENT, nm_transform(7, 2, xs, 3, words, 4, scratch, 2, factors, 3));
     REFUSES(NM_BAD_ARGUMENT, nm_transform(7, 2, xs, 16, words, 16, scratch, 95, factors, 3));

@@ -7,11 +7,13 @@ import pytest
 
 from num_modular import (
     NoInverseError,
+    NoRootError,
     multiply,
     multiply_cyclic,
     multiply_negacyclic,
     square,
     transform,
+    transform_find_root,
     transform_inverse,
     transform_root_fits,
 )
@@ -101,6 +103,15 @@ def test_roots_of_unity():
                     xs = [draw.randrange(m) for _ in range(n)]
                     assert transform_inverse(transform(xs, g, m), g, m) == xs
     assert transform_root_fits(2**70, 1, 1)
+    for m in (7, 31, 97, 1009, 1025):
+        for n in range(1, 40):
+            roots = (pow(x, (m - 1) // n, m) for x in range(2, 256))
+            found = next((it for it in roots if transform_root_fits(it, n, m)), None)
+            if found is None:
+                with pytest.raises(NoRootError, match=f"^no root of order {n} modulo {m} was found$"):
+                    transform_find_root(n, m)
+            else:
+                assert transform_find_root(n, m) == found
     # these would take centuries
     assert transform_root_fits(5, 2**64 - 1, 1) and not transform_root_fits(1, 2**64 - 1, 7)
     assert not transform_root_fits(3, 2**63, 2**62 - 57)
@@ -114,10 +125,13 @@ def test_what_is_no_transform():
     for call in (transform, transform_inverse):
         with pytest.raises(TypeError):
             call([1, 2], 2.0, 9)
-    for call, words in ((transform, ([1], 1)), (transform_inverse, ([1], 1)), (transform_root_fits, (1, 1))):
+    for call, words in ((transform, ([1], 1)), (transform_inverse, ([1], 1)), (transform_root_fits, (1, 1)),
+                        (transform_find_root, (1,))):
         for m in (0, -1, 2**64):
             with pytest.raises(ValueError):
                 call(*words, m)
     for n in (-1, 2**64):
         with pytest.raises(ValueError, match="the order must be from 0"):
             transform_root_fits(1, n, 5)
+        with pytest.raises(ValueError, match="the order must be from 0"):
+            transform_find_root(n, 5)

@@ -2,14 +2,16 @@
 
 ghost use Rattle.std.specs.Prelude.{◌≡◌, ℕ, ◌*◌, ◌/◌, ◌%◌, ◌^◌, ◌<◌, ◌≤◌, ◌↔◌, IsTrue, length, slice_index};
 ghost use Rattle.long_product.specs.AnyLength.{IsRootOfOrder, scaled_transform, HasTransformRoom, FitsTransform};
+ghost use Rattle.long_product.specs.AnyLength.{IsFirstBaseOfOrder};
 ghost use Rattle.long_product.specs.Room.{ArePlanLengths};
 ghost use Rattle.num_modular.specs.Inverses.{IsInverse, HasInverse};
+ghost use Rattle.num_modular.specs.Roots.{root_by};
 ghost use Rattle.num_modular.specs.Transforms.{transform};
-ghost use Rattle.num_modular_c.specs.Codes.{Did, BothRefused};
+ghost use Rattle.num_modular_c.specs.Codes.{Did, Refused, BothRefused};
 
 use crate::codes::{NM_BAD_ARGUMENT, NM_NO_INVERSE, NM_NO_ROOT, NM_OK};
 use crate::plans::NmFactor;
-use long_product::any_length::{intt, is_root_of_order, ntt, room};
+use long_product::any_length::{find_root_of_order, intt, is_root_of_order, ntt, room};
 use long_product::polynomials::LEAST_TRANSFORMED;
 use long_product::{MOST_PLACES, Plans, fill_plans, transform_length};
 use num_modular::ModularUnaryOps;
@@ -56,6 +58,28 @@ pub extern "C" fn nm_transform_root_fits(m: u64, g: u64, order: usize) -> u32
         NM_OK
     } else {
         NM_NO_ROOT
+    }
+}
+
+/// Writes a root of unity of this order n modulo m, as `nm_transform_root_fits` tests it: x to the power (m - 1)/n, rounded
+/// down, for the least x from 2 to 255 for which it is one. `NM_NO_ROOT`: it is for no x. `NM_BAD_ARGUMENT`: m is 0.
+#[unsafe(no_mangle)]
+pub extern "C" fn nm_transform_find_root(m: u64, order: usize, root: &mut u64) -> u32
+    ensures did { 1 ≤ m → ((x : ℕ) × (2 ≤ x) × (x < 256) × IsRootOfOrder m (root_by m order x) order) → Did result
+        ((x : ℕ) × (x < 256) × IsFirstBaseOfOrder m order x × (root.new ≡ root_by m order x)) }
+    ensures no_root { 1 ≤ m → ((x : ℕ) → 2 ≤ x → x < 256 → IsRootOfOrder m (root_by m order x) order → ⊥)
+        → Refused NM_NO_ROOT result root.old root.new }
+    ensures bad_argument { m ≡ 0 → Refused NM_BAD_ARGUMENT result root.old root.new }
+{
+    if m == 0 {
+        return NM_BAD_ARGUMENT;
+    }
+    match find_root_of_order(m, order) {
+        Some(found) => {
+            *root = found;
+            NM_OK
+        }
+        None => NM_NO_ROOT,
     }
 }
 

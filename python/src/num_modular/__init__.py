@@ -23,6 +23,7 @@ from num_modular._polynomials import (
     multiply_negacyclic,
     square,
     transform,
+    transform_find_root,
     transform_inverse,
     transform_root_fits,
 )
@@ -68,6 +69,7 @@ __all__ = [
     "square",
     "subm",
     "transform",
+    "transform_find_root",
     "transform_inverse",
     "transform_root_fits",
 ]

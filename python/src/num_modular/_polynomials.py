@@ -100,6 +100,18 @@ def transform_root_fits(g: int, n: int, m: int) -> bool:
     return True
 
 
+def transform_find_root(n: int, m: int) -> int:
+    """A root of unity of order n modulo m, as `transform_root_fits` tests it: x to the power (m - 1) // n for the least x from 2
+    to 255 for which it is one. NoRootError: it is for no x. ValueError: m is out of range.
+
+    >>> transform_find_root(5, 31)
+    2
+    """
+    m, n, root = modulus(m), word(n, "the order"), ffi.new("uint64_t *")
+    check(lib.nm_transform_find_root(m, n, root), f"no root of order {n} modulo {m} was found")
+    return root[0]
+
+
 def _transformed(call: Any, xs: Iterable[int], g: int, m: int) -> list[int]:
     m = modulus(m)
     words, base = new_words(xs, m), index(g) % m

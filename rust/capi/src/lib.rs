@@ -45,6 +45,11 @@ pub unsafe extern "C" fn nm_transform_root_fits(m: u64, g: u64, order: usize) ->
 }
 
 #[no_mangle]
+pub unsafe extern "C" fn nm_transform_find_root(m: u64, order: usize, root: &mut u64) -> u32 {
+    c::any_length::nm_transform_find_root(m, order, root)
+}
+
+#[no_mangle]
 pub unsafe extern "C" fn nm_transform(
     m: u64,
     g: u64,
