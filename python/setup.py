@@ -3,6 +3,7 @@ of its own, since what an earlier build left there may be linked with another li
 import sysconfig
 from tempfile import TemporaryDirectory
 
+import cffi  # noqa: F401 (without it setuptools would leave out the module in silence)
 from setuptools import setup
 
 # Python without its lock has no stable interface.
