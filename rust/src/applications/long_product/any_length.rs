@@ -310,6 +310,7 @@ pub fn is_root_of_order(m: u64, g: u64, n: usize) -> bool {
 /// assert_eq!(find_root_of_order(31, 5), Some(2)); // 2^6, and 2^5 is 32
 /// assert_eq!(find_root_of_order(31, 7), None);
 /// ```
+#[must_use]
 pub fn find_root_of_order(m: u64, n: usize) -> Option<u64> {
     if m == 0 || n == 0 {
         return None;
