@@ -211,6 +211,8 @@ fn codes<T: Word, R: Reducer<T>>(of: &str, r: &R, _m: u128) {
     let (message, mut word) = (forms(r, 3, 2), forms(r, 5, 1));
     tried(of, "evaluate", || evaluate(r, &message, &points[1]));
     tried(of, "encode", || encode(r, &points, &message, &mut word));
+    let (many, mut longer): (Vec<T>, _) = ((1..=11).map(|it| r.transform(T::word(it))).collect(), forms(r, 11, 1));
+    tried(of, "encode (at eleven points)", || encode(r, &many, &message, &mut longer));
     tried(of, "share", || share(r, &points, &message, &mut word));
     let (mut rows, mut scratch) = ([T::zero(); 6], [T::zero(); 6]);
     let code = PreparedCode::new(r, &points[..3], &points[3..], &mut rows, &mut scratch).unwrap();
@@ -318,7 +320,7 @@ pub extern "C" fn calls() {
         u64, FixedMersenne64<57, 13>: (1 << 57) - 13; words sums powers inverses checks differences;
         u64, FixedMersenne64<64, 59>: (1 << 64) - 59; sums powers checks differences;
         u32, FixedTrinomialSolinas32<32, 20, 1>: (1 << 32) - (1 << 20) + 1; words sums powers inverses checks differences;
-        u64, FixedTrinomialSolinas64<64, 32, 1>: 0xffff_ffff_0000_0001; sums powers checks differences lists dot_products transforms codes;
+        u64, FixedTrinomialSolinas64<64, 32, 1>: 0xffff_ffff_0000_0001; sums powers checks differences lists dot_products transforms;
         u32, FixedProth32<27, 15>: (15 << 27) + 1; words sums powers inverses checks differences;
         u64, FixedProth64<57, 29>: (29 << 57) + 1; words word_lists sums powers inverses checks differences commands lists dot_products transforms codes restored;
         u32, FixedMontgomery32<8380417>: 8380417; words word_lists sums powers inverses checks differences commands lists dot_products transforms codes restored;
@@ -338,5 +340,6 @@ pub extern "C" fn calls() {
         u16, PreMulInv2by1<u16>: 3329, 65521; word_lists lists;
         u32, PreMulInv2by1<u32>: 998244353, 4294967291; word_lists commands lists transforms codes restored;
         u64, PreMulInv2by1<u64>: 97, 998244353, 0xffff_ffff_0000_0001; word_lists commands lists transforms codes restored;
+        u64, FixedTrinomialSolinas64<64, 32, 1>: 0xffff_ffff_0000_0001; codes;
     }
 }
