@@ -1,7 +1,9 @@
 //! Transforms of any length modulo any m, by the sums and by products of polynomials, and back.
 
 use super::assert_at;
-use long_product::any_length::{LEAST_CONVOLVED, find_root_of_order, intt, is_root_of_order, ntt, room};
+use long_product::any_length::{
+    LEAST_CONVOLVED, find_root_of_order, intt, is_root_of_order, ntt, room,
+};
 use long_product::{Plans, fill_plans, polynomials};
 use num_modular::plans::{Factor, PlanEntry};
 
