@@ -59,50 +59,14 @@ returns-clause-only g c t other is i l =
     let below = entry_below number ring.form ring.value m form i c.expand.ensures.checked (omega arith) in
     sym (mod-eq_of_lt below) ∙ same.same
 
-pub fill_weights-requires-clause-checked : goal.fill_weights-requires-clause-checked
-fill_weights-requires-clause-checked g c = c.requires.points
-
-pub invert_each-requires-clause-checked : goal.invert_each-requires-clause-checked
-invert_each-requires-clause-checked g c = c.fill_weights.ensures.checked
-
-pub returns-then-not-invert_each-clause-checked : goal.returns-then-not-invert_each-clause-checked
-returns-then-not-invert_each-clause-checked g c t = absurd (false≢true t)
-
-pub returns-then-not-invert_each-clause-values : goal.returns-then-not-invert_each-clause-values
-returns-then-not-invert_each-clause-values g c t = absurd (false≢true t)
-
-pub returns-then-not-invert_each-clause-only : goal.returns-then-not-invert_each-clause-only
-returns-then-not-invert_each-clause-only g c t = absurd (false≢true t)
-
-pub divide_differences-requires-clause-points : goal.divide_differences-requires-clause-points
-divide_differences-requires-clause-points g c = c.requires.points
-
-pub divide_differences-requires-clause-inverses : goal.divide_differences-requires-clause-inverses
-divide_differences-requires-clause-inverses g c = c.invert_each.ensures.checked
-
-pub expand-requires-clause-points : goal.expand-requires-clause-points
-expand-requires-clause-points g c = c.requires.points
-
-pub expand-requires-clause-form : goal.expand-requires-clause-form
-expand-requires-clause-form g c = c.divide_differences.ensures.checked
-
-pub returns-clause-checked : goal.returns-clause-checked
-returns-clause-checked g c t = c.expand.ensures.checked
-
 pub fill_weights-requires-clause-within : goal.fill_weights-requires-clause-within
 fill_weights-requires-clause-within g c =
     subst (λ n. n ≤ length c.args.points.now) (sym c.requires.weights) c.requires.points_within
-
-pub invert_each-requires-clause-equal : goal.invert_each-requires-clause-equal
-invert_each-requires-clause-equal g c = sym (c.fill_weights.auto.weights ∙ c.requires.weights)
 
 pub copy_from_slice-requires : goal.copy_from_slice-requires
 copy_from_slice-requires g c =
     sym (length-take-le _ c.args.values.now
     (subst (λ n. n ≤ length c.args.values.now) (sym c.invert_each.auto.scratch) c.requires.values_within))
-
-pub slice_bounds-copy_from_slice-end : goal.slice_bounds-copy_from_slice-end
-slice_bounds-copy_from_slice-end = copy_from_slice-requires
 
 pub divide_differences-requires-clause-values : goal.divide_differences-requires-clause-values
 divide_differences-requires-clause-values g c =

@@ -6,8 +6,6 @@ use Rattle.num_modular.specs.NumberLaws.{mod_refl}
 use Rattle.num_modular.specs.Polynomials.{polynomial_at}
 use Rattle.num_modular.specs.PolynomialLaws.{polynomial-congruent}
 use Rattle.ring_codes.proofs.Symbols.{same_forms, told_same, told_other}
-use borrow.Author.Count.{falls}
-use Rattle.num_modular.specs.Callers.{◌≤◌, subst}
 use Rattle.ring_codes.proofs.erasure.is_codeword.Goals as goal
 
 pub returns-then-ne-clause-codeword : goal.returns-then-ne-clause-codeword
@@ -61,15 +59,6 @@ returns-clause-message g c t =
 pub returns-clause-codeword : goal.returns-clause-codeword
 returns-clause-codeword g c = ((λ t. (_, returns-clause-message g c t)), λ h. refl)
 
-pub interpolate-requires-clause-points : goal.interpolate-requires-clause-points
-interpolate-requires-clause-points g c = c.requires.points
-
-pub interpolate-requires-clause-values : goal.interpolate-requires-clause-values
-interpolate-requires-clause-values g c = c.requires.word
-
-pub interpolate-requires-clause-weights : goal.interpolate-requires-clause-weights
-interpolate-requires-clause-weights g c = c.requires.weights
-
 pub returns-then-not-interpolate-clause-codeword : goal.returns-then-not-interpolate-clause-codeword
 returns-then-not-interpolate-clause-codeword g c = (
   λ t. absurd (false≢true t),
@@ -80,12 +69,6 @@ returns-then-not-interpolate-clause-codeword g c = (
       }),
 )
 
-pub returns-then-not-interpolate-clause-message : goal.returns-then-not-interpolate-clause-message
-returns-then-not-interpolate-clause-message g c t = absurd (false≢true t)
-
-pub returns-then-ne-clause-message : goal.returns-then-ne-clause-message
-returns-then-ne-clause-message g c t = absurd (false≢true t)
-
 pub places-init : goal.places-init
 places-init g c k l =
     let ring = g.R.Reducer in let m = ring.modulus c.args.r.now in let number = g.T.RingWord.number in
@@ -94,29 +77,8 @@ places-init g c k l =
     (c.if-not-interpolate.ensures.values refl).symbol k (omega (arith, l))
     ∙ ap (λ n. polynomial_at n mine (entry number ring.value m c.args.points.now k) % m) count
 
-pub evaluate-symbol-requires-clause-coefficients : goal.evaluate-symbol-requires-clause-coefficients
-evaluate-symbol-requires-clause-coefficients g c = c.if-not-interpolate.ensures.checked refl
-
 pub evaluate-symbol-requires-clause-point : goal.evaluate-symbol-requires-clause-point
 evaluate-symbol-requires-clause-point g c =
     let ring = g.R.Reducer in let m = ring.modulus c.args.r.now in
     form_read g.T.RingWord.number ring.form ring.value m c.args.points.now c.places.i _ c.requires.points (omega arith)
     c.index-points-i.is
-
-pub returns-then-not-interpolate-clause-checked : goal.returns-then-not-interpolate-clause-checked
-returns-then-not-interpolate-clause-checked g c t = absurd (false≢true t)
-
-pub returns-then-ne-clause-checked : goal.returns-then-ne-clause-checked
-returns-then-ne-clause-checked g c t = absurd (false≢true t)
-
-pub returns-clause-checked : goal.returns-clause-checked
-returns-clause-checked g c t = c.if-not-interpolate.ensures.checked refl
-
-pub interpolate-requires-clause-points_within : goal.interpolate-requires-clause-points_within
-interpolate-requires-clause-points_within g c = c.requires.few
-
-pub interpolate-requires-clause-values_within : goal.interpolate-requires-clause-values_within
-interpolate-requires-clause-values_within g c = subst (λ n. length c.args.message.now ≤ n) (sym c.requires.symbols) c.requires.few
-
-pub places-smaller : goal.places-smaller
-places-smaller g c = falls _ _ c.places-test.true

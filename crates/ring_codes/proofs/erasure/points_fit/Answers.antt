@@ -3,7 +3,6 @@ use Rattle.num_modular.specs.Callers.{has_each, has_product}
 use Rattle.ring_codes.specs.Newton.{difference}
 use Rattle.ring_codes.proofs.NewtonForms.{inversion_tells, fit_from_products, products_from_fit, has_of_residue}
 use Rattle.ring_codes.proofs.NewtonForms.{has_to_residue}
-use borrow.Author.Count.{falls}
 use Rattle.ring_codes.proofs.erasure.points_fit.Goals as goal
 
 pub points-init : goal.points-init
@@ -39,21 +38,3 @@ returns g c =
       λ fit. tells.1 (has_to_residue m _ _ whole
           (has_product m c.points.i f positive (λ i l. products_from_fit m n x positive fit i (omega arith)))),
     )
-
-pub differences_before-differences-requires-clause-checked : goal.differences_before-differences-requires-clause-checked
-differences_before-differences-requires-clause-checked g c = c.requires
-
-pub differences_before-differences-requires-clause-within : goal.differences_before-differences-requires-clause-within
-differences_before-differences-requires-clause-within g c = c.points-test.true
-
-pub mul-product-requires-clause-left : goal.mul-product-requires-clause-left
-mul-product-requires-clause-left g c = c.points.invariant.checked
-
-pub mul-product-requires-clause-right : goal.mul-product-requires-clause-right
-mul-product-requires-clause-right g c = c.differences_before-differences.ensures.checked
-
-pub points-smaller : goal.points-smaller
-points-smaller g c = falls _ _ c.points-test.true
-
-pub inv-requires : goal.inv-requires
-inv-requires g c = c.points.invariant.checked

@@ -101,40 +101,10 @@ interpolate-requires-clause-points g c i d l =
     subst (λ f. IsForm ring.form ring.value m (g.T.RingWord.number f)) (sym (c.in-Ok.ensures.chosen refl i d within))
     (c.requires.points (slice_index c.args.places.now i) d (right.within i within))
 
-pub interpolate-requires-clause-values : goal.interpolate-requires-clause-values
-interpolate-requires-clause-values g c = c.requires.symbols
-
 pub interpolate-requires-clause-values_within : goal.interpolate-requires-clause-values_within
 interpolate-requires-clause-values_within g c =
     let enough = (c.in-Ok.ensures.places refl).enough in
     omega (arith, enough, c.requires.chosen, c.requires.pairs)
-
-pub interpolate-requires-clause-weights : goal.interpolate-requires-clause-weights
-interpolate-requires-clause-weights g c = c.requires.weights
-
-pub returns-in-Err-clause-checked : goal.returns-in-Err-clause-checked
-returns-in-Err-clause-checked g c t = absurd (false≢true t)
-
-pub returns-in-Err-clause-symbols : goal.returns-in-Err-clause-symbols
-returns-in-Err-clause-symbols g c t = absurd (false≢true t)
-
-pub returns-in-Err-clause-original : goal.returns-in-Err-clause-original
-returns-in-Err-clause-original g c t = absurd (false≢true t)
-
-pub returns-then-interpolate-clause-fault : goal.returns-then-interpolate-clause-fault
-returns-then-interpolate-clause-fault g c = tt
-
-pub returns-then-interpolate-clause-checked : goal.returns-then-interpolate-clause-checked
-returns-then-interpolate-clause-checked g c t = c.if-interpolate.ensures.checked refl
-
-pub returns-else-interpolate-clause-checked : goal.returns-else-interpolate-clause-checked
-returns-else-interpolate-clause-checked g c t = absurd (false≢true t)
-
-pub returns-else-interpolate-clause-symbols : goal.returns-else-interpolate-clause-symbols
-returns-else-interpolate-clause-symbols g c t = absurd (false≢true t)
-
-pub returns-else-interpolate-clause-original : goal.returns-else-interpolate-clause-original
-returns-else-interpolate-clause-original g c t = absurd (false≢true t)
 
 pub interpolate-requires-clause-points_within : goal.interpolate-requires-clause-points_within
 interpolate-requires-clause-points_within g c =

@@ -1,4 +1,4 @@
-use Rattle.num_modular.specs.Callers.{◌≡◌, ℕ, ◌-◌, ◌*◌, ◌/◌, ◌%◌, ◌<◌, ◌≤◌, ◌∙◌, ap, sym, subst, arith, length, entry}
+use Rattle.num_modular.specs.Callers.{◌≡◌, ℕ, ◌-◌, ◌*◌, ◌%◌, ◌<◌, ◌≤◌, ◌∙◌, ap, sym, subst, arith, length, entry}
 use Rattle.num_modular.specs.Polynomials.{polynomial_at}
 use Rattle.std.proofs.Common.{rules, List, slice_index}
 use Rattle.std.proofs.lemmas.Bool.{false≢true}

@@ -6,7 +6,7 @@ use Rattle.std.proofs.Common.{take, length-take-le}
 use Rattle.std.proofs.lemmas.List.Elements.{All-take}
 use Rattle.num_modular.specs.Callers.{◌≡◌, IsForm}
 use Rattle.ring_codes.proofs.NearPairs.{distance_taken, fit_taken, half_of}
-use Rattle.num_modular.specs.Callers.{sym, refl}
+use Rattle.num_modular.specs.Callers.{sym}
 use Rattle.ring_codes.proofs.erasure.correction.decode.Goals as goal
 
 pub returns-in-Ok-clause-message : goal.returns-in-Ok-clause-message
@@ -28,75 +28,6 @@ returns-in-Ok-clause-message g c =
     h d y sent (omega (arith, c.solve.auto.first, first)) (omega (arith, c.solve.auto.second, second))
     (omega arith) (omega arith) (omega (arith, long)) (omega (arith, weights, long)) pairs (omega (arith, near, front, high, long)))
     c.divide_lighter.ensures.message
-
-pub solve-requires-clause-some : goal.solve-requires-clause-some
-solve-requires-clause-some g c = omega arith
-
-pub solve-requires-clause-lengths : goal.solve-requires-clause-lengths
-solve-requires-clause-lengths g c = omega arith
-
-pub solve-requires-clause-positive : goal.solve-requires-clause-positive
-solve-requires-clause-positive g c = c.requires.some
-
-pub divide_lighter-requires-clause-some : goal.divide_lighter-requires-clause-some
-divide_lighter-requires-clause-some g c = c.requires.some
-
-pub divide_lighter-requires-clause-room : goal.divide_lighter-requires-clause-room
-divide_lighter-requires-clause-room g c = omega arith
-
-pub returns-in-Err-clause-inverse : goal.returns-in-Err-clause-inverse
-returns-in-Err-clause-inverse g c = c.in-Err.ensures.inverse
-
-pub returns-in-Err-clause-checked : goal.returns-in-Err-clause-checked
-returns-in-Err-clause-checked g c = tt
-
-pub returns-in-Err-clause-message : goal.returns-in-Err-clause-message
-returns-in-Err-clause-message g c = tt
-
-pub returns-in-Ok-clause-inverse : goal.returns-in-Ok-clause-inverse
-returns-in-Ok-clause-inverse g c = c.divide_lighter.ensures.inverse
-
-pub returns-in-Ok-clause-checked : goal.returns-in-Ok-clause-checked
-returns-in-Ok-clause-checked g c = c.divide_lighter.ensures.checked
-
-pub overflow_sub-half : goal.overflow_sub-half
-overflow_sub-half g c = c.requires.few
-
-pub overflow_mul-count : goal.overflow_mul-count
-overflow_mul-count g c = omega arith
-
-pub overflow_add-count : goal.overflow_add-count
-overflow_add-count g c = omega arith
-
-pub overflow_add-count-2 : goal.overflow_add-count-2
-overflow_add-count-2 g c = omega arith
-
-pub overflow_add-count-3 : goal.overflow_add-count-3
-overflow_add-count-3 g c = omega arith
-
-pub split_at_mut-first-requires : goal.split_at_mut-first-requires
-split_at_mut-first-requires g c = omega arith
-
-pub split_at_mut-second-requires : goal.split_at_mut-second-requires
-split_at_mut-second-requires g c = omega arith
-
-pub overflow_add-half : goal.overflow_add-half
-overflow_add-half g c = omega arith
-
-pub solve-requires-clause-equal : goal.solve-requires-clause-equal
-solve-requires-clause-equal g c = c.split_at_mut-first.ensures.front_len ∙ sym c.split_at_mut-second.ensures.front_len
-
-pub divide_lighter-requires-clause-first : goal.divide_lighter-requires-clause-first
-divide_lighter-requires-clause-first g c = c.in-Ok.ensures.checked_first refl
-
-pub divide_lighter-requires-clause-second : goal.divide_lighter-requires-clause-second
-divide_lighter-requires-clause-second g c = c.in-Ok.ensures.checked_second refl
-
-pub divide_lighter-requires-clause-first_split : goal.divide_lighter-requires-clause-first_split
-divide_lighter-requires-clause-first_split g c = omega arith
-
-pub divide_lighter-requires-clause-second_split : goal.divide_lighter-requires-clause-second_split
-divide_lighter-requires-clause-second_split g c = omega arith
 
 pub solve-requires-clause-points : goal.solve-requires-clause-points
 solve-requires-clause-points g c =

@@ -33,29 +33,8 @@ evaluate-value-requires-clause-coefficients g c =
     let ring = g.R.Reducer in let m = ring.modulus c.args.r.now in
     All-take (λ f. IsForm ring.form ring.value m (g.T.RingWord.number f)) c.args.split c.args.pair.now c.requires.pair
 
-pub evaluate-value-requires-clause-point : goal.evaluate-value-requires-clause-point
-evaluate-value-requires-clause-point g c = c.requires.point
-
 pub evaluate-located-requires-clause-coefficients : goal.evaluate-located-requires-clause-coefficients
 evaluate-located-requires-clause-coefficients g c =
     let ring = g.R.Reducer in let m = ring.modulus c.args.r.now in
     subst (λ xs. All (λ f. IsForm ring.form ring.value m (g.T.RingWord.number f)) xs) (sym (rest_whole c.args.pair.now c.args.split))
     (All-drop (λ f. IsForm ring.form ring.value m (g.T.RingWord.number f)) c.args.split c.args.pair.now c.requires.pair)
-
-pub evaluate-located-requires-clause-point : goal.evaluate-located-requires-clause-point
-evaluate-located-requires-clause-point g c = c.requires.point
-
-pub mul-product-requires-clause-left : goal.mul-product-requires-clause-left
-mul-product-requires-clause-left g c = c.requires.symbol
-
-pub mul-product-requires-clause-right : goal.mul-product-requires-clause-right
-mul-product-requires-clause-right g c = c.evaluate-located.ensures.checked
-
-pub sub-requires-clause-left : goal.sub-requires-clause-left
-sub-requires-clause-left g c = c.evaluate-value.ensures.checked
-
-pub sub-requires-clause-right : goal.sub-requires-clause-right
-sub-requires-clause-right g c = c.mul-product.ensures.checked
-
-pub returns-clause-checked : goal.returns-clause-checked
-returns-clause-checked g c = c.sub.ensures.checked

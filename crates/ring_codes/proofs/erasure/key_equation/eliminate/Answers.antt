@@ -1,14 +1,8 @@
 use Rattle.num_modular.specs.Callers.{◌*◌, ◌%◌, ◌∙◌, ap, arith}
-use Rattle.num_modular.specs.Callers.{entry, entry_at, entry_read, form_read, forms_written, done_none, done_more}
+use Rattle.num_modular.specs.Callers.{entry, entry_at, entry_read, form_read, forms_written, done_more}
 use Rattle.num_modular.specs.NumberLaws.{mod_of_eq, mod_trans, residue_of}
 use Rattle.ring_codes.proofs.NewtonForms.{subtracted}
-use Rattle.num_modular.specs.Callers.{◌<◌, sym, subst}
-use borrow.Author.Count.{falls}
-use Rattle.std.proofs.Math.Nat.{le_of_lt}
 use Rattle.ring_codes.proofs.erasure.key_equation.eliminate.Goals as goal
-
-pub coefficients-init : goal.coefficients-init
-coefficients-init g c = (c.requires.coefficients, done_none _ _)
 
 pub coefficients-preserved : goal.coefficients-preserved
 coefficients-preserved g c =
@@ -30,44 +24,8 @@ coefficients-preserved g c =
       done_more number ring.value m list i c.sub.result _ old (omega arith) so_far.1 one,
     )
 
-pub mul-own-requires-clause-left : goal.mul-own-requires-clause-left
-mul-own-requires-clause-left g c = c.requires.a
-
-pub mul-own-requires-clause-right : goal.mul-own-requires-clause-right
-mul-own-requires-clause-right g c = c.coefficients.invariant.0 c.coefficients.i c.index-coefficients-i.result (omega arith)
-
-pub mul-product-requires-clause-left : goal.mul-product-requires-clause-left
-mul-product-requires-clause-left g c = c.requires.b
-
 pub mul-product-requires-clause-right : goal.mul-product-requires-clause-right
 mul-product-requires-clause-right g c =
     let ring = g.R.Reducer in let m = ring.modulus c.args.r.now in
     form_read g.T.RingWord.number ring.form ring.value m c.args.pivots.now c.coefficients.i _ c.requires.pivots
     (omega (arith, c.requires.equal)) c.index-pivots-i.is
-
-pub sub-requires-clause-left : goal.sub-requires-clause-left
-sub-requires-clause-left g c = c.mul-own.ensures.checked
-
-pub sub-requires-clause-right : goal.sub-requires-clause-right
-sub-requires-clause-right g c = c.mul-product.ensures.checked
-
-pub returns-clause-checked : goal.returns-clause-checked
-returns-clause-checked g c = c.coefficients.invariant.0
-
-pub returns-clause-difference : goal.returns-clause-difference
-returns-clause-difference g c i l = c.coefficients.invariant.1.done i (omega arith)
-
-pub bounds-coefficients-i : goal.bounds-coefficients-i
-bounds-coefficients-i g c = subst (λ n. c.coefficients.i < n) (sym c.coefficients.auto.coefficients) c.coefficients-test.true
-
-pub bounds-coefficients-i-in-coefficients : goal.bounds-coefficients-i-in-coefficients
-bounds-coefficients-i-in-coefficients g c = subst (λ n. c.coefficients.i < n) (sym c.coefficients.auto.coefficients) c.coefficients-test.true
-
-pub bounds-pivots-i : goal.bounds-pivots-i
-bounds-pivots-i g c = subst (λ n. c.coefficients.i < n) (sym c.requires.equal) c.coefficients-test.true
-
-pub offset_bounds-pivots-i : goal.offset_bounds-pivots-i
-offset_bounds-pivots-i g c = le_of_lt (subst (λ n. c.coefficients.i < n) (sym c.requires.equal) c.coefficients-test.true)
-
-pub coefficients-smaller : goal.coefficients-smaller
-coefficients-smaller g c = falls _ _ c.coefficients-test.true

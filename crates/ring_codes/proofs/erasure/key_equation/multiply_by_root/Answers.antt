@@ -4,8 +4,6 @@ use Rattle.num_modular.specs.Callers.{entry, entry_read, form_read, forms_writte
 use Rattle.num_modular.specs.NumberLaws.{mod_of_eq, mod_trans}
 use Rattle.ring_codes.proofs.KeyPairs.{shifted_none, shifted_next}
 use Rattle.ring_codes.proofs.NewtonForms.{subtracted}
-use Rattle.num_modular.specs.Callers.{◌<◌, subst}
-use borrow.Author.Count.{falls}
 use Rattle.ring_codes.proofs.erasure.key_equation.multiply_by_root.Goals as goal
 
 pub coefficients-init : goal.coefficients-init
@@ -39,32 +37,8 @@ coefficients-preserved g c =
       done_more number ring.value m list i c.sub.result _ old (omega arith) so_far.2 one,
     )
 
-pub mul-product-requires-clause-left : goal.mul-product-requires-clause-left
-mul-product-requires-clause-left g c = c.requires.point
-
 pub mul-product-requires-clause-right : goal.mul-product-requires-clause-right
 mul-product-requires-clause-right g c =
     let ring = g.R.Reducer in let m = ring.modulus c.args.r.now in
     form_read g.T.RingWord.number ring.form ring.value m c.coefficients.coefficients c.coefficients.i _
     c.coefficients.invariant.0 (omega arith) c.index-coefficients-i.is
-
-pub sub-requires-clause-left : goal.sub-requires-clause-left
-sub-requires-clause-left g c = c.coefficients.invariant.1.checked
-
-pub sub-requires-clause-right : goal.sub-requires-clause-right
-sub-requires-clause-right g c = c.mul-product.ensures.checked
-
-pub returns-clause-checked : goal.returns-clause-checked
-returns-clause-checked g c = c.coefficients.invariant.0
-
-pub returns-clause-product : goal.returns-clause-product
-returns-clause-product g c i l = c.coefficients.invariant.2.done i (omega arith)
-
-pub bounds-coefficients-i : goal.bounds-coefficients-i
-bounds-coefficients-i g c = subst (λ n. c.coefficients.i < n) (sym c.coefficients.auto.coefficients) c.coefficients-test.true
-
-pub bounds-coefficients-i-in-coefficients : goal.bounds-coefficients-i-in-coefficients
-bounds-coefficients-i-in-coefficients g c = subst (λ n. c.coefficients.i < n) (sym c.coefficients.auto.coefficients) c.coefficients-test.true
-
-pub coefficients-smaller : goal.coefficients-smaller
-coefficients-smaller g c = falls _ _ c.coefficients-test.true

@@ -27,20 +27,11 @@ returns-clause-pair g c d k i u x y whole lengths room at pair =
     (λ l b. entry_past number ring.value m c.multiply_by_root.new.coefficients l (omega (arith, b, is_c, long_c)))
     (λ l b. entry_past number ring.value m c.multiply_by_root-2.new.coefficients l (omega (arith, b, is_d, long_d))) parts)
 
-pub split_at_mut-numerator-requires : goal.split_at_mut-numerator-requires
-split_at_mut-numerator-requires g c = c.requires.within
-
-pub multiply_by_root-requires-clause-point : goal.multiply_by_root-requires-clause-point
-multiply_by_root-requires-clause-point g c = c.requires.point
-
 pub multiply_by_root-requires-clause-coefficients : goal.multiply_by_root-requires-clause-coefficients
 multiply_by_root-requires-clause-coefficients g c =
     let ring = g.R.Reducer in let m = ring.modulus c.args.r.now in
     subst (λ xs. All (λ f. IsForm ring.form ring.value m (g.T.RingWord.number f)) xs) (sym c.split_at_mut-numerator.ensures.front)
     (All-take (λ f. IsForm ring.form ring.value m (g.T.RingWord.number f)) c.args.split c.args.pair.now c.requires.pair)
-
-pub multiply_by_root-requires-2-clause-point : goal.multiply_by_root-requires-2-clause-point
-multiply_by_root-requires-2-clause-point g c = c.requires.point
 
 pub multiply_by_root-requires-2-clause-coefficients : goal.multiply_by_root-requires-2-clause-coefficients
 multiply_by_root-requires-2-clause-coefficients g c =

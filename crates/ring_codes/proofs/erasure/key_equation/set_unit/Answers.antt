@@ -2,7 +2,6 @@ use Rattle.num_modular.specs.Callers.{◌∙◌, arith, inl, inr, length}
 use Rattle.num_modular.specs.Callers.{entry_past, entry_kept, held_entry}
 use Rattle.std.proofs.lemmas.Bool.{cases_lt}
 use Rattle.num_modular.specs.Callers.{◌<◌, ◌≤◌, ◌%◌, ap, sym, subst, hold_more, held_forms, forms_written, entry_written}
-use borrow.Author.Count.{falls}
 use Rattle.ring_codes.proofs.Counts.{zero_mod}
 use Rattle.ring_codes.proofs.erasure.key_equation.set_unit.Goals as goal
 
@@ -17,15 +16,6 @@ returns-clause-others g c i other =
       | inr b ↦ entry_past number ring.value m list i b
     ]
 
-pub coefficients-init : goal.coefficients-init
-coefficients-init g c = record { each = λ k d l. absurd (omega arith) }
-
-pub bounds-coefficients-i : goal.bounds-coefficients-i
-bounds-coefficients-i g c = subst (λ n. c.coefficients.i < n) (sym c.coefficients.auto.coefficients) c.coefficients-test.true
-
-pub coefficients-smaller : goal.coefficients-smaller
-coefficients-smaller g c = falls _ _ c.coefficients-test.true
-
 pub coefficients-preserved : goal.coefficients-preserved
 coefficients-preserved g c =
     let ring = g.R.Reducer in let m = ring.modulus c.args.r.now in let number = g.T.RingWord.number in
@@ -34,9 +24,6 @@ coefficients-preserved g c =
     hold_more number ring.form ring.value m list i c.transform-zero.result (λ k. 0) within c.coefficients.invariant
     c.transform-zero.ensures.checked
     (c.transform-zero.ensures.value ∙ ap (λ v. v % m) c.zero.ensures ∙ zero_mod m)
-
-pub bounds-coefficients-place : goal.bounds-coefficients-place
-bounds-coefficients-place g c = subst (λ n. c.args.place < n) (sym c.coefficients.auto.coefficients) c.requires
 
 pub returns-clause-checked : goal.returns-clause-checked
 returns-clause-checked g c =

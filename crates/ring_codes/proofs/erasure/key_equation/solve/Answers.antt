@@ -1,11 +1,9 @@
 use Rattle.std.proofs.Common.{take, drop}
-use Rattle.num_modular.specs.Callers.{◌≡◌, ◌-◌, ◌<◌, ◌≤◌, ◌∙◌, sym, refl, arith, subst, length}
+use Rattle.num_modular.specs.Callers.{◌≡◌, ◌-◌, ◌<◌, ◌≤◌, ◌∙◌, sym, arith, subst, length}
 use Rattle.num_modular.specs.Callers.{entry, entry_read, form_read}
 use Rattle.ring_codes.specs.KeyEquations.{AreKeyPairs}
-use Rattle.std.proofs.lemmas.Bool.{false≢true}
 use Rattle.std.proofs.Math.Nat.{le_of_lt}
-use borrow.Author.Count.{falls}
-use Rattle.ring_codes.proofs.Counts.{weights_first, few_before}
+use Rattle.ring_codes.proofs.Counts.{weights_first}
 use Rattle.ring_codes.proofs.Pairs.{unit_pairs}
 use Rattle.ring_codes.proofs.erasure.key_equation.solve.Goals as goal
 
@@ -40,15 +38,6 @@ returns-clause-pairs g c d whole =
     (subst (λ i. AreKeyPairs m c.args.k split (length c.args.first.now - split) i c.symbols.weights.0 c.symbols.weights.1 x y fn fl sn sl) all
     c.symbols.invariant.3)
 
-pub set_unit-requires : goal.set_unit-requires
-set_unit-requires g c = omega (arith, c.requires.some)
-
-pub set_unit-requires-2 : goal.set_unit-requires-2
-set_unit-requires-2 g c = subst (λ n. c.args.split < n) c.requires.equal c.requires.some
-
-pub overflow_sub-weights : goal.overflow_sub-weights
-overflow_sub-weights g c = c.requires.positive
-
 pub symbols-init : goal.symbols-init
 symbols-init g c =
     let ring = g.R.Reducer in let m = ring.modulus c.args.r.now in let number = g.T.RingWord.number in
@@ -63,18 +52,6 @@ symbols-init g c =
           c.set_unit.ensures.one c.set_unit.ensures.others c.set_unit-2.ensures.one c.set_unit-2.ensures.others,
     )
 
-pub bounds-points-i : goal.bounds-points-i
-bounds-points-i g c = c.symbols-test.true
-
-pub bounds-symbols-i : goal.bounds-symbols-i
-bounds-symbols-i g c = subst (λ n. c.symbols.i < n) (sym c.requires.symbols_each) c.symbols-test.true
-
-pub offset_bounds-points-i : goal.offset_bounds-points-i
-offset_bounds-points-i g c = le_of_lt c.symbols-test.true
-
-pub offset_bounds-symbols-i : goal.offset_bounds-symbols-i
-offset_bounds-symbols-i g c = le_of_lt (subst (λ n. c.symbols.i < n) (sym c.requires.symbols_each) c.symbols-test.true)
-
 pub advance-requires-clause-point : goal.advance-requires-clause-point
 advance-requires-clause-point g c =
     let ring = g.R.Reducer in let m = ring.modulus c.args.r.now in
@@ -87,48 +64,6 @@ advance-requires-clause-symbol g c =
     form_read g.T.RingWord.number ring.form ring.value m c.args.symbols.now c.symbols.i _ c.requires.symbols
     (subst (λ n. c.symbols.i < n) (sym c.requires.symbols_each) c.symbols-test.true) c.index-symbols-i.is
 
-pub advance-requires-clause-first : goal.advance-requires-clause-first
-advance-requires-clause-first g c = c.symbols.invariant.0
-
-pub advance-requires-clause-second : goal.advance-requires-clause-second
-advance-requires-clause-second g c = c.symbols.invariant.1
-
-pub advance-requires-clause-equal : goal.advance-requires-clause-equal
-advance-requires-clause-equal g c = c.symbols.auto.first ∙ c.set_unit.auto.coefficients ∙ c.requires.equal ∙ sym (c.symbols.auto.second ∙ c.set_unit-2.auto.coefficients)
-
 pub advance-requires-clause-within : goal.advance-requires-clause-within
 advance-requires-clause-within g c =
     subst (λ n. c.args.split ≤ n) (sym (c.symbols.auto.first ∙ c.set_unit.auto.coefficients)) (le_of_lt c.requires.some)
-
-pub advance-requires-clause-few : goal.advance-requires-clause-few
-advance-requires-clause-few g c = few_before _ _ _ _ _ c.symbols.invariant.2 c.symbols-test.true c.requires.few
-
-pub returns-in-Err-clause-inverse : goal.returns-in-Err-clause-inverse
-returns-in-Err-clause-inverse g c = c.in-Err.ensures
-
-pub returns-in-Err-clause-checked_first : goal.returns-in-Err-clause-checked_first
-returns-in-Err-clause-checked_first g c t = absurd (false≢true t)
-
-pub returns-in-Err-clause-checked_second : goal.returns-in-Err-clause-checked_second
-returns-in-Err-clause-checked_second g c t = absurd (false≢true t)
-
-pub returns-in-Err-clause-weights : goal.returns-in-Err-clause-weights
-returns-in-Err-clause-weights g c = tt
-
-pub returns-in-Err-clause-pairs : goal.returns-in-Err-clause-pairs
-returns-in-Err-clause-pairs g c = tt
-
-pub returns-clause-inverse : goal.returns-clause-inverse
-returns-clause-inverse g c = tt
-
-pub symbols-smaller : goal.symbols-smaller
-symbols-smaller g c = falls _ _ c.symbols-test.true
-
-pub returns-clause-checked_first : goal.returns-clause-checked_first
-returns-clause-checked_first g c t = c.symbols.invariant.0
-
-pub returns-clause-checked_second : goal.returns-clause-checked_second
-returns-clause-checked_second g c t = c.symbols.invariant.1
-
-pub returns-clause-weights : goal.returns-clause-weights
-returns-clause-weights g c = omega (arith, c.symbols.invariant.2)

@@ -2,10 +2,8 @@ use Rattle.std.proofs.Common.{pos, ◌-ℤ◌}
 use Rattle.num_modular.specs.Callers.{◌%◌, ◌∙◌, ap, arith, entry, entry_read, product_none, product_step, form_read}
 use Rattle.num_modular.specs.Residues.{residue}
 use Rattle.ring_codes.specs.Newton.{difference}
-use borrow.Author.Count.{falls}
 use Rattle.num_modular.specs.Callers.{product_below}
-use Rattle.std.proofs.Math.Nat.{lt_trans}
-use Rattle.std.proofs.Math.Nat.{le_of_lt, le_antisymm}
+use Rattle.std.proofs.Math.Nat.{le_antisymm}
 use Rattle.ring_codes.proofs.erasure.newton.differences_before.Goals as goal
 
 pub differences-init : goal.differences-init
@@ -42,30 +40,6 @@ sub-difference-requires-clause-right g c =
     let ring = g.R.Reducer in let m = ring.modulus c.args.r.now in
     form_read g.T.RingWord.number ring.form ring.value m c.args.points.now c.differences.j _ c.requires.checked (omega arith)
     c.index-points-j.is
-
-pub mul-product-requires-clause-left : goal.mul-product-requires-clause-left
-mul-product-requires-clause-left g c = c.differences.invariant.checked
-
-pub mul-product-requires-clause-right : goal.mul-product-requires-clause-right
-mul-product-requires-clause-right g c = c.sub-difference.ensures.checked
-
-pub returns-clause-checked : goal.returns-clause-checked
-returns-clause-checked g c = c.differences.invariant.checked
-
-pub offset_bounds-points-place : goal.offset_bounds-points-place
-offset_bounds-points-place g c = le_of_lt c.requires.within
-
-pub bounds-points-place : goal.bounds-points-place
-bounds-points-place g c = c.requires.within
-
-pub offset_bounds-points-j : goal.offset_bounds-points-j
-offset_bounds-points-j g c = le_of_lt (lt_trans c.differences-test.true c.requires.within)
-
-pub bounds-points-j : goal.bounds-points-j
-bounds-points-j g c = lt_trans c.differences-test.true c.requires.within
-
-pub differences-smaller : goal.differences-smaller
-differences-smaller g c = falls _ _ c.differences-test.true
 
 pub returns-clause-value : goal.returns-clause-value
 returns-clause-value g c =

@@ -1,13 +1,9 @@
 use Rattle.std.proofs.Common.{pos, ◌-ℤ◌, set}
-use Rattle.num_modular.specs.Callers.{◌≢◌, ◌*◌, ◌%◌, ◌∙◌, ap, arith, entry, entry_at, entry_read, entry_written, entry_kept, ◌≡◌, length, refl}
+use Rattle.num_modular.specs.Callers.{◌≢◌, ◌*◌, ◌%◌, ◌∙◌, ap, arith, entry, entry_at, entry_read, entry_written, entry_kept, ◌≡◌, length}
 use Rattle.num_modular.specs.Callers.{form_read, forms_written}
 use Rattle.num_modular.specs.Residues.{residue}
 use Rattle.ring_codes.specs.Newton.{newton_form}
 use Rattle.ring_codes.proofs.NewtonForms.{one_divided}
-use borrow.Author.Rules.{scaled_Fits}
-use borrow.Author.Count.{falls}
-use Rattle.num_modular.specs.Callers.{subst, sym, ◌<◌, ◌≤◌}
-use Rattle.std.proofs.Math.Nat.{le_of_lt, le_trans}
 use Rattle.ring_codes.proofs.erasure.newton.divide_differences.Goals as goal
 
 pub points-preserved : goal.points-preserved
@@ -40,38 +36,17 @@ points-preserved g c =
           entry_kept number ring.value m values i k c.mul.result other ∙ so_far.2 k (omega arith),
     )
 
-pub points-init : goal.points-init
-points-init g c = (c.requires.values, λ k l. absurd (omega arith), λ k l. refl)
-
-pub newton_value-known-requires-clause-points : goal.newton_value-known-requires-clause-points
-newton_value-known-requires-clause-points g c = c.requires.points
-
-pub newton_value-known-requires-clause-form : goal.newton_value-known-requires-clause-form
-newton_value-known-requires-clause-form g c = c.points.invariant.0
-
 pub newton_value-known-requires-clause-point : goal.newton_value-known-requires-clause-point
 newton_value-known-requires-clause-point g c =
     let ring = g.R.Reducer in let m = ring.modulus c.args.r.now in
     form_read g.T.RingWord.number ring.form ring.value m c.args.points.now c.points.i _ c.requires.points (omega arith)
     c.index-points-i.is
 
-pub sub-rest-requires-clause-left : goal.sub-rest-requires-clause-left
-sub-rest-requires-clause-left g c = c.points.invariant.0 c.points.i c.index-values-i.result (omega arith)
-
-pub sub-rest-requires-clause-right : goal.sub-rest-requires-clause-right
-sub-rest-requires-clause-right g c = c.newton_value-known.ensures.checked
-
-pub mul-requires-clause-left : goal.mul-requires-clause-left
-mul-requires-clause-left g c = c.sub-rest.ensures.checked
-
 pub mul-requires-clause-right : goal.mul-requires-clause-right
 mul-requires-clause-right g c =
     let ring = g.R.Reducer in let m = ring.modulus c.args.r.now in
     form_read g.T.RingWord.number ring.form ring.value m c.args.inverses.now c.points.i _ c.requires.inverses (omega arith)
     c.index-inverses-i.is
-
-pub returns-clause-checked : goal.returns-clause-checked
-returns-clause-checked g c = c.points.invariant.0
 
 pub returns-clause-values : goal.returns-clause-values
 returns-clause-values g c i l =
@@ -80,36 +55,3 @@ returns-clause-values g c i l =
     let count : length c.args.values.now ≡ c.points.i = omega arith in
     ap (λ n. newton_form m n (entry number ring.value m c.points.values) x (x i) % m) count
     ∙ c.points.invariant.1 i (omega (arith, l))
-
-pub offset_bounds-points-i : goal.offset_bounds-points-i
-offset_bounds-points-i g c = le_of_lt (le_trans c.points-test.true c.requires.points_within)
-
-pub bounds-points-i : goal.bounds-points-i
-bounds-points-i g c = le_trans c.points-test.true c.requires.points_within
-
-pub newton_value-known-requires-clause-points_within : goal.newton_value-known-requires-clause-points_within
-newton_value-known-requires-clause-points_within g c = le_of_lt (le_trans c.points-test.true c.requires.points_within)
-
-pub newton_value-known-requires-clause-form_within : goal.newton_value-known-requires-clause-form_within
-newton_value-known-requires-clause-form_within g c = subst (λ n. c.points.i ≤ n) (sym c.points.auto.values) (le_of_lt c.points-test.true)
-
-pub offset_bounds-values-i : goal.offset_bounds-values-i
-offset_bounds-values-i g c = scaled_Fits _ _ _ c.points-test.true c.well_formed.1.1.1.0.1
-
-pub bounds-values-i : goal.bounds-values-i
-bounds-values-i g c = subst (λ n. c.points.i < n) (sym c.points.auto.values) c.points-test.true
-
-pub offset_bounds-inverses-i : goal.offset_bounds-inverses-i
-offset_bounds-inverses-i g c = le_of_lt (le_trans c.points-test.true c.requires.inverses_within)
-
-pub bounds-inverses-i : goal.bounds-inverses-i
-bounds-inverses-i g c = le_trans c.points-test.true c.requires.inverses_within
-
-pub offset_bounds-values-i-in-points : goal.offset_bounds-values-i-in-points
-offset_bounds-values-i-in-points g c = scaled_Fits _ _ _ c.points-test.true c.well_formed.1.1.1.0.1
-
-pub bounds-values-i-in-points : goal.bounds-values-i-in-points
-bounds-values-i-in-points g c = subst (λ n. c.points.i < n) (sym c.points.auto.values) c.points-test.true
-
-pub points-smaller : goal.points-smaller
-points-smaller g c = falls _ _ c.points-test.true

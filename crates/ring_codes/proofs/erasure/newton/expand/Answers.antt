@@ -2,12 +2,9 @@ use Rattle.num_modular.specs.Callers.{◌≡◌, ◌+◌, ◌-◌, ◌*◌, leng
 use Rattle.num_modular.specs.NumberLaws.{mod_of_eq, mod_trans}
 use Rattle.num_modular.specs.PolynomialLaws.{polynomial-none}
 use Rattle.ring_codes.proofs.NewtonForms.{form-none, expanded_more, expanded_all}
-use borrow.Author.Count.{falls}
 use Rattle.ring_codes.proofs.Symbols.{back_within}
 use Rattle.std.proofs.Math.Nat.{le_refl}
-use Rattle.std.proofs.Math.Nat.{le_of_lt}
-use Rattle.num_modular.specs.Callers.{◌<◌, ◌≤◌, subst}
-use Rattle.ring_codes.proofs.Symbols.{some_above, before_last, back_kept}
+use Rattle.num_modular.specs.Callers.{◌<◌, subst}
 use Rattle.ring_codes.proofs.erasure.newton.expand.Goals as goal
 
 pub points-init : goal.points-init
@@ -48,27 +45,6 @@ subtract_multiples-requires-clause-point g c =
     form_read g.T.RingWord.number ring.form ring.value m c.args.points.now (length c.points.form - 1 - c.points.k) _ c.requires.points (omega arith)
     c.index-points-from.is
 
-pub subtract_multiples-requires-clause-values : goal.subtract_multiples-requires-clause-values
-subtract_multiples-requires-clause-values g c = c.points.invariant.0
-
-pub returns-clause-checked : goal.returns-clause-checked
-returns-clause-checked g c = c.points.invariant.0
-
-pub overflow_sub-from : goal.overflow_sub-from
-overflow_sub-from g c = subst (λ n. 1 ≤ n) (sym c.points.auto.form) (some_above _ _ c.points-test.true)
-
-pub overflow_sub-from-in-points : goal.overflow_sub-from-in-points
-overflow_sub-from-in-points g c = subst (λ n. c.points.k ≤ n - 1) (sym c.points.auto.form) (before_last _ _ c.points-test.true)
-
-pub offset_bounds-points-from : goal.offset_bounds-points-from
-offset_bounds-points-from g c = le_of_lt (back_kept _ _ _ _ c.points-test.true c.points.auto.form c.requires.within)
-
-pub bounds-points-from : goal.bounds-points-from
-bounds-points-from g c = back_kept _ _ _ _ c.points-test.true c.points.auto.form c.requires.within
-
 pub subtract_multiples-requires-clause-within : goal.subtract_multiples-requires-clause-within
 subtract_multiples-requires-clause-within g c =
     back_within _ _ _ (subst (λ n. c.points.k < n) (sym c.points.auto.form) c.points-test.true) (le_refl _)
-
-pub points-smaller : goal.points-smaller
-points-smaller g c = falls _ _ c.points-test.true

@@ -3,10 +3,6 @@ use Rattle.std.proofs.Common.{pos, ◌-ℤ◌}
 use Rattle.num_modular.specs.Callers.{ℕ, ◌+◌, ◌-◌, ◌%◌, ◌∙◌, ap, arith, entry, entry_read, ◌≡◌, form_read}
 use Rattle.num_modular.specs.Residues.{residue}
 use Rattle.ring_codes.proofs.NewtonForms.{form_nothing, form_before, form_all}
-use borrow.Author.Count.{falls}
-use Rattle.ring_codes.proofs.Symbols.{back_within}
-use Rattle.std.proofs.Math.Nat.{le_of_lt}
-use Rattle.ring_codes.proofs.Symbols.{some_above, before_last}
 use Rattle.ring_codes.proofs.erasure.newton.newton_value.Goals as goal
 
 pub coefficients-init : goal.coefficients-init
@@ -33,32 +29,17 @@ coefficients-preserved g c =
           (c.add-value.ensures.value ∙ ap (λ v. (v + ring.value m (number c.mul-product.result)) % m) read);
     }
 
-pub sub-difference-requires-clause-left : goal.sub-difference-requires-clause-left
-sub-difference-requires-clause-left g c = c.requires.point
-
 pub sub-difference-requires-clause-right : goal.sub-difference-requires-clause-right
 sub-difference-requires-clause-right g c =
     let ring = g.R.Reducer in let m = ring.modulus c.args.r.now in
     form_read g.T.RingWord.number ring.form ring.value m c.args.points.now (c.args.count - 1 - c.coefficients.k) _ c.requires.points (omega arith)
     c.index-points-i.is
 
-pub mul-product-requires-clause-left : goal.mul-product-requires-clause-left
-mul-product-requires-clause-left g c = c.sub-difference.ensures.checked
-
-pub mul-product-requires-clause-right : goal.mul-product-requires-clause-right
-mul-product-requires-clause-right g c = c.coefficients.invariant.checked
-
 pub add-value-requires-clause-left : goal.add-value-requires-clause-left
 add-value-requires-clause-left g c =
     let ring = g.R.Reducer in let m = ring.modulus c.args.r.now in
     form_read g.T.RingWord.number ring.form ring.value m c.args.form.now (c.args.count - 1 - c.coefficients.k) _ c.requires.form (omega arith)
     c.index-form-i.is
-
-pub add-value-requires-clause-right : goal.add-value-requires-clause-right
-add-value-requires-clause-right g c = c.mul-product.ensures.checked
-
-pub returns-clause-checked : goal.returns-clause-checked
-returns-clause-checked g c = c.coefficients.invariant.checked
 
 pub returns-clause-value : goal.returns-clause-value
 returns-clause-value g c =
@@ -69,24 +50,3 @@ returns-clause-value g c =
     c.coefficients.invariant.same
     ∙ ap (λ k. newton_form m k (λ i. e (n - k + i)) (λ i. x (n - k + i)) a % m) count
     ∙ ap (λ v. v % m) (form_all m n a e x)
-
-pub overflow_sub-i : goal.overflow_sub-i
-overflow_sub-i g c = some_above _ _ c.coefficients-test.true
-
-pub overflow_sub-i-in-coefficients : goal.overflow_sub-i-in-coefficients
-overflow_sub-i-in-coefficients g c = before_last _ _ c.coefficients-test.true
-
-pub offset_bounds-points-i : goal.offset_bounds-points-i
-offset_bounds-points-i g c = le_of_lt (back_within _ _ _ c.coefficients-test.true c.requires.points_within)
-
-pub bounds-points-i : goal.bounds-points-i
-bounds-points-i g c = back_within _ _ _ c.coefficients-test.true c.requires.points_within
-
-pub offset_bounds-form-i : goal.offset_bounds-form-i
-offset_bounds-form-i g c = le_of_lt (back_within _ _ _ c.coefficients-test.true c.requires.form_within)
-
-pub bounds-form-i : goal.bounds-form-i
-bounds-form-i g c = back_within _ _ _ c.coefficients-test.true c.requires.form_within
-
-pub coefficients-smaller : goal.coefficients-smaller
-coefficients-smaller g c = falls _ _ c.coefficients-test.true

@@ -9,9 +9,6 @@ use Rattle.ring_codes.proofs.RootPowers.{value_by_transform}
 use Rattle.ring_codes.proofs.erasure.powers.encode_by_plan.Goals as goal
 use Rattle.ring_codes.proofs.erasure.powers.encode_by_plan.Goals.{then-i-message, else-i-message}
 
-pub symbols-init : goal.symbols-init
-symbols-init g c = λ k l. absurd (omega arith)
-
 pub symbols-preserved : goal.symbols-preserved
 symbols-preserved g c =
     let number = g.T.RingWord.number in let i : ℕ = c.symbols.i in let x = c.if-i-message.word in

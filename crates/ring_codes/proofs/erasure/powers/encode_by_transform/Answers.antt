@@ -5,7 +5,6 @@ use Rattle.ring_codes.proofs.RootPowers.{value_by_transform}
 use Rattle.num_modular.specs.Callers.{◌≤◌, sym, subst, held_forms}
 use Rattle.num_modular.specs.Callers.{◌%◌, IsForm, entry_read, form_read, hold_more}
 use Rattle.ring_codes.proofs.Counts.{zero_mod}
-use borrow.Author.Count.{falls}
 use Rattle.ring_codes.proofs.erasure.powers.encode_by_transform.Goals as goal
 use Rattle.ring_codes.proofs.erasure.powers.encode_by_transform.Goals.{then-i-message, else-i-message}
 
@@ -27,9 +26,6 @@ returns-clause-encoding g c points powers =
           (entry number ring.value m padded) c.requires.few powers (λ i b. held i (omega (arith, b, c.requires.few)))
           (λ i b k. held i k ∙ entry_past number ring.value m message i b) l;
     }
-
-pub symbols-init : goal.symbols-init
-symbols-init g c = record { each = λ k d l. absurd (omega arith) }
 
 pub symbols-preserved : goal.symbols-preserved
 symbols-preserved g c =
@@ -55,20 +51,8 @@ symbols-preserved g c =
     hold_more number ring.form ring.value m padded i x (entry number ring.value m message)
     (subst (λ n. i < n) (sym c.symbols.auto.word) c.symbols-test.true) c.symbols.invariant is.0 is.1
 
-pub bounds-word-i : goal.bounds-word-i
-bounds-word-i g c = subst (λ n. c.symbols.i < n) (sym c.symbols.auto.word) c.symbols-test.true
-
-pub symbols-smaller : goal.symbols-smaller
-symbols-smaller g c = falls _ _ c.symbols-test.true
-
-pub ntt-requires-clause-root : goal.ntt-requires-clause-root
-ntt-requires-clause-root g c = c.requires.root
-
 pub ntt-requires-clause-checked : goal.ntt-requires-clause-checked
 ntt-requires-clause-checked g c =
     let ring = g.R.Reducer in let m = ring.modulus c.args.r.now in let number = g.T.RingWord.number in
     held_forms number ring.form ring.value m c.symbols.word _ _ c.symbols.invariant
     (subst (λ n. n ≤ c.symbols.i) (sym c.symbols.auto.word) c.symbols-test.false)
-
-pub returns-clause-checked : goal.returns-clause-checked
-returns-clause-checked g c = c.ntt.ensures.checked

@@ -6,10 +6,9 @@ use Rattle.std.proofs.lemmas.Bool.{cases_eq}
 use Rattle.num_modular.specs.Residues.{residue}
 use Rattle.ring_codes.specs.Prepared.{product_but}
 use Rattle.ring_codes.proofs.Lagrange.{product_of_parts}
-use Rattle.num_modular.specs.Callers.{◌≤◌, subst, form_read}
-use borrow.Author.Count.{falls}
-use Rattle.std.proofs.Math.Nat.{le_of_lt, le_refl}
-use Rattle.ring_codes.proofs.Symbols.{back_within, some_above, before_last}
+use Rattle.num_modular.specs.Callers.{form_read}
+use Rattle.std.proofs.Math.Nat.{le_refl}
+use Rattle.ring_codes.proofs.Symbols.{back_within}
 use Rattle.ring_codes.proofs.erasure.prepared.fill_products.Goals as goal
 
 pub forward-init : goal.forward-init
@@ -93,75 +92,12 @@ backward-preserved g c =
       },
     )
 
-pub returns-clause-checked : goal.returns-clause-checked
-returns-clause-checked g c = c.backward.invariant.0
-
-pub returns-clause-values : goal.returns-clause-values
-returns-clause-values g c i l = c.backward.invariant.2 i (omega arith) l
-
-pub bounds-products-i : goal.bounds-products-i
-bounds-products-i g c = subst (λ n. c.forward.i < n) (sym (c.forward.auto.products ∙ c.requires.room)) c.forward-test.true
-
-pub bounds-points-i : goal.bounds-points-i
-bounds-points-i g c = c.forward-test.true
-
-pub offset_bounds-points-i : goal.offset_bounds-points-i
-offset_bounds-points-i g c = le_of_lt c.forward-test.true
-
-pub sub-difference-requires-clause-left : goal.sub-difference-requires-clause-left
-sub-difference-requires-clause-left g c = c.requires.point
-
 pub sub-difference-requires-clause-right : goal.sub-difference-requires-clause-right
 sub-difference-requires-clause-right g c =
     let ring = g.R.Reducer in let m = ring.modulus c.args.r.now in let number = g.T.RingWord.number in
     form_read number ring.form ring.value m c.args.points.now c.forward.i _ c.requires.points c.forward-test.true c.index-points-i.is
 
-pub mul-before-requires-clause-left : goal.mul-before-requires-clause-left
-mul-before-requires-clause-left g c = c.forward.invariant.1.checked
-
-pub mul-before-requires-clause-right : goal.mul-before-requires-clause-right
-mul-before-requires-clause-right g c = c.sub-difference.ensures.checked
-
-pub forward-smaller : goal.forward-smaller
-forward-smaller g c = falls _ _ c.forward-test.true
-
-pub backward-smaller : goal.backward-smaller
-backward-smaller g c = falls _ _ c.backward-test.true
-
-pub overflow_sub-i : goal.overflow_sub-i
-overflow_sub-i g c = some_above _ _ c.backward-test.true
-
-pub overflow_sub-i-in-backward : goal.overflow_sub-i-in-backward
-overflow_sub-i-in-backward g c = before_last _ _ c.backward-test.true
-
-pub bounds-products-i-in-backward : goal.bounds-products-i-in-backward
-bounds-products-i-in-backward g c = back_within _ _ _ c.backward-test.true (subst (λ n. length c.args.points.now ≤ n) (sym (c.backward.auto.products ∙ c.forward.auto.products ∙ c.requires.room)) (le_refl _))
-
-pub bounds-products-i-in-backward-2 : goal.bounds-products-i-in-backward-2
-bounds-products-i-in-backward-2 g c = back_within _ _ _ c.backward-test.true (subst (λ n. length c.args.points.now ≤ n) (sym (c.backward.auto.products ∙ c.forward.auto.products ∙ c.requires.room)) (le_refl _))
-
-pub bounds-points-i-in-backward : goal.bounds-points-i-in-backward
-bounds-points-i-in-backward g c = back_within _ _ _ c.backward-test.true (le_refl _)
-
-pub offset_bounds-points-i-in-backward : goal.offset_bounds-points-i-in-backward
-offset_bounds-points-i-in-backward g c = le_of_lt (back_within _ _ _ c.backward-test.true (le_refl _))
-
-pub mul-requires-clause-left : goal.mul-requires-clause-left
-mul-requires-clause-left g c = c.backward.invariant.0 _ _ (back_within _ _ _ c.backward-test.true (subst (λ n. length c.args.points.now ≤ n) (sym (c.backward.auto.products ∙ c.forward.auto.products ∙ c.requires.room)) (le_refl _)))
-
-pub mul-requires-clause-right : goal.mul-requires-clause-right
-mul-requires-clause-right g c = c.backward.invariant.3.checked
-
-pub sub-difference-requires-in-backward-clause-left : goal.sub-difference-requires-in-backward-clause-left
-sub-difference-requires-in-backward-clause-left g c = c.requires.point
-
 pub sub-difference-requires-in-backward-clause-right : goal.sub-difference-requires-in-backward-clause-right
 sub-difference-requires-in-backward-clause-right g c =
     let ring = g.R.Reducer in let m = ring.modulus c.args.r.now in let number = g.T.RingWord.number in
     form_read number ring.form ring.value m c.args.points.now _ _ c.requires.points (back_within _ _ _ c.backward-test.true (le_refl _)) c.index-points-i-in-backward.is
-
-pub mul-after-requires-clause-left : goal.mul-after-requires-clause-left
-mul-after-requires-clause-left g c = c.backward.invariant.3.checked
-
-pub mul-after-requires-clause-right : goal.mul-after-requires-clause-right
-mul-after-requires-clause-right g c = c.sub-difference-in-backward.ensures.checked

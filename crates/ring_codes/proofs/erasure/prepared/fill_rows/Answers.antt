@@ -6,8 +6,6 @@ use borrow.Author.Rules.{scaled_Fits}
 use Rattle.ring_codes.specs.Prepared.{product_but}
 use Rattle.ring_codes.proofs.Lagrange.{row_within}
 use Rattle.num_modular.specs.Callers.{◌<◌, subst, form_read}
-use borrow.Author.Count.{falls}
-use Rattle.std.proofs.Math.Nat.{le_of_lt}
 use Rattle.ring_codes.proofs.erasure.prepared.fill_rows.Goals as goal
 
 pub bounds-rows-next : goal.bounds-rows-next
@@ -73,51 +71,12 @@ returns-clause-checked g c =
     held_forms g.T.RingWord.number ring.form ring.value m c.wanted.rows _ _ c.wanted.invariant.1
     (omega (arith, all, at, c.wanted.auto.rows, c.requires.count))
 
-pub wanted-init : goal.wanted-init
-wanted-init g c = (omega arith, record { each = λ k d l. absurd (omega arith) })
-
-pub bounds-wanted-j : goal.bounds-wanted-j
-bounds-wanted-j g c = c.wanted-test.true
-
-pub offset_bounds-wanted-j : goal.offset_bounds-wanted-j
-offset_bounds-wanted-j g c = le_of_lt c.wanted-test.true
-
-pub fill_products-requires-clause-points : goal.fill_products-requires-clause-points
-fill_products-requires-clause-points g c = c.requires.known
-
 pub fill_products-requires-clause-point : goal.fill_products-requires-clause-point
 fill_products-requires-clause-point g c =
     let ring = g.R.Reducer in let m = ring.modulus c.args.r.now in let number = g.T.RingWord.number in
     form_read number ring.form ring.value m c.args.wanted.now c.wanted.j _ c.requires.wanted c.wanted-test.true c.index-wanted-j.is
 
-pub fill_products-requires-clause-room : goal.fill_products-requires-clause-room
-fill_products-requires-clause-room g c = c.wanted.auto.products ∙ c.requires.products
-
-pub known-init : goal.known-init
-known-init g c = (omega (arith, c.wanted.invariant.0), c.wanted.invariant.1)
-
-pub bounds-products-i : goal.bounds-products-i
-bounds-products-i g c = subst (λ n. c.known.i < n) (sym (c.fill_products.auto.products ∙ c.wanted.auto.products ∙ c.requires.products)) c.known-test.true
-
-pub bounds-weights-i : goal.bounds-weights-i
-bounds-weights-i g c = subst (λ n. c.known.i < n) (sym c.requires.each) c.known-test.true
-
-pub offset_bounds-weights-i : goal.offset_bounds-weights-i
-offset_bounds-weights-i g c = le_of_lt (subst (λ n. c.known.i < n) (sym c.requires.each) c.known-test.true)
-
-pub mul-requires-clause-left : goal.mul-requires-clause-left
-mul-requires-clause-left g c = c.fill_products.ensures.checked _ _ (subst (λ n. c.known.i < n) (sym (c.fill_products.auto.products ∙ c.wanted.auto.products ∙ c.requires.products)) c.known-test.true)
-
 pub mul-requires-clause-right : goal.mul-requires-clause-right
 mul-requires-clause-right g c =
     let ring = g.R.Reducer in let m = ring.modulus c.args.r.now in let number = g.T.RingWord.number in
     form_read number ring.form ring.value m c.args.weights.now c.known.i _ c.requires.weights (subst (λ n. c.known.i < n) (sym c.requires.each) c.known-test.true) c.index-weights-i.is
-
-pub known-smaller : goal.known-smaller
-known-smaller g c = falls _ _ c.known-test.true
-
-pub wanted-smaller : goal.wanted-smaller
-wanted-smaller g c = falls _ _ c.wanted-test.true
-
-pub wanted-preserved : goal.wanted-preserved
-wanted-preserved g c = (omega (arith, c.known.invariant.0), c.known.invariant.1)

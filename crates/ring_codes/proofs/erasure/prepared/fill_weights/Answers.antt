@@ -3,9 +3,6 @@ use Rattle.num_modular.specs.Callers.{entry, entry_read, form_read, hold_more, h
 use Rattle.ring_codes.specs.Prepared.{product_but}
 use Rattle.ring_codes.proofs.Lagrange.{fit_from_all, all_from_fit}
 use Rattle.ring_codes.proofs.NewtonForms.{has_of_residue, has_to_residue, of_residue}
-use Rattle.num_modular.specs.Callers.{sym}
-use borrow.Author.Count.{falls}
-use Rattle.std.proofs.Math.Nat.{le_of_lt}
 use Rattle.ring_codes.proofs.erasure.prepared.fill_weights.Goals as goal
 
 pub points-preserved : goal.points-preserved
@@ -48,31 +45,7 @@ returns-clause-inverses g c t i l =
     (subst (λ a. IsInverse m a (entry number ring.value m c.invert_each.new.forms i)) each
     (c.invert_each.ensures.inverses t i (omega arith)))
 
-pub points-init : goal.points-init
-points-init g c = record { each = λ k d l. absurd (omega arith) }
-
-pub bounds-points-i : goal.bounds-points-i
-bounds-points-i g c = c.points-test.true
-
-pub offset_bounds-points-i : goal.offset_bounds-points-i
-offset_bounds-points-i g c = le_of_lt c.points-test.true
-
-pub fill_products-requires-clause-points : goal.fill_products-requires-clause-points
-fill_products-requires-clause-points g c = c.requires.points
-
 pub fill_products-requires-clause-point : goal.fill_products-requires-clause-point
 fill_products-requires-clause-point g c =
     let ring = g.R.Reducer in let m = ring.modulus c.args.r.now in let number = g.T.RingWord.number in
     form_read number ring.form ring.value m c.args.points.now c.points.i _ c.requires.points c.points-test.true c.index-points-i.is
-
-pub fill_products-requires-clause-room : goal.fill_products-requires-clause-room
-fill_products-requires-clause-room g c = c.points.auto.products ∙ c.requires.products
-
-pub bounds-products-i : goal.bounds-products-i
-bounds-products-i g c = subst (λ n. c.points.i < n) (sym (c.fill_products.auto.products ∙ c.points.auto.products ∙ c.requires.products)) c.points-test.true
-
-pub bounds-weights-i : goal.bounds-weights-i
-bounds-weights-i g c = subst (λ n. c.points.i < n) (sym (c.points.auto.weights ∙ c.requires.weights)) c.points-test.true
-
-pub points-smaller : goal.points-smaller
-points-smaller g c = falls _ _ c.points-test.true

@@ -4,10 +4,6 @@ use Rattle.num_modular.specs.Polynomials.{polynomial_at}
 use Rattle.std.proofs.Common.{length-set}
 use Rattle.ring_codes.specs.KeyEquations.{IsQuotient}
 use Rattle.ring_codes.proofs.NearPairs.{found_none, found_kept, found_more, found_all, zeros_kept, zeros_more, none_counted}
-use Rattle.num_modular.specs.Callers.{refl}
-use Rattle.std.proofs.lemmas.Bool.{false≢true}
-use Rattle.std.proofs.Math.Nat.{le_of_lt}
-use borrow.Author.Count.{falls}
 use Rattle.num_modular.specs.Callers.{◌≡◌, held_forms}
 use Rattle.ring_codes.specs.Erasure.{distance}
 use Rattle.ring_codes.proofs.NearPairs.{found_forms}
@@ -89,74 +85,11 @@ returns-then-found-chosen-clause-quotients g c t =
     found_all number ring.form ring.value m (i + 1) (c.points.found + 1) _ (length c.args.points.now) x p e _ _ (omega (arith, last, same))
     last (omega (arith, last, same, same_values, equal)) (omega arith) more
 
-pub offset_bounds-points-i : goal.offset_bounds-points-i
-offset_bounds-points-i g c = le_of_lt (c.points-test.true)
-
-pub bounds-points-i : goal.bounds-points-i
-bounds-points-i g c = c.points-test.true
-
-pub offset_bounds-points-i-in-Ok-Some : goal.offset_bounds-points-i-in-Ok-Some
-offset_bounds-points-i-in-Ok-Some g c = le_of_lt (c.points-test.true)
-
-pub bounds-points-i-in-Ok-Some : goal.bounds-points-i-in-Ok-Some
-bounds-points-i-in-Ok-Some g c = c.points-test.true
-
 pub quotient-requires-clause-point : goal.quotient-requires-clause-point
 quotient-requires-clause-point g c =
     let ring = g.R.Reducer in let m = ring.modulus c.args.r.now in
     form_read g.T.RingWord.number ring.form ring.value m c.args.points.now c.points.i _ c.requires.points
     (c.points-test.true) c.index-points-i.is
-
-pub quotient-requires-clause-numerator : goal.quotient-requires-clause-numerator
-quotient-requires-clause-numerator g c = c.requires.numerator
-
-pub quotient-requires-clause-locator : goal.quotient-requires-clause-locator
-quotient-requires-clause-locator g c = c.requires.locator
-
-pub returns-in-Err-clause-inverse : goal.returns-in-Err-clause-inverse
-returns-in-Err-clause-inverse g c = c.in-Err.ensures.inverse
-
-pub returns-in-Err-clause-checked_chosen : goal.returns-in-Err-clause-checked_chosen
-returns-in-Err-clause-checked_chosen g c = tt
-
-pub returns-in-Err-clause-checked_values : goal.returns-in-Err-clause-checked_values
-returns-in-Err-clause-checked_values g c = tt
-
-pub returns-in-Err-clause-quotients : goal.returns-in-Err-clause-quotients
-returns-in-Err-clause-quotients g c = tt
-
-pub returns-in-Err-clause-zeros : goal.returns-in-Err-clause-zeros
-returns-in-Err-clause-zeros g c = tt
-
-pub returns-then-found-chosen-clause-inverse : goal.returns-then-found-chosen-clause-inverse
-returns-then-found-chosen-clause-inverse g c = tt
-
-pub returns-clause-inverse : goal.returns-clause-inverse
-returns-clause-inverse g c = tt
-
-pub points-smaller : goal.points-smaller
-points-smaller g c = falls _ _ c.points-test.true
-
-pub points-smaller-in-Ok-None : goal.points-smaller-in-Ok-None
-points-smaller-in-Ok-None g c = falls _ _ c.points-test.true
-
-pub bounds-chosen-found : goal.bounds-chosen-found
-bounds-chosen-found g c = subst (λ n. c.points.found < n) (sym c.points.auto.chosen) c.points.invariant.0
-
-pub bounds-values-found : goal.bounds-values-found
-bounds-values-found g c = subst (λ n. c.points.found < n) (sym (c.points.auto.values ∙ c.requires.equal)) c.points.invariant.0
-
-pub returns-then-found-chosen-clause-zeros : goal.returns-then-found-chosen-clause-zeros
-returns-then-found-chosen-clause-zeros g c h = absurd (h refl)
-
-pub returns-clause-checked_chosen : goal.returns-clause-checked_chosen
-returns-clause-checked_chosen g c t = absurd (false≢true t)
-
-pub returns-clause-checked_values : goal.returns-clause-checked_values
-returns-clause-checked_values g c t = absurd (false≢true t)
-
-pub returns-clause-quotients : goal.returns-clause-quotients
-returns-clause-quotients g c t = absurd (false≢true t)
 
 pub returns-then-found-chosen-clause-checked_values : goal.returns-then-found-chosen-clause-checked_values
 returns-then-found-chosen-clause-checked_values g c t =

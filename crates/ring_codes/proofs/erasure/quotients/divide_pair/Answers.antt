@@ -9,8 +9,6 @@ use Rattle.ring_codes.specs.KeyEquations.{AreQuotients}
 use Rattle.ring_codes.proofs.Pairs.{rest_whole}
 use Rattle.ring_codes.proofs.Symbols.{entry_below}
 use Rattle.ring_codes.proofs.NearPairs.{enough_units, near_quotients, chosen_fit}
-use Rattle.num_modular.specs.Callers.{◌≤◌}
-use Rattle.std.proofs.Math.Nat.{le_refl}
 use Rattle.ring_codes.proofs.erasure.quotients.divide_pair.Goals as goal
 
 pub returns-in-Ok-true-clause-message : goal.returns-in-Ok-true-clause-message
@@ -59,9 +57,6 @@ returns-in-Ok-false-clause-message g c d u y sent whole some lengths few room pa
     absurd (zeros.0 (enough_units m k split d n u x y p e sent some lengths few room c.requires.fit
     (λ l b. entry_past number ring.value m (drop split list) l (omega (arith, b, is_d))) pair near fewer_still))
 
-pub divide-requires-clause-points : goal.divide-requires-clause-points
-divide-requires-clause-points g c = c.requires.points
-
 pub divide-requires-clause-numerator : goal.divide-requires-clause-numerator
 divide-requires-clause-numerator g c =
     let ring = g.R.Reducer in let m = ring.modulus c.args.r.now in
@@ -72,54 +67,3 @@ divide-requires-clause-locator g c =
     let ring = g.R.Reducer in let m = ring.modulus c.args.r.now in
     subst (λ xs. All (λ f. IsForm ring.form ring.value m (g.T.RingWord.number f)) xs) (sym (rest_whole c.args.pair.now c.args.split))
     (All-drop (λ f. IsForm ring.form ring.value m (g.T.RingWord.number f)) c.args.split c.args.pair.now c.requires.pair)
-
-pub divide-requires-clause-some : goal.divide-requires-clause-some
-divide-requires-clause-some g c = subst (λ n. 0 < n) (sym c.split_at_mut-chosen.ensures.front_len) c.requires.some
-
-pub divide-requires-clause-few : goal.divide-requires-clause-few
-divide-requires-clause-few g c = subst (λ n. n ≤ length c.args.points.now) (sym c.split_at_mut-chosen.ensures.front_len) c.requires.few
-
-pub divide-requires-clause-equal : goal.divide-requires-clause-equal
-divide-requires-clause-equal g c = c.split_at_mut-values.ensures.front_len ∙ sym c.split_at_mut-chosen.ensures.front_len
-
-pub interpolate-requires-clause-points : goal.interpolate-requires-clause-points
-interpolate-requires-clause-points g c = c.in-Ok-true.ensures.checked_chosen c.in-Ok-true.field-0-test
-
-pub interpolate-requires-clause-values : goal.interpolate-requires-clause-values
-interpolate-requires-clause-values g c = c.in-Ok-true.ensures.checked_values c.in-Ok-true.field-0-test
-
-pub interpolate-requires-clause-points_within : goal.interpolate-requires-clause-points_within
-interpolate-requires-clause-points_within g c = subst (λ n. length c.args.message.now ≤ n) (sym (c.divide.auto.chosen ∙ c.split_at_mut-chosen.ensures.front_len)) (le_refl _)
-
-pub interpolate-requires-clause-values_within : goal.interpolate-requires-clause-values_within
-interpolate-requires-clause-values_within g c = subst (λ n. length c.args.message.now ≤ n) (sym (c.divide.auto.values ∙ c.split_at_mut-values.ensures.front_len)) (le_refl _)
-
-pub returns-in-Err-clause-inverse : goal.returns-in-Err-clause-inverse
-returns-in-Err-clause-inverse g c = c.in-Err.ensures.inverse
-
-pub returns-in-Err-clause-checked : goal.returns-in-Err-clause-checked
-returns-in-Err-clause-checked g c = tt
-
-pub returns-in-Err-clause-message : goal.returns-in-Err-clause-message
-returns-in-Err-clause-message g c = tt
-
-pub returns-in-Ok-true-clause-inverse : goal.returns-in-Ok-true-clause-inverse
-returns-in-Ok-true-clause-inverse g c = tt
-
-pub returns-in-Ok-false-clause-inverse : goal.returns-in-Ok-false-clause-inverse
-returns-in-Ok-false-clause-inverse g c = tt
-
-pub returns-in-Ok-true-clause-checked : goal.returns-in-Ok-true-clause-checked
-returns-in-Ok-true-clause-checked g c = c.interpolate.ensures.checked
-
-pub returns-in-Ok-false-clause-checked : goal.returns-in-Ok-false-clause-checked
-returns-in-Ok-false-clause-checked g c t = absurd (false≢true t)
-
-pub split_at_mut-chosen-requires : goal.split_at_mut-chosen-requires
-split_at_mut-chosen-requires g c = omega arith
-
-pub split_at_mut-values-requires : goal.split_at_mut-values-requires
-split_at_mut-values-requires g c = omega arith
-
-pub slice_bounds-weights-end : goal.slice_bounds-weights-end
-slice_bounds-weights-end g c = omega arith

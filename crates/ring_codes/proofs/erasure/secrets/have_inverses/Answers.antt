@@ -33,14 +33,8 @@ returns g c =
           (has_product m c.points.i f positive (λ i l. each i (omega (arith, l))))),
     )
 
-pub mul-product-requires-clause-left : goal.mul-product-requires-clause-left
-mul-product-requires-clause-left g c = c.points.invariant.checked
-
 pub mul-product-requires-clause-right : goal.mul-product-requires-clause-right
 mul-product-requires-clause-right g c =
     let ring = g.R.Reducer in let m = ring.modulus c.args.r.now in
     form_read g.T.RingWord.number ring.form ring.value m c.args.points.now c.points.i _ c.requires (omega arith)
     c.index-points-i.is
-
-pub inv-requires : goal.inv-requires
-inv-requires g c = c.points.invariant.checked

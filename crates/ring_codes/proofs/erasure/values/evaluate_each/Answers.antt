@@ -4,9 +4,6 @@ use Rattle.num_modular.specs.Callers.{entry, entry_read, form_read, hold_more, h
 use Rattle.ring_codes.proofs.NewtonForms.{value_none, value_more, value_all}
 use Rattle.ring_codes.proofs.erasure.values.evaluate_each.Goals as goal
 
-pub zeros-init : goal.zeros-init
-zeros-init g c = record { each = λ k d l. absurd (omega arith) }
-
 pub zeros-preserved : goal.zeros-preserved
 zeros-preserved g c =
     let ring = g.R.Reducer in let m = ring.modulus c.args.r.now in

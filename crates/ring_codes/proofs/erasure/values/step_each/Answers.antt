@@ -1,9 +1,6 @@
 use Rattle.num_modular.specs.Callers.{◌+◌, ◌*◌, ◌%◌, ◌∙◌, ap, arith}
-use Rattle.num_modular.specs.Callers.{entry, entry_at, entry_read, forms_written, done_none, done_more}
+use Rattle.num_modular.specs.Callers.{entry, entry_at, entry_read, forms_written, done_more}
 use Rattle.ring_codes.proofs.erasure.values.step_each.Goals as goal
-
-pub points-init : goal.points-init
-points-init g c = (c.requires.values, done_none _ _)
 
 pub points-preserved : goal.points-preserved
 points-preserved g c =
@@ -19,6 +16,3 @@ points-preserved g c =
       done_more number ring.value m list i c.add.result _ old (omega arith) so_far.1
           (c.add.ensures.value ∙ ap (λ v. (a + v) % m) product),
     )
-
-pub returns-clause-values : goal.returns-clause-values
-returns-clause-values g c i l = c.points.invariant.1.done i (omega arith)

@@ -1,16 +1,11 @@
 use Rattle.num_modular.specs.Callers.{◌%◌, length, arith, entry, hold_more, held_forms, held_entry}
 use Rattle.num_modular.specs.Polynomials.{polynomial_at}
-use borrow.Author.Rules.{scaled_Fits}
 use Rattle.num_modular.specs.Callers.{entry_read, form_read, ap}
 use Rattle.std.proofs.Math.Nat.{le_of_lt, le_trans}
-use borrow.Author.Count.{falls}
 use Rattle.num_modular.specs.Callers.{◌<◌, subst, sym, ◌∙◌}
 use Rattle.num_modular.specs.Callers.{ℕ, IsCheckedFormOf}
 use Rattle.ring_codes.proofs.erasure.words.fill_word.Goals as goal
 use Rattle.ring_codes.proofs.erasure.words.fill_word.Goals.{in-Some, in-None}
-
-pub points-init : goal.points-init
-points-init g c = record { each = λ k d l. absurd (omega arith) }
 
 pub returns-clause-checked : goal.returns-clause-checked
 returns-clause-checked g c =
@@ -23,15 +18,6 @@ returns-clause-encoding g c =
       symbol = λ i l. held_entry g.T.RingWord.number ring.form ring.value m c.points.word _ _ i c.points.invariant
           (omega arith) (omega arith);
     }
-
-pub offset_bounds-word-i : goal.offset_bounds-word-i
-offset_bounds-word-i g c = scaled_Fits _ _ _ c.points-test.true c.well_formed.1.0.1
-
-pub bounds-word-i : goal.bounds-word-i
-bounds-word-i g c = subst (λ n. c.points.i < n) (sym (c.points.auto.word ∙ c.requires.room)) c.points-test.true
-
-pub points-smaller : goal.points-smaller
-points-smaller g c = falls _ _ c.points-test.true
 
 pub points-preserved : goal.points-preserved
 points-preserved g c =
@@ -59,12 +45,6 @@ points-preserved g c =
     hold_more number ring.form ring.value m c.points.word i _ (λ i. word (points i)) (omega arith) c.points.invariant
     held.checked held.same
 
-pub index_of-requires : goal.index_of-requires
-index_of-requires g c = c.requires.enough
-
-pub evaluate-requires-clause-coefficients : goal.evaluate-requires-clause-coefficients
-evaluate-requires-clause-coefficients g c = c.requires.message
-
 pub evaluate-requires-clause-point : goal.evaluate-requires-clause-point
 evaluate-requires-clause-point g c =
     let ring = g.R.Reducer in let m = ring.modulus c.args.r.now in let number = g.T.RingWord.number in
@@ -78,9 +58,3 @@ bounds-symbols-j g c =
 pub offset_bounds-symbols-j : goal.offset_bounds-symbols-j
 offset_bounds-symbols-j g c =
     le_of_lt (subst (λ n. c.in-Some.j < n) (sym c.requires.pairs) (le_trans c.in-Some.ensures.0 c.requires.enough))
-
-pub bounds-points-i : goal.bounds-points-i
-bounds-points-i g c = c.points-test.true
-
-pub offset_bounds-points-i : goal.offset_bounds-points-i
-offset_bounds-points-i g c = le_of_lt c.points-test.true

@@ -4,8 +4,6 @@ use Rattle.num_modular.specs.Sums.{sum_below}
 use Rattle.ring_codes.proofs.Lagrange.{fit_known, message_of, value_from_row}
 use Rattle.ring_codes.proofs.Symbols.{entry_below}
 use Rattle.num_modular.specs.Callers.{◌<◌, ◌≤◌, sym, subst, hold_more, held_forms}
-use borrow.Author.Count.{falls}
-use Rattle.ring_codes.proofs.Counts.{row_fits}
 use Rattle.ring_codes.proofs.erasure.prepared.PreparedCode.extend.Goals as goal
 
 pub returns-clause-original : goal.returns-clause-original
@@ -36,24 +34,6 @@ returns-clause-word g c =
     let found = message_of m k x symbols positive (fit_known m k x self.fit)
     (λ i l. entry_below number ring.form ring.value m c.args.symbols.now i c.requires.symbols (omega arith)) in
     (found.0, found.1, returns-clause-original g c found.0 found.1)
-
-pub wanted-init : goal.wanted-init
-wanted-init g c = record { each = λ k d l. absurd (omega arith) }
-
-pub row_value-requires-clause-rows : goal.row_value-requires-clause-rows
-row_value-requires-clause-rows g c = c.args.self.now.row_forms
-
-pub row_value-requires-clause-symbols : goal.row_value-requires-clause-symbols
-row_value-requires-clause-symbols g c = c.requires.symbols
-
-pub row_value-requires-clause-within : goal.row_value-requires-clause-within
-row_value-requires-clause-within g c = row_fits _ _ _ _ _ c.wanted-test.true c.requires.given c.args.self.now.count
-
-pub bounds-others-j : goal.bounds-others-j
-bounds-others-j g c = subst (λ n. c.wanted.j < n) (sym (c.wanted.auto.others ∙ c.requires.room)) c.wanted-test.true
-
-pub wanted-smaller : goal.wanted-smaller
-wanted-smaller g c = falls _ _ c.wanted-test.true
 
 pub wanted-preserved : goal.wanted-preserved
 wanted-preserved g c =

@@ -5,10 +5,6 @@ use Rattle.num_modular.specs.Callers.{entry, entry_read, form_read}
 use Rattle.num_modular.specs.Sums.{sum_below}
 use Rattle.ring_codes.proofs.Lagrange.{fit_known, message_of, value_from_row}
 use Rattle.ring_codes.proofs.Symbols.{entry_below, same_forms, told_same, told_other}
-use Rattle.num_modular.specs.Callers.{subst}
-use borrow.Author.Count.{falls}
-use Rattle.std.proofs.Math.Nat.{le_of_lt}
-use Rattle.ring_codes.proofs.Counts.{row_fits}
 use Rattle.ring_codes.proofs.erasure.prepared.PreparedCode.is_codeword.Goals as goal
 
 pub returns-then-ne : goal.returns-then-ne
@@ -67,21 +63,3 @@ returns g c =
       ),
       λ h. refl,
     )
-
-pub row_value-symbol-requires-clause-rows : goal.row_value-symbol-requires-clause-rows
-row_value-symbol-requires-clause-rows g c = c.args.self.now.row_forms
-
-pub row_value-symbol-requires-clause-symbols : goal.row_value-symbol-requires-clause-symbols
-row_value-symbol-requires-clause-symbols g c = c.requires.symbols
-
-pub row_value-symbol-requires-clause-within : goal.row_value-symbol-requires-clause-within
-row_value-symbol-requires-clause-within g c = row_fits _ _ _ _ _ (subst (λ n. c.wanted.j < n) c.requires.pairs c.wanted-test.true) c.requires.given c.args.self.now.count
-
-pub bounds-others-j : goal.bounds-others-j
-bounds-others-j g c = c.wanted-test.true
-
-pub offset_bounds-others-j : goal.offset_bounds-others-j
-offset_bounds-others-j g c = le_of_lt c.wanted-test.true
-
-pub wanted-smaller : goal.wanted-smaller
-wanted-smaller g c = falls _ _ c.wanted-test.true

@@ -3,8 +3,6 @@ use Rattle.num_modular.specs.Callers.{entry}
 use Rattle.num_modular.specs.NumberLaws.{mod_of_eq, mod_refl, residue_of, mod_trans, mod_mul}
 use Rattle.ring_codes.specs.Prepared.{product_but}
 use Rattle.ring_codes.proofs.Lagrange.{rows_from}
-use Rattle.num_modular.specs.Callers.{arith}
-use Rattle.std.proofs.lemmas.Bool.{false≢true}
 use Rattle.ring_codes.proofs.erasure.prepared.PreparedCode.new.Goals as goal
 
 pub invariant_of-result : goal.invariant_of-result
@@ -28,33 +26,3 @@ invariant_of-result g c =
           (mod_trans (residue_of (product_but m k x i (y j) % m * w i))
           (mod_mul (residue_of (product_but m k x i (y j))) (mod_refl (w i)))));
     }
-
-pub split_at_mut-weights-requires : goal.split_at_mut-weights-requires
-split_at_mut-weights-requires g c = omega (arith, c.requires.scratch)
-
-pub fill_weights-requires-clause-points : goal.fill_weights-requires-clause-points
-fill_weights-requires-clause-points g c = c.requires.known
-
-pub fill_weights-requires-clause-weights : goal.fill_weights-requires-clause-weights
-fill_weights-requires-clause-weights g c = c.split_at_mut-weights.ensures.front_len
-
-pub returns-then-not-fill_weights : goal.returns-then-not-fill_weights
-returns-then-not-fill_weights g c fit = false≢true (c.if-not-fill_weights.ensures.fit.1 fit)
-
-pub fill_rows-requires-clause-known : goal.fill_rows-requires-clause-known
-fill_rows-requires-clause-known g c = c.requires.known
-
-pub fill_rows-requires-clause-wanted : goal.fill_rows-requires-clause-wanted
-fill_rows-requires-clause-wanted g c = c.requires.wanted
-
-pub fill_rows-requires-clause-weights : goal.fill_rows-requires-clause-weights
-fill_rows-requires-clause-weights g c = c.if-not-fill_weights.ensures.checked refl
-
-pub fill_rows-requires-clause-each : goal.fill_rows-requires-clause-each
-fill_rows-requires-clause-each g c = c.fill_weights.auto.weights ∙ c.split_at_mut-weights.ensures.front_len
-
-pub fill_rows-requires-clause-count : goal.fill_rows-requires-clause-count
-fill_rows-requires-clause-count g c = c.requires.count
-
-pub returns : goal.returns
-returns g c = (refl, refl, refl)
