@@ -1,6 +1,6 @@
 use Rattle.std.proofs.Common.{◌∙◌, slice_index, sym, refl}
 use Rattle.num_modular_c.proofs.Moved.{moved}
-use Rattle.num_modular_c.proofs.Rooms.{fits, left, correct_rooms, correct_room, some_left, not_zero}
+use Rattle.num_modular_c.proofs.Rooms.{fits, left, correct_rooms, correct_room}
 use Rattle.num_modular_c.specs.Erasure.{IsCorrected}
 use Rattle.ring_codes.specs.Correction.{AreFit, IsCorrectFault}
 use Rattle.num_modular_c.proofs.erasure.corrected.Goals as goal
@@ -47,9 +47,6 @@ returns-in-Err-clause-failure g c bad =
       refl,
     )
 
-pub split_at_mut-xs-requires : goal.split_at_mut-xs-requires
-split_at_mut-xs-requires g c = fits _ _ _ (correct_rooms _ _ _ _ c.requires.scratch)
-
 pub split_at_mut-ys-requires : goal.split_at_mut-ys-requires
 split_at_mut-ys-requires g c =
     fits _ _ _ (left _ _ _ _ (correct_rooms _ _ _ _ c.requires.scratch) c.split_at_mut-xs.ensures.back_len)
@@ -65,24 +62,6 @@ split_at_mut-word_forms-requires g c =
     let three = left _ _ _ _ two c.split_at_mut-ys.ensures.back_len in
     fits _ _ _ (left _ _ _ _ three c.split_at_mut-forms.ensures.back_len)
 
-pub load_from-requires : goal.load_from-requires
-load_from-requires g c = c.split_at_mut-xs.ensures.front_len
-
-pub load_from-requires-2 : goal.load_from-requires-2
-load_from-requires-2 g c = c.split_at_mut-ys.ensures.front_len ∙ sym c.requires.symbols
-
-pub correct-requires-clause-points : goal.correct-requires-clause-points
-correct-requires-clause-points g c = c.load_from.ensures.checked
-
-pub correct-requires-clause-symbols : goal.correct-requires-clause-symbols
-correct-requires-clause-symbols g c = c.load_from-2.ensures.checked
-
-pub correct-requires-clause-pairs : goal.correct-requires-clause-pairs
-correct-requires-clause-pairs g c = c.load_from-2.auto.forms ∙ c.split_at_mut-ys.ensures.front_len
-
-pub correct-requires-clause-some : goal.correct-requires-clause-some
-correct-requires-clause-some g c = some_left _ _ c.split_at_mut-forms.ensures.front_len c.requires.some
-
 pub correct-requires-clause-scratch : goal.correct-requires-clause-scratch
 correct-requires-clause-scratch g c =
     let two = left _ _ _ _ (correct_rooms _ _ _ _ c.requires.scratch) c.split_at_mut-xs.ensures.back_len in
@@ -96,21 +75,6 @@ correct-requires-clause-room g c =
     c.split_at_mut-word_forms.ensures.front_len
     ∙ sym (c.load_from.auto.forms ∙ c.split_at_mut-xs.ensures.front_len)
 
-pub unload_from-requires-clause-checked : goal.unload_from-requires-clause-checked
-unload_from-requires-clause-checked g c = c.in-Ok.ensures.forms
-
-pub unload_from-requires-clause-room : goal.unload_from-requires-clause-room
-unload_from-requires-clause-room g c = sym (c.correct.auto.message ∙ c.split_at_mut-forms.ensures.front_len)
-
-pub unload_from-requires-in-Ok-clause-checked : goal.unload_from-requires-in-Ok-clause-checked
-unload_from-requires-in-Ok-clause-checked g c = c.in-Ok.ensures.checked
-
 pub unload_from-requires-in-Ok-clause-room : goal.unload_from-requires-in-Ok-clause-room
 unload_from-requires-in-Ok-clause-room g c =
     c.requires.word ∙ sym (c.correct.auto.word ∙ c.split_at_mut-word_forms.ensures.front_len)
-
-pub returns-in-Ok-clause-failure : goal.returns-in-Ok-clause-failure
-returns-in-Ok-clause-failure g c bad = absurd (bad refl)
-
-pub returns-in-Err-clause-ok : goal.returns-in-Err-clause-ok
-returns-in-Err-clause-ok g c ok = absurd (not_zero _ c.correct_code.ensures.not_ok ok)

@@ -51,12 +51,6 @@ returns-in-Err-clause-failure g c none =
       unchanged = refl;
     }
 
-pub split_at_mut-xs-requires : goal.split_at_mut-xs-requires
-split_at_mut-xs-requires g c = fits _ _ _ (restore_rooms _ _ _ _ c.requires.scratch)
-
-pub split_at_mut-ys-requires : goal.split_at_mut-ys-requires
-split_at_mut-ys-requires g c = fits _ _ _ (left _ _ _ _ (restore_rooms _ _ _ _ c.requires.scratch) c.split_at_mut-xs.ensures.back_len)
-
 pub split_at_mut-chosen-requires : goal.split_at_mut-chosen-requires
 split_at_mut-chosen-requires g c =
     let two = left _ _ _ _ (restore_rooms _ _ _ _ c.requires.scratch) c.split_at_mut-xs.ensures.back_len in
@@ -73,21 +67,6 @@ split_at_mut-forms-requires g c =
     let four = left _ _ _ _ (left _ _ _ _ two c.split_at_mut-ys.ensures.back_len) c.split_at_mut-chosen.ensures.back_len in
     left _ _ _ _ four c.split_at_mut-weights.ensures.back_len
 
-pub load_from-requires : goal.load_from-requires
-load_from-requires g c = c.split_at_mut-xs.ensures.front_len
-
-pub load_from-requires-2 : goal.load_from-requires-2
-load_from-requires-2 g c = c.split_at_mut-ys.ensures.front_len ∙ sym c.requires.symbols
-
-pub restore-requires-clause-points : goal.restore-requires-clause-points
-restore-requires-clause-points g c = c.load_from.ensures.checked
-
-pub restore-requires-clause-symbols : goal.restore-requires-clause-symbols
-restore-requires-clause-symbols g c = c.load_from-2.ensures.checked
-
-pub restore-requires-clause-pairs : goal.restore-requires-clause-pairs
-restore-requires-clause-pairs g c = c.load_from-2.auto.forms ∙ c.split_at_mut-ys.ensures.front_len
-
 pub restore-requires-clause-chosen : goal.restore-requires-clause-chosen
 restore-requires-clause-chosen g c =
     c.split_at_mut-chosen.ensures.front_len ∙ sym c.split_at_mut-forms.ensures.front_len
@@ -95,9 +74,3 @@ restore-requires-clause-chosen g c =
 pub restore-requires-clause-weights : goal.restore-requires-clause-weights
 restore-requires-clause-weights g c =
     c.split_at_mut-weights.ensures.front_len ∙ sym c.split_at_mut-forms.ensures.front_len
-
-pub unload_from-requires-clause-checked : goal.unload_from-requires-clause-checked
-unload_from-requires-clause-checked g c = c.in-Ok.ensures.checked refl
-
-pub unload_from-requires-clause-room : goal.unload_from-requires-clause-room
-unload_from-requires-clause-room g c = sym (c.restore.auto.message ∙ c.split_at_mut-forms.ensures.front_len)

@@ -7,6 +7,3 @@ returns-clause-below c =
       λ t k d l. (parts r (c.all_checked.ensures.0 t k d l)).below,
       λ all. c.all_checked.ensures.1 (λ k d l. below_is_form r _ (all k d l)),
     )
-
-pub returns-clause-forms : goal.returns-clause-forms
-returns-clause-forms c t = c.all_checked.ensures.0 t

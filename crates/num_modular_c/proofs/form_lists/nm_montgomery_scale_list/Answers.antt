@@ -4,40 +4,13 @@ use Rattle.num_modular_c.specs.Contexts.{value_of}
 use Rattle.num_modular_c.proofs.WordLists.{scaled_values}
 use Rattle.num_modular_c.proofs.form_lists.nm_montgomery_scale_list.Goals as goal
 
-pub returns-in_default-clause-did : goal.returns-in_default-clause-did
-returns-in_default-clause-did c is = absurd (c.in_default.ensures is)
-
-pub returns-in_default-clause-bad_argument : goal.returns-in_default-clause-bad_argument
-returns-in_default-clause-bad_argument c is = absurd (c.in_default.ensures is)
-
-pub returns-in_default-clause-bad_context : goal.returns-in_default-clause-bad_context
-returns-in_default-clause-bad_context c none = (refl, refl)
-
 pub returns-then-not-is_form-clause-did : goal.returns-then-not-is_form-clause-did
 returns-then-not-is_form-clause-did c is all below =
     absurd (false≢true ((rw c.in-Some.ensures.0 at c.if-not-is_form.ensures.below).1 below))
 
-pub returns-then-not-is_form-clause-bad_argument : goal.returns-then-not-is_form-clause-bad_argument
-returns-then-not-is_form-clause-bad_argument c is none = (refl, refl)
-
-pub returns-then-not-is_form-clause-bad_context : goal.returns-then-not-is_form-clause-bad_context
-returns-then-not-is_form-clause-bad_context c none = absurd (none c.in-Some.ensures.1)
-
 pub returns-then-not-are_forms-clause-did : goal.returns-then-not-are_forms-clause-did
 returns-then-not-are_forms-clause-did c is all below =
     absurd (false≢true ((rw c.in-Some.ensures.0 at c.if-not-are_forms.ensures.below).1 all))
-
-pub returns-then-not-are_forms-clause-bad_argument : goal.returns-then-not-are_forms-clause-bad_argument
-returns-then-not-are_forms-clause-bad_argument c is none = (refl, refl)
-
-pub returns-then-not-are_forms-clause-bad_context : goal.returns-then-not-are_forms-clause-bad_context
-returns-then-not-are_forms-clause-bad_context c none = absurd (none c.in-Some.ensures.1)
-
-pub scale_list-requires-clause-checked : goal.scale_list-requires-clause-checked
-scale_list-requires-clause-checked c = c.if-not-are_forms.ensures.forms refl
-
-pub scale_list-requires-clause-factor : goal.scale_list-requires-clause-factor
-scale_list-requires-clause-factor c = c.if-not-is_form.ensures.form refl
 
 pub returns-clause-did : goal.returns-clause-did
 returns-clause-did c is all below =
@@ -57,6 +30,3 @@ returns-clause-bad_argument c is none =
     let all = rw c.in-Some.ensures.0 at (c.if-not-are_forms.ensures.below.0 refl) in
     let below = rw c.in-Some.ensures.0 at (c.if-not-is_form.ensures.below.0 refl) in
     absurd (none (all, below))
-
-pub returns-clause-bad_context : goal.returns-clause-bad_context
-returns-clause-bad_context c none = absurd (none c.in-Some.ensures.1)

@@ -5,33 +5,9 @@ use Rattle.num_modular_c.specs.Contexts.{value_of}
 use Rattle.num_modular_c.proofs.WordLists.{pair_values}
 use Rattle.num_modular_c.proofs.form_lists.nm_montgomery_sub_lists.Goals as goal
 
-pub returns-in_default-clause-did : goal.returns-in_default-clause-did
-returns-in_default-clause-did c is = absurd (c.in_default.ensures is)
-
-pub returns-in_default-clause-bad_argument : goal.returns-in_default-clause-bad_argument
-returns-in_default-clause-bad_argument c is = absurd (c.in_default.ensures is)
-
-pub returns-in_default-clause-bad_context : goal.returns-in_default-clause-bad_context
-returns-in_default-clause-bad_context c none = (refl, refl)
-
 pub returns-then-not-are_form_lists-clause-did : goal.returns-then-not-are_form_lists-clause-did
 returns-then-not-are_form_lists-clause-did c is fit =
     absurd (false≢true ((rw c.in-Some.ensures.0 at c.if-not-are_form_lists.ensures.fit).1 fit))
-
-pub returns-then-not-are_form_lists-clause-bad_argument : goal.returns-then-not-are_form_lists-clause-bad_argument
-returns-then-not-are_form_lists-clause-bad_argument c is none = (refl, refl)
-
-pub returns-then-not-are_form_lists-clause-bad_context : goal.returns-then-not-are_form_lists-clause-bad_context
-returns-then-not-are_form_lists-clause-bad_context c none = absurd (none c.in-Some.ensures.1)
-
-pub sub_lists-requires-clause-equal : goal.sub_lists-requires-clause-equal
-sub_lists-requires-clause-equal c = c.if-not-are_form_lists.ensures.equal refl
-
-pub sub_lists-requires-clause-checked_xs : goal.sub_lists-requires-clause-checked_xs
-sub_lists-requires-clause-checked_xs c = (c.if-not-are_form_lists.ensures.forms refl).0
-
-pub sub_lists-requires-clause-checked_ys : goal.sub_lists-requires-clause-checked_ys
-sub_lists-requires-clause-checked_ys c = (c.if-not-are_form_lists.ensures.forms refl).1
 
 pub returns-clause-did : goal.returns-clause-did
 returns-clause-did c is fit =
@@ -52,6 +28,3 @@ returns-clause-did c is fit =
 pub returns-clause-bad_argument : goal.returns-clause-bad_argument
 returns-clause-bad_argument c is none =
     absurd (none (rw c.in-Some.ensures.0 at (c.if-not-are_form_lists.ensures.fit.0 refl)))
-
-pub returns-clause-bad_context : goal.returns-clause-bad_context
-returns-clause-bad_context c none = absurd (none c.in-Some.ensures.1)

@@ -3,9 +3,6 @@ use Rattle.std.proofs.lemmas.List.{get_or-map}
 use Rattle.num_modular_c.proofs.InPlace.{loaded}
 use Rattle.num_modular_c.proofs.lists.load_from.Goals as goal
 
-pub returns-clause-checked : goal.returns-clause-checked
-returns-clause-checked g c = c.load_forms.ensures.checked
-
 pub returns-clause-values : goal.returns-clause-values
 returns-clause-values g c =
     let m = g.R.Reducer.modulus c.args.r.now in

@@ -1,23 +1,8 @@
 use Rattle.std.proofs.Common.{◌≡◌, ◌∙◌, ap, get_or, sym, subst, arith}
 use Rattle.std.proofs.lemmas.List.{get_or-map}
 use Rattle.num_modular.specs.Forms.{IsForm}
-use Rattle.num_modular.specs.Callers.{done_none}
 use Rattle.num_modular_c.proofs.InPlace.{done_more}
 use Rattle.num_modular_c.proofs.lists.unload.Goals as goal
-use borrow.Author.Count.{falls}
-use borrow.Author.Rules.{scaled_Fits}
-
-pub entries-init : goal.entries-init
-entries-init g c = done_none _ _
-
-pub offset_bounds-xs-i : goal.offset_bounds-xs-i
-offset_bounds-xs-i g c = scaled_Fits _ _ _ c.entries-test.true c.well_formed.1.0.1
-
-pub offset_bounds-xs-i-in-entries : goal.offset_bounds-xs-i-in-entries
-offset_bounds-xs-i-in-entries g c = scaled_Fits _ _ _ c.entries-test.true c.well_formed.1.0.1
-
-pub entries-smaller : goal.entries-smaller
-entries-smaller g c = falls _ _ c.entries-test.true
 
 pub residue-requires : goal.residue-requires
 residue-requires g c =

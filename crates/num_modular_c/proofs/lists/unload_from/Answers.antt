@@ -1,13 +1,6 @@
 use Rattle.std.proofs.Common.{◌<◌, ◌∙◌, subst}
 use Rattle.num_modular_c.proofs.InPlace.{unloaded}
-use Rattle.num_modular_c.proofs.Rooms.{same_room}
 use Rattle.num_modular_c.proofs.lists.unload_from.Goals as goal
-
-pub unload_forms-requires-clause-checked : goal.unload_forms-requires-clause-checked
-unload_forms-requires-clause-checked g c = c.requires.checked
-
-pub unload_forms-requires-clause-within : goal.unload_forms-requires-clause-within
-unload_forms-requires-clause-within g c = same_room _ _ c.requires.room
 
 pub returns : goal.returns
 returns g c =

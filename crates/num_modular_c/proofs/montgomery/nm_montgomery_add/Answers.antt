@@ -4,15 +4,6 @@ use Rattle.num_modular_c.proofs.montgomery.nm_montgomery_add.Goals as goal
 use Rattle.num_modular_c.proofs.montgomery.nm_montgomery_add.Goals.{then-not-is_form-via-then-not-is_form}
 use Rattle.num_modular_c.proofs.montgomery.nm_montgomery_add.Goals.{then-not-is_form-via-else-not-is_form+then-not-is_form-2}
 
-pub returns-in_default-clause-did : goal.returns-in_default-clause-did
-returns-in_default-clause-did c is = absurd (c.in_default.ensures is)
-
-pub returns-in_default-clause-bad_argument : goal.returns-in_default-clause-bad_argument
-returns-in_default-clause-bad_argument c is = absurd (c.in_default.ensures is)
-
-pub returns-in_default-clause-bad_context : goal.returns-in_default-clause-bad_context
-returns-in_default-clause-bad_context c none = (refl, refl)
-
 pub returns-then-not-is_form-clause-did : goal.returns-then-not-is_form-clause-did
 returns-then-not-is_form-clause-did c is a b = elim c.then-not-is_form.branch [
   | then-not-is_form-via-then-not-is_form w ↦
@@ -20,18 +11,6 @@ returns-then-not-is_form-clause-did c is a b = elim c.then-not-is_form.branch [
   | then-not-is_form-via-else-not-is_form+then-not-is_form-2 w ↦
       absurd (false≢true ((rw c.in-Some.ensures.0 at w.if-not-is_form-2.ensures.below).1 b))
 ]
-
-pub returns-then-not-is_form-clause-bad_argument : goal.returns-then-not-is_form-clause-bad_argument
-returns-then-not-is_form-clause-bad_argument c is none = (refl, refl)
-
-pub returns-then-not-is_form-clause-bad_context : goal.returns-then-not-is_form-clause-bad_context
-returns-then-not-is_form-clause-bad_context c none = absurd (none c.in-Some.ensures.1)
-
-pub add-requires-clause-left : goal.add-requires-clause-left
-add-requires-clause-left c = c.if-not-is_form.ensures.form refl
-
-pub add-requires-clause-right : goal.add-requires-clause-right
-add-requires-clause-right c = c.if-not-is_form-2.ensures.form refl
 
 pub returns-clause-did : goal.returns-clause-did
 returns-clause-did c is a b =
@@ -42,6 +21,3 @@ returns-clause-bad_argument c is none =
     let left = rw c.in-Some.ensures.0 at (c.if-not-is_form.ensures.below.0 refl) in
     let right = rw c.in-Some.ensures.0 at (c.if-not-is_form-2.ensures.below.0 refl) in
     absurd (none (left, right))
-
-pub returns-clause-bad_context : goal.returns-clause-bad_context
-returns-clause-bad_context c none = absurd (none c.in-Some.ensures.1)

@@ -2,18 +2,6 @@ use Rattle.std.proofs.Common.{arith, refl}
 use Rattle.std.proofs.lemmas.Bool.{false≢true}
 use Rattle.num_modular_c.proofs.montgomery.nm_montgomery_inv.Goals as goal
 
-pub returns-in_default-clause-did : goal.returns-in_default-clause-did
-returns-in_default-clause-did c is = absurd (c.in_default.ensures is)
-
-pub returns-in_default-clause-no_inverse : goal.returns-in_default-clause-no_inverse
-returns-in_default-clause-no_inverse c is = absurd (c.in_default.ensures is)
-
-pub returns-in_default-clause-bad_argument : goal.returns-in_default-clause-bad_argument
-returns-in_default-clause-bad_argument c is = absurd (c.in_default.ensures is)
-
-pub returns-in_default-clause-bad_context : goal.returns-in_default-clause-bad_context
-returns-in_default-clause-bad_context c none = (refl, refl)
-
 pub returns-then-not-is_form-clause-did : goal.returns-then-not-is_form-clause-did
 returns-then-not-is_form-clause-did c is l some =
     absurd (false≢true ((rw c.in-Some.ensures.0 at c.if-not-is_form.ensures.below).1 l))
@@ -22,41 +10,20 @@ pub returns-then-not-is_form-clause-no_inverse : goal.returns-then-not-is_form-c
 returns-then-not-is_form-clause-no_inverse c is l none =
     absurd (false≢true ((rw c.in-Some.ensures.0 at c.if-not-is_form.ensures.below).1 l))
 
-pub returns-then-not-is_form-clause-bad_argument : goal.returns-then-not-is_form-clause-bad_argument
-returns-then-not-is_form-clause-bad_argument c is l = (refl, refl)
-
-pub returns-then-not-is_form-clause-bad_context : goal.returns-then-not-is_form-clause-bad_context
-returns-then-not-is_form-clause-bad_context c none = absurd (none c.in-Some.ensures.1)
-
-pub inv-requires : goal.inv-requires
-inv-requires c = c.if-not-is_form.ensures.form refl
-
 pub returns-in_default-inv-clause-did : goal.returns-in_default-inv-clause-did
 returns-in_default-inv-clause-did c is l some =
     absurd ((rw c.in-Some.ensures.0 at c.in_default-inv.ensures.value) some.0 some.1)
-
-pub returns-in_default-inv-clause-no_inverse : goal.returns-in_default-inv-clause-no_inverse
-returns-in_default-inv-clause-no_inverse c is l none = (refl, refl)
 
 pub returns-in_default-inv-clause-bad_argument : goal.returns-in_default-inv-clause-bad_argument
 returns-in_default-inv-clause-bad_argument c is l =
     let below = rw c.in-Some.ensures.0 at (c.if-not-is_form.ensures.below.0 refl) in
     absurd (omega (arith, below, l))
 
-pub returns-in_default-inv-clause-bad_context : goal.returns-in_default-inv-clause-bad_context
-returns-in_default-inv-clause-bad_context c none = absurd (none c.in-Some.ensures.1)
-
 pub returns-clause-did : goal.returns-clause-did
 returns-clause-did c is l some =
     (refl, (rw c.in-Some.ensures.0 at c.in-Some-inv.ensures.checked, rw c.in-Some.ensures.0 at c.in-Some-inv.ensures.value))
-
-pub returns-clause-no_inverse : goal.returns-clause-no_inverse
-returns-clause-no_inverse c is l none = absurd (none (_, rw c.in-Some.ensures.0 at c.in-Some-inv.ensures.value))
 
 pub returns-clause-bad_argument : goal.returns-clause-bad_argument
 returns-clause-bad_argument c is l =
     let below = rw c.in-Some.ensures.0 at (c.if-not-is_form.ensures.below.0 refl) in
     absurd (omega (arith, below, l))
-
-pub returns-clause-bad_context : goal.returns-clause-bad_context
-returns-clause-bad_context c none = absurd (none c.in-Some.ensures.1)

@@ -1,5 +1,4 @@
 use Rattle.std.proofs.Common.{◌≡◌, ◌*◌, ◌/◌, ◌%◌, length, refl, ◌∙◌, sym, ap, subst, arith}
-use Rattle.std.proofs.lemmas.Bool.{false≢true}
 use Rattle.std.proofs.lemmas.List.{get_or-map}
 use Rattle.modular_word.specs.Congruence.{Congruent}
 use Rattle.modular_plan_passes.specs.Plans.{AreRemainders}
@@ -8,57 +7,15 @@ use Rattle.modular_plan_transforms.proofs.SmallProducts.{are_products_of_one}
 use Rattle.num_modular_c.specs.Plans.{words_of}
 use Rattle.num_modular_c.proofs.plan_squares.nm_plan_square.Goals as goal
 
-pub returns-then-not-is_pair-clause-did : goal.returns-then-not-is_pair-clause-did
-returns-then-not-is_pair-clause-did c fits inverse = absurd (false≢true (c.if-not-is_pair.ensures.1 fits))
-
-pub returns-then-not-is_pair-clause-no_inverse : goal.returns-then-not-is_pair-clause-no_inverse
-returns-then-not-is_pair-clause-no_inverse c fits none = absurd (false≢true (c.if-not-is_pair.ensures.1 fits))
-
-pub returns-then-not-is_pair-clause-bad_argument : goal.returns-then-not-is_pair-clause-bad_argument
-returns-then-not-is_pair-clause-bad_argument c none = (refl, refl)
-
-pub new-m-requires-clause-some : goal.new-m-requires-clause-some
-new-m-requires-clause-some c = (c.if-not-is_pair.ensures.0 refl).admitted.0
-
-pub new-m-requires-clause-room : goal.new-m-requires-clause-room
-new-m-requires-clause-room c = (c.if-not-is_pair.ensures.0 refl).admitted.1
-
 pub inverse_of_count-requires : goal.inverse_of_count-requires
 inverse_of_count-requires c =
     let one : length c.args.xs.now / 1 ≡ length c.args.xs.now = omega arith in
     rw one at (c.if-not-is_pair.ensures.0 refl).blocks.count
 
-pub returns-in_default-clause-did : goal.returns-in_default-clause-did
-returns-in_default-clause-did c fits inverse = absurd ((rw c.new-m.ensures at c.in_default.ensures) inverse)
-
-pub returns-in_default-clause-no_inverse : goal.returns-in_default-clause-no_inverse
-returns-in_default-clause-no_inverse c fits none = (refl, refl)
-
-pub returns-in_default-clause-bad_argument : goal.returns-in_default-clause-bad_argument
-returns-in_default-clause-bad_argument c none = absurd (none (c.if-not-is_pair.ensures.0 refl))
-
-pub split-requires-clause-entries : goal.split-requires-clause-entries
-split-requires-clause-entries c = rw c.new-m.ensures (c.if-not-is_pair.ensures.0 refl).room
-
-pub split-requires-clause-factors : goal.split-requires-clause-factors
-split-requires-clause-factors c = rw c.new-m.ensures c.requires
-
-pub split-requires-clause-blocks : goal.split-requires-clause-blocks
-split-requires-clause-blocks c = blocks_of (c.if-not-is_pair.ensures.0 refl).blocks
-
-pub join_scaled-requires-clause-entries : goal.join_scaled-requires-clause-entries
-join_scaled-requires-clause-entries c = λ k d l. let b = c.square_each.ensures.below k d l in omega (arith, b)
-
-pub join_scaled-requires-clause-factors : goal.join_scaled-requires-clause-factors
-join_scaled-requires-clause-factors c = rw c.new-m.ensures c.requires
-
 pub join_scaled-requires-clause-blocks : goal.join_scaled-requires-clause-blocks
 join_scaled-requires-clause-blocks c =
     let same : length c.square_each.new.xs ≡ length c.args.xs.now = omega arith in
     rw same (blocks_of (c.if-not-is_pair.ensures.0 refl).blocks)
-
-pub join_scaled-requires-clause-factor : goal.join_scaled-requires-clause-factor
-join_scaled-requires-clause-factor c = c.in-Some.ensures.0
 
 pub returns-clause-did : goal.returns-clause-did
 returns-clause-did c pair inverse =
@@ -95,9 +52,3 @@ returns-clause-did c pair inverse =
             ∙ cyclic m n e g z (words_of xs) (words_of xs) (omega (arith, l));
       },
     )
-
-pub returns-clause-no_inverse : goal.returns-clause-no_inverse
-returns-clause-no_inverse c pair none = absurd (none (_, rw c.new-m.ensures at c.in-Some.ensures.1))
-
-pub returns-clause-bad_argument : goal.returns-clause-bad_argument
-returns-clause-bad_argument c none = absurd (none (c.if-not-is_pair.ensures.0 refl))

@@ -1,12 +1,8 @@
 use Rattle.std.proofs.Common.{◌≡◌, ◌*◌, ◌%◌, ◌<◌, ◌∙◌, ap, get_or, sym, subst, arith}
 use Rattle.std.proofs.Math.Nat.{mod-lt}
 use Rattle.std.proofs.lemmas.Grind.{get_or_default_zero}
-use Rattle.num_modular.specs.Callers.{done_none}
 use Rattle.num_modular_c.proofs.InPlace.{done_more}
 use Rattle.num_modular_c.proofs.plan_squares.square_each.Goals as goal
-
-pub words-init : goal.words-init
-words-init c = done_none _ _
 
 pub multiply-requires : goal.multiply-requires
 multiply-requires c =
@@ -30,6 +26,3 @@ returns-clause-below c =
     let old = c.args.xs.now in
     subst (λ s. s < m) (sym (get_or_default_zero c.words.xs k d l ∙ c.words.invariant.done k (omega arith)))
     (mod-lt (get_or old k 0 * get_or old k 0) (omega (arith, some)))
-
-pub returns-clause-squares : goal.returns-clause-squares
-returns-clause-squares c = λ i l. c.words.invariant.done i (omega arith)

@@ -1,5 +1,4 @@
 use Rattle.std.proofs.Common.{◌≡◌, ◌*◌, ◌/◌, ◌<◌, ◌≤◌, length, refl, arith}
-use Rattle.std.proofs.lemmas.Bool.{false≢true}
 use Rattle.std.specs.Int.{trailing_zeros, w64}
 use Rattle.modular_transform.proofs.PowersOfTwo.{power_by_zeros}
 use Rattle.modular_plan_passes.specs.Plans.{numbers}
@@ -7,34 +6,10 @@ use Rattle.modular_plan_transforms.proofs.NaturalOrder.{all_reordered}
 use Rattle.num_modular_c.proofs.ShorterBack.{only_back, values_back}
 use Rattle.num_modular_c.proofs.plan_value.nm_plan_inverse.Goals as goal
 
-pub returns-then-not-is_split-clause-did : goal.returns-then-not-is_split-clause-did
-returns-then-not-is_split-clause-did c fits inverse = absurd (false≢true (c.if-not-is_split.ensures.1 fits))
-
-pub returns-then-not-is_split-clause-no_inverse : goal.returns-then-not-is_split-clause-no_inverse
-returns-then-not-is_split-clause-no_inverse c fits none = absurd (false≢true (c.if-not-is_split.ensures.1 fits))
-
-pub returns-then-not-is_split-clause-bad_argument : goal.returns-then-not-is_split-clause-bad_argument
-returns-then-not-is_split-clause-bad_argument c none = (refl, refl)
-
-pub new-m-requires-clause-some : goal.new-m-requires-clause-some
-new-m-requires-clause-some c = (c.if-not-is_split.ensures.0 refl).admitted.0
-
-pub new-m-requires-clause-room : goal.new-m-requires-clause-room
-new-m-requires-clause-room c = (c.if-not-is_split.ensures.0 refl).admitted.1
-
 pub inverse_of_count-requires : goal.inverse_of_count-requires
 inverse_of_count-requires c =
     let one : length c.args.xs.now / 1 ≡ length c.args.xs.now = omega arith in
     rw one at (c.if-not-is_split.ensures.0 refl).blocks.count
-
-pub returns-in_default-clause-did : goal.returns-in_default-clause-did
-returns-in_default-clause-did c fits inverse = absurd ((rw c.new-m.ensures at c.in_default.ensures) inverse)
-
-pub returns-in_default-clause-no_inverse : goal.returns-in_default-clause-no_inverse
-returns-in_default-clause-no_inverse c fits none = (refl, refl)
-
-pub returns-in_default-clause-bad_argument : goal.returns-in_default-clause-bad_argument
-returns-in_default-clause-bad_argument c none = absurd (none (c.if-not-is_split.ensures.0 refl))
 
 pub reverse_places-requires-clause-whole : goal.reverse_places-requires-clause-whole
 reverse_places-requires-clause-whole c =
@@ -54,18 +29,6 @@ pub join_scaled-requires-clause-blocks : goal.join_scaled-requires-clause-blocks
 join_scaled-requires-clause-blocks c =
     let same : length c.reverse_places.new.entries ≡ length c.args.xs.now = omega arith in
     rw same (c.if-not-is_split.ensures.0 refl).blocks
-
-pub join_scaled-requires-clause-factors : goal.join_scaled-requires-clause-factors
-join_scaled-requires-clause-factors c = rw c.new-m.ensures c.requires
-
-pub join_scaled-requires-clause-factor : goal.join_scaled-requires-clause-factor
-join_scaled-requires-clause-factor c = c.in-Some.ensures.0
-
-pub returns-clause-bad_argument : goal.returns-clause-bad_argument
-returns-clause-bad_argument c none = absurd (none (c.if-not-is_split.ensures.0 refl))
-
-pub returns-clause-no_inverse : goal.returns-clause-no_inverse
-returns-clause-no_inverse c fits none = absurd (none (_, rw c.new-m.ensures at c.in-Some.ensures.1))
 
 pub returns-clause-did : goal.returns-clause-did
 returns-clause-did c fits inverse =

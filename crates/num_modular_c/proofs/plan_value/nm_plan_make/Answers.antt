@@ -25,9 +25,3 @@ returns-then-code-eq-NM_OK-clause-bad_argument c none =
 pub returns-else-code-eq-NM_OK-clause-did : goal.returns-else-code-eq-NM_OK-clause-did
 returns-else-code-eq-NM_OK-clause-did c admitted suits =
     absurd (c.if-code-eq-NM_OK.false (c.nm_fill_table-code.ensures.did admitted suits).0)
-
-pub returns-else-code-eq-NM_OK-clause-no_root : goal.returns-else-code-eq-NM_OK-clause-no_root
-returns-else-code-eq-NM_OK-clause-no_root c admitted none = ((c.nm_fill_table-code.ensures.no_root admitted none).0, refl)
-
-pub returns-else-code-eq-NM_OK-clause-bad_argument : goal.returns-else-code-eq-NM_OK-clause-bad_argument
-returns-else-code-eq-NM_OK-clause-bad_argument c none = ((c.nm_fill_table-code.ensures.bad_argument none).0, refl)

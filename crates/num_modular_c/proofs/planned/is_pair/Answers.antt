@@ -8,12 +8,6 @@ pub returns-then-not-admits : goal.returns-then-not-admits
 returns-then-not-admits c =
     (λ t. absurd (false≢true t), λ pair. absurd (false≢true (c.if-not-admits.ensures.1 pair.admitted)))
 
-pub new-modulus-requires-clause-some : goal.new-modulus-requires-clause-some
-new-modulus-requires-clause-some c = (c.if-not-admits.ensures.0 refl).0
-
-pub new-modulus-requires-clause-room : goal.new-modulus-requires-clause-room
-new-modulus-requires-clause-room c = (c.if-not-admits.ensures.0 refl).1
-
 pub returns-then-have_room : goal.returns-then-have_room
 returns-then-have_room c = elim c.if-convolves.branch [
   | then-convolves w ↦ elim c.if-xs-ys.branch [

@@ -2,27 +2,6 @@ use Rattle.std.proofs.Common.{refl, sym, ◌∙◌}
 use Rattle.std.proofs.lemmas.Bool.{false≢true}
 use Rattle.num_modular_c.proofs.planned.product_code.Goals as goal
 
-pub new-requires-clause-some : goal.new-requires-clause-some
-new-requires-clause-some c = c.requires.pair.admitted.0
-
-pub new-requires-clause-room : goal.new-requires-clause-room
-new-requires-clause-room c = c.requires.pair.admitted.1
-
-pub convolve_block-requires-clause-entries_xs : goal.convolve_block-requires-clause-entries_xs
-convolve_block-requires-clause-entries_xs c = rw c.new.ensures c.requires.pair.room
-
-pub convolve_block-requires-clause-entries_ys : goal.convolve_block-requires-clause-entries_ys
-convolve_block-requires-clause-entries_ys c = rw c.new.ensures c.requires.pair.other_room
-
-pub convolve_block-requires-clause-equal : goal.convolve_block-requires-clause-equal
-convolve_block-requires-clause-equal c = c.requires.pair.equal
-
-pub convolve_block-requires-clause-factors : goal.convolve_block-requires-clause-factors
-convolve_block-requires-clause-factors c = rw c.new.ensures c.requires.factors
-
-pub convolve_block-requires-clause-blocks : goal.convolve_block-requires-clause-blocks
-convolve_block-requires-clause-blocks c = c.requires.pair.blocks
-
 pub returns-then-convolve_block-clause-did : goal.returns-then-convolve_block-clause-did
 returns-then-convolve_block-clause-did c inverse =
     let done = c.convolve_block.ensures in

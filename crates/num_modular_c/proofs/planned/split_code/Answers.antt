@@ -6,28 +6,10 @@ pub returns-then-not-is_split-clause-fits : goal.returns-then-not-is_split-claus
 returns-then-not-is_split-clause-fits c =
     (λ e. absurd (omega (arith, e)), λ both. absurd (false≢true (c.if-not-is_split.ensures.1 both.0)))
 
-pub returns-then-not-is_split-clause-bad_context : goal.returns-then-not-is_split-clause-bad_context
-returns-then-not-is_split-clause-bad_context c split none = absurd (false≢true (c.if-not-is_split.ensures.1 split))
-
-pub returns-then-not-is_split-clause-bad_argument : goal.returns-then-not-is_split-clause-bad_argument
-returns-then-not-is_split-clause-bad_argument c none = refl
-
 pub returns-then-are_factors-clause-fits : goal.returns-then-are_factors-clause-fits
 returns-then-are_factors-clause-fits c =
     (λ e. (c.if-not-is_split.ensures.0 refl, c.if-are_factors.ensures.0 refl), λ both. refl)
 
-pub returns-then-are_factors-clause-bad_context : goal.returns-then-are_factors-clause-bad_context
-returns-then-are_factors-clause-bad_context c split none = absurd (none (c.if-are_factors.ensures.0 refl))
-
-pub returns-then-are_factors-clause-bad_argument : goal.returns-then-are_factors-clause-bad_argument
-returns-then-are_factors-clause-bad_argument c none = absurd (none (c.if-not-is_split.ensures.0 refl))
-
 pub returns-else-are_factors-clause-fits : goal.returns-else-are_factors-clause-fits
 returns-else-are_factors-clause-fits c =
     (λ e. absurd (omega (arith, e)), λ both. absurd (false≢true (c.if-are_factors.ensures.1 both.1)))
-
-pub returns-else-are_factors-clause-bad_context : goal.returns-else-are_factors-clause-bad_context
-returns-else-are_factors-clause-bad_context c split none = refl
-
-pub returns-else-are_factors-clause-bad_argument : goal.returns-else-are_factors-clause-bad_argument
-returns-else-are_factors-clause-bad_argument c none = absurd (none (c.if-not-is_split.ensures.0 refl))

@@ -2,16 +2,10 @@ use Rattle.std.proofs.Common.{refl}
 use Rattle.std.proofs.lemmas.Bool.{false≢true}
 use Rattle.num_modular_c.proofs.polynomials.nm_polynomial_multiply_cyclic.Goals as goal
 
-pub returns-then-multiply_cyclic_once-clause-did : goal.returns-then-multiply_cyclic_once-clause-did
-returns-then-multiply_cyclic_once-clause-did c fits room = (refl, c.if-multiply_cyclic_once.ensures.product refl)
-
 pub returns-then-multiply_cyclic_once-clause-bad_argument : goal.returns-then-multiply_cyclic_once-clause-bad_argument
 returns-then-multiply_cyclic_once-clause-bad_argument c none =
     let is = c.if-multiply_cyclic_once.ensures.room.0 refl in
     absurd (none is.0 is.1)
-
-pub returns-else-multiply_cyclic_once-clause-did : goal.returns-else-multiply_cyclic_once-clause-did
-returns-else-multiply_cyclic_once-clause-did c fits room = absurd (false≢true (c.if-multiply_cyclic_once.ensures.room.1 (fits, room)))
 
 pub returns-else-multiply_cyclic_once-clause-bad_argument : goal.returns-else-multiply_cyclic_once-clause-bad_argument
 returns-else-multiply_cyclic_once-clause-bad_argument c none =

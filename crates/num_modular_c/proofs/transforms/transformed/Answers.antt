@@ -12,9 +12,6 @@ returns-clause-did g c suits = (
       ∙ same_transform _ j c.transform-g.ensures.value c.load.auto.xs (λ i k. c.load.ensures.values i k),
 )
 
-pub root_fits-requires : goal.root_fits-requires
-root_fits-requires g c = c.transform-g.ensures.checked
-
 pub returns-then-not-root_fits-clause-did : goal.returns-then-not-root_fits-clause-did
 returns-then-not-root_fits-clause-did g c suits =
     let m = g.R.Reducer.modulus c.args.r.now in
@@ -22,23 +19,11 @@ returns-then-not-root_fits-clause-did g c suits =
     let suits_form = subst (λ x. Suits m x (length c.args.xs.now)) value suits in
     absurd (false≢true (c.if-not-root_fits.ensures.1 suits_form))
 
-pub returns-then-not-root_fits-clause-no_root : goal.returns-then-not-root_fits-clause-no_root
-returns-then-not-root_fits-clause-no_root g c none = (refl, refl)
-
-pub ntt-requires-clause-checked : goal.ntt-requires-clause-checked
-ntt-requires-clause-checked g c = c.load.ensures.checked
-
-pub ntt-requires-clause-root : goal.ntt-requires-clause-root
-ntt-requires-clause-root g c = c.transform-g.ensures.checked
-
 pub ntt-requires-clause-suits : goal.ntt-requires-clause-suits
 ntt-requires-clause-suits g c =
     let m = g.R.Reducer.modulus c.args.r.now in
     subst (λ n. Suits m (g.R.Reducer.value m c.transform-g.result) n) (sym c.load.auto.xs)
     (c.if-not-root_fits.ensures.0 refl)
-
-pub unload-requires : goal.unload-requires
-unload-requires g c = c.ntt.ensures.checked
 
 pub returns-clause-no_root : goal.returns-clause-no_root
 returns-clause-no_root g c none =

@@ -5,9 +5,6 @@ use Rattle.num_modular.specs.Transforms.{Suits}
 use Rattle.num_modular_c.proofs.SameTerms.{same_transform}
 use Rattle.num_modular_c.proofs.transforms.transformed_back.Goals as goal
 
-pub root_fits-requires : goal.root_fits-requires
-root_fits-requires g c = c.transform-g.ensures.checked
-
 pub returns-then-not-root_fits-clause-did : goal.returns-then-not-root_fits-clause-did
 returns-then-not-root_fits-clause-did g c suits inverse =
     absurd (false≢true (c.if-not-root_fits.ensures.1 (rw c.transform-g.ensures.value suits)))
@@ -16,34 +13,19 @@ pub returns-then-not-root_fits-clause-no_inverse : goal.returns-then-not-root_fi
 returns-then-not-root_fits-clause-no_inverse g c suits none =
     absurd (false≢true (c.if-not-root_fits.ensures.1 (rw c.transform-g.ensures.value suits)))
 
-pub returns-then-not-root_fits-clause-no_root : goal.returns-then-not-root_fits-clause-no_root
-returns-then-not-root_fits-clause-no_root g c none = (refl, refl)
-
 pub returns-then-not-has_inverse-clause-did : goal.returns-then-not-has_inverse-clause-did
 returns-then-not-has_inverse-clause-did g c suits inverse =
     absurd (false≢true (c.if-not-has_inverse.ensures.1 inverse))
 
-pub returns-then-not-has_inverse-clause-no_inverse : goal.returns-then-not-has_inverse-clause-no_inverse
-returns-then-not-has_inverse-clause-no_inverse g c suits none = (refl, refl)
-
 pub returns-then-not-has_inverse-clause-no_root : goal.returns-then-not-has_inverse-clause-no_root
 returns-then-not-has_inverse-clause-no_root g c none =
     absurd (none (rw c.transform-g.ensures.value at (c.if-not-root_fits.ensures.0 refl)))
-
-pub intt-always-requires-clause-checked : goal.intt-always-requires-clause-checked
-intt-always-requires-clause-checked g c = c.load.ensures.checked
-
-pub intt-always-requires-clause-root : goal.intt-always-requires-clause-root
-intt-always-requires-clause-root g c = c.transform-g.ensures.checked
 
 pub intt-always-requires-clause-suits : goal.intt-always-requires-clause-suits
 intt-always-requires-clause-suits g c =
     let m = g.R.Reducer.modulus c.args.r.now in
     subst (λ n. Suits m (g.R.Reducer.value m c.transform-g.result) n) (sym c.load.auto.xs)
     (c.if-not-root_fits.ensures.0 refl)
-
-pub unload-requires : goal.unload-requires
-unload-requires g c = c.intt-always.ensures.checked
 
 pub returns-clause-did : goal.returns-clause-did
 returns-clause-did g c suits inverse =
@@ -62,9 +44,6 @@ returns-clause-did g c suits inverse =
             ∙ sym (c.load.ensures.values j (omega arith))) i (omega arith);
       },
     )
-
-pub returns-clause-no_inverse : goal.returns-clause-no_inverse
-returns-clause-no_inverse g c suits none = absurd (none (c.if-not-has_inverse.ensures.0 refl))
 
 pub returns-clause-no_root : goal.returns-clause-no_root
 returns-clause-no_root g c none =

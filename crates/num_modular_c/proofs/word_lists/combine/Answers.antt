@@ -1,11 +1,7 @@
 use Rattle.std.proofs.Common.{◌≡◌, ◌∙◌, ap, get_or, arith}
-use Rattle.num_modular.specs.Callers.{done_none}
 use Rattle.num_modular_c.specs.Lists.{combination}
 use Rattle.num_modular_c.proofs.InPlace.{done_more}
 use Rattle.num_modular_c.proofs.word_lists.combine.Goals as goal
-
-pub entries-init : goal.entries-init
-entries-init g c = done_none _ _
 
 pub entries-preserved : goal.entries-preserved
 entries-preserved g c =
@@ -17,6 +13,3 @@ entries-preserved g c =
     (omega arith) c.entries.invariant
     (c.combined.ensures
     ∙ ap (λ x. combination c.args.operation m x (get_or ys i 0)) (c.entries.invariant.kept i (omega arith)))
-
-pub returns : goal.returns
-returns g c = λ i l. c.entries.invariant.done i (omega arith)
