@@ -68,6 +68,8 @@ typedef uint32_t nm_code_t;
 #define NM_POINTS_DONT_FIT 9u        /* the difference of two points has no inverse */
 #define NM_TOO_MANY_ERRORS 10u       /* no word of the code is near enough to the symbols */
 #define NM_POINT_WITHOUT_INVERSE 11u /* a point has no inverse, so that the share there would tell something */
+/* that of the check digits */
+#define NM_NOT_ACCEPTED 12u /* the number or word isn't one of the code, or no symbol makes it one */
 
 /* What a code says, in a few words, as for an error message. It is this header's alone: the library doesn't export it,
  * so a language that can't include the header keeps texts of its own. */
@@ -85,6 +87,7 @@ static inline const char *nm_strerror(nm_code_t code) {
     case NM_POINTS_DONT_FIT: return "the difference of two points has no inverse";
     case NM_TOO_MANY_ERRORS: return "no word of the code is near enough to the symbols";
     case NM_POINT_WITHOUT_INVERSE: return "a point has no inverse";
+    case NM_NOT_ACCEPTED: return "the number isn't one of the code, or no symbol makes it one";
     default: return "no code of num_modular";
     }
 }
@@ -662,6 +665,73 @@ NM_CHECK nm_code_t nm_residues_extend(const uint64_t *moduli, size_t moduli_leng
                                       size_t residues_length, const uint64_t *others, size_t others_length,
                                       uint64_t *extended, size_t extended_length, uint64_t *digits,
                                       size_t digits_length, uint64_t *inverses, size_t inverses_length);
+
+/* --- Check digits of standards. ---
+ *
+ * A text has digits and X, which is the symbol 10, in ASCII, and between two of them at most one hyphen or space: such
+ * as "978-0-306-40615-7", without a byte 0 at its end. NM_BAD_ARGUMENT: no standard has the number standard, or the
+ * text has more than 128 characters. */
+
+/* The standards. */
+#define NM_ISBN_10 0u  /* numbers of books until 2006 */
+#define NM_ISBN_13 1u  /* numbers of books; also ISMN, of printed music, which begin with 9790 */
+#define NM_EAN_13 2u   /* numbers of articles (GTIN-13) */
+#define NM_EAN_8 3u    /* the same with eight digits (GTIN-8) */
+#define NM_UPC_A 4u    /* the same with twelve digits (GTIN-12) */
+#define NM_ISSN 5u     /* numbers of periodicals */
+#define NM_ORCID 6u    /* numbers of authors; also ISNI */
+#define NM_ABA_RTN 7u  /* routing numbers of banks in the United States */
+#define NM_LUHN 8u     /* digits with Luhn's check digit, as of payment cards */
+#define NM_VERHOEFF 9u /* digits with Verhoeff's check digit */
+#define NM_DAMM 10u    /* digits with Damm's check digit */
+
+/* NM_OK where the text is a number of the standard. NM_NOT_ACCEPTED: it isn't. */
+NM_CHECK nm_code_t nm_check_accepts(uint32_t standard, const uint8_t *text, size_t text_length);
+
+/* The check digit behind a text of the symbols before it: the only symbol, 10 for X, that behind these makes a number
+ * of the standard. NM_NOT_ACCEPTED: no symbol does, or the text isn't as above, but empty, or with a hyphen at its
+ * end. */
+NM_CHECK nm_code_t nm_check_digit(uint32_t standard, const uint8_t *text, size_t text_length, uint64_t *digit);
+
+/* --- IBANs, and codes with one check equation. --- */
+
+/* NM_OK where the text is an IBAN, without spaces or in groups of four characters with a space between two groups. The
+ * length, which depends on the country, isn't tested. NM_NOT_ACCEPTED: it isn't one. */
+NM_CHECK nm_code_t nm_iban_accepts(const uint8_t *text, size_t text_length);
+
+/* The two check digits of an IBAN, as characters: the only ones that, after those of the country, make the text an
+ * IBAN. Those in the text are ignored, and may be 00. NM_NOT_ACCEPTED: the text, which has no spaces, hasn't the form
+ * of an IBAN: two letters A to Z, two digits, and one to thirty letters and digits. NM_BAD_ARGUMENT: digits_length
+ * isn't 2. */
+NM_CHECK nm_code_t nm_iban_check_digits(const uint8_t *text, size_t text_length, uint8_t *digits, size_t digits_length);
+
+/* A code of n places: a word of it has at each place an allowed symbol, and the sum of its symbols, each times the
+ * weight of its place, is congruent to the residue modulo the modulus. The lists stay the caller's. */
+typedef struct {
+    uint64_t modulus; /* at least 1 */
+    uint64_t residue;
+    const uint64_t *weights; /* the weight of each place */
+    size_t weights_length;
+    const uint64_t *least; /* the least symbol of each place */
+    size_t least_length;
+    const uint64_t *greatest; /* the greatest symbol of each place */
+    size_t greatest_length;
+} nm_check_code_t;
+
+/* The code of a standard, NM_ISBN_10 to NM_ABA_RTN. Its lists are the library's, and live as long as it.
+ * NM_BAD_ARGUMENT: none of these has the number standard. */
+NM_CHECK nm_code_t nm_check_code(uint32_t standard, nm_check_code_t *code);
+
+/* NM_OK where the word is one of the code. NM_NOT_ACCEPTED: it isn't. NM_BAD_ARGUMENT: the modulus is 0, or one of the
+ * code's lists is longer than another. */
+NM_CHECK nm_code_t nm_check_code_accepts(const nm_check_code_t *code, const uint64_t *word, size_t word_length);
+
+/* The symbol that completes the word at a place: the only one below the modulus that, in place of the one there, makes
+ * it a word of the code; at the last place the check digit. The symbol at the place is ignored. NM_NO_INVERSE: the
+ * weight of the place has no inverse modulo the modulus. NM_NOT_ACCEPTED: no symbol does. NM_BAD_ARGUMENT: as
+ * nm_check_code_accepts, or word_length isn't n, or place isn't below n. */
+NM_CHECK nm_code_t nm_check_code_restore(const nm_check_code_t *code, const uint64_t *word, size_t word_length,
+                                         size_t place, uint64_t *symbol);
 
 /* --- One list twice. --- */
 

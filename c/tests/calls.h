@@ -77,6 +77,7 @@ void search_rows(void);
 void residue_system_rows(void);
 void any_length_rows(void);
 void sharing_rows(void);
+void check_digit_rows(void);
 void read_only_rows(void);
 
 #endif

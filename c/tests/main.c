@@ -31,6 +31,7 @@ int main(void) {
     residue_system_rows();
     any_length_rows();
     sharing_rows();
+    check_digit_rows();
     read_only_rows();
     printf("%d passed, %d failed\n", passed, failed);
     return failed != 0;

@@ -197,8 +197,8 @@ void divider_rows(void) {
 
 void header_rows(void) {
     row("nm_version()", nm_version() == NM_VERSION, nm_version());
-    for (uint32_t code = 0; code <= NM_POINT_WITHOUT_INVERSE + 1; code++)
+    for (uint32_t code = 0; code <= NM_NOT_ACCEPTED + 1; code++)
         for (uint32_t other = 0; other < code; other++)
             row("nm_strerror", strcmp(nm_strerror(code), nm_strerror(other)) != 0, code);
-    row("nm_strerror of no code", strcmp(nm_strerror(12), nm_strerror(UINT32_MAX)) == 0, 12);
+    row("nm_strerror of no code", strcmp(nm_strerror(NM_NOT_ACCEPTED + 1), nm_strerror(UINT32_MAX)) == 0, 13);
 }

@@ -271,6 +271,27 @@ static void any_length_refusals(void) {
     REFUSES(NM_NO_INVERSE, nm_transform_inverse(9, 2, xs, 3, words, 3, scratch, 2, factors, 3));
 }
 
+/* no standard, no number of it, no such place, and no symbol that completes */
+static void check_digit_refusals(void) {
+    static const uint64_t ones[2] = {1, 1}, least[2] = {0, 0}, greatest[2] = {6, 5}, word[2] = {0, 0};
+    static const uint8_t book[9] = "030640615", account[5] = "GB82W";
+    const nm_check_code_t own = {7, 6, ones, 2, least, 2, greatest, 2}, even = {8, 6, greatest, 2, least, 2, greatest, 2};
+    REFUSES(CAUGHT, nm_check_digit(NM_ISBN_10, book, 9, words));
+    REFUSES(NM_BAD_ARGUMENT, nm_check_digit(11, book, 9, words));
+    REFUSES(NM_NOT_ACCEPTED, nm_check_digit(NM_ISBN_10, book, 8, words));
+    REFUSES(NM_NOT_ACCEPTED, nm_check_digit(NM_ISBN_10, account, 5, words));
+    REFUSES(CAUGHT, nm_iban_check_digits(account, 5, (uint8_t *)words, 2));
+    REFUSES(NM_BAD_ARGUMENT, nm_iban_check_digits(account, 5, (uint8_t *)words, 3));
+    REFUSES(NM_NOT_ACCEPTED, nm_iban_check_digits(account, 4, (uint8_t *)words, 2));
+    REFUSES(CAUGHT, nm_check_code(NM_ABA_RTN, (nm_check_code_t *)words));
+    REFUSES(NM_BAD_ARGUMENT, nm_check_code(NM_LUHN, (nm_check_code_t *)words));
+    REFUSES(CAUGHT, nm_check_code_restore(&own, word, 2, 0, words));
+    REFUSES(NM_NOT_ACCEPTED, nm_check_code_restore(&own, word, 2, 1, words));
+    REFUSES(NM_BAD_ARGUMENT, nm_check_code_restore(&own, word, 2, 2, words));
+    REFUSES(NM_BAD_ARGUMENT, nm_check_code_restore(&own, word, 1, 0, words));
+    REFUSES(NM_NO_INVERSE, nm_check_code_restore(&even, word, 2, 0, words));
+}
+
 void read_only_rows(void) {
     nm_montgomery_t ring, changed;
     struct sigaction handler = {.sa_handler = on_write}, old;
@@ -296,6 +317,7 @@ void read_only_rows(void) {
     prefix_refusals();
     residue_system_refusals();
     any_length_refusals();
+    check_digit_refusals();
     sigaction(SIGSEGV, &old, NULL);
     munmap(words, size);
 }

@@ -58,6 +58,7 @@ check_digits_of (s ∷ t ∷ u ∷ c ∷ rest) v form is =
     let b_is : IsDigit b = (omega arith, omega arith) in
     let number : 10 * (a - 48) + (b - 48) ≡ k = omega arith in
     record {
+      form = form;
       accepted = record {
         form = record {
           least = form.least;

@@ -49,8 +49,9 @@ pub record IsIban (text : List ℕ) : Type 0 where
 abbrev pub with_check : List ℕ → ℕ → ℕ → List ℕ
 with_check text a b = slice_set (slice_set text 2 a) 3 b
 
--- the two characters are the only ones that, as its check digits, make the text an IBAN
+-- the text has the form of an IBAN, and the two characters are the only ones that, as its check digits, make it an IBAN
 pub record AreCheckDigits (text digits : List ℕ) : Type 0 where
+  pub form : IsIbanForm text
   pub accepted : IsIban (with_check text (slice_index digits 0) (slice_index digits 1))
   pub only : (a b : ℕ) → IsIban (with_check text a b) → (a ≡ slice_index digits 0) × (b ≡ slice_index digits 1)
 

@@ -10,8 +10,9 @@ ghost use Rattle.check_digits.specs.Verhoeff.{IsVerhoeff};
 
 use crate::Code;
 
-/// The code of a standard: ISBN-10 (ISO 2108, first to third edition). The symbol X, which is allowed only at the last
-/// place, is 10.
+/// The code of a standard: ISBN-10 (ISO 2108, first to third edition).
+///
+/// The symbol X, which is allowed only at the last place, is 10.
 pub const ISBN_10: Code<'static> = Code {
     modulus: 11,
     residue: 0,
@@ -20,8 +21,9 @@ pub const ISBN_10: Code<'static> = Code {
     greatest: &[9, 9, 9, 9, 9, 9, 9, 9, 9, 10],
 };
 
-/// The code of a standard: ISBN-13 is an EAN-13 that begins with 978 or 979 (ISO 2108:2017). Those that begin with 9790
-/// are ISMN, numbers of printed music (ISO 10957), which this code accepts too.
+/// The code of a standard: ISBN-13 is an EAN-13 that begins with 978 or 979 (ISO 2108:2017).
+///
+/// Those that begin with 9790 are ISMN, numbers of printed music (ISO 10957), which this code accepts too.
 pub const ISBN_13: Code<'static> = Code {
     modulus: 10,
     residue: 0,
@@ -57,8 +59,9 @@ pub const UPC_A: Code<'static> = Code {
     greatest: &[9; 12],
 };
 
-/// The code of a standard: ISSN without its hyphen (ISO 3297). The symbol X, which is allowed only at the last place,
-/// is 10.
+/// The code of a standard: ISSN without its hyphen (ISO 3297).
+///
+/// The symbol X, which is allowed only at the last place, is 10.
 pub const ISSN: Code<'static> = Code {
     modulus: 11,
     residue: 0,
@@ -67,8 +70,9 @@ pub const ISSN: Code<'static> = Code {
     greatest: &[9, 9, 9, 9, 9, 9, 9, 10],
 };
 
-/// The code of a standard: ORCID without its hyphens (ISO/IEC 7064, MOD 11-2). The symbol X, which is allowed only at
-/// the last place, is 10. ISNI (ISO 27729) has the same code.
+/// The code of a standard: ORCID without its hyphens (ISO/IEC 7064, MOD 11-2).
+///
+/// The symbol X, which is allowed only at the last place, is 10. ISNI (ISO 27729) has the same code.
 pub const ORCID: Code<'static> = Code {
     modulus: 11,
     residue: 1,

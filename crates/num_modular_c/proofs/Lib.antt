@@ -1,3 +1,4 @@
+pub mod CheckTexts
 pub mod Division
 pub mod HashLists
 pub mod InPlace

@@ -1,4 +1,5 @@
 pub mod Codes
+pub mod CheckCodes
 pub mod Contexts
 pub mod Transforms
 pub mod Commands

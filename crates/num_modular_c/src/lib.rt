@@ -3,6 +3,7 @@
 #![tactic(auto)]
 
 mod any_length;
+mod check_codes;
 mod codes;
 mod commands;
 mod dividers;
