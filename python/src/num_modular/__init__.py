@@ -1,4 +1,4 @@
-"""Arithmetic modulo m, integers modulo m with operators, transforms, products of long numbers and of polynomials, hashes, residue systems and erasure codes, by
+"""Arithmetic modulo m, integers modulo m with operators, transforms, products of long numbers and of polynomials, hashes, residue systems, erasure codes and check digits, by
 a library that is proved.
 
 Moduli and words of arrays are below 2^64, and exponents between -2^64 and 2^64. Integers of which only the residue counts,
@@ -14,6 +14,23 @@ in place and return. All other calls only read their lists.
 Python's integers themselves take time that depends on their values, so timing may reveal secrets.
 """
 from num_modular._calls import NoInverseError, NoRootError, PointsError, TooFewSymbolsError, TooManyErrorsError
+from num_modular._check_digits import (
+    ABA_RTN,
+    DAMM,
+    EAN_8,
+    EAN_13,
+    ISBN_10,
+    ISBN_13,
+    ISSN,
+    LUHN,
+    ORCID,
+    UPC_A,
+    VERHOEFF,
+    CheckCode,
+    Standard,
+    accepts_iban,
+    iban_check_digits,
+)
 from num_modular._codes import Correction, ErasureCode
 from num_modular._hashes import PrefixHashes, find, find_all, polynomial_hash
 from num_modular._numbers import crt, decode, encode, extend, product
@@ -34,18 +51,32 @@ from num_modular._words import addm, invm, invm_secret, jacobi, kronecker, legen
 __version__ = "0.7.0"
 
 __all__ = [
+    "ABA_RTN",
+    "CheckCode",
     "Correction",
+    "DAMM",
     "Divider",
+    "EAN_13",
+    "EAN_8",
     "ErasureCode",
+    "ISBN_10",
+    "ISBN_13",
+    "ISSN",
+    "LUHN",
     "Mod",
     "Montgomery",
     "NoInverseError",
     "NoRootError",
+    "ORCID",
     "Plan",
     "PointsError",
     "PrefixHashes",
+    "Standard",
     "TooFewSymbolsError",
     "TooManyErrorsError",
+    "UPC_A",
+    "VERHOEFF",
+    "accepts_iban",
     "addm",
     "crt",
     "decode",
@@ -53,6 +84,7 @@ __all__ = [
     "extend",
     "find",
     "find_all",
+    "iban_check_digits",
     "invm",
     "invm_secret",
     "jacobi",
@@ -76,4 +108,5 @@ __all__ = [
 
 # Messages and help name each item by the path by which it is imported.
 for _name in __all__:
-    globals()[_name].__module__ = __name__
+    if not isinstance(globals()[_name], Standard):  # whose class names it
+        globals()[_name].__module__ = __name__
