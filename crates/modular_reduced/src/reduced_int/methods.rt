@@ -74,7 +74,9 @@ impl<T: RingWord, R: Reducer<T> + Copy> ReducedInt<T, R> {
         })
     }
 
-    /// The power: to the exponent `exp`, 1 mod m for the exponent 0. `pow_counted` says how many products it takes.
+    /// The power: to the exponent `exp`, 1 mod m for the exponent 0.
+    ///
+    /// `pow_counted` says how many products it takes.
     ///
     /// # Examples
     ///
