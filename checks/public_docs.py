@@ -37,6 +37,7 @@ def conditions_in(text):
 def said_in(docs):
     """What an item's docs begin with, with the case of None or false, and its conditions but those of checked forms."""
     text = re.sub(r"^ *// .*\n|^ */// ?", "", docs, flags=re.M).split("\n# Examples")[0]
+    text = re.sub(r"\[(`[^`]*`)\](?!\()", r"\1", text)  # a link of rustdoc's
     first, *sentences = re.split(r"(?<=[^.]\.)\s+", " ".join(re.split(r"^# ", text, flags=re.M)[0].split()))
     first, tail = re.fullmatch(r"(.*?)(?:: .*?)?(; `None` .*)?", first.rstrip(".")).groups()
     first = re.sub(r"^The (\w)(?=\w)", lambda it: it[1].upper(), first) + (tail or "")

@@ -22,7 +22,7 @@ LEFT_OUT = {
 }
 # The types over words whose calls are followed at each width.
 AT_WIDTHS = ("Vanilla", "PreMulInv2by1", "Montgomery", "Normalized2by1Divisor", "PreMulInv1by1", "PreModInv")
-AT_WIDTHS += ("StoredModulus", "PlannedModulus", "Factor", "RoomyModulus")
+AT_WIDTHS += ("OddMontgomery", "StoredModulus", "PlannedModulus", "Factor", "RoomyModulus")
 # The types whose `reduce_single` is written by a macro of additions.rs, so that the sources don't name its type.
 FOLDS = ("reduce_double", "reduce_uncounted", "reduce_counted")  # methods that reduce by folds
 REDUCE_SINGLE = [it for it in FIXED if re.match("FixedMersenne|FixedTrinomialSolinas", it)]
@@ -128,7 +128,7 @@ class Sources:
         """Functions of an impl at each type of the tables that has it."""
         parameters = {name for name, _ in PARAMETER.findall(generics or "")}
         named = [it for it in re.findall(r"\w\w+", re.sub(r"\$\w+", "", of)) if it not in parameters]
-        has_it = [it for it in self.types if named[:1] == self.names(it)[-1:] and set(named) <= set(self.names(it))]
+        has_it = [it for it in self.types if named[:1] in ([it], self.names(it)[-1:]) and {*named} <= {it, *self.names(it)}]
         for it, shown, given in ((it, *choice) for it in has_it for choice in self.types[it].items()):
             for name in names:
                 is_other = not trait and name in self.traits["Reducer"] and self.names(it)[-1] in self.reducers
