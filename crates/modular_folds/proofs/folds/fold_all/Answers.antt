@@ -1,4 +1,4 @@
-use Rattle.std.proofs.Common.{◌≡◌, ℕ, ◌+◌, ◌-◌, ◌∙◌, ◌/◌, ◌^◌, ◌<◌, refl, arith, sym}
+use Rattle.std.proofs.Common.{◌≡◌, ℕ, ◌+◌, ◌∙◌, ◌/◌, ◌^◌, ◌<◌, refl, arith, sym}
 use Rattle.modular_folds.proofs.FoldSteps.{ones, power_fits, bit_inside, some_bits}
 use Rattle.modular_folds.proofs.FoldBounds.{low_only, small_square}
 use Rattle.modular_folds.proofs.FoldCounts.{folds-none}
@@ -9,9 +9,6 @@ use Rattle.modular_folds.proofs.folds.fold_all.Goals as goal
 inside : {w p mask v : ℕ} → mask + 1 ≡ 2 ^ p → mask < v → v < 2 ^ w → p < w
 inside {w} {p} {mask} {v} is above fits = bit_inside w p v (omega (arith, is, above)) fits
 
-pub minus-requires : goal.minus-requires
-minus-requires g c = omega (arith, c.one.ensures, c.requires.some)
-
 pub plus-mask-requires : goal.plus-mask-requires
 plus-mask-requires g c = omega (arith, power_fits c.requires)
 
@@ -21,11 +18,6 @@ returns-then-not-is_below g c =
     let mask = ones _ _ c.one.ensures c.minus.ensures c.plus-mask.ensures c.requires.whole in
     let low : n c.args.v < 2 ^ c.args.p = omega (arith, mask, not_below c.is_below.ensures.below c.if-not-is_below.true) in
     record { below = low; same = refl; count = sym (folds-none c.args.p (n c.args.c) (n c.args.v) low) }
-
-pub shift_right-requires : goal.shift_right-requires
-shift_right-requires g c =
-    inside (ones _ _ c.one.ensures c.minus.ensures c.plus-mask.ensures c.requires.whole)
-    (c.is_below.ensures.below.0 c.if-not-is_below.false) c.is_below.ensures.other_fits
 
 pub fold_on-requires : goal.fold_on-requires
 fold_on-requires g c = record {
@@ -44,11 +36,6 @@ fold_two-requires g c =
       mask = mask;
       product = omega (arith, mask, not_below c.is_below-2.ensures.below c.if-is_below.false, c.shift_right.ensures.value);
     }
-
-pub shift_right-requires-2 : goal.shift_right-requires-2
-shift_right-requires-2 g c =
-    let mask = ones _ _ c.one.ensures c.minus.ensures c.plus-mask.ensures c.requires.whole in
-    omega (arith, inside mask (c.is_below.ensures.below.0 c.if-not-is_below.false) c.is_below.ensures.other_fits)
 
 pub fold_three-requires : goal.fold_three-requires
 fold_three-requires g c =
@@ -80,14 +67,4 @@ returns-then-eq g c =
       below = c.fold_two.ensures.below;
       same = rw is at c.fold_two.ensures.same;
       count = rw one c.fold_two.ensures.count;
-    }
-
-pub returns-then-is_zero_word : goal.returns-then-is_zero_word
-returns-then-is_zero_word g c =
-    let n = g.V.RingWord.number in
-    let is : 2 ^ c.args.p - n c.args.c ≡ n c.args.m = omega (arith, c.requires.whole) in
-    record {
-      below = c.fold_three.ensures.below;
-      same = rw is at c.fold_three.ensures.same;
-      count = c.fold_three.ensures.count;
     }

@@ -94,12 +94,6 @@ last_same g c =
 pub returns : goal.returns
 returns g c = record { twice = last_below g c; same = last_same g c }
 
-pub minus-requires : goal.minus-requires
-minus-requires g c = omega (arith, c.one.ensures, c.requires.folding.some)
-
-pub shift_right-requires : goal.shift_right-requires
-shift_right-requires g c = omega (arith, some_bits c.requires.folding, c.requires.room)
-
 pub folds-init : goal.folds-init
 folds-init g c =
     let n = g.V.RingWord.number in
@@ -109,23 +103,3 @@ folds-init g c =
       same = refl;
       bound = omega (arith, mul-le-mul_right (n c.args.c) high, c.times.ensures, c.plus-most.ensures);
     }
-
-pub fold_once-rest-requires-clause-inside : goal.fold_once-rest-requires-clause-inside
-fold_once-rest-requires-clause-inside g c = omega (arith, some_bits c.requires.folding, c.requires.room)
-
-pub fold_once-rest-requires-clause-mask : goal.fold_once-rest-requires-clause-mask
-fold_once-rest-requires-clause-mask g c =
-    ones _ _ c.one.ensures c.minus.ensures c.plus-mask.ensures c.requires.folding.whole
-
-pub fold_once-rest-requires-clause-less : goal.fold_once-rest-requires-clause-less
-fold_once-rest-requires-clause-less g c = omega (arith, c.requires.folding.whole, c.requires.folding.half)
-
-pub fold_once-requires-clause-inside : goal.fold_once-requires-clause-inside
-fold_once-requires-clause-inside g c = omega (arith, some_bits c.requires.folding, c.requires.room)
-
-pub fold_once-requires-clause-mask : goal.fold_once-requires-clause-mask
-fold_once-requires-clause-mask g c =
-    ones _ _ c.one.ensures c.minus.ensures c.plus-mask.ensures c.requires.folding.whole
-
-pub fold_once-requires-clause-less : goal.fold_once-requires-clause-less
-fold_once-requires-clause-less g c = omega (arith, c.requires.folding.whole, c.requires.folding.half)

@@ -1,12 +1,7 @@
 use Rattle.std.proofs.Common.{◌∙◌, ◌^◌, ◌<◌, arith}
 use Rattle.modular_folds.proofs.FoldCounts.{few_in, folds-none}
-use Rattle.modular_folds.proofs.FoldSteps.{bit_inside, fold_keeps, fold_less}
+use Rattle.modular_folds.proofs.FoldSteps.{fold_keeps, fold_less}
 use Rattle.modular_folds.proofs.folds.fold_on.Goals as goal
-
-pub fold-next-requires-clause-inside : goal.fold-next-requires-clause-inside
-fold-next-requires-clause-inside g c =
-    let n = g.V.RingWord.number in
-    bit_inside _ c.args.p (n c.folds.rest) (omega arith) c.is_below.ensures.other_fits
 
 pub overflow_add-count : goal.overflow_add-count
 overflow_add-count g c =
@@ -32,9 +27,6 @@ returns g c =
       same = c.folds.invariant.same;
       count = omega (arith, c.folds.invariant.count, folds-none c.args.p (n c.args.c) (n c.folds.rest) low);
     }
-
-pub fold-next-requires-clause-less : goal.fold-next-requires-clause-less
-fold-next-requires-clause-less g c = omega (arith, c.requires.folding.whole, c.requires.folding.half)
 
 pub folds-smaller : goal.folds-smaller
 folds-smaller g c =

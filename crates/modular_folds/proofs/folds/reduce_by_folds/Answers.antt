@@ -2,14 +2,6 @@ use Rattle.std.proofs.Common.{◌≡◌, ◌+◌, arith}
 use Rattle.modular_folds.proofs.FoldCounts.{few_folds}
 use Rattle.modular_folds.proofs.folds.reduce_by_folds.Goals as goal
 
-pub sum_once-requires : goal.sum_once-requires
-sum_once-requires g c =
-    let is = c.requires in
-    record {
-      most = omega (arith, c.zero.ensures);
-      twice = omega (arith, is.whole, is.half, c.zero.ensures, c.fold_double-rest.ensures.below);
-    }
-
 pub returns : goal.returns
 returns g c =
     let n = g.T.RingWord.number in

@@ -20,12 +20,3 @@ reduce_by_one_fold-requires g c = record {
 
 pub has_few_folds-requires-clause-some : goal.has_few_folds-requires-clause-some
 has_few_folds-requires-clause-some g c = two_bits c.requires
-
-pub reduce_in_line-requires : goal.reduce_in_line-requires
-reduce_in_line-requires g c =
-    let is = c.is_in_line.ensures in
-    record {
-      folding = c.requires;
-      small = is.small c.if-is_in_line.true;
-      product = is.product c.if-is_in_line.true;
-    }

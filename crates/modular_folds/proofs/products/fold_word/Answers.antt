@@ -23,20 +23,6 @@ plus-requires g c =
     fold_sum_fits _ c.args.p (n c.args.c) (n c.args.v) _ _ _ c.requires.less c.shift_right-high.ensures.fits
     c.shift_right-high.ensures.value c.times.ensures c.low_bits.ensures.value
 
-pub returns-then-p-bits : goal.returns-then-p-bits
-returns-then-p-bits g c =
-    let n = g.T.RingWord.number in
-    record {
-      value = omega (
-        arith,
-        c.plus.ensures,
-        c.times.ensures,
-        c.low_bits.ensures.value,
-        ap (λ h. h * n c.args.c) c.shift_right-high.ensures.value,
-      );
-      fits = c.is_zero_word.ensures.fits;
-    }
-
 pub returns-else-p-bits : goal.returns-else-p-bits
 returns-else-p-bits g c =
     record {

@@ -5,12 +5,6 @@ use Rattle.modular_folds.proofs.ProductFolds.{IsLastSum, sum_by_one, sum_by_smal
 use Rattle.modular_folds.proofs.products.product_by_folds.Goals as goal
 use Rattle.modular_folds.proofs.products.product_by_folds.Goals.{After-shift_right, After-shift_right-2}
 
-pub fold_parts-low-requires-clause-some : goal.fold_parts-low-requires-clause-some
-fold_parts-low-requires-clause-some g c = some_bits c.requires.folding
-
-pub shift_right-requires : goal.shift_right-requires
-shift_right-requires g c = omega (arith, c.bits.ensures, some_bits c.requires.folding, c.requires.folding.fits)
-
 is_one : (g : _) (c : After-shift_right g) → g.T.RingWord.number c.args.c ≡ 1
 is_one g c = (g.met.T.RingWord.equal c.args.c c.one.result).0 (sym c.eq.ensures ∙ c.if-eq.true) ∙ c.one.ensures
 
@@ -43,9 +37,6 @@ fold_parts-rest-requires g c =
       top = ap (λ v. v % s) c.fold_parts-low.ensures.low
           ∙ mul-mod_left ((n c.args.a * n c.args.b + n c.zero.result / s) % 2 ^ c.args.p) s;
     }
-
-pub shift_right-requires-2 : goal.shift_right-requires-2
-shift_right-requires-2 g c = omega (arith, c.bits-2.ensures, some_bits c.requires.folding, c.requires.folding.fits)
 
 by_small : (g : _) (c : After-shift_right-2 g)
     → IsLastSum (g.T.RingWord.number c.args.m) (g.T.RingWord.number c.args.a * g.T.RingWord.number c.args.b)

@@ -1,10 +1,6 @@
-use Rattle.modular_folds.proofs.FoldBounds.{once_below, once_above}
+use Rattle.modular_folds.proofs.FoldBounds.{once_above}
 use Rattle.modular_folds.proofs.WordTests.{not_below}
 use Rattle.modular_folds.proofs.products.reduced_last.Goals as goal
-
-pub returns-then-is_below : goal.returns-then-is_below
-returns-then-is_below g c =
-    once_below (g.T.RingWord.number c.args.m) _ (c.is_below.ensures.below.0 c.if-is_below.true)
 
 pub returns-else-is_below : goal.returns-else-is_below
 returns-else-is_below g c =

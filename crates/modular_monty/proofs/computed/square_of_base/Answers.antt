@@ -16,16 +16,6 @@ narrow width one_word other = elim (cases_lt 32 width) [
   | inr few ↦ omega arith
 ]
 
-pub low_bits-requires : goal.low_bits-requires
-low_bits-requires c =
-    let few = narrow c.args.width c.requires.one_word c.if-width-eq64.false in
-    omega (arith, few)
-
-pub overflow_mul-width : goal.overflow_mul-width
-overflow_mul-width c =
-    let few = narrow c.args.width c.requires.one_word c.if-width-eq64.false in
-    omega (arith, few)
-
 pub returns-else-width-eq64 : goal.returns-else-width-eq64
 returns-else-width-eq64 c =
     let width = c.args.width in

@@ -30,9 +30,3 @@ returns-clause-congruent g c =
     (carries_formed g.T.RingWord.width (number c.sum_of_residues-sum.result.1) r.base c.transform.ensures.form.same)
     (rw c.modulus-2.ensures at c.add_below.ensures.value))
     (mod_of_eq c.sum_of_residues-sum.ensures)
-
-pub sum_of_residues-sum-requires-clause-below_xs : goal.sum_of_residues-sum-requires-clause-below_xs
-sum_of_residues-sum-requires-clause-below_xs g c = rw c.modulus.ensures c.requires.below_xs
-
-pub sum_of_residues-sum-requires-clause-below_ys : goal.sum_of_residues-sum-requires-clause-below_ys
-sum_of_residues-sum-requires-clause-below_ys g c = rw c.modulus.ensures c.requires.below_ys

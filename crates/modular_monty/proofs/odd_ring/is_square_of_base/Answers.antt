@@ -1,6 +1,6 @@
 use Rattle.std.proofs.Common.{◌≡◌, ◌<◌, ap, sym, ◌∙◌, ◌%◌}
 use Rattle.std.proofs.lemmas.Bool.{false≢true}
-use Rattle.modular_monty.proofs.SquareTests.{some_below, extended, extended_below, residue_below, square_of_unit, square_modulo_one, modulus_is_one}
+use Rattle.modular_monty.proofs.SquareTests.{some_below, extended, residue_below, square_of_unit, square_modulo_one, modulus_is_one}
 use Rattle.modular_monty.proofs.odd_ring.is_square_of_base.Goals as goal
 use Rattle.modular_monty.proofs.odd_ring.is_square_of_base.Goals.{After-redc-unit}
 
@@ -47,19 +47,3 @@ returns-else-is_one g c =
       λ e. is.1 (modulus_is_one (some g d) c.requires.inverse (below g d) (first g d) c.redc-base.ensures
           (second g d) c.redc-unit.ensures no e),
     )
-
-pub redc-base-requires-clause-inverse : goal.redc-base-requires-clause-inverse
-redc-base-requires-clause-inverse g c = c.requires.inverse
-
-pub redc-base-requires-clause-below : goal.redc-base-requires-clause-below
-redc-base-requires-clause-below g c =
-    extended_below _ _ (some_below c.is_below.ensures.fits) (c.is_below.ensures.below.0 c.if-not-is_below.false)
-    (extended _ c.merge.ensures.value c.zero.ensures)
-
-pub redc-unit-requires-clause-inverse : goal.redc-unit-requires-clause-inverse
-redc-unit-requires-clause-inverse g c = c.requires.inverse
-
-pub redc-unit-requires-clause-below : goal.redc-unit-requires-clause-below
-redc-unit-requires-clause-below g c =
-    extended_below _ _ (some_below c.is_below.ensures.fits) c.redc-base.ensures.below
-    (extended _ c.merge-2.ensures.value c.zero-2.ensures)

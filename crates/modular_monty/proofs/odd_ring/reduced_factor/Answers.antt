@@ -1,9 +1,6 @@
 use Rattle.modular_monty.proofs.UnitBases.{factor_of_reduction}
 use Rattle.modular_monty.proofs.odd_ring.reduced_factor.Goals as goal
 
-pub returns-clause-reduction : goal.returns-clause-reduction
-returns-clause-reduction g c = c.reduce_below_by.ensures.reduction
-
 pub returns-clause-factor : goal.returns-clause-factor
 returns-clause-factor g c =
     let n = g.T.RingWord.number in

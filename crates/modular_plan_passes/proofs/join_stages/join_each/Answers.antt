@@ -1,27 +1,15 @@
-use Rattle.std.proofs.Common.{◌*◌, length, ◌∙◌, arith, refl, ◌<◌}
+use Rattle.std.proofs.Common.{◌*◌, length, ◌∙◌, arith, refl}
 use Rattle.modular_plan_passes.proofs.Columns.{neighbours_given}
 use Rattle.modular_plan_passes.proofs.Entries.{all_below, never_beyond}
 use Rattle.modular_plan_passes.proofs.Fours.{block_mapped, neighbours_done, neighbours_below, stage_of_fours_none}
 use Rattle.modular_plan_passes.proofs.Fours.{stage_of_fours_more, stage_of_fours_all}
 use Rattle.modular_plan_passes.proofs.join_stages.join_each.Goals as goal
-use borrow.Author.Count.{falls}
-use borrow.Author.Rules.{scaled_Fits}
 
 pub fours-init : goal.fours-init
 fours-init g c = record {
   kept = λ k l. refl;
   below = λ k l. absurd (omega arith);
   done = λ root z twiddles. stage_of_fours_none _ 1 _;
-}
-
-pub minus_inverses-w-requires : goal.minus_inverses-w-requires
-minus_inverses-w-requires g c = record {
-  factors = record {
-    each = c.requires.pass.factors;
-    minus_factor = c.requires.minus_factor;
-    is_minus = c.requires.is_minus;
-  };
-  within = omega arith;
 }
 
 pub returns-then-is_beyond : goal.returns-then-is_beyond
@@ -31,9 +19,6 @@ returns-then-is_beyond g c =
     never_beyond g.T.RingWord.number (4 * g.M.JoinSteps.modulus c.args.m.now) c.fours.xs c.args.xs.now (c.fours.p * 4)
     c.index-xs-place.result c.requires.pass.entries (omega arith) (omega arith) c.index-xs-place.is
     (c.fours.invariant.kept (c.fours.p * 4) (omega arith)) (omega (arith, far, room))
-
-pub invariant_of-step : goal.invariant_of-step
-invariant_of-step g c = record { factors = c.minus_inverses-w.ensures.factors }
 
 pub neighbours-requires : goal.neighbours-requires
 neighbours-requires g c =
@@ -58,11 +43,3 @@ returns g c = record {
       (omega arith) (λ k l. c.fours.invariant.below k (omega arith));
   done = λ root z twiddles. stage_of_fours_all (c.fours.invariant.done root z twiddles) (omega arith);
 }
-
-pub offset_bounds-xs-place : goal.offset_bounds-xs-place
-offset_bounds-xs-place g c =
-    let within : c.fours.p * 4 < length c.args.xs.now = omega arith in
-    scaled_Fits _ _ _ within c.well_formed.1.0.1
-
-pub fours-smaller : goal.fours-smaller
-fours-smaller g c = falls _ _ c.fours-test.true

@@ -2,7 +2,6 @@ use Rattle.std.proofs.Common.{◌+◌, ◌≤◌, arith}
 use Rattle.std.proofs.Math.Nat.{mul-le-mul_right}
 use Rattle.modular_plan_passes.proofs.Steps.{pairs_mapped, stage_none, stage_more, stage_all}
 use Rattle.modular_plan_passes.proofs.join_stages.join_stage.Goals as goal
-use borrow.Author.Count.{falls}
 
 pub each_block-init : goal.each_block-init
 each_block-init g c = record {
@@ -23,12 +22,6 @@ overflow_mul-p g c =
     let whole = c.requires.whole in
     let room = mul-le-mul_right (half + half) (let l : c.each_block.p + 1 ≤ c.args.blocks = omega arith in l) in
     omega (arith, room, whole)
-
-pub minus_inverse-v-requires : goal.minus_inverse-v-requires
-minus_inverse-v-requires g c = record { factors = c.requires.factors; within = omega arith }
-
-pub invariant_of-step : goal.invariant_of-step
-invariant_of-step g c = record { factor = c.minus_inverse-v.ensures.factor }
 
 pub pairs-requires : goal.pairs-requires
 pairs-requires g c =
@@ -56,6 +49,3 @@ returns g c = record {
   entries = c.each_block.invariant.entries;
   done = λ root z twiddles. stage_all (c.each_block.invariant.done root z twiddles) (omega arith);
 }
-
-pub each_block-smaller : goal.each_block-smaller
-each_block-smaller g c = falls _ _ c.each_block-test.true

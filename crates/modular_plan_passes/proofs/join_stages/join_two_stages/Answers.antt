@@ -3,22 +3,11 @@ use Rattle.std.proofs.Math.Nat.{mul-le-mul_right}
 use Rattle.modular_plan_passes.proofs.Columns.{block_below}
 use Rattle.modular_plan_passes.proofs.Fours.{block_mapped, stage_of_fours_none, stage_of_fours_more, stage_of_fours_all}
 use Rattle.modular_plan_passes.proofs.join_stages.join_two_stages.Goals as goal
-use borrow.Author.Count.{falls}
 
 pub four_quarters-init : goal.four_quarters-init
 four_quarters-init g c = record {
   entries = c.requires.pass.entries;
   done = λ root z twiddles. stage_of_fours_none _ c.args.q _;
-}
-
-pub minus_inverses-w-requires : goal.minus_inverses-w-requires
-minus_inverses-w-requires g c = record {
-  factors = record {
-    each = c.requires.pass.factors;
-    minus_factor = c.requires.minus_factor;
-    is_minus = c.requires.is_minus;
-  };
-  within = omega arith;
 }
 
 pub overflow_add-half : goal.overflow_add-half
@@ -38,9 +27,6 @@ overflow_mul-p g c =
     let q = c.args.q in
     let room = mul-le-mul_right (q + q + (q + q)) (let l : c.four_quarters.p + 1 ≤ c.args.blocks = omega arith in l) in
     omega (arith, room)
-
-pub invariant_of-step : goal.invariant_of-step
-invariant_of-step g c = record { factors = c.minus_inverses-w.ensures.factors }
 
 pub quarters-requires : goal.quarters-requires
 quarters-requires g c =
@@ -68,6 +54,3 @@ returns g c = record {
   entries = c.four_quarters.invariant.entries;
   done = λ root z twiddles. stage_of_fours_all (c.four_quarters.invariant.done root z twiddles) (omega arith);
 }
-
-pub four_quarters-smaller : goal.four_quarters-smaller
-four_quarters-smaller g c = falls _ _ c.four_quarters-test.true

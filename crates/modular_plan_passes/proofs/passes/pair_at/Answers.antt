@@ -4,7 +4,6 @@ use Rattle.modular_plan_passes.specs.Plans.{numbers}
 use Rattle.modular_plan_passes.proofs.Entries.{below_read, number_read}
 use Rattle.modular_plan_passes.proofs.Steps.{pair_written}
 use Rattle.modular_plan_passes.proofs.passes.pair_at.Goals as goal
-use borrow.Author.Rules.{scaled_Fits}
 
 pub pair-first-requires : goal.pair-first-requires
 pair-first-requires g c =
@@ -37,19 +36,3 @@ returns g c =
           (subst (λ a. R a (numbers n xs high) (n values.0) (n values.1)) a_is
           (subst (λ b. R (n c.index-xs-low.result) b (n values.0) (n values.1)) b_is step.ensures.done));
     }
-
-pub offset_bounds-xs-low : goal.offset_bounds-xs-low
-offset_bounds-xs-low g c =
-    let within : c.args.low < length c.args.xs.now = omega arith in
-    scaled_Fits _ _ _ within c.well_formed.1.0.1
-
-pub offset_bounds-xs-high : goal.offset_bounds-xs-high
-offset_bounds-xs-high g c = scaled_Fits _ _ _ c.requires.within c.well_formed.1.0.1
-
-pub offset_bounds-xs-high-2 : goal.offset_bounds-xs-high-2
-offset_bounds-xs-high-2 g c = scaled_Fits _ _ _ c.requires.within c.well_formed.1.0.1
-
-pub offset_bounds-xs-low-2 : goal.offset_bounds-xs-low-2
-offset_bounds-xs-low-2 g c =
-    let within : c.args.low < length c.args.xs.now = omega arith in
-    scaled_Fits _ _ _ within c.well_formed.1.0.1

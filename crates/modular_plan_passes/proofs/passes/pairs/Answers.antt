@@ -1,21 +1,12 @@
-use Rattle.std.proofs.Common.{◌+◌, arith, refl, ◌<◌, length}
+use Rattle.std.proofs.Common.{◌+◌, arith, refl}
 use Rattle.modular_plan_passes.proofs.Entries.{never_beyond}
 use Rattle.modular_plan_passes.proofs.Steps.{block_none, block_more, block_all}
 use Rattle.modular_plan_passes.proofs.passes.pairs.Goals as goal
-use borrow.Author.Count.{falls}
-use borrow.Author.Rules.{scaled_Fits}
 
 pub pairs-init : goal.pairs-init
 pairs-init g c = record {
   entries = c.requires.entries;
   done = block_none _ c.args.first c.args.half _;
-}
-
-pub pair_at-requires : goal.pair_at-requires
-pair_at-requires g c = record {
-  entries = c.pairs.invariant.entries;
-  order = omega arith;
-  within = omega arith;
 }
 
 pub pairs-preserved : goal.pairs-preserved
@@ -38,11 +29,3 @@ returns g c = record {
   entries = c.pairs.invariant.entries;
   done = block_all c.pairs.invariant.done (omega arith);
 }
-
-pub offset_bounds-xs-first : goal.offset_bounds-xs-first
-offset_bounds-xs-first g c =
-    let within : c.args.first + c.pairs.i < length c.args.xs.now = omega arith in
-    scaled_Fits _ _ _ within c.well_formed.1.1.0.1
-
-pub pairs-smaller : goal.pairs-smaller
-pairs-smaller g c = falls _ _ c.pairs-test.true

@@ -1,14 +1,9 @@
-use Rattle.std.proofs.Common.{◌*◌, length, arith, refl, ◌<◌}
+use Rattle.std.proofs.Common.{◌*◌, length, arith, refl}
 use Rattle.modular_plan_passes.specs.Plans.{numbers}
 use Rattle.modular_plan_passes.proofs.Columns.{neighbours_given, stage_with}
 use Rattle.modular_plan_passes.proofs.Entries.{all_below, never_beyond}
-use Rattle.modular_plan_passes.proofs.Fours.{neighbours_done, neighbours_below, stage_of_fours_none, stage_of_fours_all}
+use Rattle.modular_plan_passes.proofs.Fours.{neighbours_done, neighbours_below, stage_of_fours_all}
 use Rattle.modular_plan_passes.proofs.split_stages.split_fours.Goals as goal
-use borrow.Author.Count.{falls}
-use borrow.Author.Rules.{scaled_Fits}
-
-pub fours-init : goal.fours-init
-fours-init g c = record { below = λ k l. absurd (omega arith); done = stage_of_fours_none _ 1 _ }
 
 pub returns-then-is_beyond : goal.returns-then-is_beyond
 returns-then-is_beyond g c =
@@ -42,11 +37,3 @@ returns g c = record {
       (omega arith) (λ k l. c.fours.invariant.below k (omega arith));
   done = stage_of_fours_all c.fours.invariant.done (omega arith);
 }
-
-pub offset_bounds-xs-place : goal.offset_bounds-xs-place
-offset_bounds-xs-place g c =
-    let within : c.fours.p * 4 < length c.args.xs.now = omega arith in
-    scaled_Fits _ _ _ within c.well_formed.1.0.1
-
-pub fours-smaller : goal.fours-smaller
-fours-smaller g c = falls _ _ c.fours-test.true

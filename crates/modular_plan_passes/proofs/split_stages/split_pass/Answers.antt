@@ -1,4 +1,4 @@
-use Rattle.std.proofs.Common.{◌≡◌, ℕ, ◌+◌, ◌*◌, length, sym, ◌∙◌, arith, subst}
+use Rattle.std.proofs.Common.{sym, ◌∙◌, arith}
 use Rattle.modular_plan_passes.specs.Plans.{numbers}
 use Rattle.modular_plan_passes.specs.Steps.{IsFourSplit}
 use Rattle.modular_plan_passes.proofs.Columns.{block_below, factor_read}
@@ -11,17 +11,6 @@ invariant_of-step g c = record {
   factor = factor_read g.F.PlanEntry.value g.F.PlanEntry.quotient c.args.table.now 1 c.index-table-1.result
       c.requires.ready.factors (omega arith) c.index-table-1.is c.factor-v.ensures.value c.factor-v.ensures.quotient;
 }
-
-pub quarters-requires : goal.quarters-requires
-quarters-requires g c =
-    let size : ℕ = c.args.q + c.args.q + (c.args.q + c.args.q) in
-    let whole : 1 * size ≡ length c.args.xs.now =
-    subst (λ n. n * size ≡ length c.args.xs.now) c.if-blocks-eq1.true c.requires.ready.whole in
-    record {
-      entries = c.requires.first_entries c.if-blocks-eq1.true;
-      within = omega (arith, whole);
-      fits = g.met.M.SplitSteps.room c.args.m.now;
-    }
 
 pub returns-then-is_one : goal.returns-then-is_one
 returns-then-is_one g c =

@@ -6,7 +6,6 @@ use Rattle.modular_plan_passes.proofs.Columns.{factor_read}
 use Rattle.modular_plan_passes.proofs.Entries.{number_read}
 use Rattle.modular_plan_passes.proofs.Steps.{stage_none, stage_more, stage_all}
 use Rattle.modular_plan_passes.proofs.split_stages.split_stage.Goals as goal
-use borrow.Author.Count.{falls}
 
 pub each_block-init : goal.each_block-init
 each_block-init g c = record {
@@ -66,6 +65,3 @@ returns g c = record {
   entries = c.each_block.invariant.entries;
   done = stage_all c.each_block.invariant.done (omega arith);
 }
-
-pub each_block-smaller : goal.each_block-smaller
-each_block-smaller g c = falls _ _ c.each_block-test.true

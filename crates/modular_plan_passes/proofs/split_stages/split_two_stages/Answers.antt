@@ -1,13 +1,9 @@
 use Rattle.std.proofs.Common.{◌+◌, ◌≤◌, arith, le_refl}
 use Rattle.std.proofs.Math.Nat.{mul-le-mul_right}
 use Rattle.modular_plan_passes.proofs.Columns.{block_below, stage_with}
-use Rattle.modular_plan_passes.proofs.Fours.{block_mapped, stage_of_fours_none, stage_of_fours_all}
+use Rattle.modular_plan_passes.proofs.Fours.{block_mapped, stage_of_fours_all}
 use Rattle.modular_plan_passes.specs.Plans.{numbers}
 use Rattle.modular_plan_passes.proofs.split_stages.split_two_stages.Goals as goal
-use borrow.Author.Count.{falls}
-
-pub four_quarters-init : goal.four_quarters-init
-four_quarters-init g c = record { entries = c.requires.entries; done = stage_of_fours_none _ c.args.q _ }
 
 pub overflow_add-half : goal.overflow_add-half
 overflow_add-half g c =
@@ -54,6 +50,3 @@ returns g c = record {
   entries = c.four_quarters.invariant.entries;
   done = stage_of_fours_all c.four_quarters.invariant.done (omega arith);
 }
-
-pub four_quarters-smaller : goal.four_quarters-smaller
-four_quarters-smaller g c = falls _ _ c.four_quarters-test.true

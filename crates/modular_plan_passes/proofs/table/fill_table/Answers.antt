@@ -13,7 +13,6 @@ use Rattle.modular_plan_passes.proofs.Doublings.{first_power, half_place, two_wi
 use Rattle.modular_plan_passes.proofs.Doublings.{product_of_two, planned}
 use Rattle.modular_plan_passes.proofs.Shorter.{first_entries}
 use Rattle.modular_plan_passes.proofs.table.fill_table.Goals as goal
-use borrow.Author.Count.{falls}
 use borrow.Author.Rules.{scaled_Fits}
 
 -- the table has an entry
@@ -69,10 +68,6 @@ squares-init g c =
           (c.entry.ensures.value ∙ c.factor.ensures.value));
       single = λ t l h. absurd (omega arith);
     }
-
-pub factor-factor-requires : goal.factor-factor-requires
-factor-factor-requires g c =
-    residue_below (g.T.RingWord.number c.args.g ^ (2 ^ c.squares._bit)) c.squares.invariant.power c.args.m.now.some
 
 pub offset_bounds-table-place : goal.offset_bounds-table-place
 offset_bounds-table-place g c =
@@ -252,38 +247,12 @@ returns g c =
           (λ k l. last.first k (omega (arith, whole, count, e, len))));
     }
 
-pub residue-requires : goal.residue-requires
-residue-requires g c =
-    let some = c.args.m.now.some in
-    let one = c.one.ensures in
-    omega (arith, some, one)
-
-pub factor-requires : goal.factor-requires
-factor-requires g c =
-    residue_below (g.T.RingWord.number c.one.result) c.residue.ensures c.args.m.now.some
-
-pub offset_bounds-0 : goal.offset_bounds-0
-offset_bounds-0 g c =
-    scaled_Fits 0 (length c.args.table.now) _ (first_within c.requires.suits.power_of_two) c.well_formed.1.1.0.1
-
-pub bounds-table-0 : goal.bounds-table-0
-bounds-table-0 g c = first_within c.requires.suits.power_of_two
-
-pub product-power-requires : goal.product-power-requires
-product-power-requires g c = c.factor-factor.ensures.factor
-
-pub squares-smaller : goal.squares-smaller
-squares-smaller g c = falls _ _ c.squares-test.true
-
 pub offset_bounds-table-other : goal.offset_bounds-table-other
 offset_bounds-table-other g c =
     let room = c.others.invariant.room in
     let len = length-set c.args.table.now 0 c.entry.result in
     let within : c.others.other < length c.args.table.now = omega (arith, room, len) in
     scaled_Fits _ _ _ within c.well_formed.1.1.0.1
-
-pub bounds-table-other : goal.bounds-table-other
-bounds-table-other g c = within_double c.others.invariant.room c.others-test.true
 
 pub factor-requires-in-others-2 : goal.factor-requires-in-others-2
 factor-requires-in-others-2 g c =
@@ -305,18 +274,9 @@ offset_bounds-table-count-in-others g c =
     let within : c.doublings.count + c.others.other < length c.args.table.now = omega (arith, room, len) in
     scaled_Fits _ _ _ within c.well_formed.1.1.0.1
 
-pub bounds-table-count-in-others : goal.bounds-table-count-in-others
-bounds-table-count-in-others g c = sum_within c.others.invariant.room c.others-test.true
-
-pub others-smaller : goal.others-smaller
-others-smaller g c = falls _ _ c.others-test.true
-
 pub overflow_mul-count : goal.overflow_mul-count
 overflow_mul-count g c =
     let room = c.others.invariant.room in
     let few = c.well_formed.1.1.0.0 in
     let len = length-set c.args.table.now 0 c.entry.result in
     omega (arith, room, few, len)
-
-pub doublings-smaller : goal.doublings-smaller
-doublings-smaller g c = falls _ _ c.doublings-test.true

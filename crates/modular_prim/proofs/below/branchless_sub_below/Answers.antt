@@ -17,11 +17,3 @@ returns-clause-value g c =
           difference_below m a b (b - a) r c.requires.right less d e
       | inr more ↦ difference_above m a b r c.requires.left (c.minus_modulo.ensures.plain more)
     ]
-
-pub returns-clause-below : goal.returns-clause-below
-returns-clause-below g c =
-    let n = g.T.RingWord.number in
-    elim (cases_lt (n c.args.a) (n c.args.b)) [
-      | inl less ↦ omega (arith, c.minus_modulo.ensures.wrapped less, c.requires.right)
-      | inr more ↦ omega (arith, c.minus_modulo.ensures.plain more, c.requires.left)
-    ]

@@ -1,6 +1,6 @@
-use Rattle.std.proofs.Common.{◌≡◌, ◌+◌, ◌-◌, ◌%◌, ◌<◌, ◌≤◌, arith, ap, ◌∙◌}
+use Rattle.std.proofs.Common.{◌≡◌, ◌+◌, ◌-◌, ◌%◌, ◌<◌, arith, ap, ◌∙◌}
 use Rattle.std.proofs.Math.Nat.{mod-eq_of_lt, add-mod_right}
-use Rattle.modular_prim.proofs.ResidueSteps.{difference_below, difference_above, lifted, settled}
+use Rattle.modular_prim.proofs.ResidueSteps.{difference_below, lifted}
 use Rattle.modular_prim.proofs.below.chosen_difference.Goals as goal
 
 pub returns-then-is_below-clause-value : goal.returns-then-is_below-clause-value
@@ -18,11 +18,3 @@ returns-then-is_below-clause-value g c =
     c.wrapping_add.ensures.value ∙ ap (λ v. v % base) past ∙ add-mod_right (n c.args.m - gap) base ∙ mod-eq_of_lt within in
     difference_below (n c.args.m) (n c.args.a) (n c.args.b) gap (n c.wrapping_add.result) c.requires.right less
     (omega (arith, less)) (omega (arith, result, less, c.requires.right))
-
-pub returns-else-is_below-clause-value : goal.returns-else-is_below-clause-value
-returns-else-is_below-clause-value g c =
-    let n = g.T.RingWord.number in
-    let more : n c.args.b ≤ n c.args.a = grind arith in
-    difference_above (n c.args.m) (n c.args.a) (n c.args.b) (n c.wrapping_sub-less.result) c.requires.left
-    (settled g.T.PathWord.base (n c.args.b) (n c.args.a) (n c.wrapping_sub-less.result) c.is_below-2.ensures.fits
-    c.wrapping_sub-less.ensures.fits more c.wrapping_sub-less.ensures.value)

@@ -46,16 +46,6 @@ returns-then-is_below-clause-value g c =
     let double : 2 * a < n c.args.m = omega (arith, small) in
     c.wrapping_add-twice.ensures.value ∙ mod-eq_of_lt fits ∙ twice ∙ sym (mod-eq_of_lt double)
 
-pub returns-then-is_below-clause-below : goal.returns-then-is_below-clause-below
-returns-then-is_below-clause-below g c =
-    let n = g.T.RingWord.number in
-    let a = n c.args.a in
-    let less = c.is_below-2.ensures.below.0 c.if-is_below.true in
-    let small : a + a < n c.args.m = omega (arith, c.half.ensures.value, c.minus-high.ensures.value, less) in
-    let fits : a + a < g.T.PathWord.base = omega (arith, small, c.is_below.ensures.fits) in
-    let is = c.wrapping_add-twice.ensures.value ∙ mod-eq_of_lt fits in
-    omega (arith, is, small)
-
 pub returns-else-is_below : goal.returns-else-is_below
 returns-else-is_below g c =
     let n = g.T.RingWord.number in

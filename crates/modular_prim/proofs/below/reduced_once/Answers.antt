@@ -1,6 +1,6 @@
 use Rattle.std.proofs.Common.{◌≤◌, arith, sym}
 use Rattle.std.proofs.Math.Nat.{mod-eq_of_lt}
-use Rattle.modular_prim.proofs.ResidueSteps.{once, wrapped, IsWrapped}
+use Rattle.modular_prim.proofs.ResidueSteps.{wrapped, IsWrapped}
 use Rattle.modular_prim.proofs.below.reduced_once.Goals as goal
 use Rattle.modular_prim.proofs.below.reduced_once.Goals.{After-wrapping_sub-less}
 
@@ -12,16 +12,6 @@ taken g c =
     let n = g.T.RingWord.number in
     wrapped g.T.PathWord.base (n c.args.m) (n c.args.x) (n c.wrapping_sub-less.result)
     c.is_below.ensures.fits c.wrapping_sub-less.ensures.fits c.requires c.wrapping_sub-less.ensures.value
-
-pub returns-then-is_below : goal.returns-then-is_below
-returns-then-is_below g c =
-    let n = g.T.RingWord.number in
-    let is = (taken g (goal.at.returns-then-is_below g c).After-wrapping_sub-less).taken
-    (c.is_below-2.ensures.below.0 c.if-is_below.true) in
-    record {
-      value = once (n c.args.m) (n c.args.x) (n c.wrapping_sub-less.result) (omega (arith, is)) c.requires is;
-      below = omega (arith, is);
-    }
 
 pub returns-else-is_below : goal.returns-else-is_below
 returns-else-is_below g c =

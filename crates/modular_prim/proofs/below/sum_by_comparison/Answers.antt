@@ -38,13 +38,6 @@ sum_is_below g c more =
     (n c.wrapping_add-rest.result) (step_is g c) c.is_below.ensures.other_fits c.wrapping_sub-step.ensures.fits
     c.wrapping_add-rest.ensures.value more
 
-pub plus-requires : goal.plus-requires
-plus-requires g c =
-    let n = g.T.RingWord.number in
-    let more : n c.wrapping_sub-step.result ≤ n c.wrapping_add-rest.result = grind arith in
-    let less = sum_is_below g (goal.at.plus-requires g c).After-wrapping_add-rest more in
-    omega (arith, less, c.is_below.ensures.fits)
-
 pub returns-else-is_below : goal.returns-else-is_below
 returns-else-is_below g c =
     let n = g.T.RingWord.number in

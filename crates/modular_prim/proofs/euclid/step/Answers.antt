@@ -1,16 +1,6 @@
-use Rattle.std.proofs.Common.{◌+◌, ◌*◌, ap, ◌∙◌, arith}
+use Rattle.std.proofs.Common.{◌+◌, ◌*◌, ap, ◌∙◌}
 use Rattle.modular_prim.proofs.DigitSteps.{quotient_is, remainder_is}
 use Rattle.modular_prim.proofs.euclid.step.Goals as goal
-
-pub times-requires : goal.times-requires
-times-requires g c =
-    let times = ap (λ v. v * g.T.RingWord.number c.args.t) (quotient_is c.division-quotient.ensures.division) in
-    omega (arith, times, c.requires.fits)
-
-pub plus-requires : goal.plus-requires
-plus-requires g c =
-    let times = ap (λ v. v * g.T.RingWord.number c.args.t) (quotient_is c.division-quotient.ensures.division) in
-    omega (arith, times, c.times.ensures, c.requires.fits)
 
 pub returns-clause-rest : goal.returns-clause-rest
 returns-clause-rest g c = remainder_is c.division-quotient.ensures.division

@@ -1,4 +1,4 @@
-use Rattle.std.proofs.Common.{◌≡◌, ◌≢◌, ◌+◌, ◌*◌, ◌^◌, ◌<◌, Bool, true, false, not, ap, sym, ◌∙◌, subst, refl, arith}
+use Rattle.std.proofs.Common.{◌≡◌, ◌≢◌, ◌+◌, ◌*◌, ◌^◌, Bool, true, false, not, ap, sym, ◌∙◌, subst, refl}
 use Rattle.std.proofs.lemmas.Bool.{false≢true}
 use Rattle.modular_word.specs.Congruence.{Congruent}
 use Rattle.modular_prim.specs.Differences.{CongruentBySign}
@@ -10,23 +10,6 @@ use Rattle.modular_prim.proofs.inverse.inverse_below.Goals.{then-pair, else-pair
 is_by_not : (b : Bool) → not b ≡ false → b ≡ true
 is_by_not true e = refl
 is_by_not false e = absurd (false≢true (sym e))
-
-pub last_pair-pair-requires-clause-some : goal.last_pair-pair-requires-clause-some
-last_pair-pair-requires-clause-some g c =
-    let some : g.T.RingWord.number c.args.x ≢ 0 = λ e.
-    false≢true (sym c.if-is_zero_word.false ∙ c.is_zero_word.ensures.zero.1 e) in
-    omega (arith, some)
-
-pub without_twos-requires-clause-below : goal.without_twos-requires-clause-below
-without_twos-requires-clause-below g c =
-    let n = g.T.RingWord.number in
-    let p = c.last_pair-pair.result in
-    elim c.if-pair.branch [
-      | then-pair w ↦
-          let whole = ap (λ v. n v + n p.above_factor) w.factor-is ∙ w.minus-factor.ensures.value in
-          omega (arith, whole, c.last_pair-pair.ensures.factor_some)
-      | else-pair w ↦ subst (λ v. n v < n c.args.m) (sym w.factor-is) c.last_pair-pair.ensures.factor_below
-    ]
 
 pub returns-then-ne : goal.returns-then-ne
 returns-then-ne g c y i =

@@ -23,9 +23,3 @@ returns-clause-factor_below g c =
     let p = c.differences.pair in
     (last_factor _ _ _ _ _ _ _ _ _ c.differences.invariant.pair c.differences.invariant.fits
     ((g.met.T.RingWord.equal p.above p.below).0 (search rules))).1
-
-pub returns-clause-factor_some : goal.returns-clause-factor_some
-returns-clause-factor_some g c =
-    let p = c.differences.pair in
-    (last_factor _ _ _ _ _ _ _ _ _ c.differences.invariant.pair c.differences.invariant.fits
-    ((g.met.T.RingWord.equal p.above p.below).0 (search rules))).0

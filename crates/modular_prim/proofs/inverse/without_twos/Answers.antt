@@ -1,5 +1,4 @@
-use Rattle.std.proofs.Common.{◌≡◌, ◌+◌, ◌-◌, ◌*◌, ◌^◌, ◌≤◌, ap, sym, ◌∙◌, subst, arith}
-use Rattle.std.proofs.Math.Nat.{mul-le-mul_right}
+use Rattle.std.proofs.Common.{◌≡◌, ◌+◌, ◌-◌, ◌*◌, ◌^◌, ◌≤◌, sym, subst, arith}
 use Rattle.modular_word.specs.Congruence.{Congruent}
 use Rattle.modular_prim.proofs.DifferenceSteps.{word_taken, rest_taken, scaled_fits}
 use Rattle.modular_prim.proofs.inverse.without_twos.Goals as goal
@@ -19,15 +18,6 @@ words-preserved g c =
       within = omega arith;
       value = subst (λ v. Congruent (n c.args.m) (n c.redc-rest.result * 2 ^ v) (n c.args.w)) (sym longer) next;
     }
-
-pub redc-rest-requires-clause-below : goal.redc-rest-requires-clause-below
-redc-rest-requires-clause-below g c =
-    let n = g.T.RingWord.number in
-    let base = g.T.PathWord.base in
-    let whole = c.merge.ensures.value ∙ ap (λ k. n c.words.rest + base * k) c.zero.ensures in
-    let some : 1 ≤ base = omega (arith, c.merge.ensures.low_fits) in
-    let one : 1 * n c.args.m ≤ base * n c.args.m = mul-le-mul_right (n c.args.m) some in
-    omega (arith, whole, one, c.words.invariant.below)
 
 pub redc-requires-clause-below : goal.redc-requires-clause-below
 redc-requires-clause-below g c =

@@ -16,29 +16,9 @@ normalized g c =
     (let h : 0 < n c.args.m = omega (arith, c.requires) in
     h) c.leading_zeros-shift.ensures.fits c.leading_zeros-shift.ensures.value
 
-pub shift_left-divisor-requires-clause-by : goal.shift_left-divisor-requires-clause-by
-shift_left-divisor-requires-clause-by g c =
-    (normalized g (goal.at.shift_left-divisor-requires-clause-by g c).After-leading_zeros-shift).inside
-
 pub shift_left-divisor-requires-clause-fits : goal.shift_left-divisor-requires-clause-fits
 shift_left-divisor-requires-clause-fits g c =
     (normalized g (goal.at.shift_left-divisor-requires-clause-fits g c).After-leading_zeros-shift).fits
-
-pub shift_left-power-requires-clause-by : goal.shift_left-power-requires-clause-by
-shift_left-power-requires-clause-by g c =
-    (normalized g (goal.at.shift_left-power-requires-clause-by g c).After-leading_zeros-shift).inside
-
-pub shift_left-power-requires-clause-fits : goal.shift_left-power-requires-clause-fits
-shift_left-power-requires-clause-fits g c =
-    let n = g.T.RingWord.number in
-    let s = c.leading_zeros-shift.result in
-    let top = normalized g (goal.at.shift_left-power-requires-clause-fits g c).After-leading_zeros-shift in
-    let less : n c.args.base * 2 ^ s < n c.args.m * 2 ^ s = scaled_below (n c.args.base) (n c.args.m) s c.requires in
-    omega (arith, top.fits)
-
-pub shift_left-product-requires-clause-by : goal.shift_left-product-requires-clause-by
-shift_left-product-requires-clause-by g c =
-    (normalized g (goal.at.shift_left-product-requires-clause-by g c).After-leading_zeros-shift).inside
 
 pub shift_left-product-requires-clause-fits : goal.shift_left-product-requires-clause-fits
 shift_left-product-requires-clause-fits g c =
@@ -48,33 +28,6 @@ shift_left-product-requires-clause-fits g c =
     let less : n c.reduced.result * 2 ^ s < n c.args.m * 2 ^ s =
     scaled_below (n c.reduced.result) (n c.args.m) s c.reduced.ensures.below in
     omega (arith, top.fits)
-
-pub reduced-requires : goal.reduced-requires
-reduced-requires g c = omega (arith, c.requires)
-
-pub scaled_product-power-requires-clause-reciprocal : goal.scaled_product-power-requires-clause-reciprocal
-scaled_product-power-requires-clause-reciprocal g c = c.invert_word-reciprocal.ensures
-
-pub scaled_product-power-requires-clause-shift : goal.scaled_product-power-requires-clause-shift
-scaled_product-power-requires-clause-shift g c =
-    (normalized g (goal.at.scaled_product-power-requires-clause-shift g c).After-leading_zeros-shift).inside
-
-pub scaled_product-product-requires-clause-reciprocal : goal.scaled_product-product-requires-clause-reciprocal
-scaled_product-product-requires-clause-reciprocal g c = c.invert_word-reciprocal.ensures
-
-pub scaled_product-product-requires-clause-shift : goal.scaled_product-product-requires-clause-shift
-scaled_product-product-requires-clause-shift g c =
-    (normalized g (goal.at.scaled_product-product-requires-clause-shift g c).After-leading_zeros-shift).inside
-
-pub shift_right-requires : goal.shift_right-requires
-shift_right-requires g c = (normalized g (goal.at.shift_right-requires g c).After-leading_zeros-shift).inside
-
-pub digits-smaller : goal.digits-smaller
-digits-smaller g c =
-    let n = g.T.RingWord.number in
-    let some : n c.digits.rest ≢ 0 = grind arith in
-    let half : n c.half-rest-in-digits.result < n c.digits.rest = omega (arith, c.half-rest-in-digits.ensures.value) in
-    half
 
 pub invert_word-reciprocal-requires : goal.invert_word-reciprocal-requires
 invert_word-reciprocal-requires g c =

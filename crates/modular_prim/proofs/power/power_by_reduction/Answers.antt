@@ -67,23 +67,3 @@ returns g c =
     let ended : n c.digits.rest ≡ 0 = grind arith in
     reduced_end g.T.PathWord.base (n c.args.m) _ (n c.digits.power) (n c.digits.product)
     (n c.digits.rest) c.digits.invariant ended
-
-pub neginv-negated_inverse-requires : goal.neginv-negated_inverse-requires
-neginv-negated_inverse-requires g c = c.requires.odd
-
-pub narrow_remainder-power-requires : goal.narrow_remainder-power-requires
-narrow_remainder-power-requires g c = omega (arith, c.requires.below)
-
-pub reduced-product-requires : goal.reduced-product-requires
-reduced-product-requires g c = omega (arith, c.requires.below)
-
-pub redc-power-requires-clause-inverse : goal.redc-power-requires-clause-inverse
-redc-power-requires-clause-inverse g c = c.neginv-negated_inverse.ensures
-
-pub redc-product-requires-clause-inverse : goal.redc-product-requires-clause-inverse
-redc-product-requires-clause-inverse g c = c.neginv-negated_inverse.ensures
-
-pub redc-product-requires-clause-below : goal.redc-product-requires-clause-below
-redc-product-requires-clause-below g c =
-    product_fits _ _ c.product-then-is_odd-2.ensures.value c.product-then-is_odd-2.ensures.fits
-    c.digits.invariant.product_below

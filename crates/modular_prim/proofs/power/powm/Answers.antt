@@ -1,5 +1,4 @@
-use Rattle.std.proofs.Common.{◌≡◌, ◌≢◌, ◌≤◌, ◌%◌, ◌^◌, sym, ap, ◌∙◌, arith}
-use Rattle.std.proofs.Math.Nat.{pow-zero}
+use Rattle.std.proofs.Common.{◌≡◌, ◌≢◌, ◌≤◌, ◌%◌, arith}
 use Rattle.modular_prim.proofs.PowerSteps.{power_one, power_two, power_of_rest}
 use Rattle.modular_prim.proofs.power.powm.Goals as goal
 
@@ -25,11 +24,3 @@ returns-else-is_odd g c =
     let small : n c.args.exp ≤ n c.two.result = grind arith in
     power_two (n c.args.m) (n c.args.base) (n c.args.exp) (n c.sqm.result)
     (omega (arith, c.two.ensures)) c.sqm.ensures
-
-pub returns-then-is_zero_word : goal.returns-then-is_zero_word
-returns-then-is_zero_word g c =
-    let n = g.T.RingWord.number in
-    let x = n c.args.base in
-    let zero = c.is_zero_word.ensures.zero.0 c.if-is_zero_word.true in
-    c.reduced-then-is_zero_word.ensures.value
-    ∙ ap (λ v. v % n c.args.m) (c.one-one.ensures ∙ sym (ap (λ k. x ^ k) zero ∙ pow-zero x))

@@ -9,9 +9,3 @@ returns-clause-same g c =
     let y = g.R.Reducer.value m (g.T.RingWord.number c.args.b) in
     let e : x * y ≡ y * x = omega arith in
     g.met.T.RingWord.injective _ _ (same_form c.mul.ensures.form c.mul-2.ensures.form (ap (λ v. v % m) e))
-
-pub returns-clause-left : goal.returns-clause-left
-returns-clause-left g c = c.mul.ensures.form
-
-pub returns-clause-right : goal.returns-clause-right
-returns-clause-right g c = c.mul-2.ensures.form

@@ -1,5 +1,3 @@
-use Rattle.std.proofs.Common.{◌+◌, ◌%◌, subst}
-use Rattle.modular_reduced.specs.Forms.{Represents}
 use Rattle.modular_reduced.proofs.RingLaws as law
 use Rattle.modular_reduced.proofs.laws.sums_associate.Goals as goal
 
@@ -9,17 +7,3 @@ returns-clause-same g c =
     g.met.T.RingWord.injective _ _
     (law.sums_associate (v c.args.a) (v c.args.b) (v c.args.c) (g.met.R.Reducer.canonical c.args.reducer.now)
     c.add.ensures.form c.add-left.ensures.form c.add-2.ensures.form c.add-right.ensures.form)
-
-pub returns-clause-left : goal.returns-clause-left
-returns-clause-left g c =
-    let m = g.R.Reducer.modulus c.args.reducer.now in
-    let n = g.T.RingWord.number in
-    subst (λ k. Represents g.R.Reducer.form m (n c.add-left.result) ((k + g.R.Reducer.value m (n c.args.c)) % m))
-    c.add.ensures.value c.add-left.ensures.form
-
-pub returns-clause-right : goal.returns-clause-right
-returns-clause-right g c =
-    let m = g.R.Reducer.modulus c.args.reducer.now in
-    let n = g.T.RingWord.number in
-    subst (λ k. Represents g.R.Reducer.form m (n c.add-right.result) ((g.R.Reducer.value m (n c.args.a) + k) % m))
-    c.add-2.ensures.value c.add-right.ensures.form

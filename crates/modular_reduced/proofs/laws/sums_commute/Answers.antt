@@ -9,21 +9,3 @@ returns-clause-same g c =
     let y = g.R.Reducer.value m (g.T.RingWord.number c.args.b) in
     let e : x + y ≡ y + x = omega arith in
     g.met.T.RingWord.injective _ _ (same_form c.add.ensures.form c.add-2.ensures.form (ap (λ v. v % m) e))
-
-pub returns-clause-left : goal.returns-clause-left
-returns-clause-left g c = c.add.ensures.form
-
-pub returns-clause-right : goal.returns-clause-right
-returns-clause-right g c = c.add-2.ensures.form
-
-pub add-requires-clause-left : goal.add-requires-clause-left
-add-requires-clause-left g c = c.requires.a
-
-pub add-requires-clause-right : goal.add-requires-clause-right
-add-requires-clause-right g c = c.requires.b
-
-pub add-requires-2-clause-left : goal.add-requires-2-clause-left
-add-requires-2-clause-left g c = c.requires.b
-
-pub add-requires-2-clause-right : goal.add-requires-2-clause-right
-add-requires-2-clause-right g c = c.requires.a

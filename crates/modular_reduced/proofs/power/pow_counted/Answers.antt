@@ -11,9 +11,6 @@ returns-then-eq-clause-power g c =
     let same : IsTrue (g.T.PartialEq.eq c.args.exp.now c.one.result) = search rules in
     power_of_one c.requires ((g.met.T.RingWord.equal c.args.exp.now c.one.result).0 same ∙ c.one.ensures)
 
-pub returns-then-eq-clause-checked : goal.returns-then-eq-clause-checked
-returns-then-eq-clause-checked g c = c.requires
-
 pub returns-then-eq-clause-value : goal.returns-then-eq-clause-value
 returns-then-eq-clause-value g c =
     let same : IsTrue (g.T.PartialEq.eq c.args.exp.now c.one.result) = search rules in
@@ -26,15 +23,6 @@ returns-then-eq-clause-count g c =
     let same : IsTrue (g.T.PartialEq.eq c.args.exp.now c.one.result) = search rules in
     sym (products_of_one exp ((g.met.T.RingWord.equal c.args.exp.now c.one.result).0 same ∙ c.one.ensures))
 
-pub returns-then-eq-clause-at_most : goal.returns-then-eq-clause-at_most
-unfolding digits digits_within
-returns-then-eq-clause-at_most g c =
-    let exp = g.T.RingWord.number c.args.exp.now in
-    let same : IsTrue (g.T.PartialEq.eq c.args.exp.now c.one.result) = search rules in
-    let one : exp ≡ 1 = (g.met.T.RingWord.equal c.args.exp.now c.one.result).0 same ∙ c.one.ensures in
-    let digit : digits exp ≡ 1 = ap digits one in
-    omega (arith, digit)
-
 pub returns-then-not-is_odd-clause-power : goal.returns-then-not-is_odd-clause-power
 returns-then-not-is_odd-clause-power g c =
     let exp = g.T.RingWord.number c.args.exp.now in
@@ -44,9 +32,6 @@ returns-then-not-is_odd-clause-power g c =
     let even : exp % 2 ≢ 1 = search rules in
     power_of_two (g.R.Reducer.value (g.R.Reducer.modulus c.args.reducer.now) (g.T.RingWord.number c.args.base)) exp
     (let two : exp ≡ 2 = omega arith in two) c.sqr.ensures.form
-
-pub returns-then-not-is_odd-clause-checked : goal.returns-then-not-is_odd-clause-checked
-returns-then-not-is_odd-clause-checked g c = c.sqr.ensures.checked
 
 pub returns-then-not-is_odd-clause-value : goal.returns-then-not-is_odd-clause-value
 returns-then-not-is_odd-clause-value g c =

@@ -7,7 +7,6 @@ use Rattle.modular_folds.specs.Mersenne.{mersenne}
 use Rattle.modular_ring.specs.Hashes.{StandsAt}
 use Rattle.modular_ring.proofs.Windows.{window_moves}
 use Rattle.modular_ring.proofs.hashes.find.Goals as goal
-use borrow.Author.Count.{falls}
 
 pub windows-preserved : goal.windows-preserved
 windows-preserved c =
@@ -25,32 +24,6 @@ windows-preserved c =
       nowhere = below_more _ _ c.windows.invariant.nowhere
           (λ stands. false≢true (sym c.if-is_hit.false ∙ c.is_hit.ensures.1 stands));
     }
-
-pub returns-then-is_hit-2 : goal.returns-then-is_hit-2
-returns-then-is_hit-2 c = record {
-  stands = c.is_hit-2.ensures.0 c.if-is_hit-2.true;
-  first = λ j l. c.windows.invariant.nowhere j (omega arith);
-}
-
--- a text that is shorter than the pattern doesn't have it
-pub returns-then-length-text : goal.returns-then-length-text
-returns-then-length-text c i stands =
-    let fits = stands.within in
-    let short = c.if-length-text.true in
-    omega (arith, fits, short)
-
-pub slice_bounds-hash-end : goal.slice_bounds-hash-end
-slice_bounds-hash-end c =
-    sym (length-take-le (length c.args.pattern.now) c.args.text.now c.if-length-text.false)
-
-pub windows-smaller : goal.windows-smaller
-windows-smaller c = falls _ _ c.windows-test.true
-
-pub returns-then-is_hit : goal.returns-then-is_hit
-returns-then-is_hit c = record {
-  stands = c.is_hit.ensures.0 c.if-is_hit.true;
-  first = c.windows.invariant.nowhere;
-}
 
 pub returns-else-is_hit-2 : goal.returns-else-is_hit-2
 returns-else-is_hit-2 c i stands =

@@ -6,7 +6,6 @@ use Rattle.modular_ring.specs.ProductLaws.{product-zero, product-more}
 use Rattle.modular_ring.specs.SystemLaws.{divides, keeps, within}
 use Rattle.modular_ring.specs.SystemLaws.{only_digit, unit_here, next_fits, modulo_one}
 use Rattle.modular_ring.proofs.residues.decode.Goals as goal
-use borrow.Author.Count.{falls}
 
 pub moduli-init : goal.moduli-init
 moduli-init c = record {
@@ -77,19 +76,3 @@ returns-clause-only c x below are =
     let inside : x < c.moduli.range =
     subst (λ n. x < n) (sym (c.moduli.invariant.range ∙ ap (λ n. range_below n ms) full)) below in
     sym (mod-eq_of_lt inside) ∙ c.moduli.invariant.only x (λ i h. sym (are.each i (omega arith)))
-
-pub next_digit-digit-requires-clause-modulus : goal.next_digit-digit-requires-clause-modulus
-next_digit-digit-requires-clause-modulus c = c.requires.system.positive c.moduli.place c.moduli-test.true
-
-pub moduli-smaller : goal.moduli-smaller
-moduli-smaller c = falls _ _ c.moduli-test.true
-
-pub returns-clause-below : goal.returns-clause-below
-returns-clause-below c =
-    let ms : List ℕ = c.args.moduli.now in
-    let full : c.moduli.place ≡ length ms = omega arith in
-    subst (λ n. c.moduli.number < n) (c.moduli.invariant.range ∙ ap (λ n. range_below n ms) full)
-    c.moduli.invariant.below
-
-pub returns-clause-number : goal.returns-clause-number
-returns-clause-number c = record { each = λ i h. sym (c.moduli.invariant.each i (omega arith)) }

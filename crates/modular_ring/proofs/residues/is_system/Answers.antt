@@ -1,9 +1,8 @@
-use Rattle.std.proofs.Common.{◌≡◌, ℕ, ◌*◌, ◌<◌, ◌^◌, List, slice_index, length, get_or, true, false}
-use Rattle.std.proofs.Common.{arith, rules, lit<, ap, sym, subst, ◌∙◌, refl, below_more}
+use Rattle.std.proofs.Common.{◌≡◌, ℕ, ◌*◌, ◌<◌, List, slice_index, get_or, true, false}
+use Rattle.std.proofs.Common.{arith, rules, lit<, ap, sym, subst, ◌∙◌, below_more}
 use Rattle.std.proofs.lemmas.Bool.{false≢true}
 use Rattle.modular_word.specs.Divisors.{Coprime}
 use Rattle.modular_word.specs.Inverses.{HasInverse}
-use Rattle.modular_ring.specs.Systems.{range_below}
 use Rattle.modular_ring.specs.ProductLaws.{product-zero, product-more, has_each}
 use Rattle.modular_ring.specs.SystemLaws.{unit_here, next_fits}
 use Rattle.modular_ring.proofs.residues.is_system.Goals as goal
@@ -64,16 +63,3 @@ moduli-preserved c =
           ((c.inverse_laws.ensures.exists m (get_or ms j 0) positive).0 (has_each m place (slice_index ms) unit j h)))
           i k j h;
     }
-
-pub returns : goal.returns
-returns c =
-    let ms : List ℕ = c.args.moduli.now in
-    let full : c.moduli.place ≡ length ms = omega arith in (
-      (λ t. record {
-        positive = λ i h. c.moduli.invariant.positive i (subst (λ n. i < n) (sym full) h);
-        coprime = λ i j h k. c.moduli.invariant.coprime i j h (subst (λ n. i < n) (sym full) k);
-        fits = subst (λ n. n < 2 ^ 128)
-            (c.moduli.invariant.range ∙ ap (λ n. range_below n ms) full) c.moduli.invariant.fits;
-      }),
-      λ system. refl,
-    )

@@ -1,28 +1,8 @@
-use Rattle.std.proofs.Common.{◌≡◌, ◌+◌, ◌*◌, ◌%◌, ◌<◌, pos, ◌-ℤ◌, ap, sym, subst, ◌∙◌}
+use Rattle.std.proofs.Common.{◌≡◌, ◌+◌, ◌*◌, ◌%◌, pos, ◌-ℤ◌, ap, subst, ◌∙◌}
 use Rattle.modular_reduced.specs.Integers.{residue_of}
-use Rattle.modular_word.specs.Inverses.{HasInverse}
 use Rattle.modular_word.specs.Residues.{residue}
 use Rattle.modular_ring.specs.SystemLaws.{digit_right}
 use Rattle.modular_ring.proofs.residues.next_digit.Goals as goal
-
-pub div-requires : goal.div-requires
-div-requires c =
-    let m = c.args.m in
-    let known = c.new-known.ensures.modulus in
-    let modulus = c.convert-weight.ensures.modulus ∙ known in
-    let weight = c.convert-weight.ensures.residue ∙ ap (λ n. c.args.range % m % n) known in
-    let once = c.inverse_laws.ensures.has_residue m (c.args.range % m) in
-    let twice = c.inverse_laws.ensures.has_residue m c.args.range in (
-      c.sub.ensures.modulus ∙ c.convert.ensures.modulus ∙ known ∙ sym modulus,
-      subst (λ n. HasInverse n (residue_of c.convert-weight.result)) (sym modulus)
-          (subst (HasInverse m) (sym weight) (once.1 (twice.1 c.requires.unit))),
-    )
-
-pub returns-clause-below : goal.returns-clause-below
-returns-clause-below c =
-    let modulus = c.sub.ensures.modulus ∙ c.convert.ensures.modulus ∙ c.new-known.ensures.modulus in
-    subst (λ n. n < c.args.m) (sym c.residue.ensures)
-    (subst (λ n. residue_of c.div.result < n) modulus c.div.ensures.1.below)
 
 pub returns-clause-right : goal.returns-clause-right
 returns-clause-right c =

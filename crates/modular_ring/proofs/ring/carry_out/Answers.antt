@@ -5,9 +5,8 @@ use Rattle.modular_ring.specs.declared.ring.RingCommand.{RingCommand}
 use Rattle.modular_ring.specs.declared.ring.RingCommand.TheVariants.{Add, Sub, Mul}
 use Rattle.modular_ring.specs.Ring.{HoldValues, IsFit, IsFormOf, whole, destination_of, outcome, value_after}
 use Rattle.modular_ring.specs.RunSteps.{Combines}
-use Rattle.modular_ring.proofs.RunLemmas.{after_found, destination_below, finds_here, lacks_here, form_of_two, read_checked}
+use Rattle.modular_ring.proofs.RunLemmas.{after_found, destination_below, finds_here, lacks_here, form_of_two}
 use Rattle.modular_ring.proofs.ring.carry_out.Goals as goal
-use borrow.Author.Rules.{scaled_Fits}
 
 -- registers after the write of a form that the command writes
 after_write : {T : Type 0} (number : T → ℕ) (form : ℕ → ℕ → ℕ) (m : ℕ) {before after : List T} {v : ℕ → ℕ}
@@ -38,26 +37,6 @@ returns-in-Add-clause-values g c done v holds =
     c.held.result _ (g.met.R.Reducer.canonical c.args.r.now) holds fit.1 fit.2 c.held.ensures
     (ap (get_or c.args.regs.now c.in-Add.b) c.index-regs-b.is) c.add-form.ensures.form))
 
-pub held-requires-clause-within : goal.held-requires-clause-within
-held-requires-clause-within g c = (rw c.in-Add.is at c.requires.fit).1
-
-pub offset_bounds-regs-b : goal.offset_bounds-regs-b
-offset_bounds-regs-b g c = scaled_Fits _ _ _ (rw c.in-Add.is at c.requires.fit).2 c.well_formed.1.0.1
-
-pub bounds-regs-b : goal.bounds-regs-b
-bounds-regs-b g c = (rw c.in-Add.is at c.requires.fit).2
-
-pub add-form-requires-clause-left : goal.add-form-requires-clause-left
-add-form-requires-clause-left g c =
-    read_checked g.T.RingWord.number g.R.Reducer.form g.R.Reducer.value _ c.args.regs.now _ _ c.requires.checked
-    (rw c.in-Add.is at c.requires.fit).1 c.held.ensures
-
-pub add-form-requires-clause-right : goal.add-form-requires-clause-right
-add-form-requires-clause-right g c = c.requires.checked c.in-Add.b _ (rw c.in-Add.is at c.requires.fit).2
-
-pub write-requires : goal.write-requires
-write-requires g c = (rw c.in-Add.is at c.requires.fit).0
-
 pub returns-in-Sub-clause-values : goal.returns-in-Sub-clause-values
 returns-in-Sub-clause-values g c done v holds =
     let m = g.R.Reducer.modulus c.args.r.now in
@@ -68,26 +47,6 @@ returns-in-Sub-clause-values g c done v holds =
     c.held-in-Sub.result _ (g.met.R.Reducer.canonical c.args.r.now) holds fit.1 fit.2 c.held-in-Sub.ensures
     (ap (get_or c.args.regs.now c.in-Sub.b) c.index-regs-b-in-Sub.is) c.sub-form.ensures.form))
 
-pub held-requires-in-Sub-clause-within : goal.held-requires-in-Sub-clause-within
-held-requires-in-Sub-clause-within g c = (rw c.in-Sub.is at c.requires.fit).1
-
-pub offset_bounds-regs-b-in-Sub : goal.offset_bounds-regs-b-in-Sub
-offset_bounds-regs-b-in-Sub g c = scaled_Fits _ _ _ (rw c.in-Sub.is at c.requires.fit).2 c.well_formed.1.0.1
-
-pub bounds-regs-b-in-Sub : goal.bounds-regs-b-in-Sub
-bounds-regs-b-in-Sub g c = (rw c.in-Sub.is at c.requires.fit).2
-
-pub sub-form-requires-clause-left : goal.sub-form-requires-clause-left
-sub-form-requires-clause-left g c =
-    read_checked g.T.RingWord.number g.R.Reducer.form g.R.Reducer.value _ c.args.regs.now _ _ c.requires.checked
-    (rw c.in-Sub.is at c.requires.fit).1 c.held-in-Sub.ensures
-
-pub sub-form-requires-clause-right : goal.sub-form-requires-clause-right
-sub-form-requires-clause-right g c = c.requires.checked c.in-Sub.b _ (rw c.in-Sub.is at c.requires.fit).2
-
-pub write-requires-in-Sub : goal.write-requires-in-Sub
-write-requires-in-Sub g c = (rw c.in-Sub.is at c.requires.fit).0
-
 pub returns-in-Mul-clause-values : goal.returns-in-Mul-clause-values
 returns-in-Mul-clause-values g c done v holds =
     let m = g.R.Reducer.modulus c.args.r.now in
@@ -97,17 +56,6 @@ returns-in-Mul-clause-values g c done v holds =
     (form_of_two {v = v} (λ x y. (x * y) % m) c.in-Mul.a c.in-Mul.b
     c.held-in-Mul.result _ (g.met.R.Reducer.canonical c.args.r.now) holds fit.1 fit.2 c.held-in-Mul.ensures
     (ap (get_or c.args.regs.now c.in-Mul.b) c.index-regs-b-in-Mul.is) c.mul-form.ensures.form))
-
-pub held-requires-in-Mul-clause-within : goal.held-requires-in-Mul-clause-within
-held-requires-in-Mul-clause-within g c = (rw c.in-Mul.is at c.requires.fit).1
-
-pub mul-form-requires-clause-left : goal.mul-form-requires-clause-left
-mul-form-requires-clause-left g c =
-    read_checked g.T.RingWord.number g.R.Reducer.form g.R.Reducer.value _ c.args.regs.now _ _ c.requires.checked
-    (rw c.in-Mul.is at c.requires.fit).1 c.held-in-Mul.ensures
-
-pub write-requires-in-Mul : goal.write-requires-in-Mul
-write-requires-in-Mul g c = (rw c.in-Mul.is at c.requires.fit).0
 
 pub returns-in-Some-clause-values : goal.returns-in-Some-clause-values
 returns-in-Some-clause-values g c done v holds =
@@ -137,7 +85,3 @@ computed_form-requires g c = record {
   fit = c.requires.fit;
   other = neither c.args.command c.in_default.not-Add c.in_default.not-Sub c.in_default.not-Mul;
 }
-
-pub write-requires-in_default : goal.write-requires-in_default
-write-requires-in_default g c =
-    c.destination.ensures.within (length c.args.regs.now) c.requires.fit

@@ -1,13 +1,9 @@
 use Rattle.std.proofs.Common.{◌*◌, ◌%◌, ◌^◌, subst, option_map, pos, neg_ℤ}
-use Rattle.std.proofs.Math.Nat.{le_of_lt}
 use Rattle.modular_word.specs.Inverses.{inverse_of}
 use Rattle.modular_word.specs.Residues.{residue}
 use Rattle.modular_ring.specs.Ring.{IsFormOf}
-use Rattle.modular_ring.proofs.RunLemmas.{value_of, inverse_form, form_of_one, read_checked}
+use Rattle.modular_ring.proofs.RunLemmas.{value_of, inverse_form, form_of_one}
 use Rattle.modular_ring.proofs.ring.computed_form.Goals as goal
-
-pub returns-in-Load : goal.returns-in-Load
-returns-in-Load g c v holds = rw c.in-Load.is c.transform.ensures.form
 
 pub returns-in-Neg : goal.returns-in-Neg
 returns-in-Neg g c v holds =
@@ -65,69 +61,3 @@ returns-in-Div g c v holds =
     c.quotient.ensures in
     rw c.in-Div.is (subst (λ u. IsFormOf number g.R.Reducer.form m
     (option_map (λ y. (u * y) % m) (inverse_of m (v c.in-Div.b))) c.quotient.result) is_a first)
-
-pub offset_bounds-regs-a : goal.offset_bounds-regs-a
-offset_bounds-regs-a g c = le_of_lt (rw c.in-Neg.is at c.requires.fit).1
-
-pub bounds-regs-a : goal.bounds-regs-a
-bounds-regs-a g c = (rw c.in-Neg.is at c.requires.fit).1
-
-pub neg-requires : goal.neg-requires
-neg-requires g c =
-    read_checked g.T.RingWord.number g.R.Reducer.form g.R.Reducer.value _ c.args.regs.now _ _ c.requires.checked
-    (rw c.in-Neg.is at c.requires.fit).1 c.index-regs-a.is
-
-pub offset_bounds-regs-a-in-Dbl : goal.offset_bounds-regs-a-in-Dbl
-offset_bounds-regs-a-in-Dbl g c = le_of_lt (rw c.in-Dbl.is at c.requires.fit).1
-
-pub bounds-regs-a-in-Dbl : goal.bounds-regs-a-in-Dbl
-bounds-regs-a-in-Dbl g c = (rw c.in-Dbl.is at c.requires.fit).1
-
-pub dbl-requires : goal.dbl-requires
-dbl-requires g c =
-    read_checked g.T.RingWord.number g.R.Reducer.form g.R.Reducer.value _ c.args.regs.now _ _ c.requires.checked
-    (rw c.in-Dbl.is at c.requires.fit).1 c.index-regs-a-in-Dbl.is
-
-pub offset_bounds-regs-a-in-Sqr : goal.offset_bounds-regs-a-in-Sqr
-offset_bounds-regs-a-in-Sqr g c = le_of_lt (rw c.in-Sqr.is at c.requires.fit).1
-
-pub bounds-regs-a-in-Sqr : goal.bounds-regs-a-in-Sqr
-bounds-regs-a-in-Sqr g c = (rw c.in-Sqr.is at c.requires.fit).1
-
-pub sqr-requires : goal.sqr-requires
-sqr-requires g c =
-    read_checked g.T.RingWord.number g.R.Reducer.form g.R.Reducer.value _ c.args.regs.now _ _ c.requires.checked
-    (rw c.in-Sqr.is at c.requires.fit).1 c.index-regs-a-in-Sqr.is
-
-pub offset_bounds-regs-a-in-Inv : goal.offset_bounds-regs-a-in-Inv
-offset_bounds-regs-a-in-Inv g c = le_of_lt (rw c.in-Inv.is at c.requires.fit).1
-
-pub bounds-regs-a-in-Inv : goal.bounds-regs-a-in-Inv
-bounds-regs-a-in-Inv g c = (rw c.in-Inv.is at c.requires.fit).1
-
-pub inv-requires : goal.inv-requires
-inv-requires g c =
-    read_checked g.T.RingWord.number g.R.Reducer.form g.R.Reducer.value _ c.args.regs.now _ _ c.requires.checked
-    (rw c.in-Inv.is at c.requires.fit).1 c.index-regs-a-in-Inv.is
-
-pub offset_bounds-regs-a-in-Pow : goal.offset_bounds-regs-a-in-Pow
-offset_bounds-regs-a-in-Pow g c = le_of_lt (rw c.in-Pow.is at c.requires.fit).1
-
-pub bounds-regs-a-in-Pow : goal.bounds-regs-a-in-Pow
-bounds-regs-a-in-Pow g c = (rw c.in-Pow.is at c.requires.fit).1
-
-pub pow-requires : goal.pow-requires
-pow-requires g c =
-    read_checked g.T.RingWord.number g.R.Reducer.form g.R.Reducer.value _ c.args.regs.now _ _ c.requires.checked
-    (rw c.in-Pow.is at c.requires.fit).1 c.index-regs-a-in-Pow.is
-
-pub offset_bounds-regs-a-in-Div : goal.offset_bounds-regs-a-in-Div
-offset_bounds-regs-a-in-Div g c = le_of_lt (rw c.in-Div.is at c.requires.fit).1
-
-pub bounds-regs-a-in-Div : goal.bounds-regs-a-in-Div
-bounds-regs-a-in-Div g c = (rw c.in-Div.is at c.requires.fit).1
-
-pub quotient-requires-clause-dividend : goal.quotient-requires-clause-dividend
-quotient-requires-clause-dividend g c =
-    read_checked g.T.RingWord.number g.R.Reducer.form g.R.Reducer.value _ c.args.regs.now _ _ c.requires.checked
-    (rw c.in-Div.is at c.requires.fit).1 c.index-regs-a-in-Div.is

@@ -1,6 +1,5 @@
 use Rattle.std.proofs.Common.{◌≡◌, ◌∙◌, ℕ, ◌<◌, ◌≤◌, List, Bool, IsTrue, IsFalse, arith, length}
 use Rattle.std.proofs.Common.{map, Some, All, get_or, subst, sym, below_more, refl}
-use Rattle.std.proofs.Math.Nat.{le_of_lt}
 use Rattle.std.specs.List.{slice_get}
 use Rattle.std.proofs.lemmas.Option.{slice_get_read}
 use Rattle.std.proofs.lemmas.List.{length-map}
@@ -12,7 +11,6 @@ use Rattle.modular_ring.specs.declared.ring.RunEnd.TheVariants.{Done, NoInverse}
 use Rattle.modular_ring.proofs.RunLemmas.{after_command, lacks_at, lacks_of, stops_at, not_done, never_stops}
 use Rattle.modular_ring.proofs.RunLemmas.{start_holds, all_forms, residues_are, read_map}
 use Rattle.modular_ring.proofs.ring.run.Goals as goal
-use borrow.Author.Count.{falls}
 
 none_below : (j : ℕ) → j < 0 → ⊥
 none_below j h = omega (arith, h)
@@ -24,13 +22,6 @@ commands-init g c = record {
   passed = λ j h. absurd (none_below j h);
   last = c.first_register-last.ensures;
 }
-
-pub offset_bounds-commands-at : goal.offset_bounds-commands-at
-offset_bounds-commands-at g c = le_of_lt c.commands-test.true
-
-pub carry_out-requires-clause-checked : goal.carry_out-requires-clause-checked
-carry_out-requires-clause-checked g c =
-    all_forms (g.met.R.Reducer.canonical c.args.r.now) c.commands.invariant.held
 
 -- what a command represents, over whole numbers
 abbrev over_wholes : {T C : Type 0} → (T → ℕ) → (C → RingCommand T) → C → RingCommand ℕ
@@ -44,14 +35,6 @@ fit_here : {T C : Type 0} (command_of : C → RingCommand T) {count registers : 
 fit_here command_of {count} commands at command fit within is same =
     subst (λ n. IsFit n (command_of command)) (sym same)
     (subst (λ c. IsFit count (command_of c)) (sym is) (fit at command within))
-
-pub carry_out-requires-clause-fit : goal.carry_out-requires-clause-fit
-carry_out-requires-clause-fit g c =
-    rw c.command.ensures (fit_here g.C.AsCommand.command c.args.commands.now c.commands.at c.index-commands-at.result c.requires.fit c.commands-test.true
-    c.index-commands-at.is c.commands.auto.regs)
-
-pub commands-smaller : goal.commands-smaller
-commands-smaller g c = falls _ _ c.commands-test.true
 
 true_not_false : {b : Bool} → IsTrue b → IsFalse b → ⊥
 true_not_false holds fails = cc
@@ -129,11 +112,6 @@ read_is : {T : Type 0} {number : T → ℕ} {form value : ℕ → ℕ → ℕ} {
     → n < length registers → value m (number (get_or registers n other)) ≡ v n
 read_is registers canonical held n other below = canonical.one_value _ _ (held.each n other below)
 
-pub returns-then-not-carry_out-clause-values : goal.returns-then-not-carry_out-clause-values
-returns-then-not-carry_out-clause-values g c =
-    let told = c.if-not-carry_out.true in
-    kept_hold (c.carry_out.ensures.kept told) c.commands.invariant.held
-
 pub returns-then-not-carry_out-clause-checked : goal.returns-then-not-carry_out-clause-checked
 returns-then-not-carry_out-clause-checked g c =
     let told = c.if-not-carry_out.true in
@@ -200,9 +178,6 @@ returns-clause-values g c =
     (values_of g.T.RingWord.number g.R.Reducer.value (g.R.Reducer.modulus c.args.r.now) c.args.regs.now)
     c.args.commands.now c.commands.invariant.held
     (all_done c.commands.auto.at-end c.commands-test.false)
-
-pub returns-clause-checked : goal.returns-clause-checked
-returns-clause-checked g c = all_forms (g.met.R.Reducer.canonical c.args.r.now) c.commands.invariant.held
 
 pub returns-clause-residues : goal.returns-clause-residues
 returns-clause-residues g c n h =

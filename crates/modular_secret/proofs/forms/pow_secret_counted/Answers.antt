@@ -30,9 +30,6 @@ pub returns-clause-form : goal.returns-clause-form
 returns-clause-form g c =
     power_end c.digits.invariant.so_far (none_left _ c.args.bits c.digits._done c.digits.invariant.below (omega arith))
 
-pub returns-clause-checked : goal.returns-clause-checked
-returns-clause-checked g c = c.digits.invariant.so_far.product_form
-
 pub returns-clause-value : goal.returns-clause-value
 returns-clause-value g c =
     (g.met.R.Reducer.canonical c.args.reducer.now).one_value _ _

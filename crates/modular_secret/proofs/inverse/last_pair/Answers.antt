@@ -1,4 +1,4 @@
-use Rattle.std.proofs.Common.{◌≡◌, ◌+◌, ◌-◌, ◌*◌, ◌^◌, ◌<◌, arith, refl, sym, subst}
+use Rattle.std.proofs.Common.{◌≡◌, ◌+◌, ◌-◌, ◌*◌, ◌^◌, ◌<◌, arith, refl, subst}
 use Rattle.modular_secret.specs.Halvings.{IsHalvedPair}
 use Rattle.modular_secret.proofs.HalvingSteps.{first_pair}
 use Rattle.modular_secret.proofs.inverse.last_pair.Goals as goal
@@ -31,13 +31,3 @@ steps-preserved g c =
       pair = c.halved-pair.ensures (n c.args.x) k (2 * w - (k + 1)) before;
       count = omega (arith, c.steps.invariant.count);
     }
-
-pub returns-clause-pair : goal.returns-clause-pair
-returns-clause-pair g c =
-    let n = g.T.RingWord.number in
-    let w = g.T.RingWord.width in
-    let p = c.steps.pair in
-    let k = c.steps._done in
-    let done : k ≡ 2 * w - 1 = omega (arith, c.bits.ensures, g.met.T.RingWord.width_from) in
-    let one : 2 * w - k ≡ 1 = omega (arith, done, g.met.T.RingWord.width_from) in
-    rw (sym done, sym one) c.steps.invariant.pair

@@ -1,7 +1,7 @@
 -- The count one number on, and the symbol at its end.
 use Rattle.std.proofs.Common.{◌<◌, ◌≤◌, cond, pos, negsuc, sym, ap, ◌∙◌, arith}
 use Rattle.modular_symbols.specs.Kronecker.{signed}
-use Rattle.modular_symbols.proofs.CountSteps.{counted_none, counted_next, counted_all}
+use Rattle.modular_symbols.proofs.CountSteps.{counted_next, counted_all}
 use Rattle.modular_symbols.proofs.CountSteps.{shared_divisor, no_inverse, with_inverse}
 use Rattle.modular_symbols.proofs.count.jacobi_by_count.Goals as goal
 
@@ -46,25 +46,3 @@ returns-else-odd g c =
     (n c.half-half.result) c.half_system.odd
     c.half_system.invariant c.requires c.half-half.ensures.value reached coprime
     ∙ ap (λ v. cond v (negsuc 0) (pos 1)) c.if-odd.false)
-
-pub invm-requires : goal.invm-requires
-invm-requires g c = omega (arith, c.requires)
-
-pub signed_residue-residue-requires : goal.signed_residue-residue-requires
-signed_residue-residue-requires g c = omega (arith, c.requires)
-
-pub half_system-init : goal.half_system-init
-half_system-init g c = counted_none _ _ _ c.zero-x.ensures
-
-pub plus-x-requires : goal.plus-x-requires
-plus-x-requires g c =
-    let before = c.is_below.ensures.below.0 c.half_system-test.true in
-    omega (arith, before, c.one.ensures, c.is_below.ensures.other_fits)
-
-pub mulm-requires : goal.mulm-requires
-mulm-requires g c = omega (arith, c.requires)
-
-pub half_system-smaller : goal.half_system-smaller
-half_system-smaller g c =
-    let before = c.is_below.ensures.below.0 c.half_system-test.true in
-    omega (arith, before, c.plus-x.ensures, c.one.ensures)

@@ -2,7 +2,6 @@
 use Rattle.std.proofs.Common.{arith, ◌∙◌, ap, sym, pos}
 use Rattle.modular_symbols.specs.Jacobi.{jacobi}
 use Rattle.modular_symbols.specs.Kronecker.{signed}
-use Rattle.modular_symbols.specs.Steps.{jacobi_steps}
 use Rattle.modular_word.proofs.ResidueLemmas.{residue_is}
 use Rattle.modular_symbols.proofs.JacobiLaws.{jacobi-residue}
 use Rattle.modular_symbols.proofs.halving.jacobi_counted.Goals as goal
@@ -19,8 +18,3 @@ returns-clause-symbol g c =
     c.halve_and_swap.ensures.symbol
     ∙ ap (λ v. jacobi (pos v) (n c.args.n)) c.signed_residue.ensures
     ∙ sym (jacobi-residue (signed c.args.a_minus (pos (n c.args.a))) (n c.args.n) (omega (arith, c.requires)))
-
-pub returns-clause-count : goal.returns-clause-count
-returns-clause-count g c =
-    let n = g.T.RingWord.number in
-    c.halve_and_swap.ensures.count ∙ ap (λ v. jacobi_steps v (n c.args.n)) c.signed_residue.ensures

@@ -1,5 +1,5 @@
 -- The trailing zeros are the exponent of 2.
-use Rattle.std.proofs.Common.{◌≡◌, ◌<◌, arith, subst, sym}
+use Rattle.std.proofs.Common.{◌<◌, arith, subst, sym}
 use Rattle.modular_symbols.proofs.TwoPart.{Halved, halved, fewer_zeros}
 use Rattle.modular_symbols.proofs.halving.odd_part.Goals as goal
 use Rattle.modular_symbols.proofs.halving.odd_part.Goals.{After-shift_right}

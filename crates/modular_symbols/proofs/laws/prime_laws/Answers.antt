@@ -1,11 +1,8 @@
 -- The laws, from the lemmas on primes.
 use Rattle.modular_symbols.proofs.LegendreClass.{class_over_prime}
-use Rattle.modular_symbols.proofs.PrimeLaws.{prime_to, inverse_to, fermat, class_is_some, jacobi_over_prime}
+use Rattle.modular_symbols.proofs.PrimeLaws.{inverse_to, fermat, class_is_some}
 use Rattle.modular_symbols.proofs.Squares.{root_from_symbol, symbol_of_root}
 use Rattle.modular_symbols.proofs.laws.prime_laws.Goals as goal
-
-pub returns-clause-coprime : goal.returns-clause-coprime
-returns-clause-coprime c a p u z = prime_to a p u z
 
 pub returns-clause-inverse : goal.returns-clause-inverse
 returns-clause-inverse c a p u z = inverse_to a p u z
@@ -22,6 +19,3 @@ returns-clause-is_some c a p u = class_is_some a p u
 
 pub returns-clause-legendre : goal.returns-clause-legendre
 returns-clause-legendre c a p u = class_over_prime a p u
-
-pub returns-clause-checked : goal.returns-clause-checked
-returns-clause-checked c a p u = jacobi_over_prime a p u

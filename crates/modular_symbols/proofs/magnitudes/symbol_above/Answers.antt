@@ -1,12 +1,12 @@
 -- The symbol over n of at least 1, by the power of two in n.
-use Rattle.std.proofs.Common.{◌≡◌, ◌≢◌, ◌≤◌, ◌/◌, ◌%◌, ◌^◌, ◌<◌, ◌&&◌, ◌==◌, pos}
+use Rattle.std.proofs.Common.{◌≡◌, ◌≢◌, ◌≤◌, ◌/◌, ◌%◌, ◌^◌, ◌&&◌, ◌==◌, pos}
 use Rattle.std.proofs.Common.{ℤ, nat_abs, sym, ap, ◌∙◌, subst, rules}
 use Rattle.std.proofs.lemmas.Bool.{false≢true}
 use Rattle.modular_symbols.specs.Jacobi.{jacobi}
 use Rattle.modular_symbols.specs.Kronecker.{signed}
 use Rattle.modular_symbols.proofs.KroneckerSteps.{jacobi-small, above-odd, above-both_even}
 use Rattle.modular_symbols.proofs.KroneckerSteps.{above-twos, leaves_3_or_5, times_two, times_four}
-use Rattle.modular_symbols.proofs.TwoPart.{SplitAt, split_at, fewer_zeros}
+use Rattle.modular_symbols.proofs.TwoPart.{SplitAt, split_at}
 use Rattle.modular_symbols.proofs.SymbolBytes.{in_byte}
 use Rattle.modular_symbols.proofs.magnitudes.symbol_above.Goals as goal
 use Rattle.modular_symbols.proofs.magnitudes.symbol_above.Goals.{then-twos-eq1, else-twos-eq1}
@@ -67,18 +67,3 @@ returns-else-is_odd-2-clause-value g c =
     false≢true (sym c.if-is_odd-2.false ∙ c.is_odd-else-is_odd.ensures.odd.1 e) in
     sym (above-both_even c.args.a_minus (n c.args.a)
     (n c.args.n) g.T.RingWord.width a_even n_even c.requires c.is_odd.ensures.fits)
-
-pub jacobi_symbol-requires : goal.jacobi_symbol-requires
-jacobi_symbol-requires g c = c.is_odd.ensures.odd.0 c.if-is_odd.true
-
-pub is_minus_over_two-requires : goal.is_minus_over_two-requires
-is_minus_over_two-requires g c = c.is_odd-else-is_odd.ensures.odd.0 c.if-is_odd-2.true
-
-pub returns-after-twos-eq1-clause-small : goal.returns-after-twos-eq1-clause-small
-returns-after-twos-eq1-clause-small g c =
-    subst (λ (v : ℤ). nat_abs v ≤ 1) (sym (in_byte c.turned_symbol.result (search rules))) c.turned_symbol.ensures.small
-
-pub shift_right-requires : goal.shift_right-requires
-shift_right-requires g c =
-    subst (λ s. s < g.T.RingWord.width) (sym c.trailing_zeros-twos.ensures.value)
-    (fewer_zeros g.T.RingWord.width (g.T.RingWord.number c.args.n) c.requires c.is_odd.ensures.fits)

@@ -13,7 +13,3 @@ returns-then-turned-clause-value c =
     let fits : SFits w8 (pos 0 -ℤ z) = search rules in
     ap (λ v. to_z w8 (of_z w8 (pos 0 -ℤ v))) (to_z-of_z w8 z c.ranges.symbol)
     ∙ to_z-of_z w8 (pos 0 -ℤ z) fits ∙ +ℤ_idl (neg_ℤ z) ∙ sym (ap (λ b. signed b z) c.if-turned.true)
-
-pub returns-else-turned-clause-value : goal.returns-else-turned-clause-value
-returns-else-turned-clause-value c =
-    to_z-of_z w8 c.args.symbol c.ranges.symbol ∙ sym (ap (λ b. signed b c.args.symbol) c.if-turned.false)

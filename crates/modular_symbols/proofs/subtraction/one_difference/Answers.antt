@@ -34,15 +34,6 @@ halves g c =
           c.trailing_zeros-zeros.ensures.value c.shift_right.ensures.value
     ]
 
-pub minus-requires : goal.minus-requires
-minus-requires g c = omega (arith, c.is_below-less.ensures.below.0 c.if-less.true)
-
-pub turn_by_swap-requires-clause-a_odd : goal.turn_by_swap-requires-clause-a_odd
-turn_by_swap-requires-clause-a_odd g c = c.requires.a_odd
-
-pub turn_by_swap-requires-clause-n_odd : goal.turn_by_swap-requires-clause-n_odd
-turn_by_swap-requires-clause-n_odd g c = c.requires.n_odd
-
 pub turn_by_twos-requires : goal.turn_by_twos-requires
 turn_by_twos-requires g c =
     let n = g.T.RingWord.number in

@@ -1,10 +1,9 @@
 -- The turns of the loop, and the symbol of two equal numbers.
 use Rattle.modular_symbols.proofs.SymbolBytes.{in_byte}
-use Rattle.std.proofs.Common.{rules, ◌≡◌, ◌+◌, ◌/◌, not, pos, sym, ap, ◌∙◌, arith}
+use Rattle.std.proofs.Common.{rules, ◌≡◌, ◌+◌, ◌/◌, pos, sym, ap, ◌∙◌, arith}
 use Rattle.modular_symbols.specs.Jacobi.{jacobi}
 use Rattle.modular_symbols.specs.Kronecker.{signed}
 use Rattle.modular_symbols.proofs.SubtractionSteps.{kept_equal_last}
-use Rattle.std.proofs.lemmas.Bool.{false≢true}
 use Rattle.modular_symbols.proofs.TurnBits.{is_odd, xor-parity, is_by_not}
 use Rattle.modular_symbols.proofs.subtraction.subtract_and_halve.Goals as goal
 
@@ -20,31 +19,6 @@ differences-init g c =
         value =
             ap (λ k. signed (is_odd k) (jacobi (pos (n c.odd_part-above.result.0)) (n c.args.n))) none
             ∙ sym c.odd_part-above.ensures.symbol;
-      };
-    }
-
-pub differences-smaller : goal.differences-smaller
-differences-smaller g c = c.one_difference-difference.ensures.less
-
-pub one_difference-difference-requires-clause-a_odd : goal.one_difference-difference-requires-clause-a_odd
-one_difference-difference-requires-clause-a_odd g c = c.differences.invariant.odd
-
-pub one_difference-difference-requires-clause-n_odd : goal.one_difference-difference-requires-clause-n_odd
-one_difference-difference-requires-clause-n_odd g c = c.differences.invariant.symbol.odd
-
-pub one_difference-difference-requires-clause-differ : goal.one_difference-difference-requires-clause-differ
-one_difference-difference-requires-clause-differ g c = λ e.
-    let same = (g.met.T.RingWord.equal c.differences.above c.differences.below).1 e in
-    false≢true (sym (ap not same) ∙ sym c.ne.ensures ∙ c.differences-test.true)
-
-pub differences-preserved : goal.differences-preserved
-differences-preserved g c =
-    let d = c.one_difference-difference in
-    record {
-      odd = d.ensures.above_odd;
-      symbol = record {
-        odd = d.ensures.below_odd;
-        value = sym d.ensures.symbol ∙ c.differences.invariant.symbol.value;
       };
     }
 

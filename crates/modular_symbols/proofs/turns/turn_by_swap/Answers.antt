@@ -17,9 +17,3 @@ returns-then-swap g c =
     c.low_part.ensures c.low_part-then-swap.ensures)
     ∙ sym (ap (λ v. signed (is_odd (bit_and k l / 2)) (if v then jacobi (pos (n c.args.n)) (n c.args.a)
     else jacobi (pos (n c.args.a)) (n c.args.n))) c.if-swap.true)
-
-pub returns-else-swap : goal.returns-else-swap
-returns-else-swap g c =
-    let n = g.T.RingWord.number in
-    sym (ap (λ v. if v then jacobi (pos (n c.args.n)) (n c.args.a) else jacobi (pos (n c.args.a)) (n c.args.n))
-    c.if-swap.false)

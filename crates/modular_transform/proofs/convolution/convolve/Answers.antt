@@ -18,15 +18,6 @@ returns-in-Some-clause-inverse g c =
     let found = c.in-Some.ensures.form in
     (λ h. (found.0, inverse_along c.length_form-length.ensures.counted found.1), λ h. refl)
 
-pub returns-in-Some-clause-unchanged : goal.returns-in-Some-clause-unchanged
-returns-in-Some-clause-unchanged g c none = absurd (none refl)
-
-pub returns-in-Some-clause-product : goal.returns-in-Some-clause-product
-returns-in-Some-clause-product g c h = c.multiply.ensures.product
-
-pub returns-in-Some-clause-transformed : goal.returns-in-Some-clause-transformed
-returns-in-Some-clause-transformed g c h = c.multiply.ensures.transformed
-
 pub returns-in-Some-clause-values : goal.returns-in-Some-clause-values
 returns-in-Some-clause-values g c h e l =
     held_values g.T.RingWord.number c.multiply.new.xs _ e
@@ -38,26 +29,8 @@ returns-in-Some-clause-transformed_values g c h j l =
     (g.met.R.Reducer.canonical c.args.r.now) c.multiply.ensures.transformed
     (let equal = c.requires.equal in omega arith)
 
-pub returns-in-Some-clause-checked : goal.returns-in-Some-clause-checked
-returns-in-Some-clause-checked g c = c.multiply.ensures.checked
-
 pub returns-in-None-clause-inverse : goal.returns-in-None-clause-inverse
 returns-in-None-clause-inverse g c = (
   λ h. absurd (false≢true h),
   λ h. absurd (c.in-None.ensures.form h.0 (inverse_along (mod_sym c.length_form-length.ensures.counted) h.1)),
 )
-
-pub returns-in-None-clause-unchanged : goal.returns-in-None-clause-unchanged
-returns-in-None-clause-unchanged g c none = (refl, refl)
-
-pub returns-in-None-clause-product : goal.returns-in-None-clause-product
-returns-in-None-clause-product g c h = absurd (false≢true h)
-
-pub returns-in-None-clause-transformed : goal.returns-in-None-clause-transformed
-returns-in-None-clause-transformed g c h = absurd (false≢true h)
-
-pub returns-in-None-clause-values : goal.returns-in-None-clause-values
-returns-in-None-clause-values g c h = absurd (false≢true h)
-
-pub returns-in-None-clause-transformed_values : goal.returns-in-None-clause-transformed_values
-returns-in-None-clause-transformed_values g c h = absurd (false≢true h)

@@ -1,7 +1,4 @@
-use Rattle.std.proofs.Common.{length, refl, arith, subst}
-use Rattle.modular_reduced.specs.Entries.{entry}
-use Rattle.modular_reduced.specs.Values.{HoldValues}
-use Rattle.modular_transform.specs.Transforms.{transform}
+use Rattle.std.proofs.Common.{length, refl, arith}
 use Rattle.modular_transform.proofs.ConvolveLemmas.{convolution_end}
 use Rattle.modular_transform.proofs.convolution.multiply.Goals as goal
 
@@ -17,15 +14,3 @@ returns-clause-product g c =
     (g.met.R.Reducer.canonical c.args.r.now) c.requires.suits c.requires.inverse refl c.requires.equal (omega arith)
     (omega arith) (omega arith) (omega arith)
     c.ntt.ensures.entries c.ntt-2.ensures.entries c.multiply_lists.ensures.entries c.transform_back.ensures.entries
-
-pub returns-clause-transformed : goal.returns-clause-transformed
-returns-clause-transformed g c =
-    let m = g.R.Reducer.modulus c.args.r.now in
-    let number = g.T.RingWord.number in
-    let value = g.R.Reducer.value in
-    let root = value m (number c.args.g.now) in
-    subst (λ n. HoldValues number g.R.Reducer.form m c.ntt-2.new.xs
-    (transform m root n (entry number value m c.args.ys.now))) c.requires.equal c.ntt-2.ensures.entries
-
-pub returns-clause-checked : goal.returns-clause-checked
-returns-clause-checked g c = (c.transform_back.ensures.checked, c.ntt-2.ensures.checked)

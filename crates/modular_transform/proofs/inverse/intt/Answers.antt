@@ -17,9 +17,6 @@ returns-in-Some-clause-inverse g c =
     let found = c.in-Some.ensures.form in
     (λ h. (found.0, inverse_along c.length_form-length.ensures.counted found.1), λ h. refl)
 
-pub returns-in-Some-clause-unchanged : goal.returns-in-Some-clause-unchanged
-returns-in-Some-clause-unchanged g c none = absurd (none refl)
-
 pub returns-in-Some-clause-values : goal.returns-in-Some-clause-values
 returns-in-Some-clause-values g c h j l =
     let m = g.R.Reducer.modulus c.args.r.now in
@@ -58,20 +55,8 @@ returns-in-Some-clause-undone g c h x are i l =
     (λ i. (transform m root n old (mirrored n i) * part) % m) i canonical c.transform_back.ensures.entries (omega arith)
     ∙ undone_at m root n part i x old canonical.positive c.requires.suits inverse l are
 
-pub returns-in-Some-clause-checked : goal.returns-in-Some-clause-checked
-returns-in-Some-clause-checked g c = c.transform_back.ensures.checked
-
 pub returns-in-None-clause-inverse : goal.returns-in-None-clause-inverse
 returns-in-None-clause-inverse g c = (
   λ h. absurd (false≢true h),
   λ h. absurd (c.in-None.ensures.form h.0 (inverse_along (mod_sym c.length_form-length.ensures.counted) h.1)),
 )
-
-pub returns-in-None-clause-unchanged : goal.returns-in-None-clause-unchanged
-returns-in-None-clause-unchanged g c none = refl
-
-pub returns-in-None-clause-values : goal.returns-in-None-clause-values
-returns-in-None-clause-values g c h = absurd (false≢true h)
-
-pub returns-in-None-clause-undone : goal.returns-in-None-clause-undone
-returns-in-None-clause-undone g c h = absurd (false≢true h)

@@ -1,6 +1,5 @@
 use Rattle.std.proofs.Common.{◌+◌, ◌%◌, ◌<◌, length, arith}
 use Rattle.modular_reduced.specs.Entries.{entry}
-use Rattle.modular_reduced.proofs.ListSteps.{all_written}
 use Rattle.modular_transform.proofs.ListPairs.{pair_written}
 use Rattle.modular_transform.proofs.lists.add_lists.Goals as goal
 
@@ -19,13 +18,3 @@ entries-preserved g c =
     pair_written number ring.form ring.value m c.entries.xs c.args.ys.now c.entries.i c.index-xs-i-in-entries.result
     c.index-ys-i-in-entries.result c.add.result (λ v w. (v + w) % m) (entry number ring.value m c.args.xs.now)
     (omega arith) within_ys c.index-ys-i-in-entries.is c.entries.invariant c.add.ensures.checked c.add.ensures.value
-
-pub returns-after-roomy-clause-entries : goal.returns-after-roomy-clause-entries
-returns-after-roomy-clause-entries g c =
-    let ring = g.R.Reducer in let m = ring.modulus c.args.r.now in
-    all_written g.T.RingWord.number ring.form ring.value m c.roomy.xs _ _ _ c.roomy.invariant (omega arith)
-
-pub returns-after-entries-clause-entries : goal.returns-after-entries-clause-entries
-returns-after-entries-clause-entries g c =
-    let ring = g.R.Reducer in let m = ring.modulus c.args.r.now in
-    all_written g.T.RingWord.number ring.form ring.value m c.entries.xs _ _ _ c.entries.invariant (omega arith)

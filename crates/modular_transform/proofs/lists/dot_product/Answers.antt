@@ -1,7 +1,6 @@
 use Rattle.std.proofs.Common.{◌≡◌, ◌+◌, ◌%◌, ◌∙◌, ap, arith}
 use Rattle.std.proofs.Math.Nat.{zero-mod}
 use Rattle.modular_reduced.specs.Values.{sum_of_products}
-use Rattle.modular_reduced.proofs.FormLemmas.{form_as}
 use Rattle.modular_transform.proofs.lists.dot_product.Goals as goal
 
 pub returns-clause-value : goal.returns-clause-value
@@ -11,6 +10,3 @@ returns-clause-value g c =
     let none = c.transform.ensures.value ∙ ap (λ v. v % m) c.zero.ensures ∙ zero-mod m in
     let same : ring.value m (number c.transform.result) + sum ≡ sum = omega (arith, none) in
     c.add_products.ensures.value ∙ ap (λ v. v % m) same
-
-pub returns-clause-form : goal.returns-clause-form
-returns-clause-form g c = form_as c.add_products.ensures.checked (returns-clause-value g c)

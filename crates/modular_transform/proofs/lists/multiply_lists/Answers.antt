@@ -1,7 +1,7 @@
 use Rattle.std.proofs.Common.{◌*◌, ◌%◌, ◌<◌, length, ◌∙◌, ap, arith}
 use Rattle.modular_reduced.specs.Entries.{entry}
 use Rattle.modular_reduced.specs.EntryLaws.{entry_at, entry_read}
-use Rattle.modular_reduced.proofs.ListSteps.{written_more, all_written}
+use Rattle.modular_reduced.proofs.ListSteps.{written_more}
 use Rattle.modular_transform.proofs.lists.multiply_lists.Goals as goal
 
 pub entries-preserved : goal.entries-preserved
@@ -17,8 +17,3 @@ entries-preserved g c =
     written_more number ring.form value m xs i c.mul.result (λ k. (old k * y k) % m) old within before c.mul.ensures.checked
     (c.mul.ensures.value ∙ ap (λ v. (v * value m (number c.index-ys-i.result)) % m) x_is
     ∙ ap (λ v. (old i * v) % m) y_is)
-
-pub returns-clause-entries : goal.returns-clause-entries
-returns-clause-entries g c =
-    let ring = g.R.Reducer in let m = ring.modulus c.args.r.now in
-    all_written g.T.RingWord.number ring.form ring.value m c.entries.xs _ _ _ c.entries.invariant (omega arith)

@@ -1,6 +1,5 @@
-use Rattle.std.proofs.Common.{◌≡◌, arith}
+use Rattle.std.proofs.Common.{arith}
 use Rattle.modular_transform.proofs.PowersOfTwo.{power_of_two_tested}
-use Rattle.modular_transform.proofs.TransformLemmas.{suits_one}
 use Rattle.modular_transform.proofs.PlainSums.{suits_by_power}
 use Rattle.modular_transform.proofs.plain.suits.Goals as goal
 
@@ -8,9 +7,6 @@ pub returns-then-not-is_power_of_two : goal.returns-then-not-is_power_of_two
 returns-then-not-is_power_of_two c =
     let tested = power_of_two_tested c.args.n in
     (λ h. cc, λ suits. let t = tested.1 suits.power_of_two in cc)
-
-pub returns-then-n-eq1 : goal.returns-then-n-eq1
-returns-then-n-eq1 c = (λ h. suits_one (let e : c.args.n ≡ 1 = omega arith in e), λ suits. cc)
 
 pub returns : goal.returns
 returns c =

@@ -69,6 +69,3 @@ bases-preserved g c =
         | inr other ↦ c.bases.invariant.tried y low (omega (arith, high, other)) suits
       ];
     }
-
-pub returns : goal.returns
-returns g c = λ x from below suits. c.bases.invariant.tried x from (omega (arith, below)) suits

@@ -1,11 +1,11 @@
-use Rattle.std.proofs.Common.{◌≡◌, ◌+◌, ◌-◌, ◌^◌, ◌<◌, sym, ◌∙◌, refl, arith, subst}
+use Rattle.std.proofs.Common.{◌≡◌, ◌+◌, ◌-◌, ◌^◌, ◌<◌, sym, ◌∙◌, arith, subst}
 use Rattle.std.proofs.lemmas.Bool.{false≢true}
 use Rattle.std.specs.Int.{trailing_zeros, w64}
 use Rattle.modular_word.specs.Congruence.{Congruent}
 use Rattle.modular_word.proofs.Congruence.{mod_of_eq}
 use Rattle.modular_word.proofs.Powers.{pow-one}
 use Rattle.modular_transform.proofs.PowersOfTwo.{power_of_two_tested, power_by_zeros, exponent_above_zero}
-use Rattle.modular_transform.proofs.TransformLemmas.{root_more, suits_one, suits_tested}
+use Rattle.modular_transform.proofs.TransformLemmas.{root_more, suits_tested}
 use Rattle.modular_transform.proofs.transform.root_fits.Goals as goal
 
 pub returns-then-not-is_power_of_two : goal.returns-then-not-is_power_of_two
@@ -14,9 +14,6 @@ returns-then-not-is_power_of_two g c = (
   λ suits. absurd (false≢true (sym c.if-not-is_power_of_two.true ∙ c.is_power_of_two.ensures
       ∙ (power_of_two_tested c.args.n).1 suits.power_of_two)),
 )
-
-pub returns-then-n-eq1 : goal.returns-then-n-eq1
-returns-then-n-eq1 g c = (λ h. suits_one (let e : c.args.n ≡ 1 = omega arith in e), λ suits. refl)
 
 pub squares-init : goal.squares-init
 squares-init g c = record { form = c.requires; power = mod_of_eq (sym (pow-one _)) }

@@ -1,11 +1,7 @@
 use Rattle.std.proofs.Common.{◌≡◌, ◌-◌, ◌*◌, ◌^◌, ◌≤◌, ap, ◌∙◌, arith, refl}
-use Rattle.std.proofs.lemmas.Bool.{false≢true}
 use Rattle.std.proofs.lemmas.Nat.{pow_pos}
 use Rattle.modular_barrett.proofs.Quotients.{part}
 use Rattle.modular_barrett.proofs.planned.PlannedModulus.admits.Goals as goal
-
-pub overflow_sub-bits : goal.overflow_sub-bits
-overflow_sub-bits g c = omega (arith, c.bits.ensures, g.met.T.RingWord.width_from)
 
 pub shift_left-greatest-requires : goal.shift_left-greatest-requires
 shift_left-greatest-requires g c =
@@ -18,11 +14,6 @@ shift_left-greatest-requires g c =
     ap (λ v. v * 2 ^ (c.bits.result - 2)) c.one.ensures ∙ ap (λ v. 1 * 2 ^ v) e in
     let some = pow_pos (w - 2) in
     record { by = omega (arith, e, wide); fits = omega (arith, f, one, some) }
-
-pub returns-then-is_zero_word : goal.returns-then-is_zero_word
-returns-then-is_zero_word g c =
-    let zero = c.is_zero_word.ensures.zero.0 c.if-is_zero_word.true in
-    (λ h. absurd (false≢true h), λ h. absurd (let some = h.0 in omega (arith, zero, some)))
 
 pub returns-else-is_zero_word : goal.returns-else-is_zero_word
 returns-else-is_zero_word g c =

@@ -1,7 +1,6 @@
 use Rattle.std.proofs.Common.{◌*◌, ◌^◌, ◌<◌, ◌∙◌, ap, sym, subst, arith}
 use Rattle.std.proofs.lemmas.Nat.{pow_pos}
 use Rattle.std.proofs.Math.Nat.{mul-lt-mul_of_pos_right}
-use Rattle.modular_word.specs.Reciprocals.{IsReciprocal}
 use Rattle.modular_word.specs.Division.{IsDivision}
 use Rattle.modular_barrett.proofs.Quotients.{scaled_rest, scaled_below, divisor_fits}
 use Rattle.modular_barrett.proofs.planned.PlannedModulus.multiply.Goals as goal
@@ -17,12 +16,6 @@ shift_left-scaled-requires g c =
     let fits = divisor_fits self.reciprocal_is in
     let less = mul-lt-mul_of_pos_right c.requires (pow_pos self.shift) in
     record { by = self.shift_fits; fits = omega (arith, fits, less) }
-
-pub div_2by1-rest-requires-clause-reciprocal : goal.div_2by1-rest-requires-clause-reciprocal
-div_2by1-rest-requires-clause-reciprocal g c =
-    let self = c.args.self.now in
-    subst (λ d. IsReciprocal g.T.PathWord.base d (g.T.RingWord.number self.reciprocal))
-    (sym c.shift_left-divisor.ensures) self.reciprocal_is
 
 pub div_2by1-rest-requires-clause-high : goal.div_2by1-rest-requires-clause-high
 div_2by1-rest-requires-clause-high g c =

@@ -1,4 +1,4 @@
-use Rattle.std.proofs.Common.{subst, arith, refl}
+use Rattle.std.proofs.Common.{subst, arith}
 use Rattle.modular_word.specs.Reciprocals.{IsReciprocal}
 use Rattle.modular_prim.proofs.Scaled.{scaled_to_top}
 use Rattle.modular_barrett.proofs.planned.PlannedModulus.new.Goals as goal
@@ -29,6 +29,3 @@ invariant_of-result g c =
       reciprocal_is = subst (λ d. IsReciprocal g.T.PathWord.base d
           (g.T.RingWord.number c.invert_word-reciprocal.result)) c.shift_left.ensures c.invert_word-reciprocal.ensures;
     }
-
-pub returns : goal.returns
-returns g c = refl

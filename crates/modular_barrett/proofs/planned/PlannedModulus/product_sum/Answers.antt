@@ -1,8 +1,7 @@
-use Rattle.std.proofs.Common.{◌≡◌, ◌+◌, ◌-◌, ◌*◌, ◌%◌, ◌^◌, ◌<◌, ◌∙◌, ap, sym, subst, arith}
+use Rattle.std.proofs.Common.{◌≡◌, ◌+◌, ◌-◌, ◌*◌, ◌%◌, ◌^◌, ◌<◌, ◌∙◌, ap, sym, arith}
 use Rattle.std.proofs.lemmas.Nat.{pow_pos}
 use Rattle.std.proofs.Math.Nat.{mod-lt, mul-lt-mul_of_pos_right}
 use Rattle.modular_word.proofs.Congruence.{mod_of_multiple_left}
-use Rattle.modular_word.specs.Reciprocals.{IsReciprocal}
 use Rattle.modular_barrett.proofs.Quotients.{divisor_fits}
 use Rattle.modular_barrett.proofs.SumsOfProducts.{halved_shift, summand_fits, scaled_sum, rest_of_sum}
 use Rattle.modular_barrett.proofs.planned.PlannedModulus.product_sum.Goals as goal
@@ -12,11 +11,6 @@ pub shift_left-divisor-requires : goal.shift_left-divisor-requires
 shift_left-divisor-requires g c =
     let self = c.args.self.now in
     record { by = self.shift_fits; fits = divisor_fits self.reciprocal_is }
-
-pub overflow_sub-by : goal.overflow_sub-by
-overflow_sub-by g c =
-    let self = c.args.self.now in
-    (halved_shift (g.T.RingWord.number self.modulus) self.shift self.some self.room self.reciprocal_is).some
 
 pub shift_left-requires : goal.shift_left-requires
 shift_left-requires g c =
@@ -67,19 +61,10 @@ double_plus-sum-requires g c =
     let divisor = ap (λ v. v * b) c.shift_left-divisor.ensures in
     omega (arith, less, more, divisor)
 
-pub div_2by1-rest-requires-clause-reciprocal : goal.div_2by1-rest-requires-clause-reciprocal
-div_2by1-rest-requires-clause-reciprocal g c =
-    let self = c.args.self.now in
-    subst (λ d. IsReciprocal g.T.PathWord.base d (g.T.RingWord.number self.reciprocal))
-    (sym c.shift_left-divisor.ensures) self.reciprocal_is
-
 pub div_2by1-rest-requires-clause-high : goal.div_2by1-rest-requires-clause-high
 div_2by1-rest-requires-clause-high g c =
     let less = summands g (goal.at.div_2by1-rest-requires-clause-high g c).After-product-2 in
     omega (arith, less, c.double_plus-sum.ensures)
-
-pub shift_right-requires : goal.shift_right-requires
-shift_right-requires g c = omega (arith, c.args.self.now.shift_fits)
 
 -- the rest modulo 2m
 rest : (g : _) (c : After-shift_right g)

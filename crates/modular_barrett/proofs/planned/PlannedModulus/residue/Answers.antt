@@ -1,12 +1,6 @@
-use Rattle.std.proofs.Common.{◌%◌, ◌∙◌, ap, arith}
+use Rattle.std.proofs.Common.{◌%◌, ◌∙◌, ap}
 use Rattle.modular_word.proofs.Congruence.{mod_of_multiple_left}
 use Rattle.modular_barrett.proofs.planned.PlannedModulus.residue.Goals as goal
-
-pub reduced-requires-clause-below : goal.reduced-requires-clause-below
-reduced-requires-clause-below g c = omega (arith, c.requires, c.twice.ensures)
-
-pub reduced-requires-2-clause-below : goal.reduced-requires-2-clause-below
-reduced-requires-2-clause-below g c = omega (arith, c.twice.ensures, c.reduced.ensures.below)
 
 pub returns : goal.returns
 returns g c =

@@ -1,13 +1,7 @@
 use Rattle.modular_reduced.proofs.FormLemmas.{answered}
 use Rattle.modular_barrett.specs.ScaledForms.{scaled_canonical}
-use Rattle.modular_barrett.proofs.ScaledLemmas.{form_below, sum_stands}
+use Rattle.modular_barrett.proofs.ScaledLemmas.{sum_stands}
 use Rattle.modular_barrett.proofs.premul.PreMulInv2by1Reducer.add.Goals as goal
-
-pub add_below-requires-clause-left : goal.add_below-requires-clause-left
-add_below-requires-clause-left g c = form_below _ _ _ _ c.divisor.ensures.scaled c.requires.left
-
-pub add_below-requires-clause-right : goal.add_below-requires-clause-right
-add_below-requires-clause-right g c = form_below _ _ _ _ c.divisor.ensures.scaled c.requires.right
 
 pub returns : goal.returns
 returns g c =

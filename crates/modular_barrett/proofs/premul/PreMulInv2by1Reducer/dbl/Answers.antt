@@ -1,10 +1,7 @@
 use Rattle.modular_reduced.proofs.FormLemmas.{answered}
 use Rattle.modular_barrett.specs.ScaledForms.{scaled_canonical}
-use Rattle.modular_barrett.proofs.ScaledLemmas.{form_below, double_stands}
+use Rattle.modular_barrett.proofs.ScaledLemmas.{double_stands}
 use Rattle.modular_barrett.proofs.premul.PreMulInv2by1Reducer.dbl.Goals as goal
-
-pub dbl_below_stored-requires : goal.dbl_below_stored-requires
-dbl_below_stored-requires g c = form_below _ _ _ _ c.divisor.ensures.scaled c.requires
 
 pub returns : goal.returns
 returns g c =

@@ -1,16 +1,8 @@
-use Rattle.std.proofs.Common.{Some, None, arith}
+use Rattle.std.proofs.Common.{Some, None}
 use Rattle.modular_reduced.proofs.FormLemmas.{inverse_answered}
 use Rattle.modular_barrett.specs.ScaledForms.{scaled_canonical}
-use Rattle.modular_barrett.proofs.ScaledLemmas.{below_fits, inverse_stands, no_inverse_stands}
+use Rattle.modular_barrett.proofs.ScaledLemmas.{inverse_stands, no_inverse_stands}
 use Rattle.modular_barrett.proofs.premul.PreMulInv2by1Reducer.inv.Goals as goal
-
-pub fast_inverse-requires : goal.fast_inverse-requires
-fast_inverse-requires g c = omega (arith, c.modulus.ensures, c.args.self.now.scaling.positive)
-
-pub shift_left-requires-clause-fits : goal.shift_left-requires-clause-fits
-shift_left-requires-clause-fits g c =
-    below_fits _ _ _ _ _ _ _ g.met.T.PathWord.base_is c.args.self.now.scaling c.modulus.ensures
-    c.in_ok-inverse.ensures.below
 
 pub returns : goal.returns
 returns g c =

@@ -1,10 +1,7 @@
 use Rattle.modular_reduced.proofs.FormLemmas.{answered}
 use Rattle.modular_barrett.specs.ScaledForms.{scaled_canonical}
-use Rattle.modular_barrett.proofs.ScaledLemmas.{form_below, negative_stands}
+use Rattle.modular_barrett.proofs.ScaledLemmas.{negative_stands}
 use Rattle.modular_barrett.proofs.premul.PreMulInv2by1Reducer.neg.Goals as goal
-
-pub neg_below-requires : goal.neg_below-requires
-neg_below-requires g c = form_below _ _ _ _ c.divisor.ensures.scaled c.requires
 
 pub returns : goal.returns
 returns g c =

@@ -1,20 +1,10 @@
 use Rattle.std.proofs.Common.{arith}
 use Rattle.modular_folds.specs.SolinasLaws.{power_fits, trinomial_positive}
-use Rattle.modular_folds.proofs.TrinomialSteps.{term_read, range_passed}
+use Rattle.modular_folds.proofs.TrinomialSteps.{term_read}
 use Rattle.modular_folds.proofs.solinas.FoldRing+T+TrinomialModulus+T+F.factor.Goals as goal
-
-pub factor_of-requires : goal.factor_of-requires
-factor_of-requires g c =
-    range_passed c.p1.ensures c.p2.ensures (term_read c.k.result c.k.type_inv c.k.ensures)
-    g.met.T.TrinomialWord.narrow c.requires
 
 pub word_of-requires : goal.word_of-requires
 word_of-requires g c =
     let term = term_read c.k.result c.k.type_inv c.k.ensures in
     let whole = rw (c.p1.ensures, c.p2.ensures, term) at c.factor_of.ensures in
     omega (arith, g.met.T.PathWord.base_is, power_fits c.requires, trinomial_positive c.requires, whole)
-
-pub returns : goal.returns
-returns g c =
-    let term = term_read c.k.result c.k.type_inv c.k.ensures in
-    rw c.word_of.ensures (rw (c.p1.ensures, c.p2.ensures, term) at c.factor_of.ensures)

@@ -1,12 +1,7 @@
 use Rattle.std.proofs.Common.{arith, pos, ap, ◌∙◌}
 use Rattle.modular_folds.specs.SolinasLaws.{trinomial_fits, trinomial_is}
-use Rattle.modular_folds.proofs.TrinomialSteps.{term_read, range_passed}
+use Rattle.modular_folds.proofs.TrinomialSteps.{term_read}
 use Rattle.modular_folds.proofs.solinas.FoldRing+T+TrinomialModulus+T+F.fixed_modulus.Goals as goal
-
-pub modulus_of-requires : goal.modulus_of-requires
-modulus_of-requires g c =
-    range_passed c.p1-2.ensures c.p2-2.ensures (term_read c.k-2.result c.k-2.type_inv c.k-2.ensures)
-    g.met.T.TrinomialWord.narrow c.requires
 
 pub word_of-requires : goal.word_of-requires
 word_of-requires g c =

@@ -1,14 +1,8 @@
-use Rattle.std.proofs.Common.{◌%◌, ◌∙◌, ap}
 use Rattle.modular_folds.specs.Solinas.{IsLowTrinomial}
 use Rattle.modular_folds.specs.SolinasLaws.{trinomial_folding}
-use Rattle.modular_folds.proofs.TrinomialSteps.{term_read, range_passed, low_passed}
+use Rattle.modular_folds.proofs.TrinomialSteps.{term_read, low_passed}
 use Rattle.modular_folds.proofs.solinas.FoldRing+T+TrinomialModulus+T+F.reduce_uncounted.Goals as goal
 use Rattle.modular_folds.proofs.solinas.FoldRing+T+TrinomialModulus+T+F.reduce_uncounted.Goals.{After-p1-else-is_low}
-
-pub is_low-requires : goal.is_low-requires
-is_low-requires g c =
-    range_passed c.p1.ensures c.p2.ensures (term_read c.k.result c.k.type_inv c.k.ensures)
-    g.met.T.TrinomialWord.narrow c.requires
 
 -- the modulus isn't low where the folds are
 high : (g : _) (c : After-p1-else-is_low g) → ¬ IsLowTrinomial g.F.Trinomial.p1 g.F.Trinomial.p2 g.F.Trinomial.k
@@ -21,8 +15,3 @@ pub reduce_double_word-requires : goal.reduce_double_word-requires
 reduce_double_word-requires g c =
     let d = (goal.at.reduce_double_word-requires g c).After-p1-else-is_low in
     trinomial_folding c.requires _ _ _ (high g d) c.p1-else-is_low.ensures c.factor.ensures c.fixed_modulus.ensures.value
-
-pub returns-else-is_low : goal.returns-else-is_low
-returns-else-is_low g c =
-    c.reduce_double_word.ensures
-    ∙ ap (λ m. g.T.PathWord.double_number c.args.v % m) c.fixed_modulus.ensures.value

@@ -1,11 +1,6 @@
 use Rattle.modular_folds.specs.SolinasLaws.{trinomial_folding}
-use Rattle.modular_folds.proofs.TrinomialSteps.{term_read, range_passed, low_passed}
+use Rattle.modular_folds.proofs.TrinomialSteps.{term_read, low_passed}
 use Rattle.modular_folds.proofs.solinas.TrinomialModulusFoldModulus.product.Goals as goal
-
-pub is_low-requires : goal.is_low-requires
-is_low-requires g c =
-    range_passed c.p1.ensures c.p2.ensures (term_read c.k.result c.k.type_inv c.k.ensures)
-    g.met.T.TrinomialWord.narrow c.args.self.now.range
 
 pub reduce_product-requires-clause-folding : goal.reduce_product-requires-clause-folding
 reduce_product-requires-clause-folding g c =

@@ -3,7 +3,6 @@ use Rattle.modular_word.specs.Sums.{sum_below}
 use Rattle.modular_reduced.specs.Entries.{entry}
 use Rattle.modular_reduced.specs.EntryLaws.{entry_read}
 use Rattle.modular_reduced.specs.Values.{sum_of_products}
-use Rattle.modular_reduced.proofs.FormLemmas.{form_as}
 use Rattle.modular_reduced.proofs.ListProducts.{products_none, products_more}
 use Rattle.modular_reduced.proofs.ListProducts.{number_checked, products_of_numbers}
 use Rattle.modular_monty.specs.Montgomery.{montgomery_value}
@@ -62,9 +61,6 @@ products-init g c = record {
   value = products_none _ _ _ c.requires.sum.below;
 }
 
-pub add-total-requires-clause-left : goal.add-total-requires-clause-left
-add-total-requires-clause-left g c = c.products.invariant.form
-
 pub products-preserved : goal.products-preserved
 products-preserved g c =
     let number = g.T.RingWord.number in let value = two_part_value g.T.RingWord.width in
@@ -86,9 +82,3 @@ returns-clause-value g c =
     let x = entry number value m c.args.xs.now in let y = entry number value m c.args.ys.now in
     let all : c.products.i ≡ length c.args.xs.now = omega arith in
     c.products.invariant.value ∙ ap (λ n. (value m (number c.args.sum) + sum_below n (λ k. x k * y k)) % m) all
-
-pub returns-clause-form : goal.returns-clause-form
-returns-clause-form g c = form_as c.products.invariant.form (returns-clause-value g c)
-
-pub returns-clause-checked : goal.returns-clause-checked
-returns-clause-checked g c = c.products.invariant.form

@@ -1,6 +1,6 @@
 use Rattle.modular_monty.proofs.MontgomerySteps as odd
 use Rattle.modular_monty.proofs.MontgomerySteps.{form_below}
-use Rattle.modular_monty.proofs.TwoPartSteps.{double_made, odd_double_made, high_checked, all_high}
+use Rattle.modular_monty.proofs.TwoPartSteps.{odd_double_made, high_checked, all_high}
 use Rattle.modular_monty.proofs.montgomery.MontgomeryReducer.dbl.Goals as goal
 
 pub dbl_below_stored-requires : goal.dbl_below_stored-requires
@@ -14,6 +14,3 @@ returns-then-self-eq0 g c =
     let none = c.if-self-eq0.true in
     let made = odd.double_made r.odd (high_checked r c.requires (all_high _ _ none)) c.dbl_below_stored.ensures.value in
     odd_double_made r none c.requires made.form
-
-pub returns : goal.returns
-returns g c = double_made c.args.self.now.ring (g.T.RingWord.number c.args.f) c.add.ensures

@@ -17,12 +17,3 @@ returns-then-self-eq0 g c =
     difference_product_made c.args.self.now.ring 0 c.requires.left c.requires.right c.requires.factor
     (all_high _ _ none) (all_high _ _ none) (all_high _ _ none)
     c.mul_difference.ensures.form (none_low _ _ _ none) (one_part _ _ _ none)
-
-pub returns-clause-form : goal.returns-clause-form
-returns-clause-form g c = rw c.sub-difference.ensures.value at c.mul.ensures.form
-
-pub returns-clause-checked : goal.returns-clause-checked
-returns-clause-checked g c = c.mul.ensures.checked
-
-pub returns-clause-value : goal.returns-clause-value
-returns-clause-value g c = rw c.sub-difference.ensures.value at c.mul.ensures.value

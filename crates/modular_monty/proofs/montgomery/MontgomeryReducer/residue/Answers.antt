@@ -1,5 +1,5 @@
 use Rattle.std.proofs.Common.{◌+◌, ap, ◌∙◌}
-use Rattle.modular_monty.proofs.TwoPartSteps.{value_made, odd_value_made, steps_fit, turns_fit, low_word, high_checked, all_high}
+use Rattle.modular_monty.proofs.TwoPartSteps.{value_made, odd_value_made, turns_fit, low_word, high_checked, all_high}
 use Rattle.modular_monty.proofs.montgomery.MontgomeryReducer.residue.Goals as goal
 
 pub residue-requires : goal.residue-requires
@@ -20,17 +20,3 @@ returns g c =
     value_made r _ c.high.ensures.value c.residue-value.ensures.form c.wrapping_sub-behind.ensures.value
     (c.low_bits-steps.ensures.value ∙ low_word r _ c.wrapping_mul.ensures.value)
     (c.plus.ensures ∙ ap (λ p. n c.residue-value.result + p) c.times.ensures)
-
-pub high-requires : goal.high-requires
-high-requires g c = c.requires
-
-pub residue-value-requires : goal.residue-value-requires
-residue-value-requires g c = c.high.ensures.form
-
-pub low_bits-steps-requires : goal.low_bits-steps-requires
-low_bits-steps-requires g c = c.args.self.now.ring.few
-
-pub times-requires : goal.times-requires
-times-requires g c =
-    let r = c.args.self.now.ring in
-    steps_fit r _ c.residue-value.ensures.form.below c.low_bits-steps.ensures.value

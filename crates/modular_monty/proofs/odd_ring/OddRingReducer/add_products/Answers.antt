@@ -23,9 +23,6 @@ each_block-init g c =
       within = omega arith;
     }
 
-pub add_below-total-requires-clause-left : goal.add_below-total-requires-clause-left
-add_below-total-requires-clause-left g c = rw c.modulus.ensures c.each_block.invariant.below
-
 pub reduced_products-reduced-requires-clause-below_xs : goal.reduced_products-reduced-requires-clause-below_xs
 reduced_products-reduced-requires-clause-below_xs g c =
     let w = g.T.RingWord.width in

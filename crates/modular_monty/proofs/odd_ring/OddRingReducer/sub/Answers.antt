@@ -1,10 +1,5 @@
-use Rattle.modular_monty.proofs.MontgomerySteps.{difference_made, form_below}
+use Rattle.modular_monty.proofs.MontgomerySteps.{difference_made}
 use Rattle.modular_monty.proofs.odd_ring.OddRingReducer.sub.Goals as goal
-
-pub sub_below-requires : goal.sub_below-requires
-sub_below-requires g c =
-    let r = g.met.M.OddModulus.is_odd_ring c.args.self.now.kept in
-    rw c.modulus.ensures (record { left = form_below r c.requires.left; right = form_below r c.requires.right })
 
 pub returns : goal.returns
 returns g c = difference_made (g.met.M.OddModulus.is_odd_ring c.args.self.now.kept) c.requires.left c.requires.right

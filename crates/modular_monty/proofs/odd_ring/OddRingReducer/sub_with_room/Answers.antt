@@ -1,11 +1,5 @@
-use Rattle.std.proofs.Common.{arith}
-use Rattle.modular_monty.proofs.MontgomerySteps.{difference_made, form_below}
+use Rattle.modular_monty.proofs.MontgomerySteps.{difference_made}
 use Rattle.modular_monty.proofs.odd_ring.OddRingReducer.sub_with_room.Goals as goal
-
-pub difference_by_sign-requires : goal.difference_by_sign-requires
-difference_by_sign-requires g c =
-    let r = g.met.M.OddModulus.is_odd_ring c.args.self.now.kept in
-    rw c.modulus.ensures (record { left = form_below r c.requires.left; right = form_below r c.requires.right; room = omega (arith, c.requires.room) })
 
 pub returns : goal.returns
 returns g c = difference_made (g.met.M.OddModulus.is_odd_ring c.args.self.now.kept) c.requires.left c.requires.right

@@ -17,22 +17,3 @@ returns g c = record {
       });
   below = record { first = c.pair-a.ensures.below; second = c.pair-b.ensures.below; third = c.pair-a.ensures.product_below; fourth = c.pair-b.ensures.product_below };
 }
-
-pub pair-e-requires : goal.pair-e-requires
-pair-e-requires g c =
-    record { below = c.requires.below.first; other_below = c.requires.below.second; factor = c.requires.factors.low }
-
-pub pair-g-requires : goal.pair-g-requires
-pair-g-requires g c =
-    record { below = c.requires.below.third; other_below = c.requires.below.fourth; factor = c.requires.factors.high }
-
-pub pair-a-requires : goal.pair-a-requires
-pair-a-requires g c =
-    record { below = c.pair-e.ensures.below; other_below = c.pair-g.ensures.below; factor = c.requires.factors.whole }
-
-pub pair-b-requires : goal.pair-b-requires
-pair-b-requires g c = record {
-  below = c.pair-e.ensures.product_below;
-  other_below = c.pair-g.ensures.product_below;
-  factor = c.requires.factors.whole;
-}

@@ -37,11 +37,3 @@ returns-clause-four g c =
       first = c.scaled_pair-a.ensures.pair;
       second = c.scaled_pair-b.ensures.pair;
     }
-
-pub returns-clause-below : goal.returns-clause-below
-returns-clause-below g c = record {
-  first = c.scaled_pair-a.ensures.below;
-  second = c.scaled_pair-b.ensures.below;
-  third = c.scaled_pair-a.ensures.difference_below;
-  fourth = c.scaled_pair-b.ensures.difference_below;
-}

@@ -2,9 +2,6 @@ use Rattle.modular_plan_passes.proofs.Bounds.{multiple_is_none, reduced_by_multi
 use Rattle.modular_plan_passes.proofs.JoinedPairs.{joined_pair_reduced}
 use Rattle.modular_plan_passes.proofs.join_steps.PlannedModulusJoinSteps.pair.Goals as goal
 
-pub gather-sum-requires-clause-multiple : goal.gather-sum-requires-clause-multiple
-gather-sum-requires-clause-multiple g c = multiple_is_none 2 _ c.twice-twice.ensures
-
 pub returns-clause-pair : goal.returns-clause-pair
 returns-clause-pair g c =
     let bound = g.T.RingWord.number c.twice-twice.result in

@@ -1,14 +1,6 @@
 use Rattle.modular_plan_passes.proofs.TwoJoins.{joined_four_along}
 use Rattle.modular_plan_passes.proofs.pass_joins.JoinLoweredFourStep.four.Goals as goal
 
-pub four-requires : goal.four-requires
-four-requires g c = record {
-  first = c.lowered-a.ensures.below;
-  second = c.lowered-b.ensures.below;
-  third = c.lowered-c.ensures.below;
-  fourth = c.lowered-d.ensures.below;
-}
-
 pub returns : goal.returns
 returns g c = record {
   below = c.four.ensures.below;

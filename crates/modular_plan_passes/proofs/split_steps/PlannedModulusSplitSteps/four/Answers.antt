@@ -2,18 +2,6 @@ use Rattle.std.proofs.Common.{refl}
 use Rattle.modular_plan_passes.proofs.Fours.{four_of_pairs}
 use Rattle.modular_plan_passes.proofs.split_steps.PlannedModulusSplitSteps.four.Goals as goal
 
-pub pair-e-requires : goal.pair-e-requires
-pair-e-requires g c = record { below = c.requires.below.0; factor = c.requires.factors.whole }
-
-pub pair-f-requires : goal.pair-f-requires
-pair-f-requires g c = record { below = c.requires.below.1; factor = c.requires.factors.whole }
-
-pub pair-a-requires : goal.pair-a-requires
-pair-a-requires g c = record { below = c.pair-e.ensures.below; factor = c.requires.factors.low }
-
-pub pair-c-requires : goal.pair-c-requires
-pair-c-requires g c = record { below = c.pair-e.ensures.difference_below; factor = c.requires.factors.high }
-
 pub returns : goal.returns
 returns g c =
     let n = g.T.RingWord.number in

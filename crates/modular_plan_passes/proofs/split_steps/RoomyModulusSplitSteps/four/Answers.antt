@@ -20,36 +20,3 @@ returns g c = record {
       four_of_pairs w (n c.args.u.now.value) (n c.args.v.now.value) refl refl refl refl
       outer c.spread-f.ensures.pair c.spread-a.ensures.pair c.spread-c.ensures.pair);
 }
-
-pub spread-e-requires : goal.spread-e-requires
-spread-e-requires g c =
-    let room = c.args.self.now.room in
-    let some = c.args.self.now.planned.some in
-    let x = c.reduced.ensures.below in
-    let eight = c.eightfold.ensures in
-    record { room = omega (arith, room, some, x, eight); factor = c.requires.factors.whole }
-
-pub spread-f-requires : goal.spread-f-requires
-spread-f-requires g c =
-    let room = c.args.self.now.room in
-    let some = c.args.self.now.planned.some in
-    let y = c.requires.below.1 in
-    record { room = omega (arith, room, some, y); factor = c.requires.factors.whole }
-
-pub spread-a-requires : goal.spread-a-requires
-spread-a-requires g c =
-    let room = c.args.self.now.room in
-    let some = c.args.self.now.planned.some in
-    let x = c.reduced.ensures.below in
-    let eight = c.eightfold.ensures in
-    let e = c.spread-e.ensures.below in
-    record { room = omega (arith, room, some, x, eight, e); factor = c.requires.factors.low }
-
-pub spread-c-requires : goal.spread-c-requires
-spread-c-requires g c =
-    let room = c.args.self.now.room in
-    let some = c.args.self.now.planned.some in
-    let x = c.reduced.ensures.below in
-    let eight = c.eightfold.ensures in
-    let e = c.spread-e.ensures.most in
-    record { room = omega (arith, room, some, x, eight, e); factor = c.requires.factors.high }

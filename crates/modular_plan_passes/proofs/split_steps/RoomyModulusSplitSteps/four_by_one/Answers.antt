@@ -1,4 +1,4 @@
-use Rattle.std.proofs.Common.{arith, refl}
+use Rattle.std.proofs.Common.{refl}
 use Rattle.modular_plan_passes.proofs.Steps.{pair_by_one, pair_up_to, reduced_by}
 use Rattle.modular_plan_passes.proofs.Fours.{four_of_pairs}
 use Rattle.modular_plan_passes.proofs.split_steps.RoomyModulusSplitSteps.four_by_one.Goals as goal
@@ -18,19 +18,3 @@ returns-clause-four g c =
     (reduced_by 8 (n low.result.1) _ _ c.reduced-2.ensures.value eight)
     (pair_by_one 8 _ _ _ _ _ eight low.ensures.sum low.ensures.difference))
     c.spread-c.ensures.pair
-
-pub sum_and_difference-e-requires : goal.sum_and_difference-e-requires
-sum_and_difference-e-requires g c =
-    let room = c.args.self.now.room in
-    let four = c.fourfold-fourfold.ensures in
-    let x = c.requires.below.first in
-    let z = c.requires.below.third in
-    record { most = omega (arith, four, z); room = omega (arith, room, four, x) }
-
-pub sum_and_difference-f-requires : goal.sum_and_difference-f-requires
-sum_and_difference-f-requires g c =
-    let room = c.args.self.now.room in
-    let four = c.fourfold-fourfold.ensures in
-    let y = c.requires.below.second in
-    let t = c.requires.below.fourth in
-    record { most = omega (arith, four, t); room = omega (arith, room, four, y) }

@@ -2,7 +2,6 @@ use Rattle.std.proofs.Common.{◌≡◌, ◌+◌, ◌*◌, ◌%◌, ◌<◌, len
 use Rattle.modular_word.specs.Sums.{sum_below}
 use Rattle.modular_reduced.specs.Entries.{entry}
 use Rattle.modular_reduced.specs.EntryLaws.{entry_read}
-use Rattle.modular_reduced.proofs.FormLemmas.{form_as}
 use Rattle.modular_reduced.proofs.ListProducts.{products_none, products_more}
 use Rattle.modular_reduced.proofs.reducer.Reducer.add_products.Goals as goal
 
@@ -11,9 +10,6 @@ products-init g c = record {
   form = c.requires.sum;
   value = products_none (g.Self.Reducer.modulus c.args.self.now) _ _ c.requires.sum.below;
 }
-
-pub add-total-requires-clause-left : goal.add-total-requires-clause-left
-add-total-requires-clause-left g c = c.products.invariant.form
 
 pub products-preserved : goal.products-preserved
 products-preserved g c =
@@ -36,9 +32,3 @@ returns-clause-value g c =
     let all : c.products.i ≡ length c.args.xs.now = omega arith in
     c.products.invariant.value
     ∙ ap (λ n. (ring.value m (number c.args.sum) + sum_below n (λ k. x k * y k)) % m) all
-
-pub returns-clause-form : goal.returns-clause-form
-returns-clause-form g c = form_as c.products.invariant.form (returns-clause-value g c)
-
-pub returns-clause-checked : goal.returns-clause-checked
-returns-clause-checked g c = c.products.invariant.form

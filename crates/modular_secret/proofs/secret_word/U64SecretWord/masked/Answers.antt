@@ -1,9 +1,6 @@
 use Rattle.std.proofs.Common.{arith}
-use Rattle.modular_secret.proofs.Masks.{and_all, and_none}
+use Rattle.modular_secret.proofs.Masks.{and_all}
 use Rattle.modular_secret.proofs.secret_word.U64SecretWord.masked.Goals as goal
 
 pub returns-clause-all : goal.returns-clause-all
 returns-clause-all c all = and_all 64 c.args.self c.args.mask (omega arith) all
-
-pub returns-clause-none : goal.returns-clause-none
-returns-clause-none c none = and_none c.args.self c.args.mask none

@@ -1,8 +1,0 @@
-use Rattle.std.proofs.Math.Nat.{mod-lt}
-use Rattle.modular_reduced.proofs.FormLemmas.{answered}
-use Rattle.modular_folds.proofs.rings.FoldRingReducer.transform.Goals as goal
-
-pub returns : goal.returns
-returns g c =
-    let canonical = g.met.M.FoldModulus.canonical c.args.self.now.kept in
-    answered canonical (record { below = mod-lt _ canonical.positive; same = c.reduced.ensures })

@@ -1,4 +1,0 @@
-use Rattle.modular_monty.proofs.odd_ring.redc_below.Goals as goal
-
-pub returns : goal.returns
-returns g c = c.reduced_factor.ensures.reduction

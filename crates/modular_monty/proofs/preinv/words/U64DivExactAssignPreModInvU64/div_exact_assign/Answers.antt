@@ -1,4 +1,0 @@
-use Rattle.modular_monty.proofs.preinv.words.U64DivExactAssignPreModInvU64.div_exact_assign.Goals as goal
-
-pub returns : goal.returns
-returns c = c.assign_exact.ensures
