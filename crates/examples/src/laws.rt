@@ -1,5 +1,7 @@
 //! Calls of the laws of `num_modular::laws` on whole numbers, symbols and counts, from a crate that lists only the
-//! root. A clause of each law on numbers, and of two on symbols, is cited.
+//! root.
+//!
+//! A clause of each law on numbers, and of two on symbols, is cited.
 
 ghost use Rattle.num_modular.specs.Congruence.{Congruent};
 ghost use Rattle.num_modular.specs.Divisors.{Coprime};

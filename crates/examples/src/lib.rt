@@ -1,4 +1,6 @@
-//! The examples of README and docs/, and more of their kind. Each names `num_modular` alone.
+//! The examples of README and docs/, and more of their kind.
+//!
+//! Each names `num_modular` alone.
 #![tactic(auto)]
 
 pub mod any_reducer;

@@ -10,9 +10,10 @@ use num_modular::Reducer;
 use num_modular::laws::coefficient_laws;
 use num_modular::ring::{convolve, load_forms, unload_forms};
 
-/// Writes the coefficients of the product of the polynomials xs and ys to `product`, the lowest first. The scratch
-/// lists have unspecified contents afterwards. Returns false, with `product` unchanged, exactly where the length n
-/// of the scratch lists has no inverse modulo m.
+/// Writes the coefficients of the product of the polynomials xs and ys to `product`, the lowest first.
+///
+/// The scratch lists have unspecified contents afterwards. Returns false, with `product` unchanged, exactly where the
+/// length n of the scratch lists has no inverse modulo m.
 ///
 /// # Preconditions
 ///

@@ -118,7 +118,7 @@ impl Ring {
     ///
     /// # Conditions
     ///
-    /// - (debug) the coefficients are residues (`are_residues` tells)
+    /// - (debug) the coefficients are residues ([`are_residues`] tells)
     ///
     /// # Examples
     ///

@@ -10,8 +10,10 @@ use crate::reciprocal::{reciprocal_of, remainder};
 // rust instead: use crate::PreMulInv2by1;
 use num_modular::{PreMulInv2by1, Reducer};
 
-/// The least number of the three primes whose product is above terms·x·y: no sum of so many products is greater,
-/// where each has a factor that is at most x and one that is at most y. Three primes suffice.
+/// The least number of the three primes whose product is above terms·x·y: no sum of so many products is greater, where
+/// each has a factor that is at most x and one that is at most y.
+///
+/// Three primes suffice.
 ///
 /// # Preconditions
 ///

@@ -1,5 +1,6 @@
-//! Reciprocals as const functions, for divisors that are known at compile time. Only the Cargo crate calls these eight,
-//! in `rust/additions.rs`, where `new` is a const function.
+//! Reciprocals as const functions, for divisors that are known at compile time.
+//!
+//! Only the Cargo crate calls these eight, in `rust/additions.rs`, where `new` is a const function.
 
 ghost use Rattle.std.specs.Prelude.{◌*◌, ◌^◌, ◌<◌, ◌≤◌};
 ghost use Rattle.modular_word.specs.Reciprocals.{IsMultiplier, IsReciprocal};

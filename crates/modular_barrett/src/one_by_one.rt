@@ -17,7 +17,9 @@ pub trait FitsDivisor {
     ghost fits: { Self → ℕ → Type 0 };
 }
 
-/// The multiplier and the shift of a divisor. The divisor itself isn't stored; the caller passes it to each call.
+/// The multiplier and the shift of a divisor.
+///
+/// The divisor itself isn't stored; the caller passes it to each call.
 ///
 /// Source: Granlund and Montgomery, "Division by invariant integers using multiplication", section 4.
 ///
@@ -82,8 +84,10 @@ impl<T: PathWord> PreMulInv1by1<T> {
 }
 
 impl<T: PlainWord> PreMulInv1by1<T> {
-    /// The multiplier and the shift of d. With n the least number such that d is at most 2^n, and B the base, the
-    /// multiplier is B·(2^n - d)/d, rounded down, plus 1, and the shift is n - 1.
+    /// The multiplier and the shift of d.
+    ///
+    /// With n the least number such that d is at most 2^n, and B the base, the multiplier is B·(2^n - d)/d, rounded
+    /// down, plus 1, and the shift is n - 1.
     ///
     /// In the Cargo crate this is `of`, for any word type; `new` is the same for a known one.
     ///

@@ -1,5 +1,6 @@
-//! Folds at bits above p, each of which replaces many folds at p. Moduli just above a half or three quarters of 2^p
-//! would need p / 2 folds at p or more for a product.
+//! Folds at bits above p, each of which replaces many folds at p.
+//!
+//! Moduli just above a half or three quarters of 2^p would need p / 2 folds at p or more for a product.
 
 ghost use Rattle.std.specs.Prelude.{◌≡◌, ◌+◌, ◌*◌, ◌/◌, ◌%◌, ◌^◌, ◌<◌, ◌≤◌, IsTrue};
 ghost use Rattle.modular_folds.specs.Folds.{IsFolding};

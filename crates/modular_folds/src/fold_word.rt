@@ -1,5 +1,6 @@
-//! The operations of a dividend that folds use. There is no division and no remainder, so code over this trait
-//! alone makes none.
+//! The operations of a dividend that folds use.
+//!
+//! There is no division and no remainder, so code over this trait alone makes none.
 
 ghost use Rattle.std.specs.Prelude.{◌≡◌, ℕ, ◌+◌, ◌-◌, ◌*◌, ◌/◌, ◌%◌, ◌^◌, ◌<◌, ◌≤◌, ◌↔◌, IsTrue, bit_and};
 

@@ -91,8 +91,9 @@ pub(crate) fn fold_on<V: FoldWord>(v: V, p: u32, mask: V, c: V, m: V) -> (V, u32
     (rest, count)
 }
 
-/// A number below 2^p that is congruent to v modulo m, and the number of folds that led to it. Where c is small and
-/// v is below 2^(2p), the folds are unrolled, without comparisons.
+/// A number below 2^p that is congruent to v modulo m, and the number of folds that led to it.
+///
+/// Where c is small and v is below 2^(2p), the folds are unrolled, without comparisons.
 ///
 /// # Preconditions
 ///
@@ -333,7 +334,7 @@ pub trait FoldedWord: PathWord {
         requires { IsFolding Self.width p (Self.number c) (Self.number m) }
         ensures { Self.number result ≡ Self.double_number v % Self.number m };
 
-    /// Whether `reduce_in_line` reduces a double word, and takes less time than folds with comparisons.
+    /// Whether [`reduce_in_line`] reduces a double word, and takes less time than folds with comparisons.
     ///
     /// # Preconditions
     ///
@@ -545,8 +546,10 @@ pub fn reduce_double_word<T: FoldedWord>(v: T::Double, p: u32, c: T, m: T) -> T
     }
 }
 
-/// Folds: a number below 2^p takes none. Where c is below 2^p and v = hi·2^p + lo isn't, v takes one fold more than
-/// hi·c + lo. Where c is less than half of 2^p, the number of folds is bounded by `IsFewFolds`.
+/// Folds: a number below 2^p takes none.
+///
+/// Where c is below 2^p and v = hi·2^p + lo isn't, v takes one fold more than hi·c + lo. Where c is less than half of
+/// 2^p, the number of folds is bounded by `IsFewFolds`.
 pub fn fold_laws()
     ensures none { (p c v : ℕ) → v < 2 ^ p → folds p c v ≡ 0 }
     ensures next { (p c hi lo : ℕ) → c < 2 ^ p → lo < 2 ^ p → 0 < hi

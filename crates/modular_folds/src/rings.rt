@@ -15,7 +15,9 @@ use modular_word::ring_word::RingWord;
 use std::marker::PhantomData;
 
 /// A modulus near a power of two: the parameters of the type give its value, and how words and products are reduced by
-/// it. A value of the type exists only for parameters in range.
+/// it.
+///
+/// A value of the type exists only for parameters in range.
 ///
 /// # Examples
 ///
@@ -101,7 +103,9 @@ pub trait FoldModulus<T: FoldedWord>: Copy {
     ghost canonical: { (m : Self) → IsCanonical plain_form plain_value T.width (modulus m) };
 }
 
-/// The reducer of a `FoldModulus`: one near a power of two, over words T, with the value itself as the form of a value.
+/// The reducer of a [`FoldModulus`]: one near a power of two, over words T, with the value itself as the form of a
+/// value.
+///
 /// It stores nothing, and `new` accepts only the modulus of the parameters.
 ///
 /// # Examples

@@ -1,6 +1,7 @@
-//! What is precomputed of an odd modulus, as const functions for moduli that are known at compile time. They also
-//! accept even moduli, because a constant needs a value for each parameter. They take the words' width as an argument,
-//! since const functions can't call a trait's methods.
+//! What is precomputed of an odd modulus, as const functions for moduli that are known at compile time.
+//!
+//! They also accept even moduli, because a constant needs a value for each parameter. They take the words' width as an
+//! argument, since const functions can't call a trait's methods.
 
 ghost use Rattle.std.specs.Prelude.{◌≡◌, ℕ, ◌*◌, ◌%◌, ◌^◌, ◌<◌, ◌≤◌};
 ghost use Rattle.modular_word.specs.Reduction.{IsNegatedInverse};

@@ -7,8 +7,8 @@ ghost use Rattle.modular_monty.specs.TwoParts.{two_part_form, two_part_value, ev
 ghost use Rattle.modular_monty.specs.TwoParts.{IsComputedOnce, IsTwoPartRing};
 ghost use Rattle.modular_monty.specs.TwoPartLaws.{modulus_positive, two_part_canonical};
 
-// rust instead: use crate::modular_monty::odd_ring::{OddRing, StoredModulus, reduced_factor};
-use crate::odd_ring::{OddModulus, OddRing, StoredModulus, reduced_factor};
+use crate::odd_montgomery::OddMontgomery;
+use crate::odd_ring::{OddRing, StoredModulus, reduced_factor};
 use modular_prim::below::{add_below, dbl_below_stored};
 use modular_prim::reducer_word::ReducerWord;
 use modular_reduced::list_products::{multiply_by_factor, product_by_factor};
@@ -20,9 +20,11 @@ use modular_word::ring_word::RingWord;
 // rattle: line
 use std::alloc::AllocError;
 
-/// The reducer of any m, by Montgomery's representation: m is at least 1. With m = 2^s·k for odd k, and the base 2 to
-/// the width of the words, the form of v has two parts. Its lowest s bits are v modulo 2^s, and the bits above them are
-/// v times the base, modulo k. So for odd m the form is v times the base, modulo m.
+/// The reducer of any m, by Montgomery's representation: m is at least 1.
+///
+/// With m = 2^s·k for odd k, and the base 2 to the width of the words, the form of v has two parts. Its lowest s bits
+/// are v modulo 2^s, and the bits above them are v times the base, modulo k. So for odd m the form is v times the base,
+/// modulo m.
 ///
 /// A product of forms takes one product of words and one reduction, which divides by the base alone, and for even m
 /// one more wrapping product.
@@ -43,8 +45,8 @@ use std::alloc::AllocError;
 // rust instead: pub struct Montgomery<T> {
 pub struct Montgomery<T: ReducerWord> {
     // The ring modulo k.
-    // rust instead: pub(crate) odd: OddRing<T, StoredModulus<T>>,
-    odd: OddRing<T, StoredModulus<T>>,
+    // rust instead: pub(crate) odd: OddMontgomery<T>,
+    odd: OddMontgomery<T>,
     // The exponent s.
     // rust instead: pub(crate) twos: u32,
     twos: u32,
@@ -93,7 +95,8 @@ impl<T: ReducerWord> Montgomery<T> {
         // rust: assert!(!m.is_zero_word(), "the modulus must be at least 1");
         let twos = m.trailing_zeros();
         Montgomery {
-            odd: OddRing::new(&m.shift_right(twos)),
+            // rust instead: odd: OddMontgomery::of(m.shift_right(twos)),
+            odd: OddMontgomery::new(m.shift_right(twos)),
             twos,
         }
     }
@@ -117,7 +120,9 @@ impl<T: ReducerWord> Montgomery<T> {
     }
 
     /// The reducer of m by what `computed_once` returned: the two numbers for m; `None` exactly where m is 0 or a
-    /// number is wrong. It makes no division.
+    /// number is wrong.
+    ///
+    /// It makes no division.
     ///
     /// # Examples
     ///
@@ -325,8 +330,9 @@ impl<T: ReducerWord> Reducer<T> for Montgomery<T> {
     // rust: crate::additions::reducer_members!(T);
 }
 
-/// Montgomery's forms: the two parts of a modulus are an odd number and a power of two. For an odd modulus the form of
-/// a value is the value times the base, modulo m.
+/// Montgomery's forms: the two parts of a modulus are an odd number and a power of two.
+///
+/// For an odd modulus the form of a value is the value times the base, modulo m.
 pub fn form_laws<T: RingWord>()
     ensures whole { (m : ℕ) → 1 ≤ m → m < 2 ^ T.width → odd_part T.width m * even_part T.width m ≡ m }
     ensures odd { (m : ℕ) → 1 ≤ m → m < 2 ^ T.width → odd_part T.width m % 2 ≡ 1 }

@@ -23,7 +23,9 @@ use std::alloc::AllocError;
 use std::marker::PhantomData;
 
 /// An odd modulus with what is precomputed of it: its negated inverse modulo the base, and the square of the base
-/// modulo m. A type that knows its modulus needn't store it, and a modulus of a special form may be multiplied faster.
+/// modulo m.
+///
+/// A type that knows its modulus needn't store it, and a modulus of a special form may be multiplied faster.
 ///
 /// # Examples
 ///
@@ -278,8 +280,10 @@ fn is_square_of_base<T: PathWord>(m: T, negated_inverse: T, square: T) -> bool
     is_one(unit) || is_one(m)
 }
 
-/// Montgomery's reducer of an `OddModulus`: the form of v is v times the base modulo m, the base being 2 to the width
-/// of the words T. `new` accepts the moduli that M does.
+/// Montgomery's reducer of an [`OddModulus`]: the form of v is v times the base modulo m, the base being 2 to the width
+/// of the words T.
+///
+/// `new` accepts the moduli that M does.
 ///
 /// A product of forms takes one product of words and one reduction, which divides by the base alone.
 ///
@@ -428,8 +432,8 @@ impl<T: ReducerWord, M: OddModulus<T>> Reducer<T> for OddRing<T, M> {
 }
 
 /// An odd modulus that is known at run time, with what is precomputed of it.
+// rust instead: #[must_use]
 #[derive(Debug)]
-// rust: #[must_use]
 // rust instead: pub struct StoredModulus<T> {
 pub struct StoredModulus<T: PathWord> {
     /// The modulus m.
@@ -459,8 +463,10 @@ impl<T: PathWord> Clone for StoredModulus<T> {
 impl<T: PathWord> Copy for StoredModulus<T> {}
 
 impl<T: PathWord> StoredModulus<T> {
-    /// What is stored of m, given the two numbers that were precomputed of it earlier; `None` exactly where m is
-    /// even or one of the numbers is wrong. It makes no division.
+    /// What is stored of m, given the two numbers that were precomputed of it earlier; `None` exactly where m is even
+    /// or one of the numbers is wrong.
+    ///
+    /// It makes no division.
     pub fn restored(m: T, negated_inverse: T, square: T) -> Option<StoredModulus<T>>
         ensures { MatchOption result
             (IsOddRing T.width T.base (T.number m) (T.number negated_inverse) (T.number square) → ⊥)
@@ -492,6 +498,8 @@ impl<T: ReducerWord> OddModulus<T> for StoredModulus<T> {
 
     // rust: #[track_caller]
     fn keep(m: T) -> Self {
+        prove!(m.is_odd());
+        // rust: assert!(m.is_odd(), "the modulus must be odd");
         let (negated_inverse, square) = computed_once(m);
         StoredModulus {
             modulus: m,

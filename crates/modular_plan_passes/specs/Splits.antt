@@ -2,7 +2,7 @@
 -- Computational Frameworks for the Fast Fourier Transform, chapter 2), with one factor for each block (Bernstein,
 -- "Multidigit multiplication for mathematicians", section 2) and entries below a multiple of m (Harvey, "Faster
 -- arithmetic for number-theoretic transforms", section 3). The names are the library's own words.
-use Rattle.std.specs.Prelude.{◌≡◌, ℕ, ◌+◌, ◌*◌, ◌/◌, ◌<◌, ◌≤◌, List, All, length}
+use Rattle.std.specs.Prelude.{◌≡◌, ℕ, ◌+◌, ◌*◌, ◌<◌, ◌≤◌, List, All, length}
 use Rattle.modular_barrett.specs.Factors.{IsFactor, AllFactors}
 use Rattle.modular_barrett.specs.declared.planned.Factor.{Factor}
 use Rattle.modular_plan_passes.specs.Plans.{numbers}

@@ -19,9 +19,10 @@ pub trait Bounded<T: PlainWord> {
     fn greatest(&self) -> T
         ensures { T.number result + 1 ≡ limit self.now };
 
-    /// Whether a word of more than 32 bits is at least the limit; false for shorter words. A loop over entries returns
-    /// where this is true, which it never is: so compilers can't compute the loop's trip count, and don't vectorize
-    /// it. Vectors of words of more than 32 bits would be slower.
+    /// Whether a word of more than 32 bits is at least the limit; false for shorter words.
+    ///
+    /// A loop over entries returns where this is true, which it never is: so compilers can't compute the loop's trip
+    /// count, and don't vectorize it. Vectors of words of more than 32 bits would be slower.
     final fn is_beyond(&self, x: T) -> bool
         ensures { IsTrue result → limit self.now ≤ T.number x }
     {

@@ -7,7 +7,7 @@ use modular_word::path_word::PathWord;
 // rattle: line
 use modular_word::ring_word::RingWord;
 
-/// An entry of a table of factors: `Factor` itself, or another struct of two words, such as one with the layout of
+/// An entry of a table of factors: [`Factor`] itself, or another struct of two words, such as one with the layout of
 /// another language.
 ///
 /// # Examples

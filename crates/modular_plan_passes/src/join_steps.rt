@@ -17,8 +17,9 @@ use modular_word::path_word::PathWord;
 // rattle: line
 use modular_word::ring_word::RingWord;
 
-/// A modulus m by which pairs and fours of entries are joined. Between two passes the entries stay below a bound, a
-/// multiple of m.
+/// A modulus m by which pairs and fours of entries are joined.
+///
+/// Between two passes the entries stay below a bound, a multiple of m.
 pub trait JoinSteps<T: PlainWord>: Bounded<T> + Copy {
     ghost modulus: { Self → ℕ };
 
@@ -54,8 +55,9 @@ pub trait JoinSteps<T: PlainWord>: Bounded<T> + Copy {
         ensures pair { (w : ℕ) → IsMinusInverse (modulus self.now) w (T.number v.now.value) →
             IsPairJoin (modulus self.now) w (T.number x) (T.number y) (T.number result.0) (T.number result.1) };
 
-    /// Two stages of four numbers a quarter of a block apart. The factors are minus the inverses of those of the
-    /// block's halves, and of the block's own.
+    /// Two stages of four numbers a quarter of a block apart.
+    ///
+    /// The factors are minus the inverses of those of the block's halves, and of the block's own.
     ///
     /// # Preconditions
     ///

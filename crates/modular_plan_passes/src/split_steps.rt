@@ -16,8 +16,9 @@ use modular_word::path_word::PathWord;
 // rattle: line
 use modular_word::ring_word::RingWord;
 
-/// A modulus m by which pairs and fours of entries are split. Between two passes the entries stay below the limit, a
-/// multiple of m.
+/// A modulus m by which pairs and fours of entries are split.
+///
+/// Between two passes the entries stay below the limit, a multiple of m.
 pub trait SplitSteps<T: PlainWord>: Bounded<T> + Copy {
     ghost modulus: { Self → ℕ };
 

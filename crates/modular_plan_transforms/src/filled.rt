@@ -72,7 +72,7 @@ fn are_powers<T: PlainWord, F: PlanEntry<T>>(
     true
 }
 
-/// Whether the table is that of g (`fill_table`).
+/// Whether the table is that of g ([`fill_table`]).
 ///
 /// # Preconditions
 ///

@@ -15,8 +15,9 @@ use modular_word::path_word::PathWord;
 // rattle: line
 use modular_word::ring_word::RingWord;
 
-/// The stages that start from blocks of `last` entries. The result is the number of blocks times the list whose
-/// remainders the entries are, below the bound.
+/// The stages that start from blocks of `last` entries.
+///
+/// The result is the number of blocks times the list whose remainders the entries are, below the bound.
 ///
 /// # Preconditions
 ///
@@ -56,7 +57,9 @@ pub fn join_blocks<T: PlainWord, F: PlanEntry<T>, M: JoinSteps<T>>(
     }
 }
 
-/// The passes of two stages while more than four blocks are left. Returns the length of the blocks then.
+/// The passes of two stages while more than four blocks are left.
+///
+/// Returns the length of the blocks then.
 ///
 /// # Preconditions
 ///

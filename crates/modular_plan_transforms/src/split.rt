@@ -110,13 +110,17 @@ pub fn split_loosely<T: PlainWord, F: PlanEntry<T>>(
 }
 
 /// Splits block b into its remainders modulo X^last - c: in the tree of remainders, entry i of block j becomes the sum
-/// over k of x_(k·last + i)·c^k modulo m, a coefficient of the remainder. Here the table is that of a root g
-/// (`fill_table`), count is the number of blocks, and c is the power of g by the reversed bits of b·count + j.
+/// over k of x_(k·last + i)·c^k modulo m, a coefficient of the remainder.
+///
+/// Here the table is that of a root g (`fill_table`), count is the number of blocks, and c is the power of g by the
+/// reversed bits of b·count + j.
 ///
 // rust instead: /// So b = 0 and last = 1 give the transform by g, in bit-reversed order; b = 1 starts from a
-/// So b = 0 and last = 1 give the transform by g, in bit-reversed order (`split_laws`); b = 1 starts from a
-/// polynomial modulo X^n + 1. The table must be that of some root, of any length that suffices: with other factors
-/// modulo m, the results are below m and meaningless.
+/// So b = 0 and last = 1 give the transform by g, in bit-reversed order ([`split_laws`]); b = 1 starts from a
+/// polynomial modulo X^n + 1.
+///
+/// The table must be that of some root, of any length that suffices: with other factors modulo m, the results are below
+/// m and meaningless.
 ///
 /// Each pass over the list does two stages; a single one comes first where their number is odd.
 ///
@@ -125,7 +129,7 @@ pub fn split_loosely<T: PlainWord, F: PlanEntry<T>>(
 ///
 /// # Conditions
 ///
-/// - `splits` accepts the sizes: the number of entries is `last` times a power of two, and the table has at least
+/// - [`splits`] accepts the sizes: the number of entries is `last` times a power of two, and the table has at least
 ///   (b + 1)·(count/2) entries
 /// - (debug) the entries are below 4m
 /// - (debug) the table's entries are factors modulo m

@@ -12,8 +12,9 @@ use modular_prim::plain_word::PlainWord;
 // rattle: line
 use modular_word::path_word::PathWord;
 
-/// All stages from block b down to blocks of `last` entries. Where their number is odd, a single stage comes first,
-/// so that each other pass does two.
+/// All stages from block b down to blocks of `last` entries.
+///
+/// Where their number is odd, a single stage comes first, so that each other pass does two.
 ///
 /// # Preconditions
 ///

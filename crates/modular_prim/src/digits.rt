@@ -1,5 +1,6 @@
-//! The division step of Euclid's algorithm. Its quotients are nearly always small, so it computes them in digits of
-//! base 4, without a division instruction.
+//! The division step of Euclid's algorithm.
+//!
+//! Its quotients are nearly always small, so it computes them in digits of base 4, without a division instruction.
 
 ghost use Rattle.std.specs.Prelude.{◌≡◌, ◌+◌, ◌*◌, ◌%◌, ◌^◌, ◌<◌, ◌≤◌, IsTrue};
 ghost use Rattle.modular_word.specs.Division.{IsDivision};
@@ -85,8 +86,10 @@ fn has_two_digits<T: PathWord>(a: T, d: T) -> bool
     false
 }
 
-/// Quotient and remainder of a by d. Where the quotient is below 16 and words have more than 16 bits, they are
-/// computed in two digits of base 4, else by a division instruction.
+/// Quotient and remainder of a by d.
+///
+/// Where the quotient is below 16 and words have more than 16 bits, they are computed in two digits of base 4, else by
+/// a division instruction.
 ///
 /// In Euclid's algorithm 9 quotients of 10 are below 16 (Knuth, "The Art of Computer Programming", section 4.5.3).
 ///

@@ -28,7 +28,7 @@ fn step<T: PlainWord>(last_r: T, r: T, last_t: T, t: T) -> (T, T)
 
 /// The inverse of a modulo m, below m; `None` exactly where there is none.
 ///
-/// Source: that of `invm_counted`.
+/// Source: that of [`invm_counted`].
 ///
 /// # Conditions
 ///
@@ -89,7 +89,9 @@ pub fn invm_counted<T: PlainWord>(a: T, m: T) -> (Option<T>, u32)
 }
 
 /// Divisions of Euclid's algorithm: it makes none for u and 0, and for u and v one more than for v and the remainder of
-/// u by v. 2 to the number of its divisions is at most 2·u·v, for v from 1 to u - 1.
+/// u by v.
+///
+/// 2 to the number of its divisions is at most 2·u·v, for v from 1 to u - 1.
 pub fn division_laws()
     ensures none { (u : ℕ) → divisions u 0 ≡ 0 }
     ensures next { (u v : ℕ) → 0 < v → divisions u v ≡ 1 + divisions v (u % v) }

@@ -64,8 +64,9 @@ pub trait DivExact<Rhs: Numbered, Precompute>: Numbered + Sized {
 /// ```
 // rust instead: pub trait DivExactAssign<Rhs, Precompute>: Sized + DivExact<Rhs, Precompute, Output = Self> {
 pub trait DivExactAssign<Rhs: Numbered, Precompute>: DivExact<Rhs, Precompute, Output = Self> {
-    /// Whether d divides the number, which then becomes the quotient: if so, it returns true. Where d doesn't divide
-    /// the number, it returns false and leaves it unchanged.
+    /// Whether d divides the number, which then becomes the quotient: if so, it returns true.
+    ///
+    /// Where d doesn't divide the number, it returns false and leaves it unchanged.
     ///
     /// # Conditions
     ///
@@ -90,7 +91,7 @@ pub trait DivExactAssign<Rhs: Numbered, Precompute>: DivExact<Rhs, Precompute, O
         ensures none { IsFalse result → (k : ℕ) → k * Rhs.whole_number d ≢ Self.whole_number self.old };
 }
 
-/// The body of `div_exact_assign` for words, by `div_exact`.
+/// The body of [`div_exact_assign`] for words, by [`div_exact`].
 ///
 /// # Preconditions
 ///

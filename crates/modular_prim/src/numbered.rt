@@ -2,7 +2,9 @@
 
 ghost use Rattle.std.specs.Prelude.{ℕ, ℤ, pos};
 
-/// An operand: an unsigned word, or a reference to one, for the modular operations. It has no methods.
+/// An operand: an unsigned word, or a reference to one, for the modular operations.
+///
+/// It has no methods.
 pub trait Numbered {
     // The whole number of an operand, with which one contract covers operands by value and by reference.
     ghost whole_number: { Self → ℕ };
@@ -36,7 +38,9 @@ impl<T: Numbered> Numbered for &T {
     ghost whole_number = { λ x. T.whole_number x.now };
 }
 
-/// An operand of the symbols: a signed or unsigned word, or a reference to one. It has no methods.
+/// An operand of the symbols: a signed or unsigned word, or a reference to one.
+///
+/// It has no methods.
 pub trait IntegerValued {
     // The integer of an operand.
     ghost integer_value: { Self → ℤ };

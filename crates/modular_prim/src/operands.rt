@@ -1,5 +1,6 @@
-//! Operations for each kind of operands, by value or by reference, the modulus by reference. All of them delegate
-//! to one function.
+//! Operations for each kind of operands, by value or by reference, the modulus by reference.
+//!
+//! All of them delegate to one function.
 
 use crate::operations::{ModularCoreOps, ModularPow, ModularUnaryOps};
 use crate::plain_word::PlainWord;

@@ -6,7 +6,9 @@ ghost use Rattle.modular_word.specs.Residues.{residue};
 
 use crate::numbered::{IntegerValued, Numbered};
 
-/// Sums, differences and products of words: modulo m, of operands that may be above m. Each returns a residue below m.
+/// Sums, differences and products of words: modulo m, of operands that may be above m.
+///
+/// Each returns a residue below m.
 ///
 /// # Examples
 ///
@@ -83,7 +85,9 @@ pub trait ModularCoreOps<Rhs: Numbered, Modulus: Numbered>: Numbered {
             ≡ (Self.whole_number self * Rhs.whole_number rhs) % Modulus.whole_number m };
 }
 
-/// Operations on one word: modulo m, which the operand may be above. Each returns a residue below m.
+/// Operations on one word: modulo m, which the operand may be above.
+///
+/// Each returns a residue below m.
 ///
 /// # Examples
 ///

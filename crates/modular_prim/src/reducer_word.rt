@@ -11,8 +11,9 @@ use modular_word::paths::ones;
 // rattle: line
 use modular_word::ring_word::RingWord;
 
-/// A machine word with what reducers divide for: inverses, and a number that is computed once for each modulus. It
-/// has no quotient and no remainder, so that code over this trait alone can't reduce a product by one.
+/// A machine word with what reducers divide for: inverses, and a number that is computed once for each modulus.
+///
+/// It has no quotient and no remainder, so that code over this trait alone can't reduce a product by one.
 // rust instead: pub trait ReducerWord: Sized + PathWord {
 pub trait ReducerWord: PathWord {
     /// The inverse of a modulo m, below m; `None` exactly where there is none.

@@ -1,6 +1,8 @@
-//! Sums and differences of words below m in a form of which compilers do several at once in a loop over a list, with the
-//! vector instructions that every x86-64 processor has. Those don't compare words of 64 bits, and other words as signed
-//! numbers alone. So the top bit of a difference chooses, which requires that 2m is at most the base.
+//! Sums and differences of words below m in a form of which compilers do several at once in a loop over a list, with
+//! the vector instructions that every x86-64 processor has.
+//!
+//! Those don't compare words of 64 bits, and other words as signed numbers alone. So the top bit of a difference
+//! chooses, which requires that 2m is at most the base.
 
 ghost use Rattle.std.specs.Prelude.{◌≡◌, ℕ, ◌+◌, ◌*◌, ◌%◌, ◌^◌, ◌<◌, ◌≤◌, pos, ◌-ℤ◌};
 ghost use Rattle.modular_word.specs.Residues.{residue};

@@ -1,6 +1,7 @@
-//! The ring laws, for the checked forms of any reducer. Each function computes both sides of a law and returns
-//! them; its contract says that they are equal. Also the laws of forms and values, by functions with an empty body, and
-//! that `==` of integers is an equivalence.
+//! The ring laws, for the checked forms of any reducer.
+//!
+//! Each function computes both sides of a law and returns them; its contract says that they are equal. Also the laws of
+//! forms and values, by functions with an empty body, and that `==` of integers is an equivalence.
 
 ghost use Rattle.std.specs.Prelude.{◌≡◌, ℕ, ◌+◌, ◌*◌, ◌%◌, ◌^◌, ◌<◌, ◌↔◌, IsTrue, pos, neg_ℤ};
 ghost use Rattle.modular_word.specs.Residues.{residue};
@@ -155,9 +156,10 @@ pub fn is_equivalence<I: ModularInteger>(a: &I, b: &I, c: &I) -> bool
     reflexive && forth == back && transitive
 }
 
-/// Each value has one form: forms and values are one to one. The form of a value v fits a word, is a checked form, and
-/// has the value v. A checked form is the form of its value, so that forms of equal values are equal. A word that
-/// represents v is a checked form of value v.
+/// Each value has one form: forms and values are one to one.
+///
+/// The form of a value v fits a word, is a checked form, and has the value v. A checked form is the form of its value,
+/// so that forms of equal values are equal. A word that represents v is a checked form of value v.
 pub fn canonical_laws<T: RingWord, R: Reducer<T>>(reducer: &R)
     ensures positive { 0 < R.modulus reducer.now }
     ensures value { let m = R.modulus reducer.now in (v : ℕ) → v < m → R.value m (R.form m v) ≡ v }

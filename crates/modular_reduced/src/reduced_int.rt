@@ -55,7 +55,7 @@ pub struct ReducedInt<T: RingWord, R: Reducer<T>> {
     ghost checked: { IsForm R.form R.value (R.modulus reducer) (T.number form) },
 }
 
-/// An integer over `Vanilla`: modulo m, where the form of a residue is the residue.
+/// An integer over [`Vanilla`]: modulo m, where the form of a residue is the residue.
 ///
 /// # Examples
 ///

@@ -1,7 +1,7 @@
 -- The results of a list of ring commands on whole numbers modulo m, and where it stops: the result sequence of a
 -- straight-line program, and where it isn't executable (Bürgisser, Clausen and Shokrollahi, Algebraic Complexity
 -- Theory, section 4.1). The table has no forms and no widths.
-use Rattle.std.specs.Prelude.{◌≡◌, ℕ, suc, zero, ◌+◌, ◌*◌, ◌%◌, ◌^◌, ◌<◌, ◌==◌, if◌then◌else◌, pos, ◌-ℤ◌, neg_ℤ}
+use Rattle.std.specs.Prelude.{ℕ, suc, zero, ◌+◌, ◌*◌, ◌%◌, ◌^◌, ◌<◌, ◌==◌, if◌then◌else◌, pos, ◌-ℤ◌, neg_ℤ}
 use Rattle.std.specs.Prelude.{List, length, slice_get, slice_index}
 use Rattle.std.specs.Prelude.{Option, Some, None, option_map, IsSomeAnd, unwrap_or}
 use Rattle.modular_word.specs.Residues.{residue}

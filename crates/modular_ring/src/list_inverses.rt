@@ -8,8 +8,9 @@ ghost use Rattle.modular_word.specs.Inverses.{HasInverse, IsInverse};
 use modular_reduced::reducer::Reducer;
 use modular_word::ring_word::RingWord;
 
-/// Replaces each form by its inverse. Returns false, with the forms unchanged, exactly where one has no inverse
-/// modulo m.
+/// Replaces each form by its inverse.
+///
+/// Returns false, with the forms unchanged, exactly where one has no inverse modulo m.
 ///
 /// The contents of `scratch` are ignored, and unspecified afterwards.
 ///

@@ -7,7 +7,9 @@ use modular_word::path_word::PathWord;
 // rattle: line
 use modular_word::ring_word::RingWord;
 
-/// A machine word with what a choice by a mask needs. A mask has all bits set, or none.
+/// A machine word with what a choice by a mask needs.
+///
+/// A mask has all bits set, or none.
 ///
 /// # Examples
 ///

@@ -1,5 +1,6 @@
-//! The definition of the Jacobi symbol as a program, simple and slow. The tests compare the fast calls with it; the
-//! library doesn't use it.
+//! The definition of the Jacobi symbol as a program, simple and slow.
+//!
+//! The tests compare the fast calls with it; the library doesn't use it.
 
 ghost use Rattle.std.specs.Prelude.{◌≡◌, ◌%◌, pos};
 ghost use Rattle.modular_symbols.specs.Jacobi.{jacobi};

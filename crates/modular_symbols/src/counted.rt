@@ -18,8 +18,8 @@ pub mod w8;
 // rust: #[cfg(target_pointer_width = "64")]
 pub mod wsize;
 
-/// The Jacobi symbol over n of a number, given by its sign and its magnitude, and the number of halvings and swaps, counted
-/// from its residue; `None` exactly for an even n.
+/// The Jacobi symbol over n of a number, given by its sign and its magnitude, and the number of halvings and swaps,
+/// counted from its residue; `None` exactly for an even n.
 pub fn checked_jacobi_counted<T: PlainWord>(a_minus: bool, a: T, n: T) -> Option<(i8, u32)>
     ensures symbol { option_map (λ found. found.0) result
         ≡ checked_jacobi_of (signed a_minus (pos (T.number a))) (pos (T.number n)) }

@@ -1,5 +1,6 @@
-//! The laws of the Jacobi symbol and of primes, as contracts of functions with an empty body. Those of the symbol
-//! are proved from its definition by a count of residues.
+//! The laws of the Jacobi symbol and of primes, as contracts of functions with an empty body.
+//!
+//! Those of the symbol are proved from its definition by a count of residues.
 
 ghost use Rattle.std.specs.Prelude.{◌≡◌, ℕ, ◌*◌, ◌-◌, ◌%◌, ◌^◌, ◌<◌, ◌↔◌, ◌⊎◌, ℤ, pos, negsuc};
 ghost use Rattle.std.specs.Prelude.{◌*ℤ◌, nat_abs, ◌==◌, ◌&&◌, ◌||◌, Some, IsSome, if◌then◌else◌, List};
@@ -13,9 +14,10 @@ ghost use Rattle.modular_symbols.specs.PrimeFactors.{IsLegendre, product, symbol
 ghost use Rattle.modular_symbols.specs.Primes.{IsPrime, IsOddPrime};
 
 /// Jacobi symbols: the symbol of a over an odd n depends only on the residue of a; the symbol of a product is the
-/// product of the symbols; the symbol of 2 is 1 exactly where n is 1 or 7 modulo 8. The two symbols of coprime odd
-/// numbers differ exactly where both are 3 modulo 4 (reciprocity). Over an odd prime the symbol is 0, 1 or -1 as
-/// a^((n - 1)/2) is 0, 1 or -1 modulo n.
+/// product of the symbols; the symbol of 2 is 1 exactly where n is 1 or 7 modulo 8.
+///
+/// The two symbols of coprime odd numbers differ exactly where both are 3 modulo 4 (reciprocity). Over an odd prime the
+/// symbol is 0, 1 or -1 as a^((n - 1)/2) is 0, 1 or -1 modulo n.
 ///
 /// The symbol of a over a product of two odd numbers is the product of the symbols over both. So over a product of odd
 /// primes, which may repeat, it is the product of the Legendre symbols.
@@ -40,9 +42,10 @@ pub fn jacobi_laws()
 {}
 
 /// Primes and Legendre symbols: a number that a prime p doesn't divide is coprime to p, so it has an inverse, and its
-/// power to the exponent p - 1 is congruent to 1 (Fermat's theorem). Over an odd prime the Legendre and the Jacobi
-/// symbol exist and are equal. They are 1 exactly for a quadratic residue: a number congruent to the square of one that
-/// p doesn't divide.
+/// power to the exponent p - 1 is congruent to 1 (Fermat's theorem).
+///
+/// Over an odd prime the Legendre and the Jacobi symbol exist and are equal. They are 1 exactly for a quadratic
+/// residue: a number congruent to the square of one that p doesn't divide.
 ///
 /// Source: Hardy and Wright, "An Introduction to the Theory of Numbers", sections 6.1 to 6.6.
 pub fn prime_laws()

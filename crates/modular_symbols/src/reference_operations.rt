@@ -17,7 +17,7 @@ use modular_prim::plain_word::PlainWord;
 // rattle: line
 use modular_prim::{euclid, power, residues};
 
-/// All operations and symbols of words, by reference: the results are those of `ModularOps`.
+/// All operations and symbols of words, by reference: the results are those of [`ModularOps`].
 ///
 /// # Examples
 ///

@@ -9,8 +9,10 @@ ghost use Rattle.modular_word.specs.Sums.{sum_below};
 ghost use Rattle.modular_transform.specs.Transforms.{Suits, transform, cyclic_product};
 
 /// Roots and inverse transforms: the inverse of a root that suits n entries suits n entries, and the power g^k of a
-/// root g that suits n·k entries suits n. Congruent values have the same transform. The transform by the inverse of g,
-/// applied to the transform by g, gives n times the values; times an inverse of n, it gives the values.
+/// root g that suits n·k entries suits n.
+///
+/// Congruent values have the same transform. The transform by the inverse of g, applied to the transform by g, gives n
+/// times the values; times an inverse of n, it gives the values.
 ///
 /// Source: Pollard, "The fast Fourier transform in a finite field", section 2.
 pub fn transform_laws()
@@ -26,8 +28,9 @@ pub fn transform_laws()
 {}
 
 /// Products of polynomials by values: where x_i·y_j is 0 for all i + j that are at least n, and the modulus is above
-/// every sum, the entries of the cyclic product are the coefficients of the product. The clause says so by the values
-/// of the polynomials at each b.
+/// every sum, the entries of the cyclic product are the coefficients of the product.
+///
+/// The clause says so by the values of the polynomials at each b.
 ///
 /// Source: Knuth, The Art of Computer Programming, volume 2, section 4.3.3, part C.
 pub fn product_laws()

@@ -1,5 +1,6 @@
-//! The definitions of `specs/` as programs: simple and slow, each with its definition as its contract. The tests
-//! compare the fast calls with them; the library doesn't use them.
+//! The definitions of `specs/` as programs: simple and slow, each with its definition as its contract.
+//!
+//! The tests compare the fast calls with them; the library doesn't use them.
 
 ghost use Rattle.std.specs.Prelude.{◌≡◌, ◌+◌, ◌*◌, ◌^◌, ◌%◌, ◌≤◌, ◌<◌, ◌↔◌, ◌==◌};
 ghost use Rattle.std.specs.Prelude.{◌||◌, if◌then◌else◌, IsTrue, length, slice_index};

@@ -11,8 +11,9 @@ use crate::two_stages::two_stages;
 use modular_reduced::reducer::Reducer;
 use modular_word::ring_word::RingWord;
 
-/// Whether g suits n entries: n is a power of two, and for n above 1 the value of g to the power n/2 is -1 modulo m. n
-/// may be too large for a word.
+/// Whether g suits n entries: n is a power of two, and for n above 1 the value of g to the power n/2 is -1 modulo m.
+///
+/// n may be too large for a word.
 ///
 /// # Preconditions
 ///
@@ -46,7 +47,7 @@ pub fn root_fits<T: RingWord, R: Reducer<T>>(r: &R, g: &T, n: usize) -> bool
     r.is_zero(&r.add(&power, &one))
 }
 
-/// `ntt`, and the number of products: n·z/2 + n - 1 + z for n = 2^z.
+/// [`ntt`], and the number of products: n·z/2 + n - 1 + z for n = 2^z.
 ///
 /// The z stages have half blocks of n/2, n/4, .., 1 entries. A stage takes a product for each of its n/2 pairs, a
 /// product for the power of each column, and a square for the root of the next stage.
@@ -54,7 +55,7 @@ pub fn root_fits<T: RingWord, R: Reducer<T>>(r: &R, g: &T, n: usize) -> bool
 /// # Conditions
 ///
 /// - the length is a power of two
-/// - g suits the length (`root_fits` tells)
+/// - g suits the length ([`root_fits`] tells)
 /// - (debug) g and the entries are checked forms
 ///
 /// # Examples
@@ -128,7 +129,7 @@ pub fn ntt_counted<T: RingWord, R: Reducer<T>>(r: &R, xs: &mut [T], g: &T) -> u1
 /// # Conditions
 ///
 /// - the length is a power of two
-/// - g suits the length (`root_fits` tells)
+/// - g suits the length ([`root_fits`] tells)
 /// - (debug) g and the entries are checked forms
 ///
 /// # Examples

@@ -11,7 +11,9 @@ ghost use Rattle.modular_word.specs.Sums.{sum_below, sum_to, count_to, polynomia
 
 use crate::path_word::PathWord;
 
-/// The base of words: a number is below it exactly where it is below 2^w, for words of w bits. The base is at least
+/// The base of words: a number is below it exactly where it is below 2^w, for words of w bits.
+///
+/// The base is at least
 /// 256. Its square is the number of double words, and the high word of a double word is below it.
 pub fn base_laws<T: PathWord>()
     ensures at_least { 256 ≤ T.base }
@@ -20,8 +22,9 @@ pub fn base_laws<T: PathWord>()
     ensures high { (low high : ℕ) → low + T.base * high < T.base * T.base → high < T.base }
 {}
 
-/// Residues: a whole number has exactly one modulo m, which `residue` computes. The residue of a - b, plus b, is
-/// congruent to a modulo m.
+/// Residues: a whole number has exactly one modulo m, which [`residue`] computes.
+///
+/// The residue of a - b, plus b, is congruent to a modulo m.
 ///
 /// Source: Gauss, Disquisitiones Arithmeticae, articles 1 to 4.
 pub fn residue_laws()
@@ -30,8 +33,10 @@ pub fn residue_laws()
     ensures difference { (m a b : ℕ) → 0 < m → (residue m (pos a -ℤ pos b) + b) % m ≡ a % m }
 {}
 
-/// Nested remainders: in a sum, a product or a power modulo m, a number may be replaced by its remainder. A tactic
-/// takes most of them by `using(num_modular::specs::Remainders::remainders)`; `once` is in `inner_remainders`.
+/// Nested remainders: in a sum, a product or a power modulo m, a number may be replaced by its remainder.
+///
+/// A tactic takes most of them by `using(num_modular::specs::Remainders::remainders)`; `once` is in
+/// [`inner_remainders`].
 ///
 /// Source: Gauss, Disquisitiones Arithmeticae, articles 6 to 8.
 pub fn remainder_laws()
@@ -43,8 +48,9 @@ pub fn remainder_laws()
     ensures powers { (m a k : ℕ) → (a % m) ^ k % m ≡ a ^ k % m }
 {}
 
-/// Congruence modulo m: it is an equivalence, and a number is congruent to its residue. Sums, products and powers
-/// preserve it. A term cancels, and so does a factor that has an inverse.
+/// Congruence modulo m: it is an equivalence, and a number is congruent to its residue.
+///
+/// Sums, products and powers preserve it. A term cancels, and so does a factor that has an inverse.
 ///
 /// Source: Gauss, Disquisitiones Arithmeticae, articles 2, 6 to 8 and 22.
 pub fn congruence_laws()
@@ -66,8 +72,9 @@ pub fn power_laws()
     ensures product { (a b c : ℕ) → a ^ (b * c) ≡ (a ^ b) ^ c }
 {}
 
-/// Greatest common divisors: two numbers have exactly one, `gcd`. They are coprime exactly where it is 1, and whether a
-/// number is coprime to n depends only on its residue modulo n.
+/// Greatest common divisors: two numbers have exactly one, [`gcd`].
+///
+/// They are coprime exactly where it is 1, and whether a number is coprime to n depends only on its residue modulo n.
 ///
 /// Source: Euclid, Elements, book VII, propositions 1 and 2.
 pub fn divisor_laws()
@@ -77,7 +84,8 @@ pub fn divisor_laws()
 {}
 
 /// When an inverse exists: exactly where the greatest common divisor is 1, that is, where the numbers are coprime.
-/// There is at most one, and `inverse_of` is it, or `None` where there is none. It depends only on the residue.
+///
+/// There is at most one, and [`inverse_of`] is it, or `None` where there is none. It depends only on the residue.
 ///
 /// Source: Gauss, Disquisitiones Arithmeticae, articles 29 and 31.
 pub fn inverse_laws()
@@ -97,9 +105,11 @@ pub fn euclids_lemma()
     ensures { (a n x : ℕ) → 0 < n → Coprime a n → (a * x) % n ≡ 0 → x % n ≡ 0 }
 {}
 
-/// Sums: a double sum may be taken in either order. A sum over a range keeps its value where its terms are permuted or
-/// reversed. Terms of equal parities have sums of equal parities. How many numbers of a range pass a test, and how many
-/// fail it, add up to the length of the range. A sum from 1 to h is a sum from 0 to h - 1.
+/// Sums: a double sum may be taken in either order.
+///
+/// A sum over a range keeps its value where its terms are permuted or reversed. Terms of equal parities have sums of
+/// equal parities. How many numbers of a range pass a test, and how many fail it, add up to the length of the range. A
+/// sum from 1 to h is a sum from 0 to h - 1.
 ///
 /// Source: Graham, Knuth and Patashnik, Concrete Mathematics, chapter 2.
 pub fn sum_laws()
@@ -113,9 +123,10 @@ pub fn sum_laws()
     ensures from_zero { (f : ℕ → ℕ) (h : ℕ) → sum_to f h ≡ sum_below h (λ x. f (suc x)) }
 {}
 
-/// Sums over ranges: an empty sum is 0, and extending a range by one adds one term. So a polynomial by its
-/// coefficients, the highest first, satisfies Horner's rule: with one more coefficient it is x times the former
-/// polynomial, plus that coefficient.
+/// Sums over ranges: an empty sum is 0, and extending a range by one adds one term.
+///
+/// So a polynomial by its coefficients, the highest first, satisfies Horner's rule: with one more coefficient it is x
+/// times the former polynomial, plus that coefficient.
 ///
 /// Source: Knuth, The Art of Computer Programming, volume 2, section 4.6.4.
 pub fn range_laws()
@@ -125,9 +136,10 @@ pub fn range_laws()
         polynomial_highest_first (n + 1) c x ≡ polynomial_highest_first n c x * x + c n }
 {}
 
-/// Linear congruences: a·y = b modulo m is solved by b·x where x is an inverse of a. So where x is the inverse of m
-/// modulo n, there is a formula for the number below m·n that is congruent to a modulo m and to b modulo n: the Chinese
-/// remainder theorem for two moduli.
+/// Linear congruences: a·y = b modulo m is solved by b·x where x is an inverse of a.
+///
+/// So where x is the inverse of m modulo n, there is a formula for the number below m·n that is congruent to a modulo m
+/// and to b modulo n: the Chinese remainder theorem for two moduli.
 ///
 /// Source: Gauss, Disquisitiones Arithmeticae, articles 29, 31 and 36; Knuth, The Art of Computer
 /// Programming, volume 2, section 4.3.2.

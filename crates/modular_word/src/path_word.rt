@@ -1,5 +1,7 @@
-//! What the paths use of a word: exact and wrapping sums, differences, products, shifts and comparisons of words
-//! and double words. There is no division and no remainder, so code over this trait alone makes none.
+//! What the paths use of a word: exact and wrapping sums, differences, products, shifts and comparisons of words and
+//! double words.
+//!
+//! There is no division and no remainder, so code over this trait alone makes none.
 
 ghost use Rattle.std.specs.Prelude.{◌≡◌, ℕ, ◌+◌, ◌-◌, ◌*◌, ◌/◌, ◌%◌, ◌^◌, ◌<◌, ◌≤◌, ◌↔◌, IsTrue, IsFalse};
 ghost use Rattle.std.specs.Int.Count.{count_leading_zeros, count_trailing_zeros};

@@ -1,5 +1,7 @@
-//! The paths: division by a reciprocal, exact division and Montgomery's reduction, written and proved once for
-//! every width. What was precomputed of a divisor is passed as arguments.
+//! The paths: division by a reciprocal, exact division and Montgomery's reduction, written and proved once for every
+//! width.
+//!
+//! What was precomputed of a divisor is passed as arguments.
 
 ghost use Rattle.std.specs.Prelude.{◌≡◌, ℕ, ◌+◌, ◌-◌, ◌*◌, ◌/◌, ◌%◌, ◌^◌, ◌<◌, ◌≤◌};
 ghost use Rattle.modular_word.specs.Division.{IsDivision, IsExactQuotient};
@@ -113,7 +115,7 @@ pub fn exact_1<T: PathWord>(d: T, inverse: T, limit: T, n: T) -> Option<T>
 /// The quotient of a double word by an odd divisor d, by the inverse of d; `None` exactly where d doesn't divide
 /// it.
 ///
-/// Source: that of `exact_1`, applied to one word at a time from the lowest.
+/// Source: that of [`exact_1`], applied to one word at a time from the lowest.
 ///
 /// # Preconditions
 ///
@@ -217,9 +219,10 @@ fn high_sum_by_double_words<T: PathWord>(t: T::Double, multiple: T::Double, m: T
     if is_above { rest } else { rest.wrapping_add(m) }
 }
 
-/// The second step of Montgomery's reduction of t, given the word x of `clearing` and the product x·m: (t + x·m)
-/// divided by the base, less m where that is at least m. The caller passes x·m because a modulus of a special form
-/// may compute it faster.
+/// The second step of Montgomery's reduction of t, given the word x of [`clearing`] and the product x·m: (t + x·m)
+/// divided by the base, less m where that is at least m.
+///
+/// The caller passes x·m because a modulus of a special form may compute it faster.
 ///
 /// The sum may overflow a double word; its carry is counted. Where a double word is longer than a machine word, adding
 /// single words is faster.

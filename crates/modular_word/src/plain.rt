@@ -1,5 +1,6 @@
-//! The definitions of `specs/` as programs: simple and slow, each with its definition as its contract. The tests
-//! compare the fast calls with them; the library doesn't use them.
+//! The definitions of `specs/` as programs: simple and slow, each with its definition as its contract.
+//!
+//! The tests compare the fast calls with them; the library doesn't use them.
 
 ghost use Rattle.std.specs.Prelude.{◌≡◌, ℕ, ◌-◌, ◌*◌, ◌%◌, ◌^◌, ◌<◌, ◌≤◌, ◌↔◌};
 ghost use Rattle.modular_word.specs.Divisors.{IsGreatestCommonDivisor, gcd};
@@ -67,8 +68,9 @@ pub fn inverse_by_search(a: u64, m: u64) -> Option<u64>
     None
 }
 
-/// The greatest common divisor of a and n, by trying each number up to n. It is 1 exactly where a has an inverse
-/// modulo n.
+/// The greatest common divisor of a and n, by trying each number up to n.
+///
+/// It is 1 exactly where a has an inverse modulo n.
 ///
 /// # Preconditions
 ///

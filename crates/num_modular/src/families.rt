@@ -1,5 +1,6 @@
-//! The generic types behind the aliases of the root, and the types of their moduli. Code over `OddRing` or `FoldRing`
-//! that is generic in the modulus covers its whole family.
+//! The generic types behind the aliases of the root, and the types of their moduli.
+//!
+//! Code over `OddRing` or `FoldRing` that is generic in the modulus covers its whole family.
 //!
 //! # Conditions
 //!

@@ -49,9 +49,10 @@ pub use modular_transform::laws::{product_laws, transform_laws};
 // Symbols and primes.
 pub use modular_symbols::laws::{jacobi_laws, prime_laws};
 
-/// Where a run stops: this depends on the inverses that its commands need. A list of commands that needs none has no
-/// stop. A missing inverse is the stop where none is missing before it. Where there is no stop, that is, where the run
-/// is done, each inverse exists.
+/// Where a run stops: this depends on the inverses that its commands need.
+///
+/// A list of commands that needs none has no stop. A missing inverse is the stop where none is missing before it. Where
+/// there is no stop, that is, where the run is done, each inverse exists.
 pub fn stop_laws<T: RingWord>()
     ensures none { (m : ℕ) (start : List ℕ) (commands : List (RingCommand T)) (at : ℕ) →
         All (λ command. inverted_by command ≡ None) commands →
@@ -67,8 +68,10 @@ pub fn stop_laws<T: RingWord>()
         (i r : ℕ) → NeedsInverse commands i r → HasInverse m (value_at m start wholes i r) }
 {}
 
-/// Runs the same commands over two reducers: it returns both ends. They are equal, and the registers then have equal
-/// residues, whatever the forms, the words and the types of the commands are.
+/// Runs the same commands over two reducers: it returns both ends.
+///
+/// They are equal, and the registers then have equal residues, whatever the forms, the words and the types of the
+/// commands are.
 ///
 /// # Preconditions
 ///
@@ -126,8 +129,10 @@ pub fn run_both<
 
 // In the shape in which contracts of calls and loop invariants leave their terms.
 
-/// Quotients and differences undo: a quotient, computed by `inv` and `mul`, times its divisor is congruent to the
-/// dividend. A difference plus its subtrahend is congruent to the minuend.
+/// Quotients and differences undo: a quotient, computed by [`inv`] and `mul`, times its divisor is congruent to the
+/// dividend.
+///
+/// A difference plus its subtrahend is congruent to the minuend.
 ///
 /// Source: Gauss, Disquisitiones Arithmeticae, articles 1 to 8 and 31.
 pub fn undoing_laws()
@@ -136,8 +141,10 @@ pub fn undoing_laws()
     ensures difference_below { (m a b : ℕ) → a < m → (residue m (pos a -ℤ pos b) + b) % m ≡ a }
 {}
 
-/// Equal and bounded sums: sums over a range are equal where their terms are. Where only one term isn't 0, the sum is
-/// that term. Trailing terms of 0 may be dropped. A sum of n terms that are at most b is at most n·b.
+/// Equal and bounded sums: sums over a range are equal where their terms are.
+///
+/// Where only one term isn't 0, the sum is that term. Trailing terms of 0 may be dropped. A sum of n terms that are at
+/// most b is at most n·b.
 ///
 /// Source: Graham, Knuth and Patashnik, Concrete Mathematics, chapter 2.
 pub fn sum_below_laws()
@@ -148,8 +155,9 @@ pub fn sum_below_laws()
     ensures bound { (n b : ℕ) (f : ℕ → ℕ) → ((i : ℕ) → i < n → f i ≤ b) → sum_below n f ≤ n * b }
 {}
 
-/// Products over ranges: an empty product is 1, and extending a range by one adds one factor. Products are equal where
-/// their factors are.
+/// Products over ranges: an empty product is 1, and extending a range by one adds one factor.
+///
+/// Products are equal where their factors are.
 ///
 /// Source: Graham, Knuth and Patashnik, Concrete Mathematics, section 2.1.
 pub fn product_below_laws()
@@ -159,9 +167,11 @@ pub fn product_below_laws()
 {}
 
 /// Inverses of products: a product has one exactly where both factors have, and a product over a range exactly where
-/// each factor has. An inverse of a·b times b is an inverse of a, and times a it is one of b; the product of the
-/// factors' inverses is an inverse of the product. Over a range, an inverse of the product, times the last factor, is
-/// an inverse of the product of the others; times the residue of that product, it is an inverse of the last factor.
+/// each factor has.
+///
+/// An inverse of a·b times b is an inverse of a, and times a it is one of b; the product of the factors' inverses is an
+/// inverse of the product. Over a range, an inverse of the product, times the last factor, is an inverse of the product
+/// of the others; times the residue of that product, it is an inverse of the last factor.
 ///
 /// Source: Gauss, Disquisitiones Arithmeticae, articles 29 and 31; for a range, Montgomery, "Speeding the
 /// Pollard and elliptic curve methods of factorization", section 10.3.1.
@@ -178,9 +188,11 @@ pub fn inverse_product_laws()
         HasInverse m (product_below n f) ↔ ((i : ℕ) → i < n → HasInverse m (f i)) }
 {}
 
-/// Powers modulo a prime: modulo p, a^p is congruent to a (Fermat's theorem). Modulo an odd prime, a^((p - 1)/2) is
-/// congruent to 1 exactly where a is congruent to the square of a number that p doesn't divide (Euler's criterion).
-/// Where p is 3 modulo 4, a^((p + 1)/4) is a square root of each a that is congruent to a square.
+/// Powers modulo a prime: modulo p, a^p is congruent to a (Fermat's theorem).
+///
+/// Modulo an odd prime, a^((p - 1)/2) is congruent to 1 exactly where a is congruent to the square of a number that p
+/// doesn't divide (Euler's criterion). Where p is 3 modulo 4, a^((p + 1)/4) is a square root of each a that is
+/// congruent to a square.
 ///
 /// Source: Hardy and Wright, "An Introduction to the Theory of Numbers", theorems 70 and 83; for the root
 /// Cohen, "A Course in Computational Algebraic Number Theory", section 1.5.1.
@@ -192,10 +204,11 @@ pub fn prime_power_laws()
         (a ^ ((p + 1) / 4) * a ^ ((p + 1) / 4)) % p ≡ a % p }
 {}
 
-/// Products of polynomials by coefficients: the cyclic product multiplies without wrapping around. Where x_i·y_j is 0
-/// for all i + j that are at least n, and the modulus is above every sum, entry e is the sum of x_i·y_(e-i) for i from
-/// 0 to e. The same holds where the values are the residues of two lists, as after `load_forms`, whose lengths add up
-/// to at most n + 1.
+/// Products of polynomials by coefficients: the cyclic product multiplies without wrapping around.
+///
+/// Where x_i·y_j is 0 for all i + j that are at least n, and the modulus is above every sum, entry e is the sum of
+/// x_i·y_(e-i) for i from 0 to e. The same holds where the values are the residues of two lists, as after
+/// [`load_forms`], whose lengths add up to at most n + 1.
 ///
 /// Source: Knuth, The Art of Computer Programming, volume 2, section 4.3.3, part C.
 pub fn coefficient_laws()
@@ -211,8 +224,9 @@ pub fn coefficient_laws()
 {}
 
 /// The order by `split`: its remainders with b = 0 and last = 1 are the transform in bit-reversed order, by the root g
-/// of a table for as many entries, or where it is for 2^d times as many by the power of g that suits them. By a table
-/// for as many, a list in that order is the remainders, as `join` requires them.
+/// of a table for as many entries, or where it is for 2^d times as many by the power of g that suits them.
+///
+/// By a table for as many, a list in that order is the remainders, as `join` requires them.
 ///
 /// Source: Cooley and Tukey, "An algorithm for the machine calculation of complex Fourier series"; Knuth, The Art of
 /// Computer Programming, volume 2, section 4.6.4.
@@ -226,9 +240,11 @@ pub fn split_laws()
 {}
 
 /// Polynomials modulo m: Horner's rule for one by its coefficients, the constant first, and the same polynomial by
-/// these in reverse. Modulo m, which may be composite, a polynomial with at most n coefficients that is 0 at n points
-/// whose differences all have inverses has only coefficients of 0. So two of them with equal values at the points have
-/// equal coefficients, as lists, as functions, and with the highest coefficient first. Modulo a prime, differences of
+/// these in reverse.
+///
+/// Modulo m, which may be composite, a polynomial with at most n coefficients that is 0 at n points whose differences
+/// all have inverses has only coefficients of 0. So two of them with equal values at the points have equal
+/// coefficients, as lists, as functions, and with the highest coefficient first. Modulo a prime, differences of
 /// distinct residues have inverses.
 ///
 /// Source: Knuth, The Art of Computer Programming, volume 2, section 4.6.4 (Newton's form).

@@ -1,6 +1,7 @@
-//! Transforms by a table: it has twiddle factors with their quotients, and is the caller's. Moduli are at most a quarter
-//! of the base. An entry of the table is a `Factor`, or a struct of the caller (`PlanEntry`). `ring` has
-//! the transforms that need no table, over any reducer, and `find_root`.
+//! Transforms by a table: it has twiddle factors with their quotients, and is the caller's.
+//!
+//! Moduli are at most a quarter of the base. An entry of the table is a `Factor`, or a struct of the caller
+//! (`PlanEntry`). `ring` has the transforms that need no table, over any reducer, and `find_root`.
 //!
 //! `Plan` knows that its table is that of its root, and asks only for lists that fit. It borrows the table. `OwnedPlan` keeps
 //! its own, so that a struct can keep one, and lends a `Plan` for each call. The functions over a table also ask for the

@@ -1,7 +1,8 @@
-//! Residue number systems of up to eight moduli, over `num_modular::residues`. `ResidueSystem` tests its moduli once,
-//! computes on encodings, and runs lists of commands on them. `from_remainders` returns the number with two given
-//! remainders, and `combine` the one for moduli that may have common divisors. `mixed_radix` has systems of any number of
-//! moduli.
+//! Residue number systems of up to eight moduli, over `num_modular::residues`.
+//!
+//! `ResidueSystem` tests its moduli once, computes on encodings, and runs lists of commands on them. `from_remainders`
+//! returns the number with two given remainders, and `combine` the one for moduli that may have common divisors.
+//! `mixed_radix` has systems of any number of moduli.
 //!
 //! # Conditions
 //!

@@ -1,5 +1,7 @@
 //! Codes over any modulus: `erasure` has Reed and Solomon's codes, which restore lost symbols and correct wrong ones,
-//! and Shamir's secrets. The codes of check digits are in `check_digits`.
+//! and Shamir's secrets.
+//!
+//! The codes of check digits are in `check_digits`.
 #![tactic(auto)]
 
 pub mod erasure;

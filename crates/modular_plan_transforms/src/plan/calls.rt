@@ -117,7 +117,7 @@ impl<'a, T: PlainWord, F: PlanEntry<T>> Plan<'a, T, F> {
     /// the reversed bits of b·count + j, count being the number of blocks.
     ///
     // rust instead: /// So b = 0 and last = 1 give the transform in bit-reversed order, and b = 1 starts from a
-    /// So b = 0 and last = 1 give the transform in bit-reversed order (`split_laws`), and b = 1 starts from a
+    /// So b = 0 and last = 1 give the transform in bit-reversed order ([`split_laws`]), and b = 1 starts from a
     /// polynomial modulo X^h + 1, h being the length of the list.
     ///
     /// # Conditions
@@ -188,8 +188,9 @@ impl<'a, T: PlainWord, F: PlanEntry<T>> Plan<'a, T, F> {
         join_scaled(&self.modulus, xs, self.table, b, last, &part);
     }
 
-    /// Multiplies xs by ys, entry by entry: modulo m, for lists that `split` made with `last` = 1. For blocks of two
-    /// entries there is the function `multiply`.
+    /// Multiplies xs by ys, entry by entry: modulo m, for lists that `split` made with `last` = 1.
+    ///
+    /// For blocks of two entries there is the function `multiply`.
     ///
     /// # Conditions
     ///
@@ -268,7 +269,9 @@ impl<'a, T: PlainWord, F: PlanEntry<T>> Plan<'a, T, F> {
     }
 
     /// Replaces xs by the cyclic product xs·ys: for lists of n entries, entry e becomes the sum of x_i·y_j modulo m
-    /// over i + j = e or e + n. ys becomes its transform in bit-reversed order.
+    /// over i + j = e or e + n.
+    ///
+    /// ys becomes its transform in bit-reversed order.
     ///
     /// # Conditions
     ///
@@ -308,7 +311,9 @@ impl<'a, T: PlainWord, F: PlanEntry<T>> Plan<'a, T, F> {
     }
 
     /// Replaces xs by xs·ys modulo X^n + 1: entry e becomes the sum of x_i·y_j modulo m over i + j = e, less that over
-    /// i + j = e + n. ys becomes its remainders modulo X^2 - c, as `split` computes them.
+    /// i + j = e + n.
+    ///
+    /// ys becomes its remainders modulo X^2 - c, as `split` computes them.
     ///
     /// # Conditions
     ///

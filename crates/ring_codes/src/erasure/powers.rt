@@ -17,7 +17,7 @@ use num_modular::{Reducer, RingWord};
 /// Writes the points g^0, g^1, ..: modulo m, as many as the list holds.
 ///
 // rust instead: /// Where m is odd and g suits their number n (`root_fits` tells), the points fit: `restore`,
-/// Where m is odd and g suits their number n (`root_fits` tells), the points fit (`root_laws`): `restore`,
+/// Where m is odd and g suits their number n (`root_fits` tells), the points fit ([`root_laws`]): [`restore`],
 /// `correct` and the other calls accept them.
 ///
 /// # Conditions
@@ -54,7 +54,7 @@ pub fn fill_powers<T: RingWord, R: Reducer<T>>(r: &R, g: &T, points: &mut [T])
 /// Writes the word at the powers of a root: at the points g^0, .., g^(n - 1), n being the length of the word, it is
 /// what `encode` writes, by one transform instead of n·k products.
 ///
-/// Source: `ntt` of the message followed by zeros.
+/// Source: [`ntt`] of the message followed by zeros.
 ///
 /// # Conditions
 ///
@@ -100,13 +100,15 @@ pub fn encode_by_transform<T: RingWord, R: Reducer<T>>(r: &R, g: &T, message: &[
 }
 
 /// Writes the word at the powers of a root: at the points g^0, .., g^(n - 1), g being the root of a plan for n entries,
-/// by one transform with the plan's table. Symbols are plain words, and those of the word are below m.
+/// by one transform with the plan's table.
 ///
-/// Source: `Plan::transform` of the message followed by zeros.
+/// Symbols are plain words, and those of the word are below m.
+///
+/// Source: [`Plan::transform`] of the message followed by zeros.
 ///
 /// # Conditions
 ///
-/// - the word has n places (`Plan::fits` tells)
+/// - the word has n places ([`Plan::fits`] tells)
 /// - the message has at most n symbols
 /// - (debug) the symbols are below 4m
 ///

@@ -4,6 +4,7 @@ use crate::tests::assert_at;
 use crate::tests::residues::{Call, Row, is_right_modulo};
 use modular_barrett::premul::PreMulInv2by1;
 use modular_monty::montgomery::Montgomery;
+use modular_monty::odd_montgomery::OddMontgomery;
 use modular_prim::plain_word::PlainWord;
 use modular_reduced::reducer::Reducer;
 use modular_reduced::vanilla::Vanilla;
@@ -29,11 +30,15 @@ fn is_right<T: PlainWord>(row: &(Reducers, T, Row<T>)) -> bool {
     let scaled = is_right_modulo(&PreMulInv2by1::<T>::new(m), m, &row.2);
     // rust instead: let montgomery = is_right_modulo(&Montgomery::<T>::of(m), m, &row.2);
     let montgomery = is_right_modulo(&Montgomery::<T>::new(m), m, &row.2);
+    let odd = match OddMontgomery::<T>::checked_new(m) {
+        Some(ring) => is_right_modulo(&ring, m, &row.2),
+        None => !m.is_odd(),
+    };
     match row.0 {
-        Reducers::Each => plain && scaled && montgomery,
+        Reducers::Each => plain && scaled && montgomery && odd,
         Reducers::Plain => plain,
         Reducers::Scaled => scaled,
-        Reducers::Montgomery => montgomery,
+        Reducers::Montgomery => montgomery && odd,
     }
 }
 

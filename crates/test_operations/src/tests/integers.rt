@@ -305,6 +305,8 @@ fn assert_any_integers<R: Reducer<u8> + Copy>(rt: &impl Abort)
     check!(rt, 25; are_equal(&seven, &three));
     check!(rt, 26; !are_equal(&three, &other));
     check!(rt, 27; are_equivalent(&[&three, &seven, &other]));
+    check!(rt, 35; seven.eq_in_same_ring(&three));
+    check!(rt, 36; !seven.eq_in_same_ring(&integer::<u8, R>(4, 7)));
     check!(rt, 28; residue_of_nothing(integer::<u8, R>(7, 21)) == 0);
 }
 

@@ -16,7 +16,7 @@ use num_modular::word::RingWord;
 use num_modular::{
     FixedMersenneInt, FixedMersenneInt32, FixedMersenneInt64, FixedMontgomeryInt32,
     FixedMontgomeryInt64, FixedProthInt32, FixedProthInt64, FixedSolinasInt32, FixedSolinasInt64,
-    ReducedInt, Reducer, umax,
+    OddMontgomeryInt, ReducedInt, Reducer, umax,
 };
 use std::marker::PhantomData;
 
@@ -400,6 +400,7 @@ fn fixed_moduli_of_64_bits(rt: HostRuntime) {
     check!(rt, 7; by_folds_64(18446742974197923841, PhantomData::<FixedSolinasInt64<64, 40, 1>>));
     check!(rt, 8; by_folds_64(2305843009213693951, PhantomData::<FixedMersenneInt64<61, 1>>));
     check!(rt, 9; by_folds_64(18446744073709551557, PhantomData::<FixedMersenneInt64<64, 59>>));
+    check!(rt, 10; by_odd_64(97, PhantomData::<OddMontgomeryInt<u64>>));
 }
 
 #[test]
