@@ -62,7 +62,7 @@ def wrapper(path, name, found):
             given.append(f"&{own}.lent()" if kind in LENT else own)
     call = f"c::{path}::{name}({', '.join(given)})"
     if made:
-        call = f"let mut made = {made[1]}::EMPTY; let code = {call}; if code == 0 {{ *{made[0]} = {made[1]}::of(made); }} code"
+        call = f"let mut made = {made[1]}::EMPTY; let returned = {call}; if returned == 0 {{ *{made[0]} = {made[1]}::of(made); }} returned"
     return f'#[no_mangle] pub unsafe extern "C" fn {name}({", ".join(declared)}) -> u32 {{ {call} }}\n'
 
 

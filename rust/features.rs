@@ -107,7 +107,10 @@ mod numbers {
 #[cfg(feature = "serde")]
 mod serial {
     use crate::families::{FoldRing, OddRing};
-    use crate::{FixedMersenne, ModularInteger, Montgomery, PlainWord, PreMulInv2by1, ReducedInt, Reducer, RingWord, Vanilla};
+    use crate::{
+        FixedMersenne, ModularInteger, Montgomery, OddMontgomery, PlainWord, PreMulInv2by1, ReducedInt, Reducer, RingWord,
+        Vanilla,
+    };
     use core::fmt;
     use core::marker::PhantomData;
     use serde::de::{Error, MapAccess, SeqAccess, Visitor};
@@ -178,6 +181,13 @@ mod serial {
     }
 
     read!(Vanilla Montgomery PreMulInv2by1);
+
+    impl<'de, T: PlainWord + Deserialize<'de>> Deserialize<'de> for OddMontgomery<T> {
+        /// The reducer of a modulus, which must be odd.
+        fn deserialize<D: Deserializer<'de>>(deserializer: D) -> Result<Self, D::Error> {
+            OddMontgomery::checked_new(T::deserialize(deserializer)?).ok_or_else(|| D::Error::custom("the modulus must be odd"))
+        }
+    }
 
     macro_rules! read_fixed {
         ($($ring:ident $integer:ident<$(const $parameter:ident: $kind:ty),*> $word:ty;)*) => {$(

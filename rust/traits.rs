@@ -10,7 +10,7 @@ use crate::modular_folds::mersenne::{Mersenne32, Mersenne64};
 use crate::modular_folds::rings::{FoldModulus, FoldRing};
 use crate::modular_folds::solinas::{Trinomial, TrinomialModulus, TrinomialWord};
 use crate::modular_monty::fixed::{OddNumber32, OddNumber64};
-use crate::modular_monty::odd_ring::{OddModulus, OddRing};
+use crate::modular_monty::odd_ring::{OddModulus, OddRing, StoredModulus};
 use crate::modular_monty::proth::{ProthNumber32, ProthNumber64};
 use crate::modular_prim::reducer_word::ReducerWord;
 use crate::modular_word::path_word::PathWord;
@@ -123,6 +123,13 @@ shown! {
     Mersenne64<P, K> as FixedMersenne64, u64, FoldModulus, [const P: u8, const K: u64];
     FixedMersenne<P, K> as FixedMersenne, u128, Reducer, [const P: u8, const K: u64];
     TrinomialModulus<T, F> as TrinomialSolinas, T, FoldModulus, [T: TrinomialWord + fmt::Debug, F: Trinomial];
+}
+
+impl<T: fmt::Debug> fmt::Debug for StoredModulus<T> {
+    /// The reducer's alias and the modulus, as `Montgomery` shows itself.
+    fn fmt(&self, f: &mut fmt::Formatter) -> fmt::Result {
+        f.debug_struct("OddMontgomery").field("modulus", &self.modulus).finish()
+    }
 }
 
 impl<T, M: fmt::Debug> fmt::Debug for OddRing<T, M> {
@@ -435,6 +442,7 @@ mod tests {
         assert_eq!(std::format!("{:?}", FixedMontgomery64::<97>::RING), "FixedMontgomery64 (mod 97)");
         assert_eq!(std::format!("{:?}", FixedTrinomialSolinas32::<5, 4, -3>::RING), "TrinomialSolinas (mod 13)");
         assert_eq!(std::format!("{:?}", Montgomery::<u64>::new(96)), "Montgomery { modulus: 96 }");
+        assert_eq!(std::format!("{:?}", OddMontgomery::<u64>::new(97)), "OddMontgomery { modulus: 97 }");
         assert_eq!(std::format!("{:?}", PreMulInv2by1::<u8>::new(96)), "PreMulInv2by1 { modulus: 96 }");
         let modulus = PlannedModulus::<u64>::new(97);
         assert_eq!(std::format!("{modulus:?}"), "PlannedModulus { modulus: 97 }");

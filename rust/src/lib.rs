@@ -87,6 +87,7 @@ pub use crate::modular_folds::mersenne::{FixedMersenne, FixedMersenne32, FixedMe
 pub use crate::modular_folds::solinas::{FixedTrinomialSolinas32, FixedTrinomialSolinas64};
 pub use crate::modular_monty::fixed::{FixedMontgomery32, FixedMontgomery64};
 pub use crate::modular_monty::montgomery::Montgomery;
+pub use crate::modular_monty::odd_montgomery::OddMontgomery;
 pub use crate::modular_monty::preinv::PreModInv;
 pub use crate::modular_monty::proth::{FixedProth32, FixedProth64};
 pub use crate::modular_prim::exact::{DivExact, DivExactAssign};
@@ -101,7 +102,7 @@ pub use crate::modular_symbols::operations::ModularOps;
 pub use crate::modular_symbols::reference_operations::ModularRefOps;
 pub use crate::modular_symbols::symbols::ModularSymbols;
 
-/// An integer over `Montgomery`: modulo a number that is at least 1.
+/// An integer over [`Montgomery`]: modulo a number that is at least 1.
 ///
 /// # Examples
 ///
@@ -113,7 +114,19 @@ pub use crate::modular_symbols::symbols::ModularSymbols;
 /// ```
 pub type MontgomeryInt<T> = ReducedInt<T, Montgomery<T>>;
 
-/// An integer over the fixed reducer of this name: over `FixedMontgomery32`, modulo the odd parameter P.
+/// An integer over [`OddMontgomery`]: modulo an odd number.
+///
+/// # Examples
+///
+/// ```
+/// use num_modular::{ModularInteger, OddMontgomeryInt};
+///
+/// let x = OddMontgomeryInt::<u64>::new(10, &97);
+/// assert_eq!((x * x).residue(), 3); // 100 - 97
+/// ```
+pub type OddMontgomeryInt<T> = ReducedInt<T, OddMontgomery<T>>;
+
+/// An integer over the fixed reducer of this name: over [`FixedMontgomery32`], modulo the odd parameter P.
 ///
 /// # Examples
 ///
@@ -125,7 +138,7 @@ pub type MontgomeryInt<T> = ReducedInt<T, Montgomery<T>>;
 /// ```
 pub type FixedMontgomeryInt32<const P: u32> = ReducedInt<u32, FixedMontgomery32<P>>;
 
-/// An integer over the fixed reducer of this name: over `FixedMontgomery64`, modulo the odd parameter P.
+/// An integer over the fixed reducer of this name: over [`FixedMontgomery64`], modulo the odd parameter P.
 ///
 /// # Examples
 ///
@@ -137,8 +150,8 @@ pub type FixedMontgomeryInt32<const P: u32> = ReducedInt<u32, FixedMontgomery32<
 /// ```
 pub type FixedMontgomeryInt64<const P: u64> = ReducedInt<u64, FixedMontgomery64<P>>;
 
-/// An integer over the fixed reducer of this name: over `FixedProth32`, modulo K * 2^N + 1, where N is from 1 to 31, K
-/// odd and below 2^N, and the modulus at most 2654435769.
+/// An integer over the fixed reducer of this name: over [`FixedProth32`], modulo K * 2^N + 1, where N is from 1 to 31,
+/// K odd and below 2^N, and the modulus at most 2654435769.
 ///
 /// # Examples
 ///
@@ -150,8 +163,8 @@ pub type FixedMontgomeryInt64<const P: u64> = ReducedInt<u64, FixedMontgomery64<
 /// ```
 pub type FixedProthInt32<const N: u8, const K: u8> = ReducedInt<u32, FixedProth32<N, K>>;
 
-/// An integer over the fixed reducer of this name: over `FixedProth64`, modulo K * 2^N + 1, where N is from 1 to 63, K
-/// odd and below 2^N, and the modulus at most 11400714819323199485.
+/// An integer over the fixed reducer of this name: over [`FixedProth64`], modulo K * 2^N + 1, where N is from 1 to 63,
+/// K odd and below 2^N, and the modulus at most 11400714819323199485.
 ///
 /// # Examples
 ///
@@ -163,7 +176,7 @@ pub type FixedProthInt32<const N: u8, const K: u8> = ReducedInt<u32, FixedProth3
 /// ```
 pub type FixedProthInt64<const N: u8, const K: u8> = ReducedInt<u64, FixedProth64<N, K>>;
 
-/// An integer over the fixed reducer of this name: over `FixedMersenne`, modulo 2^P - K, where P is at most 64, K odd
+/// An integer over the fixed reducer of this name: over [`FixedMersenne`], modulo 2^P - K, where P is at most 64, K odd
 /// and less than half of 2^P.
 ///
 /// # Examples
@@ -176,8 +189,8 @@ pub type FixedProthInt64<const N: u8, const K: u8> = ReducedInt<u64, FixedProth6
 /// ```
 pub type FixedMersenneInt<const P: u8, const K: u64> = ReducedInt<umax, FixedMersenne<P, K>>;
 
-/// An integer over the fixed reducer of this name: over `FixedMersenne32`, modulo 2^P - K, where P is at most 32, K odd
-/// and less than half of 2^P.
+/// An integer over the fixed reducer of this name: over [`FixedMersenne32`], modulo 2^P - K, where P is at most 32, K
+/// odd and less than half of 2^P.
 ///
 /// # Examples
 ///
@@ -189,8 +202,8 @@ pub type FixedMersenneInt<const P: u8, const K: u64> = ReducedInt<umax, FixedMer
 /// ```
 pub type FixedMersenneInt32<const P: u8, const K: u32> = ReducedInt<u32, FixedMersenne32<P, K>>;
 
-/// An integer over the fixed reducer of this name: over `FixedMersenne64`, modulo 2^P - K, where P is at most 64, K odd
-/// and less than half of 2^P.
+/// An integer over the fixed reducer of this name: over [`FixedMersenne64`], modulo 2^P - K, where P is at most 64, K
+/// odd and less than half of 2^P.
 ///
 /// # Examples
 ///
@@ -202,8 +215,8 @@ pub type FixedMersenneInt32<const P: u8, const K: u32> = ReducedInt<u32, FixedMe
 /// ```
 pub type FixedMersenneInt64<const P: u8, const K: u64> = ReducedInt<u64, FixedMersenne64<P, K>>;
 
-/// An integer over the fixed reducer of this name: over `FixedTrinomialSolinas32`, modulo 2^P1 - 2^P2 + K, where P1 is
-/// at most 32, P2 from 1 to P1 - 1, K odd with a magnitude below 2^P2.
+/// An integer over the fixed reducer of this name: over [`FixedTrinomialSolinas32`], modulo 2^P1 - 2^P2 + K, where P1
+/// is at most 32, P2 from 1 to P1 - 1, K odd with a magnitude below 2^P2.
 ///
 /// # Examples
 ///
@@ -215,8 +228,8 @@ pub type FixedMersenneInt64<const P: u8, const K: u64> = ReducedInt<u64, FixedMe
 /// ```
 pub type FixedSolinasInt32<const P1: u8, const P2: u8, const K: i32> = ReducedInt<u32, FixedTrinomialSolinas32<P1, P2, K>>;
 
-/// An integer over the fixed reducer of this name: over `FixedTrinomialSolinas64`, modulo 2^P1 - 2^P2 + K, where P1 is
-/// at most 64, P2 from 1 to P1 - 1, K odd with a magnitude below 2^P2.
+/// An integer over the fixed reducer of this name: over [`FixedTrinomialSolinas64`], modulo 2^P1 - 2^P2 + K, where P1
+/// is at most 64, P2 from 1 to P1 - 1, K odd with a magnitude below 2^P2.
 ///
 /// # Examples
 ///

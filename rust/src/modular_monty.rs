@@ -7,6 +7,7 @@ mod known;
 mod list_products;
 pub mod montgomery;
 pub mod neg_mod_inv;
+pub mod odd_montgomery;
 pub mod odd_ring;
 pub mod preinv;
 pub mod proth;

@@ -4,3 +4,4 @@
 pub use crate::modular_monty::fixed::{FixedMontgomery32, FixedMontgomery64};
 pub use crate::modular_monty::montgomery::Montgomery;
 pub use crate::modular_monty::neg_mod_inv;
+pub use crate::modular_monty::odd_montgomery::OddMontgomery;

@@ -2,6 +2,7 @@
 //! The library for C: functions over words of 64 bits. Each tests its preconditions and returns a code.
 //! `c/include/num_modular.h` declares them.
 pub mod any_length;
+pub mod check_codes;
 pub mod codes;
 pub mod commands;
 pub mod dividers;

@@ -21,7 +21,8 @@ use num_modular::word;
 use num_modular::{
     DivExact, FixedMersenne, FixedMersenne32, FixedMersenne64, FixedMontgomery32, FixedProth32, FixedProth64,
     FixedTrinomialSolinas32, ModularAbs, ModularCoreOps, ModularPow, ModularRefOps, ModularSymbols, ModularUnaryOps,
-    Montgomery, MontgomeryInt, Normalized2by1Divisor, PreModInv, PreMulInv1by1, PreMulInv2by1, Reducer, Vanilla, VanillaInt,
+    Montgomery, MontgomeryInt, Normalized2by1Divisor, OddMontgomery, OddMontgomeryInt, PreModInv, PreMulInv1by1, PreMulInv2by1,
+    Reducer, Vanilla, VanillaInt,
 };
 use panics::{message, place, DIVISOR, MODULUS, SHORT};
 use std::cell::RefCell;
@@ -36,6 +37,8 @@ fn int(n: u8, m: u8) -> VanillaInt<u8> {
 fn constructors() {
     panic_with!(MODULUS; Vanilla::<u8>::new(&0), int(3, 0), MontgomeryInt::<u32>::new(3, &0));
     panic_with!(MODULUS; PreMulInv2by1::<u8>::new(0), Montgomery::<u8>::new(0), Montgomery::<u64>::new(0));
+    panic_with!("the modulus must be odd"; OddMontgomery::<u8>::new(0), OddMontgomery::<u64>::new(6), OddMontgomery::of(6u16));
+    panic_with!("the modulus must be odd"; <OddMontgomery<u8> as Reducer<u8>>::new(&6), OddMontgomeryInt::<u32>::new(3, &6));
     panic_with!(MODULUS; <PreMulInv2by1<u8> as Reducer<u8>>::new(&0), <Montgomery<u64> as Reducer<u64>>::new(&0));
     let planned = "the modulus must be at least 1 and at most 2^w/4, for words of w bits";
     panic_with!(planned; PlannedModulus::<u64>::new(0), PlannedModulus::<u64>::new(u64::MAX), PlannedModulus::<u8>::new(65));
@@ -136,7 +139,7 @@ fn moduli_that_are_not_odd() {
 #[test]
 fn operators_of_two_moduli() {
     panic_in_debug_with!(MODULI; int(1, 21) + int(1, 22) => int(2, 21), int(1, 21) - int(1, 22) => int(0, 21));
-    panic_in_debug_with!(MODULI; int(1, 21) * int(1, 22) => int(1, 21));
+    panic_in_debug_with!(MODULI; int(1, 21) * int(1, 22) => int(1, 21), int(1, 21).eq_in_same_ring(&int(1, 22)) => true);
     panic_in_debug_with!("the moduli must be equal: 21 and 22"; int(10, 21) / int(5, 22) => int(6, 21));
 }
 

@@ -43,7 +43,7 @@ mod numbers {
 mod serial {
     use num_modular::{
         FixedMersenne, FixedMersenneInt64, FixedProth32, FixedTrinomialSolinas64, ModularInteger, Montgomery, MontgomeryInt,
-        PreMulInv2by1, Reducer, Vanilla, VanillaInt,
+        OddMontgomery, PreMulInv2by1, Reducer, Vanilla, VanillaInt,
     };
     use serde::de::value::{MapDeserializer, SeqDeserializer, U128Deserializer, U64Deserializer, U8Deserializer};
     use serde::de::{Deserialize, IntoDeserializer};
@@ -210,6 +210,8 @@ mod serial {
         assert_eq!(number::<Montgomery<u64>>(0).map(|_| ()), Err(least.to_string()));
         assert_eq!(number::<PreMulInv2by1<u8>>(0).map(|_| ()), Err(least.to_string()));
         assert!(number::<PreMulInv2by1<u8>>(256).is_err());
+        assert_eq!(number::<OddMontgomery<u64>>(97).map(|it| it.modulus()), Ok(97));
+        assert_eq!(number::<OddMontgomery<u64>>(96).map(|_| ()), Err("the modulus must be odd".to_string()));
         let other = "the modulus must be that of the parameters";
         assert_eq!(number::<FixedProth32<4, 1>>(19).map(|_| ()), Err(other.to_string()));
     }

@@ -4,7 +4,7 @@
 
 pub use num_modular::barrett::{Normalized2by1Divisor, PreMulInv1by1, PreMulInv2by1};
 pub use num_modular::mersenne::{FixedMersenne, FixedMersenne32, FixedMersenne64};
-pub use num_modular::monty::{FixedMontgomery32, FixedMontgomery64, Montgomery};
+pub use num_modular::monty::{FixedMontgomery32, FixedMontgomery64, Montgomery, OddMontgomery};
 pub use num_modular::preinv::PreModInv;
 pub use num_modular::prim::{powm_u32, powm_u64};
 pub use num_modular::proth::{FixedProth32, FixedProth64};
@@ -27,7 +27,7 @@ pub mod root {
     };
     pub use num_modular::{
         FixedMersenneInt, FixedMersenneInt32, FixedMersenneInt64, FixedMontgomeryInt32, FixedMontgomeryInt64, FixedProthInt32,
-        FixedProthInt64, FixedSolinasInt32, FixedSolinasInt64, MontgomeryInt, VanillaInt,
+        FixedProthInt64, FixedSolinasInt32, FixedSolinasInt64, MontgomeryInt, OddMontgomeryInt, VanillaInt,
     };
 }
 

@@ -1,13 +1,13 @@
 //! The lines, written once by macros and compiled over either library.
 
-/// The lines of one library.
+/// The lines of one library, with its reducer of odd moduli and its equality of integers of one ring.
 macro_rules! library {
-    ($folder:ident, $library:ident) => {
+    ($folder:ident, $library:ident, $odd:ident, $equal:ident) => {
         pub mod $folder {
-            library!(@width $library w8 u8 u16);
-            library!(@width $library w16 u16 u32);
-            library!(@width $library w32 u32 u64);
-            library!(@width $library w64 u64 u128);
+            library!(@width $library $odd $equal w8 u8 u16);
+            library!(@width $library $odd $equal w16 u16 u32);
+            library!(@width $library $odd $equal w32 u32 u64);
+            library!(@width $library $odd $equal w64 u64 u128);
 
             pub fn all() -> Vec<crate::measure::Line> {
                 let mut lines = Vec::new();
@@ -44,7 +44,7 @@ macro_rules! library {
             $($module::ring::<$odd>(lines, stringify!($odd), <$odd>::MODULUS);)*
         }
     };
-    (@width $library:ident $module:ident $word:ident $double:ident) => {
+    (@width $library:ident $odd:ident $equal:ident $module:ident $word:ident $double:ident) => {
         pub mod $module {
             use crate::measure::{Line, Random, Rows, rows, step};
             use $library::*;
@@ -120,6 +120,7 @@ macro_rules! library {
                 step(lines, "ReducedInt square, then +", place, all(&of), |_, x, y| x.square() + y, see::<R>);
                 step(lines, "ReducedInt neg, then +", place, all(&of), |_, x, y| -x + y, see::<R>);
                 step(lines, "ReducedInt ==, then -", place, all(&of), |_, x, y| if x == y { y } else { x - y }, see::<R>);
+                step(lines, "ReducedInt == of one ring, then -", place, all(&of), |_, x, y| if x.$equal(&y) { y } else { x - y }, see::<R>);
                 step(lines, "ReducedInt residue, convert", place, all(&of), |_, x, y| y.convert(x.residue() ^ *y.repr()), see::<R>);
                 step(lines, "ReducedInt pow 13, then +", place, all(&of), |_, x, y| x.pow(&13) + y, see::<R>);
             }
@@ -181,6 +182,7 @@ macro_rules! library {
                     ring::<Vanilla<W>>(lines, &format!("Vanilla<u{BITS}> {m}"), m);
                     ring::<PreMulInv2by1<W>>(lines, &format!("PreMulInv2by1<u{BITS}> {m}"), m);
                     ring::<Montgomery<W>>(lines, &format!("Montgomery<u{BITS}> {m}"), m);
+                    ring::<$odd<W>>(lines, &format!("OddMontgomery<u{BITS}> {m}"), m);
                 }
                 for m in [6, half - 1, W::MAX - 1] {
                     words(lines, m);
@@ -208,5 +210,5 @@ macro_rules! folds {
 
 pub(crate) use folds;
 
-library!(rust, num_modular);
-library!(cargo, erased);
+library!(rust, num_modular, Montgomery, eq);
+library!(cargo, erased, OddMontgomery, eq_in_same_ring);

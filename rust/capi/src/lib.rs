@@ -10,6 +10,50 @@ mod runtime;
 
 use runtime::{list, list_mut};
 
+/// A `NmCheckCode` as C has it, in which a list is a pointer and a length.
+#[repr(C)]
+pub struct NmCheckCode {
+    modulus: u64,
+    residue: u64,
+    weights: *const u64,
+    weights_length: usize,
+    least: *const u64,
+    least_length: usize,
+    greatest: *const u64,
+    greatest_length: usize,
+}
+
+impl NmCheckCode {
+    const EMPTY: c::check_codes::NmCheckCode<'static> =
+        c::check_codes::NmCheckCode { modulus: 0, residue: 0, weights: &[], least: &[], greatest: &[] };
+
+    /// # Safety
+    ///
+    /// Each pointer and length is a list, as `list` asks.
+    unsafe fn lent(&self) -> c::check_codes::NmCheckCode<'_> {
+        c::check_codes::NmCheckCode {
+            modulus: self.modulus,
+            residue: self.residue,
+            weights: list(self.weights, self.weights_length),
+            least: list(self.least, self.least_length),
+            greatest: list(self.greatest, self.greatest_length),
+        }
+    }
+
+    fn of(it: c::check_codes::NmCheckCode<'_>) -> NmCheckCode {
+        NmCheckCode {
+            modulus: it.modulus,
+            residue: it.residue,
+            weights: it.weights.as_ptr(),
+            weights_length: it.weights.len(),
+            least: it.least.as_ptr(),
+            least_length: it.least.len(),
+            greatest: it.greatest.as_ptr(),
+            greatest_length: it.greatest.len(),
+        }
+    }
+}
+
 /// A `NmPlan` as C has it, in which a list is a pointer and a length.
 #[repr(C)]
 pub struct NmPlan {
@@ -93,6 +137,57 @@ pub unsafe extern "C" fn nm_transform_inverse(
         list_mut(words, words_length),
         list_mut(factors, factors_length),
     )
+}
+
+#[no_mangle]
+pub unsafe extern "C" fn nm_check_accepts(standard: u32, text: *const u8, text_length: usize) -> u32 {
+    c::check_codes::nm_check_accepts(standard, list(text, text_length))
+}
+
+#[no_mangle]
+pub unsafe extern "C" fn nm_check_digit(standard: u32, text: *const u8, text_length: usize, digit: &mut u64) -> u32 {
+    c::check_codes::nm_check_digit(standard, list(text, text_length), digit)
+}
+
+#[no_mangle]
+pub unsafe extern "C" fn nm_iban_accepts(text: *const u8, text_length: usize) -> u32 {
+    c::check_codes::nm_iban_accepts(list(text, text_length))
+}
+
+#[no_mangle]
+pub unsafe extern "C" fn nm_iban_check_digits(
+    text: *const u8,
+    text_length: usize,
+    digits: *mut u8,
+    digits_length: usize,
+) -> u32 {
+    c::check_codes::nm_iban_check_digits(list(text, text_length), list_mut(digits, digits_length))
+}
+
+#[no_mangle]
+pub unsafe extern "C" fn nm_check_code(standard: u32, code: &mut NmCheckCode) -> u32 {
+    let mut made = NmCheckCode::EMPTY;
+    let returned = c::check_codes::nm_check_code(standard, &mut made);
+    if returned == 0 {
+        *code = NmCheckCode::of(made);
+    }
+    returned
+}
+
+#[no_mangle]
+pub unsafe extern "C" fn nm_check_code_accepts(code: &NmCheckCode, word: *const u64, word_length: usize) -> u32 {
+    c::check_codes::nm_check_code_accepts(&code.lent(), list(word, word_length))
+}
+
+#[no_mangle]
+pub unsafe extern "C" fn nm_check_code_restore(
+    code: &NmCheckCode,
+    word: *const u64,
+    word_length: usize,
+    place: usize,
+    symbol: &mut u64,
+) -> u32 {
+    c::check_codes::nm_check_code_restore(&code.lent(), list(word, word_length), place, symbol)
 }
 
 #[no_mangle]
@@ -414,11 +509,11 @@ pub unsafe extern "C" fn nm_plan_make(
     plan: &mut NmPlan,
 ) -> u32 {
     let mut made = NmPlan::EMPTY;
-    let code = c::plan_value::nm_plan_make(m, root, list_mut(table, table_length), &mut made);
-    if code == 0 {
+    let returned = c::plan_value::nm_plan_make(m, root, list_mut(table, table_length), &mut made);
+    if returned == 0 {
         *plan = NmPlan::of(made);
     }
-    code
+    returned
 }
 
 #[no_mangle]

@@ -23,7 +23,9 @@ pub use texts::{is_symbol_text, read_symbols};
 pub use verhoeff::{accepts_verhoeff, verhoeff_check_digit};
 
 /// A code with one check equation: its words have an allowed symbol for each weight, and their weighted sum is
-/// congruent to `residue` modulo the modulus. A residue that is at least the modulus counts as its own residue.
+/// congruent to `residue` modulo the modulus.
+///
+/// A residue that is at least the modulus counts as its own residue.
 ///
 /// # Examples
 ///

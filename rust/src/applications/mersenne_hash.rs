@@ -5,8 +5,10 @@ pub mod prefixes;
 
 use crate::hashes::{base, hash, Hash};
 use crate::ModularInteger;
-/// The hash of a text behind a symbol 1: b^n + `hash(b, text)` for n bytes at the base b. Texts that differ by zeros in
-/// front have different ones at all bases but few, where `hash` is the same for them at each base.
+/// The hash of a text behind a symbol 1: b^n + `hash(b, text)` for n bytes at the base b.
+///
+/// Texts that differ by zeros in front have different ones at all bases but few, where [`hash`] is the same for them at
+/// each base.
 ///
 /// # Examples
 ///
@@ -28,9 +30,11 @@ pub fn length_hash(base: Hash, text: &[u8]) -> Hash {
     value
 }
 
-/// Whether the hashes of both are equal at each base: those of the two texts. For texts of equal length n that is
-/// whether they are equal, if there are at least n bases and no two of all the bases are congruent modulo 2^61 - 1.
-/// Where both texts are at hand `==` is faster: this is the comparison of two parties that exchange hashes alone.
+/// Whether the hashes of both are equal at each base: those of the two texts.
+///
+/// For texts of equal length n that is whether they are equal, if there are at least n bases and no two of all the
+/// bases are congruent modulo 2^61 - 1. Where both texts are at hand `==` is faster: this is the comparison of two
+/// parties that exchange hashes alone.
 ///
 /// # Examples
 ///

@@ -51,7 +51,9 @@ impl<T: PathWord> Normalized2by1Divisor<T> {
         self.divisor
     }
 
-    /// Quotient and remainder of a word. The quotient is 0 or 1, because the divisor's top bit is set.
+    /// Quotient and remainder of a word.
+    ///
+    /// The quotient is 0 or 1, because the divisor's top bit is set.
     ///
     /// # Examples
     ///

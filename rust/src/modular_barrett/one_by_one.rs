@@ -5,7 +5,9 @@ use crate::modular_prim::plain_word::PlainWord;
 use crate::modular_word::path_word::PathWord;
 use crate::modular_word::paths::{div_1by1, ones};
 
-/// The multiplier and the shift of a divisor. The divisor itself isn't stored; the caller passes it to each call.
+/// The multiplier and the shift of a divisor.
+///
+/// The divisor itself isn't stored; the caller passes it to each call.
 ///
 /// Source: Granlund and Montgomery, "Division by invariant integers using multiplication", section 4.
 ///
@@ -62,8 +64,10 @@ impl<T: PathWord> PreMulInv1by1<T> {
 }
 
 impl<T: PlainWord> PreMulInv1by1<T> {
-    /// The multiplier and the shift of d. With n the least number such that d is at most 2^n, and B the base, the
-    /// multiplier is B·(2^n - d)/d, rounded down, plus 1, and the shift is n - 1.
+    /// The multiplier and the shift of d.
+    ///
+    /// With n the least number such that d is at most 2^n, and B the base, the multiplier is B·(2^n - d)/d, rounded
+    /// down, plus 1, and the shift is n - 1.
     ///
     /// In the Cargo crate this is `of`, for any word type; `new` is the same for a known one.
     ///

@@ -10,7 +10,7 @@ use crate::modular_word::paths::div_2by1;
 
 /// A factor modulo m: a number w below m, and its quotient w·B/m, rounded down, with B the base.
 ///
-/// `PlannedModulus::factor` makes one for its modulus. Another modulus needs a factor of its own. The type doesn't
+/// [`PlannedModulus::factor`] makes one for its modulus. Another modulus needs a factor of its own. The type doesn't
 /// guarantee that the two numbers and a modulus belong together; calls that multiply by the factor require it.
 ///
 /// Source: Harvey, "Faster arithmetic for number-theoretic transforms", section 3, after Shoup.
@@ -60,8 +60,9 @@ impl<T: PathWord> Factor<T> {
     }
 }
 
-/// A modulus m with its reciprocal. It is at least 1 and at most a quarter of the base, so that words below 4m hold
-/// sums that aren't reduced.
+/// A modulus m with its reciprocal.
+///
+/// It is at least 1 and at most a quarter of the base, so that words below 4m hold sums that aren't reduced.
 ///
 /// # Examples
 ///
@@ -94,7 +95,9 @@ impl<T: PathWord> Clone for PlannedModulus<T> {
 impl<T: PathWord> Copy for PlannedModulus<T> {}
 
 impl<T: PlainWord> PlannedModulus<T> {
-    /// Whether `new` accepts m: it is at least 1, and 4m is at most the base. A `Plan` also needs an odd m.
+    /// Whether `new` accepts m: it is at least 1, and 4m is at most the base.
+    ///
+    /// A `Plan` also needs an odd m.
     ///
     /// # Examples
     ///

@@ -11,8 +11,9 @@ use crate::modular_reduced::list_products::{block, multiply_by_factor};
 use crate::modular_reduced::reducer::Reducer;
 use crate::modular_word::path_word::PathWord;
 
-/// The reducer of any m, by reciprocals: m is at least 1, and products are reduced by a division of a double word. With
-/// s the leading zeros of m, the form of a value v is v·2^s, and the divisor is m·2^s, whose top bit is set.
+/// The reducer of any m, by reciprocals: m is at least 1, and products are reduced by a division of a double word.
+///
+/// With s the leading zeros of m, the form of a value v is v·2^s, and the divisor is m·2^s, whose top bit is set.
 ///
 /// Sums, differences, doubles and negatives are taken modulo m·2^s without a division. A product takes one product
 /// of words and one division by the reciprocal of m·2^s.

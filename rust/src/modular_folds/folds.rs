@@ -66,8 +66,9 @@ pub(crate) fn fold_on<V: FoldWord>(v: V, p: u32, mask: V, c: V, m: V) -> (V, u32
     (rest, count)
 }
 
-/// A number below 2^p that is congruent to v modulo m, and the number of folds that led to it. Where c is small and
-/// v is below 2^(2p), the folds are unrolled, without comparisons.
+/// A number below 2^p that is congruent to v modulo m, and the number of folds that led to it.
+///
+/// Where c is small and v is below 2^(2p), the folds are unrolled, without comparisons.
 ///
 /// # Preconditions
 ///
@@ -266,7 +267,7 @@ pub trait FoldedWord: Sized + PathWord {
     #[must_use]
     fn reduce_far(v: Self::Double, p: u32, c: Self, m: Self) -> Self;
 
-    /// Whether `reduce_in_line` reduces a double word, and takes less time than folds with comparisons.
+    /// Whether [`reduce_in_line`] reduces a double word, and takes less time than folds with comparisons.
     ///
     /// # Preconditions
     ///

@@ -86,8 +86,10 @@ impl<const P: u8, const K: u32> FoldRing<u32, Mersenne32<P, K>> {
         Self::reduce_counted(v).0
     }
 
-    /// The residue of a double word, as `reduce_double` returns it, by folds that nothing counts: in straight-line
-    /// code for a product of two residues, and at bits above P first for a K near 2^P. That takes less time.
+    /// The residue of a double word, as `reduce_double` returns it, by folds that nothing counts: in straight-line code
+    /// for a product of two residues, and at bits above P first for a K near 2^P.
+    ///
+    /// That takes less time.
     ///
     /// # Panics
     ///
@@ -241,8 +243,10 @@ impl<const P: u8, const K: u64> FoldRing<u64, Mersenne64<P, K>> {
         Self::reduce_counted(v).0
     }
 
-    /// The residue of a double word, as `reduce_double` returns it, by folds that nothing counts: in straight-line
-    /// code for a product of two residues, and at bits above P first for a K near 2^P. That takes less time.
+    /// The residue of a double word, as `reduce_double` returns it, by folds that nothing counts: in straight-line code
+    /// for a product of two residues, and at bits above P first for a K near 2^P.
+    ///
+    /// That takes less time.
     ///
     /// # Panics
     ///
@@ -317,7 +321,7 @@ impl<const P: u8, const K: u64> FoldModulus<u64> for Mersenne64<P, K> {
 /// itself.
 ///
 /// The parameters are in range where P is at most 64 and K is odd and less than half of 2^P. Forms are below 2^64,
-/// so a product of two of them fits a word. `FixedMersenne64` computes sums, differences and inverses.
+/// so a product of two of them fits a word. [`FixedMersenne64`] computes sums, differences and inverses.
 ///
 /// # Examples
 ///

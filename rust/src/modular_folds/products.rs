@@ -36,8 +36,8 @@ fn is_by_words<T: PathWord>(p: u32, c: T) -> bool {
 
 /// a·b modulo m.
 ///
-/// Where c isn't near 2^p, the product is folded without comparisons, by its words where that is faster. The choice depends
-/// on c and p alone.
+/// Where c isn't near 2^p, the product is folded without comparisons, by its words where that is faster. The choice
+/// depends on c and p alone.
 ///
 /// Source: Handbook of Applied Cryptography, algorithm 14.47.
 ///

@@ -8,7 +8,9 @@ use crate::modular_reduced::reducer::Reducer;
 use core::marker::PhantomData;
 
 /// A modulus near a power of two: the parameters of the type give its value, and how words and products are reduced by
-/// it. A value of the type exists only for parameters in range.
+/// it.
+///
+/// A value of the type exists only for parameters in range.
 ///
 /// # Examples
 ///
@@ -80,7 +82,9 @@ pub trait FoldModulus<T: FoldedWord>: Copy {
     fn product(&self, a: T, b: T) -> T;
 }
 
-/// The reducer of a `FoldModulus`: one near a power of two, over words T, with the value itself as the form of a value.
+/// The reducer of a [`FoldModulus`]: one near a power of two, over words T, with the value itself as the form of a
+/// value.
+///
 /// It stores nothing, and `new` accepts only the modulus of the parameters.
 ///
 /// # Examples

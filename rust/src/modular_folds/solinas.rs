@@ -188,7 +188,9 @@ pub struct TrinomialModulus<T, F> {
 }
 
 /// The reducer of a trinomial: that of the modulus m = 2^p1 - 2^p2 + k of F, over words T, with the value itself as the
-/// form of a value. It stores nothing.
+/// form of a value.
+///
+/// It stores nothing.
 ///
 /// The parameters are in range where p1 is at most the width of T, p2 is from 1 to p1 - 1, and k is odd with a
 /// magnitude below 2^p2. Words and products are reduced by folds, except where p1 = p2 + 1 and k is negative: m is
@@ -321,9 +323,10 @@ impl<T: TrinomialWord, F: Trinomial> FoldRing<T, TrinomialModulus<T, F>> {
         Self::reduce_counted(v).0
     }
 
-    /// The residue of a double word, as `reduce_double` returns it, by folds that nothing counts: in straight-line
-    /// code for a product of two residues, and at bits above p1 first for a modulus that isn't near 2^p1. That
-    /// takes less time.
+    /// The residue of a double word, as `reduce_double` returns it, by folds that nothing counts: in straight-line code
+    /// for a product of two residues, and at bits above p1 first for a modulus that isn't near 2^p1.
+    ///
+    /// That takes less time.
     ///
     /// # Panics
     ///

@@ -28,6 +28,7 @@ impl<const P: u32> OddNumber32<P> {
 }
 
 /// The reducer of the odd P: Montgomery's representation in words of 32 bits, where the form of v is v * 2^32 modulo P.
+///
 /// `new` accepts only P.
 ///
 /// Source: Handbook of Applied Cryptography, section 14.3.2.
@@ -129,6 +130,7 @@ impl<const P: u64> OddNumber64<P> {
 }
 
 /// The reducer of the odd P: Montgomery's representation in words of 64 bits, where the form of v is v * 2^64 modulo P.
+///
 /// `new` accepts only P.
 ///
 /// Source: Handbook of Applied Cryptography, section 14.3.2.

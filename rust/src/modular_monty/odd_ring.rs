@@ -14,7 +14,9 @@ use crate::modular_word::paths::{clearing, redc};
 use core::marker::PhantomData;
 
 /// An odd modulus with what is precomputed of it: its negated inverse modulo the base, and the square of the base
-/// modulo m. A type that knows its modulus needn't store it, and a modulus of a special form may be multiplied faster.
+/// modulo m.
+///
+/// A type that knows its modulus needn't store it, and a modulus of a special form may be multiplied faster.
 ///
 /// # Examples
 ///
@@ -221,8 +223,10 @@ fn is_square_of_base<T: PathWord>(m: T, negated_inverse: T, square: T) -> bool {
     is_one(unit) || is_one(m)
 }
 
-/// Montgomery's reducer of an `OddModulus`: the form of v is v times the base modulo m, the base being 2 to the width
-/// of the words T. `new` accepts the moduli that M does.
+/// Montgomery's reducer of an [`OddModulus`]: the form of v is v times the base modulo m, the base being 2 to the width
+/// of the words T.
+///
+/// `new` accepts the moduli that M does.
 ///
 /// A product of forms takes one product of words and one reduction, which divides by the base alone.
 ///
@@ -368,7 +372,6 @@ impl<T: ReducerWord, M: OddModulus<T>> Reducer<T> for OddRing<T, M> {
 }
 
 /// An odd modulus that is known at run time, with what is precomputed of it.
-#[derive(Debug)]
 #[must_use]
 pub struct StoredModulus<T> {
     /// The modulus m.
@@ -389,8 +392,10 @@ impl<T: PathWord> Clone for StoredModulus<T> {
 impl<T: PathWord> Copy for StoredModulus<T> {}
 
 impl<T: PathWord> StoredModulus<T> {
-    /// What is stored of m, given the two numbers that were precomputed of it earlier; `None` exactly where m is
-    /// even or one of the numbers is wrong. It makes no division.
+    /// What is stored of m, given the two numbers that were precomputed of it earlier; `None` exactly where m is even
+    /// or one of the numbers is wrong.
+    ///
+    /// It makes no division.
     #[must_use]
     #[inline]
     pub fn restored(m: T, negated_inverse: T, square: T) -> Option<StoredModulus<T>> {
@@ -406,6 +411,7 @@ impl<T: ReducerWord> OddModulus<T> for StoredModulus<T> {
     #[track_caller]
     #[inline]
     fn keep(m: T) -> Self {
+        assert!(m.is_odd(), "the modulus must be odd");
         let (negated_inverse, square) = computed_once(m);
         StoredModulus { modulus: m, negated_inverse, square }
     }

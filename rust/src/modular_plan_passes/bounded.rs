@@ -10,9 +10,10 @@ pub trait Bounded<T: PlainWord>: Sized {
     /// The greatest word below the limit.
     fn greatest(&self) -> T;
 
-    /// Whether a word of more than 32 bits is at least the limit; false for shorter words. A loop over entries returns
-    /// where this is true, which it never is: so compilers can't compute the loop's trip count, and don't vectorize
-    /// it. Vectors of words of more than 32 bits would be slower.
+    /// Whether a word of more than 32 bits is at least the limit; false for shorter words.
+    ///
+    /// A loop over entries returns where this is true, which it never is: so compilers can't compute the loop's trip
+    /// count, and don't vectorize it. Vectors of words of more than 32 bits would be slower.
     #[inline]
     fn is_beyond(&self, x: T) -> bool {
         T::bits() > 32 && self.greatest().is_below(x)

@@ -4,7 +4,7 @@
 use crate::modular_barrett::planned::Factor;
 use crate::modular_word::path_word::PathWord;
 
-/// An entry of a table of factors: `Factor` itself, or another struct of two words, such as one with the layout of
+/// An entry of a table of factors: [`Factor`] itself, or another struct of two words, such as one with the layout of
 /// another language.
 ///
 /// # Examples

@@ -44,8 +44,9 @@ fn minus_inverse<T: PlainWord, F: PlanEntry<T>, M: JoinSteps<T>>(
     }
 }
 
-/// Minus the inverses of the factors of a block and of its halves. One mirrored index gives all three: those of the
-/// halves are at twice that index, in the opposite order.
+/// Minus the inverses of the factors of a block and of its halves.
+///
+/// One mirrored index gives all three: those of the halves are at twice that index, in the opposite order.
 ///
 /// # Preconditions
 ///
@@ -121,7 +122,7 @@ fn join_two_stages<T: PlainWord, F: PlanEntry<T>, M: JoinSteps<T>>(
 }
 
 /// Two stages of all blocks, with each power of four up to 1024 as a constant length, for the reason given at
-/// `split_known`.
+/// [`split_known`].
 ///
 /// # Preconditions
 ///

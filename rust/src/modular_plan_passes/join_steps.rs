@@ -7,8 +7,9 @@ use crate::modular_barrett::roomy::RoomyModulus;
 use crate::modular_plan_passes::bounded::Bounded;
 use crate::modular_prim::plain_word::PlainWord;
 
-/// A modulus m by which pairs and fours of entries are joined. Between two passes the entries stay below a bound, a
-/// multiple of m.
+/// A modulus m by which pairs and fours of entries are joined.
+///
+/// Between two passes the entries stay below a bound, a multiple of m.
 pub trait JoinSteps<T: PlainWord>: Bounded<T> + Copy {
     /// The factor -1.
     fn minus_one(&self) -> Factor<T>;
@@ -31,8 +32,9 @@ pub trait JoinSteps<T: PlainWord>: Bounded<T> + Copy {
     /// No build tests this: where it doesn't hold, the call panics or its result is unspecified.
     fn pair(&self, x: T, y: T, v: &Factor<T>) -> (T, T);
 
-    /// Two stages of four numbers a quarter of a block apart. The factors are minus the inverses of those of the
-    /// block's halves, and of the block's own.
+    /// Two stages of four numbers a quarter of a block apart.
+    ///
+    /// The factors are minus the inverses of those of the block's halves, and of the block's own.
     ///
     /// # Preconditions
     ///

@@ -73,8 +73,9 @@ fn split_known<T: PlainWord, M: SplitSteps<T>, F: PlanEntry<T>>(
     }
 }
 
-/// A pass of two stages, block p by entry first + p of the table. The first pass of a transform takes one product
-/// in place of four, since a root's table begins with 1.
+/// A pass of two stages, block p by entry first + p of the table.
+///
+/// The first pass of a transform takes one product in place of four, since a root's table begins with 1.
 ///
 /// # Preconditions
 ///
@@ -100,7 +101,7 @@ pub fn split_pass<T: PlainWord, M: SplitSteps<T>, F: PlanEntry<T>>(
     }
 }
 
-/// The last two stages, which also reduce: those of `split_pass` on each four neighbours, and their residues.
+/// The last two stages, which also reduce: those of [`split_pass`] on each four neighbours, and their residues.
 ///
 /// # Preconditions
 ///

@@ -7,8 +7,9 @@ use crate::modular_barrett::roomy::RoomyModulus;
 use crate::modular_plan_passes::bounded::Bounded;
 use crate::modular_prim::plain_word::PlainWord;
 
-/// A modulus m by which pairs and fours of entries are split. Between two passes the entries stay below the limit, a
-/// multiple of m.
+/// A modulus m by which pairs and fours of entries are split.
+///
+/// Between two passes the entries stay below the limit, a multiple of m.
 pub trait SplitSteps<T: PlainWord>: Bounded<T> + Copy {
     /// Numbers below the limit, congruent to x + y·w and x - y·w.
     ///

@@ -6,8 +6,9 @@ use crate::modular_plan_passes::entry::PlanEntry;
 use crate::modular_prim::plain_word::PlainWord;
 
 /// Fills the table of g for n = 2·length entries: entry k becomes the factor of g to the power of the reversed bits of
-/// k (the twiddle factors, in bit-reversed order). So its first entries are the table for fewer entries, of the power
-/// of g that suits them.
+/// k (the twiddle factors, in bit-reversed order).
+///
+/// So its first entries are the table for fewer entries, of the power of g that suits them.
 ///
 /// The table isn't empty, since 0 isn't a power of two; the Cargo crate leaves an empty one as it is, whatever g
 /// is.

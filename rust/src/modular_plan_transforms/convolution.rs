@@ -60,8 +60,8 @@ pub(crate) fn convolve_scaled<T: PlainWord, F: PlanEntry<T>>(
     join_products(m, xs, ys, table, b, last, part);
 }
 
-/// Whether `convolve_block` accepts these sizes: lists of `length` entries as block b, down to blocks of `last`, and a
-/// table of `factors` factors.
+/// Whether [`convolve_block`] accepts these sizes: lists of `length` entries as block b, down to blocks of `last`, and
+/// a table of `factors` factors.
 ///
 /// # Examples
 ///
@@ -87,9 +87,11 @@ pub const fn convolves(length: usize, factors: usize, b: usize, last: usize) -> 
     true
 }
 
-/// Replaces xs by xs·ys modulo X^n - c: ys becomes its remainders, as `split` computes them. Here n is the length of
-/// the lists, the table is that of g (`fill_table`), and c is the power of g by the reversed bits of b. Returns false,
-/// with both lists unchanged, exactly where n/last, the number of blocks, has no inverse modulo m.
+/// Replaces xs by xs·ys modulo X^n - c: ys becomes its remainders, as `split` computes them.
+///
+/// Here n is the length of the lists, the table is that of g (`fill_table`), and c is the power of g by the reversed
+/// bits of b. Returns false, with both lists unchanged, exactly where n/last, the number of blocks, has no inverse
+/// modulo m.
 ///
 /// So b = 0 gives the cyclic product, and b = 1 that modulo X^n + 1. The table must be that of some g: with other
 /// factors modulo m, the results are below m and meaningless. No memory is allocated.
@@ -102,7 +104,7 @@ pub const fn convolves(length: usize, factors: usize, b: usize, last: usize) -> 
 /// Panics unless
 ///
 /// - the lists have the same length
-/// - `last` is 1 or 2, the length is `last` times a power of two, and (b + 1)·(n/last) is at most twice the table's length (`convolves` tells)
+/// - `last` is 1 or 2, the length is `last` times a power of two, and (b + 1)·(n/last) is at most twice the table's length ([`convolves`] tells)
 ///
 /// A debug build also panics unless
 ///
@@ -150,9 +152,11 @@ pub fn convolve_block<T: PlainWord, F: PlanEntry<T>>(
     }
 }
 
-/// Replaces xs by the cyclic product xs·ys: as `convolve_block` for b = 0, entry e becomes the sum of x_i·y_j modulo m
-/// over i + j = e or e + n. Returns false as `convolve_block` does: with both lists unchanged, exactly where the number
-/// n/last of blocks has no inverse modulo m. The table must be as for `convolve_block`.
+/// Replaces xs by the cyclic product xs·ys: as [`convolve_block`] for b = 0, entry e becomes the sum of x_i·y_j modulo
+/// m over i + j = e or e + n.
+///
+/// Returns false as `convolve_block` does: with both lists unchanged, exactly where the number n/last of blocks has no
+/// inverse modulo m. The table must be as for `convolve_block`.
 ///
 /// # Panics
 ///
@@ -183,9 +187,11 @@ pub fn convolve_planned<T: PlainWord, F: PlanEntry<T>>(
     convolve_block(m, xs, ys, table, 0, last)
 }
 
-/// Replaces xs by xs·ys modulo X^n + 1: as `convolve_block` for b = 1, entry e becomes the sum of x_i·y_j modulo m over
-/// i + j = e, less that over i + j = e + n. Returns false as `convolve_block` does: with both lists unchanged, exactly
-/// where the number n/last of blocks has no inverse modulo m. The table must be as for `convolve_block`.
+/// Replaces xs by xs·ys modulo X^n + 1: as [`convolve_block`] for b = 1, entry e becomes the sum of x_i·y_j modulo m
+/// over i + j = e, less that over i + j = e + n.
+///
+/// Returns false as `convolve_block` does: with both lists unchanged, exactly where the number n/last of blocks has no
+/// inverse modulo m. The table must be as for `convolve_block`.
 ///
 /// # Panics
 ///

@@ -51,7 +51,7 @@ fn are_powers<T: PlainWord, F: PlanEntry<T>>(m: &PlannedModulus<T>, g: T, table:
     true
 }
 
-/// Whether the table is that of g (`fill_table`).
+/// Whether the table is that of g ([`fill_table`]).
 ///
 /// # Preconditions
 ///

@@ -164,8 +164,10 @@ pub fn join<T: PlainWord, F: PlanEntry<T>>(m: &PlannedModulus<T>, xs: &mut [T], 
 }
 
 /// Undoes `split`, times a factor and the number of blocks: it joins the blocks as `join` does and multiplies each
-/// coefficient by the factor. With the inverse modulo m of the number of blocks as the factor, the results are the
-/// coefficients themselves. The table must be as for `join`.
+/// coefficient by the factor.
+///
+/// With the inverse modulo m of the number of blocks as the factor, the results are the coefficients themselves. The
+/// table must be as for `join`.
 ///
 /// # Panics
 ///

@@ -7,8 +7,9 @@ use crate::modular_plan_passes::join_stages::{join_known, join_stage};
 use crate::modular_plan_passes::join_steps::JoinSteps;
 use crate::modular_prim::plain_word::PlainWord;
 
-/// The stages that start from blocks of `last` entries. The result is the number of blocks times the list whose
-/// remainders the entries are, below the bound.
+/// The stages that start from blocks of `last` entries.
+///
+/// The result is the number of blocks times the list whose remainders the entries are, below the bound.
 ///
 /// # Preconditions
 ///
@@ -41,7 +42,9 @@ pub fn join_blocks<T: PlainWord, F: PlanEntry<T>, M: JoinSteps<T>>(
     }
 }
 
-/// The passes of two stages while more than four blocks are left. Returns the length of the blocks then.
+/// The passes of two stages while more than four blocks are left.
+///
+/// Returns the length of the blocks then.
 ///
 /// # Preconditions
 ///

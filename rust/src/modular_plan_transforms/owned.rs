@@ -11,7 +11,9 @@ use crate::modular_word::path_word::PathWord;
 use core::marker::PhantomData;
 
 /// A plan that keeps its table: for transforms of n entries, it has an odd modulus m, a root g that suits n, and a
-/// container of the n/2 factors of its powers. A struct can own one; `plan` lends it as a `Plan`.
+/// container of the n/2 factors of its powers.
+///
+/// A struct can own one; `plan` lends it as a [`Plan`].
 ///
 /// The container is an array, which `new` fills, or any other that lends the same entries each time, which `with_table`
 /// takes filled. An array is part of the value: a large table may overflow the stack, and belongs in a `Vec`.
@@ -53,10 +55,12 @@ impl<T: PathWord, F: PlanEntry<T>, S: AsRef<[F]> + Clone> Clone for OwnedPlan<T,
 }
 
 impl<T: PlainWord, F: PlanEntry<T>, const N: usize> OwnedPlan<T, F, [F; N]> {
-    /// The plan of g: for n = 2·N entries, its table is an array of N factors. `None` exactly as `Plan::new`: where m
-    /// is even, g isn't below m, or g doesn't suit n.
+    /// The plan of g: for n = 2·N entries, its table is an array of N factors.
     ///
-    /// g is a residue, such as `find_root` over `Vanilla` returns: other reducers return a form of it (see `Plan::new`).
+    /// `None` exactly as [`Plan::new`]: where m is even, g isn't below m, or g doesn't suit n.
+    ///
+    /// g is a residue, such as `find_root` over `Vanilla` returns: other reducers return a form of it (see
+    /// `Plan::new`).
     ///
     /// # Examples
     ///
@@ -87,9 +91,10 @@ impl<T: PlainWord, F: PlanEntry<T>, const N: usize> OwnedPlan<T, F, [F; N]> {
 }
 
 impl<T: PlainWord, F: PlanEntry<T>, S: AsRef<[F]>> OwnedPlan<T, F, S> {
-    /// The plan of g over a filled container: for n entries, n being twice its length. `None` exactly as
-    /// `Plan::with_table`: where m is even, g isn't below m, g doesn't suit n, or an entry isn't the one that
-    /// `fill_table` makes.
+    /// The plan of g over a filled container: for n entries, n being twice its length.
+    ///
+    /// `None` exactly as [`Plan::with_table`]: where m is even, g isn't below m, g doesn't suit n, or an entry isn't
+    /// the one that [`fill_table`] makes.
     ///
     /// It tests the whole table, as `Plan::with_table` does.
     ///

@@ -48,8 +48,9 @@ impl<'a, T: PathWord, F: PlanEntry<T>> Clone for Plan<'a, T, F> {
 impl<'a, T: PathWord, F: PlanEntry<T>> Copy for Plan<'a, T, F> {}
 
 impl<'a, T: PlainWord, F: PlanEntry<T>> Plan<'a, T, F> {
-    /// Fills the table of g and returns the plan: for n entries, n being twice the length of the table. `None` exactly
-    /// where m is even, g isn't below m, or g doesn't suit n.
+    /// Fills the table of g and returns the plan: for n entries, n being twice the length of the table.
+    ///
+    /// `None` exactly where m is even, g isn't below m, or g doesn't suit n.
     ///
     /// Modulo an even m the number n would have no inverse, and so the transform would have none. Where it returns
     /// `None`, it has written nothing to the table.
@@ -83,9 +84,10 @@ impl<'a, T: PlainWord, F: PlanEntry<T>> Plan<'a, T, F> {
         Some(Plan::over(m, g, table))
     }
 
-    /// The plan of g over a filled table: for n entries, n being twice its length. `None` exactly as `Plan::new`, or
-    /// where the table isn't that of g: m is even, g isn't below m, g doesn't suit n, or an entry isn't the factor of
-    /// its power, or has another quotient.
+    /// The plan of g over a filled table: for n entries, n being twice its length.
+    ///
+    /// `None` exactly as [`Plan::new`], or where the table isn't that of g: m is even, g isn't below m, g doesn't suit
+    /// n, or an entry isn't the factor of its power, or has another quotient.
     ///
     /// It takes a product for each entry's power and one for its quotient.
     ///
@@ -113,14 +115,15 @@ impl<'a, T: PlainWord, F: PlanEntry<T>> Plan<'a, T, F> {
         Some(Plan::over(m, g, table))
     }
 
-    /// The plan of g over a filled table, which isn't tested: for n entries, n being twice its length. A struct that
-    /// owns its table makes its plan so at each call.
+    /// The plan of g over a filled table, which isn't tested: for n entries, n being twice its length.
+    ///
+    /// A struct that owns its table makes its plan so at each call.
     ///
     /// # Preconditions
     ///
     /// - m is odd
     /// - g is below m and suits n
-    /// - the table is that of g (`fill_table`)
+    /// - the table is that of g ([`fill_table`])
     ///
     /// No build tests this: where it doesn't hold, the call panics or its result is unspecified.
     #[inline]
@@ -217,8 +220,9 @@ impl<'a, T: PlainWord, F: PlanEntry<T>> Plan<'a, T, F> {
         self.root
     }
 
-    /// The number n of entries: twice the length of the table. Where no `usize` holds it, which takes a table of
-    /// entries without a size, it is the greatest `usize`.
+    /// The number n of entries: twice the length of the table.
+    ///
+    /// Where no `usize` holds it, which takes a table of entries without a size, it is the greatest `usize`.
     ///
     /// # Examples
     ///

@@ -83,9 +83,11 @@ fn multiply_pairs<T: PlainWord, F: PlanEntry<T>>(m: &PlannedModulus<T>, xs: &mut
 }
 
 /// Multiplies xs by ys, block by block: the blocks of `last` entries, below block b of the tree of remainders, as
-/// polynomials modulo X^last - c, with the constants c of `split`. So the products of two lists of remainders are the
-/// remainders of a product. For `last` = 1 entries of equal index are multiplied. The table must be the one by which
-/// the lists were split: with other factors modulo m, the results are below m and meaningless.
+/// polynomials modulo X^last - c, with the constants c of `split`.
+///
+/// So the products of two lists of remainders are the remainders of a product. For `last` = 1 entries of equal index
+/// are multiplied. The table must be the one by which the lists were split: with other factors modulo m, the results
+/// are below m and meaningless.
 ///
 /// # Panics
 ///

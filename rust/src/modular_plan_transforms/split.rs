@@ -75,12 +75,16 @@ pub fn split_loosely<T: PlainWord, F: PlanEntry<T>>(m: &PlannedModulus<T>, xs: &
 }
 
 /// Splits block b into its remainders modulo X^last - c: in the tree of remainders, entry i of block j becomes the sum
-/// over k of x_(k·last + i)·c^k modulo m, a coefficient of the remainder. Here the table is that of a root g
-/// (`fill_table`), count is the number of blocks, and c is the power of g by the reversed bits of b·count + j.
+/// over k of x_(k·last + i)·c^k modulo m, a coefficient of the remainder.
+///
+/// Here the table is that of a root g (`fill_table`), count is the number of blocks, and c is the power of g by the
+/// reversed bits of b·count + j.
 ///
 /// So b = 0 and last = 1 give the transform by g, in bit-reversed order; b = 1 starts from a
-/// polynomial modulo X^n + 1. The table must be that of some root, of any length that suffices: with other factors
-/// modulo m, the results are below m and meaningless.
+/// polynomial modulo X^n + 1.
+///
+/// The table must be that of some root, of any length that suffices: with other factors modulo m, the results are below
+/// m and meaningless.
 ///
 /// Each pass over the list does two stages; a single one comes first where their number is odd.
 ///
@@ -89,8 +93,8 @@ pub fn split_loosely<T: PlainWord, F: PlanEntry<T>>(m: &PlannedModulus<T>, xs: &
 ///
 /// # Panics
 ///
-/// Panics unless `splits` accepts the sizes: the number of entries is `last` times a power of two, and
-/// the table has at least (b + 1)·(count/2) entries.
+/// Panics unless [`splits`] accepts the sizes: the number of entries is `last` times a power of two,
+/// and the table has at least (b + 1)·(count/2) entries.
 ///
 /// A debug build also panics unless
 ///

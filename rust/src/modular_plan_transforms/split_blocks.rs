@@ -6,8 +6,9 @@ use crate::modular_plan_passes::split_stages::{split_pass, split_stage};
 use crate::modular_plan_passes::split_steps::SplitSteps;
 use crate::modular_prim::plain_word::PlainWord;
 
-/// All stages from block b down to blocks of `last` entries. Where their number is odd, a single stage comes first,
-/// so that each other pass does two.
+/// All stages from block b down to blocks of `last` entries.
+///
+/// Where their number is odd, a single stage comes first, so that each other pass does two.
 ///
 /// # Preconditions
 ///

@@ -52,7 +52,8 @@ pub(crate) fn inverse_of_power<T: PlainWord>(m: &PlannedModulus<T>, bits: u32) -
     part
 }
 
-/// The factor of the inverse of a number of blocks modulo m, with which `join_scaled` divides by that number.
+/// The factor of the inverse of a number of blocks modulo m, with which [`join_scaled`] divides by that number.
+///
 /// `None` exactly where there is no inverse: m is even, and there are two blocks or more.
 ///
 /// Source: halvings of 1.

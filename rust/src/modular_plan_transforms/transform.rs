@@ -8,6 +8,7 @@ use crate::modular_prim::plain_word::PlainWord;
 use crate::modular_transform::order::reverse_places;
 
 /// Replaces xs by its transform, in natural order: entry j becomes the sum over i of x_i·h^(i·j) modulo m, below m.
+///
 /// Here the table is that of a root g (`fill_table`), and h is g, or, where the table is for more entries, the power of
 /// g that suits n entries. The table must be that of some root: with other factors modulo m, the results are below m
 /// and meaningless.

@@ -42,8 +42,9 @@ pub fn sum_once<T: PathWord>(a: T, b: T, m: T) -> T {
     }
 }
 
-/// The residue of a + b, below m. A carry or a comparison chooses between two sums; both need a, so that LLVM
-/// selects without a branch.
+/// The residue of a + b, below m.
+///
+/// A carry or a comparison chooses between two sums; both need a, so that LLVM selects without a branch.
 ///
 /// # Preconditions
 ///
@@ -132,7 +133,7 @@ fn summed_difference<T: PathWord>(a: T, b: T, m: T) -> T {
     less.wrapping_add(back)
 }
 
-/// The residue of a - b, as `sub_below` returns it, but branchless for words of 64 bits: the latency is higher, but
+/// The residue of a - b, as [`sub_below`] returns it, but branchless for words of 64 bits: the latency is higher, but
 /// no branch mispredicts where either number may be the greater.
 ///
 /// # Preconditions
@@ -146,7 +147,7 @@ pub fn branchless_sub_below<T: PathWord>(a: T, b: T, m: T) -> T {
     a.minus_modulo(b, m)
 }
 
-/// The residue of 2a, below m, as `dbl_below` returns it, but faster in loops where m isn't a constant: at 32 bits
+/// The residue of 2a, below m, as [`dbl_below`] returns it, but faster in loops where m isn't a constant: at 32 bits
 /// and more LLVM turns the choice of `dbl_below` into a branch in some of them, which mispredicts.
 ///
 /// # Preconditions

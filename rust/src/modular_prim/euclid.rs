@@ -16,7 +16,7 @@ fn step<T: PlainWord>(last_r: T, r: T, last_t: T, t: T) -> (T, T) {
 
 /// The inverse of a modulo m, below m; `None` exactly where there is none.
 ///
-/// Source: that of `invm_counted`.
+/// Source: that of [`invm_counted`].
 ///
 /// # Panics
 ///

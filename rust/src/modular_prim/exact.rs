@@ -55,8 +55,9 @@ pub trait DivExact<Rhs, Precompute>: Sized {
 /// assert_eq!(n, 13);
 /// ```
 pub trait DivExactAssign<Rhs, Precompute>: Sized + DivExact<Rhs, Precompute, Output = Self> {
-    /// Whether d divides the number, which then becomes the quotient: if so, it returns true. Where d doesn't divide
-    /// the number, it returns false and leaves it unchanged.
+    /// Whether d divides the number, which then becomes the quotient: if so, it returns true.
+    ///
+    /// Where d doesn't divide the number, it returns false and leaves it unchanged.
     ///
     /// # Panics
     ///
@@ -79,7 +80,7 @@ pub trait DivExactAssign<Rhs, Precompute>: Sized + DivExact<Rhs, Precompute, Out
     fn div_exact_assign(&mut self, d: Rhs, pre: &Precompute) -> bool;
 }
 
-/// The body of `div_exact_assign` for words, by `div_exact`.
+/// The body of [`div_exact_assign`] for words, by [`div_exact`].
 ///
 /// # Preconditions
 ///

@@ -90,7 +90,9 @@ fn inverse_below<T: PathWord>(x: T, m: T) -> Option<T> {
     Some(without_twos(factor, pair.twos, m))
 }
 
-/// The inverse of a modulo m; `None` exactly where there is none. a may be above m.
+/// The inverse of a modulo m; `None` exactly where there is none.
+///
+/// a may be above m.
 ///
 /// Each turn of the loop replaces the greater of two numbers by the odd part of their difference, until they are
 /// equal. It keeps their factors up to a power of two, which Montgomery's reduction removes at the end. The only
@@ -122,7 +124,7 @@ pub fn inverse_by_subtraction<T: PlainWord>(a: T, m: T) -> Option<T> {
 
 /// The inverse of a modulo m, below m; `None` exactly where there is none.
 ///
-/// For an odd m it is computed by subtraction, as in `inverse_by_subtraction`, for an even one as in `invm`.
+/// For an odd m it is computed by subtraction, as in [`inverse_by_subtraction`], for an even one as in [`invm`].
 ///
 /// # Preconditions
 ///

@@ -10,8 +10,8 @@ use crate::modular_word::paths::{div_2by1, neginv, redc, two};
 
 /// The residue of the power of `base` to `exp`, below m; that of 1 for the exponent 0.
 ///
-/// The exponents 0, 1 and 2 take one division at most, and 3 takes two in words of at most 16 bits or where the square of
-/// m fits a word. Otherwise no step of the loop divides a double word of more than 16 bits: products are reduced by
+/// The exponents 0, 1 and 2 take one division at most, and 3 takes two in words of at most 16 bits or where the square
+/// of m fits a word. Otherwise no step of the loop divides a double word of more than 16 bits: products are reduced by
 /// Montgomery's reduction for an odd m, by the reciprocal of m for an even one.
 ///
 /// # Panics

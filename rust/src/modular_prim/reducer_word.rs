@@ -7,8 +7,9 @@ use crate::modular_prim::plain_word::PlainWord;
 use crate::modular_word::path_word::PathWord;
 use crate::modular_word::paths::ones;
 
-/// A machine word with what reducers divide for: inverses, and a number that is computed once for each modulus. It
-/// has no quotient and no remainder, so that code over this trait alone can't reduce a product by one.
+/// A machine word with what reducers divide for: inverses, and a number that is computed once for each modulus.
+///
+/// It has no quotient and no remainder, so that code over this trait alone can't reduce a product by one.
 pub trait ReducerWord: Sized + PathWord {
     /// The inverse of a modulo m, below m; `None` exactly where there is none.
     ///

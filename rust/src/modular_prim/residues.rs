@@ -12,7 +12,9 @@ fn spares_division<T: PathWord>(a: T, m: T) -> bool {
     T::bits() > 16 && a.is_below(m)
 }
 
-/// The residue of a word, below m. A word of more than 16 bits that is below m is returned without a division.
+/// The residue of a word, below m.
+///
+/// A word of more than 16 bits that is below m is returned without a division.
 ///
 /// # Panics
 ///
@@ -62,7 +64,9 @@ fn congruent_sum<T: PathWord>(a: T, b: T, m: T) -> T {
     }
 }
 
-/// The residue of a + b, below m. There is no division where words have more than 16 bits and both are below m.
+/// The residue of a + b, below m.
+///
+/// There is no division where words have more than 16 bits and both are below m.
 ///
 /// Other words of more than 16 bits take one division of a word, which is faster on some processors than that of the
 /// double word a + b.
@@ -82,8 +86,9 @@ pub fn addm<T: PlainWord>(a: T, b: T, m: T) -> T {
     }
 }
 
-/// The residue of a - b, below m. There is no division where words have more than 16 bits and differ by less than
-/// m.
+/// The residue of a - b, below m.
+///
+/// There is no division where words have more than 16 bits and differ by less than m.
 ///
 /// One remainder serves both cases of a comparison of a and b, which often mispredicts.
 ///

@@ -41,7 +41,7 @@ pub struct ReducedInt<T, R> {
     pub(crate) reducer: R,
 }
 
-/// An integer over `Vanilla`: modulo m, where the form of a residue is the residue.
+/// An integer over [`Vanilla`]: modulo m, where the form of a residue is the residue.
 ///
 /// # Examples
 ///

@@ -3,7 +3,8 @@
 
 /// Arithmetic modulo m on forms: words that represent the values from 0 to m - 1.
 ///
-/// A word is a *checked form* where `check` returns true: it is the form of exactly one value. Each value has exactly one.
+/// A word is a *checked form* where `check` returns true: it is the form of exactly one value. Each value has exactly
+/// one.
 ///
 /// # Examples
 ///

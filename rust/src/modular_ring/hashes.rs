@@ -17,8 +17,10 @@ use crate::modular_reduced::reduced_int::ReducedInt;
 /// ```
 pub type Hash = ReducedInt<u64, FixedMersenne64<61, 1>>;
 
-/// A base of hashes: n modulo 2^61 - 1. Two different texts of k bytes have the same hash at fewer than k bases, so a
-/// random base distinguishes them with high probability.
+/// A base of hashes: n modulo 2^61 - 1.
+///
+/// Two different texts of k bytes have the same hash at fewer than k bases, so a random base distinguishes them with
+/// high probability.
 ///
 /// # Examples
 ///
@@ -35,8 +37,9 @@ pub fn base(n: u64) -> Hash {
 }
 
 /// The hash of a text: the value at the base of the polynomial with its bytes as coefficients, the highest first,
-/// modulo 2^61 - 1. Texts that differ by zeros in front have the same hash at every base; `mersenne_hash::length_hash`
-/// tells them apart.
+/// modulo 2^61 - 1.
+///
+/// Texts that differ by zeros in front have the same hash at every base; `mersenne_hash::length_hash` tells them apart.
 ///
 /// Source: Karp and Rabin, "Efficient randomized pattern-matching algorithms".
 ///
@@ -59,8 +62,10 @@ pub fn hash(base: Hash, text: &[u8]) -> Hash {
 }
 
 /// The hash of the next window: it moves by one byte, `first` is the byte that it drops at its start, and `next` the
-/// byte that it gains at its end. The result is the hash of the moved window where `window` is that of the old one, and
-/// `power` is the power of the base to the window's length.
+/// byte that it gains at its end.
+///
+/// The result is the hash of the moved window where `window` is that of the old one, and `power` is the power of the
+/// base to the window's length.
 ///
 /// Source: Karp and Rabin, "Efficient randomized pattern-matching algorithms".
 ///
@@ -81,7 +86,9 @@ pub fn roll(base: Hash, power: Hash, window: Hash, first: u8, next: u8) -> Hash 
 }
 
 /// Whether the pattern occurs at a position: the hashes of the pattern, `wanted`, and of the window there are given,
-/// both by one base (`hash`, `roll`). The bytes are compared only where the two are equal.
+/// both by one base ([`hash`], [`roll`]).
+///
+/// The bytes are compared only where the two are equal.
 ///
 /// Source: Karp and Rabin, "Efficient randomized pattern-matching algorithms".
 ///

@@ -4,8 +4,9 @@
 use crate::modular_reduced::reducer::Reducer;
 use crate::modular_word::ring_word::RingWord;
 
-/// Replaces each form by its inverse. Returns false, with the forms unchanged, exactly where one has no inverse
-/// modulo m.
+/// Replaces each form by its inverse.
+///
+/// Returns false, with the forms unchanged, exactly where one has no inverse modulo m.
 ///
 /// The contents of `scratch` are ignored, and unspecified afterwards.
 ///

@@ -128,8 +128,8 @@ pub fn are_reduced(moduli: &[u64], residues: &[u64]) -> bool {
 ///
 /// Panics unless
 ///
-/// - the moduli are at least 1, pairwise coprime, and their product is below 2^128 (`is_system` tells)
-/// - there are as many residues as moduli, each below its modulus (`are_reduced` tells)
+/// - the moduli are at least 1, pairwise coprime, and their product is below 2^128 ([`is_system`] tells)
+/// - there are as many residues as moduli, each below its modulus ([`are_reduced`] tells)
 ///
 /// # Examples
 ///

@@ -83,8 +83,9 @@ pub enum RingCommand<T> {
         /// The register of the operand.
         a: usize,
     },
-    /// Writes the quotient of two registers: the first times the inverse of the second. The run stops where that
-    /// has no inverse, even where the first holds 0.
+    /// Writes the quotient of two registers: the first times the inverse of the second.
+    ///
+    /// The run stops where that has no inverse, even where the first holds 0.
     Div {
         /// The register that is written.
         dst: usize,
@@ -113,8 +114,8 @@ impl<T: Copy> Clone for RingCommand<T> {
 
 impl<T: Copy> Copy for RingCommand<T> {}
 
-/// A command as `run` reads it: `RingCommand` itself, or a struct of the caller that represents one, such as one with
-/// the layout of another language.
+/// A command as [`run`] reads it: [`RingCommand`] itself, or a struct of the caller that represents one, such as one
+/// with the layout of another language.
 ///
 /// # Examples
 ///
@@ -366,10 +367,10 @@ fn carry_out<T: RingWord, R: Reducer<T>>(r: &R, regs: &mut [T], last: &mut Last<
 ///
 /// # Panics
 ///
-/// Panics unless each register number is below the number of registers (`commands_fit` tells): a
+/// Panics unless each register number is below the number of registers ([`commands_fit`] tells): a
 /// release build panics at the first command that it reaches and that names another one.
 ///
-/// A debug build also panics unless each register holds a checked form (`all_checked` tells).
+/// A debug build also panics unless each register holds a checked form ([`all_checked`] tells).
 ///
 /// A release build doesn't test this: where it doesn't hold, the call panics or its result is unspecified.
 ///

@@ -5,7 +5,9 @@ use crate::modular_reduced::reducer::Reducer;
 use crate::modular_secret::inverse::invm_secret;
 use crate::modular_secret::secret_word::{chosen, odd_mask, SecretWord};
 
-/// The power and the number of products: two for each of the `bits` binary digits. The power is that of `pow_secret`.
+/// The power and the number of products: two for each of the `bits` binary digits.
+///
+/// The power is that of [`pow_secret`].
 ///
 /// # Panics
 ///
@@ -48,12 +50,12 @@ pub fn pow_secret_counted<T: SecretWord, R: Reducer<T>>(reducer: &R, base: T, ex
 
 /// The form of the power: what `pow` of the reducer returns, for a secret exponent.
 ///
-/// Every exponent below 2^`bits` takes the same products; `bits` is public. That no branch and no address depends on the
-/// base or the exponent is only tested, on the machine code; and it needs `mul` and `sqr` of the reducer to have none.
-/// Over words, it is the `powm` of a secret exponent: `transform` the base, and take the `residue` of the power.
+/// Every exponent below 2^`bits` takes the same products; `bits` is public. That no branch and no address depends on
+/// the base or the exponent is only tested, on the machine code; and it needs `mul` and `sqr` of the reducer to have
+/// none. Over words, it is the `powm` of a secret exponent: `transform` the base, and take the `residue` of the power.
 ///
-/// Source: Coron, "Resistance against differential power analysis for elliptic curve cryptosystems", CHES 1999, here from
-/// the lowest digit: each digit takes a square and a product, which a mask keeps or drops.
+/// Source: Coron, "Resistance against differential power analysis for elliptic curve cryptosystems", CHES 1999, here
+/// from the lowest digit: each digit takes a square and a product, which a mask keeps or drops.
 ///
 /// # Panics
 ///
@@ -81,8 +83,9 @@ pub fn pow_secret<T: SecretWord, R: Reducer<T>>(reducer: &R, base: T, exp: &T, b
     pow_secret_counted(reducer, base, exp, bits).0
 }
 
-/// The form of the inverse; `None` exactly where there is none. It is what `inv` of the reducer returns for an odd m, by the
-/// steps of `invm_secret`.
+/// The form of the inverse; `None` exactly where there is none.
+///
+/// It is what `inv` of the reducer returns for an odd m, by the steps of [`invm_secret`].
 ///
 /// It has no more branches than that if `residue` and `transform` of the reducer have none.
 ///

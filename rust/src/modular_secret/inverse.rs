@@ -69,7 +69,9 @@ fn divided_by_twos<T: SecretWord>(v: T, m: T) -> T {
     redc(m, negated_inverse, once.shift_left_wide(1))
 }
 
-/// The inverse and the number of steps: 2w - 1 for words of w bits, whatever a and m are. The inverse is that of `invm_secret`.
+/// The inverse and the number of steps: 2w - 1 for words of w bits, whatever a and m are.
+///
+/// The inverse is that of [`invm_secret`].
 ///
 /// # Panics
 ///
@@ -97,16 +99,19 @@ pub fn invm_secret_counted<T: SecretWord>(a: T, m: &T) -> (Option<T>, u32) {
     }
 }
 
-/// The inverse of a modulo m; `None` exactly where there is none. It is below m. a may be above m, and is secret.
+/// The inverse of a modulo m; `None` exactly where there is none.
+///
+/// It is below m. a may be above m, and is secret.
 ///
 /// Every a takes the same steps. m is public, and so is whether there is an inverse, which is told at the end. That no
 /// other branch and no address depends on a is only tested, on the machine code.
 ///
-/// A step halves the first of two numbers, or half their difference, by masks; so both together lose a binary digit, and
-/// after 2w - 1 steps the first is 0. The factors are kept up to a power of two, which Montgomery's reduction removes.
+/// A step halves the first of two numbers, or half their difference, by masks; so both together lose a binary digit,
+/// and after 2w - 1 steps the first is 0. The factors are kept up to a power of two, which Montgomery's reduction
+/// removes.
 ///
-/// Source: Kaliski, "The Montgomery inverse and its applications", IEEE Transactions on Computers 44, 1995; with a fixed
-/// number of steps, Bos, "Constant time modular inversion", Journal of Cryptographic Engineering 4, 2014.
+/// Source: Kaliski, "The Montgomery inverse and its applications", IEEE Transactions on Computers 44, 1995; with a
+/// fixed number of steps, Bos, "Constant time modular inversion", Journal of Cryptographic Engineering 4, 2014.
 ///
 /// # Panics
 ///

@@ -4,7 +4,9 @@
 use crate::modular_prim::reducer_word::ReducerWord;
 use crate::modular_word::path_word::PathWord;
 
-/// A machine word with what a choice by a mask needs. A mask has all bits set, or none.
+/// A machine word with what a choice by a mask needs.
+///
+/// A mask has all bits set, or none.
 ///
 /// # Examples
 ///

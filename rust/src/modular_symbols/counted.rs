@@ -11,8 +11,8 @@ pub mod w8;
 #[cfg(target_pointer_width = "64")]
 pub mod wsize;
 
-/// The Jacobi symbol over n of a number, given by its sign and its magnitude, and the number of halvings and swaps, counted
-/// from its residue; `None` exactly for an even n.
+/// The Jacobi symbol over n of a number, given by its sign and its magnitude, and the number of halvings and swaps,
+/// counted from its residue; `None` exactly for an even n.
 #[must_use]
 #[inline]
 pub fn checked_jacobi_counted<T: PlainWord>(a_minus: bool, a: T, n: T) -> Option<(i8, u32)> {

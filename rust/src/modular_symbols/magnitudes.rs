@@ -40,8 +40,10 @@ pub fn checked_jacobi<T: PlainWord>(a_minus: bool, a: T, n_minus: bool, n: T) ->
     }
 }
 
-/// 0, 1 or -1, where a^((n - 1)/2), with the exponent rounded down, is congruent to 0, 1 or n - 1 modulo n, tried
-/// in this order; `None` where it is none of these, and for n below 1. Over an odd prime it is the Jacobi symbol.
+/// 0, 1 or -1, where a^((n - 1)/2), with the exponent rounded down, is congruent to 0, 1 or n - 1 modulo n, tried in
+/// this order; `None` where it is none of these, and for n below 1.
+///
+/// Over an odd prime it is the Jacobi symbol.
 ///
 /// # Preconditions
 ///

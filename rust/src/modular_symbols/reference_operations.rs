@@ -3,7 +3,7 @@
 
 use crate::modular_symbols::operations::ModularOps;
 
-/// All operations and symbols of words, by reference: the results are those of `ModularOps`.
+/// All operations and symbols of words, by reference: the results are those of [`ModularOps`].
 ///
 /// # Examples
 ///

@@ -4,7 +4,9 @@
 use crate::modular_symbols::magnitudes;
 use crate::modular_symbols::operands::SymbolWord;
 
-/// The symbols of a number over n. A symbol is -1, 0 or 1.
+/// The symbols of a number over n.
+///
+/// A symbol is -1, 0 or 1.
 ///
 /// Not for secrets.
 ///
@@ -41,6 +43,7 @@ pub trait ModularSymbols<Modulus = Self> {
     }
 
     /// 0, 1 or -1, to which a^((n - 1)/2) is congruent: modulo n, with the exponent rounded down, tried in this order.
+    ///
     /// `None` where it is none of these, and for n below 1.
     ///
     /// For an odd prime n this is the Legendre symbol, which is the Jacobi symbol. The call doesn't test whether n
@@ -92,10 +95,11 @@ pub trait ModularSymbols<Modulus = Self> {
     /// ```
     fn checked_jacobi(&self, n: Modulus) -> Option<i8>;
 
-    /// The Kronecker symbol, for all numbers: of any number over any number, the least ones included. It is the product
-    /// of the Jacobi symbol over the odd part of the magnitude of n, of the symbol over 2 for each factor 2 of n, and
-    /// of -1 where both numbers are negative. The symbol over 2 is 0 for an even number, 1 for one that is 1 or 7
-    /// modulo 8, else -1. Over 0 it is 1 for 1 and -1, and else 0.
+    /// The Kronecker symbol, for all numbers: of any number over any number, the least ones included.
+    ///
+    /// It is the product of the Jacobi symbol over the odd part of the magnitude of n, of the symbol over 2 for each
+    /// factor 2 of n, and of -1 where both numbers are negative. The symbol over 2 is 0 for an even number, 1 for one
+    /// that is 1 or 7 modulo 8, else -1. Over 0 it is 1 for 1 and -1, and else 0.
     ///
     /// Source: Cohen, "A Course in Computational Algebraic Number Theory", definition 1.4.8.
     ///

@@ -16,8 +16,9 @@ fn multiply<T: RingWord, R: Reducer<T>>(r: &R, xs: &mut [T], ys: &mut [T], g: &T
     transform_back(r, xs, g, part);
 }
 
-/// Replaces xs by the cyclic product xs·ys, and ys by its transform: that by g. Returns false, with both lists
-/// unchanged, exactly where their length n has no inverse modulo m.
+/// Replaces xs by the cyclic product xs·ys, and ys by its transform: that by g.
+///
+/// Returns false, with both lists unchanged, exactly where their length n has no inverse modulo m.
 ///
 /// Entry e of xs becomes the form of the sum of x_i·y_j modulo m over i + j = e or e + n. No memory is allocated. n
 /// may be too large for a word.

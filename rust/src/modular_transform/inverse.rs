@@ -26,8 +26,9 @@ pub(crate) fn transform_back<T: RingWord, R: Reducer<T>>(r: &R, xs: &mut [T], g:
     scale_list(r, xs, part);
 }
 
-/// Undoes `ntt`: replaces the entries by those whose transform by g they are. Returns false, with the entries
-/// unchanged, exactly where their number n has no inverse modulo m.
+/// Undoes [`ntt`]: replaces the entries by those whose transform by g they are.
+///
+/// Returns false, with the entries unchanged, exactly where their number n has no inverse modulo m.
 ///
 /// The modulus needn't be prime. No memory is allocated. n may be too large for a word.
 ///

@@ -4,8 +4,9 @@
 use crate::modular_reduced::reducer::Reducer;
 use crate::modular_word::ring_word::RingWord;
 
-/// Stores the forms of the words, then of 0: at each place after the last word. Words that exceed the length of `forms`
-/// are ignored.
+/// Stores the forms of the words, then of 0: at each place after the last word.
+///
+/// Words that exceed the length of `forms` are ignored.
 ///
 /// The result is what `convolve` and `ntt` take: the values are the residues of the words.
 ///
@@ -196,7 +197,9 @@ pub fn scale_list<T: RingWord, R: Reducer<T>>(r: &R, xs: &mut [T], factor: &T) {
     r.scale_entries(xs, factor);
 }
 
-/// The form of Σ x_i·y_i: that of 0 for lists without entries. A reducer may reduce once for many products.
+/// The form of Σ x_i·y_i: that of 0 for lists without entries.
+///
+/// A reducer may reduce once for many products.
 ///
 /// # Panics
 ///

@@ -16,7 +16,9 @@ fn exponent<T: RingWord, R: Reducer<T>>(r: &R, n: usize) -> T {
 }
 
 /// The form of a root that suits n entries: x to the power (m - 1) / n, rounded down, for the least x from 2 to 255 for
-/// which it does. `None` exactly where there is none: it does for none of these x, as where n is no power of two.
+/// which it does.
+///
+/// `None` exactly where there is none: it does for none of these x, as where n is no power of two.
 ///
 /// For a prime m and an n above 1 that divides m - 1 these are the x that aren't squares modulo m.
 ///

@@ -14,7 +14,9 @@ fn pair<T: RingWord, R: Reducer<T>>(r: &R, forms: &mut [T], first: usize, second
 }
 
 /// The first stage with a root: entry i and the one `half` after it become their sum, and their difference times the
-/// power i of the root. Returns the number of products.
+/// power i of the root.
+///
+/// Returns the number of products.
 ///
 /// # Preconditions
 ///

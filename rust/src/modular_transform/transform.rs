@@ -7,8 +7,9 @@ use crate::modular_transform::stage::first_stage;
 use crate::modular_transform::two_stages::two_stages;
 use crate::modular_word::ring_word::RingWord;
 
-/// Whether g suits n entries: n is a power of two, and for n above 1 the value of g to the power n/2 is -1 modulo m. n
-/// may be too large for a word.
+/// Whether g suits n entries: n is a power of two, and for n above 1 the value of g to the power n/2 is -1 modulo m.
+///
+/// n may be too large for a word.
 ///
 /// # Preconditions
 ///
@@ -42,7 +43,7 @@ pub fn root_fits<T: RingWord, R: Reducer<T>>(r: &R, g: &T, n: usize) -> bool {
     r.is_zero(&r.add(&power, &one))
 }
 
-/// `ntt`, and the number of products: n·z/2 + n - 1 + z for n = 2^z.
+/// [`ntt`], and the number of products: n·z/2 + n - 1 + z for n = 2^z.
 ///
 /// The z stages have half blocks of n/2, n/4, .., 1 entries. A stage takes a product for each of its n/2 pairs, a
 /// product for the power of each column, and a square for the root of the next stage.
@@ -52,7 +53,7 @@ pub fn root_fits<T: RingWord, R: Reducer<T>>(r: &R, g: &T, n: usize) -> bool {
 /// Panics unless
 ///
 /// - the length is a power of two
-/// - g suits the length (`root_fits` tells)
+/// - g suits the length ([`root_fits`] tells)
 ///
 /// A debug build also panics unless g and the entries are checked forms.
 ///
@@ -123,7 +124,7 @@ pub fn ntt_counted<T: RingWord, R: Reducer<T>>(r: &R, xs: &mut [T], g: &T) -> u1
 /// Panics unless
 ///
 /// - the length is a power of two
-/// - g suits the length (`root_fits` tells)
+/// - g suits the length ([`root_fits`] tells)
 ///
 /// A debug build also panics unless g and the entries are checked forms.
 ///

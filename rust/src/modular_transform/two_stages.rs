@@ -35,8 +35,9 @@ fn four<T: RingWord, R: Reducer<T>>(r: &R, forms: &mut [T], step: usize, block: 
     forms[fourth_place] = r.mul_difference(&left_turned, &right_turned, &column.both);
 }
 
-/// Two stages, the first with a root and 2·step columns, the second with its square and `step` columns. `turned` is
-/// the power `step` of the root. Returns the number of products.
+/// Two stages, the first with a root and 2·step columns, the second with its square and `step` columns.
+///
+/// `turned` is the power `step` of the root. Returns the number of products.
 ///
 /// The columns are processed in strips, so that consecutive accesses are close in memory.
 ///

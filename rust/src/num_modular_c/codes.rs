@@ -37,3 +37,6 @@ pub const NM_TOO_MANY_ERRORS: u32 = 10;
 
 /// A point has no inverse, so that the share there would say something of the secret.
 pub const NM_POINT_WITHOUT_INVERSE: u32 = 11;
+
+/// The number or word isn't one of the code, or no symbol makes it one.
+pub const NM_NOT_ACCEPTED: u32 = 12;

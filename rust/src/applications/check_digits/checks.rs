@@ -117,9 +117,11 @@ impl<'a> Code<'a> {
         word.len() == self.weights.len() && self.fits_but(word, word.len()) && self.sum(word) == self.residue % self.modulus
     }
 
-    /// Whether the text is a word of the code. It has the word's digits in ASCII, X for 10, and between two of them at
-    /// most one hyphen or space (`is_symbol_text` tells). Where these have to be isn't tested, because for an ISBN it
-    /// depends on the country and the publisher.
+    /// Whether the text is a word of the code.
+    ///
+    /// It has the word's digits in ASCII, X for 10, and between two of them at most one hyphen or space
+    /// (`is_symbol_text` tells). Where these have to be isn't tested, because for an ISBN it depends on the country and
+    /// the publisher.
     ///
     /// # Panics
     ///
@@ -259,7 +261,9 @@ impl<'a> Code<'a> {
     }
 
     /// The symbol that completes the word there: the only one below m that makes it one of the code, in place of an
-    /// erased one. `None` exactly where no symbol below m does. The symbol at `place` is ignored.
+    /// erased one.
+    ///
+    /// `None` exactly where no symbol below m does. The symbol at `place` is ignored.
     ///
     /// # Panics
     ///
@@ -296,8 +300,9 @@ impl<'a> Code<'a> {
         }
     }
 
-    /// The check digit behind the word: the only symbol below m that makes it one of the code, where 10 is X. `None`
-    /// exactly where no symbol below m does.
+    /// The check digit behind the word: the only symbol below m that makes it one of the code, where 10 is X.
+    ///
+    /// `None` exactly where no symbol below m does.
     ///
     /// # Panics
     ///

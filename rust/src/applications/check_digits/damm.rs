@@ -26,8 +26,10 @@ fn check(word: &[u64]) -> u64 {
     state
 }
 
-/// Whether the last digit is right by this method: Damm's. There is at least one digit, each is at most 9, and their
-/// product from the left, from 0 on, is 0 in Damm's quasigroup of order 10.
+/// Whether the last digit is right by this method: Damm's.
+///
+/// There is at least one digit, each is at most 9, and their product from the left, from 0 on, is 0 in Damm's
+/// quasigroup of order 10.
 ///
 /// It detects every change of one digit, and every exchange of two neighbours that differ.
 ///
@@ -50,8 +52,9 @@ pub fn accepts_damm(word: &[u64]) -> bool {
     check(word) == 0
 }
 
-/// The check digit behind the word: the only digit that makes it one that `accepts_damm` accepts. `None` exactly where
-/// a symbol of the word is above 9.
+/// The check digit behind the word: the only digit that makes it one that [`accepts_damm`] accepts.
+///
+/// `None` exactly where a symbol of the word is above 9.
 ///
 /// # Examples
 ///

@@ -114,7 +114,7 @@ fn write_text(text: &[u8], digits: &mut [u64], start: usize) -> usize {
 ///
 /// # Panics
 ///
-/// A debug build panics unless the text has the form of an IBAN (`has_iban_form` tells), and there is
+/// A debug build panics unless the text has the form of an IBAN ([`has_iban_form`] tells), and there is
 /// room for 68 digits.
 ///
 /// A release build doesn't test this: where it doesn't hold, the call panics or its result is unspecified.
@@ -145,12 +145,14 @@ fn check_number(text: &[u8]) -> u8 {
     10 * (text[2] - b'0') + (text[3] - b'0')
 }
 
-/// Whether the text is an IBAN: it has the form of one, its check digits are 02 to 98, and the number that its
-/// digits form in decimal is 1 modulo 97. The length, which depends on the country, isn't tested.
+/// Whether the text is an IBAN: it has the form of one, its check digits are 02 to 98, and the number that its digits
+/// form in decimal is 1 modulo 97.
+///
+/// The length, which depends on the country, isn't tested.
 ///
 /// It detects every change of one character to another of its kind, digit or letter, and every exchange of two
 /// neighbours that differ, except of 1 and B, of 2 and M, and of 3 and X after the check digits. A text with the form
-/// and such check digits is an IBAN exactly where its digits are a word of `iban_code`; so every change of one of
+/// and such check digits is an IBAN exactly where its digits are a word of [`iban_code`]; so every change of one of
 /// these digits and every exchange of two neighbouring digits that differ is detected too.
 ///
 /// # Examples
@@ -206,7 +208,9 @@ fn write_ungrouped(text: &[u8], characters: &mut [u8]) -> usize {
 }
 
 /// Whether the text is an IBAN in groups: its standard prints groups of four characters, with a space between two
-/// groups and no other. For an IBAN without spaces there is `accepts_iban`.
+/// groups and no other.
+///
+/// For an IBAN without spaces there is [`accepts_iban`].
 ///
 /// # Examples
 ///
@@ -231,7 +235,9 @@ pub fn accepts_iban_text(text: &[u8]) -> bool {
 }
 
 /// The two check digits of an IBAN: the characters after those of the country, the only ones that make the text an
-/// IBAN. Those in the text are ignored, and may be 00. `None` exactly where the text hasn't the form of an IBAN.
+/// IBAN.
+///
+/// Those in the text are ignored, and may be 00. `None` exactly where the text hasn't the form of an IBAN.
 ///
 /// # Examples
 ///

@@ -22,8 +22,10 @@ fn sum(word: &[u64], places: usize) -> u64 {
     sum
 }
 
-/// Whether the last digit is right by this method: Luhn's. There is at least one digit, each is at most 9, and their
-/// sum is a multiple of 10, where from the right every second one is doubled and the digits of the double are added.
+/// Whether the last digit is right by this method: Luhn's.
+///
+/// There is at least one digit, each is at most 9, and their sum is a multiple of 10, where from the right every second
+/// one is doubled and the digits of the double are added.
 ///
 /// It detects every change of one digit, and every exchange of two neighbours that differ, except 09 and 90.
 ///
@@ -46,8 +48,9 @@ pub fn accepts_luhn(word: &[u64]) -> bool {
     sum(word, word.len()) == 0
 }
 
-/// The check digit behind the word: the only digit that makes it one that `accepts_luhn` accepts. `None` exactly where
-/// a symbol of the word is above 9.
+/// The check digit behind the word: the only digit that makes it one that [`accepts_luhn`] accepts.
+///
+/// `None` exactly where a symbol of the word is above 9.
 ///
 /// # Examples
 ///

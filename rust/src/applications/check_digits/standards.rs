@@ -3,8 +3,9 @@
 
 use crate::applications::check_digits::Code;
 
-/// The code of a standard: ISBN-10 (ISO 2108, first to third edition). The symbol X, which is allowed only at the last
-/// place, is 10.
+/// The code of a standard: ISBN-10 (ISO 2108, first to third edition).
+///
+/// The symbol X, which is allowed only at the last place, is 10.
 pub const ISBN_10: Code<'static> = Code {
     modulus: 11,
     residue: 0,
@@ -13,8 +14,9 @@ pub const ISBN_10: Code<'static> = Code {
     greatest: &[9, 9, 9, 9, 9, 9, 9, 9, 9, 10],
 };
 
-/// The code of a standard: ISBN-13 is an EAN-13 that begins with 978 or 979 (ISO 2108:2017). Those that begin with 9790
-/// are ISMN, numbers of printed music (ISO 10957), which this code accepts too.
+/// The code of a standard: ISBN-13 is an EAN-13 that begins with 978 or 979 (ISO 2108:2017).
+///
+/// Those that begin with 9790 are ISMN, numbers of printed music (ISO 10957), which this code accepts too.
 pub const ISBN_13: Code<'static> = Code {
     modulus: 10,
     residue: 0,
@@ -35,13 +37,15 @@ pub const EAN_8: Code<'static> =
 pub const UPC_A: Code<'static> =
     Code { modulus: 10, residue: 0, weights: &[3, 1, 3, 1, 3, 1, 3, 1, 3, 1, 3, 1], least: &[0; 12], greatest: &[9; 12] };
 
-/// The code of a standard: ISSN without its hyphen (ISO 3297). The symbol X, which is allowed only at the last place,
-/// is 10.
+/// The code of a standard: ISSN without its hyphen (ISO 3297).
+///
+/// The symbol X, which is allowed only at the last place, is 10.
 pub const ISSN: Code<'static> =
     Code { modulus: 11, residue: 0, weights: &[8, 7, 6, 5, 4, 3, 2, 1], least: &[0; 8], greatest: &[9, 9, 9, 9, 9, 9, 9, 10] };
 
-/// The code of a standard: ORCID without its hyphens (ISO/IEC 7064, MOD 11-2). The symbol X, which is allowed only at
-/// the last place, is 10. ISNI (ISO 27729) has the same code.
+/// The code of a standard: ORCID without its hyphens (ISO/IEC 7064, MOD 11-2).
+///
+/// The symbol X, which is allowed only at the last place, is 10. ISNI (ISO 27729) has the same code.
 pub const ORCID: Code<'static> = Code {
     modulus: 11,
     residue: 1,

@@ -75,9 +75,10 @@ fn write_symbol(c: u8, symbols: &mut [u64], end: usize) -> usize {
     end + 1
 }
 
-/// Writes the symbols, and returns their number: X is 10, and single hyphens or spaces may be between symbols. `None`
-/// exactly where the text isn't such a text, or there is too little room: `is_symbol_text` tells, and nothing is
-/// written.
+/// Writes the symbols, and returns their number: X is 10, and single hyphens or spaces may be between symbols.
+///
+/// `None` exactly where the text isn't such a text, or there is too little room: [`is_symbol_text`] tells, and nothing
+/// is written.
 ///
 /// # Examples
 ///

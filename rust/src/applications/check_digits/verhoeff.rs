@@ -33,9 +33,10 @@ fn product(word: &[u64], first: usize) -> u64 {
     product
 }
 
-/// Whether the last digit is right by this method: Verhoeff's. There is at least one digit, each is at most 9, and the
-/// product of their images in the dihedral group of order 10 is 0. The image of a digit is the digit permuted as many
-/// times as there are digits behind it.
+/// Whether the last digit is right by this method: Verhoeff's.
+///
+/// There is at least one digit, each is at most 9, and the product of their images in the dihedral group of order 10 is
+/// 0. The image of a digit is the digit permuted as many times as there are digits behind it.
 ///
 /// It detects every change of one digit, and every exchange of two neighbours that differ.
 ///
@@ -58,8 +59,9 @@ pub fn accepts_verhoeff(word: &[u64]) -> bool {
     product(word, 0) == 0
 }
 
-/// The check digit behind the word: the only digit that makes it one that `accepts_verhoeff` accepts. `None` exactly
-/// where a symbol of the word is above 9.
+/// The check digit behind the word: the only digit that makes it one that [`accepts_verhoeff`] accepts.
+///
+/// `None` exactly where a symbol of the word is above 9.
 ///
 /// # Examples
 ///

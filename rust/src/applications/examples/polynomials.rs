@@ -4,9 +4,10 @@
 use crate::ring::{convolve, load_forms, unload_forms};
 use crate::Reducer;
 
-/// Writes the coefficients of the product of the polynomials xs and ys to `product`, the lowest first. The scratch
-/// lists have unspecified contents afterwards. Returns false, with `product` unchanged, exactly where the length n
-/// of the scratch lists has no inverse modulo m.
+/// Writes the coefficients of the product of the polynomials xs and ys to `product`, the lowest first.
+///
+/// The scratch lists have unspecified contents afterwards. Returns false, with `product` unchanged, exactly where the
+/// length n of the scratch lists has no inverse modulo m.
 ///
 /// # Preconditions
 ///

@@ -9,8 +9,9 @@ pub const MODULUS: u32 = 8380417;
 /// The standard's zeta: a root of unity of order 512.
 pub const ZETA: u32 = 1753;
 
-/// The ring with its table: it takes 2 KB, zeta^BitRev8(k) modulo q for k from 0 to 255, each with its quotient. For k
-/// from 1 on these are the numbers of the standard's appendix B.
+/// The ring with its table: it takes 2 KB, zeta^BitRev8(k) modulo q for k from 0 to 255, each with its quotient.
+///
+/// For k from 1 on these are the numbers of the standard's appendix B.
 ///
 /// The table is that of zeta, which suits 512 entries. In block 1, modulo X^256 + 1, the constants are the odd
 /// powers zeta^(2·BitRev8(i) + 1), in the standard's order.
@@ -86,7 +87,7 @@ impl Ring {
     ///
     /// # Panics
     ///
-    /// A debug build panics unless the coefficients are residues (`are_residues` tells).
+    /// A debug build panics unless the coefficients are residues ([`are_residues`] tells).
     ///
     /// A release build doesn't test this: where it doesn't hold, the call panics or its result is unspecified.
     ///

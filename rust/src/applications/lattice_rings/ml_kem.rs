@@ -95,7 +95,7 @@ impl Ring {
     ///
     /// # Panics
     ///
-    /// A debug build panics unless the coefficients are residues (`are_residues` tells).
+    /// A debug build panics unless the coefficients are residues ([`are_residues`] tells).
     ///
     /// A release build doesn't test this: where it doesn't hold, the call panics or its result is unspecified.
     ///

@@ -12,9 +12,10 @@ use crate::{ModularPow, ModularUnaryOps, PreMulInv2by1, Reducer};
 /// polynomials, for fewer by the sums.
 pub const LEAST_CONVOLVED: usize = 6;
 
-/// The scratch for n entries: the numbers of words, and of factors of each of the three tables. Both are 0 where n is
-/// below `LEAST_CONVOLVED`; else the words are 6·n more than `polynomials::room(n, 2n - 1)` returns, and the factors
-/// are as many.
+/// The scratch for n entries: the numbers of words, and of factors of each of the three tables.
+///
+/// Both are 0 where n is below [`LEAST_CONVOLVED`]; else the words are 6·n more than `polynomials::room(n, 2n - 1)`
+/// returns, and the factors are as many.
 ///
 /// # Panics
 ///
@@ -182,12 +183,14 @@ fn fill<F: PlanEntry<u64>>(
 }
 
 /// Writes the transform by g of xs: for n numbers modulo m, entry j of `out` is the sum of x_i·g^(i·j) over i from 0 to
-/// n - 1, modulo m. n may be any number, and m needn't be prime. `words` has unspecified contents afterwards. Returns
-/// false, with both lists unchanged, exactly where m is 0, g has no inverse modulo m, or the lengths don't fit: those
-/// of xs and `out` differ, or, for n from `LEAST_CONVOLVED` on, 3·n - 1 is above 2^32, or `words` or a plan's table is
-/// shorter than `room(n)` returns. g and the numbers may be any words. No memory is allocated.
+/// n - 1, modulo m.
 ///
-/// The transform can be undone, by `intt`, where g is a root of order n (`is_root_of_order` tells).
+/// n may be any number, and m needn't be prime. `words` has unspecified contents afterwards. Returns false, with both
+/// lists unchanged, exactly where m is 0, g has no inverse modulo m, or the lengths don't fit: those of xs and `out`
+/// differ, or, for n from [`LEAST_CONVOLVED`] on, 3·n - 1 is above 2^32, or `words` or a plan's table is shorter than
+/// `room(n)` returns. g and the numbers may be any words. No memory is allocated.
+///
+/// The transform can be undone, by [`intt`], where g is a root of order n ([`is_root_of_order`] tells).
 ///
 /// Source: Bluestein, "A linear filtering approach to the computation of discrete Fourier transform", with binomial
 /// coefficients in place of halves of squares, so that no square root of g is needed: i·j = C(i + j, 2) - C(i, 2) -
@@ -222,8 +225,10 @@ pub fn ntt<F: PlanEntry<u64>>(m: u64, g: u64, xs: &[u64], out: &mut [u64], words
 }
 
 /// Writes the inverse transform by g of xs: for n numbers modulo m, entry j of `out` is the sum of x_i·g^(-i·j) over i
-/// from 0 to n - 1, divided by n, modulo m. Where g is a root of order n (`is_root_of_order` tells), it undoes `ntt`.
-/// Returns false as `ntt` does, and where n has no inverse modulo m.
+/// from 0 to n - 1, divided by n, modulo m.
+///
+/// Where g is a root of order n ([`is_root_of_order`] tells), it undoes [`ntt`]. Returns false as `ntt` does, and where
+/// n has no inverse modulo m.
 ///
 /// Source: that of `ntt`; for the inverse von zur Gathen and Gerhard, Modern Computer Algebra, theorem 8.11.
 ///
@@ -255,9 +260,11 @@ pub fn intt<F: PlanEntry<u64>>(m: u64, g: u64, xs: &[u64], out: &mut [u64], word
     }
 }
 
-/// Whether `intt` by g undoes `ntt` of n entries: g is a root of unity of order n modulo m, m and n are at least 1, g^n
-/// is 1 modulo m, and g^d - 1 has an inverse modulo m for each d from 1 to n - 1. Modulo a prime m these are the g of
-/// order n. It takes 2·n products and one inverse where g^n is 1 and n is below m, else at most a power of g.
+/// Whether [`intt`] by g undoes [`ntt`] of n entries: g is a root of unity of order n modulo m, m and n are at least 1,
+/// g^n is 1 modulo m, and g^d - 1 has an inverse modulo m for each d from 1 to n - 1.
+///
+/// Modulo a prime m these are the g of order n. It takes 2·n products and one inverse where g^n is 1 and n is below m,
+/// else at most a power of g.
 ///
 /// Source: von zur Gathen and Gerhard, Modern Computer Algebra, section 8.2: a product has an inverse exactly where all
 /// factors have.
@@ -297,8 +304,9 @@ pub fn is_root_of_order(m: u64, g: u64, n: usize) -> bool {
 }
 
 /// A root of order n modulo m: x to the power (m - 1)/n, rounded down, for the least x from 2 to 255 for which
-/// `is_root_of_order` holds. `None` exactly where m is 0 or there is none. So it is for a prime m and an n that doesn't
-/// divide m - 1.
+/// [`is_root_of_order`] holds.
+///
+/// `None` exactly where m is 0 or there is none. So it is for a prime m and an n that doesn't divide m - 1.
 ///
 /// Source: Pollard, "The fast Fourier transform in a finite field", section 3.
 ///

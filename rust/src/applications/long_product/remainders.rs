@@ -6,8 +6,10 @@ use crate::applications::long_product::primes::{FIRST_PRIME, SECOND_PRIME};
 use crate::applications::long_product::reciprocal::{reciprocal_of, remainder};
 use crate::PreMulInv2by1;
 
-/// The least number of the three primes whose product is above terms·x·y: no sum of so many products is greater,
-/// where each has a factor that is at most x and one that is at most y. Three primes suffice.
+/// The least number of the three primes whose product is above terms·x·y: no sum of so many products is greater, where
+/// each has a factor that is at most x and one that is at most y.
+///
+/// Three primes suffice.
 ///
 /// # Preconditions
 ///

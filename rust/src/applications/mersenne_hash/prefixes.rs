@@ -53,8 +53,10 @@ fn fill_prefixes(base: Hash, text: &[u8], hashes: &mut [Hash], powers: &mut [Has
 }
 
 impl<'a> PrefixHashes<'a> {
-    /// Fills both lists and returns them with the text. `None` exactly where the lengths don't fit: one of them doesn't
-    /// have one entry more than the text. It takes two products for each byte.
+    /// Fills both lists and returns them with the text.
+    ///
+    /// `None` exactly where the lengths don't fit: one of them doesn't have one entry more than the text. It takes two
+    /// products for each byte.
     ///
     /// # Examples
     ///
@@ -75,7 +77,7 @@ impl<'a> PrefixHashes<'a> {
         Some(PrefixHashes { text, base, hashes, powers })
     }
 
-    /// The hash of a part of the text: from `from` up to, and without, `to`, as `hash` gives it.
+    /// The hash of a part of the text: from `from` up to, and without, `to`, as [`hash`] gives it.
     ///
     /// Source: Karp and Rabin, "Efficient randomized pattern-matching algorithms".
     ///
@@ -103,8 +105,9 @@ impl<'a> PrefixHashes<'a> {
         self.hashes[to] - self.hashes[from] * self.powers[to - from]
     }
 
-    /// The next position of the pattern: the first from `from` on; `None` exactly where it occurs nowhere there. So the
-    /// next one is found from the position after it.
+    /// The next position of the pattern: the first from `from` on; `None` exactly where it occurs nowhere there.
+    ///
+    /// So the next one is found from the position after it.
     ///
     /// The result is right for every base, because the bytes of a part are compared where its hash is the pattern's.
     ///

@@ -34,9 +34,10 @@ fn residue_by_run(
 impl<'a> ResidueSystem<'a> {
     /// Whether commands were carried out, with the residues of one register: modulo each modulus, from registers that
     /// start with the numbers, it writes those of the register's value after the commands, computed on whole numbers
-    /// modulo the product of the moduli. All are carried out exactly where each inverse that they need exists modulo
-    /// the product. Where it returns false, some of the residues may be unwritten. The contents of the registers are
-    /// ignored.
+    /// modulo the product of the moduli.
+    ///
+    /// All are carried out exactly where each inverse that they need exists modulo the product. Where it returns false,
+    /// some of the residues may be unwritten. The contents of the registers are ignored.
     ///
     /// # Panics
     ///

@@ -14,8 +14,8 @@ use core::cmp::Ordering;
 /// A system of any number of moduli: these are above 0, any two are coprime, and for each the inverse of the product of
 /// those before it, by which its digit is computed, is in a list of the caller.
 ///
-/// Source: Garner, "The residue number system"; Knuth, The Art of Computer Programming, volume 2, section 4.3.2, (24) and
-/// (25).
+/// Source: Garner, "The residue number system"; Knuth, The Art of Computer Programming, volume 2, section 4.3.2, (24)
+/// and (25).
 ///
 /// # Examples
 ///
@@ -56,8 +56,10 @@ fn inverse_at(moduli: &[u64], place: usize) -> Option<u64> {
     product_modulo(m, moduli, place).invm(&m)
 }
 
-/// Whether the moduli are coprime: each is above 0, and any two are coprime. `System::new` accepts exactly these
-/// moduli, with a list of as many entries. It takes about n²/2 products for n moduli.
+/// Whether the moduli are coprime: each is above 0, and any two are coprime.
+///
+/// [`System::new`] accepts exactly these moduli, with a list of as many entries. It takes about n²/2 products for n
+/// moduli.
 ///
 /// # Examples
 ///
@@ -111,10 +113,13 @@ pub(crate) fn write_residues(moduli: &[u64], digits: &[u64], others: &[u64], res
 }
 
 impl<'a> System<'a> {
-    /// The system of these moduli: it fills the list of inverses. `None` exactly where the moduli aren't coprime or the
-    /// lengths differ: a modulus is 0, two have a common divisor above 1, or the lists have different lengths.
+    /// The system of these moduli: it fills the list of inverses.
     ///
-    /// After `None` the list holds what it held: the moduli are tested, by `is_coprime_system`, before an entry is written.
+    /// `None` exactly where the moduli aren't coprime or the lengths differ: a modulus is 0, two have a common divisor
+    /// above 1, or the lists have different lengths.
+    ///
+    /// After `None` the list holds what it held: the moduli are tested, by [`is_coprime_system`], before an entry is
+    /// written.
     ///
     /// # Examples
     ///
@@ -134,8 +139,10 @@ impl<'a> System<'a> {
     }
 
     /// Writes the digits of the number with these residues: in the mixed radix of the moduli, for the only one below
-    /// their product. It is digit 0, plus digit 1 times modulus 0, plus digit 2 times moduli 0 and 1, and so on. It
-    /// takes about n²/2 products for n moduli.
+    /// their product.
+    ///
+    /// It is digit 0, plus digit 1 times modulus 0, plus digit 2 times moduli 0 and 1, and so on. It takes about n²/2
+    /// products for n moduli.
     ///
     /// # Panics
     ///

@@ -95,8 +95,10 @@ impl<'a> ResidueSystem<'a> {
         encode(self.moduli, number, residues);
     }
 
-    /// The number with these residues: the only one below the product of the moduli. So `decode` and `encode` undo each
-    /// other: `decode` returns a number below the product from its residues, and `encode` the residues from the number.
+    /// The number with these residues: the only one below the product of the moduli.
+    ///
+    /// So `decode` and [`encode`] undo each other: `decode` returns a number below the product from its residues, and
+    /// `encode` the residues from the number.
     ///
     /// # Panics
     ///

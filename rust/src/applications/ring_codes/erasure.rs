@@ -54,7 +54,7 @@ pub use words::restore_word;
 /// How many points `encode` takes side by side.
 const SIDE: usize = 8;
 
-/// Why a message can't be restored: the first cause, as `restore` names it.
+/// Why a message can't be restored: the first cause, as [`restore`] names it.
 ///
 /// # Examples
 ///
@@ -178,11 +178,12 @@ pub fn encode<T: RingWord, R: Reducer<T>>(r: &R, points: &[T], message: &[T], wo
 }
 
 /// Writes the coefficients of the polynomial through k points: the constant first, of the only one modulo m with k
-/// coefficients that has the first k values at the first k points, k being the length of `coefficients`. Returns false
-/// exactly where these points don't fit.
+/// coefficients that has the first k values at the first k points, k being the length of `coefficients`.
 ///
-/// `weights` is scratch: its contents are ignored, and unspecified afterwards. The contents of `coefficients` are ignored,
-/// and unspecified after false.
+/// Returns false exactly where these points don't fit.
+///
+/// `weights` is scratch: its contents are ignored, and unspecified afterwards. The contents of `coefficients` are
+/// ignored, and unspecified after false.
 ///
 /// Source: Knuth, The Art of Computer Programming, volume 2, section 4.6.4 (Newton's divided differences).
 ///
@@ -232,8 +233,9 @@ pub fn interpolate<T: RingWord, R: Reducer<T>>(
     true
 }
 
-/// Whether the word is that of a message: of k symbols, k being the length of `message`. Where it is, the message is
-/// written to `message`.
+/// Whether the word is that of a message: of k symbols, k being the length of `message`.
+///
+/// Where it is, the message is written to `message`.
 ///
 /// `weights` is scratch: its contents are ignored, and unspecified afterwards. The contents of `message` are
 /// ignored, and unspecified after false.
@@ -249,7 +251,7 @@ pub fn interpolate<T: RingWord, R: Reducer<T>>(
 /// A debug build also panics unless
 ///
 /// - points and word are checked forms
-/// - the points fit (`points_fit` tells)
+/// - the points fit ([`points_fit`] tells)
 ///
 /// A release build doesn't test this: where it doesn't hold, the call panics or its result is unspecified.
 ///
@@ -290,8 +292,9 @@ pub fn is_codeword<T: RingWord, R: Reducer<T>>(r: &R, points: &[T], word: &[T], 
     true
 }
 
-/// Writes the word that begins with the message: the systematic one, and the coefficients of its polynomial. Returns
-/// false, with the word unchanged, exactly where the first k points don't fit.
+/// Writes the word that begins with the message: the systematic one, and the coefficients of its polynomial.
+///
+/// Returns false, with the word unchanged, exactly where the first k points don't fit.
 ///
 /// `weights` is scratch: its contents are ignored, and unspecified afterwards. The contents of `coefficients` are
 /// ignored, and unspecified after false.
@@ -372,17 +375,20 @@ fn choose<T: RingWord>(points: &[T], places: &[usize], chosen: &mut [T]) -> Resu
 }
 
 /// Restores the message from any k places: its k symbols, k being the length of `message`, from the first k places and
-/// the symbols there. `restore_word` also restores every lost symbol.
+/// the symbols there.
 ///
-/// It restores what `encode` was given. Of a word that `encode_systematic` wrote, these are the coefficients; its message
-/// is the first k symbols of the word that `restore_word` restores.
+/// [`restore_word`] also restores every lost symbol.
+///
+/// It restores what [`encode`] was given. Of a word that [`encode_systematic`] wrote, these are the coefficients; its
+/// message is the first k symbols of the word that `restore_word` restores.
 ///
 /// `chosen` and `weights` are scratch: their contents are ignored, and unspecified afterwards. The contents of
 /// `message` are ignored, and unspecified after an error.
 ///
 /// # Errors
 ///
-/// The first cause: too few symbols; then the first place that has no point or occurs before; then points that don't fit.
+/// The first cause: too few symbols; then the first place that has no point or occurs before; then points that don't
+/// fit.
 ///
 /// # Panics
 ///

@@ -159,8 +159,9 @@ impl<'a, T: PlainWord, F: PlanEntry<T>> Plan<'a, T, F> {
         join_scaled(&self.modulus, xs, self.table, b, last, &part);
     }
 
-    /// Multiplies xs by ys, entry by entry: modulo m, for lists that `split` made with `last` = 1. For blocks of two
-    /// entries there is the function `multiply`.
+    /// Multiplies xs by ys, entry by entry: modulo m, for lists that `split` made with `last` = 1.
+    ///
+    /// For blocks of two entries there is the function `multiply`.
     ///
     /// # Panics
     ///
@@ -231,7 +232,9 @@ impl<'a, T: PlainWord, F: PlanEntry<T>> Plan<'a, T, F> {
     }
 
     /// Replaces xs by the cyclic product xs·ys: for lists of n entries, entry e becomes the sum of x_i·y_j modulo m
-    /// over i + j = e or e + n. ys becomes its transform in bit-reversed order.
+    /// over i + j = e or e + n.
+    ///
+    /// ys becomes its transform in bit-reversed order.
     ///
     /// # Panics
     ///
@@ -267,7 +270,9 @@ impl<'a, T: PlainWord, F: PlanEntry<T>> Plan<'a, T, F> {
     }
 
     /// Replaces xs by xs·ys modulo X^n + 1: entry e becomes the sum of x_i·y_j modulo m over i + j = e, less that over
-    /// i + j = e + n. ys becomes its remainders modulo X^2 - c, as `split` computes them.
+    /// i + j = e + n.
+    ///
+    /// ys becomes its remainders modulo X^2 - c, as `split` computes them.
     ///
     /// # Panics
     ///

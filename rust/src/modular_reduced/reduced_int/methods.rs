@@ -61,7 +61,9 @@ impl<T, R: Reducer<T>> ReducedInt<T, R> {
         Some(ReducedInt { form, reducer: self.reducer })
     }
 
-    /// The power: to the exponent `exp`, 1 mod m for the exponent 0. `pow_counted` says how many products it takes.
+    /// The power: to the exponent `exp`, 1 mod m for the exponent 0.
+    ///
+    /// `pow_counted` says how many products it takes.
     ///
     /// # Examples
     ///

@@ -9,7 +9,8 @@ use crate::applications::long_product::{entries_for, room_once_from};
 use crate::plans::PlanEntry;
 
 /// The scratch for a product without plans: the numbers of words, and of factors of all three tables together, for
-/// `multiply_once` and its like of polynomials with so many coefficients, as `room` returns them, but for three tables.
+/// [`multiply_once`] and its like of polynomials with so many coefficients, as `room` returns them, but for three
+/// tables.
 ///
 /// # Panics
 ///
@@ -68,11 +69,12 @@ fn fill_fitting_once<F: PlanEntry<u64>>(
 }
 
 /// Writes the product of two polynomials modulo m, with plans of its own: the coefficients, as `multiply` writes them
-/// to `out`. `words` and `factors` have unspecified contents afterwards. Returns false, with all lists unchanged,
-/// exactly where m is 0 or the lengths don't fit: the length of `out` isn't that of the product, or, where xs and ys
-/// both have `LEAST_TRANSFORMED` coefficients or more, they have more than 2^32 together, or `words` or `factors` is
-/// shorter than `room_once` returns. No memory is allocated. For several products, `fill_plans` and `multiply` are
-/// faster.
+/// to `out`.
+///
+/// `words` and `factors` have unspecified contents afterwards. Returns false, with all lists unchanged, exactly where m
+/// is 0 or the lengths don't fit: the length of `out` isn't that of the product, or, where xs and ys both have
+/// [`LEAST_TRANSFORMED`] coefficients or more, they have more than 2^32 together, or `words` or `factors` is shorter
+/// than [`room_once`] returns. No memory is allocated. For several products, `fill_plans` and `multiply` are faster.
 ///
 /// Source: that of `multiply`.
 ///
@@ -103,10 +105,11 @@ pub fn multiply_once<F: PlanEntry<u64>>(
 }
 
 /// `multiply_cyclic`, with plans of its own: it writes the cyclic product of the n numbers xs and the n numbers ys
-/// modulo m to `out`. `words` and `factors` have unspecified contents afterwards. Returns false, with all lists
-/// unchanged, exactly where m is 0 or the lengths don't fit: the three lengths differ, or, for n from
-/// `LEAST_TRANSFORMED` on, n is above 2^31, or `words` or `factors` is shorter than `room_once(n, n)` returns. No
-/// memory is allocated.
+/// modulo m to `out`.
+///
+/// `words` and `factors` have unspecified contents afterwards. Returns false, with all lists unchanged, exactly where m
+/// is 0 or the lengths don't fit: the three lengths differ, or, for n from [`LEAST_TRANSFORMED`] on, n is above 2^31,
+/// or `words` or `factors` is shorter than `room_once(n, n)` returns. No memory is allocated.
 ///
 /// Source: that of `multiply`.
 ///
@@ -137,7 +140,9 @@ pub fn multiply_cyclic_once<F: PlanEntry<u64>>(
 }
 
 /// `multiply_negacyclic`, with plans of its own: it writes the product modulo X^n + 1 of the n numbers xs and the n
-/// numbers ys, modulo m, to `out`. Returns false, with all lists unchanged, exactly where `multiply_cyclic_once` does.
+/// numbers ys, modulo m, to `out`.
+///
+/// Returns false, with all lists unchanged, exactly where [`multiply_cyclic_once`] does.
 ///
 /// Source: that of `multiply`.
 ///

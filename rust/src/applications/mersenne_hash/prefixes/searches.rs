@@ -30,7 +30,7 @@ pub struct Patterns<'a> {
     pub(crate) hashes: &'a [Hash],
 }
 
-/// Whether `Patterns::new` accepts these lengths: that of the list is that many times the size.
+/// Whether [`Patterns::new`] accepts these lengths: that of the list is that many times the size.
 ///
 /// # Examples
 ///
@@ -60,10 +60,13 @@ fn fill_hashes(base: Hash, size: usize, symbols: &[u8], hashes: &mut [Hash]) {
 
 impl<'a> Patterns<'a> {
     /// The patterns that stand one after the other: of this size, in `symbols`, as many as there are entries for
-    /// hashes, which it fills. `None` exactly where the lengths don't fit: that of `symbols` isn't that many times the
-    /// size. It takes one product for each symbol.
+    /// hashes, which it fills.
     ///
-    /// After `None` the hashes are what they were: the lengths are tested, by `are_pattern_lengths`, before one is written.
+    /// `None` exactly where the lengths don't fit: that of `symbols` isn't that many times the size. It takes one
+    /// product for each symbol.
+    ///
+    /// After `None` the hashes are what they were: the lengths are tested, by [`are_pattern_lengths`], before one is
+    /// written.
     ///
     /// # Examples
     ///
@@ -145,7 +148,9 @@ impl<'a> PrefixHashes<'a> {
     }
 
     /// The next position of a pattern, and which it is: the first from `from` on, and the number of the first pattern
-    /// that occurs there; `None` exactly where none occurs there. So the next one is found from the position after it.
+    /// that occurs there; `None` exactly where none occurs there.
+    ///
+    /// So the next one is found from the position after it.
     ///
     /// Source: Karp and Rabin, "Efficient randomized pattern-matching algorithms", section 4.
     ///

@@ -4,8 +4,9 @@
 use crate::applications::residue_numbers::mixed_radix::{number_modulo, write_residues, System};
 
 impl<'a> System<'a> {
-    /// The residue of a number modulo m: by its digits in the mixed radix. The modulus may have divisors in common with
-    /// those of the system.
+    /// The residue of a number modulo m: by its digits in the mixed radix.
+    ///
+    /// The modulus may have divisors in common with those of the system.
     ///
     /// # Panics
     ///
@@ -32,8 +33,10 @@ impl<'a> System<'a> {
     }
 
     /// Writes the residues modulo other moduli: by base extension, of the only number below the product of the system's
-    /// moduli that has these residues. It writes the number's digits too, as `digits` does, and computes with words of
-    /// 64 bits alone. The other moduli may have common divisors.
+    /// moduli that has these residues.
+    ///
+    /// It writes the number's digits too, as `digits` does, and computes with words of 64 bits alone. The other moduli
+    /// may have common divisors.
     ///
     /// Source: Szabo and Tanaka, Residue Arithmetic and Its Applications to Computer Technology.
     ///

@@ -80,15 +80,16 @@ impl<'a> System<'a> {
     }
 
     /// Carries out commands up to the first missing inverse: in order, on numbers modulo the product M of the moduli,
-    /// up to the first whose inverse doesn't exist modulo M, that is, modulo one of the moduli. Each modulus has a
-    /// reducer, over which the commands are run as `num_modular::ring::run` does; a modulus is run twice where a later
-    /// one stops before it. Each of these runs reads the commands anew.
+    /// up to the first whose inverse doesn't exist modulo M, that is, modulo one of the moduli.
+    ///
+    /// Each modulus has a reducer, over which the commands are run as `num_modular::ring::run` does; a modulus is run
+    /// twice where a later one stops before it. Each of these runs reads the commands anew.
     ///
     /// A register takes as many words as there are moduli, and the registers stand one after the other in a list. The
-    /// inputs are words that are congruent, modulo each modulus, to the numbers that the registers start with: such as the
-    /// residues that `encode` writes of words of 64 bits, or `residues` of digits, or a number below 2^64 itself in each
-    /// place. Afterwards each register holds the residues of its value, computed on whole numbers modulo M, after the
-    /// commands that were carried out; `digits` returns the number. The contents of `forms`, which has one entry a
+    /// inputs are words that are congruent, modulo each modulus, to the numbers that the registers start with: such as
+    /// the residues that `encode` writes of words of 64 bits, or `residues` of digits, or a number below 2^64 itself in
+    /// each place. Afterwards each register holds the residues of its value, computed on whole numbers modulo M, after
+    /// the commands that were carried out; `digits` returns the number. The contents of `forms`, which has one entry a
     /// register, are ignored, and so are those of `registers`.
     ///
     /// # Panics

@@ -5,9 +5,11 @@ use crate::applications::residue_numbers::mixed_radix::System;
 use core::cmp::Ordering;
 
 impl<'a> System<'a> {
-    /// Whether the digits represent a negative number: they denote one in the mixed radix. With the product M of the
-    /// moduli, a number x below M/2 represents itself, and one from M/2 on represents x - M. So an odd M has the
-    /// numbers from -(M - 1)/2 to (M - 1)/2, and an even one those from -M/2 to M/2 - 1. It takes no product.
+    /// Whether the digits represent a negative number: they denote one in the mixed radix.
+    ///
+    /// With the product M of the moduli, a number x below M/2 represents itself, and one from M/2 on represents x - M.
+    /// So an odd M has the numbers from -(M - 1)/2 to (M - 1)/2, and an even one those from -M/2 to M/2 - 1. It takes
+    /// no product.
     ///
     /// Source: Szabo and Tanaka, Residue Arithmetic and Its Applications to Computer Technology.
     ///

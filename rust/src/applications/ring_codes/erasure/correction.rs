@@ -6,7 +6,7 @@ use super::quotients::divide_lighter;
 use super::{choose, encode, is_codeword, points_fit, RestoreError};
 use crate::{Reducer, RingWord};
 
-/// Why `correct` returns no message.
+/// Why [`correct`] returns no message.
 ///
 /// # Examples
 ///
@@ -21,8 +21,9 @@ pub enum CorrectError<T> {
     Restore(RestoreError),
     /// No word is near enough to the symbols.
     TooManyErrors,
-    /// A number without an inverse modulo m: above 0 and below m, it has a common factor with m. It never comes where m
-    /// is a prime, or where no symbol is wrong.
+    /// A number without an inverse modulo m: above 0 and below m, it has a common factor with m.
+    ///
+    /// It never comes where m is a prime, or where no symbol is wrong.
     NoInverse(T),
 }
 
@@ -108,12 +109,14 @@ fn find_message<T: RingWord, R: Reducer<T>>(
 }
 
 /// Corrects symbols that may be wrong: writes the only message whose word differs in e of the s symbols, where 2·e is
-/// at most s - k, and that word, and returns e. Erasures are the places that aren't listed; so e wrong symbols and n - s
-/// lost ones are corrected if 2·e + (n - s) ≤ n - k.
+/// at most s - k, and that word, and returns e.
+///
+/// Erasures are the places that aren't listed; so e wrong symbols and n - s lost ones are corrected if 2·e + (n - s) ≤
+/// n - k.
 ///
 /// The modulus may be composite. `NoInverse(a)` then says that a number without an inverse was met, and a has a common
-/// factor with m; it never comes where m is a prime, or where no symbol is wrong. `TooManyErrors` comes only where no word
-/// is that near. The other errors are those of `restore`, for all s places.
+/// factor with m; it never comes where m is a prime, or where no symbol is wrong. `TooManyErrors` comes only where no
+/// word is that near. The other errors are those of `restore`, for all s places.
 ///
 /// The contents of `scratch` are ignored, and unspecified afterwards. The contents of `message` and `word` are
 /// ignored, and unspecified after an error. It takes at most about 10·s² + n·k products and 2·s inversions; where no

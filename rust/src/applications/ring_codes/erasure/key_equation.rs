@@ -90,7 +90,9 @@ pub fn raise<T: RingWord, R: Reducer<T>>(r: &R, point: &T, pair: &mut [T], split
 }
 
 /// With the discrepancies p of the pivot and d of the other pair at a point x, replaces the other pair by p·other -
-/// d·pivot and multiplies the pivot by X - x. Where p has no inverse, it returns p instead.
+/// d·pivot and multiplies the pivot by X - x.
+///
+/// Where p has no inverse, it returns p instead.
 ///
 /// # Preconditions
 ///
@@ -117,8 +119,9 @@ pub fn reduce<T: RingWord, R: Reducer<T>>(
     }
 }
 
-/// Makes two pairs solve the key equation at one more point, and returns their new weights. Where a number without
-/// an inverse modulo m is in the way, it returns that number.
+/// Makes two pairs solve the key equation at one more point, and returns their new weights.
+///
+/// Where a number without an inverse modulo m is in the way, it returns that number.
 ///
 /// # Preconditions
 ///
@@ -160,9 +163,10 @@ pub fn advance<T: RingWord, R: Reducer<T>>(
     }
 }
 
-/// Finds two pairs that solve the key equation at s points, and returns their weights, of which one is small: they
-/// add up to at most s + k - 1. The pairs at the start are (1, 0) and (0, 1), with the weights 0 and k - 1. What
-/// the pairs hold before is ignored.
+/// Finds two pairs that solve the key equation at s points, and returns their weights, of which one is small: they add
+/// up to at most s + k - 1.
+///
+/// The pairs at the start are (1, 0) and (0, 1), with the weights 0 and k - 1. What the pairs hold before is ignored.
 ///
 /// Source: Kötter, "On algebraic decoding of algebraic-geometric and cyclic codes"; without division, as Berlekamp,
 /// "Bounded distance + 1 soft-decision Reed-Solomon decoding".

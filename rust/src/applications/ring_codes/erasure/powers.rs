@@ -43,7 +43,7 @@ pub fn fill_powers<T: RingWord, R: Reducer<T>>(r: &R, g: &T, points: &mut [T]) {
 /// Writes the word at the powers of a root: at the points g^0, .., g^(n - 1), n being the length of the word, it is
 /// what `encode` writes, by one transform instead of n·k products.
 ///
-/// Source: `ntt` of the message followed by zeros.
+/// Source: [`ntt`] of the message followed by zeros.
 ///
 /// # Panics
 ///
@@ -84,15 +84,17 @@ pub fn encode_by_transform<T: RingWord, R: Reducer<T>>(r: &R, g: &T, message: &[
 }
 
 /// Writes the word at the powers of a root: at the points g^0, .., g^(n - 1), g being the root of a plan for n entries,
-/// by one transform with the plan's table. Symbols are plain words, and those of the word are below m.
+/// by one transform with the plan's table.
 ///
-/// Source: `Plan::transform` of the message followed by zeros.
+/// Symbols are plain words, and those of the word are below m.
+///
+/// Source: [`Plan::transform`] of the message followed by zeros.
 ///
 /// # Panics
 ///
 /// Panics unless
 ///
-/// - the word has n places (`Plan::fits` tells)
+/// - the word has n places ([`Plan::fits`] tells)
 /// - the message has at most n symbols
 ///
 /// A debug build also panics unless the symbols are below 4m.

@@ -4,7 +4,9 @@
 use crate::ring::{dot_product, invert_each};
 use crate::{Reducer, RingWord};
 
-/// A code prepared for many words. The k symbols at its known points give those at its t wanted points by k·t products.
+/// A code prepared for many words.
+///
+/// The k symbols at its known points give those at its t wanted points by k·t products.
 ///
 /// A systematic code knows the first k points and wants the others: `extend` writes the check symbols of a message. To
 /// restore, it knows the points of k kept symbols and wants those of the lost ones, or all. A table of t·k factors,
@@ -35,8 +37,9 @@ pub struct PreparedCode<'a, T, R> {
 }
 
 impl<'a, T: RingWord, R: Reducer<T>> PreparedCode<'a, T, R> {
-    /// Fills the rows and returns the code: t·k for k known and t wanted points. `None` exactly where the known points
-    /// don't fit.
+    /// Fills the rows and returns the code: t·k for k known and t wanted points.
+    ///
+    /// `None` exactly where the known points don't fit.
     ///
     /// The contents of `scratch` are ignored, and unspecified afterwards. The contents of `rows` are ignored, and
     /// unspecified after `None`. It takes about 3·k² + 4·t·k products and one inversion.
@@ -139,7 +142,9 @@ impl<'a, T: RingWord, R: Reducer<T>> PreparedCode<'a, T, R> {
     }
 
     /// Whether all symbols are of one word: `symbols`, at the k known points, and `others`, at the t wanted points, of
-    /// one message of k symbols. It takes at most t·k products.
+    /// one message of k symbols.
+    ///
+    /// It takes at most t·k products.
     ///
     /// # Panics
     ///

@@ -4,8 +4,9 @@
 use super::{evaluate, interpolate};
 use crate::{Reducer, RingWord};
 
-/// The form of N(x)/E(x); `None` where E(x) is 0 and has no inverse. Where E(x) is another number without an
-/// inverse modulo m, it returns that number.
+/// The form of N(x)/E(x); `None` where E(x) is 0 and has no inverse.
+///
+/// Where E(x) is another number without an inverse modulo m, it returns that number.
 ///
 /// # Preconditions
 ///
@@ -30,9 +31,10 @@ pub fn quotient<T: RingWord, R: Reducer<T>>(r: &R, point: &T, numerator: &[T], l
     }
 }
 
-/// Writes the first k points at which E(x) has an inverse, and the quotients N(x)/E(x) there, k being the number of
-/// the places for them. Returns false where there are fewer. Where E(x) isn't 0 and has no inverse modulo m, it
-/// returns that number.
+/// Writes the first k points at which E(x) has an inverse, and the quotients N(x)/E(x) there, k being the number of the
+/// places for them.
+///
+/// Returns false where there are fewer. Where E(x) isn't 0 and has no inverse modulo m, it returns that number.
 ///
 /// # Preconditions
 ///
@@ -67,12 +69,13 @@ pub fn divide<T: RingWord, R: Reducer<T>>(
 }
 
 /// Writes the message whose values are the quotients of a pair: one list, whose first `split` coefficients are its
-/// numerator's. Returns false where fewer than k quotients exist. The contents of `scratch` are ignored, and
-/// unspecified afterwards.
+/// numerator's.
+///
+/// Returns false where fewer than k quotients exist. The contents of `scratch` are ignored, and unspecified afterwards.
 ///
 /// # Preconditions
 ///
-/// - the conditions of `divide` hold
+/// - the conditions of [`divide`] hold
 /// - the numerator is within the pair
 /// - there are three places of scratch for each symbol of the message
 /// - the points fit
@@ -99,12 +102,13 @@ pub fn divide_pair<T: RingWord, R: Reducer<T>>(
     }
 }
 
-/// Writes the message whose values are the quotients of the lighter of two pairs, given their weights. It is the
-/// only message that can have a near word; returns false where there is none.
+/// Writes the message whose values are the quotients of the lighter of two pairs, given their weights.
+///
+/// It is the only message that can have a near word; returns false where there is none.
 ///
 /// # Preconditions
 ///
-/// - the conditions of `divide_pair` hold, for both pairs
+/// - the conditions of [`divide_pair`] hold, for both pairs
 ///
 /// No build tests this: where it doesn't hold, the call panics or its result is unspecified.
 #[inline]

@@ -4,7 +4,7 @@
 use super::{correct, encode, points_fit, restore, CorrectError, RestoreError};
 use crate::{Reducer, RingWord};
 
-/// The reason why `share` refuses.
+/// The reason why [`share`] refuses.
 ///
 /// # Examples
 ///
@@ -22,7 +22,9 @@ pub enum ShareError {
     NoCoefficients,
     /// There are fewer points than coefficients, so that all shares together don't recover the secret.
     TooFewPoints,
-    /// A point has no inverse modulo m: the share there would say something of the secret. At 0 it would be the secret.
+    /// A point has no inverse modulo m: the share there would say something of the secret.
+    ///
+    /// At 0 it would be the secret.
     PointWithoutInverse,
     /// The points don't fit: the difference of two of them has no inverse modulo m.
     PointsDontFit,
@@ -39,8 +41,10 @@ fn have_inverses<T: RingWord, R: Reducer<T>>(r: &R, points: &[T]) -> bool {
 }
 
 /// Writes the shares of a secret: the values at the points of the polynomial with these k coefficients, of which the
-/// constant is the secret. The caller draws the other coefficients at random, each from 0 to m - 1. Any k of the n
-/// shares recover the secret (`recover`).
+/// constant is the secret.
+///
+/// The caller draws the other coefficients at random, each from 0 to m - 1. Any k of the n shares recover the secret
+/// ([`recover`]).
 ///
 /// k - 1 shares say nothing about the secret, if the other k - 1 coefficients are uniform, and independent of each
 /// other and of the secret. A point without an inverse would tell something: modulo 15 the share s + 3·c at 3 is the
@@ -50,9 +54,9 @@ fn have_inverses<T: RingWord, R: Reducer<T>>(r: &R, points: &[T]) -> bool {
 ///
 /// # Errors
 ///
-/// Exactly where k is 0, k is above n, or a point or the difference of two points has no inverse modulo m; of several, the
-/// first in this order. The shares are then unchanged. So it refuses the point 0, and points that occur twice, if m is at
-/// least 2.
+/// Exactly where k is 0, k is above n, or a point or the difference of two points has no inverse modulo m; of several,
+/// the first in this order. The shares are then unchanged. So it refuses the point 0, and points that occur twice, if m
+/// is at least 2.
 ///
 /// # Panics
 ///
@@ -111,7 +115,7 @@ pub fn share<T: RingWord, R: Reducer<T>>(r: &R, points: &[T], coefficients: &[T]
 ///
 /// # Errors
 ///
-/// Those of `restore`.
+/// Those of [`restore`].
 ///
 /// # Panics
 ///
@@ -160,14 +164,15 @@ pub fn recover<T: RingWord, R: Reducer<T>>(
 }
 
 /// The secret from s shares, of which some are forged: the constant of the only polynomial with k coefficients that
-/// differs from e of the shares, where 2·e is at most s - k. Its coefficients are written to `coefficients`, and the
-/// right shares at all points to `word`.
+/// differs from e of the shares, where 2·e is at most s - k.
+///
+/// Its coefficients are written to `coefficients`, and the right shares at all points to `word`.
 ///
 /// The contents of `scratch` are ignored, and unspecified afterwards. The contents of `coefficients` and `word` are
 /// ignored, and unspecified after an error.
 ///
-/// So for a prime m, with s = 16 and k = 6, five forged shares do no harm. A secret that is returned is the right one if
-/// at most (s - k)/2 shares are forged; nothing is known of it if there are more.
+/// So for a prime m, with s = 16 and k = 6, five forged shares do no harm. A secret that is returned is the right one
+/// if at most (s - k)/2 shares are forged; nothing is known of it if there are more.
 ///
 /// Source: McEliece and Sarwate, "On sharing secrets and Reed-Solomon codes".
 ///
@@ -175,8 +180,8 @@ pub fn recover<T: RingWord, R: Reducer<T>>(
 ///
 /// # Errors
 ///
-/// Those of `correct`: `TooManyErrors` comes only where no polynomial is that near, and `NoInverse` only where m isn't a
-/// prime.
+/// Those of [`correct`]: `TooManyErrors` comes only where no polynomial is that near, and `NoInverse` only where m
+/// isn't a prime.
 ///
 /// # Panics
 ///

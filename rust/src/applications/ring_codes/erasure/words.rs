@@ -36,8 +36,8 @@ fn fill_word<T: RingWord, R: Reducer<T>>(r: &R, points: &[T], message: &[T], pla
 /// Restores the message and its whole word: the message has k symbols, k being the length of `message`, and the first k
 /// places and the symbols there are used, whichever places these are.
 ///
-/// Of a word that `encode_systematic` wrote, `message` gets the coefficients, as from `restore`; its message is the first k
-/// symbols of `word`.
+/// Of a word that `encode_systematic` wrote, `message` gets the coefficients, as from [`restore`]; its message is the
+/// first k symbols of `word`.
 ///
 /// `weights` is scratch: its contents are ignored, and unspecified afterwards. The contents of `message` and `word` are
 /// ignored, and unspecified after an error.
