@@ -78,5 +78,8 @@ def rows_of(item, path, front):
     for call, docs in members(crate, name):
         inside.setdefault(call, docs)
     below = {call: f"{path}::{re.split('[.]|::', re.split('[({ ]', call)[0])[-1]}" for call in inside}
+    said, conditions = said_in(it["docs"])
+    if name.endswith("Error"):  # the names of the causes say enough
+        return [(name, path, shown, f"{said}: {', '.join(re.split('::', call)[-1] for call in inside)}", conditions)]
     rows = [(name, below[call], call, *said_in(inside[call])) for call in sorted(inside, key=lambda it: it[0] == ".")]
-    return [(name if rows else "", path, shown, *said_in(it["docs"])), *rows]
+    return [(name if rows else "", path, shown, said, conditions), *rows]

@@ -64,6 +64,7 @@ def test_systematic_words(m):
         assert code.encode(code.restore(word, k)) == word
         for kept in itertools.combinations(range(n), k):
             assert code.restore_word({i: word[i] for i in kept}, k) == word
+            assert code.restore_systematic({i: word[i] for i in kept}, k) == symbols
     with pytest.raises(TooFewSymbolsError):
         code.restore_word([None] * n, 1)
 

@@ -83,8 +83,8 @@ class ErasureCode(ByArguments):
 
     def encode_systematic(self, message: Iterable[int]) -> list[int]:
         """The word that begins with the k symbols of the message: its polynomial has them as values at the first k points.
-        `restore_word` computes the word from any k symbols of it, while `restore` returns the coefficients. ValueError: the
-        message has more symbols than there are points, or a symbol isn't from 0 to m - 1.
+        `restore_systematic` returns the message from any k symbols of it, while `restore` returns the coefficients.
+        ValueError: the message has more symbols than there are points, or a symbol isn't from 0 to m - 1.
 
         >>> ErasureCode(97, [1, 2, 3, 4]).encode_systematic([15, 25])
         [15, 25, 35, 45]
@@ -118,6 +118,15 @@ class ErasureCode(ByArguments):
         [15, 25, 35, 45]
         """
         return self.encode(self.restore(word, k))
+
+    def restore_systematic(self, word: Symbols, k: int) -> list[int]:
+        """The message of k symbols with which the word begins, computed from the first k symbols that aren't lost. The
+        exceptions are those of `restore`.
+
+        >>> ErasureCode(97, [1, 2, 3, 4]).restore_systematic([None, 25, None, 45], 2)
+        [15, 25]
+        """
+        return self.restore_word(word, k)[:k]
 
     def correct(self, word: Symbols, k: int) -> Correction:
         """The message of k symbols, at least 1, whose word differs from at most (s - k)/2 of the s symbols that aren't lost;

@@ -23,6 +23,8 @@ class Mod(ByArguments):
     (Mod(1, 7), Mod(6, 7), Mod(2, 7), Mod(5, 7), Mod(5, 7), Mod(4, 7), 3)
     >>> x == Mod(10, 7), x == -4, hash(x) == hash(3)
     (True, True, True)
+    >>> f"{x} {x:>3d}"
+    'Mod(3, 7)   3'
     """
 
     __slots__ = ("_modulus", "_residue")
@@ -42,6 +44,9 @@ class Mod(ByArguments):
 
     def __int__(self) -> int:
         return self._residue
+
+    def __format__(self, spec: str) -> str:
+        return format(self._residue, spec) if spec else str(self)
 
     def __bool__(self) -> bool:
         return self._residue != 0
