@@ -20,7 +20,7 @@ use crate::lists::{load_from, unload, unload_from};
 use crate::montgomery::{NmMontgomery, reducer};
 use num_modular::Reducer;
 use ring_codes::erasure::{
-    CorrectError, RestoreError, ShareError, correct, encode, restore, share,
+    CorrectError, RestoreError, ShareError, correct, evaluate_each, restore, share,
 };
 
 // Whether the lists of `nm_erasure_encode` have fitting lengths.
@@ -47,7 +47,7 @@ fn encoded<R: Reducer<u64>>(
     let coefficients = &mut rest[..message.len()];
     load_from(r, points, xs);
     load_from(r, message, coefficients);
-    encode(r, xs, coefficients, word);
+    evaluate_each(r, coefficients, xs, word);
     unload(r, word);
 }
 

@@ -19,12 +19,12 @@ use Rattle.ring_codes.proofs.NearestWords.{combined, unit_alike}
 use Rattle.ring_codes.specs.KeyEquations.{shifted, Leads, IsKeyPair, AreKeyPairs}
 
 -- a multiple of 0 may be left out
-left_alone : (m a q b c : ℕ) → Congruent m (a + q * b) c → Congruent m b 0 → Congruent m a c
+pub left_alone : (m a q b c : ℕ) → Congruent m (a + q * b) c → Congruent m b 0 → Congruent m a c
 left_alone m a q b c is none =
     let e : a ≡ a + q * 0 = omega arith in
     mod_trans (mod_of_eq e) (mod_trans (mod_add (mod_refl a) (mod_mul (mod_refl q) (mod_sym none))) is)
 
-left_alone_other : (m a q b : ℕ) → Congruent m b 0 → Congruent m (a + q * b) a
+pub left_alone_other : (m a q b : ℕ) → Congruent m b 0 → Congruent m (a + q * b) a
 left_alone_other m a q b none =
     let e : a + q * 0 ≡ a = omega arith in
     mod_trans (mod_add (mod_refl a) (mod_mul (mod_refl q) none)) (mod_of_eq e)
@@ -360,7 +360,7 @@ second_pivot m k c d i v w x y h g n e f t o r less raises reduces pairs = recor
   second = raised_odd m k c d i w x y n e f t raises pairs.second;
 }
 
-has_one : (m : ℕ) → 0 < m → HasInverse m (1 % m)
+pub has_one : (m : ℕ) → 0 < m → HasInverse m (1 % m)
 has_one m positive =
     let e : 1 * 1 ≡ 1 = omega arith in
     (1 % m, record { below = mod-lt 1 positive; one = mul-mod_second (1 % m) 1 m ∙ mul-mod_first 1 1 m ∙ ap (λ v. v % m) e })

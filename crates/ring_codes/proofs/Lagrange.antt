@@ -99,7 +99,7 @@ product_is m k i x positive l =
     (times_differences m i 1 x (λ X. 1) positive (constant_one m)))
 
 -- it is 0 at each other point
-none_at : (m k i l : ℕ) (x : ℕ → ℕ) → i < k → l < k → l ≢ i → product_but m k x i (x l) ≡ 0
+pub none_at : (m k i l : ℕ) (x : ℕ → ℕ) → i < k → l < k → l ≢ i → product_but m k x i (x l) ≡ 0
 unfolding product_but
 none_at m k i l x within below other =
     let f : ℕ → ℕ = λ j. residue m (pos (x l) -ℤ pos (x j)) in

@@ -8,6 +8,7 @@ pub mod NearestWords
 pub mod NewtonForms
 pub mod Pairs
 pub mod RootPowers
+pub mod RootWords
 pub mod Secrecy
 mod Singleton
 pub mod Symbols

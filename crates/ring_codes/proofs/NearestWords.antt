@@ -99,7 +99,7 @@ pub unit_alike : (m a b : ℕ) → Congruent m a b → HasInverse m a → HasInv
 unit_alike m a b e h =
     (h.0, record { below = h.1.below; one = (mod_mul (mod_sym e) (mod_refl h.0)).same ∙ h.1.one })
 
-unit_not_zero : (m a : ℕ) → 2 ≤ m → HasInverse m a → a % m ≢ 0
+pub unit_not_zero : (m a : ℕ) → 2 ≤ m → HasInverse m a → a % m ≢ 0
 unit_not_zero m a two h z =
     let none : 0 * h.0 ≡ 0 = omega arith in
     let one = sym h.1.one ∙ sym (mul-mod_first a h.0 m) ∙ ap (λ v. (v * h.0) % m) z ∙ ap (λ v. v % m) none ∙ zero-mod m in

@@ -1,9 +1,10 @@
 -- Powers of a root: modulo an odd number their differences have inverses, and values at them are transforms.
 use Rattle.std.proofs.Common.{◌≡◌, ℕ, zero, suc, ◌+◌, ◌-◌, ◌*◌, ◌/◌, ◌%◌, ◌^◌, ◌<◌, ◌≤◌, pos, ◌-ℤ◌, ap, sym, subst, ◌∙◌}
-use Rattle.std.proofs.Common.{arith, refl, inl, inr, mod-lt}
+use Rattle.std.proofs.Common.{arith, refl, inl, inr, mod-lt, cond, ltb}
 use Rattle.std.proofs.Math.Nat.{zero-mod, add-mul-mod_self_left, pow-zero, pow-suc}
 use Rattle.std.proofs.lemmas.Nat.{pow-add}
 use Rattle.std.proofs.lemmas.Bool.{cases_lt, cases_eq}
+use Rattle.std.proofs.lemmas.Bool.Decides.{leb_tells}
 use Rattle.num_modular.specs.Congruence.{Congruent}
 use Rattle.num_modular.specs.Inverses.{HasInverse}
 use Rattle.num_modular.specs.NumberLaws.{mod_of_eq, mod_refl, residue_of, mod_sym, mod_trans, mod_add, mod_mul, mod_pow}
@@ -202,3 +203,41 @@ pub encoding_by_transform : (m g k n : ℕ) (points message : ℕ → ℕ) → k
 encoding_by_transform m g k n points message few powers none = record {
   symbol = λ j l. value_by_transform m g k n j points message message few powers (λ i l. refl) none l;
 }
+
+-- the number of the points has an inverse
+pub length_unit : (m g n : ℕ) → m % 2 ≡ 1 → Suits m g n → HasInverse m n
+length_unit m g n odd suits =
+    let positive : 0 < m = omega (arith, odd) in
+    let e : 2 * (m - 1) + 2 ≡ 0 + m * 2 = omega (arith, positive) in
+    let two : HasInverse m 2 =
+    two_divided m 2 (m - 1) odd (mod_trans (mod_of_eq e) (record { same = add-mul-mod_self_left 0 m 2 })) in
+    subst (HasInverse m) (sym suits.power_of_two.1) (power_unit m 2 suits.power_of_two.0 positive two)
+
+-- a word is of a message exactly where its coefficients from number k on are 0: those whose transform it is
+pub word_of_coefficients : (m g k n : ℕ) (points c w : ℕ → ℕ) → k ≤ n → ArePowers m g n points
+    → ((j : ℕ) → j < n → transform m g n c j ≡ w j) → ((i : ℕ) → k ≤ i → i < n → c i ≡ 0) → IsEncoding m k n points c w
+word_of_coefficients m g k n points c w few powers is none = record {
+  symbol = λ j l. sym (is j l) ∙ (encoding_by_transform m g k n points c few powers none).symbol j l;
+}
+
+-- the coefficients of a polynomial, followed by zeros
+padded : ℕ → (ℕ → ℕ) → ℕ → ℕ
+padded k c i = cond (ltb i k) (c i) 0
+
+padded_within : (k : ℕ) (c : ℕ → ℕ) (i : ℕ) → i < k → padded k c i ≡ c i
+unfolding padded
+padded_within k c i l = elim (leb_tells (suc i) k) [ inl p ↦ rw p.0 refl | inr p ↦ absurd (omega (arith, p.1, l)) ]
+
+padded_past : (k : ℕ) (c : ℕ → ℕ) (i : ℕ) → k ≤ i → padded k c i ≡ 0
+unfolding padded
+padded_past k c i b = elim (leb_tells (suc i) k) [ inl p ↦ absurd (omega (arith, p.1, b)) | inr p ↦ rw p.0 refl ]
+
+pub coefficients_end : (m g k n : ℕ) (points message c w : ℕ → ℕ) → k ≤ n → ArePowers m g n points
+    → IsEncoding m k n points message w
+    → ((x : ℕ → ℕ) → ((j : ℕ) → j < n → transform m g n x j ≡ w j) → (i : ℕ) → i < n → c i ≡ x i % m)
+    → (i : ℕ) → k ≤ i → i < n → c i ≡ 0
+coefficients_end m g k n points message c w few powers is undone i past within =
+    undone (padded k message)
+    (λ j l. value_by_transform m g k n j points message (padded k message) few powers (padded_within k message)
+    (λ t b d. padded_past k message t b) l ∙ sym (is.symbol j l)) i within
+    ∙ ap (λ v. v % m) (padded_past k message i past) ∙ zero-mod m

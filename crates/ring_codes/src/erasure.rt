@@ -52,12 +52,15 @@ pub use correction::{CorrectError, correct};
 use newton::{differences_before, divide_differences, expand, fill_weights};
 use num_modular::ring::invert_each;
 use num_modular::{Reducer, RingWord};
-pub use powers::{encode_by_plan, encode_by_transform, fill_powers, root_laws};
-pub use prepared::PreparedCode;
+pub use powers::{
+    encode_by_plan, encode_by_transform, fill_powers, is_codeword_by_transform, root_laws,
+};
+pub use prepared::{PreparedCode, fill_barycentric_weights};
 pub use secrets::{ShareError, recover, recover_correct, secrecy_laws, share};
-use values::evaluate_each;
+use values::evaluate_side_by_side;
 use words::index_of;
 pub use words::restore_word;
+// rust: pub use super::ring_decoder::corrector::Corrector;
 // rust: pub use crate::layers::codes::{Code, Corrected};
 
 /// How many points `encode` takes side by side.
@@ -151,15 +154,68 @@ pub fn evaluate<T: RingWord, R: Reducer<T>>(r: &R, coefficients: &[T], point: &T
     value
 }
 
+/// Writes the polynomial's value at each point: the forms of the values, given the coefficients, the constant first.
+///
+/// It takes n·k products, for n points and k coefficients, by Horner's rule at several points side by side.
+///
+/// # Conditions
+///
+/// - there is a place for the value at each point
+/// - (debug) coefficients and points are checked forms
+///
+/// # Examples
+///
+/// ```
+/// use num_modular::applications::ring_codes::erasure::evaluate_each;
+/// use num_modular::{Reducer, Vanilla};
+///
+/// let ring = Vanilla::<u8>::new(&97);
+/// let mut values = [0; 2];
+/// evaluate_each(&ring, &[5, 7, 1], &[2, 3], &mut values);
+/// assert_eq!(values, [23, 35]); // 5 + 7 * 2 + 4 and 5 + 7 * 3 + 9
+/// ```
+// rust: #[track_caller]
+pub fn evaluate_each<T: RingWord, R: Reducer<T>>(
+    r: &R,
+    coefficients: &[T],
+    points: &[T],
+    values: &mut [T],
+)
+    requires coefficients { All (λ f. IsForm R.form R.value (R.modulus r.now) (T.number f)) coefficients.now }
+    requires points { All (λ f. IsForm R.form R.value (R.modulus r.now) (T.number f)) points.now }
+    requires room { length values.old ≡ length points.now }
+    ensures checked { All (λ f. IsForm R.form R.value (R.modulus r.now) (T.number f)) values.new }
+    ensures encoding { let m = R.modulus r.now in
+        IsEncoding m (length coefficients.now) (length points.now) (entry T.number R.value m points.now)
+        (entry T.number R.value m coefficients.now) (entry T.number R.value m values.new) }
+{
+    // rust: debug_assert!(points.iter().chain(coefficients.iter()).all(|x| r.check(x)),
+    // rust:     "coefficients and points must be checked forms");
+    // rust: assert!(values.len() == points.len(), "there must be a place for the value at each point: {} and {}",
+    // rust:     values.len(), points.len());
+    let mut from = 0;
+    'groups: for _done in 0..points.len() / SIDE {
+        evaluate_side_by_side(
+            r,
+            coefficients,
+            &points[from..from + SIDE],
+            &mut values[from..from + SIDE],
+        );
+        from += SIDE;
+    }
+    evaluate_side_by_side(r, coefficients, &points[from..], &mut values[from..]);
+}
+
 /// Writes the word of a message: symbol i is the value at point i.
 ///
-/// It takes n·k products. Where k is above n, no list of symbols restores the message.
+/// It takes n·k products. For more coefficients than points see [`evaluate_each`].
 ///
 /// Source: Reed and Solomon, "Polynomial codes over certain finite fields".
 ///
 /// # Conditions
 ///
 /// - the word has as many places as there are points
+/// - k is at most the number of points
 /// - (debug) points and message are checked forms
 ///
 /// # Examples
@@ -178,6 +234,7 @@ pub fn encode<T: RingWord, R: Reducer<T>>(r: &R, points: &[T], message: &[T], wo
     requires points { All (λ f. IsForm R.form R.value (R.modulus r.now) (T.number f)) points.now }
     requires message { All (λ f. IsForm R.form R.value (R.modulus r.now) (T.number f)) message.now }
     requires room { length word.old ≡ length points.now }
+    requires few { length message.now ≤ length points.now }
     ensures checked { All (λ f. IsForm R.form R.value (R.modulus r.now) (T.number f)) word.new }
     ensures encoding { let m = R.modulus r.now in
         IsEncoding m (length message.now) (length points.now) (entry T.number R.value m points.now)
@@ -187,17 +244,9 @@ pub fn encode<T: RingWord, R: Reducer<T>>(r: &R, points: &[T], message: &[T], wo
     // rust:     "points and message must be checked forms");
     // rust: assert!(word.len() == points.len(), "the word must have as many places as there are points: {} and {}",
     // rust:     word.len(), points.len());
-    let mut from = 0;
-    'groups: for _done in 0..points.len() / SIDE {
-        evaluate_each(
-            r,
-            message,
-            &points[from..from + SIDE],
-            &mut word[from..from + SIDE],
-        );
-        from += SIDE;
-    }
-    evaluate_each(r, message, &points[from..], &mut word[from..]);
+    // rust: assert!(message.len() <= points.len(), "k must be at most the number of points: {} and {}", message.len(),
+    // rust:     points.len());
+    evaluate_each(r, message, points, word);
 }
 
 /// Writes the coefficients of the polynomial through k points: the constant first, of the only one modulo m with k

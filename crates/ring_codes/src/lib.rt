@@ -5,3 +5,4 @@
 #![tactic(auto)]
 
 pub mod erasure;
+// rust: pub mod ring_decoder;

@@ -11,7 +11,7 @@ ghost use Rattle.ring_codes.specs.KeyEquations.{IsWithoutInverse};
 
 use super::key_equation::solve;
 use super::quotients::divide_lighter;
-use super::{RestoreError, choose, encode, is_codeword, points_fit};
+use super::{RestoreError, choose, evaluate_each, is_codeword, points_fit};
 use num_modular::{Reducer, RingWord};
 
 /// Why [`correct`] returns no message.
@@ -252,7 +252,7 @@ pub fn correct<T: RingWord, R: Reducer<T>>(
         Err(a) => Err(CorrectError::NoInverse(a)),
         Ok(false) => Err(CorrectError::TooManyErrors),
         Ok(true) => {
-            encode(r, points, message, word);
+            evaluate_each(r, message, points, word);
             let errors = count_errors(r, places, symbols, word);
             if errors <= (places.len() - message.len()) / 2 {
                 Ok(errors)

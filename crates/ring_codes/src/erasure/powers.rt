@@ -1,16 +1,16 @@
 //! Codes whose points are the powers of a root of unity: their words are transforms.
 
-ghost use Rattle.std.specs.Prelude.{◌≡◌, ℕ, ◌*◌, ◌%◌, ◌^◌, ◌<◌, ◌≤◌, All, length};
+ghost use Rattle.std.specs.Prelude.{◌≡◌, ℕ, ◌*◌, ◌%◌, ◌^◌, ◌<◌, ◌≤◌, ◌↔◌, IsTrue, All, length};
 ghost use Rattle.num_modular.specs.Entries.{entry};
 ghost use Rattle.num_modular.specs.Forms.{IsForm};
 ghost use Rattle.num_modular.specs.Plans.{numbers};
 ghost use Rattle.num_modular.specs.Polynomials.{HaveUnitDifferences};
 ghost use Rattle.num_modular.specs.Transforms.{Suits, transform};
-ghost use Rattle.ring_codes.specs.Erasure.{IsEncoding};
+ghost use Rattle.ring_codes.specs.Erasure.{IsEncoding, IsErasureCodeword};
 ghost use Rattle.ring_codes.specs.Powers.{ArePowers};
 
 use num_modular::plans::{Plan, PlanEntry};
-use num_modular::ring::ntt;
+use num_modular::ring::{intt, ntt};
 use num_modular::word::PlainWord;
 use num_modular::{Reducer, RingWord};
 
@@ -97,6 +97,90 @@ pub fn encode_by_transform<T: RingWord, R: Reducer<T>>(r: &R, g: &T, message: &[
         word[i] = if i < message.len() { message[i] } else { zero };
     }
     ntt(r, word, g);
+}
+
+// Whether all entries are 0.
+fn are_zeros<T: RingWord, R: Reducer<T>>(r: &R, entries: &[T]) -> bool
+    requires { All (λ f. IsForm R.form R.value (R.modulus r.now) (T.number f)) entries.now }
+    ensures { let m = R.modulus r.now in IsTrue result ↔
+        ((i : ℕ) → i < length entries.now → entry T.number R.value m entries.now i ≡ 0) }
+{
+    'entries: for i in 0..entries.len() {
+        if !r.is_zero(&entries[i]) {
+            return false;
+        }
+    }
+    true
+}
+
+/// Whether the word at the powers of a root is that of a message: of k symbols, k being the length of `message`, at the
+/// points g^0, .., g^(n - 1), n being the length of the word.
+///
+/// Where it is, the message is written to `message`. It takes one transform, where `is_codeword` takes about n·k products.
+///
+/// `scratch`: its contents are ignored, and unspecified afterwards. The contents of `message` are ignored, and
+/// unspecified after false.
+///
+/// Source: [`intt`](num_modular::ring::intt) gives the coefficients; of a word those from number k on are 0.
+///
+/// # Conditions
+///
+/// - n is a power of two
+/// - g suits n (`root_fits` tells)
+/// - the modulus is odd
+/// - k is at most n
+/// - there are n places of scratch
+/// - (debug) g and the word are checked forms
+///
+/// # Examples
+///
+/// ```
+/// use num_modular::applications::ring_codes::erasure::is_codeword_by_transform;
+/// use num_modular::{Reducer, Vanilla};
+///
+/// let ring = Vanilla::<u64>::new(&85);
+/// let (mut scratch, mut message) = ([0; 4], [0; 3]);
+/// assert!(is_codeword_by_transform(&ring, &13, &[6, 24, 2, 57], &mut scratch, &mut message));
+/// assert_eq!(message, [1, 2, 3]);
+/// assert!(!is_codeword_by_transform(&ring, &13, &[6, 24, 2, 58], &mut scratch, &mut message));
+/// ```
+// rust: #[must_use]
+// rust: #[track_caller]
+pub fn is_codeword_by_transform<T: RingWord, R: Reducer<T>>(
+    r: &R,
+    g: &T,
+    word: &[T],
+    scratch: &mut [T],
+    message: &mut [T],
+) -> bool
+    requires root { IsForm R.form R.value (R.modulus r.now) (T.number g.now) }
+    requires word { All (λ f. IsForm R.form R.value (R.modulus r.now) (T.number f)) word.now }
+    requires suits { let m = R.modulus r.now in Suits m (R.value m (T.number g.now)) (length word.now) }
+    requires odd { R.modulus r.now % 2 ≡ 1 }
+    requires few { length message.old ≤ length word.now }
+    requires scratch { length scratch.old ≡ length word.now }
+    ensures codeword { let m = R.modulus r.now in (points : ℕ → ℕ) →
+        ArePowers m (R.value m (T.number g.now)) (length word.now) points →
+        (IsTrue result ↔ IsErasureCodeword m (length message.old) (length word.now) points
+        (entry T.number R.value m word.now)) }
+    ensures message { let m = R.modulus r.now in IsTrue result → (points : ℕ → ℕ) →
+        ArePowers m (R.value m (T.number g.now)) (length word.now) points →
+        IsEncoding m (length message.old) (length word.now) points
+        (entry T.number R.value m message.new) (entry T.number R.value m word.now) }
+    ensures checked { IsTrue result → All (λ f. IsForm R.form R.value (R.modulus r.now) (T.number f)) message.new }
+{
+    // rust: assert!(word.len().is_power_of_two(), "n must be a power of two");
+    // rust: debug_assert!(r.check(g) && word.iter().all(|x| r.check(x)), "g and the word must be checked forms");
+    // rust: assert!(r.check(g) && crate::ring::root_fits(r, g, word.len()), "g must suit n");
+    // rust: assert!(r.inv(r.dbl(r.transform(T::one()))).is_some(), "the modulus must be odd");
+    // rust: assert!(message.len() <= word.len(), "k must be at most n: {} and {}", message.len(), word.len());
+    // rust: assert!(scratch.len() == word.len(), "there must be n places of scratch: {} and {}", scratch.len(), word.len());
+    scratch.copy_from_slice(word);
+    if !intt(r, scratch, g) || !are_zeros(r, &scratch[message.len()..]) {
+        return false;
+    }
+    message.copy_from_slice(&scratch[..message.len()]);
+    true
 }
 
 /// Writes the word at the powers of a root: at the points g^0, .., g^(n - 1), g being the root of a plan for n entries,

@@ -106,7 +106,7 @@ impl<'a, T: RingWord, R: Reducer<T>> PreparedCode<'a, T, R> {
         // rust: assert!(scratch.len() == 2 * known.len(), "there must be 2·k places of scratch: {} and {}",
         // rust:     scratch.len(), 2*known.len());
         let (weights, row) = scratch.split_at_mut(known.len());
-        if !fill_weights(ring, known, row, weights) {
+        if !fill_barycentric_weights(ring, known, row, weights) {
             return None;
         }
         fill_rows(ring, known, wanted, weights, row, rows);
@@ -249,9 +249,37 @@ fn fill_products<T: RingWord, R: Reducer<T>>(r: &R, points: &[T], point: &T, pro
     }
 }
 
-// Writes for each point the inverse of the product of its differences from the other ones. Returns false exactly where
-// the points don't fit.
-fn fill_weights<T: RingWord, R: Reducer<T>>(
+/// Writes the barycentric weights of n points: for each point the inverse of the product of its differences from the
+/// other ones.
+///
+/// Returns false exactly where the points don't fit.
+///
+/// `products` is scratch: its contents are ignored, and unspecified afterwards. The contents of `weights` are ignored, and
+/// unspecified after false. It takes about 2·n² + 4·n products and one inversion.
+///
+/// Source: Berrut and Trefethen, "Barycentric Lagrange interpolation", SIAM Review 46, 2004.
+///
+/// # Conditions
+///
+/// - there are n products
+/// - there are n weights
+/// - (debug) the points are checked forms
+///
+/// # Examples
+///
+/// ```
+/// use num_modular::applications::ring_codes::erasure::fill_barycentric_weights;
+/// use num_modular::{Reducer, Vanilla};
+///
+/// let ring = Vanilla::<u8>::new(&97);
+/// let (mut products, mut weights) = ([0; 3], [0; 3]);
+/// assert!(fill_barycentric_weights(&ring, &[0, 1, 2], &mut products, &mut weights));
+/// // the inverses of (0 - 1)(0 - 2), (1 - 0)(1 - 2) and (2 - 0)(2 - 1)
+/// assert_eq!(weights, [49, 96, 49]);
+/// ```
+// rust: #[must_use]
+// rust: #[track_caller]
+pub fn fill_barycentric_weights<T: RingWord, R: Reducer<T>>(
     r: &R,
     points: &[T],
     products: &mut [T],
@@ -267,6 +295,9 @@ fn fill_weights<T: RingWord, R: Reducer<T>>(
         IsTrue result → (i : ℕ) → i < length points.now →
         IsInverse m (product_but m (length points.now) x i (x i)) (entry T.number R.value m weights.new i) }
 {
+    // rust: debug_assert!(points.iter().all(|x| r.check(x)), "the points must be checked forms");
+    // rust: assert!(products.len() == points.len(), "there must be n products: {} and {}", products.len(), points.len());
+    // rust: assert!(weights.len() == points.len(), "there must be n weights: {} and {}", weights.len(), points.len());
     'points: for i in 0..points.len() {
         fill_products(r, points, &points[i], products);
         weights[i] = products[i];

@@ -29,7 +29,7 @@ fn step_each<T: RingWord, R: Reducer<T>>(r: &R, coefficient: &T, points: &[T], v
 /// # Preconditions
 ///
 /// - coefficients and points are checked forms, and there are as many values as points
-pub fn evaluate_each<T: RingWord, R: Reducer<T>>(
+pub fn evaluate_side_by_side<T: RingWord, R: Reducer<T>>(
     r: &R,
     coefficients: &[T],
     points: &[T],

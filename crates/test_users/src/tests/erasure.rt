@@ -6,8 +6,8 @@ ghost use Rattle.num_modular.specs.Forms.{IsForm};
 use num_modular::ring::{load_forms, unload_forms};
 use num_modular::{FixedMersenne64, Montgomery, Reducer};
 use ring_codes::erasure::{
-    RestoreError, ShareError, encode, encode_systematic, is_codeword, points_fit, recover, restore,
-    restore_word, share,
+    RestoreError, ShareError, encode, encode_systematic, evaluate_each, is_codeword, points_fit,
+    recover, restore, restore_word, share,
 };
 use std::process::Abort;
 
@@ -193,6 +193,23 @@ const WORD_MODULO_A_MERSENNE_PRIME: &Row<5> = &Row {
         40823193005218486,
     ],
 };
+
+// Whether the values of 5 + 7X + X^2, which has more coefficients than there are points, are right modulo 97.
+fn has_values<R: Reducer<u64>>(r: &R) -> bool {
+    let mut values = [0; 2];
+    evaluate_each(
+        r,
+        &forms_of(r, &[5, 7, 1]),
+        &forms_of(r, &[2, 3]),
+        &mut values,
+    );
+    words_of(r, &values) == [23, 35]
+}
+
+#[test]
+fn values_of_a_polynomial(rt: HostRuntime) {
+    check!(&rt, 1; has_values(&Montgomery::<u64>::new(97)));
+}
 
 #[test]
 fn words_modulo_a_mersenne_prime(rt: HostRuntime) {

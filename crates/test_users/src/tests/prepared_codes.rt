@@ -1,13 +1,14 @@
 //! Prepared codes, and codes at the powers of a root.
 
-ghost use Rattle.std.specs.Prelude.{◌*◌, ◌≤◌};
+ghost use Rattle.std.specs.Prelude.{◌≡◌, ◌*◌, ◌%◌, ◌≤◌};
 
 use super::erasure::{forms_of, words_of};
 use num_modular::plans::{Plan, PlannedModulus};
 use num_modular::ring::root_fits;
 use num_modular::{Montgomery, Reducer};
 use ring_codes::erasure::{
-    PreparedCode, encode_by_plan, encode_by_transform, fill_powers, points_fit,
+    PreparedCode, encode_by_plan, encode_by_transform, fill_powers, is_codeword_by_transform,
+    points_fit,
 };
 use std::process::Abort;
 
@@ -81,7 +82,30 @@ fn transformed<R: Reducer<u64>, const N: usize, const K: usize>(
     Some(words_of(r, &word))
 }
 
-fn assert_transformed<R: Reducer<u64>>(rt: &impl Abort, prime: &R, composite: &R) {
+// The message of a word at the powers of g; `None` where g doesn't suit its length, or it is of no message of K symbols.
+fn untransformed<R: Reducer<u64>, const N: usize, const K: usize>(
+    r: &R,
+    g: u64,
+    word: &[u64; N],
+) -> Option<[u64; K]>
+    requires few { K ≤ N }
+    requires odd { R.modulus r.now % 2 ≡ 1 }
+{
+    let root = r.transform(g);
+    if !root_fits(r, &root, N) {
+        return None;
+    }
+    let mut scratch = [0; N];
+    let mut message = [0; K];
+    if !is_codeword_by_transform(r, &root, &forms_of(r, word), &mut scratch, &mut message) {
+        return None;
+    }
+    Some(words_of(r, &message))
+}
+
+fn assert_transformed<R: Reducer<u64>>(rt: &impl Abort, prime: &R, composite: &R)
+    requires { R.modulus composite.now % 2 ≡ 1 }
+{
     let points = &[
         1, 249, 64, 2, 241, 128, 4, 225, 256, 8, 193, 255, 16, 129, 253, 32,
     ];
@@ -91,6 +115,8 @@ fn assert_transformed<R: Reducer<u64>>(rt: &impl Abort, prime: &R, composite: &R
     check!(rt, 11; transformed(prime, 249, points, &[72, 101, 108, 108, 111, 33, 0, 255]) == Some(word));
     check!(rt, 12; transformed(composite, 13, &[1, 13, 84, 72], &[1, 2, 3]) == Some([6, 24, 2, 57]));
     check!(rt, 13; transformed(composite, 13, &[1, 13, 84, 72], &[80, 0, 0, 7]) == Some([2, 74, 73, 1]));
+    check!(rt, 14; untransformed(composite, 13, &[6, 24, 2, 57]) == Some([1, 2, 3]));
+    check!(rt, 15; untransformed::<R, 4, 3>(composite, 13, &[6, 24, 2, 58]) == None);
 }
 
 // The word of a message by a plan for four entries modulo 97, at the points 1, 22, 96 and 75.

@@ -56,16 +56,16 @@ returns-then-errors-places g c =
       checked = search rules;
       forms = search rules;
       encoding = subst (λ k. IsEncoding m k (length points) (entries points) (entries c.find_message.new.message)
-          (entries c.encode.new.word)) same c.encode.ensures.encoding;
+          (entries c.evaluate_each.new.values)) same c.evaluate_each.ensures.encoding;
       count = c.count_errors-errors.ensures;
       few = omega (arith, same, c.if-errors-places.true);
       none = λ (other, codeword, right).
           let near = right_near k places y other right in
-          let word = sent_word same c.encode.ensures.encoding codeword.1 (message codeword.0 other codeword.1 near) in
-          c.count_errors-errors.ensures ∙ no_distance (length places) y (λ j. entries c.encode.new.word (slice_index places j))
+          let word = sent_word same c.evaluate_each.ensures.encoding codeword.1 (message codeword.0 other codeword.1 near) in
+          c.count_errors-errors.ensures ∙ no_distance (length places) y (λ j. entries c.evaluate_each.new.values (slice_index places j))
           (λ i l. right i l ∙ sym (word (slice_index places i) (at.fit.right.within i l)));
       only = λ sent other is near.
-          (sent_word same c.encode.ensures.encoding is (message sent other is near), message sent other is near);
+          (sent_word same c.evaluate_each.ensures.encoding is (message sent other is near), message sent other is near);
     }
 
 pub returns-else-errors-places : goal.returns-else-errors-places
@@ -75,9 +75,9 @@ returns-else-errors-places g c = (
       let entries = entry g.T.RingWord.number g.R.Reducer.value (g.R.Reducer.modulus c.args.r.now) in
       let y = entries c.args.symbols.now in let places = c.args.places.now in
       let message = (c.in-Ok-true.ensures.message codeword.0 (near_located y c.in-Ok.ensures codeword.1 near)).1 in
-      let word = sent_word c.find_message.auto.message c.encode.ensures.encoding codeword.1 message in
+      let word = sent_word c.find_message.auto.message c.evaluate_each.ensures.encoding codeword.1 message in
       let count = c.count_errors-errors.ensures ∙ distance_same (length places) y
-      (λ j. entries c.encode.new.word (slice_index places j)) (λ j. other (slice_index places j))
+      (λ j. entries c.evaluate_each.new.values (slice_index places j)) (λ j. other (slice_index places j))
       (λ i l. word (slice_index places i) (c.in-Ok.ensures.fit.right.within i l)) in
       let more = c.if-errors-places.false in let same = c.find_message.auto.message in
       omega (arith, count, more, same, near),

@@ -11,9 +11,9 @@ invariant_of-result g c =
     let positive = (g.met.R.Reducer.canonical c.args.ring.now).positive in
     let known = c.args.known.now in let wanted = c.args.wanted.now in
     let x = entry number ring.value m known in let y = entry number ring.value m wanted in
-    let w = entry number ring.value m c.fill_weights.new.weights in
+    let w = entry number ring.value m c.fill_barycentric_weights.new.weights in
     let k : ℕ = length known in
-    let fit = c.if-not-fill_weights.ensures.fit.0 refl in
+    let fit = c.if-not-fill_barycentric_weights.ensures.fit.0 refl in
     record {
       known_forms = c.requires.known;
       wanted_forms = c.requires.wanted;
@@ -21,7 +21,7 @@ invariant_of-result g c =
       fit = ∣ fit ∣₁;
       count = c.fill_rows.auto.rows ∙ c.requires.count;
       factors = rows_from m k (length wanted) x y w (entry number ring.value m c.fill_rows.new.rows) positive fit
-          (c.if-not-fill_weights.ensures.inverses refl)
+          (c.if-not-fill_barycentric_weights.ensures.inverses refl)
           (λ j i l b. mod_trans (mod_of_eq (c.fill_rows.ensures.values j i l b))
           (mod_trans (residue_of (product_but m k x i (y j) % m * w i))
           (mod_mul (residue_of (product_but m k x i (y j))) (mod_refl (w i)))));

@@ -2,7 +2,7 @@ use Rattle.num_modular.specs.Polynomials.{polynomial_at}
 use Rattle.num_modular.specs.Callers.{ℕ, ◌+◌, ◌-◌, ◌*◌, ◌%◌, ◌≡◌, length, ◌∙◌, ap, refl, arith}
 use Rattle.num_modular.specs.Callers.{entry, entry_read, form_read, hold_more, held_forms, held_entry}
 use Rattle.ring_codes.proofs.NewtonForms.{value_none, value_more, value_all}
-use Rattle.ring_codes.proofs.erasure.values.evaluate_each.Goals as goal
+use Rattle.ring_codes.proofs.erasure.values.evaluate_side_by_side.Goals as goal
 
 pub zeros-preserved : goal.zeros-preserved
 zeros-preserved g c =

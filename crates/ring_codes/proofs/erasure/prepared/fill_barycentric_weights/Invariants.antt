@@ -1,6 +1,6 @@
 use Rattle.num_modular.specs.Callers.{◌%◌, length, HoldBelow, entry}
 use Rattle.ring_codes.specs.Prepared.{product_but}
-use Rattle.ring_codes.proofs.erasure.prepared.fill_weights.Given as goal
+use Rattle.ring_codes.proofs.erasure.prepared.fill_barycentric_weights.Given as goal
 
 -- the products at the points so far
 abbrev pub invariant-points : goal.invariant-points

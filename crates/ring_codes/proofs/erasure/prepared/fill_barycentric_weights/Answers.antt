@@ -3,7 +3,7 @@ use Rattle.num_modular.specs.Callers.{entry, entry_read, form_read, hold_more, h
 use Rattle.ring_codes.specs.Prepared.{product_but}
 use Rattle.ring_codes.proofs.Lagrange.{fit_from_all, all_from_fit}
 use Rattle.ring_codes.proofs.NewtonForms.{has_of_residue, has_to_residue, of_residue}
-use Rattle.ring_codes.proofs.erasure.prepared.fill_weights.Goals as goal
+use Rattle.ring_codes.proofs.erasure.prepared.fill_barycentric_weights.Goals as goal
 
 pub points-preserved : goal.points-preserved
 points-preserved g c =

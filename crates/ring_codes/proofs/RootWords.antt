@@ -1,0 +1,65 @@
+-- Words at the powers of a root, told by their coefficients.
+use Rattle.std.proofs.Common.{◌≡◌, ℕ, ◌+◌, ◌-◌, ◌%◌, ◌<◌, ◌≤◌, ◌↔◌, List, length, slice_range, ap, sym, subst, ◌∙◌, arith}
+use Rattle.num_modular.specs.Callers.{entry}
+use Rattle.num_modular.specs.NumberLaws.{mod_of_eq, mod_refl}
+use Rattle.num_modular.specs.PolynomialLaws.{polynomial-congruent}
+use Rattle.num_modular.specs.Transforms.{transform}
+use Rattle.ring_codes.specs.Erasure.{IsEncoding, IsErasureCodeword}
+use Rattle.ring_codes.specs.Powers.{ArePowers}
+use Rattle.ring_codes.proofs.Pairs.{entry_slice, slice_length}
+use Rattle.ring_codes.proofs.RootPowers.{word_of_coefficients, coefficients_end}
+
+-- the same coefficients have the same word
+pub encoding_alike : (m k n : ℕ) (points a b w : ℕ → ℕ) → ((i : ℕ) → i < k → a i ≡ b i) → IsEncoding m k n points a w
+    → IsEncoding m k n points b w
+encoding_alike m k n points a b w same is = record {
+  symbol = λ j l. is.symbol j l
+      ∙ (polynomial-congruent k a b (points j) (points j) (λ i d. mod_of_eq (same i d)) (mod_refl (points j))).same;
+}
+
+-- a word w, whose coefficients are c, is of a message of k symbols exactly where those from number k on are 0
+pub word_exactly : (m g k n : ℕ) (points c w : ℕ → ℕ) → k ≤ n → ArePowers m g n points
+    → ((j : ℕ) → j < n → transform m g n c j ≡ w j)
+    → ((x : ℕ → ℕ) → ((j : ℕ) → j < n → transform m g n x j ≡ w j) → (i : ℕ) → i < n → c i ≡ x i % m)
+    → (((i : ℕ) → i < n - k → c (k + i) ≡ 0) → IsEncoding m k n points c w)
+    × (IsErasureCodeword m k n points w → (i : ℕ) → i < n - k → c (k + i) ≡ 0)
+word_exactly m g k n points c w few powers is undone = (
+  λ none. word_of_coefficients m g k n points c w few powers is
+      (λ i b l. let at : k + (i - k) ≡ i = omega (arith, b) in sym (ap c at) ∙ none (i - k) (omega (arith, b, l))),
+  λ codeword i l. coefficients_end m g k n points codeword.0 c w few powers codeword.1 undone (k + i) (omega arith)
+      (omega (arith, l, few)),
+)
+
+-- the same of lists: the word was copied, and its coefficients took the place of the copy
+pub list_exactly : {T : Type 0} (number : T → ℕ) (value : ℕ → ℕ → ℕ) (m g k : ℕ) (points : ℕ → ℕ) (found copy word : List T)
+    → copy ≡ word → k ≤ length word → ArePowers m g (length word) points
+    → ((j : ℕ) → j < length copy
+    → transform m g (length copy) (entry number value m found) j ≡ entry number value m copy j)
+    → ((x : ℕ → ℕ) → ((j : ℕ) → j < length copy → transform m g (length copy) x j ≡ entry number value m copy j)
+    → (i : ℕ) → i < length copy → entry number value m found i ≡ x i % m)
+    → (((i : ℕ) → i < length word - k → entry number value m found (k + i) ≡ 0)
+    → IsEncoding m k (length word) points (entry number value m found) (entry number value m word))
+    × (IsErasureCodeword m k (length word) points (entry number value m word)
+    → (i : ℕ) → i < length word - k → entry number value m found (k + i) ≡ 0)
+list_exactly number value m g k points found copy word same few powers values undone =
+    word_exactly m g k (length word) points (entry number value m found) (entry number value m word) few powers
+    (subst (λ l. (j : ℕ) → j < length l → transform m g (length l) (entry number value m found) j ≡ entry number value m l j)
+    same values)
+    (subst (λ l. (x : ℕ → ℕ) → ((j : ℕ) → j < length l → transform m g (length l) x j ≡ entry number value m l j)
+    → (i : ℕ) → i < length l → entry number value m found i ≡ x i % m) same undone)
+
+-- the entries of the part from k on are 0
+pub zeros_behind : {T : Type 0} (number : T → ℕ) (value : ℕ → ℕ → ℕ) (m : ℕ) (forms : List T) (k n : ℕ) → length forms ≡ n
+    → k ≤ n
+    → ((i : ℕ) → i < length (slice_range forms k (length forms))
+    → entry number value m (slice_range forms k (length forms)) i ≡ 0)
+    ↔ ((i : ℕ) → i < n - k → entry number value m forms (k + i) ≡ 0)
+zeros_behind number value m forms k n count few =
+    let ordered : k ≤ length forms = omega (arith, count, few) in
+    let end : length forms ≤ length forms = omega arith in
+    let long = slice_length forms k (length forms) ordered end in (
+      λ none i l. sym (entry_slice number value m forms k (length forms) i ordered end (omega (arith, count, l)))
+          ∙ none i (omega (arith, long, count, l)),
+      λ none i l. entry_slice number value m forms k (length forms) i ordered end (omega (arith, long, l))
+          ∙ none i (omega (arith, long, count, l)),
+    )
