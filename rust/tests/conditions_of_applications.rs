@@ -10,8 +10,8 @@ use num_modular::applications::long_product::{self, any_length, polynomials};
 use num_modular::applications::mersenne_hash::prefixes::PrefixHashes;
 use num_modular::applications::residue_numbers::{combine, from_remainders, ResidueSystem};
 use num_modular::applications::ring_codes::erasure::{
-    correct, encode, encode_systematic, evaluate, fill_powers, interpolate, is_codeword, points_fit, recover, recover_correct,
-    restore, restore_word, share, CorrectError, RestoreError,
+    correct, encode, encode_systematic, evaluate, evaluate_each, fill_powers, interpolate, is_codeword,
+    is_codeword_by_transform, points_fit, recover, recover_correct, restore, restore_word, share, CorrectError, RestoreError,
 };
 use num_modular::hashes;
 use num_modular::plans::PlannedModulus;
@@ -52,6 +52,14 @@ fn words_of_codes() {
     let words = "the word must have as many places as there are points";
     panic_with!(format!("{words}: 3 and 4"); encode(&ring(), &POINTS, &[5, 7], &mut [0; 3]));
     panic_with!(format!("{words}: 5 and 4"); encode(&ring(), &POINTS, &[5, 7], &mut [0; 5]));
+    panic_with!("k must be at most the number of points: 5 and 4"; encode(&ring(), &POINTS, &[5; 5], &mut [0; 4]));
+    panic_with!("there must be a place for the value at each point: 3 and 4"; evaluate_each(&ring(), &[5, 7], &POINTS, &mut [0; 3]));
+    panic_in_debug_with!("coefficients and points must be checked forms"; evaluate_each(&ring(), &[5, 97], &POINTS, &mut [0; 4]));
+    let of_3 = Vanilla::<u64>::new(&3);
+    panic_with!("k must be at most n: 3 and 2"; is_codeword_by_transform(&of_3, &2, &[1, 1], &mut [0; 2], &mut [0; 3]));
+    panic_with!("there must be n places of scratch: 1 and 2"; is_codeword_by_transform(&of_3, &2, &[1, 1], &mut [0; 1], &mut [0; 1]));
+    panic_with!("the modulus must be odd";
+        is_codeword_by_transform(&Vanilla::<u64>::new(&2), &1, &[1, 1], &mut [0; 2], &mut [0; 1]));
     panic_in_debug_with!("points and message must be checked forms"; encode(&ring(), &POINTS, &[5, 97], &mut [0; 4]));
     panic_in_debug_with!("the points must be checked forms"; points_fit(&ring(), &[1, 98]));
     panic_in_debug_with!("coefficients and point must be checked forms"; evaluate(&ring(), &[97], &1), evaluate(&ring(), &[5], &97));

@@ -2,7 +2,7 @@
 
 mod words;
 
-use num_modular::applications::ring_codes::erasure::{correct, CorrectError};
+use num_modular::applications::ring_codes::erasure::{correct, CorrectError, Corrector, RestoreError};
 use num_modular::{Reducer, Vanilla};
 use words::{value, Random};
 
@@ -158,4 +158,142 @@ fn random_words() {
     }
     // nine of ten words that are near are found, as all are where m is a prime
     assert!(found * 10 > near * 9 && refused > 100 && without > 10, "{found} of {near}, {refused} {without}");
+}
+
+/// The numbers of the test of `Corrector`, with the least prime that divides each.
+const MODULI: [(u64, u64); 37] = [
+    (2, 2),
+    (3, 3),
+    (4, 2),
+    (5, 5),
+    (6, 2),
+    (7, 7),
+    (9, 3),
+    (11, 11),
+    (13, 13),
+    (15, 3),
+    (17, 17),
+    (19, 19),
+    (21, 3),
+    (23, 23),
+    (25, 5),
+    (27, 3),
+    (29, 29),
+    (33, 3),
+    (35, 5),
+    (45, 3),
+    (49, 7),
+    (55, 5),
+    (63, 3),
+    (65, 5),
+    (77, 7),
+    (81, 3),
+    (91, 7),
+    (97, 97),
+    (119, 7),
+    (121, 11),
+    (125, 5),
+    (143, 11),
+    (169, 13),
+    (187, 11),
+    (221, 13),
+    (245, 5),
+    (343, 7),
+];
+
+/// A word with lost symbols, and others that may be wrong.
+struct Damaged {
+    m: u64,
+    points: Vec<u64>,
+    k: usize,
+    word: Vec<u64>,
+    lost: Vec<usize>,
+}
+
+impl Damaged {
+    /// Some symbols are lost, and some of the others are changed, all by any numbers or by multiples of one.
+    fn random(m: u64, least: u64, random: &mut Random) -> Damaged {
+        let n = 1 + random.below(least.min(8)) as usize;
+        let k = 1 + random.below(n as u64) as usize;
+        let shift = random.below(m);
+        let points: Vec<u64> = (0..n as u64).map(|i| (i + shift) % m).collect();
+        let message: Vec<u64> = (0..k).map(|_| random.below(m)).collect();
+        let mut word = word_of(m, &message, &points);
+        let mut places: Vec<usize> = (0..n).collect();
+        for i in (1..n).rev() {
+            places.swap(i, random.below(i as u64 + 1) as usize);
+        }
+        let listed = places.split_off(random.below((n - k) as u64 + 1) as usize);
+        let factor = [1, least][random.below(2) as usize];
+        for place in listed.iter().take(random.below((listed.len() - k) as u64 / 2 + 2) as usize) {
+            word[*place] = (word[*place] + factor * random.below(m)) % m;
+        }
+        places.iter().for_each(|place| word[*place] = random.below(m));
+        Damaged { m, points, k, word, lost: places }
+    }
+
+    /// The word and the number that `Corrector::correct` should return, by brute force.
+    fn nearest(&self) -> Option<(Vec<u64>, usize)> {
+        let listed = (0..self.points.len()).filter(|i| !self.lost.contains(i));
+        let (points, symbols): (Vec<u64>, Vec<u64>) = listed.map(|i| (self.points[i], self.word[i])).unzip();
+        let (message, errors) = nearest(self.m, &points, &symbols, self.k)?;
+        Some((word_of(self.m, &message, &self.points), errors))
+    }
+
+    /// What `Corrector::correct` leaves and returns.
+    fn corrected(&self) -> (Vec<u64>, Result<usize, CorrectError<u64>>) {
+        let (ring, n) = (Vanilla::<u64>::new(&self.m), self.points.len());
+        let (mut weights, mut room, mut word) = (vec![0; n], vec![0; n], self.word.clone());
+        let code = Corrector::new(&ring, &self.points, self.k, &mut weights, &mut room).expect("the points fit");
+        let mut scratch = vec![self.m - 1; 2 * n + 7 * (n - self.k) + 3];
+        let found = code.correct(&mut word, &self.lost, &mut scratch);
+        (word, found)
+    }
+}
+
+/// `NoInverse` never comes where at most one symbol is wrong, and elsewhere seldom.
+#[test]
+fn words_in_place() {
+    let mut random = Random(88172645463325252);
+    let (mut found, mut refused, mut without) = (0, 0, 0);
+    for (m, least) in MODULI {
+        for _ in 0..400 {
+            let it = Damaged::random(m, least, &mut random);
+            let want = it.nearest();
+            match it.corrected() {
+                (word, Ok(errors)) => {
+                    found += 1;
+                    assert_eq!(want, Some((word, errors)), "modulo {m}");
+                }
+                (word, Err(error)) => {
+                    assert_eq!(word, it.word, "unchanged");
+                    match error {
+                        CorrectError::TooManyErrors => {
+                            refused += 1;
+                            assert_eq!(want, None, "modulo {m}");
+                        }
+                        CorrectError::NoInverse(a) => {
+                            without += 1;
+                            assert!(has_no_inverse(m, a) && want.map_or(true, |(_, errors)| errors >= 2), "modulo {m}: {a}");
+                        }
+                        CorrectError::Restore(error) => panic!("{error}"),
+                    }
+                }
+            }
+        }
+    }
+    assert!(found > 7000 && refused > 1000 && without < 300, "{found} {refused} {without}");
+}
+
+#[test]
+fn lost_places() {
+    let it = |lost: &[usize]| {
+        Damaged { m: 97, points: vec![1, 2, 3, 4], k: 2, word: vec![12, 19, 26, 33], lost: lost.to_vec() }.corrected().1
+    };
+    assert_eq!((it(&[]), it(&[3, 0])), (Ok(0), Ok(0)));
+    let refused = |lost: &[usize], error| assert_eq!(it(lost), Err(CorrectError::Restore(error)));
+    refused(&[0, 1, 2], RestoreError::TooFewSymbols);
+    refused(&[0, 0, 9], RestoreError::TooFewSymbols);
+    refused(&[1, 4], RestoreError::PlaceOutOfRange);
+    refused(&[3, 3], RestoreError::PlaceTwice);
 }

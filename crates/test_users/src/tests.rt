@@ -11,6 +11,7 @@ macro_rules! check {
 mod any_length;
 mod check_symbols;
 mod correction;
+mod correctors;
 mod decimal_digits;
 mod each_client;
 mod erasure;

@@ -4,3 +4,4 @@
 //!
 //! The codes of check digits are in `check_digits`.
 pub mod erasure;
+pub mod ring_decoder;

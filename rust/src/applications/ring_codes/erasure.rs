@@ -39,15 +39,16 @@ mod secrets;
 mod values;
 mod words;
 
+pub use super::ring_decoder::corrector::Corrector;
 pub use crate::layers::codes::{Code, Corrected};
 use crate::ring::invert_each;
 use crate::{Reducer, RingWord};
 pub use correction::{correct, CorrectError};
 use newton::{differences_before, divide_differences, expand, fill_weights};
-pub use powers::{encode_by_plan, encode_by_transform, fill_powers};
-pub use prepared::PreparedCode;
+pub use powers::{encode_by_plan, encode_by_transform, fill_powers, is_codeword_by_transform};
+pub use prepared::{fill_barycentric_weights, PreparedCode};
 pub use secrets::{recover, recover_correct, share, ShareError};
-use values::evaluate_each;
+use values::evaluate_side_by_side;
 use words::index_of;
 pub use words::restore_word;
 
@@ -135,15 +136,61 @@ pub fn evaluate<T: RingWord, R: Reducer<T>>(r: &R, coefficients: &[T], point: &T
     value
 }
 
+/// Writes the polynomial's value at each point: the forms of the values, given the coefficients, the constant first.
+///
+/// It takes n·k products, for n points and k coefficients, by Horner's rule at several points side by side.
+///
+/// # Panics
+///
+/// Panics unless there is a place for the value at each point.
+///
+/// A debug build also panics unless coefficients and points are checked forms.
+///
+/// A release build doesn't test this: where it doesn't hold, the call panics or its result is unspecified.
+///
+/// # Examples
+///
+/// ```
+/// use num_modular::applications::ring_codes::erasure::evaluate_each;
+/// use num_modular::{Reducer, Vanilla};
+///
+/// let ring = Vanilla::<u8>::new(&97);
+/// let mut values = [0; 2];
+/// evaluate_each(&ring, &[5, 7, 1], &[2, 3], &mut values);
+/// assert_eq!(values, [23, 35]); // 5 + 7 * 2 + 4 and 5 + 7 * 3 + 9
+/// ```
+#[track_caller]
+pub fn evaluate_each<T: RingWord, R: Reducer<T>>(r: &R, coefficients: &[T], points: &[T], values: &mut [T]) {
+    debug_assert!(
+        points.iter().chain(coefficients.iter()).all(|x| r.check(x)),
+        "coefficients and points must be checked forms"
+    );
+    assert!(
+        values.len() == points.len(),
+        "there must be a place for the value at each point: {} and {}",
+        values.len(),
+        points.len()
+    );
+    let mut from = 0;
+    for _done in 0..points.len() / SIDE {
+        evaluate_side_by_side(r, coefficients, &points[from..from + SIDE], &mut values[from..from + SIDE]);
+        from += SIDE;
+    }
+    evaluate_side_by_side(r, coefficients, &points[from..], &mut values[from..]);
+}
+
 /// Writes the word of a message: symbol i is the value at point i.
 ///
-/// It takes n·k products. Where k is above n, no list of symbols restores the message.
+/// It takes n·k products. For more coefficients than points see [`evaluate_each`].
 ///
 /// Source: Reed and Solomon, "Polynomial codes over certain finite fields".
 ///
 /// # Panics
 ///
-/// Panics unless the word has as many places as there are points.
+/// Panics unless
+///
+/// - the word has as many places as there are points
+/// - k is at most the number of points
 ///
 /// A debug build also panics unless points and message are checked forms.
 ///
@@ -161,6 +208,7 @@ pub fn evaluate<T: RingWord, R: Reducer<T>>(r: &R, coefficients: &[T], point: &T
 /// assert_eq!(word, [12, 19, 26, 33]); // 5 + 7X at 1, 2, 3 and 4
 /// ```
 #[track_caller]
+#[inline]
 pub fn encode<T: RingWord, R: Reducer<T>>(r: &R, points: &[T], message: &[T], word: &mut [T]) {
     debug_assert!(points.iter().chain(message.iter()).all(|x| r.check(x)), "points and message must be checked forms");
     assert!(
@@ -169,12 +217,8 @@ pub fn encode<T: RingWord, R: Reducer<T>>(r: &R, points: &[T], message: &[T], wo
         word.len(),
         points.len()
     );
-    let mut from = 0;
-    for _done in 0..points.len() / SIDE {
-        evaluate_each(r, message, &points[from..from + SIDE], &mut word[from..from + SIDE]);
-        from += SIDE;
-    }
-    evaluate_each(r, message, &points[from..], &mut word[from..]);
+    assert!(message.len() <= points.len(), "k must be at most the number of points: {} and {}", message.len(), points.len());
+    evaluate_each(r, message, points, word);
 }
 
 /// Writes the coefficients of the polynomial through k points: the constant first, of the only one modulo m with k

@@ -3,7 +3,7 @@
 
 use super::key_equation::solve;
 use super::quotients::divide_lighter;
-use super::{choose, encode, is_codeword, points_fit, RestoreError};
+use super::{choose, evaluate_each, is_codeword, points_fit, RestoreError};
 use crate::{Reducer, RingWord};
 
 /// Why [`correct`] returns no message.
@@ -191,7 +191,7 @@ pub fn correct<T: RingWord, R: Reducer<T>>(
         Err(a) => Err(CorrectError::NoInverse(a)),
         Ok(false) => Err(CorrectError::TooManyErrors),
         Ok(true) => {
-            encode(r, points, message, word);
+            evaluate_each(r, message, points, word);
             let errors = count_errors(r, places, symbols, word);
             if errors <= (places.len() - message.len()) / 2 {
                 Ok(errors)

@@ -2,7 +2,7 @@
 //! Codes whose points are the powers of a root of unity: their words are transforms.
 
 use crate::plans::{Plan, PlanEntry};
-use crate::ring::ntt;
+use crate::ring::{intt, ntt};
 use crate::word::PlainWord;
 use crate::{Reducer, RingWord};
 
@@ -81,6 +81,77 @@ pub fn encode_by_transform<T: RingWord, R: Reducer<T>>(r: &R, g: &T, message: &[
         word[i] = if i < message.len() { message[i] } else { zero };
     }
     ntt(r, word, g);
+}
+
+// Whether all entries are 0.
+#[inline]
+fn are_zeros<T: RingWord, R: Reducer<T>>(r: &R, entries: &[T]) -> bool {
+    for i in 0..entries.len() {
+        if !r.is_zero(&entries[i]) {
+            return false;
+        }
+    }
+    true
+}
+
+/// Whether the word at the powers of a root is that of a message: of k symbols, k being the length of `message`, at the
+/// points g^0, .., g^(n - 1), n being the length of the word.
+///
+/// Where it is, the message is written to `message`. It takes one transform, where `is_codeword` takes about n·k products.
+///
+/// `scratch`: its contents are ignored, and unspecified afterwards. The contents of `message` are ignored, and
+/// unspecified after false.
+///
+/// Source: [`intt`](num_modular::ring::intt) gives the coefficients; of a word those from number k on are 0.
+///
+/// # Panics
+///
+/// Panics unless
+///
+/// - n is a power of two
+/// - g suits n (`root_fits` tells)
+/// - the modulus is odd
+/// - k is at most n
+/// - there are n places of scratch
+///
+/// A debug build also panics unless g and the word are checked forms.
+///
+/// A release build doesn't test this: where it doesn't hold, the call panics or its result is unspecified.
+///
+/// # Examples
+///
+/// ```
+/// use num_modular::applications::ring_codes::erasure::is_codeword_by_transform;
+/// use num_modular::{Reducer, Vanilla};
+///
+/// let ring = Vanilla::<u64>::new(&85);
+/// let (mut scratch, mut message) = ([0; 4], [0; 3]);
+/// assert!(is_codeword_by_transform(&ring, &13, &[6, 24, 2, 57], &mut scratch, &mut message));
+/// assert_eq!(message, [1, 2, 3]);
+/// assert!(!is_codeword_by_transform(&ring, &13, &[6, 24, 2, 58], &mut scratch, &mut message));
+/// ```
+#[must_use]
+#[track_caller]
+#[inline]
+pub fn is_codeword_by_transform<T: RingWord, R: Reducer<T>>(
+    r: &R,
+    g: &T,
+    word: &[T],
+    scratch: &mut [T],
+    message: &mut [T],
+) -> bool {
+    assert!(word.len().is_power_of_two(), "n must be a power of two");
+    debug_assert!(r.check(g) && word.iter().all(|x| r.check(x)), "g and the word must be checked forms");
+    assert!(r.check(g) && crate::ring::root_fits(r, g, word.len()), "g must suit n");
+    assert!(r.inv(r.dbl(r.transform(T::one()))).is_some(), "the modulus must be odd");
+    assert!(message.len() <= word.len(), "k must be at most n: {} and {}", message.len(), word.len());
+    assert!(scratch.len() == word.len(), "there must be n places of scratch: {} and {}", scratch.len(), word.len());
+    scratch.copy_from_slice(word);
+    if !intt(r, scratch, g) || !are_zeros(r, &scratch[message.len()..]) {
+        return false;
+    }
+    message.copy_from_slice(&scratch[..message.len()]);
+    true
 }
 
 /// Writes the word at the powers of a root: at the points g^0, .., g^(n - 1), g being the root of a plan for n entries,

@@ -84,7 +84,7 @@ impl<'a, T: RingWord, R: Reducer<T>> PreparedCode<'a, T, R> {
             2 * known.len()
         );
         let (weights, row) = scratch.split_at_mut(known.len());
-        if !fill_weights(ring, known, row, weights) {
+        if !fill_barycentric_weights(ring, known, row, weights) {
             return None;
         }
         fill_rows(ring, known, wanted, weights, row, rows);
@@ -214,10 +214,51 @@ fn fill_products<T: RingWord, R: Reducer<T>>(r: &R, points: &[T], point: &T, pro
     }
 }
 
-// Writes for each point the inverse of the product of its differences from the other ones. Returns false exactly where
-// the points don't fit.
+/// Writes the barycentric weights of n points: for each point the inverse of the product of its differences from the
+/// other ones.
+///
+/// Returns false exactly where the points don't fit.
+///
+/// `products` is scratch: its contents are ignored, and unspecified afterwards. The contents of `weights` are ignored, and
+/// unspecified after false. It takes about 2·n² + 4·n products and one inversion.
+///
+/// Source: Berrut and Trefethen, "Barycentric Lagrange interpolation", SIAM Review 46, 2004.
+///
+/// # Panics
+///
+/// Panics unless
+///
+/// - there are n products
+/// - there are n weights
+///
+/// A debug build also panics unless the points are checked forms.
+///
+/// A release build doesn't test this: where it doesn't hold, the call panics or its result is unspecified.
+///
+/// # Examples
+///
+/// ```
+/// use num_modular::applications::ring_codes::erasure::fill_barycentric_weights;
+/// use num_modular::{Reducer, Vanilla};
+///
+/// let ring = Vanilla::<u8>::new(&97);
+/// let (mut products, mut weights) = ([0; 3], [0; 3]);
+/// assert!(fill_barycentric_weights(&ring, &[0, 1, 2], &mut products, &mut weights));
+/// // the inverses of (0 - 1)(0 - 2), (1 - 0)(1 - 2) and (2 - 0)(2 - 1)
+/// assert_eq!(weights, [49, 96, 49]);
+/// ```
+#[must_use]
+#[track_caller]
 #[inline]
-fn fill_weights<T: RingWord, R: Reducer<T>>(r: &R, points: &[T], products: &mut [T], weights: &mut [T]) -> bool {
+pub fn fill_barycentric_weights<T: RingWord, R: Reducer<T>>(
+    r: &R,
+    points: &[T],
+    products: &mut [T],
+    weights: &mut [T],
+) -> bool {
+    debug_assert!(points.iter().all(|x| r.check(x)), "the points must be checked forms");
+    assert!(products.len() == points.len(), "there must be n products: {} and {}", products.len(), points.len());
+    assert!(weights.len() == points.len(), "there must be n weights: {} and {}", weights.len(), points.len());
     for i in 0..points.len() {
         fill_products(r, points, &points[i], products);
         weights[i] = products[i];

@@ -19,7 +19,7 @@ fn step_each<T: RingWord, R: Reducer<T>>(r: &R, coefficient: &T, points: &[T], v
 /// - coefficients and points are checked forms, and there are as many values as points
 ///
 /// No build tests this: where it doesn't hold, the call panics or its result is unspecified.
-pub fn evaluate_each<T: RingWord, R: Reducer<T>>(r: &R, coefficients: &[T], points: &[T], values: &mut [T]) {
+pub fn evaluate_side_by_side<T: RingWord, R: Reducer<T>>(r: &R, coefficients: &[T], points: &[T], values: &mut [T]) {
     let zero = r.transform(T::zero());
     for i in 0..points.len() {
         values[i] = zero;

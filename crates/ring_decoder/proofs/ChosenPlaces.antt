@@ -1,0 +1,235 @@
+-- The places at which a list of numbers is 0, in their order.
+use Rattle.std.proofs.Common.{◌≡◌, ◌≢◌, ℕ, zero, suc, ◌+◌, ◌*◌, ◌^◌, ◌<◌, ◌≤◌, cond, eqb, pos, ◌-ℤ◌}
+use Rattle.std.proofs.Common.{ap, sym, ◌∙◌, arith, inl, inr, subst}
+use Rattle.std.proofs.lemmas.Bool.{cases_eq}
+use Rattle.std.proofs.lemmas.Bool.Decides.{eqb_tells}
+use Rattle.num_modular.specs.Congruence.{Congruent}
+use Rattle.num_modular.specs.Inverses.{HasInverse}
+use Rattle.num_modular.specs.NumberLaws.{mod_of_eq, mod_refl, mod_sym, mod_trans, mod_mul, sum_below-zero, sum_below-suc}
+use Rattle.num_modular.specs.NumberLaws.{sum_below-congruent}
+use Rattle.num_modular.specs.Polynomials.{HaveUnitDifferences}
+use Rattle.num_modular.specs.Residues.{residue}
+use Rattle.num_modular.specs.Sums.{sum_below}
+use Rattle.ring_codes.proofs.Distances.{counted, counted_same, counted_other, extended, at_end, before_end}
+use Rattle.ring_codes.specs.Erasure.{distance}
+use Rattle.ring_decoder.specs.ErrorPatterns.{zeros, spread, AreChosen}
+use Rattle.ring_decoder.specs.PowerSums.{ArePowerSums}
+
+-- 1 at 0, otherwise 0
+abbrev one_at_zero : ℕ → ℕ
+one_at_zero v = cond (eqb v 0) 1 0
+
+pub counted_zero : (v : ℕ) → v ≡ 0 → one_at_zero v ≡ 1
+counted_zero v e = elim (eqb_tells v 0) [ inl p ↦ ap (λ b. cond b 1 0) p.0 | inr p ↦ absurd (p.1 e) ]
+
+pub counted_nonzero : (v : ℕ) → v ≢ 0 → one_at_zero v ≡ 0
+counted_nonzero v o = elim (eqb_tells v 0) [ inl p ↦ absurd (o p.1) | inr p ↦ ap (λ b. cond b 1 0) p.0 ]
+
+-- a choice by a number that is 0, or isn't
+pub chosen_zero : (v a b : ℕ) → v ≡ 0 → cond (eqb v 0) a b ≡ a
+chosen_zero v a b e = elim (eqb_tells v 0) [ inl p ↦ ap (λ t. cond t a b) p.0 | inr p ↦ absurd (p.1 e) ]
+
+pub chosen_nonzero : (v a b : ℕ) → v ≢ 0 → cond (eqb v 0) a b ≡ b
+chosen_nonzero v a b o = elim (eqb_tells v 0) [ inl p ↦ absurd (o p.1) | inr p ↦ ap (λ t. cond t a b) p.0 ]
+
+pub zeros-none : (z : ℕ → ℕ) → zeros 0 z ≡ 0
+zeros-none z = sum_below-zero (λ i. one_at_zero (z i))
+
+pub zeros-suc : (n : ℕ) (z : ℕ → ℕ) → z n ≡ 0 → zeros (suc n) z ≡ zeros n z + 1
+zeros-suc n z e = sum_below-suc n (λ i. one_at_zero (z i)) ∙ ap (λ v. zeros n z + v) (counted_zero (z n) e)
+
+pub zeros-same : (n : ℕ) (z : ℕ → ℕ) → z n ≢ 0 → zeros (suc n) z ≡ zeros n z
+zeros-same n z o =
+    let s = sum_below-suc n (λ i. one_at_zero (z i)) in let c = counted_nonzero (z n) o in omega (arith, s, c)
+
+pub zeros_more : (n : ℕ) (z : ℕ → ℕ) → z n ≡ 0 → zeros (n + 1) z ≡ zeros n z + 1
+zeros_more n z e = let s : n + 1 ≡ suc n = omega arith in ap (λ k. zeros k z) s ∙ zeros-suc n z e
+
+pub zeros_kept : (n : ℕ) (z : ℕ → ℕ) → z n ≢ 0 → zeros (n + 1) z ≡ zeros n z
+zeros_kept n z o = let s : n + 1 ≡ suc n = omega arith in ap (λ k. zeros k z) s ∙ zeros-same n z o
+
+pub zeros_few : (n : ℕ) (z : ℕ → ℕ) → zeros n z ≤ n
+zeros_few zero z = let s = zeros-none z in omega (arith, s)
+zeros_few (suc n) z =
+    let i = zeros_few n z in
+    elim (cases_eq (z n) 0) [
+      | inl e ↦ let s = zeros-suc n z e in omega (arith, i, s)
+      | inr o ↦ let s = zeros-same n z o in omega (arith, i, s)
+    ]
+
+-- a 0 counts for each later place
+pub zeros_before : (i n : ℕ) (z : ℕ → ℕ) → i < n → z i ≡ 0 → zeros i z < zeros n z
+zeros_before i zero z l e = absurd (omega arith)
+zeros_before i (suc n) z l e = elim (cases_eq i n) [
+  | inl same ↦
+      let here : z n ≡ 0 = ap z (sym same) ∙ e in
+      let s = zeros-suc n z here in let t = ap (λ k. zeros k z) same in omega (arith, s, t)
+  | inr other ↦
+      let b = zeros_before i n z (omega arith) e in
+      elim (cases_eq (z n) 0) [
+        | inl here ↦ let s = zeros-suc n z here in omega (arith, b, s)
+        | inr o ↦ let s = zeros-same n z o in omega (arith, b, s)
+      ]
+]
+
+pub zeros_others : (n : ℕ) (z : ℕ → ℕ) → zeros n z + distance n z (λ i. 0) ≡ n
+zeros_others zero z =
+    let s = zeros-none z in let t = sum_below-zero (λ i. counted (z i) 0) in omega (arith, s, t)
+zeros_others (suc n) z =
+    let i = zeros_others n z in
+    let t = sum_below-suc n (λ i. counted (z i) 0) in
+    elim (cases_eq (z n) 0) [
+      | inl e ↦ let s = zeros-suc n z e in let u = counted_same (z n) 0 e in omega (arith, i, s, t, u)
+      | inr o ↦ let s = zeros-same n z o in let u = counted_other (z n) 0 o in omega (arith, i, s, t, u)
+    ]
+
+-- the place of a 0 by its number
+pub ranked : (n k : ℕ) (z : ℕ → ℕ) → k < zeros n z → (i : ℕ) × (i < n) × (z i ≡ 0) × (zeros i z ≡ k)
+ranked zero k z l = let s = zeros-none z in absurd (omega (arith, l, s))
+ranked (suc n) k z l = elim (cases_eq (z n) 0) [
+  | inl e ↦
+      let s = zeros-suc n z e in
+      elim (cases_eq (zeros n z) k) [
+        | inl same ↦ (n, omega arith, e, same)
+        | inr other ↦ let r = ranked n k z (omega (arith, l, s, other)) in let b = r.1 in (r.0, omega (arith, b), r.2, r.3)
+      ]
+  | inr o ↦
+      let s = zeros-same n z o in
+      let r = ranked n k z (omega (arith, l, s)) in let b = r.1 in (r.0, omega (arith, b), r.2, r.3)
+]
+
+fewer : {n : ℕ} {z f g : ℕ → ℕ} → AreChosen (suc n) z f g → AreChosen n z f g
+fewer c = record { at = λ i l e. c.at i (omega arith) e }
+
+-- a list of the chosen numbers
+pub picked : (n : ℕ) (z f : ℕ → ℕ) → (g : ℕ → ℕ) × AreChosen n z f g
+picked zero z f = (f, record { at = λ i l e. absurd (omega arith) })
+picked (suc n) z f =
+    let p = picked n z f in
+    elim (cases_eq (z n) 0) [
+      | inl e ↦ (
+        extended (zeros n z) (f n) p.0,
+        record {
+          at = λ i l here. elim (cases_eq i n) [
+            | inl same ↦ at_end (zeros n z) (f n) p.0 (zeros i z) (ap (λ k. zeros k z) same) ∙ ap f (sym same)
+            | inr other ↦
+                let b = zeros_before i n z (omega arith) here in
+                before_end (zeros n z) (f n) p.0 (zeros i z) (omega (arith, b)) ∙ p.1.at i (omega arith) here
+          ];
+        },
+      )
+      | inr o ↦ (
+        p.0,
+        record {
+          at = λ i l here. elim (cases_eq i n) [
+            | inl same ↦ absurd (o (ap z (sym same) ∙ here))
+            | inr other ↦ p.1.at i (omega arith) here
+          ];
+        },
+      )
+    ]
+
+-- the chosen numbers by their number
+pub chosen_is : (n k : ℕ) (z f g : ℕ → ℕ) → AreChosen n z f g → (l : k < zeros n z) → f (ranked n k z l).0 ≡ g k
+chosen_is n k z f g c l =
+    let r = ranked n k z l in sym (c.at r.0 r.1 r.2) ∙ ap g r.3
+
+pub chosen_fit : (m n : ℕ) (z x g : ℕ → ℕ) → AreChosen n z x g → HaveUnitDifferences m n x
+    → HaveUnitDifferences m (zeros n z) g
+chosen_fit m n z x g c fit = record {
+  unit = λ i j l d other.
+      let p = ranked n i z l in let q = ranked n j z d in
+      subst (HasInverse m)
+      (ap (λ v. residue m (pos v -ℤ pos (x q.0))) (chosen_is n i z x g c l)
+      ∙ ap (λ v. residue m (pos (g i) -ℤ pos v)) (chosen_is n j z x g c d))
+      (fit.unit p.0 q.0 p.1 q.1 (λ e. other (sym p.3 ∙ ap (λ k. zeros k z) e ∙ q.3)));
+}
+
+pub chosen_units : (m n : ℕ) (z v g : ℕ → ℕ) → AreChosen n z v g → ((i : ℕ) → i < n → HasInverse m (v i))
+    → (k : ℕ) → k < zeros n z → HasInverse m (g k)
+chosen_units m n z v g c unit k l =
+    let r = ranked n k z l in subst (HasInverse m) (chosen_is n k z v g c l) (unit r.0 r.1)
+
+-- the sum of the chosen numbers
+pub chosen_sum : (n : ℕ) (z f g : ℕ → ℕ) → AreChosen n z f g
+    → sum_below (zeros n z) g ≡ sum_below n (λ i. cond (eqb (z i) 0) (f i) 0)
+chosen_sum zero z f g c =
+    ap (λ k. sum_below k g) (zeros-none z) ∙ sum_below-zero g ∙ sym (sum_below-zero (λ i. cond (eqb (z i) 0) (f i) 0))
+chosen_sum (suc n) z f g c =
+    let i = chosen_sum n z f g (fewer c) in
+    let t = sum_below-suc n (λ i. cond (eqb (z i) 0) (f i) 0) in
+    elim (cases_eq (z n) 0) [
+      | inl e ↦
+          let k : zeros (suc n) z ≡ suc (zeros n z) = let s = zeros-suc n z e in omega (arith, s) in
+          let s = ap (λ k. sum_below k g) k ∙ sum_below-suc (zeros n z) g in
+          let last = c.at n (omega arith) e in
+          let one = chosen_zero (z n) (f n) 0 e in
+          omega (arith, i, t, s, last, one)
+      | inr o ↦
+          let s = ap (λ k. sum_below k g) (zeros-same n z o) in
+          let none = chosen_nonzero (z n) (f n) 0 o in
+          omega (arith, i, t, s, none)
+    ]
+
+-- power sums of the chosen points are those of all, where the other weights are 0
+pub chosen_powers : (m n h : ℕ) (z x v e p w d : ℕ → ℕ) → AreChosen n z x p → AreChosen n z v w → AreChosen n z e d
+    → ((i : ℕ) → i < n → z i ≢ 0 → Congruent m (e i) 0)
+    → Congruent m (sum_below (zeros n z) (λ k. w k * d k * p k ^ h)) (sum_below n (λ i. v i * e i * x i ^ h))
+chosen_powers m n h z x v e p w d points weights errors none =
+    let f : ℕ → ℕ = λ i. v i * e i * x i ^ h in
+    mod_trans
+    (mod_of_eq (chosen_sum n z f (λ k. w k * d k * p k ^ h) (record {
+      at = λ i l here.
+          ap (λ a. a * d (zeros i z) * p (zeros i z) ^ h) (weights.at i l here)
+          ∙ ap (λ a. v i * a * p (zeros i z) ^ h) (errors.at i l here)
+          ∙ ap (λ a. v i * e i * a ^ h) (points.at i l here);
+    })))
+    (sum_below-congruent n (λ i. cond (eqb (z i) 0) (f i) 0) f
+    (λ i l. elim (cases_eq (z i) 0) [
+      | inl here ↦ mod_of_eq (chosen_zero (z i) (f i) 0 here)
+      | inr other ↦
+          let zero_left : v i * 0 * x i ^ h ≡ 0 = omega arith in
+          mod_trans (mod_of_eq (chosen_nonzero (z i) (f i) 0 other))
+          (mod_sym (mod_trans (mod_mul (mod_mul (mod_refl (v i)) (none i l other)) (mod_refl (x i ^ h))) (mod_of_eq zero_left)))
+    ]))
+
+-- .. from the chosen points to all
+pub all_powers : (m t n : ℕ) (z x v e p w d s : ℕ → ℕ) → AreChosen n z x p → AreChosen n z v w
+    → ((i : ℕ) → i < n → e i ≡ spread z d i)
+    → ArePowerSums m t (zeros n z) p (λ k. w k * d k) s → ArePowerSums m t n x (λ i. v i * e i) s
+all_powers m t n z x v e p w d s points weights is sums = record {
+  sum = λ h l. mod_trans (sums.sum h l) (chosen_powers m n h z x v e p w d points weights
+      (record { at = λ i b here. sym (is i b ∙ chosen_zero (z i) (d (zeros i z)) 0 here) })
+      (λ i b other. mod_of_eq (is i b ∙ chosen_nonzero (z i) (d (zeros i z)) 0 other)));
+}
+
+-- .. and back
+pub few_powers : (m t n : ℕ) (z x v e p w d s : ℕ → ℕ) → AreChosen n z x p → AreChosen n z v w → AreChosen n z e d
+    → ((i : ℕ) → i < n → z i ≢ 0 → Congruent m (e i) 0)
+    → ArePowerSums m t n x (λ i. v i * e i) s → ArePowerSums m t (zeros n z) p (λ k. w k * d k) s
+few_powers m t n z x v e p w d s points weights errors none sums = record {
+  sum = λ h l. mod_trans (sums.sum h l) (mod_sym (chosen_powers m n h z x v e p w d points weights errors none));
+}
+
+-- one place more, that is chosen, or isn't
+pub chosen_more : (n : ℕ) (z f g h : ℕ → ℕ) → AreChosen n z f g → h (zeros n z) ≡ f n
+    → ((k : ℕ) → k ≢ zeros n z → h k ≡ g k) → AreChosen (n + 1) z f h
+chosen_more n z f g h c last same = record {
+  at = λ i l here. elim (cases_eq i n) [
+    | inl e ↦ ap h (ap (λ k. zeros k z) e) ∙ last ∙ ap f (sym e)
+    | inr other ↦
+        let b = zeros_before i n z (omega arith) here in
+        same (zeros i z) (omega (arith, b)) ∙ c.at i (omega arith) here
+  ];
+}
+
+pub chosen_kept : (n : ℕ) (z f g : ℕ → ℕ) → AreChosen n z f g → z n ≢ 0 → AreChosen (n + 1) z f g
+chosen_kept n z f g c other = record {
+  at = λ i l here. elim (cases_eq i n) [
+    | inl e ↦ absurd (other (ap z (sym e) ∙ here))
+    | inr before ↦ c.at i (omega arith) here
+  ];
+}
+
+pub chosen_none : (z f g : ℕ → ℕ) → AreChosen 0 z f g
+chosen_none z f g = record { at = λ i l here. absurd (omega arith) }

@@ -1,0 +1,13 @@
+pub mod ChosenPlaces
+pub mod CorrectedWords
+pub mod DualCode
+pub mod LocatorOfOne
+pub mod LocatorPlaces
+pub mod LocatorSteps
+pub mod LocatorSums
+pub mod LostPlaces
+pub mod NearLocators
+pub mod SolvedErrors
+pub mod SyndromeErrors
+pub mod SyndromeRoots
+pub mod SyndromeSums

@@ -1,0 +1,309 @@
+-- The steps of the search for a locator: with one number more the recurrence stays, its polynomial is corrected, or its
+-- order grows.
+use Rattle.std.proofs.Common.{Bool, true, false, cond, not, List}
+use Rattle.std.proofs.Common.{◌≡◌, ◌≢◌, ℕ, zero, suc, ◌+◌, ◌-◌, ◌*◌, ◌%◌, ◌<◌, ◌≤◌, ap, sym, ◌∙◌, arith, refl, inl, inr, subst, mod-eq_of_lt}
+use Rattle.std.proofs.Math.Nat.{add-mul-mod_self_left}
+use Rattle.std.proofs.lemmas.Bool.{cases_eq}
+use Rattle.num_modular.specs.Callers.{has_both}
+use Rattle.num_modular.specs.Congruence.{Congruent}
+use Rattle.num_modular.specs.Inverses.{HasInverse}
+use Rattle.num_modular.specs.NumberLaws.{mod_of_eq, mod_refl, residue_of, mod_sym, mod_trans, mod_add, mod_mul, mod_add_cancel}
+use Rattle.num_modular.specs.NumberLaws.{sum_below-zero, sum_below-suc, sum_below-mul, sum_below-congruent}
+use Rattle.num_modular.specs.SystemLaws.{modulo_one}
+use Rattle.ring_codes.proofs.KeyPairs.{left_alone, left_alone_other, has_one}
+use Rattle.ring_codes.proofs.NearestWords.{turned_sign, unit_alike}
+use Rattle.ring_decoder.proofs.LocatorOfOne.{kept_one, corrected_one, longer_one}
+use Rattle.ring_decoder.proofs.LocatorPlaces.{applied, massey_bound}
+use Rattle.ring_decoder.proofs.LocatorSums.{factor_none, none_of, residue_none}
+use Rattle.ring_decoder.specs.Locators.{IsRecurrence, IsLocator, NeedManyWeights}
+use Rattle.ring_decoder.specs.LocatorSteps.{IsSearch}
+
+-- coefficients of 0 behind the first c
+padded_more : (m c d h : ℕ) (f t : ℕ → ℕ) → ((l : ℕ) → c ≤ l → Congruent m (f l) 0)
+    → Congruent m (applied (c + d) f t h) (applied c f t h)
+padded_more m c zero h f t none =
+    let e : c + 0 ≡ c = omega arith in
+    mod_of_eq (ap (λ k. applied k f t h) e)
+padded_more m c (suc d) h f t none =
+    let e : c + suc d ≡ suc (c + d) = omega arith in
+    let s = sum_below-suc (c + d) (λ l. f l * t (h + l)) in
+    let whole : applied (suc (c + d)) f t h ≡ applied (c + d) f t h + t (h + (c + d)) * f (c + d) = omega (arith, s) in
+    mod_trans (mod_of_eq (ap (λ k. applied k f t h) e ∙ whole))
+    (mod_trans (left_alone_other m _ (t (h + (c + d))) (f (c + d)) (none (c + d) (omega arith))) (padded_more m c d h f t none))
+
+padded : (m c n h : ℕ) (f t : ℕ → ℕ) → c ≤ n → ((l : ℕ) → c ≤ l → Congruent m (f l) 0)
+    → Congruent m (applied n f t h) (applied c f t h)
+padded m c n h f t within none =
+    let e : n ≡ c + (n - c) = omega arith in
+    mod_trans (mod_of_eq (ap (λ k. applied k f t h) e)) (padded_more m c (n - c) h f t none)
+
+-- coefficients f with f l congruent to a·e l
+multiple_sum : (m a q h : ℕ) (e f t : ℕ → ℕ) → ((k : ℕ) → k < q → Congruent m (f k) (a * e k))
+    → Congruent m (applied q f t h) (a * applied q e t h)
+multiple_sum m a q h e f t low =
+    mod_trans (sum_below-congruent q (λ l. f l * t (h + l)) (λ l. a * (e l * t (h + l)))
+    (λ l b. let r : a * e l * t (h + l) ≡ a * (e l * t (h + l)) = omega arith in
+    mod_trans (mod_mul (low l b) (mod_refl (t (h + l)))) (mod_of_eq r)))
+    (mod_of_eq (sum_below-mul q a (λ l. e l * t (h + l))))
+
+-- f = a·e - b·X^q·g, applied to numbers
+combined_more : (m a b q c h : ℕ) (e f g t : ℕ → ℕ) → ((k : ℕ) → k < q → Congruent m (f k) (a * e k))
+    → ((l : ℕ) → l < c → Congruent m (f (q + l) + b * g l) (a * e (q + l)))
+    → Congruent m (applied (q + c) f t h + b * applied c g t (h + q)) (a * applied (q + c) e t h)
+combined_more m a b q zero h e f g t low high =
+    let z = ap (λ v. b * v) (sum_below-zero (λ l. g l * t (h + q + l))) in
+    let n : q + 0 ≡ q = omega arith in
+    let left : applied (q + 0) f t h + b * applied 0 g t (h + q) ≡ applied (q + 0) f t h = omega (arith, z) in
+    subst (λ k. Congruent m (applied (q + 0) f t h + b * applied 0 g t (h + q)) (a * applied k e t h)) (sym n)
+    (mod_trans (mod_of_eq (left ∙ ap (λ k. applied k f t h) n)) (multiple_sum m a q h e f t low))
+combined_more m a b q (suc c) h e f g t low high =
+    let n : q + suc c ≡ suc (q + c) = omega arith in
+    let before = combined_more m a b q c h e f g t low (λ l k. high l (omega arith)) in
+    let T : ℕ = t (h + (q + c)) in
+    let at : t (h + q + c) ≡ T = ap t (let r : h + q + c ≡ h + (q + c) = omega arith in r) in
+    let at_g = ap (λ v. b * (g c * v)) at in
+    let sf = sum_below-suc (q + c) (λ l. f l * t (h + l)) in
+    let sg = ap (λ v. b * v) (sum_below-suc c (λ l. g l * t (h + q + l))) in
+    let se = ap (λ v. a * v) (sum_below-suc (q + c) (λ l. e l * t (h + l))) in
+    let left : applied (suc (q + c)) f t h + b * applied (suc c) g t (h + q)
+    ≡ (applied (q + c) f t h + b * applied c g t (h + q)) + (f (q + c) + b * g c) * T = omega (arith, sf, sg, at_g) in
+    let right : a * applied (q + c) e t h + a * e (q + c) * T ≡ a * applied (suc (q + c)) e t h = omega (arith, se) in
+    subst (λ k. Congruent m (applied k f t h + b * applied (suc c) g t (h + q)) (a * applied k e t h)) (sym n)
+    (mod_trans (mod_of_eq left) (mod_trans (mod_add before (mod_mul (high c (omega arith)) (mod_refl T))) (mod_of_eq right)))
+
+-- .. where the other two give nothing, and where they give the same product
+both_none : (m a b F G E : ℕ) → Congruent m (F + b * G) (a * E) → Congruent m G 0 → Congruent m E 0 → Congruent m F 0
+both_none m a b F G E is none_g none_e =
+    let z : a * 0 ≡ 0 = omega arith in
+    left_alone m F b G 0 (mod_trans is (mod_trans (mod_mul (mod_refl a) none_e) (mod_of_eq z))) none_g
+
+both_alike : (m a b F G E : ℕ) → Congruent m (F + b * G) (a * E) → Congruent m G a → Congruent m E b → Congruent m F 0
+both_alike m a b F G E is at_g at_e =
+    let e : a * b ≡ 0 + b * a = omega arith in
+    mod_add_cancel (b * a)
+    (mod_trans (mod_add (mod_refl F) (mod_mul (mod_refl b) (mod_sym at_g)))
+    (mod_trans is (mod_trans (mod_mul (mod_refl a) at_e) (mod_of_eq e))))
+
+-- the discrepancy is 0
+pub search_kept : (m N i L p w h : ℕ) (s b t : ℕ → ℕ) → i < N → h + L ≡ i → L ≤ h
+    → Congruent m (applied (L + 1) s t h) 0 → IsSearch m N i L p w s b t → IsSearch m N (i + 1) L p w s b t
+search_kept m N i L p w h s b t inside at half none found = record {
+  within = let e = found.within in omega (arith, e);
+  short = found.short;
+  behind = found.behind;
+  recurrence = record {
+    sum = λ k l. elim (cases_eq k h) [
+      | inl e ↦ subst (λ k. Congruent m (applied (L + 1) s t k) 0) (sym e) none
+      | inr other ↦ found.recurrence.sum k (omega (arith, l, at, other))
+    ];
+  };
+  least = found.least;
+  behind_before = found.behind_before;
+  behind_then = λ l b. found.behind_then l (omega (arith, b));
+  recurrence_before = found.recurrence_before;
+  pivot_there = found.pivot_there;
+  units = found.units;
+  nonzero = found.nonzero;
+  of_one = λ u x geometric.
+      kept_one m N i L p u x h s b t inside at half none geometric (found.of_one u x geometric);
+}
+
+-- the polynomial before L changed, with one coefficient more than may not be 0
+same_before : (m N i L p w h c x : ℕ) (s b t : ℕ → ℕ) → h + L ≡ i → h + 1 ≤ c → h + 1 ≤ L → IsSearch m N i L p w s b t
+    → Congruent m (applied c b t x) (applied L b t x)
+same_before m N i L p w h c x s b t at room shorter found =
+    let none : (l : ℕ) → h + 1 ≤ l → Congruent m (b l) 0 = λ l k. found.behind_then l (omega (arith, k, at)) in
+    mod_trans (padded m (h + 1) c x b t room none) (mod_sym (padded m (h + 1) L x b t shorter none))
+
+corrected_sum : (m N i L p w d h q k : ℕ) (s b t f : ℕ → ℕ) → h + L ≡ i → h + q + 1 ≡ L
+    → Congruent m (applied (L + 1) s t h) d → ((k : ℕ) → k < q → Congruent m (f k) (p * s k))
+    → ((l : ℕ) → q + l < L + 1 → Congruent m (f (q + l) + d * b l) (p * s (q + l)))
+    → IsSearch m N i L p w s b t → k + L < i + 1 → Congruent m (applied (L + 1) f t k) 0
+corrected_sum m N i L p w d h q k s b t f at room is low high found l =
+    let c : ℕ = h + 2 in
+    let whole : q + c ≡ L + 1 = omega arith in
+    let both : Congruent m (applied (L + 1) f t k + d * applied c b t (k + q)) (p * applied (L + 1) s t k) =
+    subst (λ n. Congruent m (applied n f t k + d * applied c b t (k + q)) (p * applied n s t k)) whole
+    (combined_more m p d q c k s f b t low (λ l below. high l (omega arith))) in
+    let same = same_before m N i L p w h c (k + q) s b t at (omega arith) (omega arith) found in
+    elim (cases_eq k h) [
+      | inl e ↦ both_alike m p d _ _ _ both (mod_trans same (found.pivot_there (k + q) (omega (arith, e, room))))
+          (subst (λ k. Congruent m (applied (L + 1) s t k) d) (sym e) is)
+      | inr other ↦ both_none m p d _ _ _ both
+          (mod_trans same (found.recurrence_before (k + q) (omega (arith, l, at, room, other))))
+          (found.recurrence.sum k (omega (arith, l, at, other)))
+    ]
+
+-- the polynomial is corrected
+pub search_corrected : (m N i L p w d h q : ℕ) (s b t f : ℕ → ℕ) → i < N → h + L ≡ i → h + q + 1 ≡ L
+    → Congruent m (applied (L + 1) s t h) d → ((k : ℕ) → k < q → Congruent m (f k) (p * s k))
+    → ((l : ℕ) → q + l < L + 1 → Congruent m (f (q + l) + d * b l) (p * s (q + l)))
+    → ((k : ℕ) → L + 1 ≤ k → f k ≡ s k)
+    → IsSearch m N i L p w s b t → IsSearch m N (i + 1) L p w f b t
+search_corrected m N i L p w d h q s b t f inside at room is low high kept found = record {
+  within = let e = found.within in omega (arith, e);
+  short = found.short;
+  behind = λ l k. mod_trans (mod_of_eq (kept l (omega (arith, k)))) (found.behind l k);
+  recurrence = record { sum = λ k l. corrected_sum m N i L p w d h q k s b t f at room is low high found l };
+  least = found.least;
+  behind_before = found.behind_before;
+  behind_then = λ l b. found.behind_then l (omega (arith, b));
+  recurrence_before = found.recurrence_before;
+  pivot_there = found.pivot_there;
+  units = λ unit.
+      let both = found.units unit in
+      let last : q + (h + 1) ≡ L = omega arith in
+      let lead : Congruent m (f L + d * b (h + 1)) (p * s L) =
+      subst (λ n. Congruent m (f n + d * b (h + 1)) (p * s n)) last (high (h + 1) (omega arith)) in
+      let alone = left_alone m (f L) d (b (h + 1)) (p * s L) lead (found.behind_then (h + 1) (omega arith)) in
+      (both.0, unit_alike m (p * s L) (f L) (mod_sym alone) ((has_both m p (s L)).1 both));
+  nonzero = found.nonzero;
+  of_one = λ u x geometric.
+      corrected_one m N i L p d u x h q s b t f inside at room is high found.behind_before geometric (found.of_one u x geometric);
+}
+
+longer_sum : (m N i L p w d h q k : ℕ) (s b t f : ℕ → ℕ) → h + L ≡ i → q + L ≡ h + 1 → L ≤ h
+    → Congruent m (applied (L + 1) s t h) d → ((k : ℕ) → k < q → Congruent m (f k) (d * b k))
+    → ((l : ℕ) → q + l < h + 2 → Congruent m (f (q + l) + p * s l) (d * b (q + l)))
+    → IsSearch m N i L p w s b t → k + (h + 1) < i + 1 → Congruent m (applied (h + 1 + 1) f t k) 0
+longer_sum m N i L p w d h q k s b t f at room half is low high found l =
+    let whole : q + (L + 1) ≡ h + 1 + 1 = omega arith in
+    let both : Congruent m (applied (h + 1 + 1) f t k + p * applied (L + 1) s t (k + q)) (d * applied (h + 1 + 1) b t k) =
+    subst (λ n. Congruent m (applied n f t k + p * applied (L + 1) s t (k + q)) (d * applied n b t k)) whole
+    (combined_more m d p q (L + 1) k b f s t low (λ l below. high l (omega arith))) in
+    let same = padded m L (h + 1 + 1) k b t (omega arith) found.behind_before in
+    elim (cases_eq (k + 1) L) [
+      | inl e ↦
+          let there : h ≡ k + q = omega (arith, e, room) in
+          both_alike m d p _ _ _ both (subst (λ k. Congruent m (applied (L + 1) s t k) d) there is)
+          (mod_trans same (found.pivot_there k e))
+      | inr other ↦ both_none m d p _ _ _ both (found.recurrence.sum (k + q) (omega (arith, l, at, room, other)))
+          (mod_trans same (found.recurrence_before k (omega (arith, l, at, other))))
+    ]
+
+multiple_none : (m b : ℕ) → Congruent m (m * b) 0
+multiple_none m b =
+    let e : m * b ≡ 0 + m * b = omega arith in
+    mod_trans (mod_of_eq e) (record { same = add-mul-mod_self_left 0 m b })
+
+-- (m - 1)² = 1 + m·(m - 2), and 1 where m is 1
+minus_one : (m : ℕ) → 0 < m → HasInverse m (m - 1)
+minus_one zero positive = absurd (omega arith)
+minus_one (suc zero) positive = (0, record { below = omega arith; one = modulo_one (0 * 0) ∙ sym (modulo_one 1) })
+minus_one (suc (suc m)) positive =
+    let back : suc (suc m) - 1 ≡ suc m = omega arith in
+    let square : suc m * suc m ≡ 1 + suc (suc m) * m = omega arith in
+    subst (HasInverse (suc (suc m))) (sym back)
+    (suc m, record { below = omega arith; one = ap (λ v. v % suc (suc m)) square ∙ add-mul-mod_self_left 1 (suc (suc m)) m })
+
+-- what is 0 with a number that has an inverse has one
+negative_unit : (m a b : ℕ) → 0 < m → Congruent m (a + b) 0 → HasInverse m b → HasInverse m a
+negative_unit m a b positive none unit =
+    let minus : HasInverse m (m - 1) = minus_one m positive in
+    let t = turned_sign m b positive in
+    let s : (m - 1) * b + b ≡ m * b = omega (arith, t) in
+    let zero_too : Congruent m ((m - 1) * b + b) 0 = mod_trans (mod_of_eq s) (multiple_none m b) in
+    unit_alike m ((m - 1) * b) a (mod_add_cancel b (mod_trans zero_too (mod_sym none)))
+    ((has_both m (m - 1) b).1 (minus, unit))
+
+-- the order grows
+pub search_longer : (m N i L p w d v h q : ℕ) (s b t f : ℕ → ℕ) → 0 < m → i < N → h + L ≡ i → q + L ≡ h + 1 → L ≤ h
+    → 2 * (h + 1) ≤ N → Congruent m (applied (L + 1) s t h) d → d % m ≢ 0
+    → ((k : ℕ) → k < q → Congruent m (f k) (d * b k))
+    → ((l : ℕ) → q + l < h + 2 → Congruent m (f (q + l) + p * s l) (d * b (q + l)))
+    → ((k : ℕ) → h + 2 ≤ k → f k ≡ b k)
+    → (HasInverse m v → HasInverse m w × HasInverse m d) → (w % m ≢ 0 → v % m ≢ 0)
+    → IsSearch m N i L p w s b t → IsSearch m N (i + 1) (h + 1) d v f s t
+search_longer m N i L p w d v h q s b t f positive inside at room half short is other low high kept units nonzero found = record {
+  within = omega arith;
+  short = short;
+  behind = λ l k. mod_trans (mod_of_eq (kept l (omega (arith, k)))) (found.behind_before l (omega (arith, k, half)));
+  recurrence = record { sum = λ k l. longer_sum m N i L p w d h q k s b t f at room half is low high found l };
+  least = massey_bound m N L i h s t positive inside at found.recurrence (λ e. other (sym is.same ∙ e));
+  behind_before = λ l k. found.behind l (omega (arith, k, half));
+  behind_then = λ l k. found.behind l (omega (arith, k, at));
+  recurrence_before = λ k l. mod_trans (padded m (L + 1) (h + 1) k s t (omega arith) (λ l b. found.behind l (omega (arith, b))))
+      (found.recurrence.sum k (omega (arith, l, at)));
+  pivot_there = λ k e.
+      let there : k ≡ h = omega (arith, e) in
+      subst (λ k. Congruent m (applied (h + 1) s t k) d) (sym there)
+      (mod_trans (padded m (L + 1) (h + 1) h s t (omega arith) (λ l b. found.behind l (omega (arith, b)))) is);
+  units = λ unit.
+      let both = units unit in
+      let before = found.units both.0 in
+      let last : q + L ≡ h + 1 = room in
+      let lead : Congruent m (f (h + 1) + p * s L) (d * b (h + 1)) =
+      subst (λ n. Congruent m (f n + p * s L) (d * b n)) last (high L (omega arith)) in
+      let z : d * 0 ≡ 0 = omega arith in
+      let none = mod_trans lead (mod_trans (mod_mul (mod_refl d) (found.behind_before (h + 1) (omega arith))) (mod_of_eq z)) in
+      (both.1, negative_unit m (f (h + 1)) (p * s L) positive none ((has_both m p (s L)).1 before));
+  nonzero = λ some. nonzero (found.nonzero some);
+  of_one = λ u x geometric.
+      longer_one m N i L p d u x h q s b t f inside at room half is other low high found.behind_before geometric
+      (found.of_one u x geometric);
+}
+
+-- the order would be too large
+pub search_none : (m N i L p w h : ℕ) (s b t : ℕ → ℕ) → 0 < m → i < N → h + L ≡ i → N < 2 * (h + 1)
+    → applied (L + 1) s t h % m ≢ 0 → IsSearch m N i L p w s b t → NeedManyWeights m N t
+search_none m N i L p w h s b t positive inside at long other found =
+    let bound = massey_bound m N L i h s t positive inside at found.recurrence other in
+    record { each = λ n x w are. let e = bound.each n x w are in omega (arith, e, long) }
+
+-- a witness that stays, since its product with another number is 0, has no inverse
+pub witness_kept : (m w d p : ℕ) → d < m → d ≢ 0 → p ≡ (w * d) % m → p ≡ 0 → HasInverse m w → ⊥
+witness_kept m w d p below some is none unit =
+    let e : d * w ≡ w * d = omega arith in
+    let z = factor_none m d w unit (mod_trans (mod_of_eq e) (none_of m (w * d) (sym is ∙ none))) in
+    some (sym (mod-eq_of_lt below) ∙ residue_none m d z)
+
+pub witness_more : (m w d p : ℕ) → p ≡ (w * d) % m → HasInverse m p → HasInverse m w × HasInverse m d
+witness_more m w d p is unit =
+    (has_both m w d).0 (unit_alike m p (w * d) (mod_trans (mod_of_eq is) (residue_of (w * d))) unit)
+
+-- before the first number
+pub search_start : (m N p w : ℕ) (s b t : ℕ → ℕ) → 0 < m → s 0 ≡ 1 % m → ((l : ℕ) → l ≢ 0 → s l ≡ 0)
+    → ((l : ℕ) → b l ≡ 0) → p ≡ 1 % m → w ≡ 1 % m → IsSearch m N 0 0 p w s b t
+search_start m N p w s b t positive first others none is_p is_w =
+    let one : HasInverse m (1 % m) = has_one m positive in
+    record {
+      within = omega arith;
+      short = omega arith;
+      behind = λ l k. mod_of_eq (others l (omega (arith, k)));
+      recurrence = record { sum = λ h l. absurd (omega (arith, l)) };
+      least = record { each = λ n x w are. omega arith };
+      behind_before = λ l k. mod_of_eq (none l);
+      behind_then = λ l k. mod_of_eq (none l);
+      recurrence_before = λ h l. absurd (omega (arith, l));
+      pivot_there = λ h e. absurd (omega (arith, e));
+      units = λ unit. (subst (HasInverse m) (sym is_p) one, subst (HasInverse m) (sym first) one);
+      nonzero = λ other e.
+          let two : 1 < m = omega (arith, positive, other) in
+          let small : 1 % m ≡ 1 = mod-eq_of_lt two in
+          let is : w % m ≡ 1 = ap (λ v. v % m) (is_w ∙ small) ∙ small in
+          absurd (omega (arith, is, e));
+      of_one = λ u x geometric. record {
+        at_start = λ e.
+            (refl, mod_trans (mod_of_eq first) (residue_of 1), mod_trans (mod_of_eq is_p) (residue_of 1));
+        after_first = λ e. absurd (omega (arith, e));
+        after = λ l. absurd (omega (arith, l));
+      };
+    }
+
+-- at the end
+pub search_done : (m N i L p w : ℕ) (s b t : ℕ → ℕ) → i ≡ N → IsSearch m N i L p w s b t → IsLocator m N L s t
+search_done m N i L p w s b t all found = record {
+  short = found.short;
+  behind = found.behind;
+  recurrence = subst (λ i. IsRecurrence m i L s t) all found.recurrence;
+  least = found.least;
+}
+
+pub all_none : (b : ℕ → ℕ) → b 0 ≡ 0 → ((l : ℕ) → l ≢ 0 → b l ≡ 0) → (l : ℕ) → b l ≡ 0
+all_none b first others l = elim (cases_eq l 0) [ inl e ↦ ap b e ∙ first | inr other ↦ others l other ]
+
+-- two lists that changed places
+pub flipped : {T : Type 0} (b : Bool) (P : List T → List T → Type 0) (x y : List T) → P (cond b y x) (cond b x y)
+    → P (cond (not b) x y) (cond (not b) y x)
+flipped true P x y h = h
+flipped false P x y h = h

@@ -1,0 +1,213 @@
+-- Power sums of few weights: where as many sums are 0 as weights aren't, all sums and all weights are 0.
+use Rattle.std.proofs.Common.{◌≡◌, ◌≢◌, ℕ, zero, suc, ◌+◌, ◌-◌, ◌*◌, ◌%◌, ◌^◌, ◌<◌, ◌≤◌, ap, sym, ◌∙◌, arith, refl, inl, inr, subst}
+use Rattle.std.proofs.Math.Nat.{zero-mod, pow-zero, pow-suc}
+use Rattle.std.proofs.lemmas.Bool.{cases_eq}
+use Rattle.num_modular.specs.Congruence.{Congruent}
+use Rattle.num_modular.specs.Inverses.{HasInverse}
+use Rattle.num_modular.specs.NumberLaws.{mod_of_eq, mod_refl, mod_sym, mod_trans, mod_mul}
+use Rattle.num_modular.specs.NumberLaws.{sum_below-zero, sum_below-suc, sum_below-congruent, sum_below-of_zeros}
+use Rattle.num_modular.specs.Polynomials.{HaveUnitDifferences}
+use Rattle.num_modular.specs.Sums.{sum_below}
+use Rattle.ring_codes.proofs.Distances.{counted, counted_same, counted_other}
+use Rattle.ring_codes.proofs.KeyPairs.{left_alone, left_alone_other}
+use Rattle.ring_codes.proofs.NearestWords.{at_root, difference_alike, unit_alike}
+use Rattle.ring_decoder.specs.PowerSums.{hamming_weight}
+
+-- the sum of the weights times the powers of the points
+abbrev pub power_sum : ℕ → (ℕ → ℕ) → (ℕ → ℕ) → ℕ → ℕ
+power_sum n x u h = sum_below n (λ j. u j * x j ^ h)
+
+pub none_of : (m a : ℕ) → a % m ≡ 0 → Congruent m a 0
+none_of m a e = record { same = e ∙ sym (zero-mod m) }
+
+pub residue_none : (m a : ℕ) → Congruent m a 0 → a % m ≡ 0
+residue_none m a h = h.same ∙ zero-mod m
+
+counted_most : (a b : ℕ) → counted a b ≤ 1
+counted_most a b = elim (cases_eq a b) [
+  | inl e ↦ let z = counted_same a b e in omega (arith, z)
+  | inr o ↦ let z = counted_other a b o in omega (arith, z)
+]
+
+-- weights that are 0 wherever others are
+pub lighter : (m n : ℕ) (u v : ℕ → ℕ) → ((j : ℕ) → j < n → Congruent m (u j) 0 → Congruent m (v j) 0)
+    → hamming_weight m n v ≤ hamming_weight m n u
+lighter m zero u v keep =
+    let s = sum_below-zero (λ i. counted (u i % m) 0) in
+    let t = sum_below-zero (λ i. counted (v i % m) 0) in
+    omega (arith, s, t)
+lighter m (suc n) u v keep =
+    let i = lighter m n u v (λ j l. keep j (omega arith)) in
+    let s = sum_below-suc n (λ i. counted (u i % m) 0) in
+    let t = sum_below-suc n (λ i. counted (v i % m) 0) in
+    elim (cases_eq (u n % m) 0) [
+      | inl none ↦
+          let z = counted_same (v n % m) 0 (residue_none m (v n) (keep n (omega arith) (none_of m (u n) none))) in
+          omega (arith, i, s, t, z)
+      | inr other ↦
+          let o = counted_other (u n % m) 0 other in
+          let f = counted_most (v n % m) 0 in
+          omega (arith, i, s, t, o, f)
+    ]
+
+-- the weights times X + a
+next_sum : (n a h : ℕ) (x u : ℕ → ℕ)
+    → power_sum n x (λ j. u j * (x j + a)) h ≡ power_sum n x u (suc h) + a * power_sum n x u h
+next_sum zero a h x u =
+    let s = sum_below-zero (λ j. u j * (x j + a) * x j ^ h) in
+    let p = sum_below-zero (λ j. u j * x j ^ suc h) in
+    let q = ap (λ v. a * v) (sum_below-zero (λ j. u j * x j ^ h)) in
+    omega (arith, s, p, q)
+next_sum (suc n) a h x u =
+    let i = next_sum n a h x u in
+    let s = sum_below-suc n (λ j. u j * (x j + a) * x j ^ h) in
+    let p = sum_below-suc n (λ j. u j * x j ^ suc h) in
+    let q = ap (λ v. a * v) (sum_below-suc n (λ j. u j * x j ^ h)) in
+    let e : u n * x n ^ suc h ≡ u n * (x n ^ h * x n) = ap (λ k. u n * k) (pow-suc (x n) h) in
+    omega (arith, i, s, p, q, e)
+
+-- the last weight is 0
+without_last : (m n h : ℕ) (x u : ℕ → ℕ) → Congruent m (u n) 0
+    → Congruent m (power_sum (suc n) x u h) (power_sum n x u h)
+without_last m n h x u none =
+    let s = sum_below-suc n (λ j. u j * x j ^ h) in
+    let whole : power_sum (suc n) x u h ≡ power_sum n x u h + x n ^ h * u n = omega (arith, s) in
+    mod_trans (mod_of_eq whole) (left_alone_other m _ (x n ^ h) (u n) none)
+
+-- the weights times X - x n, for the last point x n
+rest : ℕ → ℕ → (ℕ → ℕ) → (ℕ → ℕ) → ℕ → ℕ
+rest m n x u j = u j * (x j + (m - 1) * x n)
+
+rest_light : (m n k : ℕ) (x u : ℕ → ℕ) → u n % m ≢ 0 → hamming_weight m (suc n) u ≤ suc k
+    → hamming_weight m n (rest m n x u) ≤ k
+unfolding rest
+rest_light m n k x u other few =
+    let l = lighter m n u (rest m n x u)
+    (λ j b none. let z : 0 * (x j + (m - 1) * x n) ≡ 0 = omega arith in
+    mod_trans (mod_mul none (mod_refl (x j + (m - 1) * x n))) (mod_of_eq z)) in
+    let s = sum_below-suc n (λ i. counted (u i % m) 0) in
+    let o = counted_other (u n % m) 0 other in
+    omega (arith, l, s, o, few)
+
+rest_sum : (m n h : ℕ) (x u : ℕ → ℕ) → 0 < m
+    → Congruent m (power_sum n x (rest m n x u) h) (power_sum (suc n) x u (suc h) + (m - 1) * x n * power_sum (suc n) x u h)
+unfolding rest
+rest_sum m n h x u positive =
+    let root : Congruent m (x n + (m - 1) * x n) 0 = none_of m _ (at_root m (x n) positive) in
+    let z : u n * 0 ≡ 0 = omega arith in
+    mod_trans (mod_sym (without_last m n h x (λ j. u j * (x j + (m - 1) * x n))
+    (mod_trans (mod_mul (mod_refl (u n)) root) (mod_of_eq z))))
+    (mod_of_eq (next_sum (suc n) ((m - 1) * x n) h x u))
+
+rest_none : (m n h : ℕ) (x u : ℕ → ℕ) → 0 < m → Congruent m (power_sum (suc n) x u (suc h)) 0
+    → Congruent m (power_sum (suc n) x u h) 0 → Congruent m (power_sum n x (rest m n x u) h) 0
+rest_none m n h x u positive next here =
+    mod_trans (rest_sum m n h x u positive)
+    (mod_trans (left_alone_other m _ ((m - 1) * x n) (power_sum (suc n) x u h) here) next)
+
+without_none : (m n k : ℕ) (x u : ℕ → ℕ) → u n % m ≡ 0 → ((h : ℕ) → h < k → Congruent m (power_sum (suc n) x u h) 0)
+    → (h : ℕ) → h < k → Congruent m (power_sum n x u h) 0
+without_none m n k x u z none h l = mod_trans (mod_sym (without_last m n h x u (none_of m (u n) z))) (none h l)
+
+fewer : (m n : ℕ) (u : ℕ → ℕ) → hamming_weight m n u ≤ hamming_weight m (suc n) u
+fewer m n u = let s = sum_below-suc n (λ i. counted (u i % m) 0) in omega (arith, s)
+
+some_weight : (m n : ℕ) (u : ℕ → ℕ) → u n % m ≢ 0 → 1 ≤ hamming_weight m (suc n) u
+some_weight m n u other =
+    let s = sum_below-suc n (λ i. counted (u i % m) 0) in
+    let o = counted_other (u n % m) 0 other in
+    omega (arith, s, o)
+
+vanish_with_last : (m n k : ℕ) (x u : ℕ → ℕ) → 0 < m → hamming_weight m (suc n) u ≤ k
+    → ((h : ℕ) → h < k → Congruent m (power_sum (suc n) x u h) 0) → u n % m ≢ 0
+    → ((j : ℕ) (v : ℕ → ℕ) → hamming_weight m n v ≤ j → ((h : ℕ) → h < j → Congruent m (power_sum n x v h) 0)
+    → Congruent m (power_sum n x v j) 0)
+    → Congruent m (power_sum (suc n) x u k) 0
+vanish_with_last m n zero x u positive few none other fewer_vanish =
+    let w = some_weight m n u other in absurd (omega (arith, w, few))
+vanish_with_last m n (suc k) x u positive few none other fewer_vanish =
+    left_alone m _ ((m - 1) * x n) (power_sum (suc n) x u k) 0
+    (mod_trans (mod_sym (rest_sum m n k x u positive))
+    (fewer_vanish k (rest m n x u) (rest_light m n k x u other few)
+    (λ h l. rest_none m n h x u positive (none (suc h) (omega arith)) (none h (omega arith)))))
+    (none k (omega arith))
+
+-- as many sums are 0 as weights aren't, so the next sum is
+pub sums_vanish : (m n k : ℕ) (x u : ℕ → ℕ) → 0 < m → hamming_weight m n u ≤ k
+    → ((h : ℕ) → h < k → Congruent m (power_sum n x u h) 0) → Congruent m (power_sum n x u k) 0
+sums_vanish m zero k x u positive few none = mod_of_eq (sum_below-zero (λ j. u j * x j ^ k))
+sums_vanish m (suc n) k x u positive few none = elim (cases_eq (u n % m) 0) [
+  | inl z ↦
+      let f = fewer m n u in
+      mod_trans (without_last m n k x u (none_of m (u n) z))
+      (sums_vanish m n k x u positive (omega (arith, f, few)) (without_none m n k x u z none))
+  | inr other ↦ vanish_with_last m n k x u positive few none other (λ j v light zeros. sums_vanish m n j x v positive light zeros)
+]
+
+fit_before : (m n : ℕ) (x : ℕ → ℕ) → HaveUnitDifferences m (suc n) x → HaveUnitDifferences m n x
+fit_before m n x fit = record { unit = λ i j a b other. fit.unit i j (omega arith) (omega arith) other }
+
+-- a factor with an inverse is left out
+pub factor_none : (m a c : ℕ) → HasInverse m c → Congruent m (a * c) 0 → Congruent m a 0
+factor_none m a c unit none =
+    let y : ℕ = unit.0 in
+    let one : Congruent m (c * y) 1 = record { same = unit.1.one } in
+    let e : a ≡ a * 1 = omega arith in
+    let f : a * (c * y) ≡ a * c * y = omega arith in
+    let z : 0 * y ≡ 0 = omega arith in
+    mod_trans (mod_of_eq e) (mod_trans (mod_mul (mod_refl a) (mod_sym one)) (mod_trans (mod_of_eq f)
+    (mod_trans (mod_mul none (mod_refl y)) (mod_of_eq z))))
+
+rest_unit : (m n i : ℕ) (x u : ℕ → ℕ) → 0 < m → HaveUnitDifferences m (suc n) x → i < n
+    → Congruent m (rest m n x u i) 0 → Congruent m (u i) 0
+unfolding rest
+rest_unit m n i x u positive fit l none =
+    let unit = unit_alike m _ (x i + (m - 1) * x n) (difference_alike m (x i) (x n) positive)
+    (fit.unit i n (omega arith) (omega arith) (omega arith)) in
+    factor_none m (u i) (x i + (m - 1) * x n) unit none
+
+-- the last weight, where the others are 0 and so is their sum
+last_none : (m n : ℕ) (x u : ℕ → ℕ) → ((i : ℕ) → i < n → Congruent m (u i) 0)
+    → Congruent m (power_sum (suc n) x u 0) 0 → Congruent m (u n) 0
+last_none m n x u before none =
+    let s = sum_below-suc n (λ j. u j * x j ^ 0) in
+    let p = ap (λ v. u n * v) (pow-zero (x n)) in
+    let others : Congruent m (power_sum n x u 0) 0 =
+    mod_trans (sum_below-congruent n (λ j. u j * x j ^ 0) (λ j. 0)
+    (λ j l. let z : 0 * x j ^ 0 ≡ 0 = omega arith in mod_trans (mod_mul (before j l) (mod_refl (x j ^ 0))) (mod_of_eq z)))
+    (mod_of_eq (sum_below-of_zeros n (λ j. 0) (λ j l. refl))) in
+    let whole : power_sum (suc n) x u 0 ≡ u n + 1 * power_sum n x u 0 = omega (arith, s, p) in
+    left_alone m (u n) 1 (power_sum n x u 0) 0 (mod_trans (mod_of_eq (sym whole)) none) others
+
+none_with_last : (m n k : ℕ) (x u : ℕ → ℕ) → 0 < m → HaveUnitDifferences m (suc n) x → hamming_weight m (suc n) u ≤ k
+    → ((h : ℕ) → h < k → Congruent m (power_sum (suc n) x u h) 0) → u n % m ≢ 0
+    → ((j : ℕ) (v : ℕ → ℕ) → hamming_weight m n v ≤ j → ((h : ℕ) → h < j → Congruent m (power_sum n x v h) 0)
+    → (i : ℕ) → i < n → Congruent m (v i) 0)
+    → (j : ℕ) → j < suc n → Congruent m (u j) 0
+none_with_last m n zero x u positive fit few none other fewer_none j l =
+    let w = some_weight m n u other in absurd (omega (arith, w, few))
+none_with_last m n (suc k) x u positive fit few none other fewer_none j l =
+    let before : (i : ℕ) → i < n → Congruent m (u i) 0 =
+    λ i b. rest_unit m n i x u positive fit b
+    (fewer_none k (rest m n x u) (rest_light m n k x u other few)
+    (λ h l. rest_none m n h x u positive (none (suc h) (omega arith)) (none h (omega arith))) i b) in
+    elim (cases_eq j n) [
+      | inl e ↦ subst (λ i. Congruent m (u i) 0) (sym e) (last_none m n x u before (none 0 (omega arith)))
+      | inr o ↦ before j (omega (arith, l, o))
+    ]
+
+-- .. and where the points' differences have inverses, all weights are 0
+pub weights_none : (m n k : ℕ) (x u : ℕ → ℕ) → 0 < m → HaveUnitDifferences m n x → hamming_weight m n u ≤ k
+    → ((h : ℕ) → h < k → Congruent m (power_sum n x u h) 0) → (j : ℕ) → j < n → Congruent m (u j) 0
+weights_none m zero k x u positive fit few none j l = absurd (omega arith)
+weights_none m (suc n) k x u positive fit few none j l = elim (cases_eq (u n % m) 0) [
+  | inl z ↦ elim (cases_eq j n) [
+    | inl e ↦ subst (λ i. Congruent m (u i) 0) (sym e) (none_of m (u n) z)
+    | inr other ↦
+        let f = fewer m n u in
+        weights_none m n k x u positive (fit_before m n x fit) (omega (arith, f, few)) (without_none m n k x u z none)
+        j (omega (arith, l, other))
+  ]
+  | inr other ↦ none_with_last m n k x u positive fit few none other
+      (λ i v light zeros. weights_none m n i x v positive (fit_before m n x fit) light zeros) j l
+]

@@ -1,0 +1,158 @@
+-- Words without their lost symbols, and counts of symbols that differ there.
+use Rattle.std.proofs.Common.{◌≡◌, ◌≢◌, ℕ, zero, suc, ◌+◌, ◌%◌, ◌<◌, ◌≤◌, Bool, true, false, cond, eqb, ◌||◌, ◌⊎◌}
+use Rattle.std.proofs.Common.{List, [], ◌∷◌, length, take, slice_index, ap, sym, ◌∙◌, arith, refl, inl, inr, subst, eq-eqb, mod-eq_of_lt}
+use Rattle.std.proofs.Math.Nat.{zero-mod}
+use Rattle.std.proofs.lemmas.Bool.{cases_eq, false≢true}
+use Rattle.std.proofs.lemmas.Bool.Decides.{eqb_tells}
+use Rattle.std.proofs.lemmas.List.Folds.{list_any_more, list_any_at}
+use Rattle.std.specs.List.{list_any}
+use Rattle.num_modular.specs.NumberLaws.{sum_below-zero, sum_below-suc, sum_below-same}
+use Rattle.num_modular.specs.Sums.{sum_below}
+use Rattle.ring_codes.proofs.Distances.{counted, counted_same, counted_other}
+use Rattle.ring_codes.specs.Erasure.{distance}
+use Rattle.ring_decoder.specs.Corrector.{without, listed_distance}
+
+-- a place is among the lost ones
+abbrev pub is_lost : List ℕ → ℕ → Bool
+is_lost lost i = list_any (λ p. eqb p i) lost
+
+pub lost_or_listed : (lost : List ℕ) (i : ℕ) → (is_lost lost i ≡ true) ⊎ (is_lost lost i ≡ false)
+lost_or_listed lost i = elim (list_any (λ p. eqb p i) lost) as (λ b. (b ≡ true) ⊎ (b ≡ false)) [
+  | true ↦ inl refl
+  | false ↦ inr refl
+]
+
+pub without_lost : (lost : List ℕ) (y : ℕ → ℕ) (i : ℕ) → is_lost lost i ≡ true → without lost y i ≡ 0
+without_lost lost y i e = ap (λ b. cond b 0 (y i)) e
+
+pub without_listed : (lost : List ℕ) (y : ℕ → ℕ) (i : ℕ) → is_lost lost i ≡ false → without lost y i ≡ y i
+without_listed lost y i e = ap (λ b. cond b 0 (y i)) e
+
+-- which lost place it is
+pub lost_at : (lost : List ℕ) (i : ℕ) → is_lost lost i ≡ true
+    → (l : ℕ) × (l < length lost) × (slice_index lost l ≡ i)
+lost_at [] i e = absurd (false≢true e)
+lost_at (p ∷ ps) i e = elim (eqb_tells p i) [
+  | inl q ↦ (0, omega arith, q.1)
+  | inr q ↦
+      let r = lost_at ps i (sym (ap (λ b. b || list_any (λ r. eqb r i) ps) q.0) ∙ e) in
+      let l = r.1 in (suc r.0, omega (arith, l), r.2)
+]
+
+pub is_lost_at : (lost : List ℕ) (l : ℕ) → l < length lost → is_lost lost (slice_index lost l) ≡ true
+is_lost_at lost l below =
+    list_any_at (λ p. eqb p (slice_index lost l)) lost l 0 below (eq-eqb (slice_index lost l) (slice_index lost l) refl)
+
+-- one lost place more
+without_other : (p i : ℕ) (ps : List ℕ) (y : ℕ → ℕ) → i ≢ p → without (p ∷ ps) y i ≡ without ps y i
+without_other p i ps y other = elim (eqb_tells p i) [
+  | inl q ↦ absurd (other (sym q.1))
+  | inr q ↦ ap (λ b. cond (b || list_any (λ r. eqb r i) ps) 0 (y i)) q.0
+]
+
+or_true : (b : Bool) → (b || true) ≡ true
+or_true true = refl
+or_true false = refl
+
+or_false : (b : Bool) → (b || false) ≡ b
+or_false true = refl
+or_false false = refl
+
+pub without_more : (lost : List ℕ) (k i : ℕ) (y : ℕ → ℕ) → k < length lost → i ≡ slice_index lost k
+    → without (take (k + 1) lost) y i ≡ 0
+without_more lost k i y below e =
+    let more = list_any_more (λ p. eqb p i) lost k 0 below in
+    let here = eq-eqb (slice_index lost k) i (sym e) in
+    without_lost (take (k + 1) lost) y i
+    (more ∙ ap (λ b. list_any (λ p. eqb p i) (take k lost) || b) here ∙ or_true (list_any (λ p. eqb p i) (take k lost)))
+
+pub without_kept : (lost : List ℕ) (k i : ℕ) (y : ℕ → ℕ) → k < length lost → i ≢ slice_index lost k
+    → without (take (k + 1) lost) y i ≡ without (take k lost) y i
+without_kept lost k i y below other =
+    let more = list_any_more (λ p. eqb p i) lost k 0 below in
+    elim (eqb_tells (slice_index lost k) i) [
+      | inl q ↦ absurd (other (sym q.1))
+      | inr q ↦ ap (λ b. cond b 0 (y i))
+          (more ∙ ap (λ b. list_any (λ p. eqb p i) (take k lost) || b) q.0 ∙ or_false (list_any (λ p. eqb p i) (take k lost)))
+    ]
+
+-- words without the same symbols
+pub without_same : (lost : List ℕ) (y z : ℕ → ℕ) (i : ℕ) → y i ≡ z i → without lost y i ≡ without lost z i
+without_same lost y z i e = ap (λ v. cond (list_any (λ p. eqb p i) lost) 0 v) e
+
+pub without_below : (m : ℕ) (lost : List ℕ) (y : ℕ → ℕ) (i : ℕ) → y i < m → without lost y i % m ≡ without lost y i
+without_below m lost y i l = elim (lost_or_listed lost i) [
+  | inl gone ↦ ap (λ v. v % m) (without_lost lost y i gone) ∙ zero-mod m ∙ sym (without_lost lost y i gone)
+  | inr listed ↦ ap (λ v. v % m) (without_listed lost y i listed) ∙ mod-eq_of_lt l ∙ sym (without_listed lost y i listed)
+]
+
+-- sums of terms that are greater at one place alone
+below_place : (n p : ℕ) (f g : ℕ → ℕ) → ((i : ℕ) → i < n → i ≢ p → f i ≤ g i) → n ≤ p → sum_below n f ≤ sum_below n g
+below_place zero p f g less l = let s = sum_below-zero f in omega (arith, s)
+below_place (suc n) p f g less l =
+    let s = sum_below-suc n f in let t = sum_below-suc n g in
+    let i = below_place n p f g (λ i b. less i (omega arith)) (omega arith) in
+    let o = less n (omega arith) (omega arith) in omega (arith, s, t, i, o)
+
+pub one_place : (n p : ℕ) (f g : ℕ → ℕ) → ((i : ℕ) → i < n → i ≢ p → f i ≤ g i) → f p ≤ 1
+    → sum_below n f ≤ sum_below n g + 1
+one_place zero p f g less one = let s = sum_below-zero f in omega (arith, s)
+one_place (suc n) p f g less one =
+    let s = sum_below-suc n f in let t = sum_below-suc n g in
+    elim (cases_eq n p) [
+      | inl e ↦
+          let i = below_place n p f g (λ i b. less i (omega arith)) (omega arith) in
+          let o : f n ≤ 1 = subst (λ k. f k ≤ 1) (sym e) one in omega (arith, s, t, i, o)
+      | inr other ↦
+          let i = one_place n p f g (λ i b. less i (omega arith)) one in
+          let o = less n (omega arith) other in omega (arith, s, t, i, o)
+    ]
+
+pub counted_below : (x y : ℕ) → counted x y ≤ 1
+counted_below x y = elim (cases_eq x y) [
+  | inl e ↦ let z = counted_same x y e in omega (arith, z)
+  | inr o ↦ let z = counted_other x y o in omega (arith, z)
+]
+
+-- lost symbols hide as many differences at most
+pub few_hidden : (n : ℕ) (lost : List ℕ) (a b : ℕ → ℕ) → distance n a b ≤ listed_distance n lost a b + length lost
+few_hidden n [] a b = let e : listed_distance n [] a b ≡ distance n a b = refl in omega (arith, e)
+few_hidden n (p ∷ ps) a b =
+    let i = few_hidden n ps a b in
+    let o = one_place n p (λ i. counted (without ps a i) (without ps b i))
+    (λ i. counted (without (p ∷ ps) a i) (without (p ∷ ps) b i))
+    (λ i _ other.
+    let e : counted (without (p ∷ ps) a i) (without (p ∷ ps) b i) ≡ counted (without ps a i) (without ps b i) =
+    ap (λ v. counted v (without (p ∷ ps) b i)) (without_other p i ps a other)
+    ∙ ap (λ v. counted (without ps a i) v) (without_other p i ps b other) in omega (arith, e))
+    (counted_below (without ps a p) (without ps b p)) in
+    let more : length (p ∷ ps) ≡ suc (length ps) = refl in
+    omega (arith, i, o, more)
+
+-- words that are the same
+pub distance_alike : (n : ℕ) (a b c d : ℕ → ℕ) → ((i : ℕ) → i < n → a i ≡ c i) → ((i : ℕ) → i < n → b i ≡ d i)
+    → distance n a b ≡ distance n c d
+distance_alike n a b c d first second =
+    sum_below-same n (λ i. counted (a i) (b i)) (λ i. counted (c i) (d i))
+    (λ i l. ap (λ v. counted v (b i)) (first i l) ∙ ap (λ v. counted (c i) v) (second i l))
+
+-- a sum of two distances
+counted_sum : (x y z : ℕ) → counted y z ≤ counted x y + counted x z
+counted_sum x y z =
+    let one = counted_below y z in
+    elim (cases_eq x y) [
+      | inl e ↦ elim (cases_eq x z) [
+        | inl f ↦ let s = counted_same y z (sym e ∙ f) in omega (arith, s)
+        | inr g ↦ let s = counted_other x z g in omega (arith, s, one)
+      ]
+      | inr o ↦ let s = counted_other x y o in omega (arith, s, one)
+    ]
+
+pub distance_sum : (n : ℕ) (a b c : ℕ → ℕ) → distance n b c ≤ distance n a b + distance n a c
+distance_sum zero a b c = let s = sum_below-zero (λ i. counted (b i) (c i)) in omega (arith, s)
+distance_sum (suc n) a b c =
+    let s = sum_below-suc n (λ i. counted (b i) (c i)) in
+    let t = sum_below-suc n (λ i. counted (a i) (b i)) in
+    let u = sum_below-suc n (λ i. counted (a i) (c i)) in
+    let i = distance_sum n a b c in let o = counted_sum (a n) (b n) (c n) in
+    omega (arith, s, t, u, i, o)

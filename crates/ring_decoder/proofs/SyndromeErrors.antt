@@ -1,0 +1,182 @@
+-- The errors at given points: by the quotients of the product of X - x by each X - x.
+use Rattle.std.proofs.Common.{◌≡◌, ◌≢◌, ℕ, zero, suc, ◌+◌, ◌-◌, ◌*◌, ◌%◌, ◌^◌, ◌<◌, pos, ◌-ℤ◌, ap, sym, ◌∙◌, arith}
+use Rattle.std.proofs.Common.{inl, inr, refl, ◌↔◌}
+use Rattle.std.proofs.Math.Nat.{pow-zero}
+use Rattle.std.proofs.lemmas.Bool.{cases_eq}
+use Rattle.num_modular.specs.Callers.{same_coefficients, has_both}
+use Rattle.num_modular.specs.Congruence.{Congruent}
+use Rattle.num_modular.specs.Inverses.{IsInverse, HasInverse}
+use Rattle.num_modular.specs.NumberLaws.{mod_of_eq, mod_refl, residue_of, mod_sym, mod_trans, mod_add, mod_mul}
+use Rattle.num_modular.specs.NumberLaws.{sum_below-zero, sum_below-suc, sum_below-same, sum_below-mul}
+use Rattle.num_modular.specs.Polynomials.{polynomial_at, HaveUnitDifferences}
+use Rattle.num_modular.specs.PolynomialLaws.{polynomial-first, polynomial-same}
+use Rattle.num_modular.specs.Residues.{residue}
+use Rattle.num_modular.specs.Sums.{sum_below}
+use Rattle.ring_codes.specs.Prepared.{product_but}
+use Rattle.ring_codes.proofs.Lagrange.{none_at, all_from_fit, fit_from_all}
+use Rattle.ring_codes.proofs.NewtonForms.{one_expanded, no_difference, product-none, has_of_residue, has_to_residue}
+use Rattle.ring_decoder.specs.PowerSums.{ArePowerSums}
+use Rattle.ring_decoder.specs.Syndromes.{HasRoots}
+use Rattle.ring_decoder.proofs.SyndromeRoots.{product_monic}
+use Rattle.ring_decoder.proofs.SyndromeSums.{weight_alone, sum_reversed}
+
+-- what Horner's rule at a finds from coefficient l on of a polynomial of degree q; from 1 on these are the coefficients
+-- of its quotient by X - a
+abbrev pub from_coefficient : ℕ → (ℕ → ℕ) → ℕ → ℕ → ℕ
+from_coefficient q f a l = polynomial_at (q + 1 - l) (λ i. f (l + i)) a
+
+next_coefficient : (q l a : ℕ) (f : ℕ → ℕ) → l < q
+    → f l + a * from_coefficient q f a (suc l) ≡ from_coefficient q f a l
+next_coefficient q l a f b =
+    let count : q + 1 - l ≡ suc (q + 1 - suc l) = omega arith in
+    let first = polynomial-first (q + 1 - suc l) (λ i. f (l + i)) a in
+    let here = ap f (let e : l + 0 ≡ l = omega arith in e) in
+    let rest = ap (λ v. a * v) (polynomial-same (q + 1 - suc l) (λ i. f (l + suc i)) (λ i. f (suc l + i)) a
+    (λ i d. ap f (let e : l + suc i ≡ suc l + i = omega arith in e))) in
+    let whole = ap (λ n. polynomial_at n (λ i. f (l + i)) a) count in
+    omega (arith, first, here, rest, whole)
+
+last_coefficient : (q a : ℕ) (f : ℕ → ℕ) → from_coefficient q f a q ≡ f q
+last_coefficient q a f =
+    let count : q + 1 - q ≡ suc 0 = omega arith in
+    let p = sum_below-suc 0 (λ i. f (q + i) * a ^ i) in
+    let z = sum_below-zero (λ i. f (q + i) * a ^ i) in
+    let one = ap (λ v. f (q + 0) * v) (pow-zero a) in
+    let at = ap f (let e : q + 0 ≡ q = omega arith in e) in
+    let whole = ap (λ n. polynomial_at n (λ i. f (q + i)) a) count in
+    omega (arith, p, z, one, at, whole)
+
+all_coefficients : (q a : ℕ) (f : ℕ → ℕ) → from_coefficient q f a 0 ≡ polynomial_at (suc q) f a
+all_coefficients q a f =
+    let count : q + 1 - 0 ≡ suc q = omega arith in
+    ap (λ n. polynomial_at n (λ i. f (0 + i)) a) count
+    ∙ polynomial-same (suc q) (λ i. f (0 + i)) f a (λ i l. ap f (let e : 0 + i ≡ i = omega arith in e))
+
+-- the quotient by X - x j of the product of X - x is 0 at the other points
+quotient_none : (m q j i : ℕ) (x f : ℕ → ℕ) → 0 < m → HaveUnitDifferences m q x → HasRoots m q x f → j < q → i < q → i ≢ j
+    → Congruent m (polynomial_at q (λ l. from_coefficient q f (x j) (suc l)) (x i)) 0
+quotient_none m q j i x f positive fit roots below within other =
+    let a : ℕ = x j in
+    let s : ℕ → ℕ = from_coefficient q f a in
+    let Q : ℕ = polynomial_at q (λ l. s (suc l)) (x i) in
+    let u : ℕ = residue m (pos (x i) -ℤ pos a) in
+    let next : q + 1 ≡ suc q = omega arith in
+    let root : (k : ℕ) → k < q → Congruent m (polynomial_at (suc q) f (x k)) 0 =
+    λ k b. mod_trans (mod_of_eq (ap (λ n. polynomial_at n f (x k)) (sym next)))
+    (mod_trans (roots.value (x k))
+    (mod_of_eq (product-none q k (λ l. residue m (pos (x k) -ℤ pos (x l))) b (no_difference m (x k))))) in
+    let divided : Congruent m (polynomial_at (suc q) f (x i)) (s 0 + u * Q) =
+    one_expanded m q a (x i) f s positive (λ l b. mod_of_eq (next_coefficient q l a f b)) (sym (last_coefficient q a f)) in
+    let remainder : Congruent m (s 0) 0 = mod_trans (mod_of_eq (all_coefficients q a f)) (root j below) in
+    let product : Congruent m (0 + u * Q) 0 =
+    mod_trans (mod_add (mod_sym remainder) (mod_refl (u * Q))) (mod_trans (mod_sym divided) (root i within)) in
+    let unit = fit.unit i j within below other in
+    let one : Congruent m (u * unit.0) 1 = record { same = unit.1.one } in
+    let e : Q ≡ Q * 1 = omega arith in
+    let g : Q * (u * unit.0) ≡ (0 + u * Q) * unit.0 = omega arith in
+    let z : 0 * unit.0 ≡ 0 = omega arith in
+    mod_trans (mod_of_eq e) (mod_trans (mod_mul (mod_refl Q) (mod_sym one))
+    (mod_trans (mod_of_eq g) (mod_trans (mod_mul product (mod_refl unit.0)) (mod_of_eq z))))
+
+times : (n p : ℕ) (f : ℕ → ℕ) (X : ℕ) → polynomial_at n (λ l. p * f l) X ≡ p * polynomial_at n f X
+times n p f X =
+    sum_below-same n (λ i. p * f i * X ^ i) (λ i. p * (f i * X ^ i)) (λ i l. omega arith)
+    ∙ sum_below-mul n p (λ i. f i * X ^ i)
+
+-- two polynomials with d + 1 coefficients that are 0 at all but one of d + 1 points, and whose highest coefficients are
+-- 1, have the same value there
+same_at_point : (m d j : ℕ) (x f g : ℕ → ℕ) → HaveUnitDifferences m (suc d) x → j < suc d
+    → ((i : ℕ) → i < suc d → i ≢ j → Congruent m (polynomial_at (suc d) f (x i)) 0)
+    → ((i : ℕ) → i < suc d → i ≢ j → Congruent m (polynomial_at (suc d) g (x i)) 0)
+    → Congruent m (f d) 1 → Congruent m (g d) 1
+    → Congruent m (polynomial_at (suc d) f (x j)) (polynomial_at (suc d) g (x j))
+same_at_point m d j x f g fit below none_f none_g one_f one_g =
+    let n : ℕ = suc d in
+    let F : ℕ = polynomial_at n f (x j) in
+    let G : ℕ = polynomial_at n g (x j) in
+    let zero : (p h : ℕ) → Congruent m h 0 → Congruent m (p * h) 0 =
+    λ p h none. let z : p * 0 ≡ 0 = omega arith in mod_trans (mod_mul (mod_refl p) none) (mod_of_eq z) in
+    let at : (i : ℕ) → i < n → Congruent m (polynomial_at n (λ l. G * f l) (x i)) (polynomial_at n (λ l. F * g l) (x i)) =
+    λ i l. mod_trans (mod_of_eq (times n G f (x i))) (mod_trans
+    (elim (cases_eq i j) [
+      | inl e ↦
+          let swap : G * F ≡ F * G = omega arith in
+          mod_of_eq (ap (λ k. G * polynomial_at n f (x k)) e ∙ swap
+          ∙ ap (λ k. F * polynomial_at n g (x k)) (sym e))
+      | inr other ↦ mod_trans (zero G (polynomial_at n f (x i)) (none_f i l other))
+          (mod_sym (zero F (polynomial_at n g (x i)) (none_g i l other)))
+    ]) (mod_of_eq (sym (times n F g (x i))))) in
+    let last = same_coefficients m n (λ l. G * f l) (λ l. F * g l) x fit at d (omega arith) in
+    let e : F ≡ F * 1 = omega arith in
+    let h : G * 1 ≡ G = omega arith in
+    mod_trans (mod_of_eq e) (mod_trans (mod_mul (mod_refl F) (mod_sym one_g))
+    (mod_trans (mod_sym last) (mod_trans (mod_mul (mod_refl G) one_f) (mod_of_eq h))))
+
+-- the quotient's value at its own point is the product of the differences from the others
+quotient_own : (m q j : ℕ) (x f : ℕ → ℕ) → 0 < m → HaveUnitDifferences m q x → HasRoots m q x f → j < q
+    → Congruent m (polynomial_at q (λ l. from_coefficient q f (x j) (suc l)) (x j)) (product_but m q x j (x j))
+quotient_own m zero j x f positive fit roots below = absurd (omega arith)
+quotient_own m (suc d) j x f positive fit roots below =
+    let q : ℕ = suc d in
+    let p = product_monic m d j x positive (omega arith) in
+    mod_trans (same_at_point m d j x (λ l. from_coefficient q f (x j) (suc l)) p.coefficient fit below
+    (λ i l other. quotient_none m q j i x f positive fit roots below l other)
+    (λ i l other. mod_trans (p.value (x i)) (mod_of_eq (none_at m q j i x below l other)))
+    (mod_trans (mod_of_eq (last_coefficient q (x j) f)) roots.highest)
+    (mod_of_eq p.highest)) (p.value (x j))
+
+-- the sum of the syndromes, each times its coefficient of the quotient, the highest first
+quotient_sum_is : (m q j : ℕ) (x f w s : ℕ → ℕ) → 0 < m → HaveUnitDifferences m q x → HasRoots m q x f → j < q
+    → ArePowerSums m q q x w s
+    → Congruent m (sum_below q (λ k. polynomial_at (k + 1) (λ i. f (q + 1 - (k + 1) + i)) (x j) * s (q - 1 - k)))
+    (w j * product_but m q x j (x j))
+quotient_sum_is m q j x f w s positive fit roots below are =
+    let p : ℕ → ℕ = λ l. from_coefficient q f (x j) (suc l) in
+    let G : ℕ → ℕ = λ l. p l * s l in
+    let each : (k : ℕ) → k < q
+    → polynomial_at (k + 1) (λ i. f (q + 1 - (k + 1) + i)) (x j) * s (q - 1 - k) ≡ G (q - 1 - k) =
+    λ k l.
+    let count : k + 1 ≡ q + 1 - suc (q - 1 - k) = omega arith in
+    let from : q + 1 - (k + 1) ≡ suc (q - 1 - k) = omega arith in
+    ap (λ n. polynomial_at n (λ i. f (q + 1 - (k + 1) + i)) (x j) * s (q - 1 - k)) count
+    ∙ ap (λ t. polynomial_at (q + 1 - suc (q - 1 - k)) (λ i. f (t + i)) (x j) * s (q - 1 - k)) from in
+    mod_trans (mod_of_eq (sum_below-same q _ (λ k. G (q - 1 - k)) each ∙ sum_reversed q G))
+    (mod_trans (weight_alone m q j x w s p are below
+    (λ i l other. quotient_none m q j i x f positive fit roots below l other))
+    (mod_mul (mod_refl (w j)) (quotient_own m q j x f positive fit roots below)))
+
+-- the error at point j: the sum, divided by the weight and the differences
+pub error_found : (m q j sum divisor inverse error : ℕ) (x f w e s : ℕ → ℕ) → 0 < m → HaveUnitDifferences m q x
+    → HasRoots m q x f → j < q → ArePowerSums m q q x (λ j. w j * e j) s
+    → sum ≡ sum_below q (λ k. polynomial_at (k + 1) (λ i. f (q + 1 - (k + 1) + i)) (x j) * s (q - 1 - k)) % m
+    → divisor ≡ (product_but m q x j (x j) % m * w j) % m → IsInverse m divisor inverse
+    → error ≡ (sum * inverse) % m → error ≡ e j % m
+error_found m q j sum divisor inverse error x f w e s positive fit roots below are is_sum is_divisor inverts is =
+    let P : ℕ = product_but m q x j (x j) in
+    let one : Congruent m (divisor * inverse) 1 = record { same = inverts.one } in
+    let divisor_is : Congruent m (P * w j) divisor =
+    mod_sym (mod_trans (mod_of_eq is_divisor) (mod_trans (residue_of (P % m * w j)) (mod_mul (residue_of P) (mod_refl (w j))))) in
+    let sum_is : Congruent m sum (w j * e j * P) =
+    mod_trans (mod_of_eq is_sum) (mod_trans (residue_of _)
+    (quotient_sum_is m q j x f (λ j. w j * e j) s positive fit roots below are)) in
+    let order : w j * e j * P * inverse ≡ e j * (P * w j * inverse) = omega arith in
+    let times_one : e j * 1 ≡ e j = omega arith in
+    is ∙ (mod_trans (mod_mul sum_is (mod_refl inverse)) (mod_trans (mod_of_eq order)
+    (mod_trans (mod_mul (mod_refl (e j)) (mod_trans (mod_mul divisor_is (mod_refl inverse)) one))
+    (mod_of_eq times_one)))).same
+
+-- the divisors have inverses exactly where the points fit and the weights have inverses
+pub divisors_tell : (m q : ℕ) (x w d : ℕ → ℕ) → 0 < m
+    → ((j : ℕ) → j < q → d j ≡ (product_but m q x j (x j) % m * w j) % m)
+    → (HaveUnitDifferences m q x × ((j : ℕ) → j < q → HasInverse m (w j))) ↔ ((j : ℕ) → j < q → HasInverse m (d j))
+divisors_tell m q x w d positive each =
+    let P : ℕ → ℕ = λ j. product_but m q x j (x j) in
+    let both : ((j : ℕ) → j < q → HasInverse m (d j)) → (j : ℕ) → j < q → HasInverse m (P j % m) × HasInverse m (w j) =
+    λ all j l. (has_both m (P j % m) (w j)).0 (has_of_residue m (P j % m * w j) (d j) (each j l) (all j l)) in (
+      (λ (fit, units) j l. has_to_residue m (P j % m * w j) (d j) (each j l)
+          ((has_both m (P j % m) (w j)).1 (has_to_residue m (P j) (P j % m) refl (all_from_fit m q x positive fit j l), units j l))),
+      λ all. (
+        fit_from_all m q x (λ j l. has_of_residue m (P j) (P j % m) refl (both all j l).0),
+        λ j l. (both all j l).1,
+      ),
+    )

@@ -1,0 +1,195 @@
+-- Polynomials with given roots and the highest coefficient 1.
+use Rattle.std.proofs.Common.{◌≡◌, ℕ, zero, suc, ◌+◌, ◌-◌, ◌*◌, ◌^◌, ◌<◌, ◌≤◌, pos, ◌-ℤ◌, ap, sym, ◌∙◌, arith}
+use Rattle.std.proofs.Common.{refl}
+use Rattle.std.proofs.Math.Nat.{pow-zero}
+use Rattle.num_modular.specs.Congruence.{Congruent}
+use Rattle.num_modular.specs.NumberLaws.{mod_of_eq, mod_refl, mod_sym, mod_trans, mod_add, mod_mul}
+use Rattle.num_modular.specs.NumberLaws.{mod_add_cancel, difference_and, sum_below-suc, sum_below-zero, sum_below-congruent}
+use Rattle.num_modular.specs.Polynomials.{polynomial_at}
+use Rattle.num_modular.specs.PolynomialLaws.{polynomial-congruent}
+use Rattle.num_modular.specs.ProductLaws.{product-zero, product-more}
+use Rattle.num_modular.specs.Products.{product_below}
+use Rattle.num_modular.specs.Residues.{residue}
+use Rattle.num_modular.specs.Sums.{sum_below}
+use Rattle.ring_codes.specs.KeyEquations.{shifted}
+use Rattle.ring_codes.specs.Prepared.{product_but}
+use Rattle.ring_codes.proofs.KeyPairs.{shifted-values}
+use Rattle.ring_codes.proofs.NearestWords.{combined, difference_alike, no_value}
+use Rattle.ring_codes.proofs.Distances.{extended, at_end, before_end}
+use Rattle.ring_decoder.specs.PowerSums.{ArePowerSums}
+use Rattle.ring_decoder.specs.Syndromes.{product_of_differences, HasRoots}
+use Rattle.ring_decoder.proofs.SyndromeSums.{moment}
+
+-- a function with the values of a polynomial of degree d modulo m, whose highest coefficient is 1
+pub record IsMonic (m d : ℕ) (F : ℕ → ℕ) : Type 0 where
+  pub coefficient : ℕ → ℕ
+  pub behind : (i : ℕ) → d < i → coefficient i ≡ 0
+  pub highest : coefficient d ≡ 1
+  pub value : (X : ℕ) → Congruent m (polynomial_at (suc d) coefficient X) (F X)
+
+moved : (m d e : ℕ) (F G : ℕ → ℕ) → d ≡ e → ((X : ℕ) → F X ≡ G X) → IsMonic m d F → IsMonic m e G
+moved m d e F G count same p = record {
+  coefficient = p.coefficient;
+  behind = λ i l. p.behind i (omega (arith, l, count));
+  highest = ap p.coefficient (sym count) ∙ p.highest;
+  value = λ X. mod_trans (mod_of_eq (ap (λ n. polynomial_at (suc n) p.coefficient X) (sym count)))
+      (mod_trans (p.value X) (mod_of_eq (same X)));
+}
+
+constant_value : (X : ℕ) (f : ℕ → ℕ) → polynomial_at (suc 0) f X ≡ f 0
+constant_value X f =
+    let p = sum_below-suc 0 (λ i. f i * X ^ i) in
+    let z = sum_below-zero (λ i. f i * X ^ i) in
+    let e = ap (λ v. f 0 * v) (pow-zero X) in
+    omega (arith, p, z, e)
+
+monic_one : (m : ℕ) → IsMonic m 0 (λ X. 1)
+monic_one m =
+    let c : ℕ → ℕ = extended 0 1 (λ i. 0) in
+    let one : c 0 ≡ 1 = at_end 0 1 (λ i. 0) 0 refl in
+    record {
+      coefficient = c;
+      behind = λ i l. before_end 0 1 (λ i. 0) i (omega arith);
+      highest = one;
+      value = λ X. mod_of_eq (constant_value X c ∙ one);
+    }
+
+-- the coefficients of X + r times a polynomial
+times_root : ℕ → (ℕ → ℕ) → ℕ → ℕ
+times_root r h i = shifted h i + r * h i
+
+times_root_behind : (d r i : ℕ) (h : ℕ → ℕ) → ((i : ℕ) → d < i → h i ≡ 0) → suc d < i → times_root r h i ≡ 0
+unfolding times_root shifted
+times_root_behind d r zero h none l = absurd (omega arith)
+times_root_behind d r (suc i) h none l =
+    let p = none i (omega arith) in
+    let q = ap (λ v. r * v) (none (suc i) (omega arith)) in
+    omega (arith, p, q)
+
+times_root_highest : (d r : ℕ) (h : ℕ → ℕ) → h d ≡ 1 → h (suc d) ≡ 0 → times_root r h (suc d) ≡ 1
+unfolding times_root shifted
+times_root_highest d r h one none = let q = ap (λ v. r * v) none in omega (arith, one, q)
+
+times_root_value : (d r X : ℕ) (h : ℕ → ℕ) → h (suc d) ≡ 0
+    → polynomial_at (suc (suc d)) (times_root r h) X ≡ polynomial_at (suc d) h X * (X + r)
+unfolding times_root
+times_root_value d r X h none =
+    let parts = combined (suc (suc d)) (shifted h) h r X in
+    let first = shifted-values (suc d) X h in
+    let more = sum_below-suc (suc d) (λ i. h i * X ^ i) in
+    let gone = ap (λ v. v * X ^ suc d) none in
+    let same : polynomial_at (suc (suc d)) h X ≡ polynomial_at (suc d) h X = omega (arith, more, gone) in
+    let rest = ap (λ v. r * v) same in
+    omega (arith, parts, first, rest)
+
+-- times X - a
+times_difference : (m d a : ℕ) (F : ℕ → ℕ) → 0 < m → IsMonic m d F
+    → IsMonic m (suc d) (λ X. F X * residue m (pos X -ℤ pos a))
+times_difference m d a F positive p =
+    let r : ℕ = (m - 1) * a in
+    let none = p.behind (suc d) (omega arith) in
+    record {
+      coefficient = times_root r p.coefficient;
+      behind = λ i l. times_root_behind d r i p.coefficient p.behind l;
+      highest = times_root_highest d r p.coefficient p.highest none;
+      value = λ X.
+          mod_trans (mod_of_eq (times_root_value d r X p.coefficient none))
+          (mod_mul (p.value X) (mod_sym (difference_alike m X a positive)));
+    }
+
+times_differences : (m b d : ℕ) (a F : ℕ → ℕ) → 0 < m → IsMonic m d F
+    → IsMonic m (b + d) (λ X. F X * product_below b (λ l. residue m (pos X -ℤ pos (a l))))
+unfolding product_below
+times_differences m zero d a F positive p =
+    moved m d (0 + d) F (λ X. F X * 1) (omega arith) (λ X. omega arith) p
+times_differences m (suc b) d a F positive p =
+    let P : ℕ → ℕ = λ X. product_below b (λ l. residue m (pos X -ℤ pos (a l))) in
+    moved m (suc (b + d)) (suc b + d) (λ X. F X * P X * residue m (pos X -ℤ pos (a b)))
+    (λ X. F X * (P X * residue m (pos X -ℤ pos (a b)))) (omega arith) (λ X. omega arith)
+    (times_difference m (b + d) (a b) (λ X. F X * P X) positive (times_differences m b d a F positive p))
+
+-- the product of the differences from all of d + 1 points but number i
+pub product_monic : (m d i : ℕ) (x : ℕ → ℕ) → 0 < m → i ≤ d → IsMonic m d (product_but m (suc d) x i)
+unfolding product_but
+product_monic m d i x positive l =
+    let P : ℕ → ℕ = λ X. product_below i (λ l. residue m (pos X -ℤ pos (x l))) in
+    let Q : ℕ → ℕ = λ X. product_below (suc d - 1 - i) (λ l. residue m (pos X -ℤ pos (x (suc d - 1 - l)))) in
+    moved m (suc d - 1 - i + (i + 0)) d (λ X. 1 * P X * Q X) (λ X. P X * Q X) (omega arith) (λ X. omega arith)
+    (times_differences m (suc d - 1 - i) (i + 0) (λ l. x (suc d - 1 - l)) (λ X. 1 * P X) positive
+    (times_differences m i 0 x (λ X. 1) positive (monic_one m)))
+
+-- sums of multiples of n such functions
+pub combination : (m d n : ℕ) (v : ℕ → ℕ) (F : ℕ → ℕ → ℕ) → ((i : ℕ) → i < n → IsMonic m d (F i))
+    → (c : ℕ → ℕ) × (c d ≡ sum_below n v)
+    × ((X : ℕ) → Congruent m (polynomial_at (suc d) c X) (sum_below n (λ i. v i * F i X)))
+combination m d zero v F each = (
+  (λ i. 0),
+  sym (sum_below-zero v),
+  λ X. mod_of_eq (no_value (suc d) X ∙ sym (sum_below-zero (λ i. v i * F i X))),
+)
+combination m d (suc n) v F each =
+    let before = combination m d n v F (λ i l. each i (omega arith)) in
+    let last = each n (omega arith) in (
+      (λ i. before.0 i + v n * last.coefficient i),
+      (let p = before.1 in let q = ap (λ w. v n * w) last.highest in let s = sum_below-suc n v in omega (arith, p, q, s)),
+      λ X. mod_trans (mod_of_eq (combined (suc d) before.0 last.coefficient (v n) X))
+          (mod_trans (mod_add (before.2 X) (mod_mul (mod_refl (v n)) (last.value X)))
+          (mod_of_eq (sym (sum_below-suc n (λ i. v i * F i X))))),
+    )
+
+-- the coefficients of the product without points
+pub roots_none : (m : ℕ) (x f : ℕ → ℕ) → Congruent m (f 0) 1 → HasRoots m 0 x f
+roots_none m x f one = record {
+  highest = one;
+  value = λ a.
+      let one_more : 0 + 1 ≡ suc 0 = omega arith in
+      mod_trans (mod_of_eq (ap (λ n. polynomial_at n f a) one_more ∙ constant_value a f)) (mod_trans one (mod_of_eq (sym (product-zero _))));
+}
+
+-- with one point more
+pub roots_more : (m i a : ℕ) (x f g : ℕ → ℕ) → 0 < m → HasRoots m i x f → ((j : ℕ) → i < j → f j ≡ 0) → a ≡ x i
+    → ((j : ℕ) → j < i + 2 → Congruent m (g j + a * f j) (shifted f j)) → HasRoots m (i + 1) x g
+unfolding shifted
+roots_more m i a x f g positive roots behind is each =
+    let none = behind (suc i) (omega arith) in
+    let next : i + 1 ≡ suc i = omega arith in
+    record {
+      highest =
+          let z : g (suc i) ≡ g (suc i) + a * f (suc i) = (let e = ap (λ v. a * v) none in omega (arith, e)) in
+          mod_trans (mod_of_eq (ap g next ∙ z)) (mod_trans (each (suc i) (omega arith)) roots.highest);
+      value = λ X.
+          let F : ℕ = polynomial_at (i + 1) f X in
+          let G : ℕ = polynomial_at (i + 1 + 1) g X in
+          let u : ℕ = residue m (pos X -ℤ pos a) in
+          let two : i + 1 + 1 ≡ suc (suc i) = omega arith in
+          let front : polynomial_at (suc (suc i)) f X ≡ F =
+          (let s = sum_below-suc (suc i) (λ j. f j * X ^ j) in let z = ap (λ v. v * X ^ suc i) none in
+          let e = ap (λ n. polynomial_at n f X) next in omega (arith, s, z, e)) in
+          let values : Congruent m (G + a * F) (X * F) =
+          mod_trans (mod_of_eq (ap (λ v. v + a * F) (ap (λ n. polynomial_at n g X) two)
+          ∙ ap (λ v. polynomial_at (suc (suc i)) g X + a * v) (sym front)
+          ∙ sym (combined (suc (suc i)) g f a X)))
+          (mod_trans (polynomial-congruent (suc (suc i)) (λ j. g j + a * f j) (shifted f) X X
+          (λ j l. each j (omega (arith, l))) (mod_refl X))
+          (mod_of_eq (shifted-values (suc i) X f ∙ ap (λ n. X * polynomial_at n f X) (sym next)))) in
+          let at : Congruent m (u + a) X = record { same = difference_and m X a positive } in
+          let apart : (u + a) * F ≡ F * u + a * F = omega arith in
+          let times : Congruent m G (F * u) =
+          mod_add_cancel (a * F) (mod_trans values
+          (mod_trans (mod_mul (mod_sym at) (mod_refl F)) (mod_of_eq apart))) in
+          let point : u ≡ residue m (pos X -ℤ pos (x i)) = ap (λ v. residue m (pos X -ℤ pos v)) is in
+          mod_trans times (mod_trans (mod_mul (roots.value X) (mod_of_eq point))
+          (mod_of_eq (sym (product-more (λ l. residue m (pos X -ℤ pos (x l))) i))));
+    }
+
+-- multiples of power sums by the coefficients of a product of X - z are power sums, with the weights times the products
+pub moments_of : (m M c n : ℕ) (z g x w t s : ℕ → ℕ) → HasRoots m c z g → ArePowerSums m (M + c) n x w t
+    → ((h : ℕ) → h < M → Congruent m (s h) (sum_below (c + 1) (λ l. g l * t (h + l))))
+    → ArePowerSums m M n x (λ i. w i * product_of_differences m c z (x i)) s
+moments_of m M c n z g x w t s roots are each = record {
+  sum = λ h l. mod_trans (each h l) (mod_trans (moment m (M + c) n (c + 1) h x w t g are (omega arith))
+      (sum_below-congruent n _ _ (λ i b.
+      let P : ℕ = product_of_differences m c z (x i) in
+      let e : w i * x i ^ h * P ≡ w i * P * x i ^ h = omega arith in
+      mod_trans (mod_mul (mod_refl (w i * x i ^ h)) (roots.value (x i))) (mod_of_eq e))));
+}

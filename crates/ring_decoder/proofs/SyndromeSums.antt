@@ -1,0 +1,117 @@
+-- Power sums with weights: what their multiples by the coefficients of a polynomial add up to.
+use Rattle.std.proofs.Common.{◌≡◌, ◌≢◌, ℕ, zero, suc, ◌+◌, ◌-◌, ◌*◌, ◌%◌, ◌^◌, ◌<◌, ◌≤◌, ap, sym, ◌∙◌, arith, inl, inr}
+use Rattle.std.proofs.Math.Nat.{pow-zero, pow-suc}
+use Rattle.std.proofs.lemmas.Bool.{cases_eq}
+use Rattle.std.proofs.lemmas.Nat.{pow-add}
+use Rattle.num_modular.specs.Congruence.{Congruent}
+use Rattle.num_modular.specs.NumberLaws.{mod_of_eq, mod_refl, residue_of, mod_trans, mod_add, mod_mul}
+use Rattle.num_modular.specs.NumberLaws.{sum_below-zero, sum_below-suc, sum_below-first, sum_below-same, sum_below-congruent}
+use Rattle.num_modular.specs.NumberLaws.{sum_below-mul, sum_below-exchanged, sum_below-of_zeros, sum_below-more}
+use Rattle.num_modular.specs.Polynomials.{polynomial_at}
+use Rattle.num_modular.specs.Sums.{sum_below}
+use Rattle.ring_decoder.specs.PowerSums.{ArePowerSums}
+
+-- the coefficients p, each times a power sum from number h on, add up to the sum of the weights times x^h·p(x)
+pub moment : (m N n d h : ℕ) (x w t p : ℕ → ℕ) → ArePowerSums m N n x w t → h + d ≤ N
+    → Congruent m (sum_below d (λ l. p l * t (h + l))) (sum_below n (λ i. w i * x i ^ h * polynomial_at d p (x i)))
+moment m N n d h x w t p are within =
+    let f : ℕ → ℕ → ℕ = λ l i. w i * x i ^ h * (p l * x i ^ l) in
+    let each : (l i : ℕ) → p l * (w i * x i ^ (h + l)) ≡ f l i =
+    λ l i. let e = ap (λ v. p l * (w i * v)) (pow-add (x i) h l) in omega (arith, e) in
+    let row : (l : ℕ) → p l * sum_below n (λ i. w i * x i ^ (h + l)) ≡ sum_below n (λ i. f l i) =
+    λ l. sym (sum_below-mul n (p l) (λ i. w i * x i ^ (h + l)))
+    ∙ sum_below-same n (λ i. p l * (w i * x i ^ (h + l))) (λ i. f l i) (λ i b. each l i) in
+    let sums : Congruent m (sum_below d (λ l. p l * t (h + l))) (sum_below d (λ l. sum_below n (λ i. f l i))) =
+    sum_below-congruent d (λ l. p l * t (h + l)) (λ l. sum_below n (λ i. f l i))
+    (λ l b. mod_trans (mod_mul (mod_refl (p l)) (are.sum (h + l) (omega arith))) (mod_of_eq (row l))) in
+    mod_trans sums (mod_of_eq (sum_below-exchanged d n f
+    ∙ sum_below-same n (λ i. sum_below d (λ l. f l i)) (λ i. w i * x i ^ h * polynomial_at d p (x i))
+    (λ i b. sum_below-mul d (w i * x i ^ h) (λ l. p l * x i ^ l))))
+
+-- one term alone counts, where the others are congruent to 0
+pub single_congruent : (m n k : ℕ) (f : ℕ → ℕ) → k < n → ((i : ℕ) → i < n → i ≢ k → Congruent m (f i) 0)
+    → Congruent m (sum_below n f) (f k)
+single_congruent m zero k f l none = absurd (omega arith)
+single_congruent m (suc n) k f l none =
+    let d = sum_below-suc n f in
+    elim (cases_eq k n) [
+      | inl e ↦
+          let zeros : Congruent m (sum_below n f) (sum_below n (λ i. 0)) =
+          sum_below-congruent n f (λ i. 0) (λ i t. none i (omega arith) (omega arith)) in
+          let z : sum_below n (λ i. 0) ≡ 0 = sum_below-of_zeros n (λ i. 0) (λ i t. omega arith) in
+          let s : 0 + f n ≡ f k = omega (arith, ap f e) in
+          mod_trans (mod_of_eq d)
+          (mod_trans (mod_add (mod_trans zeros (mod_of_eq z)) (mod_refl (f n))) (mod_of_eq s))
+      | inr other ↦
+          let i = single_congruent m n k f (omega arith) (λ i t. none i (omega arith)) in
+          let s : f k + 0 ≡ f k = omega arith in
+          mod_trans (mod_of_eq d) (mod_trans (mod_add i (none n (omega arith) (omega arith))) (mod_of_eq s))
+    ]
+
+-- a polynomial that is 0 at all points but number j leaves the weight of that one
+pub weight_alone : (m q j : ℕ) (x w t p : ℕ → ℕ) → ArePowerSums m q q x w t → j < q
+    → ((i : ℕ) → i < q → i ≢ j → Congruent m (polynomial_at q p (x i)) 0)
+    → Congruent m (sum_below q (λ l. p l * t l)) (w j * polynomial_at q p (x j))
+weight_alone m q j x w t p are below none =
+    let shift : (l : ℕ) → 0 + l ≡ l = λ l. omega arith in
+    let front : sum_below q (λ l. p l * t l) ≡ sum_below q (λ l. p l * t (0 + l)) =
+    sum_below-same q (λ l. p l * t l) (λ l. p l * t (0 + l)) (λ l b. ap (λ k. p l * t k) (sym (shift l))) in
+    let f : ℕ → ℕ = λ i. w i * x i ^ 0 * polynomial_at q p (x i) in
+    let whole : Congruent m (sum_below q (λ l. p l * t (0 + l))) (sum_below q f) =
+    moment m q q q 0 x w t p are (omega arith) in
+    let alone : Congruent m (sum_below q f) (f j) =
+    single_congruent m q j f below
+    (λ i l other.
+    let z : w i * x i ^ 0 * 0 ≡ 0 = omega arith in
+    mod_trans (mod_mul (mod_refl (w i * x i ^ 0)) (none i l other)) (mod_of_eq z)) in
+    let one : f j ≡ w j * polynomial_at q p (x j) =
+    (let e = ap (λ v. w j * v * polynomial_at q p (x j)) (pow-zero (x j)) in omega (arith, e)) in
+    mod_trans (mod_of_eq front) (mod_trans whole (mod_trans alone (mod_of_eq one)))
+
+-- a sum from its last term on
+pub sum_reversed : (n : ℕ) (f : ℕ → ℕ) → sum_below n (λ i. f (n - 1 - i)) ≡ sum_below n f
+sum_reversed zero f = sum_below-zero (λ i. f (0 - 1 - i)) ∙ sym (sum_below-zero f)
+sum_reversed (suc n) f =
+    let first = sum_below-first n (λ i. f (suc n - 1 - i)) in
+    let here = ap f (let e : suc n - 1 - 0 ≡ n = omega arith in e) in
+    let rest = sum_below-same n (λ i. f (suc n - 1 - suc i)) (λ i. f (n - 1 - i))
+    (λ i l. ap f (let e : suc n - 1 - suc i ≡ n - 1 - i = omega arith in e)) in
+    let back = sum_reversed n f in
+    let more = sum_below-suc n f in
+    omega (arith, first, here, rest, back, more)
+
+-- power sums with congruent weights
+pub sums_alike : (m N n : ℕ) (x v w t : ℕ → ℕ) → ((i : ℕ) → i < n → Congruent m (v i) (w i))
+    → ArePowerSums m N n x v t → ArePowerSums m N n x w t
+sums_alike m N n x v w t same are = record {
+  sum = λ h l. mod_trans (are.sum h l) (sum_below-congruent n (λ i. v i * x i ^ h) (λ i. w i * x i ^ h)
+      (λ i b. mod_mul (same i b) (mod_refl (x i ^ h))));
+}
+
+-- a sum so far, as a residue, with one term more
+pub sum_step : (m i a b : ℕ) (f : ℕ → ℕ) → a ≡ sum_below i f % m → Congruent m b (f i)
+    → (a + b) % m ≡ sum_below (i + 1) f % m
+sum_step m i a b f so_far term =
+    (mod_trans (mod_add (mod_trans (mod_of_eq so_far) (residue_of (sum_below i f))) term)
+    (mod_of_eq (sym (sum_below-more f i)))).same
+
+-- the terms of a power sum: at the start, and from one sum to the next
+pub terms_first : (m a x : ℕ) → Congruent m a (a * x ^ 0)
+terms_first m a x = mod_of_eq (let e = ap (λ v. a * v) (pow-zero x) in omega (arith, e))
+
+pub terms_next : (m h new old a x : ℕ) → new ≡ (old * x) % m → Congruent m old (a * x ^ h)
+    → Congruent m new (a * x ^ (h + 1))
+terms_next m h new old a x is before =
+    let next : x ^ (h + 1) ≡ x ^ h * x = (let s : h + 1 ≡ suc h = omega arith in ap (λ k. x ^ k) s ∙ pow-suc x h) in
+    let order : a * x ^ h * x ≡ a * (x ^ h * x) = omega arith in
+    mod_trans (mod_of_eq is) (mod_trans (residue_of (old * x)) (mod_trans (mod_mul before (mod_refl x))
+    (mod_of_eq (order ∙ ap (λ v. a * v) (sym next)))))
+
+pub sum_of_terms : (m n h sum : ℕ) (x w terms : ℕ → ℕ) → ((i : ℕ) → i < n → Congruent m (terms i) (w i * x i ^ h))
+    → sum ≡ sum_below n terms % m → sum ≡ sum_below n (λ i. w i * x i ^ h) % m
+sum_of_terms m n h sum x w terms each is =
+    is ∙ (sum_below-congruent n terms (λ i. w i * x i ^ h) each).same
+
+-- a product of equal factors
+pub product_of_equal : (m v a b c d : ℕ) → v ≡ (a * b) % m → a ≡ c → b ≡ d → v ≡ (c * d) % m
+product_of_equal m v a b c d is left right = is ∙ ap (λ k. (k * b) % m) left ∙ ap (λ k. (c * k) % m) right

@@ -1,0 +1,14 @@
+use Rattle.std.proofs.Common.{cond}
+use Rattle.num_modular.specs.Callers.{All, IsForm, length, entry}
+use Rattle.ring_decoder.specs.LocatorSteps.{HoldsSearch}
+use Rattle.ring_decoder.proofs.locator.find_locator.Given as goal
+
+-- the recurrence holds for the moments so far
+abbrev pub invariant-moments : goal.invariant-moments
+invariant-moments g l =
+    let ring = g.R.Reducer in let m = ring.modulus l.fn.r in let number = g.T.RingWord.number in
+    All (λ f. IsForm ring.form ring.value m (number f)) l.first
+    × All (λ f. IsForm ring.form ring.value m (number f)) l.second
+    × HoldsSearch number ring.form ring.value m (length l.fn.moments) l.i l.state.0 l.state.2 l.state.3
+    (entry number ring.value m (cond l.state.1 l.first l.second)) (entry number ring.value m (cond l.state.1 l.second l.first))
+    (entry number ring.value m l.fn.moments)

@@ -1,0 +1,76 @@
+use Rattle.num_modular.specs.Callers.{◌≡◌, ◌*◌, ◌-◌, ℕ, ◌∙◌, sym, subst, length, entry}
+use Rattle.ring_decoder.proofs.NearLocators.{sought_from, located_by, none_near_by}
+use Rattle.ring_decoder.specs.PowerSums.{ArePowerSums}
+use Rattle.ring_decoder.specs.Syndromes.{product_of_differences}
+use Rattle.ring_decoder.proofs.search.locate.Goals as goal
+
+pub returns-in-None-clause-located : goal.returns-in-None-clause-located
+returns-in-None-clause-located g c v units errors near =
+    let ring = g.R.Reducer in let m = ring.modulus c.args.r.now in let number = g.T.RingWord.number in
+    let positive = (g.met.R.Reducer.canonical c.args.r.now).positive in
+    let n : ℕ = length c.args.points.now in let t : ℕ = length c.args.syndromes.now in let lost = c.args.lost.now in
+    let x = entry number ring.value m c.args.points.now in
+    let z = entry number ring.value m c.copy_points.new.located in
+    let q = entry number ring.value m c.fill_moments.new.moments in
+    let count : length c.copy_points.new.located ≡ length lost =
+    c.copy_points.auto.located ∙ c.split_at_mut-located.ensures.front_len in
+    let rest : length c.fill_moments.new.moments ≡ t - length lost =
+    c.fill_moments.auto.moments ∙ c.split_at_mut-moments.ensures.front_len in
+    none_near_by
+    (sought_from positive c.requires.modulus c.requires.few c.requires.places count rest c.requires.fit units
+    c.copy_points.ensures.same
+    (λ w is. subst (λ k. ArePowerSums m k n x
+    (λ i. w i * product_of_differences m (length c.copy_points.new.located) z (x i)) q)
+    (sym c.fill_moments.auto.moments) (c.fill_moments.ensures.moments n x w is)))
+    rest c.in-None.ensures.located errors near
+
+pub returns-in-Some-clause-located : goal.returns-in-Some-clause-located
+returns-in-Some-clause-located g c v units =
+    let ring = g.R.Reducer in let m = ring.modulus c.args.r.now in let number = g.T.RingWord.number in
+    let positive = (g.met.R.Reducer.canonical c.args.r.now).positive in
+    let n : ℕ = length c.args.points.now in let t : ℕ = length c.args.syndromes.now in let lost = c.args.lost.now in
+    let x = entry number ring.value m c.args.points.now in
+    let z = entry number ring.value m c.copy_points.new.located in
+    let q = entry number ring.value m c.fill_moments.new.moments in
+    let count : length c.copy_points.new.located ≡ length lost =
+    c.copy_points.auto.located ∙ c.split_at_mut-located.ensures.front_len in
+    let rest : length c.fill_moments.new.moments ≡ t - length lost =
+    c.fill_moments.auto.moments ∙ c.split_at_mut-moments.ensures.front_len in
+    located_by
+    (sought_from positive c.requires.modulus c.requires.few c.requires.places count rest c.requires.fit units
+    c.copy_points.ensures.same
+    (λ w is. subst (λ k. ArePowerSums m k n x
+    (λ i. w i * product_of_differences m (length c.copy_points.new.located) z (x i)) q)
+    (sym c.fill_moments.auto.moments) (c.fill_moments.ensures.moments n x w is)))
+    rest c.in-Some.ensures.located c.fill_values_of.ensures.values c.clear_lost.ensures.cleared
+    c.in-Some.ensures.unit c.in-Some.ensures.one
+
+pub fill_moments-requires-clause-lost : goal.fill_moments-requires-clause-lost
+fill_moments-requires-clause-lost g c = c.copy_points.ensures.checked
+
+pub fill_moments-requires-clause-syndromes : goal.fill_moments-requires-clause-syndromes
+fill_moments-requires-clause-syndromes g c = c.requires.syndromes
+
+pub find_locator-requires-clause-moments : goal.find_locator-requires-clause-moments
+find_locator-requires-clause-moments g c = c.fill_moments.ensures.checked
+
+pub fill_values_of-requires-clause-points : goal.fill_values_of-requires-clause-points
+fill_values_of-requires-clause-points g c = c.requires.points
+
+pub fill_values_of-requires-clause-first : goal.fill_values_of-requires-clause-first
+fill_values_of-requires-clause-first g c = c.find_locator.ensures.checked_first
+
+pub fill_values_of-requires-clause-second : goal.fill_values_of-requires-clause-second
+fill_values_of-requires-clause-second g c = c.find_locator.ensures.checked_second
+
+pub clear_lost-requires-clause-values : goal.clear_lost-requires-clause-values
+clear_lost-requires-clause-values g c = c.fill_values_of.ensures.checked
+
+pub returns-in-Some-clause-checked : goal.returns-in-Some-clause-checked
+returns-in-Some-clause-checked g c = c.clear_lost.ensures.checked
+
+pub returns-in-Some-clause-witness : goal.returns-in-Some-clause-witness
+returns-in-Some-clause-witness g c = c.in-Some.ensures.witness
+
+pub returns-in-Some-clause-nonzero : goal.returns-in-Some-clause-nonzero
+returns-in-Some-clause-nonzero g c = c.in-Some.ensures.nonzero c.requires.modulus

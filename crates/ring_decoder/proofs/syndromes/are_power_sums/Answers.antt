@@ -1,0 +1,56 @@
+use Rattle.std.proofs.Common.{below_more}
+use Rattle.std.proofs.lemmas.Bool.{false≢true}
+use Rattle.num_modular.specs.Callers.{◌<◌, ◌∙◌, ap, sym, refl, arith, length, mod-eq_of_lt}
+use Rattle.num_modular.specs.Callers.{entry, entry_read, form_read}
+use Rattle.num_modular.specs.NumberLaws.{mod_of_eq, mod_trans, residue_of}
+use Rattle.ring_codes.proofs.Symbols.{entry_below, same_forms, told_same, told_other}
+use Rattle.ring_decoder.proofs.SyndromeSums.{terms_first, terms_next, sum_of_terms}
+use Rattle.ring_decoder.proofs.syndromes.are_power_sums.Goals as goal
+
+pub sums-init : goal.sums-init
+sums-init g c =
+    let m = g.R.Reducer.modulus c.args.r.now in (
+      c.requires.terms,
+      λ i l. terms_first m _ _,
+      λ j l. absurd (omega arith),
+    )
+
+pub returns-then-ne-clause-sums : goal.returns-then-ne-clause-sums
+returns-then-ne-clause-sums g c =
+    let ring = g.R.Reducer in let m = ring.modulus c.args.r.now in let number = g.T.RingWord.number in
+    let x = entry number ring.value m c.args.points.now in let w = entry number ring.value m c.args.terms.now in
+    let n = length c.args.points.now in let sums = c.args.sums.now in let h = c.sums.h in
+    let below : h < length sums = omega arith in
+    let symbol = entry_read number ring.value m sums h _ below c.index-sums-h.is in
+    let is = form_read number ring.form ring.value m sums h _ c.requires.sums below c.index-sums-h.is in (
+      λ t. absurd (false≢true t),
+      λ are. absurd (told_other _ _ _ c.ne.ensures c.if-ne.true
+          (g.met.T.RingWord.equal c.next_sum-sum.result c.index-sums-h.result)
+          (same_forms ring.form ring.value m _ _ c.next_sum-sum.ensures.checked is
+          (sum_of_terms m n h _ x w _ c.sums.invariant.1 c.next_sum-sum.ensures.value
+          ∙ sym (are.sum h below).same
+          ∙ mod-eq_of_lt (entry_below number ring.form ring.value m sums h c.requires.sums below) ∙ sym symbol))),
+    )
+
+pub sums-preserved : goal.sums-preserved
+sums-preserved g c =
+    let ring = g.R.Reducer in let m = ring.modulus c.args.r.now in let number = g.T.RingWord.number in
+    let x = entry number ring.value m c.args.points.now in let w = entry number ring.value m c.args.terms.now in
+    let n = length c.args.points.now in let sums = c.args.sums.now in let h = c.sums.h in
+    let so_far = c.sums.invariant in
+    let below : h < length sums = omega arith in
+    let symbol = entry_read number ring.value m sums h _ below c.index-sums-h.is in
+    let same = told_same _ _ _ c.ne.ensures c.if-ne.false
+    (g.met.T.RingWord.equal c.next_sum-sum.result c.index-sums-h.result) in (
+      c.next_sum-sum.ensures.terms,
+      λ i l. terms_next m h _ _ (w i) (x i) (c.next_sum-sum.ensures.products i l) (so_far.1 i l),
+      below_more _ _ so_far.2
+          (sym symbol ∙ sym (ap (ring.value m) same)
+          ∙ sum_of_terms m n h _ x w _ so_far.1 c.next_sum-sum.ensures.value),
+    )
+
+pub returns-clause-sums : goal.returns-clause-sums
+returns-clause-sums g c = (
+  λ t. record { sum = λ h l. mod_trans (mod_of_eq (c.sums.invariant.2 h (omega arith))) (residue_of _) },
+  λ are. refl,
+)

@@ -1,0 +1,18 @@
+use Rattle.num_modular.specs.Callers.{◌≡◌, ℕ, ◌<◌, All, IsForm, HoldBelow, entry}
+use Rattle.ring_decoder.specs.Syndromes.{HasRoots}
+use Rattle.ring_decoder.proofs.syndromes.expand_roots.Given as goal
+
+-- the coefficients so far are 0
+abbrev pub invariant-zeros : goal.invariant-zeros
+invariant-zeros g l =
+    let ring = g.R.Reducer in let m = ring.modulus l.fn.r in
+    HoldBelow g.T.RingWord.number ring.form ring.value m l.coefficients (λ k. 0) l.i
+
+-- the product for the points so far, followed by zeros
+abbrev pub invariant-points : goal.invariant-points
+invariant-points g l =
+    let ring = g.R.Reducer in let m = ring.modulus l.fn.r in let number = g.T.RingWord.number in
+    let f = entry number ring.value m l.coefficients in
+    All (λ f. IsForm ring.form ring.value m (number f)) l.coefficients
+    × HasRoots m l.i (entry number ring.value m l.fn.points) f
+    × ((j : ℕ) → l.i < j → f j ≡ 0)

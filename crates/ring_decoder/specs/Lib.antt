@@ -1,0 +1,6 @@
+pub mod Corrector
+pub mod ErrorPatterns
+pub mod LocatorSteps
+pub mod Locators
+pub mod PowerSums
+pub mod Syndromes

@@ -1,0 +1,279 @@
+//! Correction of a word in place, in the Cargo crate in `ring_codes::erasure`: wrong symbols and lost ones.
+
+ghost use Rattle.std.specs.Prelude.{◌≡◌, ◌≢◌, ℕ, ◌+◌, ◌-◌, ◌*◌, ◌<◌, ◌≤◌, ◌↔◌, IsTrue, All, MatchOption, MatchResult, length};
+ghost use Rattle.num_modular.specs.Entries.{entry};
+ghost use Rattle.num_modular.specs.Forms.{IsForm};
+ghost use Rattle.num_modular.specs.Inverses.{HasInverse};
+ghost use Rattle.num_modular.specs.Polynomials.{HaveUnitDifferences};
+ghost use Rattle.ring_decoder.specs.Corrector.{AreLost, IsCorrectedWord, IsCorrectorFault};
+ghost use Rattle.ring_decoder.specs.ErrorPatterns.{IsPatternFault, IsSolution};
+ghost use Rattle.ring_decoder.specs.Syndromes.{AreWeights};
+
+use super::choices::{solve, subtract};
+use super::places::check_lost;
+use super::search::{find_nonunit, locate};
+use super::syndromes::fill_syndromes;
+use num_modular::{Reducer, RingWord};
+use ring_codes::erasure::{CorrectError, fill_barycentric_weights};
+
+/// A code prepared to correct many words: Reed and Solomon's, of k symbols at n points, over any modulus.
+///
+/// It keeps a weight for each point, in a list that the caller owns.
+///
+/// # Examples
+///
+/// ```
+/// use num_modular::applications::ring_codes::erasure::Corrector;
+/// use num_modular::{Reducer, Vanilla};
+///
+/// let ring = Vanilla::<u8>::new(&97);
+/// let (mut weights, mut scratch) = ([0; 6], [0; 6]);
+/// let code = Corrector::new(&ring, &[1, 2, 3, 4, 5, 6], 2, &mut weights, &mut scratch).unwrap();
+/// // the word of the message 5, 7, in which a symbol is wrong, and two are lost
+/// let (mut word, mut scratch) = ([12, 0, 50, 33, 40, 0], [0; 43]);
+/// assert_eq!(code.correct(&mut word, &[1, 5], &mut scratch), Ok(1));
+/// assert_eq!(word, [12, 19, 26, 33, 40, 47]);
+/// ```
+// rust instead: #[derive(Debug)]
+#[derive(Drop)]
+// rust: #[must_use]
+// rust instead: pub struct Corrector<'a, T, R> {
+pub struct Corrector<'a, T: RingWord, R: Reducer<T>> {
+    ring: &'a R,
+    points: &'a [T],
+    k: usize,
+    weights: &'a [T],
+    pub ghost point_forms: { All (λ f. IsForm R.form R.value (R.modulus ring.now) (T.number f)) points.now },
+    pub ghost weight_forms: { All (λ f. IsForm R.form R.value (R.modulus ring.now) (T.number f)) weights.now },
+    pub ghost count: { length weights.now ≡ length points.now },
+    pub ghost few: { k ≤ length points.now },
+    // The inverses of the products of each point's differences from the others.
+    pub ghost inverses: { let m = R.modulus ring.now in AreWeights m (length points.now)
+        (entry T.number R.value m points.now) (entry T.number R.value m weights.now) },
+}
+
+// Writes the few errors that have the syndromes, and returns how many of them are at places that aren't lost.
+fn find_errors<T: RingWord, R: Reducer<T>>(
+    r: &R,
+    points: &[T],
+    weights: &[T],
+    lost: &[usize],
+    syndromes: &[T],
+    scratch: &mut [T],
+    values: &mut [T],
+    errors: &mut [T],
+) -> Result<usize, CorrectError<T>>
+    requires points { All (λ f. IsForm R.form R.value (R.modulus r.now) (T.number f)) points.now }
+    requires weights { All (λ f. IsForm R.form R.value (R.modulus r.now) (T.number f)) weights.now }
+    requires syndromes { All (λ f. IsForm R.form R.value (R.modulus r.now) (T.number f)) syndromes.now }
+    requires each_weight { length weights.now ≡ length points.now }
+    requires fit { let m = R.modulus r.now in
+        HaveUnitDifferences m (length points.now) (entry T.number R.value m points.now) }
+    requires units { let m = R.modulus r.now in (i : ℕ) → i < length points.now →
+        HasInverse m (entry T.number R.value m weights.now i) }
+    requires places { AreLost (length points.now - length syndromes.now) (length points.now) lost.now }
+    requires few { length syndromes.now ≤ length points.now }
+    requires modulus { R.modulus r.now ≢ 1 }
+    requires scratch { 6 * length syndromes.now + 3 ≤ length scratch.old }
+    requires values { length values.old ≡ length points.now }
+    requires room { length errors.old ≡ length points.now }
+    ensures { let m = R.modulus r.now in let n = length points.now in let t = length syndromes.now in
+        let x = entry T.number R.value m points.now in let v = entry T.number R.value m weights.now in
+        let s = entry T.number R.value m syndromes.now in MatchResult result
+        (λ wrong. All (λ f. IsForm R.form R.value m (T.number f)) errors.new
+        × IsSolution m t n x v lost.now s (entry T.number R.value m errors.new) wrong)
+        (λ e. IsPatternFault T.number m t n x v lost.now s e) }
+{
+    match locate(r, points, lost, syndromes, scratch, values) {
+        None => Err(CorrectError::TooManyErrors),
+        Some(witness) => match solve(r, points, weights, lost, syndromes, values, scratch, errors) {
+            Some(wrong) => Ok(wrong),
+            None => match find_nonunit(r, &witness, values) {
+                Some(a) => Err(CorrectError::NoInverse(a)),
+                None => Err(CorrectError::TooManyErrors),
+            },
+        },
+    }
+}
+
+// Whether all values are 0.
+fn are_zero<T: RingWord, R: Reducer<T>>(r: &R, values: &[T]) -> bool
+    requires values { All (λ f. IsForm R.form R.value (R.modulus r.now) (T.number f)) values.now }
+    ensures all { let m = R.modulus r.now in IsTrue result →
+        (i : ℕ) → i < length values.now → entry T.number R.value m values.now i ≡ 0 }
+    ensures other { (IsTrue result → ⊥) → R.modulus r.now ≢ 1 }
+{
+    'values: for i in 0..values.len() {
+        if !r.is_zero(&values[i]) {
+            return false;
+        }
+    }
+    true
+}
+
+impl<'a, T: RingWord, R: Reducer<T>> Corrector<'a, T, R> {
+    /// Fills the weights and returns the code of messages of k symbols at n points.
+    ///
+    /// `None` exactly where the points don't fit.
+    ///
+    /// The contents of `scratch` are ignored, and unspecified afterwards. The contents of `weights` are ignored, and
+    /// unspecified after `None`. It takes about 2·n² products and one inversion.
+    ///
+    /// # Conditions
+    ///
+    /// - k is at most n
+    /// - there are n weights
+    /// - there are n places of scratch
+    /// - (debug) the points are checked forms
+    ///
+    /// # Examples
+    ///
+    /// ```
+    /// use num_modular::applications::ring_codes::erasure::Corrector;
+    /// use num_modular::{Reducer, Vanilla};
+    ///
+    /// let ring = Vanilla::<u8>::new(&15);
+    /// let (mut weights, mut scratch) = ([0; 3], [0; 3]);
+    /// assert!(Corrector::new(&ring, &[0, 1, 2], 1, &mut weights, &mut scratch).is_some());
+    /// assert!(Corrector::new(&ring, &[0, 1, 3], 1, &mut weights, &mut scratch).is_none()); // 3 has no inverse
+    /// ```
+    // rust: #[track_caller]
+    pub fn new(
+        ring: &'a R,
+        points: &'a [T],
+        k: usize,
+        weights: &'a mut [T],
+        scratch: &mut [T],
+    ) -> Option<Self>
+        requires points { All (λ f. IsForm R.form R.value (R.modulus ring.now) (T.number f)) points.now }
+        requires few { k ≤ length points.now }
+        requires room { length weights.old ≡ length points.now }
+        requires scratch { length scratch.old ≡ length points.now }
+        ensures { let m = R.modulus ring.now in MatchOption result
+            (HaveUnitDifferences m (length points.now) (entry T.number R.value m points.now) → ⊥)
+            (λ made. (made.ring.now ≡ ring.now) × (made.points.now ≡ points.now) × (made.k ≡ k)) }
+    {
+        // rust: debug_assert!(points.iter().all(|x| ring.check(x)), "the points must be checked forms");
+        // rust: assert!(k <= points.len(), "k must be at most n: {} and {}", k, points.len());
+        // rust: assert!(weights.len() == points.len(), "there must be n weights: {} and {}", weights.len(),
+        // rust:     points.len());
+        // rust: assert!(scratch.len() == points.len(), "there must be n places of scratch: {} and {}", scratch.len(),
+        // rust:     points.len());
+        if !fill_barycentric_weights(ring, points, scratch, weights) {
+            return None;
+        }
+        Some(Corrector {
+            ring,
+            points,
+            k,
+            weights,
+        })
+    }
+
+    /// Corrects a word in place, wrong symbols and lost ones, and returns the number of wrong symbols that weren't lost.
+    ///
+    /// With c lost symbols and e wrong ones besides, it corrects all if 2·e + c ≤ n - k: the word becomes the only one of the
+    /// code that differs from it in so few symbols. `lost` has the places of the lost symbols; what stands there is ignored.
+    /// After an error the word is unchanged.
+    ///
+    /// The modulus may be composite. `NoInverse(a)` then says that a number without an inverse was met, and a has a common
+    /// factor with m; it never comes where m is a prime, or where at most one symbol is wrong that isn't lost.
+    /// `TooManyErrors` comes only where no word is that near. `Restore(..)` says what is wrong with the lost places:
+    /// `TooFewSymbols`, fewer than k others are left; `PlaceOutOfRange`, a place isn't below n; `PlaceTwice`, a place
+    /// occurs twice; the first cause.
+    ///
+    /// The contents of `scratch` are ignored, and unspecified afterwards. With t = n - k it takes about n·t products where
+    /// no symbol is wrong; otherwise about n·(t + e) + 9·(e + c)² + 2·t² more at most, and one or two inversions.
+    ///
+    /// Source: Massey, "Shift-register synthesis and BCH decoding"; Forney, "On decoding BCH codes"; over rings Reeds and
+    /// Sloane, "Shift-register synthesis (modulo m)".
+    ///
+    /// Not for secrets.
+    ///
+    /// # Errors
+    ///
+    /// The lost places are wrong, no word is near enough, or a number has no inverse modulo m.
+    ///
+    /// # Conditions
+    ///
+    /// - the word has n symbols
+    /// - there are at least 2·n + 7·(n - k) + 3 places of scratch
+    /// - (debug) the symbols are checked forms
+    ///
+    /// # Examples
+    ///
+    /// ```
+    /// use num_modular::applications::ring_codes::erasure::CorrectError;
+    /// use num_modular::applications::ring_codes::erasure::Corrector;
+    /// use num_modular::{Reducer, Vanilla};
+    ///
+    /// let ring = Vanilla::<u8>::new(&97);
+    /// let (mut weights, mut scratch) = ([0; 4], [0; 25]);
+    /// let code = Corrector::new(&ring, &[1, 2, 3, 4], 2, &mut weights, &mut scratch[..4]).unwrap();
+    /// // the third symbol should be 26
+    /// let mut word = [12, 19, 50, 33];
+    /// assert_eq!(code.correct(&mut word, &[], &mut scratch), Ok(1));
+    /// assert_eq!(word, [12, 19, 26, 33]);
+    /// // with one lost symbol it can't be told which of the others is wrong
+    /// let mut word = [12, 19, 50, 33];
+    /// assert_eq!(code.correct(&mut word, &[0], &mut scratch), Err(CorrectError::TooManyErrors));
+    /// ```
+    // rust: #[track_caller]
+    pub fn correct(
+        &self,
+        word: &mut [T],
+        lost: &[usize],
+        scratch: &mut [T],
+    ) -> Result<usize, CorrectError<T>>
+        requires word { All (λ f. IsForm R.form R.value (R.modulus self.now.ring.now) (T.number f)) word.old }
+        requires room { length word.old ≡ length self.now.points.now }
+        requires scratch { 2 * length self.now.points.now + 7 * (length self.now.points.now - self.now.k) + 3
+            ≤ length scratch.old }
+        ensures { let m = R.modulus self.now.ring.now in let entries = entry T.number R.value m in MatchResult result
+            (λ errors. IsCorrectedWord (λ f. IsForm R.form R.value m (T.number f)) entries m self.now.k
+            self.now.points.now lost.now word.old word.new errors)
+            (λ e. (word.new ≡ word.old) × IsCorrectorFault T.number m self.now.k (length self.now.points.now)
+            (entries self.now.points.now) lost.now (entries word.old) e) }
+    {
+        // rust: debug_assert!(word.iter().all(|x| self.ring.check(x)), "the symbols must be checked forms");
+        // rust: assert!(word.len() == self.points.len(), "the word must have n symbols: {} and {}", word.len(),
+        // rust:     self.points.len());
+        // rust: assert!(scratch.len() >= 2 * self.points.len() + 7 * (self.points.len() - self.k) + 3,
+        // rust:     "there must be at least 2·n + 7·(n - k) + 3 places of scratch: {} and {}", scratch.len(),
+        // rust:     2*self.points.len()+7*(self.points.len()-self.k)+3);
+        match check_lost(self.k, self.points.len(), lost) {
+            Err(error) => return Err(CorrectError::Restore(error)),
+            Ok(()) => {}
+        }
+        let (values, rest) = scratch.split_at_mut(self.points.len());
+        let (errors, rest) = rest.split_at_mut(self.points.len());
+        let (syndromes, rest) = rest.split_at_mut(self.points.len() - self.k);
+        fill_syndromes(
+            self.ring,
+            self.points,
+            self.weights,
+            word,
+            values,
+            syndromes,
+        );
+        if are_zero(self.ring, syndromes) {
+            return Ok(0);
+        }
+        match find_errors(
+            self.ring,
+            self.points,
+            self.weights,
+            lost,
+            syndromes,
+            rest,
+            values,
+            errors,
+        ) {
+            Err(error) => Err(error),
+            Ok(wrong) => {
+                subtract(self.ring, errors, word);
+                Ok(wrong)
+            }
+        }
+    }
+}

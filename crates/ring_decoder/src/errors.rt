@@ -1,0 +1,127 @@
+//! The errors at given places, from the syndromes.
+
+ghost use Rattle.std.specs.Prelude.{◌≡◌, ℕ, ◌+◌, ◌-◌, ◌*◌, ◌%◌, ◌<◌, ◌≤◌, ◌↔◌, IsTrue, All, length};
+ghost use Rattle.num_modular.specs.Entries.{entry};
+ghost use Rattle.num_modular.specs.Forms.{IsForm};
+ghost use Rattle.num_modular.specs.Inverses.{HasInverse};
+ghost use Rattle.num_modular.specs.Polynomials.{HaveUnitDifferences, polynomial_at};
+ghost use Rattle.num_modular.specs.Sums.{sum_below};
+ghost use Rattle.ring_codes.specs.Prepared.{product_but};
+ghost use Rattle.ring_decoder.specs.PowerSums.{ArePowerSums};
+
+use super::syndromes::expand_roots;
+use num_modular::ring::invert_each;
+use num_modular::{Reducer, RingWord};
+
+// The sum of the numbers, each times its coefficient of the quotient of a polynomial with q + 1 coefficients by X - x.
+// The quotient's coefficients are found by Horner's rule, the highest first.
+fn quotient_sum<T: RingWord, R: Reducer<T>>(
+    r: &R,
+    coefficients: &[T],
+    point: &T,
+    numbers: &[T],
+    q: usize,
+) -> T
+    requires coefficients { All (λ f. IsForm R.form R.value (R.modulus r.now) (T.number f)) coefficients.now }
+    requires point { IsForm R.form R.value (R.modulus r.now) (T.number point.now) }
+    requires numbers { All (λ f. IsForm R.form R.value (R.modulus r.now) (T.number f)) numbers.now }
+    requires each { q < length coefficients.now }
+    requires enough { q ≤ length numbers.now }
+    ensures checked { IsForm R.form R.value (R.modulus r.now) (T.number result) }
+    ensures value { let m = R.modulus r.now in let f = entry T.number R.value m coefficients.now in
+        R.value m (T.number result) ≡ sum_below q (λ k. polynomial_at (k + 1) (λ i. f (q + 1 - (k + 1) + i))
+        (R.value m (T.number point.now)) * entry T.number R.value m numbers.now (q - 1 - k)) % m }
+{
+    let zero = r.transform(T::zero());
+    let mut quotient = zero;
+    let mut sum = zero;
+    'coefficients: for k in 0..q {
+        let product = r.mul(&quotient, point);
+        quotient = r.add(&coefficients[q - k], &product);
+        let term = r.mul(&quotient, &numbers[q - 1 - k]);
+        sum = r.add(&sum, &term);
+    }
+    sum
+}
+
+// The product of the differences of a point from the other ones.
+fn differences_from_others<T: RingWord, R: Reducer<T>>(r: &R, points: &[T], place: usize) -> T
+    requires points { All (λ f. IsForm R.form R.value (R.modulus r.now) (T.number f)) points.now }
+    requires within { place < length points.now }
+    ensures checked { IsForm R.form R.value (R.modulus r.now) (T.number result) }
+    ensures value { let m = R.modulus r.now in let x = entry T.number R.value m points.now in
+        R.value m (T.number result) ≡ product_but m (length points.now) x place (x place) % m }
+{
+    let one = r.transform(T::one());
+    let mut before = one;
+    'front: for i in 0..place {
+        let difference = r.sub(&points[place], &points[i]);
+        before = r.mul(&before, &difference);
+    }
+    let mut after = one;
+    'back: for k in 0..points.len() - 1 - place {
+        let difference = r.sub(&points[place], &points[points.len() - 1 - k]);
+        after = r.mul(&after, &difference);
+    }
+    r.mul(&before, &after)
+}
+
+/// Writes the errors at q points, given at least q syndromes.
+///
+/// If the first q syndromes are the power sums of the points, each with its weight times an error, it writes these
+/// errors. It returns false exactly where the points don't fit or a weight has no inverse.
+///
+/// The contents of `product`, `divisors` and `scratch` are ignored, and unspecified afterwards; those of `errors` are
+/// ignored, and unspecified after false. It takes about 3.5·q² products and one inversion.
+///
+/// Source: Forney, "On decoding BCH codes"; here by the quotients of the product of X - x by each X - x, the rows of the
+/// inverse of Vandermonde's matrix (Knuth, The Art of Computer Programming, volume 1, section 1.2.3, exercise 40).
+///
+/// # Preconditions
+///
+/// - there is a weight, a divisor, a place of scratch and an error for each point
+/// - there are as many syndromes as points or more
+/// - `product` has one place more than there are points
+/// - points, weights and syndromes are checked forms
+pub fn solve_errors<T: RingWord, R: Reducer<T>>(
+    r: &R,
+    points: &[T],
+    weights: &[T],
+    syndromes: &[T],
+    product: &mut [T],
+    divisors: &mut [T],
+    scratch: &mut [T],
+    errors: &mut [T],
+) -> bool
+    requires points { All (λ f. IsForm R.form R.value (R.modulus r.now) (T.number f)) points.now }
+    requires weights { All (λ f. IsForm R.form R.value (R.modulus r.now) (T.number f)) weights.now }
+    requires syndromes { All (λ f. IsForm R.form R.value (R.modulus r.now) (T.number f)) syndromes.now }
+    requires each_weight { length weights.now ≡ length points.now }
+    requires enough { length points.now ≤ length syndromes.now }
+    requires product { length product.old ≡ length points.now + 1 }
+    requires divisors { length divisors.old ≡ length points.now }
+    requires scratch { length scratch.old ≡ length points.now }
+    requires room { length errors.old ≡ length points.now }
+    ensures solved { let m = R.modulus r.now in IsTrue result ↔
+        (HaveUnitDifferences m (length points.now) (entry T.number R.value m points.now)
+        × ((j : ℕ) → j < length points.now → HasInverse m (entry T.number R.value m weights.now j))) }
+    ensures checked { IsTrue result → All (λ f. IsForm R.form R.value (R.modulus r.now) (T.number f)) errors.new }
+    ensures errors { let m = R.modulus r.now in let q = length points.now in
+        IsTrue result → (e : ℕ → ℕ) → ArePowerSums m q q (entry T.number R.value m points.now)
+        (λ j. entry T.number R.value m weights.now j * e j) (entry T.number R.value m syndromes.now) →
+        (j : ℕ) → j < q → entry T.number R.value m errors.new j ≡ e j % m }
+{
+    expand_roots(r, points, product);
+    'points: for j in 0..points.len() {
+        errors[j] = quotient_sum(r, product, &points[j], syndromes, points.len());
+        let differences = differences_from_others(r, points, j);
+        divisors[j] = r.mul(&differences, &weights[j]);
+    }
+    if !invert_each(r, divisors, scratch) {
+        return false;
+    }
+    'errors: for j in 0..points.len() {
+        errors[j] = r.mul(&errors[j], &divisors[j]);
+    }
+    true
+}

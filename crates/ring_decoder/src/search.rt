@@ -1,0 +1,155 @@
+//! The search for the places of wrong symbols.
+
+ghost use Rattle.std.specs.Prelude.{◌≡◌, ◌≢◌, ℕ, ◌+◌, ◌-◌, ◌*◌, ◌%◌, ◌<◌, ◌≤◌, All, IfSome, MatchOption, length, slice_index, if◌then◌else◌};
+ghost use Rattle.num_modular.specs.Entries.{entry};
+ghost use Rattle.num_modular.specs.Forms.{IsForm};
+ghost use Rattle.num_modular.specs.Inverses.{HasInverse};
+ghost use Rattle.num_modular.specs.Polynomials.{HaveUnitDifferences, polynomial_at};
+ghost use Rattle.ring_codes.specs.KeyEquations.{IsWithoutInverse};
+ghost use Rattle.ring_decoder.specs.Corrector.{AreLost};
+ghost use Rattle.ring_decoder.specs.ErrorPatterns.{IsNearPattern, IsLocated, AreLocatorValues};
+
+use super::locator::find_locator;
+use super::places::{clear_lost, copy_points};
+use super::syndromes::fill_moments;
+use num_modular::{Reducer, RingWord};
+use ring_codes::erasure::evaluate_each;
+
+// Writes the locator's values at the points; ones, where its degree is 0.
+fn fill_values<T: RingWord, R: Reducer<T>>(
+    r: &R,
+    points: &[T],
+    locator: &[T],
+    degree: usize,
+    values: &mut [T],
+)
+    requires points { All (λ f. IsForm R.form R.value (R.modulus r.now) (T.number f)) points.now }
+    requires locator { All (λ f. IsForm R.form R.value (R.modulus r.now) (T.number f)) locator.now }
+    requires degree { degree < length locator.now }
+    requires room { length values.old ≡ length points.now }
+    ensures checked { All (λ f. IsForm R.form R.value (R.modulus r.now) (T.number f)) values.new }
+    ensures values { let m = R.modulus r.now in AreLocatorValues m degree (length points.now)
+        (entry T.number R.value m points.now) (entry T.number R.value m locator.now) (entry T.number R.value m values.new) }
+{
+    if degree == 0 {
+        let one = r.transform(T::one());
+        'ones: for i in 0..points.len() {
+            values[i] = one;
+        }
+    } else {
+        evaluate_each(r, &locator[..degree + 1], points, values);
+    }
+}
+
+// The same for the list that is named.
+fn fill_values_of<T: RingWord, R: Reducer<T>>(
+    r: &R,
+    points: &[T],
+    first: &[T],
+    second: &[T],
+    in_first: bool,
+    degree: usize,
+    values: &mut [T],
+)
+    requires points { All (λ f. IsForm R.form R.value (R.modulus r.now) (T.number f)) points.now }
+    requires first { All (λ f. IsForm R.form R.value (R.modulus r.now) (T.number f)) first.now }
+    requires second { All (λ f. IsForm R.form R.value (R.modulus r.now) (T.number f)) second.now }
+    requires degree_first { degree < length first.now }
+    requires degree_second { degree < length second.now }
+    requires room { length values.old ≡ length points.now }
+    ensures checked { All (λ f. IsForm R.form R.value (R.modulus r.now) (T.number f)) values.new }
+    ensures values { let m = R.modulus r.now in AreLocatorValues m degree (length points.now)
+        (entry T.number R.value m points.now)
+        (entry T.number R.value m (if in_first then first.now else second.now)) (entry T.number R.value m values.new) }
+{
+    if in_first {
+        fill_values(r, points, first, degree, values);
+    } else {
+        fill_values(r, points, second, degree, values);
+    }
+}
+
+// Writes the locator's values at all points, and 0 at the lost places: the word may have to change only where a value is 0.
+// Returns a number that has an inverse only where all pivots have. `None` where no word is near.
+pub fn locate<T: RingWord, R: Reducer<T>>(
+    r: &R,
+    points: &[T],
+    lost: &[usize],
+    syndromes: &[T],
+    scratch: &mut [T],
+    values: &mut [T],
+) -> Option<T>
+    requires points { All (λ f. IsForm R.form R.value (R.modulus r.now) (T.number f)) points.now }
+    requires syndromes { All (λ f. IsForm R.form R.value (R.modulus r.now) (T.number f)) syndromes.now }
+    requires fit { let m = R.modulus r.now in
+        HaveUnitDifferences m (length points.now) (entry T.number R.value m points.now) }
+    requires places { AreLost (length points.now - length syndromes.now) (length points.now) lost.now }
+    requires few { length syndromes.now ≤ length points.now }
+    requires modulus { R.modulus r.now ≢ 1 }
+    requires scratch { 2 * length syndromes.now + 3 ≤ length scratch.old }
+    requires room { length values.old ≡ length points.now }
+    ensures checked { IfSome result (λ _. All (λ f. IsForm R.form R.value (R.modulus r.now) (T.number f)) values.new) }
+    ensures witness { IfSome result (λ a. IsForm R.form R.value (R.modulus r.now) (T.number a)) }
+    ensures nonzero { IfSome result (λ a. R.value (R.modulus r.now) (T.number a) ≢ 0) }
+    ensures located { let m = R.modulus r.now in let n = length points.now in let t = length syndromes.now in
+        let x = entry T.number R.value m points.now in let s = entry T.number R.value m syndromes.now in
+        (v : ℕ → ℕ) → ((i : ℕ) → i < n → HasInverse m (v i)) → MatchOption result
+        ((errors : ℕ → ℕ) → IsNearPattern m t n x v lost.now s errors → ⊥)
+        (λ a. IsLocated m t n x v lost.now s (entry T.number R.value m values.new) (R.value m (T.number a))) }
+{
+    let count = syndromes.len() - lost.len();
+    let (located, rest) = scratch.split_at_mut(lost.len());
+    let (product, rest) = rest.split_at_mut(lost.len() + 1);
+    let (moments, rest) = rest.split_at_mut(count);
+    let (first, rest) = rest.split_at_mut(count / 2 + 1);
+    let (second, _) = rest.split_at_mut(count / 2 + 1);
+    copy_points(r, points, lost, located);
+    fill_moments(r, located, syndromes, product, moments);
+    match find_locator(r, moments, first, second) {
+        None => None,
+        Some(found) => {
+            fill_values_of(r, points, first, second, found.1, found.0, values);
+            clear_lost(r, lost, values);
+            Some(found.2)
+        }
+    }
+}
+
+// A number without an inverse, of the witness and the values that aren't 0, or a product of some; `None` where each has one.
+pub fn find_nonunit<T: RingWord, R: Reducer<T>>(r: &R, witness: &T, values: &[T]) -> Option<T>
+    requires witness { IsForm R.form R.value (R.modulus r.now) (T.number witness.now) }
+    requires values { All (λ f. IsForm R.form R.value (R.modulus r.now) (T.number f)) values.now }
+    requires nonzero { R.value (R.modulus r.now) (T.number witness.now) ≢ 0 }
+    ensures { let m = R.modulus r.now in MatchOption result
+        (HasInverse m (R.value m (T.number witness.now)) × ((i : ℕ) → i < length values.now →
+        entry T.number R.value m values.now i ≢ 0 → HasInverse m (entry T.number R.value m values.now i)))
+        (λ a. IsWithoutInverse m (T.number a)) }
+{
+    let mut product = *witness;
+    'values: for i in 0..values.len() {
+        product = joined(r, &product, &values[i]);
+    }
+    match r.inv(product) {
+        Some(_) => None,
+        None => Some(r.residue(product)),
+    }
+}
+
+// The product of two numbers, the first of which isn't 0; the first, where the product is 0.
+fn joined<T: RingWord, R: Reducer<T>>(r: &R, witness: &T, value: &T) -> T
+    requires witness { IsForm R.form R.value (R.modulus r.now) (T.number witness.now) }
+    requires value { IsForm R.form R.value (R.modulus r.now) (T.number value.now) }
+    requires nonzero { R.value (R.modulus r.now) (T.number witness.now) ≢ 0 }
+    ensures checked { IsForm R.form R.value (R.modulus r.now) (T.number result) }
+    ensures nonzero { R.value (R.modulus r.now) (T.number result) ≢ 0 }
+    ensures units { let m = R.modulus r.now in HasInverse m (R.value m (T.number result)) →
+        HasInverse m (R.value m (T.number witness.now))
+        × (R.value m (T.number value.now) ≢ 0 → HasInverse m (R.value m (T.number value.now))) }
+{
+    let product = r.mul(witness, value);
+    if r.is_zero(&product) {
+        *witness
+    } else {
+        product
+    }
+}

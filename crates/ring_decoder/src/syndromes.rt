@@ -1,0 +1,250 @@
+//! Power sums: the syndromes of a word, and the moments of its errors at the places that aren't lost.
+
+ghost use Rattle.std.specs.Prelude.{◌≡◌, ℕ, ◌+◌, ◌-◌, ◌*◌, ◌%◌, ◌<◌, ◌≤◌, ◌↔◌, IsTrue, All, length};
+ghost use Rattle.num_modular.specs.Congruence.{Congruent};
+ghost use Rattle.num_modular.specs.Entries.{entry};
+ghost use Rattle.num_modular.specs.Forms.{IsForm};
+ghost use Rattle.num_modular.specs.Polynomials.{HaveUnitDifferences};
+ghost use Rattle.num_modular.specs.Sums.{sum_below};
+ghost use Rattle.ring_codes.specs.Erasure.{IsErasureCodeword};
+ghost use Rattle.ring_codes.specs.KeyEquations.{shifted};
+ghost use Rattle.ring_decoder.specs.PowerSums.{ArePowerSums};
+ghost use Rattle.ring_decoder.specs.Syndromes.{product_of_differences, HasRoots, AreWeights};
+
+use num_modular::ring::dot_product;
+use num_modular::{Reducer, RingWord};
+
+// The sum of the terms; each term is then multiplied by its point.
+fn next_sum<T: RingWord, R: Reducer<T>>(r: &R, points: &[T], terms: &mut [T]) -> T
+    requires points { All (λ f. IsForm R.form R.value (R.modulus r.now) (T.number f)) points.now }
+    requires terms { All (λ f. IsForm R.form R.value (R.modulus r.now) (T.number f)) terms.old }
+    requires each { length terms.old ≡ length points.now }
+    ensures checked { IsForm R.form R.value (R.modulus r.now) (T.number result) }
+    ensures value { let m = R.modulus r.now in R.value m (T.number result)
+        ≡ sum_below (length points.now) (entry T.number R.value m terms.old) % m }
+    ensures terms { All (λ f. IsForm R.form R.value (R.modulus r.now) (T.number f)) terms.new }
+    ensures products { let m = R.modulus r.now in (i : ℕ) → i < length points.now →
+        entry T.number R.value m terms.new i
+        ≡ (entry T.number R.value m terms.old i * entry T.number R.value m points.now i) % m }
+{
+    let mut sum = r.transform(T::zero());
+    'terms: for i in 0..points.len() {
+        sum = r.add(&sum, &terms[i]);
+        terms[i] = r.mul(&terms[i], &points[i]);
+    }
+    sum
+}
+
+/// Writes the power sums of the points, whose weights are the terms.
+///
+/// Sum number h, from 0 on, adds up each term times the power h of its point. The terms are replaced by other checked
+/// forms. It takes a product for each point and each sum.
+///
+/// # Preconditions
+///
+/// - there is a term for each point
+/// - points and terms are checked forms
+pub fn fill_power_sums<T: RingWord, R: Reducer<T>>(
+    r: &R,
+    points: &[T],
+    terms: &mut [T],
+    sums: &mut [T],
+)
+    requires points { All (λ f. IsForm R.form R.value (R.modulus r.now) (T.number f)) points.now }
+    requires terms { All (λ f. IsForm R.form R.value (R.modulus r.now) (T.number f)) terms.old }
+    requires each { length terms.old ≡ length points.now }
+    ensures checked { All (λ f. IsForm R.form R.value (R.modulus r.now) (T.number f)) sums.new }
+    ensures terms { All (λ f. IsForm R.form R.value (R.modulus r.now) (T.number f)) terms.new }
+    ensures sums { let m = R.modulus r.now in ArePowerSums m (length sums.old) (length points.now)
+        (entry T.number R.value m points.now) (entry T.number R.value m terms.old) (entry T.number R.value m sums.new) }
+{
+    'sums: for h in 0..sums.len() {
+        sums[h] = next_sum(r, points, terms);
+    }
+}
+
+/// Whether the sums are the power sums of the points, whose weights are the terms.
+///
+/// The terms are replaced by other checked forms. It takes at most a product for each point and each sum.
+///
+/// # Preconditions
+///
+/// - there is a term for each point
+/// - points, terms and sums are checked forms
+pub fn are_power_sums<T: RingWord, R: Reducer<T>>(
+    r: &R,
+    points: &[T],
+    terms: &mut [T],
+    sums: &[T],
+) -> bool
+    requires points { All (λ f. IsForm R.form R.value (R.modulus r.now) (T.number f)) points.now }
+    requires terms { All (λ f. IsForm R.form R.value (R.modulus r.now) (T.number f)) terms.old }
+    requires sums { All (λ f. IsForm R.form R.value (R.modulus r.now) (T.number f)) sums.now }
+    requires each { length terms.old ≡ length points.now }
+    ensures sums { let m = R.modulus r.now in IsTrue result ↔ ArePowerSums m (length sums.now) (length points.now)
+        (entry T.number R.value m points.now) (entry T.number R.value m terms.old) (entry T.number R.value m sums.now) }
+    ensures terms { All (λ f. IsForm R.form R.value (R.modulus r.now) (T.number f)) terms.new }
+{
+    'sums: for h in 0..sums.len() {
+        let sum = next_sum(r, points, terms);
+        if sum != sums[h] {
+            return false;
+        }
+    }
+    true
+}
+
+/// Writes the syndromes of a word: the power sums of the points, whose weights are the symbols times given weights.
+///
+/// If each weight is the inverse of the product of its point's differences from the other points, and there are n - k
+/// syndromes, they are all 0 exactly where the word is of the code with messages of k symbols. The contents of `terms`
+/// are ignored, and unspecified afterwards. It takes n·(t + 1) products for n points and t syndromes.
+///
+/// Source: MacWilliams and Sloane, The Theory of Error-Correcting Codes, chapters 10 and 12.
+///
+/// # Preconditions
+///
+/// - there is a weight, a symbol and a term for each point
+/// - points, weights and symbols are checked forms
+pub fn fill_syndromes<T: RingWord, R: Reducer<T>>(
+    r: &R,
+    points: &[T],
+    weights: &[T],
+    word: &[T],
+    terms: &mut [T],
+    syndromes: &mut [T],
+)
+    requires points { All (λ f. IsForm R.form R.value (R.modulus r.now) (T.number f)) points.now }
+    requires weights { All (λ f. IsForm R.form R.value (R.modulus r.now) (T.number f)) weights.now }
+    requires word { All (λ f. IsForm R.form R.value (R.modulus r.now) (T.number f)) word.now }
+    requires each_weight { length weights.now ≡ length points.now }
+    requires each_symbol { length word.now ≡ length points.now }
+    requires each_term { length terms.old ≡ length points.now }
+    ensures checked { All (λ f. IsForm R.form R.value (R.modulus r.now) (T.number f)) syndromes.new }
+    ensures sums { let m = R.modulus r.now in ArePowerSums m (length syndromes.old) (length points.now)
+        (entry T.number R.value m points.now)
+        (λ i. entry T.number R.value m weights.now i * entry T.number R.value m word.now i)
+        (entry T.number R.value m syndromes.new) }
+{
+    'points: for i in 0..points.len() {
+        terms[i] = r.mul(&weights[i], &word[i]);
+    }
+    fill_power_sums(r, points, terms, syndromes);
+}
+
+// Multiplies a polynomial with `count` coefficients by X - x, in place; the coefficient that has no place is dropped.
+fn multiply_front<T: RingWord, R: Reducer<T>>(
+    r: &R,
+    point: &T,
+    coefficients: &mut [T],
+    count: usize,
+)
+    requires point { IsForm R.form R.value (R.modulus r.now) (T.number point.now) }
+    requires coefficients { All (λ f. IsForm R.form R.value (R.modulus r.now) (T.number f)) coefficients.old }
+    requires within { count ≤ length coefficients.old }
+    ensures checked { All (λ f. IsForm R.form R.value (R.modulus r.now) (T.number f)) coefficients.new }
+    ensures product { let m = R.modulus r.now in (i : ℕ) → i < count →
+        Congruent m (entry T.number R.value m coefficients.new i
+        + R.value m (T.number point.now) * entry T.number R.value m coefficients.old i)
+        (shifted (entry T.number R.value m coefficients.old) i) }
+    ensures behind { let m = R.modulus r.now in (i : ℕ) → count ≤ i →
+        entry T.number R.value m coefficients.new i ≡ entry T.number R.value m coefficients.old i }
+{
+    let mut before = r.transform(T::zero());
+    'coefficients: for i in 0..count {
+        let coefficient = coefficients[i];
+        let product = r.mul(point, &coefficient);
+        coefficients[i] = r.sub(&before, &product);
+        before = coefficient;
+    }
+}
+
+/// Writes the coefficients, the constant first, of the product of X - x for the points x.
+///
+/// The contents of `coefficients` are ignored. It takes about q²/2 products for q points.
+///
+/// # Preconditions
+///
+/// - there is one coefficient more than there are points
+/// - the points are checked forms
+pub fn expand_roots<T: RingWord, R: Reducer<T>>(r: &R, points: &[T], coefficients: &mut [T])
+    requires points { All (λ f. IsForm R.form R.value (R.modulus r.now) (T.number f)) points.now }
+    requires room { length coefficients.old ≡ length points.now + 1 }
+    ensures checked { All (λ f. IsForm R.form R.value (R.modulus r.now) (T.number f)) coefficients.new }
+    ensures roots { let m = R.modulus r.now in HasRoots m (length points.now) (entry T.number R.value m points.now)
+        (entry T.number R.value m coefficients.new) }
+{
+    let zero = r.transform(T::zero());
+    'zeros: for i in 0..coefficients.len() {
+        coefficients[i] = zero;
+    }
+    coefficients[0] = r.transform(T::one());
+    'points: for i in 0..points.len() {
+        multiply_front(r, &points[i], coefficients, i + 2);
+    }
+}
+
+// The sum of the coefficients, each times its number, from an index of these on.
+fn sum_from<T: RingWord, R: Reducer<T>>(r: &R, coefficients: &[T], numbers: &[T], start: usize) -> T
+    requires coefficients { All (λ f. IsForm R.form R.value (R.modulus r.now) (T.number f)) coefficients.now }
+    requires numbers { All (λ f. IsForm R.form R.value (R.modulus r.now) (T.number f)) numbers.now }
+    requires within { start + length coefficients.now ≤ length numbers.now }
+    ensures checked { IsForm R.form R.value (R.modulus r.now) (T.number result) }
+    ensures value { let m = R.modulus r.now in R.value m (T.number result)
+        ≡ sum_below (length coefficients.now) (λ l. entry T.number R.value m coefficients.now l
+        * entry T.number R.value m numbers.now (start + l)) % m }
+{
+    dot_product(r, coefficients, &numbers[start..start + coefficients.len()])
+}
+
+/// Writes the moments of a word of which some symbols are lost.
+///
+/// If the syndromes are power sums, so are the moments, with each weight multiplied by its point's differences from the c
+/// lost points: thus the weight of a lost point becomes 0. The contents of `product` are ignored; afterwards it holds the
+/// coefficients of the product of X - x for the lost points x. It takes about c²/2 + N·(c + 1) products for N moments.
+///
+/// Source: Forney, "On decoding BCH codes".
+///
+/// # Preconditions
+///
+/// - `product` has one place more than there are lost points
+/// - there are as many syndromes as moments and lost points together
+/// - lost points and syndromes are checked forms
+pub fn fill_moments<T: RingWord, R: Reducer<T>>(
+    r: &R,
+    lost: &[T],
+    syndromes: &[T],
+    product: &mut [T],
+    moments: &mut [T],
+)
+    requires lost { All (λ f. IsForm R.form R.value (R.modulus r.now) (T.number f)) lost.now }
+    requires syndromes { All (λ f. IsForm R.form R.value (R.modulus r.now) (T.number f)) syndromes.now }
+    requires room { length product.old ≡ length lost.now + 1 }
+    requires count { length syndromes.now ≡ length moments.old + length lost.now }
+    ensures checked { All (λ f. IsForm R.form R.value (R.modulus r.now) (T.number f)) moments.new }
+    ensures moments { let m = R.modulus r.now in (n : ℕ) (x w : ℕ → ℕ) →
+        ArePowerSums m (length syndromes.now) n x w (entry T.number R.value m syndromes.now) →
+        ArePowerSums m (length moments.old) n x
+        (λ i. w i * product_of_differences m (length lost.now) (entry T.number R.value m lost.now) (x i))
+        (entry T.number R.value m moments.new) }
+{
+    expand_roots(r, lost, product);
+    'moments: for h in 0..moments.len() {
+        moments[h] = sum_from(r, product, syndromes, h);
+    }
+}
+
+/// A law, the dual code: with the weights of n points that fit, all n - k syndromes of a word are 0 exactly where the
+/// word is of the code with messages of k symbols.
+///
+/// The weight of a point is the inverse of the product of its differences from the other points.
+///
+/// Source: MacWilliams and Sloane, The Theory of Error-Correcting Codes, chapters 10 and 12.
+pub fn syndromes_law()
+    ensures zero { (m k n : ℕ) (points weights word : ℕ → ℕ) → 0 < m → k ≤ n → HaveUnitDifferences m n points →
+        AreWeights m n points weights → IsErasureCodeword m k n points word →
+        ArePowerSums m (n - k) n points (λ i. weights i * word i) (λ h. 0) }
+    ensures only { (m k n : ℕ) (points weights word : ℕ → ℕ) → 0 < m → k ≤ n → HaveUnitDifferences m n points →
+        AreWeights m n points weights → ((i : ℕ) → i < n → word i < m) →
+        ArePowerSums m (n - k) n points (λ i. weights i * word i) (λ h. 0) → IsErasureCodeword m k n points word }
+{}

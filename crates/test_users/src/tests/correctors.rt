@@ -1,0 +1,131 @@
+//! Correction of words in place by `Corrector`: wrong symbols and lost ones.
+
+use super::erasure::{forms_of, words_of};
+use num_modular::{Montgomery, Reducer};
+use ring_codes::erasure::{CorrectError, RestoreError};
+use ring_decoder::corrector::Corrector;
+use std::process::Abort;
+
+// The number of wrong symbols of a word at the points 0 to 6, and the word afterwards, with messages of three symbols.
+fn corrected<R: Reducer<u64>>(
+    r: &R,
+    word: &[u64; 7],
+    lost: &[usize],
+) -> Option<(Result<usize, CorrectError<u64>>, [u64; 7])> {
+    let points = forms_of(r, &[0, 1, 2, 3, 4, 5, 6]);
+    let mut word = forms_of(r, word);
+    let mut weights = [0; 7];
+    let mut scratch = [0; 50];
+    let mut products = [0; 7];
+    match Corrector::new(r, &points, 3, &mut weights, &mut products) {
+        None => None,
+        Some(code) => {
+            let found = code.correct(&mut word, lost, &mut scratch);
+            Some((found, words_of(r, &word)))
+        }
+    }
+}
+
+// Symbols at the points 0 to 6, lost places, and what is found: the result, and the word afterwards.
+struct Row<'a> {
+    word: &'a [u64; 7],
+    lost: &'a [usize],
+    found: Result<usize, CorrectError<u64>>,
+    after: &'a [u64; 7],
+}
+
+fn holds<R: Reducer<u64>>(r: &R, row: &Row) -> bool {
+    corrected(r, row.word, row.lost) == Some((row.found, *row.after))
+}
+
+// The word of the message 1, 2, 3.
+const WORD: &[u64; 7] = &[1, 6, 17, 34, 57, 86, 121];
+
+const NO_ERROR: &Row = &Row {
+    word: WORD,
+    lost: &[],
+    found: Ok(0),
+    after: WORD,
+};
+
+const TWO_ERRORS: &Row = &Row {
+    word: &[1, 0, 17, 34, 57, 900, 121],
+    lost: &[],
+    found: Ok(2),
+    after: WORD,
+};
+
+const THREE_ERRORS: &Row = &Row {
+    word: &[1, 0, 17, 34, 57, 900, 1],
+    lost: &[],
+    found: Err(CorrectError::TooManyErrors),
+    after: &[1, 0, 17, 34, 57, 900, 1],
+};
+
+const ONE_ERROR: &Row = &Row {
+    word: &[5, 6, 16, 34, 57, 86, 5],
+    lost: &[6, 0],
+    found: Ok(1),
+    after: WORD,
+};
+
+const FOUR_LOST: &Row = &Row {
+    word: &[0, 0, 17, 0, 57, 86, 0],
+    lost: &[1, 3, 0, 6],
+    found: Ok(0),
+    after: WORD,
+};
+
+const FIVE_LOST: &Row = &Row {
+    word: WORD,
+    lost: &[1, 3, 0, 6, 2],
+    found: Err(CorrectError::Restore(RestoreError::TooFewSymbols)),
+    after: WORD,
+};
+
+const NO_PLACE: &Row = &Row {
+    word: WORD,
+    lost: &[7, 7],
+    found: Err(CorrectError::Restore(RestoreError::PlaceOutOfRange)),
+    after: WORD,
+};
+
+const TWICE: &Row = &Row {
+    word: WORD,
+    lost: &[5, 5],
+    found: Err(CorrectError::Restore(RestoreError::PlaceTwice)),
+    after: WORD,
+};
+
+fn assert_rows<R: Reducer<u64>>(rt: &impl Abort, r: &R) {
+    check!(rt, 1; holds(r, NO_ERROR));
+    check!(rt, 2; holds(r, TWO_ERRORS));
+    check!(rt, 3; holds(r, THREE_ERRORS));
+    check!(rt, 4; holds(r, ONE_ERROR));
+    check!(rt, 5; holds(r, FOUR_LOST));
+    check!(rt, 6; holds(r, FIVE_LOST));
+    check!(rt, 7; holds(r, NO_PLACE));
+    check!(rt, 8; holds(r, TWICE));
+}
+
+// Modulo composite numbers: two symbols are wrong, one of them by a multiple of a factor.
+fn assert_composite<R: Reducer<u64>>(rt: &impl Abort, r: &R, small: &R) {
+    let found = corrected(r, &[502, 197, 891, 585, 265, 947, 624], &[]);
+    check!(rt, 11; found == Some((Ok(2), [500, 197, 891, 580, 265, 947, 624])));
+    check!(rt, 12; corrected(small, WORD, &[]).is_none());
+}
+
+// Generic in the reducer, as each call with a known one takes long to prove.
+fn assert_corrections<R: Reducer<u64> + Copy>(rt: &impl Abort)
+    requires of_15 { R.admits 15 }
+    requires of_929 { R.admits 929 }
+    requires of_1001 { R.admits 1001 }
+{
+    assert_rows(rt, &R::new(&929));
+    assert_composite(rt, &R::new(&1001), &R::new(&15));
+}
+
+#[test]
+fn words_corrected_by_montgomery_forms(rt: HostRuntime) {
+    assert_corrections::<Montgomery<u64>>(&rt);
+}
