@@ -79,7 +79,7 @@ def rows_of(item, path, front):
         inside.setdefault(call, docs)
     below = {call: f"{path}::{re.split('[.]|::', re.split('[({ ]', call)[0])[-1]}" for call in inside}
     said, conditions = said_in(it["docs"])
-    if name.endswith("Error"):  # the names of the causes say enough
+    if it["kind"] == "enum":  # the names of the variants say enough
         return [(name, path, shown, f"{said}: {', '.join(re.split('::', call)[-1] for call in inside)}", conditions)]
     rows = [(name, below[call], call, *said_in(inside[call])) for call in sorted(inside, key=lambda it: it[0] == ".")]
     return [(name if rows else "", path, shown, said, conditions), *rows]
