@@ -18,9 +18,9 @@ const SPARE: usize = SYMBOLS - MESSAGE;
 const POWERS: usize = 256;
 
 /// A modulus whose forms are words of type T, and the bytes of a symbol.
-struct Modulus<T, R> {
-    name: &'static str,
-    ring: R,
+pub struct Modulus<T, R> {
+    pub name: &'static str,
+    pub ring: R,
     bytes: usize,
     words: fn(u64) -> T,
 }
@@ -37,7 +37,7 @@ struct Lists<T> {
 }
 
 impl<T: RingWord + Debug, R: Reducer<T>> Modulus<T, R> {
-    fn form(&self, x: u64) -> T {
+    pub fn form(&self, x: u64) -> T {
         self.ring.transform((self.words)(x))
     }
 
@@ -102,7 +102,7 @@ fn least(mut turn: impl FnMut()) -> f64 {
     least_of(&mut turn, |()| ())
 }
 
-fn least_of<V>(mut turn: impl FnMut() -> V, mut check: impl FnMut(V)) -> f64 {
+pub fn least_of<V>(mut turn: impl FnMut() -> V, mut check: impl FnMut(V)) -> f64 {
     (0..200)
         .map(|_| {
             let start = Instant::now();
@@ -115,18 +115,21 @@ fn least_of<V>(mut turn: impl FnMut() -> V, mut check: impl FnMut(V)) -> f64 {
 }
 
 /// A modulus of 32 bits at most.
-fn montgomery(name: &'static str, m: u32, bytes: usize) -> Modulus<u32, Montgomery<u32>> {
+pub fn montgomery(name: &'static str, m: u32, bytes: usize) -> Modulus<u32, Montgomery<u32>> {
     Modulus { name, ring: <Montgomery<u32> as Reducer<u32>>::new(&m), bytes, words: |x| x as u32 }
 }
 
-/// The table.
-pub fn measured() -> Rows {
-    let goldilocks = Modulus {
+pub fn goldilocks() -> Modulus<u64, FixedTrinomialSolinas64<64, 32, 1>> {
+    Modulus {
         name: "64 bits, modulo 2^64 - 2^32 + 1",
         ring: <FixedTrinomialSolinas64<64, 32, 1> as Reducer<u64>>::new(&(u64::MAX - (1 << 32) + 2)),
         bytes: 8,
         words: |x| x,
-    };
+    }
+}
+
+/// The table.
+pub fn measured() -> Rows {
     Rows {
         key: "codes",
         title: "Words of 255 symbols (256 by a transform), messages of 223, 32 lost or 16 wrong, in MB/s"
@@ -137,14 +140,14 @@ pub fn measured() -> Rows {
             montgomery("8 bits, modulo 257", 257, 1).speeds(),
             montgomery("16 bits, modulo 2^16 + 1", 65537, 2).speeds(),
             montgomery("32 bits, modulo 2^32 - 2^20 + 1", 4_293_918_721, 4).speeds(),
-            goldilocks.speeds(),
+            goldilocks().speeds(),
         ],
     }
 }
 
 /// Debian's libfec, whose code of 255 symbols with messages of 223 is over the field of 256 elements.
 #[cfg(libfec)]
-mod libfec {
+pub mod libfec {
     use super::{MESSAGE, SPARE, SYMBOLS, least, least_of};
     use std::hint::black_box;
 
@@ -160,20 +163,26 @@ mod libfec {
             let (message, checks) = black_box(&mut word).split_at_mut(MESSAGE);
             unsafe { encode_rs_8(message.as_mut_ptr(), checks.as_mut_ptr(), 0) }
         });
-        let decoded = |step: usize, count: usize, places: usize| {
-            let mut spoilt = word;
-            spoilt.iter_mut().step_by(step).take(count).for_each(|symbol| *symbol ^= 1);
-            let mut found = spoilt;
-            let turn = || {
-                let mut erased: [i32; SPARE] = std::array::from_fn(|i| (step * i) as i32);
-                found = *black_box(&spoilt);
-                unsafe { decode_rs_8(found.as_mut_ptr(), erased.as_mut_ptr(), places as i32, 0) }
-            };
-            let time = least_of(turn, |changed| assert_eq!(changed, count as i32));
-            assert_eq!(found, word);
-            time
-        };
         [encoded, decoded(1, SPARE, SPARE), decoded(16, SPARE / 2, 0)].map(|time| SYMBOLS as f64 / time / 1e6)
+    }
+
+    /// The seconds in which so many wrong symbols, each so many places from the last, are corrected, of which so many are known
+    /// to be lost.
+    pub fn decoded(step: usize, count: usize, places: usize) -> f64 {
+        let mut word: [u8; SYMBOLS] = std::array::from_fn(|i| (i * 37 % 256) as u8);
+        let (message, checks) = word.split_at_mut(MESSAGE);
+        unsafe { encode_rs_8(message.as_mut_ptr(), checks.as_mut_ptr(), 0) };
+        let mut spoilt = word;
+        spoilt.iter_mut().step_by(step).take(count).for_each(|symbol| *symbol ^= 1);
+        let mut found = spoilt;
+        let turn = || {
+            let mut erased: [i32; SPARE] = std::array::from_fn(|i| (step * i) as i32);
+            found = *black_box(&spoilt);
+            unsafe { decode_rs_8(found.as_mut_ptr(), erased.as_mut_ptr(), places as i32, 0) }
+        };
+        let time = least_of(turn, |changed| assert_eq!(changed, count as i32));
+        assert_eq!(found, word);
+        time
     }
 }
 

@@ -10,6 +10,8 @@
 #[cfg(feature = "peers")]
 mod codes;
 #[cfg(feature = "peers")]
+mod corrections;
+#[cfg(feature = "peers")]
 mod erasure;
 mod erased;
 mod growth;
@@ -139,7 +141,7 @@ fn beside_crate() -> Option<Report> {
 fn beside_peers() -> Option<Report> {
     (peers::agree() && erasure::agree()).then(|| Report {
         beside: format!("FLINT {}", peers::version()),
-        tables: [peers::measured(), word_lists::measured(), erasure::measured(), codes::measured()]
+        tables: [peers::measured(), word_lists::measured(), erasure::measured(), codes::measured(), corrections::measured()]
             .into_iter()
             .chain(codes::beside_libfec())
             .collect(),
