@@ -102,7 +102,7 @@ fn are_zeros<T: RingWord, R: Reducer<T>>(r: &R, entries: &[T]) -> bool {
 /// `scratch`: its contents are ignored, and unspecified afterwards. The contents of `message` are ignored, and
 /// unspecified after false.
 ///
-/// Source: [`intt`](num_modular::ring::intt) gives the coefficients; of a word those from number k on are 0.
+/// Source: [`intt`](crate::ring::intt) gives the coefficients; of a word those from number k on are 0.
 ///
 /// # Panics
 ///
