@@ -10,8 +10,9 @@ use num_modular::applications::long_product::{self, any_length, polynomials};
 use num_modular::applications::mersenne_hash::prefixes::PrefixHashes;
 use num_modular::applications::residue_numbers::{combine, from_remainders, ResidueSystem};
 use num_modular::applications::ring_codes::erasure::{
-    correct, encode, encode_systematic, evaluate, evaluate_each, fill_powers, interpolate, is_codeword,
-    is_codeword_by_transform, points_fit, recover, recover_correct, restore, restore_word, share, CorrectError, RestoreError,
+    correct, encode, encode_systematic, evaluate, evaluate_each, fill_barycentric_weights, fill_powers, interpolate,
+    is_codeword, is_codeword_by_transform, points_fit, recover, recover_correct, restore, restore_word, share, CorrectError,
+    Corrector, RestoreError,
 };
 use num_modular::hashes;
 use num_modular::plans::PlannedModulus;
@@ -55,6 +56,17 @@ fn words_of_codes() {
     panic_with!("k must be at most the number of points: 5 and 4"; encode(&ring(), &POINTS, &[5; 5], &mut [0; 4]));
     panic_with!("there must be a place for the value at each point: 3 and 4"; evaluate_each(&ring(), &[5, 7], &POINTS, &mut [0; 3]));
     panic_in_debug_with!("coefficients and points must be checked forms"; evaluate_each(&ring(), &[5, 97], &POINTS, &mut [0; 4]));
+    panic_with!("there must be n products: 3 and 4"; fill_barycentric_weights(&ring(), &POINTS, &mut [0; 3], &mut [0; 4]));
+    panic_with!("there must be n weights: 3 and 4"; fill_barycentric_weights(&ring(), &POINTS, &mut [0; 4], &mut [0; 3]));
+    panic_with!("k must be at most n: 5 and 4"; Corrector::new(&ring(), &POINTS, 5, &mut [0; 4], &mut [0; 4]));
+    panic_with!("there must be n weights: 3 and 4"; Corrector::new(&ring(), &POINTS, 2, &mut [0; 3], &mut [0; 4]));
+    panic_with!("there must be n places of scratch: 3 and 4"; Corrector::new(&ring(), &POINTS, 2, &mut [0; 4], &mut [0; 3]));
+    let (of_97, mut weights) = (ring(), [0; 4]);
+    let code = Corrector::new(&of_97, &POINTS, 2, &mut weights, &mut [0; 4]).unwrap();
+    panic_with!("the word must have n symbols: 3 and 4"; code.correct(&mut [12, 19, 26], &[], &mut [0; 25]));
+    panic_with!("there must be at least 2·n + 7·(n - k) + 3 places of scratch: 24 and 25";
+        code.correct(&mut [12, 19, 26, 33], &[], &mut [0; 24]));
+    panic_in_debug_with!("the symbols must be checked forms"; code.correct(&mut [12, 19, 26, 97], &[], &mut [0; 25]));
     let of_3 = Vanilla::<u64>::new(&3);
     panic_with!("k must be at most n: 3 and 2"; is_codeword_by_transform(&of_3, &2, &[1, 1], &mut [0; 2], &mut [0; 3]));
     panic_with!("there must be n places of scratch: 1 and 2"; is_codeword_by_transform(&of_3, &2, &[1, 1], &mut [0; 1], &mut [0; 1]));
