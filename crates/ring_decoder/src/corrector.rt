@@ -117,7 +117,7 @@ impl<'a, T: RingWord, R: Reducer<T>> Corrector<'a, T, R> {
     /// `None` exactly where the points don't fit.
     ///
     /// The contents of `scratch` are ignored, and unspecified afterwards. The contents of `weights` are ignored, and
-    /// unspecified after `None`. It takes about 2·n² products and one inversion.
+    /// unspecified after `None`. It takes 3·n² + 3·n products and one inversion.
     ///
     /// # Conditions
     ///

@@ -255,7 +255,7 @@ fn fill_products<T: RingWord, R: Reducer<T>>(r: &R, points: &[T], point: &T, pro
 /// Returns false exactly where the points don't fit.
 ///
 /// `products` is scratch: its contents are ignored, and unspecified afterwards. The contents of `weights` are ignored, and
-/// unspecified after false. It takes about 2·n² + 4·n products and one inversion.
+/// unspecified after false. It takes 3·n² + 3·n products and one inversion.
 ///
 /// Source: Berrut and Trefethen, "Barycentric Lagrange interpolation", SIAM Review 46, 2004.
 ///
