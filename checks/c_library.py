@@ -17,7 +17,8 @@ PARAMETER = re.compile(r"(\w+): ((?:&(?:'a )?|\*)(?:mut |const )?|)(\[?)(?:\w+::
 COUNT = re.compile(r"(\d+) passed, (\d+) failed")
 IN_HEADER = """#include <num_modular.h>
 static size_t room(int n, int s, int k) {
-    return NM_ERASURE_ENCODE_SCRATCH(n, k) + NM_ERASURE_RESTORE_SCRATCH(n, s, k) + NM_ERASURE_CORRECT_SCRATCH(n, s, k);
+    return NM_ERASURE_ENCODE_SCRATCH(n, k) + NM_ERASURE_RESTORE_SCRATCH(n, s, k) + NM_ERASURE_CORRECT_SCRATCH(n, s, k)
+        + NM_CORRECTOR_SCRATCH(n, k);
 }
 int main(void) {
     uint64_t sum;

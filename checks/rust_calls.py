@@ -13,11 +13,10 @@ from fixed_types import FIXED, is_tried
 from libraries import leaves
 
 # What isn't followed, each with the reason: a path of the crate's sources, or a call. Besides, tests and laws aren't, the
-# functions for C, and the impls of traits.rs and features.rs, which are written over these calls.
+# functions for C, and the impls of traits.rs, integers.rs and features.rs, which are written over these calls.
 LEFT_OUT = {
     "modular_prim::exact::assign_exact": "a generic body, which the impls of `DivExactAssign` call",
     "applications::examples::*": "programs of the documentation, which nobody sees",
-    "ResidueSystem<'a>::moduli": "a field",
     "modular_reduced::reduced_int::operations::with_*": "the operators call these with a method of the reducer",
 }
 # The types over words whose calls are followed at each width.

@@ -30,12 +30,13 @@ use runtime::{list, list_mut};
 def typed(text):
     """The parameters or fields of a text: the name, the reference, whether it is a list, and the name of the type."""
     found = list(TYPED.finditer(text))
-    if "".join(it[0] for it in found) != text or any(not it[2] and (it[4] or it[5] not in PLAIN) for it in found):
+    if "".join(it[0] for it in found) != text or any(not it[2] and (it[4] or it[5] not in FULL) for it in found):
         raise Unknown(f"the parameters or fields {text}")
     return [(it[1], it[2] + (it[3] or ""), bool(it[4]), it[5]) for it in found]
 
 
 FULL = {it: it for it in PLAIN}  # each type by its path
+FIELDS = {}  # the text of the fields of each struct
 LENT = {}  # the fields of each struct that holds a list
 
 
@@ -66,12 +67,19 @@ def wrapper(path, name, found):
     return f'#[no_mangle] pub unsafe extern "C" fn {name}({", ".join(declared)}) -> u32 {{ {call} }}\n'
 
 
+def nothing(kind):
+    """A value of a type without lists, of zeros."""
+    if kind in PLAIN:
+        return "0"
+    return f"{FULL[kind]} {{ {', '.join(f'{own}: {nothing(inner)}' for own, _, _, inner in typed(FIELDS[kind]))} }}"
+
+
 def lent_struct(name):
     """A struct that holds a list, as C has it."""
     declared, empty, lent, of, kind = [], [], [], [], FULL[name]
     for own, reference, is_list, inner in LENT[name]:
         declared += set_apart(own, reference, is_list, inner)
-        empty.append(f"{own}: &[]" if is_list else f"{own}: 0")
+        empty.append(f"{own}: &[]" if is_list else f"{own}: {nothing(inner)}")
         lent.append(f"{own}: list(self.{own}, self.{own}_length)" if is_list else f"{own}: self.{own}")
         of += [f"{own}: it.{own}.as_ptr()", f"{own}_length: it.{own}.len()"] if is_list else [f"{own}: it.{own}"]
 
@@ -97,8 +105,9 @@ def wrappers(files):
     codes = {path: " ".join(it.text for it in tokens) for path, tokens in files.items()}
     for path, code in codes.items():
         for name, lent, fields in STRUCT.findall(code):
-            FULL[name] = f"c::{path}::{name}"
-            LENT.update({name: typed(fields)} if lent else {})
+            FULL[name], FIELDS[name] = f"c::{path}::{name}", fields
+            LENT.update({name: []} if lent else {})
+    LENT.update({name: typed(FIELDS[name]) for name in LENT})
     texts = [lent_struct(name) for name in LENT]
     for path, code in codes.items():
         found = EXPORT.findall(code)

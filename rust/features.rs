@@ -1,23 +1,6 @@
 //! The traits of `num-traits` and `serde`, each behind the feature of its name. Written by hand, and so not proved; all
 //! computations here call proved functions.
 
-// Each fixed reducer, its integer, and the word of its modulus.
-macro_rules! fixed {
-    ($for_each:ident) => {
-        $for_each! {
-            FixedMontgomery32 FixedMontgomeryInt32<const P: u32> u32;
-            FixedMontgomery64 FixedMontgomeryInt64<const P: u64> u64;
-            FixedProth32 FixedProthInt32<const N: u8, const K: u8> u32;
-            FixedProth64 FixedProthInt64<const N: u8, const K: u8> u64;
-            FixedMersenne32 FixedMersenneInt32<const P: u8, const K: u32> u32;
-            FixedMersenne64 FixedMersenneInt64<const P: u8, const K: u64> u64;
-            FixedMersenne FixedMersenneInt<const P: u8, const K: u64> u128;
-            FixedTrinomialSolinas32 FixedSolinasInt32<const P1: u8, const P2: u8, const K: i32> u32;
-            FixedTrinomialSolinas64 FixedSolinasInt64<const P1: u8, const P2: u8, const K: i64> u64;
-        }
-    };
-}
-
 #[cfg(feature = "num-traits")]
 mod numbers {
     use crate::{ModularInteger, ReducedInt, Reducer};

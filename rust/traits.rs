@@ -1,129 +1,44 @@
-//! The traits of core that people expect of integers, errors and reducers. Written by hand, and so not proved; all
-//! computations here call proved functions.
+//! The traits of core that people expect of errors, reducers and plans, and of integers (`integers.rs`). Written by hand, and so
+//! not proved; all computations here call proved functions.
+
+mod integers;
 
 use crate::applications::lattice_rings::{ml_dsa, ml_kem};
 #[cfg(target_pointer_width = "64")]
 use crate::applications::long_product::Plans;
 use crate::applications::ring_codes::erasure::{CorrectError, PreparedCode, RestoreError, ShareError};
 use crate::modular_folds::folds::FoldedWord;
-use crate::modular_folds::mersenne::{Mersenne32, Mersenne64};
 use crate::modular_folds::rings::{FoldModulus, FoldRing};
 use crate::modular_folds::solinas::{Trinomial, TrinomialModulus, TrinomialWord};
-use crate::modular_monty::fixed::{OddNumber32, OddNumber64};
 use crate::modular_monty::odd_ring::{OddModulus, OddRing, StoredModulus};
-use crate::modular_monty::proth::{ProthNumber32, ProthNumber64};
 use crate::modular_prim::reducer_word::ReducerWord;
 use crate::modular_word::path_word::PathWord;
 use crate::plans::{OwnedPlan, Plan, PlanEntry, PlannedModulus};
-use crate::{FixedMersenne, ModularInteger, PlainWord, PreModInv, ReducedInt, Reducer};
+use crate::{FixedMersenne, PlainWord, PreModInv, Reducer};
 use core::fmt;
 use core::hash::{Hash, Hasher};
-use core::iter::{Product, Sum};
-use core::ops::{Div, DivAssign};
-
-impl<T: PartialEq + Clone + fmt::Display, R: Reducer<T> + Clone> fmt::Display for ReducedInt<T, R> {
-    /// The residue.
-    fn fmt(&self, f: &mut fmt::Formatter) -> fmt::Result {
-        self.residue().fmt(f)
-    }
-}
-
-impl<T: fmt::Debug, R: Reducer<T>> fmt::Debug for ReducedInt<T, R> {
-    /// The residue and the modulus.
-    fn fmt(&self, f: &mut fmt::Formatter) -> fmt::Result {
-        let (form, reducer) = (&self.form, &self.reducer);
-        // the sum with 0 is a copy, also of a form that can't be cloned
-        let copy = reducer.add(form, &reducer.sub(form, form));
-        write!(f, "{:?} (mod {:?})", reducer.residue(copy), reducer.modulus())
-    }
-}
-
-// In other bases the residue is written, as `Display` writes it.
-macro_rules! bases {
-    ($($base:ident)*) => {$(
-        impl<T: PartialEq + Clone + fmt::$base, R: Reducer<T> + Clone> fmt::$base for ReducedInt<T, R> {
-            /// The residue.
-            fn fmt(&self, f: &mut fmt::Formatter) -> fmt::Result {
-                fmt::$base::fmt(&self.residue(), f)
-            }
-        }
-    )*};
-}
-
-bases!(LowerHex UpperHex Octal Binary);
-
-impl<T: Eq, R: Reducer<T>> Eq for ReducedInt<T, R> {}
-
-impl<T: PartialEq + Clone + Hash, R: Reducer<T> + Clone> Hash for ReducedInt<T, R> {
-    /// Equal integers, which have equal residues and moduli, hash equally.
-    fn hash<H: Hasher>(&self, state: &mut H) {
-        self.residue().hash(state);
-        self.modulus().hash(state);
-    }
-}
-
-// Words on the right of a division, as the proved operators have them on the right of the others.
-macro_rules! divided_by_words {
-    ($($integer:ty, $word:ty;)*) => {$(
-        impl<T: PartialEq + Clone, R: Reducer<T> + Clone> Div<$word> for $integer {
-            type Output = ReducedInt<T, R>;
-
-            /// The quotient by a word n.
-            ///
-            /// # Panics
-            ///
-            /// Panics unless n has an inverse modulo m.
-            #[cfg_attr(debug_assertions, track_caller)]
-            fn div(self, n: $word) -> ReducedInt<T, R> {
-                let divisor = self.convert(n.clone());
-                self / divisor
-            }
-        }
-    )*};
-}
-
-divided_by_words! {
-    ReducedInt<T, R>, T;
-    ReducedInt<T, R>, &T;
-    &ReducedInt<T, R>, T;
-    &ReducedInt<T, R>, &T;
-}
-
-macro_rules! divided_in_place {
-    ($($divisor:ty;)*) => {$(
-        impl<T: PartialEq + Clone, R: Reducer<T> + Clone> DivAssign<$divisor> for ReducedInt<T, R> {
-            #[cfg_attr(debug_assertions, track_caller)]
-            fn div_assign(&mut self, rhs: $divisor) {
-                *self = self.clone() / rhs;
-            }
-        }
-    )*};
-}
-
-divided_in_place!(ReducedInt<T, R>; &ReducedInt<T, R>; T; &T;);
 
 // A fixed reducer shows its alias and its modulus.
-macro_rules! shown {
-    ($($kept:ty as $ring:ident, $word:ty, $trait:ident, [$($parameters:tt)*];)*) => {$(
+macro_rules! show {
+    ($kept:ty, $ring:expr, $word:ty, $trait:ident, [$($parameters:tt)*]) => {
         impl<$($parameters)*> fmt::Debug for $kept {
             /// The reducer and its modulus.
             fn fmt(&self, f: &mut fmt::Formatter) -> fmt::Result {
-                write!(f, concat!(stringify!($ring), " (mod {:?})"), $trait::<$word>::modulus(self))
+                write!(f, concat!($ring, " (mod {:?})"), $trait::<$word>::modulus(self))
             }
         }
+    };
+}
+
+macro_rules! shown {
+    ($($ring:ident<$(const $parameter:ident: $kind:ty),*> $word:ty, $family:ident of $trait:ident, $($kept:ident)::*;)*) => {$(
+        show!($($kept)::*<$($parameter),*>, stringify!($ring), $word, $trait, [$(const $parameter: $kind),*]);
     )*};
 }
 
-shown! {
-    OddNumber32<P> as FixedMontgomery32, u32, OddModulus, [const P: u32];
-    OddNumber64<P> as FixedMontgomery64, u64, OddModulus, [const P: u64];
-    ProthNumber32<N, K> as FixedProth32, u32, OddModulus, [const N: u8, const K: u8];
-    ProthNumber64<N, K> as FixedProth64, u64, OddModulus, [const N: u8, const K: u8];
-    Mersenne32<P, K> as FixedMersenne32, u32, FoldModulus, [const P: u8, const K: u32];
-    Mersenne64<P, K> as FixedMersenne64, u64, FoldModulus, [const P: u8, const K: u64];
-    FixedMersenne<P, K> as FixedMersenne, u128, Reducer, [const P: u8, const K: u64];
-    TrinomialModulus<T, F> as TrinomialSolinas, T, FoldModulus, [T: TrinomialWord + fmt::Debug, F: Trinomial];
-}
+kept!(shown);
+show!(FixedMersenne<P, K>, "FixedMersenne", u128, Reducer, [const P: u8, const K: u64]);
+show!(TrinomialModulus<T, F>, "TrinomialSolinas", T, FoldModulus, [T: TrinomialWord + fmt::Debug, F: Trinomial]);
 
 impl<T: fmt::Debug> fmt::Debug for StoredModulus<T> {
     /// The reducer's alias and the modulus, as `Montgomery` shows itself.
@@ -346,6 +261,20 @@ impl<T: fmt::Display> fmt::Display for CorrectError<T> {
     }
 }
 
+// The reducer of the only modulus of its type.
+macro_rules! only_reducers {
+    ($($ring:ident $integer:ident<$(const $parameter:ident: $kind:ty),*> $word:ty;)*) => {$(
+        impl<$(const $parameter: $kind),*> Default for crate::$ring<$($parameter),*> {
+            /// `RING`.
+            fn default() -> Self {
+                Self::RING
+            }
+        }
+    )*};
+}
+
+fixed!(only_reducers);
+
 #[cfg(all(feature = "std", not(has_core_error)))]
 extern crate std;
 #[cfg(has_core_error)]
@@ -365,72 +294,12 @@ impl Error for crate::applications::long_product::polynomials::MultiplyError {}
 #[cfg(any(feature = "std", has_core_error))]
 impl<T: fmt::Debug + fmt::Display> Error for CorrectError<T> {}
 
-// Sums and products of any number of integers, and the reducer of its only modulus. The empty ones need a modulus that the
-// type knows.
-macro_rules! fixed {
-    ($($integer:ident<$(const $parameter:ident: $kind:ty),*> over $ring:ident;)*) => {$(
-        impl<$(const $parameter: $kind),*> Default for crate::$ring<$($parameter),*> {
-            /// `RING`.
-            fn default() -> Self {
-                Self::RING
-            }
-        }
-
-        impl<$(const $parameter: $kind),*> Sum for crate::$integer<$($parameter),*> {
-            fn sum<I: Iterator<Item = Self>>(items: I) -> Self {
-                let zero = Self::new(0, &crate::$ring::<$($parameter),*>::fixed_modulus());
-                items.fold(zero, |sum, it| sum + it)
-            }
-        }
-
-        impl<'a, $(const $parameter: $kind),*> Sum<&'a Self> for crate::$integer<$($parameter),*> {
-            fn sum<I: Iterator<Item = &'a Self>>(items: I) -> Self {
-                items.copied().sum()
-            }
-        }
-
-        impl<$(const $parameter: $kind),*> Product for crate::$integer<$($parameter),*> {
-            fn product<I: Iterator<Item = Self>>(items: I) -> Self {
-                let one = Self::new(1, &crate::$ring::<$($parameter),*>::fixed_modulus());
-                items.fold(one, |product, it| product * it)
-            }
-        }
-
-        impl<'a, $(const $parameter: $kind),*> Product<&'a Self> for crate::$integer<$($parameter),*> {
-            fn product<I: Iterator<Item = &'a Self>>(items: I) -> Self {
-                items.copied().product()
-            }
-        }
-    )*};
-}
-
-fixed! {
-    FixedMontgomeryInt32<const P: u32> over FixedMontgomery32;
-    FixedMontgomeryInt64<const P: u64> over FixedMontgomery64;
-    FixedProthInt32<const N: u8, const K: u8> over FixedProth32;
-    FixedProthInt64<const N: u8, const K: u8> over FixedProth64;
-    FixedMersenneInt32<const P: u8, const K: u32> over FixedMersenne32;
-    FixedMersenneInt64<const P: u8, const K: u64> over FixedMersenne64;
-    FixedMersenneInt<const P: u8, const K: u64> over FixedMersenne;
-    FixedSolinasInt32<const P1: u8, const P2: u8, const K: i32> over FixedTrinomialSolinas32;
-    FixedSolinasInt64<const P1: u8, const P2: u8, const K: i64> over FixedTrinomialSolinas64;
-}
-
 #[cfg(test)]
 mod tests {
     extern crate std;
     use crate::applications::ring_codes::erasure::{CorrectError, RestoreError, ShareError};
     use crate::*;
-    use std::collections::HashSet;
     use std::string::ToString;
-
-    #[test]
-    fn integers_are_written() {
-        let x = MontgomeryInt::<u64>::new(107, &97);
-        assert_eq!(std::format!("{x} {x:>4} {x:?}"), "10   10 10 (mod 97)");
-        fn has_equality<T: Eq>(_: T) {}
-        has_equality(x);
-    }
 
     #[test]
     fn reducers_and_plans_show_no_table() {
@@ -450,36 +319,6 @@ mod tests {
         let plan = Plan::new(&modulus, 22, &mut table).unwrap();
         assert_eq!(std::format!("{plan:?}"), "Plan { modulus: 97, root: 22, length: 4, .. }");
         assert_eq!(std::format!("{:?}", ml_kem::Ring::new()), "Ring { modulus: 3329, .. }");
-    }
-
-    #[test]
-    fn sums_and_products_of_integers_of_one_type() {
-        type Int = FixedMersenneInt32<31, 1>;
-        let all = [2147483646u32, 2, 3].map(|n| Int::new(n, &FixedMersenne32::<31, 1>::MODULUS));
-        assert_eq!((all.iter().sum::<Int>().residue(), all.iter().product::<Int>().residue()), (4, 2147483641));
-        assert_eq!((all[..0].iter().sum::<Int>().residue(), all[..0].iter().product::<Int>().residue()), (0, 1));
-    }
-
-    #[test]
-    fn integers_are_written_in_other_bases() {
-        let x = MontgomeryInt::<u64>::new(107, &197);
-        assert_eq!(std::format!("{x:x} {x:#X} {x:o} {x:#010b}"), "6b 0x6B 153 0b01101011");
-    }
-
-    #[test]
-    fn equal_integers_hash_equally() {
-        let x = MontgomeryInt::<u64>::new(107, &97);
-        let all: HashSet<_> = [x, x.convert(10), x.convert(11), MontgomeryInt::<u64>::new(10, &101)].into_iter().collect();
-        assert_eq!((all.len(), all.contains(&x.convert(204))), (3, true));
-    }
-
-    #[test]
-    fn integers_are_divided_in_place() {
-        let mut x = VanillaInt::<u8>::new(10, &21);
-        x /= x.convert(5);
-        assert_eq!(x.residue(), 2);
-        x /= &x.convert(4);
-        assert_eq!(x.residue(), 11);
     }
 
     #[test]

@@ -149,6 +149,78 @@ void peer_flint_restore(ulong p, const ulong *points, const ulong *symbols, slon
     nmod_poly_clear(polynomial);
 }
 
+/* A code at n points: the product of X - x, the tree of its factors, and the weights of the points. */
+static struct {
+    nmod_t modulus;
+    slong n;
+    ulong *weights;
+    mp_ptr *tree;
+    nmod_poly_t product;
+} code;
+
+void peer_flint_code(ulong p, const ulong *points, slong n)
+{
+    nmod_init(&code.modulus, p);
+    code.n = n;
+    code.weights = _nmod_vec_init(n);
+    code.tree = _nmod_poly_tree_alloc(n);
+    _nmod_poly_tree_build(code.tree, points, n, code.modulus);
+    _nmod_poly_interpolation_weights(code.weights, code.tree, n, code.modulus);
+    nmod_poly_init2(code.product, p, n + 1);
+    nmod_poly_product_roots_nmod_vec(code.product, points, n);
+}
+
+void peer_flint_code_clear(void)
+{
+    _nmod_vec_clear(code.weights);
+    _nmod_poly_tree_free(code.tree, code.n);
+    nmod_poly_clear(code.product);
+}
+
+/* Corrects a word from a message of k symbols, and returns how many were wrong, or -1 (Gao, "A new algorithm for decoding
+ * Reed-Solomon codes"). */
+slong peer_flint_correct(ulong *word, slong k)
+{
+    slong wrong = 0, n = code.n;
+    ulong p = code.modulus.n;
+    nmod_poly_t before, rest, earlier, locator, quotient, next;
+    nmod_poly_init2(rest, p, n);
+    _nmod_poly_interpolate_nmod_vec_fast_precomp(rest->coeffs, word, code.tree, code.weights, n, code.modulus);
+    rest->length = n;
+    _nmod_poly_normalise(rest);
+    if (rest->length > k) {
+        nmod_poly_init(before, p);
+        nmod_poly_init(earlier, p);
+        nmod_poly_init(locator, p);
+        nmod_poly_init(quotient, p);
+        nmod_poly_init(next, p);
+        nmod_poly_set(before, code.product);
+        nmod_poly_set_coeff_ui(locator, 0, 1);
+        while (2 * nmod_poly_degree(rest) >= n + k) {
+            nmod_poly_divrem(quotient, next, before, rest);
+            nmod_poly_swap(before, rest);
+            nmod_poly_swap(rest, next);
+            nmod_poly_mul(next, quotient, locator);
+            nmod_poly_sub(next, earlier, next);
+            nmod_poly_swap(earlier, locator);
+            nmod_poly_swap(locator, next);
+        }
+        wrong = nmod_poly_degree(locator);
+        nmod_poly_divrem(quotient, next, rest, locator);
+        if (!nmod_poly_is_zero(next) || quotient->length > k)
+            wrong = -1;
+        else
+            _nmod_poly_evaluate_nmod_vec_fast_precomp(word, quotient->coeffs, quotient->length, code.tree, n, code.modulus);
+        nmod_poly_clear(before);
+        nmod_poly_clear(earlier);
+        nmod_poly_clear(locator);
+        nmod_poly_clear(quotient);
+        nmod_poly_clear(next);
+    }
+    nmod_poly_clear(rest);
+    return wrong;
+}
+
 /* xs + ys, xs - ys, the products of the entries, xs times the first of ys, and the dot product, which becomes the
  * first of xs: by the operation's number. */
 void peer_flint_list(int operation, ulong m, ulong *xs, const ulong *ys, slong n)

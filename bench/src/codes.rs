@@ -23,6 +23,7 @@ pub struct Modulus<T, R> {
     pub ring: R,
     bytes: usize,
     words: fn(u64) -> T,
+    numbers: fn(T) -> u64,
 }
 
 /// The word of a message, with other words of the same message, and what the calls write.
@@ -37,6 +38,18 @@ struct Lists<T> {
 }
 
 impl<T: RingWord + Debug, R: Reducer<T>> Modulus<T, R> {
+    pub fn new(name: &'static str, ring: R, bytes: usize, words: fn(u64) -> T, numbers: fn(T) -> u64) -> Self {
+        Modulus { name, ring, bytes, words, numbers }
+    }
+
+    pub fn number(&self, form: T) -> u64 {
+        (self.numbers)(self.ring.residue(form))
+    }
+
+    pub fn modulus(&self) -> u64 {
+        (self.numbers)(self.ring.modulus())
+    }
+
     pub fn form(&self, x: u64) -> T {
         self.ring.transform((self.words)(x))
     }
@@ -116,16 +129,12 @@ pub fn least_of<V>(mut turn: impl FnMut() -> V, mut check: impl FnMut(V)) -> f64
 
 /// A modulus of 32 bits at most.
 pub fn montgomery(name: &'static str, m: u32, bytes: usize) -> Modulus<u32, Montgomery<u32>> {
-    Modulus { name, ring: <Montgomery<u32> as Reducer<u32>>::new(&m), bytes, words: |x| x as u32 }
+    Modulus::new(name, <Montgomery<u32> as Reducer<u32>>::new(&m), bytes, |x| x as u32, |x| x as u64)
 }
 
 pub fn goldilocks() -> Modulus<u64, FixedTrinomialSolinas64<64, 32, 1>> {
-    Modulus {
-        name: "64 bits, modulo 2^64 - 2^32 + 1",
-        ring: <FixedTrinomialSolinas64<64, 32, 1> as Reducer<u64>>::new(&(u64::MAX - (1 << 32) + 2)),
-        bytes: 8,
-        words: |x| x,
-    }
+    let ring = <FixedTrinomialSolinas64<64, 32, 1> as Reducer<u64>>::new(&(u64::MAX - (1 << 32) + 2));
+    Modulus::new("64 bits, modulo 2^64 - 2^32 + 1", ring, 8, |x| x, |x| x)
 }
 
 /// The table.
@@ -166,22 +175,42 @@ pub mod libfec {
         [encoded, decoded(1, SPARE, SPARE), decoded(16, SPARE / 2, 0)].map(|time| SYMBOLS as f64 / time / 1e6)
     }
 
-    /// The seconds in which so many wrong symbols, each so many places from the last, are corrected, of which so many are known
-    /// to be lost.
-    pub fn decoded(step: usize, count: usize, places: usize) -> f64 {
-        let mut word: [u8; SYMBOLS] = std::array::from_fn(|i| (i * 37 % 256) as u8);
-        let (message, checks) = word.split_at_mut(MESSAGE);
-        unsafe { encode_rs_8(message.as_mut_ptr(), checks.as_mut_ptr(), 0) };
-        let mut spoilt = word;
-        spoilt.iter_mut().step_by(step).take(count).for_each(|symbol| *symbol ^= 1);
-        let mut found = spoilt;
-        let turn = || {
-            let mut erased: [i32; SPARE] = std::array::from_fn(|i| (step * i) as i32);
-            found = *black_box(&spoilt);
-            unsafe { decode_rs_8(found.as_mut_ptr(), erased.as_mut_ptr(), places as i32, 0) }
-        };
-        let time = least_of(turn, |changed| assert_eq!(changed, count as i32));
-        assert_eq!(found, word);
+    /// A word with so many wrong symbols, each so many places from the last, of which so many are known to be lost.
+    pub struct Word {
+        step: usize,
+        lost: usize,
+        right: [u8; SYMBOLS],
+        spoilt: [u8; SYMBOLS],
+        found: [u8; SYMBOLS],
+    }
+
+    impl Word {
+        pub fn new(step: usize, wrong: usize, lost: usize) -> Word {
+            let mut right: [u8; SYMBOLS] = std::array::from_fn(|i| (i * 37 % 256) as u8);
+            let (message, checks) = right.split_at_mut(MESSAGE);
+            unsafe { encode_rs_8(message.as_mut_ptr(), checks.as_mut_ptr(), 0) };
+            let mut spoilt = right;
+            spoilt.iter_mut().step_by(step).take(wrong).for_each(|symbol| *symbol ^= 1);
+            Word { step, lost, right, spoilt, found: spoilt }
+        }
+
+        /// Corrects it, and returns the number of wrong symbols.
+        pub fn correct(&mut self) -> usize {
+            let mut erased: [i32; SPARE] = std::array::from_fn(|i| (self.step * i) as i32);
+            self.found = *black_box(&self.spoilt);
+            unsafe { decode_rs_8(self.found.as_mut_ptr(), erased.as_mut_ptr(), self.lost as i32, 0) as usize }
+        }
+
+        pub fn is_right(&self) -> bool {
+            self.found == self.right
+        }
+    }
+
+    /// The seconds in which such a word is corrected.
+    fn decoded(step: usize, wrong: usize, lost: usize) -> f64 {
+        let mut word = Word::new(step, wrong, lost);
+        let time = least_of(|| word.correct(), |changed| assert_eq!(changed, wrong));
+        assert!(word.is_right());
         time
     }
 }

@@ -141,9 +141,11 @@ fn beside_crate() -> Option<Report> {
 fn beside_peers() -> Option<Report> {
     (peers::agree() && erasure::agree()).then(|| Report {
         beside: format!("FLINT {}", peers::version()),
-        tables: [peers::measured(), word_lists::measured(), erasure::measured(), codes::measured(), corrections::measured()]
+        tables: [peers::measured(), word_lists::measured(), erasure::measured(), codes::measured()]
             .into_iter()
+            .chain(corrections::measured())
             .chain(codes::beside_libfec())
+            .chain(corrections::beside_libfec())
             .collect(),
         growth: Vec::new(),
     })

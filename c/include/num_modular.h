@@ -1,10 +1,11 @@
 /* Arithmetic modulo m on words of 64 bits: the library num_modular, proved, for C.
  *
  * Each function tests its preconditions and returns a code. With NM_OK it has written its result. With any other code
- * it leaves everything that the caller passed unchanged, but for the scratch list of the erasure codes; only
- * nm_montgomery_run and nm_erasure_correct also write with NM_NO_INVERSE. It is proved that the old and the new
- * contents are equal, but for the table of nm_plan_make. A body that writes and then restores would meet that, too.
- * That such a call doesn't write at all is tested, with outputs in a read-only page.
+ * it leaves everything that the caller passed unchanged, but for the scratch list of the erasure codes and, with
+ * NM_POINTS_DONT_FIT, the forms of nm_corrector_make; only nm_montgomery_run, nm_erasure_correct and
+ * nm_corrector_correct also write with NM_NO_INVERSE. It is proved that the old and the new contents are equal, but for
+ * the lists of nm_plan_make and nm_corrector_make. A body that writes and then restores would meet that, too. That such
+ * a call doesn't write at all is tested, with outputs in a read-only page.
  *
  * A context, divider, plan, modulus or base comes first, but in the seven operations on words and in the symbols, where
  * the modulus follows the operands as in the Rust crate.
@@ -15,7 +16,7 @@
  *   every list, NULL with the number 0 is an empty list. In comments, n is the length of a call's first list, and k
  *   that of its second, where they don't say another.
  * - A plan of type nm_plan_t, and its table, are as nm_plan_make or nm_plan_check left them; nm_plan_check itself takes
- *   any.
+ *   any. A corrector of type nm_corrector_t, and its lists, are as nm_corrector_make left them.
  * - What a call writes, which is each argument without const, overlaps no other argument. Of the six products in place,
  *   such as nm_plan_convolve, this header tests whether both lists are one, and returns NM_BAD_ARGUMENT; for a square
  *   call nm_plan_square. Arguments that are const may overlap each other in any way, or be the same.
@@ -507,6 +508,54 @@ NM_CHECK nm_code_t nm_erasure_correct(const nm_montgomery_t *context, const uint
 NM_CHECK nm_code_t nm_erasure_share(const nm_montgomery_t *context, const uint64_t *points, size_t points_length,
                                     const uint64_t *coefficients, size_t coefficients_length, uint64_t *shares,
                                     size_t shares_length, uint64_t *scratch, size_t scratch_length);
+
+/* --- Erasure codes that are prepared to correct many words, modulo any m. ---
+ *
+ * An nm_corrector_t holds what depends on the points alone. nm_corrector_make computes it once, and
+ * nm_corrector_correct trusts it: the caller must ensure that the corrector is one that nm_corrector_make wrote, and
+ * that neither it nor its lists have changed since then. Only its context is tested. For others nothing is claimed.
+ *
+ * n is the number of points, and k that of the symbols of a message. A word has n symbols, as nm_erasure_encode writes
+ * them. The contents of scratch are unspecified after every call, whatever its code. Where several codes fit,
+ * NM_BAD_CONTEXT comes before NM_BAD_ARGUMENT, and that before the others; of these a call returns the first that its
+ * comment names, but that it may return NM_NO_INVERSE where NM_TOO_MANY_ERRORS fits, too. Not for secrets. */
+
+/* A corrector: a context, k, and lists, which stay the caller's and must live as long as it. It may be copied. */
+typedef struct {
+    nm_montgomery_t context;
+    size_t k;
+    const uint64_t *points; /* the forms of the points */
+    size_t points_length;
+    const uint64_t *weights; /* the forms of their weights */
+    size_t weights_length;
+    const uint64_t *checks; /* empty, or a table of forms */
+    size_t checks_length;
+} nm_corrector_t;
+
+/* How many words the scratch list of nm_corrector_correct must have at least. */
+#define NM_CORRECTOR_SCRATCH(n, k) (3 * NM_SIZE(n) + 7 * (NM_SIZE(n) - NM_SIZE(k)) + 3)
+
+/* Prepares a code: fills forms, of 2 * n words, and checks, of (n - k) * n words or none, and writes the corrector,
+ * which points to both. With checks nm_corrector_correct takes less time. scratch: n words. NM_BAD_CONTEXT: the context
+ * isn't one that nm_montgomery makes. NM_BAD_ARGUMENT: k is above n, forms or checks has another length, or scratch is
+ * shorter. NM_POINTS_DONT_FIT: the difference of two points has no inverse; the contents of forms are then
+ * unspecified. */
+NM_CHECK nm_code_t nm_corrector_make(const nm_montgomery_t *context, const uint64_t *points, size_t points_length,
+                                     size_t k, uint64_t *forms, size_t forms_length, uint64_t *checks,
+                                     size_t checks_length, uint64_t *scratch, size_t scratch_length,
+                                     nm_corrector_t *corrector);
+
+/* Corrects a word in place, c lost symbols and e wrong ones besides, if 2 * e + c is at most n - k: it becomes the only
+ * word of a message of k symbols that differs from it in so few symbols, and errors becomes e. Symbols may be above m,
+ * and become residues. lost are the places of the lost symbols, counted from 0, and what stands there is ignored.
+ * scratch: NM_CORRECTOR_SCRATCH(n, k) words. NM_BAD_CONTEXT: the corrector's context isn't one that nm_montgomery
+ * makes. NM_BAD_ARGUMENT: the word hasn't n symbols, or scratch is shorter. NM_TOO_FEW_SYMBOLS: fewer than k symbols
+ * aren't lost. NM_PLACE_OUT_OF_RANGE, NM_PLACE_TWICE: of the places, in order, one isn't below n, or occurs before.
+ * NM_TOO_MANY_ERRORS: no word is that near. NM_NO_INVERSE: a number above 0 without an inverse modulo m was met, and is
+ * written to number; it never comes where m is a prime, or where at most one symbol is wrong that isn't lost. */
+NM_CHECK nm_code_t nm_corrector_correct(const nm_corrector_t *corrector, const size_t *lost, size_t lost_length,
+                                        uint64_t *word, size_t word_length, uint64_t *scratch, size_t scratch_length,
+                                        size_t *errors, uint64_t *number);
 
 /* --- Applications: hashes, numbers by their residues, long products. --- */
 

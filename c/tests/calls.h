@@ -1,9 +1,12 @@
 /* What the tests share: a row is a call with the code and the output that it must have. */
 #ifndef CALLS_H
 #define CALLS_H
+#define _DEFAULT_SOURCE
 
 #include <inttypes.h>
 #include <num_modular.h>
+#include <setjmp.h>
+#include <signal.h>
 #include <stdio.h>
 #include <string.h>
 
@@ -59,25 +62,33 @@ void row(const char *call, int holds, uint32_t code);
         row(#call, code == (want_code) && memcmp(list, wanted, sizeof wanted) == 0, code);                             \
     } while (0)
 
-void header_rows(void);
-void plain_rows(void);
-void symbol_rows(void);
-void divider_rows(void);
-void word_list_rows(void);
-void montgomery_rows(void);
-void run_rows(void);
-void transform_rows(void);
-void plan_rows(void);
-void plan_value_rows(void);
-void erasure_rows(void);
-void user_rows(void);
-void polynomial_rows(void);
-void prefix_rows(void);
-void search_rows(void);
-void residue_system_rows(void);
-void any_length_rows(void);
-void sharing_rows(void);
-void check_digit_rows(void);
-void read_only_rows(void);
+/* The words 1, 2, 3 and so on, in two pages that can't be written, and whether they are there. */
+extern uint64_t *read_only;
+int begin_read_only(void);
+void end_read_only(void);
+extern sigjmp_buf before_the_call;
+extern volatile sig_atomic_t in_a_call;
+
+/* A call that refuses, all of whose outputs are in these pages: it doesn't write at all, where the proof says only that the
+ * outputs hold afterwards what they held before. */
+#define REFUSES(want_code, call)                                                                                       \
+    do {                                                                                                               \
+        volatile uint32_t code = CAUGHT;                                                                               \
+        in_a_call = 1;                                                                                                 \
+        if (sigsetjmp(before_the_call, 1) == 0) code = (call);                                                         \
+        in_a_call = 0;                                                                                                 \
+        row("read-only: " #call, code == (want_code), code);                                                           \
+    } while (0)
+
+/* Whether a call that writes is caught. */
+#define CAUGHT UINT32_MAX
+
+/* The groups of rows. */
+#define GROUPS(DO)                                                                                                     \
+    DO(header) DO(plain) DO(symbol) DO(divider) DO(word_list) DO(montgomery) DO(run) DO(transform) DO(plan)            \
+    DO(plan_value) DO(erasure) DO(corrector) DO(user) DO(polynomial) DO(prefix) DO(search) DO(residue_system)          \
+    DO(any_length) DO(sharing) DO(check_digit) DO(read_only)
+#define DECLARED(group) void group##_rows(void);
+GROUPS(DECLARED)
 
 #endif

@@ -1,34 +1,36 @@
-/* Calls that refuse, with every output in a page that can't be written: they don't write at all, where the proof says
- * only that the outputs hold afterwards what they held before. */
-#define _DEFAULT_SOURCE
-#include <setjmp.h>
-#include <signal.h>
+/* Calls that refuse, with every output in a page that can't be written. */
+#include "calls.h"
+
 #include <sys/mman.h>
 #include <unistd.h>
 
-#include "calls.h"
-
 #define GREATEST (UINT64_C(1) << 62)
 
-static sigjmp_buf before_the_call;
-/* the words 1, 2, 3 and so on, in two pages */
+sigjmp_buf before_the_call;
+volatile sig_atomic_t in_a_call;
+uint64_t *read_only;
 static uint64_t *words;
+static size_t size;
+static struct sigaction old;
 
 static void on_write(int number) {
-    (void)number;
-    siglongjmp(before_the_call, 1);
+    if (in_a_call) siglongjmp(before_the_call, 1);
+    signal(number, SIG_DFL);
 }
 
-/* A call all of whose outputs are in the page. */
-#define REFUSES(want_code, call)                                                                                       \
-    do {                                                                                                               \
-        volatile uint32_t code = UINT32_MAX;                                                                           \
-        if (sigsetjmp(before_the_call, 1) == 0) code = (call);                                                         \
-        row("read-only: " #call, code == (want_code), code);                                                           \
-    } while (0)
+int begin_read_only(void) {
+    struct sigaction handler = {.sa_handler = on_write};
+    size = 2 * (size_t)sysconf(_SC_PAGESIZE);
+    words = read_only = mmap(NULL, size, PROT_READ | PROT_WRITE, MAP_PRIVATE | MAP_ANONYMOUS, -1, 0);
+    if (words == MAP_FAILED) return 0;
+    for (size_t i = 0; i < size / sizeof *words; i++) words[i] = i + 1;
+    return mprotect(words, size, PROT_READ) == 0 && sigaction(SIGSEGV, &handler, &old) == 0;
+}
 
-/* Whether a call that writes is caught. */
-#define CAUGHT UINT32_MAX
+void end_read_only(void) {
+    sigaction(SIGSEGV, &old, NULL);
+    munmap(read_only, size);
+}
 
 static void plain_refusals(void) {
     int32_t *symbol = (int32_t *)words;
@@ -195,6 +197,32 @@ static void erasure_refusals(const nm_montgomery_t *ring, const nm_montgomery_t 
 #undef CORRECT
 }
 
+/* forms and scratch can be written */
+static void corrector_refusals(const nm_montgomery_t *ring, const nm_montgomery_t *changed) {
+    static const uint64_t points[2] = {0, 1}, even[2] = {1, 3};
+    static const size_t both[2] = {0, 1}, twice[2] = {1, 1}, beyond[1] = {2};
+    uint64_t forms[4], scratch[23], *others = words + 16, *number = words + 24;
+    size_t *errors = (size_t *)(words + 25);
+    nm_corrector_t of_one, of_none, *made = (nm_corrector_t *)words;
+    REFUSES(CAUGHT, nm_corrector_make(ring, points, 2, 1, forms, 4, NULL, 0, scratch, 23, made));
+    REFUSES(NM_BAD_CONTEXT, nm_corrector_make(changed, points, 2, 1, others, 4, others + 4, 2, scratch, 23, made));
+    REFUSES(NM_BAD_ARGUMENT, nm_corrector_make(ring, points, 2, 3, others, 4, others + 4, 2, scratch, 23, made));
+    REFUSES(NM_BAD_ARGUMENT, nm_corrector_make(ring, points, 2, 1, others, 4, others + 4, 1, scratch, 23, made));
+    REFUSES(NM_POINTS_DONT_FIT, nm_corrector_make(ring, even, 2, 1, forms, 4, others, 2, scratch, 23, made));
+    CODE(NM_OK, nm_corrector_make(ring, points, 2, 1, forms, 4, NULL, 0, scratch, 23, &of_one));
+    CODE(NM_OK, nm_corrector_make(ring, points, 2, 0, forms, 4, NULL, 0, scratch, 23, &of_none));
+#define CORRECT(by, lost, count, room) nm_corrector_correct(&by, lost, count, others, 2, scratch, room, errors, number)
+    REFUSES(CAUGHT, CORRECT(of_one, both, 1, 16));
+    REFUSES(NM_BAD_ARGUMENT, CORRECT(of_one, both, 1, 15));
+    REFUSES(NM_TOO_FEW_SYMBOLS, CORRECT(of_one, both, 2, 16));
+    REFUSES(NM_PLACE_OUT_OF_RANGE, CORRECT(of_one, beyond, 1, 16));
+    REFUSES(NM_PLACE_TWICE, CORRECT(of_none, twice, 2, 23));
+    REFUSES(NM_TOO_MANY_ERRORS, CORRECT(of_one, NULL, 0, 16));
+    of_one.context = *changed;
+    REFUSES(NM_BAD_CONTEXT, CORRECT(of_one, both, 1, 16));
+#undef CORRECT
+}
+
 static void user_refusals(void) {
     static const uint8_t text[3] = {1, 2, 3}, pattern[1] = {4};
     static const uint64_t moduli[2] = {3, 9}, residues[2] = {0, 0};
@@ -294,17 +322,8 @@ static void check_digit_refusals(void) {
 
 void read_only_rows(void) {
     nm_montgomery_t ring, changed;
-    struct sigaction handler = {.sa_handler = on_write}, old;
-    size_t size = 2 * (size_t)sysconf(_SC_PAGESIZE);
-    words = mmap(NULL, size, PROT_READ | PROT_WRITE, MAP_PRIVATE | MAP_ANONYMOUS, -1, 0);
-    if (words == MAP_FAILED) {
-        row("two pages", 0, 0);
-        return;
-    }
-    for (size_t i = 0; i < size / sizeof *words; i++) words[i] = i + 1;
     CODE(NM_OK, nm_montgomery(20, &ring));
     changed = ring, changed.square ^= 1;
-    row("a page to read", mprotect(words, size, PROT_READ) == 0 && sigaction(SIGSEGV, &handler, &old) == 0, 0);
     plain_refusals();
     divider_refusals();
     form_refusals(&ring, &changed);
@@ -312,12 +331,11 @@ void read_only_rows(void) {
     plan_refusals();
     plan_value_refusals();
     erasure_refusals(&ring, &changed);
+    corrector_refusals(&ring, &changed);
     user_refusals();
     polynomial_refusals();
     prefix_refusals();
     residue_system_refusals();
     any_length_refusals();
     check_digit_refusals();
-    sigaction(SIGSEGV, &old, NULL);
-    munmap(words, size);
 }

@@ -5,7 +5,7 @@ import random
 
 import pytest
 
-from num_modular import ErasureCode, NoInverseError, PointsError, TooFewSymbolsError, TooManyErrorsError
+from num_modular import Corrector, ErasureCode, NoInverseError, PointsError, TooFewSymbolsError, TooManyErrorsError
 
 PRIMES = (2, 7, 929, 2**61 - 1, 18446744073709551557)
 
@@ -47,6 +47,47 @@ def test_wrong_symbols(m):
         for i in places[lost:]:
             received[i] = (received[i] + draw.randrange(1, m)) % m
         assert code.correct(received, k) == (message, word, wrong)
+
+
+@pytest.mark.parametrize("m", PRIMES[2:])
+def test_prepared_corrections(m):
+    draw = random.Random(m)
+    for n, k in ((7, 3), (10, 4), (5, 5), (12, 1)):
+        points = draw.sample(range(min(m, 10**6)), n)
+        codes = [Corrector(m, points, k, table) for table in (False, True)]
+        assert [(it.modulus, it.points, it.k) for it in codes] == [(m, points, k)] * 2
+        for _ in range(50):
+            word = word_of([draw.randrange(m) for _ in range(k)], points, m)
+            lost = draw.randrange(n - k + 1)
+            wrong = draw.randrange((n - k - lost) // 2 + 1)
+            places = draw.sample(range(n), lost + wrong)
+            received = [None if i in places[:lost] else it for i, it in enumerate(word)]
+            for i in places[lost:]:
+                received[i] = (received[i] + draw.randrange(1, m)) % m
+            for code in codes:
+                assert code.correct(received) == (word, wrong)
+                assert code.correct({i: received[i] for i in range(n) if i not in places[:lost]}) == (word, wrong)
+
+
+def test_what_a_corrector_refuses():
+    points = range(1, 7)  # of which 5 + 7X has the values 12, 19, 26, 33, 40 and 47
+    code = Corrector(97, points, 2)
+    assert code.correct([12, None, 50, 33, 40, None]).word == [12, 19, 26, 33, 40, 47]
+    with pytest.raises(TooManyErrorsError, match="^no word of the code is near enough to the symbols$"):
+        code.correct([12, 19, 26, 0, 0, 1])  # one message has at most three of them
+    with pytest.raises(TooFewSymbolsError, match="^a message of 2 symbols can't be restored from 1$"):
+        code.correct({3: 33})
+    for word in ([1] * 5, [97, *[1] * 5], [-1, *[1] * 5], {6: 1, 0: 1}):
+        with pytest.raises(ValueError):
+            code.correct(word)
+    for k, fault in ((0, "k must be at least 1"), (7, "a message of 7 symbols is too long for 6 points")):
+        with pytest.raises(ValueError, match=fault):
+            Corrector(97, points, k)
+    with pytest.raises(PointsError, match="points 0 and 2 don't fit"):
+        Corrector(929, [1, 2, 930], 1)
+    with pytest.raises(NoInverseError) as told:
+        Corrector(35, range(5), 1).correct([8, 10, 3, 3, 3])
+    assert 1 < math.gcd(told.value.number, 35) < 35
 
 
 @pytest.mark.parametrize("m", (*PRIMES, 1001))

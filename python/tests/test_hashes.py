@@ -27,6 +27,9 @@ def test_hashes():
             call()
     with pytest.raises(TypeError, match="^the pattern must be bytes-like: encode str first$"):
         find(b"ab", "a")
+    for call in (find, find_all):  # where bytes.find has its start
+        with pytest.raises(TypeError, match="positional"):
+            call(b"abc", [b"a"], 5)
     for data, base in (("ab", 5), ([1, 2], 5), (b"ab", 5.0), (b"ab", None)):
         with pytest.raises(TypeError):
             polynomial_hash(data, base)

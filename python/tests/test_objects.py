@@ -5,7 +5,7 @@ import pickle
 
 import pytest
 
-from num_modular import Divider, ErasureCode, Mod, Montgomery, Plan, PrefixHashes
+from num_modular import Corrector, Divider, ErasureCode, Mod, Montgomery, Plan, PrefixHashes
 
 # Each object of the row is equal to the others, and to none of another row; the text of the first.
 ROWS = [
@@ -21,6 +21,9 @@ ROWS = [
     ((ErasureCode(97, range(3)), ErasureCode(97, [97, 1, -95])), "ErasureCode(97, (0, 1, 2))"),
     ((ErasureCode(97, [1, 0, 2]), ErasureCode(97, [1, 0, 2])), "ErasureCode(97, (1, 0, 2))"),
     ((ErasureCode(101, range(3)), ErasureCode(101, range(3))), "ErasureCode(101, (0, 1, 2))"),
+    ((Corrector(97, range(3), 1), Corrector(97, [97, 1, -95], 1)), "Corrector(97, (0, 1, 2), 1, False)"),
+    ((Corrector(97, range(3), 1, True), Corrector(97, range(3), 1, table=True)), "Corrector(97, (0, 1, 2), 1, True)"),
+    ((Corrector(97, range(3), 2), Corrector(97, range(3), 2)), "Corrector(97, (0, 1, 2), 2, False)"),
     ((PrefixHashes(b"abc", 5), PrefixHashes(bytearray(b"abc"), 2**61 + 4)), "<PrefixHashes of 3 bytes at the base 5>"),
     ((PrefixHashes(b"abd", 5), PrefixHashes(b"abd", 5)), "<PrefixHashes of 3 bytes at the base 5>"),
     ((PrefixHashes(b"abc", 6), PrefixHashes(b"abc", 6)), "<PrefixHashes of 3 bytes at the base 6>"),

@@ -1,6 +1,6 @@
-# Writes a manual page for each function that the header declares, in the folder `folder`: its prototype, its comment, and
-# what the header says of its section. Sentences that begin with a code are the return value. `version` is that of the
-# library.
+# Writes a manual page for each function that the header, the first file, declares, in the folder `folder`: its prototype, its
+# comment, and what the header says of its section. Sentences that begin with a code are the return value. `version` is that
+# of the library. Copies num_modular.3, the second file, there, with the functions of each section for the line @FUNCTIONS@.
 #
 # A comment right before declarations belongs to them. Any other comment is of the section, which begins with "--- ".
 
@@ -48,6 +48,28 @@ function others(text, name,    found, it, seen) {
         seen[it]
     }
     return found
+}
+
+# adds a function to those of its section, whose title is its first sentence
+function list_function(name,    title) {
+    if (section == "") return
+    title = substr(section "\n", 1, index(section "\n", "\n") - 1)
+    sub(/\. .*$/, "", title)
+    sub(/\.$/, "", title)
+    if (!(title in listed)) titles[++sections] = title
+    listed[title] = listed[title] (listed[title] == "" ? "" : " ,\n") ".BR " name
+}
+
+# the functions of each section, below its title
+function functions(    i, found) {
+    for (i = 1; i <= sections; i++) found = found ".TP\n" escaped(titles[i]) "\n" listed[titles[i]] "\n"
+    return found
+}
+
+NR > FNR {
+    gsub(/@VERSION@/, version)
+    printf "%s", $0 == "@FUNCTIONS@" ? functions() : $0 "\n" >(folder "/num_modular.3")
+    next
 }
 
 function page(name,    file) {
@@ -105,6 +127,7 @@ name != "" {
     prototype = prototype (prototype == "" ? "" : "\n") line
     if (line ~ /\);$/) {
         page(name)
+        list_function(name)
         name = ""
     }
 }

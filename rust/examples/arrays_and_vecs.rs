@@ -3,7 +3,7 @@
 
 use num_modular::applications::long_product::polynomials::{room_once, try_multiply_once, Products};
 use num_modular::applications::mersenne_hash::prefixes::PrefixHashes;
-use num_modular::applications::residue_numbers::mixed_radix::OwnedSystem;
+use num_modular::applications::residue_numbers::mixed_radix::{OwnedSystem, System};
 use num_modular::applications::ring_codes::erasure::{restore, Code};
 use num_modular::hashes::base;
 use num_modular::plans::{Factor, OwnedPlan, PlannedModulus};
@@ -30,12 +30,18 @@ fn codes() -> Result<(), Box<dyn Error>> {
 
 /// 2^100 + 1 in a system of three moduli, and back.
 fn residues() -> Result<(), Box<dyn Error>> {
-    let system = OwnedSystem::new([(1 << 61) - 1, (1 << 31) - 1, 1 << 40]).ok_or("the moduli aren't coprime")?;
+    let moduli = [(1 << 61) - 1, (1 << 31) - 1, 1 << 40];
+    let system = OwnedSystem::new(moduli).ok_or("the moduli aren't coprime")?;
     let number = vec![1, 1 << 36];
     let residues = system.encode(&number);
     let words = system.words(&system.digits(&residues));
     assert_eq!((&words[..2], words[2]), (&number[..], 0));
     println!("residues: {residues:?}");
+
+    let moduli = moduli.to_vec();
+    let (mut inverses, mut encoded) = (vec![0; moduli.len()], vec![0; moduli.len()]);
+    System::new(&moduli, &mut inverses).ok_or("the moduli aren't coprime")?.encode(&number, &mut encoded);
+    assert_eq!(encoded, residues);
     Ok(())
 }
 

@@ -18,7 +18,8 @@ use core::fmt;
 pub enum MultiplyError {
     /// The modulus is 0.
     NoModulus,
-    /// The length of `out` isn't that of the product: one less than those of the factors together, or 0 where one is empty.
+    /// The length of `out` isn't that of the product: one less than those of the factors together, or 0 where one is empty;
+    /// or the lengths of the factors and of `out` differ, where the product is a cyclic or negacyclic one.
     LengthOfProduct,
     /// Both factors have `LEAST_TRANSFORMED` coefficients or more, and they have more than 2^32 together.
     TooManyCoefficients,
@@ -32,7 +33,7 @@ impl fmt::Display for MultiplyError {
     fn fmt(&self, f: &mut fmt::Formatter) -> fmt::Result {
         f.write_str(match self {
             MultiplyError::NoModulus => "the modulus must be at least 1",
-            MultiplyError::LengthOfProduct => "the length of `out` must be that of the product",
+            MultiplyError::LengthOfProduct => "`out`, and factors of a cyclic product, must have the length of the product",
             MultiplyError::TooManyCoefficients => "there must be at most 2^32 coefficients",
             MultiplyError::TooFewWords => "there must be as many words as `room_once` returns",
             MultiplyError::TooFewFactors => "there must be as many factors as `room_once` returns",
@@ -40,19 +41,20 @@ impl fmt::Display for MultiplyError {
     }
 }
 
-// The first cause for which `multiply_once` returns false.
-fn cause(m: u64, xs: usize, ys: usize, out: usize, words: usize) -> MultiplyError {
-    let needed = if xs == 0 || ys == 0 { Some(0) } else { (xs - 1).checked_add(ys) };
-    if m == 0 {
-        MultiplyError::NoModulus
-    } else if needed != Some(out) {
-        MultiplyError::LengthOfProduct
-    } else if out >= 1 << 32 {
-        MultiplyError::TooManyCoefficients
+// Whether there is a product, or the first cause why there is none. `fits`: `out` has the length of the product.
+fn outcome(is_done: bool, m: u64, xs: usize, ys: usize, fits: bool, words: usize) -> Result<(), MultiplyError> {
+    if is_done {
+        Ok(())
+    } else if m == 0 {
+        Err(MultiplyError::NoModulus)
+    } else if !fits {
+        Err(MultiplyError::LengthOfProduct)
+    } else if xs + ys > 1 << 32 {
+        Err(MultiplyError::TooManyCoefficients)
     } else if words < room_once(xs, ys).0 {
-        MultiplyError::TooFewWords
+        Err(MultiplyError::TooFewWords)
     } else {
-        MultiplyError::TooFewFactors
+        Err(MultiplyError::TooFewFactors)
     }
 }
 
@@ -84,11 +86,53 @@ pub fn try_multiply_once<F: PlanEntry<u64>>(
     words: &mut [u64],
     factors: &mut [F],
 ) -> Result<(), MultiplyError> {
-    if multiply_once(m, xs, ys, out, words, factors) {
-        Ok(())
-    } else {
-        Err(cause(m, xs.len(), ys.len(), out.len(), words.len()))
-    }
+    let length = if xs.is_empty() || ys.is_empty() { 0 } else { xs.len() + ys.len() - 1 };
+    let is_done = multiply_once(m, xs, ys, out, words, factors);
+    outcome(is_done, m, xs.len(), ys.len(), out.len() == length, words.len())
+}
+
+// The products of n numbers and n numbers.
+macro_rules! try_folded {
+    ($($name:ident by $call:ident, $modulus:literal, $product:literal;)*) => {$(
+        #[doc = concat!("Writes the product of two polynomials modulo m and modulo ", $modulus, ", or returns why there is none.")]
+        ///
+        #[doc = concat!("It writes what [`", stringify!($call), "`](polynomials::", stringify!($call), ") does; where there is no")]
+        /// product, all lists are unchanged. Written by hand, over proved calls.
+        ///
+        /// # Errors
+        ///
+        /// m is 0, or the lengths don't fit: as [`MultiplyError`] lists, whose first cause is returned.
+        ///
+        /// # Examples
+        ///
+        /// ```
+        #[doc = concat!("use num_modular::applications::long_product::polynomials::{", stringify!($name), ", MultiplyError};")]
+        /// use num_modular::plans::Factor;
+        ///
+        /// let (mut out, mut words, mut factors) = ([0; 2], [0; 0], [Factor::<u64>::ZERO; 0]); // short products need no room
+        #[doc = concat!("assert_eq!(", stringify!($name), "(97, &[1, 2], &[3, 4], &mut out, &mut words, &mut factors), Ok(()));")]
+        #[doc = concat!("assert_eq!(out, ", $product, ");")]
+        #[doc = concat!("let fault = ", stringify!($name), "(97, &[1, 2], &[3], &mut out, &mut words, &mut factors);")]
+        /// assert_eq!(fault, Err(MultiplyError::LengthOfProduct));
+        /// ```
+        pub fn $name<F: PlanEntry<u64>>(
+            m: u64,
+            xs: &[u64],
+            ys: &[u64],
+            out: &mut [u64],
+            words: &mut [u64],
+            factors: &mut [F],
+        ) -> Result<(), MultiplyError> {
+            let fits = xs.len() == out.len() && ys.len() == out.len();
+            let is_done = polynomials::$call(m, xs, ys, out, words, factors);
+            outcome(is_done, m, xs.len(), ys.len(), fits, words.len())
+        }
+    )*};
+}
+
+try_folded! {
+    try_multiply_cyclic_once by multiply_cyclic_once, "X^n - 1", "[11, 10]";
+    try_multiply_negacyclic_once by multiply_negacyclic_once, "X^n + 1", "[92, 10]";
 }
 
 /// Products modulo m of polynomials with X and Y coefficients, which have Z coefficients, the lowest first.

@@ -16,9 +16,12 @@
 // The proofs name the loops and branches of the sources, so these stay as they are where clippy has a shorter form.
 #![allow(clippy::collapsible_if, clippy::if_same_then_else, clippy::manual_find, clippy::manual_map)]
 #![allow(clippy::manual_range_contains, clippy::needless_range_loop, clippy::redundant_field_names)]
-#![allow(clippy::double_must_use, clippy::single_match)]
+#![allow(clippy::collapsible_match, clippy::double_must_use, clippy::single_match)]
 #![doc = include_str!("../README.md")]
 
+#[path = "../fixed.rs"]
+#[macro_use]
+mod fixed;
 #[path = "../additions.rs"]
 mod additions;
 #[cfg(any(feature = "num-traits", feature = "serde"))]
@@ -79,7 +82,7 @@ pub mod solinas;
 pub mod transforms;
 pub mod word;
 
-pub use crate::additions::RingWord;
+pub use crate::additions::{Divide1by1, Divide2by1, RingWord};
 pub use crate::modular_barrett::normalized::Normalized2by1Divisor;
 pub use crate::modular_barrett::one_by_one::PreMulInv1by1;
 pub use crate::modular_barrett::premul::PreMulInv2by1;

@@ -5,6 +5,7 @@ pub mod any_length;
 pub mod check_codes;
 pub mod codes;
 pub mod commands;
+pub mod correctors;
 pub mod dividers;
 pub mod erasure;
 pub mod form_lists;

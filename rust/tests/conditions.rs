@@ -115,6 +115,7 @@ fn symbols_and_quotients_that_are_not_there() {
     panic_with!("`checked_legendre` must be `Some`, as it is for each odd prime n"; 2u8.legendre(&9));
     panic_with!("the divisor must have an inverse modulo m"; int(10, 21) / int(7, 21), { let mut x = int(10, 21); x /= int(7, 21) });
     panic_with!("the divisor must have an inverse modulo m"; int(10, 21) / 7, { let mut x = int(10, 21); x /= 7 });
+    panic_with!("the divisor must have an inverse modulo m"; 10 / int(7, 21), 10 / &int(7, 21));
 }
 
 #[test]

@@ -8,7 +8,7 @@ use num_modular::applications::lattice_rings::{ml_dsa, ml_kem};
 #[cfg(target_pointer_width = "64")]
 use num_modular::applications::long_product::{self, any_length, polynomials};
 use num_modular::applications::mersenne_hash::prefixes::PrefixHashes;
-use num_modular::applications::residue_numbers::{combine, from_remainders, ResidueSystem};
+use num_modular::applications::residue_numbers::{combine, from_remainders};
 use num_modular::applications::ring_codes::erasure::{
     correct, encode, encode_systematic, evaluate, evaluate_each, fill_barycentric_weights, fill_powers, interpolate,
     is_codeword, is_codeword_by_transform, points_fit, recover, recover_correct, restore, restore_word, share, CorrectError,
@@ -16,7 +16,7 @@ use num_modular::applications::ring_codes::erasure::{
 };
 use num_modular::hashes;
 use num_modular::plans::PlannedModulus;
-use num_modular::ring::{invert_each, unload_forms, RingCommand};
+use num_modular::ring::{invert_each, unload_forms};
 use num_modular::{Montgomery, Reducer, Vanilla};
 use panics::{message, place, MODULUS, SHORT};
 
@@ -63,6 +63,8 @@ fn words_of_codes() {
     panic_with!("there must be n places of scratch: 3 and 4"; Corrector::new(&ring(), &POINTS, 2, &mut [0; 4], &mut [0; 3]));
     let (of_97, mut weights) = (ring(), [0; 4]);
     let code = Corrector::new(&of_97, &POINTS, 2, &mut weights, &mut [0; 4]).unwrap();
+    panic_with!("there must be n·(n - k) checks: 7 and 8";
+        Corrector::new(&of_97, &POINTS, 2, &mut [0; 4], &mut [0; 4]).unwrap().with_checks(&mut [0; 7]));
     panic_with!("the word must have n symbols: 3 and 4"; code.correct(&mut [12, 19, 26], &[], &mut [0; 25]));
     panic_with!("there must be at least 2·n + 7·(n - k) + 3 places of scratch: 24 and 25";
         code.correct(&mut [12, 19, 26, 33], &[], &mut [0; 24]));
@@ -198,25 +200,8 @@ fn entries_of_lattice_rings() {
 }
 
 #[test]
-fn residue_systems() {
-    let system = ResidueSystem::new(&[3, 5]).unwrap();
-    let counted = "each list must have as many entries as there are moduli";
-    panic_with!(counted; system.add(&[1; 1], &[1; 2], &mut [0; 2]), system.sub(&[1; 2], &[1; 3], &mut [0; 2]),
-        system.mul(&[1; 2], &[1; 2], &mut [0; 1]), system.mul(&[1; 2], &[1; 2], &mut [0; 3]));
-    let counted = "there must be as many residues as the system has moduli";
-    panic_with!(format!("{counted}: 1 and 2"); system.encode(7, &mut [0; 1]));
-    panic_with!(format!("{counted}: 3 and 2"); system.encode(7, &mut [0; 3]));
-    panic_with!("each modulus must have a residue below it"; system.decode(&[1]), system.decode(&[1, 5]));
+fn remainders() {
     panic_with!("m and n must be at least 1"; combine(1, 0, 1, 5), combine(1, 5, 1, 0), from_remainders(1, 0, 1, 5), from_remainders(1, 5, 1, 0));
-    let double = [RingCommand::Dbl { dst: 0, a: 0 }];
-    panic_with!("there must be as many registers as numbers, and as many residues as moduli";
-        system.run(&double, &[7], 0, &mut [0; 2], &mut [0; 2]), system.run(&double, &[7], 0, &mut [0], &mut [0; 1]));
-    let register = "each register number must be below the count of the numbers, that of the wanted register too";
-    for (command, register_of_result) in [(RingCommand::Dbl { dst: 0, a: 1 }, 0), (RingCommand::Dbl { dst: 0, a: 0 }, 1)] {
-        let words = message(|| system.run(&[command], &[7], register_of_result, &mut [0], &mut [0; 2])).unwrap_or_default();
-        let wanted = ["index out of bounds: the len is 1 but the index is 1", register];
-        assert_eq!(words, wanted[usize::from(cfg!(debug_assertions))]);
-    }
 }
 
 #[test]

@@ -2,8 +2,12 @@
 
 mod words;
 
-use num_modular::applications::ring_codes::erasure::{correct, CorrectError, Corrector, RestoreError};
-use num_modular::{Reducer, Vanilla};
+use num_modular::applications::ring_codes::erasure::{correct, encode, fill_powers, CorrectError, Corrector, RestoreError};
+use num_modular::ring::find_root;
+use num_modular::{
+    FixedMersenne64, FixedTrinomialSolinas64, Montgomery, OddMontgomery, PreMulInv2by1, Reducer, RingWord, Vanilla,
+};
+use std::fmt::Debug;
 use words::{value, Random};
 
 fn inverse(m: u64, a: u64) -> Option<u64> {
@@ -149,7 +153,7 @@ fn random_words() {
                     refused += 1;
                 }
                 Err(CorrectError::NoInverse(a)) => {
-                    assert!(has_no_inverse(m, a) && want.is_none_or(|(_, errors)| errors > 0), "{a} modulo {m}");
+                    assert!(has_no_inverse(m, a) && want.map_or(true, |(_, errors)| errors > 0), "{a} modulo {m}");
                     without += 1;
                 }
                 Err(error) => panic!("{error:?}"),
@@ -240,26 +244,48 @@ impl Damaged {
         Some((word_of(self.m, &message, &self.points), errors))
     }
 
-    /// What `Corrector::correct` leaves and returns.
+    /// Whether `correct` returns `NoInverse` for the symbols that aren't lost; otherwise it finds the nearest word.
+    fn is_without_inverse_by_correct(&self) -> bool {
+        let listed: Vec<usize> = (0..self.points.len()).filter(|i| !self.lost.contains(i)).collect();
+        let symbols: Vec<u64> = listed.iter().map(|i| self.word[*i]).collect();
+        let (mut scratch, mut message) = (vec![0; 3 * (listed.len() + self.k) + 2], vec![0; self.k]);
+        let (ring, mut word) = (Vanilla::<u64>::new(&self.m), vec![0; self.points.len()]);
+        match correct(&ring, &self.points, &listed, &symbols, &mut scratch, &mut message, &mut word) {
+            Err(CorrectError::NoInverse(_)) => true,
+            found => {
+                assert_eq!(found.ok().map(|errors| (word, errors)), self.nearest(), "modulo {}", self.m);
+                false
+            }
+        }
+    }
+
+    /// What `Corrector::correct` leaves and returns, with a table of checks and without.
     fn corrected(&self) -> (Vec<u64>, Result<usize, CorrectError<u64>>) {
         let (ring, n) = (Vanilla::<u64>::new(&self.m), self.points.len());
-        let (mut weights, mut room, mut word) = (vec![0; n], vec![0; n], self.word.clone());
-        let code = Corrector::new(&ring, &self.points, self.k, &mut weights, &mut room).expect("the points fit");
+        let (mut weights, mut room, mut checks) = (vec![0; n], vec![0; n], vec![self.m; n * (n - self.k)]);
         let mut scratch = vec![self.m - 1; 2 * n + 7 * (n - self.k) + 3];
-        let found = code.correct(&mut word, &self.lost, &mut scratch);
-        (word, found)
+        let mut by = |code: &Corrector<u64, _>| {
+            let mut word = self.word.clone();
+            let found = code.correct(&mut word, &self.lost, &mut scratch);
+            (word, found)
+        };
+        let code = Corrector::new(&ring, &self.points, self.k, &mut weights, &mut room).expect("the points fit");
+        let found = by(&code);
+        assert_eq!(by(&code.with_checks(&mut checks)), found, "modulo {}", self.m);
+        found
     }
 }
 
-/// `NoInverse` never comes where at most one symbol is wrong, and elsewhere seldom.
+/// `NoInverse` never comes where at most one symbol is wrong, and elsewhere seldom: less than half as often as by `correct`.
 #[test]
 fn words_in_place() {
     let mut random = Random(88172645463325252);
-    let (mut found, mut refused, mut without) = (0, 0, 0);
+    let (mut found, mut refused, mut without, mut without_by_correct) = (0, 0, 0, 0);
     for (m, least) in MODULI {
         for _ in 0..400 {
             let it = Damaged::random(m, least, &mut random);
             let want = it.nearest();
+            without_by_correct += usize::from(it.is_without_inverse_by_correct());
             match it.corrected() {
                 (word, Ok(errors)) => {
                     found += 1;
@@ -282,7 +308,10 @@ fn words_in_place() {
             }
         }
     }
-    assert!(found > 7000 && refused > 1000 && without < 300, "{found} {refused} {without}");
+    assert!(
+        found > 7000 && refused > 1000 && 2 * without < without_by_correct,
+        "{found} {refused} {without} {without_by_correct}"
+    );
 }
 
 #[test]
@@ -296,4 +325,73 @@ fn lost_places() {
     refused(&[0, 0, 9], RestoreError::TooFewSymbols);
     refused(&[1, 4], RestoreError::PlaceOutOfRange);
     refused(&[3, 3], RestoreError::PlaceTwice);
+}
+
+/// A word is sent, some symbols are lost and as many others are wrong as can be corrected: the word that was sent is found.
+fn longer_words<T: RingWord + Debug, R: Reducer<T>>(ring: &R, longest: u64, words: fn(u64) -> T) {
+    let mut random = Random(88172645463325252);
+    let form = |x: u64| ring.transform(words(x));
+    for _ in 0..60 {
+        let n = 1 + random.below(longest) as usize;
+        let k = random.below(n as u64 + 1) as usize;
+        let points: Vec<T> = (0..n as u64).map(form).collect();
+        let message: Vec<T> = (0..k).map(|_| form(random.below(u64::MAX))).collect();
+        let mut sent = points.clone();
+        encode(ring, &points, &message, &mut sent);
+        let mut word = sent.clone();
+        let mut places: Vec<usize> = (0..n).collect();
+        (1..n).for_each(|i| places.swap(i, random.below(i as u64 + 1) as usize));
+        let lost = random.below((n - k) as u64 + 1) as usize;
+        let wrong = (n - k - lost) / 2;
+        for (i, place) in places.iter().enumerate().take(lost + wrong) {
+            word[*place] = if i < lost { form(random.below(u64::MAX)) } else { ring.add(&word[*place], &form(1)) };
+        }
+        let (mut weights, mut room, mut checks) = (points.clone(), points.clone(), vec![form(0); n * (n - k)]);
+        let mut scratch = vec![form(0); 2 * n + 7 * (n - k) + 3];
+        let code = Corrector::new(ring, &points, k, &mut weights, &mut room).expect("the points fit");
+        let mut again = word.clone();
+        assert_eq!((code.correct(&mut word, &places[..lost], &mut scratch), &word), (Ok(wrong), &sent));
+        let code = code.with_checks(&mut checks);
+        assert_eq!((code.correct(&mut again, &places[..lost], &mut scratch), &again), (Ok(wrong), &sent));
+    }
+}
+
+#[test]
+fn longer_words_of_each_width() {
+    longer_words(&<OddMontgomery<u8> as Reducer<u8>>::new(&251), 100, |x| x as u8);
+    longer_words(&<OddMontgomery<u16> as Reducer<u16>>::new(&257), 100, |x| x as u16);
+    longer_words(&<OddMontgomery<u16> as Reducer<u16>>::new(&1021), 100, |x| x as u16);
+    longer_words(&<PreMulInv2by1<u16> as Reducer<u16>>::new(&65521), 100, |x| x as u16);
+    longer_words(&<Montgomery<u32> as Reducer<u32>>::new(&4294967291), 100, |x| x as u32);
+    longer_words(&<FixedMersenne64<61, 1> as Reducer<u64>>::new(&((1 << 61) - 1)), 100, |x| x);
+    longer_words(&<FixedTrinomialSolinas64<64, 32, 1> as Reducer<u64>>::new(&(u64::MAX - (1 << 32) + 2)), 100, |x| x);
+}
+
+/// At the powers of a root the syndromes are found by a transform: the same words are found.
+#[test]
+fn words_at_the_powers_of_a_root() {
+    let mut random = Random(88172645463325252);
+    for (m, n) in [(17, 16), (257, 64), (85, 4), (65, 4), (3 * 65537, 2), (7, 1)] {
+        let ring = Vanilla::<u64>::new(&m);
+        let Some(root) = find_root(&ring, n) else { continue };
+        let mut points = vec![0; n];
+        fill_powers(&ring, &root, &mut points);
+        for _ in 0..200 {
+            let k = random.below(n as u64 + 1) as usize;
+            let message: Vec<u64> = (0..k).map(|_| random.below(m)).collect();
+            let mut word = word_of(m, &message, &points);
+            (0..random.below(n as u64 - k as u64 + 1)).for_each(|_| word[random.below(n as u64) as usize] = random.below(m));
+            let lost: Vec<usize> = (0..random.below((n - k) as u64 + 1) as usize).collect();
+            let (mut weights, mut room, mut scratch) = (vec![0; n], vec![0; n], vec![0; 2 * n + 7 * (n - k) + 3]);
+            let code = Corrector::new(&ring, &points, k, &mut weights, &mut room).expect("the points fit");
+            let mut other = word.clone();
+            let found = code.correct(&mut word, &lost, &mut scratch);
+            let code = code.with_root(root).expect("the points are powers of the root");
+            assert_eq!((code.correct(&mut other, &lost, &mut scratch), other), (found, word), "modulo {m}");
+        }
+        points.swap(0, n - 1);
+        let (mut weights, mut room) = (vec![0; n], vec![0; n]);
+        let code = Corrector::new(&ring, &points, 0, &mut weights, &mut room).expect("the points fit");
+        assert!(n == 1 || code.with_root(root).is_none());
+    }
 }

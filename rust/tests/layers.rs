@@ -3,9 +3,8 @@
 #[macro_use]
 mod panics;
 
-use num_modular::applications::mersenne_hash::prefixes::PrefixHashes;
+use num_modular::applications::mersenne_hash::PrefixHashes;
 use num_modular::applications::residue_numbers::mixed_radix::{OwnedSystem, System};
-use num_modular::applications::residue_numbers::{OwnedResidueSystem, ResidueSystem};
 use num_modular::applications::ring_codes::erasure::{
     self, Code, CorrectError, Corrected, PreparedCode, RestoreError, ShareError,
 };
@@ -125,21 +124,6 @@ fn codes_and_prepared_codes() {
 }
 
 #[test]
-fn residues_in_arrays() {
-    let moduli = [3, 5, 7, 1 << 40];
-    let system = OwnedResidueSystem::new(moduli).unwrap();
-    let (x, y) = (system.encode(1_000_000_007), system.encode(12_345));
-    assert_eq!(system.decode(&system.add(&x, &y)), 1_000_012_352);
-    assert_eq!(system.decode(&system.sub(&x, &y)), 999_987_662);
-    assert_eq!(system.decode(&system.mul(&x, &y)), 1_000_000_007 * 12_345);
-    let mut residues = [0; 4];
-    ResidueSystem::new(&moduli).unwrap().encode(1_000_000_007, &mut residues);
-    assert_eq!((x, system.system().moduli()), (residues, &moduli[..]));
-    assert!(OwnedResidueSystem::new([3, 0]).is_none() && OwnedResidueSystem::new([6, 35, 10]).is_none());
-    panic_with!("each modulus must have a residue below it"; system.decode(&[3, 0, 0, 0]));
-}
-
-#[test]
 fn mixed_radix_in_arrays() {
     let moduli = [u64::MAX, u64::MAX - 1, u64::MAX - 2]; // each difference is 1 or 2, and two of them are odd
     let system = OwnedSystem::new(moduli).unwrap();
@@ -191,7 +175,8 @@ fn all_hits() {
 #[cfg(target_pointer_width = "64")]
 mod products {
     use num_modular::applications::long_product::polynomials::{
-        multiply_cyclic_once, multiply_once, room_once, try_multiply_once, MultiplyError, Products,
+        multiply_cyclic_once, multiply_once, room_once, try_multiply_cyclic_once, try_multiply_negacyclic_once,
+        try_multiply_once, MultiplyError, Products,
     };
     use num_modular::plans::Factor;
 
@@ -265,5 +250,31 @@ mod products {
         assert_eq!(tried(97, 200, 200, 399, words, factors), Ok(()));
         assert_eq!(tried(97, 2, 2, 3, 0, 0), Ok(()));
         assert_eq!(NoModulus.to_string(), "the modulus must be at least 1");
+    }
+
+    #[test]
+    fn causes_of_cyclic_products() {
+        use MultiplyError::{LengthOfProduct, NoModulus, TooFewFactors, TooFewWords};
+        let tried = |m, [xs, ys, out]: [usize; 3], words, factors| {
+            let (mut words, mut factors) = (vec![0; words], vec![Factor::<u64>::ZERO; factors]);
+            let (xs, ys, mut outs) = (vec![1; xs], vec![1; ys], [vec![9; out], vec![9; out]]);
+            let results = [
+                try_multiply_cyclic_once(m, &xs, &ys, &mut outs[0], &mut words, &mut factors),
+                try_multiply_negacyclic_once(m, &xs, &ys, &mut outs[1], &mut words, &mut factors),
+            ];
+            // n ones times n ones: each coefficient is n, or that of X^i is i + 1 less the n - 1 - i that X^n turns over
+            let negacyclic = |i: usize| (2 * i as u64 + 2 + m - out as u64 % m) % m;
+            let cyclic = vec![out as u64 % m.max(1); out];
+            let is_right = || outs[0] == cyclic && outs[1] == (0..out).map(negacyclic).collect::<Vec<_>>();
+            assert!(if results[0].is_ok() { is_right() } else { outs.concat() == vec![9; 2 * out] });
+            assert_eq!(results[0], results[1]);
+            results[0]
+        };
+        let (words, factors) = room_once(200, 200);
+        assert_eq!((tried(997, [3; 3], 0, 0), tried(997, [200; 3], words, factors)), (Ok(()), Ok(())));
+        assert_eq!((tried(0, [3, 3, 2], 0, 0), tried(997, [3, 3, 2], 0, 0)), (Err(NoModulus), Err(LengthOfProduct)));
+        assert_eq!((tried(997, [2, 3, 3], 0, 0), tried(997, [3, 2, 3], 0, 0)), (Err(LengthOfProduct), Err(LengthOfProduct)));
+        assert_eq!(tried(997, [200; 3], words - 1, factors), Err(TooFewWords));
+        assert_eq!(tried(997, [200; 3], words, factors - 1), Err(TooFewFactors));
     }
 }

@@ -5,7 +5,7 @@ use num_modular::applications::lattice_rings::{ml_dsa, ml_kem};
 #[cfg(target_pointer_width = "64")]
 use num_modular::applications::long_product::Plans;
 use num_modular::applications::mersenne_hash::prefixes::{Patterns, PrefixHashes};
-use num_modular::applications::residue_numbers::{mixed_radix::System, ResidueSystem};
+use num_modular::applications::residue_numbers::mixed_radix::System;
 #[cfg(any(feature = "std", has_core_error))]
 use num_modular::applications::ring_codes::erasure::restore;
 use num_modular::applications::ring_codes::erasure::{CorrectError, PreparedCode, RestoreError, ShareError};
@@ -43,9 +43,9 @@ are! {
     hashed: PreModInv<u64>, PreMulInv1by1<u64>, Normalized2by1Divisor<u64>;
     made: FixedMontgomery32<97>, FixedMontgomery64<97>, FixedProth32<5, 3>, FixedProth64<5, 3>;
     made: FixedMersenne32<31, 1>, FixedMersenne64<61, 1>, FixedMersenne<61, 1>;
-    made: FixedTrinomialSolinas32<16, 8, 1>, FixedTrinomialSolinas64<64, 32, 1>;
+    made: FixedTrinomialSolinas32<16, 8, 1>, FixedTrinomialSolinas64<64, 32, 1>, FixedMersenneInt64<61, 1>;
     made: Factor<u64>;
-    hashed: PlannedModulus<u64>, RingCommand<u64>, RunEnd, Code<'static>, ResidueSystem<'static>;
+    hashed: PlannedModulus<u64>, RingCommand<u64>, RunEnd, Code<'static>;
     compared: Plan<'static, u64, Factor<u64>>;
     kept: OwnedPlan<u64, Factor<u64>, [Factor<u64>; 2]>, OwnedPlan<u64, Factor<u64>, Vec<Factor<u64>>>;
     borrows: PreparedCode<'static, u64, Vanilla<u64>>, PrefixHashes<'static>, Patterns<'static>, System<'static>;

@@ -27,22 +27,13 @@ written_is [] = refl
 written_is (d ∷ ds) =
     let n = length ds in
     let f : ℕ → ℕ = λ i. get_or (d ∷ ds) i 0 * 10 ^ (suc n - 1 - i) in
-    let top : n ≡ suc n - 1 - 0 = omega arith in
     let rest : sum_below n (λ i. get_or ds i 0 * 10 ^ (n - 1 - i)) ≡ sum_below n (λ i. f (suc i)) =
-    sum_below-same n (λ i. get_or ds i 0 * 10 ^ (n - 1 - i)) (λ i. f (suc i))
-    (λ i l.
-    let same : n - 1 - i ≡ suc n - 1 - suc i = omega (arith, l) in
-    ap (λ k. get_or ds i 0 * 10 ^ k) same) in
-    ap (λ k. d * 10 ^ k + written ds) top
-    ∙ ap (λ v. d * 10 ^ (suc n - 1 - 0) + v) (written_is ds ∙ rest) ∙ sym (sum_below-first n f)
+    search (arith, sum_below-same) in
+    search (arith, sum_below-first, written_is ds)
 
 pub written_more : (ds es : List ℕ) → written (ds ++ es) ≡ written ds * 10 ^ length es + written es
 written_more [] es = omega arith
-written_more (d ∷ ds) es =
-    let power : 10 ^ length (ds ++ es) ≡ 10 ^ length ds * 10 ^ length es =
-    ap (λ k. 10 ^ k) (length-append ds es) ∙ pow-add 10 (length ds) (length es) in
-    let first = ap (λ k. d * k) power in
-    omega (arith, first, written_more ds es)
+written_more (d ∷ ds) es = search (arith, length-append, pow-add, written_more ds es)
 
 -- the digits of a digit and of a letter
 false_at : (c : ℕ) → nat_le c 57 ≡ false → c ≤ 57 → ⊥
@@ -55,7 +46,7 @@ digit_is c false e h = absurd (false_at c e h.1)
 
 pub letter_is : (c : ℕ) (b : Bool) → nat_le c 57 ≡ b → IsLetter c
     → (if b then (c - 48) ∷ [] else ((c - 55) / 10) ∷ ((c - 55) % 10) ∷ []) ≡ ((c - 55) / 10) ∷ ((c - 55) % 10) ∷ []
-letter_is c true e h = let small = leb-true c 57 e in let large = h.0 in absurd (omega (arith, small, large))
+letter_is c true e h = absurd (omega (arith, leb-true))
 letter_is c false e h = refl
 
 -- what two characters of one kind have in common, and that their numbers distinguish them
@@ -66,41 +57,7 @@ record Alike (c d : ℕ) : Type 0 where
   apart : written (digits_of c) ≡ written (digits_of d) → c ≡ d
 
 alike : (c d : ℕ) → AreOfOneKind c d → Alike c d
-alike c d kind =
-    ⊎_elim
-    (λ (both : IsDigit c × IsDigit d).
-    let e = digit_is c (nat_le c 57) refl both.0 in
-    let f = digit_is d (nat_le d 57) refl both.1 in
-    let v : written (digits_of c) ≡ c - 48 = ap written e ∙ (let a : (c - 48) * 1 + 0 ≡ c - 48 = omega arith in a) in
-    let w : written (digits_of d) ≡ d - 48 = ap written f ∙ (let a : (d - 48) * 1 + 0 ≡ d - 48 = omega arith in a) in
-    let c_least = both.0.0 in
-    let c_most = both.0.1 in
-    let d_least = both.1.0 in
-    let d_most = both.1.1 in
-    record {
-      count = ap length e ∙ sym (ap length f);
-      first = omega (arith, v, c_most);
-      second = omega (arith, w, d_most);
-      apart = λ same. omega (arith, v, w, same, c_least, d_least);
-    })
-    (λ (both : IsLetter c × IsLetter d).
-    let e = letter_is c (nat_le c 57) refl both.0 in
-    let f = letter_is d (nat_le d 57) refl both.1 in
-    let v : written (digits_of c) ≡ c - 55 =
-    ap written e ∙ (let a : (c - 55) / 10 * 10 + ((c - 55) % 10 * 1 + 0) ≡ c - 55 = omega arith in a) in
-    let w : written (digits_of d) ≡ d - 55 =
-    ap written f ∙ (let a : (d - 55) / 10 * 10 + ((d - 55) % 10 * 1 + 0) ≡ d - 55 = omega arith in a) in
-    let c_least = both.0.0 in
-    let c_most = both.0.1 in
-    let d_least = both.1.0 in
-    let d_most = both.1.1 in
-    record {
-      count = ap length e ∙ sym (ap length f);
-      first = omega (arith, v, c_most);
-      second = omega (arith, w, d_most);
-      apart = λ same. omega (arith, v, w, same, c_least, d_least);
-    })
-    kind
+alike c d kind = search (arith, digit_is, letter_is)
 
 -- powers of ten have inverses modulo 97
 one_power : (k : ℕ) → 1 ^ k ≡ 1
@@ -122,13 +79,7 @@ number_at : (before behind : List ℕ) (c : ℕ)
     → written (flat_map digits_of (before ++ c ∷ behind))
     ≡ written (flat_map digits_of before) * 10 ^ (length (digits_of c) + length (flat_map digits_of behind))
     + (written (digits_of c) * 10 ^ length (flat_map digits_of behind) + written (flat_map digits_of behind))
-number_at before behind c =
-    let a = flat_map digits_of before in
-    let d = digits_of c in
-    let b = flat_map digits_of behind in
-    ap written (flat_map-append digits_of before (c ∷ behind) ∙ ap (λ xs. a ++ xs) (flat_map-cons digits_of c behind))
-    ∙ written_more a (d ++ b) ∙ ap (λ k. written a * 10 ^ k + written (d ++ b)) (length-append d b)
-    ∙ ap (λ v. written a * 10 ^ (length d + length b) + v) (written_more d b)
+number_at before behind c = search (arith, flat_map-append, flat_map-cons, written_more, length-append)
 
 -- two lists of characters that differ in one, of one kind, and whose numbers leave the same modulo 97
 same_character : (before behind : List ℕ) (c d : ℕ) → AreOfOneKind c d
@@ -142,11 +93,10 @@ same_character before behind c d kind same =
     let at_c = number_at before behind c
     ∙ ap (λ k. written (flat_map digits_of before) * 10 ^ (k + length (flat_map digits_of behind))
     + (written (digits_of c) * t + written (flat_map digits_of behind))) both.count in
-    let at_d = number_at before behind d in
     both.apart
     (one_symbol 97 s (written (flat_map digits_of (before ++ d ∷ behind))) (written (flat_map digits_of (before ++ c ∷ behind)))
     t 0 (written (digits_of d)) (written (digits_of c)) (power_unit (length (flat_map digits_of behind)))
-    both.second both.first (sym same) (omega (arith, at_d)) (omega (arith, at_c)))
+    both.second both.first (sym same) (omega (arith, number_at)) (omega (arith, at_c)))
 
 -- the index of a character of a text after its first four are moved to its end
 abbrev pub rotated : List ℕ → List ℕ
@@ -166,36 +116,27 @@ place_of text i long inside =
     (λ (b : i < 4).
     let n = length (drop 4 text) in
     let back : n + i - n ≡ i = omega arith in
-    let later : n ≤ n + i = omega arith in
     record {
       number = n + i;
       within = omega (arith, whole, length-drop 4 text);
       moves = λ c.
           ap (λ xs. xs ++ take 4 (set text i c)) (drop-set-lt 4 text i c b)
           ∙ ap (λ xs. drop 4 text ++ xs) (take-set-lt 4 text i c b)
-          ∙ sym (set-append_right (drop 4 text) (take 4 text) n (n + i) c refl later
-          ∙ ap (λ k. drop 4 text ++ set (take 4 text) k c) back);
+          ∙ sym (search (arith, set-append_right));
     })
     (λ (b : 4 ≤ i).
     let k = i - 4 in
-    let there : i ≡ 4 + k = omega arith in
-    let early : k < length (drop 4 text) = omega (arith, length-drop 4 text) in
     record {
       number = k;
       within = omega (arith, whole);
-      moves = λ c.
-          ap (λ xs. drop 4 (set text i c) ++ xs) (take-set-le 4 text i c b)
-          ∙ ap (λ j. drop 4 (set text j c) ++ take 4 text) there
-          ∙ ap (λ xs. xs ++ take 4 text) (drop-set-add 4 text k c)
-          ∙ sym (set-append_left (drop 4 text) (take 4 text) k c early);
+      moves = search (arith, take-set-le, drop-set-add, set-append_left);
     })
     (cases_lt i 4)
 
 pub characters : FindsEachCharacter
 characters text i c iban inside kind apart changed =
     let x = get_or text i 0 in
-    let least = iban.form.least in
-    let at = place_of text i (omega (arith, least)) inside in
+    let at = place_of text i (omega arith) inside in
     let r = rotated text in
     let before = take at.number r in
     let behind = drop (suc at.number) r in

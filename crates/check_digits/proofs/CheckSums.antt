@@ -4,7 +4,7 @@ use Rattle.std.proofs.Math.ListN.{get_or-append}
 use Rattle.std.proofs.Math.Seq.{get_or-append_seam}
 use Rattle.std.proofs.Common.{◌≤◌, List, [], ◌∷◌, ◌++◌, length, length-append, get_or, set, sym, ap, ◌∙◌, refl, arith}
 use Rattle.std.proofs.Common.{⊎_elim, length-set, get_or-set_same, get_or-set_other, ℤ, pos, negsuc}
-use Rattle.std.proofs.Math.Nat.{add-mod, add-mod-mod, mod-add-mod, div-add-mod}
+use Rattle.std.proofs.Math.Nat.{add-mod, add-mod-mod, mod-add-mod}
 use Rattle.std.proofs.Math.Nat.{zero-mod, mod-eq_of_lt, mod-lt}
 use Rattle.std.proofs.lemmas.Bool.{cases_lt}
 use Rattle.std.proofs.lemmas.Nat.{mul-mod_first, mul-mod_second}
@@ -22,9 +22,7 @@ residue_more m sum t v p e f = ap (λ n. (n + p) % m) e ∙ ap (λ n. (sum % m +
 before_term : (f g : ℕ → ℕ) (p n : ℕ) → ((i : ℕ) → i ≢ p → f i ≡ g i) → n ≤ p → sum_below n f ≡ sum_below n g
 unfolding sum_below
 before_term f g p zero h l = refl
-before_term f g p (suc n) h l =
-    let ne : n ≢ p = omega arith in
-    omega (arith, before_term f g p n h (omega arith), h n ne)
+before_term f g p (suc n) h l = search (arith, before_term f g p n h (omega arith))
 
 -- sums that differ in the term at p
 pub one_term : (f g : ℕ → ℕ) (p n : ℕ) → ((i : ℕ) → i ≢ p → f i ≡ g i) → p < n
@@ -33,12 +31,8 @@ unfolding sum_below
 one_term f g p zero h l = absurd (omega arith)
 one_term f g p (suc n) h l =
     ⊎_elim
-    (λ (b : p < n).
-    let ne : n ≢ p = omega arith in
-    omega (arith, one_term f g p n h b, h n ne))
-    (λ (b : n ≤ p).
-    let here : p ≡ n = omega arith in
-    omega (arith, before_term f g p n h b, ap f here, ap g here))
+    (λ (b : p < n). search (arith, one_term f g p n h b))
+    (λ (b : n ≤ p). search (arith, before_term))
     (cases_lt p n)
 
 -- a word with one symbol changed
@@ -55,16 +49,7 @@ changed_symbol ws xs p s h =
 pub exchanged_symbols : (ws xs : List ℕ) (p : ℕ) → suc p < length xs
     → weighted_sum ws (exchanged xs p) + get_or ws p 0 * get_or xs p 0 + get_or ws (suc p) 0 * get_or xs (suc p) 0
     ≡ weighted_sum ws xs + get_or ws p 0 * get_or xs (suc p) 0 + get_or ws (suc p) 0 * get_or xs p 0
-exchanged_symbols ws xs p h =
-    let x = get_or xs p 0 in
-    let y = get_or xs (suc p) 0 in
-    let within : p < length xs = omega arith in
-    let ne : suc p ≢ p = omega arith in
-    let first = changed_symbol ws xs p y within in
-    let longer : suc p < length (set xs p y) = omega (arith, length-set xs p y) in
-    let second = changed_symbol ws (set xs p y) (suc p) x longer in
-    let same = ap (λ n. get_or ws (suc p) 0 * n) (get_or-set_other xs p (suc p) y 0 ne) in
-    omega (arith, first, second, same)
+exchanged_symbols ws xs p h = search (arith, changed_symbol, length-set, get_or-set_other)
 
 -- the sum of a word with a symbol changed, d being the difference of the symbols
 pub changed_sum : (m S S' w x s d : ℕ) → S' + w * x ≡ S + w * s → (d + x) % m ≡ s % m → S' % m ≡ (S + w * d) % m
@@ -86,8 +71,7 @@ exchanged_sum m S S' v w x y e d moved weights symbols =
 pub still_leaves : (m r S S' p : ℕ) → S % m ≡ r % m → S' % m ≡ (S + p) % m → (S' % m ≡ r % m) ↔ (p % m ≡ 0)
 still_leaves m r S S' p leaves changed = (
   λ h.
-      let equal = spread m (S + p) S (sym changed ∙ h ∙ sym leaves) in
-      gathered m p 0 _ _ (let e : p + m * (S / m) ≡ 0 + m * ((S + p) / m) = omega (arith, equal) in e) ∙ zero-mod m,
+      gathered m p 0 _ _ (let e : p + m * (S / m) ≡ 0 + m * ((S + p) / m) = omega arith in e) ∙ zero-mod m,
   λ none.
       let same : S + 0 ≡ S = omega arith in
       changed ∙ sym (add-mod-mod S p m) ∙ ap (λ n. (S + n) % m) none ∙ ap (λ n. n % m) same ∙ leaves,
@@ -102,9 +86,8 @@ cancels_at m e i d j k q one whole =
 -- a factor with an inverse cancels from a product that is 0 modulo m
 pub unit_cancels : (m e i d : ℕ) → (e * i) % m ≡ 1 % m → (e * d) % m ≡ 0 → d % m ≡ 0
 unit_cancels m e i d one zero_product =
-    let whole = div-add-mod (e * d) m in
     gathered m d 0 _ _
-    (cancels_at m e i d (1 / m) (e * i / m) (e * d / m) (spread m (e * i) 1 one) (omega (arith, whole)))
+    (cancels_at m e i d (1 / m) (e * i / m) (e * d / m) (spread m (e * i) 1 one) (omega arith))
     ∙ zero-mod m
 
 -- so it shows a difference
@@ -117,14 +100,7 @@ unit_finds m e d x s (i, inverse) difference apart zero_product =
 -- a word with one more symbol
 pub appended_symbol : (ws xs : List ℕ) (s : ℕ)
     → weighted_sum ws (xs ++ s ∷ []) ≡ weighted_sum ws xs + get_or ws (length xs) 0 * s
-appended_symbol ws xs s =
-    let n = length xs in
-    let f : ℕ → ℕ = λ i. get_or ws i 0 * get_or (xs ++ s ∷ []) i 0 in
-    let count : length (xs ++ s ∷ []) ≡ n + 1 = (let e = length-append xs (s ∷ []) in omega (arith, e)) in
-    ap (λ k. sum_below k f) count ∙ sum_below-more f n
-    ∙ ap (λ v. v + f n) (sum_below-same n f (λ i. get_or ws i 0 * get_or xs i 0)
-    (λ i l. ap (λ x. get_or ws i 0 * x) (get_or-append xs (s ∷ []) 0 i l)))
-    ∙ ap (λ x. weighted_sum ws xs + get_or ws n 0 * x) (get_or-append_seam xs s [] 0)
+appended_symbol ws xs s = search (arith, length-append, sum_below-more, sum_below-same, get_or-append, get_or-append_seam)
 
 -- a quotient by the weight completes the sum, where rest is the residue r less the sum
 pub completed_sum : (m sum w q rest r : ℕ) → (q * (w % m)) % m ≡ rest % m → (rest + sum) % m ≡ r % m
@@ -138,9 +114,7 @@ completed_sum m sum w q rest r product less =
 pub others_sum : (m S S' w x s others : ℕ) → S' + w * x ≡ S + w * s → (others + (w * x) % m) % m ≡ S % m
     → S' % m ≡ (others + w * s) % m
 others_sum m S S' w x s others moved less =
-    let whole = spread m (others + (w * x) % m) S less in
-    let part = div-add-mod (w * x) m in
-    gathered m S' (others + w * s) ((others + (w * x) % m) / m + w * x / m) (S / m) (omega (arith, whole, part, moved))
+    gathered m S' (others + w * s) ((others + (w * x) % m) / m + w * x / m) (S / m) (omega (arith, moved))
 
 one_at : (m S S' S'' w x s t i a b j k : ℕ) → S' + w * x ≡ S + w * s
     → S'' + w * x ≡ S + w * t → S' + m * a ≡ S'' + m * b

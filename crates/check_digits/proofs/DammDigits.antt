@@ -16,8 +16,7 @@ product_small a b a_most b_most =
     let t : nat_lt (damm_product a b) 10 ≡ true =
     passes 10 (λ b. nat_lt (damm_product a b) 10)
     (passes 10 (λ a. each_below 10 (λ b. nat_lt (damm_product a b) 10)) refl a (omega arith)) b (omega arith) in
-    let l = ltb-true (damm_product a b) 10 t in
-    omega (arith, l)
+    search (arith, ltb-true)
 
 pub rows : (c a b : ℕ) → c ≤ 9 → a ≤ 9 → b ≤ 9 → damm_product c a ≡ damm_product c b → a ≡ b
 rows c a b c_most a_most b_most same = apart (λ c a b. damm_product c a) refl c a b c_most a_most b_most same
@@ -34,12 +33,7 @@ abbrev pub damm_step : ℕ → ℕ → ℕ → ℕ
 damm_step i c d = damm_product c d
 
 damm_distinguishes : Distinguishes damm_step
-damm_distinguishes = record {
-  closed = λ i c d. product_small c d;
-  states = λ i c e d c_most e_most d_most same. columns d c e d_most c_most e_most same;
-  digits = λ i c d e. rows c d e;
-  orders = λ i c d e. orders c d e;
-}
+damm_distinguishes = search (arith, product_small, columns, rows, orders)
 
 digit_at : (word : List ℕ) → All (λ d. d ≤ 9) word → (j : ℕ) → j < length word → get_or word j 0 ≤ 9
 digit_at word all j l = all j 0 l
@@ -76,12 +70,7 @@ damm_exchanges word i is within apart_ changed =
 
 -- the product of a word with one more digit
 more_product : (word : List ℕ) (s : ℕ) → damm_check (word ++ s ∷ []) ≡ damm_product (damm_check word) s
-more_product word s =
-    let n = length word in
-    let f : ℕ → ℕ = λ j. get_or (word ++ s ∷ []) j 0 in
-    ap (state_after damm_step 0 f) (one_more word s) ∙ state_next damm_step 0 f n
-    ∙ ap (λ c. damm_product c (f n)) (state_same damm_step 0 f (λ j. get_or word j 0) n (λ j l. get_or-append word (s ∷ []) 0 j l))
-    ∙ ap (λ d. damm_product (damm_check word) d) (get_or-append_seam word s [] 0)
+more_product word s = search (arith, one_more, state_next, state_same, get_or-append, get_or-append_seam)
 
 squares : (a : ℕ) → a ≤ 9 → damm_product a a ≡ 0
 squares a most = eqb-true (damm_product a a) 0 (passes 10 (λ a. nat_eq (damm_product a a) 0) refl a (omega arith))
@@ -93,11 +82,7 @@ damm_completed word all =
     (digit_at word all) in
     record {
       below = omega (arith, most);
-      accepted = record {
-        least = omega (arith, one_more word c);
-        digits = all_more word c all most;
-        product = more_product word c ∙ squares c most;
-      };
+      accepted = search (arith, one_more, all_more, more_product, squares);
       only = λ t l is. rows c t c most (omega (arith, l)) most
           (sym (more_product word t) ∙ is.product ∙ sym (squares c most));
     }

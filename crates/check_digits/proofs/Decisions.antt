@@ -1,5 +1,5 @@
 -- Facts about the numbers below n that are tested for each of them.
-use Rattle.std.proofs.Common.{◌≡◌, ℕ, zero, suc, ◌<◌, ◌≤◌, Bool, true, false, ◌&&◌, ◌||◌, not, nat_eq, ap, ◌∙◌, arith, ⊎_elim}
+use Rattle.std.proofs.Common.{◌≡◌, ℕ, zero, suc, ◌<◌, ◌≤◌, Bool, true, false, ◌&&◌, ◌||◌, not, nat_eq, arith, ⊎_elim}
 use Rattle.std.proofs.lemmas.Bool.{and_parts, eqb-true, eq-eqb, cases_lt, false≢true}
 
 -- whether each number below n passes a test
@@ -12,9 +12,7 @@ passes zero test h i l = absurd (omega (arith, l))
 passes (suc n) test h i l =
     let parts = and_parts (each_below n test) (test n) h in
     ⊎_elim (λ (b : i < n). passes n test parts.0 i b)
-    (λ (b : n ≤ i).
-    let here : i ≡ n = omega arith in
-    ap test here ∙ parts.1)
+    (λ (b : n ≤ i). search arith)
     (cases_lt i n)
 
 -- whether a term of three digits is the same with the last two exchanged only where these are equal
@@ -34,5 +32,4 @@ apart u h c a b c_most a_most b_most same =
     (passes 10 (λ a. each_below 10 (λ b. not (nat_eq (u c a b) (u c b a)) || nat_eq a b))
     (passes 10 (λ c. each_below 10 (λ a. each_below 10 (λ b. not (nat_eq (u c a b) (u c b a)) || nat_eq a b)))
     h c (omega arith)) a (omega arith)) b (omega arith) in
-    eqb-true a b (not_or (nat_eq (u c a b) (u c b a)) (nat_eq a b) t
-    (eq-eqb (u c a b) (u c b a) same))
+    eqb-true a b (search (arith, not_or, eq-eqb))

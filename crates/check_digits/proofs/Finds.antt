@@ -1,6 +1,6 @@
 -- What the codes of standards find.
 use Rattle.std.proofs.Common.{Bool, true, ◌&&◌, ◌||◌, nat_eq, nat_lt, ◌↔◌, ◌≡◌, ℕ, zero, suc, ◌+◌, ◌-◌, ◌*◌, ◌%◌, ◌^◌}
-use Rattle.std.proofs.Common.{◌<◌, ◌≤◌, ◌⊎◌, inl, inr, List, length, get_or, sym, ap, ◌∙◌, refl, arith, subst, lit<}
+use Rattle.std.proofs.Common.{◌<◌, ◌≤◌, ◌⊎◌, inl, inr, List, length, get_or, sym, ap, ◌∙◌, refl, arith}
 use Rattle.std.proofs.lemmas.Bool.{and_parts, or_cases, eqb-true, ltb-true}
 use Rattle.std.proofs.lemmas.Nat.{mul-mod_first}
 use Rattle.check_digits.specs.Codes.{CheckCode, IsCodeword}
@@ -23,13 +23,11 @@ finds_changes code inverse bounded units word i s is within apart changed =
     let m = code.modulus in
     let x = get_or word i 0 in
     let inside : i < length code.weights = omega (arith, is.places) in
-    let bound = bounded i inside in
     let old = (is.symbols i within).greatest in
-    let x_below : x < m = omega (arith, bound, old) in
+    let x_below : x < m = omega (arith, old) in
     let difference = a_difference m x s x_below in
     let both = (changed_word code word i s (s + (m - x)) is within difference).0 changed in
-    let new = both.0.greatest in
-    let s_below : s < m = omega (arith, bound, new) in
+    let s_below : s < m = omega arith in
     apart (same_residues m (s + (m - x)) x s x_below s_below difference
     (unit_cancels m (get_or code.weights i 0) (inverse i) (s + (m - x)) (units i inside) both.1))
 
@@ -51,12 +49,10 @@ finds_exchanges code inverse bounded steps units word i is within apart changed 
     let x = get_or word i 0 in
     let y = get_or word (suc i) 0 in
     let inside : suc i < length code.weights = omega (arith, is.places) in
-    let bound = bounded i (omega arith) in
-    let bound_behind = bounded (suc i) inside in
     let old = (is.symbols i (omega arith)).greatest in
     let old_behind = (is.symbols (suc i) within).greatest in
-    let x_below : x < m = omega (arith, bound, old) in
-    let y_below : y < m = omega (arith, bound_behind, old_behind) in
+    let x_below : x < m = omega (arith, old) in
+    let y_below : y < m = omega (arith, old_behind) in
     let difference = a_difference m x y x_below in
     let both = (exchanged_word code word i (step_at code i) (y + (m - x)) is within (steps i inside) difference).0 changed in
     apart (sym (same_residues m (y + (m - x)) x y x_below y_below difference
@@ -96,16 +92,11 @@ finds_but_fives r ws ls gs bounded steps twos word i is within =
     let x = get_or word i 0 in
     let y = get_or word (suc i) 0 in
     let inside : suc i < length ws = omega (arith, is.places) in
-    let bound = bounded i (omega arith) in
     let old = (is.symbols i (omega arith)).greatest in
-    let x_below : x < 10 = omega (arith, bound, old) in
+    let x_below : x < 10 = omega (arith, old) in
     let word_is = exchanged_word code word i (step_at code i) (y + (10 - x)) is within (steps i inside)
     (a_difference 10 x y x_below) in
-    let five = five_by (step_at code i) (y + (10 - x)) (twos i inside) in
-    let digits = same_modulo_5 x y x_below in (
-      λ w. let all = word_is.0 w in (all.0, all.1, digits.0 (five.0 all.2)),
-      λ h. word_is.1 (h.0, h.1, five.1 (digits.1 h.2)),
-    )
+    search (arith, five_by, same_modulo_5)
 
 -- the tests at one place, the power being that of an inverse
 abbrev change_test : CheckCode → ℕ → ℕ → Bool
@@ -125,13 +116,7 @@ abbrev is_twice : ℕ → Bool
 is_twice e = nat_eq (e % 10) 2 || (nat_eq (e % 10) 6 || nat_eq (e % 10) 8)
 
 twice_tested : (e : ℕ) → is_twice e ≡ true → IsTwice e
-twice_tested e h = elim (or_cases (nat_eq (e % 10) 2) (nat_eq (e % 10) 6 || nat_eq (e % 10) 8) h) [
-  | inl a ↦ inl (eqb-true (e % 10) 2 a)
-  | inr b ↦ elim (or_cases (nat_eq (e % 10) 6) (nat_eq (e % 10) 8) b) [
-    | inl a ↦ inr (inl (eqb-true (e % 10) 6 a))
-    | inr a ↦ inr (inr (eqb-true (e % 10) 8 a))
-  ]
-]
+twice_tested e h = search (arith, or_cases, eqb-true)
 
 abbrev five_test : CheckCode → ℕ → Bool
 five_test code i = step_test code i && is_twice (step_at code i)
@@ -193,9 +178,7 @@ pub get_or-from_right : (n : ℕ) (f : ℕ → ℕ) (i : ℕ) → i < n → get_
 unfolding from_right
 get_or-from_right zero f i l = absurd (omega (arith, l))
 get_or-from_right (suc n) f zero l = let here : n ≡ suc n - 1 - 0 = omega arith in ap f here
-get_or-from_right (suc n) f (suc i) l =
-    let same : n - 1 - i ≡ suc n - 1 - suc i = omega arith in
-    get_or-from_right n f i (omega (arith, l)) ∙ ap f same
+get_or-from_right (suc n) f (suc i) l = search (arith, get_or-from_right n f i (omega (arith, l)))
 
 -- the tests of each standard
 pub of_isbn_10 : FindsEachChange (IsCodeword isbn_10) × FindsEachExchange (IsCodeword isbn_10)
@@ -255,9 +238,7 @@ of_iban n most =
     let code = mod_97_10 n in
     let ws : List ℕ = from_right n power_of in
     let count : length ws ≡ n = length-from_right n power_of in
-    let bounded : IsBounded code = λ i l.
-    let inside : i < n = omega (arith, l, count) in
-    subst (λ k. k < 97) (sym (get_or-from_right n (λ j. 9) i inside)) (lit< tt) in
+    let bounded : IsBounded code = search (arith, get_or-from_right) in
     let unit = λ (i : ℕ) (l : i < length ws).
     let inside : i < n = omega (arith, l, count) in
     let there : n - 1 - i < 68 = omega arith in
@@ -278,16 +259,6 @@ of_iban n most =
     (nat_eq ((power_step j * power_step j ^ 95) % 97) 1) (passes 67 power_step_test power_steps_pass j there) in (
       finds_changes code (λ i. power_of (n - 1 - i) ^ 95) bounded unit,
       finds_exchanges code (λ i. power_step (n - 1 - suc i) ^ 95) bounded
-          (λ i l.
-          let j = n - 1 - suc i in
-          let b = get_or ws (suc i) 0 in
-          ap (λ a. (a + 96 * b + b) % 97) (first i l) ∙ ap (λ b. (power_of (suc j) + 96 * b + b) % 97) (second i l)
-          ∙ eqb-true ((power_step j + power_of j) % 97) (power_of (suc j) % 97) (parts i l).0
-          ∙ sym (ap (λ a. a % 97) (first i l)))
-          (λ i l.
-          let j = n - 1 - suc i in
-          let b = get_or ws (suc i) 0 in
-          ap (λ a. ((a + 96 * b) * power_step j ^ 95) % 97) (first i l)
-          ∙ ap (λ b. ((power_of (suc j) + 96 * b) * power_step j ^ 95) % 97) (second i l)
-          ∙ eqb-true ((power_step j * power_step j ^ 95) % 97) 1 (parts i l).1),
+          (λ i l. search (arith, eqb-true))
+          (λ i l. search (arith, eqb-true)),
     )

@@ -1,5 +1,5 @@
 -- The check digits of an IBAN.
-use Rattle.std.proofs.Common.{◌≡◌, ℕ, ◌+◌, ◌-◌, ◌*◌, ◌/◌, ◌%◌, ◌≤◌, ◌⊎◌, inl, nat_le}
+use Rattle.std.proofs.Common.{◌≡◌, ℕ, ◌+◌, ◌-◌, ◌*◌, ◌/◌, ◌%◌, ◌≤◌, ◌⊎◌, inl}
 use Rattle.std.proofs.Common.{List, [], ◌∷◌, ◌++◌, set, append_assoc, sym, ap, ◌∙◌, refl, arith}
 use Rattle.std.specs.List.{flat_map}
 use Rattle.std.proofs.lemmas.Grind.{flat_map-append}
@@ -13,9 +13,7 @@ split_number : (s t a b : ℕ) (rest : List ℕ) → IsDigit a → IsDigit b →
 split_number s t a b rest h k =
     let front : List ℕ = flat_map digits_of (rest ++ s ∷ t ∷ []) in
     let two : List ℕ = (a - 48) ∷ (b - 48) ∷ [] in
-    let last : flat_map digits_of (a ∷ b ∷ []) ≡ two =
-    ap (λ xs. xs ++ (digits_of b ++ [])) (digit_is a (nat_le a 57) refl h)
-    ∙ ap (λ xs. (a - 48) ∷ (xs ++ [])) (digit_is b (nat_le b 57) refl k) in
+    let last : flat_map digits_of (a ∷ b ∷ []) ≡ two = search (arith, digit_is) in
     let whole : iban_digits (s ∷ t ∷ a ∷ b ∷ rest) ≡ front ++ two =
     ap (flat_map digits_of) (sym (append_assoc rest (s ∷ t ∷ []) (a ∷ b ∷ [])))
     ∙ flat_map-append digits_of (rest ++ s ∷ t ∷ []) (a ∷ b ∷ []) ∙ ap (λ xs. front ++ xs) last in
@@ -35,17 +33,15 @@ one_check n k l k_least k_most l_least l_most e f = omega (arith, k_least, k_mos
 
 pub check_digits_of : (text : List ℕ) (v : ℕ) → IsIbanForm text → v ≡ iban_number text % 97
     → AreCheckDigits text ((48 + check_of v (check_number text) / 10) ∷ (48 + check_of v (check_number text) % 10) ∷ [])
-check_digits_of [] v form is = let l = form.least in absurd (omega (arith, l))
-check_digits_of (s ∷ []) v form is = let l = form.least in absurd (omega (arith, l))
-check_digits_of (s ∷ t ∷ []) v form is = let l = form.least in absurd (omega (arith, l))
-check_digits_of (s ∷ t ∷ u ∷ []) v form is = let l = form.least in absurd (omega (arith, l))
+check_digits_of [] v form is = absurd (omega arith)
+check_digits_of (s ∷ []) v form is = absurd (omega arith)
+check_digits_of (s ∷ t ∷ []) v form is = absurd (omega arith)
+check_digits_of (s ∷ t ∷ u ∷ []) v form is = absurd (omega arith)
 check_digits_of (s ∷ t ∷ u ∷ c ∷ rest) v form is =
     let text : List ℕ = s ∷ t ∷ u ∷ c ∷ rest in
     let n = written (flat_map digits_of (rest ++ s ∷ t ∷ [])) in
     let old : ℕ = 10 * (u - 48) + (c - 48) in
-    let u_most = form.check.0.1 in
-    let c_most = form.check.1.1 in
-    let old_most : old ≤ 99 = omega (arith, u_most, c_most) in
+    let old_most : old ≤ 99 = omega arith in
     let k : ℕ = check_of v old in
     let leaves : v ≡ (100 * n + old) % 97 =
     is ∙ ap (λ x. x % 97) (split_number s t u c rest form.check.0 form.check.1) in
@@ -71,12 +67,5 @@ check_digits_of (s ∷ t ∷ u ∷ c ∷ rest) v form is =
         generated = (omega (arith, number, least), omega (arith, number, most));
         leaves = ap (λ x. x % 97) (split_number s t a b rest a_is b_is) ∙ ap (λ x. (100 * n + x) % 97) number ∙ right;
       };
-      only = λ d e w.
-          let there = ap (λ x. x % 97) (sym (split_number s t d e rest w.form.check.0 w.form.check.1)) ∙ w.leaves in
-          let same = one_check n k (10 * (d - 48) + (e - 48)) least most w.generated.0 w.generated.1 right there in
-          let d_least = w.form.check.0.0 in
-          let e_least = w.form.check.1.0 in
-          let d_most = w.form.check.0.1 in
-          let e_most = w.form.check.1.1 in
-          (omega (arith, same, d_least, e_least, d_most, e_most), omega (arith, same, d_least, e_least, d_most, e_most));
+      only = search (arith, split_number, one_check);
     }

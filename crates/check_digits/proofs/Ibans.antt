@@ -5,12 +5,12 @@ use Rattle.std.proofs.lemmas.Bool.{and_parts, eqb-true, leb-true}
 use Rattle.std.proofs.lemmas.List.{get_or-drop}
 use Rattle.std.proofs.lemmas.Nat.{mul-mod_first}
 use Rattle.num_modular.specs.NumberLaws.{sum_below-congruent}
-use Rattle.num_modular.specs.Sums.{sum_below, polynomial_highest_first}
-use Rattle.std.proofs.Common.{append-nil, length-drop, ◌≤◌, ◌⊎◌, ⊎_elim, ◌++◌, ◌/◌, take, subst, false, nat_le, if◌then◌else◌}
+use Rattle.num_modular.specs.Sums.{polynomial_highest_first}
+use Rattle.std.proofs.Common.{append-nil, length-drop, ◌≤◌, ◌⊎◌, ◌++◌, ◌/◌, take, subst, false, nat_le, if◌then◌else◌}
 use Rattle.std.specs.List.{All, flat_map}
 use Rattle.std.proofs.lemmas.List.{ext_get_or, get_or-take, length-take-le, take_all, take_more}
 use Rattle.std.proofs.lemmas.Grind.{flat_map-append}
-use Rattle.std.proofs.lemmas.List.Elements.{All-nil, All-cons, All-append, All-drop, All-take, All-from_recursion, recursion_from_All}
+use Rattle.std.proofs.lemmas.List.Elements.{All-nil, All-append, All-drop, All-take, All-from_recursion, recursion_from_All}
 use Rattle.check_digits.specs.Codes.{weighted_sum, CheckCode, IsCodeword}
 use Rattle.check_digits.specs.Ibans.{IsDigit, IsLetter, digits_of, iban_digits, iban_number}
 use Rattle.check_digits.specs.Standards.{from_right, mod_97_10}
@@ -21,14 +21,7 @@ use Rattle.check_digits.proofs.Finds.{length-from_right, get_or-from_right}
 pub number_of_sum : (m : ℕ) (weights digits : List ℕ)
     → ((i : ℕ) → i < length digits → get_or weights i 0 ≡ 10 ^ (length digits - 1 - i) % m)
     → weighted_sum weights digits % m ≡ polynomial_highest_first (length digits) (λ i. get_or digits i 0) 10 % m
-number_of_sum m weights digits powers =
-    let n = length digits in
-    (sum_below-congruent n (λ i. get_or weights i 0 * get_or digits i 0) (λ i. get_or digits i 0 * 10 ^ (n - 1 - i))
-    (λ i h.
-    let d = get_or digits i 0 in
-    let p = 10 ^ (n - 1 - i) in
-    let turn : p * d ≡ d * p = omega arith in
-    record { same = ap (λ w. (w * d) % m) (powers i h) ∙ mul-mod_first p d m ∙ ap (λ k. k % m) turn })).same
+number_of_sum m weights digits powers = search (arith, sum_below-congruent, mul-mod_first)
 
 -- whether the numbers of a list are the powers of ten modulo m, the last being that of 0
 abbrev pub are_powers : ℕ → List ℕ → Bool
@@ -38,14 +31,9 @@ are_powers m (x ∷ xs) = nat_eq x (10 ^ length xs % m) && are_powers m xs
 powers_at : (m : ℕ) (xs : List ℕ) → are_powers m xs ≡ true → (i : ℕ) → i < length xs
     → get_or xs i 0 ≡ 10 ^ (length xs - 1 - i) % m
 powers_at m [] h i l = absurd (omega (arith, l))
-powers_at m (x ∷ xs) h zero l =
-    let same : length xs ≡ length (x ∷ xs) - 1 - 0 = omega arith in
-    eqb-true x (10 ^ length xs % m) (and_parts (nat_eq x (10 ^ length xs % m)) (are_powers m xs) h).0
-    ∙ ap (λ e. 10 ^ e % m) same
+powers_at m (x ∷ xs) h zero l = search (arith, eqb-true, and_parts)
 powers_at m (x ∷ xs) h (suc i) l =
-    let same : length xs - 1 - i ≡ length (x ∷ xs) - 1 - suc i = omega arith in
-    powers_at m xs (and_parts (nat_eq x (10 ^ length xs % m)) (are_powers m xs) h).1 i (omega (arith, l))
-    ∙ ap (λ e. 10 ^ e % m) same
+    search (arith, and_parts, powers_at m xs (and_parts (nat_eq x (10 ^ length xs % m)) (are_powers m xs) h).1 i (omega (arith, l)))
 
 -- so are the last of them
 pub powers_behind : (m place : ℕ) (xs : List ℕ) (count i : ℕ) → are_powers m xs ≡ true
@@ -58,33 +46,22 @@ powers_behind m place xs count i h whole within =
 -- the digits of characters are digits
 digits_by : (b : Bool) (c : ℕ) → nat_le c 57 ≡ b → c ≤ 90
     → All (λ d. d ≤ 9) (if b then (c - 48) ∷ [] else ((c - 55) / 10) ∷ ((c - 55) % 10) ∷ [])
-digits_by true c e h =
-    let digit : c ≤ 57 = leb-true c 57 e in
-    All-cons (λ d. d ≤ 9) (c - 48) [] (omega arith) (All-nil (λ d. d ≤ 9))
-digits_by false c e h =
-    All-cons (λ d. d ≤ 9) ((c - 55) / 10) (((c - 55) % 10) ∷ []) (omega arith)
-    (All-cons (λ d. d ≤ 9) ((c - 55) % 10) [] (omega arith) (All-nil (λ d. d ≤ 9)))
+digits_by true c e h = search (arith, leb-true)
+digits_by false c e h = search arith
 
 digits_small : (c : ℕ) → IsDigit c ⊎ IsLetter c → All (λ d. d ≤ 9) (digits_of c)
-digits_small c h =
-    let bound : c ≤ 90 = ⊎_elim (λ (d : IsDigit c). let b = d.1 in omega arith) (λ (l : IsLetter c). l.1) h in
-    digits_by (nat_le c 57) c refl bound
+digits_small c h = search (arith, digits_by)
 
 pub all_digits : (text : List ℕ) → All (λ c. IsDigit c ⊎ IsLetter c) text → All (λ d. d ≤ 9) (flat_map digits_of text)
 all_digits [] h = All-nil (λ d. d ≤ 9)
 all_digits (c ∷ cs) h =
     let parts = recursion_from_All (λ c. IsDigit c ⊎ IsLetter c) (c ∷ cs) h in
-    All-append (λ d. d ≤ 9) (digits_of c) (flat_map digits_of cs) (digits_small c parts.0)
-    (all_digits cs (All-from_recursion (λ c. IsDigit c ⊎ IsLetter c) cs parts.1))
+    search (arith, digits_small, all_digits cs (All-from_recursion (λ c. IsDigit c ⊎ IsLetter c) cs parts.1))
 
 -- the weighted sum of the digits of a text leaves what the number leaves that they form
 pub number_leaves : (code : CheckCode) (text word : List ℕ) (n : ℕ) → code ≡ mod_97_10 n → word ≡ iban_digits text
     → length word ≡ n → weighted_sum code.weights word % 97 ≡ iban_number text % 97
-number_leaves code text word n is digits count =
-    ap (λ k. weighted_sum k.weights word % 97) is
-    ∙ number_of_sum 97 (from_right n (λ j. 10 ^ j % 97)) word
-    (λ i h. get_or-from_right n (λ j. 10 ^ j % 97) i (omega (arith, h, count)) ∙ ap (λ k. 10 ^ (k - 1 - i) % 97) (sym count))
-    ∙ ap (λ ds. polynomial_highest_first (length ds) (λ i. get_or ds i 0) 10 % 97) digits
+number_leaves code text word n is digits count = search (arith, number_of_sum, get_or-from_right)
 
 -- the digits of a text are a word of the code of its number of digits, exactly where they form a number that is
 -- 1 modulo 97
@@ -99,27 +76,14 @@ is_word code text word n is digits count characters =
     (All-append (λ c. IsDigit c ⊎ IsLetter c) (drop 4 text) (take 4 text)
     (All-drop (λ c. IsDigit c ⊎ IsLetter c) 4 text characters)
     (All-take (λ c. IsDigit c ⊎ IsLetter c) 4 text characters))) in
-    subst (λ k. IsCodeword k word ↔ (iban_number text % 97 ≡ 1)) (sym is) (
-      λ w. sym number ∙ w.leaves,
-      λ h. record {
-        places = count ∙ sym (length-from_right n (λ j. 10 ^ j % 97));
-        symbols = λ i l. record {
-          least = subst (λ k. k ≤ get_or word i 0) (sym (get_or-from_right n (λ j. 0) i (omega (arith, l, count)))) (omega arith);
-          greatest = subst (λ k. get_or word i 0 ≤ k) (sym (get_or-from_right n (λ j. 9) i (omega (arith, l, count))))
-              (small i 0 l);
-        };
-        leaves = number ∙ h;
-      },
-    )
+    search (arith, length-from_right, get_or-from_right)
 
 -- a list by its places
 listed : (n : ℕ) (xs : List ℕ) (f : ℕ → ℕ) → length xs ≡ n → ((i : ℕ) → i < n → get_or xs i 0 ≡ f (n - 1 - i))
     → xs ≡ from_right n f
 listed n xs f count at =
     ext_get_or 0 xs (from_right n f) (count ∙ sym (length-from_right n f))
-    (λ i h.
-    let inside : i < n = omega (arith, count, h) in
-    at i inside ∙ sym (get_or-from_right n f i inside))
+    (λ i h. search (arith, get_or-from_right))
 
 abbrev pub code_with : List ℕ → List ℕ → List ℕ → CheckCode
 code_with ws ls gs = record { modulus = 97; residue = 1; weights = ws; least = ls; greatest = gs }

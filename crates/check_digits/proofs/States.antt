@@ -1,6 +1,6 @@
 -- Check digits by states: which changes of one digit and which exchanges of neighbours end in another state.
 use Rattle.std.proofs.Common.{◌≡◌, ◌≢◌, ℕ, zero, suc, ◌+◌, ◌<◌, ◌≤◌}
-use Rattle.std.proofs.Common.{List, [], ◌∷◌, ◌++◌, length, sym, ap, ◌∙◌, refl, arith, ⊎_elim}
+use Rattle.std.proofs.Common.{List, [], ◌∷◌, ◌++◌, length, ap, ◌∙◌, refl, arith, ⊎_elim}
 use Rattle.std.proofs.Common.{add-one, length-append, subst, All}
 use Rattle.std.proofs.Math.ListN.{get_or-append}
 use Rattle.std.proofs.lemmas.List.Elements.{All-append, All-cons, All-nil}
@@ -29,9 +29,7 @@ pub state_same : (step : ℕ → ℕ → ℕ → ℕ) (start : ℕ) (f g : ℕ �
     → state_after step start f n ≡ state_after step start g n
 unfolding state_after
 state_same step start f g zero same = refl
-state_same step start f g (suc n) same =
-    ap (λ c. step n c (f n)) (state_same step start f g n (λ i l. same i (omega arith)))
-    ∙ ap (λ d. step n (state_after step start g n) d) (same n (omega arith))
+state_same step start f g (suc n) same = search (arith, state_same step start f g n (λ i l. same i (omega arith)))
 
 pub state_most : (step : ℕ → ℕ → ℕ → ℕ) (start : ℕ) (f : ℕ → ℕ) (n : ℕ)
     → ((i c d : ℕ) → c ≤ 9 → d ≤ 9 → step i c d ≤ 9)
@@ -45,24 +43,18 @@ state_most step start f (suc n) closed most digits =
 kept : (step : ℕ → ℕ → ℕ → ℕ) (start : ℕ) (f g : ℕ → ℕ) (k n : ℕ) → Distinguishes step → start ≤ 9 → k ≤ n
     → ((i : ℕ) → i < n → f i ≤ 9) → ((i : ℕ) → i < n → g i ≤ 9) → ((i : ℕ) → k ≤ i → i < n → f i ≡ g i)
     → state_after step start f n ≡ state_after step start g n → state_after step start f k ≡ state_after step start g k
-kept step start f g k zero told most l f_most g_most same e =
-    let here : k ≡ 0 = omega arith in
-    subst (λ n. state_after step start f n ≡ state_after step start g n) (sym here) e
+kept step start f g k zero told most l f_most g_most same e = search arith
 kept step start f g k (suc n) told most l f_most g_most same e =
     ⊎_elim
     (λ (b : k < suc n).
     let f_state = state_most step start f n told.closed most (λ i l. f_most i (omega arith)) in
     let g_state = state_most step start g n told.closed most (λ i l. g_most i (omega arith)) in
-    let last : f n ≡ g n = same n (omega arith) (omega arith) in
     let step_same : step n (state_after step start f n) (f n) ≡ step n (state_after step start g n) (f n) =
-    sym (state_next step start f n) ∙ e ∙ state_next step start g n
-    ∙ ap (λ d. step n (state_after step start g n) d) (sym last) in
+    search (arith, state_next) in
     kept step start f g k n told most (omega arith) (λ i l. f_most i (omega arith)) (λ i l. g_most i (omega arith))
     (λ i m l. same i m (omega arith))
     (told.states n _ _ (f n) f_state g_state (f_most n (omega arith)) step_same))
-    (λ (b : suc n ≤ k).
-    let here : k ≡ suc n = omega arith in
-    subst (λ n. state_after step start f n ≡ state_after step start g n) (sym here) e)
+    (λ (b : suc n ≤ k). search arith)
     (cases_lt k (suc n))
 
 -- a changed digit
@@ -72,10 +64,7 @@ pub changed_apart : (step : ℕ → ℕ → ℕ → ℕ) (start : ℕ) (f g : �
 changed_apart step start f g p n told most l f_most g_most same e =
     let at = kept step start f g (suc p) n told most (omega arith) f_most g_most
     (λ i m k. same i k (omega arith)) e in
-    let before = state_same step start f g p (λ i m. same i (omega arith) (omega arith)) in
-    told.digits p (state_after step start f p) (f p) (g p)
-    (state_most step start f p told.closed most (λ i m. f_most i (omega arith))) (f_most p l) (g_most p l)
-    (sym (state_next step start f p) ∙ at ∙ state_next step start g p ∙ ap (λ c. step p c (g p)) (sym before))
+    search (arith, state_same, state_most, state_next)
 
 -- two neighbours exchanged
 pub exchanged_apart : (step : ℕ → ℕ → ℕ → ℕ) (start : ℕ) (f g : ℕ → ℕ) (p n : ℕ) → Distinguishes step → start ≤ 9
@@ -85,16 +74,7 @@ pub exchanged_apart : (step : ℕ → ℕ → ℕ → ℕ) (start : ℕ) (f g : 
 exchanged_apart step start f g p n told most l f_most g_most same first second e =
     let at = kept step start f g (suc (suc p)) n told most (omega arith) f_most g_most
     (λ i m k. same i k (omega arith) (omega arith)) e in
-    let before = state_same step start f g p (λ i m. same i (omega arith) (omega arith) (omega arith)) in
-    let s = state_after step start f p in
-    let f_two : state_after step start f (suc (suc p)) ≡ step (suc p) (step p s (f p)) (f (suc p)) =
-    state_next step start f (suc p) ∙ ap (λ c. step (suc p) c (f (suc p))) (state_next step start f p) in
-    let g_two : state_after step start g (suc (suc p)) ≡ step (suc p) (step p s (f (suc p))) (f p) =
-    state_next step start g (suc p) ∙ ap (λ c. step (suc p) c (g (suc p))) (state_next step start g p)
-    ∙ ap (λ c. step (suc p) (step p c (g p)) (g (suc p))) (sym before)
-    ∙ ap (λ d. step (suc p) (step p s d) (g (suc p))) first ∙ ap (λ d. step (suc p) (step p s (f (suc p))) d) second in
-    told.orders p s (f p) (f (suc p)) (state_most step start f p told.closed most (λ i m. f_most i (omega arith)))
-    (f_most p (omega arith)) (f_most (suc p) l) (sym f_two ∙ at ∙ g_two)
+    search (arith, state_same, state_next, state_most)
 
 -- the digits of a word with one more
 pub one_more : (word : List ℕ) (s : ℕ) → length (word ++ s ∷ []) ≡ suc (length word)
@@ -113,9 +93,7 @@ pub state_later : (step later : ℕ → ℕ → ℕ → ℕ) (start : ℕ) (f : 
     → state_after step start f (suc n) ≡ state_after later (step 0 start (f 0)) (λ i. f (suc i)) n
 unfolding state_after
 state_later step later start f zero alike = refl
-state_later step later start f (suc n) alike =
-    ap (λ c. step (suc n) c (f (suc n))) (state_later step later start f n alike)
-    ∙ alike n (state_after later (step 0 start (f 0)) (λ i. f (suc i)) n) (f (suc n))
+state_later step later start f (suc n) alike = search (arith, state_later step later start f n alike)
 
 pub state_more : (step : ℕ → ℕ → ℕ → ℕ) (start : ℕ) (f : ℕ → ℕ) (n : ℕ)
     → state_after step start f (n + 1) ≡ step n (state_after step start f n) (f n)

@@ -14,11 +14,7 @@ pub fits_before : (f : ℕ → List ℕ) (text : List ℕ) (i : ℕ) → i < len
     → length (flat_map f (take i text)) + length (f (get_or text i 0)) ≤ length (flat_map f text)
 fits_before f [] i l = absurd (omega (arith, l))
 fits_before f (c ∷ cs) zero l = let e = length-append (f c) (flat_map f cs) in omega (arith, e)
-fits_before f (c ∷ cs) (suc i) l =
-    let e = length-append (f c) (flat_map f cs) in
-    let h = length-append (f c) (flat_map f (take i cs)) in
-    let before = fits_before f cs i (omega (arith, l)) in
-    omega (arith, e, h, before)
+fits_before f (c ∷ cs) (suc i) l = search (arith, length-append, fits_before f cs i (omega (arith, l)))
 
 more_unspaced : (text : List ℕ) (n : ℕ) → n < length text
     → without_spaces (take (suc n) text) ≡ without_spaces (take n text) ++ unspaced (get_or text n 0)
@@ -38,9 +34,7 @@ grouped_length text (suc n) spaces l =
     let e = ap length (more_unspaced text n l) ∙ length-append (without_spaces (take n text)) (unspaced c) in
     let told = spaces n l in
     elim (cases_eq (n % 5) 4) [
-      | inl s ↦
-          let none : length (unspaced c) ≡ 0 = ap (λ b. length (if b then [] else c ∷ [])) (eq-eqb c 32 (told.1 s)) in
-          omega (arith, e, before, none, s)
+      | inl s ↦ search (arith, eq-eqb)
       | inr s ↦
           let one : length (unspaced c) ≡ 1 = ap (λ b. length (if b then [] else c ∷ [])) (ne_eqb c 32 (λ is. s (told.0 is))) in
           omega (arith, e, before, one, s)

@@ -1,5 +1,5 @@
 -- What Verhoeff's check digit detects.
-use Rattle.std.proofs.Common.{◌≡◌, ◌≢◌, ℕ, zero, suc, ◌+◌, ◌-◌, ◌*◌, ◌/◌, ◌%◌, ◌<◌, ◌≤◌, Bool, true, nat_lt, nat_eq, if◌then◌else◌}
+use Rattle.std.proofs.Common.{◌≡◌, ℕ, zero, suc, ◌+◌, ◌-◌, ◌*◌, ◌/◌, ◌%◌, ◌<◌, ◌≤◌, Bool, true, nat_lt, nat_eq, if◌then◌else◌}
 use Rattle.std.proofs.Math.ListN.{get_or-append}
 use Rattle.std.proofs.Math.Seq.{get_or-append_seam}
 use Rattle.std.proofs.Common.{List, [], ◌∷◌, ◌++◌, All, length, get_or, set, sym, ap, ◌∙◌, refl, arith}
@@ -29,12 +29,7 @@ permuted_apart : (a b : ℕ) → a ≤ 9 → b ≤ 9 → permuted a ≡ permuted
 permuted_apart a b a_most b_most same = apart (λ c a b. permuted a) refl 0 a b (omega arith) a_most b_most same
 
 associates : (a b c : ℕ) → a ≤ 9 → b ≤ 9 → c ≤ 9 → dihedral a (dihedral b c) ≡ dihedral (dihedral a b) c
-associates a b c a_most b_most c_most =
-    eqb-true (dihedral a (dihedral b c)) (dihedral (dihedral a b) c)
-    (passes 10 (λ c. nat_eq (dihedral a (dihedral b c)) (dihedral (dihedral a b) c))
-    (passes 10 (λ b. each_below 10 (λ c. nat_eq (dihedral a (dihedral b c)) (dihedral (dihedral a b) c)))
-    (passes 10 (λ a. each_below 10 (λ b. each_below 10 (λ c. nat_eq (dihedral a (dihedral b c)) (dihedral (dihedral a b) c))))
-    refl a (omega arith)) b (omega arith)) c (omega arith))
+associates a b c a_most b_most c_most = search (arith, eqb-true, passes)
 
 unit_behind : (a : ℕ) → a ≤ 9 → dihedral a 0 ≡ a
 unit_behind a most = eqb-true (dihedral a 0) a (passes 10 (λ a. nat_eq (dihedral a 0) a) refl a (omega arith))
@@ -47,18 +42,14 @@ abbrev pub inverse_of : ℕ → ℕ
 inverse_of a = if nat_lt a 5 then (5 - a) % 5 else a
 
 inverse_small : (a : ℕ) → a ≤ 9 → inverse_of a ≤ 9
-inverse_small a most =
-    let l = ltb-true (inverse_of a) 10 (passes 10 (λ a. nat_lt (inverse_of a) 10) refl a (omega arith)) in
-    omega (arith, l)
+inverse_small a most = search (arith, ltb-true, passes)
 
 inverse_cancels : (a : ℕ) → a ≤ 9 → dihedral (inverse_of a) a ≡ 0
 inverse_cancels a most =
     eqb-true (dihedral (inverse_of a) a) 0 (passes 10 (λ a. nat_eq (dihedral (inverse_of a) a) 0) refl a (omega arith))
 
 permuted_small : (a : ℕ) → a ≤ 9 → permuted a ≤ 9
-permuted_small a most =
-    let l = ltb-true (permuted a) 10 (passes 10 (λ a. nat_lt (permuted a) 10) refl a (omega arith)) in
-    omega (arith, l)
+permuted_small a most = search (arith, ltb-true, passes)
 
 image_next : (k d : ℕ) → image (suc k) d ≡ permuted (image k d)
 unfolding image
@@ -88,18 +79,9 @@ image_step first i d =
 pub verhoeff_distinguishes : (first : ℕ) → Distinguishes (verhoeff_step first)
 verhoeff_distinguishes first = record {
   closed = λ i c d _ _. dihedral_small c (image (i + first) d);
-  states = λ i c e d c_most e_most d_most same.
-      right_cancels (image (i + first) d) c e (image_small (i + first) d d_most) c_most e_most same;
-  digits = λ i c d e c_most d_most e_most same.
-      image_apart (i + first) d e d_most e_most
-      (left_cancels c (image (i + first) d) (image (i + first) e) c_most (image_small (i + first) d d_most)
-      (image_small (i + first) e e_most) same);
-  orders = λ i c d e c_most d_most e_most same.
-      let a = image (i + first) d in
-      let b = image (i + first) e in
-      image_apart (i + first) d e d_most e_most
-      (orders c a b c_most (image_small (i + first) d d_most) (image_small (i + first) e e_most)
-      (ap (dihedral (dihedral c a)) (sym (image_step first i e)) ∙ same ∙ ap (dihedral (dihedral c b)) (image_step first i d)));
+  states = search (arith, right_cancels, image_small);
+  digits = search (arith, image_apart, left_cancels, image_small);
+  orders = search (arith, image_apart, orders, image_small, image_step);
 }
 
 digit_at : (word : List ℕ) → All (λ d. d ≤ 9) word → (n : ℕ) → length word ≡ n → (j : ℕ) → j < n
@@ -137,34 +119,24 @@ verhoeff_exchanges word i is within apart_ changed =
     let e = is.product ∙ sym (sym (product_by new n count) ∙ changed.product) in
     let first : n - 1 - p ≡ suc i = omega (arith, within) in
     let second : n - 1 - suc p ≡ i = omega (arith, within) in
-    let before : i < n = omega (arith, within) in
     let behind : suc i < length half = omega (arith, length-set word i y, within) in
-    let ne : i ≢ suc i = omega arith in
     apart_ (sym (ap (λ k. get_or word k 0) (sym first) ∙ exchanged_apart (verhoeff_step 0) 0
     (λ j. get_or word (n - 1 - j) 0) (λ j. get_or new (n - 1 - j) 0) p n (verhoeff_distinguishes 0) (omega arith)
     (omega (arith, within)) (digit_at word is.digits n refl) (digit_at new changed.digits n count)
-    (λ j l no nor. sym (get_or-set_other half (suc i) (n - 1 - j) x 0 (omega (arith, l, no, within))
-    ∙ get_or-set_other word i (n - 1 - j) y 0 (omega (arith, l, nor, within))))
+    (λ j l no nor. search (arith, get_or-set_other))
     (ap (λ k. get_or new k 0) first ∙ get_or-set_same half (suc i) x 0 behind ∙ ap (λ k. get_or word k 0) (sym second))
-    (ap (λ k. get_or new k 0) second ∙ get_or-set_other half (suc i) i x 0 ne ∙ get_or-set_same word i y 0 before
-    ∙ ap (λ k. get_or word k 0) (sym first)) e
+    (search (arith, get_or-set_other, get_or-set_same)) e
     ∙ ap (λ k. get_or word k 0) second))
 
 -- the product from another state on
 from_state : (first start n : ℕ) (f : ℕ → ℕ) → start ≤ 9 → ((j : ℕ) → j < n → f j ≤ 9)
     → state_after (verhoeff_step first) start f n ≡ dihedral start (state_after (verhoeff_step first) 0 f n)
-from_state first start zero f most digits =
-    state_first (verhoeff_step first) start f
-    ∙ sym (ap (dihedral start) (state_first (verhoeff_step first) 0 f) ∙ unit_behind start most)
+from_state first start zero f most digits = search (arith, state_first, unit_behind)
 from_state first start (suc n) f most digits =
-    let s = state_after (verhoeff_step first) 0 f n in
     let d = image (n + first) (f n) in
     state_next (verhoeff_step first) start f n
     ∙ ap (λ c. dihedral c d) (from_state first start n f most (λ j l. digits j (omega arith)))
-    ∙ sym (ap (dihedral start) (state_next (verhoeff_step first) 0 f n)
-    ∙ associates start s d most
-    (state_most (verhoeff_step first) 0 f n (verhoeff_distinguishes first).closed (omega arith) (λ j l. digits j (omega arith)))
-    (image_small (n + first) (f n) (digits n (omega arith))))
+    ∙ sym (search (arith, state_next, associates, state_most, verhoeff_distinguishes, image_small))
 
 later_step : (i c d : ℕ) → verhoeff_step 0 (suc i) c d ≡ verhoeff_step 1 i c d
 later_step i c d = let e : suc i + 0 ≡ i + 1 = omega arith in ap (λ k. dihedral c (image k d)) e
@@ -181,37 +153,20 @@ more_product word s all most =
     let f : ℕ → ℕ = λ j. get_or (word ++ s ∷ []) (suc n - 1 - j) 0 in
     let g : ℕ → ℕ = λ j. get_or word (n - 1 - j) 0 in
     let last : suc n - 1 - 0 ≡ n = omega arith in
-    let first : verhoeff_step 0 0 0 (f 0) ≡ s =
-    ap (dihedral 0) (image_none (f 0)) ∙ ap (λ k. dihedral 0 (get_or (word ++ s ∷ []) k 0)) last
-    ∙ ap (dihedral 0) (get_or-append_seam word s [] 0) ∙ unit_before s most in
+    let first : verhoeff_step 0 0 0 (f 0) ≡ s = search (arith, image_none, get_or-append_seam, unit_before) in
     product_by (word ++ s ∷ []) (suc n) (one_more word s)
     ∙ state_later (verhoeff_step 0) (verhoeff_step 1) 0 f n later_step
     ∙ ap (λ c. state_after (verhoeff_step 1) c (λ j. f (suc j)) n) first
     ∙ state_same (verhoeff_step 1) s (λ j. f (suc j)) g n
-    (λ j l.
-    let e : suc n - 1 - suc j ≡ n - 1 - j = omega (arith, l) in
-    ap (λ k. get_or (word ++ s ∷ []) k 0) e ∙ get_or-append word (s ∷ []) 0 (n - 1 - j) (omega (arith, l)))
+    (λ j l. search (arith, get_or-append))
     ∙ from_state 1 s n g most (digit_at word all n refl)
 
 pub verhoeff_completed : (word : List ℕ) → All (λ d. d ≤ 9) word
     → IsCheckSymbol 10 IsVerhoeff word (inverse_of (verhoeff_product 1 word))
 verhoeff_completed word all =
-    let n = length word in
     let p = verhoeff_product 1 word in
-    let p_most : p ≤ 9 = state_most (verhoeff_step 1) 0 (λ j. get_or word (n - 1 - j) 0) n
-    (verhoeff_distinguishes 1).closed (omega arith) (digit_at word all n refl) in
-    let s = inverse_of p in
-    let most : s ≤ 9 = inverse_small p p_most in
-    record {
-      below = omega (arith, most);
-      accepted = record {
-        least = omega (arith, one_more word s);
-        digits = all_more word s all most;
-        product = more_product word s all most ∙ inverse_cancels p p_most;
-      };
-      only = λ t l is. right_cancels p t s p_most (omega (arith, l)) most
-          (sym (more_product word t all (omega (arith, l))) ∙ is.product ∙ sym (inverse_cancels p p_most));
-    }
+    let p_most : p ≤ 9 = search (arith, state_most, verhoeff_distinguishes, digit_at) in
+    search (arith, inverse_small, one_more, all_more, more_product, inverse_cancels, right_cancels)
 
 -- the permutation is the identity after eight steps
 eightfold : (a : ℕ) → a ≤ 9 → image 8 a ≡ a

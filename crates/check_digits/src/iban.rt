@@ -125,6 +125,7 @@ fn write_character(c: u8, digits: &mut [u64], end: usize) -> usize
 }
 
 // Writes the digits of each character of a text, and returns the index after them.
+#[tactic(auto, using(crate::proofs::Ibans::room_left, crate::proofs::Ibans::room_within))]
 fn write_text(text: &[u8], digits: &mut [u64], start: usize) -> usize
     requires characters { All (λ c. IsDigit c ⊎ IsLetter c) text.now }
     requires room { start + 2 * length text.now ≤ length digits.old }
@@ -156,6 +157,7 @@ fn write_text(text: &[u8], digits: &mut [u64], start: usize) -> usize
 /// assert_eq!(digits[..count], [3, 2, 7, 1, 6, 1, 1, 8, 2]); // W, 7, G, B and 82
 /// ```
 // rust: #[cfg_attr(debug_assertions, track_caller)]
+#[tactic(auto, using(crate::proofs::Ibans::first_room, crate::proofs::Ibans::both_rooms, crate::proofs::Ibans::rest_whole))]
 pub fn iban_digits(text: &[u8], digits: &mut [u64]) -> usize
     requires form { IsIbanForm text.now }
     requires room { 68 ≤ length digits.old }
@@ -235,6 +237,7 @@ fn write_unspaced(c: u8, characters: &mut [u8], end: usize) -> usize
 }
 
 // Writes the characters of a text without its spaces, and returns their number.
+#[tactic(auto, using(crate::proofs::TextSymbols::fits_before))]
 fn write_ungrouped(text: &[u8], characters: &mut [u8]) -> usize
     requires { length (without_spaces text.now) ≤ length characters.old }
     ensures count { result ≡ length (without_spaces text.now) }
@@ -260,6 +263,7 @@ fn write_ungrouped(text: &[u8], characters: &mut [u8]) -> usize
 ///
 /// assert!(accepts_iban_text(b"GB82 WEST 1234 5698 7654 32"));
 /// ```
+#[tactic(auto, using(crate::proofs::TextSymbols::ungrouped_length))]
 pub fn accepts_iban_text(text: &[u8]) -> bool
     ensures { IsTrue result ↔ IsGrouped text.now × IsIban (without_spaces text.now) }
 {

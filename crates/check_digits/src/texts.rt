@@ -107,6 +107,7 @@ fn write_symbol(c: u8, symbols: &mut [u64], end: usize) -> usize
 /// let count = read_symbols(b"4539 5787 6362 1486", &mut digits).unwrap();
 /// assert!(accepts_luhn(&digits[..count]));
 /// ```
+#[tactic(auto, using(crate::proofs::TextSymbols::fits_before))]
 pub fn read_symbols(text: &[u8], symbols: &mut [u64]) -> Option<usize>
     ensures length { length symbols.new ≡ length symbols.old }
     ensures read { MatchOption result

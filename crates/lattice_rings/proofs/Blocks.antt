@@ -25,11 +25,7 @@ own_numbers w = ap (λ l. slice_index l) (map-id w)
 -- the table as the twiddle factors
 pub twiddles_of : (m g s count : ℕ) (w : ℕ → ℕ) → Suits m g (2 ^ suc s) → count ≡ 2 ^ s
     → ((k : ℕ) → k < count → w k ≡ g ^ bits_reversed s k % m) → AreTwiddles m g (suc s) count w
-twiddles_of m g s count w suits is entry = record {
-  suits = suits;
-  half = let d = two-pow-succ s in omega (arith, is, d);
-  entry = λ k l. let e : s ≡ suc s - 1 = omega arith in entry k l ∙ ap (λ v. g ^ bits_reversed v k % m) e;
-}
+twiddles_of m g s count w suits is entry = search (arith, two-pow-succ)
 
 -- the powers of a root that suits twice 2^s entries are its twiddle factors
 pub powers_are_twiddles : (m g s : ℕ) → Suits m g (2 ^ suc s)
@@ -45,19 +41,11 @@ pub record IsRingPlan (q g s m r b n : ℕ) : Type 0 where
 
 by_ring : {q g s m r b n : ℕ} (last : ℕ) (x y : ℕ → ℕ) → IsRingPlan q g s m r b n → AreRemainders m r b 1 n last x y
     → AreRemainders q g (suc s) 1 (2 ^ s) last x y
-by_ring {q} {g} {s} {m} {r} {b} {n} last x y ring are =
-    subst (λ k. AreRemainders q g (suc s) 1 k last x y) ring.count
-    (subst (λ k. AreRemainders q g k 1 n last x y) ring.exponent
-    (subst (λ k. AreRemainders q k b 1 n last x y) ring.root
-    (subst (λ k. AreRemainders k r b 1 n last x y) ring.modulus are)))
+by_ring {q} {g} {s} {m} {r} {b} {n} last x y ring are = search arith
 
 of_ring : {q g s m r b n : ℕ} (last : ℕ) (x y : ℕ → ℕ) → IsRingPlan q g s m r b n
     → AreRemainders q g (suc s) 1 (2 ^ s) last x y → AreRemainders m r b 1 n last x y
-of_ring {q} {g} {s} {m} {r} {b} {n} last x y ring are =
-    subst (λ k. AreRemainders m r b 1 k last x y) (sym ring.count)
-    (subst (λ k. AreRemainders m r k 1 (2 ^ s) last x y) (sym ring.exponent)
-    (subst (λ k. AreRemainders m k (suc s) 1 (2 ^ s) last x y) (sym ring.root)
-    (subst (λ k. AreRemainders k g (suc s) 1 (2 ^ s) last x y) (sym ring.modulus) are)))
+of_ring {q} {g} {s} {m} {r} {b} {n} last x y ring are = search arith
 
 -- the constant of block j below block 1
 pub constant_is : (g s j : ℕ) → j < 2 ^ s → constant g (suc s) (1 * 2 ^ s + j) ≡ g ^ (2 * bits_reversed s j + 1)
@@ -71,17 +59,11 @@ pub record AreValues (m g s last : ℕ) (x y : ℕ → ℕ) : Type 0 where
       → y (j * last + i) ≡ polynomial_at (2 ^ s) (λ k. x (k * last + i)) (g ^ (2 * bits_reversed s j + 1)) % m
 
 pub values_of : (m g s last : ℕ) (x y : ℕ → ℕ) → AreRemainders m g (suc s) 1 (2 ^ s) last x y → AreValues m g s last x y
-values_of m g s last x y are = record {
-  each = λ j i lj li. are.each j i lj li
-      ∙ ap (λ c. polynomial_at (2 ^ s) (λ k. x (k * last + i)) c % m) (constant_is g s j lj);
-}
+values_of m g s last x y are = search (arith, constant_is)
 
 pub remainders_of : (m g s last : ℕ) (x y : ℕ → ℕ) → AreValues m g s last x y
     → AreRemainders m g (suc s) 1 (2 ^ s) last x y
-remainders_of m g s last x y are = record {
-  each = λ j i lj li. are.each j i lj li
-      ∙ ap (λ c. polynomial_at (2 ^ s) (λ k. x (k * last + i)) c % m) (sym (constant_is g s j lj));
-}
+remainders_of m g s last x y are = search (arith, constant_is)
 
 -- equal coefficients, equal values
 pub value_same : (m n c : ℕ) (x f : ℕ → ℕ) → ((k : ℕ) → k < n → x k ≡ f k)
@@ -128,9 +110,7 @@ preimage_values {m} g h G H s last part y inverse square of_number back below = 
       let v = λ (e q : ℕ). y (bits_reversed s q * last + e) in
       let u = transform m H n (v i) in
       let x = preimage m h H s last part y in
-      let is : (k : ℕ) → x (k * last + i) ≡ (part * h ^ k * u k) % m = λ k.
-      ap (λ d. (part * h ^ d * transform m H n (v ((k * last + i) % last)) d) % m) (div-mul-add k last i li)
-      ∙ ap (λ e. (part * h ^ k * transform m H n (v e) k) % m) (mod-mul-add k last i li) in
+      let is : (k : ℕ) → x (k * last + i) ≡ (part * h ^ k * u k) % m = search (arith, div-mul-add, mod-mul-add) in
       let f = λ (k : ℕ). x (k * last + i) * c ^ k in
       let w = λ (k : ℕ). u k * G ^ (k * r) in
       let all : Congruent m (sum_below n f) (sum_below n (λ k. part * w k)) =
@@ -144,10 +124,7 @@ preimage_values {m} g h G H s last part y inverse square of_number back below = 
       let turn : part * (n * v i r) ≡ n * part * v i r = omega arith in
       let o : 1 * v i r ≡ v i r = omega arith in
       let end : Congruent m (sum_below n f) (y (j * last + i)) =
-      mod_trans all
-      (mod_trans (mod_of_eq (sum_below-mul n part w))
-      (mod_trans whole (mod_trans (mod_of_eq turn)
-      (mod_trans (mod_mul of_number (mod_refl (v i r))) (mod_of_eq (o ∙ place)))))) in
+      search (arith, mod_trans, mod_of_eq, sum_below-mul, mod_mul, mod_refl) in
       sym (mod-eq_of_lt (below j i lj li)) ∙ sym end.same;
 }
 
@@ -155,13 +132,13 @@ preimage_values {m} g h G H s last part y inverse square of_number back below = 
 taken_away : (m a b : ℕ) → 0 < m → ((a + (m - 1) * b) % m + b) % m ≡ a % m
 taken_away m a b some =
     let s : a + (m - 1) * b + b ≡ a + b * m = (let o : m - 1 + 1 ≡ m = omega (arith, some) in
-    let d : (m - 1) * b + b ≡ b * (m - 1 + 1) = omega arith in let f = ap (λ v. b * v) o in omega (arith, d, f)) in
+    let f = ap (λ v. b * v) o in omega (arith, f)) in
     (mod_trans (mod_add (residue_of (a + (m - 1) * b)) (mod_refl b)) (mod_of_eq s)).same ∙ add-mul-mod_self_right a b m
 
 added_to : (m a b p : ℕ) → p < m → (p + b) % m ≡ a % m → (a + (m - 1) * b) % m ≡ p
 added_to m a b p below is =
     let s : p + b + (m - 1) * b ≡ p + b * m = (let o : m - 1 + 1 ≡ m = omega (arith, below) in
-    let d : (m - 1) * b + b ≡ b * (m - 1 + 1) = omega arith in let f = ap (λ v. b * v) o in omega (arith, d, f)) in
+    let f = ap (λ v. b * v) o in omega (arith, f)) in
     let known : Congruent m (p + b) a = record { same = is } in
     (mod_trans (mod_add (mod_sym known) (mod_refl ((m - 1) * b))) (mod_of_eq s)).same
     ∙ add-mul-mod_self_right p b m ∙ mod-eq_of_lt below
@@ -194,18 +171,11 @@ joined {q} {g} {s} {m} last x ys zs ring are known i l =
 
 -- the product in the ring, by a formula
 pub ring_product : (q : ℕ) (x y : ℕ → ℕ) → 0 < q → IsRingProduct q x y (product_modulo q 256 (q - 1) x y)
-ring_product q x y some = record {
-  below = λ e l. mod-lt (coefficient 256 x y e + (q - 1) * coefficient 256 x y (e + 256)) some;
-  each = λ e l. taken_away q (coefficient 256 x y e) (coefficient 256 x y (e + 256)) some;
-}
+ring_product q x y some = search (arith, mod-lt, taken_away)
 
 pub ring_product_same : (q : ℕ) (x y p r : ℕ → ℕ) → IsRingProduct q x y p → ((e : ℕ) → e < 256 → r e ≡ p e % q)
     → IsRingProduct q x y r
-ring_product_same q x y p r is same = record {
-  below = λ e l. subst (λ v. v < q) (sym (same e l ∙ mod-eq_of_lt (is.below e l))) (is.below e l);
-  each = λ e l.
-      ap (λ v. (v + coefficient 256 x y (e + 256)) % q) (same e l ∙ mod-eq_of_lt (is.below e l)) ∙ is.each e l;
-}
+ring_product_same q x y p r is same = search (arith, mod-eq_of_lt)
 
 -- what `multiply` says of words
 pub multiplied_words : {q m : ℕ} (xs ys zs : List ℕ) → m ≡ q

@@ -33,19 +33,11 @@ transform_of x y are = record {
 }
 
 pub values_of_transform : (x y : ℕ → ℕ) → IsDsaTransform x y → AreValues 8380417 1753 8 1 x y
-values_of_transform x y are = record {
-  each = λ j i lj li.
-      ap y (let e : j * 1 + i ≡ j = omega arith in e) ∙ are.each j lj
-      ∙ value_same 8380417 256 (1753 ^ (2 * bits_reversed 8 j + 1)) x (λ k. x (k * 1 + i))
-      (λ k _. ap x (let e : k ≡ k * 1 + i = omega arith in e));
-}
+values_of_transform x y are = search (arith, value_same)
 
 -- the transform depends on the 256 coefficients alone
 pub transform_same : (w x y : ℕ → ℕ) → ((i : ℕ) → i < 256 → w i ≡ x i) → IsDsaTransform x y → IsDsaTransform w y
-transform_same w x y same are = record {
-  each = λ i l. are.each i l
-      ∙ sym (value_same 8380417 256 (1753 ^ (2 * bits_reversed 8 i + 1)) w x same);
-}
+transform_same w x y same are = search (arith, value_same)
 
 -- the polynomial whose transform is given
 abbrev pub before : (ℕ → ℕ) → ℕ → ℕ

@@ -1,5 +1,5 @@
 -- The numbers of FIPS 203, and its transform as remainders modulo X^2 - c.
-use Rattle.std.proofs.Common.{◌≡◌, ℕ, ◌+◌, ◌*◌, ◌%◌, ◌^◌, ◌<◌, refl, sym, ◌∙◌, ap, arith, subst, inl, inr}
+use Rattle.std.proofs.Common.{◌≡◌, ℕ, ◌+◌, ◌*◌, ◌^◌, ◌<◌, refl, sym, ◌∙◌, ap, arith, subst, inl, inr}
 use Rattle.std.proofs.lemmas.Bool.{cases_eq}
 use Rattle.num_modular.specs.Congruence.{Congruent}
 use Rattle.num_modular.specs.Inverses.{IsInverse}
@@ -54,14 +54,7 @@ values_of_transform x y are = record {
 
 -- the transform depends on the 256 coefficients alone
 pub transform_same : (w x y : ℕ → ℕ) → ((i : ℕ) → i < 256 → w i ≡ x i) → IsKemTransform x y → IsKemTransform w y
-transform_same w x y same are = record {
-  constant = λ i l. are.constant i l
-      ∙ sym (value_same 3329 128 (17 ^ (2 * bits_reversed 7 i + 1)) (λ k. w (2 * k)) (λ k. x (2 * k))
-      (λ k u. same (2 * k) (omega arith)));
-  linear = λ i l. are.linear i l
-      ∙ sym (value_same 3329 128 (17 ^ (2 * bits_reversed 7 i + 1)) (λ k. w (2 * k + 1)) (λ k. x (2 * k + 1))
-      (λ k u. same (2 * k + 1) (omega arith)));
-}
+transform_same w x y same are = search (arith, value_same)
 
 -- the polynomial whose transform is given
 abbrev pub before : (ℕ → ℕ) → ℕ → ℕ
@@ -85,15 +78,8 @@ products_of_remainders u v p are = record {
       let x = λ (k : ℕ). u (j * 2 + k) in
       let y = λ (k : ℕ). v (j * 2 + k) in
       let k = constant 17 8 (1 * 128 + j) in
-      let turn : u (2 * j + 1) * v (2 * j + 1) * c ≡ c * (u (2 * j + 1) * v (2 * j + 1)) = omega arith in
-      let low : p (j * 2 + 0) ≡ product_modulo 3329 2 k x y 0 =
-      ap p (sym e) ∙ are.constant j lj ∙ ap (λ a. (u (2 * j) * v (2 * j) + a) % 3329) turn
-      ∙ ap (λ a. (u (2 * j) * v (2 * j) + a * (u (2 * j + 1) * v (2 * j + 1))) % 3329) (sym (constant_is 17 7 j lj))
-      ∙ ap (λ n. (u n * v n + k * (u (2 * j + 1) * v (2 * j + 1))) % 3329) e
-      ∙ ap (λ n. (x 0 * y 0 + k * (u n * v n)) % 3329) f ∙ sym (product_of_two_low 3329 k x y) in
-      let high : p (j * 2 + 1) ≡ product_modulo 3329 2 k x y 1 =
-      ap p (sym f) ∙ are.linear j lj ∙ ap (λ n. (u n * v (2 * j + 1) + u (2 * j + 1) * v n) % 3329) e
-      ∙ ap (λ n. (x 0 * v n + u n * y 0) % 3329) f ∙ sym (product_of_two_high 3329 k x y) in
+      let low : p (j * 2 + 0) ≡ product_modulo 3329 2 k x y 0 = search (arith, constant_is, product_of_two_low) in
+      let high : p (j * 2 + 1) ≡ product_modulo 3329 2 k x y 1 = search (arith, product_of_two_high) in
       elim (cases_eq i 0) [
         | inl z ↦ subst (λ n. p (j * 2 + n) ≡ product_modulo 3329 2 k x y n) (sym z) low
         | inr n ↦

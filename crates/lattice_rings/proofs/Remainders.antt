@@ -34,8 +34,7 @@ pub odd_square : (r : Ring) (i : ℕ) → i < 128 → i % 2 ≢ 0
 odd_square r i below odd =
     let e : 2 * (64 + i / 2) + 1 ≡ 1 * 128 + i = omega arith in
     let w = numbers (λ f. f.value) r.table (64 + i / 2) in
-    let few : w < 3329 = entry_below r (64 + i / 2) (omega arith) in
-    mod_trans ((pair_at r (i / 2) (omega arith)).odd (3329 - w) (omega (arith, few)))
+    mod_trans ((pair_at r (i / 2) (omega arith)).odd (3329 - w) (omega arith))
     (mod_of_eq (ap (constant 17 8) e ∙ constant_is 17 7 i below))
 
 -- the first i remainders of p are the products of those of x and y, and the others are those of x
@@ -69,19 +68,10 @@ products_more i a b c x y p within square before is_a is_b =
     let f : ℕ = 2 * i + 1 in
     let u = before.kept e (omega arith) in
     let v = before.kept f (omega arith) in
-    let few_a : a < 3329 = subst (λ n. n < 3329) (sym is_a) (mod-lt _ (omega arith)) in
-    let few_b : b < 3329 = subst (λ n. n < 3329) (sym is_b) (mod-lt _ (omega arith)) in
     let at_e = low p e f a b (omega arith) (omega arith) in
     let at_f = high p e f a b within in
     record {
-      below = λ k. elim (cases_eq k e) [
-        | inl s ↦ subst (λ n. get_or (set (set p e a) f b) n 0 < 3329) (sym s) (subst (λ n. n < 3329) (sym at_e) few_a)
-        | inr n ↦ elim (cases_eq k f) [
-          | inl s ↦
-              subst (λ n. get_or (set (set p e a) f b) n 0 < 3329) (sym s) (subst (λ n. n < 3329) (sym at_f) few_b)
-          | inr o ↦ subst (λ n. n < 3329) (sym (other p e f k a b n o)) (before.below k)
-        ]
-      ];
+      below = search (arith, cases_eq, set, other);
       constant = λ k l. elim (cases_eq k i) [
         | inl s ↦
             subst (λ n. get_or (set (set p e a) f b) (2 * n) 0
@@ -93,13 +83,7 @@ products_more i a b c x y p within square before is_a is_b =
         | inr n ↦ other p e f (2 * k) a b (omega arith) (omega arith) ∙ before.constant k (omega arith)
       ];
       linear = λ k l. elim (cases_eq k i) [
-        | inl s ↦
-            subst (λ n. get_or (set (set p e a) f b) (2 * n + 1) 0
-            ≡ (get_or x (2 * n) 0 * get_or y (2 * n + 1) 0 + get_or x (2 * n + 1) 0 * get_or y (2 * n) 0) % 3329)
-            (sym s)
-            (at_f ∙ is_b
-            ∙ (mod_add (mod_mul {m = 3329} (mod_of_eq u) (mod_refl (get_or y f 0)))
-            (mod_mul (mod_of_eq v) (mod_refl (get_or y e 0)))).same)
+        | inl s ↦ search (arith, set, mod_add, mod_mul, mod_of_eq, mod_refl)
         | inr n ↦ other p e f (2 * k + 1) a b (omega arith) (omega arith) ∙ before.linear k (omega arith)
       ];
       kept = λ k l. other p e f k a b (omega arith) (omega arith) ∙ before.kept k (omega arith);

@@ -1,6 +1,6 @@
 -- Bluestein's method: an entry of a transform is a coefficient of a product of polynomials, times a power.
 use Rattle.std.proofs.Common.{◌≡◌, ℕ, zero, suc, ◌+◌, ◌-◌, ◌*◌, ◌%◌, ◌^◌, ◌<◌, List, length, get_or, reverse}
-use Rattle.std.proofs.Common.{sym, ◌∙◌, ap, arith, inl, inr, subst, get_or-set_same, get_or-set_other}
+use Rattle.std.proofs.Common.{sym, ◌∙◌, ap, arith, get_or-set_same, get_or-set_other}
 use Rattle.std.proofs.Math.ListN.{set}
 use Rattle.std.proofs.lemmas.Bool.{cases_eq}
 use Rattle.std.proofs.lemmas.List.{get_or-reverse, length-reverse}
@@ -31,24 +31,15 @@ same_modulus a m x v same is = is ∙ ap (λ m. x % m) same
 pub written_more : (f : ℕ → ℕ) (out : List ℕ) (k v : ℕ) → k < length out
     → ((i : ℕ) → i < k → get_or out i 0 ≡ f i) → v ≡ f k
     → (i : ℕ) → i < k + 1 → get_or (set out k v) i 0 ≡ f i
-written_more f out k v within before here i l = elim (cases_eq i k) [
-  | inl e ↦ ap (λ j. get_or (set out k v) j 0) e ∙ get_or-set_same out k v 0 within ∙ here ∙ ap f (sym e)
-  | inr ne ↦ get_or-set_other out k i v 0 ne ∙ before i (omega arith)
-]
+written_more f out k v within before here i l = search (arith, cases_eq, set, get_or-set_same, get_or-set_other)
 
 pub stored_more : (P : ℕ → ℕ → Type 0) (out : List ℕ) (k v : ℕ) → k < length out
     → ((i : ℕ) → i < k → P i (get_or out i 0)) → P k v → (i : ℕ) → i < k + 1 → P i (get_or (set out k v) i 0)
-stored_more P out k v within before here i l = elim (cases_eq i k) [
-  | inl e ↦ subst (λ j. P j (get_or (set out k v) j 0)) (sym e) (subst (P k) (sym (get_or-set_same out k v 0 within)) here)
-  | inr ne ↦ subst (P i) (sym (get_or-set_other out k i v 0 ne)) (before i (omega arith))
-]
+stored_more P out k v within before here i l = search (arith, cases_eq, set, get_or-set_same, get_or-set_other)
 
 pub below_more : (m : ℕ) (out : List ℕ) (k v : ℕ) → k < length out
     → ((i : ℕ) → i < k → get_or out i 0 < m) → v < m → (i : ℕ) → i < k + 1 → get_or (set out k v) i 0 < m
-below_more m out k v within before here i l = elim (cases_eq i k) [
-  | inl e ↦ subst (λ w. w < m) (sym (ap (λ j. get_or (set out k v) j 0) e ∙ get_or-set_same out k v 0 within)) here
-  | inr ne ↦ subst (λ w. w < m) (sym (get_or-set_other out k i v 0 ne)) (before i (omega arith))
-]
+below_more m out k v within before here i l = search (arith, cases_eq, set, get_or-set_same, get_or-set_other)
 
 -- the powers of g, and of g to binomial coefficients, one after the other
 pub step_none : (m g : ℕ) → 1 % m ≡ g ^ 0 % m
@@ -122,29 +113,15 @@ entry_summed m part g n j w v x is_w is_v =
     (mod_of_eq (sym (pow-mul g j i) ∙ ap (λ k. g ^ k) e)))))).same
 
 choose_sum : (i j : ℕ) → choose_two (i + j) ≡ choose_two i + choose_two j + i * j
-choose_sum i zero =
-    let e : i + 0 ≡ i = omega arith in
-    let z = choose_none in
-    ap choose_two e ∙ omega (arith, z)
+choose_sum i zero = search (arith, choose_none)
 choose_sum i (suc j) =
     let e : i + suc j ≡ i + j + 1 = omega arith in
-    let s = ap choose_two e ∙ choose_more (i + j) in
-    let t = sum_below-suc j (λ i. i) in
-    let before = choose_sum i j in
-    omega (arith, s, t, before)
+    search (arith, choose_more, sum_below-suc, choose_sum i j)
 
 -- a sum in the other order
 sum_reversed : (n : ℕ) (f : ℕ → ℕ) → sum_below n f ≡ sum_below n (λ i. f (n - 1 - i))
 sum_reversed zero f = sum_below-zero f ∙ sym (sum_below-zero (λ i. f (0 - 1 - i)))
-sum_reversed (suc n) f =
-    let before = sum_reversed n f in
-    let s = sum_below-suc n f in
-    let t = sum_below-first n (λ i. f (suc n - 1 - i)) in
-    let e : suc n - 1 - 0 ≡ n = omega arith in
-    let last = ap f e in
-    let rest = sum_below-same n (λ i. f (n - 1 - i)) (λ i. f (suc n - 1 - suc i))
-    (λ i l. let e : n - 1 - i ≡ suc n - 1 - suc i = omega arith in ap f e) in
-    omega (arith, before, s, t, last, rest)
+sum_reversed (suc n) f = search (arith, sum_below-suc, sum_below-first, sum_below-same, sum_reversed n f)
 
 -- powers of a number and of its inverse cancel
 pub powers_cancel : {m : ℕ} (g h k : ℕ) → Congruent m (g * h) 1 → Congruent m (g ^ k * h ^ k) 1
@@ -194,12 +171,7 @@ reversed_product n j us bs l within =
     sym (no_back (reverse us) bs (n - 1 + j) n (omega arith) (λ k. omega (arith, r)))
     ∙ sum_reversed n f
     ∙ sum_below-same n (λ i. f (n - 1 - i)) (λ i. get_or us i 0 * get_or bs (i + j) 0)
-    (λ i k.
-    let e : length us - 1 - (n - 1 - i) ≡ i = omega arith in
-    let u : n - 1 + j - (n - 1 - i) ≡ i + j = omega arith in
-    ap (λ v. v * get_or bs (n - 1 + j - (n - 1 - i)) 0)
-    (get_or-reverse us (n - 1 - i) 0 (omega arith) ∙ ap (λ k. get_or us k 0) e)
-    ∙ ap (λ k. get_or us i 0 * get_or bs k 0) u)
+    (λ i k. search (arith, get_or-reverse))
 
 -- an entry of the transform, from the lists that are multiplied
 pub entry_convolved : (m part g h n j s v : ℕ) (xs ws us bs : List ℕ) → (g * h) % m ≡ 1 % m
@@ -228,6 +200,4 @@ entry_convolved m part g h n j s v xs ws us bs inverse l within is_w is_b is_a i
 -- the room for the product, by other names for the lengths
 pub same_room : (xs ys words table a b c : ℕ) → xs ≡ a → ys ≡ b → words ≡ c → HasProductRoom xs ys words table
     → HasProductRoom a b c table
-same_room xs ys words table a b c is_xs is_ys is_words room =
-    subst (λ v. HasProductRoom v b c table) is_xs
-    (subst (λ v. HasProductRoom xs v c table) is_ys (subst (λ v. HasProductRoom xs ys v table) is_words room))
+same_room xs ys words table a b c is_xs is_ys is_words room = search arith

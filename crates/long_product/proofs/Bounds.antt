@@ -1,5 +1,5 @@
 -- Bounds of sums of products: of coefficients, and of what is reduced.
-use Rattle.std.proofs.Common.{◌≡◌, ℕ, ◌+◌, ◌-◌, ◌*◌, ◌/◌, ◌<◌, ◌≤◌, ◌↔◌, All, List, length, get_or, ◌∙◌, ap}
+use Rattle.std.proofs.Common.{◌≡◌, ℕ, ◌+◌, ◌-◌, ◌*◌, ◌/◌, ◌<◌, ◌≤◌, ◌↔◌, All, List, length, get_or}
 use Rattle.std.proofs.Common.{arith, subst, inl, inr}
 use Rattle.std.proofs.Math.Nat.{mul-le-mul, mul-le-mul_right, mul-div-le, lt-mul-div-succ}
 use Rattle.std.proofs.lemmas.Bool.{cases_lt}
@@ -11,44 +11,24 @@ use Rattle.long_product.proofs.Coefficients.{no_back}
 
 -- a residue and the product of a word with another
 pub folded_fits : (m c a b : ℕ) → a < m → b < m → c < 18446744073709551616 → a + c * b < m * 18446744073709551616
-folded_fits m c a b less other word =
-    let few : b ≤ m - 1 = omega arith in
-    let most : c ≤ 18446744073709551615 = omega arith in
-    let l : c * b ≤ 18446744073709551615 * (m - 1) = mul-le-mul most few in
-    omega (arith, l, less)
+folded_fits m c a b less other word = search (arith, mul-le-mul)
 
 -- Garner's digits, with residues in place of the products of primes
 pub combination_fits : (m first second third f g : ℕ) → first < 1152921092289986561 → second < 1152920989210771457
     → third < 1152920933376196609 → f < m → g < m → first + second * f + third * g < m * 18446744073709551616
-combination_fits m first second third f g a b c less other =
-    let few : f ≤ m - 1 = omega arith in
-    let few_too : g ≤ m - 1 = omega arith in
-    let most : second ≤ 1152920989210771456 = omega arith in
-    let most_too : third ≤ 1152920933376196608 = omega arith in
-    let k : second * f ≤ 1152920989210771456 * (m - 1) = mul-le-mul most few in
-    let l : third * g ≤ 1152920933376196608 * (m - 1) = mul-le-mul most_too few_too in
-    omega (arith, k, l, a, less)
+combination_fits m first second third f g a b c less other = search (arith, mul-le-mul)
 
 -- what is at most a quotient, times the divisor
 pub times_divisor : (x n t : ℕ) → x ≤ n / t → t * x ≤ n
-times_divisor x n t few =
-    let whole = mul-div-le n t in
-    let l : t * x ≤ t * (n / t) = mul-le-mul (let e : t ≤ t = omega arith in e) few in
-    omega (arith, whole, l)
+times_divisor x n t few = search (arith, mul-div-le, mul-le-mul)
 
 -- what is above a quotient, times the divisor
 pub times_divisor_above : (x n t : ℕ) → 1 ≤ t → n / t < x → n < t * x
-times_divisor_above x n t some more =
-    let next = lt-mul-div-succ n some in
-    let l : t * (n / t + 1) ≤ t * x = mul-le-mul (let e : t ≤ t = omega arith in e) (omega (arith, more)) in
-    omega (arith, next, l)
+times_divisor_above x n t some more = search (arith, lt-mul-div-succ, mul-le-mul)
 
 -- a coefficient of a list, or 0 after it
 pub coefficient_at_most : (xs : List ℕ) (s i : ℕ) → All (λ x. x ≤ s) xs → get_or xs i 0 ≤ s
-coefficient_at_most xs s i few = elim (cases_lt i (length xs)) [
-  | inl l ↦ few i 0 l
-  | inr l ↦ let z = get_or_past xs i 0 l in omega (arith, z)
-]
+coefficient_at_most xs s i few = search (arith, cases_lt, get_or_past)
 
 -- a term
 term_at_most : (xs ys : List ℕ) (s t e i : ℕ) → All (λ x. x ≤ s) xs → All (λ y. y ≤ t) ys
@@ -59,11 +39,7 @@ term_at_most xs ys s t e i few other =
 -- after terms of 0, some that are at most b
 bounded_after : (a d b : ℕ) (f : ℕ → ℕ) → ((i : ℕ) → i < a → f i ≡ 0) → ((i : ℕ) → f i ≤ b)
     → sum_below (a + d) f ≤ d * b
-bounded_after a d b f none few =
-    let whole = sum_below-joined a d f in
-    let z = sum_below-of_zeros a f none in
-    let l = sum_below-bounded d b (λ i. f (a + i)) (λ i k. few (a + i)) in
-    omega (arith, whole, z, l)
+bounded_after a d b f none few = search (arith, sum_below-joined, sum_below-of_zeros, sum_below-bounded)
 
 -- no coefficient of a product is a sum of more terms than a factor has coefficients
 pub sum_by_left : (xs ys : List ℕ) (s t e : ℕ) → All (λ x. x ≤ s) xs → All (λ y. y ≤ t) ys
@@ -89,9 +65,7 @@ sum_by_right xs ys s t e few other =
     elim (cases_lt (length ys) (e + 1)) [
       | inl l ↦
           let whole : e + 1 - length ys + length ys ≡ e + 1 = omega arith in
-          subst (λ n. sum_below n f ≤ length ys * (s * t)) whole
-          (bounded_after (e + 1 - length ys) (length ys) (s * t) f
-          (λ i k. ap (λ v. get_or xs i 0 * v) (get_or_past ys (e - i) 0 (omega arith)) ∙ omega arith) term)
+          search (arith, bounded_after, get_or_past)
       | inr l ↦
           let b = sum_below-bounded (e + 1) (s * t) f (λ i k. term i) in
           let m = mul-le-mul_right (s * t) l in
@@ -100,13 +74,7 @@ sum_by_right xs ys s t e few other =
 
 -- a product has no more places than both factors have coefficients
 few_places : (m xs ys places : ℕ) → FitsProduct m xs ys places → places ≤ xs + ys
-few_places m xs ys places fits = elim (cases_lt 0 xs) [
-  | inl left ↦ elim (cases_lt 0 ys) [
-    | inl right ↦ let e = fits.some (omega (arith, left)) (omega (arith, right)) in omega (arith, e)
-    | inr none ↦ let e = fits.none_right (omega (arith, none)) in omega (arith, e)
-  ]
-  | inr none ↦ let e = fits.none_left (omega (arith, none)) in omega (arith, e)
-]
+few_places m xs ys places fits = search (arith, cases_lt)
 
 -- a product that fits, and a cyclic one, as products modulo X^n - c
 pub product_folds : (m xs ys places : ℕ) → FitsProduct m xs ys places → FitsFold m 0 xs ys places
@@ -114,11 +82,7 @@ product_folds m xs ys places fits =
     record { modulus = fits.modulus; places = few_places m xs ys places fits; past = λ some. absurd (omega (arith, some)) }
 
 pub cyclic_folds : (m c xs ys places : ℕ) → FitsCyclic m xs ys places → FitsFold m c xs ys places
-cyclic_folds m c xs ys places fits = record {
-  modulus = fits.modulus;
-  places = omega (arith, fits.left);
-  past = λ some. omega (arith, fits.left, fits.right);
-}
+cyclic_folds m c xs ys places fits = search arith
 
 -- one of two conditions, in other words
 pub in_other_words : {R A B C : Type 0} → R ↔ (A × C) → A ↔ B → R ↔ (B × C)

@@ -34,10 +34,7 @@ by_upper_words m low high upper r upper_is is = is ∙ folded m low high upper u
 -- the terms of which the second factor has no coefficient
 pub no_front : (xs ys : List ℕ) (e n : ℕ) → (0 < n → n + length ys ≤ e + 1)
     → sum_below n (λ i. get_or xs i 0 * get_or ys (e - i) 0) ≡ 0
-no_front xs ys e n few =
-    sum_below-of_zeros n (λ i. get_or xs i 0 * get_or ys (e - i) 0)
-    (λ i l. ap (λ v. get_or xs i 0 * v) (get_or_past ys (e - i) 0 (let f = few (omega arith) in omega arith))
-    ∙ omega arith)
+no_front xs ys e n few = search (arith, sum_below-of_zeros, get_or_past)
 
 -- the terms of which the first has none
 pub no_back : (xs ys : List ℕ) (e n : ℕ) → n ≤ e + 1 → (n < e + 1 → length xs ≤ n)
@@ -46,9 +43,7 @@ pub no_back : (xs ys : List ℕ) (e n : ℕ) → n ≤ e + 1 → (n < e + 1 → 
 no_back xs ys e n few past =
     let f = λ (i : ℕ). get_or xs i 0 * get_or ys (e - i) 0 in
     let whole : n + (e + 1 - n) ≡ e + 1 = omega arith in
-    sym (ap (λ k. sum_below k f) (sym whole)
-    ∙ tail n (e + 1 - n) f (λ i l within.
-    ap (λ v. v * get_or ys (e - i) 0) (get_or_past xs i 0 (let p = past (omega arith) in omega arith)) ∙ omega arith))
+    search (arith, tail, get_or_past)
 
 -- one term more
 pub more_terms : (low high i x y : ℕ) (f : ℕ → ℕ) → f i ≡ x * y
@@ -63,10 +58,7 @@ more_terms low high i x y f is before =
 -- a product of words, and its high word
 pub words_fit : (x y : ℕ) → x < 18446744073709551616 → y < 18446744073709551616
     → x * y ≤ 18446744073709551615 * 18446744073709551615
-words_fit x y l k =
-    let a : x ≤ 18446744073709551615 = omega (arith, l) in
-    let b : y ≤ 18446744073709551615 = omega (arith, k) in
-    mul-le-mul a b
+words_fit x y l k = search (arith, mul-le-mul)
 
 pub high_word : (x y : ℕ) → x < 18446744073709551616 → y < 18446744073709551616
     → x * y / 18446744073709551616 ≤ 18446744073709551615
@@ -80,9 +72,7 @@ folded_residues m c a b r s is_a is_b =
 
 -- .. where c is 0
 pub unfolded : (m c a b : ℕ) → c ≡ 0 → a % m ≡ (a + c * b) % m
-unfolded m c a b none =
-    let e : a ≡ a + 0 * b = omega arith in
-    ap (λ v. v % m) e ∙ ap (λ k. (a + k * b) % m) (sym none)
+unfolded m c a b none = search arith
 
 -- .. and sums of products whose second factors are reduced
 pub reduced_factors : (m a s t p q f g : ℕ) → f ≡ p % m → g ≡ q % m

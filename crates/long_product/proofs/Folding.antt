@@ -9,7 +9,7 @@ use Rattle.num_modular.specs.NumberLaws.{sum_below-same, sum_below-add, sum_belo
 use Rattle.num_modular.specs.SumLaws.{single, tail}
 use Rattle.num_modular.specs.Transforms.{cyclic_product}
 use Rattle.num_modular.specs.PlanProducts.{coefficient, product_modulo}
-use Rattle.long_product.specs.Polynomials.{product_sum, folded_entry}
+use Rattle.long_product.specs.Polynomials.{folded_entry}
 
 -- a term at its place ..
 here : (s e v : ℕ) → s ≡ e → cond (eqb s e) v 0 ≡ v
@@ -17,10 +17,7 @@ here s e v is = elim (eqb_tells s e) [ inl p ↦ rw p.0 (omega arith) | inr p �
 
 -- .. and elsewhere
 elsewhere : (s e v : ℕ) → (s ≡ e → v ≡ 0) → cond (eqb s e) v 0 ≡ 0
-elsewhere s e v none = elim (eqb_tells s e) [
-  | inl p ↦ let z = none p.1 in rw p.0 z
-  | inr p ↦ rw p.0 (omega arith)
-]
+elsewhere s e v none = search (arith, eqb_tells)
 
 -- the terms of x i
 row : (n s i : ℕ) (x y : ℕ → ℕ) → ((j : ℕ) → n ≤ j → y j ≡ 0) → i ≤ s
@@ -32,10 +29,7 @@ row n s i x y few within =
           single n (s - i) (λ j. cond (eqb (i + j) s) (x i * y j) 0) l
           (λ j k other. elsewhere (i + j) s (x i * y j) (λ e. absurd (other (omega arith))))
           ∙ here (i + (s - i)) s (x i * y (s - i)) at
-      | inr l ↦
-          sum_below-of_zeros n (λ j. cond (eqb (i + j) s) (x i * y j) 0)
-          (λ j k. elsewhere (i + j) s (x i * y j) (λ e. absurd (omega arith)))
-          ∙ sym (ap (λ v. x i * v) (few (s - i) l) ∙ omega arith)
+      | inr l ↦ search (arith, sum_below-of_zeros, elsewhere)
     ]
 
 -- a coefficient of the product is the sum of the terms at its place
@@ -60,16 +54,7 @@ coefficient_sum n s x y few_x few_y =
 
 -- a place is e or e + n, but not both
 both_tests : (n s e v : ℕ) → 0 < n → cond (eqb s e || eqb s (e + n)) v 0 ≡ cond (eqb s e) v 0 + cond (eqb s (e + n)) v 0
-both_tests n s e v some = elim (eqb_tells s e) [
-  | inl p ↦ elim (eqb_tells s (e + n)) [
-    | inl q ↦ let a = p.1 in let b = q.1 in absurd (omega arith)
-    | inr q ↦ rw (p.0, q.0) (omega arith)
-  ]
-  | inr p ↦ elim (eqb_tells s (e + n)) [
-    | inl q ↦ rw (p.0, q.0) (omega arith)
-    | inr q ↦ rw (p.0, q.0) (omega arith)
-  ]
-]
+both_tests n s e v some = search (arith, eqb_tells)
 
 -- modulo X^n - 1 the product is the cyclic one
 cyclic : (m n e : ℕ) (x y : ℕ → ℕ) → 0 < n → product_modulo m n 1 x y e ≡ cyclic_product m n x y e
@@ -80,22 +65,14 @@ cyclic m n e x y some =
     let o : 1 * coefficient n x y (e + n) ≡ coefficient n x y (e + n) = omega arith in
     let sums = sum_below-same n (λ i. sum_below n (λ j. cond (eqb (i + j) e || eqb (i + j) (e + n)) (x i * y j) 0))
     (λ i. row f i + row h i)
-    (λ i l. sum_below-same n (λ j. cond (eqb (i + j) e || eqb (i + j) (e + n)) (x i * y j) 0) (λ j. f i j + h i j)
-    (λ j k. both_tests n (i + j) e (x i * y j) some)
-    ∙ sum_below-add n (λ j. f i j) (λ j. h i j))
+    (λ i l. search (arith, sum_below-same, both_tests, sum_below-add))
     ∙ sum_below-add n (row f) (row h) in
     ap (λ v. (coefficient n x y e + v) % m) o ∙ ap (λ v. v % m) (sym sums)
 
 -- an entry of the product modulo X^n - c ..
 pub folded_modulo : (m c n e : ℕ) (xs ys : List ℕ) → length xs ≡ n → length ys ≡ n
     → folded_entry m c n xs ys e ≡ product_modulo m n c (λ i. get_or xs i 0) (λ j. get_or ys j 0) e
-folded_modulo m c n e xs ys left right =
-    let x = λ (i : ℕ). get_or xs i 0 in
-    let y = λ (j : ℕ). get_or ys j 0 in
-    let at = λ (s : ℕ). coefficient_sum n s x y (λ i l. get_or_past xs i 0 (omega arith))
-    (λ j l. get_or_past ys j 0 (omega arith)) in
-    sym (ap (λ v. (v + c * coefficient n x y (e + n)) % m) (at e)
-    ∙ ap (λ v. (product_sum xs ys e + c * v) % m) (at (e + n)))
+folded_modulo m c n e xs ys left right = search (arith, coefficient_sum, get_or_past)
 
 -- .. and of the cyclic product
 pub folded_cyclic : (m n e : ℕ) (xs ys : List ℕ) → 0 < n → length xs ≡ n → length ys ≡ n

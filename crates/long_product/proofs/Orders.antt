@@ -19,26 +19,8 @@ few_below (suc most) zero f below apart = omega arith
 few_below (suc most) (suc size) f below apart =
     let last = below size (omega arith) in
     let l = few_below most size (λ i. cond (eqb (f i) most) (f size) (f i))
-    (λ i k. elim (eqb_tells (f i) most) [
-      | inl is ↦
-          let e = is.1 in
-          let other = apart i size k (omega arith) in
-          rw is.0 (omega (arith, last, e, other))
-      | inr not ↦
-          let before = below i (omega arith) in
-          let other = not.1 in
-          rw not.0 (omega (arith, before, other))
-    ])
-    (λ i j k t. elim (eqb_tells (f i) most) [
-      | inl is ↦ elim (eqb_tells (f j) most) [
-        | inl too ↦ λ e. apart i j k (omega arith) (is.1 ∙ sym too.1)
-        | inr not ↦ λ e. apart j size t (omega arith) (sym (rw (is.0, not.0) at e))
-      ]
-      | inr not ↦ elim (eqb_tells (f j) most) [
-        | inl is ↦ λ e. apart i size (omega (arith, k, t)) (omega arith) (rw (not.0, is.0) at e)
-        | inr neither ↦ λ e. apart i j k (omega arith) (rw (not.0, neither.0) at e)
-      ]
-    ]) in
+    (λ i k. search (arith, eqb_tells))
+    (λ i j k t. search (arith, eqb_tells)) in
     omega (arith, l)
 
 -- where a power up to n is 0, 0 is congruent to 1 ..

@@ -20,11 +20,7 @@ use Rattle.long_product.proofs.Bluestein.{powers_cancel}
 
 -- the geometric series
 geometric : (n a : ℕ) → a * sum_below n (λ j. a ^ j) + 1 ≡ sum_below n (λ j. a ^ j) + a ^ n
-geometric zero a =
-    let z = sum_below-zero (λ j. a ^ j) in
-    let y = ap (λ v. a * v) z in
-    let p = pow-zero a in
-    omega (arith, z, y, p)
+geometric zero a = search (arith, sum_below-zero, pow-zero)
 geometric (suc n) a =
     let before = geometric n a in
     let s = sum_below-suc n (λ j. a ^ j) in
@@ -44,10 +40,7 @@ unit_cancels {m} t u s unit none =
 
 -- where 0 is congruent to 1, every number is congruent to 0
 all_zero : {m : ℕ} (s : ℕ) → Congruent m 0 1 → Congruent m s 0
-all_zero {m} s nothing =
-    let a : s ≡ s * 1 = omega arith in
-    let z : s * 0 ≡ 0 = omega arith in
-    mod_trans (mod_of_eq a) (mod_trans (mod_mul (mod_refl s) (mod_sym nothing)) (mod_of_eq z))
+all_zero {m} s nothing = search (arith, mod_trans, mod_of_eq, mod_mul, mod_refl, mod_sym)
 
 -- the root's powers return after n steps
 turned : {m : ℕ} (g n d : ℕ) → g ^ n % m ≡ 1 % m → Congruent m ((g ^ d) ^ n) 1
@@ -149,9 +142,7 @@ other_places {m} {n} g h i k one root li lk other =
 same_place : {m : ℕ} (g h n k : ℕ) → Congruent m (g * h) 1
     → Congruent m (sum_below n (λ j. g ^ (k * j) * h ^ (j * k))) n
 same_place {m} g h n k one =
-    mod_trans (sum_below-congruent n (λ j. g ^ (k * j) * h ^ (j * k)) (λ j. 1)
-    (λ j l. mod_trans (mod_of_eq (together g h k j k)) (mod_trans (mod_pow j (powers_cancel g h k one))
-    (mod_of_eq (one-pow j)))))
+    mod_trans (search (arith, sum_below-congruent, mod_trans, mod_of_eq, together, mod_pow, powers_cancel, one-pow))
     (mod_of_eq (sum_below-of_constant n 1 ∙ omega arith))
 
 -- g and h have the sums of both orders of a root and its inverse
@@ -160,10 +151,7 @@ pub record AreOpposite (m g h n : ℕ) : Type 0 where
   pub other : (i k : ℕ) → i < n → k < n → i ≢ k → Congruent m (sum_below n (λ j. g ^ (i * j) * h ^ (j * k))) 0
 
 pub opposite : {m g h n : ℕ} → Congruent m (g * h) 1 → IsRootOfOrder m g n → AreOpposite m g h n
-opposite {m} {g} {h} {n} one root = record {
-  same = λ k l. same_place g h n k one;
-  other = λ i k li lk ne. other_places g h i k one root li lk ne;
-}
+opposite {m} {g} {h} {n} one root = search (arith, same_place, other_places)
 
 pub opposite_sym : {m g h n : ℕ} → AreOpposite m g h n → AreOpposite m h g n
 opposite_sym {m} {g} {h} {n} are =
@@ -187,10 +175,7 @@ back_sum n k g h x =
     (λ j. sum_below n (λ i. x i * (g ^ (i * j) * h ^ (j * k))))
     (λ j l.
     let s = sum_below-mul n (h ^ (j * k)) (λ i. x i * g ^ (i * j)) in
-    let t : sum_below n (λ i. x i * g ^ (i * j)) * h ^ (j * k) ≡ h ^ (j * k) * sum_below n (λ i. x i * g ^ (i * j)) =
-    omega arith in
-    t ∙ sym s ∙ sum_below-same n (λ i. h ^ (j * k) * (x i * g ^ (i * j)))
-    (λ i. x i * (g ^ (i * j) * h ^ (j * k))) (λ i u. omega arith))
+    search (arith, sum_below-same))
     ∙ sum_below-exchanged n n (λ j i. x i * (g ^ (i * j) * h ^ (j * k)))
     ∙ sum_below-same n (λ i. sum_below n (λ j. x i * (g ^ (i * j) * h ^ (j * k))))
     (λ i. x i * sum_below n (λ j. g ^ (i * j) * h ^ (j * k)))
@@ -203,9 +188,7 @@ pub taken_back : {m g h : ℕ} (n k : ℕ) (x y : ℕ → ℕ) → AreOpposite m
 taken_back {m} {g} {h} n k x y are within is =
     let t = λ (i : ℕ). sum_below n (λ j. g ^ (i * j) * h ^ (j * k)) in
     let o : x k * n ≡ n * x k = omega arith in
-    mod_trans (sum_below-congruent n (λ j. y j * h ^ (j * k))
-    (λ j. sum_below n (λ i. x i * g ^ (i * j)) * h ^ (j * k))
-    (λ j l. mod_mul (is j l) (mod_refl (h ^ (j * k)))))
+    mod_trans (search (arith, sum_below-congruent, mod_mul, mod_refl))
     (mod_trans (mod_of_eq (back_sum n k g h x))
     (mod_trans (sum_below-congruent n (λ i. x i * t i) (λ i. x i * (t i % m))
     (λ i l. mod_mul (mod_refl (x i)) (mod_sym (residue_of (t i)))))
@@ -249,15 +232,11 @@ inverse_undone m g h part n j x inverse of_length root within =
 
 -- congruent numbers have inverses together
 unit_same : (m a b : ℕ) → a % m ≡ b % m → HasInverse m a → HasInverse m b
-unit_same m a b e unit =
-    let same : Congruent m b a = record { same = sym e } in
-    (unit.0, record { below = unit.1.below; one = (mod_mul same (mod_refl unit.0)).same ∙ unit.1.one })
+unit_same m a b e unit = search (arith, mod_mul, mod_refl)
 
 -- where 0 is congruent to 1, every number has an inverse
 every_unit : (m a : ℕ) → 1 ≤ m → Congruent m 0 1 → HasInverse m a
-every_unit m a some nothing =
-    let z : a * 0 ≡ 0 = omega arith in
-    (0, record { below = omega arith; one = ap (λ v. v % m) z ∙ nothing.same })
+every_unit m a some nothing = search arith
 
 -- g^d - 1, computed below the modulus
 difference_same : (m a : ℕ) → 1 ≤ m → 0 < a → (a + (m - 1)) % m ≡ (a - 1) % m
@@ -267,9 +246,7 @@ difference_same m a some l =
 
 -- whether the differences with exponents from 1 to d - 1 have inverses, by their product
 pub first_power : (m g : ℕ) → g % m ≡ g ^ 1 % m
-first_power m g =
-    let e : suc 0 ≡ 1 = omega arith in
-    ap (λ v. v % m) (sym (ap (λ k. g ^ k) (sym e) ∙ pow-suc g 0 ∙ ap (λ v. v * g) (pow-zero g) ∙ omega arith))
+first_power m g = search (arith, pow-suc, pow-zero)
 
 pub units_none : (m g a : ℕ) → 1 ≤ m → a ≡ 1 % m
     → HasInverse m a ↔ ((e : ℕ) → 1 ≤ e → e < 1 → HasInverse m (g ^ e + (m - 1)))
@@ -277,10 +254,7 @@ units_none m g a some is = (
   λ h e l k. absurd (omega arith),
   λ h. (
     a,
-    record {
-      below = subst (λ v. v < m) (sym is) (mod-lt 1 (omega arith));
-      one = ap (λ v. (v * v) % m) is ∙ (mod_mul (residue_of 1) (residue_of 1)).same;
-    },
+    search (arith, mod-lt, mod_mul),
   ),
 )
 

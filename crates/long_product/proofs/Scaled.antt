@@ -36,6 +36,4 @@ shifted_remainder m s z d t q r below is shift word whole less =
 
 -- .. which is below m
 pub shifted_below_modulus : (m s z d r : ℕ) → d ≡ m * 2 ^ z → s ≡ z → r < d → r / 2 ^ s < m
-shifted_below_modulus m s z d r is shift less =
-    let e : d ≡ m * 2 ^ s = is ∙ ap (λ n. m * 2 ^ n) (sym shift) in
-    div_below r (2 ^ s) m (pow_pos s) (omega (arith, less, e))
+shifted_below_modulus m s z d r is shift less = search (arith, div_below, pow_pos)

@@ -22,7 +22,7 @@ use num_modular::{ModularPow, ModularUnaryOps, PreMulInv2by1, Reducer};
 /// polynomials, for fewer by the sums.
 pub const LEAST_CONVOLVED: usize = 6;
 
-/// The scratch for n entries: the numbers of words, and of factors of each of the three tables.
+/// The scratch for n entries: `(words, factors)`, the numbers of words, and of factors of each of the three tables.
 ///
 /// Both are 0 where n is below [`LEAST_CONVOLVED`]; else the words are 6·n more than `polynomials::room(n, 2n - 1)`
 /// returns, and the factors are as many.
@@ -106,6 +106,7 @@ fn write_products(by: &PreMulInv2by1<u64>, xs: &[u64], ys: &[u64], out: &mut [u6
 }
 
 // part times the sum of x_i·w^i, modulo m, by Horner's rule.
+#[tactic(auto, using(crate::proofs::Bluestein::horner_none, crate::proofs::Bluestein::horner_more))]
 fn scaled_value(by: &PreMulInv2by1<u64>, part: u64, w: u64, xs: &[u64]) -> u64
     ensures { result ≡ (part * sum_below (length xs.now) (λ i. slice_index xs.now i * w ^ i))
         % ⟦<PreMulInv2by1<u64> as Reducer<u64>>⟧.modulus by.now }

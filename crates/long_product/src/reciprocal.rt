@@ -23,6 +23,7 @@ pub(crate) fn reciprocal_of(m: u64) -> PreMulInv2by1<u64>
 /// # Preconditions
 ///
 /// - the double word is below m·2^64
+#[tactic(auto, using(crate::proofs::Scaled::shifted_remainder, crate::proofs::Scaled::shifted_below_modulus))]
 pub(crate) fn remainder(by: &PreMulInv2by1<u64>, t: u128) -> u64
     requires { t < ⟦<PreMulInv2by1<u64> as Reducer<u64>>⟧.modulus by.now * 2 ^ 64 }
     ensures value { result ≡ t % ⟦<PreMulInv2by1<u64> as Reducer<u64>>⟧.modulus by.now }
@@ -54,6 +55,7 @@ fn remainder_of_double(by: &PreMulInv2by1<u64>, t: u128) -> u64
 /// # Preconditions
 ///
 /// - low is below 2^127, and high below 2^126
+#[tactic(auto, using(crate::proofs::Coefficients::by_upper_words))]
 pub(crate) fn remainder_of_sum(by: &PreMulInv2by1<u64>, low: u128, high: u128) -> u64
     requires low { low < 2 ^ 127 }
     requires high { high < 2 ^ 126 }

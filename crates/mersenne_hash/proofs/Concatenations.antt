@@ -19,11 +19,11 @@ step a b d p q x s t e f g = let h = ap (λ k. a * k) f in omega (arith, e, h, g
 -- the first n of n + k coefficients, and the others
 pub polynomial_joined : Horner → (n k : ℕ) (c : ℕ → ℕ) (x : ℕ) → polynomial_highest_first (n + k) c x
     ≡ polynomial_highest_first n c x * x ^ k + polynomial_highest_first k (λ i. c (n + i)) x
+unfolding sum_below
 polynomial_joined horner n zero c x =
-    let none = sum_below-zero (λ i. c (n + i) * x ^ (0 - 1 - i)) in
     let one = ap (λ p. polynomial_highest_first n c x * p) (pow-zero x) in
     let whole = ap (λ k. polynomial_highest_first k c x) (let e : n + 0 ≡ n = omega arith in e) in
-    omega (arith, none, one, whole)
+    omega (arith, one, whole)
 polynomial_joined horner n (suc k) c x =
     let before = polynomial_joined horner n k c x in
     let one_more = ap (λ k. polynomial_highest_first k c x) (let e : n + suc k ≡ n + k + 1 = omega arith in e) in
@@ -71,13 +71,12 @@ polynomial_behind_zeros horner d cs x =
 
 -- without a coefficient, and with one
 pub no_coefficient : (c : ℕ → ℕ) (x : ℕ) → polynomial_highest_first 0 c x ≡ 0
-no_coefficient c x = sum_below-zero (λ i. c i * x ^ (0 - 1 - i))
+unfolding sum_below
+no_coefficient c x = omega arith
 
 pub one_coefficient : Horner → (c : ℕ → ℕ) (x : ℕ) → polynomial_highest_first 1 c x ≡ c 0
-one_coefficient horner c x =
-    let none = ap (λ v. v * x) (sum_below-zero (λ i. c i * x ^ (0 - 1 - i))) in
-    let one = horner 0 c x in
-    omega (arith, none, one)
+unfolding sum_below
+one_coefficient horner c x = omega (arith, horner 0 c x)
 
 -- one step of Horner's rule, modulo m
 pub residue_more : Horner → (m n : ℕ) (c : ℕ → ℕ) (x d value product : ℕ) → c n ≡ d

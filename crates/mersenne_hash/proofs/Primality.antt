@@ -2,13 +2,14 @@
 -- numbers by Fermat's theorem", 1914; Crandall and Pomerance, Prime Numbers, section 4.1).
 use Rattle.std.proofs.Common.{◌≡◌, ◌≢◌, ℕ, zero, suc, ◌+◌, ◌-◌, ◌*◌, ◌/◌, ◌%◌, ◌^◌, ◌<◌, ◌≤◌, ◌⊎◌, inl, inr, ⊎_elim}
 use Rattle.std.proofs.Common.{arith, ap, sym, ◌∙◌, refl, subst, lit<}
-use Rattle.std.proofs.Math.Nat.{pow-zero, pow-suc, mod_self, mod-mod_of_dvd, dvd-mul_left, dvd-mul_right, zero-mod, add-mul-mod_self_left}
+use Rattle.std.proofs.Math.Nat.{pow-suc, mod_self, mod-mod_of_dvd, dvd-mul_left, dvd-mul_right, zero-mod}
 use Rattle.std.proofs.Math.Nat.{div-add-mod, mod-eq_of_lt, mul-le-mul_left}
-use Rattle.std.proofs.lemmas.Nat.{mul-mod_first, mul-mod_second, pow-add}
 use Rattle.std.proofs.lemmas.Nat.Gcd.{dvd_of_mod-eq-zero, mod-eq-zero_of_dvd, dvd_trans}
 use Rattle.std.proofs.Common.{Bool, true, ◌&&◌, ◌||◌, nat_lt, lit≤}
 use Rattle.std.proofs.lemmas.Bool.{cases_eq, cases_lt, and_parts, or_cases, ltb-true}
+use Rattle.num_modular.specs.Congruence.{Congruent}
 use Rattle.num_modular.specs.Inverses.{HasInverse}
+use Rattle.num_modular.specs.NumberLaws.{mod_of_eq, mod_refl, mod_sym, mod_trans, mod_mul, mod_pow, mod_add_cancel, one-pow, pow-mul}
 use Rattle.num_modular.specs.Primes.{IsPrime}
 
 -- a divisor of a divisor
@@ -26,33 +27,25 @@ abbrev NoDivisor : ℕ → ℕ → Type 0
 NoDivisor n k = (d : ℕ) → 1 < d → d < k → n % d ≡ 0 → ⊥
 
 one_more : (n k : ℕ) → NoDivisor n k → (n % k ≢ 0) ⊎ (k ≤ 1) → NoDivisor n (suc k)
-one_more n k none last d h l e =
-    ⊎_elim (λ (b : d < k). none d h b e)
-    (λ (b : k ≤ d).
-    let here : d ≡ k = omega arith in
-    ⊎_elim (λ (ne : n % k ≢ 0). ne (subst (λ j. n % j ≡ 0) here e))
-    (λ (small : k ≤ 1). absurd (omega arith)) last)
-    (cases_lt d k)
+one_more n k none last d h l e = elim (cases_lt d k) [
+  | inl b ↦ none d h b e
+  | inr b ↦
+      let here : d ≡ k = omega arith in
+      elim last [ inl ne ↦ ne (subst (λ j. n % j ≡ 0) here e) | inr small ↦ absurd (omega arith) ]
+]
 
 found : (n k : ℕ) → Divisor n k ⊎ NoDivisor n k
 found n zero = inr (λ d h l e. absurd (omega (arith, l)))
-found n (suc k) =
-    ⊎_elim
-    (λ (w : Divisor n k).
-    let below : w.number < suc k = omega arith in
-    inl record { number = w.number; above = w.above; below = below; divides = w.divides })
-    (λ (none : NoDivisor n k).
-    ⊎_elim
-    (λ (large : 1 < k).
-    ⊎_elim
-    (λ (e : n % k ≡ 0).
-    let below : k < suc k = omega arith in
-    inl record { number = k; above = large; below = below; divides = e })
-    (λ (ne : n % k ≢ 0). inr (one_more n k none (inl ne)))
-    (cases_eq (n % k) 0))
-    (λ (small : k ≤ 1). inr (one_more n k none (inr small)))
-    (cases_lt 1 k))
-    (found n k)
+found n (suc k) = elim (found n k) [
+  | inl w ↦ inl record { number = w.number; above = w.above; below = omega (arith, w.below); divides = w.divides }
+  | inr none ↦ elim (cases_lt 1 k) [
+    | inl large ↦ elim (cases_eq (n % k) 0) [
+      | inl e ↦ inl record { number = k; above = large; below = omega arith; divides = e }
+      | inr ne ↦ inr (one_more n k none (inl ne))
+    ]
+    | inr small ↦ inr (one_more n k none (inr small))
+  ]
+]
 
 -- a prime divisor, at most n
 record PrimeDivisor (n : ℕ) : Type 0 where
@@ -63,17 +56,18 @@ record PrimeDivisor (n : ℕ) : Type 0 where
 
 prime_divisor : (fuel n : ℕ) → n ≤ fuel → 1 < n → PrimeDivisor n
 prime_divisor zero n h l = absurd (omega (arith, h, l))
-prime_divisor (suc fuel) n h l =
-    ⊎_elim
-    (λ (w : Divisor n n).
-    let smaller : w.number ≤ fuel = omega (arith, w.below, h) in
-    let r = prime_divisor fuel w.number smaller w.above in
-    let most : r.number ≤ n = omega (arith, r.most, w.below) in
-    record { number = r.number; prime = r.prime; divides = divides_on r.number w.number n r.divides w.divides; most = most })
-    (λ (none : NoDivisor n n).
-    let most : n ≤ n = omega arith in
-    record { number = n; prime = record { above_one = l; undivided = none }; divides = mod_self n; most = most })
-    (found n n)
+prime_divisor (suc fuel) n h l = elim (found n n) [
+  | inl w ↦
+      let r = prime_divisor fuel w.number (omega (arith, w.below, h)) w.above in
+      record {
+        number = r.number;
+        prime = r.prime;
+        divides = divides_on r.number w.number n r.divides w.divides;
+        most = omega (arith, r.most, w.below);
+      }
+  | inr none ↦
+      record { number = n; prime = record { above_one = l; undivided = none }; divides = mod_self n; most = omega arith }
+]
 
 product_divided : (d q : ℕ) → (d * q) % q ≡ 0
 product_divided d q = mod-eq-zero_of_dvd q (dvd-mul_left q d)
@@ -92,45 +86,35 @@ no_small n k h square none =
     ⊎_elim (λ (b : r.number < k). none r.number r.prime b (divides_on r.number f n r.divides e))
     (λ (b : k ≤ r.number).
     let far : k ≤ f = omega (arith, r.most, b) in
-    let one = mul-le-mul_left k far in
-    let two = mul-le-mul_left f far in
-    absurd (omega (arith, one, two, l, square)))
+    absurd (omega (arith, mul-le-mul_left k far, mul-le-mul_left f far, l, square)))
     (cases_lt r.number k) in
     record {
       above_one = h;
       undivided = λ d above below e.
           let q = n / d in
           let whole : d * q ≡ n = omega (arith, div-add-mod n d, e) in
-          ⊎_elim
-          (λ (b : d < suc q).
-          let le : d ≤ q = omega arith in
-          let l = mul-le-mul_left d le in
-          small d above e (omega (arith, l, whole)))
-          (λ (b : suc q ≤ d).
-          let le : q ≤ d = omega arith in
-          let l = mul-le-mul_left q le in
-          let turn : q * d ≡ d * q = omega arith in
-          let divided : n % q ≡ 0 = ap (λ k. k % q) (sym whole) ∙ product_divided d q in
-          let above_one : 1 < q = greater_one n d q below whole h in
-          small q above_one divided (omega (arith, l, turn, whole)))
-          (cases_lt d (suc q));
+          elim (cases_lt d (suc q)) [
+            | inl b ↦
+                let le : d ≤ q = omega arith in
+                let l = mul-le-mul_left d le in
+                small d above e (omega (arith, l, whole))
+            | inr b ↦
+                let le : q ≤ d = omega arith in
+                let l = mul-le-mul_left q le in
+                small q (greater_one n d q below whole h) (ap (λ k. k % q) (sym whole) ∙ product_divided d q)
+                (omega (arith, l, whole))
+          ];
     }
 
 -- powers of a number that is congruent to 1
-ones : (d x k : ℕ) → x % d ≡ 1 % d → x ^ k % d ≡ 1 % d
-ones d x zero h = ap (λ n. n % d) (pow-zero x)
-ones d x (suc k) h =
-    let alone : 1 * x ≡ x = omega arith in
-    ap (λ n. n % d) (pow-suc x k) ∙ sym (mul-mod_first (x ^ k) x d) ∙ ap (λ n. (n * x) % d) (ones d x k h)
-    ∙ mul-mod_first 1 x d ∙ ap (λ n. n % d) alone ∙ h
+ones : {d x : ℕ} (k : ℕ) → Congruent d x 1 → Congruent d (x ^ k) 1
+ones k h = mod_trans (mod_pow k h) (mod_of_eq (one-pow k))
 
-power_of_power : (b i k : ℕ) → b ^ (i * k) ≡ (b ^ i) ^ k
-power_of_power b i zero =
-    let none : i * 0 ≡ 0 = omega arith in
-    ap (λ n. b ^ n) none ∙ pow-zero b ∙ sym (pow-zero (b ^ i))
-power_of_power b i (suc k) =
-    let more : i * suc k ≡ i * k + i = omega arith in
-    ap (λ n. b ^ n) more ∙ pow-add b (i * k) i ∙ ap (λ n. n * b ^ i) (power_of_power b i k) ∙ sym (pow-suc (b ^ i) k)
+-- congruent modulo a divisor
+modulo_divisor : (n r x y : ℕ) → n % r ≡ 0 → x % n ≡ y % n → Congruent r x y
+modulo_divisor n r x y e same = record {
+  same = sym (mod-mod_of_dvd r x (dvd_of_mod-eq-zero r e)) ∙ ap (λ k. k % r) same ∙ mod-mod_of_dvd r y (dvd_of_mod-eq-zero r e);
+}
 
 -- what the certificate has for a prime q: a number b whose power of q is 1 modulo n, and the inverse of b - 1
 pub record Witness (n q b c : ℕ) : Type 0 where
@@ -144,75 +128,64 @@ Fermat = (a p : ℕ) → IsPrime p → (a % p ≡ 0 → ⊥) → a ^ (p - 1) % p
 abbrev pub Inverts : Type 0
 Inverts = (a p : ℕ) → IsPrime p → (a % p ≡ 0 → ⊥) → HasInverse p a
 
-less_one : (b r : ℕ) → 1 ≤ b → b % r ≡ 1 % r → (b - 1) % r ≡ 0
+less_one : (b r : ℕ) → 1 ≤ b → Congruent r b 1 → Congruent r (b - 1) 0
 less_one b r positive one =
-    let d = b - 1 in
-    let sum : d + 1 ≡ b = omega arith in
-    let a = div-add-mod b r in
-    let z = div-add-mod 1 r in
-    let spread : d + r * (1 / r) ≡ 0 + r * (b / r) = omega (arith, a, z, one, sum) in
-    sym (add-mul-mod_self_left d r (1 / r)) ∙ ap (λ k. k % r) spread ∙ add-mul-mod_self_left 0 r (b / r) ∙ zero-mod r
+    let sum : b - 1 + 1 ≡ b = omega arith in mod_add_cancel 1 (mod_trans (mod_of_eq sum) one)
 
-not_zero : (b q r : ℕ) → 1 < q → 1 < r → b ^ q % r ≡ 1 % r → b % r ≡ 0 → ⊥
+-- 1 isn't 0 modulo a number above 1
+one_not_none : (r x : ℕ) → 1 < r → Congruent r x 1 → Congruent r x 0 → ⊥
+one_not_none r x above one none =
+    let small : 1 % r ≡ 1 = mod-eq_of_lt above in
+    absurd (omega (arith, one.same, none.same, small, zero-mod r))
+
+not_zero : (b q r : ℕ) → 1 < q → 1 < r → Congruent r (b ^ q) 1 → b % r ≡ 0 → ⊥
 not_zero b zero r q_above r_above power none = absurd (omega (arith, q_above))
 not_zero b (suc q) r q_above r_above power none =
-    let product : b ^ suc q % r ≡ 0 % r =
-    ap (λ k. k % r) (pow-suc b q) ∙ sym (mul-mod_second (b ^ q) b r) ∙ ap (λ k. (b ^ q * k) % r) none
-    ∙ ap (λ k. k % r) (let z : b ^ q * 0 ≡ 0 = omega arith in z) in
-    let small : 1 % r ≡ 1 = mod-eq_of_lt r_above in
-    let wrong : 1 ≡ 0 = sym small ∙ sym power ∙ product ∙ zero-mod r in
-    absurd (omega (arith, wrong))
+    let nothing : b ^ q * 0 ≡ 0 = omega arith in
+    one_not_none r (b ^ suc q) r_above power
+    (mod_trans (mod_of_eq (pow-suc b q)) (mod_trans (mod_mul (mod_refl (b ^ q)) (record { same = none ∙ sym (zero-mod r) }))
+    (mod_of_eq nothing)))
 
 -- modulo a divisor r, above 1, such a b isn't 1
-not_one : (n q b c r : ℕ) → Witness n q b c → 1 < r → n % r ≡ 0 → b % r ≡ 1 % r → ⊥
+not_one : (n q b c r : ℕ) → Witness n q b c → 1 < r → n % r ≡ 0 → Congruent r b 1 → ⊥
 not_one n q b c r w above e one =
-    let on : ((b - 1) * c) % r ≡ 1 % r =
-    sym (mod-mod_of_dvd r ((b - 1) * c) (dvd_of_mod-eq-zero r e)) ∙ ap (λ k. k % r) w.apart
-    ∙ mod-mod_of_dvd r 1 (dvd_of_mod-eq-zero r e) in
-    let same : (b - 1) % r ≡ 0 = less_one b r w.positive one in
-    let zero_product : ((b - 1) * c) % r ≡ 0 % r =
-    sym (mul-mod_first (b - 1) c r) ∙ ap (λ k. (k * c) % r) same ∙ ap (λ k. k % r) (let z : 0 * c ≡ 0 = omega arith in z) in
-    let small : 1 % r ≡ 1 = mod-eq_of_lt above in
-    let none : 0 % r ≡ 0 = mod-eq_of_lt (let l : 0 < r = omega arith in l) in
-    let wrong : 1 ≡ 0 = sym small ∙ sym on ∙ zero_product ∙ none in
-    absurd (omega (arith, wrong))
+    let nothing : 0 * c ≡ 0 = omega arith in
+    one_not_none r ((b - 1) * c) above (modulo_divisor n r _ _ e w.apart)
+    (mod_trans (mod_mul (less_one b r w.positive one) (mod_refl c)) (mod_of_eq nothing))
 
 -- so q divides r - 1 for each prime divisor r
 pub one_less : (n q b c r : ℕ) → Fermat → Inverts → Witness n q b c → IsPrime q → IsPrime r → n % r ≡ 0
     → (r - 1) % q ≡ 0
-one_less n q b c r fermat inverts w q_prime r_prime e =
-    ⊎_elim (λ (h : (r - 1) % q ≡ 0). h)
-    (λ (ne : (r - 1) % q ≢ 0).
-    let inverse = inverts (r - 1) q q_prime ne in
-    let t = (r - 1) * inverse.0 in
-    let k = t / q in
-    let last : t % q ≡ 1 = inverse.1.one ∙ mod-eq_of_lt q_prime.above_one in
-    let whole : t ≡ q * k + 1 = omega (arith, div-add-mod t q, last) in
-    let power : b ^ q % r ≡ 1 % r =
-    sym (mod-mod_of_dvd r (b ^ q) (dvd_of_mod-eq-zero r e)) ∙ ap (λ j. j % r) w.power
-    ∙ mod-mod_of_dvd r 1 (dvd_of_mod-eq-zero r e) in
-    let unit : b % r ≢ 0 = not_zero b q r q_prime.above_one r_prime.above_one power in
-    let by_fermat : b ^ t % r ≡ 1 % r =
-    ap (λ j. j % r) (power_of_power b (r - 1) inverse.0)
-    ∙ ones r (b ^ (r - 1)) inverse.0 (fermat b r r_prime unit ∙ sym (mod-eq_of_lt r_prime.above_one)) in
-    let once : b ^ 1 ≡ b = pow-suc b 0 ∙ ap (λ j. j * b) (pow-zero b) ∙ (let a : 1 * b ≡ b = omega arith in a) in
-    let by_power : b ^ t % r ≡ b % r =
-    ap (λ j. b ^ j % r) whole ∙ ap (λ j. j % r) (pow-add b (q * k) 1 ∙ ap (λ j. b ^ (q * k) * j) once)
-    ∙ ap (λ j. (j * b) % r) (power_of_power b q k) ∙ sym (mul-mod_first ((b ^ q) ^ k) b r)
-    ∙ ap (λ j. (j * b) % r) (ones r (b ^ q) k power) ∙ mul-mod_first 1 b r
-    ∙ ap (λ j. j % r) (let a : 1 * b ≡ b = omega arith in a) in
-    absurd (not_one n q b c r w r_prime.above_one e (sym by_power ∙ by_fermat)))
-    (cases_eq ((r - 1) % q) 0)
+one_less n q b c r fermat inverts w q_prime r_prime e = elim (cases_eq ((r - 1) % q) 0) [
+  | inl h ↦ h
+  | inr ne ↦
+      let (i, inverse) = inverts (r - 1) q q_prime ne in
+      let t = (r - 1) * i in
+      let k = t / q in
+      let last : t % q ≡ 1 = inverse.one ∙ mod-eq_of_lt q_prime.above_one in
+      let whole : t ≡ suc (q * k) = omega (arith, div-add-mod t q, last) in
+      let power = modulo_divisor n r (b ^ q) 1 e w.power in
+      let unit = not_zero b q r q_prime.above_one r_prime.above_one power in
+      let by_fermat : Congruent r (b ^ t) 1 =
+      mod_trans (mod_of_eq (pow-mul b (r - 1) i))
+      (ones i (record { same = fermat b r r_prime unit ∙ sym (mod-eq_of_lt r_prime.above_one) })) in
+      let alone : 1 * b ≡ b = omega arith in
+      let by_power : Congruent r (b ^ t) b =
+      mod_trans (mod_of_eq (ap (λ j. b ^ j) whole ∙ pow-suc b (q * k) ∙ ap (λ j. j * b) (pow-mul b q k)))
+      (mod_trans (mod_mul (ones k power) (mod_refl b)) (mod_of_eq alone)) in
+      absurd (not_one n q b c r w r_prime.above_one e (mod_trans (mod_sym by_power) by_fermat))
+]
 
 -- a product with a factor that has an inverse
 cancelled : (q a y k : ℕ) → (a * y) % q ≡ 1 % q → (a * k) % q ≡ 0 → k % q ≡ 0
 cancelled q a y k one none =
-    let alone : 1 * k ≡ k = omega arith in
+    let alone : k ≡ 1 * k = omega arith in
     let turned : a * y * k ≡ a * k * y = omega arith in
     let nothing : 0 * y ≡ 0 = omega arith in
-    sym (ap (λ j. j % q) alone) ∙ sym (mul-mod_first 1 k q) ∙ ap (λ j. (j * k) % q) (sym one) ∙ mul-mod_first (a * y) k q
-    ∙ ap (λ j. j % q) turned ∙ sym (mul-mod_first (a * k) y q) ∙ ap (λ j. (j * y) % q) none ∙ ap (λ j. j % q) nothing
-    ∙ zero-mod q
+    let whole : Congruent q k 0 =
+    mod_trans (mod_of_eq alone) (mod_trans (mod_mul (record { same = sym one }) (mod_refl k)) (mod_trans (mod_of_eq turned)
+    (mod_trans (mod_mul (record { same = none ∙ sym (zero-mod q) }) (mod_refl y)) (mod_of_eq nothing)))) in
+    whole.same ∙ zero-mod q
 
 -- divisors of which one has an inverse modulo the other
 joined : (n a q y : ℕ) → (a * y) % q ≡ 1 % q → n % a ≡ 0 → n % q ≡ 0 → n % (a * q) ≡ 0
@@ -235,11 +208,10 @@ passes : (n : ℕ) (test : ℕ → Bool) → each_below n test ≡ true → (i :
 passes zero test h i l = absurd (omega (arith, l))
 passes (suc n) test h i l =
     let parts = and_parts (each_below n test) (test n) h in
-    ⊎_elim (λ (b : i < n). passes n test parts.0 i b)
-    (λ (b : n ≤ i).
-    let here : i ≡ n = omega arith in
-    ap test here ∙ parts.1)
-    (cases_lt i n)
+    elim (cases_lt i n) [
+      | inl b ↦ passes n test parts.0 i b
+      | inr b ↦ let here : i ≡ n = omega arith in ap test here ∙ parts.1
+    ]
 
 abbrev leaves : ℕ → ℕ → Bool
 leaves q d = nat_lt d 2 || nat_lt 0 (q % d)

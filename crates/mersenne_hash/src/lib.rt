@@ -15,6 +15,7 @@ ghost use Rattle.mersenne_hash.specs.Collisions.{FewFalseHits};
 use num_modular::ModularInteger;
 use num_modular::hashes::{Hash, base, hash};
 use num_modular::laws::{polynomial_laws, prime_laws, range_laws};
+// rust: pub use prefixes::{Hits, Patterns, PrefixHashes};
 
 /// A law, how rarely hashes collide: 2^61 - 1 is prime. So two different texts of n symbols below 2^61 - 1 have the
 /// same hash at fewer than n of the bases 0 to 2^61 - 2, and any n different bases distinguish them: for a random base

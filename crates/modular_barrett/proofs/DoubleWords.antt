@@ -5,12 +5,7 @@ use Rattle.modular_word.proofs.Congruence.{mod_cancel}
 
 -- the word whose sum with m is 0 modulo b
 pub complement : (b m c : ℕ) → 0 < m → m ≤ b → c < b → (c + m) % b ≡ 0 → c + m ≡ b
-complement b m c some room fits none =
-    let rest : (b - m) + m ≡ b = omega (arith, room) in
-    let small : b - m < b = omega (arith, some, room) in
-    let e : (c + m) % b ≡ ((b - m) + m) % b = none ∙ sym (ap (λ v. v % b) rest ∙ mod_self b) in
-    let same : c ≡ b - m = mod_cancel b c (b - m) m fits small e in
-    omega (arith, same, rest)
+complement b m c some room fits none = grind (arith, mod_self, mod_cancel)
 
 -- a difference below b, in a sum of double words
 pub sum_fits : (b m p q c : ℕ) → 2 * m ≤ b → q < b → p < q * m + 2 * m → c + m ≡ b → p + q * c < b * b

@@ -1,9 +1,9 @@
 -- The multiplier and the shift of a divisor.
-use Rattle.std.proofs.Common.{◌≡◌, ℕ, suc, ◌+◌, ◌-◌, ◌*◌, ◌/◌, ◌%◌, ◌^◌, ◌<◌, ◌≤◌, sym, ap, ◌∙◌, subst, arith, refl, ⊎_elim}
-use Rattle.std.proofs.Math.Nat.{mod-lt, div-add-mod, mod-eq_of_lt, mul-le-mul_left, pow-succ'}
+use Rattle.std.proofs.Common.{◌≡◌, ℕ, suc, ◌+◌, ◌-◌, ◌*◌, ◌/◌, ◌%◌, ◌^◌, ◌<◌, ◌≤◌, sym, ap, ◌∙◌, subst, arith, refl, ⊎_elim, bit_and}
+use Rattle.std.proofs.Math.Nat.{mod-lt, div-add-mod, mod-eq_of_lt, mul-le-mul_left, mul_comm, pow-succ'}
 use Rattle.std.proofs.Math.Pow.{pow_mono}
 use Rattle.std.proofs.lemmas.Bool.{cases_lt}
-use Rattle.std.proofs.lemmas.Nat.{leading_top}
+use Rattle.std.proofs.lemmas.Nat.{leading_top, and_mask, one_shl}
 use Rattle.std.specs.Int.Count.{count_leading_zeros}
 use Rattle.modular_word.specs.Reciprocals.{IsMultiplier}
 use Rattle.modular_reduced.specs.Powers.{digits}
@@ -33,31 +33,11 @@ pub digits_counted : (w x n : ℕ) → 0 < x → n ≡ digits x → n ≤ w → 
 digits_counted w x n some e most =
     let below : x < 2 ^ n = subst (λ k. x < 2 ^ k) (sym e) (digits_above x) in
     let positive : 0 < n =
-    ⊎_elim
-    (λ (l : 0 < n). l)
-    (λ (l : n ≤ 0). let z : x < 2 ^ 0 = subst (λ k. x < 2 ^ k) (let k : n ≡ 0 = omega arith in k) below in
-    absurd (omega arith))
-    (cases_lt 0 n) in
-    record {
-      some = positive;
-      at_most = most;
-      top =
-          ⊎_elim
-          (λ (l : x < 2 ^ (n - 1)). let m = digits_least x (n - 1) l in absurd (omega arith))
-          (λ (l : 2 ^ (n - 1) ≤ x). l)
-          (cases_lt x (2 ^ (n - 1)));
-      below = below;
-    }
+    grind arith in
+    grind (arith, digits_least)
 
 digits_at : (w x leading j : ℕ) → leading + suc j ≡ w → 2 ^ j ≤ x → x < 2 ^ suc j → HasDigits w x (suc j)
-digits_at w x leading j e low high =
-    let p : suc j - 1 ≡ j = omega arith in
-    record {
-      some = omega arith;
-      at_most = omega arith;
-      top = subst (λ k. 2 ^ k ≤ x) (sym p) low;
-      below = high;
-    }
+digits_at w x leading j e low high = grind arith
 
 -- the binary digits are those below the leading zeros
 pub digits_below_leading : (w b bits leading x : ℕ) → bits ≡ w → b ≡ 2 ^ w → 0 < x → x < b
@@ -91,17 +71,11 @@ quotient_below w b d less n gap p =
     let top : 2 ^ (n - 1) ≤ less = p.digits.top in
     let f : d * (b * gap / d) + b * gap % d ≡ b * gap = div-add-mod (b * gap) d in
     let g : b * (gap + 1) ≤ b * d = mul-le-mul_left b (omega (arith, p.next, p.whole, digits_power p.digits)) in
-    ⊎_elim
-    (λ (h : b * gap / d + 1 < b). h)
-    (λ (h : b ≤ b * gap / d + 1).
-    let m : d * b ≤ d * (b * gap / d + 1) = mul-le-mul_left d h in
-    absurd (omega (arith, p.fits)))
-    (cases_lt (b * gap / d + 1) b)
+    grind (arith, mul-le-mul_left)
 
 pub multiplier_fits : (w b d less n gap q : ℕ) → IsPrepared w b d less n gap → q ≡ b * gap / d % b → q + 1 < b
 multiplier_fits w b d less n gap q p e =
     let h = quotient_below w b d less n gap p in
-    let r : b * gap / d % b ≡ b * gap / d = mod-eq_of_lt (omega arith) in
     omega arith
 
 pub multiplier_is : (w b d less n gap q m : ℕ) → IsPrepared w b d less n gap → q ≡ b * gap / d % b → m ≡ q + 1
@@ -116,18 +90,20 @@ multiplier_is w b d less n gap q m p e em =
     let t : b * (gap + d) ≡ b * (2 * N) = ap (λ v. b * v) (p.whole ∙ digits_power p.digits) in
     let top : N ≤ less = p.digits.top in
     let below : less < 2 * N = subst (λ n. less < n) (digits_power p.digits) p.digits.below in
-    record {
-      shift_fits = omega (arith, p.digits.some, p.digits.at_most);
-      above = omega (arith, p.next);
-      at_most = omega (arith, p.next);
-      more = omega arith;
-      close = omega arith;
-    }
+    omega arith
 
 -- what is stored for d in words of w bits, where the power of two is computed as g
 pub prepared_by : (w d g : ℕ) → 1 < d → d < 2 ^ w → g ≡ 2 ^ (w - count_leading_zeros w (d - 1))
     → IsPrepared w (2 ^ w) d (d - 1) (w - count_leading_zeros w (d - 1)) (g - d)
-prepared_by w d g some fits e =
-    let known : HasDigits w (d - 1) (w - count_leading_zeros w (d - 1)) =
-    digits_below_leading w (2 ^ w) w (count_leading_zeros w (d - 1)) (d - 1) refl refl (omega arith) (omega arith) refl in
-    record { digits = known; next = omega arith; fits = fits; whole = omega (arith, known.below) }
+prepared_by w d g some fits e = grind (arith, digits_below_leading)
+
+-- so it is in words of twice as many bits, with a mask for the low ones
+pub computed : (w d : ℕ) → 0 < w → 1 < d → d < 2 ^ w →
+    let n = w - count_leading_zeros w (d - 1) in let power = 1 * 2 ^ n % 2 ^ (2 * w) in
+    let q = bit_and ((power - d) * 2 ^ w / d) (2 ^ w - 1) in
+    (d ≤ power) × (q + 1 < 2 ^ w) × IsMultiplier w (2 ^ w) d (q + 1) (n - 1)
+computed w d wide some fits =
+    let power = one_shl (w - count_leading_zeros w (d - 1)) (2 * w) (omega arith) in
+    let p = prepared_by w d _ some fits power in
+    let q = and_mask _ w ∙ ap (λ v. v / d % 2 ^ w) (mul_comm _ (2 ^ w)) in
+    (omega (arith, power, p.digits.below), multiplier_fits _ _ _ _ _ _ _ p q, multiplier_is _ _ _ _ _ _ _ _ p q refl)

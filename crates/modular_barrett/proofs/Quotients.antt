@@ -1,9 +1,9 @@
 -- The arithmetic of products by a precomputed quotient, in words of which there are b.
 use Rattle.std.proofs.Common.{◌≡◌, ℕ, ◌+◌, ◌-◌, ◌*◌, ◌/◌, ◌%◌, ◌^◌, ◌<◌, ◌≤◌, sym, ap, ◌∙◌, arith}
-use Rattle.std.proofs.Math.Nat.{mod-lt, div-add-mod, mod-eq_of_lt, mul-le-mul_left}
-use Rattle.std.proofs.Math.Nat.{mul-le-mul_right, lt_of_mul-lt-mul_right, le_of_mul-le-mul_right}
+use Rattle.std.proofs.Math.Nat.{mod-lt, div-add-mod, mod-eq_of_lt}
+use Rattle.std.proofs.Math.Nat.{lt_of_mul-lt-mul_right, le_of_mul-le-mul_right}
 use Rattle.std.proofs.Math.Nat.{add-mul-mod_self_right, add-mod}
-use Rattle.std.proofs.lemmas.Nat.{div-mul-add, pow-add}
+use Rattle.std.proofs.lemmas.Nat.{div-mul-add, mul-lt, pow-add}
 use Rattle.modular_word.specs.Congruence.{Congruent}
 use Rattle.modular_word.specs.Division.{IsDivision}
 use Rattle.modular_word.specs.Reciprocals.{IsReciprocal}
@@ -13,9 +13,7 @@ use Rattle.modular_reduced.proofs.FixedFactors.{IsNear}
 
 -- a factor with the quotient of its product with the base
 pub factor_is : (b m w q r : ℕ) → w < m → IsDivision (b * w) m q r → IsFactor b m w q
-factor_is b m w q r below h =
-    let e : q * m + r ≡ w * b = omega (arith, h.whole) in
-    record { below = below; quotient = sym (ap (λ v. v / m) (sym e) ∙ div-mul-add q m r h.below) }
+factor_is b m w q r below h = grind (arith, div-mul-add)
 
 -- the quotient of scaled numbers is the quotient
 pub scaled_quotient : (b m w s q r : ℕ) → 0 < s → IsDivision (b * (w * s)) (m * s) q r → q ≡ w * b / m
@@ -36,11 +34,7 @@ pub record IsProduct (m product r : ℕ) : Type 0 where
   pub congruent : Congruent m r product
 
 pub left_less : (m product whole r : ℕ) → IsNear m product whole → r + whole * m ≡ product → IsProduct m product r
-left_less m product whole r near_it e =
-    record {
-      below = omega (arith, near_it.close, e);
-      congruent = record { same = sym (add-mul-mod_self_right r whole m) ∙ ap (λ v. v % m) e };
-    }
+left_less m product whole r near_it e = grind (arith, add-mul-mod_self_right)
 
 pub left_over : (b m product whole p t r : ℕ) → 0 < b → 2 * m ≤ b → IsNear m product whole → p ≡ product % b
     → t ≡ (whole * m) % b → r < b → (r + t) % b ≡ p
@@ -53,36 +47,21 @@ left_over b m product whole p t r some room near_it is_p is_t fits e =
     let small : rest < b = omega arith in
     let t_fits : t % b ≡ t = ap (λ v. v % b) is_t ∙ mod-eq_of_lt (mod-lt (whole * m) some) ∙ sym is_t in
     let again : (rest + t) % b ≡ p =
-    add-mod rest t b ∙ ap (λ v. (rest % b + v) % b) (t_fits ∙ is_t) ∙ sym (add-mod rest (whole * m) b)
-    ∙ ap (λ v. v % b) s ∙ sym is_p in
+    grind (arith, add-mod) in
     let same : r ≡ rest = mod_cancel b r rest t fits small (e ∙ sym again) in
-    left_less m product whole r near_it (omega (arith, same, s))
+    grind (arith, left_less)
 
 -- a part of 2 ^ w
 pub part : (k w b f : ℕ) → b ≡ 2 ^ w → k ≤ w → f ≡ 2 ^ (w - k) → 2 ^ k * f ≡ b
-part k w b f is_b wide is_f =
-    let s : w ≡ k + (w - k) = omega arith in
-    ap (λ v. 2 ^ k * v) is_f ∙ sym (is_b ∙ ap (λ v. 2 ^ v) s ∙ pow-add 2 k (w - k))
+part k w b f is_b wide is_f = grind (arith, pow-add)
 
 -- a divisor with a reciprocal is a word
 pub divisor_fits : {b d v : ℕ} → IsReciprocal b d v → d < b
-divisor_fits {b} {d} {v} is =
-    let below = is.below in
-    lt_of_mul-lt-mul_right b (let k : d * b < b * b = omega arith in k)
-
--- a product whose first number is below the divisor, in words of which there are b
-pub scaled_below : (b d x y : ℕ) → x < d → y < b → x * y < d * b
-scaled_below b d x y less fits =
-    let first : x * y ≤ x * b = mul-le-mul_left x (let k : y ≤ b = omega arith in k) in
-    let second : (x + 1) * b ≤ d * b = mul-le-mul_right b (let k : x + 1 ≤ d = omega arith in k) in
-    omega (arith, first, second)
+divisor_fits {b} {d} {v} is = grind (arith, lt_of_mul-lt-mul_right)
 
 -- any word times a number below d
 pub any_times_below : (b d x y : ℕ) → x < b → y < d → x * y < d * b
-any_times_below b d x y fits less =
-    let turn : x * y ≡ y * x = omega arith in
-    let below = scaled_below b d y x less fits in
-    omega (arith, turn, below)
+any_times_below b d x y fits less = omega (arith, mul-lt x y b d fits less)
 
 -- the rest of scaled numbers is the rest, scaled
 pub scaled_rest : (m x y s q r : ℕ) → 0 < s → IsDivision (x * s * y) (m * s) q r → r / s ≡ (x * y) % m

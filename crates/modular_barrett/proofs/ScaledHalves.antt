@@ -1,6 +1,6 @@
 -- Halves of scaled forms, where 2 * m is below the base: then the divisor d and each form are even.
 use Rattle.std.proofs.Common.{◌≡◌, ℕ, ◌+◌, ◌-◌, ◌*◌, ◌/◌, ◌%◌, ◌^◌, ◌<◌, ◌≤◌, pos, ◌-ℤ◌}
-use Rattle.std.proofs.Common.{sym, ap, ◌∙◌, arith, ⊎_elim}
+use Rattle.std.proofs.Common.{ap, ◌∙◌, arith, ⊎_elim}
 use Rattle.std.specs.Int.Count.{count_leading_zeros}
 use Rattle.std.proofs.lemmas.Nat.{pow-add}
 use Rattle.std.proofs.lemmas.Bool.{cases_lt}
@@ -16,12 +16,9 @@ even_scale w m d is room top =
     let s = count_leading_zeros w m in
     ⊎_elim
     (λ (l : 0 < s).
-    let e : s ≡ 1 + (s - 1) = omega (arith, l) in
-    ap (λ n. 2 ^ n) e ∙ pow-add 2 1 (s - 1))
+    grind (arith, pow-add))
     (λ (l : s ≤ 0).
-    let none : s ≡ 0 = omega (arith, l) in
-    let same : d ≡ m * 1 = is ∙ ap (λ n. m * 2 ^ n) none in
-    absurd (omega (arith, same, room, top)))
+    grind arith)
     (cases_lt 0 s)
 
 -- a multiple of it is twice its half
@@ -48,23 +45,11 @@ halves w m d a b p x y is room top fa fb half_d half_a half_b =
     let eb = twice (scaled_value w m b) (scale w m) k b y even fb.same half_b in
     let la = form_below w m d a is fa in
     let lb = form_below w m d b is fb in
-    record {
-      divisor = ed;
-      left = ea;
-      right = eb;
-      left_below = omega (arith, ed, ea, la);
-      right_below = omega (arith, ed, eb, lb);
-    }
+    omega arith
 
 -- the sum of the words, by that of the halves
 pub sum_of_halves : (d a b p x y h r : ℕ) → AreHalves d a b p x y → h ≡ (x + y) % p → r ≡ h + h → r ≡ (a + b) % d
-sum_of_halves d a b p x y h r are is_h is_r =
-    let whole : (x + y) * 2 ≡ a + b = omega (arith, are.left, are.right) in
-    let divisor : p * 2 ≡ d = omega (arith, are.divisor) in
-    let double : r ≡ h * 2 = omega (arith, is_r) in
-    double ∙ ap (λ n. n * 2) is_h
-    ∙ sym (scaled_remainder (x + y) p 2 (omega (arith, are.left_below)) (omega arith))
-    ∙ ap (λ n. n % (p * 2)) whole ∙ ap (λ n. (a + b) % n) divisor
+sum_of_halves d a b p x y h r are is_h is_r = grind (arith, scaled_remainder)
 
 -- the difference
 pub difference_of_halves : (d a b p x y h r : ℕ) → AreHalves d a b p x y → h ≡ residue p (pos x -ℤ pos y) → r ≡ h + h
@@ -74,6 +59,4 @@ difference_of_halves d a b p x y h r are is_h is_r =
     let second : y * 2 ≡ b = omega (arith, are.right) in
     let divisor : p * 2 ≡ d = omega (arith, are.divisor) in
     let double : r ≡ h * 2 = omega (arith, is_r) in
-    double ∙ ap (λ n. n * 2) is_h ∙ sym (residue_scaled p 2 x y are.left_below are.right_below (omega arith))
-    ∙ ap (λ n. residue (p * 2) (pos n -ℤ pos (y * 2))) first ∙ ap (λ n. residue (p * 2) (pos a -ℤ pos n)) second
-    ∙ ap (λ n. residue n (pos a -ℤ pos b)) divisor
+    grind (arith, residue_scaled)

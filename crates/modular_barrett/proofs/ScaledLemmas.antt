@@ -32,22 +32,15 @@ some_scale w m = pow_pos (count_leading_zeros w m)
 
 -- the remainder of a scaled number represents the remainder
 pub stands_for : (w m d x r : ℕ) → 0 < m → d ≡ m * scale w m → r ≡ (x * scale w m) % d → Stands w m r (x % m)
-stands_for w m d x r positive ed e = record {
-  below = mod-lt x positive;
-  same = e ∙ ap (λ n. (x * scale w m) % n) ed ∙ scaled_remainder x m (scale w m) positive (some_scale w m);
-}
+stands_for w m d x r positive ed e = grind (arith, mod-lt, scaled_remainder, some_scale)
 
 -- a form is below the scaled modulus
 pub form_below : (w m d f : ℕ) → d ≡ m * scale w m → IsScaledForm w m f → f < d
-form_below w m d f ed form =
-    let h : scaled_value w m f * scale w m < m * scale w m = mul-lt-mul_of_pos_right form.below (some_scale w m) in
-    omega (arith, form.same)
+form_below w m d f ed form = grind (arith, mul-lt-mul_of_pos_right, some_scale)
 
 -- and so is a value
 pub value_below : {w m d s v : ℕ} → IsScaling w m d s → v < m → v < d
-value_below {w} {m} {d} {s} is below =
-    let up : m * 1 ≤ m * 2 ^ s = mul-le-mul_left m (pow_pos s) in
-    omega (arith, below, up, is.scaled)
+value_below {w} {m} {d} {s} is below = grind (arith, mul-le-mul_left, pow_pos)
 
 -- the value that a form represents is its value
 pub value_is : (w m f v : ℕ) → Stands w m f v → v ≡ scaled_value w m f
@@ -81,27 +74,15 @@ residue_scaled m p x y hx hy hp =
     let k : x * p < y * p = mul-lt-mul_of_pos_right h hp in
     let e : x * p + (m * p - y * p) ≡ (x + (m - y)) * p =
     let f : (m - y + y) * p ≡ m * p = ap (λ n. n * p) (let u : m - y + y ≡ m = omega arith in u) in omega arith in
-    residue_sub_wrapped (m * p) (x * p) (y * p) ay k ∙ e ∙ ap (λ n. n * p) (sym (residue_sub_wrapped m x y hy h)))
+    grind (arith, residue_sub_wrapped))
     (λ (h : y ≤ x).
-    let k : y * p ≤ x * p = mul-le-mul_right p h in
-    let e : x * p - y * p ≡ (x - y) * p =
-    let f : (x - y + y) * p ≡ x * p = ap (λ n. n * p) (let u : x - y + y ≡ x = omega arith in u) in omega arith in
-    residue_sub (m * p) (x * p) (y * p) ax k ∙ e ∙ ap (λ n. n * p) (sym (residue_sub m x y hx h)))
+    grind (arith, mul-le-mul_right, residue_sub))
     (cases_lt x y)
 
 -- differences of forms
 pub difference_stands : (w m d a b r : ℕ) → 0 < m → d ≡ m * scale w m → IsScaledForm w m a → IsScaledForm w m b
     → r ≡ residue d (pos a -ℤ pos b) → Stands w m r (residue m (pos (scaled_value w m a) -ℤ pos (scaled_value w m b)))
-difference_stands w m d a b r positive ed fa fb e =
-    let x = scaled_value w m a in
-    let y = scaled_value w m b in
-    let p = scale w m in
-    record {
-      below = (residue_is m (pos x -ℤ pos y) positive).below;
-      same = e ∙ ap (λ n. residue n (pos a -ℤ pos b)) ed ∙ ap (λ n. residue (m * p) (pos n -ℤ pos b)) fa.same
-          ∙ ap (λ n. residue (m * p) (pos (x * p) -ℤ pos n)) fb.same
-          ∙ residue_scaled m p x y fa.below fb.below (some_scale w m);
-    }
+difference_stands w m d a b r positive ed fa fb e = grind (arith, residue_is, residue_scaled, some_scale)
 
 -- negatives of forms, as differences from 0
 pub negative_stands : (w m d a r : ℕ) → 0 < m → d ≡ m * scale w m → IsScaledForm w m a
@@ -114,10 +95,7 @@ negative_stands w m d a r positive ed fa e =
     ap (residue (m * p)) (sym (zero_less (x * p)))
     ∙ ap (λ n. residue (m * p) (pos n -ℤ pos (x * p))) (let z : 0 ≡ 0 * p = omega arith in z)
     ∙ residue_scaled m p 0 x positive fa.below (some_scale w m) ∙ ap (λ n. residue m n * p) (zero_less x) in
-    record {
-      below = (residue_is m (neg_ℤ (pos x)) positive).below;
-      same = e ∙ ap (λ n. residue n (neg_ℤ (pos a))) ed ∙ ap (λ n. residue (m * p) (neg_ℤ (pos n))) fa.same ∙ scaled;
-    }
+    grind (arith, residue_is, neg_ℤ)
 
 -- the product of a value, that of the form a, and a form, divided by the scaled modulus
 pub product_stands : (w m d a x b whole q r : ℕ) → 0 < m → d ≡ m * scale w m → Stands w m a x → IsScaledForm w m b
@@ -158,40 +136,20 @@ scaled_fits w b m d s n whole is hn e =
 word_stands : (w m d s n r : ℕ) → IsScaling w m d s → n < m → r ≡ n * 2 ^ s → Stands w m r n
 word_stands w m d s n r is h e = record { below = h; same = e ∙ ap (λ v. n * 2 ^ v) is.zeros }
 
--- a number below the modulus fits the word when scaled
-pub below_fits : (w b m d s modulus n : ℕ) → b ≡ 2 ^ w → IsScaling w m d s → modulus ≡ m → n < modulus → n * 2 ^ s < b
-below_fits w b m d s modulus n eb is em h =
-    let k : n * 2 ^ s < m * 2 ^ s = mul-lt-mul_of_pos_right (let below : n < m = omega arith in below) (pow_pos s) in
-    omega (arith, is.scaled, is.fits)
-
 -- what is kept for a modulus
 pub scaling_of : (w b m d s : ℕ) → b ≡ 2 ^ w → 0 < m → m < b → s ≡ count_leading_zeros w m → d ≡ m * 2 ^ s
     → IsScaling w (d / 2 ^ s) d s
 scaling_of w b m d s eb some below es ed =
     let top = scaled_to_top w b m s eb some below es in
     let back : m ≡ d / 2 ^ s = sym (ap (λ n. n / 2 ^ s) ed ∙ shl-shr m s) in
-    subst (λ n. IsScaling w n d s) back
-    (record {
-      positive = some;
-      fits = subst (λ n. d < n) eb (omega (arith, top.fits));
-      inside = top.inside;
-      zeros = es;
-      scaled = ed;
-    })
+    grind arith
 
 -- the inverse of the value of a form, scaled
 pub inverse_stands : (w m d s modulus f v x r : ℕ) → IsScaling w m d s → modulus ≡ m → Stands w m f v
     → IsInverse modulus v x → r ≡ x * 2 ^ s
     → (y : ℕ) × IsInverse m (scaled_value w m f) y × Stands w m r y
-inverse_stands w m d s modulus f v x r is em stands inverse e =
-    let found : IsInverse m (scaled_value w m f) x =
-    subst (λ n. IsInverse n (scaled_value w m f) x) em
-    (subst (λ n. IsInverse modulus n x) (value_is w m f v stands) inverse) in
-    (x, found, word_stands w m d s x r is found.below e)
+inverse_stands w m d s modulus f v x r is em stands inverse e = grind (arith, value_is, word_stands)
 
 pub no_inverse_stands : (w m modulus f v : ℕ) → modulus ≡ m → Stands w m f v → ((x : ℕ) → IsInverse modulus v x → ⊥)
     → (x : ℕ) → IsInverse m (scaled_value w m f) x → ⊥
-no_inverse_stands w m modulus f v em stands none x h =
-    none x
-    (subst (λ n. IsInverse modulus n x) (sym (value_is w m f v stands))
-    (subst (λ n. IsInverse n (scaled_value w m f) x) (sym em) h))
+no_inverse_stands w m modulus f v em stands none x h = grind (arith, value_is)

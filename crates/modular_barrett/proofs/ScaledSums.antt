@@ -80,10 +80,7 @@ scaled_products {m} {p} w n x y scaled x_is y_is =
 -- the products from index i to i + k - 1
 pub block_of : (p i k : ℕ) (f : ℕ → ℕ) (before after : ℕ) → before ≡ p * (p * sum_below i f)
     → after ≡ p * (p * sum_below (i + k) f) → after ≡ before + p * (p * sum_below k (λ j. f (i + j)))
-block_of p i k f before after before_is after_is =
-    let joined : p * (p * sum_below (i + k) f) ≡ p * (p * (sum_below i f + sum_below k (λ j. f (i + j)))) =
-    ap (λ s. p * (p * s)) (sum_below-joined i k f) in
-    omega (arith, before_is, after_is, joined)
+block_of p i k f before after before_is after_is = grind (arith, sum_below-joined)
 
 -- the form of their sum
 pub block_stands : {w m d s : ℕ} (r v : ℕ) → IsScaling w m d s → r ≡ (2 ^ s * v) % d → Stands w m r (v % m)

@@ -1,5 +1,5 @@
 -- The sum of two products, divided once by the reciprocal of a shifted modulus m, in words of which there are b.
-use Rattle.std.proofs.Common.{◌≡◌, ℕ, zero, suc, ◌+◌, ◌-◌, ◌*◌, ◌/◌, ◌%◌, ◌^◌, ◌<◌, ◌≤◌, sym, ap, ◌∙◌, arith, refl, subst}
+use Rattle.std.proofs.Common.{◌≡◌, ℕ, zero, suc, ◌+◌, ◌-◌, ◌*◌, ◌/◌, ◌%◌, ◌^◌, ◌<◌, ◌≤◌, ap, arith}
 use Rattle.std.proofs.Math.Nat.{mul-le-mul_left, mul-le-mul_right, mul-lt-mul_of_pos_right, two-pow-succ}
 use Rattle.modular_word.specs.Division.{IsDivision}
 use Rattle.modular_word.specs.Reciprocals.{IsReciprocal}
@@ -11,11 +11,7 @@ pub record IsHalvedShift (m s : ℕ) : Type 0 where
   pub twice : 2 * m * 2 ^ (s - 1) ≡ m * 2 ^ s
 
 pub halved_shift : {b v : ℕ} (m s : ℕ) → 1 ≤ m → 4 * m ≤ b → IsReciprocal b (m * 2 ^ s) v → IsHalvedShift m s
-halved_shift {b} m zero some room is =
-    let normalized = is.normalized in
-    let none : 2 ^ 0 ≡ 1 = refl in
-    let one : m * 2 ^ 0 ≡ m * 1 = ap (λ v. m * v) none in
-    absurd (omega (arith, normalized, one, room, some))
+halved_shift {b} m zero some room is = omega arith
 halved_shift {b} m (suc s) some room is =
     let e : suc s - 1 ≡ s = omega arith in
     let two = two-pow-succ s in
@@ -25,9 +21,7 @@ halved_shift {b} m (suc s) some room is =
 
 -- a number below 2 * m, shifted by one less, is a word
 pub summand_fits : {b m s : ℕ} (x : ℕ) → IsHalvedShift m s → m * 2 ^ s < b → x < 2 * m → x * 2 ^ (s - 1) < b
-summand_fits {b} {m} {s} x h fits below =
-    let most = mul-le-mul_right (2 ^ (s - 1)) (let k : x ≤ 2 * m = omega arith in k) in
-    omega (arith, most, h.twice, fits)
+summand_fits {b} {m} {s} x h fits below = grind (arith, mul-le-mul_right)
 
 -- a sum of two scaled products, in words of which there are b, where the scale is p and the divisor d
 pub scaled_sum : (b d m p x u v y : ℕ) → 2 * m * p ≡ d → 0 < p → x + u < 2 * m → v < b → y < b
@@ -46,6 +40,4 @@ pub rest_of_sum : (d m p x u v y sum q r : ℕ) → 2 * m * p ≡ d → 0 < p �
 rest_of_sum d m p x u v y sum q r twice some is h =
     let one : x * v + u * y ≡ (x * v + u * y) * 1 = omega arith in
     let whole : sum ≡ (x * v + u * y) * p * 1 = omega (arith, is) in
-    scaled_rest (2 * m) (x * v + u * y) 1 p q r some
-    (subst (λ n. IsDivision n (2 * m * p) q r) whole (subst (λ n. IsDivision sum n q r) (sym twice) h))
-    ∙ ap (λ n. n % (2 * m)) (sym one)
+    grind (arith, scaled_rest)

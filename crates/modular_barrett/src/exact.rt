@@ -3,6 +3,7 @@
 ghost use Rattle.std.specs.Prelude.{◌≡◌, ℕ};
 ghost use Rattle.modular_word.specs.Division.{IsExactQuotient};
 
+// rust: use crate::additions::Divide1by1;
 use crate::one_by_one::{FitsDivisor, PreMulInv1by1};
 use modular_prim::exact::{DivExact, DivExactAssign, assign_exact};
 use modular_word::path_word::PathWord;

@@ -3,6 +3,7 @@
 ghost use Rattle.std.specs.Prelude.{◌≡◌, ℕ, ◌+◌, ◌*◌, ◌/◌, ◌%◌, ◌^◌, ◌<◌, ◌≤◌, length, map, slice_index};
 ghost use Rattle.modular_word.specs.Sums.{sum_below};
 
+// rust: use crate::additions::Divide2by1;
 use crate::normalized::{Normalized2by1Divisor, StoredDivisor};
 use modular_prim::plain_word::PlainWord;
 use modular_reduced::list_products::carried_sum;

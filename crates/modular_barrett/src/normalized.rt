@@ -4,7 +4,9 @@ ghost use Rattle.std.specs.Prelude.{◌≡◌, ℕ, ◌*◌, ◌<◌, ◌≤◌,
 ghost use Rattle.modular_word.specs.Division.{IsDivision};
 ghost use Rattle.modular_word.specs.Reciprocals.{IsReciprocal};
 
+// rust: use crate::additions::Divide2by1;
 use modular_prim::plain_word::PlainWord;
+// rust instead: use crate::modular_prim::reciprocal::invert_word;
 use modular_prim::reciprocal;
 use modular_word::path_word::PathWord;
 use modular_word::paths::div_2by1;
@@ -12,6 +14,20 @@ use modular_word::paths::div_2by1;
 use modular_word::ring_word::RingWord;
 // rattle: line
 use std::alloc::AllocError;
+
+// rust: crate::additions::with_constants! {
+// Quotient and remainder of a word by a divisor whose top bit is set.
+fn divide_word<T: PathWord>(d: T, a: T) -> (T, T)
+    requires { T.base ≤ 2 * T.number d }
+    ensures { IsDivision (T.number a) (T.number d) (T.number result.0) (T.number result.1) }
+{
+    if a.is_below(d) {
+        (T::zero(), a)
+    } else {
+        (T::one(), a.minus(d))
+    }
+}
+// rust: }
 
 /// For contracts: the divisor of a divider.
 pub trait StoredDivisor {
@@ -78,6 +94,9 @@ impl<T: PathWord> Normalized2by1Divisor<T> {
         self.divisor
     }
 
+    // rust: }
+    // rust:
+    // rust: impl<T: PathWord> Divide2by1<T> for Normalized2by1Divisor<T> {
     /// Quotient and remainder of a word.
     ///
     /// The quotient is 0 or 1, because the divisor's top bit is set.
@@ -91,15 +110,12 @@ impl<T: PathWord> Normalized2by1Divisor<T> {
     /// assert_eq!(divisor.div_rem_1by1(234), (1, 34));
     /// assert_eq!(divisor.div_rem_1by1(34), (0, 34));
     /// ```
+    // rust instead: fn div_rem_1by1(&self, a: T) -> (T, T)
     pub fn div_rem_1by1(&self, a: T) -> (T, T)
         ensures { let d = ⟦<Normalized2by1Divisor<T> as StoredDivisor>⟧.divisor self.now in
             IsDivision (T.number a) d (T.number result.0) (T.number result.1) }
     {
-        if a.is_below(self.divisor) {
-            (T::zero(), a)
-        } else {
-            (T::one(), a.minus(self.divisor))
-        }
+        divide_word(self.divisor, a)
     }
 
     /// Quotient and remainder of a double word.
@@ -117,6 +133,7 @@ impl<T: PathWord> Normalized2by1Divisor<T> {
     /// assert_eq!(divisor.div_rem_2by1(12_000_000_005), (3, 5));
     /// ```
     // rust: #[cfg_attr(debug_assertions, track_caller)]
+    // rust instead: fn div_rem_2by1(&self, a: T::Double) -> (T, T)
     pub fn div_rem_2by1(&self, a: T::Double) -> (T, T)
         requires { T.double_number a < ⟦<Normalized2by1Divisor<T> as StoredDivisor>⟧.divisor self.now * T.base }
         ensures { let d = ⟦<Normalized2by1Divisor<T> as StoredDivisor>⟧.divisor self.now in
@@ -130,6 +147,7 @@ impl<T: PathWord> Normalized2by1Divisor<T> {
 }
 
 impl<T: PlainWord> Normalized2by1Divisor<T> {
+    // rattle: item
     /// The reciprocal of d.
     ///
     /// # Conditions
@@ -144,12 +162,10 @@ impl<T: PlainWord> Normalized2by1Divisor<T> {
     /// // (71 + 256) * 200 = 65400, which is 65536 less 136
     /// assert_eq!(Normalized2by1Divisor::<u8>::invert_word(200), 71);
     /// ```
-    // rust: #[cfg_attr(debug_assertions, track_caller)]
     pub fn invert_word(d: T) -> T
         requires { T.base ≤ 2 * T.number d }
         ensures { IsReciprocal T.base (T.number d) (T.number result) }
     {
-        // rust: debug_assert!(d.leading_zeros() == 0, "the divisor's top bit must be set");
         reciprocal::invert_word(d)
     }
 
@@ -164,7 +180,7 @@ impl<T: PlainWord> Normalized2by1Divisor<T> {
     /// # Examples
     ///
     /// ```
-    /// use num_modular::{Normalized2by1Divisor, PlainWord};
+    /// use num_modular::{Divide2by1, Normalized2by1Divisor, PlainWord};
     ///
     /// fn last_digits<T: PlainWord>(divisor: T, n: T) -> T {
     ///     Normalized2by1Divisor::of(divisor).div_rem_1by1(n).1
@@ -181,6 +197,7 @@ impl<T: PlainWord> Normalized2by1Divisor<T> {
         // rust: assert!(T::zero().wrapping_sub(T::one()).half().is_below(d), "the divisor's top bit must be set");
         Normalized2by1Divisor {
             divisor: d,
+            // rust instead: reciprocal: invert_word(d),
             reciprocal: Self::invert_word(d),
         }
     }

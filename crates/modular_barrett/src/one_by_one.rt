@@ -6,6 +6,7 @@ ghost use Rattle.modular_word.specs.Reciprocals.{IsMultiplier};
 ghost use Rattle.modular_reduced.specs.Powers.{digits};
 
 use modular_prim::plain_word::PlainWord;
+// rust: use crate::additions::Divide1by1;
 use modular_word::path_word::PathWord;
 use modular_word::paths::{div_1by1, ones};
 // rattle: line
@@ -55,6 +56,7 @@ impl<T: PathWord> FitsDivisor for PreMulInv1by1<T> {
     ghost fits = { λ s d. IsMultiplier T.width T.base d (T.number s.multiplier) s.shift };
 }
 
+// rust instead: impl<T: PathWord> Divide1by1<T> for PreMulInv1by1<T> {
 impl<T: PathWord> PreMulInv1by1<T> {
     /// Quotient and remainder of a word.
     ///
@@ -73,6 +75,7 @@ impl<T: PathWord> PreMulInv1by1<T> {
     /// assert_eq!(seven.div_rem(100, 7), (14, 2));
     /// ```
     // rust: #[cfg_attr(debug_assertions, track_caller)]
+    // rust instead: fn div_rem(&self, a: T, d: T) -> (T, T)
     pub fn div_rem(&self, a: T, d: T) -> (T, T)
         requires { ⟦<PreMulInv1by1<T> as FitsDivisor>⟧.fits self.now (T.number d) }
         ensures { IsDivision (T.number a) (T.number d) (T.number result.0) (T.number result.1) }
@@ -100,7 +103,7 @@ impl<T: PlainWord> PreMulInv1by1<T> {
     /// # Examples
     ///
     /// ```
-    /// use num_modular::{PlainWord, PreMulInv1by1};
+    /// use num_modular::{Divide1by1, PlainWord, PreMulInv1by1};
     ///
     /// fn remainder_each<T: PlainWord>(numbers: &mut [T], d: T) {
     ///     let divider = PreMulInv1by1::of(d);

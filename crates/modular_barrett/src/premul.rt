@@ -5,6 +5,7 @@ ghost use Rattle.std.specs.Int.Count.{count_leading_zeros};
 ghost use Rattle.modular_barrett.specs.Scaling.{scale, scaled_form, scaled_value, IsScaling};
 ghost use Rattle.modular_barrett.specs.ScaledForms.{scaled_canonical};
 
+// rust: use crate::additions::Divide2by1;
 use crate::list_products::reduced_products;
 use crate::normalized::{Normalized2by1Divisor, StoredDivisor};
 use modular_prim::below::{add_below, dbl_below_stored, neg_below, sub_below};

@@ -4,20 +4,14 @@ use Rattle.std.proofs.Math.Nat.{mul-le-mul_left, mul-le-mul_right, div-lt_iff_lt
 use Rattle.std.proofs.Math.Nat.{pow-suc, mod-eq_of_lt, mod-eq-sub-mod}
 use Rattle.std.proofs.lemmas.Nat.{shr_split, pow_pos, pow-add, mul-le, le-div}
 use Rattle.modular_folds.specs.Folds.{fold_of}
-
--- a fold makes no number greater
-pub fold_at_most : (p c v : ℕ) → c < 2 ^ p → fold_of p c v ≤ v
-fold_at_most p c v less =
-    let part : v / 2 ^ p * c ≤ v / 2 ^ p * 2 ^ p = mul-le-mul_left (v / 2 ^ p) (omega arith) in
-    omega (arith, part, shr_split v p)
+use Rattle.modular_folds.proofs.FoldSteps.{fold_at_most}
 
 -- so that the product and the sum of a fold fit where the number fits
 pub fold_fits : (b p c v h : ℕ) → c < 2 ^ p → v < b → h ≡ v / 2 ^ p → h * c < b
 fold_fits b p c v h less fits high = omega (arith, fold_at_most p c v less, ap (λ u. u * c) high)
 
 pub fold_sum_fits : (b p c v h s l : ℕ) → c < 2 ^ p → v < b → h ≡ v / 2 ^ p → s ≡ h * c → l ≡ v % 2 ^ p → s + l < b
-fold_sum_fits b p c v h s l less fits high product low =
-    omega (arith, fold_at_most p c v less, ap (λ u. u * c) high)
+fold_sum_fits b p c v h s l less fits high product low = grind (arith, fold_at_most)
 
 -- a number that is less than 2 * b by c has a quotient of 1 at most
 last_of : (b c q r s : ℕ) → q * b + r ≡ s → r < b → s + c < 2 * b → q * c + r < b
@@ -27,25 +21,15 @@ last_of b c (suc (suc k)) r s is low near = absurd (omega arith)
 
 -- so that one fold takes it below 2^p
 pub last_fold : (p c s : ℕ) → s + c < 2 * 2 ^ p → fold_of p c s < 2 ^ p
-last_fold p c s near =
-    last_of (2 ^ p) c (s / 2 ^ p) (s % 2 ^ p) s (shr_split s p) (mod-lt s (pow_pos p)) near
+last_fold p c s near = grind (arith, last_of, shr_split, mod-lt, pow_pos)
 
 -- the first fold leaves a part above the bit p of c at most
 pub first_fold : (p c v : ℕ) → v / 2 ^ p < 2 ^ p → fold_of p c v / 2 ^ p ≤ c
-first_fold p c v product =
-    let low = mod-lt v (pow_pos p) in
-    let most : v / 2 ^ p * c + c ≤ 2 ^ p * c =
-    omega (arith, mul-le-mul_right c (let e : suc (v / 2 ^ p) ≤ 2 ^ p = omega arith in e)) in
-    let whole : fold_of p c v < suc c * 2 ^ p = omega (arith, most, low) in
-    let below = (div-lt_iff_lt-mul {x = fold_of p c v} {y = suc c} (pow_pos p)).1 whole in
-    omega (arith, below)
+first_fold p c v product = grind (arith, mod-lt, pow_pos, mul-le-mul_right, div-lt_iff_lt-mul)
 
 -- and a fold of a number with a part of h at most less than 2^p and h times c
 pub next_fold : (p c h s : ℕ) → s / 2 ^ p ≤ h → fold_of p c s < 2 ^ p + h * c
-next_fold p c h s high =
-    let low = mod-lt s (pow_pos p) in
-    let most : s / 2 ^ p * c ≤ h * c = mul-le-mul_right c high in
-    omega (arith, most, low)
+next_fold p c h s high = grind (arith, mod-lt, pow_pos, mul-le-mul_right)
 
 -- by 1, the first fold is less than twice 2^p by 1 at least, so that two folds do
 pub two_low : (p v : ℕ) → v / 2 ^ p < 2 ^ p → fold_of p 1 (fold_of p 1 v) < 2 ^ p
@@ -73,10 +57,7 @@ pub fold_bound : (p c v mask most : ℕ) → mask + 1 ≡ 2 ^ p → v / 2 ^ p * 
 fold_bound p c v mask most ones bound = omega (arith, mod-lt v (pow_pos p))
 
 pub next_bound : (p c v mask most : ℕ) → v ≤ most → v / 2 ^ p * c + mask ≤ most / 2 ^ p * c + mask
-next_bound p c v mask most bound =
-    let part : v / 2 ^ p * 2 ^ p ≤ most = omega (arith, shr_split v p) in
-    let high = le-div (v / 2 ^ p) most (2 ^ p) (pow_pos p) part in
-    omega (arith, mul-le-mul_right c high)
+next_bound p c v mask most bound = grind (arith, shr_split, le-div, pow_pos, mul-le-mul_right)
 
 -- so is a fold of a number up to a bound
 pub up_to : (p c v mask most : ℕ) → mask + 1 ≡ 2 ^ p → v ≤ most → fold_of p c v ≤ most / 2 ^ p * c + mask
@@ -107,10 +88,7 @@ bound_falls p c m mask most ones whole small high =
 
 -- a factor of two bits less than p is at most a fourth of 2^p
 pub fourth : (p c : ℕ) → 2 ≤ p → c < 2 ^ (p - 2) → 4 * c ≤ 2 ^ p
-fourth p c two less =
-    let whole : 2 ^ p ≡ 2 ^ (p - 2) * 2 ^ 2 =
-    ap (λ n. 2 ^ n) (let s : p ≡ p - 2 + 2 = omega arith in s) ∙ pow-add 2 (p - 2) 2 in
-    omega (arith, whole, less)
+fourth p c two less = grind (arith, pow-add)
 
 -- so is one of fewer bits still
 pub fourth_of : (p k c : ℕ) → 2 ≤ p → k ≤ p - 2 → c < 2 ^ k → 4 * c ≤ 2 ^ p
@@ -132,10 +110,7 @@ pub once_below : (m s : ℕ) → s < m → s ≡ s % m
 once_below m s less = sym (mod-eq_of_lt less)
 
 pub once_above : (m s rest : ℕ) → m ≤ s → s < 2 * m → rest + m ≡ s → (rest ≡ s % m) × (rest < m)
-once_above m s rest most less is =
-    let below : rest < m = omega arith in
-    let taken : s - m ≡ rest = omega arith in
-    (sym (mod-eq-sub-mod most ∙ ap (λ v. v % m) taken ∙ mod-eq_of_lt below), below)
+once_above m s rest most less is = grind (arith, mod-eq-sub-mod, mod-eq_of_lt)
 
 -- a number that has no part above the bit p is below 2^p
 pub low_only : (p v : ℕ) → v / 2 ^ p ≡ 0 → v < 2 ^ p

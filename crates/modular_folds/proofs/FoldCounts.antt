@@ -1,5 +1,5 @@
 -- How many folds a number takes, and that these are few.
-use Rattle.std.proofs.Common.{◌≡◌, ℕ, zero, suc, ◌+◌, ◌-◌, ◌*◌, ◌/◌, ◌^◌, ◌<◌, ◌≤◌, sym, ◌∙◌, ap, ap₂, arith, ⊎_elim}
+use Rattle.std.proofs.Common.{◌≡◌, ℕ, zero, suc, ◌+◌, ◌-◌, ◌*◌, ◌/◌, ◌^◌, ◌<◌, ◌≤◌, sym, ◌∙◌, ap, arith, ⊎_elim}
 use Rattle.std.proofs.Math.Nat.{div-lt_iff_lt-mul, mul-le-mul_right, pow-suc}
 use Rattle.std.proofs.lemmas.Bool.Decides.{nat_tests}
 use Rattle.std.proofs.lemmas.Bool.{cases_lt}
@@ -19,12 +19,8 @@ within_next k p c v h = grind (arith, nat_tests)
 
 -- a larger bound changes nothing
 within_enough : (k l p c v : ℕ) → c < 2 ^ p → v ≤ k → v ≤ l → folds_within k p c v ≡ folds_within l p c v
-within_enough zero l p c v b h i =
-    let low : v < 2 ^ p = omega (arith, pow_pos p) in
-    within_none zero p c v low ∙ sym (within_none l p c v low)
-within_enough (suc k) zero p c v b h i =
-    let low : v < 2 ^ p = omega (arith, pow_pos p) in
-    within_none (suc k) p c v low ∙ sym (within_none zero p c v low)
+within_enough zero l p c v b h i = grind (arith, pow_pos, within_none)
+within_enough (suc k) zero p c v b h i = grind (arith, pow_pos, within_none)
 within_enough (suc k) (suc l) p c v b h i =
     ⊎_elim
     (λ (low : v < 2 ^ p). within_none (suc k) p c v low ∙ sym (within_none (suc l) p c v low))
@@ -42,20 +38,14 @@ folds-none p c v l = within_none v p c v l
 pub folds-next : (p c v : ℕ) → c < 2 ^ p → 2 ^ p ≤ v → folds p c v ≡ 1 + folds p c (fold_of p c v)
 unfolding folds
 folds-next p c v b h =
-    let less = fold_less p c v b h in
     let next : folds_within (suc v) p c v ≡ 1 + folds_within v p c (fold_of p c v) =
     within_next v p c v h ∙ omega arith in
-    within_enough v (suc v) p c v b (omega arith) (omega arith) ∙ next
-    ∙ ap (λ n. 1 + n) (within_enough v (fold_of p c v) p c (fold_of p c v) b (omega (arith, less)) (omega arith))
+    grind (arith, within_enough)
 
 -- ---- the bounds
 -- one fold more
 after : (p c v n : ℕ) → c < 2 ^ p → folds p c (fold_of p c v) ≤ n → folds p c v ≤ suc n
-after p c v n b few =
-    ⊎_elim
-    (λ (low : v < 2 ^ p). omega (arith, folds-none p c v low))
-    (λ (high : 2 ^ p ≤ v). omega (arith, folds-next p c v b high))
-    (cases_lt v (2 ^ p))
+after p c v n b few = grind (arith, folds-none, folds-next)
 
 -- by 1, two folds do for a product of two numbers below 2^p
 few_by_one : (p v : ℕ) → 1 < 2 ^ p → v / 2 ^ p < 2 ^ p → folds p 1 v ≤ 2
@@ -92,10 +82,7 @@ few_from p c (suc j) v b l =
     (cases_lt v (2 ^ p))
 
 pub few_in : (p c v w : ℕ) → 2 * c < 2 ^ p → p ≤ w → v < 2 ^ w → folds p c v ≤ w - p + 2
-few_in p c v w b fits l =
-    let whole : 2 ^ w ≡ 2 ^ (w - p) * 2 ^ p =
-    ap (λ a. 2 ^ a) (let s : w ≡ w - p + p = omega arith in s) ∙ pow-add 2 (w - p) p in
-    few_from p c (w - p) v b (omega (arith, whole))
+few_in p c v w b fits l = grind (arith, pow-add, few_from)
 
 -- a number of 2p bits has a part above the bit p of p bits
 high_part : (p v : ℕ) → v < 2 ^ (2 * p) → v / 2 ^ p < 2 ^ p
@@ -105,25 +92,12 @@ high_part p v l =
     (div-lt_iff_lt-mul {x = v} {y = 2 ^ p} (pow_pos p)).1 (omega (arith, square))
 
 pub few_folds : (p c v n : ℕ) → 2 * c < 2 ^ p → n ≡ folds p c v → IsFewFolds p c v n
-few_folds p c v n b is = record {
-  at_most = λ w fits l. omega (arith, few_in p c v w b fits l);
-  two =
-      λ one l. let few = few_by_one p v (omega (arith, one)) (high_part p v l) in
-      omega (arith, few, ap (λ d. folds p d v) one);
-  three =
-      λ small l. let few = few_by_small p c v (omega arith) (omega (arith, small_square p c small)) (high_part p v l) in
-      omega (arith, few);
-}
+few_folds p c v n b is = grind (arith, few_in, few_by_one, high_part, few_by_small, small_square)
 
 -- ---- the count of a fold
 -- a number that has no part above the bit p stays as it is
 pub count_none : (p c v rest : ℕ) → rest ≡ fold_of p c v → v / 2 ^ p ≡ 0 → 0 + folds p c rest ≡ folds p c v
-count_none p c v rest is none =
-    let split = shr_split v p in
-    let left = ap (λ h. h * c) none in
-    let right = ap (λ h. h * 2 ^ p) none in
-    let same : rest ≡ v = omega (arith, is, split, left, right) in
-    omega (arith, ap (folds p c) same)
+count_none p c v rest is none = grind (arith, shr_split)
 
 -- any other takes one fold more than what the fold leaves
 pub count_one : (p c v rest : ℕ) → c < 2 ^ p → rest ≡ fold_of p c v → 0 < v / 2 ^ p → 1 + folds p c rest ≡ folds p c v
@@ -135,7 +109,4 @@ count_one p c v rest b is some =
 -- the law of a fold, of a number given by its parts
 pub folds-parts : (p c hi lo : ℕ) → c < 2 ^ p → lo < 2 ^ p → 0 < hi
     → folds p c (hi * 2 ^ p + lo) ≡ 1 + folds p c (hi * c + lo)
-folds-parts p c hi lo b low some =
-    let most : 1 * 2 ^ p ≤ hi * 2 ^ p = mul-le-mul_right (2 ^ p) (omega arith) in
-    folds-next p c (hi * 2 ^ p + lo) b (omega (arith, most))
-    ∙ ap₂ (λ h l. 1 + folds p c (h * c + l)) (div-mul-add hi (2 ^ p) lo low) (mod-mul-add hi (2 ^ p) lo low)
+folds-parts p c hi lo b low some = grind (arith, mul-le-mul_right, folds-next, div-mul-add, mod-mul-add)

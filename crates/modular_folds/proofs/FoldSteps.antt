@@ -1,10 +1,9 @@
 -- What a fold makes of a number.
 use Rattle.std.proofs.Common.{◌≡◌, ℕ, zero, suc, ◌+◌, ◌-◌, ◌*◌, ◌/◌, ◌%◌, ◌^◌, ◌<◌}
-use Rattle.std.proofs.Common.{◌≤◌, arith, ap, sym, ◌∙◌, ⊎_elim, bit_and, lit<, refl}
+use Rattle.std.proofs.Common.{◌≤◌, arith, ap, sym, ◌∙◌, bit_and, lit<, refl}
 use Rattle.std.proofs.Math.Nat.{add-mul-mod_self_right, mod-lt, mul-le-mul_left}
 use Rattle.std.proofs.Math.Nat.{mul-lt-mul_of_pos_left, pow-le-pow_right, pow-suc}
 use Rattle.std.proofs.lemmas.Nat.{shr_split, pow_pos, le-div, and_mask}
-use Rattle.std.proofs.lemmas.Bool.{cases_lt}
 use Rattle.modular_word.proofs.Congruence.{same_sum, same_product}
 use Rattle.modular_folds.specs.Folds.{fold_of, IsFolding}
 
@@ -19,18 +18,11 @@ ones m less is_one is_less is_mask whole = omega (arith, is_one, is_less, is_mas
 
 -- a fold makes no number larger
 pub fold_at_most : (p c v : ℕ) → c < 2 ^ p → fold_of p c v ≤ v
-fold_at_most p c v below =
-    let split = shr_split v p in
-    let most : v / 2 ^ p * c ≤ v / 2 ^ p * 2 ^ p = mul-le-mul_left (v / 2 ^ p) (omega arith) in
-    omega (arith, split, most)
+fold_at_most p c v below = grind (arith, shr_split, mul-le-mul_left)
 
 -- and one of at least 2^p smaller
 pub fold_less : (p c v : ℕ) → c < 2 ^ p → 2 ^ p ≤ v → fold_of p c v < v
-fold_less p c v below high =
-    let split = shr_split v p in
-    let some : 0 < v / 2 ^ p = le-div 1 v (2 ^ p) (pow_pos p) (let one : 1 * 2 ^ p ≤ v = omega arith in one) in
-    let less : v / 2 ^ p * c < v / 2 ^ p * 2 ^ p = mul-lt-mul_of_pos_left below some in
-    omega (arith, split, less)
+fold_less p c v below high = grind (arith, shr_split, le-div, pow_pos, mul-lt-mul_of_pos_left)
 
 -- what is above 2^p is more than halved, where c is less than half of it
 pub fold_halves : (p c v : ℕ) → 2 * c ≤ 2 ^ p → 2 ^ p ≤ v → 2 * fold_of p c v < v + 2 ^ p
@@ -50,22 +42,16 @@ fold_keeps p c m v is =
 pub two_folds_keep : (p c m v : ℕ) {first second : ℕ} → m + c ≡ 2 ^ p
     → first ≡ fold_of p c v → second ≡ fold_of p c first
     → second % m ≡ v % m
-two_folds_keep p c m v {first} {second} is one two =
-    ap (λ n. n % m) two ∙ fold_keeps p c m first is ∙ ap (λ n. n % m) one ∙ fold_keeps p c m v is
+two_folds_keep p c m v {first} {second} is one two = grind (arith, fold_keeps)
 
 -- a word of w bits that is 2^p at least has more than p bits
 pub bit_inside : (w p v : ℕ) → 2 ^ p ≤ v → v < 2 ^ w → p < w
-bit_inside w p v high fits =
-    ⊎_elim
-    (λ (l : p < w). l)
-    (λ (l : w ≤ p). let more = pow-le-pow_right {n = 2} (lit< tt) l in absurd (omega (arith, more)))
-    (cases_lt p w)
+bit_inside w p v high fits = grind (arith, pow-le-pow_right, lit<)
 
 -- a fold by a factor that is congruent to 2^e keeps the residue
 pub far_fold_keeps : (e factor m v : ℕ) → factor % m ≡ 2 ^ e % m → (v / 2 ^ e * factor + v % 2 ^ e) % m ≡ v % m
 far_fold_keeps e factor m v is =
-    same_sum m (v / 2 ^ e * factor) (v / 2 ^ e * 2 ^ e) (v % 2 ^ e) (v % 2 ^ e)
-    (same_product m (v / 2 ^ e) (v / 2 ^ e) factor (2 ^ e) refl is) refl
+    same_sum _ _ _ _ _ (same_product m (v / 2 ^ e) (v / 2 ^ e) factor (2 ^ e) refl is) refl
     ∙ ap (λ n. n % m) (shr_split v e)
 
 -- the next power of two
@@ -74,14 +60,11 @@ next_power e = ap (λ n. 2 ^ n) (let s : e + 1 ≡ suc e = omega arith in s) ∙
 
 -- twice a number that is congruent to 2^e is congruent to the next power
 pub doubled_keeps : (e factor m : ℕ) → factor % m ≡ 2 ^ e % m → (factor + factor) % m ≡ 2 ^ (e + 1) % m
-doubled_keeps e factor m is =
-    same_sum m factor (2 ^ e) factor (2 ^ e) is is ∙ ap (λ n. n % m) (sym (next_power e))
+doubled_keeps e factor m is = grind (arith, same_sum, next_power)
 
 -- a number below m is below 2^(p + by)
 pub below_power : (p by m c x : ℕ) → m + c ≡ 2 ^ p → x < m → x < 2 ^ (p + by)
-below_power p by m c x whole less =
-    let most : 2 ^ p ≤ 2 ^ (p + by) = pow-le-pow_right {n = 2} (lit< tt) (let e : p ≤ p + by = omega arith in e) in
-    omega (arith, most)
+below_power p by m c x whole less = grind (arith, pow-le-pow_right, lit<)
 
 -- 2^p is among the numbers up to 2^w
 pub power_fits : {w p c m : ℕ} → IsFolding w p c m → 2 ^ p ≤ 2 ^ w

@@ -3,7 +3,6 @@ use Rattle.std.proofs.Common.{◌≡◌, ℕ, ◌+◌, ◌-◌, ◌*◌, ◌%◌
 use Rattle.std.proofs.Math.Nat.{mod-eq_of_lt}
 use Rattle.std.proofs.lemmas.Nat.{and_comm, and_mask}
 use Rattle.std.proofs.lemmas.Bool.{cases_lt}
-use Rattle.std.specs.Int.Bits.{and_zero_l}
 use Rattle.modular_folds.proofs.FoldBounds.{once_below, once_above}
 
 -- where there is a borrow, the number itself
@@ -20,12 +19,7 @@ borrowed v m low high less fits parts low_fits high_fits =
 -- and else the difference
 not_borrowed : (v m low high : ℕ) → m ≤ v → v < 2 * m → m < 2 ^ 32 → (v + (2 ^ 64 - m)) % 2 ^ 64 ≡ low + 2 ^ 32 * high
     → low < 2 ^ 32 → (low + bit_and high m) % 2 ^ 32 + m ≡ v
-not_borrowed v m low high more twice fits parts low_fits =
-    let none : high ≡ 0 = omega arith in
-    let rest : low + m ≡ v = omega (arith, none) in
-    let nothing : bit_and high m ≡ 0 = ap (λ n. bit_and n m) none ∙ and_zero_l m in
-    let sum = ap (λ n. (low + n) % 2 ^ 32) nothing in
-    omega (arith, sum, rest)
+not_borrowed v m low high more twice fits parts low_fits = grind arith
 
 -- in both cases the residue
 pub masked_residue : (v m low high : ℕ) → v < 2 * m → m < 2 ^ 32 → (v + (2 ^ 64 - m)) % 2 ^ 64 ≡ low + 2 ^ 32 * high

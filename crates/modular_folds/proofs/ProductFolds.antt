@@ -1,6 +1,6 @@
 -- Folds of a product whose parts at the bit p are words, the lower one at the top of its word.
 use Rattle.std.proofs.Common.{◌≡◌, ℕ, ◌+◌, ◌-◌, ◌*◌, ◌/◌, ◌%◌, ◌^◌, ◌<◌, ◌≤◌, arith, ap, sym, ◌∙◌}
-use Rattle.std.proofs.Math.Nat.{mul-le-mul_left, mul-le-mul_right, mod-lt, mul-div_left}
+use Rattle.std.proofs.Math.Nat.{mul-le-mul_left, mod-lt, mul-div_left}
 use Rattle.std.proofs.Math.Nat.{mul-div-mul_right, div-add-mod, div-lt_iff_lt-mul, zero-div}
 use Rattle.std.proofs.lemmas.Nat.{div-mul-add, pow_pos, pow-add, mul-lt}
 use Rattle.modular_folds.specs.Folds.{fold_of, IsFolding}
@@ -19,24 +19,16 @@ scaled_parts q s n {low} {high} some words below =
 
 -- the power of two that takes 2^p to the base
 pub power_whole : (w p base : ℕ) → p ≤ w → base ≡ 2 ^ w → 2 ^ p * 2 ^ (w - p) ≡ base
-power_whole w p base fits is =
-    let sum : p + (w - p) ≡ w = omega arith in
-    sym (pow-add 2 p (w - p)) ∙ ap (λ n. 2 ^ n) sum ∙ sym is
+power_whole w p base fits is = grind (arith, pow-add)
 
 -- the parts at the bit p of k, which is n, the lower one taken back from the top of a word of w bits
 parts : (w p n k : ℕ) {low high : ℕ} → k ≡ n → low ≡ k % 2 ^ p * 2 ^ (w - p) → high ≡ k / 2 ^ p
     → (low / 2 ^ (w - p) ≡ n % 2 ^ p) × (high ≡ n / 2 ^ p)
-parts w p n k same low_is high_is = (
-  ap (λ v. v / 2 ^ (w - p)) low_is ∙ mul-div_left (k % 2 ^ p) (pow_pos (w - p)) ∙ ap (λ v. v % 2 ^ p) same,
-  high_is ∙ ap (λ v. v / 2 ^ p) same,
-)
+parts w p n k same low_is high_is = grind (arith, mul-div_left, pow_pos)
 
 -- the upper part of a product of two numbers below m is below it
 pub product_high : (p m a b : ℕ) → a < m → b < m → m ≤ 2 ^ p → a * b / 2 ^ p < m
-product_high p m a b left right most =
-    let less : a * b < m * m = mul-lt a b m m left right in
-    let up : m * m ≤ m * 2 ^ p = mul-le-mul_left m most in
-    (div-lt_iff_lt-mul {x = a * b} {y = m} (pow_pos p)).1 (omega arith)
+product_high p m a b left right most = grind (arith, mul-lt, mul-le-mul_left, div-lt_iff_lt-mul, pow_pos)
 
 -- v is congruent to a + b modulo m, where b is at most m and the sum below 2m
 pub record IsLastSum (m v a b : ℕ) : Type 0 where
@@ -54,15 +46,10 @@ module _ (w p c m : ℕ) (is : IsFolding w p c m) where
       let v = a * b in
       let gone = ap (λ z. z / 2 ^ (w - p)) zeros ∙ zero-div (2 ^ (w - p)) in
       let first = parts w p v (v + none / 2 ^ (w - p)) (omega (arith, gone)) low_is high_is in
-      let less = product_high p m a b left right (omega (arith, is.whole)) in
       let back_is : back ≡ v % 2 ^ p = shift ∙ ap (λ n. low / 2 ^ (n - p)) width ∙ first.0 in
       let rest = mod-lt v (pow_pos p) in
       let sum : v / 2 ^ p * 1 + v % 2 ^ p ≡ high + back = omega (arith, first.1, back_is) in
-      record {
-        most = omega (arith, rest, back_is, is.whole, one);
-        twice = omega (arith, rest, back_is, first.1, less, is.whole, one);
-        same = sym (ap (λ n. n % m) sum) ∙ fold_keeps p 1 m v (omega (arith, is.whole, one));
-      }
+      grind (arith, fold_keeps)
 
   -- by a small number: the words of its fold
   pub sum_by_small : {a b none low high next over bits back : ℕ} → c < 2 ^ (p / 2) → a < m → b < m → none ≡ 0
@@ -81,11 +68,6 @@ module _ (w p c m : ℕ) (is : IsFolding w p c m) where
       let back_is : back ≡ fold % 2 ^ p = shift ∙ ap (λ n. next / 2 ^ (n - p)) width ∙ second.0 in
       let rest = mod-lt fold (pow_pos p) in
       let most : fold / 2 ^ p ≤ c = first_fold p c v (omega (arith, less, is.whole)) in
-      let square : over * c ≤ c * c = mul-le-mul_right c (omega (arith, second.1, most)) in
       let whole = small_square p c small in
       let sum : fold / 2 ^ p * c + fold % 2 ^ p ≡ back + over * c = omega (arith, back_is, ap (λ h. h * c) second.1) in
-      record {
-        most = omega (arith, square, whole, is.whole);
-        twice = omega (arith, square, whole, is.whole, rest, back_is);
-        same = sym (ap (λ n. n % m) sum) ∙ fold_keeps p c m fold is.whole ∙ fold_keeps p c m v is.whole;
-      }
+      grind (arith, fold_keeps)

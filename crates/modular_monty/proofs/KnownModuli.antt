@@ -11,11 +11,7 @@ use Rattle.modular_monty.specs.MontgomeryLaws.{value_below-found}
 
 -- the double word that wraps from 0 by m is congruent to the square of the base
 pub wrapped_square : (square m : ℕ) → 0 < m → m < square → (0 + (square - m)) % square % m ≡ square % m
-wrapped_square square m some fits =
-    let less : 0 + (square - m) ≡ square - m = omega arith in
-    let whole : square ≡ square - m + m * 1 = omega arith in
-    ap (λ v. v % square % m) less ∙ ap (λ v. v % m) (mod-eq_of_lt (omega arith))
-    ∙ sym (add-mul-mod_self_left (square - m) m 1) ∙ ap (λ v. v % m) (sym whole)
+wrapped_square square m some fits = grind (arith, mod-eq_of_lt, add-mul-mod_self_left)
 
 -- .. and so are its low bits, where the square is narrower than a word
 pub wrapped_narrow_square : (w v m : ℕ) → v + v ≤ w → 0 < m → m < 2 ^ v
@@ -29,8 +25,7 @@ wrapped_narrow_square w v m narrow some fits =
     let less : 0 + (2 ^ w - m) ≡ 2 ^ (rest + 2 * v) - 1 - (m - 1) = omega arith in
     let low : (0 + (2 ^ w - m)) % 2 ^ w % q ≡ q - 1 - (m - 1) =
     ap (λ n. n % q) (mod-eq_of_lt (omega arith) ∙ less) ∙ not_mod rest (2 * v) (omega arith) in
-    let same : q - 1 - (m - 1) ≡ (0 + (q - m)) % q = (let l : q - 1 - (m - 1) ≡ 0 + (q - m) = omega arith in l)
-    ∙ sym (mod-eq_of_lt (omega arith)) in
+    let same : q - 1 - (m - 1) ≡ (0 + (q - m)) % q = grind (arith, mod-eq_of_lt) in
     ap (λ n. n % m) (low ∙ same) ∙ wrapped_square q m some room
     ∙ ap (λ n. n % m) (ap (λ n. 2 ^ n) (let d : 2 * v ≡ v + v = omega arith in d) ∙ pow-add 2 v v)
 
@@ -62,8 +57,7 @@ module _ (w b m : ℕ) (base : b ≡ 2 ^ w) (wide : 8 ≤ w) (odd : m % 2 ≡ 1)
       value_below-found (λ x. (m * x) % b) b v (b - 1)
       (λ x l e.
       let same : (x * m) % b ≡ (v * m) % b =
-      ap (λ n. n % b) (let s : x * m ≡ m * x = omega arith in s) ∙ e ∙ sym product
-      ∙ ap (λ n. n % b) (let s : m * v ≡ v * m = omega arith in s) in
+      grind arith in
       sym (mod-eq_of_lt l) ∙ same_without_unit b x v m i unit same ∙ mod-eq_of_lt below)
       below product
 
@@ -79,10 +73,4 @@ module _ (w b m : ℕ) (base : b ≡ 2 ^ w) (wide : 8 ≤ w) (odd : m % 2 ≡ 1)
       let zero_b : (v + i) % b ≡ 0 = mod-add-mod (b - i) b i ∙ ap (λ n. n % b) whole ∙ mod_self b in
       let product : (m * v) % b ≡ b - 1 = lift_end w b m i (w + 3) v base wide known.2 (omega arith) zero_b in
       let is = negated_is i v unit (mod-lt (b - i) some) product in
-      record {
-        base = base;
-        odd = odd;
-        fits = fits;
-        inverse = record { product = ap (λ n. (m * n) % b) is ∙ product };
-        is_square = refl;
-      }
+      grind arith

@@ -8,4 +8,3 @@ pub mod SquareTests
 pub mod TwoPartSteps
 pub mod Twos
 pub mod UnitBases
-pub mod WordTests

@@ -1,11 +1,10 @@
 -- What each operation modulo an odd m makes of forms.
-use Rattle.std.proofs.Common.{◌≡◌, ℕ, ◌+◌, ◌*◌, ◌/◌, ◌%◌, ◌<◌, ◌↔◌, Some, None}
+use Rattle.std.proofs.Common.{◌≡◌, ℕ, ◌+◌, ◌*◌, ◌/◌, ◌%◌, ◌<◌, ◌↔◌}
 use Rattle.std.proofs.Common.{sym, ap, ◌∙◌, arith, refl, pos, ◌-ℤ◌, neg_ℤ, subst}
 use Rattle.std.proofs.Math.Nat.{mul-le-mul_left, mod-lt, mod-mod, mod-eq_of_lt}
-use Rattle.std.proofs.lemmas.Nat.{mul-mod_first, mul-lt}
+use Rattle.std.proofs.lemmas.Nat.{mul-mod_first}
 use Rattle.std.proofs.lemmas.Int.{ints}
 use Rattle.modular_word.specs.Congruence.{Congruent}
-use Rattle.modular_word.specs.Inverses.{IsInverse}
 use Rattle.modular_word.specs.Reduction.{IsReduction}
 use Rattle.modular_word.specs.Residues.{residue}
 use Rattle.modular_word.specs.Sums.{sum_below}
@@ -14,8 +13,8 @@ use Rattle.modular_word.proofs.Congruence.{mod_of_eq, mod_refl, mod_trans, mod_a
 use Rattle.modular_word.proofs.ReductionSteps.{base_inverse}
 use Rattle.modular_word.proofs.ResidueLemmas.{residue_is, difference_and}
 use Rattle.modular_word.proofs.Sums.{sum_below-congruent, sum_below-mul}
-use Rattle.modular_reduced.specs.Forms.{Represents, IsForm, IsCanonical}
-use Rattle.modular_reduced.proofs.FormLemmas.{Answered, InverseAnswered, answered, form_of_value, inverse_answered}
+use Rattle.modular_reduced.specs.Forms.{Represents, IsForm}
+use Rattle.modular_reduced.proofs.FormLemmas.{Answered, answered, form_of_value}
 use Rattle.modular_monty.specs.Montgomery.{montgomery_form, montgomery_value, IsOddRing}
 use Rattle.modular_monty.specs.MontgomeryLaws.{positive, base_cancels, value_of_form, montgomery_canonical}
 
@@ -66,10 +65,7 @@ module _ {w b m i square : ℕ} (r : IsOddRing w b m i square) where
 
   -- what reduces a form is its value
   pub value_stands : {t f u : ℕ} → f < m → t ≡ f → IsReduction b m t u → Stands w m f u
-  value_stands {t} {f} {u} hf et is = record {
-    below = is.below;
-    same = sym (mod-eq_of_lt hf) ∙ ap (λ n. n % m) (sym et) ∙ sym is.congruent ∙ ap (λ n. (u * n) % m) r.base;
-  }
+  value_stands {t} {f} {u} hf et is = grind (arith, mod-eq_of_lt)
 
   -- each number below the modulus is a form
   pub below_is_form : (f : ℕ) → f < m → Checked w m f
@@ -113,9 +109,7 @@ module _ {w b m i square : ℕ} (r : IsOddRing w b m i square) where
 
   -- a word as a double word
   pub extended_below : {t f z : ℕ} → f < m → t ≡ f + b * z → z ≡ 0 → (t ≡ f) × (t < b * m)
-  extended_below {t} {f} {z} h e ez =
-      let none : b * z ≡ b * 0 = ap (λ n. b * n) ez in
-      (omega arith, omega (arith, none, r.fits, mul-le-mul_left b (positive r)))
+  extended_below {t} {f} {z} h e ez = grind (arith, mul-le-mul_left, positive)
 
   -- a form times what reduces another, as a double word, is the form of the product
   pub scaled_made : {f g t o u h : ℕ} → Checked w m f → Checked w m g → t ≡ g + b * o → o ≡ 0 → IsReduction b m t u
@@ -177,10 +171,6 @@ module _ {w b m i square : ℕ} (r : IsOddRing w b m i square) where
       subst (λ v. Made w m h ((v * montgomery_value w m x) % m)) difference.value
       (product_made difference.checked isx et is)
 
-  -- the square of the base is below the modulus
-  pub square_below : square < m
-  square_below = omega (arith, r.is_square, mod-lt (b * b) (positive r))
-
   -- the reduction of n times the square of the base is the form of n
   pub transform_made : (n : ℕ) {t h : ℕ} → t ≡ n * square → IsReduction b m t h → Made w m h (n % m)
   transform_made n et is =
@@ -201,10 +191,7 @@ module _ {w b m i square : ℕ} (r : IsOddRing w b m i square) where
 
   -- and of no other value
   pub zero_iff : {f : ℕ} → Checked w m f → (f ≡ 0) ↔ (montgomery_value w m f ≡ 0)
-  zero_iff is = (
-    λ z. ap (montgomery_value w m) z ∙ zero_value,
-    λ e. is.same ∙ ap (montgomery_form w m) (e ∙ sym zero_value) ∙ sym (below_is_form 0 (positive r)).same,
-  )
+  zero_iff is = grind (arith, zero_value, below_is_form, positive)
 
   -- the negative of a form is the form of the negative
   pub negative_made : {f h : ℕ} → Checked w m f → h ≡ residue m (neg_ℤ (pos f))
@@ -212,29 +199,4 @@ module _ {w b m i square : ℕ} (r : IsOddRing w b m i square) where
   negative_made {f} {h} is eh =
       let v = montgomery_value w m f in
       let minus : (n : ℕ) → pos 0 -ℤ pos n ≡ neg_ℤ (pos n) = λ n. omega (arith, ints) in
-      subst (Made w m h) (ap (λ n. residue m (pos n -ℤ pos v)) zero_value ∙ ap (residue m) (minus v))
-      (difference_made (below_is_form 0 (positive r)) is (eh ∙ ap (residue m) (sym (minus f))))
-
--- an inverse of the value, and its form
-pub inverted : {T : Type 0} (number : T → ℕ) {form value : ℕ → ℕ → ℕ} {w m : ℕ}
-    → IsCanonical form value w m → {f v x : ℕ} {h : T}
-    → Represents form m f v → IsInverse m v x → Represents form m (number h) (x % m)
-    → InverseAnswered number form value m (value m f) (Some h)
-inverted number {form} {value} {w} {m} r {f} {v} {x} {h} of is made =
-    inverse_answered number (value m f) (Some h) r (
-      x,
-      record { below = is.below; one = ap (λ n. (n * x) % m) (r.one_value f v of) ∙ is.one },
-      record { below = is.below; same = made.same ∙ ap (form m) (mod-eq_of_lt is.below) },
-    )
-
--- where the value has no inverse, the form's value has none
-pub not_inverted : {T : Type 0} (number : T → ℕ) {form value : ℕ → ℕ → ℕ} {w m : ℕ}
-    → IsCanonical form value w m → {f v : ℕ}
-    → Represents form m f v → ((x : ℕ) → IsInverse m v x → ⊥) → InverseAnswered number form value m (value m f) None
-not_inverted number {form} {value} {w} {m} r {f} {v} of none =
-    inverse_answered number (value m f) None r
-    (λ x is. none x (record { below = is.below; one = ap (λ n. (n * x) % m) (sym (r.one_value f v of)) ∙ is.one }))
-
--- a product of a word and a number below the modulus
-pub product_below : (b m : ℕ) {t f g : ℕ} → t ≡ f * g → f < b → g < m → t < b * m
-product_below b m {t} {f} {g} e h k = omega (arith, e, mul-lt f g b m h k)
+      grind (arith, Made, zero_value, difference_made, below_is_form, positive)

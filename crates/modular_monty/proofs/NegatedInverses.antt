@@ -1,7 +1,6 @@
 -- The inverse of a number modulo the base, from its negated inverse.
 use Rattle.std.proofs.Common.{◌≡◌, ◌↔◌, ◌⊎◌, ℕ, ◌+◌, ◌-◌, ◌*◌, ◌%◌, ◌<◌, ◌≤◌, inl, inr, sym, ap, ◌∙◌, arith, refl}
 use Rattle.std.proofs.Math.Nat.{mod-eq_of_lt}
-use Rattle.std.proofs.lemmas.Bool.{cases_lt}
 use Rattle.modular_word.specs.Reduction.{IsNegatedInverse}
 use Rattle.modular_word.proofs.Congruence.{same_product, same_without, next_is_multiple}
 
@@ -18,16 +17,11 @@ inverse_of_negated b d n i h is e =
 
 -- a remainder that 1 more brings to 0 is the greatest
 greatest_remainder : (b p : ℕ) → p < b → (p + 1) % b ≡ 0 → (p + 1 < b) ⊎ (b ≤ p + 1) → p ≡ b - 1
-greatest_remainder b p below none (inl less) =
-    absurd (let kept : (p + 1) % b ≡ p + 1 = mod-eq_of_lt less in omega arith)
+greatest_remainder b p below none (inl less) = grind (arith, mod-eq_of_lt)
 greatest_remainder b p below none (inr more) = omega arith
 
 -- the remainder p of a product and 1 have the remainder 0 exactly where p is the greatest remainder
 pub negated_inverse_tested : (b m i p one s : ℕ) → p ≡ (m * i) % b → p < b → one ≡ 1 → s ≡ (p + one) % b
     → (s ≡ 0) ↔ IsNegatedInverse b m i
 negated_inverse_tested b m i p one s is below unit sum =
-    let next : s ≡ (p + 1) % b = sum ∙ ap (λ v. (p + v) % b) unit in (
-      λ none. record { product = sym is ∙ greatest_remainder b p below (sym next ∙ none) (cases_lt (p + 1) b) },
-      λ inverse. next ∙ next_is_multiple b p (omega arith) (mod-eq_of_lt below ∙ (is ∙ inverse.product))
-          ∙ mod-eq_of_lt (omega arith),
-    )
+    grind (arith, greatest_remainder, next_is_multiple, mod-eq_of_lt)

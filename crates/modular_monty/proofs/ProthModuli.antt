@@ -1,7 +1,6 @@
 -- The moduli k * 2^n + 1.
-use Rattle.std.proofs.Common.{subst, suc, ◌≡◌, ℕ, ◌+◌, ◌-◌, ◌*◌, ◌%◌, ◌^◌, ◌<◌, sym, ap, ◌∙◌, arith}
-use Rattle.std.proofs.Math.Nat.{mod-eq_of_lt, pow-suc, add-mul-mod_self_left}
-use Rattle.std.proofs.lemmas.Nat.{mul-lt, pow-add}
+use Rattle.std.proofs.Common.{subst, suc, ◌≡◌, ℕ, ◌+◌, ◌-◌, ◌*◌, ◌%◌, ◌^◌, ap, ◌∙◌, arith}
+use Rattle.std.proofs.Math.Nat.{pow-suc, add-mul-mod_self_left}
 use Rattle.modular_monty.specs.Montgomery.{IsOddRing}
 use Rattle.modular_monty.specs.Proth.{IsProth, IsProthRange, proth_modulus}
 
@@ -13,15 +12,6 @@ proth_odd {w} {greatest} {n} {k} {m} is =
     let even : 2 ^ n ≡ half * 2 = ap (λ v. 2 ^ v) next ∙ pow-suc 2 (n - 1) in
     let whole : m ≡ 1 + 2 * (k * half) = is.same ∙ ap (λ v. k * v + 1) even ∙ omega arith in
     ap (λ v. v % 2) whole ∙ add-mul-mod_self_left 1 2 (k * half)
-
--- a product with one, made by a shift in words of 2w bits
-pub shifted_product : (w n k x : ℕ) → proth_modulus n k < 2 ^ w → x < 2 ^ w
-    → x * k * 2 ^ n % 2 ^ (w + w) + x ≡ x * proth_modulus n k
-shifted_product w n k x hm hx =
-    let whole : x * proth_modulus n k ≡ x * k * 2 ^ n + x = omega arith in
-    let fits : x * proth_modulus n k < 2 ^ w * 2 ^ w = mul-lt x (proth_modulus n k) (2 ^ w) (2 ^ w) hx hm in
-    let small : x * k * 2 ^ n < 2 ^ (w + w) = omega (arith, pow-add 2 w w) in
-    ap (λ v. v + x) (mod-eq_of_lt small) ∙ sym whole
 
 -- what a function without a condition computes of the modulus
 pub ring_of_proth : {w b greatest n k m i square : ℕ} → IsProthRange w greatest n k → m ≡ proth_modulus n k

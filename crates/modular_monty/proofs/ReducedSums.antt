@@ -1,5 +1,5 @@
 -- The reduction of a sum of products of words, which is given as two words and a count of carries.
-use Rattle.std.proofs.Common.{◌≡◌, ℕ, ◌+◌, ◌*◌, ◌%◌, ◌^◌, sym, arith}
+use Rattle.std.proofs.Common.{◌≡◌, ℕ, ◌+◌, ◌*◌, ◌%◌, ◌^◌, arith}
 use Rattle.modular_word.specs.Congruence.{Congruent}
 use Rattle.modular_word.specs.Reduction.{IsReduction}
 use Rattle.modular_word.proofs.Congruence.{mod_of_eq, mod_refl, mod_trans, mod_add, mod_mul, residue_of}
@@ -11,14 +11,11 @@ low_reduced {m} {b} {t} {u} {high} {rest} {s} low before is parts same whole =
     let reduced : Congruent m (u * b) t = record { same = is.congruent } in
     let high_same : Congruent m (low + b * rest) (low + b * high) =
     mod_add (mod_refl low) (mod_mul (mod_refl b) same) in
-    mod_add (mod_trans reduced (mod_trans (mod_of_eq parts) (mod_trans high_same (mod_of_eq (sym whole)))))
-    (mod_refl before)
+    grind (arith, mod_add, mod_trans, mod_of_eq, mod_refl)
 
 -- the form of a count of carries
 pub carries_formed : {m b v : ℕ} (w c : ℕ) → b ≡ 2 ^ w → v ≡ (c % m * 2 ^ w) % m → Congruent m v (c * b)
-carries_formed {m} {b} {v} w c base is =
-    mod_trans (mod_of_eq is)
-    (mod_trans (residue_of (c % m * 2 ^ w)) (mod_mul (residue_of c) (mod_of_eq (sym base))))
+carries_formed {m} {b} {v} w c base is = grind (arith, mod_trans, mod_of_eq, residue_of, mod_mul)
 
 -- the reduction with that form added
 pub carries_added : {m v h : ℕ} (b u c s before : ℕ) → Congruent m (u * b + before) (s + before) → Congruent m v (c * b)

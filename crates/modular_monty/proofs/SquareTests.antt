@@ -1,6 +1,6 @@
 -- Two reductions make 1 modulo m of the square of the base alone.
 use Rattle.std.proofs.Common.{◌≡◌, ℕ, ◌+◌, ◌*◌, ◌/◌, ◌%◌, ◌<◌, sym, ap, ◌∙◌, arith, refl, ⊎_elim}
-use Rattle.std.proofs.Math.Nat.{mod-lt, mod-eq_of_lt, mul-le-mul_right}
+use Rattle.std.proofs.Math.Nat.{mod-lt, mod-eq_of_lt}
 use Rattle.std.proofs.lemmas.Bool.{cases_lt}
 use Rattle.modular_word.specs.Reduction.{IsReduction, IsNegatedInverse}
 use Rattle.modular_word.proofs.Congruence.{same_product, same_without_unit}
@@ -13,10 +13,6 @@ some_below h = omega (arith, h)
 -- a word as a double word
 pub extended : (b : ℕ) {t f z : ℕ} → t ≡ f + b * z → z ≡ 0 → t ≡ f
 extended b {z = z} e ez = let none : b * z ≡ b * 0 = ap (λ n. b * n) ez in omega (arith, e, none)
-
--- .. is below the base times each number that is above the word
-pub extended_below : (b m : ℕ) {t f : ℕ} → 0 < b → f < m → t ≡ f → t < b * m
-extended_below b m some h e = omega (arith, h, e, mul-le-mul_right m some)
 
 -- a residue modulo an odd number is below it
 pub residue_below : (x m : ℕ) {r : ℕ} → m % 2 ≡ 1 → r ≡ x % m → r < m
@@ -51,9 +47,7 @@ module _ {b m i square t r s u : ℕ} (some : 0 < b) (inverse : IsNegatedInverse
 
   -- modulo 1 there is only one residue
   pub square_modulo_one : m ≡ 1 → square ≡ (b * b) % m
-  square_modulo_one e =
-      let least : 0 < m = omega (arith, e) in
-      omega (arith, e, below, mod-lt (b * b) least)
+  square_modulo_one e = omega arith
 
   -- so where they don't make 1 of it the modulus is 1
   pub modulus_is_one : (u ≡ 1 → ⊥) → square ≡ (b * b) % m → m ≡ 1

@@ -1,16 +1,13 @@
 -- What each operation modulo m = k * 2^s makes of forms, k being odd.
 use Rattle.std.proofs.Common.{◌≡◌, ℕ, ◌+◌, ◌-◌, ◌*◌, ◌/◌, ◌%◌, ◌^◌, ◌<◌, ◌↔◌, sym}
 use Rattle.std.proofs.Common.{ap, ap₂, ◌∙◌, arith, refl, pos, ◌-ℤ◌, neg_ℤ, subst}
+use Rattle.std.proofs.Math.Path.{fun_ext}
 use Rattle.std.proofs.Math.Nat.{mod-lt, mod-mod, mod-eq_of_lt, add-mod_right}
 use Rattle.std.proofs.Math.Nat.{add-mul-mod_self_left, div-add-mod, div-one, mod-one}
 use Rattle.std.proofs.lemmas.Nat.{pow_pos, div_below, div-mul-add, mod-mul-add, mul-add-lt}
 use Rattle.std.proofs.lemmas.Int.{ints}
-use Rattle.modular_word.specs.Congruence.{Congruent}
 use Rattle.modular_word.specs.Reduction.{IsReduction}
 use Rattle.modular_word.specs.Residues.{residue}
-use Rattle.modular_word.specs.Sums.{sum_below}
-use Rattle.modular_word.proofs.Congruence.{mod_of_eq, mod_trans, mod_add, mod_mul, residue_of}
-use Rattle.modular_word.proofs.Sums.{sum_below-congruent}
 use Rattle.modular_word.proofs.Congruence.{same_sum, same_product, same_without, mod_of_multiple, mod_of_multiple_left}
 use Rattle.modular_word.proofs.ResidueLemmas.{difference_and}
 use Rattle.modular_reduced.specs.Forms.{IsForm}
@@ -30,12 +27,9 @@ Made w m f v = Answered (two_part_form w) (two_part_value w) m f v
 abbrev pub Checked : ℕ → ℕ → ℕ → Type 0
 Checked w m f = IsForm (two_part_form w) (two_part_value w) m f
 
--- for an odd modulus a form is its high part, and no bits are low
+-- for an odd modulus a form is its high part
 pub all_high : (s f : ℕ) → s ≡ 0 → f ≡ f / 2 ^ s
 all_high s f e = sym (ap (λ n. f / 2 ^ n) e ∙ div-one f)
-
-pub none_low : (s x y : ℕ) → s ≡ 0 → x % 2 ^ s ≡ y % 2 ^ s
-none_low s x y e = ap (λ n. x % 2 ^ n) e ∙ mod-one x ∙ sym (ap (λ n. y % 2 ^ n) e ∙ mod-one y)
 
 pub one_part : (s u l : ℕ) → s ≡ 0 → u ≡ u * 2 ^ s + l % 2 ^ s
 one_part s u l e = sym (ap (λ n. u * 2 ^ n + l % 2 ^ n) e ∙ omega (arith, mod-one l))
@@ -75,14 +69,7 @@ module _ {w b m s k i square : ℕ} (r : IsTwoPartRing w b m s k i square) where
       let e : f ≡ u * 2 ^ s + v % 2 ^ s = is.same ∙ form_is r v in
       let below = mod-lt v (pow_pos s) in
       let high : f / 2 ^ s ≡ u = ap (λ n. n / 2 ^ s) e ∙ div-mul-add u (2 ^ s) (v % 2 ^ s) below in
-      record {
-        high = record {
-          below = mod-lt v (positive r.odd);
-          same = high ∙ same_product k v (v % k) (2 ^ w) (2 ^ w) (sym (mod-mod v k)) refl;
-        };
-        low = ap (λ n. n % 2 ^ s) e ∙ mod-mul-add u (2 ^ s) (v % 2 ^ s) below;
-        below = omega (arith, is.same, form_less r v);
-      }
+      grind (arith, mod-lt, positive, same_product, mod-mod, mod-mul-add, form_less)
 
   -- the high part of a form is a form modulo the odd part
   pub high_checked : {f y : ℕ} → Checked w m f → y ≡ f / 2 ^ s → odd.Checked w k y
@@ -121,22 +108,6 @@ module _ {w b m s k i square : ℕ} (r : IsTwoPartRing w b m s k i square) where
       let high = odd.scaled_made r.odd (high_checked isf ey) (high_checked isg ez) ea eo is ex in
       operation_made (λ x y. x * y) same_product isf isg ey ez high.form et eh
 
-  -- for an odd modulus, what represents a sum of products modulo the odd part represents it
-  pub odd_products_made : s ≡ 0 → {f h : ℕ} (n : ℕ) (x y : ℕ → ℕ) → Checked w m f
-      → ((i : ℕ) → i < n → Checked w m (x i)) → ((i : ℕ) → i < n → Checked w m (y i))
-      → odd.Stands w k h ((montgomery_value w k f
-      + sum_below n (λ i. montgomery_value w k (x i) * montgomery_value w k (y i))) % k)
-      → Made w m h ((two_part_value w m f + sum_below n (λ i. two_part_value w m (x i) * two_part_value w m (y i))) % m)
-  odd_products_made none {f} {h} n x y isf isx isy is =
-      let u = montgomery_value w k in let v = two_part_value w m in
-      let same : (g : ℕ) → Checked w m g → Congruent k (u g) (v g) =
-      λ g isg. mod_trans (mod_of_eq (high_value isg (all_high s g none))) (residue_of (v g)) in
-      let sum : Congruent k (u f + sum_below n (λ i. u (x i) * u (y i))) (v f + sum_below n (λ i. v (x i) * v (y i))) =
-      mod_add (same f isf)
-      (sum_below-congruent n (λ i. u (x i) * u (y i)) (λ i. v (x i) * v (y i))
-      (λ i l. mod_mul (same (x i) (isx i l)) (same (y i) (isy i l)))) in
-      made (v f + sum_below n (λ i. v (x i) * v (y i))) 0 is sum.same (none_low s 0 _ none) (one_part s h 0 none)
-
   -- the difference of the high parts is the high part of the difference
   high_difference : {f g y z : ℕ} → Checked w m f → Checked w m g → y ≡ f / 2 ^ s → z ≡ g / 2 ^ s
       → residue k (pos (montgomery_value w k y) -ℤ pos (montgomery_value w k z))
@@ -171,34 +142,11 @@ module _ {w b m s k i square : ℕ} (r : IsTwoPartRing w b m s k i square) where
       subst (Made w m h) (mod-eq_of_lt less)
       (made d t eu (high_difference isf isg ey ez) (same_without (2 ^ s) t d x (pow_pos s) low_sum) eh)
 
-  -- the difference of two forms times a third
-  pub difference_product_made : (t : ℕ) {f g e y z a u h : ℕ} → Checked w m f → Checked w m g → Checked w m e
-      → y ≡ f / 2 ^ s → z ≡ g / 2 ^ s → a ≡ e / 2 ^ s
-      → odd.Stands w k u ((residue k (pos (montgomery_value w k y) -ℤ pos (montgomery_value w k z))
-      * montgomery_value w k a) % k)
-      → t % 2 ^ s
-      ≡ (residue m (pos (two_part_value w m f) -ℤ pos (two_part_value w m g)) * two_part_value w m e) % 2 ^ s
-      → h ≡ u * 2 ^ s + t % 2 ^ s
-      → Made w m h ((residue m (pos (two_part_value w m f) -ℤ pos (two_part_value w m g)) * two_part_value w m e) % m)
-  difference_product_made t {f} {g} {e} {y} {z} {a} isf isg ise ey ez ea eu et eh =
-      let d = residue m (pos (two_part_value w m f) -ℤ pos (two_part_value w m g)) in
-      let c = residue k (pos (montgomery_value w k y) -ℤ pos (montgomery_value w k z)) in
-      made (d * two_part_value w m e) t eu
-      (same_product k c d (montgomery_value w k a) (two_part_value w m e)
-      (odd.same_residue d k (high_difference isf isg ey ez)) (odd.same_residue (two_part_value w m e) k (high_value ise ea)))
-      et eh
-
   -- a number below the odd part, and fewer than 2^s times the odd part, are below the modulus
   pub turns_below : (x : ℕ) {u steps : ℕ} → u < k → steps ≡ x % 2 ^ s → u + k * steps < m
-  turns_below x {u} {steps} h few =
-      let below : steps * k + u < k * 2 ^ s =
-      mul-add-lt steps k u (2 ^ s) (omega (arith, few, mod-lt x (pow_pos s))) h in
-      omega (arith, r.whole)
+  turns_below x {u} {steps} h few = grind (arith, mul-add-lt, mod-lt, pow_pos)
 
-  -- so both the product and the sum fit a word
-  pub steps_fit : (x : ℕ) {u steps : ℕ} → u < k → steps ≡ x % 2 ^ s → k * steps < b
-  steps_fit x h few = omega (arith, turns_below x h few, r.fits)
-
+  -- so the sum fits a word
   pub turns_fit : (x : ℕ) {u steps t : ℕ} → u < k → steps ≡ x % 2 ^ s → t ≡ k * steps → u + t < b
   turns_fit x h few e = omega (arith, e, turns_below x h few, r.fits)
 
@@ -209,11 +157,9 @@ module _ {w b m s k i square : ℕ} (r : IsTwoPartRing w b m s k i square) where
   value_made d {f} {y} {u} {steps} {v} ey of ed es ev =
       let q = 2 ^ s in
       let high : f / q ≡ montgomery_form w k v =
-      sym ey ∙ of.same
-      ∙ same_product k u v (2 ^ w) (2 ^ w) (sym (add-mul-mod_self_left u k steps) ∙ ap (λ n. n % k) (sym ev)) refl in
+      grind (arith, same_product, add-mul-mod_self_left) in
       let turns : (k * steps + d) % q ≡ 0 % q =
-      same_sum q (k * steps) (k * (d * i)) d d
-      (same_product q k k steps (d * i) refl (odd.same_residue (d * i) q es)) refl
+      same_sum _ _ _ _ _ (same_product q k k steps (d * i) refl (odd.same_residue (d * i) q es)) refl
       ∙ ap (λ n. n % q) (let e : k * (d * i) + d ≡ d * (k * i + 1) = omega arith in e)
       ∙ same_product q d d (k * i + 1) 0 refl (negated_inverse r)
       ∙ ap (λ n. n % q) (let e : d * 0 ≡ 0 = omega arith in e) in
@@ -248,17 +194,7 @@ module _ {w b m s k i square : ℕ} (r : IsTwoPartRing w b m s k i square) where
 
   -- and of no other value
   pub zero_iff : {f : ℕ} → Checked w m f → (f ≡ 0) ↔ (two_part_value w m f ≡ 0)
-  zero_iff is = (
-    λ z. ap (two_part_value w m) z ∙ zero_value,
-    λ e. is.same ∙ ap (two_part_form w m) (e ∙ sym zero_value) ∙ sym (below_is_form 0 (modulus_positive r)).same,
-  )
-
-  -- the sum of a form and itself is the form of the double
-  pub double_made : (f : ℕ) {h : ℕ} → Made w m h ((two_part_value w m f + two_part_value w m f) % m)
-      → Made w m h ((2 * two_part_value w m f) % m)
-  double_made f {h} =
-      let twice : two_part_value w m f + two_part_value w m f ≡ 2 * two_part_value w m f = omega arith in
-      subst (λ n. Made w m h (n % m)) twice
+  zero_iff is = grind (arith, zero_value, below_is_form, modulus_positive)
 
   -- the difference of 0 and a form is the form of the negative
   pub negative_made : (f : ℕ) {z h : ℕ} → z ≡ 0
@@ -267,37 +203,34 @@ module _ {w b m s k i square : ℕ} (r : IsTwoPartRing w b m s k i square) where
   negative_made f {z} {h} e =
       let v = two_part_value w m f in
       let minus : pos 0 -ℤ pos v ≡ neg_ℤ (pos v) = omega (arith, ints) in
-      subst (Made w m h)
-      (ap (λ n. residue m (pos n -ℤ pos v)) (ap (two_part_value w m) e ∙ zero_value) ∙ ap (residue m) minus)
+      grind (arith, Made, zero_value)
 
-  -- for an odd modulus, what stands for the double modulo the odd part is the form of the double
-  pub odd_double_made : s ≡ 0 → {f h : ℕ} → Checked w m f
-      → odd.Stands w k h ((2 * montgomery_value w k f) % k) → Made w m h ((2 * two_part_value w m f) % m)
-  odd_double_made e {f} {h} is of =
-      let v = montgomery_value w k f in
-      let twice : 2 * v ≡ v + v = omega arith in
-      double_made f
-      (operation_made (λ x y. x + y) same_sum is is (all_high s f e) (all_high s f e)
-      (subst (λ n. odd.Stands w k h (n % k)) twice of) refl (one_part s h _ e))
+  -- ---- an odd modulus: its forms and values are those modulo the odd part
+  odd_modulus : s ≡ 0 → m ≡ k
+  odd_modulus e = omega (arith, ap (λ n. k * 2 ^ n) e, r.whole)
 
-  -- and so for the negative
-  pub odd_negative_made : s ≡ 0 → {f h : ℕ} → Checked w m f
-      → odd.Stands w k h (residue k (neg_ℤ (pos (montgomery_value w k f))))
-      → Made w m h (residue m (neg_ℤ (pos (two_part_value w m f))))
-  odd_negative_made e {f} {h} is of =
-      let v = montgomery_value w k f in
-      let minus : neg_ℤ (pos v) ≡ pos 0 -ℤ pos v = omega (arith, ints) in
-      let less : residue k (neg_ℤ (pos v)) ≡ residue k (pos (montgomery_value w k 0) -ℤ pos v) =
-      ap (residue k) minus ∙ ap (λ n. residue k (pos n -ℤ pos v)) (sym (odd.zero_value r.odd)) in
-      negative_made f refl
-      (difference_made 0 (below_is_form 0 (modulus_positive r)) is (all_high s 0 e) (all_high s f e)
-      (subst (odd.Stands w k h) less of) (none_low s _ _ e) (one_part s h 0 e))
+  odd_form : s ≡ 0 → (v : ℕ) → two_part_form w m v ≡ montgomery_form w k v
+  odd_form e v = form_is r v ∙ ap (λ n. montgomery_form w k v * 2 ^ n + v % 2 ^ n) e ∙ omega (arith, mod-one v)
 
-  -- for an odd modulus, what is its value modulo the odd part is its value
-  pub odd_value_made : s ≡ 0 → {f u : ℕ} → odd.Stands w k f u → ValueAnswered (two_part_form w) (two_part_value w) m f u
-  odd_value_made e {f} {u} of =
-      let one : k * 2 ^ s ≡ k * 1 = ap (λ n. k * 2 ^ n) e in
-      let below : u < m = omega (arith, of.below, r.whole) in
-      let done = made u 0 of (sym (mod-eq_of_lt of.below)) (none_low s 0 u e) (one_part s f 0 e) in
+  odd_value : s ≡ 0 → (f : ℕ) → two_part_value w m f ≡ montgomery_value w k f
+  odd_value e f = grind (arith, odd_modulus, odd_form)
+
+  pub odd_checked : s ≡ 0 → {f : ℕ} → Checked w m f → odd.Checked w k f
+  odd_checked e {f} is = grind (arith, odd_value, odd_modulus, odd_form)
+
+  -- what represents a number computed from values modulo the odd part represents it
+  pub odd_answered : s ≡ 0 → (v : (ℕ → ℕ) → ℕ → ℕ) → {h : ℕ} → odd.Stands w k h (v (montgomery_value w k) k)
+      → Made w m h (v (two_part_value w m) m)
+  odd_answered e v {h} is =
+      let same : v (two_part_value w m) m ≡ v (montgomery_value w k) k =
+      ap (λ (u : ℕ → ℕ). v u m) (fun_ext (odd_value e)) ∙ ap (v (montgomery_value w k)) (odd_modulus e) in
+      answered (two_part_canonical r) (record {
+        below = omega (arith, is.below, same, odd_modulus e);
+        same = is.same ∙ ap (montgomery_form w k) (sym same) ∙ sym (odd_form e (v (two_part_value w m) m));
+      })
+
+  pub odd_value_answered : s ≡ 0 → {f u : ℕ} → odd.Stands w k f u
+      → ValueAnswered (two_part_form w) (two_part_value w) m f u
+  odd_value_answered e {f} {u} is =
       value_answered (two_part_canonical r)
-      (record { below = below; same = done.form.same ∙ ap (two_part_form w m) (mod-eq_of_lt below) })
+      (record { below = omega (arith, is.below, odd_modulus e); same = is.same ∙ sym (odd_form e u) })

@@ -1,8 +1,7 @@
 -- Reductions of small numbers, and bases that are 1 modulo m.
-use Rattle.std.proofs.Common.{◌≡◌, ℕ, suc, zero, ◌+◌, ◌*◌, ◌/◌, ◌%◌, ◌<◌, ◌≤◌, sym, ap, ◌∙◌, arith, refl, subst, ⊎_elim}
-use Rattle.std.proofs.Math.Nat.{mod-eq_of_lt, mul-suc, mul-le-mul_left, mul-le-mul_right, add-mul-mod_self_left, add-mul-mod_self_right}
+use Rattle.std.proofs.Common.{◌≡◌, ℕ, suc, zero, ◌+◌, ◌*◌, ◌%◌, ◌<◌, sym, ap, ◌∙◌, arith, refl, subst}
+use Rattle.std.proofs.Math.Nat.{mod-eq_of_lt, mul-le-mul_left, mul-le-mul_right, add-mul-mod_self_left, add-mul-mod_self_right}
 use Rattle.std.proofs.Math.Nat.{lt_of_mul-lt-mul_right}
-use Rattle.std.proofs.lemmas.Bool.{cases_lt}
 use Rattle.std.proofs.lemmas.Nat.{div-mul-add}
 use Rattle.modular_word.proofs.Congruence.{same_product}
 use Rattle.modular_word.specs.Reduction.{IsReduction}
@@ -10,23 +9,16 @@ use Rattle.modular_reduced.specs.Factors.{IsFactor}
 
 -- a number below m and a multiple of m by a word add up to less than m times the base
 pub sum_below_multiple : (B m t x : ℕ) → t < m → x < B → t + x * m < B * m
-sum_below_multiple B m t x below fits =
-    let most : (x + 1) * m ≤ B * m = mul-le-mul_right m (let l : x + 1 ≤ B = omega (arith, fits) in l) in
-    omega (arith, below, most)
+sum_below_multiple B m t x below fits = grind (arith, mul-le-mul_right)
 
 -- so the sum is a double word
 pub sum_fits : (B m t x : ℕ) → t < m → x < B → m < B → t + x * m < B * B
-sum_fits B m t x below fits word =
-    let most : B * m ≤ B * B = mul-le-mul_left B (let l : m ≤ B = omega (arith, word) in l) in
-    omega (arith, sum_below_multiple B m t x below fits, most)
+sum_fits B m t x below fits word = grind (arith, mul-le-mul_left, sum_below_multiple)
 
 -- where its low word is 0, it is the high word times the base ..
 pub high_times_base : (B m t x low high : ℕ) → (t + x * m) % B ≡ 0 → t + x * m ≡ low + B * high → low < B
     → high * B ≡ t + x * m
-high_times_base B m t x low high cleared parts low_fits =
-    let none : low ≡ 0 =
-    sym (mod-eq_of_lt low_fits) ∙ sym (add-mul-mod_self_left low B high) ∙ ap (λ n. n % B) (sym parts) ∙ cleared in
-    omega (arith, none, parts)
+high_times_base B m t x low high cleared parts low_fits = grind (arith, mod-eq_of_lt, add-mul-mod_self_left)
 
 -- .. so the high word is the reduction
 pub reduces_below : (B m t x low high : ℕ) → t < m → x < B → (t + x * m) % B ≡ 0 → t + x * m ≡ low + B * high → low < B
@@ -34,25 +26,15 @@ pub reduces_below : (B m t x low high : ℕ) → t < m → x < B → (t + x * m)
 reduces_below B m t x low high below fits cleared parts low_fits =
     let whole : high * B ≡ t + x * m = high_times_base B m t x low high cleared parts low_fits in
     let less : high * B < m * B = omega (arith, whole, sum_below_multiple B m t x below fits) in
-    record {
-      below = lt_of_mul-lt-mul_right B less;
-      congruent = ap (λ n. n % m) whole ∙ add-mul-mod_self_right t x m;
-    }
+    grind (arith, lt_of_mul-lt-mul_right, add-mul-mod_self_right)
 
 -- and x is its quotient as a factor
 pub factor_of_reduction : (B m t x high : ℕ) → t < m → IsReduction B m t high → high * B ≡ t + x * m → IsFactor B m high x
-factor_of_reduction B m t x high below is whole = record {
-  below = is.below;
-  quotient = sym (ap (λ n. n / m) (let e : high * B ≡ x * m + t = omega (arith, whole) in e) ∙ div-mul-add x m t below);
-}
+factor_of_reduction B m t x high below is whole = grind (arith, div-mul-add)
 
 -- the word whose successor is the base
 next_word : (B low : ℕ) → low < B → (low + 1) % B ≡ 0 → low + 1 ≡ B
-next_word B low fits next =
-    ⊎_elim
-    (λ (l : low + 1 < B). let same : low + 1 ≡ 0 = sym (mod-eq_of_lt l) ∙ next in absurd (omega arith))
-    (λ (l : B ≤ low + 1). let e : low + 1 ≡ B = omega (arith, l, fits) in e)
-    (cases_lt (low + 1) B)
+next_word B low fits next = grind (arith, mod-eq_of_lt)
 
 -- a base that is more by 1 than a multiple of m is 1 modulo m
 pub unit_base : (B m i low high : ℕ) → m * i ≡ low + B * high → high ≡ 0 → low < B → (low + 1) % B ≡ 0 → B % m ≡ 1 % m
@@ -63,9 +45,7 @@ unit_base B m i low high parts none fits next =
 -- a number below the base has the high word 0
 no_high : (B t low high : ℕ) → t < B → t ≡ low + B * high → high ≡ 0
 no_high B t low zero less parts = refl
-no_high B t low (suc high) less parts =
-    let more : B * suc high ≡ B * high + B = mul-suc B high in
-    absurd (omega (arith, less, parts, more))
+no_high B t low (suc high) less parts = omega arith
 
 -- by such a base, a number is congruent to its product with the base
 pub unit_product : (B m f : ℕ) → B % m ≡ 1 % m → (f * B) % m ≡ f % m

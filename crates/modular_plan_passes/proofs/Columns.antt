@@ -1,8 +1,8 @@
 -- Four entries at once: what is read and written of them, and the columns of four quarters.
-use Rattle.std.proofs.Common.{◌≡◌, ◌≢◌, ℕ, ◌+◌, ◌-◌, ◌*◌, ◌<◌, ◌≤◌, List, ◌++◌, All, get_or, length, inl, inr, refl}
+use Rattle.std.proofs.Common.{◌≡◌, ◌≢◌, ℕ, ◌+◌, ◌-◌, ◌*◌, ◌<◌, ◌≤◌, List, ◌++◌, All, get_or, length, inl, inr}
 use Rattle.std.proofs.Common.{sym, ◌∙◌, ap, arith, subst}
 use Rattle.std.proofs.Math.ListN.{set}
-use Rattle.std.proofs.lemmas.Bool.{cases_eq, cases_lt}
+use Rattle.std.proofs.lemmas.Bool.{cases_lt}
 use Rattle.modular_barrett.specs.Factors.{IsFactor}
 use Rattle.modular_plan_passes.specs.Plans.{numbers}
 use Rattle.modular_plan_passes.specs.Splits.{AreAt, AreFourBelow, AreNeighbours, AreQuarters, ColumnsDone}
@@ -13,26 +13,12 @@ use Rattle.modular_plan_passes.proofs.Entries.{written, not_written, number_read
 use Rattle.modular_plan_passes.proofs.Fours.{four_along, stage_of_fours_more}
 use Rattle.modular_plan_passes.proofs.Quarters.{in_front, behind}
 
--- four bounds of what was read
-pub below_at : {bound i j k l a b c d : ℕ} {x : ℕ → ℕ} → AreAt i j k l x a b c d
-    → AreFourBelow bound (x i) (x j) (x k) (x l) → AreFourBelow bound a b c d
-below_at {bound} {i} {j} {k} {l} {a} {b} {c} {d} {x} at below = record {
-  first = subst (λ v. v < bound) (sym at.first) below.first;
-  second = subst (λ v. v < bound) (sym at.second) below.second;
-  third = subst (λ v. v < bound) (sym at.third) below.third;
-  fourth = subst (λ v. v < bound) (sym at.fourth) below.fourth;
-}
-
 -- four writes of what comes of the numbers that were read
 pub done_by : (R : ℕ → ℕ → ℕ → ℕ → ℕ → ℕ → ℕ → ℕ → Type 0) {i j k l a b c d p q r s : ℕ} {x y : ℕ → ℕ}
     → AreAt i j k l x a b c d
     → FourDone (λ x y z t e f g h. (e ≡ p) × (f ≡ q) × (g ≡ r) × (h ≡ s)) i j k l x y
     → R a b c d p q r s → FourDone R i j k l x y
-done_by R {i} {j} {k} {l} {a} {b} {c} {d} {p} {q} {r} {s} {x} {y} at step four = record {
-  four = four_along R at.first at.second at.third at.fourth (sym step.four.0) (sym step.four.1) (sym step.four.2)
-      (sym step.four.3) four;
-  kept = step.kept;
-}
+done_by R {i} {j} {k} {l} {a} {b} {c} {d} {p} {q} {r} {s} {x} {y} at step four = grind arith
 
 -- column i of four lists, whose entries are below a bound
 pub record IsColumn {X : Type 0} (number : X → ℕ) (bound i : ℕ) (a b c d : List X) : Type 0 where
@@ -43,12 +29,8 @@ pub record IsColumn {X : Type 0} (number : X → ℕ) (bound i : ℕ) (a b c d :
 pub column_given : {X : Type 0} {number : X → ℕ} {bound i : ℕ} {a b c d : List X} {x y z t : X}
     → IsColumn number bound i a b c d → x ≡ get_or a i x → y ≡ get_or b i y → z ≡ get_or c i z → t ≡ get_or d i t
     → AreFourBelow bound (number x) (number y) (number z) (number t)
-column_given {X} {number} {bound} {i} {a} {b} {c} {d} {x} {y} {z} {t} at is_x is_y is_z is_t = record {
-  first = subst (λ v. v < bound) (sym (number_read number a i x at.within.0 is_x)) at.below.first;
-  second = subst (λ v. v < bound) (sym (number_read number b i y at.within.1 is_y)) at.below.second;
-  third = subst (λ v. v < bound) (sym (number_read number c i z at.within.2 is_z)) at.below.third;
-  fourth = subst (λ v. v < bound) (sym (number_read number d i t at.within.3 is_t)) at.below.fourth;
-}
+column_given {X} {number} {bound} {i} {a} {b} {c} {d} {x} {y} {z} {t} at is_x is_y is_z is_t =
+    grind (arith, number_read)
 
 -- the next column, of which nothing is done yet
 pub column_at : {X : Type 0} (number : X → ℕ) {bound limit : ℕ} (i : ℕ) {a b c d a' b' c' d' : List X}
@@ -58,24 +40,7 @@ pub column_at : {X : Type 0} (number : X → ℕ) {bound limit : ℕ} (i : ℕ) 
     → length a' ≡ length a → length b' ≡ length b → length c' ≡ length c → length d' ≡ length d → i < length a
     → IsColumn number bound i a' b' c' d'
 column_at number {bound} {limit} i {a} {b} {c} {d} {a'} {b'} {c'} {d'} {R} given done na nb nc nd within =
-    let kept = done.kept i (omega arith) in
-    let second = given.second_length in
-    let third = given.third_length in
-    let fourth = given.fourth_length in
-    record {
-      below = record {
-        first = subst (λ v. v < bound) (sym kept.0) (bounded_at number bound a i given.first within);
-        second = subst (λ v. v < bound) (sym kept.1) (bounded_at number bound b i given.second (omega (arith, second, within)));
-        third = subst (λ v. v < bound) (sym kept.2) (bounded_at number bound c i given.third (omega (arith, third, within)));
-        fourth = subst (λ v. v < bound) (sym kept.3) (bounded_at number bound d i given.fourth (omega (arith, fourth, within)));
-      };
-      within = (
-        omega (arith, within, na),
-        omega (arith, within, nb, second),
-        omega (arith, within, nc, third),
-        omega (arith, within, nd, fourth),
-      );
-    }
+    grind (arith, bounded_at)
 
 -- column i of four quarters is done, and the others are unchanged
 pub record ColumnDone (R : ℕ → ℕ → ℕ → ℕ → ℕ → ℕ → ℕ → ℕ → Type 0) (i : ℕ) (a b c d a' b' c' d' : ℕ → ℕ) : Type 0 where
@@ -89,40 +54,12 @@ pub column_done : {X : Type 0} (number : X → ℕ) (R : ℕ → ℕ → ℕ →
     (number t)
     → ColumnDone R i (numbers number a) (numbers number b) (numbers number c) (numbers number d) (numbers number (set a i x))
     (numbers number (set b i y)) (numbers number (set c i z)) (numbers number (set d i t))
-column_done number R a b c d i x y z t la lb lc ld four = record {
-  column = four_along R refl refl refl refl (sym (written number a i x la)) (sym (written number b i y lb))
-      (sym (written number c i z lc)) (sym (written number d i t ld)) four;
-  kept = λ k ne. (
-    not_written number a i k x ne,
-    not_written number b i k y ne,
-    not_written number c i k z ne,
-    not_written number d i k t ne,
-  );
-}
-
-pub columns_none : (R : ℕ → ℕ → ℕ → ℕ → ℕ → ℕ → ℕ → ℕ → Type 0) (a b c d : ℕ → ℕ) → ColumnsDone R 0 a b c d a b c d
-columns_none R a b c d =
-    record { columns = λ k l. absurd (omega arith); kept = λ k l. (refl, refl, refl, refl) }
+column_done number R a b c d i x y z t la lb lc ld four = grind (arith, four_along, written, not_written)
 
 -- one more column
 pub column_more : (R : ℕ → ℕ → ℕ → ℕ → ℕ → ℕ → ℕ → ℕ → Type 0) (i : ℕ) {a b c d a' b' c' d' e f g h : ℕ → ℕ}
     → ColumnsDone R i a b c d a' b' c' d' → ColumnDone R i a' b' c' d' e f g h → ColumnsDone R (i + 1) a b c d e f g h
-column_more R i {a} {b} {c} {d} {a'} {b'} {c'} {d'} {e} {f} {g} {h} before step = record {
-  columns = λ k l. elim (cases_eq k i) [
-    | inl is ↦
-        let old = before.kept i (omega arith) in
-        subst (λ n. R (a n) (b n) (c n) (d n) (e n) (f n) (g n) (h n)) (sym is)
-        (four_along R old.0 old.1 old.2 old.3 refl refl refl refl step.column)
-    | inr ne ↦
-        let new = step.kept k ne in
-        four_along R refl refl refl refl (sym new.0) (sym new.1) (sym new.2) (sym new.3) (before.columns k (omega arith))
-  ];
-  kept = λ k l.
-      let ne : k ≢ i = omega arith in
-      let new = step.kept k ne in
-      let old = before.kept k (omega arith) in
-      (new.0 ∙ old.0, new.1 ∙ old.1, new.2 ∙ old.2, new.3 ∙ old.3);
-}
+column_more R i {a} {b} {c} {d} {a'} {b'} {c'} {d'} {e} {f} {g} {h} before step = grind arith
 
 -- all columns
 pub columns_all : {R : ℕ → ℕ → ℕ → ℕ → ℕ → ℕ → ℕ → ℕ → Type 0} {i n : ℕ} {a b c d a' b' c' d' : ℕ → ℕ}
@@ -136,14 +73,7 @@ pub halves_done : {X : Type 0} (number : X → ℕ) (R : ℕ → ℕ → ℕ →
     → ColumnsDone R q (numbers number a) (numbers number b) (numbers number c) (numbers number d) (numbers number a')
     (numbers number b') (numbers number c') (numbers number d')
     → HalvesDone R q (numbers number (a ++ b)) (numbers number (c ++ d)) (numbers number (a' ++ b')) (numbers number (c' ++ d'))
-halves_done number R q a b c d a' b' c' d' la lc la' lc' done = record {
-  columns = λ i l.
-      four_along R (sym (in_front number a b i (omega (arith, la, l)))) (sym (behind number a b q i la))
-      (sym (in_front number c d i (omega (arith, lc, l)))) (sym (behind number c d q i lc))
-      (sym (in_front number a' b' i (omega (arith, la', l)))) (sym (behind number a' b' q i la'))
-      (sym (in_front number c' d' i (omega (arith, lc', l)))) (sym (behind number c' d' q i lc'))
-      (done.columns i l);
-}
+halves_done number R q a b c d a' b' c' d' la lc la' lc' done = grind (arith, four_along, in_front, behind)
 
 -- the numbers of two halves within a longer list
 record HalvesOf {X : Type 0} (number : X → ℕ) (first q : ℕ) (f l h t : List X) : Type 0 where
@@ -154,15 +84,7 @@ record HalvesOf {X : Type 0} (number : X → ℕ) (first q : ℕ) (f l h t : Lis
 
 halves_of : {X : Type 0} (number : X → ℕ) (first q : ℕ) (f l h t : List X) → length f ≡ first → length l ≡ q + q
     → length h ≡ q + q → HalvesOf number first q f l h t
-halves_of number first q f l h t lf ll lh =
-    let behind_f = λ (i : ℕ). behind number f (l ++ (h ++ t)) first i lf in
-    let behind_l = λ (i : ℕ). behind number l (h ++ t) (q + q) i ll in
-    record {
-      low = λ i k. behind_f i ∙ in_front number l (h ++ t) i (omega (arith, ll, k));
-      high = λ i k. behind_f (q + q + i) ∙ behind_l i ∙ in_front number h t i (omega (arith, lh, k));
-      before = λ k less. in_front number f (l ++ (h ++ t)) k (omega (arith, lf, less));
-      after = λ k. behind_f (q + q + (q + q + k)) ∙ behind_l (q + q + k) ∙ behind number h t (q + q) k lh;
-    }
+halves_of number first q f l h t lf ll lh = omega (arith, behind, in_front)
 
 -- the halves make the block
 pub block_of_halves : {X : Type 0} (number : X → ℕ) (R : ℕ → ℕ → ℕ → ℕ → ℕ → ℕ → ℕ → ℕ → Type 0) (first q : ℕ)
@@ -225,18 +147,7 @@ block_below number {bound} {first} {q} old new {R} same all done =
 pub neighbours_given : {X : Type 0} (number : X → ℕ) {bound : ℕ} (p : ℕ) (old new : List X) → All (λ x. number x < bound) old
     → ((k : ℕ) → p * 4 ≤ k → numbers number new k ≡ numbers number old k) → length new ≡ length old
     → p * 4 + 3 < length old → AreNeighbours number bound (p * 4) new
-neighbours_given number {bound} p old new all kept same within =
-    let at : (k : ℕ) → p * 4 ≤ k → k < length old → numbers number new k < bound =
-    λ k least l. subst (λ v. v < bound) (sym (kept k least)) (bounded_at number bound old k all l) in
-    record {
-      below = record {
-        first = at (p * 4) (omega arith) (omega arith);
-        second = at (p * 4 + 1) (omega arith) (omega arith);
-        third = at (p * 4 + 2) (omega arith) (omega arith);
-        fourth = at (p * 4 + 3) (omega arith) (omega arith);
-      };
-      within = omega (arith, same, within);
-    }
+neighbours_given number {bound} p old new all kept same within = grind (arith, bounded_at)
 
 -- a factor that was read from a table
 pub factor_read : {F : Type 0} (value quotient : F → ℕ) {base m w r : ℕ} (table : List F) (i : ℕ) (x : F)
@@ -251,10 +162,4 @@ pub stage_with : (m q p first : ℕ) (w : ℕ → ℕ) {e u v : ℕ} {x y z : �
     → StageOfFours (λ p. IsFourSplit m (w (first + p)) (w (2 * (first + p))) (w (2 * (first + p) + 1))) q p x y
     → BlockOfFours (IsFourSplit m e u v) (p * (q + q + (q + q))) q q y z
     → StageOfFours (λ p. IsFourSplit m (w (first + p)) (w (2 * (first + p))) (w (2 * (first + p) + 1))) q (p + 1) x z
-stage_with m q p first w {e} {u} {v} {x} {y} {z} is_e is_u is_v before step =
-    let at : ℕ = p * (q + q + (q + q)) in
-    let k : ℕ = 2 * (first + p) in
-    stage_of_fours_more (λ p. IsFourSplit m (w (first + p)) (w (2 * (first + p))) (w (2 * (first + p) + 1))) q p x y z before
-    (subst (λ a. BlockOfFours (IsFourSplit m a (w k) (w (k + 1))) at q q y z) is_e
-    (subst (λ a. BlockOfFours (IsFourSplit m e a (w (k + 1))) at q q y z) is_u
-    (subst (λ a. BlockOfFours (IsFourSplit m e u a) at q q y z) is_v step)))
+stage_with m q p first w {e} {u} {v} {x} {y} {z} is_e is_u is_v before step = grind (arith, stage_of_fours_more)

@@ -84,16 +84,10 @@ same_factor {base} {m} {v} {q} {w} {r} is e f =
     subst (λ y. IsFactor base m y r) (sym e) (subst (IsFactor base m v) (sym f) is)
 
 pub one_more : (P : ℕ → Type 0) (i : ℕ) → ((k : ℕ) → k < i → P k) → P i → (k : ℕ) → k < i + 1 → P k
-one_more P i before now k l = elim (cases_eq k i) [
-  | inl e ↦ subst P (sym e) now
-  | inr ne ↦ before k (omega arith)
-]
+one_more P i before now k l = grind arith
 
 pub one_lower : (P : ℕ → Type 0) (i : ℕ) → ((k : ℕ) → i + 1 ≤ k → P k) → P i → (k : ℕ) → i ≤ k → P k
-one_lower P i before now k l = elim (cases_eq k i) [
-  | inl e ↦ subst P (sym e) now
-  | inr ne ↦ before k (omega arith)
-]
+one_lower P i before now k l = grind arith
 
 -- the first place
 pub first_power : (m one power value g bits : ℕ) → one ≡ 1 → power ≡ one % m → value ≡ power
@@ -147,20 +141,10 @@ square_next m g i power value next is same e =
 
 pub product_of_two : (m g s t x v w result : ℕ) → t < s → x < 2 ^ t → v ≡ g ^ bits_reversed s x % m
     → w ≡ g ^ bits_reversed s (2 ^ t) % m → result ≡ (v * w) % m → result ≡ g ^ bits_reversed s (2 ^ t + x) % m
-product_of_two m g s t x v w result below within is_v is_w e =
-    let a = bits_reversed s x in
-    let b = bits_reversed s (2 ^ t) in
-    e ∙ ap (λ y. (y * w) % m) is_v ∙ ap (λ y. (g ^ a % m * y) % m) is_w ∙ sym (mul-mod (g ^ a) (g ^ b) m)
-    ∙ ap (λ y. y % m) (sym (pow-add g a b) ∙ ap (λ y. g ^ y) (sym (reversed_of_sum s t x below within)))
+product_of_two m g s t x v w result below within is_v is_w e = grind (arith, mul-mod, pow-add, reversed_of_sum)
 
 -- all entries are made
 pub planned : {F : Type 0} (value quotient : F → ℕ) (base m g n bits z : ℕ) (table : List F) → Suits m g (2 * n)
     → 2 ^ z ≡ 2 * n → n ≡ 2 ^ bits → ((k : ℕ) → k < n → IsMade value quotient base m g bits table k)
     → AreTwiddles m g z n (numbers value table)
-planned value quotient base m g n bits z table suits e whole made =
-    let ex = exponent z n bits e whole in
-    record {
-      suits = subst (Suits m g) (sym e) suits;
-      half = ex.1;
-      entry = λ k l. (made k l).power ∙ ap (λ v. g ^ bits_reversed v k % m) ex.0;
-    }
+planned value quotient base m g n bits z table suits e whole made = grind (arith, exponent)

@@ -1,8 +1,7 @@
 -- A list of words as the function from places to numbers: what is read and what is written.
-use Rattle.std.proofs.Common.{◌≡◌, ◌≢◌, ℕ, ◌+◌, ◌%◌, ◌<◌, ◌≤◌, List, [], ◌∷◌, All, map, get_or, length, inl}
-use Rattle.std.proofs.Common.{inr, sym, ◌∙◌, ap, arith, subst, get_or-set_same, get_or-set_other}
+use Rattle.std.proofs.Common.{◌≡◌, ◌≢◌, ℕ, ◌+◌, ◌%◌, ◌<◌, ◌≤◌, List, [], ◌∷◌, All, map, get_or, length}
+use Rattle.std.proofs.Common.{sym, ◌∙◌, ap, arith, subst, get_or-set_same, get_or-set_other}
 use Rattle.std.proofs.Math.Nat.{mod-lt}
-use Rattle.std.proofs.lemmas.Bool.{cases_eq}
 use Rattle.std.proofs.Math.ListN.{set, length-set}
 use Rattle.std.proofs.lemmas.List.{get_or-map, map-set}
 use Rattle.modular_plan_passes.specs.Plans.{numbers}
@@ -55,11 +54,7 @@ all_wider number words wide all i d l = let h = all i d l in omega (arith, h, wi
 pub entry_written : {T : Type 0} (number : T → ℕ) (words : List T) (i : ℕ) (x : T) (P : ℕ → ℕ → Type 0) → i < length words
     → ((k : ℕ) → k < i → P k (numbers number words k)) → P i (number x)
     → (k : ℕ) → k < i + 1 → P k (numbers number (set words i x) k)
-entry_written number words i x P within before is k l = elim (cases_eq k i) [
-  | inl e ↦
-      subst (λ n. P n (numbers number (set words i x) n)) (sym e) (subst (P i) (sym (written number words i x within)) is)
-  | inr ne ↦ subst (P k) (sym (not_written number words i k x ne)) (before k (omega arith))
-]
+entry_written number words i x P within before is k l = grind (arith, set, written, not_written)
 
 pub entry_done : {T : Type 0} (number : T → ℕ) (words : List T) (i : ℕ) (x : T) (target : ℕ → ℕ) → i < length words
     → ((k : ℕ) → k < i → numbers number words k ≡ target k)

@@ -22,18 +22,12 @@ joined_pair_of {m} w v a b rest bound product sum none is_rest is_sum is_product
 -- a pair whose sum is reduced
 pub joined_pair_reduced : {m : ℕ} (w a b sum product sum' : ℕ) → Congruent m sum' sum → IsPairJoin m w a b sum product
     → IsPairJoin m w a b sum' product
-joined_pair_reduced w a b sum product sum' is pair = record {
-  summed = mod_trans is pair.summed;
-  subtracted = pair.subtracted;
-}
+joined_pair_reduced w a b sum product sum' is pair = grind arith
 
 -- a pair that was reduced before
 pub joined_pair_along : {m : ℕ} (w a b x y sum product : ℕ) → Congruent m x a → Congruent m y b
     → IsPairJoin m w x y sum product → IsPairJoin m w a b sum product
-joined_pair_along {m} w a b x y sum product first second pair = record {
-  summed = mod_trans pair.summed (mod_add first second);
-  subtracted = mod_trans (mod_add (mod_refl (product * w)) (mod_sym second)) (mod_trans pair.subtracted first);
-}
+joined_pair_along {m} w a b x y sum product first second pair = grind (arith, mod_trans, mod_add, mod_refl, mod_sym)
 
 -- the sum and the difference of a pair that is joined by 1, by a multiple of m
 pub joined_by_one : {m : ℕ} (a b bound sum difference : ℕ) → Congruent m bound 0 → sum ≡ a + b
@@ -49,10 +43,8 @@ joined_by_one {m} a b bound sum difference none is_sum is_difference =
 -- a pair whose two results are reduced
 pub joined_pair_up_to : {m : ℕ} (w a b sum quotient sum' quotient' : ℕ) → Congruent m sum' sum
     → Congruent m quotient' quotient → IsPairJoin m w a b sum quotient → IsPairJoin m w a b sum' quotient'
-joined_pair_up_to {m} w a b sum quotient sum' quotient' first second pair = record {
-  summed = mod_trans first pair.summed;
-  subtracted = mod_trans (mod_add (mod_mul second (mod_refl w)) (mod_refl b)) pair.subtracted;
-}
+joined_pair_up_to {m} w a b sum quotient sum' quotient' first second pair =
+    search (arith, mod_trans, mod_add, mod_mul, mod_refl)
 
 -- a pair times a number
 pub joined_pair_scaled : {m : ℕ} (w a b sum quotient s : ℕ) → IsPairJoin m w a b sum quotient

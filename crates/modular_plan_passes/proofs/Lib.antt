@@ -14,5 +14,6 @@ pub mod Runs
 pub mod Shorter
 pub mod Steps
 pub mod Tables
+pub mod TreeLevels
 pub mod TwoJoins
 pub mod TwoLevels

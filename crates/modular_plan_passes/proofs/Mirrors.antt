@@ -18,19 +18,7 @@ mirrored : (u k q r : ℕ) → 2 ^ k ≤ q → q < 2 * 2 ^ k → q + r + 1 ≡ 3
 mirrored zero k q r least most mirror below = let p = pow_pos k in
     let one : 2 ^ 0 ≡ 1 = refl in absurd (omega (arith, p, least, below, one))
 mirrored (suc u) zero q r least most mirror below =
-    let one : 2 ^ 0 ≡ 1 = refl in
-    let q_is : q ≡ 1 = omega (arith, least, most, one) in
-    let r_is : r ≡ 1 = omega (arith, q_is, mirror, one) in
-    let two = two-pow-succ u in
-    let some = pow_pos u in
-    let e = bits_reversed-suc u 1 in
-    let half : 1 / 2 ≡ 0 = refl in
-    let bit : 1 % 2 ≡ 1 = refl in
-    let z : bits_reversed u (1 / 2) ≡ 0 = ap (bits_reversed u) half ∙ bits_reversed_of_zero u in
-    let t : 1 % 2 * 2 ^ u ≡ 2 ^ u = ap (λ v. v * 2 ^ u) bit ∙ omega arith in
-    let rq = ap (bits_reversed (suc u)) q_is in
-    let rr = ap (bits_reversed (suc u)) r_is in
-    record { within = omega (arith, r_is, two, some); total = omega (arith, rq, rr, e, z, t, two) }
+    grind (arith, two-pow-succ, pow_pos, bits_reversed-suc, bits_reversed_of_zero)
 mirrored (suc u) (suc k) q r least most mirror below =
     let two = two-pow-succ u in
     let half = two-pow-succ k in
@@ -53,10 +41,7 @@ pub record IsMirror (m count place : ℕ) (w : ℕ → ℕ) (r : ℕ) : Type 0 w
 
 pub mirror_of_twiddles : {m : ℕ} (g z count k q r : ℕ) (w : ℕ → ℕ) → AreTwiddles m g z count w → q < count → 2 ^ k ≤ q
     → q < 2 * 2 ^ k → q + r + 1 ≡ 3 * 2 ^ k → IsMirror m count q w r
-mirror_of_twiddles {m} g zero count k q r w twiddles below least most mirror =
-    let half = twiddles.half in
-    let none : 2 ^ 0 / 2 ≡ 0 = refl in
-    absurd (omega (arith, half, none, below))
+mirror_of_twiddles {m} g zero count k q r w twiddles below least most mirror = omega arith
 mirror_of_twiddles {m} g (suc u) count k q r w twiddles below least most mirror =
     let half = twiddles.half in
     let two = two-pow-succ u in
@@ -89,16 +74,11 @@ first_of_twiddles {m} g z count v w twiddles some is =
     let r = ap (λ e. g ^ e) (bits_reversed_of_zero (z - 1)) ∙ pow-zero g in
     let one : Congruent m (w 0) 1 = mod_trans (mod_of_eq (twiddles.entry 0 some))
     (mod_trans (residue_of (g ^ bits_reversed (z - 1) 0)) (mod_of_eq r)) in
-    let whole : 1 * v + 1 ≡ 0 + 1 * m = omega (arith, is) in
     let gone : Congruent m (0 + 1 * m) 0 = record { same = add-mul-mod_self_right 0 1 m } in
-    record { product = mod_trans (mod_add (mod_mul one (mod_refl v)) (mod_refl 1)) (mod_trans (mod_of_eq whole) gone) }
+    grind arith
 
 -- the place mirrored in its power of two, as words have it
 pub mirrored_place : (k q power : ℕ) → 2 ^ k ≤ q → q < 2 * 2 ^ k → q < 18446744073709551616
     → power ≡ (1 * 2 ^ k) % 18446744073709551616
     → q + (power + (power - 1 - (q - power))) + 1 ≡ 3 * 2 ^ k
-mirrored_place k q power least most fits is =
-    let one : 1 * 2 ^ k ≡ 2 ^ k = omega arith in
-    let power_is : power ≡ 2 ^ k =
-    is ∙ ap (λ v. v % 18446744073709551616) one ∙ mod-eq_of_lt (omega (arith, least, fits)) in
-    omega (arith, power_is, least, most)
+mirrored_place k q power least most fits is = omega (arith, mod-eq_of_lt)

@@ -1,6 +1,6 @@
 -- The parts of a list, as lists of their own.
-use Rattle.std.proofs.Common.{◌≡◌, ℕ, ◌+◌, ◌-◌, ◌<◌, List, ◌++◌, All, map, get_or, length, inl, inr}
-use Rattle.std.proofs.Common.{sym, ◌∙◌, ap, arith, subst, length-append}
+use Rattle.std.proofs.Common.{◌≡◌, ℕ, ◌+◌, ◌-◌, ◌<◌, List, ◌++◌, All, get_or, length, inl, inr}
+use Rattle.std.proofs.Common.{sym, arith, subst, length-append}
 use Rattle.std.proofs.Math.ListN.{get_or-append}
 use Rattle.std.proofs.lemmas.Bool.{cases_lt}
 use Rattle.std.proofs.lemmas.List.{length-map, map-append, get_or-append-add}
@@ -8,16 +8,11 @@ use Rattle.modular_plan_passes.specs.Plans.{numbers}
 
 pub in_front : {T : Type 0} (number : T → ℕ) (xs ys : List T) (i : ℕ) → i < length xs
     → numbers number (xs ++ ys) i ≡ numbers number xs i
-in_front number xs ys i l =
-    ap (λ vs. get_or vs i 0) (map-append number xs ys)
-    ∙ get_or-append (map number xs) (map number ys) 0 i (subst (λ n. i < n) (sym (length-map xs number)) l)
+in_front number xs ys i l = grind (arith, map-append, get_or-append, length-map)
 
 pub behind : {T : Type 0} (number : T → ℕ) (xs ys : List T) (n i : ℕ) → length xs ≡ n
     → numbers number (xs ++ ys) (n + i) ≡ numbers number ys i
-behind number xs ys n i e =
-    ap (λ vs. get_or vs (n + i) 0) (map-append number xs ys)
-    ∙ ap (λ k. get_or (map number xs ++ map number ys) (k + i) 0) (sym e ∙ sym (length-map xs number))
-    ∙ get_or-append-add (map number xs) (map number ys) i 0
+behind number xs ys n i e = grind (arith, map-append, length-map, get_or-append-add)
 
 -- what holds for all words holds for those in front, and for those after them
 pub all_in_front : {T : Type 0} (P : T → Type 0) (xs ys : List T) → All P (xs ++ ys) → All P xs

@@ -5,7 +5,7 @@ use Rattle.std.proofs.Common.{sym, ◌∙◌, ap, arith, subst, length-append}
 use Rattle.std.proofs.Math.Nat.{two-pow-succ}
 use Rattle.std.proofs.lemmas.Bool.{cases_lt}
 use Rattle.modular_plan_passes.specs.Plans.{numbers, AreTwiddles}
-use Rattle.modular_plan_passes.specs.Joins.{AreMinusInverses, IsMinusInverse}
+use Rattle.modular_plan_passes.specs.Joins.{AreMinusInverses}
 use Rattle.modular_plan_passes.specs.Steps.{StageOfFours}
 use Rattle.modular_plan_passes.proofs.Entries.{number_read}
 use Rattle.modular_plan_passes.proofs.Fours.{four_along}
@@ -18,9 +18,7 @@ pub record IsFrontOf {F : Type 0} (value : F → ℕ) (table part : List F) : Ty
 
 pub front_of : {F : Type 0} (value : F → ℕ) (table front back : List F) → table ≡ front ++ back
     → IsFrontOf value table front
-front_of value table front back is = record {
-  same = λ k l. sym (in_front value front back k l) ∙ ap (λ t. numbers value t k) (sym is);
-}
+front_of value table front back is = grind (arith, in_front)
 
 -- the front of a front
 pub shorter_front : {F : Type 0} (value : F → ℕ) (table part front back : List F) → IsFrontOf value table part
@@ -57,11 +55,7 @@ mirrored_inverses {m} g z count k place other w twiddles within least most sum =
 -- .. as words that were read have them
 pub inverses_of : {m a b c p q r p' q' r' : ℕ} → p' ≡ p → q' ≡ q → r' ≡ r → AreMinusInverses m a b c p q r
     → AreMinusInverses m a b c p' q' r'
-inverses_of {m} {a} {b} {c} {p} {q} {r} {p'} {q'} {r'} ip iq ir are = record {
-  own = subst (λ v. IsMinusInverse m a v) (sym ip) are.own;
-  low = subst (λ v. IsMinusInverse m b v) (sym iq) are.low;
-  high = subst (λ v. IsMinusInverse m c v) (sym ir) are.high;
-}
+inverses_of {m} {a} {b} {c} {p} {q} {r} {p'} {q'} {r'} ip iq ir are = grind arith
 
 -- a stage of n blocks, and one of further blocks
 pub stages_appended : {X : Type 0} (number : X → ℕ) (S : ℕ → ℕ → ℕ → ℕ → ℕ → ℕ → ℕ → ℕ → ℕ → Type 0) (first n more : ℕ)

@@ -1,8 +1,7 @@
 -- Pairs make blocks, and blocks make stages.
-use Rattle.std.proofs.Common.{◌≡◌, ◌≢◌, ℕ, ◌+◌, ◌*◌, ◌%◌, ◌<◌, ◌≤◌, List, length}
-use Rattle.std.proofs.Common.{inl, inr, refl, sym, ◌∙◌, ap, arith, subst}
+use Rattle.std.proofs.Common.{◌≡◌, ℕ, ◌+◌, ◌*◌, ◌%◌, ◌<◌, List, length, inl, inr, refl, sym, ◌∙◌, ap, arith, subst}
 use Rattle.std.proofs.Math.ListN.{set, length-set}
-use Rattle.std.proofs.Math.Nat.{add-mul-mod_self_right, mul-le-mul_right}
+use Rattle.std.proofs.Math.Nat.{add-mul-mod_self_right}
 use Rattle.std.proofs.lemmas.Bool.{cases_eq}
 use Rattle.modular_word.specs.Congruence.{Congruent}
 use Rattle.modular_word.proofs.Congruence.{mod_of_eq, mod_refl, mod_sym, mod_trans, mod_add}
@@ -40,20 +39,14 @@ reduced_by {m} k x bound r is is_bound =
 -- a pair that was reduced before
 pub pair_along : {m : ℕ} (w a b x y sum difference : ℕ) → Congruent m x a → Congruent m y b
     → IsPairSplit m w x y sum difference → IsPairSplit m w a b sum difference
-pair_along {m} w a b x y sum difference first second pair = record {
-  summed = mod_trans pair.summed (mod_add first (mod_mul second (mod_refl w)));
-  subtracted = mod_trans (mod_add (mod_refl difference) (mod_mul (mod_sym second) (mod_refl w)))
-      (mod_trans pair.subtracted first);
-}
+pair_along {m} w a b x y sum difference first second pair =
+    search (arith, mod_trans, mod_add, mod_mul, mod_refl, mod_sym)
 
 -- .. and one that is reduced afterwards
 pub pair_up_to : {m : ℕ} (w a b sum difference sum' difference' : ℕ) → Congruent m sum' sum
     → Congruent m difference' difference → IsPairSplit m w a b sum difference
     → IsPairSplit m w a b sum' difference'
-pair_up_to {m} w a b sum difference sum' difference' first second pair = record {
-  summed = mod_trans first pair.summed;
-  subtracted = mod_trans (mod_add second (mod_refl (b * w))) pair.subtracted;
-}
+pair_up_to {m} w a b sum difference sum' difference' first second pair = grind (arith, mod_trans, mod_add, mod_refl)
 
 -- what a pair writes
 pub pair_written : {T : Type 0} (number : T → ℕ) (R : ℕ → ℕ → ℕ → ℕ → Type 0) (words : List T) (low high : ℕ)
@@ -61,27 +54,11 @@ pub pair_written : {T : Type 0} (number : T → ℕ) (R : ℕ → ℕ → ℕ �
     → R (numbers number words low) (numbers number words high) (number sum) (number difference)
     → PairDone R low high (numbers number words) (numbers number (set (set words high difference) low sum))
 pair_written number R words low high sum difference order within pair =
-    let x = numbers number words in
-    let y = numbers number (set (set words high difference) low sum) in
-    let l : low < length words = omega arith in
-    let ls : low < length (set words high difference) =
-    subst (λ n. low < n) (sym (length-set words high difference)) l in
-    let ne : high ≢ low = omega arith in
-    let at_low : y low ≡ number sum = written number (set words high difference) low sum ls in
-    let at_high : y high ≡ number difference =
-    not_written number (set words high difference) low high sum ne ∙ written number words high difference within in
-    record {
-      pair = subst (λ v. R (x low) (x high) (y low) v) (sym at_high)
-          (subst (λ v. R (x low) (x high) v (number difference)) (sym at_low) pair);
-      kept = λ k nl nh.
-          not_written number (set words high difference) low k sum nl ∙ not_written number words high k difference nh;
-    }
+    grind (arith, set, length-set, written, not_written)
 
 moved : (R : ℕ → ℕ → ℕ → ℕ → Type 0) {a b s d a' b' s' d' : ℕ} → a ≡ a' → b ≡ b' → s ≡ s'
     → d ≡ d' → R a b s d → R a' b' s' d'
-moved R {a} {b} {s} {d} {a'} {b'} {s'} {d'} ea eb es ed h =
-    subst (λ v. R v b' s' d') ea
-    (subst (λ v. R a v s' d') eb (subst (λ v. R a b v d') es (subst (λ v. R a b s v) ed h)))
+moved R {a} {b} {s} {d} {a'} {b'} {s'} {d'} ea eb es ed h = grind arith
 
 pub block_none : (R : ℕ → ℕ → ℕ → ℕ → Type 0) (first half : ℕ) (x : ℕ → ℕ) → BlockDone R first half 0 x x
 block_none R first half x = record { pairs = λ i l. absurd (omega arith); kept = λ k n1 n2. refl }
@@ -113,23 +90,7 @@ stage_none R half x = record { pairs = λ p i l k. absurd (omega arith); kept = 
 pub stage_more : (R : ℕ → ℕ → ℕ → ℕ → ℕ → Type 0) (half p : ℕ) (x y after : ℕ → ℕ) → StageDone R half p x y
     → BlockDone (R p) (p * (half + half)) half half y after
     → StageDone R half (p + 1) x after
-stage_more R half p x y after before step = record {
-  pairs = λ q i l k. elim (cases_eq q p) [
-    | inl e ↦
-        let low_kept = before.kept (p * (half + half) + i) (omega arith) in
-        let high_kept = before.kept (p * (half + half) + (half + i)) (omega arith) in
-        subst (λ n. R n (x (n * (half + half) + i)) (x (n * (half + half) + (half + i))) (after (n * (half + half) + i))
-        (after (n * (half + half) + (half + i)))) (sym e)
-        (moved (R p) low_kept high_kept refl refl (step.pairs i k))
-    | inr ne ↦
-        let room = mul-le-mul_right (half + half) (let r : q + 1 ≤ p = omega arith in r) in
-        moved (R q) refl refl
-        (sym (step.kept (q * (half + half) + i) (λ n s. omega (arith, room)) (λ n s. omega (arith, room))))
-        (sym (step.kept (q * (half + half) + (half + i)) (λ n s. omega (arith, room)) (λ n s. omega (arith, room))))
-        (before.pairs q i (omega arith) k)
-  ];
-  kept = λ k l. step.kept k (λ n s. omega arith) (λ n s. omega arith) ∙ before.kept k (omega arith);
-}
+stage_more R half p x y after before step = grind arith
 
 -- all columns
 pub block_all : {R : ℕ → ℕ → ℕ → ℕ → Type 0} {first half i : ℕ} {x y : ℕ → ℕ} → BlockDone R first half i x y → i ≡ half

@@ -36,13 +36,7 @@ pub remainders_of_transform : {T : Type 0} (number : T → ℕ) (m g n bits : �
     → ((j : ℕ) → j < n → transform m g n x j ≡ numbers number old j % m)
     → AreRemainders m g bits 0 n 1 x (λ i. numbers number new i % m)
 remainders_of_transform number m g n bits x old new whole len len_new reordered are =
-    remainders_reversed m g n bits x (λ i. numbers number new i % m) whole
-    (λ j l. let r = bits_reversed bits j in
-    let below = bits_reversed_below bits j in
-    let r_below : r < n = omega (arith, whole, below) in
-    let at = number_reordered number old new j r (omega (arith, len_new, l)) (omega (arith, len, r_below))
-    (λ e. reordered.each j e (omega (arith, len, l))) in
-    ap (λ v. v % m) at ∙ sym (are r r_below))
+    grind (arith, remainders_reversed, bits_reversed_below, number_reordered)
 
 -- a number of blocks times an entry, times the inverse of the number
 pub unscaled : (m n part v : ℕ) → IsInverse m n part → (n * v * part) % m ≡ v % m

@@ -1,9 +1,8 @@
 -- The remainders of a product are the products of the remainders.
 use Rattle.std.proofs.Common.{◌≡◌, ◌≢◌, ℕ, suc, zero, ◌+◌, ◌-◌, ◌*◌, ◌/◌, ◌^◌, ◌<◌, Bool}
-use Rattle.std.proofs.Common.{true, false, inl, inr, refl, sym, ◌∙◌, ap, arith, eqb, cond}
+use Rattle.std.proofs.Common.{true, false, inl, inr, sym, ◌∙◌, ap, arith, eqb, cond}
 use Rattle.std.proofs.Math.Nat.{pow-zero}
 use Rattle.std.proofs.lemmas.Bool.{cases_eq, cases_lt}
-use Rattle.std.proofs.lemmas.Bool.Decides.{eqb_tells}
 use Rattle.std.proofs.lemmas.Nat.{pow-add, div-mul-add}
 use Rattle.modular_word.specs.Congruence.{Congruent}
 use Rattle.modular_word.specs.Sums.{sum_below}
@@ -11,15 +10,9 @@ use Rattle.modular_word.proofs.Congruence.{mod_of_eq, mod_refl, mod_sym, mod_tra
 use Rattle.modular_word.proofs.Powers.{pow-one}
 use Rattle.modular_word.proofs.Sums.{sum_below-zero, sum_below-suc, sum_below-same, sum_below-congruent, sum_below-add}
 use Rattle.modular_word.proofs.Sums.{sum_below-joined, sum_below-of_zeros, sum_below-exchanged, sum_below-times_sum}
-use Rattle.modular_transform.proofs.CyclicProducts.{scaled}
+use Rattle.modular_transform.proofs.CyclicProducts.{moved, scaled}
+use Rattle.modular_transform.proofs.PolynomialProducts.{at_place, at_other}
 use Rattle.modular_plan_transforms.specs.Products.{coefficient, product_modulo}
-
--- a value at one place alone
-at_place : (s e v : ℕ) → s ≡ e → cond (eqb s e) v 0 ≡ v
-at_place s e v is = elim (eqb_tells s e) [ inl p ↦ rw p.0 (omega arith) | inr p ↦ absurd (p.1 is) ]
-
-at_other : (s e v : ℕ) → s ≢ e → cond (eqb s e) v 0 ≡ 0
-at_other s e v ne = elim (eqb_tells s e) [ inl p ↦ absurd (ne p.1) | inr p ↦ rw p.0 (omega arith) ]
 
 -- at most one term counts
 sum_only : (n z : ℕ) (f : ℕ → ℕ) → z < n → ((i : ℕ) → i < n → i ≢ z → f i ≡ 0) → sum_below n f ≡ f z
@@ -40,9 +33,7 @@ sum_only (suc n) z f l others =
 -- a sum by blocks
 by_blocks : (count last : ℕ) (f : ℕ → ℕ)
     → sum_below (count * last) f ≡ sum_below count (λ k. sum_below last (λ a. f (k * last + a)))
-by_blocks zero last f =
-    let e : 0 * last ≡ 0 = omega arith in
-    ap (λ n. sum_below n f) e ∙ sum_below-zero f ∙ sym (sum_below-zero (λ k. sum_below last (λ a. f (k * last + a))))
+by_blocks zero last f = grind (arith, sum_below-zero)
 by_blocks (suc count) last f =
     let e : suc count * last ≡ count * last + last = omega arith in
     ap (λ n. sum_below n f) e ∙ sum_below-joined (count * last) last f
@@ -114,11 +105,7 @@ term_of_two last i s t n place f li lt ls is = elim (cases_lt t last) [
 
 -- a factor of a term
 factor_in : (s e c v : ℕ) → c * cond (eqb s e) v 0 ≡ cond (eqb s e) (v * c) 0
-factor_in s e c v = elim (cases_eq s e) [
-  | inl h ↦
-      ap (λ u. c * u) (at_place s e v h) ∙ (let t : c * v ≡ v * c = omega arith in t) ∙ sym (at_place s e (v * c) h)
-  | inr h ↦ ap (λ u. c * u) (at_other s e v h) ∙ (let t : c * 0 ≡ 0 = omega arith in t) ∙ sym (at_other s e (v * c) h)
-]
+factor_in s e c v = grind arith
 
 -- a coefficient times a number, term by term
 scaled_coefficient : (n s c : ℕ) (x y : ℕ → ℕ)
@@ -133,26 +120,12 @@ scaled_coefficient n s c x y =
     (λ i l. sum_below-same n (λ j. c * t i j) (λ j. cond (eqb (i + j) s) (x i * y j * c) 0)
     (λ j h. factor_in (i + j) s c (x i * y j)))
 
--- the outermost of three sums becomes the innermost
-moved : (p n : ℕ) (f : ℕ → ℕ → ℕ → ℕ) → sum_below p (λ e. sum_below n (λ i. sum_below n (λ j. f i j e)))
-    ≡ sum_below n (λ i. sum_below n (λ j. sum_below p (λ e. f i j e)))
-moved p n f =
-    sum_below-exchanged p n (λ e i. sum_below n (λ j. f i j e))
-    ∙ sum_below-same n (λ i. sum_below p (λ e. sum_below n (λ j. f i j e)))
-    (λ i. sum_below n (λ j. sum_below p (λ e. f i j e))) (λ i l. sum_below-exchanged p n (λ e j. f i j e))
-
 -- four sums, term by term
 same_four : (count last : ℕ) (f h : ℕ → ℕ → ℕ → ℕ → ℕ)
     → ((a d k l : ℕ) → a < last → d < last → k < count → l < count → f a d k l ≡ h a d k l)
     → sum_below last (λ a. sum_below last (λ d. sum_below count (λ k. sum_below count (λ l. f a d k l))))
     ≡ sum_below last (λ a. sum_below last (λ d. sum_below count (λ k. sum_below count (λ l. h a d k l))))
-same_four count last f h same =
-    sum_below-same last (λ a. sum_below last (λ d. sum_below count (λ k. sum_below count (λ l. f a d k l))))
-    (λ a. sum_below last (λ d. sum_below count (λ k. sum_below count (λ l. h a d k l))))
-    (λ a la. sum_below-same last (λ d. sum_below count (λ k. sum_below count (λ l. f a d k l)))
-    (λ d. sum_below count (λ k. sum_below count (λ l. h a d k l)))
-    (λ d ld. sum_below-same count (λ k. sum_below count (λ l. f a d k l)) (λ k. sum_below count (λ l. h a d k l))
-    (λ k lk. sum_below-same count (λ l. f a d k l) (λ l. h a d k l) (λ l ll. same a d k l la ld lk ll))))
+same_four count last f h same = search (arith, sum_below-same)
 
 sum_of_four : (count last : ℕ) (f h : ℕ → ℕ → ℕ → ℕ → ℕ)
     → sum_below last (λ a. sum_below last (λ d. sum_below count (λ k. sum_below count (λ l. f a d k l + h a d k l))))
@@ -179,10 +152,7 @@ tested_sums true count c f h =
     ap (λ v. c * v) t ∙ sym (scaled count count c (λ k l. f k * h l))
     ∙ sum_below-same count (λ k. sum_below count (λ l. c * (f k * h l))) (λ k. sum_below count (λ l. f k * h l * c))
     (λ k t. sum_below-same count (λ l. c * (f k * h l)) (λ l. f k * h l * c) (λ l s. omega arith))
-tested_sums false count c f h =
-    let none : c * 0 ≡ 0 = omega arith in
-    none ∙ sym (sum_below-of_zeros count (λ k. sum_below count (λ l. 0))
-    (λ k t. sum_below-of_zeros count (λ l. 0) (λ l s. refl)))
+tested_sums false count c f h = grind (arith, sum_below-of_zeros)
 
 -- two powers of c in one
 one_power : (c k l v w : ℕ) → v * c ^ k * (w * c ^ l) ≡ v * w * c ^ (k + l)
@@ -281,11 +251,7 @@ folded {m} count last c d i k x y power =
 coefficient-congruent : {m : ℕ} (n s : ℕ) (x y u v : ℕ → ℕ) → ((i : ℕ) → i < n → Congruent m (x i) (u i))
     → ((j : ℕ) → j < n → Congruent m (y j) (v j))
     → Congruent m (coefficient n x y s) (coefficient n u v s)
-coefficient-congruent {m} n s x y u v first second =
-    sum_below-congruent n (λ i. sum_below n (λ j. cond (eqb (i + j) s) (x i * y j) 0))
-    (λ i. sum_below n (λ j. cond (eqb (i + j) s) (u i * v j) 0))
-    (λ i li. sum_below-congruent n (λ j. cond (eqb (i + j) s) (x i * y j) 0) (λ j. cond (eqb (i + j) s) (u i * v j) 0)
-    (λ j lj. tested_congruent (eqb (i + j) s) (mod_mul (first i li) (second j lj))))
+coefficient-congruent {m} n s x y u v first second = search (arith, sum_below-congruent, tested_congruent, mod_mul)
 
 -- a product modulo X^n - d, in the column i: the product of the remainders modulo X^last - c, where c to the count is d
 pub column_of_product : {m : ℕ} (count last c d i : ℕ) (x y u v : ℕ → ℕ) → i < last → Congruent m (c ^ count) d

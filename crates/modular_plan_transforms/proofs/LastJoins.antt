@@ -14,7 +14,8 @@ use Rattle.modular_plan_passes.specs.Steps.{FourAt}
 use Rattle.modular_plan_passes.proofs.Fours.{first_stage}
 use Rattle.modular_plan_passes.specs.Joins.{IsFourJoin}
 use Rattle.modular_plan_passes.proofs.Joins.{level_lowest, level_top}
-use Rattle.modular_plan_passes.proofs.TwoJoins.{two_join_sizes, level_joined_two}
+use Rattle.modular_plan_passes.proofs.TreeLevels.{can_join_two}
+use Rattle.modular_plan_passes.proofs.TwoJoins.{level_joined_two, lowest_level}
 
 -- after a list
 pub numbers_past : {T : Type 0} (number : T → ℕ) (words : List T) (k : ℕ) → length words ≤ k → numbers number words k ≡ 0
@@ -28,12 +29,7 @@ rescaled a s n x is = (let e : a * (s * x) ≡ s * a * x = omega arith in e) ∙
 -- remainders of the list once
 pub remainders_once : {m : ℕ} (g z b count last : ℕ) (x y : ℕ → ℕ) → AreRemainders m g z b count last x y
     → AreRemainders m g z b count last (λ k. 1 * x k) y
-remainders_once {m} g z b count last x y are = record {
-  each = λ j i lj li.
-      let c = constant g z (b * count + j) in
-      are.each j i lj li ∙ ap (λ v. v % m)
-      (sum_below-same count (λ k. x (k * last + i) * c ^ k) (λ k. (1 * x (k * last + i)) * c ^ k) (λ k l. omega arith));
-}
+remainders_once g z b count last x y are = grind arith
 
 -- .. and times a number
 pub remainders_scaled : {m : ℕ} (g z b count last s : ℕ) (x y : ℕ → ℕ)
@@ -52,9 +48,7 @@ remainders_scaled {m} g z b count last s x y are = record {
 
 -- the entries of the table
 pub two_entries : (b count entries : ℕ) → b ≡ 0 → count ≡ 4 → (b + 1) * (count / 2) ≤ entries → 2 ≤ entries
-two_entries b count entries no_b four room =
-    let spread : (b + 1) * (count / 2) ≡ b * (count / 2) + count / 2 = omega arith in
-    omega (arith, four, spread, room)
+two_entries b count entries no_b four room = omega arith
 
 -- the list that the last pass makes
 pub last_joined : {m : ℕ} (g z b last count length entries s : ℕ) (w x y after : ℕ → ℕ) → 1 ≤ last → b ≡ 0 → count ≡ 4
@@ -66,14 +60,10 @@ pub last_joined : {m : ℕ} (g z b last count length entries s : ℕ) (w x y aft
 last_joined {m} g z b last count length entries s w x y after some no_b four power whole room twiddles begins are columns
     past i l =
     let fill : 4 * last ≡ length = ap (λ v. v * last) (sym four) ∙ whole in
-    let one : 2 ^ 0 ≡ 1 = refl in
-    let sizes = two_join_sizes last last count power.0 0 count length some some power.1
-    (omega (arith, ap (λ v. v * last) one)) (omega (arith, ap (λ v. count * v) one)) whole
-    (omega (arith, four)) (omega (arith, fill, some)) in
+    let can = can_join_two (lowest_level some power whole) (omega (arith, four)) in
     let no_first : b * (count / 4) ≡ 0 = ap (λ v. v * (count / 4)) no_b ∙ zero-mul (count / 4) in
-    let level = level_joined_two g z b count last last 0 count length entries w (λ k. x k * s) (λ k. y k * s) after sizes
-    room twiddles (level_lowest g z b count last (λ k. x k * s) (λ k. y k * s)
-    (remainders_scaled g z b count last s x y are))
+    let level = level_joined_two g z (λ k. x k * s) can room twiddles (level_lowest g z b count last (λ k. x k * s)
+    (λ k. y k * s) (remainders_scaled g z b count last s x y are))
     (first_stage (IsFourJoin m) last (w 1) (b * (count / 4)) (count / 4) w (λ k. y k * s) after no_first
     (omega (arith, four)) begins refl (record {
       fours = columns;
@@ -81,7 +71,5 @@ last_joined {m} g z b last count length entries s w x y after some no_b four pow
       before = λ k h. absurd (omega arith);
       after = λ k h. past k (omega (arith, fill, h));
     })) in
-    let spread : count * (x i * s) ≡ count * x i * s = omega arith in
-    mod_trans (level_top g z b (last * 4) last (count / 4) sizes.rest 2 count length (λ k. x k * s) after some
-    (omega (arith, fill, some)) (omega (arith, fill)) sizes.halved sizes.sized sizes.counted whole level i l)
-    (mod_of_eq spread)
+    mod_trans (level_top g z (λ k. x k * s) can.next (omega (arith, fill)) (omega (arith, l)) level i l)
+    (mod_of_eq (let e : count * (x i * s) ≡ count * x i * s = omega arith in e))

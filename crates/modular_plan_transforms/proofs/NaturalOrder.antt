@@ -17,9 +17,7 @@ use Rattle.modular_plan_passes.proofs.Entries.{number_at}
 pub all_reordered : {T : Type 0} (P : T → Type 0) (bits n : ℕ) (old new : List T) → n ≡ 2 ^ bits
     → length old ≡ n → length new ≡ n
     → IsReordered (bits_reversed bits) old new → All P old → All P new
-all_reordered P bits n old new whole len len_new reordered all i d l =
-    let b = bits_reversed_below bits i in
-    subst P (sym (reordered.each i d (omega arith))) (all (bits_reversed bits i) d (omega arith))
+all_reordered P bits n old new whole len len_new reordered all i d l = grind (arith, bits_reversed_below)
 
 -- the number at a place of the new list is that at a place of the old one
 pub number_reordered : {T : Type 0} (number : T → ℕ) (old new : List T) (k j : ℕ) → k < length new → j < length old

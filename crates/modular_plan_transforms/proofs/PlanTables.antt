@@ -56,23 +56,12 @@ pub power_first : (m one power g : ℕ) → one ≡ 1 → power ≡ one % m → 
 power_first m one power g is_one is = is ∙ ap (λ v. v % m) (is_one ∙ sym (pow-zero g))
 
 pub power_next : (m g k power next : ℕ) → power ≡ g ^ k % m → next ≡ (power * g) % m → next ≡ g ^ (k + 1) % m
-power_next m g k power next is e =
-    e ∙ ap (λ v. (v * g) % m) is ∙ mul-mod_first (g ^ k) g m
-    ∙ ap (λ v. v % m) (ap (λ v. g ^ k * v) (sym (pow-one g)) ∙ sym (pow-add g k 1))
+power_next m g k power next is e = grind (arith, mul-mod_first, pow-one, pow-add)
 
 pub table_of : {F : Type 0} (b m g bits : ℕ) (value quotient : F → ℕ) (table : List F) → length table ≡ 2 ^ bits
     → Suits m g (2 * length table) → AllFactors b m value quotient table → ArePowers m g bits value table
     → IsTable b m g value quotient table
-table_of b m g bits value quotient table whole suits factors powers = record {
-  factors = factors;
-  twiddles = λ z e.
-      let ex = exponent z (length table) bits e whole in
-      record {
-        suits = subst (Suits m g) (sym e) suits;
-        half = ex.1;
-        entry = λ k l. powers k l ∙ ap (λ v. g ^ bits_reversed v k % m) ex.0;
-      };
-}
+table_of b m g bits value quotient table whole suits factors powers = grind (arith, exponent)
 
 pub powers_of : {F : Type 0} (b m g bits : ℕ) (value quotient : F → ℕ) (table : List F) → length table ≡ 2 ^ bits
     → IsTable b m g value quotient table → ArePowers m g bits value table
@@ -85,9 +74,4 @@ powers_of b m g bits value quotient table whole is k l =
 pub made_table : {F : Type 0} {b m g count : ℕ} {value quotient : F → ℕ} {table : List F} → length table ≡ count
     → AllFactors b m value quotient table
     → ((z : ℕ) → 2 ^ z ≡ 2 * count → AreTwiddles m g z count (numbers value table)) → IsTable b m g value quotient table
-made_table {m = m} {g = g} {value = value} {table = table} same factors twiddles =
-    record {
-      factors = factors;
-      twiddles = λ z e. subst (λ n. AreTwiddles m g z n (numbers value table)) (sym same)
-          (twiddles z (e ∙ ap (λ n. 2 * n) same));
-    }
+made_table {m = m} {g = g} {value = value} {table = table} same factors twiddles = grind arith

@@ -1,7 +1,7 @@
 -- Products over the number b of words, by Montgomery's reduction, and how they are joined.
 use Rattle.std.proofs.Common.{◌≡◌, ℕ, ◌+◌, ◌-◌, ◌*◌, ◌%◌, ◌^◌, ◌<◌, ◌≤◌, sym, ap, ◌∙◌, arith}
-use Rattle.std.proofs.Math.Nat.{mod-eq_of_lt, mul-le-mul_right, lt_of_mul-lt-mul_left}
-use Rattle.std.proofs.Math.Nat.{le_of_mul-le-mul_left, add-mul-mod_self_left, add-mul-mod_self_right}
+use Rattle.std.proofs.Math.Nat.{mod-eq_of_lt}
+use Rattle.std.proofs.Math.Nat.{add-mul-mod_self_left, add-mul-mod_self_right}
 use Rattle.modular_word.specs.Congruence.{Congruent}
 use Rattle.modular_word.specs.Inverses.{IsInverse}
 use Rattle.modular_word.specs.Reduction.{IsNegatedInverse}
@@ -56,14 +56,7 @@ pub record AreHigh (m high multiple : ℕ) : Type 0 where
   pub multiple_at_most : multiple ≤ m
 
 pub high_words : {b m t q low high multiple : ℕ} → IsReducing b m t q low high multiple → AreHigh m high multiple
-high_words {b} {m} {t} {q} {low} {high} {multiple} h =
-    let most : q * m ≤ b * m = let f = h.fits in mul-le-mul_right m (omega arith) in
-    let some : 0 < b = omega (arith, h.fits) in
-    record {
-      below = lt_of_mul-lt-mul_left b (let k : b * high < b * m = omega (arith, h.parts, h.below) in k);
-      multiple_at_most = le_of_mul-le-mul_left
-          (let k : b * multiple ≤ b * m = omega (arith, h.multiple_parts, most) in k) some;
-    }
+high_words {b} {m} {t} {q} {low} {high} {multiple} h = grind arith
 
 -- the difference of the high words, made positive
 pub reduced : {b m t q low high multiple : ℕ} (rest r : ℕ) → IsReducing b m t q low high multiple → rest + multiple ≡ m

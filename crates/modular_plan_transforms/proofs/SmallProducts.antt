@@ -19,17 +19,11 @@ product_of_one m c x y =
 -- two coefficients
 pub product_of_two_low : (m c : ℕ) (x y : ℕ → ℕ) → product_modulo m 2 c x y 0 ≡ (x 0 * y 0 + c * (x 1 * y 1)) % m
 unfolding sum_below
-product_of_two_low m c x y =
-    ap (λ v. v % m)
-    (let e : (0 + (0 + x 0 * y 0 + 0) + (0 + 0 + 0)) + c * (0 + (0 + 0 + 0) + (0 + 0 + x 1 * y 1))
-    ≡ x 0 * y 0 + c * (x 1 * y 1) = omega arith in e)
+product_of_two_low m c x y = grind arith
 
 pub product_of_two_high : (m c : ℕ) (x y : ℕ → ℕ) → product_modulo m 2 c x y 1 ≡ (x 0 * y 1 + x 1 * y 0) % m
 unfolding sum_below
-product_of_two_high m c x y =
-    ap (λ v. v % m)
-    (let e : (0 + (0 + 0 + x 0 * y 1) + (0 + x 1 * y 0 + 0)) + c * (0 + (0 + 0 + 0) + (0 + 0 + 0))
-    ≡ x 0 * y 1 + x 1 * y 0 = omega arith in e)
+product_of_two_high m c x y = grind arith
 
 -- what becomes of a pair u, v, by the pair y, z of the other list and the product of v and the constant
 abbrev pub IsPairProduct : ℕ → ℕ → ℕ → ℕ → ℕ → ℕ → ℕ → ℕ → Type 0
@@ -38,10 +32,7 @@ IsPairProduct m turned y z u v s t = (s ≡ (u * y + turned * z) % m) × (t ≡ 
 -- .. where all four numbers were read from the lists
 pub pair_of_read : (m turned : ℕ) {x y u v x' y' u' v' s t : ℕ} → x ≡ x' → y ≡ y' → u ≡ u' → v ≡ v'
     → s ≡ (x * y + turned * v) % m → t ≡ (x * v + u * y) % m → IsPairProduct m turned y' v' x' u' s t
-pair_of_read m turned {x} {y} {u} {v} {x'} {y'} {u'} {v'} {s} {t} is_x is_y is_u is_v first second =
-    subst (λ e. IsPairProduct m turned y' v' e u' s t) is_x (subst (λ e. IsPairProduct m turned e v' x u' s t) is_y
-    (subst (λ e. IsPairProduct m turned y v' x e s t) is_u
-    (subst (λ e. IsPairProduct m turned y e x u s t) is_v (first, second))))
+pair_of_read m turned {x} {y} {u} {v} {x'} {y'} {u'} {v'} {s} {t} is_x is_y is_u is_v first second = grind arith
 
 -- minus the product by an entry is the product by the constant of the next block
 pub product_by_odd : {m : ℕ} (x w c product rest : ℕ) → w < m → ((v : ℕ) → v + w ≡ m → Congruent m v c)

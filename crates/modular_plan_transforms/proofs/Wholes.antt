@@ -22,31 +22,17 @@ use Rattle.modular_plan_transforms.proofs.NaturalOrder.{no_more_bits}
 -- the table of a plan, by the fields
 pub twiddles_of : {m g bits count : ℕ} {w : ℕ → ℕ} → 2 * count ≡ 2 ^ bits → (g ^ count + 1) % m ≡ 0
     → ((k : ℕ) → k < count → w k ≡ g ^ bits_reversed (bits - 1) k % m) → AreTwiddles m g bits count w
-twiddles_of {m} {g} {bits} {count} whole turn entry =
-    let half : count ≡ 2 ^ bits / 2 = omega (arith, whole) in
-    record {
-      suits = record {
-        power_of_two = (bits, refl);
-        half_turn = λ _. subst (λ n. (g ^ n + 1) % m ≡ 0) half turn;
-      };
-      half = half;
-      entry = entry;
-    }
+twiddles_of {m} {g} {bits} {count} whole turn entry = grind arith
 
 -- and the half turn of a root, by the table
 pub turn_of : {m g bits count : ℕ} {w : ℕ → ℕ} → 2 * count ≡ 2 ^ bits → AreTwiddles m g bits count w
     → (g ^ count + 1) % m ≡ 0
-turn_of {m} {g} {bits} whole twiddles =
-    let more : 1 < 2 ^ bits = (let p = pow_pos bits in omega (arith, whole, p)) in
-    subst (λ n. (g ^ n + 1) % m ≡ 0) (sym twiddles.half) (twiddles.suits.half_turn more)
+turn_of {m} {g} {bits} whole twiddles = grind (arith, pow_pos)
 
 -- the root for all entries of a plan is the root itself
 pub root_itself : (m g bits n : ℕ) (x : ℕ → ℕ) (j : ℕ) → n ≡ 2 ^ bits
     → transform m (g ^ (2 ^ bits / n)) n x j ≡ transform m g n x j
-root_itself m g bits n x j whole =
-    let one : 2 ^ bits / n ≡ 1 = ap (λ v. 2 ^ bits / v) whole ∙ div_self (pow_pos bits) in
-    let same : g ^ (2 ^ bits / n) ≡ g = ap (λ v. g ^ v) one ∙ pow-one g in
-    ap (λ h. transform m h n x j) same
+root_itself m g bits n x j whole = grind (arith, div_self, pow_pos, pow-one)
 
 -- twice a power of two
 pub doubled : (z n : ℕ) → n ≡ 2 ^ z → 2 * n ≡ 2 ^ (z + 1)
@@ -147,10 +133,7 @@ is_shorter bits n count y is some most whole =
 
 -- the first entries of a table
 pub all_taken : {T : Type 0} (P : T → Type 0) (n : ℕ) (xs : List T) → n ≤ length xs → All P xs → All P (take n xs)
-all_taken P n xs within all k d l =
-    let size = length-take-le n xs within in
-    let inside : k < n = omega (arith, l, size) in
-    subst P (sym (get_or-take n xs k d inside)) (all k d (omega (arith, inside, within)))
+all_taken P n xs within all k d l = grind (arith, length-take-le, get_or-take)
 
 pub number_taken : {T : Type 0} (value : T → ℕ) (n k : ℕ) (xs : List T) → k < n
     → numbers value (take n xs) k ≡ numbers value xs k

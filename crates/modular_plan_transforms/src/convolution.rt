@@ -51,6 +51,7 @@ fn split_first<T: PlainWord, F: PlanEntry<T>>(
 // Multiplies the blocks as `multiply` does, and joins the products as `join_scaled` does. For odd m, single entries
 // are multiplied by Montgomery's reduction, which accepts any words in the first list. It divides by the base, so
 // that the factor is multiplied by the base.
+#[tactic(auto, using(crate::proofs::Reductions::inverse_of_negated))]
 fn join_products<T: PlainWord, F: PlanEntry<T>>(
     m: &PlannedModulus<T>,
     xs: &mut [T],
@@ -131,6 +132,7 @@ pub(crate) fn convolve_scaled<T: PlainWord, F: PlanEntry<T>>(
 /// assert!(convolves(4, 2, 1, 2)); // block 1 of four entries needs two factors with blocks of 2,
 /// assert!(!convolves(4, 2, 1, 1)); // and four with blocks of 1
 /// ```
+#[tactic(auto, using(crate::proofs::Convolutions::whole_room))]
 // rust instead: pub const fn convolves(length: usize, factors: usize, b: usize, last: usize) -> bool
 pub fn convolves(length: usize, factors: usize, b: usize, last: usize) -> bool
     ensures { IsTrue result ↔ AreSmallBlocks length factors b last }

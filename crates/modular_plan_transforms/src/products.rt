@@ -50,6 +50,7 @@ fn reduced_product<T: PlainWord>(m: &PlannedModulus<T>, inverse: T, x: T, y: T) 
 
 // Replaces each entry of xs, which may be any word, by a number below 2m that is congruent to its product with the
 // entry of ys, divided by the base.
+#[tactic(auto, using(modular_plan_passes::proofs::Entries::bounded, modular_plan_passes::proofs::Entries::number_read, modular_plan_passes::proofs::Entries::never_beyond))]
 pub(crate) fn reduce_products<T: PlainWord>(
     m: &PlannedModulus<T>,
     inverse: T,
@@ -181,6 +182,7 @@ fn multiply_pairs<T: PlainWord, F: PlanEntry<T>>(
 /// assert_eq!(entries, [10, 4]); // 21 - 17
 /// ```
 // rust: #[track_caller]
+#[tactic(auto, using(crate::proofs::SmallProducts::are_products_of_one))]
 pub fn multiply<T: PlainWord, F: PlanEntry<T>>(
     m: &PlannedModulus<T>,
     xs: &mut [T],

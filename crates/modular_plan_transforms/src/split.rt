@@ -39,6 +39,7 @@ fn reduce_each<T: PlainWord, M: SplitSteps<T>>(m: &M, xs: &mut [T])
 /// assert!(splits(4, 2, 0, 1)); // two factors suffice for four entries
 /// assert!(!splits(8, 2, 0, 1));
 /// ```
+#[tactic(auto, using(modular_transform::proofs::PowersOfTwo::power_of_two_tested))]
 // rust instead: pub const fn splits(length: usize, factors: usize, b: usize, last: usize) -> bool
 pub fn splits(length: usize, factors: usize, b: usize, last: usize) -> bool
     ensures { IsTrue result ↔ AreBlocks length factors b last }

@@ -39,6 +39,7 @@ use modular_transform::order::reverse_places;
 /// assert_eq!(entries, [10, 7, 15, 6]); // 1 + 2X + 3X^2 + 4X^3 at 1, 4, -1 and -4
 /// ```
 // rust: #[track_caller]
+#[tactic(auto, using(modular_transform::proofs::PowersOfTwo::power_by_zeros))]
 pub fn ntt_planned<T: PlainWord, F: PlanEntry<T>>(m: &PlannedModulus<T>, xs: &mut [T], table: &[F])
     requires entries { All (λ x. T.number x < 4 * T.number m.now.modulus) xs.old }
     requires factors { AllFactors T.base (T.number m.now.modulus) F.value F.quotient table.now }

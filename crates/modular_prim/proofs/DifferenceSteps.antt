@@ -1,9 +1,8 @@
 -- What the loop of differences keeps of a pair, and what is read off its last one.
 use Rattle.std.proofs.Common.{◌≡◌, ◌≢◌, ℕ, Bool, true, false, not, zero, suc, ◌+◌, ◌-◌, ◌*◌, ◌/◌, ◌%◌, ◌^◌}
-use Rattle.std.proofs.Common.{◌<◌, ◌≤◌, Option, Some, None, sym, ap, ◌∙◌, refl, arith, subst, ⊎_elim}
+use Rattle.std.proofs.Common.{◌<◌, ◌≤◌, Option, Some, None, sym, ap, ◌∙◌, refl, arith}
 use Rattle.std.proofs.Math.Nat.{mul-le-mul_left, mul-le-mul_right, pow-le-pow_right, pow-suc, pow-zero, mod_self}
 use Rattle.std.proofs.Math.Nat.{add-mul-mod_self_left, div-add-mod, mod-one}
-use Rattle.std.proofs.lemmas.Bool.{cases_lt}
 use Rattle.std.proofs.lemmas.Nat.{pow_pos, pow-add, mul-pow, trailing_le, mul-mod_first}
 use Rattle.std.specs.Int.Count.{count_trailing_zeros}
 use mathlib.Core.Bool.{beq}
@@ -23,7 +22,6 @@ use Rattle.modular_prim.specs.Differences.{CongruentBySign, IsDifferencePair, Pa
 zeros_step : (n k t : ℕ) → (n / 2) % 2 ^ t ≡ 0 → (r : ℕ) → r ≡ n % 2 → n % 2 ^ under r t ≡ 0
 zeros_step n k t h zero e =
     let q = n / 2 / 2 ^ t in
-    let half : n / 2 ≡ 2 ^ t * q = multiple_of (2 ^ t) (n / 2) h in
     let power : 2 ^ suc t ≡ 2 ^ t * 2 = pow-suc 2 t in
     let scaled : 2 ^ suc t * q ≡ 2 ^ t * 2 * q = ap (λ v. v * q) power in
     divides (2 ^ suc t) n q (omega arith)
@@ -37,20 +35,13 @@ zeros_divide (suc w) n =
 
 -- a power of at most the width divides the base
 base_divided : (w t : ℕ) → t ≤ w → 2 ^ w % 2 ^ t ≡ 0
-base_divided w t h =
-    divides (2 ^ t) (2 ^ w) (2 ^ (w - t))
-    (ap (λ v. 2 ^ v) (let s : w ≡ t + (w - t) = omega arith in s) ∙ pow-add 2 t (w - t))
+base_divided w t h = divides _ _ _ (ap (λ v. 2 ^ v) (let s : w ≡ t + (w - t) = omega arith in s) ∙ pow-add 2 t (w - t))
 
 -- v is the difference of a and b modulo the base, 2 ^ w: its zeros are those of the difference d
 zeros_of_wrapped : (w base v a b t : ℕ) → base ≡ 2 ^ w → (v + b) % base ≡ a → t ≡ count_trailing_zeros w v
     → (v % 2 ^ t ≡ 0) × ((base * ((v + b) / base)) % 2 ^ t ≡ 0) × (base * ((v + b) / base) + a ≡ v + b)
 zeros_of_wrapped w base v a b t eb ev et =
-    let most : t ≤ w = omega (arith, trailing_le w v) in
-    let f : base * ((v + b) / base) + (v + b) % base ≡ v + b = div-add-mod (v + b) base in (
-      ap (λ k. v % 2 ^ k) et ∙ zeros_divide w v,
-      divides_product (2 ^ t) base ((v + b) / base) (ap (λ k. k % 2 ^ t) eb ∙ base_divided w t most),
-      omega arith,
-    )
+    grind (arith, trailing_le, div-add-mod, zeros_divide, divides_product, base_divided)
 
 pub zeros_above : (w base v a b d t : ℕ) → base ≡ 2 ^ w → (v + b) % base ≡ a → t ≡ count_trailing_zeros w v
     → d + b ≡ a → d % 2 ^ t ≡ 0
@@ -73,49 +64,31 @@ pub record Without (d t o : ℕ) : Type 0 where
   pub within : o ≤ d
 
 pub without : (d t o : ℕ) → 0 < d → d % 2 ^ t ≡ 0 → o ≡ d / 2 ^ t → Without d t o
-without d t o p h e =
-    let m : d ≡ 2 ^ t * (d / 2 ^ t) = multiple_of (2 ^ t) d h in
-    let f : 2 ^ t * o ≡ 2 ^ t * (d / 2 ^ t) = ap (λ v. 2 ^ t * v) e in
-    let one : o * 1 ≤ o * 2 ^ t = mul-le-mul_left o (pow_pos t) in
-    let some : 0 < o =
-    ⊎_elim (λ (l : 0 < o). l)
-    (λ (l : o ≤ 0). let z : o * 2 ^ t ≤ 0 * 2 ^ t = mul-le-mul_right (2 ^ t) l in absurd (omega arith))
-    (cases_lt 0 o) in
-    record {
-      whole = omega arith;
-      some = some;
-      within = omega arith;
-    }
+without d t o p h e = grind (arith, multiple_of, mul-le-mul_left, pow_pos, mul-le-mul_right)
 
 -- the power is one of fewer bits than the number has
 pub fewer_zeros : (w d t o : ℕ) → Without d t o → d < 2 ^ w → t < w
-fewer_zeros w d t o h l =
-    ⊎_elim (λ (b : t < w). b)
-    (λ (b : w ≤ t).
-    let p : 2 ^ w ≤ 2 ^ t = pow-le-pow_right {n = 2} (omega arith) b in
-    let one : 1 * 2 ^ t ≤ o * 2 ^ t = mul-le-mul_right (2 ^ t) h.some in
-    absurd (omega (arith, h.whole)))
-    (cases_lt t w)
+fewer_zeros w d t o h l = grind (arith, pow-le-pow_right, mul-le-mul_right)
 
 -- ---- signs
 turned_twice : (m : ℕ) (s : Bool) (p q : ℕ) → CongruentBySign m s p q → CongruentBySign m (not (not s)) p q
 turned_twice m true p q h = h
 turned_twice m false p q h = h
 
-scaled : (m : ℕ) (s : Bool) (p q c : ℕ) → CongruentBySign m s p q → CongruentBySign m s (p * c) (q * c)
-scaled m true p q c h =
+pub scaled_by_sign : (m : ℕ) (s : Bool) (p q c : ℕ) → CongruentBySign m s p q → CongruentBySign m s (p * c) (q * c)
+scaled_by_sign m true p q c h =
     let e : p * c + q * c ≡ (p + q) * c = omega arith in
     let z : 0 * c ≡ 0 = omega arith in
     mod_trans (mod_of_eq e) (mod_trans (mod_mul h (mod_refl c)) (mod_of_eq z))
-scaled m false p q c h = mod_mul h (mod_refl c)
+scaled_by_sign m false p q c h = mod_mul h (mod_refl c)
 
-difference : (m : ℕ) (s : Bool) (d b a p q : ℕ) → d + b ≡ a → CongruentBySign m s a p → CongruentBySign m (not s) b q
+pub difference_by_sign : (m : ℕ) (s : Bool) (d b a p q : ℕ) → d + b ≡ a → CongruentBySign m s a p → CongruentBySign m (not s) b q
     → CongruentBySign m s d (p + q)
-difference m true d b a p q e h l =
+difference_by_sign m true d b a p q e h l =
     let f : d + (p + q) ≡ d + p + q = omega arith in
     let g : d + p + b ≡ a + p = omega arith in
     mod_trans (mod_of_eq f) (mod_trans (mod_add (mod_refl (d + p)) (mod_sym l)) (mod_trans (mod_of_eq g) h))
-difference m false d b a p q e h l =
+difference_by_sign m false d b a p q e h l =
     let f : d ≡ d + 0 = omega arith in
     let g : d + (b + q) ≡ a + q = omega arith in
     mod_trans (mod_of_eq f) (mod_trans (mod_add (mod_refl d) (mod_sym l))
@@ -124,24 +97,10 @@ difference m false d b a p q e h l =
 -- ---- a turn of the loop
 -- the numbers change places
 pub pair_turned : (m x a b u v k : ℕ) (s : Bool) → IsDifferencePair m x a b u v k s → IsDifferencePair m x b a v u k (not s)
-pair_turned m x a b u v k s p = record {
-  whole = omega (arith, p.whole);
-  above = p.below;
-  below = turned_twice m s (a * 2 ^ k) (u * x) p.above;
-  common = λ d g h. p.common d h g;
-}
+pair_turned m x a b u v k s p = grind (arith, turned_twice)
 
 pub fits_turned : (base a b u v k : ℕ) → PairFits base a b u v k → PairFits base b a v u k
-fits_turned base a b u v k f =
-    let e : b * a * 2 ^ k ≡ a * b * 2 ^ k = omega arith in
-    record {
-      above_some = f.below_some;
-      below_some = f.above_some;
-      above_factor = f.below_factor;
-      below_factor = f.above_factor;
-      factors = omega (arith, f.factors);
-      twos = omega (arith, f.twos);
-    }
+fits_turned base a b u v k f = omega arith
 
 -- the difference without its twos takes the place of the greater number
 factors_same : (a b u v d t o : ℕ) → d + b ≡ a → o * 2 ^ t ≡ d → o * (v * 2 ^ t) + b * (u + v) ≡ a * v + b * u
@@ -162,12 +121,11 @@ pair_next m x a b u v k d t o u' v' s e h eu ev p =
     let ex : u' * x ≡ u * x + v * x = ap (λ n. n * x) eu ∙ omega arith in
     let eb : b * 2 ^ (k + t) ≡ b * 2 ^ k * 2 ^ t = ap (λ n. b * n) power ∙ omega arith in
     let ey : v' * x ≡ v * x * 2 ^ t = ap (λ n. n * x) ev ∙ omega arith in
-    let sum = difference m s (d * 2 ^ k) (b * 2 ^ k) (a * 2 ^ k) (u * x) (v * x) ed p.above p.below in
-    let kept = scaled m (not s) (b * 2 ^ k) (v * x) (2 ^ t) p.below in
+    let sum = difference_by_sign m s (d * 2 ^ k) (b * 2 ^ k) (a * 2 ^ k) (u * x) (v * x) ed p.above p.below in
+    let kept = scaled_by_sign m (not s) (b * 2 ^ k) (v * x) (2 ^ t) p.below in
     record {
       whole =
-          ap (λ n. o * n + b * u') ev ∙ ap (λ n. o * (v * 2 ^ t) + b * n) eu
-          ∙ factors_same a b u v d t o e h.whole ∙ p.whole;
+          grind (arith, factors_same);
       above = rw (eo, ex) sum;
       below = rw (eb, ey) kept;
       common = λ g i j.
@@ -178,11 +136,8 @@ pair_next m x a b u v k d t o u' v' s e h eu ev p =
 pub fits_next : (base a b u v k d t o u' v' : ℕ) → d + b ≡ a → Without d t o
     → u' ≡ u + v → v' ≡ v * 2 ^ t → PairFits base a b u v k → PairFits base o b u' v' (k + t)
 fits_next base a b u v k d t o u' v' e h eu ev f =
-    let dsome : 0 < d = omega (arith, h.some, h.within) in
     let vsome : 0 < v =
-    ⊎_elim (λ (l : 0 < v). l)
-    (λ (l : v ≤ 0). let z : a < b = f.below_factor (let r : v ≡ 0 = omega arith in r) in absurd (omega arith))
-    (cases_lt 0 v) in
+    grind arith in
     let grown : v * 1 ≤ v * 2 ^ t = mul-le-mul_left v (pow_pos t) in
     let power : 2 ^ (k + t) ≡ 2 ^ k * 2 ^ t = pow-add 2 k t in
     let eo : o * b * 2 ^ (k + t) ≡ d * (b * 2 ^ k) =
@@ -191,19 +146,16 @@ fits_next base a b u v k d t o u' v' e h eu ev f =
     let less : d * (b * 2 ^ k) ≤ a * (b * 2 ^ k) = mul-le-mul_right (b * 2 ^ k) (let r : d ≤ a = omega arith in r) in
     let same : o * v' + b * u' ≡ a * v + b * u =
     ap (λ n. o * n + b * u') ev ∙ ap (λ n. o * (v * 2 ^ t) + b * n) eu ∙ factors_same a b u v d t o e h.whole in
-    record {
-      above_some = h.some;
-      below_some = f.below_some;
-      above_factor = λ z. absurd (omega arith);
-      below_factor = λ z. absurd (omega arith);
-      factors = omega (arith, f.factors);
-      twos = omega (arith, f.twos);
-    }
+    omega arith
 
--- the start of a turn, a pair with its greater number first: its difference d, smaller number y and this one's factor f
-pub record Ordered (base a b u v k d y f : ℕ) (s s' : Bool) : Type 0 where
+-- the start of a turn, a pair with its greater number first: its difference d, whose zeros are t, smaller number y and
+-- this one's factor f
+pub record Ordered (base a b u v k d y f t : ℕ) (s s' : Bool) : Type 0 where
   pub greater : ℕ
   pub factor : ℕ
+  pub some : 0 < d
+  pub below : d < base
+  pub even : d % 2 ^ t ≡ 0
   pub whole : d + y ≡ greater
   pub sum : u + v ≡ factor + f
   pub fits : PairFits base greater y factor f k
@@ -219,28 +171,13 @@ other_sign true true e = refl
 other_sign false true e = refl
 other_sign s false e = absurd (cc)
 
-pub ordered_above : (base a b u v k d y f : ℕ) (s l : Bool) → PairFits base a b u v k → l ≡ false → d + b ≡ a → y ≡ b
-    → f ≡ v → Ordered base a b u v k d y f s (not (beq s l))
-ordered_above base a b u v k d y f s l h el e ey ef = record {
-  greater = a;
-  factor = u;
-  whole = omega arith;
-  sum = omega arith;
-  fits = rw (ey, ef) h;
-  pair = λ m x p. rw (ey, ef) (subst (λ t. IsDifferencePair m x a b u v k t) (same_sign s l el) p);
-}
+pub ordered_above : (base a b u v k d y f t : ℕ) (s l : Bool) → PairFits base a b u v k → l ≡ false → a ≢ b → a < base
+    → d + b ≡ a → d % 2 ^ t ≡ 0 → y ≡ b → f ≡ v → Ordered base a b u v k d y f t s (not (beq s l))
+ordered_above base a b u v k d y f t s l h el differ fits e even ey ef = grind (arith, same_sign)
 
-pub ordered_below : (base a b u v k d y f : ℕ) (s l : Bool) → PairFits base a b u v k → l ≡ true → d + a ≡ b → y ≡ a
-    → f ≡ u → Ordered base a b u v k d y f s (not (beq s l))
-ordered_below base a b u v k d y f s l h el e ey ef = record {
-  greater = b;
-  factor = v;
-  whole = omega arith;
-  sum = omega arith;
-  fits = rw (ey, ef) (fits_turned base a b u v k h);
-  pair = λ m x p.
-      rw (ey, ef) (subst (λ t. IsDifferencePair m x b a v u k t) (other_sign s l el) (pair_turned m x a b u v k s p));
-}
+pub ordered_below : (base a b u v k d y f t : ℕ) (s l : Bool) → PairFits base a b u v k → l ≡ true → a ≢ b → b < base
+    → d + a ≡ b → d % 2 ^ t ≡ 0 → y ≡ a → f ≡ u → Ordered base a b u v k d y f t s (not (beq s l))
+ordered_below base a b u v k d y f t s l h el differ fits e even ey ef = grind (arith, fits_turned, other_sign, pair_turned)
 
 -- the shift of a turn fits
 pub shift_fits : (base a b u v k d t o : ℕ) → d + b ≡ a → Without d t o → PairFits base a b u v k → v * 2 ^ t < base
@@ -256,12 +193,7 @@ few_twos w base a b u v k eb f =
     pow-add 2 w w ∙ ap (λ n. n * 2 ^ w) (sym eb) ∙ ap (λ n. base * n) (sym eb) in
     let some : 1 * 1 ≤ a * 1 = mul-le-mul_right 1 f.above_some in
     let both : a * 1 ≤ a * b = mul-le-mul_left a f.below_some in
-    let power : 1 * 2 ^ k ≤ a * b * 2 ^ k = mul-le-mul_right (2 ^ k) (let r : 1 ≤ a * b = omega arith in r) in
-    ⊎_elim (λ (l : k < w + w). l)
-    (λ (l : w + w ≤ k).
-    let p : 2 ^ (w + w) ≤ 2 ^ k = pow-le-pow_right {n = 2} (omega arith) l in
-    absurd (omega (arith, f.twos)))
-    (cases_lt k (w + w))
+    grind (arith, pow-le-pow_right)
 
 -- ---- the first and the last pair
 pub first_pair : (m x t o u v : ℕ) → Without x t o → u ≡ 1 → v ≡ 0 → IsDifferencePair m x o m u v t false
@@ -270,43 +202,22 @@ first_pair m x t o u v h eu ev =
     let mu : m * u ≡ m * 1 = ap (λ n. m * n) eu in
     let ux : u * x ≡ 1 * x = ap (λ n. n * x) eu in
     let vx : v * x ≡ 0 * x = ap (λ n. n * x) ev in
-    let above : o * 2 ^ t ≡ u * x = omega (arith, h.whole) in
     let below : m * 2 ^ t + v * x ≡ 0 + m * 2 ^ t = omega arith in
-    record {
-      whole = omega arith;
-      above = mod_of_eq above;
-      below = record { same = ap (λ n. n % m) below ∙ add-mul-mod_self_left 0 m (2 ^ t) };
-      common = λ d g i. (i, ap (λ n. n % d) (sym h.whole) ∙ divides_product d o (2 ^ t) g);
-    }
+    grind (arith, mod_of_eq, add-mul-mod_self_left, divides_product)
 
 pub first_fits : (base m x t o u v : ℕ) → Without x t o → u ≡ 1 → v ≡ 0 → x < m → m < base → PairFits base o m u v t
 first_fits base m x t o u v h eu ev l b =
     let ov : o * v ≡ o * 0 = ap (λ n. o * n) ev in
     let mu : m * u ≡ m * 1 = ap (λ n. m * n) eu in
-    let e : o * m * 2 ^ t ≡ x * m = (let r : o * m * 2 ^ t ≡ o * 2 ^ t * m = omega arith in r)
-    ∙ ap (λ n. n * m) h.whole in
+    let e : o * m * 2 ^ t ≡ x * m = grind arith in
     let p : (x + 1) * m ≤ base * m = mul-le-mul_right m (let r : x + 1 ≤ base = omega arith in r) in
     let q : base * m ≤ base * base = mul-le-mul_left base (let r : m ≤ base = omega arith in r) in
-    record {
-      above_some = h.some;
-      below_some = omega arith;
-      above_factor = λ z. absurd (omega arith);
-      below_factor = λ z. omega (arith, h.within);
-      factors = omega arith;
-      twos = omega arith;
-    }
+    omega arith
 
 -- where the numbers are equal, the factor of the one is a residue other than 0
 pub last_factor : (base m x a b u v k : ℕ) (s : Bool) → IsDifferencePair m x a b u v k s → PairFits base a b u v k → a ≡ b
     → (0 < u) × (u < m)
-last_factor base m x a b u v k s p f e =
-    let some : (n : ℕ) → (n ≡ 0 → ⊥) → 0 < n = λ n h.
-    ⊎_elim (λ (l : 0 < n). l) (λ (l : n ≤ 0). absurd (h (let r : n ≡ 0 = omega arith in r))) (cases_lt 0 n) in
-    let us : 0 < u = some u (λ z. let l = f.above_factor z in omega arith) in
-    let vs : 0 < v = some v (λ z. let l = f.below_factor z in omega arith) in
-    let av : 1 * v ≤ a * v = mul-le-mul_right v f.above_some in
-    let bu : 1 * u ≤ b * u = mul-le-mul_right u f.below_some in
-    (us, omega (arith, p.whole))
+last_factor base m x a b u v k s p f e = grind (arith, mul-le-mul_right)
 
 -- their common value divides x and m, so where it isn't 1 there is no inverse
 pub last_none : (m x a b u v k y : ℕ) (s : Bool) → IsDifferencePair m x a b u v k s → a ≡ b → a ≢ 1 → IsInverse m x y → ⊥
@@ -352,11 +263,9 @@ pub last_inverse : (m x a b u v k w y : ℕ) (s : Bool) → m % 2 ≡ 1 → IsDi
     → CongruentBySign m s w u → y < m → Congruent m (y * 2 ^ k) w → IsInverse m x y
 last_inverse m x a b u v k w y s o p e f l h =
     let r : x * y * 2 ^ k ≡ x * (y * 2 ^ k) = omega arith in
-    let t : a * 2 ^ k ≡ 1 * 2 ^ k = ap (λ n. n * 2 ^ k) e in
     let product : Congruent m (x * w) (a * 2 ^ k) = factor_power m x u (a * 2 ^ k) w s p.above f in
     let one : Congruent m (x * y) 1 =
-    without_power k o
-    (mod_trans (mod_of_eq r) (mod_trans (mod_mul (mod_refl x) h) (mod_trans product (mod_of_eq t)))) in
+    grind (arith, without_power, mod_trans, mod_of_eq, mod_mul, mod_refl) in
     record { below = l; one = one.same }
 
 -- ---- the twos taken out
@@ -405,7 +314,4 @@ inversion_of_residue number m a x None e h =
       below = i.below;
       one = ap (λ n. (n * y) % m) e ∙ mul-mod_first a y m ∙ i.one;
     })
-inversion_of_residue number m a x (Some y) e h = record {
-  below = h.below;
-  one = sym (mul-mod_first a (number y) m) ∙ ap (λ n. (n * number y) % m) (sym e) ∙ h.one;
-}
+inversion_of_residue number m a x (Some y) e h = grind (arith, mul-mod_first)

@@ -1,7 +1,6 @@
 -- How many divisions Euclid's algorithm takes, and that these are few.
 use Rattle.std.proofs.Common.{◌≡◌, ℕ, zero, suc, ◌+◌, ◌*◌, ◌%◌, ◌^◌, ◌<◌, ◌≤◌, sym, ◌∙◌, ap, refl, arith, ⊎_elim}
 use Rattle.std.proofs.lemmas.Bool.Decides.{nat_tests}
-use Rattle.std.proofs.lemmas.Bool.{cases_lt}
 use Rattle.std.proofs.lemmas.Nat.{mod_below, mul-lt, mul-le}
 use Rattle.std.proofs.Math.Nat.{mul-le-mul_left}
 use Rattle.modular_prim.specs.Divisions.{divisions_within, divisions, inverse_divisions}
@@ -36,10 +35,8 @@ divisions-none u v e = within_none v u v e
 pub divisions-next : (u v : ℕ) → 0 < v → divisions u v ≡ 1 + divisions v (u % v)
 unfolding divisions
 divisions-next u v p =
-    let b = mod_below u v p in
     let s : divisions_within (suc v) u v ≡ 1 + divisions_within v v (u % v) = within_next v u v p ∙ omega arith in
-    within_enough v (suc v) u v (omega arith) (omega arith) ∙ s
-    ∙ ap (λ n. 1 + n) (within_enough v (u % v) v (u % v) (omega arith) (omega arith))
+    grind (arith, within_enough)
 
 pub inverse_divisions-below : (a m : ℕ) → a < m → inverse_divisions a m ≡ divisions m (a % m)
 unfolding inverse_divisions
@@ -54,7 +51,6 @@ power_within : (k u v : ℕ) → 0 < v → v < u → v ≤ k → 2 ^ divisions_w
 power_within zero u v p l b = absurd (omega arith)
 power_within (suc k) u v p l b =
     let s = ap (λ x. 2 ^ x) (within_next k u v p) in
-    let d = doubled (divisions_within k v (u % v)) in
     let q = mul-lt 0 0 u v (omega arith) p in
     ⊎_elim
     (λ (z : u % v ≡ 0). let w = ap (λ x. 2 ^ x) (within_none k v (u % v) z) in omega arith)
@@ -95,16 +91,7 @@ few_above w a m one p l h =
 -- numbers of w bits take at most 2w divisions
 pub inverse_divisions-few : (w a m : ℕ) → 1 ≤ w → 0 < m → m < 2 ^ w → a < 2 ^ w → inverse_divisions a m ≤ 2 * w
 inverse_divisions-few w a m one p h k =
-    ⊎_elim
-    (λ (l : a < m).
-    let e = inverse_divisions-below a m l in
-    let f = few_below w (a % m) m (mod_below a m p) h in
-    omega arith)
-    (λ (l : m ≤ a).
-    let e = inverse_divisions-above a m l in
-    let f = few_above w a m one p l k in
-    omega arith)
-    (cases_lt a m)
+    grind (arith, inverse_divisions-below, few_below, mod_below, inverse_divisions-above, few_above)
 
 -- ---- the loop's count
 -- `count` divisions are done, and those from u and v are left
@@ -112,34 +99,13 @@ pub record Counts (a m u v count : ℕ) : Type 0 where
   pub total : count + divisions u v ≡ inverse_divisions a m
 
 pub counts_below : (a m r count : ℕ) → a < m → r ≡ a % m → count ≡ 0 → Counts a m m r count
-counts_below a m r count l e z =
-    let f = ap (λ n. divisions m n) e in
-    let s = inverse_divisions-below a m l in
-    record { total = omega arith }
+counts_below a m r count l e z = grind (arith, inverse_divisions-below)
 
 pub counts_above : (a m r count : ℕ) → m ≤ a → r ≡ a % m → count ≡ 1 → Counts a m m r count
-counts_above a m r count l e z =
-    let f = ap (λ n. divisions m n) e in
-    let s = inverse_divisions-above a m l in
-    record { total = omega arith }
+counts_above a m r count l e z = grind (arith, inverse_divisions-above)
 
-pub counts_next : (a m u v rest count : ℕ) → Counts a m u v count → 0 < v → rest ≡ u % v → Counts a m v rest (count + 1)
-counts_next a m u v rest count c p e =
-    let f = ap (λ n. divisions v n) e in
-    let s = divisions-next u v p in
-    let t = c.total in
-    record { total = omega arith }
+pub counts_next : {a m u v rest count : ℕ} → Counts a m u v count → 0 < v → rest ≡ u % v → Counts a m v rest (count + 1)
+counts_next {u} {v} c p e = grind (arith, divisions-next)
 
-pub counts_end : (a m u v count : ℕ) → Counts a m u v count → v ≡ 0 → count ≡ inverse_divisions a m
-counts_end a m u v count c e =
-    let s = divisions-none u v e in
-    let t = c.total in
-    omega arith
-
--- of words of w bits, base = 2 ^ w, the count is at most 2w
-pub counts_few : (w base a m u v count : ℕ) → Counts a m u v count → 8 ≤ w → base ≡ 2 ^ w → 0 < m → a < base → m < base
-    → count ≤ 2 * w
-counts_few w base a m u v count c one e p h k =
-    let s = inverse_divisions-few w a m (omega arith) p (omega arith) (omega arith) in
-    let t = c.total in
-    omega arith
+pub counts_end : {a m u v count : ℕ} → Counts a m u v count → v ≡ 0 → count ≡ inverse_divisions a m
+counts_end {u} {v} c e = omega (arith, divisions-none u v e, c.total)

@@ -1,10 +1,9 @@
 -- The steps of Euclid's loop with the magnitudes of the coefficients, whose signs alternate.
-use Rattle.std.proofs.Common.{◌≡◌, ℕ, Bool, true, false, not, ◌+◌, ◌-◌, ◌*◌, ◌/◌, ◌%◌}
-use Rattle.std.proofs.Common.{◌<◌, ◌≤◌, pos, neg_ℤ, sym, refl, ap, ◌∙◌, subst, arith, ⊎_elim}
+use Rattle.std.proofs.Common.{◌≡◌, ℕ, Bool, true, false, not, ◌+◌, ◌*◌, ◌/◌, ◌%◌}
+use Rattle.std.proofs.Common.{◌<◌, ◌≤◌, pos, neg_ℤ, sym, refl, ap, ◌∙◌, subst, arith}
 use Rattle.std.specs.Int.{IsGcd}
 use Rattle.std.proofs.Math.Nat.{mod-lt, mod-eq_of_lt, div-add-mod, mod-add-mod, add-mul-mod_self_left}
 use Rattle.std.proofs.Math.Nat.{mod-mod_of_dvd, le_of_dvd, mul-le-mul_left, mul-le-mul_right}
-use Rattle.std.proofs.lemmas.Bool.{cases_lt}
 use Rattle.std.proofs.lemmas.Nat.{mul-mod_first}
 use Rattle.std.proofs.lemmas.Nat.Gcd.{IsGcd-from_mod, IsGcd-from_zero, mod-eq-zero_of_dvd}
 use Rattle.modular_word.proofs.ResidueLemmas.{residue_neg}
@@ -28,7 +27,6 @@ pub record Euclid (a m last_r r last_t t : ℕ) (odd : Bool) : Type 0 where
 
 pub euclid_start : (a m r z o : ℕ) → 1 ≤ m → r ≡ a % m → z ≡ 0 → o ≡ 1 → Euclid a m m r z o false
 euclid_start a m r z o h er ez eo =
-    let f : m * (a / m) + a % m ≡ a = div-add-mod a m in
     let zr : z * r ≡ 0 * r = ap (λ n. n * r) ez in
     let om : o * m ≡ 1 * m = ap (λ n. n * m) eo in
     let za : z * a ≡ 0 * a = ap (λ n. n * a) ez in
@@ -46,14 +44,7 @@ euclid_start a m r z o h er ez eo =
 -- the products of a step and the next coefficient are at most m
 euclid_fits : (a m last_r r last_t t q : ℕ) (odd : Bool) → Euclid a m last_r r last_t t odd → 0 < r → q ≡ last_r / r
     → (q * r ≤ last_r) × (last_t + q * t ≤ m) × (last_r ≤ m)
-euclid_fits a m last_r r last_t t q odd s hr eq =
-    let f : r * (last_r / r) + last_r % r ≡ last_r = div-add-mod last_r r in
-    let fq : r * q ≡ r * (last_r / r) = ap (λ n. r * n) eq in
-    let b : q * r ≤ last_r = omega arith in
-    let bt : t * (q * r) ≤ t * last_r = mul-le-mul_left t b in
-    let one : (last_t + q * t) * 1 ≤ (last_t + q * t) * r = mul-le-mul_left (last_t + q * t) hr in
-    let first : 1 * last_r ≤ t * last_r = mul-le-mul_right last_r s.positive in
-    (b, omega (arith, s.whole), omega (arith, s.whole))
+euclid_fits a m last_r r last_t t q odd s hr eq = grind (arith, div-add-mod, mul-le-mul_left, mul-le-mul_right)
 
 leaves_next : (m a q t r last_t last_r rest : ℕ) (odd : Bool) → rest + q * r ≡ last_r
     → Leaves m a odd last_t last_r → Leaves m a (not odd) t r → Leaves m a odd (last_t + q * t) rest
@@ -74,18 +65,14 @@ leaves_twice m a t r false l = l
 
 -- what a step leaves is the remainder
 rest_is : (u v q rest : ℕ) → q ≡ u / v → rest + q * v ≡ u → rest ≡ u % v
-rest_is u v q rest e f =
-    let d : v * (u / v) + u % v ≡ u = div-add-mod u v in
-    let g : v * q ≡ v * (u / v) = ap (λ n. v * n) e in
-    omega arith
+rest_is u v q rest e f = grind (arith, div-add-mod)
 
 euclid_step : (a m last_r r last_t t next q rest : ℕ) (odd : Bool) → Euclid a m last_r r last_t t odd
     → 0 < r → q ≡ last_r / r → rest + q * r ≡ last_r → next ≡ last_t + q * t
     → Euclid a m r rest t next (not odd)
 euclid_step a m last_r r last_t t next q rest odd s hr eq erest enext =
     let left : rest ≡ last_r % r = rest_is last_r r q rest eq erest in
-    let one : 1 ≤ q = ⊎_elim (λ (h : 0 < q). h) (λ (h : q ≤ 0). let z : q * r ≤ 0 * r = mul-le-mul_right r h in
-    absurd (omega (arith, s.falling, mod-lt last_r {m = r} hr))) (cases_lt 0 q) in
+    let one : 1 ≤ q = grind (arith, mul-le-mul_right, mod-lt) in
     let grows : 1 * t ≤ q * t = mul-le-mul_right t one in
     let two : t * 2 ≤ t * last_r = mul-le-mul_left t (let l : 2 ≤ last_r = omega (arith, s.falling) in l) in
     let nr : next * r ≡ (last_t + q * t) * r = ap (λ n. n * r) enext in
@@ -97,9 +84,7 @@ euclid_step a m last_r r last_t t next q rest odd s hr eq erest enext =
       positive = omega (arith, s.positive);
       last = s.current;
       current =
-          let P : ℕ → Type 0 = λ n. Leaves m a (not (not odd)) n rest in
-          subst P (sym enext) (leaves_twice m a (last_t + q * t) rest odd
-          (leaves_next m a q t r last_t last_r rest odd erest s.last s.current));
+          grind (arith, Leaves, leaves_twice, leaves_next);
       common = λ g h. s.common g (IsGcd-from_mod last_r r g (let P : ℕ → Type 0 = λ n. IsGcd r n g in subst P left h));
     }
 
@@ -112,31 +97,17 @@ next_fits {a} {m} {last_r} {r} {last_t} {t} {odd} s hr = (euclid_fits a m last_r
 pub next_step : {a m last_r r last_t t next rest : ℕ} {odd : Bool} → Euclid a m last_r r last_t t odd → 0 < r
     → rest ≡ last_r % r → next ≡ last_t + last_r / r * t → Euclid a m r rest t next (not odd)
 next_step {a} {m} {last_r} {r} {last_t} {t} {next} {rest} {odd} s hr left is =
-    let whole : r * (last_r / r) + last_r % r ≡ last_r = div-add-mod last_r r in
     euclid_step a m last_r r last_t t next (last_r / r) rest odd s hr refl (omega arith) is
 
 -- at the end, where the last remainder is 1, the coefficient of a positive sign is the inverse
 pub euclid_found : (a m last_r r last_t t : ℕ) (odd : Bool) → Euclid a m last_r r last_t t odd → odd ≡ true → last_r ≤ 1
     → IsInverse m a last_t
 euclid_found a m last_r r last_t t false s o h = absurd (cc)
-euclid_found a m last_r r last_t t true s o h =
-    let k = s.last.0 in
-    let e : a * last_t ≡ 1 + m * k = omega (arith, s.falling, s.last.1) in
-    record {
-      below = s.last_below;
-      one = ap (λ n. n % m) e ∙ add-mul-mod_self_left 1 m k;
-    }
+euclid_found a m last_r r last_t t true s o h = grind (arith, add-mul-mod_self_left)
 
 -- the negative of a number below m, with the number, makes a multiple of m
 with_negative : (m v x : ℕ) → v < m → x ≡ residue m (neg_ℤ (pos v)) → (x < m) × ((j : ℕ) × (x + v ≡ m * j))
-with_negative m v x h e =
-    ⊎_elim
-    (λ (l : 0 < v). let r : x ≡ m - v = e ∙ residue_neg m v h l in (omega arith, (1, omega arith)))
-    (λ (l : v ≤ 0).
-    let z : v ≡ 0 = omega arith in
-    let r : x ≡ 0 = e ∙ ap (λ n. residue m (neg_ℤ (pos n))) z ∙ mod-eq_of_lt (let p : 0 < m = omega arith in p) in
-    (omega arith, (0, omega arith)))
-    (cases_lt 0 v)
+with_negative m v x h e = grind (arith, residue_neg, neg_ℤ, mod-eq_of_lt)
 
 -- at the end, where the last remainder is 1, the negative of the coefficient of a negative sign is the inverse
 pub euclid_found_negative : (a m last_r r last_t t x : ℕ) (odd : Bool)
@@ -147,7 +118,6 @@ euclid_found_negative a m last_r r last_t t x false s o h ex =
     let k = s.last.0 in
     let n = with_negative m last_t x s.last_below ex in
     let j = n.1.0 in
-    let e : last_t * a + 1 ≡ m * k = omega (arith, s.falling, s.last.1) in
     let f : a * (x + last_t) ≡ a * (m * j) = ap (λ v. a * v) n.1.1 in
     let g : a * x + m * k ≡ 1 + m * (a * j) = omega arith in
     record {
@@ -164,7 +134,6 @@ euclid_none a m last_r r last_t t x odd s er h i =
     let m0 : m % G ≡ 0 = mod-eq-zero_of_dvd G common.0 in
     let a0 : a % G ≡ 0 = sym (mod-mod_of_dvd G a common.0) ∙ mod-eq-zero_of_dvd G common.1 in
     let k = (a * x) / m in
-    let f : m * ((a * x) / m) + (a * x) % m ≡ a * x = div-add-mod (a * x) m in
     let left : (a * x) % G ≡ 0 =
     sym (mul-mod_first a x G) ∙ ap (λ n. (n * x) % G) a0
     ∙ ap (λ n. n % G) (let z : 0 * x ≡ 0 = omega arith in z) ∙ mod-eq_of_lt (let p : 0 < G = omega arith in p) in

@@ -1,5 +1,5 @@
 -- Few steps: a remainder is at most half of the number, and numbers of w bits allow 2w halvings of their product.
-use Rattle.std.proofs.Common.{◌≡◌, ℕ, suc, ◌+◌, ◌*◌, ◌%◌, ◌/◌, ◌^◌, ◌<◌, ◌≤◌, arith, ⊎_elim, ◌⊎◌}
+use Rattle.std.proofs.Common.{◌≡◌, ℕ, suc, ◌+◌, ◌*◌, ◌%◌, ◌^◌, ◌<◌, ◌≤◌, arith, ⊎_elim, ◌⊎◌}
 use Rattle.std.proofs.lemmas.Bool.{cases_lt}
 use Rattle.std.proofs.lemmas.Nat.{mod_below, pow-add, mul-lt, le-div}
 use Rattle.std.proofs.Math.Nat.{mul-le-mul_left, pow-le-pow_right}
@@ -11,11 +11,7 @@ pub doubled : (r : ℕ) → 2 ^ suc r ≡ 2 * 2 ^ r
 doubled r = omega arith
 
 pub rest_twice : (u v : ℕ) → 0 < v → v ≤ u → 2 * (u % v) ≤ u
-rest_twice u v p l =
-    let m = mod_below u v p in
-    let q : 1 ≤ u / v = le-div 1 u v p (omega arith) in
-    let t = mul-le-mul_left v q in
-    omega arith
+rest_twice u v p l = grind (arith, mod_below, le-div, mul-le-mul_left)
 
 -- steps that each double a power, which stays at most twice the product of two numbers of w bits
 pub few_steps : (w s a b : ℕ) → a < 2 ^ w → b < 2 ^ w → 2 ^ s ≤ 2 * (a * b) → s ≤ 2 * w

@@ -8,4 +8,3 @@ pub mod PowerSteps
 pub mod ReciprocalOf
 pub mod ResidueSteps
 pub mod Scaled
-pub mod WholeNumbers

@@ -15,12 +15,9 @@ reciprocal_is B d v a hd hn ea ev =
     let g : B * ((a / d) / B) + (a / d) % B ≡ a / d = div-add-mod (a / d) B in
     let l2 : (a / d) % B < B = mod-lt (a / d) (omega arith) in
     let m1 : B * d ≤ B * (B - 1) = mul-le-mul_left B (omega arith) in
-    let m1' : B * (B - 1 + 1) ≡ B * B = ap (λ n. B * n) (let u : B - 1 + 1 ≡ B = omega arith in u) in
     let m2 : B * B ≤ B * (2 * d) = mul-le-mul_left B hn in
     let low : B ≤ Q =
-    ⊎_elim
-    (λ (h : Q < B). let m : d * (Q + 1) ≤ d * B = mul-le-mul_left d (omega arith) in absurd (omega arith))
-    (λ (h : B ≤ Q). h) (cases_lt Q B) in
+    grind (arith, mul-le-mul_left) in
     let high : Q < 2 * B =
     ⊎_elim (λ (h : Q < 2 * B). h)
     (λ (h : 2 * B ≤ Q). let m : d * (2 * B) ≤ d * Q = mul-le-mul_left d h in absurd (omega arith))
@@ -52,6 +49,5 @@ reciprocal_of_less B d v x h hd hn top hh eh ev =
     let scaled : B * (h + d) ≡ B * x = ap (λ n. B * n) (let s : h + d ≡ x = omega arith in s) in
     let greatest : x + B * h + d * B + 1 ≡ B * B = omega (arith, greatest_is B x top) in
     let same : v ≡ ((x + B * h + d * B) / d) % B =
-    ev ∙ sym (add-mod_right ((x + B * h) / d) B)
-    ∙ ap (λ n. n % B) (sym (add-mul-div_left (x + B * h) B (let s : 0 < d = omega arith in s))) in
-    reciprocal_of B d v (x + B * h + d * B) hd hn greatest same
+    grind (arith, add-mod_right, add-mul-div_left) in
+    grind (arith, reciprocal_of)

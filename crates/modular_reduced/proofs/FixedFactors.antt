@@ -62,17 +62,14 @@ above_chosen : (b m k e x low less : ℕ) → m < b → x < b → e < m → k * 
 above_chosen b m k e x low less room fits left whole is =
     let ek : (less + m) * b ≡ k * b = ap (λ v. v * b) is in
     let first : x * e ≤ b * e = mul-le-mul_right e (let l : x ≤ b = omega arith in l) in
-    let second : b * (e + 1) ≤ b * m = mul-le-mul_left b (let l : e + 1 ≤ m = omega arith in l) in
     let third : m * low ≤ b * low = mul-le-mul_right low (let l : m ≤ b = omega arith in l) in
-    lt_of_mul-lt-mul_right b
-    (let l : less * b < low * b = omega (arith, ek, first, second, third, whole, room) in l)
+    grind (arith, lt_of_mul-lt-mul_right)
 
 pub chosen : (b m w q x low h p t r less : ℕ) → IsFactor b m w q → m < b → x < b → x * q ≡ low + b * h → low < b
     → p ≡ (x * w) % b → t ≡ (h * m) % b → r < b → (r + t) % b ≡ p → less < b → (less + m) % b ≡ r
     → IsChosen low less r ((x * w) % m)
 chosen b m w q x low h p t r less is room fits e low_fits is_p is_t r_fits er less_fits el =
     let near_it = near b m w q x low h is fits e low_fits in
-    let at_most = near_it.at_most in
     let close = near_it.close in
     let some : 0 < b = omega arith in
     let k : ℕ = x * w - h * m in
@@ -84,8 +81,7 @@ chosen b m w q x low h p t r less is room fits e low_fits is_p is_t r_fits er le
     let left : w * b % m < m = mod-lt (w * b) (omega arith) in
     let t_again : t % b ≡ t = ap (λ v. v % b) is_t ∙ mod-mod (h * m) b ∙ sym is_t in
     let again : (k + t) % b ≡ p =
-    add-mod k t b ∙ ap (λ v. (k % b + v) % b) (t_again ∙ is_t) ∙ sym (add-mod k (h * m) b)
-    ∙ ap (λ v. v % b) s ∙ sym is_p in
+    grind (arith, add-mod) in
     let r_is : r ≡ k % b = sym (mod-eq_of_lt r_fits) ∙ same_without b r k t some (er ∙ sym again) in
     ⊎_elim
     (λ (small : k < m).

@@ -1,7 +1,7 @@
 -- The result of an operator whose right operand was reduced first, and that a quotient is one.
 use Rattle.std.proofs.Common.{◌≡◌, ℕ, suc, ◌+◌, ◌*◌, ◌/◌, ◌%◌, ◌<◌, ℤ, pos}
 use Rattle.std.proofs.Common.{negsuc, ◌+ℤ◌, ◌-ℤ◌, ◌*ℤ◌, arith, ap, sym, ◌∙◌}
-use Rattle.std.proofs.Math.Nat.{mod-eq_of_lt, add-mod-mod, div-add-mod, mod-lt}
+use Rattle.std.proofs.Math.Nat.{mod-eq_of_lt, add-mod-mod, mod-lt}
 use Rattle.std.proofs.lemmas.Int.{ints}
 use Rattle.std.proofs.lemmas.Nat.{mul-mod_first, mul-mod_second, same_from_place}
 use Rattle.modular_word.specs.Inverses.{IsInverse}
@@ -22,9 +22,7 @@ less_multiple m x v k w u (pos a) (pos b) h i e f =
     let n : a * m + w ≡ (k + b) * m + u = omega (arith, ints) in (same_from_place a w (k + b) u m h i n).1
 less_multiple m x v k w u (pos a) (negsuc b) h i e f =
     let n : (a + suc b) * m + w ≡ k * m + u = omega (arith, ints) in (same_from_place (a + suc b) w k u m h i n).1
-less_multiple m x v k w u (negsuc a) (pos b) h i e f =
-    let n : 0 * m + w ≡ (k + b + suc a) * m + u = omega (arith, ints) in
-    (same_from_place 0 w (k + b + suc a) u m h i n).1
+less_multiple m x v k w u (negsuc a) (pos b) h i e f = grind (arith, ints, same_from_place)
 less_multiple m x v k w u (negsuc a) (negsuc b) h i e f =
     let n : suc b * m + w ≡ (k + suc a) * m + u = omega (arith, ints) in
     (same_from_place (suc b) w (k + suc a) u m h i n).1
@@ -33,10 +31,8 @@ pub difference_reduced : (m x n v : ℕ) → 0 < m → v ≡ n % m → residue m
 difference_reduced m x n v h e =
     let left : IsResidue m (pos x -ℤ pos v) (residue m (pos x -ℤ pos v)) = residue_is m (pos x -ℤ pos v) h in
     let right : IsResidue m (pos x -ℤ pos n) (residue m (pos x -ℤ pos n)) = residue_is m (pos x -ℤ pos n) h in
-    let d : m * (n / m) + n % m ≡ n = div-add-mod n m in
     let whole : n ≡ v + n / m * m = omega arith in
-    less_multiple m x v (n / m) _ _ left.quotient right.quotient left.below right.below left.differs
-    (ap (λ k. pos x -ℤ pos k) (sym whole) ∙ right.differs)
+    grind (arith, less_multiple)
 
 -- x times the inverse of y is the quotient of x by y
 pub quotient_by_inverse : (m x y i q : ℕ) → x < m → 0 < m → IsInverse m y i

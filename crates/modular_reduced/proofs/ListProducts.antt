@@ -1,6 +1,6 @@
 -- What is read of a list of forms, and a sum of products of two lists, term by term modulo m.
 use Rattle.std.proofs.Common.{◌≡◌, ℕ, suc, ◌+◌, ◌*◌, ◌%◌, ◌<◌, List, [], ◌∷◌, length, map, get_or, All}
-use Rattle.std.proofs.Common.{sym, ◌∙◌, ap, ap₂, arith, subst}
+use Rattle.std.proofs.Common.{sym, ◌∙◌, ap, arith, subst}
 use Rattle.std.proofs.Math.Nat.{mod-eq_of_lt}
 use Rattle.std.proofs.lemmas.List.{get_or-map, length-map}
 use Rattle.std.proofs.lemmas.Simd.{map-map}
@@ -14,9 +14,7 @@ use Rattle.modular_reduced.specs.Values.{sum_of_products}
 
 -- the value s and no product
 pub products_none : (m s : ℕ) (f : ℕ → ℕ) → s < m → s ≡ (s + sum_below 0 f) % m
-products_none m s f below =
-    let none : s ≡ s + sum_below 0 f = let z = sum_below-zero f in omega arith in
-    sym (mod-eq_of_lt below) ∙ ap (λ v. v % m) none
+products_none m s f below = grind (arith, sum_below-zero, mod-eq_of_lt)
 
 -- one product more
 pub products_more : (m s i t x y : ℕ) (f : ℕ → ℕ) → t ≡ (s + sum_below i f) % m → x * y ≡ f i
@@ -24,11 +22,10 @@ pub products_more : (m s i t x y : ℕ) (f : ℕ → ℕ) → t ≡ (s + sum_bel
 products_more m s i t x y f so_far term =
     let e : suc i ≡ i + 1 = omega arith in
     let sum : s + sum_below i f + f i ≡ s + sum_below (i + 1) f =
-    let one = sum_below-suc i f ∙ ap (λ v. sum_below i f + v) (sym term) in
-    omega (arith, sym (ap (λ n. sum_below n f) e), one, term) in
+    grind (arith, sum_below-suc) in
     let c : Congruent m (t + x * y % m) (s + sum_below i f + x * y) =
     mod_add (mod_trans (mod_of_eq so_far) (residue_of (s + sum_below i f))) (residue_of (x * y)) in
-    c.same ∙ ap (λ v. (s + sum_below i f + v) % m) term ∙ ap (λ v. v % m) sum
+    grind arith
 
 -- the value at an index is that of the number there
 number_value : {T : Type 0} (number : T → ℕ) (value : ℕ → ℕ → ℕ) (m : ℕ) (forms : List T) (i : ℕ) → i < length forms
@@ -51,8 +48,4 @@ pub products_of_numbers : {T : Type 0} (number : T → ℕ) (value : ℕ → ℕ
     → length ys ≡ length xs
     → sum_below (length xs) (λ i. value m (get_or (map number xs) i 0) * value m (get_or (map number ys) i 0))
     ≡ sum_of_products number value m xs ys
-products_of_numbers number value m xs ys equal =
-    sum_below-same (length xs) (λ i. value m (get_or (map number xs) i 0) * value m (get_or (map number ys) i 0))
-    (λ i. entry number value m xs i * entry number value m ys i)
-    (λ i l. sym (ap₂ (λ v w. v * w) (number_value number value m xs i l)
-    (number_value number value m ys i (omega (arith, l, equal)))))
+products_of_numbers number value m xs ys equal = grind (arith, sum_below-same, length, get_or, map, number_value)

@@ -1,5 +1,5 @@
 -- Loops that replace each entry of a list by the form of a value.
-use Rattle.std.proofs.Common.{◌≡◌, ℕ, ◌+◌, ◌<◌, ◌≤◌, List, [], ◌∷◌, length, map, slice_index, get_or, All}
+use Rattle.std.proofs.Common.{◌≡◌, ℕ, ◌+◌, ◌<◌, List, [], ◌∷◌, length, map, slice_index, get_or, All}
 use Rattle.std.proofs.Common.{◌∙◌, ap, arith, subst, sym}
 use Rattle.std.proofs.Math.ListN.{set}
 use Rattle.modular_reduced.specs.Forms.{IsForm, IsCanonical, Represents}
@@ -23,15 +23,6 @@ pub written_more : {T : Type 0} (number : T → ℕ) (form value : ℕ → ℕ �
 written_more number form value m forms i x v old within before is here = record {
   checked = forms_written number form value m forms i x is before.checked;
   done = done_more number value m forms i x (λ k n. n ≡ v k) old within before.done here;
-}
-
--- all entries are written
-pub all_written : {T : Type 0} (number : T → ℕ) (form value : ℕ → ℕ → ℕ) (m : ℕ) (forms : List T) (v old : ℕ → ℕ) (n : ℕ)
-    → WrittenBelow number form value m v n old forms → length forms ≤ n → HoldValues number form m forms v
-all_written number form value m forms v old n last all = record {
-  each = λ i d l. let is = last.checked i d l in
-      let same = entry_at number value m forms i d l ∙ last.done.done i (omega (arith, l, all)) in
-      record { below = subst (λ k. k < m) same is.below; same = is.same ∙ ap (form m) same };
 }
 
 -- where g takes the form of each value v to the form of h v, and each word of a list of forms is replaced by g of it

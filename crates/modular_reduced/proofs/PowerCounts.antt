@@ -54,16 +54,12 @@ digits_least e j h = within_least e e j h
 -- half of a number has a digit less
 pub below_half : (e j : ℕ) → 0 < e → e < 2 ^ j → digits (e / 2) + 1 ≤ j
 below_half e zero h k = omega arith
-below_half e (suc j) h k =
-    let s = pow-suc 2 j in
-    let l = digits_least (e / 2) j (let b : e / 2 < 2 ^ j = omega arith in b) in
-    omega arith
+below_half e (suc j) h k = grind (arith, pow-suc, digits_least)
 
 pub digits_step : (e : ℕ) → 0 < e → digits e ≡ 1 + digits (e / 2)
 digits_step e h =
     let d = digits (e / 2) in
     let high : e / 2 < 2 ^ d = digits_above (e / 2) in
-    let s = pow-suc 2 d in
     let at_most = digits_least e (suc d) (let b : e < 2 ^ suc d = omega arith in b) in
     let at_least = below_half e (digits e) h (digits_above e) in
     omega arith
@@ -110,7 +106,4 @@ products_else e h k = grind (arith, nat_tests)
 -- at most twice the digits
 pub products_at_most : (e : ℕ) → products e ≤ 2 * digits e
 unfolding products
-products_at_most e =
-    let o = ones_at_most e in
-    let some : e ≡ 2 → 1 ≤ digits e = λ h. let d = digits_step e (omega arith) in omega arith in
-    grind (arith, nat_tests)
+products_at_most e = grind (arith, ones_at_most, digits_step, nat_tests)

@@ -38,8 +38,7 @@ power_even_step {form} {value} {width} {m} {product} {power} {rest} {wanted} {po
     {rest'} canonical so_far even k half = record {
       product_form = so_far.product_form;
       power_form = form_of_value canonical k;
-      work = step_even m (value m product) (value m power) rest (value m power') rest' wanted
-          (canonical.one_value _ _ k) half even so_far.work;
+      work = step_even _ _ _ rest (value m power') rest' wanted (canonical.one_value _ _ k) half even so_far.work;
     }
 
 pub power_end : {form value : ℕ → ℕ → ℕ} {m product power rest wanted : ℕ}

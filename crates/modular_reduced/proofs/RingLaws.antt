@@ -1,5 +1,5 @@
 -- The ring laws of forms: both sides of a law, computed step by step, are the same form.
-use Rattle.std.proofs.Common.{◌≡◌, ℕ, zero, suc, ◌+◌, ◌-◌, ◌*◌, ◌%◌, ◌<◌, pos, neg_ℤ, sym, ◌∙◌, ap, refl, subst, arith}
+use Rattle.std.proofs.Common.{◌≡◌, ℕ, zero, suc, ◌+◌, ◌-◌, ◌*◌, ◌%◌, ◌<◌, pos, neg_ℤ, sym, ◌∙◌, ap, refl, arith}
 use Rattle.std.proofs.Math.Nat.{mod-mod, mod_self, mod-eq_of_lt, mul_assoc}
 use Rattle.modular_word.specs.Residues.{residue}
 use Rattle.modular_word.proofs.Congruence.{same_sum, same_product}
@@ -9,12 +9,6 @@ use Rattle.modular_reduced.specs.Forms.{Represents, IsCanonical}
 -- a value has one form
 pub same_form : {form : ℕ → ℕ → ℕ} {m f g v w : ℕ} → Represents form m f v → Represents form m g w → v ≡ w → f ≡ g
 same_form {form} {m} h k e = h.same ∙ ap (form m) e ∙ sym k.same
-
--- and a form one value
-pub same_value : {form value : ℕ → ℕ → ℕ} {width m f v w : ℕ} → IsCanonical form value width m → Represents form m f v
-    → Represents form m f w → v ≡ w
-same_value {form} {value} {width} {m} {f} {v} {w} canonical h k =
-    sym (canonical.one_value f v h) ∙ canonical.one_value f w k
 
 pub sums_associate : {form value : ℕ → ℕ → ℕ} {width m xy left yz right : ℕ} (x y z : ℕ)
     → IsCanonical form value width m
@@ -68,6 +62,4 @@ pub negative_cancels : {form value : ℕ → ℕ → ℕ} {width m negative sum 
     → IsCanonical form value width m → v < m
     → Represents form m negative (residue m (neg_ℤ (pos v))) → Represents form m sum ((v + value m negative) % m)
     → Represents form m sum 0
-negative_cancels {form} {value} {width} {m} {negative} {sum} v canonical h hn hs =
-    let e = canonical.one_value negative (residue m (neg_ℤ (pos v))) hn in
-    subst (Represents form m sum) (ap (λ n. (v + n) % m) e ∙ cancels m v h) hs
+negative_cancels {form} {value} {width} {m} {negative} {sum} v canonical h hn hs = grind (arith, neg_ℤ, cancels)

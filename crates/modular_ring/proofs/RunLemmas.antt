@@ -1,5 +1,5 @@
 -- Lemmas on registers that hold values, and on the value table.
-use Rattle.std.proofs.Common.{◌≡◌, ℕ, ◌+◌, ◌*◌, ◌%◌, ◌<◌, List, [], ◌∷◌, length, map, get_or, true, false}
+use Rattle.std.proofs.Common.{◌≡◌, ℕ, ◌+◌, ◌*◌, ◌%◌, ◌<◌, List, length, map, get_or, true, false}
 use Rattle.std.proofs.Common.{cond, eqb, refl, sym, ◌∙◌, ap, subst, arith, ◌≢◌, ◌⊎◌, ◌↔◌, Option, Some, None}
 use Rattle.std.proofs.Common.{option_map, All, get_or-set_same, get_or-set_other, add-one, IsSomeAnd, inl, inr}
 use Rattle.std.proofs.Math.ListN.{set, length-set}
@@ -11,7 +11,7 @@ use Rattle.std.proofs.lemmas.Bool.{cases_lt}
 use Rattle.modular_word.specs.Inverses.{inverse_of}
 use Rattle.modular_word.proofs.InverseLemmas.{inverse_of-found, inverse_of-none, inverse_of-empty}
 use Rattle.modular_reduced.specs.Forms.{Represents, IsForm, IsCanonical, IsInverseForm}
-use Rattle.modular_reduced.proofs.FormLemmas.{form_as, form_of_value}
+use Rattle.modular_reduced.proofs.FormLemmas.{form_as}
 use Rattle.modular_ring.specs.declared.ring.RingCommand.{RingCommand}
 use Rattle.modular_ring.specs.declared.ring.RingCommand.TheVariants.{Load, Add, Sub, Mul, Neg, Dbl, Sqr, Inv, Div, Pow}
 use Rattle.modular_ring.specs.declared.ring.RunEnd.TheVariants.{Done, NoInverse}
@@ -46,13 +46,6 @@ form_of_two {T} {number} {form} {value} {width} {m} {f} {registers}
     form_of_one {v = v} (λ u. F u (v b)) a x canonical holds below_a is_a
     (form_of_one {v = v} (F (value m (number x))) b y canonical holds below_b is_b stands)
 
--- what is read of checked registers is checked
-pub read_checked : {T : Type 0} (number : T → ℕ) (form value : ℕ → ℕ → ℕ) (m : ℕ) (registers : List T) (a : ℕ) (x : T)
-    → All (λ f. IsForm form value m (number f)) registers → a < length registers → x ≡ get_or registers a x
-    → IsForm form value m (number x)
-read_checked number form value m registers a x checked below is =
-    subst (λ f. IsForm form value m (number f)) (sym is) (checked a x below)
-
 -- what `inv` returns is the form of `inverse_of`
 pub inverse_form : {T : Type 0} (number : T → ℕ) (form : ℕ → ℕ → ℕ) (m u : ℕ) (found : Option T)
     → IsInverseForm number form m u found → IsFormOf number form m (inverse_of m u) found
@@ -76,20 +69,6 @@ pub start_holds : {T : Type 0} (number : T → ℕ) (form value : ℕ → ℕ �
 start_holds number form value m registers all = record {
   each = λ r d below. form_as (all r d below) (sym (get_or-map (λ f. value m (number f)) registers r d 0 below));
 }
-
--- registers that hold values hold checked forms ..
-pub all_forms : {T : Type 0} {number : T → ℕ} {form value : ℕ → ℕ → ℕ} {width m : ℕ} {registers : List T} {v : ℕ → ℕ}
-    → IsCanonical form value width m → HoldValues number form m registers v
-    → All (λ f. IsForm form value m (number f)) registers
-all_forms canonical holds r d below = form_of_value canonical (holds.each r d below)
-
--- .. of those values
-pub residues_are : {T : Type 0} {number : T → ℕ} {form value : ℕ → ℕ → ℕ} {width m : ℕ} {v : ℕ → ℕ}
-    → (registers : List T) → IsCanonical form value width m → HoldValues number form m registers v
-    → (r : ℕ) → r < length registers → get_or (values_of number value m registers) r 0 ≡ v r
-residues_are {T} {number} {form} {value} {width} {m} [] canonical holds r below = absurd (omega (arith, below))
-residues_are {T} {number} {form} {value} {width} {m} (x ∷ xs) canonical holds r below =
-    get_or-map (λ f. value m (number f)) (x ∷ xs) r x 0 below ∙ canonical.one_value _ _ (holds.each r x below)
 
 put_at : {T : Type 0} (number : T → ℕ) (form : ℕ → ℕ → ℕ) (m : ℕ) (registers : List T) (v : ℕ → ℕ) (dst w : ℕ) (f : T)
     → HoldValues number form m registers v → dst < length registers → Represents form m (number f) w

@@ -1,10 +1,8 @@
 -- Powers to secret exponents: what a digit leaves to do, and the clauses of an inverse.
-use Rattle.std.proofs.Common.{◌≡◌, ℕ, suc, ◌+◌, ◌-◌, ◌*◌, ◌/◌, ◌%◌, ◌^◌, ◌<◌, ◌≤◌, Some, None, sym, ◌∙◌, ap, arith, ⊎_elim}
-use Rattle.std.proofs.Math.Nat.{mod-eq_of_lt, pow-suc, pow-zero}
+use Rattle.std.proofs.Common.{◌≡◌, ℕ, suc, ◌+◌, ◌-◌, ◌*◌, ◌/◌, ◌%◌, ◌^◌, ◌<◌, ◌≤◌, ◌∙◌, ap, arith, ⊎_elim}
+use Rattle.std.proofs.Math.Nat.{pow-suc, pow-zero}
 use Rattle.std.proofs.lemmas.Bool.{cases_lt}
-use Rattle.modular_word.specs.Inverses.{IsInverse}
 use Rattle.modular_reduced.specs.Forms.{Represents, IsCanonical}
-use Rattle.modular_reduced.proofs.FormLemmas.{InverseAnswered, inverse_answered}
 use Rattle.modular_reduced.proofs.PowerForms.{power_odd_step, power_even_step}
 use Rattle.modular_reduced.proofs.PowerSoFar.{PowerSoFar}
 
@@ -18,9 +16,7 @@ half_below rest half bits done more fits e =
 
 -- with no digit left, nothing is left of the exponent
 pub none_left : (rest bits done : ℕ) → rest < 2 ^ (bits - done) → bits ≡ done → rest ≡ 0
-none_left rest bits done fits e =
-    let one : 2 ^ (bits - done) ≡ 1 = ap (λ n. 2 ^ n) (let z : bits - done ≡ 0 = omega arith in z) ∙ pow-zero 2 in
-    omega (arith, one)
+none_left rest bits done fits e = grind (arith, pow-zero)
 
 -- a digit, where a mask chooses the product
 pub power_step : {form value : ℕ → ℕ → ℕ} {width m product power rest wanted longer next square half : ℕ}
@@ -39,23 +35,3 @@ power_step {form} {value} {width} {m} {product} {power} {rest} {wanted} {longer}
     let odd : rest % 2 ≡ 1 = omega arith in
     rw (taken odd) (power_odd_step canonical so_far odd made squared halved))
     (cases_lt (rest % 2) 1)
-
--- an inverse of the value, and its form
-pub inverted : {T : Type 0} (number : T → ℕ) {form value : ℕ → ℕ → ℕ} {w m : ℕ}
-    → IsCanonical form value w m → {f v x : ℕ} {h : T}
-    → Represents form m f v → IsInverse m v x → Represents form m (number h) (x % m)
-    → InverseAnswered number form value m (value m f) (Some h)
-inverted number {form} {value} {w} {m} r {f} {v} {x} {h} of is made =
-    inverse_answered number (value m f) (Some h) r (
-      x,
-      record { below = is.below; one = ap (λ n. (n * x) % m) (r.one_value f v of) ∙ is.one },
-      record { below = is.below; same = made.same ∙ ap (form m) (mod-eq_of_lt is.below) },
-    )
-
--- where the value has no inverse, the form's value has none
-pub not_inverted : {T : Type 0} (number : T → ℕ) {form value : ℕ → ℕ → ℕ} {w m : ℕ}
-    → IsCanonical form value w m → {f v : ℕ}
-    → Represents form m f v → ((x : ℕ) → IsInverse m v x → ⊥) → InverseAnswered number form value m (value m f) None
-not_inverted number {form} {value} {w} {m} r {f} {v} of none =
-    inverse_answered number (value m f) None r
-    (λ x is. none x (record { below = is.below; one = ap (λ n. (n * x) % m) (sym (r.one_value f v of)) ∙ is.one }))

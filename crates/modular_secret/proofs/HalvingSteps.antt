@@ -1,38 +1,19 @@
 -- What a step keeps of a pair, and what is read off the last one.
 use Rattle.std.proofs.Common.{◌≡◌, ◌≢◌, ℕ, Bool, true, false, not, zero, suc, ◌+◌, ◌*◌, ◌/◌, ◌%◌, ◌^◌, ◌==◌}
-use Rattle.std.proofs.Common.{◌<◌, ◌≤◌, sym, ap, ◌∙◌, refl, arith, subst, ⊎_elim}
-use Rattle.std.proofs.Math.Nat.{mul-le-mul_right, pow-suc, pow-zero, mod_self, mod-lt, mod-eq_of_lt}
+use Rattle.std.proofs.Common.{◌<◌, ◌≤◌, sym, ap, ◌∙◌, refl, arith, subst}
+use Rattle.std.proofs.Math.Nat.{mul-le-mul_right, pow-suc, pow-zero, mod_self, mod-eq_of_lt}
 use Rattle.std.proofs.Math.Nat.{add-mul-mod_self_left}
 use Rattle.std.proofs.lemmas.Bool.Decides.{nat_tests}
-use Rattle.std.proofs.lemmas.Bool.{cases_lt}
 use Rattle.modular_word.specs.Congruence.{Congruent}
 use Rattle.modular_word.specs.Inverses.{IsInverse}
 use Rattle.modular_word.proofs.Congruence.{mod_of_eq, mod_refl, mod_sym, mod_trans, mod_add, mod_mul, residue_of}
 use Rattle.modular_word.proofs.Divisors.{divides_sum, divides_product, divides}
 use Rattle.modular_word.proofs.Divisors.{Coprime-from_IsInverse}
 use Rattle.modular_prim.specs.Differences.{CongruentBySign, IsDifferencePair}
+use Rattle.modular_prim.proofs.DifferenceSteps.{scaled_by_sign, difference_by_sign}
 use Rattle.modular_secret.specs.Halvings.{HaveDigits, IsHalvedPair}
 
 -- ---- signs
-scaled : (m : ℕ) (s : Bool) (p q c : ℕ) → CongruentBySign m s p q → CongruentBySign m s (p * c) (q * c)
-scaled m true p q c h =
-    let e : p * c + q * c ≡ (p + q) * c = omega arith in
-    let z : 0 * c ≡ 0 = omega arith in
-    mod_trans (mod_of_eq e) (mod_trans (mod_mul h (mod_refl c)) (mod_of_eq z))
-scaled m false p q c h = mod_mul h (mod_refl c)
-
-difference : (m : ℕ) (s : Bool) (d b a p q : ℕ) → d + b ≡ a → CongruentBySign m s a p → CongruentBySign m (not s) b q
-    → CongruentBySign m s d (p + q)
-difference m true d b a p q e h l =
-    let f : d + (p + q) ≡ d + p + q = omega arith in
-    let g : d + p + b ≡ a + p = omega arith in
-    mod_trans (mod_of_eq f) (mod_trans (mod_add (mod_refl (d + p)) (mod_sym l)) (mod_trans (mod_of_eq g) h))
-difference m false d b a p q e h l =
-    let f : d ≡ d + 0 = omega arith in
-    let g : d + (b + q) ≡ a + q = omega arith in
-    mod_trans (mod_of_eq f) (mod_trans (mod_add (mod_refl d) (mod_sym l))
-    (mod_trans (mod_of_eq g) (mod_add h (mod_refl q))))
-
 -- a congruent number in the place of the second
 congruent_second : (m : ℕ) (s : Bool) (p q q' : ℕ) → Congruent m q' q → CongruentBySign m s p q → CongruentBySign m s p q'
 congruent_second m true p q q' e h = mod_trans (mod_add (mod_refl p) e) h
@@ -56,17 +37,7 @@ pub record Ready (m x k digits d y f g : ℕ) (s : Bool) : Type 0 where
 
 pub ready_even : (base m x k n a b u v o t : ℕ) → IsHalvedPair base m x k n a b u v o t → a % 2 ≡ 0
     → Ready m x k n a b u v (t % 2 == 1)
-ready_even base m x k n a b u v o t p e = record {
-  even = e;
-  odd = p.below_odd;
-  whole = p.whole;
-  above_factor = p.above_factor;
-  below_factor = p.below_factor;
-  above = p.above;
-  below = p.below;
-  common = p.common;
-  few = p.few;
-}
+ready_even base m x k n a b u v o t p e = grind arith
 
 -- the difference of two odd numbers, the first being the greater one
 differing : (m x k n a b u v d : ℕ) (s : Bool) → d + b ≡ a → a % 2 ≡ 1 → b % 2 ≡ 1 → a * v + b * u ≡ m → 0 < u + v → v < m
@@ -81,21 +52,14 @@ differing m x k n a b u v d s e ea eb w us vm above below common few =
     record {
       even = omega arith;
       odd = eb;
-      whole = λ some. (let r : d * v + b * (u + v) ≡ a * v + b * u = omega arith in r) ∙ w;
+      whole = omega arith;
       above_factor = us;
       below_factor = vm;
       above =
-          subst (λ q. CongruentBySign m s (d * 2 ^ k) q) (sym factors)
-          (difference m s (d * 2 ^ k) (b * 2 ^ k) (a * 2 ^ k) (u * x) (v * x) scaled_difference above below);
+          grind (arith, difference_by_sign);
       below = below;
       common = λ c i j. common c (ap (λ n. n % c) (sym e) ∙ divides_sum c d b i j) j;
-      few = λ some. record {
-        first = few.first;
-        second = few.second;
-        first_fits = omega (arith, few.first_fits);
-        second_fits = few.second_fits;
-        total = few.total;
-      };
+      few = grind arith;
     }
 
 pub ready_above : (base m x k n a b u v o t d : ℕ) → IsHalvedPair base m x k n a b u v o t → a % 2 ≡ 1 → d + b ≡ a
@@ -107,9 +71,7 @@ ready_above base m x k n a b u v o t d p ea e =
 
 -- the factor of the smaller number is below the modulus
 pub factor_below : (m a b u v : ℕ) → a * v + b * u ≡ m → a % 2 ≡ 1 → a < b → v < m → u < m
-factor_below m a b u v w ea l vm =
-    let two : 2 * u ≤ b * u = mul-le-mul_right u (let r : 2 ≤ b = omega arith in r) in
-    omega (arith, two)
+factor_below m a b u v w ea l vm = grind (arith, mul-le-mul_right)
 
 pub ready_below : (base m x k n a b u v o t d : ℕ) → IsHalvedPair base m x k n a b u v o t → a % 2 ≡ 1 → a < b → d + a ≡ b
     → Ready m x k n d a (u + v) u (not (t % 2 == 1))
@@ -135,23 +97,12 @@ ready_below base m x k n a b u v o t d p ea l e =
 
 -- a sum of the factors of two positive numbers fits
 pub sum_fits : (base m a b u v : ℕ) → a * v + b * u ≡ m → a % 2 ≡ 1 → b % 2 ≡ 1 → m < base → u + v < base
-sum_fits base m a b u v w ea eb fits =
-    let one : 1 * v ≤ a * v = mul-le-mul_right v (let r : 1 ≤ a = omega arith in r) in
-    let other : 1 * u ≤ b * u = mul-le-mul_right u (let r : 1 ≤ b = omega arith in r) in
-    omega (arith, w, one, other)
+sum_fits base m a b u v w ea eb fits = grind (arith, mul-le-mul_right)
 
 -- ---- the halving
 half_digits : (d y i j n h : ℕ) → 0 < h → h * 2 ≡ d → d < 2 ^ i → y < 2 ^ j → i + j ≡ n + 1 → HaveDigits h y n
 half_digits d y zero j n h some e first second total = let z : 2 ^ 0 ≡ 1 = pow-zero 2 in absurd (omega arith)
-half_digits d y (suc i) j n h some e first second total =
-    let power : 2 ^ suc i ≡ 2 ^ i * 2 = pow-suc 2 i in
-    record {
-      first = i;
-      second = j;
-      first_fits = omega arith;
-      second_fits = second;
-      total = omega arith;
-    }
+half_digits d y (suc i) j n h some e first second total = grind (arith, pow-suc)
 
 pub ready_halved : (base m x k n d y f g h v o t : ℕ) (s : Bool) → Ready m x k (n + 1) d y f g s → h ≡ d / 2
     → v ≡ (2 * g) % m → (h % 2 ≡ 1 → o + 1 ≡ base) → (h % 2 ≡ 0 → o ≡ 0) → (t % 2 == 1) ≡ s
@@ -165,8 +116,7 @@ ready_halved base m x k n d y f g h v o t s p eh ev all none sign =
     let twice : Congruent m v (2 * g) = mod_trans (mod_of_eq ev) (residue_of (2 * g)) in
     let same : 2 * g * x ≡ g * x * 2 = omega arith in
     let factors : Congruent m (v * x) (g * x * 2) = mod_trans (mod_mul twice (mod_refl x)) (mod_of_eq same) in
-    let kept = congruent_second m (not s) (y * 2 ^ k * 2) (g * x * 2) (v * x) factors
-    (scaled m (not s) (y * 2 ^ k) (g * x) 2 p.below) in
+    let kept = congruent_second _ _ _ _ _ factors (scaled_by_sign m (not s) (y * 2 ^ k) (g * x) 2 p.below) in
     record {
       below_odd = p.odd;
       mask_all = all;
@@ -180,13 +130,11 @@ ready_halved base m x k n d y f g h v o t s p eh ev all none sign =
           ap (λ c. h * c) exact ∙ (let r : h * (2 * g) ≡ h * 2 * g = omega arith in r) ∙ ap (λ c. c * g) double in
           omega (arith, product, w);
       above_factor = p.above_factor;
-      below_factor = rw ev (mod-lt (2 * g) (let r : 0 < m = omega (arith, p.below_factor) in r));
+      below_factor = omega arith;
       above = rw (sign, numbers) p.above;
       below = rw (sign, smaller) kept;
-      common = λ c i j. p.common c (ap (λ q. q % c) (sym double) ∙ divides_product c h 2 i) j;
-      few = λ some.
-          let few = p.few (let r : 0 < d = omega arith in r) in
-          half_digits d y few.first few.second n h some double few.first_fits few.second_fits few.total;
+      common = grind (arith, divides_product);
+      few = grind (arith, half_digits);
     }
 
 -- a turn changes the sign
@@ -196,38 +144,15 @@ turned t t' e = grind (arith, nat_tests)
 -- ---- the first and the last pair
 pub first_pair : (base m x w a b u v o t : ℕ) → m % 2 ≡ 1 → x < 2 ^ w → m < 2 ^ w → a ≡ x → b ≡ m → u ≡ 1 → v ≡ 0
     → (x % 2 ≡ 1 → o + 1 ≡ base) → (x % 2 ≡ 0 → o ≡ 0) → t ≡ 0 → IsHalvedPair base m x 0 (2 * w) a b u v o t
-first_pair base m x w a b u v o t odd xf mf ea eb eu ev all none et = rw (ea, eb, eu, ev, et) (record {
-  below_odd = odd;
-  mask_all = all;
-  mask_none = none;
-  whole = λ some. omega arith;
-  above_factor = omega arith;
-  below_factor = omega arith;
-  above = mod_of_eq (let r : x * 2 ^ 0 ≡ 1 * x = ap (λ c. x * c) (pow-zero 2) ∙ omega arith in r);
-  below = record {
-    same =
-        ap (λ c. c % m)
-        (let r : m * 2 ^ 0 + 0 * x ≡ 0 + m * 1 = ap (λ c. m * c + 0 * x) (pow-zero 2) ∙ omega arith in r)
-        ∙ add-mul-mod_self_left 0 m 1;
-  };
-  common = λ d i j. (j, i);
-  few = λ some. record { first = w; second = w; first_fits = xf; second_fits = mf; total = omega arith };
-})
+first_pair base m x w a b u v o t odd xf mf ea eb eu ev all none et = grind (arith, mod_of_eq, pow-zero, add-mul-mod_self_left)
 
 -- with one digit left, the first number is 0
 ended_at : (a b i j : ℕ) → b % 2 ≡ 1 → a < 2 ^ i → b < 2 ^ j → i + j ≡ 1 → a ≡ 0
 ended_at a b zero j odd first second total = let z : 2 ^ 0 ≡ 1 = pow-zero 2 in omega arith
-ended_at a b (suc i) j odd first second total =
-    let none : j ≡ 0 = omega arith in
-    let one : 2 ^ j ≡ 1 = ap (λ c. 2 ^ c) none ∙ pow-zero 2 in
-    absurd (omega arith)
+ended_at a b (suc i) j odd first second total = grind (arith, pow-zero)
 
 pub ended : (base m x k a b u v o t : ℕ) → IsHalvedPair base m x k 1 a b u v o t → a ≡ 0
-ended base m x k a b u v o t p =
-    ⊎_elim (λ (l : 0 < a). let few = p.few l in
-    ended_at a b few.first few.second p.below_odd few.first_fits few.second_fits few.total)
-    (λ (l : a ≤ 0). omega arith)
-    (cases_lt 0 a)
+ended base m x k a b u v o t p = grind (arith, ended_at)
 
 -- where the other number isn't 1, there is no inverse
 pub last_none : (base m x k a b u v o t y : ℕ) → IsHalvedPair base m x k 1 a b u v o t → b ≢ 1 → IsInverse m x y → ⊥
@@ -237,8 +162,7 @@ last_none base m x k a b u v o t y p h i =
     h ((Coprime-from_IsInverse x m y i).only_one b c.1 c.0)
 
 multiple_of_modulus : (m : ℕ) (s : Bool) (p x : ℕ) → p ≡ 0 → CongruentBySign m s p (m * x)
-multiple_of_modulus m true p x e =
-    record { same = ap (λ c. (c + m * x) % m) e ∙ add-mul-mod_self_left 0 m x }
+multiple_of_modulus m true p x e = grind (arith, add-mul-mod_self_left)
 multiple_of_modulus m false p x e =
     let none : 0 + m * x ≡ m * x = omega arith in
     record { same = ap (λ c. c % m) e ∙ sym (add-mul-mod_self_left 0 m x) ∙ ap (λ c. c % m) none }
@@ -250,31 +174,12 @@ last_difference base m x k a b u v o t p e =
     let zero = ended base m x k a b u v o t p in
     let none : a * v ≡ 0 * v = ap (λ c. c * v) zero in
     let one : b * m ≡ 1 * m = ap (λ c. c * m) e in
-    record {
-      whole = omega arith;
-      above = p.below;
-      below = multiple_of_modulus m (not (not (t % 2 == 1))) (a * 2 ^ k) x
-          (ap (λ c. c * 2 ^ k) zero ∙ omega arith);
-      common = λ d i j. p.common d j i;
-    }
+    grind (arith, multiple_of_modulus)
 
 -- the factor with its sign
 pub last_sign : (m v w z t : ℕ) → (t % 2 ≡ 1 → w ≡ v) → (t % 2 ≡ 0 → w ≡ z) → Congruent m (z + v) 0
     → CongruentBySign m (not (t % 2 == 1)) w v
-last_sign m v w z t plus minus opposite =
-    ⊎_elim
-    (λ (l : t % 2 < 1).
-    let sign : not (t % 2 == 1) ≡ true = grind (arith, nat_tests) in
-    let same : w ≡ z = minus (omega arith) in
-    rw (sign, same) opposite)
-    (λ (l : 1 ≤ t % 2).
-    let sign : not (t % 2 == 1) ≡ false = grind (arith, nat_tests) in
-    rw sign (mod_of_eq (plus (omega arith))))
-    (cases_lt (t % 2) 1)
+last_sign m v w z t plus minus opposite = grind (arith, nat_tests, mod_of_eq)
 
 pub last_below : (m v w z t : ℕ) → (t % 2 ≡ 1 → w ≡ v) → (t % 2 ≡ 0 → w ≡ z) → v < m → z < m → w < m
-last_below m v w z t plus minus vm zm =
-    ⊎_elim
-    (λ (l : t % 2 < 1). let same : w ≡ z = minus (omega arith) in omega arith)
-    (λ (l : 1 ≤ t % 2). let same : w ≡ v = plus (omega arith) in omega arith)
-    (cases_lt (t % 2) 1)
+last_below m v w z t plus minus vm zm = grind arith

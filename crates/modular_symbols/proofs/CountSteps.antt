@@ -1,7 +1,7 @@
 -- The count of the half system, one number after the other.
 use Rattle.std.proofs.Common.{◌≡◌, ℕ, suc, ◌+◌, ◌-◌, ◌*◌, ◌/◌, ◌%◌, ◌<◌, ◌≤◌, ◌≢◌, Bool, true}
-use Rattle.std.proofs.Common.{false, not, cond, ltb, eqb, ℤ, pos, negsuc, ◌*ℤ◌, nat_abs}
-use Rattle.std.proofs.Common.{Option, Some, None, is_some, zero, IsTrue, ◌↔◌, inl, inr, sym, ◌∙◌, ap, refl, arith}
+use Rattle.std.proofs.Common.{false, not, cond, ltb, ℤ, pos, negsuc, ◌*ℤ◌, nat_abs}
+use Rattle.std.proofs.Common.{Option, Some, None, is_some, zero, IsTrue, ◌↔◌, sym, ◌∙◌, ap, refl, arith}
 use Rattle.std.proofs.Math.Bool.{beq}
 use Rattle.std.proofs.lemmas.Bool.{cases_lt, false≢true}
 use Rattle.std.proofs.lemmas.Bool.Decides.{nat_tests}
@@ -11,7 +11,7 @@ use Rattle.modular_word.specs.Residues.{residue}
 use Rattle.modular_word.specs.Sums.{sum_to}
 use Rattle.modular_word.proofs.Divisors.{HasInverse-gcd}
 use Rattle.modular_word.proofs.Sums.{sum_to-zero, sum_to-suc}
-use Rattle.modular_symbols.specs.Jacobi.{half_system_count, jacobi, sign}
+use Rattle.modular_symbols.specs.Jacobi.{half_system_count, jacobi}
 use Rattle.modular_symbols.specs.Kronecker.{signed}
 use Rattle.modular_symbols.proofs.JacobiLaws.{sign-parity}
 use Rattle.modular_symbols.proofs.ResidueProducts.{residue-multiple}
@@ -26,19 +26,11 @@ pub record CountedTo (z : ℤ) (n x : ℕ) (odd : Bool) : Type 0 where
   pub parity : sum_to (above z n) x % 2 ≡ cond odd 1 0
 
 pub counted_none : (z : ℤ) (n x : ℕ) → x ≡ 0 → CountedTo z n x false
-counted_none z n x e = record {
-  within = omega arith;
-  parity = ap (λ v. sum_to (above z n) v % 2) e ∙ ap (λ v. v % 2) (sum_to-zero (above z n));
-}
+counted_none z n x e = search (arith, sum_to-zero)
 
 above_is : (z : ℤ) (n x : ℕ) (b : Bool) → IsTrue b ↔ ((n - 1) / 2 < residue n (z *ℤ pos x)) → above z n x ≡ cond b 1 0
-above_is z n x true is = let h = is.0 refl in grind (arith, nat_tests)
-above_is z n x false is =
-    let h : residue n (z *ℤ pos x) ≤ (n - 1) / 2 = elim (cases_lt ((n - 1) / 2) (residue n (z *ℤ pos x))) [
-      | inl more ↦ absurd (false≢true (is.1 more))
-      | inr few ↦ few
-    ] in
-    grind (arith, nat_tests)
+above_is z n x true is = grind (arith, nat_tests)
+above_is z n x false is = search (arith, cases_lt, false≢true, nat_tests)
 
 next_parity : (s t : ℕ) (odd b : Bool) → s % 2 ≡ cond odd 1 0 → t ≡ cond b 1 0 → (s + t) % 2 ≡ cond (not (beq odd b)) 1 0
 next_parity s t true true e f = omega arith
@@ -63,38 +55,28 @@ next_within : {z : ℤ} {n x one y half s r : ℕ} → Next z n x one y half s r
 next_within t = let o = t.odd_modulus in let h = t.half_is in let b = t.before in let e = next_is t in omega arith
 
 next_residue : {z : ℤ} {n x one y half s r : ℕ} → Next z n x one y half s r → r ≡ residue n (z *ℤ pos y)
-next_residue {z = z} {n = n} {y = y} t =
-    let p : 0 < n = let o = t.odd_modulus in omega arith in
-    t.product ∙ ap (λ v. (v * y) % n) t.residue_is ∙ sym (residue-multiple n z y p)
+next_residue {z = z} {n = n} {y = y} t = search (arith, residue-multiple)
 
 sum_next : {z : ℤ} {n x one y half s r : ℕ} → Next z n x one y half s r
     → sum_to (above z n) y ≡ sum_to (above z n) x + above z n y
 sum_next {z = z} {n = n} {x = x} {y = y} t =
     let e = next_is t in
-    ap (λ v. sum_to (above z n) v) e ∙ sum_to-suc (above z n) x
-    ∙ sym (ap (λ v. sum_to (above z n) x + above z n v) e)
+    search (arith, sum_to-suc)
 
 pub counted_next : {z : ℤ} {n x one y half s r : ℕ} {odd b : Bool} → Next z n x one y half s r
     → CountedTo z n x odd → IsTrue b ↔ (half < r) → CountedTo z n y (not (beq odd b))
 counted_next {z = z} {n = n} {x = x} {y = y} {odd = odd} {b = b} t c is = record {
   within = next_within t;
   parity =
-      let o = t.odd_modulus in
-      let e = t.half_is in
       let f = next_residue t in
-      ap (λ v. v % 2) (sum_next t) ∙ next_parity (sum_to (above z n) x) (above z n y) odd b c.parity
-      (above_is z n y b ((λ h. let l = is.0 h in omega arith), λ h. is.1 (omega arith)));
+      search (arith, sum_next, next_parity, above_is);
 }
 
 -- the symbol at the end of the count
 pub counted_all : (z : ℤ) (n x half : ℕ) (odd : Bool) → CountedTo z n x odd → n % 2 ≡ 1 → half ≡ n / 2 → half ≤ x
     → gcd (nat_abs z) n ≡ 1 → jacobi z n ≡ cond odd (negsuc 0) (pos 1)
 unfolding jacobi half_system_count
-counted_all z n x half odd c o f h g =
-    let w = c.within in
-    let e : x ≡ (n - 1) / 2 = omega arith in
-    ap (λ v. cond (eqb v 1) (sign (half_system_count z n)) (pos 0)) g
-    ∙ sign-parity (sum_to (above z n) ((n - 1) / 2)) odd (sym (ap (λ v. sum_to (above z n) v % 2) e) ∙ c.parity)
+counted_all z n x half odd c o f h g = search (arith, sign-parity)
 
 pub shared_divisor : (z : ℤ) (n : ℕ) → gcd (nat_abs z) n ≢ 1 → jacobi z n ≡ pos 0
 unfolding jacobi

@@ -1,7 +1,7 @@
 -- Euler's criterion: over an odd prime n the power with exponent (n - 1) / 2 is congruent to the Jacobi symbol. The
 -- products a * x of the half system are its numbers in another order, up to as many signs as the count says.
 use Rattle.std.proofs.Common.{◌≡◌, ℕ, zero, suc, ◌+◌, ◌-◌, ◌*◌, ◌%◌, ◌/◌, ◌^◌, ◌<◌, ◌≤◌, cond, eqb, ℤ, pos}
-use Rattle.std.proofs.Common.{negsuc, Option, Some, None, sym, ◌∙◌, ap, arith, ⊎_elim, inl, inr, ◌⊎◌, subst}
+use Rattle.std.proofs.Common.{negsuc, Option, Some, None, sym, ◌∙◌, ap, arith, ⊎_elim, inl, ◌⊎◌, subst}
 use Rattle.std.proofs.lemmas.Bool.Decides.{nat_tests}
 use Rattle.std.proofs.lemmas.Bool.{cases_lt, cases_eq}
 use Rattle.std.proofs.lemmas.Nat.{mod_below, mul-mod_first, mul-mod_second, pow-add}
@@ -44,14 +44,7 @@ one_times_last n v l e =
 pub powers_of_last : (n k : ℕ) → 1 < n
     → ((k % 2 ≡ 0) × ((n - 1) ^ k % n ≡ 1)) ⊎ ((k % 2 ≡ 1) × ((n - 1) ^ k % n ≡ n - 1))
 powers_of_last n zero l = inl (omega arith, ap (λ v. v % n) (pow-zero (n - 1)) ∙ mod-eq_of_lt l)
-powers_of_last n (suc k) l =
-    let s = ap (λ v. v % n) (pow-suc (n - 1) k) in
-    ⊎_elim
-    (λ (e : (k % 2 ≡ 0) × ((n - 1) ^ k % n ≡ 1)).
-    let p = e.0 in inr (omega arith, s ∙ one_times_last n ((n - 1) ^ k) l e.1))
-    (λ (e : (k % 2 ≡ 1) × ((n - 1) ^ k % n ≡ n - 1)).
-    let p = e.0 in inl (omega arith, s ∙ last_times_last n ((n - 1) ^ k) l e.1))
-    (powers_of_last n k l)
+powers_of_last n (suc k) l = search (arith, pow-suc, one_times_last, last_times_last, powers_of_last n k l)
 
 -- ---- a number is its distance from the nearest multiple of n, times -1 where it lies above the half system
 last_times_rest : (n r k : ℕ) → n ≡ r + k + 1 → (n - 1) * (n - r) ≡ r + n * k
@@ -68,29 +61,16 @@ minus_rest n r h =
 
 signed_distance : (n v : ℕ) → 0 < n → v % n ≡ ((n - 1) ^ above n v * distance n v) % n
 signed_distance n v p =
-    let b = mod_below v n p in
     ⊎_elim
-    (λ (h : (n - 1) / 2 < v % n).
-    sym (ap (λ w. ((n - 1) ^ w * distance n v) % n) (above_high n v h)
-    ∙ ap (λ w. (w * distance n v) % n) (pow-one (n - 1))
-    ∙ ap (λ w. ((n - 1) * w) % n) (distance_high n v h) ∙ minus_rest n (v % n) b))
-    (λ (h : v % n ≤ (n - 1) / 2).
-    sym (ap (λ w. ((n - 1) ^ w * distance n v) % n) (above_low n v h)
-    ∙ ap (λ w. (w * distance n v) % n) (pow-zero (n - 1))
-    ∙ ap (λ w. w % n) (one-mul (distance n v)) ∙ ap (λ w. w % n) (distance_low n v h) ∙ mod-eq_of_lt b))
+    (λ (h : (n - 1) / 2 < v % n). search (arith, distance, above_high, pow-one, distance_high, minus_rest))
+    (λ (h : v % n ≤ (n - 1) / 2). search (arith, distance, above_low, pow-zero, one-mul, distance_low, mod-eq_of_lt))
     (cases_lt ((n - 1) / 2) (v % n))
 
 -- ---- the product over the half system
 signed_product : (n a k : ℕ) → 0 < n
     → product_to (λ x. a * x) k % n
     ≡ ((n - 1) ^ sum_to (λ x. above n (a * x)) k * product_to (λ x. distance n (a * x)) k) % n
-signed_product n a zero p =
-    rw (
-      product_to-zero (λ x. a * x),
-      sum_to-zero (λ x. above n (a * x)),
-      product_to-zero (λ x. distance n (a * x)),
-      pow-zero (n - 1),
-    )
+signed_product n a zero p = search (arith, product_to-zero, sum_to-zero, distance, pow-zero)
 signed_product n a (suc k) p =
     let v : ℕ = a * suc k in
     let s : ℕ = sum_to (λ x. above n (a * x)) k in
@@ -105,21 +85,11 @@ signed_product n a (suc k) p =
       pow-add (n - 1) s (above n v),
       ← t,
     )
-    (same_product n (product_to (λ x. a * x) k) (u * d) v (w * distance n v)
-    (signed_product n a k p) (signed_distance n v p))
+    (search (arith, same_product, product_to, distance, signed_distance, signed_product n a k p))
 
 -- ---- numbers below a prime are coprime to it
 pub below_coprime : (n x : ℕ) → IsPrime n → 0 < x → x < n → Coprime x n
-below_coprime n x u p l = record {
-  only_one = λ d g h.
-      let b = divisor_below d x p g in
-      let q = b.0 in
-      let r = b.1 in
-      ⊎_elim
-      (λ (s : 1 < d). absurd (u.undivided d s (omega arith) h))
-      (λ (s : d ≤ 1). omega arith)
-      (cases_lt 1 d);
-}
+below_coprime n x u p l = search (arith, divisor_below, cases_lt)
 
 factorial_coprime : (n k : ℕ) → IsPrime n → k < n → Coprime (product_to (λ x. x) k) n
 factorial_coprime n zero u l =
@@ -131,11 +101,7 @@ factorial_coprime n (suc k) u l =
 
 -- a coprime factor cancels
 pub cancel_below : (n c u v : ℕ) → Coprime c n → u < n → v < n → (c * u) % n ≡ (c * v) % n → u ≡ v
-cancel_below n c u v k h l e =
-    ⊎_elim
-    (λ (o : u < v). equal_remainders n c u v k (omega arith) l e)
-    (λ (o : v ≤ u). sym (equal_remainders n c v u k o h (sym e)))
-    (cases_lt u v)
+cancel_below n c u v k h l e = search (arith, equal_remainders, cases_lt)
 
 cancel_factor : (n c u v : ℕ) → 0 < n → Coprime c n → (u * c) % n ≡ (v * c) % n → u % n ≡ v % n
 cancel_factor n c u v p k e =
@@ -179,25 +145,12 @@ class_last n p h e = grind (arith, nat_tests)
 -- over an odd prime the class of the power is the symbol
 pub classed_power-jacobi : (a : ℤ) (n : ℕ) → n % 2 ≡ 1 → IsPrime n → classed_power a n ≡ Some (jacobi a n)
 classed_power-jacobi a n o u =
-    let w : 1 < n = u.above_one in
     let p : 0 < n = omega arith in
     let r : ℕ = residue n a in
     let j = jacobi-residue a n p in
     ⊎_elim
-    (λ (e : r ≡ 0).
-    class_zero n (r ^ ((n - 1) / 2) % n)
-    (ap (λ v. v ^ ((n - 1) / 2) % n) e ∙ ap (λ v. v % n) (zero_power ((n - 1) / 2) (omega arith)) ∙ zero-mod n)
-    ∙ sym (ap Some (j ∙ jacobi-shared (pos r) n p (λ c.
-    let i = c.only_one n (ap (λ v. v % n) e ∙ zero-mod n) (mod_self n) in omega arith))))
+    (λ (e : r ≡ 0). search (arith, class_zero, zero_power, zero-mod, jacobi-shared, mod_self))
     (λ (z : r ≡ 0 → ⊥).
     let c = below_coprime n r u (omega arith) (residue_below n a p) in
-    let k : ℕ = half_system_count (pos r) n in
-    let q = power_by_count n r o u c in
-    let t = j ∙ jacobi-coprime (pos r) n p c in
-    ⊎_elim
-    (λ (e : (k % 2 ≡ 0) × ((n - 1) ^ k % n ≡ 1)).
-    class_one n (r ^ ((n - 1) / 2) % n) (q ∙ e.1) ∙ sym (ap Some (t ∙ sign-even k e.0)))
-    (λ (e : (k % 2 ≡ 1) × ((n - 1) ^ k % n ≡ n - 1)).
-    class_last n (r ^ ((n - 1) / 2) % n) (omega arith) (q ∙ e.1) ∙ sym (ap Some (t ∙ sign-odd k e.0)))
-    (powers_of_last n k w))
+    search (arith, power_by_count, jacobi-coprime, class_one, sign-even, class_last, sign-odd, powers_of_last))
     (cases_eq r 0)

@@ -1,9 +1,9 @@
 -- The half system 1, 2, .., (n - 1) / 2 of an odd n, and what a factor coprime to n does to it.
-use Rattle.std.proofs.Common.{◌≡◌, ℕ, ◌+◌, ◌-◌, ◌*◌, ◌%◌, ◌/◌, ◌<◌, ◌≤◌, ℤ, pos, ◌*ℤ◌}
+use Rattle.std.proofs.Common.{◌≡◌, ℕ, ◌+◌, ◌-◌, ◌*◌, ◌%◌, ◌/◌, ◌<◌, ◌≤◌, ℤ, pos}
 use Rattle.std.proofs.Common.{cond, ltb, sym, ◌∙◌, ap, refl, arith, ⊎_elim, ◌≢◌, ◌⊎◌}
 use Rattle.std.proofs.lemmas.Bool.Decides.{nat_tests}
 use Rattle.std.proofs.lemmas.Bool.{cases_lt}
-use Rattle.std.proofs.lemmas.Nat.{mul-mod_second, mod_below}
+use Rattle.std.proofs.lemmas.Nat.{mul-mod_second}
 use Rattle.std.proofs.Math.Nat.{mul-mod_right, mod-eq_of_lt, mod-eq-sub-mod}
 use Rattle.modular_word.specs.Divisors.{Coprime}
 use Rattle.modular_word.specs.Residues.{residue}
@@ -55,28 +55,15 @@ half_system_count-sum a n = refl
 pub half_system_count-residue : (a : ℤ) (n : ℕ) → 0 < n
     → half_system_count a n ≡ half_system_count (pos (residue n a)) n
 unfolding half_system_count above
-half_system_count-residue a n p =
-    let h : ℕ = (n - 1) / 2 in
-    sum_to-same (λ x. cond (ltb h (residue n (a *ℤ pos x))) 1 0) (λ x. cond (ltb h ((residue n a * x) % n)) 1 0) h
-    (λ x u v. ap (λ r. cond (ltb h r) 1 0) (residue-multiple n a x p))
+half_system_count-residue a n p = search (arith, sum_to-same, residue-multiple)
 
 -- ---- opposite remainders
 only_multiple : (n u : ℕ) → u % n ≡ 0 → 0 < u → u < 2 * n → u ≡ n
-only_multiple n u e p l =
-    ⊎_elim
-    (λ (b : u < n). let m = mod-eq_of_lt b in absurd (omega arith))
-    (λ (b : n ≤ u).
-    let s = mod-eq-sub-mod b in
-    let t : u - n < n = omega arith in
-    let m = mod-eq_of_lt t in
-    omega arith)
-    (cases_lt u n)
+only_multiple n u e p l = search (arith, mod-eq_of_lt, mod-eq-sub-mod, cases_lt)
 
 -- the remainders of two numbers whose sum n divides add up to n
 opposite_remainders : (n v w : ℕ) → 0 < n → (v + w) % n ≡ 0 → w % n ≢ 0 → v % n + w % n ≡ n
 opposite_remainders n v w p e z =
-    let i = mod_below v n p in
-    let j = mod_below w n p in
     let k : ℕ = n * (v / n + w / n) in
     let t : k + (v % n + w % n) ≡ v + w = omega arith in
     let d = divides_rest n k (v % n + w % n) (mul-mod_right n (v / n + w / n)) (ap (λ u. u % n) t ∙ e) in
@@ -89,7 +76,6 @@ one_above n v w o e = grind (arith, nat_tests)
 
 opposite_product : (n a v : ℕ) → 0 < n → (a * v) % n ≢ 0 → (a * (n - v % n)) % n + (a * v) % n ≡ n
 opposite_product n a v p z =
-    let b = mod_below v n p in
     let r : (a * (v % n)) % n ≡ (a * v) % n = mul-mod_second a v n in
     let u : (n - v % n) + v % n ≡ n = omega arith in
     let k = ap (λ x. a * x) u in
@@ -103,26 +89,14 @@ above-product : (n a v : ℕ) → n % 2 ≡ 1 → (a * v) % n ≢ 0
     → above n (a * v) % 2 ≡ (above n (a * distance n v) + above n v) % 2
 above-product n a v o z =
     ⊎_elim
-    (λ (l : (n - 1) / 2 < v % n).
-    let p : 0 < n = omega arith in
-    let e = ap (λ x. above n (a * x)) (distance_high n v l) in
-    let f = above_high n v l in
-    let g = one_above n (a * (n - v % n)) (a * v) o (opposite_product n a v p z) in
-    omega arith)
-    (λ (l : v % n ≤ (n - 1) / 2).
-    let e = ap (λ x. above n (a * x)) (distance_low n v l) in
-    let f = above_low n v l in
-    let g = above-same n (a * (v % n)) (a * v) (mul-mod_second a v n) in
-    omega arith)
+    (λ (l : (n - 1) / 2 < v % n). search (arith, distance_high, above_high, one_above, opposite_product))
+    (λ (l : v % n ≤ (n - 1) / 2). search (arith, distance_low, above_low, above-same, mul-mod_second))
     (cases_lt ((n - 1) / 2) (v % n))
 
 -- ---- a factor coprime to n permutes the half system, up to signs
 -- n divides no product of such a factor and a number below n
 pub not_divided : (n b x : ℕ) → Coprime b n → 0 < x → x < n → (b * x) % n ≢ 0
-not_divided n b x c p l e =
-    let r = coprime_cancel b n x (omega arith) c e in
-    let s = mod-eq_of_lt l in
-    omega arith
+not_divided n b x c p l e = search (arith, coprime_cancel, mod-eq_of_lt)
 
 -- such a factor cancels
 pub equal_remainders : (n b x z : ℕ) → Coprime b n → x ≤ z → z < n → (b * x) % n ≡ (b * z) % n → x ≡ z
@@ -133,10 +107,7 @@ equal_remainders n b x z c l h e =
     let d : (b * (z - x)) % n ≡ 0 =
     divides_rest n (n * (b * x / n)) (b * (z - x)) (mul-mod_right n (b * x / n))
     (ap (λ v. v % n) s ∙ mul-mod_right n (b * z / n)) in
-    let r = coprime_cancel b n (z - x) (omega arith) c d in
-    let m : z - x < n = omega arith in
-    let q = mod-eq_of_lt m in
-    omega arith
+    search (arith, coprime_cancel, mod-eq_of_lt)
 
 opposite_never : (n b x z : ℕ) → Coprime b n → 0 < x → x + z < n → (b * x) % n + (b * z) % n ≡ n → ⊥
 opposite_never n b x z c p l e =
@@ -146,7 +117,7 @@ opposite_never n b x z c p l e =
 
 distance_positive : (n v : ℕ) → 0 < n → v % n ≢ 0 → 0 < distance n v
 unfolding distance
-distance_positive n v p z = let b = mod_below v n p in grind (arith, nat_tests)
+distance_positive n v p z = grind (arith, nat_tests)
 
 distance_within : (n v : ℕ) → n % 2 ≡ 1 → distance n v ≤ (n - 1) / 2
 unfolding distance
@@ -154,26 +125,18 @@ distance_within n v o = grind (arith, nat_tests)
 
 equal_distances : (n v w : ℕ) → 0 < n → distance n v ≡ distance n w → (v % n ≡ w % n) ⊎ (v % n + w % n ≡ n)
 unfolding distance
-equal_distances n v w p e = let i = mod_below v n p in let j = mod_below w n p in grind (arith, nat_tests)
+equal_distances n v w p e = grind (arith, nat_tests)
 
 distances_apart : (n b x z : ℕ) → n % 2 ≡ 1 → Coprime b n → 0 < x → x ≤ (n - 1) / 2 → 0 < z → z ≤ (n - 1) / 2
     → distance n (b * x) ≡ distance n (b * z) → x ≡ z
 distances_apart n b x z o c p q u v e =
     ⊎_elim
-    (λ (s : (b * x) % n ≡ (b * z) % n).
-    ⊎_elim
-    (λ (l : x < z). equal_remainders n b x z c (omega arith) (omega arith) s)
-    (λ (l : z ≤ x). sym (equal_remainders n b z x c l (omega arith) (sym s)))
-    (cases_lt x z))
+    (λ (s : (b * x) % n ≡ (b * z) % n). search (arith, equal_remainders, cases_lt))
     (λ (s : (b * x) % n + (b * z) % n ≡ n). absurd (opposite_never n b x z c p (omega arith) s))
     (equal_distances n (b * x) (b * z) (omega arith) e)
 
 pub half_system_permuted : (n b : ℕ) → n % 2 ≡ 1 → Coprime b n → Permutes (λ x. distance n (b * x)) ((n - 1) / 2)
-half_system_permuted n b o c = record {
-  positive = λ x p l. distance_positive n (b * x) (omega arith) (not_divided n b x c p (omega arith));
-  within = λ x p l. distance_within n (b * x) o;
-  apart = λ x z p l q k e. distances_apart n b x z o c p l q k e;
-}
+half_system_permuted n b o c = search (arith, distance_positive, not_divided, distance_within, distances_apart)
 
 -- ---- the count of a product
 -- has the parity of the sum of the counts
@@ -188,7 +151,4 @@ half_system_count-product a b n o c k =
     ap (λ v. above n v % 2) e ∙ above-product n a (b * x) o (λ w. z (ap (λ v. v % n) e ∙ w))) in
     let j = sum_to-add (λ x. above n (a * distance n (b * x))) (λ x. above n (b * x)) h in
     let m = sum_to-permuted (λ x. distance n (b * x)) (λ y. above n (a * y)) h (half_system_permuted n b o k) in
-    let s = half_system_count-sum (a * b) n in
-    let t = half_system_count-sum a n in
-    let u = half_system_count-sum b n in
-    omega arith
+    search (arith, half_system_count-sum)

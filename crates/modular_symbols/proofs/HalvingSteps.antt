@@ -1,5 +1,5 @@
 -- What the loop that halves and swaps keeps.
-use Rattle.std.proofs.Common.{◌≡◌, ℕ, ◌*◌, ◌%◌, ◌^◌, ◌<◌, Bool, ℤ, pos, sym, ◌∙◌, ap, arith}
+use Rattle.std.proofs.Common.{◌≡◌, ℕ, ◌*◌, ◌%◌, ◌^◌, ◌<◌, Bool, ℤ, pos, arith}
 use Rattle.std.proofs.Math.Bool.{beq, not}
 use Rattle.std.proofs.lemmas.Nat.{mod_below}
 use Rattle.modular_symbols.specs.Jacobi.{jacobi}
@@ -9,16 +9,8 @@ use Rattle.modular_symbols.proofs.TurnedSymbols.{Keeps, kept_turned}
 use Rattle.modular_symbols.proofs.TwoPart.{Halved}
 
 pub smaller : (x s a y : ℕ) → Halved x s a → y % a < x
-smaller x s a y h =
-    let o = h.odd in
-    let b = mod_below y a (omega arith) in
-    let l = h.within in
-    omega arith
+smaller x s a y h = search (arith, mod_below)
 
 pub kept_swapped : (w : ℤ) (x y s a r : ℕ) (t u : Bool) → Keeps w x y t → Halved x s a
     → jacobi (pos (a * 2 ^ s)) y ≡ signed u (jacobi (pos y) a) → r ≡ y % a → Keeps w r a (not (beq t u))
-kept_swapped w x y s a r t u k h e f =
-    let o = h.odd in
-    kept_turned w x y r a t u k o
-    (sym (ap (λ v. jacobi (pos v) y) h.whole) ∙ e
-    ∙ ap (λ z. signed u z) (jacobi-residue (pos y) a (omega arith) ∙ sym (ap (λ v. jacobi (pos v) a) f)))
+kept_swapped w x y s a r t u k h e f = search (arith, kept_turned, jacobi-residue)

@@ -11,7 +11,7 @@ use Rattle.modular_word.specs.Divisors.{Coprime, gcd}
 use Rattle.modular_word.specs.Residues.{residue}
 use Rattle.modular_word.specs.Sums.{sum_to}
 use Rattle.modular_word.proofs.Divisors.{gcd_is_positive, divides_rest, divides_through, divisor_below}
-use Rattle.modular_word.proofs.Divisors.{Coprime-swap, Coprime-left, Coprime-right, Coprime-product}
+use Rattle.modular_word.proofs.Divisors.{Coprime-left, Coprime-right, Coprime-product}
 use Rattle.modular_word.proofs.Divisors.{Coprime-mod, Coprime-from_mod, gcd-from_Coprime, Coprime-from_gcd}
 use Rattle.modular_word.proofs.Sums.{sum_to-same, sum_to-zero}
 use Rattle.modular_symbols.specs.Jacobi.{half_system_count, sign, jacobi}
@@ -53,19 +53,7 @@ sign-parity i true e = sign-odd i e
 sign-parity i false e = sign-even i e
 
 pub sign-sum : (i j k : ℕ) → k % 2 ≡ (i + j) % 2 → sign k ≡ sign i *ℤ sign j
-sign-sum i j k e =
-    ⊎_elim
-    (λ (p : i % 2 ≡ 0).
-    ⊎_elim
-    (λ (q : j % 2 ≡ 0). rw (sign-even i p, sign-even j q, sign-even k (omega arith)))
-    (λ (q : j % 2 ≡ 1). rw (sign-even i p, sign-odd j q, sign-odd k (omega arith)))
-    (parities j))
-    (λ (p : i % 2 ≡ 1).
-    ⊎_elim
-    (λ (q : j % 2 ≡ 0). rw (sign-odd i p, sign-even j q, sign-odd k (omega arith)))
-    (λ (q : j % 2 ≡ 1). rw (sign-odd i p, sign-odd j q, sign-even k (omega arith)))
-    (parities j))
-    (parities i)
+sign-sum i j k e = search (arith, sign-even, sign-odd, parities)
 
 pub one_times : (z : ℤ) → pos 1 *ℤ z ≡ z
 one_times z = omega (arith, ints)
@@ -102,11 +90,8 @@ Coprime-from_residue (negsuc a) n p c = record {
 pub jacobi-residue : (a : ℤ) (n : ℕ) → 0 < n → jacobi a n ≡ jacobi (pos (residue n a)) n
 jacobi-residue a n p =
     ⊎_elim
-    (λ (c : Coprime (nat_abs a) n).
-    jacobi-coprime a n p c ∙ ap sign (half_system_count-residue a n p)
-    ∙ sym (jacobi-coprime (pos (residue n a)) n p (Coprime-residue a n p c)))
-    (λ (z : Coprime (nat_abs a) n → ⊥).
-    jacobi-shared a n p z ∙ sym (jacobi-shared (pos (residue n a)) n p (λ c. z (Coprime-from_residue a n p c))))
+    (λ (c : Coprime (nat_abs a) n). search (arith, jacobi-coprime, half_system_count-residue, Coprime-residue))
+    (search (arith, jacobi-shared, Coprime-from_residue))
     (coprime_or_not (nat_abs a) n p)
 
 -- ---- products
@@ -118,9 +103,7 @@ jacobi-natural_product a b n o =
     ⊎_elim
     (λ (k : Coprime b n).
     let w = Coprime-product a b n p c k in
-    rw (jacobi-coprime (pos (a * b)) n p w, jacobi-coprime (pos a) n p c, jacobi-coprime (pos b) n p k)
-    (sign-sum (half_system_count (pos a) n) (half_system_count (pos b) n) (half_system_count (pos (a * b)) n)
-    (half_system_count-product a b n o w k)))
+    search (arith, jacobi-coprime, sign-sum, half_system_count-product))
     (λ (z : Coprime b n → ⊥).
     jacobi-shared (pos (a * b)) n p (λ w. z (Coprime-right a b n w))
     ∙ sym (ap (λ v. jacobi (pos a) n *ℤ v) (jacobi-shared (pos b) n p z) ∙ times_zero (jacobi (pos a) n)))
@@ -159,17 +142,7 @@ half_system_count-two n o =
     ∙ doubles_above h h
 
 Coprime-two : (n : ℕ) → n % 2 ≡ 1 → Coprime 2 n
-Coprime-two n o = record {
-  only_one = λ d g h.
-      let two : 0 < 2 = omega arith in
-      let b = divisor_below d 2 two g in
-      let p = b.0 in
-      let q = b.1 in
-      ⊎_elim
-      (λ (e : d ≡ 2). let k = ap (λ v. n % v) e in absurd (omega arith))
-      (λ (z : d ≡ 2 → ⊥). omega arith)
-      (cases_eq d 2);
-}
+Coprime-two n o = search (arith, divisor_below, cases_eq)
 
 even_doubles : (n : ℕ) → (n % 8 ≡ 1) ⊎ (n % 8 ≡ 7) → ((n - 1) / 2 - (n - 1) / 2 / 2) % 2 ≡ 0
 even_doubles n h = grind arith
@@ -178,66 +151,32 @@ odd_doubles : (n : ℕ) → n % 2 ≡ 1 → n % 8 ≢ 1 → n % 8 ≢ 7 → ((n 
 odd_doubles n o h k = omega arith
 
 pub jacobi-two_kept : (n : ℕ) → n % 2 ≡ 1 → (n % 8 ≡ 1) ⊎ (n % 8 ≡ 7) → jacobi (pos 2) n ≡ pos 1
-jacobi-two_kept n o h =
-    jacobi-coprime (pos 2) n (omega arith) (Coprime-two n o)
-    ∙ sign-even (half_system_count (pos 2) n) (ap (λ v. v % 2) (half_system_count-two n o) ∙ even_doubles n h)
+jacobi-two_kept n o h = search (arith, jacobi-coprime, Coprime-two, sign-even, half_system_count-two, even_doubles)
 
 pub jacobi-two_turned : (n : ℕ) → n % 2 ≡ 1 → n % 8 ≢ 1 → n % 8 ≢ 7 → jacobi (pos 2) n ≡ negsuc 0
-jacobi-two_turned n o h k =
-    jacobi-coprime (pos 2) n (omega arith) (Coprime-two n o)
-    ∙ sign-odd (half_system_count (pos 2) n) (ap (λ v. v % 2) (half_system_count-two n o) ∙ odd_doubles n o h k)
+jacobi-two_turned n o h k = search (arith, jacobi-coprime, Coprime-two, sign-odd, half_system_count-two, odd_doubles)
 
 pub jacobi-two : (n : ℕ) → n % 2 ≡ 1 → jacobi (pos 2) n ≡ cond (eqb (n % 8) 1 || eqb (n % 8) 7) (pos 1) (negsuc 0)
 jacobi-two n o = let k = jacobi-two_kept n o in let t = jacobi-two_turned n o in grind (arith, nat_tests, k, t)
 
 -- ---- reciprocity
 pub product_parity : (i j : ℕ) → (i * j) % 2 ≡ (i % 2) * (j % 2)
-product_parity i j =
-    ⊎_elim
-    (λ (p : i % 2 ≡ 0).
-    let q = ap (λ v. v * (j % 2)) p in
-    let z = zero-mod 2 in
-    mul-mod i j 2 ∙ ap (λ v. (v * (j % 2)) % 2) p ∙ omega arith)
-    (λ (p : i % 2 ≡ 1).
-    let q = ap (λ v. v * (j % 2)) p in
-    mul-mod i j 2 ∙ ap (λ v. (v * (j % 2)) % 2) p ∙ omega arith)
-    (parities i)
+product_parity i j = search (arith, zero-mod, mul-mod, parities)
 
 -- the number of pairs is odd exactly where both numbers are 3 modulo 4
 odd_pairs : (m n : ℕ) → m % 4 ≡ 3 → n % 4 ≡ 3 → ((n - 1) / 2 * ((m - 1) / 2)) % 2 ≡ 1
-odd_pairs m n p q =
-    let i : (n - 1) / 2 % 2 ≡ 1 = omega arith in
-    product_parity ((n - 1) / 2) ((m - 1) / 2) ∙ ap (λ v. v * ((m - 1) / 2 % 2)) i ∙ omega arith
+odd_pairs m n p q = search (arith, product_parity)
 
 even_pairs : (m n : ℕ) → (m % 4 ≡ 1) ⊎ (n % 4 ≡ 1) → ((n - 1) / 2 * ((m - 1) / 2)) % 2 ≡ 0
-even_pairs m n h =
-    ⊎_elim
-    (λ (p : m % 4 ≡ 1).
-    let i : (m - 1) / 2 % 2 ≡ 0 = omega arith in
-    product_parity ((n - 1) / 2) ((m - 1) / 2) ∙ ap (λ v. (n - 1) / 2 % 2 * v) i ∙ omega arith)
-    (λ (p : n % 4 ≡ 1).
-    let i : (n - 1) / 2 % 2 ≡ 0 = omega arith in
-    product_parity ((n - 1) / 2) ((m - 1) / 2) ∙ ap (λ v. v * ((m - 1) / 2 % 2)) i ∙ omega arith)
-    h
+even_pairs m n h = search (arith, product_parity)
 
 pub pairs-parity : (m n : ℕ) → m % 2 ≡ 1 → n % 2 ≡ 1
     → ((n - 1) / 2 * ((m - 1) / 2)) % 2 ≡ cond (eqb (m % 4) 3 && eqb (n % 4) 3) 1 0
-pairs-parity m n k o =
-    ⊎_elim
-    (λ (p : m % 4 ≡ 3).
-    ⊎_elim
-    (λ (q : n % 4 ≡ 3). odd_pairs m n p q ∙ grind (arith, nat_tests))
-    (λ (z : n % 4 ≡ 3 → ⊥). even_pairs m n (inr (omega arith)) ∙ grind (arith, nat_tests))
-    (cases_eq (n % 4) 3))
-    (λ (z : m % 4 ≡ 3 → ⊥). even_pairs m n (inl (omega arith)) ∙ grind (arith, nat_tests))
-    (cases_eq (m % 4) 3)
+pairs-parity m n k o = search (arith, odd_pairs, nat_tests, even_pairs, cases_eq)
 
 jacobi-both : (m n : ℕ) → m % 2 ≡ 1 → n % 2 ≡ 1 → Coprime m n
     → sign ((n - 1) / 2 * ((m - 1) / 2)) ≡ jacobi (pos m) n *ℤ jacobi (pos n) m
-jacobi-both m n k o c =
-    rw (jacobi-coprime (pos m) n (omega arith) c, jacobi-coprime (pos n) m (omega arith) (Coprime-swap m n c))
-    (sign-sum (half_system_count (pos m) n) (half_system_count (pos n) m) ((n - 1) / 2 * ((m - 1) / 2))
-    (sym (counts_reciprocal m n o k c)))
+jacobi-both m n k o c = search (arith, jacobi-coprime, sign-sum, counts_reciprocal)
 
 -- the product of the two symbols is -1 exactly where both numbers are 3 modulo 4
 pub jacobi-reciprocal : (m n : ℕ) → m % 2 ≡ 1 → n % 2 ≡ 1 → Coprime m n
@@ -248,11 +187,7 @@ jacobi-reciprocal m n k o c =
 
 -- ---- the symbol of 0
 pub jacobi-zero_one : jacobi (pos 0) 1 ≡ pos 1
-jacobi-zero_one =
-    let one : 0 < 1 = omega arith in
-    jacobi-coprime (pos 0) 1 one
-    (record { only_one = λ d g h. let b = divisor_below d 1 one h in omega (arith, b.0, b.1) })
-    ∙ ap sign (half_system_count-sum 0 1 ∙ sum_to-zero (λ x. above 1 (0 * x)))
+jacobi-zero_one = search (arith, jacobi-coprime, divisor_below, half_system_count-sum, sum_to-zero)
 
 pub jacobi-zero : (n : ℕ) → 1 < n → jacobi (pos 0) n ≡ pos 0
 jacobi-zero n l =
@@ -260,11 +195,7 @@ jacobi-zero n l =
 
 -- ---- the values
 pub sign-values : (i : ℕ) → (sign i ≡ pos 1) ⊎ (sign i ≡ negsuc 0)
-sign-values i =
-    ⊎_elim
-    (λ (e : i % 2 ≡ 0). inl (sign-even i e))
-    (λ (e : i % 2 ≡ 1). inr (sign-odd i e))
-    (parities i)
+sign-values i = search (arith, sign-even, sign-odd, parities)
 
 values_from : (a : ℤ) (n : ℕ) (z : ℤ) → jacobi a n ≡ z → (z ≡ pos 1) ⊎ (z ≡ negsuc 0)
     → (jacobi a n ≡ pos 1) ⊎ ((jacobi a n ≡ negsuc 0) ⊎ (jacobi a n ≡ pos 0))
@@ -273,20 +204,10 @@ values_from a n z e h =
 
 pub jacobi-values : (a : ℤ) (n : ℕ) → (jacobi a n ≡ pos 1) ⊎ ((jacobi a n ≡ negsuc 0) ⊎ (jacobi a n ≡ pos 0))
 unfolding jacobi
-jacobi-values a n =
-    ⊎_elim
-    (λ (e : gcd (nat_abs a) n ≡ 1).
-    values_from a n (sign (half_system_count a n)) (cond-true _ _ _ (eq-eqb (gcd (nat_abs a) n) 1 e))
-    (sign-values (half_system_count a n)))
-    (λ (z : gcd (nat_abs a) n ≡ 1 → ⊥). inr (inr (cond-false _ _ _ (ne_eqb (gcd (nat_abs a) n) 1 z))))
-    (cases_eq (gcd (nat_abs a) n) 1)
+jacobi-values a n = search (arith, values_from, cond-true, eq-eqb, sign-values, cond-false, ne_eqb, cases_eq)
 
 sign-nonzero : (i : ℕ) → sign i ≡ pos 0 → ⊥
-sign-nonzero i e =
-    ⊎_elim
-    (λ (f : sign i ≡ pos 1). let g : pos 1 ≡ pos 0 = sym f ∙ e in absurd (cc))
-    (λ (f : sign i ≡ negsuc 0). let g : negsuc 0 ≡ pos 0 = sym f ∙ e in absurd (cc))
-    (sign-values i)
+sign-nonzero i e = search (arith, sign-values)
 
 -- the symbol is 0 exactly where there is a common divisor above 1
 pub jacobi-zero_exactly : (a : ℤ) (n : ℕ) → 0 < n → (jacobi a n ≡ pos 0) ↔ (1 < gcd (nat_abs a) n)

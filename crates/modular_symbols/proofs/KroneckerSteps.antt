@@ -97,9 +97,7 @@ pub times_two : (s a : ℕ) (b : Bool) → s % 2 ≡ 1 → b ≡ leaves_3_or_5 a
 times_two s a b e f = f ∙ sym (ap (λ r. eqb r 1 && leaves_3_or_5 a) e)
 
 pub times_four : (s a : ℕ) (b : Bool) → s % 2 ≢ 1 → b ≡ (s % 2 == 1) → b ≡ (s % 2 == 1) && leaves_3_or_5 a
-times_four s a b e f =
-    let z : s % 2 ≡ 0 = omega arith in
-    f ∙ ap (λ r. eqb r 1) z ∙ sym (ap (λ r. eqb r 1 && leaves_3_or_5 a) z)
+times_four s a b e f = search arith
 
 -- ---- over any n
 negative_is : (minus : Bool) (a : ℕ) → (IsTrue minus → 0 < a) → int_lt (signed minus (pos a)) (pos 0) ≡ minus
@@ -109,22 +107,9 @@ negative_is false a h = grind (arith, nat_tests)
 
 pub kronecker-over_zero : (a_minus n_minus : Bool) (a n : ℕ) → n ≡ 0
     → kronecker (signed a_minus (pos a)) (signed n_minus (pos n)) ≡ (if a == 1 then pos 1 else pos 0)
-kronecker-over_zero a_minus n_minus a n e =
-    let z = signed a_minus (pos a) in
-    let w = signed n_minus (pos n) in
-    ap (λ v. if v == 0 then (if nat_abs z == 1 then pos 1 else pos 0)
-    else signed (int_lt z (pos 0) && int_lt w (pos 0)) (kronecker_above z v)) (nat_abs-signed n_minus n ∙ e)
-    ∙ ap (λ v. if v == 1 then pos 1 else pos 0) (nat_abs-signed a_minus a)
+kronecker-over_zero a_minus n_minus a n e = search (arith, nat_abs-signed)
 
 pub kronecker-over : (a_minus n_minus : Bool) (a n : ℕ) → (IsTrue a_minus → 0 < a) → (IsTrue n_minus → 0 < n) → 0 < n
     → kronecker (signed a_minus (pos a)) (signed n_minus (pos n))
     ≡ signed (a_minus && n_minus) (kronecker_above (signed a_minus (pos a)) n)
-kronecker-over a_minus n_minus a n h k p =
-    let z = signed a_minus (pos a) in
-    let w = signed n_minus (pos n) in
-    ap (λ v. if v == 0 then (if nat_abs z == 1 then pos 1 else pos 0)
-    else signed (int_lt z (pos 0) && int_lt w (pos 0)) (kronecker_above z v)) (nat_abs-signed n_minus n)
-    ∙ ap (λ v. if v then (if nat_abs z == 1 then pos 1 else pos 0)
-    else signed (int_lt z (pos 0) && int_lt w (pos 0)) (kronecker_above z n)) (above_zero n p)
-    ∙ ap (λ v. signed (v && int_lt w (pos 0)) (kronecker_above z n)) (negative_is a_minus a h)
-    ∙ ap (λ v. signed (a_minus && v) (kronecker_above z n)) (negative_is n_minus n k)
+kronecker-over a_minus n_minus a n h k p = search (arith, nat_abs-signed, above_zero, negative_is)

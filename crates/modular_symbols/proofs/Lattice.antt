@@ -22,9 +22,7 @@ pairs f h k = sum_to (λ x. sum_to (λ y. f x y) k) h
 pairs-same : (f g : ℕ → ℕ → ℕ) (h k : ℕ) → ((x y : ℕ) → 0 < x → x ≤ h → 0 < y → y ≤ k → f x y ≡ g x y)
     → pairs f h k ≡ pairs g h k
 unfolding pairs
-pairs-same f g h k e =
-    sum_to-same (λ x. sum_to (λ y. f x y) k) (λ x. sum_to (λ y. g x y) k) h
-    (λ x p q. sum_to-same (λ y. f x y) (λ y. g x y) k (λ y u v. e x y p q u v))
+pairs-same f g h k e = search (arith, sum_to-same)
 
 pairs-add : (f g : ℕ → ℕ → ℕ) (h k : ℕ) → pairs (λ x y. f x y + g x y) h k ≡ pairs f h k + pairs g h k
 unfolding pairs
@@ -80,25 +78,11 @@ off_line m n x y c p l e = not_divided n m x c p l (divides n (m * x) y e)
 -- ---- the pairs just below
 -- for one x only the y after the quotient of m * x by n can lie there
 row_other : (m n x y : ℕ) → 0 < n → y ≢ suc (m * x / n) → just_below n (m * x) (n * y) ≡ 0
-row_other m n x y p z =
-    just_below-not n (m * x) (n * y) (λ l k.
-    ⊎_elim
-    (λ (d : y < suc (m * x / n)).
-    let e : y ≤ m * x / n = omega arith in
-    let i = mul-le-mul_left n e in
-    omega arith)
-    (λ (d : suc (m * x / n) ≤ y).
-    let e : suc (suc (m * x / n)) ≤ y = omega arith in
-    let i = mul-le-mul_left n e in
-    let b = mod_below (m * x) n p in
-    omega arith)
-    (cases_lt y (suc (m * x / n))))
+row_other m n x y p z = search (arith, just_below-not, mul-le-mul_left, mod_below, cases_lt)
 
 -- it does where the remainder of m * x lies above the half system
 row_one : (m n x : ℕ) → n % 2 ≡ 1 → (n - 1) / 2 < (m * x) % n → just_below n (m * x) (n * suc (m * x / n)) ≡ 1
-row_one m n x o h =
-    let b = mod_below (m * x) n (omega arith) in
-    just_below-is n (m * x) (n * suc (m * x / n)) (omega arith) (omega arith)
+row_one m n x o h = search (arith, mod_below, just_below-is)
 
 row_none : (m n x : ℕ) → n % 2 ≡ 1 → (m * x) % n ≤ (n - 1) / 2 → just_below n (m * x) (n * suc (m * x / n)) ≡ 0
 row_none m n x o h = just_below-not n (m * x) (n * suc (m * x / n)) (λ l k. omega arith)
@@ -110,8 +94,7 @@ row_within m n x o k p h =
     let t : 2 * x + 1 ≤ n = omega arith in
     let i = mul-le-mul_left m t in
     let l : n * (2 * (m * x / n) + 1) < n * m = omega arith in
-    let q = lt_of_mul-lt-mul_left n l in
-    omega arith
+    search (arith, lt_of_mul-lt-mul_left)
 
 row : (m n x : ℕ) → n % 2 ≡ 1 → m % 2 ≡ 1 → x ≤ (n - 1) / 2
     → sum_to (λ y. just_below n (m * x) (n * y)) ((m - 1) / 2) ≡ above n (m * x)
@@ -137,10 +120,7 @@ row m n x o k p =
 just_below-count : (m n : ℕ) → n % 2 ≡ 1 → m % 2 ≡ 1
     → pairs (λ x y. just_below n (m * x) (n * y)) ((n - 1) / 2) ((m - 1) / 2) ≡ half_system_count (pos m) n
 unfolding pairs
-just_below-count m n o k =
-    sum_to-same (λ x. sum_to (λ y. just_below n (m * x) (n * y)) ((m - 1) / 2)) (λ x. above n (m * x)) ((n - 1) / 2)
-    (λ x p q. row m n x o k q)
-    ∙ sym (half_system_count-sum m n)
+just_below-count m n o k = search (arith, sum_to-same, just_below, row, half_system_count-sum)
 
 -- ---- the pairs far below
 reflected_region : (m n a b c d : ℕ) → 2 * a + 2 * b ≡ m * n + m → 2 * c + 2 * d ≡ m * n + n

@@ -1,6 +1,6 @@
 -- The class of the power: by the power itself, and over an odd prime.
 use Rattle.std.proofs.Common.{◌≡◌, ◌≢◌, ℕ, ◌-◌, ◌/◌, ◌%◌, ◌^◌, ◌==◌, if◌then◌else◌, Bool, false}
-use Rattle.std.proofs.Common.{ℤ, pos, negsuc, nat_abs, Option, Some, None, ◌∙◌, sym, ap, arith}
+use Rattle.std.proofs.Common.{ℤ, pos, negsuc, nat_abs, Option, Some, None, ◌∙◌, arith}
 use Rattle.std.proofs.lemmas.Bool.{cond-true, cond-false, eq-eqb, ne_eqb}
 use Rattle.modular_word.specs.Residues.{residue}
 use Rattle.modular_symbols.specs.Jacobi.{jacobi}
@@ -11,9 +11,7 @@ use Rattle.modular_symbols.proofs.Euler.{classed_power-jacobi}
 
 -- is the Jacobi symbol
 pub class_over_prime : (a z : ℤ) → IsOddPrime z → checked_legendre_of a z ≡ Some (jacobi a (nat_abs z))
-class_over_prime a (pos n) p =
-    let o = p.0 in
-    cond-false _ _ _ (ne_eqb n 0 (λ e. omega arith)) ∙ classed_power-jacobi a n o p.1
+class_over_prime a (pos n) p = search (arith, cond-false, ne_eqb, classed_power-jacobi)
 class_over_prime a (negsuc n) p = absurd p
 
 -- ---- the class by the power
@@ -26,12 +24,7 @@ class_by last power =
 pub class_is : (z : ℤ) (minus : Bool) (n last half rest power : ℕ) → minus ≡ false → n ≢ 0
     → last ≡ n - 1 → half ≡ last / 2
     → rest ≡ residue n z → power ≡ rest ^ half % n → checked_legendre_of z (signed minus (pos n)) ≡ class_by last power
-class_is z minus n last half rest power m some l h r p =
-    ap (λ b. checked_legendre_of z (signed b (pos n))) m
-    ∙ cond-false _ _ _ (ne_eqb n 0 some)
-    ∙ sym (ap (λ k. class_by k power) l
-    ∙ ap (λ v. class_by (n - 1) v)
-    (p ∙ ap (λ v. v ^ half % n) r ∙ ap (λ k. residue n z ^ k % n) (h ∙ ap (λ k. k / 2) l)))
+class_is z minus n last half rest power m some l h r p = search (arith, cond-false, ne_eqb)
 
 pub class_zero : (last power : ℕ) → power ≡ 0 → class_by last power ≡ Some (pos 0)
 class_zero last power e = cond-true _ _ _ (eq-eqb power 0 e)

@@ -13,7 +13,6 @@ pub mod ResidueProducts
 pub mod Squares
 pub mod StepCounts
 pub mod SubtractionSteps
-pub mod SymbolBytes
 pub mod TurnBits
 pub mod TurnedSymbols
 pub mod TwoPart

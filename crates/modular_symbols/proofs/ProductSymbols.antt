@@ -24,8 +24,7 @@ use Rattle.modular_symbols.proofs.ResidueProducts.{residue_below, residue_opposi
 half_of_product : (m n i j : ℕ) → m ≡ 2 * i + 1 → n ≡ 2 * j + 1 → (m * n - 1) / 2 ≡ i + j + 2 * (i * j)
 half_of_product m n i j e f =
     let g : (2 * i + 1) * (2 * j + 1) ≡ 4 * (i * j) + 2 * i + 2 * j + 1 = omega arith in
-    let h : m * n ≡ 4 * (i * j) + 2 * i + 2 * j + 1 = ap (λ v. v * n) e ∙ ap (λ v. (2 * i + 1) * v) f ∙ g in
-    omega (arith, h)
+    search arith
 
 -- so the numbers of pairs add up, up to an even number
 pairs_of_product : (m n k : ℕ) → m % 2 ≡ 1 → n % 2 ≡ 1
@@ -71,9 +70,7 @@ odd_over_product b m n q o p =
     (λ (d : Coprime b n).
     let w = Coprime-swap (m * n) b
     (Coprime-product m n b (omega arith) (Coprime-swap b m c) (Coprime-swap b n d)) in
-    rw (jacobi-coprime (pos b) (m * n) t w, jacobi-coprime (pos b) m l c, jacobi-coprime (pos b) n r d)
-    (sign-sum (half_system_count (pos b) m) (half_system_count (pos b) n) (half_system_count (pos b) (m * n))
-    (count_over_product b m n q o p c d w)))
+    search (arith, jacobi-coprime, sign-sum, count_over_product))
     (λ (z : Coprime b n → ⊥).
     jacobi-shared (pos b) (m * n) t (λ w. z (Coprime-swap n b (Coprime-right m n b (Coprime-swap b (m * n) w))))
     ∙ sym (ap (λ v. jacobi (pos b) m *ℤ v) (jacobi-shared (pos b) n r z) ∙ times_zero (jacobi (pos b) m)))
@@ -125,8 +122,7 @@ jacobi-factors a m n o p =
     sym (mod_of_multiple n m b) ∙ ap (λ v. b % v % n) s ∙ ap (λ v. v % n) h.2
     ∙ ap (λ v. residue v a % n) (sym s) ∙ residue_of_multiple n m a r (omega arith) in
     same_residues a b (m * n) t h.2 ∙ odd_over_product b m n h.1 o p
-    ∙ sym (ap (λ v. v *ℤ jacobi a n) (same_residues a b m l e)
-    ∙ ap (λ v. jacobi (pos b) m *ℤ v) (same_residues a b n r f))
+    ∙ sym (search (arith, same_residues))
 
 -- ---- over a product of odd primes
 legendre-jacobi : (a : ℤ) (p : ℕ) (s : ℤ) → IsLegendre a p s → jacobi a p ≡ s
@@ -144,11 +140,7 @@ primes_after a (p ∷ ps) (s ∷ ss) n z o e h =
     h.1
 
 jacobi-one : (a : ℤ) → jacobi a 1 ≡ pos 1
-jacobi-one a =
-    let one : 0 < 1 = omega arith in
-    let b = residue_below 1 a one in
-    let e : residue 1 a ≡ 0 = omega arith in
-    jacobi-residue a 1 one ∙ ap (λ v. jacobi (pos v) 1) e ∙ jacobi-zero_one
+jacobi-one a = search (arith, residue_below, jacobi-residue, jacobi-zero_one)
 
 pub jacobi-primes : (a : ℤ) (primes : List ℕ) (symbols : List ℤ) → AllZip (IsLegendre a) primes symbols
     → jacobi a (product primes) ≡ symbol_product symbols

@@ -23,10 +23,7 @@ product_to-suc f h = refl
 pub product_to-same : (f g : ℕ → ℕ) (h : ℕ) → ((x : ℕ) → 0 < x → x ≤ h → f x ≡ g x) → product_to f h ≡ product_to g h
 unfolding product_to
 product_to-same f g zero e = refl
-product_to-same f g (suc h) e =
-    let i = product_to-same f g h (λ x p q. e x p (omega arith)) in
-    let j = e (suc h) (omega arith) (omega arith) in
-    ap (λ v. v * f (suc h)) i ∙ ap (λ v. product_to g h * v) j
+product_to-same f g (suc h) e = search (arith, product_to, product_to-same f g h (λ x p q. e x p (omega arith)))
 
 pub product_to-times : (f g : ℕ → ℕ) (h : ℕ) → product_to (λ x. f x * g x) h ≡ product_to f h * product_to g h
 unfolding product_to
@@ -66,10 +63,7 @@ unfolding product_to
 product_to-only f zero z p q e = absurd (omega arith)
 product_to-only f (suc h) z p q e =
     ⊎_elim
-    (λ (l : z ≤ h).
-    let i = product_to-only f h z p l (λ x u v w. e x u (omega arith) w) in
-    let j = e (suc h) (omega arith) (omega arith) (omega arith) in
-    ap (λ v. v * f (suc h)) i ∙ ap (λ v. f z * v) j ∙ mul-one (f z))
+    (λ (l : z ≤ h). search (arith, mul-one, product_to-only f h z p l (λ x u v w. e x u (omega arith) w)))
     (λ (l : z ≡ suc h).
     let i = product_to-same f (λ x. 1) h (λ x u v. e x u (omega arith) (omega arith)) in
     ap (λ v. v * f (suc h)) (i ∙ product_to-ones h) ∙ one-mul (f (suc h)) ∙ sym (ap f l))

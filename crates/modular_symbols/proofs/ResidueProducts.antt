@@ -13,15 +13,11 @@ residue_below n (negsuc a) p = omega arith
 
 -- a negative number's residue and its magnitude add up to a multiple of n
 pub residue_opposite : (n a : ℕ) → 0 < n → (residue n (negsuc a) + suc a) % n ≡ 0
-residue_opposite n a p =
-    let b = mod_below a n p in
-    divides n (residue n (negsuc a) + suc a) (1 + a / n) (omega arith)
+residue_opposite n a p = search (arith, mod_below, divides)
 
 -- and no other number below n does so
 pub residue_minus : (n m r : ℕ) → r < n → (r + m) % n ≡ 0 → residue n (neg_ℤ (pos m)) ≡ r
-residue_minus n zero r h e =
-    let f : r + 0 ≡ r = omega arith in
-    zero-mod n ∙ sym e ∙ ap (λ v. v % n) f ∙ mod-eq_of_lt h
+residue_minus n zero r h e = search (arith, zero-mod, mod-eq_of_lt)
 residue_minus n (suc a) r h e =
     let p : 0 < n = omega arith in
     mod_cancel n (residue n (negsuc a)) r (suc a) (residue_below n (negsuc a) p) h (residue_opposite n a p ∙ sym e)
@@ -48,17 +44,10 @@ residue-product n (pos a) (negsuc b) p =
     let e : r * (a % n) ≡ a % n * r = omega arith in
     let f : suc b * a ≡ a * suc b = omega arith in
     residue_minus n (a * suc b) ((a % n * r) % n) (mod_below (a % n * r) n p)
-    (sym (ap (λ v. ((a % n * r) % n + v) % n) f)
-    ∙ ap (λ v. (v + suc b * a) % n) (sym (ap (λ v. v % n) e) ∙ mul-mod_second r a n)
-    ∙ opposite_product n r (suc b) a (residue_opposite n b p))
+    (search (arith, mul-mod_second, opposite_product, residue_opposite))
 residue-product n (negsuc a) (pos b) p =
-    let r : ℕ = residue n (negsuc a) in
-    residue_minus n (suc a * b) ((r * (b % n)) % n) (mod_below (r * (b % n)) n p)
-    (ap (λ v. (v + suc a * b) % n) (mul-mod_second r b n)
-    ∙ opposite_product n r (suc a) b (residue_opposite n a p))
-residue-product n (negsuc a) (negsuc b) p =
-    both_opposite n (residue n (negsuc a)) (residue n (negsuc b)) (suc a) (suc b)
-    (residue_opposite n a p) (residue_opposite n b p)
+    search (arith, residue_minus, mod_below, mul-mod_second, opposite_product, residue_opposite)
+residue-product n (negsuc a) (negsuc b) p = search (arith, both_opposite, residue_opposite)
 
 -- that of a multiple
 pub residue-multiple : (n : ℕ) (z : ℤ) (x : ℕ) → 0 < n → residue n (z *ℤ pos x) ≡ (residue n z * x) % n

@@ -34,7 +34,6 @@ below_not_divided p x q l e = let m = mod-eq_of_lt l in absurd (omega arith)
 
 partner_product : (p a x : ℕ) → IsPrime p → 0 < x → x < p → (x * partner p a x) % p ≡ a % p
 partner_product p a x u q l =
-    let two : 1 < p = u.above_one in
     let w : ℕ = x ^ (p - 2) in
     let s : suc (p - 2) ≡ p - 1 = omega arith in
     let e : x * (a * w) ≡ a * (w * x) = omega arith in
@@ -62,10 +61,9 @@ partner_of_partner p a x u z q l =
 
 partners_permute : (p a : ℕ) → IsPrime p → a % p ≢ 0 → Permutes (λ x. partner p a x) (p - 1)
 partners_permute p a u z = record {
-  positive = λ x q l. let two : 1 < p = u.above_one in partner_positive p a x u z q (omega arith);
-  within = λ x q l. let two : 1 < p = u.above_one in let b = partner_below p a x u in omega arith;
+  positive = λ x q l. partner_positive p a x u z q (omega arith);
+  within = λ x q l. let two : 1 < p = u.above_one in omega arith;
   apart = λ x y q l r m e.
-      let two : 1 < p = u.above_one in
       sym (partner_of_partner p a x u z q (omega arith)) ∙ ap (λ v. partner p a v) e
       ∙ partner_of_partner p a y u z r (omega arith);
 }
@@ -105,9 +103,7 @@ product_to-congruent : (n : ℕ) (f g : ℕ → ℕ) (h : ℕ) → ((x : ℕ) �
     → product_to f h % n ≡ product_to g h % n
 product_to-congruent n f g zero e = rw (product_to-zero f, product_to-zero g)
 product_to-congruent n f g (suc h) e =
-    rw (product_to-suc f h, product_to-suc g h)
-    (same_product n (product_to f h) (product_to g h) (f (suc h)) (g (suc h))
-    (product_to-congruent n f g h (λ x p q. e x p (omega arith))) (e (suc h) (omega arith) (omega arith)))
+    search (arith, product_to-suc, same_product, product_to, product_to-congruent n f g h (λ x p q. e x p (omega arith)))
 
 -- ---- pairs of product a, where none is paired with itself
 abbrev leads : (ℕ → ℕ) → ℕ → ℕ
@@ -130,10 +126,7 @@ half_lead s h m twice apart =
     ∙ sum_to-ones h
 
 pair_power : (n a x y : ℕ) → (x * y) % n ≡ a % n → cond (ltb x y) (x * y) 1 % n ≡ a ^ cond (ltb x y) 1 0 % n
-pair_power n a x y e =
-    let o = pow-one a in
-    let z = pow-zero a in
-    grind (arith, nat_tests)
+pair_power n a x y e = search (arith, pow-one, pow-zero, nat_tests)
 
 fixed_one : (x y : ℕ) → x ≢ y → cond (eqb x y) x 1 ≡ 1
 fixed_one x y z = grind (arith, nat_tests)
@@ -142,13 +135,11 @@ product_of_pairs : (p a : ℕ) → p % 2 ≡ 1 → IsPrime p → a % p ≢ 0
     → ((x : ℕ) → 0 < x → x ≤ p - 1 → x ≢ partner p a x)
     → product_to (λ x. x) (p - 1) % p ≡ a ^ ((p - 1) / 2) % p
 product_of_pairs p a o u z apart =
-    let two : 1 < p = u.above_one in
     let s : ℕ → ℕ = λ x. partner p a x in
     let h : ℕ = p - 1 in
     let m = partners_permute p a u z in
     let twice : (x : ℕ) → 0 < x → x ≤ h → s (s x) ≡ x = λ x q l. partner_of_partner p a x u z q (omega arith) in
-    let half = half_lead s h m twice apart in
-    let count : sum_to (leads s) h ≡ (p - 1) / 2 = omega (arith, half) in
+    let count : sum_to (leads s) h ≡ (p - 1) / 2 = omega (arith, half_lead) in
     ap (λ v. v % p)
     (product_in_pairs s h m twice
     ∙ ap (λ v. product_to (pair s) h * v)
@@ -169,14 +160,11 @@ root_of_one p (suc y) u q l e z =
     (λ (n : y ≡ 0). omega arith)
     (λ (n : y ≡ 0 → ⊥).
     let two : 1 < p = u.above_one in
-    let below : y < p = omega arith in
     let one : 1 % p ≡ 1 = mod-eq_of_lt two in
     let positive : 0 < p = omega arith in
     let gone : (y * (y + 2)) % p ≡ 0 % p =
     same_without p (y * (y + 2)) 0 1 positive (sym (ap (λ v. v % p) (square_less_one y)) ∙ e ∙ sym one) in
-    let d = coprime_cancel y p (y + 2) positive (below_coprime p y u (omega arith) below) (gone ∙ zero-mod p) in
-    let small : y + 2 < p = omega arith in
-    absurd (below_not_divided p (y + 2) (omega arith) small d))
+    search (arith, coprime_cancel, below_coprime, zero-mod, below_not_divided))
     (cases_eq y 0)
 
 pair_one : (n x y : ℕ) → (x * y) % n ≡ 1 % n → cond (ltb x y) (x * y) 1 % n ≡ 1 % n
@@ -190,7 +178,6 @@ fixed_at x y e = grind (arith, nat_tests)
 
 last_is_fixed : (p : ℕ) → IsPrime p → p - 1 ≡ partner p 1 (p - 1)
 last_is_fixed p u =
-    let two : 1 < p = u.above_one in
     let q : 0 < p - 1 = omega arith in
     let l : p - 1 < p = omega arith in
     let s : p ≡ (p - 2) + 2 = omega arith in
@@ -229,13 +216,11 @@ root_or_none : (p r k : ℕ) → ((x : ℕ) × IsRoot p r k x) ⊎ ((x : ℕ) �
 root_or_none p r zero = inr (λ x q l e. absurd (omega arith))
 root_or_none p r (suc k) =
     ⊎_elim
-    (λ (f : (x : ℕ) × IsRoot p r k x). let l = f.1.1.0 in inl (f.0, (f.1.0, (omega arith, f.1.1.1))))
+    (λ (f : (x : ℕ) × IsRoot p r k x). inl (f.0, (f.1.0, (omega arith, f.1.1.1))))
     (λ (n : (x : ℕ) → 0 < x → x ≤ k → (x * x) % p ≢ r).
     ⊎_elim
     (λ (e : (suc k * suc k) % p ≡ r). inl (suc k, (omega arith, (omega arith, e))))
-    (λ (z : (suc k * suc k) % p ≡ r → ⊥). inr (λ x q l e.
-    ⊎_elim (λ (b : x ≤ k). n x q b e) (λ (b : x ≡ suc k). z (sym (ap (λ v. (v * v) % p) b) ∙ e))
-    (last_or_before x k l)))
+    (λ (z : (suc k * suc k) % p ≡ r → ⊥). search (arith, last_or_before))
     (cases_eq ((suc k * suc k) % p) r))
     (root_or_none p r k)
 
@@ -254,9 +239,7 @@ not_zero_power : (p r : ℕ) → 1 < p → p % 2 ≡ 1 → r ^ ((p - 1) / 2) % p
 not_zero_power p r l o e z =
     let h : ℕ = (p - 1) / 2 in
     let k : suc (h - 1) ≡ h = omega arith in
-    let n : 0 ^ h ≡ 0 = ap (λ v. 0 ^ v) (sym k) ∙ pow-suc 0 (h - 1) ∙ mul-zero (0 ^ (h - 1)) in
-    let m : r ^ h % p ≡ 0 = ap (λ v. v ^ h % p) z ∙ ap (λ v. v % p) n ∙ zero-mod p in
-    absurd (omega (arith, e, m))
+    search (arith, pow-suc, mul-zero, zero-mod)
 
 -- a number of symbol 1 has a root
 pub root_from_symbol : (a : ℤ) (p : ℕ) → p % 2 ≡ 1 → IsPrime p → jacobi a p ≡ pos 1
@@ -269,14 +252,11 @@ root_from_symbol a p o u e =
     let half = half_power_is_one a p o u e in
     let z : r % p ≢ 0 = λ n. not_zero_power p r two o half (sym same ∙ n) in
     ⊎_elim
-    (λ (f : (x : ℕ) × IsRoot p r (p - 1) x).
-    let l = f.1.1.0 in
-    (f.0, (below_not_divided p f.0 f.1.0 (omega arith), f.1.1.1)))
+    (λ (f : (x : ℕ) × IsRoot p r (p - 1) x). search (arith, below_not_divided))
     (λ (n : (x : ℕ) → 0 < x → x ≤ p - 1 → (x * x) % p ≢ r).
     let c = product_of_pairs p r o u z (λ x q l f.
     n x q l (ap (λ v. (x * v) % p) f ∙ partner_product p r x u q (omega arith) ∙ same)) in
-    let w = wilson p u in
-    absurd (omega arith))
+    search (arith, wilson))
     (root_or_none p r (p - 1))
 
 one_square : (z : ℤ) → (z ≡ pos 1) ⊎ (z ≡ negsuc 0) → z *ℤ z ≡ pos 1

@@ -1,10 +1,10 @@
 -- How many halvings and swaps the loop of the Jacobi symbol takes, and that these are few.
 use Rattle.std.proofs.Common.{◌≡◌, ℕ, zero, suc, ◌+◌, ◌*◌, ◌/◌, ◌%◌, ◌^◌, ◌<◌, ◌≤◌}
-use Rattle.std.proofs.Common.{sym, ◌∙◌, ap, refl, arith, ⊎_elim, ◌⊎◌, inl, inr}
+use Rattle.std.proofs.Common.{sym, ◌∙◌, ap, refl, arith, ⊎_elim, ◌⊎◌, inl}
 use Rattle.std.proofs.lemmas.Bool.Decides.{nat_tests}
 use Rattle.std.proofs.lemmas.Nat.{mod_below, mul-lt, pow_pos}
 use Rattle.std.proofs.Math.Nat.{mul-le-mul_left, pow-suc, mul-one}
-use Rattle.modular_prim.proofs.FewSteps.{zero_or_positive, doubled, rest_twice, few_steps}
+use Rattle.modular_prim.proofs.FewSteps.{zero_or_positive, rest_twice, few_steps}
 use Rattle.modular_symbols.specs.Steps.{steps_within, jacobi_steps}
 use Rattle.modular_symbols.proofs.TwoPart.{Halved}
 use Rattle.modular_symbols.proofs.JacobiLaws.{parities}
@@ -31,13 +31,8 @@ within_enough (suc k) (suc l) a n p q =
     (λ (e : a ≡ 0). within_none (suc k) a n e ∙ sym (within_none (suc l) a n e))
     (λ (z : 0 < a).
     ⊎_elim
-    (λ (e : a % 2 ≡ 0).
-    within_halved k a n z e ∙ ap suc (within_enough k l (a / 2) n (omega arith) (omega arith))
-    ∙ sym (within_halved l a n z e))
-    (λ (o : a % 2 ≡ 1).
-    let b = mod_below n a z in
-    within_swapped k a n o ∙ ap suc (within_enough k l (n % a) a (omega arith) (omega arith))
-    ∙ sym (within_swapped l a n o))
+    (λ (e : a % 2 ≡ 0). search (arith, within_halved, within_enough k l (a / 2) n (omega arith) (omega arith)))
+    (λ (o : a % 2 ≡ 1). search (arith, mod_below, within_swapped, within_enough k l (n % a) a (omega arith) (omega arith)))
     (parities a))
     (zero_or_positive a)
 
@@ -55,7 +50,6 @@ jacobi_steps-halved a n p e =
 jacobi_steps-swapped : (a n : ℕ) → a % 2 ≡ 1 → jacobi_steps a n ≡ suc (jacobi_steps (n % a) a)
 unfolding jacobi_steps
 jacobi_steps-swapped a n o =
-    let b = mod_below n a (omega arith) in
     within_enough a (suc a) a n (omega arith) (omega arith) ∙ within_swapped a a n o
     ∙ ap suc (within_enough a (n % a) (n % a) a (omega arith) (omega arith))
 
@@ -64,11 +58,8 @@ pub jacobi_steps-turn : (o z n : ℕ) → o % 2 ≡ 1 → jacobi_steps (o * 2 ^ 
 jacobi_steps-turn o zero n h = ap (λ v. jacobi_steps v n) (mul-one o) ∙ jacobi_steps-swapped o n h ∙ omega arith
 jacobi_steps-turn o (suc z) n h =
     let p = ap (λ v. o * v) (pow-suc 2 z) in
-    let e : o * 2 ^ suc z ≡ 2 * (o * 2 ^ z) = omega arith in
     let q = mul-lt 0 0 o (2 ^ z) (omega arith) (pow_pos z) in
-    let g : o * 2 ^ suc z / 2 ≡ o * 2 ^ z = omega arith in
-    jacobi_steps-halved (o * 2 ^ suc z) n (omega arith) (omega arith)
-    ∙ ap (λ v. suc (jacobi_steps v n)) g ∙ ap suc (jacobi_steps-turn o z n h) ∙ omega arith
+    search (arith, jacobi_steps-halved, jacobi_steps-turn o z n h)
 
 -- ---- the bound
 power_within : (k a n : ℕ) → 0 < a → a < n → a ≤ k → 2 ^ steps_within k a n ≤ 2 * (a * n)
@@ -78,13 +69,11 @@ power_within (suc k) a n p l b =
     (λ (e : a % 2 ≡ 0).
     let i = power_within k (a / 2) n (omega arith) (omega arith) (omega arith) in
     let s = ap (λ v. 2 ^ v) (within_halved k a n p e) in
-    let d = doubled (steps_within k (a / 2) n) in
     let h : a ≡ 2 * (a / 2) = omega arith in
     let t = ap (λ v. v * n) h in
     omega arith)
     (λ (o : a % 2 ≡ 1).
     let s = ap (λ v. 2 ^ v) (within_swapped k a n o) in
-    let d = doubled (steps_within k (n % a) a) in
     let q = mul-lt 0 0 a n p (omega arith) in
     ⊎_elim
     (λ (z : n % a ≡ 0). let w = ap (λ v. 2 ^ v) (within_none k (n % a) a z) in omega arith)
@@ -122,26 +111,10 @@ counts_start w a n = record { total = omega arith; fits = inl (refl, refl) }
 -- a turn, which is z halvings and a swap
 pub counts_turn : (w base a n x y z o rest count : ℕ) → Counts w a n x y count → Halved x z o → rest ≡ y % o
     → base ≡ 2 ^ w → y < base → Counts w a n rest o (count + (z + 1))
-counts_turn w base a n x y z o rest count c h e b l =
-    let s = jacobi_steps-turn o z y h.odd in
-    let f = ap (λ v. jacobi_steps v y) h.whole in
-    let r = ap (λ v. jacobi_steps v o) e in
-    let t = c.total in
-    record {
-      total = omega arith;
-      fits = inr (⊎_elim (λ (p : (count ≡ 0) × (y ≡ n)). let q = p.1 in omega arith) (λ (q : n < 2 ^ w). q) c.fits);
-    }
+counts_turn w base a n x y z o rest count c h e b l = search (arith, jacobi_steps-turn)
 
 pub counts_end : (w a n x y count : ℕ) → Counts w a n x y count → x ≡ 0 → count ≡ jacobi_steps a n
-counts_end w a n x y count c e =
-    let s = jacobi_steps-none x y e in
-    let t = c.total in
-    omega arith
+counts_end w a n x y count c e = search (arith, jacobi_steps-none)
 
 pub counts_few : (w a n x y count : ℕ) → Counts w a n x y count → a < n → count ≤ 2 * w
-counts_few w a n x y count c l =
-    let t = c.total in
-    ⊎_elim
-    (λ (p : (count ≡ 0) × (y ≡ n)). let q = p.0 in omega arith)
-    (λ (q : n < 2 ^ w). let s = jacobi_steps-few w a n l q in omega arith)
-    c.fits
+counts_few w a n x y count c l = search (arith, jacobi_steps-few)

@@ -27,12 +27,7 @@ pub record Wraps (w base v a n : ℕ) : Type 0 where
 
 -- which isn't 0, so that it has fewer trailing zeros than bits
 pub wrapped_zeros : (w b v a n s : ℕ) → Wraps w b v a n → a ≢ n → s ≡ count_trailing_zeros w v → s < w
-wrapped_zeros w b v a n s r z e =
-    let l = r.n_fits in
-    let some : v ≢ 0 = λ h.
-    let same : v + n ≡ n = omega arith in
-    z (sym r.sum ∙ ap (λ k. k % b) same ∙ mod-eq_of_lt l) in
-    subst (λ k. k < w) (sym e) (fewer_zeros w v (omega arith) (omega (arith, r.fits, r.base_is)))
+wrapped_zeros w b v a n s r z e = search (arith, mod-eq_of_lt, fewer_zeros)
 
 -- the first number is the greater one
 pub halved_above : (w b v a n d s o : ℕ) → Wraps w b v a n → a ≢ n → d + n ≡ a
@@ -51,12 +46,7 @@ pub halved_below : (w b v a n d s o : ℕ) → Wraps w b v a n → a ≢ n → d
     → s ≡ count_trailing_zeros w v → o ≡ d / 2 ^ s
     → Halved d s o
 halved_below w b v a n d s o r z e f g =
-    let l = r.a_fits in
-    let m = r.n_fits in
-    let sum : (b - d) + n ≡ b + a = omega arith in
-    let same : v ≡ b - d =
-    mod_cancel b v (b - d) n r.fits (omega arith)
-    (r.sum ∙ sym (ap (λ k. k % b) sum ∙ add-mod_left b a ∙ mod-eq_of_lt l)) in
+    let same : v ≡ b - d = search (arith, mod_cancel, add-mod_left, mod-eq_of_lt) in
     halved_split d s o
     (subst (λ k. SplitAt d k) (sym f) (split_opposite w v d (omega arith) (omega arith) (omega (arith, r.base_is)))) g
 
@@ -87,8 +77,7 @@ pub jacobi-above : (l : Bool) (x q a n y d s o : ℕ) → l ≡ false → y ≡ 
     → jacobi (pos a) n ≡ signed (is_odd (x / 2 + q)) (jacobi (pos o) y)
 jacobi-above l x q a n y d s o e b r t h k f =
     jacobi-difference (jacobi (pos a) n) x q a y d s o
-    (r ∙ ap (λ v. signed (is_odd (x / 2)) (if v then jacobi (pos n) a else jacobi (pos a) n)) e
-    ∙ ap (λ v. signed (is_odd (x / 2)) (jacobi (pos a) v)) (sym b))
+    (search arith)
     t h (ap (λ v. v % 2) b ∙ k) (ap (λ v. d + v) b ∙ f)
 
 -- the symbol of the smaller one over the greater one, by the other way round
@@ -98,28 +87,17 @@ pub jacobi-below : (l : Bool) (x q a n y d s o : ℕ) → l ≡ true → y ≡ a
     → jacobi (pos a) n ≡ signed (is_odd (x / 2 + q)) (jacobi (pos o) y)
 jacobi-below l x q a n y d s o e b r t h k f =
     jacobi-difference (jacobi (pos a) n) x q n y d s o
-    (r ∙ ap (λ v. signed (is_odd (x / 2)) (if v then jacobi (pos n) a else jacobi (pos a) n)) e
-    ∙ ap (λ v. signed (is_odd (x / 2)) (jacobi (pos n) v)) (sym b))
+    (search arith)
     t h (ap (λ v. v % 2) b ∙ k) (ap (λ v. d + v) b ∙ f)
 
 -- the same with the turns before: t of them, u by this difference, and k together
 pub turns_added : (x z : ℤ) (t u k : ℕ) → x ≡ signed (is_odd u) z → k % 2 ≡ (t + u) % 2
     → signed (is_odd t) x ≡ signed (is_odd k) z
-turns_added x z t u k e f =
-    ap (λ v. signed (is_odd t) v) e
-    ∙ sym (ap (λ v. signed v z) (ap (λ v. eqb v 1) f ∙ odd-sum t u) ∙ signed-other (is_odd t) (is_odd u) z)
+turns_added x z t u k e f = search (arith, odd-sum, signed-other)
 
 -- ---- two equal numbers
 kept_equal : (w : ℤ) (x y : ℕ) (t : Bool) → Keeps w x y t → x ≡ y → Keeps w 0 y t
-kept_equal w x y t k e =
-    let o = k.odd in
-    record {
-      odd = o;
-      value =
-          ap (λ z. signed t z)
-          (jacobi-congruent 0 x y (omega arith) (zero-mod y ∙ sym (ap (λ v. v % y) e ∙ mod_self y)))
-          ∙ k.value;
-    }
+kept_equal w x y t k e = search (arith, jacobi-congruent, zero-mod, mod_self)
 
 pub kept_equal_last : (w s : ℤ) (x y t b : ℕ) → Keeps w x y (is_odd t) → x ≡ y → b % 2 ≡ t % 2
     → (y ≡ 1 → s ≡ signed (is_odd b) (pos 1)) → (y ≢ 1 → s ≡ pos 0) → s ≡ w

@@ -1,14 +1,13 @@
 -- What turns a symbol, and what a loop keeps of it: the symbol, up to a sign.
 use Rattle.std.proofs.Common.{◌≡◌, ◌≢◌, ℕ, zero, suc, ◌+◌, ◌*◌, ◌%◌, ◌^◌, ◌<◌, Bool, true, false, cond}
-use Rattle.std.proofs.Common.{eqb, ◌&&◌, ℤ, pos, ◌*ℤ◌, sym, ◌∙◌, ap, refl, arith, ⊎_elim, inl, inr, ◌⊎◌}
+use Rattle.std.proofs.Common.{eqb, ◌&&◌, ℤ, pos, ◌*ℤ◌, sym, ◌∙◌, ap, refl, arith, ⊎_elim, ◌⊎◌}
 use Rattle.std.proofs.lemmas.Bool.Decides.{nat_tests}
 use Rattle.std.proofs.lemmas.Bool.{cases_eq, eq-eqb, ne_eqb}
 use Rattle.std.proofs.Math.IntN.{neg_ℤ-neg_ℤ}
 use Rattle.std.proofs.Math.Bool.{beq, not}
 use Rattle.std.proofs.Math.Nat.{pow-suc, mul-one}
 use Rattle.modular_word.specs.Divisors.{Coprime}
-use Rattle.modular_word.proofs.Divisors.{Coprime-swap}
-use Rattle.modular_symbols.specs.Jacobi.{jacobi, half_system_count, sign}
+use Rattle.modular_symbols.specs.Jacobi.{jacobi, sign}
 use Rattle.modular_symbols.specs.Kronecker.{signed}
 use Rattle.modular_symbols.proofs.JacobiLaws.{jacobi-coprime, jacobi-shared, coprime_or_not, sign-even, sign-odd}
 use Rattle.modular_symbols.proofs.JacobiLaws.{parities, pairs-parity, one_times, minus_one_times, jacobi-product}
@@ -34,46 +33,16 @@ signed-zero false = refl
 
 -- ---- a power of two above
 eighth : (n : ℕ) → n % 2 ≡ 1 → ((n % 8 ≡ 3) ⊎ (n % 8 ≡ 5)) ⊎ ((n % 8 ≡ 1) ⊎ (n % 8 ≡ 7))
-eighth n o =
-    ⊎_elim
-    (λ (e : n % 8 ≡ 3). inl (inl e))
-    (λ (p : n % 8 ≡ 3 → ⊥).
-    ⊎_elim
-    (λ (e : n % 8 ≡ 5). inl (inr e))
-    (λ (q : n % 8 ≡ 5 → ⊥).
-    ⊎_elim
-    (λ (e : n % 8 ≡ 1). inr (inl e))
-    (λ (r : n % 8 ≡ 1 → ⊥). inr (inr (omega arith)))
-    (cases_eq (n % 8) 1))
-    (cases_eq (n % 8) 5))
-    (cases_eq (n % 8) 3)
+eighth n o = search (arith, cases_eq)
 
 jacobi-twice : (k n : ℕ) → n % 2 ≡ 1 → jacobi (pos (2 * k)) n ≡ signed (leaves_3_or_5 n) (jacobi (pos k) n)
 jacobi-twice k n o =
     let j : ℤ = jacobi (pos k) n in
     let product : jacobi (pos (2 * k)) n ≡ jacobi (pos 2) n *ℤ j = jacobi-product (pos 2) (pos k) n o in
-    ⊎_elim
-    (λ (h : (n % 8 ≡ 3) ⊎ (n % 8 ≡ 5)).
-    let t : leaves_3_or_5 n ≡ true = grind (arith, nat_tests) in
-    product ∙ ap (λ v. v *ℤ j) (jacobi-two_turned n o (omega arith) (omega arith)) ∙ minus_one_times j
-    ∙ sym (ap (λ v. signed v j) t))
-    (λ (h : (n % 8 ≡ 1) ⊎ (n % 8 ≡ 7)).
-    let t : leaves_3_or_5 n ≡ false = grind (arith, nat_tests) in
-    product ∙ ap (λ v. v *ℤ j) (jacobi-two_kept n o h) ∙ one_times j ∙ sym (ap (λ v. signed v j) t))
-    (eighth n o)
+    search (arith, nat_tests, jacobi-two_turned, minus_one_times, jacobi-two_kept, one_times, eighth)
 
 one_more_two : (s : ℕ) (t : Bool) (z : ℤ) → signed t (signed (eqb (s % 2) 1 && t) z) ≡ signed (eqb (suc s % 2) 1 && t) z
-one_more_two s t z =
-    ⊎_elim
-    (λ (e : s % 2 ≡ 0).
-    let b : eqb (s % 2) 1 ≡ false = ne_eqb (s % 2) 1 (λ h. omega arith) in
-    let d : eqb (suc s % 2) 1 ≡ true = eq-eqb (suc s % 2) 1 (omega arith) in
-    ap (λ v. signed t (signed (v && t) z)) b ∙ sym (ap (λ v. signed (v && t) z) d))
-    (λ (e : s % 2 ≡ 1).
-    let b : eqb (s % 2) 1 ≡ true = eq-eqb (s % 2) 1 e in
-    let d : eqb (suc s % 2) 1 ≡ false = ne_eqb (suc s % 2) 1 (λ h. omega arith) in
-    ap (λ v. signed t (signed (v && t) z)) b ∙ signed-twice t z ∙ sym (ap (λ v. signed (v && t) z) d))
-    (parities s)
+one_more_two s t z = search (arith, ne_eqb, eq-eqb, signed-twice, parities)
 
 -- a factor 2 ^ s negates the symbol where s is odd and n is 3 or 5 modulo 8
 jacobi-twos : (a s n : ℕ) → n % 2 ≡ 1
@@ -82,9 +51,7 @@ jacobi-twos a zero n o = ap (λ v. jacobi (pos v) n) (mul-one a)
 jacobi-twos a (suc s) n o =
     let p = ap (λ v. a * v) (pow-suc 2 s) in
     let e : a * 2 ^ suc s ≡ 2 * (a * 2 ^ s) = omega arith in
-    ap (λ v. jacobi (pos v) n) e ∙ jacobi-twice (a * 2 ^ s) n o
-    ∙ ap (λ z. signed (leaves_3_or_5 n) z) (jacobi-twos a s n o)
-    ∙ one_more_two s (leaves_3_or_5 n) (jacobi (pos a) n)
+    search (arith, jacobi-twice, one_more_two, jacobi-twos a s n o)
 
 -- the same by a test of one's own
 pub jacobi-twos_by : (b : Bool) (a s n : ℕ) → n % 2 ≡ 1 → b ≡ eqb (s % 2) 1 && leaves_3_or_5 n
@@ -93,16 +60,8 @@ jacobi-twos_by b a s n o e = jacobi-twos a s n o ∙ sym (ap (λ v. signed v (ja
 
 -- ---- two odd numbers that change places
 sign-turned : (i j : ℕ) (t : Bool) → (i + j) % 2 ≡ cond t 1 0 → sign i ≡ signed t (sign j)
-sign-turned i j true e =
-    ⊎_elim
-    (λ (p : j % 2 ≡ 0). rw (sign-odd i (omega arith), sign-even j p))
-    (λ (p : j % 2 ≡ 1). rw (sign-even i (omega arith), sign-odd j p))
-    (parities j)
-sign-turned i j false e =
-    ⊎_elim
-    (λ (p : j % 2 ≡ 0). rw (sign-even i (omega arith), sign-even j p))
-    (λ (p : j % 2 ≡ 1). rw (sign-odd i (omega arith), sign-odd j p))
-    (parities j)
+sign-turned i j true e = search (arith, sign-odd, sign-even, parities)
+sign-turned i j false e = search (arith, sign-even, sign-odd, parities)
 
 -- both m and n are 3 modulo 4
 abbrev pub both_leave_3 : ℕ → ℕ → Bool
@@ -112,17 +71,9 @@ both_leave_3 m n = eqb (m % 4) 3 && eqb (n % 4) 3
 jacobi-swapped : (m n : ℕ) → m % 2 ≡ 1 → n % 2 ≡ 1 → jacobi (pos m) n ≡ signed (both_leave_3 m n) (jacobi (pos n) m)
 jacobi-swapped m n k o =
     let p : 0 < n = omega arith in
-    let q : 0 < m = omega arith in
     ⊎_elim
-    (λ (c : Coprime m n).
-    jacobi-coprime (pos m) n p c
-    ∙ sign-turned (half_system_count (pos m) n) (half_system_count (pos n) m) (both_leave_3 m n)
-    (counts_reciprocal m n o k c ∙ pairs-parity m n k o)
-    ∙ sym (ap (λ z. signed (both_leave_3 m n) z) (jacobi-coprime (pos n) m q (Coprime-swap m n c))))
-    (λ (z : Coprime m n → ⊥).
-    jacobi-shared (pos m) n p z
-    ∙ sym (ap (λ z. signed (both_leave_3 m n) z) (jacobi-shared (pos n) m q (λ c. z (Coprime-swap n m c)))
-    ∙ signed-zero (both_leave_3 m n)))
+    (λ (c : Coprime m n). search (arith, jacobi-coprime, sign-turned, counts_reciprocal, pairs-parity))
+    (λ (z : Coprime m n → ⊥). search (arith, jacobi-shared, signed-zero))
     (coprime_or_not m n p)
 
 -- the same by a test of one's own
@@ -146,10 +97,7 @@ kept_start a n o = record { odd = o; value = refl }
 -- a turn, after which the symbol is that of r over s, turned or not
 pub kept_turned : (w : ℤ) (x y r s : ℕ) (t u : Bool) → Keeps w x y t → s % 2 ≡ 1
     → jacobi (pos x) y ≡ signed u (jacobi (pos r) s) → Keeps w r s (not (beq t u))
-kept_turned w x y r s t u k o e = record {
-  odd = o;
-  value = signed-other t u (jacobi (pos r) s) ∙ sym (ap (λ z. signed t z) e) ∙ k.value;
-}
+kept_turned w x y r s t u k o e = search (arith, signed-other)
 
 -- at the end
 kept_one : (w : ℤ) (x y : ℕ) (t : Bool) → Keeps w x y t → x ≡ 0 → y ≡ 1 → signed t (pos 1) ≡ w
@@ -157,12 +105,9 @@ kept_one w x y t k e f =
     sym (ap (λ z. signed t z) (ap (λ v. jacobi (pos v) y) e ∙ ap (λ v. jacobi (pos 0) v) f ∙ jacobi-zero_one)) ∙ k.value
 
 kept_none : (w : ℤ) (x y : ℕ) (t : Bool) → Keeps w x y t → x ≡ 0 → y ≢ 1 → pos 0 ≡ w
-kept_none w x y t k e f =
-    let o = k.odd in
-    sym (ap (λ z. signed t z) (ap (λ v. jacobi (pos v) y) e ∙ jacobi-zero y (omega arith)) ∙ signed-zero t) ∙ k.value
+kept_none w x y t k e f = search (arith, jacobi-zero, signed-zero)
 
 -- so the last symbol is the symbol
 pub kept_last : (w s : ℤ) (x y : ℕ) (t : Bool) → Keeps w x y t → x ≡ 0 → (y ≡ 1 → s ≡ signed t (pos 1))
     → (y ≢ 1 → s ≡ pos 0) → s ≡ w
-kept_last w s x y t k e one more = ⊎_elim (λ f. one f ∙ kept_one w x y t k e f) (λ f. more f ∙ kept_none w x y t k e f)
-    (cases_eq y 1)
+kept_last w s x y t k e one more = search (arith, kept_one, kept_none, cases_eq)

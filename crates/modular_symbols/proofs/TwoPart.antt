@@ -18,10 +18,7 @@ pub record SplitAt (n s : ℕ) : Type 0 where
   pub odd : (n / 2 ^ s) % 2 ≡ 1
 
 pub split_odd : (n : ℕ) → n % 2 ≡ 1 → SplitAt n 0
-split_odd n o = record {
-  whole = omega (arith, div-one n, pow-zero 2);
-  odd = ap (λ v. v % 2) (div-one n) ∙ o;
-}
+split_odd n o = search (arith, div-one, pow-zero)
 
 -- ---- the exponent
 exponent-below : (s : ℕ) → s < 2 ^ s
@@ -45,51 +42,37 @@ no_more : (n s k : ℕ) → s < k → SplitAt n s → n % 2 ^ k ≢ 0
 no_more n s k l split e =
     let p : 2 ^ k ≡ 2 ^ suc s * 2 ^ (k - suc s) =
     ap (λ v. 2 ^ v) (let f : k ≡ suc s + (k - suc s) = omega arith in f) ∙ pow-add 2 (suc s) (k - suc s) in
-    let d : n % 2 ^ suc s ≡ 0 = divides_through (2 ^ suc s) (2 ^ k) n
-    (divides (2 ^ suc s) (2 ^ k) (2 ^ (k - suc s)) p) e in
+    let d : n % 2 ^ suc s ≡ 0 = search (arith, divides_through, divides) in
     let q : ℕ = n / 2 ^ suc s in
-    let m : n ≡ 2 ^ suc s * q = multiple_of (2 ^ suc s) n d in
     let t : 2 ^ suc s ≡ 2 ^ s * 2 = pow-suc 2 s in
     let u : 2 ^ suc s * q ≡ 2 ^ s * 2 * q = ap (λ v. v * q) t in
     let w : 2 ^ s * (n / 2 ^ s) ≡ 2 ^ s * (2 * q) = omega (arith, split.whole) in
-    let even : n / 2 ^ s ≡ 2 * q = factor_cancel (2 ^ s) (n / 2 ^ s) (2 * q) (pow_pos s) w in
-    omega (arith, split.odd)
+    search (arith, factor_cancel, pow_pos)
 
 twos_from : (n s k : ℕ) → s ≤ k → SplitAt n s → twos_up_to n k ≡ s
 twos_from n s zero l split = let z = twos_up_to-none n in omega arith
 twos_from n s (suc k) l split =
     ⊎_elim
     (λ (b : s ≤ k). twos_up_to-miss n k (no_more n s (suc k) (omega arith) split) ∙ twos_from n s k b split)
-    (λ (e : s ≡ suc k).
-    let d : n % 2 ^ s ≡ 0 = divides (2 ^ s) n (n / 2 ^ s) (let w = split.whole in omega arith) in
-    twos_up_to-hit n k (sym (ap (λ v. n % 2 ^ v) e) ∙ d) ∙ sym e)
+    (λ (e : s ≡ suc k). search (arith, divides, twos_up_to-hit))
     (last_or_before s k l)
 
 -- it is the exponent of 2
 pub twos-is : (n s : ℕ) → SplitAt n s → twos n ≡ s
 twos-is n s split =
     let one : 1 * 2 ^ s ≤ n / 2 ^ s * 2 ^ s =
-    mul-le-mul_right (2 ^ s) (let o = split.odd in let b : 1 ≤ n / 2 ^ s = omega arith in b) in
-    let below = exponent-below s in
-    twos_from n s n (let w = split.whole in omega arith) split
+    mul-le-mul_right (2 ^ s) (let b : 1 ≤ n / 2 ^ s = omega arith in b) in
+    search (arith, exponent-below, twos_from)
 
 -- ---- the trailing zeros of a word
 split_step : (n t r : ℕ) → n % 2 ≡ r → r < 2 → 0 < n → (0 < n / 2 → SplitAt (n / 2) t) → SplitAt n (under r t)
-split_step n t zero e l h half =
-    let ih = half (omega arith) in
-    let q : 2 ^ suc t ≡ 2 * 2 ^ t = omega (arith, pow-suc 2 t) in
-    let d : n / 2 ^ suc t ≡ n / 2 / 2 ^ t = ap (λ v. n / v) q ∙ sym (div-div-eq-div-mul n 2 (2 ^ t)) in
-    record {
-      whole = rw (d, q) (let w : n / 2 / 2 ^ t * (2 * 2 ^ t) ≡ 2 * (n / 2 / 2 ^ t * 2 ^ t) = omega arith in
-          w ∙ ap (λ v. 2 * v) ih.whole ∙ omega arith);
-      odd = rw d ih.odd;
-    }
+split_step n t zero e l h half = search (arith, pow-suc, div-div-eq-div-mul)
 split_step n t (suc zero) e l h half = split_odd n e
 split_step n t (suc (suc r)) e l h half = absurd (omega arith)
 
 pub split_at : (w n : ℕ) → 0 < n → n < 2 ^ w → SplitAt n (count_trailing_zeros w n)
 unfolding count_trailing_zeros
-split_at zero n h k = let z = pow-zero 2 in absurd (omega arith)
+split_at zero n h k = absurd (omega arith)
 split_at (suc w) n h k =
     split_step n (count_trailing_zeros w (n / 2)) (n % 2) refl (mod-lt n (omega arith)) h
     (λ p. split_at w (n / 2) p (omega (arith, pow-suc 2 w)))
@@ -99,13 +82,7 @@ pub fewer_zeros : (w v : ℕ) → 0 < v → v < 2 ^ w → count_trailing_zeros w
 fewer_zeros w v p l =
     let s : ℕ = count_trailing_zeros w v in
     let split : SplitAt v s = split_at w v p l in
-    let most : s ≤ w = trailing_le w v in
-    let whole : v / 2 ^ s * 2 ^ s ≡ v = split.whole in
-    let odd : (v / 2 ^ s) % 2 ≡ 1 = split.odd in
-    let one : 1 * 2 ^ s ≤ v / 2 ^ s * 2 ^ s =
-    mul-le-mul_right (2 ^ s) (let b : 1 ≤ v / 2 ^ s = omega arith in b) in
-    let below : s ≢ w = λ f. let g = ap (λ k. 2 ^ k) f in omega arith in
-    omega arith
+    search (arith, trailing_le, mul-le-mul_right)
 
 -- the trailing zeros of the number that a power of two lacks d
 pub split_opposite : (w v d : ℕ) → 0 < v → 0 < d → v + d ≡ 2 ^ w → SplitAt d (count_trailing_zeros w v)
@@ -114,8 +91,6 @@ split_opposite w v d p q e =
     let split : SplitAt v s = split_at w v p (omega arith) in
     let most : s ≤ w = trailing_le w v in
     let u : ℕ = v / 2 ^ s in
-    let whole : u * 2 ^ s ≡ v = split.whole in
-    let odd : u % 2 ≡ 1 = split.odd in
     let one : 1 * 2 ^ s ≤ u * 2 ^ s = mul-le-mul_right (2 ^ s) (let b : 1 ≤ u = omega arith in b) in
     let below : s ≢ w = λ f. let g = ap (λ k. 2 ^ k) f in omega arith in
     let m : ℕ = 2 ^ (w - suc s) in
@@ -126,10 +101,7 @@ split_opposite w v d p q e =
     let both : (v + d) % 2 ^ s ≡ 0 = divides (2 ^ s) (v + d) (2 * m) (e ∙ power) in
     let rest : d ≡ 2 ^ s * (d / 2 ^ s) = multiple_of (2 ^ s) d (divides_rest (2 ^ s) v d first both) in
     let sum : u + d / 2 ^ s ≡ 2 * m = factor_cancel (2 ^ s) (u + d / 2 ^ s) (2 * m) (pow_pos s) (omega arith) in
-    record {
-      whole = omega arith;
-      odd = omega arith;
-    }
+    search arith
 
 -- ---- the odd part
 -- x is 2 ^ s times the odd number a
@@ -139,10 +111,7 @@ pub record Halved (x s a : ℕ) : Type 0 where
   pub within : a ≤ x
 
 pub halved_by : (x s a : ℕ) → a % 2 ≡ 1 → a * 2 ^ s ≡ x → Halved x s a
-halved_by x s a o m =
-    let one : 1 ≤ 2 ^ s = pow_pos s in
-    let t = mul-le-mul_left a one in
-    record { odd = o; whole = m; within = omega arith }
+halved_by x s a o m = search (arith, pow_pos, mul-le-mul_left)
 
 pub halved_split : (x s a : ℕ) → SplitAt x s → a ≡ x / 2 ^ s → Halved x s a
 halved_split x s a split f =

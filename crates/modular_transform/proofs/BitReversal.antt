@@ -1,7 +1,7 @@
 -- Reversed bits: within range, and back again.
 use Rattle.std.proofs.Common.{◌≡◌, ◌≢◌, ℕ, suc, zero, ◌+◌, ◌-◌, ◌*◌, ◌%◌, ◌/◌, ◌^◌, ◌<◌, ◌≤◌, ◌∙◌, ap, refl, arith, inl}
 use Rattle.std.proofs.Common.{inr}
-use Rattle.std.proofs.lemmas.Bool.{cases_lt, cases_eq}
+use Rattle.std.proofs.lemmas.Bool.{cases_lt}
 use Rattle.std.proofs.Math.Nat.{two-pow-succ, pow-le-pow_right, mod-eq_of_lt}
 use Rattle.std.proofs.lemmas.Nat.{pow-add}
 use Rattle.std.specs.Int.Count.{count_trailing_zeros}
@@ -18,31 +18,18 @@ bits_reversed-suc t p = refl
 
 -- a bit times a number
 bit_times : (b n : ℕ) → b < 2 → b * n ≤ n
-bit_times b n h = elim (cases_eq b 0) [
-  | inl e ↦ let z = ap (λ v. v * n) e in omega (arith, z)
-  | inr f ↦ let o : b ≡ 1 = omega arith in let z = ap (λ v. v * n) o in omega (arith, z)
-]
+bit_times b n h = grind arith
 
 pub bits_reversed_below : (t p : ℕ) → bits_reversed t p < 2 ^ t
 bits_reversed_below zero p = let e = bits_reversed-zero p in let k : 2 ^ 0 ≡ 1 = refl in omega (arith, e, k)
 bits_reversed_below (suc t) p =
-    let e = bits_reversed-suc t p in
     let h = bits_reversed_below t (p / 2) in
-    let b = bit_times (p % 2) (2 ^ t) (omega arith) in
-    let k = two-pow-succ t in
-    omega (arith, e, h, b, k)
+    omega (arith, bits_reversed-suc, bit_times, two-pow-succ)
 
 -- the highest bit becomes the lowest
 pub bits_reversed_of_high : (t p b : ℕ) → p < 2 ^ t → b < 2
     → bits_reversed (suc t) (p + b * 2 ^ t) ≡ 2 * bits_reversed t p + b
-bits_reversed_of_high zero p b below bit =
-    let k : 2 ^ 0 ≡ 1 = refl in
-    let e = bits_reversed-suc 0 (p + b * 2 ^ 0) in
-    let z = bits_reversed-zero ((p + b * 2 ^ 0) / 2) in
-    let y = bits_reversed-zero p in
-    let s : p + b * 2 ^ 0 ≡ b = omega arith in
-    let r = ap (λ v. v % 2 * 2 ^ 0) s in
-    omega (arith, e, z, y, r)
+bits_reversed_of_high zero p b below bit = omega (arith, bits_reversed-suc, bits_reversed-zero)
 bits_reversed_of_high (suc t) p b below bit =
     let k = two-pow-succ t in
     let kb = ap (λ v. b * v) k in
@@ -50,36 +37,25 @@ bits_reversed_of_high (suc t) p b below bit =
     let half : (p + b * 2 ^ suc t) / 2 ≡ p / 2 + b * 2 ^ t = omega (arith, q) in
     let low : (p + b * 2 ^ suc t) % 2 ≡ p % 2 = omega (arith, q) in
     let ih = bits_reversed_of_high t (p / 2) b (omega (arith, k)) bit in
-    let e = bits_reversed-suc (suc t) (p + b * 2 ^ suc t) in
     let f = ap (λ v. bits_reversed (suc t) v) half in
     let g = ap (λ v. v * 2 ^ suc t) low in
-    let d = bits_reversed-suc t p in
     let kp = ap (λ v. p % 2 * v) k in
-    omega (arith, e, f, g, ih, d, kp)
+    omega (arith, bits_reversed-suc (suc t) (p + b * 2 ^ suc t), f, g, ih, bits_reversed-suc t p, kp)
 
 -- reversing twice changes nothing
 pub bits_reversed_twice : (t p : ℕ) → p < 2 ^ t → bits_reversed t (bits_reversed t p) ≡ p
 bits_reversed_twice zero p below = let k : 2 ^ 0 ≡ 1 = refl in
     let e = bits_reversed-zero (bits_reversed 0 p) in omega (arith, e)
 bits_reversed_twice (suc t) p below =
-    let k = two-pow-succ t in
     let e = ap (λ v. bits_reversed (suc t) v) (bits_reversed-suc t p) in
     let h = bits_reversed_of_high t (bits_reversed t (p / 2)) (p % 2) (bits_reversed_below t (p / 2)) (omega arith) in
-    let ih = bits_reversed_twice t (p / 2) (omega (arith, k)) in
+    let ih = bits_reversed_twice t (p / 2) (omega (arith, two-pow-succ t)) in
     omega (arith, e, h, ih)
 
 -- the bits of two parts are reversed apart, and the parts change their places
 pub bits_reversed_of_parts : (t u x y : ℕ) → x < 2 ^ t
     → bits_reversed (t + u) (x + 2 ^ t * y) ≡ bits_reversed t x * 2 ^ u + bits_reversed u y
-bits_reversed_of_parts zero u x y below =
-    let k : 2 ^ 0 ≡ 1 = refl in
-    let ky = ap (λ v. v * y) k in
-    let place : x + 2 ^ 0 * y ≡ y = omega (arith, k, ky) in
-    let z = ap (λ v. v * 2 ^ u) (bits_reversed-zero x) in
-    let whole : 0 + u ≡ u = omega arith in
-    let e = ap (λ v. bits_reversed v (x + 2 ^ 0 * y)) whole in
-    let f = ap (bits_reversed u) place in
-    omega (arith, z, e, f)
+bits_reversed_of_parts zero u x y below = grind (arith, bits_reversed-zero)
 bits_reversed_of_parts (suc t) u x y below =
     let k = two-pow-succ t in
     let ky = ap (λ v. v * y) k in
@@ -88,12 +64,11 @@ bits_reversed_of_parts (suc t) u x y below =
     let ih = bits_reversed_of_parts t u (x / 2) y (omega (arith, k)) in
     let whole : suc t + u ≡ suc (t + u) = omega arith in
     let w = ap (λ v. bits_reversed v (x + 2 ^ suc t * y)) whole in
-    let e = bits_reversed-suc (t + u) (x + 2 ^ suc t * y) in
     let f = ap (λ v. bits_reversed (t + u) v) half in
     let g = ap (λ v. v * 2 ^ (t + u)) low in
     let p = ap (λ v. x % 2 * v) (pow-add 2 t u) in
     let d = ap (λ v. v * 2 ^ u) (bits_reversed-suc t x) in
-    omega (arith, w, e, f, g, ih, p, d)
+    omega (arith, w, bits_reversed-suc (t + u) (x + 2 ^ suc t * y), f, g, ih, p, d)
 
 -- the bits of 0
 pub bits_reversed_of_zero : (t : ℕ) → bits_reversed t 0 ≡ 0
@@ -109,33 +84,8 @@ pub record NextReversed (b p t : ℕ) : Type 0 where
 
 next_step : (c p t r : ℕ) → p % 2 ≡ r → r < 2 → 0 < p → (0 < p / 2 → NextReversed c (p / 2) t)
     → NextReversed (suc c) p (under r t)
-next_step c p t zero even l some half =
-    let ih = half (omega arith) in
-    let few = ih.few in
-    let n = ih.next in
-    let k = two-pow-succ c in
-    let d = bits_reversed-suc c p in
-    let z : p % 2 * 2 ^ c ≡ 0 = ap (λ v. v * 2 ^ c) even ∙ omega arith in
-    let e = bits_reversed-suc c (p - 1) in
-    let h : (p - 1) / 2 ≡ p / 2 - 1 = omega arith in
-    let o : (p - 1) % 2 ≡ 1 = omega arith in
-    let f = ap (λ v. bits_reversed c v) h in
-    let g : (p - 1) % 2 * 2 ^ c ≡ 2 ^ c = ap (λ v. v * 2 ^ c) o ∙ omega arith in
-    let x : suc c - 1 - suc t ≡ c - 1 - t = omega arith in
-    let y = ap (λ v. 2 ^ v) x in
-    record { few = omega arith; next = omega (arith, n, k, d, z, e, f, g, y) }
-next_step c p t (suc zero) odd l some half =
-    let k = two-pow-succ c in
-    let d = bits_reversed-suc c p in
-    let z : p % 2 * 2 ^ c ≡ 2 ^ c = ap (λ v. v * 2 ^ c) odd ∙ omega arith in
-    let e = bits_reversed-suc c (p - 1) in
-    let h : (p - 1) / 2 ≡ p / 2 = omega arith in
-    let o : (p - 1) % 2 ≡ 0 = omega arith in
-    let f = ap (λ v. bits_reversed c v) h in
-    let g : (p - 1) % 2 * 2 ^ c ≡ 0 = ap (λ v. v * 2 ^ c) o ∙ omega arith in
-    let x : suc c - 1 - 0 ≡ c = omega arith in
-    let y = ap (λ v. 2 ^ v) x in
-    record { few = omega arith; next = omega (arith, k, d, z, e, f, g, y) }
+next_step c p t zero even l some half = grind (arith, two-pow-succ, bits_reversed-suc)
+next_step c p t (suc zero) odd l some half = grind (arith, two-pow-succ, bits_reversed-suc)
 next_step c p t (suc (suc r)) e l some half = absurd (omega arith)
 
 pub next_reversed : (w b p : ℕ) → 0 < p → p < 2 ^ w → p < 2 ^ b → NextReversed b p (count_trailing_zeros w p)
@@ -143,10 +93,8 @@ unfolding count_trailing_zeros
 next_reversed zero b p some k l = let z : 2 ^ 0 ≡ 1 = refl in absurd (omega (arith, z))
 next_reversed (suc w) zero p some k l = let z : 2 ^ 0 ≡ 1 = refl in absurd (omega (arith, z))
 next_reversed (suc w) (suc c) p some k l =
-    let u = two-pow-succ w in
-    let v = two-pow-succ c in
     next_step c p (count_trailing_zeros w (p / 2)) (p % 2) refl (omega arith) some
-    (λ h. next_reversed w c (p / 2) h (omega (arith, u)) (omega (arith, v)))
+    (λ h. next_reversed w c (p / 2) h (omega (arith, two-pow-succ w)) (omega (arith, two-pow-succ c)))
 
 exponent_below_64 : (b : ℕ) → 2 ^ b < 2 ^ 64 → b ≤ 63
 exponent_below_64 b l = elim (cases_lt b 64) [

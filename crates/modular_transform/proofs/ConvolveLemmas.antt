@@ -1,9 +1,9 @@
 -- A convolution by three transforms: each entry at the end, and the inverse of the length.
-use Rattle.std.proofs.Common.{◌≡◌, ℕ, suc, zero, ◌+◌, ◌*◌, ◌%◌, ◌/◌, ◌^◌, ◌<◌, List}
+use Rattle.std.proofs.Common.{◌≡◌, ℕ, suc, zero, ◌+◌, ◌*◌, ◌%◌, ◌^◌, ◌<◌, List}
 use Rattle.std.proofs.Common.{length, get_or, sym, ◌∙◌, ap, refl, arith, subst, inl, inr}
 use Rattle.std.proofs.lemmas.Nat.{mod_below}
 use Rattle.std.proofs.lemmas.Bool.{cases_eq}
-use Rattle.std.proofs.Math.Nat.{two-pow-succ, zero-mod, mod-eq_of_lt}
+use Rattle.std.proofs.Math.Nat.{two-pow-succ, mod-eq_of_lt}
 use Rattle.std.specs.Int.{IsPowerOfTwo, trailing_zeros, w64}
 use Rattle.modular_transform.proofs.PowersOfTwo.{power_by_zeros}
 use Rattle.modular_word.specs.Inverses.{IsInverse}
@@ -22,15 +22,7 @@ use Rattle.modular_reduced.proofs.ListSteps.{held_values}
 -- a root that suits, for the convolution theorem
 half_turn_at : {m g n : ℕ} (z : ℕ) → n ≡ 2 ^ z → Suits m g n → HalfTurn m g n
 half_turn_at zero whole suits = let k : 2 ^ 0 ≡ 1 = refl in record { known = λ l. absurd (omega (arith, k)) }
-half_turn_at {m} {g} {n} (suc y) whole suits =
-    let h : n / 2 ≡ 2 ^ y = let d = two-pow-succ y in omega (arith, d) in
-    record {
-      known = λ l. (
-        y,
-        whole,
-        record { and_one = record { same = ap (λ k. (g ^ k + 1) % m) (sym h) ∙ suits.half_turn l ∙ sym (zero-mod m) } },
-      );
-    }
+half_turn_at {m} {g} {n} (suc y) whole suits = grind arith
 
 pub half_turn : {m g n : ℕ} → Suits m g n → HalfTurn m g n
 half_turn suits = half_turn_at suits.power_of_two.0 suits.power_of_two.1 suits

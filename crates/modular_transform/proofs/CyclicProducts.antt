@@ -63,32 +63,30 @@ pub record Mirrored (n e k : ℕ) : Type 0 where
   pub image : k < n
   pub sum : (e + k ≡ 0) ⊎ (e + k ≡ n)
 
--- the sum of the powers of g ^ (a + b + k), where a + b is e or e + n ..
-summed_at : {m : ℕ} (g n e k a b : ℕ) → HalfTurn m g n → Mirrored n e k → a < n → b < n → (a + b ≡ e) ⊎ (a + b ≡ e + n)
-    → Congruent m (geometric n (g ^ (a + b + k))) n
-summed_at {m} g n e k a b turn mirror la lb at =
+-- where a + b is e or e + n, a + b + k is 0, or n or twice n beyond one value
+turned : (n e k a b : ℕ) → Mirrored n e k → a < n → b < n → (a + b ≡ e) ⊎ (a + b ≡ e + n)
+    → (a + b + k ≡ 0) ⊎ ((1 < n) × ((a + b + k ≡ n * 1) ⊎ (a + b + k ≡ n * 2)))
+turned n e k a b mirror la lb at =
     let le = mirror.place in
     let lk = mirror.image in
     elim at [
-      | inl is ↦ elim mirror.sum [
-        | inl none ↦ let d : a + b + k ≡ 0 = omega arith in
-            mod_trans (mod_of_eq (ap (λ v. geometric n (g ^ v)) d)) (at_no_turn g n)
-        | inr whole ↦ elim (cases_lt 1 n) [
-          | inl l ↦ at_full_turns g n 1 (a + b + k) turn l (omega arith)
-          | inr s ↦ absurd (omega arith)
-        ]
-      ]
+      | inl is ↦ elim mirror.sum [ inl none ↦ inl (omega arith) | inr whole ↦ inr (omega arith, inl (omega arith)) ]
       | inr is ↦ elim mirror.sum [
-        | inl none ↦ elim (cases_lt 1 n) [
-          | inl l ↦ at_full_turns g n 1 (a + b + k) turn l (omega arith)
-          | inr s ↦ absurd (omega arith)
-        ]
-        | inr whole ↦ elim (cases_lt 1 n) [
-          | inl l ↦ at_full_turns g n 2 (a + b + k) turn l (omega arith)
-          | inr s ↦ absurd (omega arith)
-        ]
+        | inl none ↦ inr (omega arith, inl (omega arith))
+        | inr whole ↦ inr (omega arith, inr (omega arith))
       ]
     ]
+
+-- there the powers of g ^ (a + b + k) add up to n ..
+summed_at : {m : ℕ} (g n e k a b : ℕ) → HalfTurn m g n → Mirrored n e k → a < n → b < n → (a + b ≡ e) ⊎ (a + b ≡ e + n)
+    → Congruent m (geometric n (g ^ (a + b + k))) n
+summed_at {m} g n e k a b turn mirror la lb at = elim (turned n e k a b mirror la lb at) [
+  | inl none ↦ mod_trans (mod_of_eq (ap (λ v. geometric n (g ^ v)) none)) (at_no_turn g n)
+  | inr some ↦ elim some.1 [
+    | inl once ↦ at_full_turns g n 1 (a + b + k) turn some.0 once
+    | inr twice ↦ at_full_turns g n 2 (a + b + k) turn some.0 twice
+  ]
+]
 
 between : {m : ℕ} (g n d : ℕ) → HalfTurn m g n → 1 < n → d < n + n + n → d ≢ 0 → d ≢ n → d ≢ n + n
     → Congruent m (geometric n (g ^ d)) 0
@@ -104,16 +102,7 @@ between g n d turn l below no_0 no_1 no_2 =
 -- .. and where it is neither
 vanished_at : {m : ℕ} (g n e k a b : ℕ) → HalfTurn m g n → Mirrored n e k → a < n → b < n → a + b ≢ e → a + b ≢ e + n
     → Congruent m (geometric n (g ^ (a + b + k))) 0
-vanished_at {m} g n e k a b turn mirror la lb not_e not_en =
-    let le = mirror.place in
-    let lk = mirror.image in
-    elim (cases_lt 1 n) [
-      | inl l ↦ elim mirror.sum [
-        | inl none ↦ between g n (a + b + k) turn l (omega arith) (omega arith) (omega arith) (omega arith)
-        | inr whole ↦ between g n (a + b + k) turn l (omega arith) (omega arith) (omega arith) (omega arith)
-      ]
-      | inr s ↦ elim mirror.sum [ inl none ↦ absurd (omega arith) | inr whole ↦ absurd (omega arith) ]
-    ]
+vanished_at {m} g n e k a b turn mirror la lb not_e not_en = grind (arith, between)
 
 -- one product of two values, with the test of the cyclic product
 tested : {m : ℕ} (g n e k a b c : ℕ) → HalfTurn m g n → Mirrored n e k → a < n → b < n
@@ -164,15 +153,13 @@ expanded g n k j x y =
     (λ a la. sum_below-same n (λ b. s * f a b) (λ b. x a * y b * (g ^ (a + b + k)) ^ j)
     (λ b lb. let u : s * f a b ≡ f a b * s = omega arith in u ∙ summand g k a b j (x a) (y b)))
 
--- the sum over j moves inside
-pub moved : (n : ℕ) (f : ℕ → ℕ → ℕ → ℕ)
-    → sum_below n (λ j. sum_below n (λ a. sum_below n (λ b. f a b j)))
-    ≡ sum_below n (λ a. sum_below n (λ b. sum_below n (λ j. f a b j)))
-moved n f =
-    sum_below-exchanged n n (λ j a. sum_below n (λ b. f a b j))
-    ∙ sum_below-same n (λ a. sum_below n (λ j. sum_below n (λ b. f a b j)))
-    (λ a. sum_below n (λ b. sum_below n (λ j. f a b j)))
-    (λ a l. sum_below-exchanged n n (λ j b. f a b j))
+-- the outermost of three sums becomes the innermost
+pub moved : (p n : ℕ) (f : ℕ → ℕ → ℕ → ℕ) → sum_below p (λ e. sum_below n (λ i. sum_below n (λ j. f i j e)))
+    ≡ sum_below n (λ i. sum_below n (λ j. sum_below p (λ e. f i j e)))
+moved p n f =
+    sum_below-exchanged p n (λ e i. sum_below n (λ j. f i j e))
+    ∙ sum_below-same n (λ i. sum_below p (λ e. sum_below n (λ j. f i j e)))
+    (λ i. sum_below n (λ j. sum_below p (λ e. f i j e))) (λ i l. sum_below-exchanged p n (λ e j. f i j e))
 
 -- the convolution theorem: at the mirror image of e, the transform of
 -- the product of two transforms is n times entry e of the cyclic product
@@ -185,7 +172,7 @@ convolved {m} g n e k x y c turn mirror is =
     let f = λ (a b j : ℕ). x a * y b * (g ^ (a + b + k)) ^ j in
     mod_trans (sum_below-congruent n (λ j. c j * g ^ (j * k)) (λ j. sum_below n (λ a. sum_below n (λ b. f a b j)))
     (λ j l. mod_trans (mod_mul (is j l) (mod_refl (g ^ (j * k)))) (mod_of_eq (expanded g n k j x y))))
-    (mod_trans (mod_of_eq (moved n f))
+    (mod_trans (mod_of_eq (moved n n f))
     (mod_trans (sum_below-congruent n (λ a. sum_below n (λ b. sum_below n (λ j. f a b j)))
     (λ a. sum_below n (λ b. n * (cond (eqb (a + b) e || eqb (a + b) (e + n)) (x a * y b) 0)))
     (λ a la. sum_below-congruent n (λ b. sum_below n (λ j. f a b j))

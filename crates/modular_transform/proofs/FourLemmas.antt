@@ -1,16 +1,16 @@
 -- The fours of two stages, done one after another.
-use Rattle.std.proofs.Common.{◌≡◌, ℕ, ◌+◌, ◌*◌, ◌%◌, ◌<◌, ◌≤◌, sym, ◌∙◌, ap, refl, arith, inl, inr, subst}
+use Rattle.std.proofs.Common.{◌≡◌, ℕ, ◌+◌, ◌*◌, ◌^◌, ◌<◌, ◌≤◌, sym, ◌∙◌, ap, refl, arith, inl, inr}
 use Rattle.std.proofs.lemmas.Bool.{cases_lt}
 use Rattle.std.proofs.lemmas.Nat.{same_from_place, mul-le}
 use Rattle.modular_word.specs.Congruence.{Congruent}
 use Rattle.modular_word.proofs.Congruence.{mod_refl, mod_mul}
-use Rattle.modular_transform.specs.Stages.{weighted, IsFour, FourDone}
+use Rattle.modular_transform.specs.Stages.{IsFour, FourDone}
 use Rattle.modular_transform.proofs.PairLemmas.{pair_along, pair_by}
 
 -- from the values x to the values y, the fours of the blocks from a to b - 1 in the columns from c to d - 1 are done
 -- and no others; a block has four quarters of h values
-pub record FoursDone (m : ℕ) (p q s : ℕ → ℕ) (h a b c d : ℕ) (x y : ℕ → ℕ) : Type 0 where
-  pub fours : (n i : ℕ) → a ≤ n → n < b → c ≤ i → i < d → IsFour m (p i) (q i) (s i) h (n * (4 * h) + i) x y
+pub record FoursDone (m w v h a b c d : ℕ) (x y : ℕ → ℕ) : Type 0 where
+  pub fours : (n i : ℕ) → a ≤ n → n < b → c ≤ i → i < d → IsFour m (w ^ i) (w ^ (h + i)) (v ^ i) h (n * (4 * h) + i) x y
   pub kept : (n j i : ℕ) → j < 4 → i < h → (a ≤ n → n < b → c ≤ i → i < d → ⊥)
       → y (n * (4 * h) + (j * h + i)) ≡ x (n * (4 * h) + (j * h + i))
 
@@ -30,24 +30,7 @@ turned_four is = record { first = sym is.first; second = sym is.second; third = 
 -- the same four by other names of its values
 four_along : {m p q s h k : ℕ} {x y x' y' : ℕ → ℕ} → SameFour h k x x' → SameFour h k y y'
     → IsFour m p q s h k x y → IsFour m p q s h k x' y'
-four_along {m} {p} {q} {s} {h} {k} {x} {y} {x'} {y'} from to four = record {
-  sums = pair_along
-      (ap (λ v. (v + x (k + 2 * h)) % m) from.first ∙ ap (λ v. (x' k + v) % m) from.third)
-      (ap (λ v. (v + x (k + 3 * h)) % m) from.second ∙ ap (λ v. (x' (k + h) + v) % m) from.fourth)
-      to.first to.second four.sums;
-  differences = pair_along
-      (ap (λ v. weighted m p v (x (k + 2 * h))) from.first ∙ ap (λ v. weighted m p (x' k) v) from.third)
-      (ap (λ v. weighted m q v (x (k + 3 * h))) from.second ∙ ap (λ v. weighted m q (x' (k + h)) v) from.fourth)
-      to.third to.fourth four.differences;
-}
-
--- .. by other names of its powers and its place
-four_at : {m p q s h k p' q' s' k' : ℕ} (x y : ℕ → ℕ) → p ≡ p' → q ≡ q' → s ≡ s' → k ≡ k'
-    → IsFour m p q s h k x y → IsFour m p' q' s' h k' x y
-four_at {m} {p} {q} {s} {h} {k} {p'} {q'} {s'} {k'} x y ep eq es ek four =
-    subst (λ v. IsFour m v q' s' h k' x y) ep
-    (subst (λ v. IsFour m p v s' h k' x y) eq
-    (subst (λ v. IsFour m p q v h k' x y) es (subst (λ v. IsFour m p q s h v x y) ek four)))
+four_along {m} {p} {q} {s} {h} {k} {x} {y} {x'} {y'} from to four = grind arith
 
 -- .. and by powers that are congruent
 four_by : {m p q s h k p' q' s' : ℕ} {x y : ℕ → ℕ} → Congruent m p p' → Congruent m q q' → Congruent m s s'
@@ -73,30 +56,26 @@ placed h c j l b t i lj lt ll li e =
     (outer.0, (same_from_place j l t i h ll li outer.1).1)
 
 -- one four alone
-pub one_done : {m p q s k : ℕ} (ps qs ss : ℕ → ℕ) (h b i : ℕ) (x y : ℕ → ℕ) → i < h → k ≡ b * (4 * h) + i
-    → p ≡ ps i → q ≡ qs i → s ≡ ss i → FourDone m p q s h k x y → FoursDone m ps qs ss h b (b + 1) i (i + 1) x y
-one_done {m} {p} {q} {s} {k} ps qs ss h b i x y l is_place is_p is_q is_s done = record {
+pub one_done : {m w v : ℕ} (h b i : ℕ) (x y : ℕ → ℕ) → i < h
+    → FourDone m (w ^ i) (w ^ (h + i)) (v ^ i) h (b * (4 * h) + i) x y → FoursDone m w v h b (b + 1) i (i + 1) x y
+one_done {m} {w} {v} h b i x y l done = record {
   fours = λ n j u v c d.
       let eb : b ≡ n = omega arith in
       let ei : i ≡ j = omega arith in
-      four_at x y (is_p ∙ ap ps ei) (is_q ∙ ap qs ei) (is_s ∙ ap ss ei)
-      (is_place ∙ ap (λ v. v * (4 * h) + i) eb ∙ ap (λ v. n * (4 * h) + v) ei) done.four;
+      rw (eb, ei) at done.four;
   kept = λ n j o lj lo outside.
       let other = λ (t : ℕ) (lt : t < 4) (e : n * (4 * h) + (j * h + o) ≡ b * (4 * h) + (t * h + i)).
       let s = placed h n j o b t i lj lt lo l e in
-      outside (let z = s.0 in omega arith) (let z = s.0 in omega arith) (let z = s.1 in omega arith)
-      (let z = s.1 in omega arith) in
-      done.kept (n * (4 * h) + (j * h + o))
-      (λ e. other 0 (omega arith) (e ∙ is_place ∙ omega arith))
-      (λ e. other 1 (omega arith) (e ∙ ap (λ v. v + h) is_place ∙ omega arith))
-      (λ e. other 2 (omega arith) (e ∙ ap (λ v. v + 2 * h) is_place ∙ omega arith))
-      (λ e. other 3 (omega arith) (e ∙ ap (λ v. v + 3 * h) is_place ∙ omega arith));
+      outside (omega (arith, s.0)) (omega (arith, s.0)) (omega (arith, s.1)) (omega (arith, s.1)) in
+      done.kept (n * (4 * h) + (j * h + o)) (λ e. other 0 (omega arith) (e ∙ omega arith))
+      (λ e. other 1 (omega arith) (e ∙ omega arith)) (λ e. other 2 (omega arith) (e ∙ omega arith))
+      (λ e. other 3 (omega arith) (e ∙ omega arith));
 }
 
 -- a four that isn't among those that are done
-same_four : {m h a b c d : ℕ} {p q s : ℕ → ℕ} {x y : ℕ → ℕ} → FoursDone m p q s h a b c d x y
+same_four : {m w v h a b c d : ℕ} {x y : ℕ → ℕ} → FoursDone m w v h a b c d x y
     → (n i : ℕ) → i < h → (a ≤ n → n < b → c ≤ i → i < d → ⊥) → SameFour h (n * (4 * h) + i) y x
-same_four {m} {h} {a} {b} {c} {d} {p} {q} {s} {x} {y} done n i l outside =
+same_four {h = h} {x = x} {y = y} done n i l outside =
     let at = λ (k j : ℕ) (lj : j < 4) (e : k ≡ n * (4 * h) + (j * h + i)).
     ap y e ∙ done.kept n j i lj l outside ∙ ap x (sym e) in
     record {
@@ -107,9 +86,9 @@ same_four {m} {h} {a} {b} {c} {d} {p} {q} {s} {x} {y} done n i l outside =
     }
 
 -- more columns of the same blocks
-pub columns_joined : {m h a b c d e : ℕ} {p q s : ℕ → ℕ} (x y z : ℕ → ℕ) → c ≤ d → d ≤ e → e ≤ h
-    → FoursDone m p q s h a b c d x y → FoursDone m p q s h a b d e y z → FoursDone m p q s h a b c e x z
-columns_joined {m} {h} {a} {b} {c} {d} {e} x y z lc ld le one two = record {
+pub columns_joined : {m w v h a b c d e : ℕ} (x y z : ℕ → ℕ) → c ≤ d → d ≤ e → e ≤ h
+    → FoursDone m w v h a b c d x y → FoursDone m w v h a b d e y z → FoursDone m w v h a b c e x z
+columns_joined {h = h} {d = d} x y z lc ld le one two = record {
   fours = λ n i u v k l. elim (cases_lt i d) [
     | inl f ↦ four_along (itself_four h _ x)
         (turned_four (same_four two n i (omega arith) (λ o g j k. absurd (omega arith)))) (one.fours n i u v k f)
@@ -122,9 +101,9 @@ columns_joined {m} {h} {a} {b} {c} {d} {e} x y z lc ld le one two = record {
 }
 
 -- more blocks of the same columns
-pub blocks_joined : {m h a b c d e : ℕ} {p q s : ℕ → ℕ} (x y z : ℕ → ℕ) → a ≤ b → b ≤ e → d ≤ h
-    → FoursDone m p q s h a b c d x y → FoursDone m p q s h b e c d y z → FoursDone m p q s h a e c d x z
-blocks_joined {m} {h} {a} {b} {c} {d} {e} x y z la lb ld one two = record {
+pub blocks_joined : {m w v h a b c d e : ℕ} (x y z : ℕ → ℕ) → a ≤ b → b ≤ e → d ≤ h
+    → FoursDone m w v h a b c d x y → FoursDone m w v h b e c d y z → FoursDone m w v h a e c d x z
+blocks_joined {h = h} {b = b} x y z la lb ld one two = record {
   fours = λ n i u v k l. elim (cases_lt n b) [
     | inl f ↦ four_along (itself_four h _ x)
         (turned_four (same_four two n i (omega arith) (λ o g j k. absurd (omega arith)))) (one.fours n i u f k l)
@@ -138,20 +117,4 @@ blocks_joined {m} {h} {a} {b} {c} {d} {e} x y z la lb ld one two = record {
 
 -- the places of a block are places of the list
 pub block_fits : (block blocks h n : ℕ) → block < blocks → blocks * (4 * h) ≡ n → block * (4 * h) + 4 * h ≤ n
-block_fits block blocks h n l whole =
-    let a = mul-le (block + 1) (4 * h) blocks (4 * h) (omega arith) (omega arith) in
-    omega arith
-
--- the products so far are no more than twice its values
-pub fours_fit : (column width h blocks n : ℕ) → column + width ≤ h → blocks * (4 * h) ≡ n → 0 < blocks
-    → column * (4 * blocks + 3) + 3 * width + blocks * (4 * width) ≤ 2 * n
-fours_fit column width h blocks n l whole some =
-    let a = mul-le (column + width) (4 * blocks + 3) h (8 * blocks) (omega arith) (omega arith) in
-    omega arith
-
-pub four_fits : (column width h block blocks n : ℕ) → block < blocks → column + width ≤ h → blocks * (4 * h) ≡ n
-    → column * (4 * blocks + 3) + 3 * width + block * (4 * width) + 4 * width ≤ 2 * n
-four_fits column width h block blocks n l lw whole =
-    let a = mul-le (block + 1) (4 * width) blocks (4 * width) (omega arith) (omega arith) in
-    let b = fours_fit column width h blocks n lw whole (omega arith) in
-    omega arith
+block_fits block blocks h n l whole = grind arith

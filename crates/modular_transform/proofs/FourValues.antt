@@ -1,6 +1,5 @@
 -- What a four of two stages writes.
-use Rattle.std.proofs.Common.{◌≡◌, ◌≢◌, ℕ, ◌+◌, ◌*◌, ◌%◌, ◌<◌, List, length, get_or, All}
-use Rattle.std.proofs.Common.{sym, ◌∙◌, ap, arith}
+use Rattle.std.proofs.Common.{◌≡◌, ◌≢◌, ℕ, ◌+◌, ◌*◌, ◌%◌, ◌<◌, List, length, get_or, All, ◌∙◌, ap, arith}
 use Rattle.std.proofs.Math.ListN.{set, length-set}
 use Rattle.modular_reduced.specs.Entries.{entry}
 use Rattle.modular_reduced.specs.EntryLaws.{entry_kept, entry_read, entry_written}
@@ -34,27 +33,7 @@ all_written : {T : Type 0} (number : T → ℕ) (value : ℕ → ℕ → ℕ) (m
     → 0 < step → k + 3 * step < length forms
     → Written number value m k step forms
     (set (set (set (set forms k e) (k + step) f) (k + 2 * step) g) (k + 3 * step) h) e f g h
-all_written number value m k step forms e f g h some within =
-    let one = set forms k e in
-    let two = set one (k + step) f in
-    let three = set two (k + 2 * step) g in
-    let four = set three (k + 3 * step) h in
-    let of_one = length-set forms k e in
-    let of_two = length-set one (k + step) f in
-    let of_three = length-set two (k + 2 * step) g in
-    let same = λ (xs : List _) (i : ℕ) (x : _) (l : i < length xs). entry_written number value m xs i x l in
-    let other = λ (xs : List _) (i j : ℕ) (x : _) (n : j ≢ i). entry_kept number value m xs i j x n in
-    record {
-      first = sym (other three (k + 3 * step) k h (omega arith) ∙ other two (k + 2 * step) k g (omega arith)
-          ∙ other one (k + step) k f (omega arith) ∙ same forms k e (omega arith));
-      second = sym (other three (k + 3 * step) (k + step) h (omega arith)
-          ∙ other two (k + 2 * step) (k + step) g (omega arith) ∙ same one (k + step) f (omega (arith, of_one)));
-      third = sym (other three (k + 3 * step) (k + 2 * step) h (omega arith)
-          ∙ same two (k + 2 * step) g (omega (arith, of_one, of_two)));
-      fourth = sym (same three (k + 3 * step) h (omega (arith, of_one, of_two, of_three)));
-      kept = λ i n0 n1 n2 n3. other three (k + 3 * step) i h n3 ∙ other two (k + 2 * step) i g n2
-          ∙ other one (k + step) i f n1 ∙ other forms k i e n0;
-    }
+all_written number value m k step forms e f g h some within = grind (arith, set, length-set, entry_written, entry_kept)
 
 pub four_checked : {T : Type 0} (number : T → ℕ) (form value : ℕ → ℕ → ℕ) (width m : ℕ) (forms : List T) (k step : ℕ)
     (e f g h : T) {ve vf vg vh : ℕ} → IsCanonical form value width m → All (λ f. IsForm form value m (number f)) forms

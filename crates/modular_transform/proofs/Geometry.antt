@@ -1,5 +1,5 @@
 -- Sums of powers of h that vanish modulo m: no field is needed.
-use Rattle.std.proofs.Common.{◌≡◌, ℕ, suc, zero, ◌+◌, ◌*◌, ◌%◌, ◌/◌, ◌^◌, ◌<◌, sym, ◌∙◌, ap, refl, arith, inl, inr}
+use Rattle.std.proofs.Common.{◌≡◌, ℕ, suc, zero, ◌+◌, ◌*◌, ◌%◌, ◌/◌, ◌^◌, ◌<◌, sym, ◌∙◌, ap, arith, inl, inr}
 use Rattle.std.proofs.lemmas.Nat.{pow-add}
 use Rattle.std.proofs.lemmas.Bool.{cases_lt, cases_eq}
 use Rattle.std.proofs.Math.Nat.{two-pow-succ}
@@ -56,19 +56,16 @@ of_even : (y d : ℕ) → d % 2 ≡ 0 → OddMultiple y (d / 2) → OddMultiple 
 of_even y d even k =
     let e : d ≡ 2 * (d / 2) = omega arith in
     let q = ap (λ v. v * (2 * k.half + 1)) (two-pow-succ y) in
-    let r = k.reached in
     let f = k.few in
     record {
       doublings = k.doublings;
       half = k.half;
       few = omega arith;
-      reached = ap (λ v. v * 2 ^ k.doublings) e ∙ omega (arith, r, q);
+      reached = ap (λ v. v * 2 ^ k.doublings) e ∙ omega (arith, k.reached, q);
     }
 
 pub odd_multiple : (y d : ℕ) → 0 < d → d < 2 ^ suc y → OddMultiple y d
-odd_multiple zero d some below =
-    let p : 2 ^ 1 ≡ 2 = refl in
-    of_odd zero d (omega arith)
+odd_multiple zero d some below = omega (arith, of_odd)
 odd_multiple (suc y) d some below =
     elim (cases_eq (d % 2) 0) [
       | inl e ↦ let p = two-pow-succ (suc y) in of_even y d e (odd_multiple y (d / 2) (omega arith) (omega (arith, p)))

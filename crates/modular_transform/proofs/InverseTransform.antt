@@ -3,7 +3,7 @@ use Rattle.std.proofs.Common.{◌≡◌, ◌≢◌, ℕ, suc, zero, ◌+◌, ◌
 use Rattle.std.proofs.Common.{◌^◌, ◌<◌, sym, ◌∙◌, ap, refl, arith, inl, inr}
 use Rattle.std.proofs.lemmas.Bool.{cases_lt, cases_eq}
 use Rattle.std.proofs.lemmas.Nat.{pow-add, mul-pow, pow_pos}
-use Rattle.std.proofs.Math.Nat.{two-pow-succ, zero-mod}
+use Rattle.std.proofs.Math.Nat.{two-pow-succ, zero-mod, mul-one, mul_comm}
 use Rattle.std.specs.Int.{IsPowerOfTwo}
 use Rattle.modular_word.specs.Congruence.{Congruent}
 use Rattle.modular_word.specs.Inverses.{IsInverse}
@@ -40,10 +40,12 @@ sum_only {m} (suc n) k f l none = elim (cases_eq k n) [
 ]
 
 -- powers of a number and of its inverse cancel
-powers_cancel : {m g h : ℕ} (k : ℕ) → IsInverse m g h → Congruent m (g ^ k * h ^ k) 1
-powers_cancel {m} {g} {h} k inverse =
-    let one : Congruent m (g * h) 1 = record { same = inverse.one } in
+powers_cancel : {m : ℕ} (g h k : ℕ) → Congruent m (g * h) 1 → Congruent m (g ^ k * h ^ k) 1
+powers_cancel {m} g h k one =
     mod_trans (mod_of_eq (sym (mul-pow g h k))) (mod_trans (mod_pow k one) (mod_of_eq (one-pow k)))
+
+of_inverse : {m g h : ℕ} → IsInverse m g h → Congruent m (g * h) 1
+of_inverse inverse = record { same = inverse.one }
 
 -- the inverse of a root that suits
 pub inverse_suits : {m g h n : ℕ} → IsInverse m g h → Suits m g n → Suits m h n
@@ -52,7 +54,7 @@ inverse_suits {m} {g} {h} {n} inverse suits = record {
   half_turn = λ l.
       let k = n / 2 in
       let turn : Congruent m (g ^ k + 1) 0 = record { same = suits.half_turn l ∙ sym (zero-mod m) } in
-      let cancel = powers_cancel k inverse in
+      let cancel = powers_cancel g h k (of_inverse inverse) in
       let e : (g ^ k + 1) * h ^ k ≡ g ^ k * h ^ k + h ^ k = omega arith in
       let o : 1 + h ^ k ≡ h ^ k + 1 = omega arith in
       let z : 0 * h ^ k ≡ 0 = omega arith in
@@ -63,34 +65,20 @@ inverse_suits {m} {g} {h} {n} inverse suits = record {
       sum.same ∙ zero-mod m;
 }
 
--- g^(i * j) * h^(j * k), for i above k
-above : {m g h : ℕ} (i k j : ℕ) → IsInverse m g h → k < i → Congruent m (g ^ (i * j) * h ^ (j * k)) ((g ^ (i - k)) ^ j)
-above {m} {g} {h} i k j inverse l =
-    let d : i ≡ (i - k) + k = omega arith in
-    let e : i * j ≡ (i - k) * j + j * k = ap (λ v. v * j) d ∙ omega arith in
-    let p = ap (λ v. g ^ v) e ∙ pow-add g ((i - k) * j) (j * k) in
-    let q = ap (λ v. v * h ^ (j * k)) p in
-    let r : g ^ ((i - k) * j) * g ^ (j * k) * h ^ (j * k) ≡ g ^ ((i - k) * j) * (g ^ (j * k) * h ^ (j * k)) =
-    omega arith in
-    let o : g ^ ((i - k) * j) * 1 ≡ g ^ ((i - k) * j) = omega arith in
-    mod_trans (mod_of_eq (q ∙ r)) (mod_trans (mod_mul (mod_refl (g ^ ((i - k) * j))) (powers_cancel (j * k) inverse))
-    (mod_of_eq (o ∙ pow-mul g (i - k) j)))
+-- g^(i * j) * h^(j * k), for i above k, and for i below k
+above : {m : ℕ} (g h i k j : ℕ) → Congruent m (g * h) 1 → k < i → Congruent m (g ^ (i * j) * h ^ (j * k)) ((g ^ (i - k)) ^ j)
+above {m} g h i k j one l =
+    let e : i * j ≡ (i - k) * j + j * k = ap (λ v. v * j) (let d : i ≡ (i - k) + k = omega arith in d) ∙ omega arith in
+    let p : g ^ (i * j) * h ^ (j * k) ≡ g ^ ((i - k) * j) * (g ^ (j * k) * h ^ (j * k)) =
+    ap (λ v. v * h ^ (j * k)) (ap (λ v. g ^ v) e ∙ pow-add g ((i - k) * j) (j * k)) ∙ omega arith in
+    mod_trans (mod_of_eq p) (mod_trans (mod_mul (mod_refl _) (powers_cancel g h (j * k) one))
+    (mod_of_eq (mul-one _ ∙ pow-mul g (i - k) j)))
 
-swapped : {m g h : ℕ} → IsInverse m g h → Congruent m (h * g) 1
-swapped {m} {g} {h} inverse = let e : h * g ≡ g * h = omega arith in
-    mod_trans (mod_of_eq e) (record { same = inverse.one })
-
-below : {m g h : ℕ} (i k j : ℕ) → IsInverse m g h → i < k → Congruent m (g ^ (i * j) * h ^ (j * k)) ((h ^ (k - i)) ^ j)
-below {m} {g} {h} i k j inverse l =
-    let d : k ≡ (k - i) + i = omega arith in
-    let e : j * k ≡ (k - i) * j + i * j = ap (λ v. j * v) d ∙ omega arith in
-    let p = ap (λ v. h ^ v) e ∙ pow-add h ((k - i) * j) (i * j) in
-    let q = ap (λ v. g ^ (i * j) * v) p in
-    let r : g ^ (i * j) * (h ^ ((k - i) * j) * h ^ (i * j)) ≡ h ^ ((k - i) * j) * (g ^ (i * j) * h ^ (i * j)) =
-    omega arith in
-    let o : h ^ ((k - i) * j) * 1 ≡ h ^ ((k - i) * j) = omega arith in
-    mod_trans (mod_of_eq (q ∙ r)) (mod_trans (mod_mul (mod_refl (h ^ ((k - i) * j))) (powers_cancel (i * j) inverse))
-    (mod_of_eq (o ∙ pow-mul h (k - i) j)))
+below : {m : ℕ} (g h i k j : ℕ) → Congruent m (g * h) 1 → i < k → Congruent m (g ^ (i * j) * h ^ (j * k)) ((h ^ (k - i)) ^ j)
+below {m} g h i k j one l =
+    let turn : g ^ (i * j) * h ^ (j * k) ≡ h ^ (k * j) * g ^ (j * i) = ap (λ v. g ^ v * h ^ (j * k)) (mul_comm i j)
+    ∙ ap (λ v. g ^ (j * i) * h ^ v) (mul_comm j k) ∙ mul_comm (g ^ (j * i)) (h ^ (k * j)) in
+    mod_trans (mod_of_eq turn) (above h g k i j (mod_trans (mod_of_eq (mul_comm h g)) one) l)
 
 -- the sum of g^(i * j) * h^(j * k) over j: n for i = k ..
 same_places : {m g h : ℕ} (n k : ℕ) → IsInverse m g h → Congruent m (sum_below n (λ j. g ^ (k * j) * h ^ (j * k))) n
@@ -99,7 +87,7 @@ same_places {m} {g} {h} n k inverse =
     mod_trans (sum_below-congruent n (λ j. g ^ (k * j) * h ^ (j * k)) (λ j. 1 ^ j)
     (λ j l. let e : k * j ≡ j * k = omega arith in
     mod_trans (mod_of_eq (ap (λ v. g ^ v * h ^ (j * k)) e))
-    (mod_trans (powers_cancel (j * k) inverse) (mod_of_eq (sym (one-pow j))))))
+    (mod_trans (powers_cancel g h (j * k) (of_inverse inverse)) (mod_of_eq (sym (one-pow j))))))
     (geometric_of_one n 1 (mod_refl 1))
 
 -- .. and else 0
@@ -108,11 +96,11 @@ other_places : {m g h : ℕ} (n i k : ℕ) → IsInverse m g h → Suits m g n �
 other_places {m} {g} {h} n i k inverse suits li lk ne = elim (cases_lt k i) [
   | inl l ↦
       mod_trans (sum_below-congruent n (λ j. g ^ (i * j) * h ^ (j * k)) (λ j. (g ^ (i - k)) ^ j)
-      (λ j t. above i k j inverse l))
+      (λ j t. above g h i k j (of_inverse inverse) l))
       (at_other_turns g n 0 (i - k) (i - k) (half_turn suits) (omega arith) (omega arith) (omega arith) (omega arith))
   | inr s ↦
       mod_trans (sum_below-congruent n (λ j. g ^ (i * j) * h ^ (j * k)) (λ j. (h ^ (k - i)) ^ j)
-      (λ j t. below i k j inverse (omega arith)))
+      (λ j t. below g h i k j (of_inverse inverse) (omega arith)))
       (at_other_turns h n 0 (k - i) (k - i) (half_turn (inverse_suits inverse suits)) (omega arith)
       (omega arith) (omega arith) (omega arith))
 ]
@@ -138,9 +126,7 @@ back_sum n k g h x =
 -- congruent values have one transform
 pub transform_congruent : {m : ℕ} (g n j : ℕ) (x y : ℕ → ℕ) → ((i : ℕ) → i < n → Congruent m (x i) (y i))
     → transform m g n x j ≡ transform m g n y j
-transform_congruent {m} g n j x y same =
-    (sum_below-congruent n (λ i. x i * g ^ (i * j)) (λ i. y i * g ^ (i * j))
-    (λ i l. mod_mul (same i l) (mod_refl (g ^ (i * j))))).same
+transform_congruent {m} g n j x y same = grind (arith, sum_below-congruent, mod_mul, mod_refl)
 
 -- entry k of the transform back is n times value k
 pub transformed_back : {m g h : ℕ} (n k : ℕ) (x : ℕ → ℕ) → IsInverse m g h → Suits m g n → k < n
@@ -178,11 +164,9 @@ power_suits {m} {g} k n power suits = record {
   power_of_two = power;
   half_turn = λ l.
       let e = even_length power.0 n power.1 l in
-      let p = pow_pos suits.power_of_two.0 in
-      let q = suits.power_of_two.1 in
       let w : n * k ≡ 2 * (k * (n / 2)) = ap (λ v. v * k) e ∙ omega arith in
       let half : n * k / 2 ≡ k * (n / 2) = omega (arith, w) in
-      let more : 1 < n * k = omega (arith, w, p, q) in
+      let more : 1 < n * k = omega (arith, w, pow_pos suits.power_of_two.0, suits.power_of_two.1) in
       let turn : Congruent m (g ^ (n * k / 2) + 1) 0 = record { same = suits.half_turn more ∙ sym (zero-mod m) } in
       let same : Congruent m ((g ^ k % m) ^ (n / 2)) (g ^ (n * k / 2)) =
       mod_trans (mod_pow (n / 2) (residue_of (g ^ k))) (mod_of_eq (sym (ap (λ v. g ^ v) half ∙ pow-mul g k (n / 2)))) in

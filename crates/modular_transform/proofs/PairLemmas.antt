@@ -8,9 +8,7 @@ use Rattle.modular_transform.specs.Stages.{IsPair, PairDone, IsStage}
 -- the same pair by other names of its values
 pub pair_along : {m u a b c d a' b' c' d' : ℕ} → a ≡ a' → b ≡ b' → c ≡ c' → d ≡ d'
     → IsPair m u a b c d → IsPair m u a' b' c' d'
-pair_along {m} {u} {a} {b} {c} {d} {a'} {b'} {c'} {d'} ea eb ec ed h =
-    subst (λ v. IsPair m u v b' c' d') ea
-    (subst (λ v. IsPair m u a v c' d') eb (subst (λ v. IsPair m u a b v d') ec (subst (λ v. IsPair m u a b c v) ed h)))
+pair_along {m} {u} {a} {b} {c} {d} {a'} {b'} {c'} {d'} ea eb ec ed h = grind arith
 
 -- .. and by a power that is congruent
 pub pair_by : {m u v a b c d : ℕ} → Congruent m u v → IsPair m u a b c d → IsPair m v a b c d

@@ -20,11 +20,7 @@ pub record StagesLeft (done z : ℕ) : Type 0 where
   pub two : 2 ≤ z
 
 pub stages_left : {done z : ℕ} → (z - done) % 2 ≡ 0 → done < z → StagesLeft done z
-stages_left even more = let two = two_left even more in record {
-  next = omega (arith, two);
-  turn = omega (arith, two);
-  two = omega (arith, two);
-}
+stages_left even more = grind (arith, two_left)
 
 -- an index of a list is none past another of the same length
 pub at_most : {i m n : ℕ} → i < m → m ≡ n → i ≤ n

@@ -26,18 +26,11 @@ sum_more m i s t f so_far term =
 
 -- the power of the first term, and of the next
 pub term_power_first : (m g j one : ℕ) → one ≡ 1 % m → Congruent m one (g ^ (0 * j))
-term_power_first m g j one is =
-    let z : 0 * j ≡ 0 = omega arith in
-    mod_trans (mod_of_eq is) (mod_trans (residue_of 1) (mod_of_eq (sym (ap (λ n. g ^ n) z ∙ pow-zero g))))
+term_power_first m g j one is = grind (arith, mod_trans, mod_of_eq, residue_of, pow-zero)
 
 pub term_power_next : (m g i j p step q : ℕ) → Congruent m p (g ^ (i * j)) → step ≡ g ^ j % m → q ≡ p * step % m
     → Congruent m q (g ^ ((i + 1) * j))
-term_power_next m g i j p step q power is_step is_q =
-    let e : (i + 1) * j ≡ i * j + j = omega arith in
-    mod_trans (mod_of_eq is_q)
-    (mod_trans (residue_of (p * step))
-    (mod_trans (mod_mul power (mod_trans (mod_of_eq is_step) (residue_of (g ^ j))))
-    (mod_of_eq (sym (ap (λ n. g ^ n) e ∙ pow-add g (i * j) j)))))
+term_power_next m g i j p step q power is_step is_q = search (arith, mod_trans, mod_of_eq, residue_of, mod_mul, pow-add)
 
 test_of_zero : (a : ℕ) → IsTrue (nat_eq a 0) ↔ (a ≡ 0)
 test_of_zero a = (λ (h : IsTrue (nat_eq a 0)). grind (arith, nat_tests, h), λ (e : a ≡ 0). grind (arith, nat_tests, e))

@@ -12,10 +12,10 @@ use Rattle.modular_transform.specs.Transforms.{cyclic_product}
 use Rattle.modular_transform.proofs.CyclicProducts.{scaled, moved}
 
 -- a value at one place alone
-at_place : (s e v : ℕ) → s ≡ e → cond (eqb s e) v 0 ≡ v
+pub at_place : (s e v : ℕ) → s ≡ e → cond (eqb s e) v 0 ≡ v
 at_place s e v is = elim (eqb_tells s e) [ inl p ↦ rw p.0 (omega arith) | inr p ↦ absurd (p.1 is) ]
 
-at_other : (s e v : ℕ) → s ≢ e → cond (eqb s e) v 0 ≡ 0
+pub at_other : (s e v : ℕ) → s ≢ e → cond (eqb s e) v 0 ≡ 0
 at_other s e v ne = elim (eqb_tells s e) [ inl p ↦ absurd (ne p.1) | inr p ↦ rw p.0 (omega arith) ]
 
 -- .. summed over places
@@ -26,13 +26,10 @@ sum_at_place (suc n) s f l =
     elim (cases_eq s n) [
       | inl is ↦
           let z = sum_below-of_zeros n (λ e. cond (eqb s e) (f e) 0) (λ e t. at_other s e (f e) (omega arith)) in
-          let o = at_place s n (f n) is in
-          let w = ap f is in
-          omega (arith, d, z, o, w)
+          omega (arith, d, z, at_place s n (f n) is, ap f is)
       | inr ne ↦
           let i = sum_at_place n s f (omega arith) in
-          let z = at_other s n (f n) ne in
-          omega (arith, d, i, z)
+          omega (arith, d, i, at_other s n (f n) ne)
     ]
 
 sum_at_none : (n s : ℕ) (f : ℕ → ℕ) → n ≤ s → sum_below n (λ e. cond (eqb s e) (f e) 0) ≡ 0
@@ -48,25 +45,17 @@ row_bounded (suc n) i e c f few =
       | inl is ↦
           let z = sum_below-of_zeros n (λ j. cond (eqb (i + j) e) (f j) 0)
           (λ j t. at_other (i + j) e (f j) (omega arith)) in
-          let o = at_place (i + n) e (f n) is in
           let l = few n (omega arith) in
-          omega (arith, d, z, o, l)
+          omega (arith, d, z, at_place (i + n) e (f n) is, l)
       | inr ne ↦
           let r = row_bounded n i e c f (λ j l. few j (omega arith)) in
-          let z = at_other (i + n) e (f n) ne in
-          omega (arith, d, r, z)
+          omega (arith, d, r, at_other (i + n) e (f n) ne)
     ]
 
 -- where the terms of index n and above are 0, a term of the cyclic product has only one place
 one_place : (n i j e v : ℕ) → (n ≤ i + j → v ≡ 0)
     → cond (eqb (i + j) e || eqb (i + j) (e + n)) v 0 ≡ cond (eqb (i + j) e) v 0
-one_place n i j e v room = elim (eqb_tells (i + j) e) [
-  | inl p ↦ rw p.0 (omega arith)
-  | inr p ↦ elim (eqb_tells (i + j) (e + n)) [
-    | inl q ↦ let z = let h = q.1 in room (omega arith) in rw (p.0, q.0) z
-    | inr q ↦ rw (p.0, q.0) (omega arith)
-  ]
-]
+one_place n i j e v room = grind arith
 
 -- the terms at place e
 terms : ℕ → (ℕ → ℕ) → (ℕ → ℕ) → ℕ → ℕ
@@ -126,7 +115,7 @@ polynomial_product {m} n b s t x y few few_y small room =
     let f = λ (i j e : ℕ). cond (eqb (i + j) e) (b ^ e * (x i * y j)) 0 in
     sum_below-same n (λ e. cyclic_product m n x y e * b ^ e) (λ e. sum_below n (λ i. sum_below n (λ j. f i j e)))
     (λ e l. ap (λ v. v * b ^ e) (entry m n s t x y e few few_y small room) ∙ placed n b e x y)
-    ∙ moved n f
+    ∙ moved n n f
     ∙ sum_below-same n (λ i. sum_below n (λ j. sum_below n (λ e. f i j e)))
     (λ i. sum_below n (λ j. (x i * b ^ i) * (y j * b ^ j)))
     (λ i l. sum_below-same n (λ j. sum_below n (λ e. f i j e)) (λ j. (x i * b ^ i) * (y j * b ^ j))

@@ -12,19 +12,15 @@ use Rattle.std.specs.Int.Count.{ones_step}
 ones_of_power : (z : ℕ) → count_ones (2 ^ z) ≡ 1
 ones_of_power zero =
     let k : 2 ^ 0 ≡ 1 = refl in
-    let o = ones_step (2 ^ 0) in
-    let l = ones_le_self (2 ^ 0 / 2) in
-    omega (arith, k, o, l)
+    omega (arith, k, ones_step (2 ^ 0), ones_le_self (2 ^ 0 / 2))
 ones_of_power (suc z) =
     let s = two-pow-succ z in
-    let o = ones_step (2 ^ suc z) in
     let h : 2 ^ suc z / 2 ≡ 2 ^ z = omega (arith, s) in
     let e = ap (λ n. count_ones n) h ∙ ones_of_power z in
-    omega (arith, s, o, e)
+    omega (arith, s, ones_step (2 ^ suc z), e)
 
 power_of_ones : (fuel n : ℕ) → n ≤ fuel → count_ones n ≡ 1 → IsPowerOfTwo n
-power_of_ones zero n l h =
-    let e = ones_le_self n in absurd (omega (arith, e, h))
+power_of_ones zero n l h = let e = ones_le_self n in absurd (omega (arith, e, h))
 power_of_ones (suc fuel) n l h = elim (cases_eq (n % 2) 0) [
   | inl even ↦
       let o = ones_step n in
@@ -33,12 +29,9 @@ power_of_ones (suc fuel) n l h = elim (cases_eq (n % 2) 0) [
         | inr s ↦ omega arith
       ] in
       let k = power_of_ones fuel (n / 2) (omega arith) (omega (arith, o, h, even)) in
-      let e = k.1 in
-      let s = two-pow-succ k.0 in
-      (suc k.0, omega (arith, e, s, even))
+      (suc k.0, omega (arith, k.1, two-pow-succ k.0, even))
   | inr odd ↦
-      let o = ones_step n in
-      let z = zero_from_ones (n / 2) (omega (arith, o, h, odd)) in
+      let z = zero_from_ones (n / 2) (omega (arith, ones_step n, h, odd)) in
       let p : 2 ^ 0 ≡ 1 = refl in
       (0, omega (arith, z, p, odd))
 ]
@@ -60,9 +53,8 @@ trailing_zeros_of_power z n is below =
     elim (cases_eq (trailing_zeros w64 n) z) [
       | inl e ↦ e
       | inr ne ↦
-          let o = bit_at-pow_other z (trailing_zeros w64 n) ne in
           let b = ap (λ v. v / 2 ^ trailing_zeros w64 n % 2) is in
-          absurd (let q = t.1 in omega (arith, o, b, q))
+          absurd (let q = t.1 in omega (arith, bit_at-pow_other z (trailing_zeros w64 n) ne, b, q))
     ]
 
 pub power_by_zeros : (n : ℕ) → IsPowerOfTwo n → n < 2 ^ 64 → n ≡ 2 ^ trailing_zeros w64 n

@@ -1,6 +1,5 @@
 -- Roots by powers of small numbers.
-use Rattle.std.proofs.Common.{◌≡◌, ℕ, suc, zero, ◌+◌, ◌-◌, ◌*◌, ◌/◌, ◌%◌, ◌^◌}
-use Rattle.std.proofs.Common.{◌<◌, neg_ℤ, pos, sym, ◌∙◌, ap, refl, arith}
+use Rattle.std.proofs.Common.{◌≡◌, ℕ, suc, zero, ◌+◌, ◌-◌, ◌/◌, ◌%◌, ◌^◌, ◌<◌, neg_ℤ, pos, sym, ◌∙◌, ap, refl, arith}
 use Rattle.std.proofs.Math.Nat.{mod-eq_of_lt, div-div-eq-div-mul, add-mod}
 use Rattle.std.proofs.lemmas.Nat.{pow-add, pow-mod}
 use Rattle.modular_word.specs.Residues.{residue}
@@ -10,16 +9,11 @@ use Rattle.modular_word.proofs.ResidueLemmas.{residue_neg}
 pub residue_of_minus_one : (m : ℕ) → 0 < m → residue m (neg_ℤ (pos (1 % m))) ≡ m - 1
 residue_of_minus_one zero some = absurd (omega (arith, some))
 residue_of_minus_one (suc zero) some = refl
-residue_of_minus_one (suc (suc k)) some =
-    let m : ℕ = suc (suc k) in
-    let below : 1 < m = omega arith in
-    ap (λ v. residue m (neg_ℤ (pos v))) (mod-eq_of_lt below) ∙ residue_neg m 1 below (omega arith)
+residue_of_minus_one (suc (suc k)) some = omega (arith, mod-eq_of_lt, residue_neg)
 
 -- half of what is left after z halvings
 pub halved_once_more : (e x z : ℕ) → x ≡ e / 2 ^ z → x / 2 ≡ e / 2 ^ (z + 1)
-halved_once_more e x z is =
-    let d : 2 ^ z * 2 ≡ 2 ^ (z + 1) = sym (pow-add 2 z 1) in
-    ap (λ v. v / 2) is ∙ div-div-eq-div-mul e (2 ^ z) 2 ∙ ap (λ v. e / v) d
+halved_once_more e x z is = grind (arith, pow-add, div-div-eq-div-mul)
 
 -- one more in a sum of remainders
 pub one_more : (m x v w : ℕ) → v ≡ x % m → w ≡ 1 % m → (v + w) % m ≡ (x + 1) % m

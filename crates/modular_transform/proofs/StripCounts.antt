@@ -1,6 +1,5 @@
 -- The columns and the products that the loops over the strips count.
 use Rattle.std.proofs.Common.{◌≡◌, ℕ, ◌+◌, ◌-◌, ◌*◌, ◌^◌, ◌<◌, ◌≤◌, min, ap, arith}
-use Rattle.modular_transform.proofs.FourLemmas.{four_fits}
 use mir.Syntax.{w128}
 use mir.Val.{Fits}
 
@@ -24,6 +23,4 @@ strip_counted column width is all = let rows = ap (λ b. b * (4 * width)) all in
 pub fours_count_fits : (column : ℕ) {products width step block blocks n k : ℕ}
     → products ≡ column * (4 * blocks + 3) + 3 * width + block * (4 * width) + 4 * k → k < width → block < blocks
     → column + width ≤ step → blocks * (4 * step) ≡ n → n < 2 ^ 64 → Fits w128 (products + 4)
-fours_count_fits column {products} {width} {step} {block} {blocks} {n} count l lb within whole few =
-    let fit = four_fits column width step block blocks n lb within whole in
-    record { fits = omega (arith, count, l, fit, few) }
+fours_count_fits column {products} {width} {step} {block} {blocks} {n} count l lb within whole few = grind arith

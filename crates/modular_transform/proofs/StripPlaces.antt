@@ -9,5 +9,4 @@ use mir.Val.{Fits}
 pub strip_offset : (size column step : ℕ) {i width blocks n : ℕ} → i < width → width ≡ min 64 (step - column)
     → blocks * (4 * step) ≡ n → 0 < blocks → n * size < 2 ^ 63 → Fits w64 (i * size)
 strip_offset size column step {i} {width} {blocks} {n} within least whole some room =
-    let few = block_fits 0 blocks step n some whole in
-    scaled_Fits i n size (omega (arith, within, least, few)) room
+    scaled_Fits i n size (omega (arith, within, least, block_fits 0 blocks step n some whole)) room

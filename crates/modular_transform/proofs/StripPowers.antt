@@ -1,5 +1,5 @@
 -- The powers of a strip of columns, one after another.
-use Rattle.std.proofs.Common.{◌≡◌, ℕ, ◌+◌, ◌*◌, ◌%◌, ◌^◌, All, replicate, sym, ◌∙◌, ap}
+use Rattle.std.proofs.Common.{◌≡◌, ℕ, ◌+◌, ◌*◌, ◌%◌, ◌^◌, All, replicate, arith}
 use Rattle.std.proofs.Math.Nat.{pow-zero}
 use Rattle.std.proofs.lemmas.List.Elements.{All-replicate}
 use Rattle.std.proofs.lemmas.Nat.{pow-add}
@@ -18,14 +18,11 @@ pub first_power : {form value : ℕ → ℕ → ℕ} {width m f one : ℕ} (w : 
     → Represents form m f (one % m)
     → Congruent m (value m f) (w ^ 0)
 first_power {form} {value} {width} {m} {f} {one} w canonical is_one is =
-    mod_trans (mod_of_eq (canonical.one_value _ _ is)) (mod_trans (residue_of one)
-    (mod_of_eq (is_one ∙ sym (pow-zero w))))
+    grind (arith, mod_trans, mod_of_eq, residue_of, pow-zero)
 
 -- the next power
 pub power_more : {form value : ℕ → ℕ → ℕ} {width m f p : ℕ} (w i : ℕ) → IsCanonical form value width m
     → Congruent m (value m f) (w ^ i) → Represents form m p ((value m f * w) % m)
     → Congruent m (value m p) (w ^ (i + 1))
 power_more {form} {value} {width} {m} {f} {p} w i canonical is next =
-    mod_trans (mod_of_eq (canonical.one_value _ _ next))
-    (mod_trans (residue_of (value m f * w))
-    (mod_trans (mod_mul is (mod_refl w)) (mod_of_eq (ap (λ v. w ^ i * v) (sym (pow-one w)) ∙ sym (pow-add w i 1)))))
+    search (arith, mod_trans, mod_of_eq, residue_of, mod_mul, mod_refl, pow-one, pow-add)

@@ -1,6 +1,6 @@
 -- Places numbered tile by tile: number (tile * 8 + row) * 8 + column is place row * step + tile * 8 + column.
 use Rattle.std.proofs.Common.{◌≡◌, ℕ, ◌+◌, ◌-◌, ◌*◌, ◌%◌, ◌/◌, ◌^◌, ◌<◌, ◌≤◌, subst, sym, ◌∙◌, ap, refl, arith}
-use Rattle.std.proofs.Math.Nat.{mul-le-mul_right, div-lt_iff_lt-mul, mod-lt}
+use Rattle.std.proofs.Math.Nat.{div-lt_iff_lt-mul, mod-lt}
 use Rattle.std.proofs.lemmas.Nat.{div-mul-add, mod-mul-add, div-add-mod', pow-add}
 use Rattle.modular_transform.specs.Orders.{bits_reversed}
 use Rattle.modular_transform.proofs.BitReversal.{bits_reversed_below, bits_reversed_twice, bits_reversed_of_parts}
@@ -31,42 +31,18 @@ parts tile row column r c = record { tile_is = omega arith; row_is = omega arith
 
 pub place_of_parts : (step tile row column : ℕ) → row < 8 → column < 8
     → place_of step (tile * 64 + row * 8 + column) ≡ row * step + tile * 8 + column
-place_of_parts step tile row column r c =
-    let p = parts tile row column r c in
-    let a = ap (λ v. v * step) p.row_is in
-    let t = p.tile_is in
-    let k = p.column_is in
-    omega (arith, a, t, k)
+place_of_parts step tile row column r c = grind arith
 
 pub reversed_parts : (b tile row column : ℕ) → row < 8 → column < 8
     → tiles_reversed b (tile * 64 + row * 8 + column)
     ≡ bits_reversed b tile * 64 + bits_reversed 3 column * 8 + bits_reversed 3 row
-reversed_parts b tile row column r c =
-    let p = parts tile row column r c in
-    let x = ap (bits_reversed b) p.tile_is in
-    let y = ap (bits_reversed 3) p.row_is in
-    let z = ap (bits_reversed 3) p.column_is in
-    omega (arith, x, y, z)
+reversed_parts b tile row column r c = grind arith
 
 pub reversed_below_8 : (k : ℕ) → bits_reversed 3 k < 8
 reversed_below_8 k = let b = bits_reversed_below 3 k in let e : 2 ^ 3 ≡ 8 = refl in omega (arith, b, e)
 
 pub tiles_exchange : (b n : ℕ) → n ≡ 2 ^ b * 64 → IsExchange n (tiles_reversed b)
-tiles_exchange b n is_n = record {
-  within = λ t l.
-      let x = bits_reversed_below b (t / 64) in
-      let y = reversed_below_8 (t % 8) in
-      let z = reversed_below_8 (t / 8 % 8) in
-      omega (arith, x, y, z);
-  twice = λ t l.
-      let e : 2 ^ 3 ≡ 8 = refl in
-      let again = reversed_parts b (bits_reversed b (t / 64)) (bits_reversed 3 (t % 8)) (bits_reversed 3 (t / 8 % 8))
-      (reversed_below_8 (t % 8)) (reversed_below_8 (t / 8 % 8)) in
-      let x = bits_reversed_twice b (t / 64) (omega arith) in
-      let y = bits_reversed_twice 3 (t % 8) (omega (arith, e)) in
-      let z = bits_reversed_twice 3 (t / 8 % 8) (omega (arith, e)) in
-      omega (arith, again, x, y, z);
-}
+tiles_exchange b n is_n = omega (arith, bits_reversed_below, reversed_below_8, reversed_parts, bits_reversed_twice)
 
 -- the bits of a place are reversed as those of its tile, its row and its column
 pub place_reversed : (bits b step t : ℕ) → bits ≡ b + 6 → step ≡ 2 ^ b * 8 → t < 2 ^ b * 64
@@ -93,9 +69,7 @@ place_reversed bits b step t is_bits is_step l =
 
 place_below : (step tile row column : ℕ) → tile * 8 + 8 ≤ step → row < 8 → column < 8
     → row * step + tile * 8 + column < step * 8
-place_below step tile row column t r c =
-    let m = mul-le-mul_right {m = row} {n = 7} step (omega arith) in
-    omega (arith, m)
+place_below step tile row column t r c = grind arith
 
 -- the number of the place of a number
 number_again : (b step t : ℕ) → step ≡ 2 ^ b * 8 → t < 2 ^ b * 64 → number_of step (place_of step t) ≡ t
@@ -118,12 +92,7 @@ place_injective b step j k is_step lj lk e =
 pub exchanged_numbers : {T : Type 0} (b step i j : ℕ) (x y : ℕ → T) → step ≡ 2 ^ b * 8 → i < 2 ^ b * 64 → j < 2 ^ b * 64
     → Swapped x y (place_of step i) (place_of step j)
     → ExchangedBelow (2 ^ b * 64) i j (λ t. x (place_of step t)) (λ t. y (place_of step t))
-exchanged_numbers b step i j x y is_step li lj swapped = record {
-  first = swapped.0;
-  second = swapped.1;
-  others = λ k l ni nj. swapped.2 (place_of step k) (λ e. ni (place_injective b step k i is_step l li e))
-      (λ e. nj (place_injective b step k j is_step l lj e));
-}
+exchanged_numbers b step i j x y is_step li lj swapped = grind (arith, place_injective)
 
 -- once all numbers are done, all places are
 pub places_reversed : {T : Type 0} (bits b step i : ℕ) (old new : ℕ → T) → bits ≡ b + 6 → step ≡ 2 ^ b * 8
@@ -144,10 +113,7 @@ places_reversed bits b step i old new is_bits is_step all so_far k l =
     ∙ ap old (sym (place_reversed bits b step t is_bits is_step below) ∙ ap (bits_reversed bits) place)
 
 pub tiles_of_whole : (bits n : ℕ) → 6 ≤ bits → n ≡ 2 ^ bits → n ≡ 2 ^ (bits - 6) * 64
-tiles_of_whole bits n some whole =
-    let e : bits - 6 + 6 ≡ bits = omega arith in
-    let q : 2 ^ 6 ≡ 64 = refl in
-    whole ∙ ap (λ v. 2 ^ v) (sym e) ∙ pow-add 2 (bits - 6) 6 ∙ ap (λ v. 2 ^ (bits - 6) * v) q
+tiles_of_whole bits n some whole = grind (arith, pow-add)
 
 -- the places that change with one another at a row and a column of a tile
 pub record Spot (b step tile other row column to_row to_column : ℕ) : Type 0 where
@@ -167,27 +133,7 @@ pub spot : (b step tile other row column to_row to_column : ℕ) → step ≡ 2 
     → other ≡ bits_reversed b tile → to_row ≡ bits_reversed 3 column → to_column ≡ bits_reversed 3 row
     → Spot b step tile other row column to_row to_column
 spot b step tile other row column to_row to_column is_step lt lr lc is_other is_row is_column =
-    let x = bits_reversed_below b tile in
-    let y = reversed_below_8 column in
-    let z = reversed_below_8 row in
-    let lo : other < 2 ^ b = omega (arith, x, is_other) in
-    let ly : to_row < 8 = omega (arith, y, is_row) in
-    let lz : to_column < 8 = omega (arith, z, is_column) in
-    let is : tiles_reversed b (tile * 64 + row * 8 + column) ≡ other * 64 + to_row * 8 + to_column =
-    reversed_parts b tile row column lr lc ∙ omega (arith, is_other, is_row, is_column) in
-    record {
-      step_is = is_step;
-      tile_below = lt;
-      other_below = lo;
-      to_row_below = ly;
-      to_column_below = lz;
-      number_below = omega (arith, lt, lr, lc);
-      number = is;
-      first = place_of_parts step tile row column lr lc;
-      first_below = place_below step tile row column (omega (arith, is_step, lt)) lr lc;
-      second = ap (place_of step) is ∙ place_of_parts step other to_row to_column ly lz;
-      second_below = place_below step other to_row to_column (omega (arith, is_step, lo)) ly lz;
-    }
+    grind (arith, bits_reversed_below, reversed_below_8, reversed_parts, place_of_parts, place_below)
 
 -- the two places are swapped
 pub spot_swapped : {T : Type 0} (b step tile other row column to_row to_column : ℕ) (old new newer : ℕ → T)
@@ -203,13 +149,12 @@ spot_swapped b step tile other row column to_row to_column old new newer here or
     let s = tiles_reversed b in
     let t = tile * 64 + row * 8 + column in
     let exchange = tiles_exchange b n refl in
-    let is = here.number in
     let at : Swapped new newer (place_of step t) (place_of step (s t)) =
     subst (λ i. Swapped new newer i (place_of step (s t))) (sym here.first)
     (subst (λ j. Swapped new newer (row * step + tile * 8 + column) j) (sym here.second) swapped) in
     reordered_at n (t + 1) (tile * 64 + row * 8 + (column + 1)) s _ _ (omega arith)
     (reordered_swapped n t s (λ k. old (place_of step k)) (λ k. new (place_of step k)) (λ k. newer (place_of step k))
-    exchange here.number_below (omega (arith, order, is))
+    exchange here.number_below (omega (arith, order, here.number))
     (exchanged_numbers b step t (s t) new newer here.step_is here.number_below (exchange.within t here.number_below)
     at) so_far)
 
@@ -225,10 +170,9 @@ spot_passed b step tile other row column to_row to_column old new here order so_
     let n = 2 ^ b * 64 in
     let s = tiles_reversed b in
     let t = tile * 64 + row * 8 + column in
-    let is = here.number in
     reordered_at n (t + 1) (tile * 64 + row * 8 + (column + 1)) s _ _ (omega arith)
     (reordered_passed n t s (λ k. old (place_of step k)) (λ k. new (place_of step k)) (tiles_exchange b n refl)
-    here.number_below (omega (arith, order, is)) so_far)
+    here.number_below (omega (arith, order, here.number)) so_far)
 
 -- so were all places of a tile
 pub tile_passed : {T : Type 0} (b step tile other : ℕ) (old new : ℕ → T) → other ≡ bits_reversed b tile → other < tile
@@ -244,7 +188,4 @@ tile_passed b step tile other old new is_other order so_far =
     (tiles_exchange b n refl)
     (λ k l from to.
     let at : k / 64 ≡ tile = omega arith in
-    let x = ap (bits_reversed b) at in
-    let y = reversed_below_8 (k % 8) in
-    let z = reversed_below_8 (k / 8 % 8) in
-    omega (arith, x, y, z, is_other)) so_far)
+    omega (arith, ap (bits_reversed b) at, reversed_below_8 (k % 8), reversed_below_8 (k / 8 % 8), is_other)) so_far)

@@ -107,12 +107,7 @@ at_mirror {m} {g} {n} c i suits more l =
 
 -- the transform of a single value
 transform_of_one : (m g : ℕ) (c : ℕ → ℕ) → transform m g 1 c 0 ≡ c 0 % m
-transform_of_one m g c =
-    let f = λ (i : ℕ). c i * g ^ (i * 0) in
-    let z = sum_below-zero f in
-    let s = sum_below-suc 0 f in
-    let unit : c 0 * g ^ (0 * 0) ≡ c 0 * 1 = ap (λ v. c 0 * v) (pow-zero g) in
-    ap (λ v. v % m) (omega (arith, z, s, unit))
+transform_of_one m g c = grind (arith, sum_below-zero, sum_below-suc, pow-zero)
 
 -- an inverse of 1
 times_part : {m part : ℕ} (v : ℕ) → IsInverse m 1 part → (v % m * part) % m ≡ v % m
@@ -126,12 +121,7 @@ times_part {m} {part} v inverse =
 -- entry i of the transform back, for a list of one entry
 single : (m g n part i : ℕ) (c : ℕ → ℕ) → n ≡ 1 → i ≡ 0 → IsInverse m n part
     → (transform m g n c (mirrored n i) * part) % m ≡ c 0 % m
-single m g n part i c only first inverse =
-    ap (λ k. (transform m g k c (mirrored k i) * part) % m) only
-    ∙ ap (λ k. (transform m g 1 c (mirrored 1 k) * part) % m) first
-    ∙ ap (λ k. (transform m g 1 c k * part) % m) (mirrored_first 1)
-    ∙ ap (λ v. (v * part) % m) (transform_of_one m g c)
-    ∙ times_part (c 0) (subst (λ k. IsInverse m k part) only inverse)
+single m g n part i c only first inverse = grind (arith, mirrored_first, transform_of_one, times_part)
 
 -- the transform back of a transform
 pub undone_at : (m g n part i : ℕ) (x old : ℕ → ℕ) → 0 < m → Suits m g n → IsInverse m n part → i < n

@@ -58,8 +58,7 @@ pub stage_half_turn : {m : ℕ} (g z t n half blocks : ℕ) → StageSizes z t n
 stage_half_turn {m} g z t n half blocks sizes is_blocks some suits =
     let w = sizes.whole in
     let p = sizes.some in
-    let b = mul-le-mul_right (half + half) p in
-    let l : 1 < n = omega (arith, w, b) in
+    let l : 1 < n = omega (arith, w, mul-le-mul_right (half + half) p) in
     let e : n / 2 ≡ blocks * half = omega (arith, w) in
     let f : g ^ (n / 2) ≡ (g ^ (2 ^ t)) ^ half =
     ap (λ v. g ^ v) (e ∙ ap (λ v. v * half) is_blocks) ∙ pow-mul g (2 ^ t) half in
@@ -80,24 +79,16 @@ pub blocks_more : {m : ℕ} (g z t n half blocks v : ℕ) (x y w : ℕ → ℕ) 
     → BlocksTransform m g n t (2 ^ (z - t)) x y → IsStage m v half blocks y w
     → BlocksTransform m g n (t + 1) (2 ^ (z - (t + 1))) x w
 blocks_more {m} g z t n half blocks v x y w sizes is_blocks some suits root before stage =
-    let s : suc t ≡ t + 1 = omega arith in
     let b = subst (λ k. BlocksTransform m g n t k x y) sizes.now before in
     let st = subst (λ k. IsStage m (g ^ (2 ^ t)) half k y w) is_blocks (stage_by y w root stage) in
     let after = stages_more g n t half x y w (stage_half_turn g z t n half blocks sizes is_blocks some suits) b st in
-    subst (λ k. BlocksTransform m g n (t + 1) k x w) (sym sizes.next)
-    (subst (λ k. BlocksTransform m g n k half x w) s after)
+    grind arith
 
 -- the products of the stages so far, of which there are c besides
 pub products_more : (z t n half blocks products more c : ℕ) → StageSizes z t n half blocks
     → products + 2 ^ (z - t) ≡ t * (n / 2) + n + c → more ≡ half * (blocks + 1)
     → products + more + 2 ^ (z - (t + 1)) ≡ (t + 1) * (n / 2) + n + c
-products_more z t n half blocks products more c sizes before is =
-    let w = sizes.whole in
-    let a = sizes.now in
-    let b = sizes.next in
-    let e : n / 2 ≡ blocks * half = omega (arith, w) in
-    let te = ap (λ v. t * v) e in
-    omega (arith, a, b, before, is, e, te, w)
+products_more z t n half blocks products more c sizes before is = omega arith
 
 -- the sizes of two stages
 pub record TwoSizes (z t n half blocks : ℕ) : Type 0 where
@@ -115,15 +106,13 @@ two_sizes z t n half blocks l even whole is_half is_blocks =
     let more = one.more in
     let is : half / 2 ≡ 2 ^ (z - (t + 1)) / 2 = ap (λ v. v / 2) (sym next) in
     let two = stage_sizes z (t + 1) n (half / 2) (blocks * 2) (omega arith) whole is (sym more) in
-    let now = two.now in
     let e : t + 1 + 1 ≡ t + 2 = omega arith in
     let quarter = sym (ap (λ k. 2 ^ (z - k)) e) ∙ two.next in
-    let p = pow_pos (z - (t + 2)) in
     record {
       first = one;
       second = two;
-      halved = omega (arith, next, now);
-      some = omega (arith, p, quarter);
+      halved = omega (arith, next, two.now);
+      some = omega (arith, pow_pos (z - (t + 2)), quarter);
       quarter = quarter;
     }
 
@@ -142,31 +131,12 @@ pub two_more : {m : ℕ} (g z t n half blocks v w : ℕ) (x y u : ℕ → ℕ) �
     → Suits m g n → Congruent m v (g ^ (2 ^ t)) → Congruent m w (g ^ (2 ^ (t + 1)))
     → BlocksTransform m g n t (2 ^ (z - t)) x y → IsTwoStages m v w (half / 2) blocks y u
     → BlocksTransform m g n (t + 2) (2 ^ (z - (t + 2))) x u
-two_more {m} g z t n half blocks v w x y u sizes is_blocks suits root square before stages =
-    let some = sizes.some in
-    let first = subst (λ h. IsStage m v h blocks y stages.between) (sym sizes.halved) stages.first in
-    let twice : blocks + blocks ≡ blocks * 2 = omega arith in
-    let second = subst (λ b. IsStage m w (half / 2) b stages.between u) twice stages.second in
-    let one = blocks_more g z t n half blocks v x y stages.between sizes.first is_blocks (omega (arith, some)) suits root
-    before first in
-    let two = blocks_more g z (t + 1) n (half / 2) (blocks * 2) w x stages.between u sizes.second
-    (sym sizes.first.more) some suits square one second in
-    let e : t + 1 + 1 ≡ t + 2 = omega arith in
-    subst (λ k. BlocksTransform m g n k (2 ^ (z - k)) x u) e two
+two_more {m} g z t n half blocks v w x y u sizes is_blocks suits root square before stages = search (arith, blocks_more)
 
 pub two_products_more : (z t n half blocks products more c : ℕ) → TwoSizes z t n half blocks
     → products + 2 ^ (z - t) ≡ t * (n / 2) + n + c → more ≡ half / 2 * (4 * blocks + 3)
     → products + more + 2 ^ (z - (t + 2)) ≡ (t + 2) * (n / 2) + n + c
-two_products_more z t n half blocks products more c sizes before is =
-    let h = half / 2 in
-    let halved = sizes.halved in
-    let one = products_more z t n half blocks products _ c sizes.first before refl in
-    let two = products_more z (t + 1) n h (blocks * 2) _ _ c sizes.second one refl in
-    let e : t + 1 + 1 ≡ t + 2 = omega arith in
-    let at = subst (λ k. products + half * (blocks + 1) + h * (blocks * 2 + 1) + 2 ^ (z - k) ≡ k * (n / 2) + n + c) e two in
-    let sum : half * (blocks + 1) + h * (blocks * 2 + 1) ≡ h * (4 * blocks + 3) =
-    ap (λ v. v * (blocks + 1) + h * (blocks * 2 + 1)) halved ∙ omega arith in
-    omega (arith, at, sum, is)
+two_products_more z t n half blocks products more c sizes before is = grind arith
 
 -- what is left: forms in reversed order, put in plain order
 pub plain_order : {T : Type 0} (number : T → ℕ) (form value : ℕ → ℕ → ℕ) (m g n z : ℕ) (x : ℕ → ℕ) (forms new : List T)
@@ -191,41 +161,23 @@ plain_order number form value m g n z x forms new whole len len_new checked bloc
 -- after the last stage
 pub blocks_all : {m : ℕ} (g z t n : ℕ) (x y : ℕ → ℕ) → z ≤ t → t ≤ z → BlocksTransform m g n t (2 ^ (z - t)) x y
     → BlocksTransform m g n z 1 x y
-blocks_all {m} g z t n x y a b blocks =
-    let e : t ≡ z = omega arith in
-    let o : z - t ≡ 0 = omega arith in
-    subst (λ k. BlocksTransform m g n k 1 x y) e (subst (λ k. BlocksTransform m g n t (2 ^ k) x y) o blocks)
+blocks_all {m} g z t n x y a b blocks = grind arith
 
 pub products_all : (z t n products : ℕ) → z ≤ t → t ≤ z → n ≡ 2 ^ z → products + 2 ^ (z - t) ≡ t * (n / 2) + n + z
     → products ≡ n * z / 2 + n - 1 + z
-products_all zero t n products a b whole count =
-    let e : t ≡ 0 = omega arith in
-    let te = ap (λ v. v * (n / 2)) e in
-    let o : zero - t ≡ 0 = omega arith in
-    let p = ap (λ k. 2 ^ k) o in
-    let k : 2 ^ 0 ≡ 1 = refl in
-    let nz : n * 0 / 2 ≡ 0 = omega arith in
-    omega (arith, te, p, count, nz)
+products_all zero t n products a b whole count = grind arith
 products_all (suc z) t n products a b whole count =
     let e : t ≡ suc z = omega arith in
     let te = ap (λ v. v * (n / 2)) e in
     let o : suc z - t ≡ 0 = omega arith in
     let p = ap (λ k. 2 ^ k) o in
     let k : 2 ^ 0 ≡ 1 = refl in
-    let d = two-pow-succ z in
-    let h : n ≡ 2 * (n / 2) = omega (arith, d) in
+    let h : n ≡ 2 * (n / 2) = omega (arith, two-pow-succ z) in
     let nz : n * suc z ≡ 2 * (suc z * (n / 2)) = ap (λ v. v * suc z) h ∙ omega arith in
     let some : 0 < n = let q = pow_pos (suc z) in omega arith in
     omega (arith, te, p, count, nz)
 
--- what `root_fits` tests: for one entry nothing but its power of two, ..
-pub suits_one : {m g n : ℕ} → n ≡ 1 → Suits m g n
-suits_one {m} {g} {n} one = record {
-  power_of_two = (0, one ∙ (let p : 1 ≡ 2 ^ 0 = refl in p));
-  half_turn = λ l. absurd (omega arith);
-}
-
--- .. and beyond one entry that 1 added to the power is 0
+-- what `root_fits` tests beyond one entry: that 1 added to the power is 0
 pub suits_tested : {m : ℕ} (g n z t v one o s : ℕ) → n ≡ 2 ^ z → 0 < z → t ≡ z - 1
     → Congruent m v (g ^ (2 ^ t)) → one ≡ 1
     → o ≡ one % m → s ≡ (v + o) % m → (s ≡ 0) ↔ Suits m g n

@@ -15,19 +15,11 @@ after m w h x k = if ltb (k % (h + h)) h then (x k + x (k + h)) % m
     else weighted m (w ^ (k % (h + h) - h)) (x (k - h)) (x k)
 
 after_low : (m w h q i k : ℕ) (x : ℕ → ℕ) → i < h → k ≡ q * (h + h) + i → after m w h x k ≡ (x k + x (k + h)) % m
-after_low m w h q i k x l e =
-    let r : k % (h + h) ≡ i = ap (λ v. v % (h + h)) e ∙ mod-mul-add q (h + h) i (omega arith) in
-    ap (λ c. if c then (x k + x (k + h)) % m else weighted m (w ^ (k % (h + h) - h)) (x (k - h)) (x k))
-    (ap (λ v. ltb v h) r ∙ lt-ltb i h l)
+after_low m w h q i k x l e = grind (arith, mod-mul-add, ltb, lt-ltb)
 
 after_high : (m w h q i k : ℕ) (x : ℕ → ℕ) → i < h → k ≡ q * (h + h) + (h + i)
     → after m w h x k ≡ weighted m (w ^ i) (x (k - h)) (x k)
-after_high m w h q i k x l e =
-    let r : k % (h + h) ≡ h + i = ap (λ v. v % (h + h)) e ∙ mod-mul-add q (h + h) (h + i) (omega arith) in
-    let power : k % (h + h) - h ≡ i = omega (arith, r) in
-    ap (λ c. if c then (x k + x (k + h)) % m else weighted m (w ^ (k % (h + h) - h)) (x (k - h)) (x k))
-    (ap (λ v. ltb v h) r ∙ le-ltb (h + i) h (omega arith))
-    ∙ ap (λ v. weighted m (w ^ v) (x (k - h)) (x k)) power
+after_high m w h q i k x l e = grind (arith, mod-mul-add, ltb, le-ltb)
 
 first_of_two : (m w h blocks n : ℕ) (x : ℕ → ℕ) → blocks * (4 * h) ≡ n → ((k : ℕ) → k < n → x k < m)
     → IsStage m w (h + h) blocks x (after m w (h + h) x)
@@ -42,7 +34,7 @@ first_of_two m w h blocks n x whole below = record {
 }
 
 second_of_two : (m w v h blocks : ℕ) (x y : ℕ → ℕ)
-    → FoursDone m (λ i. w ^ i) (λ i. w ^ (h + i)) (λ i. v ^ i) h 0 blocks 0 h x y
+    → FoursDone m w v h 0 blocks 0 h x y
     → IsStage m v h (blocks + blocks) (after m w (h + h) x) y
 second_of_two m w v h blocks x y done = record {
   pairs = λ p i lp li.
@@ -78,7 +70,7 @@ second_of_two m w v h blocks x y done = record {
 
 -- all blocks and all columns
 pub two_stages_done : (m w v h blocks n : ℕ) (x y : ℕ → ℕ) → blocks * (4 * h) ≡ n → ((k : ℕ) → k < n → x k < m)
-    → FoursDone m (λ i. w ^ i) (λ i. w ^ (h + i)) (λ i. v ^ i) h 0 blocks 0 h x y → IsTwoStages m w v h blocks x y
+    → FoursDone m w v h 0 blocks 0 h x y → IsTwoStages m w v h blocks x y
 two_stages_done m w v h blocks n x y whole below done = record {
   between = after m w (h + h) x;
   first = first_of_two m w h blocks n x whole below;

@@ -1,9 +1,9 @@
 -- A list of forms as the function from places to values: what is read and what is written.
 use Rattle.std.proofs.Common.{◌≡◌, ◌≢◌, ℕ, ◌+◌, ◌*◌, ◌%◌, ◌<◌, List, [], ◌∷◌, length, get_or, All, pos}
-use Rattle.std.proofs.Common.{◌-ℤ◌, inl, inr, sym, ◌∙◌, ap, arith, subst}
+use Rattle.std.proofs.Common.{◌-ℤ◌, inl, inr, sym, ◌∙◌, arith, subst}
 use Rattle.std.proofs.Math.ListN.{set, length-set}
 use Rattle.std.proofs.Math.Nat.{add-mod_right}
-use Rattle.std.proofs.lemmas.Bool.{cases_lt, cases_eq}
+use Rattle.std.proofs.lemmas.Bool.{cases_lt}
 use Rattle.std.proofs.lemmas.List.Elements.{All-set}
 use Rattle.modular_word.specs.Congruence.{Congruent}
 use Rattle.modular_word.specs.Residues.{residue}
@@ -34,13 +34,11 @@ forms_written number form value width m forms i v f canonical is all =
 residue_restored : (m v w : ℕ) → v < m → w < m → Congruent m (residue m (pos v -ℤ pos w) + w) v
 residue_restored m v w lv lw = elim (cases_lt v w) [
   | inl l ↦
-      let e = residue_sub_wrapped m v w lw l in
-      let s : residue m (pos v -ℤ pos w) + w ≡ v + m = omega (arith, e) in
+      let s : residue m (pos v -ℤ pos w) + w ≡ v + m = omega (arith, residue_sub_wrapped m v w lw l) in
       let z : Congruent m (v + m) v = record { same = add-mod_right v m } in
       mod_trans (mod_of_eq s) z
   | inr l ↦
-      let e = residue_sub m v w lv l in
-      let s : residue m (pos v -ℤ pos w) + w ≡ v = omega (arith, e) in
+      let s : residue m (pos v -ℤ pos w) + w ≡ v = omega (arith, residue_sub m v w lv l) in
       mod_of_eq s
 ]
 
@@ -98,8 +96,4 @@ pub entry_done : {T : Type 0} (number : T → ℕ) (value : ℕ → ℕ → ℕ)
     (i : ℕ) (f : T) (target : ℕ → ℕ)
     → i < length forms → ((k : ℕ) → k < i → entry number value m forms k ≡ target k) → value m (number f) ≡ target i
     → (k : ℕ) → k < i + 1 → entry number value m (set forms i f) k ≡ target k
-entry_done number value m forms i f target within before is k l = elim (cases_eq k i) [
-  | inl e ↦ ap (entry number value m (set forms i f)) e ∙ entry_written number value m forms i f within ∙ is
-      ∙ ap target (sym e)
-  | inr n ↦ entry_kept number value m forms i k f n ∙ before k (omega arith)
-]
+entry_done number value m forms i f target within before is k l = grind (arith, set, entry_written, entry_kept)

@@ -45,6 +45,7 @@ fn reverse_one_by_one<T: Copy>(entries: &mut [T], bits: u32)
 // exchanged with the tile of the reversed number, rows with columns, so that each step touches few cache lines.
 //
 // Source: Carter and Gatlin, "Towards an optimal bit-reversal permutation program", here without a buffer.
+#[tactic(auto, using(crate::proofs::BitReversal::bits_reversed_of_zero, crate::proofs::Tiles::place_of, crate::proofs::Reordering::reordered_none, crate::proofs::Tiles::tiles_reversed, crate::proofs::Tiles::tiles_of_whole))]
 fn reverse_by_tiles<T: Copy>(entries: &mut [T], bits: u32)
     requires few { bits ≤ 64 }
     requires tiles { 6 ≤ bits }
@@ -80,6 +81,7 @@ fn reverse_by_tiles<T: Copy>(entries: &mut [T], bits: u32)
 ///
 /// - `place` is below 2^bits
 /// - `bits` is at most 63
+#[tactic(auto, using(crate::proofs::BitReversal::bits_reversed_of_zero, crate::proofs::BitReversal::step_in_word))]
 pub fn next_reversed(last: usize, place: usize, bits: u32) -> usize
     requires few { bits ≤ 63 }
     requires below { place < 2 ^ bits }

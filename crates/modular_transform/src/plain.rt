@@ -15,6 +15,7 @@ use modular_word::plain::power_of;
 /// # Preconditions
 ///
 /// - m is at least 1
+#[tactic(auto, using(crate::proofs::PowersOfTwo::power_of_two_tested))]
 pub fn suits(m: u64, g: u64, n: usize) -> bool
     requires { 1 ≤ m }
     ensures { IsTrue result ↔ Suits m g n }
@@ -33,6 +34,7 @@ pub fn suits(m: u64, g: u64, n: usize) -> bool
 /// # Preconditions
 ///
 /// - m is at least 1
+#[tactic(auto, using(crate::proofs::PlainSums::sum_none, crate::proofs::PlainSums::term_power_first, modular_word::proofs::Congruence::mod_mul, modular_word::proofs::Congruence::mod_refl, crate::proofs::PlainSums::sum_more, crate::proofs::PlainSums::term_power_next))]
 pub fn transform_entry(m: u64, g: u64, xs: &[u64], j: usize) -> u64
     requires { 1 ≤ m }
     ensures { result ≡ transform m g (length xs.now) (slice_index xs.now) j }

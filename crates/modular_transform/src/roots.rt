@@ -11,6 +11,7 @@ use modular_reduced::reducer::Reducer;
 use modular_word::ring_word::RingWord;
 
 // (m - 1) / n, rounded down. Condition: n is a power of two.
+#[tactic(auto, using(crate::proofs::SmallBases::residue_of_minus_one, crate::proofs::SmallBases::halved_once_more))]
 fn exponent<T: RingWord, R: Reducer<T>>(r: &R, n: usize) -> T
     requires { IsPowerOfTwo n }
     ensures { T.number result ≡ (R.modulus r.now - 1) / n }
@@ -41,6 +42,7 @@ fn exponent<T: RingWord, R: Reducer<T>>(r: &R, n: usize) -> T
 /// assert_eq!(find_root(&ring, 8), Some(9)); // 3^2, and 9^4 = 386 * 17 - 1
 /// assert_eq!(find_root(&ring, 32), None);
 /// ```
+#[tactic(auto, using(crate::proofs::PowersOfTwo::power_of_two_tested))]
 pub fn find_root<T: RingWord, R: Reducer<T>>(r: &R, n: usize) -> Option<T>
     ensures { let m = R.modulus r.now in MatchOption result
         ((x : ℕ) → 2 ≤ x → x < 256 → Suits m (root_by m n x) n → ⊥)

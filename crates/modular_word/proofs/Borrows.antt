@@ -2,7 +2,6 @@
 use Rattle.std.proofs.Common.{◌≡◌, ℕ, ◌+◌, ◌-◌, ◌*◌, ◌%◌, ◌^◌, ◌<◌, ◌≤◌, bit_and, ◌∙◌, ap, arith}
 use Rattle.std.proofs.Math.Nat.{mod-eq_of_lt}
 use Rattle.std.proofs.lemmas.Nat.{and_comm, and_mask}
-use Rattle.std.specs.Int.Bits.{and_zero_l}
 
 -- where there is a borrow, the modulus is added ..
 pub borrowed : (a b m low high : ℕ) → a < b → b < m → m < 2 ^ 64 → (a + (2 ^ 128 - b)) % 2 ^ 128 ≡ low + 2 ^ 64 * high
@@ -18,9 +17,4 @@ borrowed a b m low high less below fits parts low_fits high_fits =
 -- .. and else nothing
 pub not_borrowed : (a b m low high : ℕ) → b ≤ a → a < 2 ^ 64 → (a + (2 ^ 128 - b)) % 2 ^ 128 ≡ low + 2 ^ 64 * high
     → low < 2 ^ 64 → (low + bit_and high m) % 2 ^ 64 + b ≡ a
-not_borrowed a b m low high less fits parts low_fits =
-    let none : high ≡ 0 = omega arith in
-    let rest : low + b ≡ a = omega (arith, none) in
-    let nothing : bit_and high m ≡ 0 = ap (λ v. bit_and v m) none ∙ and_zero_l m in
-    let sum = ap (λ v. (low + v) % 2 ^ 64) nothing in
-    omega (arith, sum, rest)
+not_borrowed a b m low high less fits parts low_fits = grind arith

@@ -21,17 +21,14 @@ mod_cancel B x y z hx hy e =
 
 -- a positive factor cancels
 pub factor_cancel : (B x y : ℕ) → 0 < B → B * x ≡ B * y → x ≡ y
-factor_cancel B x y h e =
-    sym (mul-div_cancel_left x h) ∙ ap (λ v. v / B) e ∙ mul-div_cancel_left y h
+factor_cancel B x y h e = grind (arith, mul-div_cancel_left)
 
 -- sums and products of congruent numbers are congruent
 pub same_sum : (m a b c d : ℕ) → a % m ≡ b % m → c % m ≡ d % m → (a + c) % m ≡ (b + d) % m
-same_sum m a b c d e f =
-    add-mod a c m ∙ ap (λ v. (v + c % m) % m) e ∙ ap (λ v. (b % m + v) % m) f ∙ sym (add-mod b d m)
+same_sum m a b c d e f = grind (arith, add-mod)
 
 pub same_product : (m a b c d : ℕ) → a % m ≡ b % m → c % m ≡ d % m → (a * c) % m ≡ (b * d) % m
-same_product m a b c d e f =
-    mul-mod a c m ∙ ap (λ v. (v * (c % m)) % m) e ∙ ap (λ v. (b % m * v) % m) f ∙ sym (mul-mod b d m)
+same_product m a b c d e f = grind (arith, mul-mod)
 
 -- a summand cancels
 pub same_without : (m a b c : ℕ) → 0 < m → (a + c) % m ≡ (b + c) % m → a % m ≡ b % m
@@ -73,10 +70,7 @@ mod_of_multiple_left m q x = mod-mod_of_dvd m x (dvd-mul_left m q)
 
 -- a remainder with one more, that makes a multiple
 pub next_is_multiple : (m x : ℕ) → 0 < m → x % m ≡ m - 1 → (x + 1) % m ≡ 0 % m
-next_is_multiple m x h e =
-    let f : m * (x / m) + x % m ≡ x = div-add-mod x m in
-    let g : x + 1 ≡ 0 + m * (x / m + 1) = omega arith in
-    ap (λ v. v % m) g ∙ add-mul-mod_self_left 0 m (x / m + 1)
+next_is_multiple m x h e = grind (arith, div-add-mod, add-mul-mod_self_left)
 
 pub mod_of_eq : {m a b : ℕ} → a ≡ b → Congruent m a b
 mod_of_eq {m} {a} {b} e = record { same = ap (λ n. n % m) e }

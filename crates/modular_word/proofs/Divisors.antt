@@ -4,7 +4,7 @@ use Rattle.std.proofs.Common.{◌≤◌, cond, eqb, ◌&&◌, sym, ◌∙◌, ap
 use Rattle.std.proofs.lemmas.Bool.Decides.{nat_tests}
 use Rattle.std.proofs.lemmas.Bool.{cases_lt}
 use Rattle.std.proofs.Math.Nat.{mul-mod_right, mod_self, mod-zero, mod-one, mod-lt}
-use Rattle.std.proofs.Math.Nat.{mod-eq_of_lt, div-add-mod, add-mul-mod_self_left}
+use Rattle.std.proofs.Math.Nat.{mod-eq_of_lt, add-mul-mod_self_left}
 use Rattle.std.proofs.lemmas.Nat.{mul-mod_first, mul-mod_second}
 use Rattle.modular_word.specs.Divisors.{Coprime, IsGreatestCommonDivisor, gcd_up_to, gcd}
 use Rattle.modular_word.specs.Inverses.{IsInverse, HasInverse}
@@ -19,18 +19,10 @@ divides d n k e = ap (λ v. v % d) e ∙ mul-mod_right d k
 
 -- what divides two numbers divides their sum, and the rest of a sum
 pub divides_sum : (d a b : ℕ) → a % d ≡ 0 → b % d ≡ 0 → (a + b) % d ≡ 0
-divides_sum d a b g h =
-    let i = multiple_of d a g in
-    let j = multiple_of d b h in
-    divides d (a + b) (a / d + b / d) (omega arith)
+divides_sum d a b g h = divides d (a + b) (a / d + b / d) (omega arith)
 
 absurd_small : (d i j a b : ℕ) → a ≡ d * i → a + b ≡ d * j → j < i → b ≡ d * (j - i)
-absurd_small d i j a b g h l =
-    let z : j - i ≡ 0 = omega arith in
-    let e : i ≡ j + (i - j) = omega arith in
-    let f = ap (λ v. d * v) e in
-    let k = ap (λ v. d * v) z in
-    omega arith
+absurd_small d i j a b g h l = grind arith
 
 rest : (d i j a b : ℕ) → a ≡ d * i → a + b ≡ d * j → b ≡ d * (j - i)
 rest d i j a b g h =
@@ -52,9 +44,7 @@ divides_product d a k g =
     divides d (a * k) (a / d * k) (ap (λ v. v * k) i ∙ omega arith)
 
 pub divides_through : (d e n : ℕ) → e % d ≡ 0 → n % e ≡ 0 → n % d ≡ 0
-divides_through d e n g h =
-    let j = multiple_of e n h in
-    ap (λ v. v % d) j ∙ divides_product d e (n / e) g
+divides_through d e n g h = grind (arith, multiple_of, divides_product)
 
 positive_divisor : (d n : ℕ) → 0 < n → n % d ≡ 0 → 0 < d
 positive_divisor zero n p h = let e = mod-zero n in absurd (omega arith)
@@ -62,11 +52,7 @@ positive_divisor (suc d) n p h = omega arith
 
 -- a divisor of a positive number is positive and at most it
 pub divisor_below : (d n : ℕ) → 0 < n → n % d ≡ 0 → (0 < d) × (d ≤ n)
-divisor_below d n p h =
-    ⊎_elim
-    (λ (l : n < d). let e = mod-eq_of_lt l in absurd (omega arith))
-    (λ (l : d ≤ n). (positive_divisor d n p h, l))
-    (cases_lt n d)
+divisor_below d n p h = grind (arith, mod-eq_of_lt, positive_divisor)
 
 -- being coprime is symmetric
 pub Coprime-swap : (a n : ℕ) → Coprime a n → Coprime n a
@@ -74,10 +60,7 @@ Coprime-swap a n c = record { only_one = λ d g h. c.only_one d h g }
 
 -- what divides n divides a exactly where it divides the remainder of a by n
 pub divides_mod : (d a n : ℕ) → n % d ≡ 0 → (a % n) % d ≡ 0 → a % d ≡ 0
-divides_mod d a n h g =
-    let s = divides_sum d (n * (a / n)) (a % n) (divides_product d n (a / n) h) g in
-    let e : n * (a / n) + a % n ≡ a = omega arith in
-    sym (ap (λ v. v % d) e) ∙ s
+divides_mod d a n h g = grind (arith, divides_sum, divides_product)
 
 pub mod_divides : (d a n : ℕ) → n % d ≡ 0 → a % d ≡ 0 → (a % n) % d ≡ 0
 mod_divides d a n h g =
@@ -96,10 +79,8 @@ turned_unit : (a n y : ℕ) → 1 < a → 0 < n → (n * y) % a ≡ 1 → (a * (
 turned_unit a n y ha hn e =
     let p = n - 1 in
     let q = n * y / a in
-    let f : a * q + (n * y) % a ≡ n * y = div-add-mod (n * y) a in
     let g : a * q + 1 ≡ n * y = omega arith in
     let k : p * (a * q + 1) ≡ p * (n * y) = ap (λ v. p * v) g in
-    let m : p + 1 ≡ n = omega arith in
     let s : a * (p * q) + n * 1 ≡ 1 + n * (p * y) = omega arith in
     sym (add-mul-mod_self_left (a * (p * q)) n 1) ∙ ap (λ v. v % n) s ∙ add-mul-mod_self_left 1 n (p * y)
 
@@ -122,8 +103,7 @@ unit_within (suc fuel) a n l p c =
     let t = turned (a % n) n i.0 h p i.1 in
     (t.0, sym (mul-mod_first a t.0 n) ∙ t.1))
     (λ (h : a % n ≤ 0).
-    let e : n ≡ 1 = c.only_one n (let z : a % n ≡ 0 = omega arith in z) (mod_self n) in
-    (0, ap (λ v. (a * 0) % v) e ∙ mod-one (a * 0) ∙ sym (mod-one 1) ∙ ap (λ v. 1 % v) (sym e)))
+    grind (arith, mod_self, mod-one))
     (cases_lt 0 (a % n))
 
 -- a number coprime to n has an inverse modulo n
@@ -207,34 +187,21 @@ gcd-from_Coprime a n p c =
     c.only_one (gcd_up_to a n n) b.0 b.1
 
 pub Coprime-from_gcd : (a n : ℕ) → 0 < n → gcd a n ≡ 1 → Coprime a n
-Coprime-from_gcd a n p e = record {
-  only_one = λ d g h.
-      let b = divisor_below d n p h in
-      let l = gcd_greatest a n n d b.1 g h in
-      let q = b.0 in
-      omega arith;
-}
+Coprime-from_gcd a n p e = grind (arith, divisor_below, gcd_greatest)
 
 -- `gcd` is the greatest common divisor
 pub gcd_is : (a n : ℕ) → 0 < n → IsGreatestCommonDivisor a n (gcd a n)
 gcd_is a n p =
     let l = gcd_greatest a n n 1 p (mod-one a) (mod-one n) in
     let b = gcd_common a n n l in
-    record {
-      first = b.0;
-      second = b.1;
-      greatest = λ d g h. gcd_greatest a n n d (divisor_below d n p h).1 g h;
-    }
+    grind (arith, gcd_greatest, divisor_below)
 
 pub gcd_is_positive : (a n : ℕ) → 0 < n → 0 < gcd a n
 gcd_is_positive a n p = gcd_greatest a n n 1 p (mod-one a) (mod-one n)
 
 -- an inverse exists exactly where the greatest common divisor is 1
 pub HasInverse-gcd : (a n : ℕ) → 0 < n → HasInverse n a ↔ (gcd a n ≡ 1)
-HasInverse-gcd a n p = (
-  (λ (h : HasInverse n a). gcd-from_Coprime a n p (Coprime-from_IsInverse a n h.0 h.1)),
-  (λ (e : gcd a n ≡ 1). HasInverse-from_Coprime a n p (Coprime-from_gcd a n p e)),
-)
+HasInverse-gcd a n p = grind (arith, gcd-from_Coprime, Coprime-from_IsInverse, HasInverse-from_Coprime, Coprime-from_gcd)
 
 -- one more number tried
 pub gcd_up_to-hit : (a n k : ℕ) → a % suc k ≡ 0 → n % suc k ≡ 0 → gcd_up_to a n (suc k) ≡ suc k

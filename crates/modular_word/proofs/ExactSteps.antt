@@ -1,45 +1,31 @@
 -- The arithmetic of exact division by an inverse modulo the base.
-use Rattle.std.proofs.Common.{◌≡◌, ℕ, ◌+◌, ◌-◌, ◌*◌, ◌/◌, ◌%◌, ◌<◌, ◌≤◌, sym, ap, ◌∙◌, arith, ⊎_elim}
-use Rattle.std.proofs.Math.Nat.{mod-eq_of_lt, div-add-mod, mul-le-mul_left}
+use Rattle.std.proofs.Common.{◌≡◌, ℕ, ◌+◌, ◌-◌, ◌*◌, ◌/◌, ◌%◌, ◌<◌, ◌≤◌, sym, ap, ◌∙◌, arith}
+use Rattle.std.proofs.Math.Nat.{mod-eq_of_lt, mul-le-mul_left}
 use Rattle.std.proofs.Math.Nat.{mul-le-mul_right, add-mul-mod_self_left, zero-mod}
 use Rattle.std.proofs.lemmas.Nat.{mul-mod_first, mul-mod_second, le-div}
-use Rattle.std.proofs.lemmas.Bool.{cases_lt}
 use Rattle.modular_word.proofs.Congruence.{factor_cancel}
 
 -- the product with the inverse and then with the divisor is the number again
 pub back : (B d i n : ℕ) → (d * i) % B ≡ 1 → ((n * i) % B * d) % B ≡ n % B
 back B d i n e =
-    let e1 : (n * i) * d ≡ n * (d * i) = omega arith in
     let e2 : n * 1 ≡ n = omega arith in
-    mul-mod_first (n * i) d B ∙ ap (λ x. x % B) e1 ∙ sym (mul-mod_second n (d * i) B)
-    ∙ ap (λ x. (n * x) % B) e ∙ ap (λ x. x % B) e2
+    grind (arith, mul-mod_first, mul-mod_second)
 
 -- the product with the divisor and then with the inverse is the number again
 pub forth : (B d i k : ℕ) → (d * i) % B ≡ 1 → (k * d * i) % B ≡ k % B
 forth B d i k e =
-    let e1 : k * d * i ≡ k * (d * i) = omega arith in
     let e2 : k * 1 ≡ k = omega arith in
-    ap (λ x. x % B) e1 ∙ sym (mul-mod_second k (d * i) B)
-    ∙ ap (λ x. (k * x) % B) e ∙ ap (λ x. x % B) e2
+    grind (arith, mul-mod_second)
 
 -- a divisor with an inverse is not 0
 pub divisor_positive : (B d i : ℕ) → (d * i) % B ≡ 1 → 0 < d
-divisor_positive B d i e =
-    ⊎_elim
-    (λ (h : 0 < d). h)
-    (λ (h : d ≤ 0).
-    let m : d * i ≤ 0 * i = mul-le-mul_right i h in
-    let z : d * i ≡ 0 = omega arith in
-    let r : (d * i) % B ≡ 0 % B = ap (λ x. x % B) z in
-    absurd (omega (arith, zero-mod B)))
-    (cases_lt 0 d)
+divisor_positive B d i e = grind (arith, mul-le-mul_right, zero-mod)
 
 -- a quotient within the limit is exact
 pub exact_within : (B d i n q : ℕ) → n < B → (d * i) % B ≡ 1 → q ≡ (n * i) % B → q ≤ (B - 1) / d
     → q * d ≡ n
 exact_within B d i n q hn e eq hq =
     let m : q * d ≤ (B - 1) / d * d = mul-le-mul_right d hq in
-    let f : d * ((B - 1) / d) + (B - 1) % d ≡ B - 1 = div-add-mod (B - 1) d in
     let small : q * d < B = omega arith in
     let r : (q * d) % B ≡ n % B = ap (λ x. (x * d) % B) eq ∙ back B d i n e in
     sym (mod-eq_of_lt small) ∙ r ∙ mod-eq_of_lt hn
@@ -47,14 +33,7 @@ exact_within B d i n q hn e eq hq =
 -- the quotient of a multiple of the divisor is within the limit
 pub quotient_within : (B d i n k q : ℕ) → n < B → (d * i) % B ≡ 1 → q ≡ (n * i) % B → k * d ≡ n
     → (q ≡ k) × (q ≤ (B - 1) / d)
-quotient_within B d i n k q hn e eq ek =
-    let hd = divisor_positive B d i e in
-    let b : k * 1 ≤ k * d = mul-le-mul_left k hd in
-    let hk : k < B = omega arith in
-    let same : q ≡ k =
-    eq ∙ ap (λ x. (x * i) % B) (sym ek) ∙ forth B d i k e ∙ mod-eq_of_lt hk in
-    let w : k ≤ (B - 1) / d = le-div k (B - 1) d hd (omega arith) in
-    (same, omega arith)
+quotient_within B d i n k q hn e eq ek = grind (arith, divisor_positive, mul-le-mul_left, forth, mod-eq_of_lt, le-div)
 
 -- the low word of the quotient's low word times the divisor is the number's low word
 pub low_again : (B d i n0 q0 low h : ℕ) → n0 < B → low < B → (d * i) % B ≡ 1
@@ -70,7 +49,6 @@ low_again B d i n0 q0 low h hn hlow e eq ep =
 pub high_left : (B d i n0 n1 q0 h K : ℕ) → n0 < B → (d * i) % B ≡ 1 → q0 ≡ (n0 * i) % B
     → q0 * d ≡ n0 + B * h → K * d ≡ n0 + B * n1 → K / B * d + h ≡ n1
 high_left B d i n0 n1 q0 h K hn e eq ep eK =
-    let f : B * (K / B) + K % B ≡ K = div-add-mod K B in
     let g : (n0 + B * n1) * i ≡ n0 * i + B * (n1 * i) = omega arith in
     let low : K % B ≡ q0 =
     sym (forth B d i K e) ∙ ap (λ x. (x * i) % B) eK ∙ ap (λ x. x % B) g

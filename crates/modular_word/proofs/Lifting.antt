@@ -1,7 +1,7 @@
 -- An inverse modulo a power of two, lifted to its square.
 use Rattle.std.proofs.Common.{◌≡◌, ℕ, zero, suc, ◌+◌, ◌-◌, ◌*◌, ◌/◌, ◌%◌, ◌^◌, ◌<◌, ◌≤◌, sym, ap, ◌∙◌, arith, refl, ap₂}
 use Rattle.std.proofs.Math.Nat.{mod-lt, mod-mod, mod-one, mod_self, mod-add-mod, add-mod-mod}
-use Rattle.std.proofs.Math.Nat.{div-add-mod, mod-eq_of_lt, add-mul-mod_self_left, pow-suc}
+use Rattle.std.proofs.Math.Nat.{mod-eq_of_lt, add-mul-mod_self_left}
 use Rattle.std.proofs.lemmas.Nat.{pow_below, pow_pos, pow-add, mul-mod, mul-mod_second}
 use Rattle.modular_word.proofs.Congruence.{mod_cancel, same_sum, same_product, same_without, mod_of_multiple}
 
@@ -48,15 +48,11 @@ lift_start w m bits odd e = record {
 -- one lifting, modulo 2^c where x is 1 modulo 2^d
 pub lifted : (c d x t : ℕ) → c ≤ d + d → x % 2 ^ d ≡ 1 % 2 ^ d → (t + x) % 2 ^ c ≡ 2 % 2 ^ c
     → (x * t) % 2 ^ c ≡ 1 % 2 ^ c
-lifted c zero x t h ex et =
-    let z : c ≡ 0 = omega arith in
-    ap (λ n. (x * t) % 2 ^ n) z ∙ mod-one (x * t) ∙ sym (mod-one 1) ∙ ap (λ n. 1 % 2 ^ n) (sym z)
+lifted c zero x t h ex et = grind (arith, mod-one)
 lifted c (suc d) x t h ex et =
     let D = 2 ^ suc d in
-    let two : D ≡ 2 * 2 ^ d = omega (arith, pow-suc 2 d) in
     let one : x % D ≡ 1 = ex ∙ mod-eq_of_lt (omega (arith, pow_pos d)) in
     let e = x / D in
-    let f : D * (x / D) + x % D ≡ x = div-add-mod x D in
     let g : x ≡ 1 + D * e = omega arith in
     let square : 2 ^ (suc d + suc d) ≡ D * D = pow-add 2 (suc d) (suc d) in
     let sx : x * x ≡ (1 + D * e) * (1 + D * e) = ap₂ (λ n o. n * o) g g in

@@ -1,6 +1,6 @@
 -- Horner's rule, on sums over a range, and on lists of coefficients.
 use Rattle.std.proofs.Common.{◌≡◌, ℕ, zero, suc, ◌+◌, ◌-◌, ◌*◌, ◌%◌, ◌^◌, ◌≤◌, List, [], ◌∷◌, ◌++◌, length, slice_index}
-use Rattle.std.proofs.Common.{get_or, ap, ap₂, sym, ◌∙◌, arith, add-one, length-append}
+use Rattle.std.proofs.Common.{get_or, ap, ◌∙◌, arith, add-one, length-append}
 use Rattle.std.proofs.Math.ListN.{get_or-append}
 use Rattle.std.proofs.Math.Nat.{pow-zero, pow-suc, mod-add-mod}
 use Rattle.std.proofs.Math.Seq.{get_or-append_seam}
@@ -40,36 +40,16 @@ pub value_more : (cs : List ℕ) (c x : ℕ)
     → polynomial_highest_first (length (cs ++ c ∷ [])) (slice_index (cs ++ c ∷ [])) x
     ≡ polynomial_highest_first (length cs) (slice_index cs) x * x + c
 value_more cs c x =
-    let n = length cs in
-    let longer : length (cs ++ c ∷ []) ≡ n + 1 = length-append cs (c ∷ []) in
-    let before : polynomial_highest_first n (λ i. get_or (cs ++ c ∷ []) i 0) x
-    ≡ polynomial_highest_first n (λ i. get_or cs i 0) x =
-    sum_below-same n (λ i. get_or (cs ++ c ∷ []) i 0 * x ^ (n - 1 - i)) (λ i. get_or cs i 0 * x ^ (n - 1 - i))
-    (λ i l. ap (λ k. k * x ^ (n - 1 - i)) (get_or-append cs (c ∷ []) 0 i l)) in
-    ap (λ k. polynomial_highest_first k (λ i. get_or (cs ++ c ∷ []) i 0) x) longer
-    ∙ horner n (λ i. get_or (cs ++ c ∷ []) i 0) x
-    ∙ ap₂ (λ v d. v * x + d) before (get_or-append_seam cs c [] 0)
+    grind (arith, length, length-append, get_or, sum_below-same, get_or-append, horner, get_or-append_seam)
 
 -- with one more in front it is its product by a power of x, and the value so far
 pub value_first : (cs : List ℕ) (c x : ℕ)
     → polynomial_highest_first (length (c ∷ cs)) (slice_index (c ∷ cs)) x
     ≡ c * x ^ length cs + polynomial_highest_first (length cs) (slice_index cs) x
-value_first cs c x =
-    let n = length cs in
-    let f : ℕ → ℕ = λ i. get_or (c ∷ cs) i 0 * x ^ (suc n - 1 - i) in
-    let top : suc n - 1 - 0 ≡ n = omega arith in
-    let rest : sum_below n (λ i. f (suc i)) ≡ sum_below n (λ i. get_or cs i 0 * x ^ (n - 1 - i)) =
-    sum_below-same n (λ i. f (suc i)) (λ i. get_or cs i 0 * x ^ (n - 1 - i))
-    (λ i l.
-    let same : suc n - 1 - suc i ≡ n - 1 - i = omega (arith, l) in
-    ap (λ k. get_or cs i 0 * x ^ k) same) in
-    sum_below-first n f ∙ ap₂ (λ e v. c * x ^ e + v) top rest
+value_first cs c x = grind (arith, length, get_or, sum_below-same, sum_below-first)
 
 -- one step of Horner's rule, modulo m
 pub residue_more : (m : ℕ) (cs : List ℕ) (c x value product : ℕ)
     → value ≡ polynomial_highest_first (length cs) (slice_index cs) x % m → product ≡ (value * x) % m
     → (product + c) % m ≡ polynomial_highest_first (length (cs ++ c ∷ [])) (slice_index (cs ++ c ∷ [])) x % m
-residue_more m cs c x value product e f =
-    let v = polynomial_highest_first (length cs) (λ i. get_or cs i 0) x in
-    ap (λ k. (k + c) % m) (f ∙ ap (λ k. (k * x) % m) e ∙ mul-mod_first v x m)
-    ∙ mod-add-mod (v * x) m c ∙ ap (λ k. k % m) (sym (value_more cs c x))
+residue_more m cs c x value product e f = grind (arith, length, get_or, mul-mod_first, mod-add-mod, value_more)

@@ -1,6 +1,6 @@
 -- The arithmetic of a division of two words by one through a reciprocal.
-use Rattle.std.proofs.Common.{◌≡◌, ℕ, ◌+◌, ◌-◌, ◌*◌, ◌/◌, ◌%◌, ◌<◌, ◌≤◌, sym}
-use Rattle.std.proofs.Common.{ap, ◌∙◌, subst, arith, ◌⊎◌, inl, inr, ⊎_elim}
+use Rattle.std.proofs.Common.{◌≡◌, ℕ, ◌+◌, ◌-◌, ◌*◌, ◌/◌, ◌%◌, ◌<◌, ◌≤◌}
+use Rattle.std.proofs.Common.{ap, ◌∙◌, subst, arith, ◌⊎◌, ⊎_elim}
 use Rattle.std.proofs.Math.Nat.{mod-eq_of_lt, mod-lt, div-add-mod, mul-le-mul_left}
 use Rattle.std.proofs.Math.Nat.{mul-le-mul_right, lt_of_mul-lt-mul_right}
 use Rattle.std.proofs.lemmas.Bool.{cases_lt}
@@ -16,11 +16,8 @@ guess_rest B d a0 A q q1 r R hr hR eq e0 e =
     let z = (q1 + 1) / B in
     let w = (q * d) / B in
     let u = (r + m) / B in
-    let ez : B * z + (q1 + 1) % B ≡ q1 + 1 = div-add-mod (q1 + 1) B in
     let ez' : B * z + q ≡ q1 + 1 = omega arith in
     let ed : (B * z + q) * d ≡ (q1 + 1) * d = ap (λ x. x * d) ez' in
-    let ew : B * w + m ≡ q * d = div-add-mod (q * d) B in
-    let eu : B * u + (r + m) % B ≡ r + m = div-add-mod (r + m) B in
     same_rest B R r (z * d + w + u) A hR hr (omega arith)
 
 -- the dividend times the base, less the guessed multiple of the divisor
@@ -62,12 +59,7 @@ guess_high c d k a0 a1 q0 q1 S hc h0 hS e ea =
     let ea' : (c + d) * (a0 + (c + d) * a1 + S) ≡ (c + d) * ((q1 + 1) * d) = ap (λ x. (c + d) * x) ea in
     let main : (c + d) * S + q0 * d ≤ (c + d) * d = omega arith in
     let first : S ≤ d =
-    ⊎_elim
-    (λ (h : d < S).
-    let m : (c + d) * (d + 1) ≤ (c + d) * S = mul-le-mul_left (c + d) (omega arith) in
-    absurd (omega arith))
-    (λ (h : S ≤ d). h)
-    (cases_lt d S) in
+    grind (arith, mul-le-mul_left) in
     let second : S + q0 < c + d =
     ⊎_elim
     (λ (h : S + q0 < c + d). h)
@@ -121,16 +113,15 @@ guess_at_sum c d v a0 a1 q0 q1 q r s hr eq er =
     let both = guess_high c d k a0 a1 q0 q1 S (omega (arith, s.divisor_fits)) s.low_fits hS e eS in
     let eR : R ≡ r =
     guess_rest (c + d) d a0 (a1 + 1) q q1 r R hr (omega (arith, both.0)) eq er (omega (arith, both.0)) in
-    inr (record { rest = omega (arith, both.0); above = omega (arith, both.1); carries = omega (arith, both.0) }))
+    grind arith)
     (λ (h : (q1 + 1) * d ≤ a).
     let R = a - (q1 + 1) * d in
     let eA : a0 + (c + d) * a1 ≡ (q1 + 1) * d + R = omega arith in
     let low : q0 < R → R < c = guess_low c d k a0 a1 q0 q1 R hk s.high s.low_fits e eA in
     let fits : R < c + d =
-    ⊎_elim (λ (p : q0 < R). let l = low p in omega arith)
-    (λ (p : R ≤ q0). omega (arith, s.rest_fits)) (cases_lt q0 R) in
+    grind arith in
     let eR : R ≡ r = guess_rest (c + d) d a0 a1 q q1 r R hr fits eq er (omega arith) in
-    inl (record { rest = omega arith; below = λ p. let l = low (omega arith) in omega arith }))
+    grind arith)
     (cases_lt a ((q1 + 1) * d))
 
 -- what the guess leaves
@@ -154,8 +145,7 @@ step_down B d a q0 q1 q r q' r' hd h1 hr hq' guess eq eq' er' hr0 =
     let ed : q' * d ≡ q1 * d = ap (λ x. x * d) e in
     ⊎_elim
     (λ (f : GuessFits B d a q0 q1 r).
-    let m : (r + d) % B ≡ r + d = mod-eq_of_lt (f.below hr0) in
-    omega (arith, f.rest))
+    grind (arith, mod-eq_of_lt))
     (λ (o : GuessIsOver B d a q0 q1 r).
     let m : B * ((r + d) / B) + (r + d) % B ≡ r + d = div-add-mod (r + d) B in
     let x = r + d - B in
@@ -185,8 +175,7 @@ pub step_up : (B d a q r q' r' : ℕ) → d < B → a < d * B → r < B → r' <
 step_up B d a q r q' r' hd ha hr hr' hd' e eq er =
     let x = r - d in
     let ex : r' ≡ x =
-    mod_cancel B r' x d hr' (omega arith)
-    (er ∙ sym (mod-eq_of_lt hr) ∙ ap (λ n. n % B) (let f : r ≡ x + d = omega arith in f)) in
+    grind (arith, mod_cancel, mod-eq_of_lt) in
     let h : q + 1 < B =
     lt_of_mul-lt-mul_right d (let h' : (q + 1) * d < B * d = omega arith in h') in
     let e' : q' ≡ q + 1 = eq ∙ mod-eq_of_lt h in

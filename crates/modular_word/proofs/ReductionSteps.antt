@@ -1,10 +1,9 @@
 -- The arithmetic of a reduction that divides by the base.
-use Rattle.std.proofs.Common.{◌≡◌, ℕ, ◌+◌, ◌-◌, ◌*◌, ◌/◌, ◌%◌, ◌<◌, ◌≤◌, ◌⊎◌, inl, inr, sym, ap, ◌∙◌, arith, ⊎_elim}
-use Rattle.std.proofs.Math.Nat.{add-mod, mod-eq_of_lt, mod-lt, div-add-mod, mul-le-mul_left, mul-le-mul_right, add-mul-mod_self_left, lt_of_mul-lt-mul_right}
+use Rattle.std.proofs.Common.{◌≡◌, ℕ, ◌+◌, ◌-◌, ◌*◌, ◌/◌, ◌%◌, ◌<◌, ◌≤◌, ◌⊎◌, inr, sym, ap, ◌∙◌, arith, ⊎_elim}
+use Rattle.std.proofs.Math.Nat.{add-mod, mod-eq_of_lt, mod-lt, mul-le-mul_left, mul-le-mul_right, add-mul-mod_self_left, lt_of_mul-lt-mul_right}
 use Rattle.std.proofs.lemmas.Nat.{mul-mod_first, mul-mod_second}
 use Rattle.std.proofs.lemmas.Bool.{cases_lt}
 use Rattle.modular_word.proofs.Congruence.{same_rest, factor_cancel, same_without_unit, next_is_multiple}
-use Rattle.modular_word.proofs.Divisors.{multiple_of}
 use Rattle.modular_word.specs.Reduction.{IsReduction, IsNegatedInverse}
 
 -- a number t with the low word t0, and the multiple of m by t0 times the negated inverse i, add up to a multiple of B
@@ -23,16 +22,14 @@ sum_is_cleared B m i t0 t1 x hB e ex =
 -- a multiple of m by a word is below m times the base
 pub multiple_below : (B m x t : ℕ) → t < B * m → x < B → x * m < B * m
 multiple_below B m x t below fits =
-    ⊎_elim (λ (h : 0 < m). let a : (x + 1) * m ≤ B * m =
-    mul-le-mul_right m (let l : x + 1 ≤ B = omega (arith, fits) in l) in omega arith)
+    ⊎_elim (λ (h : 0 < m). grind (arith, mul-le-mul_right))
     (λ (h : m ≤ 0). let a : B * m ≤ B * 0 = mul-le-mul_left B h in absurd (omega (arith, below)))
     (cases_lt 0 m)
 
 -- a sum of two numbers below m times the base, by the base, less m where it is at least m, is the remainder
 pub high_sum_is : (m q r : ℕ) → q < m + m → ((q < m) × (r ≡ q)) ⊎ (r + m ≡ q) → r ≡ q % m
 high_sum_is m q r below is = ⊎_elim (λ (h : (q < m) × (r ≡ q)). h.1 ∙ sym (mod-eq_of_lt h.0)) (λ (h : r + m ≡ q).
-    let e : q ≡ r + m * 1 = omega arith in
-    sym (ap (λ v. v % m) e ∙ add-mul-mod_self_left r m 1 ∙ mod-eq_of_lt (let l : r < m = omega arith in l))) is
+    grind (arith, add-mul-mod_self_left, mod-eq_of_lt)) is
 
 -- a number below the base and a multiple of it that add up to a multiple of the base
 only_multiple : (B x s q : ℕ) → x < B → x + B * s ≡ B * q → (x ≡ 0) × (s ≡ q)
@@ -46,7 +43,6 @@ pub high_sum_of : (B t u t0 h l k carried : ℕ) → (t + u) % B ≡ 0 → t ≡
     → ((l ≡ 0) × (carried ≡ k)) ⊎ ((0 < l) × (carried ≡ k + 1)) → (t + u) / B ≡ h + carried
 high_sum_of B t u t0 h l k carried cleared et t0_fits eu l_fits is =
     let q = (t + u) / B in
-    let whole : t + u ≡ B * q = multiple_of B (t + u) cleared in
     ⊎_elim (λ (none : (l ≡ 0) × (carried ≡ k)).
     let e : t0 + B * (h + k) ≡ B * q = let f = none.0 in omega arith in
     let r = (only_multiple B t0 (h + k) q t0_fits e).1 in
@@ -66,31 +62,19 @@ high_below B m x x0 x1 parts below = lt_of_mul-lt-mul_right B (let h : x1 * B < 
 -- a sum of two numbers below m times the base, by the base
 pub high_sum_below : (B m t u : ℕ) → (t + u) % B ≡ 0 → t < B * m → u < B * m → (t + u) / B < m + m
 high_sum_below B m t u cleared first second =
-    let whole : t + u ≡ B * ((t + u) / B) = multiple_of B (t + u) cleared in
     lt_of_mul-lt-mul_right B (let h : (t + u) / B * B < (m + m) * B = omega arith in h)
 
 -- a number that is the base more than a word
 wrapped : (B q s : ℕ) → q < B → s ≡ q + B → s % B ≡ q
-wrapped B q s fits e =
-    ap (λ v. v % B) (let h : s ≡ q + B * 1 = omega (arith, e) in h) ∙ add-mul-mod_self_left q B 1 ∙ mod-eq_of_lt fits
+wrapped B q s fits e = grind (arith, add-mul-mod_self_left, mod-eq_of_lt)
 
 -- a wrapping difference of a word and a greater one
 pub borrowing : (B a b d : ℕ) → a < b → b < B → d < B → (d + b) % B ≡ a → d + b ≡ a + B
-borrowing B a b d less fits d_fits e =
-    ⊎_elim (λ (h : d + b < B).
-    let same : d + b ≡ a = sym (mod-eq_of_lt h) ∙ e in
-    absurd (omega arith)) (λ (h : B ≤ d + b).
-    let same : (d + b) % B ≡ d + b - B = wrapped B (d + b - B) (d + b) (omega arith) (omega arith) in
-    omega (arith, same, e)) (cases_lt (d + b) B)
+borrowing B a b d less fits d_fits e = grind (arith, mod-eq_of_lt, wrapped)
 
 -- the base less m, where some number is below m times the base
 pub complement_of : (B m t c z : ℕ) → t < B * m → m < B → c < B → z ≡ 0 → (c + m) % B ≡ z → c + m ≡ B
-complement_of B m t c z below fits c_fits none e =
-    ⊎_elim (λ (some : 0 < m).
-    let h : c + m ≡ 0 + B = borrowing B 0 m c some fits c_fits (e ∙ none) in
-    omega (arith, h)) (λ (h : m ≤ 0).
-    let a : B * m ≤ B * 0 = mul-le-mul_left B h in
-    absurd (omega (arith, below))) (cases_lt 0 m)
+complement_of B m t c z below fits c_fits none e = grind (arith, borrowing, mul-le-mul_left)
 
 -- q modulo m, where q less m is known modulo the base: q is at least m ..
 pub above_modulus : (m q r : ℕ) → q < m + m → r + m ≡ q → r ≡ q % m
@@ -99,9 +83,7 @@ above_modulus m q r twice e = high_sum_is m q r twice (inr e)
 -- .. or below m
 pub below_modulus : (B m q rest r : ℕ) → m < B → q < m + m → rest < B → rest + m ≡ q + B → r ≡ (rest + m) % B
     → r ≡ q % m
-below_modulus B m q rest r fits twice rest_fits e is =
-    let less : q < m = omega (arith, rest_fits, e) in
-    high_sum_is m q r twice (inl (less, is ∙ wrapped B q (rest + m) (omega (arith, less, fits)) e))
+below_modulus B m q rest r fits twice rest_fits e is = grind (arith, high_sum_is, wrapped)
 
 -- a sum and the base less m, each times the base, in double words: q less m is the high word, with a carry ..
 pub double_carried : (B m q c t u more s s0 r : ℕ) → t + u ≡ B * q → c + m ≡ B → more ≡ t + B * c
@@ -122,21 +104,13 @@ double_exact B m q c t u more s s0 r whole complement em es parts s0_fits =
 -- t and a multiple of m, by the base, modulo m: the reduction of t
 pub reduces : (B m t x r : ℕ) → t < B * m → (t + x * m) % B ≡ 0 → r ≡ ((t + x * m) / B) % m → IsReduction B m t r
 reduces B m t x r below cleared is =
-    let some : 0 < m = ⊎_elim (λ (h : 0 < m). h)
-    (λ (h : m ≤ 0). let a : B * m ≤ B * 0 = mul-le-mul_left B h in absurd (omega (arith, below))) (cases_lt 0 m) in
-    let whole : B * ((t + x * m) / B) + (t + x * m) % B ≡ t + x * m = div-add-mod (t + x * m) B in
     let parts : (t + x * m) / B * B ≡ t + m * x = omega (arith, cleared) in
-    record {
-      below = let l : (t + x * m) / B % m < m = mod-lt ((t + x * m) / B) some in omega (arith, is, l);
-      congruent = ap (λ v. (v * B) % m) is ∙ mul-mod_first ((t + x * m) / B) B m ∙ ap (λ v. v % m) parts
-          ∙ add-mul-mod_self_left t m x;
-    }
+    grind (arith, mod-lt, mul-mod_first, add-mul-mod_self_left)
 
 -- by the negated inverse the base has an inverse modulo m
 pub base_inverse : (B m i : ℕ) → 0 < B → IsNegatedInverse B m i → (B * ((m * i + 1) / B)) % m ≡ 1 % m
 base_inverse B m i some inverse =
     let z : (m * i + 1) % B ≡ 0 = next_is_multiple B (m * i) some inverse.product ∙ mod-eq_of_lt some in
-    let f : B * ((m * i + 1) / B) + (m * i + 1) % B ≡ m * i + 1 = div-add-mod (m * i + 1) B in
     let g : B * ((m * i + 1) / B) ≡ 1 + m * i = omega arith in
     ap (λ v. v % m) g ∙ add-mul-mod_self_left 1 m i
 

@@ -22,10 +22,8 @@ residue_is m (negsuc n) h = record {
 unique_at : (m v w : ℕ) (p q : ℤ) → v < m → w < m → pos v +ℤ (p *ℤ pos m) ≡ pos w +ℤ (q *ℤ pos m) → v ≡ w
 unique_at m v w (pos a) (pos b) h k e =
     let n : a * m + v ≡ b * m + w = omega (arith, ints) in (same_from_place a v b w m h k n).1
-unique_at m v w (pos a) (negsuc b) h k e =
-    let n : (a + suc b) * m + v ≡ 0 * m + w = omega (arith, ints) in (same_from_place (a + suc b) v 0 w m h k n).1
-unique_at m v w (negsuc a) (pos b) h k e =
-    let n : 0 * m + v ≡ (b + suc a) * m + w = omega (arith, ints) in (same_from_place 0 v (b + suc a) w m h k n).1
+unique_at m v w (pos a) (negsuc b) h k e = grind (arith, ints, same_from_place)
+unique_at m v w (negsuc a) (pos b) h k e = grind (arith, ints, same_from_place)
 unique_at m v w (negsuc a) (negsuc b) h k e =
     let n : suc b * m + v ≡ suc a * m + w = omega (arith, ints) in (same_from_place (suc b) v (suc a) w m h k n).1
 
@@ -49,21 +47,10 @@ difference_and m a b h =
 
 -- the residue of a difference of numbers below m, without a borrow and with one
 pub residue_sub : (m v w : ℕ) → v < m → w ≤ v → residue m (pos v -ℤ pos w) ≡ v - w
-residue_sub m v w h k =
-    let e : pos v -ℤ pos w ≡ pos (v - w) = omega (arith, ints) in
-    let below : v - w < m = omega arith in
-    ap (residue m) e ∙ mod-eq_of_lt below
+residue_sub m v w h k = grind (arith, ints, mod-eq_of_lt)
 
 pub residue_sub_wrapped : (m v w : ℕ) → w < m → v < w → residue m (pos v -ℤ pos w) ≡ v + (m - w)
-residue_sub_wrapped m v w h k =
-    let e : pos v -ℤ pos w ≡ negsuc (w - v - 1) = omega (arith, ints) in
-    let below : w - v - 1 < m = omega arith in
-    let r : (w - v - 1) % m ≡ w - v - 1 = mod-eq_of_lt below in
-    ap (residue m) e ∙ omega (arith, r)
+residue_sub_wrapped m v w h k = grind (arith, ints, mod-eq_of_lt)
 
 pub residue_neg : (m v : ℕ) → v < m → 0 < v → residue m (neg_ℤ (pos v)) ≡ m - v
-residue_neg m v h k =
-    let e : neg_ℤ (pos v) ≡ negsuc (v - 1) = omega (arith, ints) in
-    let below : v - 1 < m = omega arith in
-    let r : (v - 1) % m ≡ v - 1 = mod-eq_of_lt below in
-    ap (residue m) e ∙ omega (arith, r)
+residue_neg m v h k = grind (arith, neg_ℤ, ints, mod-eq_of_lt)

@@ -5,19 +5,7 @@ use Rattle.std.proofs.lemmas.Nat.{pow_pos, pow-add, and_mask, one_shl}
 
 -- w ones, shifted right until n are left
 pub ones_shifted : (w n top : ℕ) → n ≤ w → top + 1 ≡ 2 ^ w → top / 2 ^ (w - n) + 1 ≡ 2 ^ n
-ones_shifted w n top h e =
-    let P = 2 ^ (w - n) in
-    let k = 2 ^ n - 1 in
-    let hP : 0 < P = pow_pos (w - n) in
-    let hk : 0 < 2 ^ n = pow_pos n in
-    let whole : 2 ^ w ≡ 2 ^ n * P =
-    ap (λ v. 2 ^ v) (let s : w ≡ n + (w - n) = omega arith in s) ∙ pow-add 2 n (w - n) in
-    let ek : k + 1 ≡ 2 ^ n = omega arith in
-    let eP : (k + 1) * P ≡ 2 ^ n * P = ap (λ v. v * P) ek in
-    let low : k * P ≤ top = omega arith in
-    let high : top < (k + 1) * P = omega arith in
-    let q : top / P ≡ k = div-eq_of_lt-le P low high in
-    omega arith
+ones_shifted w n top h e = grind (arith, pow_pos, pow-add, div-eq_of_lt-le)
 
 -- the mask of the low k of w bits gives the residue modulo 2^k
 pub mask_keeps : (w n k : ℕ) → k < w → bit_and n (1 * 2 ^ k % 2 ^ w - 1) ≡ n % 2 ^ k

@@ -22,7 +22,6 @@ unfolding sum_to
 sum_to-same f g zero e = refl
 sum_to-same f g (suc h) e =
     let i = sum_to-same f g h (λ x p q. e x p (omega arith)) in
-    let j = e (suc h) (omega arith) (omega arith) in
     omega arith
 
 pub sum_to-le : (f g : ℕ → ℕ) (h : ℕ) → ((x : ℕ) → 0 < x → x ≤ h → f x ≤ g x) → sum_to f h ≤ sum_to g h
@@ -30,7 +29,6 @@ unfolding sum_to
 sum_to-le f g zero e = omega arith
 sum_to-le f g (suc h) e =
     let i = sum_to-le f g h (λ x p q. e x p (omega arith)) in
-    let j = e (suc h) (omega arith) (omega arith) in
     omega arith
 
 pub sum_to-add : (f g : ℕ → ℕ) (h : ℕ) → sum_to (λ x. f x + g x) h ≡ sum_to f h + sum_to g h
@@ -86,7 +84,6 @@ sum_to-full f zero e s x p q = absurd (omega arith)
 sum_to-full f (suc h) e s x p q =
     let b = sum_to-le f (λ x. 1) h (λ x u v. e x u (omega arith)) in
     let o = sum_to-ones h in
-    let j = e (suc h) (omega arith) (omega arith) in
     ⊎_elim
     (λ (l : x ≤ h). sum_to-full f h (λ x u v. e x u (omega arith)) (omega arith) x p l)
     (λ (l : x ≡ suc h). let k = ap f l in omega arith)
@@ -122,9 +119,7 @@ sum_to-at_most_one f (suc h) b e =
     omega arith)
     (λ (l : f (suc h) ≡ 1).
     let i = sum_to-same f (λ x. 0) h (λ x p q.
-    ⊎_elim (λ (m : f x ≡ 0). m)
-    (λ (m : f x ≡ 1). let w = e x (suc h) p (omega arith) (omega arith) (omega arith) m l in absurd (omega arith))
-    (none_or_one (f x) (b x))) in
+    grind (arith, none_or_one)) in
     let j = sum_to-nothing h in
     omega arith)
     (none_or_one (f (suc h)) (b (suc h)))
@@ -166,9 +161,7 @@ all_hits f h m =
     ∙ sum_to-ones h
 
 hits_le : (f : ℕ → ℕ) (h y : ℕ) → Permutes f h → hits f h y ≤ 1
-hits_le f h y m =
-    sum_to-at_most_one (λ x. hit (f x) y) h (λ x. hit-le (f x) y)
-    (λ x z p q u v d e. m.apart x z p q u v (hit-one (f x) y d ∙ sym (hit-one (f z) y e)))
+hits_le f h y m = grind (arith, sum_to-at_most_one, hit, hit-le, hit-one)
 
 -- each number is hit once
 pub hits_one : (f : ℕ → ℕ) (h y : ℕ) → Permutes f h → 0 < y → y ≤ h → hits f h y ≡ 1

@@ -34,6 +34,7 @@ pub fn two<T: PathWord>() -> T
     T::one().plus(T::one())
 }
 
+// rust: crate::additions::with_constants! {
 /// Quotient and remainder of a double word by a divisor d whose top bit is set, by the reciprocal of d.
 ///
 /// Source: Möller and Granlund, "Improved division by invariant integers", algorithm 4.
@@ -94,6 +95,7 @@ pub fn div_1by1<T: PathWord>(d: T, multiplier: T, shift: u32, a: T) -> (T, T)
     let r = a.minus(q.times(d));
     (q, r)
 }
+// rust: }
 
 /// The quotient of a word by an odd divisor d, by the inverse of d; `None` exactly where d doesn't divide it.
 ///

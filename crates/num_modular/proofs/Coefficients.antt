@@ -16,13 +16,7 @@ placed n s e v is = elim (eqb_tells s e) [ inl p ↦ rw p.0 (omega arith) | inr 
 
 -- .. and elsewhere, where there is room
 elsewhere : (n s e v : ℕ) → (n ≤ s → v ≡ 0) → s ≢ e → cond (eqb s e || eqb s (e + n)) v 0 ≡ 0
-elsewhere n s e v room other = elim (eqb_tells s e) [
-  | inl p ↦ absurd (other p.1)
-  | inr p ↦ elim (eqb_tells s (e + n)) [
-    | inl q ↦ let z = let h = q.1 in room (omega arith) in rw (p.0, q.0) z
-    | inr q ↦ rw (p.0, q.0) (omega arith)
-  ]
-]
+elsewhere n s e v room other = search (arith, eqb_tells)
 
 -- the terms of x i
 row : (n e i : ℕ) (x y : ℕ → ℕ) → e < n → i < n → ((i j : ℕ) → i < n → j < n → n ≤ i + j → x i * y j ≡ 0) → i ≤ e
@@ -35,9 +29,7 @@ row n e i x y below within room l =
 
 no_row : (n e i : ℕ) (x y : ℕ → ℕ) → i < n → ((i j : ℕ) → i < n → j < n → n ≤ i + j → x i * y j ≡ 0) → e < i
     → sum_below n (λ j. cond (eqb (i + j) e || eqb (i + j) (e + n)) (x i * y j) 0) ≡ 0
-no_row n e i x y within room l =
-    sum_below-of_zeros n (λ j. cond (eqb (i + j) e || eqb (i + j) (e + n)) (x i * y j) 0)
-    (λ j k. elsewhere n (i + j) e (x i * y j) (room i j within k) (omega arith))
+no_row n e i x y within room l = search (arith, sum_below-of_zeros, elsewhere)
 
 -- entry e
 pub coefficient : (m n s t e : ℕ) (x y : ℕ → ℕ) → ((i : ℕ) → i < n → x i ≤ s)
@@ -54,15 +46,11 @@ coefficient m n s t e x y few few_y small room below =
     let each : (i : ℕ) → i < e + 1 → x i * y (e - i) ≤ s * t =
     λ i l. mul-le-mul (few i (omega arith)) (few_y (e - i) (omega arith)) in
     let most = sum_below-bounded (e + 1) (s * t) (λ i. x i * y (e - i)) each in
-    let up : (e + 1) * (s * t) ≤ n * (s * t) = mul-le-mul_right (s * t) (omega arith) in
-    ap (λ v. v % m) sum ∙ mod-eq_of_lt (omega (arith, most, up, small))
+    search (arith, mul-le-mul_right, mod-eq_of_lt)
 
 -- the entries of lists, and 0 after them
 no_term : (xs ys : List ℕ) (n i j : ℕ) → length xs + length ys ≤ n + 1 → n ≤ i + j → get_or xs i 0 * get_or ys j 0 ≡ 0
-no_term xs ys n i j few beyond = elim (cases_lt i (length xs)) [
-  | inl l ↦ let z = get_or_past ys j 0 (omega arith) in ap (λ v. get_or xs i 0 * v) z ∙ omega arith
-  | inr l ↦ let z = get_or_past xs i 0 (omega arith) in ap (λ v. v * get_or ys j 0) z ∙ omega arith
-]
+no_term xs ys n i j few beyond = search (arith, cases_lt, get_or_past)
 
 -- entry e, where the values are those of two lists of coefficients
 pub coefficient_of_lists : (m n s t e : ℕ) (xs ys : List ℕ) (x y : ℕ → ℕ)

@@ -6,7 +6,6 @@ use Rattle.std.proofs.lemmas.Bool.Decides.{nat_tests}
 use Rattle.std.proofs.lemmas.Nat.{mul-mod, mul-mod_first, pow-add, mul-pow, pow-mod}
 use Rattle.modular_word.proofs.Congruence.{same_product}
 use Rattle.modular_word.proofs.Powers.{pow-one}
-use Rattle.modular_symbols.specs.Jacobi.{jacobi}
 use Rattle.modular_symbols.specs.Primes.{IsPrime}
 use Rattle.modular_symbols.proofs.Euler.{classed_power-jacobi}
 use Rattle.modular_symbols.proofs.PrimeLaws.{fermat}
@@ -18,8 +17,7 @@ same_power m a b k e = sym (pow-mod a k m) ∙ ap (λ v. v ^ k % m) e ∙ pow-mo
 
 -- a power of at least one factor, one factor taken out
 one_out : (a k : ℕ) → 0 < k → a ^ k ≡ a ^ (k - 1) * a
-one_out a k l = let e : k ≡ (k - 1) + 1 = omega arith in
-    ap (λ n. a ^ n) e ∙ pow-add a (k - 1) 1 ∙ ap (λ v. a ^ (k - 1) * v) (pow-one a)
+one_out a k l = search (arith, pow-add, pow-one)
 
 -- the p-th power is congruent to the number
 pub fermat_for_all : (a p : ℕ) → IsPrime p → a ^ p % p ≡ a % p
@@ -27,9 +25,7 @@ fermat_for_all a p u =
     let l = u.above_one in
     let out = ap (λ v. v % p) (one_out a p (omega arith)) in
     elim (cases_eq (a % p) 0) [
-      | inl z ↦
-          out ∙ mul-mod (a ^ (p - 1)) a p ∙ ap (λ v. (a ^ (p - 1) % p * v) % p) z
-          ∙ ap (λ v. v % p) (let e : a ^ (p - 1) % p * 0 ≡ 0 = omega arith in e) ∙ zero-mod p ∙ sym z
+      | inl z ↦ search (arith, mul-mod, zero-mod)
       | inr n ↦
           let one : 1 * a ≡ a = omega arith in
           out ∙ sym (mul-mod_first (a ^ (p - 1)) a p) ∙ ap (λ v. (v * a) % p) (fermat a p u n) ∙ ap (λ v. v % p) one
@@ -48,10 +44,7 @@ pub root_of_half : (a p : ℕ) → p % 2 ≡ 1 → IsPrime p → a ^ ((p - 1) / 
     → (x : ℕ) × (x % p ≢ 0) × ((x * x) % p ≡ a % p)
 root_of_half a p o u e =
     let c = classed_power-jacobi (pos a) p o u in
-    let v : (a % p) ^ ((p - 1) / 2) % p ≡ 1 = pow-mod a ((p - 1) / 2) p ∙ e in
-    let j : jacobi (pos a) p ≡ pos 1 = grind (arith, nat_tests) in
-    let r = root_from_symbol (pos a) p o u j in
-    (r.0, r.1.0, r.1.1)
+    search (arith, pow-mod, nat_tests, root_from_symbol)
 
 -- modulo a prime that is 3 modulo 4, a square has its power to (p + 1) / 4 as a root
 pub root_power : (a p x : ℕ) → p % 4 ≡ 3 → IsPrime p → (x * x) % p ≡ a % p

@@ -9,7 +9,6 @@ use Rattle.modular_reduced.specs.Forms.{Represents, IsCanonical}
 use Rattle.modular_ring.specs.declared.ring.RunEnd.{RunEnd}
 use Rattle.modular_ring.specs.declared.ring.RunEnd.TheVariants.{Done, NoInverse}
 use Rattle.std.specs.Io.KnownBytes.{Appends}
-use Rattle.std.specs.Str.Parse.{digits_value}
 use Rattle.modular_ring.specs.declared.ring.RingCommand.{RingCommand}
 use Rattle.modular_ring.specs.declared.ring.RingCommand.TheVariants.{Load, Add, Sub, Mul, Neg, Dbl, Sqr, Inv, Div, Pow}
 use Rattle.num_modular.specs.declared.modrun.ReducerName.{ReducerName}
@@ -75,29 +74,21 @@ wholes_same (c ∷ cs) = rw (whole_same c, wholes_same cs) refl
 
 numbers_same : (v w : ℕ → ℕ) (i : ℕ) → ((r : ℕ) → r ≤ i → v r ≡ w r) → numbers_to v i ≡ numbers_to w i
 numbers_same v w zero h = ap decimal (h 0 (omega arith))
-numbers_same v w (suc i) h =
-    let before : numbers_to v i ≡ numbers_to w i = numbers_same v w i (λ r below. h r (omega arith)) in
-    let this : v (suc i) ≡ w (suc i) = h (suc i) (omega arith) in
-    rw (before, this) refl
+numbers_same v w (suc i) h = search (arith, numbers_same v w i (λ r below. h r (omega arith)))
 
 -- what a run that is told of equal lists ends with and prints
 pub end_of_run : (m : ℕ) (start : List ℕ) (wholes commands : List (RingCommand ℕ)) (end : RunEnd)
     → start ≡ zeros → wholes ≡ commands
     → ((at : ℕ) → (end ≡ NoInverse at) ↔ IsStop m start wholes at)
     → ((end ≡ Done) ↔ ((at : ℕ) → IsStop m start wholes at → ⊥)) → IsEnd m commands end
-end_of_run m start wholes commands Done e1 e2 stops done =
-    λ at stop.
-    done.0 refl at (subst (λ s. IsStop m s wholes at) (sym e1) (subst (λ cs. IsStop m zeros cs at) (sym e2) stop))
+end_of_run m start wholes commands Done e1 e2 stops done = search arith
 end_of_run m start wholes commands (NoInverse at) e1 e2 stops done =
     subst (λ cs. IsStop m zeros cs at) e2 (subst (λ s. IsStop m s wholes at) e1 ((stops at).0 refl))
 
 pub line_of_run : (m : ℕ) (start : List ℕ) (wholes commands : List (RingCommand ℕ)) (end : RunEnd) (v : ℕ → ℕ)
     → start ≡ zeros → wholes ≡ commands
     → ((r : ℕ) → r < 8 → v r ≡ value_at m start wholes (carried_out end wholes) r) → line_of v ≡ printed m commands end
-line_of_run m start wholes commands end v e1 e2 h =
-    ap (λ text. text ++ (10 ∷ [])) (numbers_same v (value_at m zeros commands (carried_out end commands)) 7
-    (λ r below. h r (omega arith) ∙ (ap (λ s. value_at m s wholes (carried_out end wholes) r) e1
-    ∙ ap (λ cs. value_at m zeros cs (carried_out end cs) r) e2)))
+line_of_run m start wholes commands end v e1 e2 h = search (arith, numbers_same)
 
 -- the form of 0 has the value 0
 pub value_zero : (form value : ℕ → ℕ → ℕ) (width m f : ℕ) → IsCanonical form value width m
@@ -123,11 +114,7 @@ if_ok (Err e) P Q h f = tt
 
 same_heading : (words : List (Bor (List ℕ))) (x y : ReducerName) (m n : ℕ) (xs ys : List (Bor (List ℕ)))
     → IsHeading words x m xs → IsHeading words y n ys → (m ≡ n) × (xs ≡ ys)
-same_heading words x y m n xs ys h k =
-    let e = sym h.split ∙ k.split in
-    let moduli : h.modulus ≡ k.modulus = cc in
-    let rests : xs ≡ ys = cc in
-    (h.read.value ∙ (ap (λ w. digits_value 10 w.now) moduli ∙ sym k.read.value), rests)
+same_heading words x y m n xs ys h k = search arith
 
 -- what is proved for the words of commands holds for all words
 pub answer_all : (words : List (Bor (List ℕ))) (reducer : ReducerName) (m modulus : ℕ) (rest : List (Bor (List ℕ)))
@@ -135,29 +122,7 @@ pub answer_all : (words : List (Bor (List ℕ))) (reducer : ReducerName) (m modu
     → IsHeading words reducer m rest → modulus ≡ m
     → (status : ℕ) → IsAnswer (λ n commands. (n ≡ modulus) × AreCommands rest commands) untouched Printed Told status
     → IsAnswer (Ask words) untouched Printed Told status
-answer_all words reducer m modulus rest untouched Printed Told h e status answer = record {
-  ran = λ below.
-      let (n, commands, asked, run) = answer.ran below in (
-        n,
-        commands,
-        record {
-          reducer = reducer;
-          rest = rest;
-          heading = subst (λ k. IsHeading words reducer k rest) (sym (asked.0 ∙ e)) h;
-          read = asked.1;
-        },
-        run,
-      );
-  unreadable = λ two. (
-    λ n commands ask.
-        let same = same_heading words ask.reducer reducer n m ask.rest rest ask.heading h in
-        (answer.unreadable two).0 n commands (same.0 ∙ sym e, subst (λ ws. AreCommands ws commands) same.1 ask.read),
-    (answer.unreadable two).1,
-    (answer.unreadable two).2,
-  );
-  memory = answer.memory;
-  range = answer.range;
-}
+answer_all words reducer m modulus rest untouched Printed Told h e status answer = search (arith, same_heading)
 
 -- what the program does for words that aren't readable
 pub refused : (words : List (Bor (List ℕ))) (untouched : Type 0) (Printed Told : List ℕ → Type 0)

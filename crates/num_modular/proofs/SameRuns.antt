@@ -1,5 +1,5 @@
 -- Two runs of one list from one start.
-use Rattle.std.proofs.Common.{◌≡◌, ℕ, ◌<◌, List, length, get_or, refl, sym, ◌∙◌, ap, subst, arith, ◌↔◌}
+use Rattle.std.proofs.Common.{◌≡◌, ℕ, ◌<◌, List, length, get_or, refl, sym, arith, ◌↔◌}
 use Rattle.std.proofs.lemmas.Grind.{same_number_lists}
 use Rattle.std.proofs.lemmas.List.{length-map}
 use Rattle.modular_ring.specs.declared.ring.RingCommand.{RingCommand}
@@ -24,25 +24,14 @@ pub run_of : {T : Type 0} (number : T → ℕ) (value : ℕ → ℕ → ℕ) (m 
     → ((n : ℕ) → n < length old → get_or (values_of number value m new) n 0
     ≡ value_at m (values_of number value m old) commands (carried_out end commands) n)
     → IsRun m (values_of number value m old) commands end (values_of number value m new)
-run_of {T} number value m old new commands end kept stops done residues =
-    let values = λ (f : T). value m (number f) in
-    let before = length-map old values in
-    let after = length-map new values in
-    record {
-      stops = stops;
-      done = done;
-      count = omega (arith, before, after, kept);
-      residues = λ n h. residues n (omega (arith, before, h));
-    }
+run_of {T} number value m old new commands end kept stops done residues = search (arith, length-map)
 
 -- equal starts and lists
 pub run_as : {m m' : ℕ} {start start' : List ℕ} {commands commands' : List (RingCommand ℕ)}
     (end : RunEnd) (left : List ℕ)
     → m ≡ m' → start ≡ start' → commands ≡ commands' → IsRun m' start' commands' end left
     → IsRun m start commands end left
-run_as {m} {m'} {start} {start'} {commands} {commands'} end left e f g h =
-    subst (λ n. IsRun n start commands end left) (sym e)
-    (subst (λ s. IsRun m' s commands end left) (sym f) (subst (λ c. IsRun m' start' c end left) (sym g) h))
+run_as {m} {m'} {start} {start'} {commands} {commands'} end left e f g h = search arith
 
 pub same_end : {m : ℕ} {start : List ℕ} {commands : List (RingCommand ℕ)} (a b : RunEnd) (left right : List ℕ)
     → IsRun m start commands a left → IsRun m start commands b right → a ≡ b
@@ -51,9 +40,4 @@ same_end (NoInverse i) b left right p q = sym ((q.stops i).1 ((p.stops i).0 refl
 
 pub same_residues : {m : ℕ} {start : List ℕ} {commands : List (RingCommand ℕ)} (a b : RunEnd) (left right : List ℕ)
     → IsRun m start commands a left → IsRun m start commands b right → left ≡ right
-same_residues {m} {start} {commands} a b left right p q =
-    let e = same_end a b left right p q in
-    same_number_lists left right (p.count ∙ sym q.count) (λ n h.
-    p.residues n (subst (λ k. n < k) p.count h)
-    ∙ ap (λ end. value_at m start commands (carried_out end commands) n) e
-    ∙ sym (q.residues n (subst (λ k. n < k) p.count h)))
+same_residues {m} {start} {commands} a b left right p q = search (arith, same_end, same_number_lists)

@@ -18,9 +18,12 @@
 // rust: // The proofs name the loops and branches of the sources, so these stay as they are where clippy has a shorter form.
 // rust: #![allow(clippy::collapsible_if, clippy::if_same_then_else, clippy::manual_find, clippy::manual_map)]
 // rust: #![allow(clippy::manual_range_contains, clippy::needless_range_loop, clippy::redundant_field_names)]
-// rust: #![allow(clippy::double_must_use, clippy::single_match)]
+// rust: #![allow(clippy::collapsible_match, clippy::double_must_use, clippy::single_match)]
 // rust: #![doc = include_str!("../README.md")]
 
+// rust: #[path = "../fixed.rs"]
+// rust: #[macro_use]
+// rust: mod fixed;
 // rust: #[path = "../additions.rs"]
 // rust: mod additions;
 // rust: #[cfg(any(feature = "num-traits", feature = "serde"))]
@@ -107,7 +110,7 @@ pub use modular_symbols::operands::{IntegerValued, SymbolWord, UnsignedOperand};
 pub use modular_symbols::operations::ModularOps;
 pub use modular_symbols::reference_operations::ModularRefOps;
 pub use modular_symbols::symbols::ModularSymbols;
-// rust instead: pub use crate::additions::RingWord;
+// rust instead: pub use crate::additions::{Divide1by1, Divide2by1, RingWord};
 pub use modular_word::ring_word::RingWord;
 
 /// An integer over [`Montgomery`]: modulo a number that is at least 1.

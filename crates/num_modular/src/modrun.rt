@@ -124,6 +124,7 @@ fn refuse<E: Write>(err: &mut E) -> io::Result<u8>
 }
 
 // Reads the commands and runs them over a reducer.
+#[tactic(auto, using(crate::proofs::ProgramLemmas::commands_fit))]
 fn run_over<R: Reducer<u64>, O: Write, E: Write>(
     reducer: &R,
     alloc: Global,

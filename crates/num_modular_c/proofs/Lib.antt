@@ -1,4 +1,5 @@
 pub mod CheckTexts
+pub mod CorrectedResidues
 pub mod Division
 pub mod HashLists
 pub mod InPlace

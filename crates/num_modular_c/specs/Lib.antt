@@ -7,4 +7,5 @@ pub mod Systems
 pub mod Plans
 pub mod Prefixes
 pub mod Erasure
+pub mod Correctors
 pub mod Lists

@@ -89,6 +89,7 @@ pub extern "C" fn nm_divider(d: u64, divider: &mut NmDivider) -> u32
     }
     *divider = NmDivider {
         divisor: d,
+        // rust instead: reciprocal: Normalized2by1Divisor::<u64>::invert_word(to_the_top(d)),
         reciprocal: Normalized2by1Divisor::invert_word(to_the_top(d)),
     };
     NM_OK

@@ -279,7 +279,7 @@ fn fits_correct(n: usize, s: usize, k: usize, symbols: usize, word: usize, scrat
 }
 
 // The code of an error of `correct`; writes the number of an error that has one.
-fn correct_code(error: CorrectError<u64>, number: &mut u64) -> u32
+pub(crate) fn correct_code(error: CorrectError<u64>, number: &mut u64) -> u32
     ensures code { result ≡ correct_code_of error }
     ensures number { number.new ≡ number_after error number.old }
     ensures not_ok { 1 ≤ result }

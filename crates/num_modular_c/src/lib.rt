@@ -6,6 +6,7 @@ mod any_length;
 mod check_codes;
 mod codes;
 mod commands;
+mod correctors;
 mod dividers;
 mod erasure;
 mod form_lists;

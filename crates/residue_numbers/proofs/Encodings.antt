@@ -1,12 +1,12 @@
 -- Remainders modulo a product, seen modulo a factor of it: sums, differences and products of encodings.
 use Rattle.std.proofs.Common.{◌≡◌, ℕ, ◌+◌, ◌*◌, ◌/◌, ◌%◌, ◌<◌, List, slice_index, get_or, length}
 use Rattle.std.proofs.Common.{sym, ap, ◌∙◌, arith, pos, ◌-ℤ◌, ℤ}
-use Rattle.std.proofs.Math.Nat.{div-add-mod, mod-eq_of_lt, mod-mod, mod-add-mod, add-mod-mod}
+use Rattle.std.proofs.Math.Nat.{div-add-mod, mod-eq_of_lt, mod-add-mod, add-mod-mod}
 use Rattle.std.proofs.lemmas.Nat.{mul-mod}
 use Rattle.num_modular.specs.Residues.{IsResidue, residue}
-use Rattle.num_modular.specs.Systems.{range_of, IsSystem, AreResidues}
+use Rattle.num_modular.specs.Systems.{range_of}
 use Rattle.num_modular.specs.ProductLaws.{product-zero}
-use Rattle.num_modular.specs.SystemLaws.{divides, grows, keeps, spread, gathered}
+use Rattle.num_modular.specs.SystemLaws.{grows, keeps, spread, gathered}
 
 -- the remainder modulo the range is congruent to the number
 pub remainder_within : (range m k a : ℕ) → range ≡ m * k → a % range % m ≡ a % m
@@ -57,37 +57,3 @@ range_positive moduli positive =
     let one = product-zero (slice_index moduli) in
     let most = grows 0 (length moduli) moduli positive (omega arith) in
     omega (arith, one, most)
-
-pub sum_encoded : (moduli left right sums : List ℕ) (x y : ℕ)
-    → ((i : ℕ) → i < length moduli → get_or sums i 0 ≡ (get_or left i 0 + get_or right i 0) % get_or moduli i 0)
-    → AreResidues moduli left x → AreResidues moduli right y → AreResidues moduli sums ((x + y) % range_of moduli)
-sum_encoded moduli left right sums x y each p q = record {
-  each = λ i h.
-      let (k, e) = divides (length moduli) i moduli h in
-      each i h ∙ sum_within (range_of moduli) (get_or moduli i 0) k x y _ _ e (sym (p.each i h)) (sym (q.each i h));
-}
-
-pub product_encoded : (moduli left right products : List ℕ) (x y : ℕ)
-    → ((i : ℕ) → i < length moduli → get_or products i 0 ≡ (get_or left i 0 * get_or right i 0) % get_or moduli i 0)
-    → AreResidues moduli left x → AreResidues moduli right y → AreResidues moduli products ((x * y) % range_of moduli)
-product_encoded moduli left right products x y each p q = record {
-  each = λ i h.
-      let (k, e) = divides (length moduli) i moduli h in
-      each i h ∙ product_within (range_of moduli) (get_or moduli i 0) k x y _ _ e (sym (p.each i h)) (sym (q.each i h));
-}
-
-pub difference_encoded : ((m : ℕ) (z : ℤ) → 0 < m → IsResidue m z (residue m z))
-    → ((m a b : ℕ) → 0 < m → (residue m (pos a -ℤ pos b) + b) % m ≡ a % m)
-    → (moduli left right differences : List ℕ) (x y : ℕ) → IsSystem moduli
-    → ((i : ℕ) → i < length moduli
-    → get_or differences i 0 ≡ residue (get_or moduli i 0) (pos (get_or left i 0) -ℤ pos (get_or right i 0)))
-    → AreResidues moduli left x → AreResidues moduli right y
-    → AreResidues moduli differences (residue (range_of moduli) (pos x -ℤ pos y))
-difference_encoded is_residue sum moduli left right differences x y system each p q = record {
-  each = λ i h.
-      let m = get_or moduli i 0 in
-      let (k, e) = divides (length moduli) i moduli h in
-      each i h ∙ difference_within is_residue sum (range_of moduli) m k x y (get_or left i 0) (get_or right i 0) e
-      (range_positive moduli system.positive) (system.positive i h)
-      (sym (ap (λ n. n % m) (p.each i h) ∙ mod-mod x m)) (sym (ap (λ n. n % m) (q.each i h) ∙ mod-mod y m));
-}

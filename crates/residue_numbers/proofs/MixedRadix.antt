@@ -8,8 +8,10 @@ use Rattle.std.proofs.lemmas.List.{get_or-set_other, get_or-set_same}
 use Rattle.num_modular.specs.Divisors.{Coprime}
 use Rattle.num_modular.specs.Inverses.{HasInverse}
 use Rattle.num_modular.specs.NumberLaws.{sum_below-zero, sum_below-suc, sum_below-same}
+use Rattle.num_modular.specs.Products.{product_below}
+use Rattle.num_modular.specs.Sums.{sum_below}
 use Rattle.num_modular.specs.Systems.{range_below}
-use Rattle.num_modular.specs.ProductLaws.{product-zero, product-more, has_product}
+use Rattle.num_modular.specs.ProductLaws.{has_product}
 use Rattle.num_modular.specs.SystemLaws.{within}
 use Rattle.residue_numbers.specs.MixedRadix.{IsCoprimeSystem, mixed_below}
 
@@ -45,14 +47,12 @@ mixed_written n d ms ds room =
 -- digits below the moduli denote a number below their product
 pub mixed_within : (n : ℕ) (ms ds : List ℕ) → ((i : ℕ) → i < n → get_or ds i 0 < get_or ms i 0)
     → mixed_below n ms ds < range_below n ms
-mixed_within zero ms ds below = let e = mixed_none ms ds in let f = product-zero (slice_index ms) in omega (arith, e, f)
+unfolding sum_below product_below
+mixed_within zero ms ds below = omega arith
 mixed_within (suc n) ms ds below =
-    let one = add-one n in
     let before = mixed_within n ms ds (λ i l. below i (omega arith)) in
     let inside = within (range_below n ms) (get_or ms n 0) (mixed_below n ms ds) (get_or ds n 0) before (below n (omega arith)) in
-    let number = ap (λ k. mixed_below k ms ds) (sym one) ∙ mixed_more n ms ds in
-    let range = ap (λ k. range_below k ms) (sym one) ∙ product-more (slice_index ms) n in
-    omega (arith, inside, number, range)
+    omega (arith, inside)
 
 -- the first digit from the top that differs decides
 lower : (p a b d e : ℕ) → a < p → d < e → a + d * p < b + e * p
@@ -61,23 +61,19 @@ lower p a b d e l h = let f = mul-le-mul_left p h in omega (arith, f, l)
 pub mixed_less : (n k : ℕ) (ms ds es : List ℕ) → k < n → ((i : ℕ) → i < k → get_or ds i 0 < get_or ms i 0)
     → get_or ds k 0 < get_or es k 0 → ((i : ℕ) → k < i → i < n → get_or ds i 0 ≡ get_or es i 0)
     → mixed_below n ms ds < mixed_below n ms es
+unfolding sum_below
 mixed_less zero k ms ds es inside below less same = absurd (omega arith)
-mixed_less (suc n) k ms ds es inside below less same =
-    let one = add-one n in
-    let left = ap (λ i. mixed_below i ms ds) (sym one) ∙ mixed_more n ms ds in
-    let right = ap (λ i. mixed_below i ms es) (sym one) ∙ mixed_more n ms es in
-    elim (cases_lt k n) [
-      | inl l ↦
-          let before = mixed_less n k ms ds es l below less (λ i h m. same i h (omega arith)) in
-          let top = ap (λ d. d * range_below n ms) (same n l (omega arith)) in
-          omega (arith, before, top, left, right)
-      | inr h ↦
-          let here : n ≡ k = omega arith in
-          let inside = mixed_within n ms ds (λ i l. below i (omega (arith, l, here))) in
-          let digits = subst (λ i. get_or ds i 0 < get_or es i 0) (sym here) less in
-          let lower_is = lower (range_below n ms) (mixed_below n ms ds) (mixed_below n ms es) _ _ inside digits in
-          omega (arith, lower_is, left, right)
-    ]
+mixed_less (suc n) k ms ds es inside below less same = elim (cases_lt k n) [
+  | inl l ↦
+      let before = mixed_less n k ms ds es l below less (λ i h m. same i h (omega arith)) in
+      let top = ap (λ d. d * range_below n ms) (same n l (omega arith)) in
+      omega (arith, before, top)
+  | inr h ↦
+      let here : n ≡ k = omega arith in
+      let inside = mixed_within n ms ds (λ i l. below i (omega (arith, l, here))) in
+      let digits = subst (λ i. get_or ds i 0 < get_or es i 0) (sym here) less in
+      omega (arith, lower (range_below n ms) (mixed_below n ms ds) (mixed_below n ms es) _ _ inside digits)
+]
 
 -- in a system the product of the moduli before one has an inverse modulo it
 pub unit_at : (ms : List ℕ) (n : ℕ) → ((m a : ℕ) → 0 < m → HasInverse m a ↔ Coprime a m)

@@ -31,8 +31,8 @@ half_of_none : (x low p range : ℕ) → 2 * x + p ≡ 2 * low + range → low �
 half_of_none x low p range e f g = omega (arith, e, f, g)
 
 -- what a number represents below half of the range, and from there on
-signed_low : (range x : ℕ) → 2 * x < range → signed_number range x ≡ pos x
-signed_low range x h = ap (λ b. if b then pos x else pos x -ℤ pos range) (lt-ltb (2 * x) range h)
+signed_low : (range x : ℕ) → 2 * x < range → signed_number range x ≡ pos x -ℤ pos 0
+signed_low range x h = ap (λ b. if b then pos x else pos x -ℤ pos range) (lt-ltb (2 * x) range h) ∙ omega (arith, ints)
 
 signed_high : (range x : ℕ) → range ≤ 2 * x → signed_number range x ≡ pos x -ℤ pos range
 signed_high range x h = ap (λ b. if b then pos x else pos x -ℤ pos range) (le-ltb (2 * x) range h)
@@ -97,23 +97,11 @@ ordered Less x y v w less equal greater h = less h
 ordered Equal x y v w less equal greater h = equal h
 ordered Greater x y v w less equal greater h = greater h
 
-ordered_low : (o : Ordering) (range x y : ℕ) → 2 * x < range → 2 * y < range
+ordered_with : (o : Ordering) (range d x y : ℕ) → signed_number range x ≡ pos x -ℤ pos d → signed_number range y ≡ pos y -ℤ pos d
     → MatchOrdering o (x < y) (x ≡ y) (y < x)
     → MatchOrdering o (signed_number range x <ℤ signed_number range y) (signed_number range x ≡ signed_number range y)
     (signed_number range y <ℤ signed_number range x)
-ordered_low o range x y h k =
-    let e = signed_low range x h in
-    let f = signed_low range y k in
-    ordered o x y (signed_number range x) (signed_number range y) (λ l. omega (arith, ints, e, f, l))
-    (ap (signed_number range)) (λ l. omega (arith, ints, e, f, l))
-
-ordered_high : (o : Ordering) (range x y : ℕ) → range ≤ 2 * x → range ≤ 2 * y
-    → MatchOrdering o (x < y) (x ≡ y) (y < x)
-    → MatchOrdering o (signed_number range x <ℤ signed_number range y) (signed_number range x ≡ signed_number range y)
-    (signed_number range y <ℤ signed_number range x)
-ordered_high o range x y h k =
-    let e = signed_high range x h in
-    let f = signed_high range y k in
+ordered_with o range d x y e f =
     ordered o x y (signed_number range x) (signed_number range y) (λ l. omega (arith, ints, e, f, l))
     (ap (signed_number range)) (λ l. omega (arith, ints, e, f, l))
 
@@ -122,8 +110,9 @@ pub ordered_alike : (l r : Bool) (o : Ordering) (range x y : ℕ) → x < range 
     → MatchOrdering o (x < y) (x ≡ y) (y < x)
     → MatchOrdering o (signed_number range x <ℤ signed_number range y) (signed_number range x ≡ signed_number range y)
     (signed_number range y <ℤ signed_number range x)
-ordered_alike true r o range x y h k left right alike compared =
-    ordered_high o range x y (high_of_negative range x (left.0 refl)) (high_of_negative range y (right.0 (sym (same_bool true r alike)))) compared
-ordered_alike false r o range x y h k left right alike compared =
-    ordered_low o range x y (low_of_other range x h (λ n. false≢true (left.1 n)))
-    (low_of_other range y k (λ n. false≢true (same_bool false r alike ∙ right.1 n))) compared
+ordered_alike true r o range x y h k left right alike =
+    ordered_with o range range x y (signed_high range x (high_of_negative range x (left.0 refl)))
+    (signed_high range y (high_of_negative range y (right.0 (sym (same_bool true r alike)))))
+ordered_alike false r o range x y h k left right alike =
+    ordered_with o range 0 x y (signed_low range x (low_of_other range x h (λ n. false≢true (left.1 n))))
+    (signed_low range y (low_of_other range y k (λ n. false≢true (same_bool false r alike ∙ right.1 n))))

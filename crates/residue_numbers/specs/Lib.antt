@@ -2,4 +2,3 @@ pub mod Combinations
 pub mod MixedRadix
 pub mod Registers
 pub mod Signs
-pub mod Systems

@@ -1,11 +1,12 @@
 -- Words that agree at as many places as their messages have symbols are of one message.
-use Rattle.std.proofs.Common.{◌≡◌, ◌≢◌, ℕ, zero, suc, ◌+◌, ◌-◌, ◌%◌, ◌<◌, ◌≤◌, cond, eqb, ap, sym, ◌∙◌, arith, refl}
+use Rattle.std.proofs.Common.{◌≡◌, ◌≢◌, ℕ, zero, suc, ◌+◌, ◌-◌, ◌%◌, ◌<◌, ◌≤◌, cond, eqb, sym, ◌∙◌, arith, refl}
 use Rattle.std.proofs.Common.{inl, inr}
 use Rattle.std.proofs.lemmas.Bool.{cases_eq, cases_lt}
 use Rattle.std.proofs.lemmas.Bool.Decides.{eqb_tells}
 use Rattle.num_modular.specs.Callers.{same_coefficients}
 use Rattle.num_modular.specs.Congruence.{Congruent}
-use Rattle.num_modular.specs.NumberLaws.{mod_refl, sum_below-zero, sum_below-suc}
+use Rattle.num_modular.specs.NumberLaws.{mod_refl, sum_below-of_zeros}
+use Rattle.num_modular.specs.Sums.{sum_below}
 use Rattle.num_modular.specs.Polynomials.{HaveUnitDifferences}
 use Rattle.num_modular.specs.PolynomialLaws.{polynomial-congruent}
 use Rattle.ring_codes.specs.Erasure.{IsEncoding, IsErasureCodeword, distance}
@@ -29,24 +30,27 @@ pub before_end : (k n : ℕ) (s : ℕ → ℕ) (i : ℕ) → i ≢ k → extende
 unfolding extended
 before_end k n s i other = elim (eqb_tells i k) [ inl p ↦ absurd (other p.1) | inr p ↦ rw p.0 refl ]
 
+-- what holds of each place holds of one more
+pub extended_each : (k n : ℕ) (s : ℕ → ℕ) (P : ℕ → ℕ → Type 0) → ((i : ℕ) → i < k → P i (s i)) → P k n
+    → (i : ℕ) → i < k + 1 → P i (extended k n s i)
+extended_each k n s P each last i l = elim (cases_eq i k) [
+  | inl e ↦ rw (at_end k n s i e, e) last
+  | inr o ↦ rw (before_end k n s i o) (each i (omega arith))
+]
+
+pub extended_rising : (k n : ℕ) (s : ℕ → ℕ) → ((i : ℕ) → i < k → s i < n)
+    → ((i j : ℕ) → i < j → j < k → s i < s j) → (i j : ℕ) → i < j → j < k + 1 → extended k n s i < extended k n s j
+extended_rising k n s within rising i j l b =
+    rw (before_end k n s i (omega arith))
+    (extended_each k n s (λ j p. i < j → s i < p) (λ j d l. rising i j l d) (λ l. within i l) j b l)
+
 with_last : (n k : ℕ) (a b : ℕ → ℕ) → Selection n k a b → a n ≡ b n → Selection (suc n) (suc k) a b
 with_last n k a b s last = record {
   place = extended k n s.place;
-  within = λ i l. elim (cases_eq i k) [
-    | inl e ↦ let p = at_end k n s.place i e in omega (arith, p)
-    | inr o ↦ let p = before_end k n s.place i o in let q = s.within i (omega arith) in omega (arith, p, q)
-  ];
-  same = λ i l. elim (cases_eq i k) [
-    | inl e ↦ let p = at_end k n s.place i e in ap a p ∙ last ∙ ap b (sym p)
-    | inr o ↦ let p = before_end k n s.place i o in ap a p ∙ s.same i (omega arith) ∙ ap b (sym p)
-  ];
-  rising = λ i j l b. let o : i ≢ k = omega arith in
-      let p = before_end k n s.place i o in elim (cases_eq j k) [
-        | inl e ↦
-            let q = at_end k n s.place j e in let r = s.within i (omega arith) in omega (arith, p, q, r)
-        | inr d ↦
-            let q = before_end k n s.place j d in let r = s.rising i j l (omega arith) in omega (arith, p, q, r)
-      ];
+  within = λ i l. extended_each k n s.place (λ i p. p < suc n) (λ i l. let q = s.within i l in omega (arith, q)) (omega arith) i
+      (omega arith);
+  same = λ i l. extended_each k n s.place (λ i p. a p ≡ b p) s.same last i (omega arith);
+  rising = λ i j l b. extended_rising k n s.place s.within s.rising i j l (omega arith);
 }
 
 widened : (n k : ℕ) (a b : ℕ → ℕ) → Selection n k a b → Selection (suc n) k a b
@@ -75,42 +79,48 @@ counted_same x y e = elim (eqb_tells x y) [ inl p ↦ rw p.0 refl | inr p ↦ ab
 pub counted_other : (x y : ℕ) → x ≢ y → counted x y ≡ 1
 counted_other x y o = elim (eqb_tells x y) [ inl p ↦ absurd (o p.1) | inr p ↦ rw p.0 refl ]
 
+pub counted_most : (x y : ℕ) → counted x y ≤ 1
+counted_most x y = elim (cases_eq x y) [
+  | inl e ↦ let z = counted_same x y e in omega (arith, z)
+  | inr o ↦ let z = counted_other x y o in omega (arith, z)
+]
+
 pub no_distance : (n : ℕ) (a b : ℕ → ℕ) → ((i : ℕ) → i < n → a i ≡ b i) → distance n a b ≡ 0
-no_distance zero a b same = sum_below-zero (λ i. counted (a i) (b i))
-no_distance (suc n) a b same =
-    let s = sum_below-suc n (λ i. counted (a i) (b i)) in
-    let z = counted_same (a n) (b n) (same n (omega arith)) in
-    let i = no_distance n a b (λ i l. same i (omega arith)) in
-    omega (arith, s, z, i)
+no_distance n a b same =
+    sum_below-of_zeros n (λ i. counted (a i) (b i)) (λ i l. counted_same (a i) (b i) (same i l))
 
 -- words that differ at few places agree at many
 pub selected : (n k : ℕ) (a b : ℕ → ℕ) → distance n a b + k ≤ n → Selection n k a b
+unfolding sum_below
 selected n zero a b few = none_selected n a b
 selected zero (suc k) a b few = absurd (omega arith)
-selected (suc n) (suc k) a b few =
-    let s = sum_below-suc n (λ i. counted (a i) (b i)) in
-    elim (cases_eq (a n) (b n)) [
-      | inl e ↦
-          let z = counted_same (a n) (b n) e in
-          with_last n k a b (selected n k a b (omega (arith, few, s, z))) e
-      | inr o ↦
-          let z = counted_other (a n) (b n) o in
-          widened n (suc k) a b (selected n (suc k) a b (omega (arith, few, s, z)))
-    ]
+selected (suc n) (suc k) a b few = elim (cases_eq (a n) (b n)) [
+  | inl e ↦
+      let z = counted_same (a n) (b n) e in
+      with_last n k a b (selected n k a b (omega (arith, few, z))) e
+  | inr o ↦
+      let z = counted_other (a n) (b n) o in
+      widened n (suc k) a b (selected n (suc k) a b (omega (arith, few, z)))
+]
+
+-- points at rising places fit
+pub rising_fit : (m n k : ℕ) (x place : ℕ → ℕ) → ((i : ℕ) → i < k → place i < n)
+    → ((i j : ℕ) → i < j → j < k → place i < place j) → HaveUnitDifferences m n x
+    → HaveUnitDifferences m k (λ i. x (place i))
+rising_fit m n k x place within rising fit = record {
+  unit = λ i j l d other. fit.unit (place i) (place j) (within i l) (within j d)
+      (elim (cases_lt i j) [
+        | inl b ↦ let r = rising i j b d in λ e. omega (arith, r, e)
+        | inr b ↦ let r = rising j i (omega arith) l in λ e. omega (arith, r, e)
+      ]);
+}
 
 -- two messages of k symbols whose words agree at k places
 pub same_messages : (m k n : ℕ) (points a b u v : ℕ → ℕ) → HaveUnitDifferences m n points → IsEncoding m k n points a u
     → IsEncoding m k n points b v → distance n u v + k ≤ n → (i : ℕ) → i < k → Congruent m (a i) (b i)
 same_messages m k n points a b u v fit is_u is_v few =
     let s = selected n k u v few in
-    same_coefficients m k a b (λ i. points (s.place i))
-    (record {
-      unit = λ i j l d other. fit.unit (s.place i) (s.place j) (s.within i l) (s.within j d)
-          (elim (cases_lt i j) [
-            | inl b ↦ let r = s.rising i j b d in λ e. omega (arith, r, e)
-            | inr b ↦ let r = s.rising j i (omega arith) l in λ e. omega (arith, r, e)
-          ]);
-    })
+    same_coefficients m k a b (λ i. points (s.place i)) (rising_fit m n k points s.place s.within s.rising fit)
     (λ i l. let p = s.within i l in record {
       same = sym (is_u.symbol (s.place i) p) ∙ s.same i l ∙ is_v.symbol (s.place i) p;
     })

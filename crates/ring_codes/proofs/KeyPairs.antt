@@ -8,44 +8,26 @@ use Rattle.std.proofs.lemmas.Nat.{mul-mod_first, mul-mod_second}
 use Rattle.num_modular.specs.Callers.{has_both}
 use Rattle.num_modular.specs.Congruence.{Congruent}
 use Rattle.num_modular.specs.Inverses.{HasInverse}
-use Rattle.num_modular.specs.NumberLaws.{mod_of_eq, mod_refl, residue_of, mod_sym, mod_trans, mod_add, mod_mul}
-use Rattle.num_modular.specs.NumberLaws.{mod_add_cancel}
-use Rattle.num_modular.specs.NumberLaws.{sum_below-zero, sum_below-suc}
+use Rattle.num_modular.specs.NumberLaws.{mod_of_eq, mod_sym, mod_trans, mod_add}
+use Rattle.num_modular.specs.Sums.{sum_below}
 use Rattle.num_modular.specs.Polynomials.{polynomial_at}
-use Rattle.num_modular.specs.PolynomialLaws.{polynomial-first, polynomial-congruent}
+use Rattle.num_modular.specs.PolynomialLaws.{polynomial-first}
 use Rattle.num_modular.specs.Residues.{residue}
-use Rattle.ring_codes.proofs.NewtonForms.{subtracted}
-use Rattle.ring_codes.proofs.NearestWords.{combined, unit_alike}
+use Rattle.ring_codes.proofs.NearestWords.{with_multiple, unit_alike}
 use Rattle.ring_codes.specs.KeyEquations.{shifted, Leads, IsKeyPair, AreKeyPairs}
+use Rattle.ring_codes.proofs.Congruences.{mod_of_combination, mod_times, mod_of_residue, mod_of_difference}
 
 -- a multiple of 0 may be left out
 pub left_alone : (m a q b c : ℕ) → Congruent m (a + q * b) c → Congruent m b 0 → Congruent m a c
-left_alone m a q b c is none =
-    let e : a ≡ a + q * 0 = omega arith in
-    mod_trans (mod_of_eq e) (mod_trans (mod_add (mod_refl a) (mod_mul (mod_refl q) (mod_sym none))) is)
+left_alone m a q b c is none = mod_of_combination (mod_add is (mod_times q (mod_sym none))) (omega arith)
 
 pub left_alone_other : (m a q b : ℕ) → Congruent m b 0 → Congruent m (a + q * b) a
-left_alone_other m a q b none =
-    let e : a + q * 0 ≡ a = omega arith in
-    mod_trans (mod_add (mod_refl a) (mod_mul (mod_refl q) none)) (mod_of_eq e)
+left_alone_other m a q b none = mod_of_combination (mod_times q none) (omega arith)
 
 times : (n p : ℕ) (f : ℕ → ℕ) (X : ℕ) → polynomial_at n (λ l. p * f l) X ≡ p * polynomial_at n f X
-times zero p f X =
-    let s = sum_below-zero (λ i. p * f i * X ^ i) in
-    let t = ap (λ v. p * v) (sum_below-zero (λ i. f i * X ^ i)) in
-    omega (arith, s, t)
-times (suc n) p f X =
-    let i = times n p f X in
-    let s = sum_below-suc n (λ i. p * f i * X ^ i) in
-    let t = ap (λ v. p * v) (sum_below-suc n (λ i. f i * X ^ i)) in
-    omega (arith, i, s, t)
-
--- coefficients e with e l + b·g l congruent to h l
-with_multiple : (m n b X : ℕ) (e g h : ℕ → ℕ) → ((l : ℕ) → l < n → Congruent m (e l + b * g l) (h l))
-    → Congruent m (polynomial_at n e X + b * polynomial_at n g X) (polynomial_at n h X)
-with_multiple m n b X e g h each =
-    mod_trans (mod_of_eq (sym (combined n e g b X)))
-    (polynomial-congruent n (λ i. e i + b * g i) h X X each (mod_refl X))
+unfolding sum_below
+times zero p f X = omega arith
+times (suc n) p f X = let i = times n p f X in omega (arith, i)
 
 -- before the first coefficient, and from one to the next
 pub shifted_none : (f : ℕ → ℕ) → shifted f 0 ≡ 0
@@ -63,38 +45,20 @@ shifted-values n X f = let e = polynomial-first n (shifted f) X in omega (arith,
 -- .. where the last coefficient is 0
 shifted-whole : (m n X : ℕ) (f : ℕ → ℕ) → ((l : ℕ) → suc l ≡ n → Congruent m (f l) 0)
     → Congruent m (polynomial_at n (shifted f) X) (X * polynomial_at n f X)
-shifted-whole m zero X f last =
-    let s = sum_below-zero (λ i. shifted f i * X ^ i) in
-    let t = ap (λ v. X * v) (sum_below-zero (λ i. f i * X ^ i)) in
-    mod_of_eq (omega (arith, s, t))
+unfolding sum_below
+shifted-whole m zero X f last = mod_of_eq (omega arith)
 shifted-whole m (suc n) X f last =
-    let s = sum_below-suc n (λ i. f i * X ^ i) in
-    let q : ℕ = polynomial_at n f X in
-    let none : Congruent m (q + X ^ n * f n) q =
-    left_alone_other m q (X ^ n) (f n) (last n refl) in
-    let whole : polynomial_at (suc n) f X ≡ q + X ^ n * f n = omega (arith, s) in
-    mod_trans (mod_of_eq (shifted-values n X f))
-    (mod_mul (mod_refl X) (mod_trans (mod_sym none) (mod_of_eq (sym whole))))
+    mod_of_combination (mod_times X (mod_times (X ^ n) (mod_sym (last n refl)))) (omega (arith, shifted-values n X f))
 
 raised_value : (m a X y N E P L : ℕ) → Congruent m (P + a * N) (X * N) → Congruent m (L + a * E) (X * E)
     → Congruent m N (y * E) → Congruent m P (y * L)
 raised_value m a X y N E P L at_n at_e is =
-    let e : X * (y * E) ≡ y * (X * E) = omega arith in
-    let f : y * (L + a * E) ≡ y * L + a * (y * E) = omega arith in
-    mod_add_cancel (a * N)
-    (mod_trans at_n (mod_trans (mod_mul (mod_refl X) is) (mod_trans (mod_of_eq e)
-    (mod_trans (mod_mul (mod_refl y) (mod_sym at_e)) (mod_trans (mod_of_eq f)
-    (mod_add (mod_refl (y * L)) (mod_mul (mod_refl a) (mod_sym is))))))))
+    mod_of_combination (mod_add at_n (mod_add (mod_times y (mod_sym at_e)) (mod_add (mod_times a (mod_sym is)) (mod_times X is))))
+    (omega arith)
 
 raised_root : (m a y N E P L : ℕ) → Congruent m (P + a * N) (a * N) → Congruent m (L + a * E) (a * E)
     → Congruent m P (y * L)
-raised_root m a y N E P L at_n at_e =
-    let e : a * N ≡ 0 + a * N = omega arith in
-    let f : a * E ≡ 0 + a * E = omega arith in
-    let g : 0 ≡ y * 0 = omega arith in
-    let p : Congruent m P 0 = mod_add_cancel (a * N) (mod_trans at_n (mod_of_eq e)) in
-    let l : Congruent m L 0 = mod_add_cancel (a * E) (mod_trans at_e (mod_of_eq f)) in
-    mod_trans p (mod_trans (mod_of_eq g) (mod_mul (mod_refl y) (mod_sym l)))
+raised_root m a y N E P L at_n at_e = mod_of_combination (mod_add at_n (mod_times y (mod_sym at_e))) (omega arith)
 
 raised_none_at : (m a l : ℕ) (f g : ℕ → ℕ) → Congruent m (g l + a * f l) (shifted f l)
     → Congruent m (f l) 0 → ((j : ℕ) → suc j ≡ l → Congruent m (f j) 0) → Congruent m (g l) 0
@@ -175,20 +139,13 @@ raised m k c d i u a x y n e f g lengths room point each_n each_e past_n past_e 
 eliminated_value : (m p q r s y N E P L F G : ℕ) → Congruent m (F + q * P) (p * N) → Congruent m (G + q * L) (p * E)
     → Congruent m (r + y * L) P → Congruent m (s + y * E) N → q * r ≡ p * s → Congruent m F (y * G)
 eliminated_value m p q r s y N E P L F G at_n at_e is_p is_n same =
-    let e : p * (s + y * E) ≡ p * s + y * (p * E) = omega arith in
-    let f : p * s + y * (G + q * L) ≡ y * G + q * (r + y * L) = omega (arith, same) in
-    mod_add_cancel (q * P)
-    (mod_trans at_n (mod_trans (mod_mul (mod_refl p) (mod_sym is_n)) (mod_trans (mod_of_eq e)
-    (mod_trans (mod_add (mod_refl (p * s)) (mod_mul (mod_refl y) (mod_sym at_e))) (mod_trans (mod_of_eq f)
-    (mod_add (mod_refl (y * G)) (mod_mul (mod_refl q) is_p)))))))
+    mod_of_combination (mod_add at_n (mod_add (mod_times y (mod_sym at_e)) (mod_add (mod_times q is_p) (mod_times p (mod_sym is_n)))))
+    (omega (arith, same))
 
 eliminated_none : (m p q c l : ℕ) (h n f : ℕ → ℕ) → ((j : ℕ) → j < c → Congruent m (f j + q * h j) (p * n j))
     → ((j : ℕ) → c ≤ j → f j ≡ 0) → Congruent m (h l) 0 → Congruent m (n l) 0 → Congruent m (f l) 0
 eliminated_none m p q c l h n f each past none here = elim (cases_lt l c) [
-  | inl b ↦
-      let z : p * 0 ≡ 0 = omega arith in
-      mod_trans (left_alone m (f l) q (h l) (p * n l) (each l b) none)
-      (mod_trans (mod_mul (mod_refl p) here) (mod_of_eq z))
+  | inl b ↦ mod_of_combination (mod_add (each l b) (mod_add (mod_times q (mod_sym none)) (mod_times p here))) (omega arith)
   | inr b ↦ mod_of_eq (past l b)
 ]
 
@@ -231,30 +188,18 @@ pub eliminated : (m k c d i u v p q : ℕ) (x y h g n e f t : ℕ → ℕ) → d
     → Congruent m (q + y i * polynomial_at d e (x i)) (polynomial_at c n (x i))
     → IsKeyPair m k c d i u x y h g → IsKeyPair m k c d i v x y n e → IsKeyPair m k c d (i + 1) v x y f t
 eliminated m k c d i u v p q x y h g n e f t lengths room less inverse each_n each_e past_n past_e is_p is_q pivot own =
-    let nothing : (j : ℕ) → 0 + y j ≡ y j = λ j. omega arith in
+    let at_n : (X : ℕ) → Congruent m (polynomial_at c f X + q * polynomial_at c h X) (p * polynomial_at c n X) =
+    λ X. mod_trans (with_multiple m c q X f h (λ l. p * n l) each_n) (mod_of_eq (times c p n X)) in
+    let at_e : (X : ℕ) → Congruent m (polynomial_at d t X + q * polynomial_at d g X) (p * polynomial_at d e X) =
+    λ X. mod_trans (with_multiple m d q X t g (λ l. p * e l) each_e) (mod_of_eq (times d p e X)) in
     record {
-      solves = λ j l.
-          let at_n = with_multiple m c q (x j) f h (λ l. p * n l) each_n in
-          let at_e = with_multiple m d q (x j) t g (λ l. p * e l) each_e in
-          let whole_n = mod_trans at_n (mod_of_eq (times c p n (x j))) in
-          let whole_e = mod_trans at_e (mod_of_eq (times d p e (x j))) in
-          elim (cases_eq j i) [
-            | inl s ↦ subst (λ j. Congruent m (polynomial_at c f (x j)) (y j * polynomial_at d t (x j))) (sym s)
-                (eliminated_value m p q p q (y i) _ _ _ _ _ _
-                (subst (λ j. Congruent m (polynomial_at c f (x j) + q * polynomial_at c h (x j)) (p * polynomial_at c n (x j))) s whole_n)
-                (subst (λ j. Congruent m (polynomial_at d t (x j) + q * polynomial_at d g (x j)) (p * polynomial_at d e (x j))) s whole_e)
-                is_p is_q (let w : q * p ≡ p * q = omega arith in w))
-            | inr other ↦
-                let before : j < i = omega arith in
-                let z : q * 0 ≡ p * 0 = omega arith in
-                eliminated_value m p q 0 0 (y j) _ _ _ _ _ _ whole_n whole_e
-                (mod_trans (mod_of_eq (let w : 0 + y j * polynomial_at d g (x j) ≡ y j * polynomial_at d
-                g (x j) = omega arith in w))
-                (mod_sym (pivot.solves j before)))
-                (mod_trans (mod_of_eq (let w : 0 + y j * polynomial_at d e (x j) ≡ y j * polynomial_at d
-                e (x j) = omega arith in w))
-                (mod_sym (own.solves j before))) z
-          ];
+      solves = λ j l. elim (cases_eq j i) [
+        | inl s ↦ rw s (eliminated_value m p q p q (y i) _ _ _ _ _ _ (at_n (x i)) (at_e (x i)) is_p is_q (omega arith))
+        | inr other ↦
+            let before : j < i = omega arith in
+            mod_of_combination (mod_add (at_n (x j)) (mod_add (mod_times (y j) (mod_sym (at_e (x j))))
+            (mod_add (mod_times q (mod_sym (pivot.solves j before))) (mod_times p (own.solves j before))))) (omega arith)
+      ];
       leads = eliminated_leads m k c d u v p q h g n e f t lengths room less inverse each_n each_e past_n past_e
           pivot.leads own.leads;
     }
@@ -263,18 +208,14 @@ eliminated m k c d i u v p q x y h g n e f t lengths room less inverse each_n ea
 pub discrepancy_value : (m y n e value located product d : ℕ) → 0 < m → value ≡ n % m → located ≡ e % m
     → product ≡ (y * located) % m → d ≡ residue m (pos value -ℤ pos product) → Congruent m (d + y * e) n
 discrepancy_value m y n e value located product d positive is_n is_e is_product is =
-    let at_e : Congruent m located e = mod_trans (mod_of_eq is_e) (residue_of e) in
-    let one = subtracted m y product d value located positive is_product is in
-    mod_trans (mod_add (mod_refl d) (mod_mul (mod_refl y) (mod_sym at_e)))
-    (mod_trans one (mod_trans (mod_of_eq is_n) (residue_of n)))
+    mod_of_combination (mod_add (mod_of_difference product positive is) (mod_add (mod_sym (mod_of_residue is_product))
+    (mod_add (mod_times y (mod_sym (mod_of_residue is_e))) (mod_of_residue is_n)))) (omega arith)
 
 -- at the point and the symbol that were passed
 pub at_point : (m c d p a b s t : ℕ) (n e : ℕ → ℕ) → s ≡ a → t ≡ b
     → Congruent m (p + b * polynomial_at d e a) (polynomial_at c n a)
     → Congruent m (p + t * polynomial_at d e s) (polynomial_at c n s)
-at_point m c d p a b s t n e at_a at_b h =
-    subst (λ a. Congruent m (p + t * polynomial_at d e a) (polynomial_at c n a)) (sym at_a)
-    (subst (λ b. Congruent m (p + b * polynomial_at d e a) (polynomial_at c n a)) (sym at_b) h)
+at_point m c d p a b s t n e at_a at_b h = rw (at_a, at_b) h
 
 -- a pair without a discrepancy solves the key equation there too
 kept_pair : (m k c d i u p : ℕ) (x y n e : ℕ → ℕ) → p ≡ 0
@@ -282,10 +223,7 @@ kept_pair : (m k c d i u p : ℕ) (x y n e : ℕ → ℕ) → p ≡ 0
     → IsKeyPair m k c d i u x y n e → IsKeyPair m k c d (i + 1) u x y n e
 kept_pair m k c d i u p x y n e none is pair = record {
   solves = λ j l. elim (cases_eq j i) [
-    | inl s ↦
-        let z : y i * polynomial_at d e (x i) ≡ p + y i * polynomial_at d e (x i) = omega (arith, none) in
-        subst (λ j. Congruent m (polynomial_at c n (x j)) (y j * polynomial_at d e (x j))) (sym s)
-        (mod_sym (mod_trans (mod_of_eq z) is))
+    | inl s ↦ rw s (mod_of_combination (mod_sym is) (omega (arith, none)))
     | inr other ↦ pair.solves j (omega arith)
   ];
   leads = pair.leads;

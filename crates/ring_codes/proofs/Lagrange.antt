@@ -10,7 +10,7 @@ use Rattle.num_modular.specs.Congruence.{Congruent}
 use Rattle.num_modular.specs.Inverses.{IsInverse, HasInverse}
 use Rattle.num_modular.specs.ProductLaws.{has_both, has_each, has_product}
 use Rattle.num_modular.specs.NumberLaws.{mod_of_eq, mod_refl, residue_of, mod_sym, mod_trans, mod_add, mod_mul}
-use Rattle.num_modular.specs.NumberLaws.{sum_below-zero, sum_below-suc, sum_below-congruent}
+use Rattle.num_modular.specs.NumberLaws.{sum_below-congruent}
 use Rattle.num_modular.specs.Polynomials.{polynomial_at, HaveUnitDifferences}
 use Rattle.num_modular.specs.PolynomialLaws.{polynomial-none, polynomial-congruent}
 use Rattle.num_modular.specs.Products.{product_below}
@@ -23,6 +23,7 @@ use Rattle.ring_codes.specs.Prepared.{product_but, AreRows}
 use Rattle.ring_codes.proofs.NearestWords.{combined, no_value, difference_alike}
 use Rattle.ring_codes.proofs.NewtonForms.{no_difference, product-none}
 use Rattle.ring_codes.proofs.Secrecy.{raised, raised_behind, value_raised, through}
+use Rattle.ring_codes.proofs.Congruences.{mod_of_combination, mod_times, mod_of_residue, mod_of_inverse}
 
 -- a function with the values of a polynomial with d coefficients modulo m
 record IsPolynomial (m d : ℕ) (F : ℕ → ℕ) : Type 0 where
@@ -53,10 +54,9 @@ times_difference m d a F positive p = record {
   coefficient = raised 0 ((m - 1) * a) p.coefficient;
   behind = raised_behind d 0 ((m - 1) * a) p.coefficient p.behind;
   value = λ X.
-      let e : 0 + (X + (m - 1) * a) * polynomial_at d p.coefficient X
-      ≡ polynomial_at d p.coefficient X * (X + (m - 1) * a) = omega arith in
-      mod_trans (mod_of_eq (value_raised d 0 ((m - 1) * a) X p.coefficient (p.behind d (omega arith)) ∙ e))
-      (mod_mul (p.value X) (mod_sym (difference_alike m X a positive)));
+      let value = value_raised d 0 ((m - 1) * a) X p.coefficient (p.behind d (omega arith)) in
+      mod_of_combination (mod_add (mod_times (X + (m - 1) * a) (p.value X))
+      (mod_times (F X) (mod_sym (difference_alike m X a positive)))) (omega (arith, value));
 }
 
 times_differences : (m b d : ℕ) (a F : ℕ → ℕ) → 0 < m → IsPolynomial m d F
@@ -73,10 +73,11 @@ times_differences m (suc b) d a F positive p =
 -- sums of multiples
 sum_of : (m k n : ℕ) (v : ℕ → ℕ) (F : ℕ → ℕ → ℕ) → ((i : ℕ) → i < n → IsPolynomial m k (F i))
     → IsPolynomial m k (λ X. sum_below n (λ i. v i * F i X))
+unfolding sum_below
 sum_of m k zero v F each = record {
   coefficient = λ i. 0;
   behind = λ i l. refl;
-  value = λ X. mod_of_eq (no_value k X ∙ sym (sum_below-zero (λ i. v i * F i X)));
+  value = λ X. mod_of_eq (no_value k X);
 }
 sum_of m k (suc n) v F each =
     let before = sum_of m k n v F (λ i l. each i (omega arith)) in
@@ -84,9 +85,8 @@ sum_of m k (suc n) v F each =
     record {
       coefficient = λ i. before.coefficient i + v n * last.coefficient i;
       behind = λ i l. let p = before.behind i l in let q = ap (λ w. v n * w) (last.behind i l) in omega (arith, p, q);
-      value = λ X. mod_trans (mod_of_eq (combined k before.coefficient last.coefficient (v n) X))
-          (mod_trans (mod_add (before.value X) (mod_mul (mod_refl (v n)) (last.value X)))
-          (mod_of_eq (sym (sum_below-suc n (λ i. v i * F i X)))));
+      value = λ X. mod_of_combination (mod_add (before.value X) (mod_times (v n) (last.value X)))
+          (omega (arith, combined k before.coefficient last.coefficient (v n) X));
     }
 
 product_is : (m k i : ℕ) (x : ℕ → ℕ) → 0 < m → i < k → IsPolynomial m k (product_but m k x i)
@@ -126,18 +126,13 @@ lagrange m k X x w c positive fit inverse =
     let whole = sum_of m k k v (product_but m k x) (λ i l. product_is m k i x positive l) in
     let at : (l : ℕ) → l < k → Congruent m (polynomial_at k whole.coefficient (x l)) (polynomial_at k c (x l)) =
     λ l b.
-    let p : ℕ = product_but m k x l (x l) in
-    let y : ℕ = polynomial_at k c (x l) in
     let alone = single k l (λ i. v i * product_but m k x i (x l)) b
     (λ i d other.
     let z = ap (λ u. v i * u) (none_at m k i l x d b (λ e. other (sym e))) in omega (arith, z)) in
-    let one : Congruent m (p * w l) 1 = record { same = (inverse l b).one } in
-    let e : y * w l * p ≡ y * (p * w l) = omega arith in
-    let f : y * 1 ≡ y = omega arith in
-    mod_trans (whole.value (x l)) (mod_trans (mod_of_eq (alone ∙ e))
-    (mod_trans (mod_mul (mod_refl y) one) (mod_of_eq f))) in
-    let same = same_coefficients m k whole.coefficient c x fit at in
-    mod_trans (mod_sym (whole.value X)) (polynomial-congruent k whole.coefficient c X X same (mod_refl X))
+    mod_of_combination (mod_add (whole.value (x l)) (mod_times (polynomial_at k c (x l)) (mod_of_inverse (inverse l b))))
+    (omega (arith, alone)) in
+    mod_trans (mod_sym (whole.value X))
+    (polynomial-congruent k whole.coefficient c X X (same_coefficients m k whole.coefficient c x fit at) (mod_refl X))
 
 -- the rows
 pub rows_from : (m k n : ℕ) (x y w rows : ℕ → ℕ) → 0 < m → HaveUnitDifferences m k x
@@ -148,11 +143,7 @@ rows_from m k n x y w rows positive fit inverse each = record {
   value = λ j c l.
       mod_trans (sum_below-congruent k (λ i. rows (j * k + i) * polynomial_at k c (x i))
       (λ i. (polynomial_at k c (x i) * w i) * product_but m k x i (y j))
-      (λ i b.
-      let p : ℕ = product_but m k x i (y j) in
-      let v : ℕ = polynomial_at k c (x i) in
-      let e : p * w i * v ≡ v * w i * p = omega arith in
-      mod_trans (mod_mul (each j i l b) (mod_refl v)) (mod_of_eq e)))
+      (λ i b. mod_of_combination (mod_times (polynomial_at k c (x i)) (each j i l b)) (omega arith)))
       (lagrange m k (y j) x w c positive fit inverse);
 }
 
@@ -161,9 +152,8 @@ pub product_of_parts : (m k i p a b : ℕ) (x : ℕ → ℕ)
     → p ≡ product_below i (λ l. residue m (pos a -ℤ pos (x l))) % m
     → b ≡ product_below (k - 1 - i) (λ l. residue m (pos a -ℤ pos (x (k - 1 - l)))) % m
     → (p * b) % m ≡ product_but m k x i a % m
-unfolding product_but
-product_of_parts m k i p a b x is_p is_b =
-    (mod_mul (mod_trans (mod_of_eq is_p) (residue_of _)) (mod_trans (mod_of_eq is_b) (residue_of _))).same
+unfolding product_but product_below
+product_of_parts m k i p a b x is_p is_b = (mod_mul (mod_of_residue is_p) (mod_of_residue is_b)).same
 
 -- the points fit exactly where the products at them have inverses
 pub fit_from_all : (m k : ℕ) (x : ℕ → ℕ) → ((i : ℕ) → i < k → HasInverse m (product_but m k x i (x i)))

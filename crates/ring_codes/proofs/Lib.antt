@@ -1,3 +1,4 @@
+pub mod Congruences
 pub mod Counts
 pub mod Distances
 pub mod EncodedParts

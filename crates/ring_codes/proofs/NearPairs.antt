@@ -1,19 +1,20 @@
 -- What a pair that solves the key equation says of a message whose word is near: its numerator is the product of the
 -- message and the locator.
-use Rattle.std.proofs.Common.{◌≡◌, ◌≢◌, ℕ, zero, suc, ◌+◌, ◌-◌, ◌*◌, ◌/◌, ◌%◌, ◌^◌, ◌<◌, ◌≤◌}
-use Rattle.std.proofs.Common.{ap, sym, ◌∙◌, arith, inl, inr, subst, mod-eq_of_lt}
+use Rattle.std.proofs.Common.{◌≡◌, ℕ, zero, suc, ◌+◌, ◌-◌, ◌*◌, ◌/◌, ◌%◌, ◌^◌, ◌<◌, ◌≤◌}
+use Rattle.std.proofs.Common.{ap, sym, ◌∙◌, arith, inl, inr, subst, refl, mod-eq_of_lt}
 use Rattle.std.proofs.Math.Nat.{mod-mod, zero-mod}
 use Rattle.std.proofs.lemmas.Bool.{cases_eq, cases_lt}
 use Rattle.std.proofs.Common.{List, [], ◌∷◌, length, take, get_or, set, All, get_or-set_same, get_or-set_other, length-take-le}
-use Rattle.num_modular.specs.Callers.{same_coefficients, entry, entry_at, held_entry, IsForm, IsCheckedFormOf, HoldBelow}
+use Rattle.num_modular.specs.Callers.{same_coefficients, entry, entry_at, entry_read, form_read, held_entry, hold_more, IsForm, HoldBelow}
 use Rattle.num_modular.specs.Congruence.{Congruent}
 use Rattle.num_modular.specs.Inverses.{IsInverse, HasInverse}
-use Rattle.num_modular.specs.NumberLaws.{mod_of_eq, mod_refl, residue_of, mod_sym, mod_trans, mod_add, mod_mul}
-use Rattle.num_modular.specs.NumberLaws.{sum_below-zero, sum_below-suc, sum_below-same}
+use Rattle.num_modular.specs.NumberLaws.{mod_mul, mod_of_eq, mod_refl, mod_sym, mod_trans, mod_add}
+use Rattle.num_modular.specs.NumberLaws.{sum_below-zero, sum_below-same, sum_below-more, sum_below-joined, sum_below-bounded}
 use Rattle.num_modular.specs.Polynomials.{polynomial_at, HaveUnitDifferences}
 use Rattle.num_modular.specs.PolynomialLaws.{polynomial-none, polynomial-first, polynomial-congruent}
 use Rattle.num_modular.specs.SumLaws.{tail}
-use Rattle.ring_codes.proofs.Distances.{Selection, selected, counted, counted_same, counted_other, extended, at_end, before_end}
+use Rattle.ring_codes.proofs.Distances.{Selection, selected, counted, counted_same, counted_other, counted_most, rising_fit}
+use Rattle.ring_codes.proofs.Distances.{extended, at_end, before_end, extended_each, extended_rising}
 use Rattle.ring_codes.proofs.KeyPairs.{shifted-values}
 use Rattle.ring_codes.proofs.NearestWords.{combined, unit_alike, no_value}
 use Rattle.ring_codes.proofs.NewtonForms.{has_of_residue}
@@ -21,6 +22,7 @@ use Rattle.ring_codes.proofs.Counts.{fit_front}
 use Rattle.ring_codes.proofs.Symbols.{entry_front, fit_same, same_forms}
 use Rattle.ring_codes.specs.Erasure.{IsEncoding, distance}
 use Rattle.ring_codes.specs.KeyEquations.{shifted, Solves, Leads, IsKeyPair, IsQuotient, AreQuotients}
+use Rattle.ring_codes.proofs.Congruences.{mod_of_combination, mod_times, mod_of_residue, mod_of_inverse}
 
 -- the coefficients of the product of two polynomials, the first with k coefficients
 product : ℕ → (ℕ → ℕ) → (ℕ → ℕ) → ℕ → ℕ
@@ -63,18 +65,6 @@ product_none m (suc k) d (suc l) f e none =
     mod_trans (mod_add (product_none m k d l (λ j. f (suc j)) e none) (mod_mul (mod_refl (f 0)) (none (suc l))))
     (mod_of_eq z)
 
--- points at rising places fit
-pub rising_fit : (m n k : ℕ) (x place : ℕ → ℕ) → ((i : ℕ) → i < k → place i < n)
-    → ((i j : ℕ) → i < j → j < k → place i < place j) → HaveUnitDifferences m n x
-    → HaveUnitDifferences m k (λ i. x (place i))
-rising_fit m n k x place within rising fit = record {
-  unit = λ i j l d other. fit.unit (place i) (place j) (within i l) (within j d)
-      (elim (cases_lt i j) [
-        | inl b ↦ let r = rising i j b d in λ e. omega (arith, r, e)
-        | inr b ↦ let r = rising j i (omega arith) l in λ e. omega (arith, r, e)
-      ]);
-}
-
 -- points at selected places fit
 selected_fit : (m n k : ℕ) (x a b : ℕ → ℕ) (s : Selection n k a b) → HaveUnitDifferences m n x
     → HaveUnitDifferences m k (λ i. x (s.place i))
@@ -90,12 +80,9 @@ near_numerator m k c d n x y p e sent some lengths fit past solves near =
     same_coefficients m c p (product k sent e) (λ i. x (s.place i))
     (selected_fit m n c x y (λ j. polynomial_at k sent (x j) % m) s fit)
     (λ i l.
-    let X : ℕ = x (s.place i) in
-    let symbol : Congruent m (y (s.place i)) (polynomial_at k sent X) =
-    mod_trans (mod_of_eq (s.same i l)) (residue_of (polynomial_at k sent X)) in
-    mod_trans (solves (s.place i) (s.within i l))
-    (mod_trans (mod_mul symbol (mod_refl (polynomial_at d e X)))
-    (mod_of_eq (sym (product_value k d c X sent e some (omega arith) past)))))
+    let value = product_value k d c (x (s.place i)) sent e some (omega arith) past in
+    mod_of_combination (mod_add (solves (s.place i) (s.within i l))
+    (mod_times (polynomial_at d e (x (s.place i))) (mod_of_residue (s.same i l)))) (omega (arith, value)))
 
 -- .. so its values are
 pub near_value : (m k c d n : ℕ) (x y p e sent : ℕ → ℕ) → 1 ≤ d → d + k ≡ c + 1 → HaveUnitDifferences m n x
@@ -133,15 +120,9 @@ enough_units m k c d n u x y p e sent some lengths few room fit past pair near z
 -- the quotient by a number with an inverse is the other factor
 quotient_is : (m n e q w : ℕ) → IsQuotient m n e q → Congruent m n (w * e) → Congruent m q w
 quotient_is m n e q w is product =
-    let x : ℕ = is.unit.0 in
-    let one : Congruent m (e * x) 1 = record { same = is.unit.1.one } in
-    let a : q ≡ q * 1 = omega arith in
-    let b : q * (e * x) ≡ (e * q) * x = omega arith in
-    let c : (w * e) * x ≡ w * (e * x) = omega arith in
-    let d : w * 1 ≡ w = omega arith in
-    mod_trans (mod_of_eq a) (mod_trans (mod_mul (mod_refl q) (mod_sym one)) (mod_trans (mod_of_eq b)
-    (mod_trans (mod_mul (mod_trans is.product product) (mod_refl x)) (mod_trans (mod_of_eq c)
-    (mod_trans (mod_mul (mod_refl w) one) (mod_of_eq d))))))
+    let one = mod_of_inverse is.unit.1 in
+    mod_of_combination (mod_add (mod_times q (mod_sym one)) (mod_add (mod_times is.unit.0 (mod_trans is.product product))
+    (mod_times w one))) (omega arith)
 
 -- the quotients are the values of a near message
 pub near_quotients : (m k c d n u : ℕ) (x y p e sent chosen values : ℕ → ℕ) → 1 ≤ d → d + k ≡ c + 1
@@ -167,14 +148,10 @@ chosen_fit m n k x p e chosen values fit are =
 
 -- fewer places, and words that are the same there
 pub distance_front : (k n : ℕ) (a b : ℕ → ℕ) → k ≤ n → distance k a b ≤ distance n a b
-distance_front k zero a b l = let e : k ≡ 0 = omega arith in subst (λ j. distance j a b ≤ distance 0 a b) (sym e) (omega arith)
-distance_front k (suc n) a b l = elim (cases_eq k (suc n)) [
-  | inl e ↦ subst (λ j. distance j a b ≤ distance (suc n) a b) (sym e) (omega arith)
-  | inr other ↦
-      let i = distance_front k n a b (omega arith) in
-      let s = sum_below-suc n (λ i. counted (a i) (b i)) in
-      omega (arith, i, s)
-]
+distance_front k n a b l =
+    let whole : k + (n - k) ≡ n = omega arith in
+    let parts = sum_below-joined k (n - k) (λ i. counted (a i) (b i)) in
+    omega (arith, parts, ap (λ j. distance j a b) whole)
 
 pub distance_same : (n : ℕ) (a b d : ℕ → ℕ) → ((i : ℕ) → i < n → b i ≡ d i) → distance n a b ≡ distance n a d
 distance_same n a b d same =
@@ -240,52 +217,27 @@ found_kept number form value m n k x p e chosen values found = record {
 }
 
 -- a point more with a quotient
-pub found_more : {T : Type 0} (number : T → ℕ) (form value : ℕ → ℕ → ℕ) (m n k : ℕ) (x p e : ℕ → ℕ)
-    (chosen values : List T) (f q : T) → k < length chosen → k < length values
-    → Found number form value m n k x p e chosen values → IsForm form value m (number f) → value m (number f) ≡ x n
-    → IsForm form value m (number q) → IsQuotient m (p (x n)) (e (x n)) (value m (number q))
-    → Found number form value m (n + 1) (k + 1) x p e (set chosen k f) (set values k q)
-found_more number form value m n k x p e chosen values f q room room_values found is_f at_f is_q quotient = record {
-  place = extended k n found.place;
-  within = λ i l. elim (cases_eq i k) [
-    | inl s ↦ let a = at_end k n found.place i s in omega (arith, a)
-    | inr o ↦ let a = before_end k n found.place i o in let w = found.within i (omega arith) in omega (arith, a, w)
-  ];
-  rising = λ i j l b. let o : i ≢ k = omega arith in
-      let a = before_end k n found.place i o in elim (cases_eq j k) [
-        | inl s ↦ let q = at_end k n found.place j s in let w = found.within i (omega arith) in omega (arith, a, q, w)
-        | inr d ↦ let q = before_end k n found.place j d in let w = found.rising i j l (omega arith) in omega (arith, a, q, w)
-      ];
-  chosen_there = record {
-    each = λ i d l. elim (cases_eq i k) [
-      | inl s ↦
-          let r : get_or (set chosen k f) i d ≡ f = ap (λ j. get_or (set chosen k f) j d) s ∙ get_or-set_same chosen k f d room in
-          let a = at_end k n found.place i s in
-          subst (λ y. IsCheckedFormOf form value m (number y) (x (extended k n found.place i))) (sym r)
-          (record { checked = is_f; same = at_f ∙ ap x (sym a) })
-      | inr o ↦
-          let a = before_end k n found.place i o in
-          let before = found.chosen_there.each i d (omega arith) in
-          subst (λ y. IsCheckedFormOf form value m (number y) (x (extended k n found.place i)))
-          (sym (get_or-set_other chosen k i f d o))
-          (record { checked = before.checked; same = before.same ∙ ap x (sym a) })
-    ];
-  };
-  quotient = λ i d l. elim (cases_eq i k) [
-    | inl s ↦
-        let r : get_or (set values k q) i d ≡ q = ap (λ j. get_or (set values k q) j d) s ∙ get_or-set_same values k q d room_values in
-        let a = at_end k n found.place i s in
-        subst (λ y. IsForm form value m (number y) × IsQuotient m (p (x (extended k n found.place i)))
-        (e (x (extended k n found.place i))) (value m (number y))) (sym r)
-        (is_q, subst (λ j. IsQuotient m (p (x j)) (e (x j)) (value m (number q))) (sym a) quotient)
-    | inr o ↦
-        let a = before_end k n found.place i o in
-        let before = found.quotient i d (omega arith) in
-        subst (λ y. IsForm form value m (number y) × IsQuotient m (p (x (extended k n found.place i)))
-        (e (x (extended k n found.place i))) (value m (number y))) (sym (get_or-set_other values k i q d o))
-        (before.0, subst (λ j. IsQuotient m (p (x j)) (e (x j)) (value m (number (get_or values i d)))) (sym a) before.1)
-  ];
-}
+pub found_more : {T : Type 0} (number : T → ℕ) (form value : ℕ → ℕ → ℕ) (m n k : ℕ) (p e : ℕ → ℕ)
+    (points chosen values : List T) (a f q : T) → k < length chosen → k < length values
+    → Found number form value m n k (entry number value m points) p e chosen values
+    → All (λ f. IsForm form value m (number f)) points → n < length points → a ≡ get_or points n a → f ≡ get_or points n f
+    → IsForm form value m (number q) × IsQuotient m (p (value m (number a))) (e (value m (number a))) (value m (number q))
+    → Found number form value m (n + 1) (k + 1) (entry number value m points) p e (set chosen k f) (set values k q)
+found_more number form value m n k p e points chosen values a f q room room_values found all within at_a at_f quotient =
+    let x = entry number value m points in let at = entry_read number value m points n a within at_a in record {
+      place = extended k n found.place;
+      within = extended_each k n found.place (λ i p. p < n + 1) (λ i l. let w = found.within i l in omega (arith, w)) (omega arith);
+      rising = extended_rising k n found.place found.within found.rising;
+      chosen_there = hold_more number form value m chosen k f (λ i. x (extended k n found.place i)) room
+          (record { each = λ i d l. rw (before_end k n found.place i (omega arith)) (found.chosen_there.each i d l) })
+          (form_read number form value m points n f all within at_f)
+          (entry_read number value m points n f within at_f ∙ ap x (sym (at_end k n found.place k refl)));
+      quotient = λ i d l. extended_each k n found.place
+          (λ i t. IsForm form value m (number (get_or (set values k q) i d))
+          × IsQuotient m (p (x t)) (e (x t)) (value m (number (get_or (set values k q) i d))))
+          (λ i l. rw (get_or-set_other values k i q d (omega arith)) (found.quotient i d l))
+          (rw (get_or-set_same values k q d room_values, ← at) quotient) i l;
+    }
 
 -- .. of all of them
 pub found_forms : {T : Type 0} (number : T → ℕ) (form value : ℕ → ℕ → ℕ) (m n k : ℕ) (x p e : ℕ → ℕ)
@@ -325,19 +277,10 @@ found_all number form value m n k j s x p e chosen values is_j is_k same few fou
 -- one point more where a value is 0, or isn't
 pub zeros_kept : (n k : ℕ) (a b : ℕ → ℕ) → distance n a b ≤ k → a n ≡ b n → distance (n + 1) a b ≤ k
 zeros_kept n k a b few same =
-    let e : n + 1 ≡ suc n = omega arith in
-    let s = ap (λ j. distance j a b) e ∙ sum_below-suc n (λ i. counted (a i) (b i)) in
-    let z = counted_same (a n) (b n) same in
-    omega (arith, few, s, z)
+    omega (arith, few, sum_below-more (λ i. counted (a i) (b i)) n, counted_same (a n) (b n) same)
 
 pub zeros_more : (n k : ℕ) (a b : ℕ → ℕ) → distance n a b ≤ k → distance (n + 1) a b ≤ k + 1
-zeros_more n k a b few =
-    let e : n + 1 ≡ suc n = omega arith in
-    let s = ap (λ j. distance j a b) e ∙ sum_below-suc n (λ i. counted (a i) (b i)) in
-    elim (cases_eq (a n) (b n)) [
-      | inl same ↦ let z = counted_same (a n) (b n) same in omega (arith, few, s, z)
-      | inr other ↦ let z = counted_other (a n) (b n) other in omega (arith, few, s, z)
-    ]
+zeros_more n k a b few = omega (arith, few, sum_below-more (λ i. counted (a i) (b i)) n, counted_most (a n) (b n))
 
 -- forms differ exactly where their values do
 pub counted_forms : (form value : ℕ → ℕ → ℕ) (m f g v w : ℕ) → IsForm form value m f → IsForm form value m g
@@ -350,38 +293,22 @@ counted_forms form value m f g v w is_f is_g at_f at_g = elim (cases_eq f g) [
 
 pub one_counted : (n e r : ℕ) (a b : ℕ → ℕ) → e ≡ distance n a b → r ≡ counted (a n) (b n)
     → e + r ≡ distance (n + 1) a b
-one_counted n e r a b is_e is_r =
-    let t : n + 1 ≡ suc n = omega arith in
-    let s = ap (λ j. distance j a b) t ∙ sum_below-suc n (λ i. counted (a i) (b i)) in
-    omega (arith, is_e, is_r, s)
+one_counted n e r a b is_e is_r = omega (arith, is_e, is_r, sum_below-more (λ i. counted (a i) (b i)) n)
 
 pub none_counted : (a b : ℕ → ℕ) → 0 ≡ distance 0 a b
 none_counted a b = sym (sum_below-zero (λ i. counted (a i) (b i)))
 
 pub counted_few : (n : ℕ) (a b : ℕ → ℕ) → distance n a b ≤ n
-counted_few zero a b = let s = sum_below-zero (λ i. counted (a i) (b i)) in omega (arith, s)
-counted_few (suc n) a b =
-    let i = counted_few n a b in
-    let s = sum_below-suc n (λ i. counted (a i) (b i)) in
-    elim (cases_eq (a n) (b n)) [
-      | inl same ↦ let z = counted_same (a n) (b n) same in omega (arith, i, s, z)
-      | inr other ↦ let z = counted_other (a n) (b n) other in omega (arith, i, s, z)
-    ]
+counted_few n a b =
+    omega (arith, sum_below-bounded n 1 (λ i. counted (a i) (b i)) (λ i l. counted_most (a i) (b i)))
 
 -- the quotient from an inverse
 pub quotient_made : (m n e value x dividend q : ℕ) → value ≡ e % m → IsInverse m value x → dividend ≡ n % m
     → q ≡ (dividend * x) % m → IsQuotient m n e q
 quotient_made m n e value x dividend q is_e inverse is_n is = record {
   unit = has_of_residue m e value is_e (x, inverse);
-  product =
-      let at_e : Congruent m e value = mod_trans (mod_sym (residue_of e)) (mod_of_eq (sym is_e)) in
-      let at_q : Congruent m q (n * x) =
-      mod_trans (mod_of_eq is) (mod_trans (residue_of (dividend * x))
-      (mod_mul (mod_trans (mod_of_eq is_n) (residue_of n)) (mod_refl x))) in
-      let one : Congruent m (value * x) 1 = record { same = inverse.one } in
-      let a : value * (n * x) ≡ n * (value * x) = omega arith in
-      let b : n * 1 ≡ n = omega arith in
-      mod_trans (mod_mul at_e at_q) (mod_trans (mod_of_eq a) (mod_trans (mod_mul (mod_refl n) one) (mod_of_eq b)));
+  product = mod_of_combination (mod_add (mod_times q (mod_sym (mod_of_residue is_e))) (mod_add (mod_times value (mod_of_residue is))
+      (mod_add (mod_times dividend (mod_of_inverse inverse)) (mod_of_residue is_n)))) (omega arith);
 }
 
 -- the half of a number, rounded down

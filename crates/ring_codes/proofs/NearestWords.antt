@@ -7,15 +7,17 @@ use Rattle.std.proofs.lemmas.Bool.{cases_eq, cases_lt}
 use Rattle.std.proofs.lemmas.Nat.{mul-mod_first, mul-mod_second}
 use Rattle.num_modular.specs.Congruence.{Congruent}
 use Rattle.num_modular.specs.Inverses.{HasInverse}
-use Rattle.num_modular.specs.NumberLaws.{mod_of_eq, mod_refl, mod_sym, mod_trans, mod_mul, mod_add_cancel}
-use Rattle.num_modular.specs.NumberLaws.{difference_and, sum_below-zero, sum_below-suc}
+use Rattle.num_modular.specs.NumberLaws.{mod_of_eq, mod_refl, mod_sym, mod_trans, mod_add, mod_mul}
+use Rattle.num_modular.specs.NumberLaws.{sum_below-suc, sum_below-of_zeros}
+use Rattle.num_modular.specs.Sums.{sum_below}
 use Rattle.num_modular.specs.Polynomials.{polynomial_at, HaveUnitDifferences}
-use Rattle.num_modular.specs.PolynomialLaws.{polynomial-none, polynomial-first}
+use Rattle.num_modular.specs.PolynomialLaws.{polynomial-none, polynomial-first, polynomial-congruent}
 use Rattle.num_modular.specs.ProductLaws.{has_product}
 use Rattle.num_modular.specs.Products.{product_below}
 use Rattle.num_modular.specs.Residues.{residue}
 use Rattle.ring_codes.specs.Erasure.{IsEncoding, distance}
-use Rattle.ring_codes.proofs.Distances.{counted, counted_same, counted_other}
+use Rattle.ring_codes.proofs.Distances.{counted_same, counted_other}
+use Rattle.ring_codes.proofs.Congruences.{mod_of_combination, mod_of_modulus, mod_of_difference}
 
 -- the coefficients of the product of X + r 0, .., X + r (d - 1), the constant first
 expanded : ℕ → (ℕ → ℕ) → ℕ → ℕ
@@ -44,17 +46,16 @@ highest (suc d) r =
 
 pub combined : (n : ℕ) (f g : ℕ → ℕ) (a X : ℕ)
     → polynomial_at n (λ i. f i + a * g i) X ≡ polynomial_at n f X + a * polynomial_at n g X
-combined zero f g a X =
-    let p = sum_below-zero (λ i. (f i + a * g i) * X ^ i) in
-    let q = sum_below-zero (λ i. f i * X ^ i) in
-    let r = ap (λ v. a * v) (sum_below-zero (λ i. g i * X ^ i)) in
-    omega (arith, p, q, r)
-combined (suc n) f g a X =
-    let i = combined n f g a X in
-    let p = sum_below-suc n (λ i. (f i + a * g i) * X ^ i) in
-    let q = sum_below-suc n (λ i. f i * X ^ i) in
-    let r = ap (λ v. a * v) (sum_below-suc n (λ i. g i * X ^ i)) in
-    omega (arith, i, p, q, r)
+unfolding sum_below
+combined zero f g a X = omega arith
+combined (suc n) f g a X = let i = combined n f g a X in omega (arith, i)
+
+-- coefficients e with e l + b·g l congruent to h l
+pub with_multiple : (m n b X : ℕ) (e g h : ℕ → ℕ) → ((l : ℕ) → l < n → Congruent m (e l + b * g l) (h l))
+    → Congruent m (polynomial_at n e X + b * polynomial_at n g X) (polynomial_at n h X)
+with_multiple m n b X e g h each =
+    mod_trans (mod_of_eq (sym (combined n e g b X)))
+    (polynomial-congruent n (λ i. e i + b * g i) h X X each (mod_refl X))
 
 -- its values are the products
 value_is : (d X : ℕ) (r : ℕ → ℕ) → polynomial_at (suc d) (expanded d r) X ≡ product_below d (λ j. X + r j)
@@ -90,10 +91,8 @@ at_root m x positive =
 pub difference_alike : (m X x : ℕ) → 0 < m → Congruent m (residue m (pos X -ℤ pos x)) (X + (m - 1) * x)
 difference_alike m X x positive =
     let t = turned_sign m x positive in
-    let e : X + (m - 1) * x + x ≡ X + m * x = omega (arith, t) in
-    let whole : Congruent m (X + (m - 1) * x + x) X =
-    mod_trans (mod_of_eq e) (record { same = add-mul-mod_self_left X m x }) in
-    mod_add_cancel x (mod_trans (record { same = difference_and m X x positive }) (mod_sym whole))
+    let is : Congruent m (residue m (pos X -ℤ pos x) + x) X = mod_of_difference x positive refl in
+    mod_of_combination (mod_add is (mod_sym (mod_of_modulus x))) (omega (arith, t))
 
 pub unit_alike : (m a b : ℕ) → Congruent m a b → HasInverse m a → HasInverse m b
 unit_alike m a b e h =
@@ -121,20 +120,18 @@ product_zero m (suc n) l f below none = elim (cases_eq l n) [
 ]
 
 pub no_value : (n X : ℕ) → polynomial_at n (λ i. 0) X ≡ 0
-no_value zero X = sum_below-zero (λ i. 0 * X ^ i)
-no_value (suc n) X = let s = sum_below-suc n (λ i. 0 * X ^ i) in let i = no_value n X in omega (arith, s, i)
+no_value n X = sum_below-of_zeros n (λ i. 0 * X ^ i) (λ i l. omega arith)
 
 -- words that agree at the first d places alone
 agree_first : (n d : ℕ) (a b : ℕ → ℕ) → ((i : ℕ) → i < d → a i ≡ b i) → ((i : ℕ) → d ≤ i → i < n → a i ≢ b i)
     → distance n a b ≡ n - d
-agree_first zero d a b same other =
-    let z = sum_below-zero (λ i. counted (a i) (b i)) in omega (arith, z)
+unfolding sum_below
+agree_first zero d a b same other = omega arith
 agree_first (suc n) d a b same other =
-    let s = sum_below-suc n (λ i. counted (a i) (b i)) in
     let i = agree_first n d a b same (λ i l k. other i l (omega arith)) in
     elim (cases_lt n d) [
-      | inl before ↦ let z = counted_same (a n) (b n) (same n before) in omega (arith, s, z, i)
-      | inr behind ↦ let z = counted_other (a n) (b n) (other n behind (omega arith)) in omega (arith, s, z, i)
+      | inl before ↦ let z = counted_same (a n) (b n) (same n before) in omega (arith, z, i)
+      | inr behind ↦ let z = counted_other (a n) (b n) (other n behind (omega arith)) in omega (arith, z, i)
     ]
 
 pub bound_met : (m k n : ℕ) (x : ℕ → ℕ) → 2 ≤ m → 1 ≤ k → k ≤ n → HaveUnitDifferences m n x

@@ -2,21 +2,22 @@
 use Rattle.std.proofs.Common.{◌≡◌, ℕ, zero, suc, ◌+◌, ◌-◌, ◌*◌, ◌%◌, ◌^◌, ◌<◌, ◌≤◌, pos, ◌-ℤ◌}
 use Rattle.std.proofs.Common.{ap, sym, ◌∙◌, arith, refl, inl, inr, mod-eq_of_lt, mod-lt}
 use Rattle.std.proofs.Common.{◌↔◌, Bool, true, false, IsTrue, Option, None, Some, is_some}
-use Rattle.std.proofs.Math.Nat.{zero-mod, add-mul-mod_self_left}
+use Rattle.std.proofs.Math.Nat.{zero-mod}
 use Rattle.std.proofs.lemmas.Bool.{cases_eq, cases_lt}
 use Rattle.std.proofs.lemmas.Int.{ints}
 use Rattle.std.proofs.lemmas.Nat.{mul-mod_first, mul-mod_second}
 use Rattle.num_modular.specs.Congruence.{Congruent}
 use Rattle.num_modular.specs.Inverses.{IsInverse, HasInverse, IsInversion}
 use Rattle.num_modular.specs.NumberLaws.{mod_of_eq, mod_refl, residue_of, mod_sym, mod_trans, mod_add, mod_mul}
-use Rattle.num_modular.specs.NumberLaws.{mod_add_cancel}
-use Rattle.num_modular.specs.NumberLaws.{difference_and, sum_below-zero, sum_below-suc}
 use Rattle.num_modular.specs.Polynomials.{polynomial_at, HaveUnitDifferences}
 use Rattle.num_modular.specs.PolynomialLaws.{polynomial-none, polynomial-first, polynomial-same}
 use Rattle.num_modular.specs.ProductLaws.{has_each, has_product}
 use Rattle.num_modular.specs.Products.{product_below}
 use Rattle.num_modular.specs.Residues.{residue}
+use Rattle.num_modular.specs.Sums.{sum_below}
 use Rattle.ring_codes.specs.Newton.{difference, newton_form}
+use Rattle.ring_codes.proofs.NearestWords.{with_multiple}
+use Rattle.ring_codes.proofs.Congruences.{mod_of_combination, mod_times, mod_of_modulus, mod_of_residue, mod_of_difference, mod_of_inverse}
 
 -- a - b modulo m
 abbrev minus : ℕ → ℕ → ℕ → ℕ
@@ -36,14 +37,11 @@ pub form-same : (m n : ℕ) (c d x y : ℕ → ℕ) (a : ℕ) → ((i : ℕ) →
     → ((i : ℕ) → i < n → x i ≡ y i) → newton_form m n c x a ≡ newton_form m n d y a
 form-same m zero c d x y a same points = form-none m c x a ∙ sym (form-none m d y a)
 form-same m (suc n) c d x y a same points =
-    let i = form-same m n (λ i. c (suc i)) (λ i. d (suc i)) (λ i. x (suc i)) (λ i. y (suc i)) a
-    (λ i l. same (suc i) (omega arith)) (λ i l. points (suc i) (omega arith)) in
     let f = same 0 (omega arith) in
     let p = points 0 (omega arith) in
-    form-first m n c x a
-    ∙ ap (λ v. v + minus m a (x 0) * newton_form m n (λ i. c (suc i)) (λ i. x (suc i)) a) f
-    ∙ ap (λ v. d 0 + minus m a v * newton_form m n (λ i. c (suc i)) (λ i. x (suc i)) a) p
-    ∙ ap (λ v. d 0 + minus m a (y 0) * v) i ∙ sym (form-first m n d y a)
+    let i = form-same m n (λ i. c (suc i)) (λ i. d (suc i)) (λ i. x (suc i)) (λ i. y (suc i)) a
+    (λ i l. same (suc i) (omega arith)) (λ i l. points (suc i) (omega arith)) in
+    cc (form-first m n c x a, form-first m n d y a)
 
 -- a product over a range, the first factor taken out
 product-first : (n : ℕ) (f : ℕ → ℕ) → product_below (suc n) f ≡ f 0 * product_below n (λ i. f (suc i))
@@ -92,19 +90,9 @@ kept_before m n l c x below =
 divided : (m known f rest y d w c : ℕ) → known ≡ f % m → rest ≡ residue m (pos y -ℤ pos known) → IsInverse m d w
     → c ≡ (rest * w) % m → (f + d * c) % m ≡ y % m
 divided m known f rest y d w c is_known is_rest inverse is =
-    let below = inverse.below in
-    let positive : 0 < m = omega (arith, below) in
-    let one : Congruent m (d * w) 1 = record { same = inverse.one } in
-    let split : d * (rest * w) ≡ rest * (d * w) = omega arith in
-    let times_one : rest * 1 ≡ rest = omega arith in
-    let product : Congruent m (d * c) rest =
-    mod_trans (mod_mul (mod_refl d) (mod_trans (mod_of_eq is) (residue_of (rest * w))))
-    (mod_trans (mod_of_eq split) (mod_trans (mod_mul (mod_refl rest) one) (mod_of_eq times_one))) in
-    let form : Congruent m f known = mod_trans (mod_sym (residue_of f)) (mod_of_eq (sym is_known)) in
-    let swap : known + rest ≡ rest + known = omega arith in
-    let sum : (rest + known) % m ≡ y % m =
-    ap (λ v. (v + known) % m) is_rest ∙ difference_and m y known positive in
-    (mod_trans (mod_add form product) (mod_trans (mod_of_eq swap) (record { same = sum }))).same
+    let whole : Congruent m (f + d * c) y =
+    mod_of_combination (mod_add (mod_sym (mod_of_residue is_known)) (mod_add (mod_of_difference known (omega (arith, inverse.below)) is_rest)
+    (mod_add (mod_times d (mod_of_residue is)) (mod_times rest (mod_of_inverse inverse))))) (omega arith) in whole.same
 
 one_divided_at : (m i : ℕ) (c d x y : ℕ → ℕ) (known rest w : ℕ)
     → ((l : ℕ) → l < i → newton_form m i c x (x l) % m ≡ y l) → ((l : ℕ) → l < i → d l ≡ c l)
@@ -137,44 +125,16 @@ one_divided m i c d x y known rest w before kept is_known is_rest inverse is bel
     ap (λ j. newton_form m j d x (x l) % m) next
     ∙ one_divided_at m i c d x y known rest w before kept is_known is_rest inverse is below l (omega arith)
 
--- coefficients e with e l + a·s (l + 1) = s l are those of s less a times what is left of s
-taken : (m n a X : ℕ) (e s : ℕ → ℕ) → ((l : ℕ) → l < n → Congruent m (e l + a * s (suc l)) (s l))
-    → Congruent m (polynomial_at n e X + a * polynomial_at n (λ l. s (suc l)) X) (polynomial_at n s X)
-taken m zero a X e s each =
-    let p = sum_below-zero (λ i. e i * X ^ i) in
-    let q = ap (λ v. a * v) (sum_below-zero (λ i. s (suc i) * X ^ i)) in
-    let r = sum_below-zero (λ i. s i * X ^ i) in
-    mod_of_eq (omega (arith, p, q, r))
-taken m (suc n) a X e s each =
-    let i = taken m n a X e s (λ l k. each l (omega arith)) in
-    let p = sum_below-suc n (λ i. e i * X ^ i) in
-    let q = ap (λ v. a * v) (sum_below-suc n (λ i. s (suc i) * X ^ i)) in
-    let r = sum_below-suc n (λ i. s i * X ^ i) in
-    let split : polynomial_at (suc n) e X + a * polynomial_at (suc n) (λ l. s (suc l)) X
-    ≡ (polynomial_at n e X + a * polynomial_at n (λ l. s (suc l)) X) + (e n + a * s (suc n)) * X ^ n =
-    omega (arith, p, q) in
-    mod_trans (mod_of_eq split) (mod_trans (mod_add i (mod_mul (each n (omega arith)) (mod_refl (X ^ n))))
-    (mod_of_eq (sym r)))
-
 pub one_expanded : (m n a X : ℕ) (e s : ℕ → ℕ) → 0 < m
     → ((l : ℕ) → l < n → Congruent m (e l + a * s (suc l)) (s l)) → e n ≡ s n
     → Congruent m (polynomial_at (suc n) e X)
     (s 0 + residue m (pos X -ℤ pos a) * polynomial_at n (λ l. s (suc l)) X)
+unfolding sum_below
 one_expanded m n a X e s positive each last =
-    let q : ℕ = polynomial_at n (λ l. s (suc l)) X in
-    let u : ℕ = residue m (pos X -ℤ pos a) in
     let top = ap (λ v. v * X ^ n) last in
-    let p = sum_below-suc n (λ i. e i * X ^ i) in
-    let r = sum_below-suc n (λ i. s i * X ^ i) in
-    let split : polynomial_at (suc n) e X + a * q ≡ (polynomial_at n e X + a * q) + s n * X ^ n =
-    omega (arith, p, top) in
-    let whole : Congruent m (polynomial_at (suc n) e X + a * q) (s 0 + X * q) =
-    mod_trans (mod_of_eq split) (mod_trans (mod_add (taken m n a X e s each) (mod_refl (s n * X ^ n)))
-    (mod_of_eq (sym r ∙ polynomial-first n s X))) in
-    let is : Congruent m (u + a) X = record { same = difference_and m X a positive } in
-    let apart : s 0 + (u + a) * q ≡ (s 0 + u * q) + a * q = omega arith in
-    mod_add_cancel (a * q) (mod_trans whole (mod_trans (mod_add (mod_refl (s 0)) (mod_mul (mod_sym is) (mod_refl q)))
-    (mod_of_eq apart)))
+    let is : Congruent m (residue m (pos X -ℤ pos a) + a) X = mod_of_difference _ positive refl in
+    mod_of_combination (mod_add (with_multiple m n a X e (λ l. s (suc l)) s each)
+    (mod_times (polynomial_at n (λ l. s (suc l)) X) (mod_sym is))) (omega (arith, top, polynomial-first n s X))
 
 -- a number and its residue have the same inverses
 to_residue : (m a x : ℕ) → IsInverse m a x → IsInverse m (a % m) x
@@ -183,42 +143,21 @@ to_residue m a x h = record { below = h.below; one = mul-mod_first a x m ∙ h.o
 pub of_residue : (m a x : ℕ) → IsInverse m (a % m) x → IsInverse m a x
 of_residue m a x h = record { below = h.below; one = sym (mul-mod_first a x m) ∙ h.one }
 
+turned : (m u v a b x y : ℕ) → y + x ≡ m → Congruent m (u * x) 1 → Congruent m (u + b) a → Congruent m (v + a) b
+    → Congruent m (v * y) 1
+turned m u v a b x y whole one at_u at_v =
+    let product = ap (λ k. v * k) whole in
+    mod_of_combination (mod_add (mod_of_modulus v) (mod_add (mod_times x (mod_sym at_u)) (mod_add (mod_times x (mod_sym at_v)) one)))
+    (omega (arith, product))
+
 -- b - a has an inverse where a - b has
 pub turned_difference : (m a b : ℕ) → HasInverse m (residue m (pos a -ℤ pos b)) → HasInverse m (residue m (pos b -ℤ pos a))
 turned_difference m a b h =
     let below = h.1.below in
     let positive : 0 < m = omega (arith, below) in
-    let u : ℕ = residue m (pos a -ℤ pos b) in
-    let v : ℕ = residue m (pos b -ℤ pos a) in
-    let x : ℕ = h.0 in
-    let y : ℕ = m - x in
-    let one : Congruent m (u * x) 1 = record { same = h.1.one } in
-    let at_u : Congruent m (u + b) a = record { same = difference_and m a b positive } in
-    let at_v : Congruent m (v + a) b = record { same = difference_and m b a positive } in
-    let sum_is : (u + v) + (a + b) ≡ (u + b) + (v + a) = omega arith in
-    let none_is : a + b ≡ 0 + (a + b) = omega arith in
-    let none : Congruent m (u + v) 0 =
-    mod_add_cancel (a + b) (mod_trans (mod_of_eq sum_is) (mod_trans (mod_add at_u at_v) (mod_of_eq none_is))) in
-    let whole : v * y + v * x ≡ v * m + 0 =
-    (let e : v * y + v * x ≡ v * (y + x) = omega arith in
-    let f : y + x ≡ m = omega arith in
-    let g : v * m ≡ v * m + 0 = omega arith in e ∙ ap (λ k. v * k) f ∙ g) in
-    let turn : v * m + 0 ≡ 0 + m * v = omega arith in
-    let multiple : Congruent m (v * m + 0) 0 =
-    record { same = ap (λ k. k % m) turn ∙ add-mul-mod_self_left 0 m v } in
-    let zero_times : 0 * x ≡ 0 = omega arith in
-    let apart : (u + v) * x ≡ u * x + v * x = omega arith in
-    let other : Congruent m 0 (1 + v * x) =
-    mod_trans (mod_of_eq (sym zero_times)) (mod_trans (mod_mul (mod_sym none) (mod_refl x))
-    (mod_trans (mod_of_eq apart) (mod_add one (mod_refl (v * x))))) in
-    let product : Congruent m (v * y) 1 =
-    mod_add_cancel (v * x) (mod_trans (mod_of_eq whole) (mod_trans multiple other)) in (
-      y % m,
-      record {
-        below = mod-lt y positive;
-        one = mul-mod_second v y m ∙ product.same;
-      },
-    )
+    let product = turned m _ _ a b h.0 (m - h.0) (omega (arith, below)) (mod_of_inverse h.1)
+    (mod_of_difference _ positive refl) (mod_of_difference _ positive refl) in
+    ((m - h.0) % m, record { below = mod-lt (m - h.0) positive; one = mul-mod_second _ (m - h.0) m ∙ product.same })
 
 -- the points fit exactly where the products of the differences have inverses
 pub fit_from_products : (m n : ℕ) (x : ℕ → ℕ)
@@ -251,12 +190,9 @@ value_more m n k c a value product sum l is_value is_product is =
     let f : c (n - (k + 1) + 0) ≡ c (n - 1 - k) = ap c (omega arith) in
     let g = ap (λ w. a * w) (polynomial-same k (λ i. c (n - (k + 1) + suc i)) (λ i. c (n - k + i)) a
     (λ i b. ap c (let t : n - (k + 1) + suc i ≡ n - k + i = omega arith in t))) in
-    let whole : c (n - 1 - k) + v * a ≡ polynomial_at (suc k) (λ i. c (n - (k + 1) + i)) a = omega (arith, e, f, g) in
-    let product_is : Congruent m product (v * a) =
-    mod_trans (mod_of_eq is_product) (mod_trans (residue_of (value * a))
-    (mod_mul (mod_trans (mod_of_eq is_value) (residue_of v)) (mod_refl a))) in
-    is ∙ (mod_add (mod_refl (c (n - 1 - k))) product_is).same ∙ ap (λ w. w % m) whole
-    ∙ ap (λ j. polynomial_at j (λ i. c (n - (k + 1) + i)) a % m) (let t : suc k ≡ k + 1 = omega arith in t)
+    let whole : Congruent m (c (n - 1 - k) + product) (polynomial_at (suc k) (λ i. c (n - (k + 1) + i)) a) =
+    mod_of_combination (mod_add (mod_of_residue is_product) (mod_times a (mod_of_residue is_value))) (omega (arith, e, f, g)) in
+    is ∙ whole.same ∙ ap (λ j. polynomial_at j (λ i. c (n - (k + 1) + i)) a % m) (let t : suc k ≡ k + 1 = omega arith in t)
 
 pub value_none : (m a value : ℕ) (c : ℕ → ℕ) → value ≡ 0 % m → value ≡ polynomial_at 0 c a % m
 value_none m a value c is = is ∙ ap (λ v. v % m) (sym (polynomial-none c a))
@@ -344,9 +280,7 @@ expanded_all m n k c e x is same a =
 pub subtracted : (m a product new o next : ℕ) → 0 < m → product ≡ (a * next) % m
     → new ≡ residue m (pos o -ℤ pos product) → Congruent m (new + a * next) o
 subtracted m a product new o next positive is_product is =
-    let product_is : Congruent m (a * next) product = mod_trans (mod_sym (residue_of (a * next)))
-    (mod_of_eq (sym is_product)) in
-    mod_trans (mod_add (mod_of_eq is) product_is) (record { same = difference_and m o product positive })
+    mod_of_combination (mod_add (mod_of_difference product positive is) (mod_sym (mod_of_residue is_product))) (omega arith)
 
 -- an inversion says whether there is an inverse
 pub inversion_tells : {T : Type 0} (value : T → ℕ) (m a : ℕ) (found : Option T) (b : Bool)

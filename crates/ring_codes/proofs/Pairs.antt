@@ -1,6 +1,6 @@
 -- Pairs of polynomials as one list each: the coefficients of the numerator, and after them those of the locator.
 use Rattle.std.proofs.Common.{◌≡◌, ◌≢◌, ℕ, ◌+◌, ◌-◌, ◌*◌, ◌%◌, ◌<◌, ◌≤◌, List, [], ◌∷◌, ◌++◌, length, take, drop, slice_range}
-use Rattle.std.proofs.Common.{ap, sym, ◌∙◌, arith, inl, inr, subst, take_all, take_at, drop_at, get_or-drop, length-drop, length-take-le}
+use Rattle.std.proofs.Common.{ap, sym, ◌∙◌, arith, inl, inr, take_all, take_at, drop_at, get_or-drop, length-drop, length-take-le}
 use Rattle.std.proofs.lemmas.Bool.{cases_lt}
 use Rattle.num_modular.specs.Callers.{entry, entry_at, entry_past}
 use Rattle.num_modular.specs.Congruence.{Congruent}
@@ -78,10 +78,7 @@ unit_pairs number value m k c d x y f s positive some wide within_f within_s f_o
 pub joined_pair : {T : Type 0} (number : T → ℕ) (value : ℕ → ℕ → ℕ) (m k c d i u : ℕ) (x y : ℕ → ℕ) (p q : List T)
     → length p ≡ c → IsKeyPair m k c d i u x y (entry number value m p) (entry number value m q)
     → IsKeyPair m k c d i u x y (entry number value m (take c (p ++ q))) (entry number value m (drop c (p ++ q)))
-joined_pair number value m k c d i u x y p q same pair =
-    subst (λ a. IsKeyPair m k c d i u x y (entry number value m a) (entry number value m (drop c (p ++ q))))
-    (sym (take_at p q c same))
-    (subst (λ b. IsKeyPair m k c d i u x y (entry number value m p) (entry number value m b)) (sym (drop_at p q c same)) pair)
+joined_pair number value m k c d i u x y p q same pair = rw (take_at p q c same, drop_at p q c same) pair
 
 -- a multiple of one list less a multiple of another one: at the numerators, and at the locators
 pub front_difference : {T : Type 0} (number : T → ℕ) (value : ℕ → ℕ → ℕ) (m p q : ℕ) (e h n : List T) (c : ℕ)
@@ -90,12 +87,8 @@ pub front_difference : {T : Type 0} (number : T → ℕ) (value : ℕ → ℕ �
     → (l : ℕ) → l < c
     → Congruent m (entry number value m (take c e) l + q * entry number value m (take c h) l) (p * entry number value m (take c n) l)
 front_difference number value m p q e h n c in_e in_h in_n each l b =
-    subst (λ v. Congruent m (v + q * entry number value m (take c h) l) (p * entry number value m (take c n) l))
-    (sym (entry_front number value m e c l b in_e))
-    (subst (λ v. Congruent m (entry number value m e l + q * v) (p * entry number value m (take c n) l))
-    (sym (entry_front number value m h c l b in_h))
-    (subst (λ v. Congruent m (entry number value m e l + q * entry number value m h l) (p * v))
-    (sym (entry_front number value m n c l b in_n)) (each l (omega arith))))
+    rw (entry_front number value m e c l b in_e, entry_front number value m h c l b in_h, entry_front number value m n c l b in_n)
+    (each l (omega arith))
 
 pub back_difference : {T : Type 0} (number : T → ℕ) (value : ℕ → ℕ → ℕ) (m p q : ℕ) (e h n : List T) (c d : ℕ)
     → length n ≡ c + d
@@ -103,12 +96,8 @@ pub back_difference : {T : Type 0} (number : T → ℕ) (value : ℕ → ℕ →
     → (l : ℕ) → l < d
     → Congruent m (entry number value m (drop c e) l + q * entry number value m (drop c h) l) (p * entry number value m (drop c n) l)
 back_difference number value m p q e h n c d whole each l b =
-    subst (λ v. Congruent m (v + q * entry number value m (drop c h) l) (p * entry number value m (drop c n) l))
-    (sym (entry_back number value m e c l))
-    (subst (λ v. Congruent m (entry number value m e (c + l) + q * v) (p * entry number value m (drop c n) l))
-    (sym (entry_back number value m h c l))
-    (subst (λ v. Congruent m (entry number value m e (c + l) + q * entry number value m h (c + l)) (p * v))
-    (sym (entry_back number value m n c l)) (each (c + l) (omega (arith, whole)))))
+    rw (entry_back number value m e c l, entry_back number value m h c l, entry_back number value m n c l)
+    (each (c + l) (omega (arith, whole)))
 
 -- after the last entry of the numerator, and of the locator
 pub front_past : {T : Type 0} (number : T → ℕ) (value : ℕ → ℕ → ℕ) (m : ℕ) (forms : List T) (c : ℕ) → c ≤ length forms

@@ -1,15 +1,14 @@
 -- Powers of a root: modulo an odd number their differences have inverses, and values at them are transforms.
 use Rattle.std.proofs.Common.{◌≡◌, ℕ, zero, suc, ◌+◌, ◌-◌, ◌*◌, ◌/◌, ◌%◌, ◌^◌, ◌<◌, ◌≤◌, pos, ◌-ℤ◌, ap, sym, subst, ◌∙◌}
 use Rattle.std.proofs.Common.{arith, refl, inl, inr, mod-lt, cond, ltb}
-use Rattle.std.proofs.Math.Nat.{zero-mod, add-mul-mod_self_left, pow-zero, pow-suc}
+use Rattle.std.proofs.Math.Nat.{zero-mod, pow-zero, pow-suc}
 use Rattle.std.proofs.lemmas.Nat.{pow-add}
 use Rattle.std.proofs.lemmas.Bool.{cases_lt, cases_eq}
 use Rattle.std.proofs.lemmas.Bool.Decides.{leb_tells}
 use Rattle.num_modular.specs.Congruence.{Congruent}
 use Rattle.num_modular.specs.Inverses.{HasInverse}
 use Rattle.num_modular.specs.NumberLaws.{mod_of_eq, mod_refl, residue_of, mod_sym, mod_trans, mod_add, mod_mul, mod_pow}
-use Rattle.num_modular.specs.NumberLaws.{mod_add_cancel}
-use Rattle.num_modular.specs.NumberLaws.{difference_and, sum_below-congruent, pow-mul, one-pow}
+use Rattle.num_modular.specs.NumberLaws.{sum_below-congruent, pow-mul, one-pow}
 use Rattle.num_modular.specs.Polynomials.{polynomial_at, HaveUnitDifferences}
 use Rattle.num_modular.specs.ProductLaws.{has_both}
 use Rattle.num_modular.specs.Residues.{residue}
@@ -20,6 +19,7 @@ use Rattle.ring_codes.specs.Erasure.{IsEncoding}
 use Rattle.ring_codes.specs.Powers.{ArePowers}
 use Rattle.ring_codes.proofs.NearestWords.{unit_alike}
 use Rattle.ring_codes.proofs.NewtonForms.{turned_difference}
+use Rattle.ring_codes.proofs.Congruences.{mod_of_combination, mod_times, mod_of_modulus, mod_of_residue, mod_of_difference}
 
 -- a, where h is a + 1, divides each power of h less 1
 divides_power : (m a h n : ℕ) → Congruent m (a + 1) h → (q : ℕ) × Congruent m (a * q + 1) (h ^ n)
@@ -28,42 +28,25 @@ divides_power m a h zero is =
     let e : a * 0 + 1 ≡ h ^ 0 = omega (arith, z) in
     (0, mod_of_eq e)
 divides_power m a h (suc n) is =
-    let before = divides_power m a h n is in
-    let q : ℕ = before.0 in
-    let e : a * (a * q + q + 1) + 1 ≡ (a * q + 1) * (a + 1) = omega arith in
-    (a * q + q + 1, mod_trans (mod_of_eq e) (mod_trans (mod_mul before.1 is) (mod_of_eq (sym (pow-suc h n)))))
+    let (q, before) = divides_power m a h n is in
+    (a * q + q + 1, mod_of_combination (mod_add (mod_times (a * q + 1) is) (mod_times h before)) (omega (arith, pow-suc h n)))
 
 -- modulo an odd number 2 has an inverse, and so has what divides -2
 two_divided : (m a q : ℕ) → m % 2 ≡ 1 → Congruent m (a * q + 2) 0 → HasInverse m a
 two_divided m a q odd none =
     let half : ℕ = m / 2 in
     let whole : m ≡ 2 * half + 1 = omega (arith, odd) in
-    let positive : 0 < m = omega (arith, whole) in
-    let e : a * (q * half) + 2 * half ≡ (a * q + 2) * half = omega arith in
-    let z : 0 * half ≡ 0 = omega arith in
-    let sum : Congruent m (a * (q * half) + 2 * half) 0 =
-    mod_trans (mod_of_eq e) (mod_trans (mod_mul none (mod_refl half)) (mod_of_eq z)) in
-    let more : a * (q * half) + 2 * half + 1 ≡ a * (q * half) + m = omega (arith, whole) in
-    let round : Congruent m (a * (q * half) + m) (a * (q * half)) =
-    (let f : a * (q * half) + m ≡ a * (q * half) + m * 1 = omega arith in
-    mod_trans (mod_of_eq f) (record { same = add-mul-mod_self_left (a * (q * half)) m 1 })) in
-    let one_is : 0 + 1 ≡ 1 = omega arith in
     let product : Congruent m (a * (q * half)) 1 =
-    mod_trans (mod_sym round) (mod_trans (mod_of_eq (sym more))
-    (mod_trans (mod_add sum (mod_refl 1)) (mod_of_eq one_is))) in (
+    mod_of_combination (mod_add (mod_times half none) (mod_sym (mod_of_modulus 1))) (omega (arith, whole)) in (
       (q * half) % m,
       record {
-        below = mod-lt (q * half) positive;
-        one = (mod_trans (mod_mul (mod_refl a) (residue_of (q * half))) product).same;
+        below = mod-lt (q * half) (omega (arith, whole));
+        one = (mod_trans (mod_times a (residue_of (q * half))) product).same;
       },
     )
 
 square_of : (m x : ℕ) → Congruent m (x + 1) 0 → Congruent m (x * x) 1
-square_of m x is =
-    let e : x * x + (x + 1) ≡ (x + 1) * x + 1 = omega arith in
-    let z : 0 * x + 1 ≡ 1 + 0 = omega arith in
-    mod_add_cancel (x + 1) (mod_trans (mod_of_eq e) (mod_trans (mod_add (mod_mul is (mod_refl x)) (mod_refl 1))
-    (mod_trans (mod_of_eq z) (mod_add (mod_refl 1) (mod_sym is)))))
+square_of m x is = mod_of_combination (mod_add (mod_times x is) (mod_sym is)) (omega arith)
 
 -- an odd power of -1 is -1
 odd_power : (m x d : ℕ) → Congruent m (x + 1) 0 → d % 2 ≡ 1 → Congruent m (x ^ d + 1) 0
@@ -76,22 +59,17 @@ odd_power m x d is odd =
     mod_trans (mod_of_eq (pow-mul x 2 h ∙ ap (λ v. v ^ h) square))
     (mod_trans (mod_pow h (square_of m x is)) (mod_of_eq (one-pow h))) in
     let power : x ^ d ≡ x ^ (2 * h) * x = ap (λ v. x ^ v) whole ∙ pow-suc x (2 * h) in
-    let e : 1 * x + 1 ≡ x + 1 = omega arith in
-    mod_trans (mod_of_eq (ap (λ v. v + 1) power))
-    (mod_trans (mod_add (mod_mul even (mod_refl x)) (mod_refl 1)) (mod_trans (mod_of_eq e) is))
+    mod_of_combination (mod_add (mod_times x even) is) (omega (arith, power))
 
 -- g^d less 1, where g^(2^y) is -1: for odd d, and for each d
 odd_less_one : (m y g d a : ℕ) → m % 2 ≡ 1 → Congruent m (g ^ (2 ^ y) + 1) 0 → d % 2 ≡ 1
     → Congruent m (a + 1) (g ^ d) → HasInverse m a
 odd_less_one m y g d a odd is d_odd a_is =
-    let found = divides_power m a (g ^ d) (2 ^ y) a_is in
-    let q : ℕ = found.0 in
+    let (q, found) = divides_power m a (g ^ d) (2 ^ y) a_is in
     let swap : d * 2 ^ y ≡ 2 ^ y * d = omega arith in
     let power : (g ^ d) ^ (2 ^ y) ≡ (g ^ (2 ^ y)) ^ d =
     sym (pow-mul g d (2 ^ y)) ∙ ap (λ v. g ^ v) swap ∙ pow-mul g (2 ^ y) d in
-    let e : a * q + 2 ≡ a * q + 1 + 1 = omega arith in
-    two_divided m a q odd (mod_trans (mod_of_eq e) (mod_trans (mod_add found.1 (mod_refl 1))
-    (mod_trans (mod_of_eq (ap (λ v. v + 1) power)) (odd_power m (g ^ (2 ^ y)) d is d_odd))))
+    two_divided m a q odd (mod_of_combination (mod_add found (odd_power m (g ^ (2 ^ y)) d is d_odd)) (omega (arith, power)))
 
 power_less_one : (m y g d a : ℕ) → m % 2 ≡ 1 → Congruent m (g ^ (2 ^ y) + 1) 0 → 0 < d → d < 2 ^ suc y
     → Congruent m (a + 1) (g ^ d) → HasInverse m a
@@ -149,22 +127,16 @@ lower_unit : (m g n i j : ℕ) (x : ℕ → ℕ) → m % 2 ≡ 1 → Suits m g n
     → HasInverse m (residue m (pos (x i) -ℤ pos (x j)))
 lower_unit m g n i j x odd suits powers before within =
     let positive : 0 < m = omega (arith, odd) in
-    let u : ℕ = residue m (pos (x i) -ℤ pos (x j)) in
     let d : ℕ = i - j in
     let a : ℕ = residue m (pos (g ^ d) -ℤ pos 1) in
-    let at_a : Congruent m (a + 1) (g ^ d) = record { same = difference_and m (g ^ d) 1 positive } in
-    let at_u : Congruent m (u + x j) (x i) = record { same = difference_and m (x i) (x j) positive } in
-    let is_i : Congruent m (x i) (g ^ i) = mod_trans (mod_of_eq (powers.power i within)) (residue_of (g ^ i)) in
-    let is_j : Congruent m (x j) (g ^ j) = mod_trans (mod_of_eq (powers.power j (omega arith))) (residue_of (g ^ j)) in
-    let e : g ^ j * a + g ^ j ≡ g ^ j * (a + 1) = omega arith in
+    let at_a : Congruent m (a + 1) (g ^ d) = mod_of_difference 1 positive refl in
+    let at_u : Congruent m (residue m (pos (x i) -ℤ pos (x j)) + x j) (x i) = mod_of_difference (x j) positive refl in
     let whole : j + d ≡ i = omega (arith, before) in
-    let f : g ^ j * g ^ d ≡ g ^ i = sym (pow-add g j d) ∙ ap (λ v. g ^ v) whole in
-    let other : Congruent m (g ^ j * a + g ^ j) (g ^ i) =
-    mod_trans (mod_of_eq e) (mod_trans (mod_mul (mod_refl (g ^ j)) at_a) (mod_of_eq f)) in
-    let same : Congruent m u (g ^ j * a) =
-    mod_add_cancel (g ^ j) (mod_trans (mod_add (mod_refl u) (mod_sym is_j))
-    (mod_trans at_u (mod_trans is_i (mod_sym other)))) in
-    unit_alike m (g ^ j * a) u (mod_sym same)
+    let power : g ^ j * g ^ d ≡ g ^ i = sym (pow-add g j d) ∙ ap (λ v. g ^ v) whole in
+    let same : Congruent m (residue m (pos (x i) -ℤ pos (x j))) (g ^ j * a) =
+    mod_of_combination (mod_add at_u (mod_add (mod_sym (mod_of_residue (powers.power j (omega arith))))
+    (mod_add (mod_of_residue (powers.power i within)) (mod_times (g ^ j) (mod_sym at_a))))) (omega (arith, power)) in
+    unit_alike m (g ^ j * a) _ (mod_sym same)
     ((has_both m (g ^ j) a).1 (
       power_unit m g j positive (root_unit m g n positive (omega arith) suits),
       below_order m g n d a suits.power_of_two.0 odd suits suits.power_of_two.1 (omega arith) (omega arith) at_a,
@@ -208,9 +180,7 @@ encoding_by_transform m g k n points message few powers none = record {
 pub length_unit : (m g n : ℕ) → m % 2 ≡ 1 → Suits m g n → HasInverse m n
 length_unit m g n odd suits =
     let positive : 0 < m = omega (arith, odd) in
-    let e : 2 * (m - 1) + 2 ≡ 0 + m * 2 = omega (arith, positive) in
-    let two : HasInverse m 2 =
-    two_divided m 2 (m - 1) odd (mod_trans (mod_of_eq e) (record { same = add-mul-mod_self_left 0 m 2 })) in
+    let two : HasInverse m 2 = two_divided m 2 (m - 1) odd (mod_of_combination (mod_of_modulus 2) (omega (arith, positive))) in
     subst (HasInverse m) (sym suits.power_of_two.1) (power_unit m 2 suits.power_of_two.0 positive two)
 
 -- a word is of a message exactly where its coefficients from number k on are 0: those whose transform it is

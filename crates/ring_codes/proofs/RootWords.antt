@@ -1,5 +1,5 @@
 -- Words at the powers of a root, told by their coefficients.
-use Rattle.std.proofs.Common.{◌≡◌, ℕ, ◌+◌, ◌-◌, ◌%◌, ◌<◌, ◌≤◌, ◌↔◌, List, length, slice_range, ap, sym, subst, ◌∙◌, arith}
+use Rattle.std.proofs.Common.{◌≡◌, ℕ, ◌+◌, ◌-◌, ◌%◌, ◌<◌, ◌≤◌, ◌↔◌, List, length, slice_range, ap, sym, ◌∙◌, arith}
 use Rattle.num_modular.specs.Callers.{entry}
 use Rattle.num_modular.specs.NumberLaws.{mod_of_eq, mod_refl}
 use Rattle.num_modular.specs.PolynomialLaws.{polynomial-congruent}
@@ -42,11 +42,8 @@ pub list_exactly : {T : Type 0} (number : T → ℕ) (value : ℕ → ℕ → �
     × (IsErasureCodeword m k (length word) points (entry number value m word)
     → (i : ℕ) → i < length word - k → entry number value m found (k + i) ≡ 0)
 list_exactly number value m g k points found copy word same few powers values undone =
-    word_exactly m g k (length word) points (entry number value m found) (entry number value m word) few powers
-    (subst (λ l. (j : ℕ) → j < length l → transform m g (length l) (entry number value m found) j ≡ entry number value m l j)
-    same values)
-    (subst (λ l. (x : ℕ → ℕ) → ((j : ℕ) → j < length l → transform m g (length l) x j ≡ entry number value m l j)
-    → (i : ℕ) → i < length l → entry number value m found i ≡ x i % m) same undone)
+    rw (← same) (word_exactly m g k (length copy) points (entry number value m found) (entry number value m copy)
+    (rw (← same) at few) (rw (← same) at powers) values undone)
 
 -- the entries of the part from k on are 0
 pub zeros_behind : {T : Type 0} (number : T → ℕ) (value : ℕ → ℕ → ℕ) (m : ℕ) (forms : List T) (k n : ℕ) → length forms ≡ n

@@ -1,36 +1,28 @@
 -- Any values at points that fit are those of a polynomial, by Newton's way; with a constant that is given, exactly one.
-use Rattle.std.proofs.Common.{◌≡◌, ℕ, zero, suc, ◌+◌, ◌-◌, ◌*◌, ◌%◌, ◌^◌, ◌<◌, ◌≤◌, pos, ◌-ℤ◌, ap, sym, subst, ◌∙◌, arith, refl}
-use Rattle.std.proofs.Common.{inl, inr, mod-eq_of_lt, mod-lt}
-use Rattle.std.proofs.Math.Nat.{zero-mod, add-mul-mod_self_left}
-use Rattle.std.proofs.lemmas.Bool.{cases_eq}
+use Rattle.std.proofs.Common.{◌≡◌, ℕ, zero, suc, ◌+◌, ◌-◌, ◌*◌, ◌%◌, ◌^◌, ◌<◌, ◌≤◌, pos, ◌-ℤ◌, ap, sym, ◌∙◌, arith, refl}
+use Rattle.std.proofs.Common.{mod-eq_of_lt, mod-lt}
+use Rattle.std.proofs.Math.Nat.{zero-mod}
 use Rattle.num_modular.specs.Callers.{same_coefficients}
 use Rattle.num_modular.specs.Congruence.{Congruent}
 use Rattle.num_modular.specs.Inverses.{IsInverse, HasInverse}
-use Rattle.num_modular.specs.NumberLaws.{mod_of_eq, mod_refl, residue_of, mod_sym, mod_trans, mod_add, mod_mul}
-use Rattle.num_modular.specs.NumberLaws.{mod_add_cancel}
+use Rattle.num_modular.specs.NumberLaws.{mod_of_eq, mod_refl, residue_of, mod_sym, mod_trans, mod_add}
 use Rattle.num_modular.specs.NumberLaws.{sum_below-suc}
 use Rattle.num_modular.specs.Polynomials.{polynomial_at, HaveUnitDifferences}
 use Rattle.num_modular.specs.PolynomialLaws.{polynomial-first, polynomial-congruent}
 use Rattle.num_modular.specs.Residues.{residue}
 use Rattle.ring_codes.specs.Secrets.{FitsShares, IsPerfectlySecret}
-use Rattle.ring_codes.proofs.Distances.{extended, at_end, before_end}
+use Rattle.ring_codes.proofs.Distances.{extended, extended_each}
 use Rattle.ring_codes.proofs.NearestWords.{combined, turned_sign, at_root, difference_alike}
+use Rattle.ring_codes.proofs.Congruences.{mod_of_combination, mod_times, mod_of_modulus, mod_of_inverse}
 
 -- the inverses of the first d numbers
 inverses : (m d : ℕ) (f : ℕ → ℕ) → ((i : ℕ) → i < d → HasInverse m (f i))
     → (u : ℕ → ℕ) × ((i : ℕ) → i < d → IsInverse m (f i) (u i))
 inverses m zero f each = ((λ i. 0), λ i l. absurd (omega arith))
 inverses m (suc d) f each =
-    let before = inverses m d f (λ i l. each i (omega arith)) in
-    let last = each d (omega arith) in (
-      extended d last.0 before.0,
-      λ i l. elim (cases_eq i d) [
-        | inl e ↦
-            subst (IsInverse m (f i)) (sym (at_end d last.0 before.0 i e))
-            (subst (λ j. IsInverse m (f j) last.0) (sym e) last.1)
-        | inr o ↦ subst (IsInverse m (f i)) (sym (before_end d last.0 before.0 i o)) (before.1 i (omega arith))
-      ],
-    )
+    let (u, before) = inverses m d f (λ i l. each i (omega arith)) in
+    let (last, is) = each d (omega arith) in
+    (extended d last u, λ i l. extended_each d last u (λ i v. IsInverse m (f i) v) before is i (omega arith))
 
 -- the coefficients of v + (X + r) times a polynomial
 pub raised : ℕ → ℕ → (ℕ → ℕ) → ℕ → ℕ
@@ -62,16 +54,9 @@ value_raised d v r X h none =
 divided : (m X r d u H v w : ℕ) → 0 < m → Congruent m d (X + r) → IsInverse m d u
     → Congruent m H ((w + (m - 1) * v) * u) → Congruent m (v + (X + r) * H) w
 divided m X r d u H v w positive unit inverse value =
-    let one : Congruent m (d * u) 1 = record { same = inverse.one } in
-    let product : Congruent m ((X + r) * H) (d * ((w + (m - 1) * v) * u)) = mod_mul (mod_sym unit) value in
-    let swap : d * ((w + (m - 1) * v) * u) ≡ (w + (m - 1) * v) * (d * u) = omega arith in
-    let reduced : Congruent m ((w + (m - 1) * v) * (d * u)) ((w + (m - 1) * v) * 1) =
-    mod_mul (mod_refl (w + (m - 1) * v)) one in
-    let whole : Congruent m (v + (X + r) * H) (v + (w + (m - 1) * v) * 1) =
-    mod_add (mod_refl v) (mod_trans product (mod_trans (mod_of_eq swap) reduced)) in
     let s = turned_sign m v positive in
-    let e : v + (w + (m - 1) * v) * 1 ≡ w + m * v = omega (arith, s) in
-    mod_trans whole (mod_trans (mod_of_eq e) (record { same = add-mul-mod_self_left w m v }))
+    mod_of_combination (mod_add (mod_times H (mod_sym unit)) (mod_add (mod_times d value)
+    (mod_add (mod_times (w + (m - 1) * v) (mod_of_inverse inverse)) (mod_of_modulus v)))) (omega (arith, s))
 
 values_raised : (m d : ℕ) (x v u h : ℕ → ℕ) → 0 < m → h d ≡ 0
     → ((i : ℕ) → i < d → IsInverse m (residue m (pos (x (suc i)) -ℤ pos (x 0))) (u i))
@@ -81,11 +66,8 @@ values_raised : (m d : ℕ) (x v u h : ℕ → ℕ) → 0 < m → h d ≡ 0
     → Congruent m (polynomial_at (suc d) (raised (v 0) ((m - 1) * x 0) h) (x i)) (v i)
 values_raised m d x v u h positive none units values zero l =
     let r : ℕ = (m - 1) * x 0 in
-    let H : ℕ = polynomial_at d h (x 0) in
     let root : Congruent m (x 0 + r) 0 = record { same = at_root m (x 0) positive ∙ sym (zero-mod m) } in
-    let gone : v 0 + 0 * H ≡ v 0 = omega arith in
-    mod_trans (mod_of_eq (value_raised d (v 0) r (x 0) h none))
-    (mod_trans (mod_add (mod_refl (v 0)) (mod_mul root (mod_refl H))) (mod_of_eq gone))
+    mod_of_combination (mod_times (polynomial_at d h (x 0)) root) (omega (arith, value_raised d (v 0) r (x 0) h none))
 values_raised m d x v u h positive none units values (suc i) l =
     let r : ℕ = (m - 1) * x 0 in
     mod_trans (mod_of_eq (value_raised d (v 0) r (x (suc i)) h none))
@@ -110,29 +92,18 @@ through m (suc d) x v positive fit =
 
 without_unit : (m X u a b : ℕ) → IsInverse m X u → Congruent m (X * a) (X * b) → Congruent m a b
 without_unit m X u a b inverse same =
-    let one : Congruent m (X * u) 1 = record { same = inverse.one } in
-    let back : (n : ℕ) → Congruent m (X * n * u) n =
-    λ n.
-    let e : X * n * u ≡ n * (X * u) = omega arith in
-    let f : n * 1 ≡ n = omega arith in
-    mod_trans (mod_of_eq e) (mod_trans (mod_mul (mod_refl n) one) (mod_of_eq f)) in
-    mod_trans (mod_sym (back a)) (mod_trans (mod_mul same (mod_refl u)) (back b))
+    mod_of_combination (mod_add (mod_times u same) (mod_add (mod_times a (mod_sym (mod_of_inverse inverse)))
+    (mod_times b (mod_of_inverse inverse)))) (omega arith)
 
 -- what two such lists have behind the secret has the same values
 same_behind : (m d secret X u share : ℕ) (a b : ℕ → ℕ) → IsInverse m X u → a 0 ≡ secret → b 0 ≡ secret
     → share ≡ polynomial_at (suc d) a X % m → share ≡ polynomial_at (suc d) b X % m
     → Congruent m (polynomial_at d (λ i. a (suc i)) X) (polynomial_at d (λ i. b (suc i)) X)
 same_behind m d secret X u share a b inverse is_a is_b at_a at_b =
-    let A : ℕ = polynomial_at d (λ i. a (suc i)) X in
-    let B : ℕ = polynomial_at d (λ i. b (suc i)) X in
     let f = polynomial-first d a X in
     let g = polynomial-first d b X in
-    let left : X * A + secret ≡ polynomial_at (suc d) a X = omega (arith, f, is_a) in
-    let right : polynomial_at (suc d) b X ≡ X * B + secret = omega (arith, g, is_b) in
-    let both : Congruent m (polynomial_at (suc d) a X) (polynomial_at (suc d) b X) =
-    record { same = sym at_a ∙ at_b } in
-    without_unit m X u A B inverse
-    (mod_add_cancel secret (mod_trans (mod_of_eq left) (mod_trans both (mod_of_eq right))))
+    let both : Congruent m (polynomial_at (suc d) a X) (polynomial_at (suc d) b X) = record { same = sym at_a ∙ at_b } in
+    without_unit m X u _ _ inverse (mod_of_combination both (omega (arith, f, g, is_a, is_b)))
 
 same_list : (m d secret : ℕ) (x y a b : ℕ → ℕ) → ((i : ℕ) → i < d → HasInverse m (x i))
     → HaveUnitDifferences m d x → FitsShares m (suc d) secret x y a → FitsShares m (suc d) secret x y b

@@ -3,11 +3,11 @@
 use Rattle.std.proofs.Common.{◌≡◌, ◌≢◌, ◌⊎◌, ℕ, zero, suc, ◌+◌, ◌-◌, ◌*◌, ◌/◌, ◌%◌, ◌^◌, ◌<◌, ◌≤◌, ap, sym, ◌∙◌, arith, inl, inr, mod-eq_of_lt}
 use Rattle.std.proofs.Math.Nat.{add-mul-mod_self_left, pow-zero, pow-suc, mul-le-mul_left, mul-div_cancel_left}
 use Rattle.std.proofs.lemmas.Bool.{cases_eq, cases_lt}
-use Rattle.num_modular.specs.NumberLaws.{sum_below-zero, sum_below-suc}
+use Rattle.num_modular.specs.Sums.{sum_below}
 use Rattle.num_modular.specs.Polynomials.{polynomial_at}
 use Rattle.num_modular.specs.PolynomialLaws.{polynomial-none, polynomial-first}
 use Rattle.ring_codes.specs.Erasure.{distance}
-use Rattle.ring_codes.proofs.Distances.{extended, at_end, before_end, counted, counted_same, counted_other}
+use Rattle.ring_codes.proofs.Distances.{extended, at_end, before_end, counted_same, counted_most}
 
 -- the number with these digits
 below_power : (r m : ℕ) (c : ℕ → ℕ) → ((i : ℕ) → i < r → c i < m) → polynomial_at r c m < m ^ r
@@ -109,21 +109,15 @@ pigeonholes (suc most) (suc size) f below apart = elim (found (suc size) most f)
       omega (arith, l)
 ]
 
-counted_most : (x y : ℕ) → counted x y ≤ 1
-counted_most x y = elim (cases_eq x y) [
-  | inl e ↦ let z = counted_same x y e in omega (arith, z)
-  | inr o ↦ let z = counted_other x y o in omega (arith, z)
-]
-
 -- words that agree at the first r places differ in n - r at most
 few_behind : (n r : ℕ) (a b : ℕ → ℕ) → ((i : ℕ) → i < r → a i ≡ b i) → distance n a b ≤ n - r
-few_behind zero r a b same = let z = sum_below-zero (λ i. counted (a i) (b i)) in omega (arith, z)
+unfolding sum_below
+few_behind zero r a b same = omega arith
 few_behind (suc n) r a b same =
-    let s = sum_below-suc n (λ i. counted (a i) (b i)) in
     let i = few_behind n r a b same in
     elim (cases_lt n r) [
-      | inl before ↦ let z = counted_same (a n) (b n) (same n before) in omega (arith, s, z, i)
-      | inr behind ↦ let o = counted_most (a n) (b n) in omega (arith, s, o, i, behind)
+      | inl before ↦ let z = counted_same (a n) (b n) (same n before) in omega (arith, z, i)
+      | inr behind ↦ let o = counted_most (a n) (b n) in omega (arith, o, i, behind)
     ]
 
 pub bound : (m n d size : ℕ) (words : ℕ → ℕ → ℕ) → 1 ≤ d → d ≤ n

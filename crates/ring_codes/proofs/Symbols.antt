@@ -1,6 +1,6 @@
 -- Symbols of words, as entries of lists of forms.
 use Rattle.std.proofs.Common.{◌≡◌, ℕ, ◌<◌, ◌≤◌, List, [], ◌∷◌, length, take, get_or, All, pos, ◌-ℤ◌, sym, ◌∙◌, ap, subst, arith}
-use Rattle.std.proofs.Common.{◌+◌, ◌-◌, ◌++◌, drop, length-append, length-drop, ◌↔◌, Bool, true, false, not, IsTrue, refl}
+use Rattle.std.proofs.Common.{◌-◌, ◌++◌, drop, length-append, length-drop, ◌↔◌, Bool, true, false, not, IsTrue, refl}
 use Rattle.std.proofs.Common.{◌≢◌, Option, Some, None, is_some, MatchOption}
 use Rattle.std.proofs.lemmas.Bool.{false≢true}
 use Rattle.std.proofs.lemmas.List.{get_or-take, length-take-le}
@@ -32,21 +32,6 @@ entry_front number value m (x ∷ xs) k i l room =
 -- what the test of a loop bounds: places counted from the last of n, and the neighbours of a place
 pub back_within : (n k m : ℕ) → k < n → n ≤ m → n - 1 - k < m
 back_within n k m l w = omega arith
-
-pub back_kept : (n k l m : ℕ) → k < n → l ≡ n → n ≤ m → l - 1 - k < m
-back_kept n k l m below same w = omega arith
-
-pub some_above : (k n : ℕ) → k < n → 1 ≤ n
-some_above k n l = omega arith
-
-pub before_last : (k n : ℕ) → k < n → k ≤ n - 1
-before_last k n l = omega arith
-
-pub before_within : (i n : ℕ) → i < n → i - 1 < n
-before_within i n l = omega arith
-
-pub some_from : (from i : ℕ) → from + 1 ≤ i → 1 ≤ i
-some_from from i l = omega arith
 
 -- the length of a list whose first k elements were replaced
 pub joined_length : {T : Type 0} (xs ys : List T) (k : ℕ) → length xs ≡ k → k ≤ length ys
@@ -92,6 +77,29 @@ fit_same m n x y same fit = record {
       (ap (λ v. residue m (pos v -ℤ pos (x j))) (same i l) ∙ ap (λ v. residue m (pos (y i) -ℤ pos v)) (same j k))
       (fit.unit i j l k other);
 }
+
+-- the points at the first k places, copied to a list: these places are right, and the points fit exactly where the copies do
+pub record AreChosen {T : Type 0} (entries : List T → ℕ → ℕ) (m k : ℕ) (points chosen : List T) (places : List ℕ) : Type 0 where
+  pub right : ArePlaces k (length points) places
+  pub count : length chosen ≡ k
+  pub same : (i : ℕ) → i < k → entries chosen i ≡ entries points (get_or places i 0)
+  pub fit : HaveUnitDifferences m k (entries chosen) ↔ HaveUnitDifferences m k (λ i. entries points (get_or places i 0))
+
+pub are_chosen : {T : Type 0} (number : T → ℕ) (value : ℕ → ℕ → ℕ) (m j k : ℕ) (points chosen : List T) (places : List ℕ)
+    → length chosen ≡ j → j ≡ k → ArePlaces j (length points) places
+    → ((i : ℕ) (d : T) → i < j → get_or chosen i d ≡ get_or points (get_or places i 0) d)
+    → AreChosen (entry number value m) m k points chosen places
+are_chosen number value m j k points chosen places count is right read =
+    let at : (i : ℕ) → i < k → entry number value m chosen i ≡ entry number value m points (get_or places i 0) =
+    λ i l. let within : i < j = omega (arith, l, is) in
+    entry_chosen number value m points chosen i (get_or places i 0) (λ d. read i d within) (omega (arith, within, count))
+    (right.within i within) in
+    record {
+      right = subst (λ k. ArePlaces k (length points) places) is right;
+      count = count ∙ is;
+      same = at;
+      fit = (fit_same m k _ _ at, fit_same m k _ _ (λ i l. sym (at i l)));
+    }
 
 -- where the places and their points are right, no error comes
 pub no_fault : (m k n : ℕ) (x : ℕ → ℕ) (places : List ℕ) (e : RestoreError) → ArePlaces k n places

@@ -105,6 +105,7 @@ pub enum RestoreError {
 /// assert!(!points_fit(&ring, &[0, 1, 3])); // 3 has no inverse modulo 15
 /// ```
 // rust: #[cfg_attr(debug_assertions, track_caller)]
+#[tactic(auto, using(num_modular::specs::Callers::product_none))]
 pub fn points_fit<T: RingWord, R: Reducer<T>>(r: &R, points: &[T]) -> bool
     requires { All (λ f. IsForm R.form R.value (R.modulus r.now) (T.number f)) points.now }
     ensures { let m = R.modulus r.now in
@@ -135,6 +136,7 @@ pub fn points_fit<T: RingWord, R: Reducer<T>>(r: &R, points: &[T]) -> bool
 /// assert_eq!(evaluate(&ring, &[5, 7], &2), 19); // 5 + 7 * 2
 /// ```
 // rust: #[cfg_attr(debug_assertions, track_caller)]
+#[tactic(auto, using(crate::proofs::NewtonForms::value_none, num_modular::specs::Callers::form_read))]
 pub fn evaluate<T: RingWord, R: Reducer<T>>(r: &R, coefficients: &[T], point: &T) -> T
     requires coefficients { All (λ f. IsForm R.form R.value (R.modulus r.now) (T.number f)) coefficients.now }
     requires point { IsForm R.form R.value (R.modulus r.now) (T.number point.now) }
@@ -279,6 +281,7 @@ pub fn encode<T: RingWord, R: Reducer<T>>(r: &R, points: &[T], message: &[T], wo
 /// ```
 // rust: #[must_use]
 // rust: #[track_caller]
+#[tactic(auto, using(crate::proofs::NewtonForms::inverse_of_product))]
 pub fn interpolate<T: RingWord, R: Reducer<T>>(
     r: &R,
     points: &[T],
@@ -419,6 +422,7 @@ pub fn is_codeword<T: RingWord, R: Reducer<T>>(
 /// ```
 // rust: #[must_use]
 // rust: #[track_caller]
+#[tactic(auto, using(num_modular::specs::Callers::entry))]
 pub fn encode_systematic<T: RingWord, R: Reducer<T>>(
     r: &R,
     points: &[T],

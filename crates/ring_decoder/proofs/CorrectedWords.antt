@@ -1,5 +1,5 @@
 -- Words, and the errors that explain their syndromes.
-use Rattle.std.proofs.Common.{◌≡◌, ℕ, zero, suc, ◌+◌, ◌-◌, ◌*◌, ◌%◌, ◌^◌, ◌<◌, ◌≤◌, pos, ◌-ℤ◌}
+use Rattle.std.proofs.Common.{◌≡◌, ◌≢◌, ℕ, zero, suc, ◌+◌, ◌-◌, ◌*◌, ◌%◌, ◌^◌, ◌<◌, ◌≤◌, pos, ◌-ℤ◌}
 use Rattle.std.proofs.Common.{List, length, ap, sym, ◌∙◌, arith, refl, inl, inr, mod-eq_of_lt}
 use Rattle.std.proofs.Math.Nat.{zero-mod}
 use Rattle.std.proofs.lemmas.Bool.{cases_eq, cases_lt}
@@ -14,11 +14,12 @@ use Rattle.ring_codes.proofs.Lagrange.{fit_from_all}
 use Rattle.ring_codes.specs.Erasure.{IsErasureCodeword, distance}
 use Rattle.ring_codes.specs.declared.erasure.correction.CorrectError.{CorrectError}
 use Rattle.ring_codes.specs.declared.erasure.correction.CorrectError.TheVariants.{Restore, TooManyErrors, NoInverse}
+use Rattle.ring_decoder.proofs.ChosenPlaces.{zeros_others}
 use Rattle.ring_decoder.proofs.DualCode.{codeword_without_syndromes, codeword_by_syndromes}
 use Rattle.ring_decoder.proofs.LostPlaces.{lost_or_listed, without_lost, without_listed, counted_below, few_hidden, distance_sum}
 use Rattle.ring_decoder.proofs.NearLocators.{none_of, zero_of}
 use Rattle.ring_decoder.specs.Corrector.{without, listed_distance, AreLost, IsNearWord, IsCorrectorFault}
-use Rattle.ring_decoder.specs.ErrorPatterns.{listed_weight, IsNearPattern, IsSolution, IsPatternFault}
+use Rattle.ring_decoder.specs.ErrorPatterns.{zeros, listed_weight, IsNearPattern, IsSolution, IsPatternFault}
 use Rattle.ring_decoder.specs.PowerSums.{ArePowerSums}
 use Rattle.ring_decoder.specs.Syndromes.{AreWeights}
 
@@ -48,6 +49,15 @@ same_at (suc n) i a b none l =
       ]
       | inr o ↦ let u = counted_other (a n) (b n) o in absurd (omega (arith, s, none, u))
     ]
+
+-- numbers that are all 0, and numbers below m that aren't
+pub all_zero : (n : ℕ) (z : ℕ → ℕ) → zeros n z ≡ n → (i : ℕ) → i < n → z i ≡ 0
+all_zero n z all i l = let others = zeros_others n z in same_at n i z (λ i. 0) (omega (arith, others, all)) l
+
+pub not_one : (m n : ℕ) (z : ℕ → ℕ) → ((i : ℕ) → i < n → z i < m) → zeros n z ≢ n → m ≢ 1
+not_one m n z below some one =
+    let none = no_distance n z (λ i. 0) (λ i l. let less = below i l in omega (arith, less, one)) in
+    let others = zeros_others n z in some (omega (arith, none, others))
 
 pub fit_of_weights : (m n : ℕ) (x v : ℕ → ℕ) → AreWeights m n x v → HaveUnitDifferences m n x
 fit_of_weights m n x v weights = fit_from_all m n x (λ i l. (v i, weights i l))

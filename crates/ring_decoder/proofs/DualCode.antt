@@ -34,10 +34,10 @@ power_value n e X l =
     let one = ap (λ v. v * X ^ e) (at_end e 1 (λ i. 0) e (let s : e ≡ e = omega arith in s)) in
     omega (arith, alone, one)
 
--- of d + 1 points with their weights, the sums of the powers below d are 0
-powers_vanish : (m d e : ℕ) (x v : ℕ → ℕ) → 0 < m → HaveUnitDifferences m (suc d) x → AreWeights m (suc d) x v
-    → e < d → Congruent m 0 (sum_below (suc d) (λ i. v i * x i ^ e))
-powers_vanish m d e x v positive fit weights small =
+-- of d + 1 points with their weights, the sums of the powers below d are 0, and that of power d is 1
+powers_sum : (m d e : ℕ) (x v : ℕ → ℕ) → 0 < m → HaveUnitDifferences m (suc d) x → AreWeights m (suc d) x v
+    → e < suc d → Congruent m (extended e 1 (λ i. 0) d) (sum_below (suc d) (λ i. v i * x i ^ e))
+powers_sum m d e x v positive fit weights small =
     let n : ℕ = suc d in
     let p : ℕ → ℕ = extended e 1 (λ i. 0) in
     let u : ℕ → ℕ = λ i. v i * x i ^ e in
@@ -53,10 +53,20 @@ powers_vanish m d e x v positive fit weights small =
     let times_one : 1 * x l ^ e ≡ x l ^ e = omega arith in
     mod_trans (whole.2 (x l)) (mod_trans (mod_of_eq (alone ∙ order))
     (mod_trans (mod_mul one (mod_refl (x l ^ e)))
-    (mod_of_eq (times_one ∙ sym (power_value n e (x l) (omega arith)))))) in
+    (mod_of_eq (times_one ∙ sym (power_value n e (x l) small))))) in
     let last = same_coefficients m n whole.0 p x fit at d (omega arith) in
-    let none : p d ≡ 0 = before_end e 1 (λ i. 0) d (omega arith) in
-    mod_sym (mod_trans (mod_of_eq (sym whole.1)) (mod_trans last (mod_of_eq none)))
+    mod_sym (mod_trans (mod_of_eq (sym whole.1)) last)
+
+pub powers_vanish : (m d e : ℕ) (x v : ℕ → ℕ) → 0 < m → HaveUnitDifferences m (suc d) x → AreWeights m (suc d) x v
+    → e < d → Congruent m 0 (sum_below (suc d) (λ i. v i * x i ^ e))
+powers_vanish m d e x v positive fit weights small =
+    mod_trans (mod_of_eq (sym (before_end e 1 (λ i. 0) d (omega arith))))
+    (powers_sum m d e x v positive fit weights (omega arith))
+
+pub top_power : (m d : ℕ) (x v : ℕ → ℕ) → 0 < m → HaveUnitDifferences m (suc d) x → AreWeights m (suc d) x v
+    → Congruent m 1 (sum_below (suc d) (λ i. v i * x i ^ d))
+top_power m d x v positive fit weights =
+    mod_trans (mod_of_eq (sym (at_end d 1 (λ i. 0) d refl))) (powers_sum m d d x v positive fit weights (omega arith))
 
 -- so the weights' power sums are 0
 weights_vanish_below : (m n : ℕ) (x v : ℕ → ℕ) → 0 < m → HaveUnitDifferences m n x → AreWeights m n x v

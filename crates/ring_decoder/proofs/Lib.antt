@@ -1,3 +1,4 @@
+pub mod CheckTables
 pub mod ChosenPlaces
 pub mod CorrectedWords
 pub mod DualCode
@@ -7,6 +8,7 @@ pub mod LocatorSteps
 pub mod LocatorSums
 pub mod LostPlaces
 pub mod NearLocators
+pub mod RootSyndromes
 pub mod SolvedErrors
 pub mod SyndromeErrors
 pub mod SyndromeRoots

@@ -12,7 +12,7 @@ use Rattle.num_modular.specs.Polynomials.{polynomial_at, HaveUnitDifferences}
 use Rattle.num_modular.specs.Sums.{sum_below}
 use Rattle.ring_codes.proofs.Distances.{selected}
 use Rattle.ring_codes.proofs.NearestWords.{no_value, unit_not_zero}
-use Rattle.ring_codes.proofs.NearPairs.{rising_fit}
+use Rattle.ring_codes.proofs.Distances.{rising_fit}
 use Rattle.ring_decoder.proofs.LocatorSums.{power_sum, lighter, sums_vanish, weights_none}
 use Rattle.ring_decoder.specs.Locators.{IsRecurrence, NeedWeights}
 use Rattle.ring_decoder.specs.PowerSums.{ArePowerSums, hamming_weight}

@@ -2,12 +2,15 @@
 -- codes over certain finite fields", 1960; Forney, "On decoding BCH codes", IEEE Transactions on Information Theory 11, 1965).
 use Rattle.std.specs.Prelude.{◌≡◌, ℕ, ◌+◌, ◌-◌, ◌*◌, ◌<◌, ◌≤◌, List, All, length, ◌==◌, if◌then◌else◌}
 use Rattle.std.specs.List.{list_any}
+use Rattle.num_modular.specs.Entries.{entry}
+use Rattle.num_modular.specs.Forms.{IsForm}
 use Rattle.ring_codes.specs.Erasure.{IsErasureCodeword, ArePlaces, IsFault, distance}
 use Rattle.ring_codes.specs.KeyEquations.{IsWithoutInverse}
 use Rattle.ring_codes.specs.declared.erasure.correction.CorrectError.{CorrectError}
 use Rattle.ring_codes.specs.declared.erasure.correction.CorrectError.TheVariants.{Restore, TooManyErrors, NoInverse}
 use Rattle.ring_codes.specs.declared.erasure.RestoreError.{RestoreError}
 use Rattle.ring_codes.specs.declared.erasure.RestoreError.TheVariants.{TooFewSymbols, PlaceOutOfRange, PlaceTwice, PointsDontFit}
+use Rattle.ring_decoder.specs.Syndromes.{AreChecks, AreWeights}
 
 -- a word with 0 in the place of each lost symbol
 abbrev pub without : List ℕ → (ℕ → ℕ) → ℕ → ℕ
@@ -54,3 +57,16 @@ IsCorrectorFault number m k n x lost symbols TooManyErrors = AreLost k n lost
 IsCorrectorFault number m k n x lost symbols (NoInverse a) = AreLost k n lost × IsWithoutInverse m (number a)
     × ((word : ℕ → ℕ) → IsErasureCodeword m k n x word → IsNearWord k n lost symbols word
     → 2 ≤ listed_distance n lost symbols word)
+
+-- the lists of a code for messages of k symbols: the forms of the points and of their weights, and no check or a table of them
+pub record AreCorrectorLists {T : Type 0} (number : T → ℕ) (form value : ℕ → ℕ → ℕ) (m k : ℕ) (points weights checks : List T)
+    : Type 0 where
+  pub point_forms : All (λ f. IsForm form value m (number f)) points
+  pub weight_forms : All (λ f. IsForm form value m (number f)) weights
+  pub check_forms : All (λ f. IsForm form value m (number f)) checks
+  pub few : k ≤ length points
+  pub count : length weights ≡ length points
+  pub inverses : AreWeights m (length points) (entry number value m points) (entry number value m weights)
+  pub checks_count : 0 < length checks → length checks ≡ (length points - k) * length points
+  pub table : 0 < length checks → AreChecks m (length points - k) (length points) (entry number value m points)
+      (entry number value m weights) (entry number value m checks)

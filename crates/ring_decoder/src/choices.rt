@@ -16,7 +16,7 @@ use super::syndromes::are_power_sums;
 use num_modular::{Reducer, RingWord};
 
 // The number of the values that are 0.
-fn count_zeros<T: RingWord, R: Reducer<T>>(r: &R, values: &[T]) -> usize
+pub fn count_zeros<T: RingWord, R: Reducer<T>>(r: &R, values: &[T]) -> usize
     requires values { All (λ f. IsForm R.form R.value (R.modulus r.now) (T.number f)) values.now }
     ensures { let m = R.modulus r.now in result ≡ zeros (length values.now) (entry T.number R.value m values.now) }
 {

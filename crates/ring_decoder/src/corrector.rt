@@ -1,16 +1,22 @@
 //! Correction of a word in place, in the Cargo crate in `ring_codes::erasure`: wrong symbols and lost ones.
 
 ghost use Rattle.std.specs.Prelude.{◌≡◌, ◌≢◌, ℕ, ◌+◌, ◌-◌, ◌*◌, ◌<◌, ◌≤◌, ◌↔◌, IsTrue, All, MatchOption, MatchResult, length};
+ghost use Rattle.std.specs.Option.{ForSome};
 ghost use Rattle.num_modular.specs.Entries.{entry};
 ghost use Rattle.num_modular.specs.Forms.{IsForm};
 ghost use Rattle.num_modular.specs.Inverses.{HasInverse};
 ghost use Rattle.num_modular.specs.Polynomials.{HaveUnitDifferences};
-ghost use Rattle.ring_decoder.specs.Corrector.{AreLost, IsCorrectedWord, IsCorrectorFault};
+ghost use Rattle.num_modular.specs.Transforms.{Suits};
+ghost use Rattle.ring_codes.specs.Powers.{ArePowers};
+ghost use Rattle.ring_decoder.specs.Corrector.{AreCorrectorLists, AreLost, IsCorrectedWord, IsCorrectorFault};
 ghost use Rattle.ring_decoder.specs.ErrorPatterns.{IsPatternFault, IsSolution};
-ghost use Rattle.ring_decoder.specs.Syndromes.{AreWeights};
+ghost use Rattle.ring_decoder.specs.PowerSums.{ArePowerSums};
+ghost use Rattle.ring_decoder.specs.Syndromes.{AreChecks, AreWeights};
 
-use super::choices::{solve, subtract};
+use super::checks::{fill_checked_syndromes, fill_checks};
+use super::choices::{count_zeros, solve, subtract};
 use super::places::check_lost;
+use super::roots::{are_powers, fill_syndromes_by_transform};
 use super::search::{find_nonunit, locate};
 use super::syndromes::fill_syndromes;
 use num_modular::{Reducer, RingWord};
@@ -18,7 +24,8 @@ use ring_codes::erasure::{CorrectError, fill_barycentric_weights};
 
 /// A code prepared to correct many words: Reed and Solomon's, of k symbols at n points, over any modulus.
 ///
-/// It keeps a weight for each point, in a list that the caller owns.
+/// It keeps a weight for each point, in a list that the caller owns, and [`with_checks`](Corrector::with_checks) also a
+/// table of n·(n - k) factors.
 ///
 /// # Examples
 ///
@@ -43,6 +50,10 @@ pub struct Corrector<'a, T: RingWord, R: Reducer<T>> {
     points: &'a [T],
     k: usize,
     weights: &'a [T],
+    // Empty, or a table.
+    checks: &'a [T],
+    // The root of which the points are the powers, where it is given.
+    root: Option<T>,
     pub ghost point_forms: { All (λ f. IsForm R.form R.value (R.modulus ring.now) (T.number f)) points.now },
     pub ghost weight_forms: { All (λ f. IsForm R.form R.value (R.modulus ring.now) (T.number f)) weights.now },
     pub ghost count: { length weights.now ≡ length points.now },
@@ -50,6 +61,67 @@ pub struct Corrector<'a, T: RingWord, R: Reducer<T>> {
     // The inverses of the products of each point's differences from the others.
     pub ghost inverses: { let m = R.modulus ring.now in AreWeights m (length points.now)
         (entry T.number R.value m points.now) (entry T.number R.value m weights.now) },
+    pub ghost check_forms: { All (λ f. IsForm R.form R.value (R.modulus ring.now) (T.number f)) checks.now },
+    pub ghost checks_count: { 0 < length checks.now → length checks.now ≡ (length points.now - k) * length points.now },
+    pub ghost table: { let m = R.modulus ring.now in 0 < length checks.now → AreChecks m (length points.now - k)
+        (length points.now) (entry T.number R.value m points.now) (entry T.number R.value m weights.now)
+        (entry T.number R.value m checks.now) },
+    pub ghost root_form: { ForSome root (λ g. IsForm R.form R.value (R.modulus ring.now) (T.number g)) },
+    pub ghost suits: { let m = R.modulus ring.now in
+        ForSome root (λ g. ∥ Suits m (R.value m (T.number g)) (length points.now) ∥₁) },
+    pub ghost powers: { let m = R.modulus ring.now in ForSome root (λ g. ArePowers m (R.value m (T.number g))
+        (length points.now) (entry T.number R.value m points.now)) },
+}
+
+// Writes the syndromes of a word: by a transform or by the table of checks, where there is a root or a table.
+fn write_syndromes<T: RingWord, R: Reducer<T>>(
+    r: &R,
+    points: &[T],
+    weights: &[T],
+    checks: &[T],
+    root: Option<T>,
+    word: &[T],
+    terms: &mut [T],
+    syndromes: &mut [T],
+)
+    requires points { All (λ f. IsForm R.form R.value (R.modulus r.now) (T.number f)) points.now }
+    requires weights { All (λ f. IsForm R.form R.value (R.modulus r.now) (T.number f)) weights.now }
+    requires checks { All (λ f. IsForm R.form R.value (R.modulus r.now) (T.number f)) checks.now }
+    requires word { All (λ f. IsForm R.form R.value (R.modulus r.now) (T.number f)) word.now }
+    requires each_weight { length weights.now ≡ length points.now }
+    requires each_symbol { length word.now ≡ length points.now }
+    requires each_term { length terms.old ≡ length points.now }
+    requires each_check { 0 < length checks.now → length checks.now ≡ length syndromes.old * length points.now }
+    requires table { let m = R.modulus r.now in 0 < length checks.now → AreChecks m (length syndromes.old)
+        (length points.now) (entry T.number R.value m points.now) (entry T.number R.value m weights.now)
+        (entry T.number R.value m checks.now) }
+    requires weights_of { let m = R.modulus r.now in AreWeights m (length points.now)
+        (entry T.number R.value m points.now) (entry T.number R.value m weights.now) }
+    requires few { length syndromes.old ≤ length points.now }
+    requires root { ForSome root (λ g. IsForm R.form R.value (R.modulus r.now) (T.number g)) }
+    requires suits { let m = R.modulus r.now in
+        ForSome root (λ g. ∥ Suits m (R.value m (T.number g)) (length points.now) ∥₁) }
+    requires powers { let m = R.modulus r.now in ForSome root (λ g. ArePowers m (R.value m (T.number g))
+        (length points.now) (entry T.number R.value m points.now)) }
+    ensures checked { All (λ f. IsForm R.form R.value (R.modulus r.now) (T.number f)) syndromes.new }
+    ensures sums { let m = R.modulus r.now in ArePowerSums m (length syndromes.old) (length points.now)
+        (entry T.number R.value m points.now)
+        (λ i. entry T.number R.value m weights.now i * entry T.number R.value m word.now i)
+        (entry T.number R.value m syndromes.new) }
+{
+    match root {
+        Some(g) => {
+            if fill_syndromes_by_transform(r, &g, word, terms, syndromes) {
+                return;
+            }
+        }
+        None => {}
+    }
+    if checks.is_empty() {
+        fill_syndromes(r, points, weights, word, terms, syndromes)
+    } else {
+        fill_checked_syndromes(r, checks, word, syndromes)
+    }
 }
 
 // Writes the few errors that have the syndromes, and returns how many of them are at places that aren't lost.
@@ -94,21 +166,6 @@ fn find_errors<T: RingWord, R: Reducer<T>>(
             },
         },
     }
-}
-
-// Whether all values are 0.
-fn are_zero<T: RingWord, R: Reducer<T>>(r: &R, values: &[T]) -> bool
-    requires values { All (λ f. IsForm R.form R.value (R.modulus r.now) (T.number f)) values.now }
-    ensures all { let m = R.modulus r.now in IsTrue result →
-        (i : ℕ) → i < length values.now → entry T.number R.value m values.now i ≡ 0 }
-    ensures other { (IsTrue result → ⊥) → R.modulus r.now ≢ 1 }
-{
-    'values: for i in 0..values.len() {
-        if !r.is_zero(&values[i]) {
-            return false;
-        }
-    }
-    true
 }
 
 impl<'a, T: RingWord, R: Reducer<T>> Corrector<'a, T, R> {
@@ -167,7 +224,175 @@ impl<'a, T: RingWord, R: Reducer<T>> Corrector<'a, T, R> {
             points,
             k,
             weights,
+            checks: &points[..0],
+            root: None,
         })
+    }
+
+    /// Fills a table of checks, and returns the code with it: `correct` then takes less time.
+    ///
+    /// With t = n - k, it takes n·(t - 1) products. A word without wrong symbols then takes t dot products of n, for which
+    /// a reducer may reduce once: `OddMontgomery` and `Montgomery` do, fastest on the narrowest words that hold the modulus,
+    /// if it is below 1/64 of their base. The contents of `checks` are ignored.
+    ///
+    /// Source: the check matrix: MacWilliams and Sloane, The Theory of Error-Correcting Codes, chapter 10.
+    ///
+    /// # Conditions
+    ///
+    /// - there are n·(n - k) checks
+    ///
+    /// # Examples
+    ///
+    /// ```
+    /// use num_modular::applications::ring_codes::erasure::Corrector;
+    /// use num_modular::{OddMontgomery, Reducer};
+    ///
+    /// let ring = OddMontgomery::<u16>::new(97);
+    /// let form = |x: u16| ring.transform(x);
+    /// let points = [1, 2, 3, 4].map(form);
+    /// let (mut weights, mut checks, mut scratch) = ([0; 4], [0; 8], [0; 25]);
+    /// let code = Corrector::new(&ring, &points, 2, &mut weights, &mut scratch[..4]).unwrap();
+    /// let code = code.with_checks(&mut checks);
+    /// // the third symbol should be 26
+    /// let mut word = [12, 19, 50, 33].map(form);
+    /// assert_eq!(code.correct(&mut word, &[], &mut scratch), Ok(1));
+    /// assert_eq!(word.map(|x| ring.residue(x)), [12, 19, 26, 33]);
+    /// ```
+    // rust: #[track_caller]
+    pub fn with_checks(self, checks: &'a mut [T]) -> Self
+        requires room { length checks.old ≡ (length self.points.now - self.k) * length self.points.now }
+        ensures same { (result.ring.now ≡ self.entry.ring.now) × (result.points.now ≡ self.entry.points.now)
+            × (result.k ≡ self.entry.k) }
+        ensures count { length result.checks.now ≡ length checks.old }
+    {
+        // rust: assert!(checks.len() == (self.points.len() - self.k) * self.points.len(),
+        // rust:     "there must be n·(n - k) checks: {} and {}", checks.len(), (self.points.len()-self.k)*self.points.len());
+        fill_checks(
+            self.ring,
+            self.points,
+            self.weights,
+            self.points.len() - self.k,
+            checks,
+        );
+        Corrector {
+            ring: self.ring,
+            points: self.points,
+            k: self.k,
+            weights: self.weights,
+            checks,
+            root: self.root,
+        }
+    }
+
+    /// The same code, whose points are the powers of g from g^0 on: `correct` then finds the syndromes by one transform, in
+    /// about n·log n products.
+    ///
+    /// `None` exactly where they aren't, or g doesn't suit n.
+    ///
+    /// Source: Blahut, "Transform techniques for error control codes".
+    ///
+    /// # Conditions
+    ///
+    /// - (debug) g is a checked form
+    ///
+    /// # Examples
+    ///
+    /// ```
+    /// use num_modular::applications::ring_codes::erasure::Corrector;
+    /// use num_modular::{Reducer, Vanilla};
+    ///
+    /// let ring = Vanilla::<u8>::new(&85);
+    /// let (mut weights, mut scratch) = ([0; 4], [0; 25]);
+    /// let code = Corrector::new(&ring, &[1, 13, 84, 72], 2, &mut weights, &mut scratch[..4]).unwrap();
+    /// let code = code.with_root(13).unwrap(); // 13^2 is -1 modulo 85
+    /// let mut word = [3, 27, 0, 60]; // of 1 + 2X, but for the third symbol
+    /// assert_eq!(code.correct(&mut word, &[], &mut scratch), Ok(1));
+    /// assert_eq!(word, [3, 27, 84, 60]);
+    /// ```
+    // rust: #[cfg_attr(debug_assertions, track_caller)]
+    pub fn with_root(self, g: T) -> Option<Self>
+        requires root { IsForm R.form R.value (R.modulus self.ring.now) (T.number g) }
+        ensures { let m = R.modulus self.entry.ring.now in let n = length self.entry.points.now in MatchOption result
+            (Suits m (R.value m (T.number g)) n →
+            ArePowers m (R.value m (T.number g)) n (entry T.number R.value m self.entry.points.now) → ⊥)
+            (λ made. (made.ring.now ≡ self.entry.ring.now) × (made.points.now ≡ self.entry.points.now)
+            × (made.k ≡ self.entry.k)) }
+    {
+        // rust: debug_assert!(self.ring.check(&g), "g must be a checked form");
+        if !are_powers(self.ring, &g, self.points) {
+            return None;
+        }
+        Some(Corrector {
+            ring: self.ring,
+            points: self.points,
+            k: self.k,
+            weights: self.weights,
+            checks: self.checks,
+            root: Some(g),
+        })
+    }
+
+    /// Fills the lists for `over`: the weights, and a table of checks where there are places for it.
+    ///
+    /// Returns false exactly where the points don't fit.
+    ///
+    /// The contents of the lists are ignored. Afterwards those of `scratch` are unspecified, and after false those of all.
+    ///
+    /// # Preconditions
+    ///
+    /// - k is at most n
+    /// - there are n weights, n places of scratch, and n·(n - k) checks or none
+    /// - the points are checked forms
+    // rust: #[cfg(feature = "capi")]
+    // rust instead: pub(crate) fn fill_lists(
+    pub fn fill_lists(
+        ring: &R,
+        points: &[T],
+        k: usize,
+        weights: &mut [T],
+        checks: &mut [T],
+        scratch: &mut [T],
+    ) -> bool
+        requires points { All (λ f. IsForm R.form R.value (R.modulus ring.now) (T.number f)) points.now }
+        requires few { k ≤ length points.now }
+        requires room { length weights.old ≡ length points.now }
+        requires checks { 0 < length checks.old → length checks.old ≡ (length points.now - k) * length points.now }
+        requires scratch { length scratch.old ≡ length points.now }
+        ensures fit { let m = R.modulus ring.now in
+            IsTrue result ↔ HaveUnitDifferences m (length points.now) (entry T.number R.value m points.now) }
+        ensures lists { IsTrue result → AreCorrectorLists T.number R.form R.value (R.modulus ring.now) k points.now
+            weights.new checks.new }
+    {
+        if !fill_barycentric_weights(ring, points, scratch, weights) {
+            return false;
+        }
+        if !checks.is_empty() {
+            fill_checks(ring, points, weights, points.len() - k, checks);
+        }
+        true
+    }
+
+    /// The code over filled lists, which aren't tested.
+    ///
+    /// The functions for C make their code so at each call.
+    ///
+    /// # Preconditions
+    ///
+    /// - the lists are as `fill_lists` left them: it returned true, for these points and k
+    // rust: #[cfg(feature = "capi")]
+    // rust instead: pub(crate) fn over(ring: &'a R, points: &'a [T], k: usize, weights: &'a [T], checks: &'a [T]) -> Self
+    pub fn over(ring: &'a R, points: &'a [T], k: usize, weights: &'a [T], checks: &'a [T]) -> Self
+        requires { AreCorrectorLists T.number R.form R.value (R.modulus ring.now) k points.now weights.now checks.now }
+        ensures { (result.ring.now ≡ ring.now) × (result.points.now ≡ points.now) × (result.k ≡ k) }
+    {
+        Corrector {
+            ring,
+            points,
+            k,
+            weights,
+            checks,
+            root: None,
+        }
     }
 
     /// Corrects a word in place, wrong symbols and lost ones, and returns the number of wrong symbols that weren't lost.
@@ -177,13 +402,15 @@ impl<'a, T: RingWord, R: Reducer<T>> Corrector<'a, T, R> {
     /// After an error the word is unchanged.
     ///
     /// The modulus may be composite. `NoInverse(a)` then says that a number without an inverse was met, and a has a common
-    /// factor with m; it never comes where m is a prime, or where at most one symbol is wrong that isn't lost.
+    /// factor with m; it never comes where m is a prime, or where at most one symbol is wrong that isn't lost. Of random
+    /// words of up to 8 symbols modulo composite numbers one in 50 gives it, by `correct` one in 20.
     /// `TooManyErrors` comes only where no word is that near. `Restore(..)` says what is wrong with the lost places:
     /// `TooFewSymbols`, fewer than k others are left; `PlaceOutOfRange`, a place isn't below n; `PlaceTwice`, a place
     /// occurs twice; the first cause.
     ///
-    /// The contents of `scratch` are ignored, and unspecified afterwards. With t = n - k it takes about n·t products where
-    /// no symbol is wrong; otherwise about n·(t + e) + 9·(e + c)² + 2·t² more at most, and one or two inversions.
+    /// The contents of `scratch` are ignored, and unspecified afterwards. With t = n - k it takes n·(t + 1) products, n·t with
+    /// a table of checks; and where a symbol is lost or wrong, with N = t - c and q = c + e, modulo a prime at most
+    /// 2·N·(N + c) + n·(e + 1) + q·(t + 4·q + 9) + 6·N more, and one inversion.
     ///
     /// Source: Massey, "Shift-register synthesis and BCH decoding"; Forney, "On decoding BCH codes"; over rings Reeds and
     /// Sloane, "Shift-register synthesis (modulo m)".
@@ -248,15 +475,17 @@ impl<'a, T: RingWord, R: Reducer<T>> Corrector<'a, T, R> {
         let (values, rest) = scratch.split_at_mut(self.points.len());
         let (errors, rest) = rest.split_at_mut(self.points.len());
         let (syndromes, rest) = rest.split_at_mut(self.points.len() - self.k);
-        fill_syndromes(
+        write_syndromes(
             self.ring,
             self.points,
             self.weights,
+            self.checks,
+            self.root,
             word,
             values,
             syndromes,
         );
-        if are_zero(self.ring, syndromes) {
+        if count_zeros(self.ring, syndromes) == syndromes.len() {
             return Ok(0);
         }
         match find_errors(

@@ -2,11 +2,13 @@
 //! ones, in place; `syndromes`, `locator` and `errors` have its steps.
 #![tactic(auto)]
 
+mod checks;
 mod choices;
 pub mod corrector;
 mod errors;
 mod locator;
 mod places;
+mod roots;
 mod search;
 mod syndromes;
 

@@ -185,7 +185,12 @@ pub fn expand_roots<T: RingWord, R: Reducer<T>>(r: &R, points: &[T], coefficient
 }
 
 // The sum of the coefficients, each times its number, from an index of these on.
-fn sum_from<T: RingWord, R: Reducer<T>>(r: &R, coefficients: &[T], numbers: &[T], start: usize) -> T
+pub fn sum_from<T: RingWord, R: Reducer<T>>(
+    r: &R,
+    coefficients: &[T],
+    numbers: &[T],
+    start: usize,
+) -> T
     requires coefficients { All (λ f. IsForm R.form R.value (R.modulus r.now) (T.number f)) coefficients.now }
     requires numbers { All (λ f. IsForm R.form R.value (R.modulus r.now) (T.number f)) numbers.now }
     requires within { start + length coefficients.now ≤ length numbers.now }

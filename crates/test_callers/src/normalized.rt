@@ -3,6 +3,7 @@
 ghost use Rattle.std.specs.Prelude.{◌≡◌, ◌+◌, ◌*◌, ◌%◌, ◌<◌};
 ghost use Rattle.modular_word.specs.Division.{IsDivision};
 
+// rust: use crate::additions::Divide2by1;
 use modular_barrett::normalized::{Normalized2by1Divisor, StoredDivisor};
 use modular_prim::plain_word::PlainWord;
 

@@ -2,6 +2,7 @@
 
 ghost use Rattle.modular_word.specs.Division.{IsDivision, IsExactQuotient};
 
+// rust: use crate::additions::Divide1by1;
 use modular_barrett::one_by_one::{FitsDivisor, PreMulInv1by1};
 use modular_prim::exact::DivExact;
 use modular_prim::plain_word::PlainWord;

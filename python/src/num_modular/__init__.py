@@ -1,8 +1,8 @@
-"""Arithmetic modulo m, integers modulo m with operators, transforms, products of long numbers and of polynomials, hashes, residue systems, erasure codes and check digits, by
-a library that is proved.
+"""Arithmetic modulo m, by a library that is proved: integers modulo m with operators, transforms, products of long numbers and
+of polynomials, hashes, residue systems, erasure codes and check digits.
 
 Moduli and words of arrays are below 2^64, and exponents between -2^64 and 2^64. Integers of which only the residue counts,
-such as operands, roots and the entries of lists, may have any sign and size; symbols of `ErasureCode` and residues for
+such as operands, roots and the entries of lists, may have any sign and size; symbols of erasure codes and residues for
 `decode` and `extend` must be from 0 to their modulus less 1. A number that is out of range raises ValueError, a part that a
 text doesn't have IndexError, and what isn't an integer TypeError.
 
@@ -31,7 +31,7 @@ from num_modular._check_digits import (
     accepts_iban,
     iban_check_digits,
 )
-from num_modular._codes import Correction, ErasureCode
+from num_modular._codes import CorrectedWord, Correction, Corrector, ErasureCode
 from num_modular._hashes import PrefixHashes, find, find_all, polynomial_hash
 from num_modular._numbers import crt, decode, encode, extend, product
 from num_modular._polynomials import (
@@ -53,7 +53,9 @@ __version__ = "0.7.0"
 __all__ = [
     "ABA_RTN",
     "CheckCode",
+    "CorrectedWord",
     "Correction",
+    "Corrector",
     "DAMM",
     "Divider",
     "EAN_13",

@@ -23,6 +23,13 @@ class Correction(NamedTuple):
     errors: int
 
 
+class CorrectedWord(NamedTuple):
+    """What `Corrector.correct` returns: the word, and how many of the given symbols differ from it."""
+
+    word: list[int]
+    errors: int
+
+
 def _some(k: int) -> int:
     """The number of symbols of a message. ValueError: it is below 1."""
     k = index(k)
@@ -245,3 +252,69 @@ class ErasureCode(ByArguments):
             (i, first), (j, second) = next(pair for pair in pairs if gcd(pair[0][1] - pair[1][1], m) > 1)
             raise PointsError(f"points {i} and {j} don't fit: {first} - {second} has no inverse modulo {m}")
         check(code)
+
+
+class Corrector(ByArguments):
+    """A code of `ErasureCode`, for messages of k symbols at n points, that is prepared to correct many words: it keeps a weight
+    for each point, and with `table` also n * (n - k) factors, by which `correct` takes less time.
+
+    PointsError: the points don't fit. ValueError: m is out of range, or k isn't from 1 to n.
+
+    >>> code = Corrector(97, range(1, 7), 2)
+    >>> code.correct([12, None, 50, 33, 40, None])
+    CorrectedWord(word=[12, 19, 26, 33, 40, 47], errors=1)
+    """
+
+    __slots__ = ("_checks", "_code", "_corrector", "_forms")
+
+    def __init__(self, m: int, points: Iterable[int], k: int, table: bool = False) -> None:
+        self._code = ErasureCode(m, points)
+        k, n = _some(k), len(self._code._points)
+        self._code._expect_room(k)
+        # The corrector points to these lists, which live as long as this object, and are never handed out.
+        self._forms, self._checks = ffi.new("uint64_t[]", 2 * n), ffi.new("uint64_t[]", n * (n - k) if table else 0)
+        self._corrector, scratch = ffi.new("nm_corrector_t *"), ffi.new("uint64_t[]", n)
+        check(lib.nm_corrector_make(self._code._context, self._code._points, n, k, self._forms, 2 * n, self._checks,
+                                    len(self._checks), scratch, n, self._corrector))
+
+    def _arguments(self) -> tuple[Any, ...]:
+        return *self._code._arguments(), self.k, len(self._checks) > 0
+
+    @property
+    def modulus(self) -> int:
+        """The modulus."""
+        return self._code.modulus
+
+    @property
+    def points(self) -> list[int]:
+        """The points, from 0 to m - 1."""
+        return self._code.points
+
+    @property
+    def k(self) -> int:
+        """The number of symbols of a message."""
+        return self._corrector.k
+
+    def correct(self, word: Symbols) -> CorrectedWord:
+        """The word of the code that differs from at most (s - k)/2 of the s symbols that aren't lost, and from how many it
+        does. There is at most one such word.
+
+        Lost symbols are None or not in the dict, as for `ErasureCode`, and the same words raise ValueError.
+        TooFewSymbolsError: s is below k. TooManyErrorsError: there is no such word. NoInverseError: the method met a number
+        without an inverse, which never happens for a prime m, or where at most one symbol is wrong.
+
+        >>> Corrector(929, range(7), 3, table=True).correct([1, 0, 17, 34, 57, 900, 121])
+        CorrectedWord(word=[1, 6, 17, 34, 57, 86, 121], errors=2)
+        """
+        n, k = len(self._code._points), self.k
+        places, symbols = self._code._received(word, k)
+        known = dict(zip(places, symbols))
+        found = ffi.new("uint64_t[]", [known.get(place, 0) for place in range(n)])
+        lost = ffi.new("size_t[]", [place for place in range(n) if place not in known])
+        scratch = ffi.new("uint64_t[]", lib.NM_CORRECTOR_SCRATCH(n, k))
+        errors, number = ffi.new("size_t *"), ffi.new("uint64_t *")
+        code = lib.nm_corrector_correct(self._corrector, lost, len(lost), found, n, scratch, len(scratch), errors, number)
+        if code == lib.NM_NO_INVERSE:
+            raise no_inverse(number[0], self.modulus)
+        check(code)
+        return CorrectedWord(list(found), errors[0])

@@ -42,6 +42,15 @@ class Mod(ByArguments):
         """The modulus."""
         return self._modulus
 
+    @property
+    def residue(self) -> int:
+        """The residue, from 0 to m - 1: `int` of it.
+
+        >>> Mod(-1, 7).residue
+        6
+        """
+        return self._residue
+
     def __int__(self) -> int:
         return self._residue
 

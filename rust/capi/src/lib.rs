@@ -54,6 +54,55 @@ impl NmCheckCode {
     }
 }
 
+/// A `NmCorrector` as C has it, in which a list is a pointer and a length.
+#[repr(C)]
+pub struct NmCorrector {
+    context: c::montgomery::NmMontgomery,
+    k: usize,
+    points: *const u64,
+    points_length: usize,
+    weights: *const u64,
+    weights_length: usize,
+    checks: *const u64,
+    checks_length: usize,
+}
+
+impl NmCorrector {
+    const EMPTY: c::correctors::NmCorrector<'static> = c::correctors::NmCorrector {
+        context: c::montgomery::NmMontgomery { modulus: 0, negated_inverse: 0, square: 0 },
+        k: 0,
+        points: &[],
+        weights: &[],
+        checks: &[],
+    };
+
+    /// # Safety
+    ///
+    /// Each pointer and length is a list, as `list` asks.
+    unsafe fn lent(&self) -> c::correctors::NmCorrector<'_> {
+        c::correctors::NmCorrector {
+            context: self.context,
+            k: self.k,
+            points: list(self.points, self.points_length),
+            weights: list(self.weights, self.weights_length),
+            checks: list(self.checks, self.checks_length),
+        }
+    }
+
+    fn of(it: c::correctors::NmCorrector<'_>) -> NmCorrector {
+        NmCorrector {
+            context: it.context,
+            k: it.k,
+            points: it.points.as_ptr(),
+            points_length: it.points.len(),
+            weights: it.weights.as_ptr(),
+            weights_length: it.weights.len(),
+            checks: it.checks.as_ptr(),
+            checks_length: it.checks.len(),
+        }
+    }
+}
+
 /// A `NmPlan` as C has it, in which a list is a pointer and a length.
 #[repr(C)]
 pub struct NmPlan {
@@ -188,6 +237,58 @@ pub unsafe extern "C" fn nm_check_code_restore(
     symbol: &mut u64,
 ) -> u32 {
     c::check_codes::nm_check_code_restore(&code.lent(), list(word, word_length), place, symbol)
+}
+
+#[no_mangle]
+pub unsafe extern "C" fn nm_corrector_make(
+    context: &c::montgomery::NmMontgomery,
+    points: *const u64,
+    points_length: usize,
+    k: usize,
+    forms: *mut u64,
+    forms_length: usize,
+    checks: *mut u64,
+    checks_length: usize,
+    scratch: *mut u64,
+    scratch_length: usize,
+    corrector: &mut NmCorrector,
+) -> u32 {
+    let mut made = NmCorrector::EMPTY;
+    let returned = c::correctors::nm_corrector_make(
+        context,
+        list(points, points_length),
+        k,
+        list_mut(forms, forms_length),
+        list_mut(checks, checks_length),
+        list_mut(scratch, scratch_length),
+        &mut made,
+    );
+    if returned == 0 {
+        *corrector = NmCorrector::of(made);
+    }
+    returned
+}
+
+#[no_mangle]
+pub unsafe extern "C" fn nm_corrector_correct(
+    corrector: &NmCorrector,
+    lost: *const usize,
+    lost_length: usize,
+    word: *mut u64,
+    word_length: usize,
+    scratch: *mut u64,
+    scratch_length: usize,
+    errors: &mut usize,
+    number: &mut u64,
+) -> u32 {
+    c::correctors::nm_corrector_correct(
+        &corrector.lent(),
+        list(lost, lost_length),
+        list_mut(word, word_length),
+        list_mut(scratch, scratch_length),
+        errors,
+        number,
+    )
 }
 
 #[no_mangle]

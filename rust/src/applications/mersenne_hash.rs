@@ -5,6 +5,8 @@ pub mod prefixes;
 
 use crate::hashes::{base, hash, Hash};
 use crate::ModularInteger;
+pub use prefixes::{Hits, Patterns, PrefixHashes};
+
 /// The hash of a text behind a symbol 1: b^n + `hash(b, text)` for n bytes at the base b.
 ///
 /// Texts that differ by zeros in front have different ones at all bases but few, where [`hash`] is the same for them at

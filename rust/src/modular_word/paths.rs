@@ -30,6 +30,7 @@ pub fn two<T: PathWord>() -> T {
     T::one().plus(T::one())
 }
 
+crate::additions::with_constants! {
 /// Quotient and remainder of a double word by a divisor d whose top bit is set, by the reciprocal of d.
 ///
 /// Source: Möller and Granlund, "Improved division by invariant integers", algorithm 4.
@@ -41,7 +42,8 @@ pub fn two<T: PathWord>() -> T {
 ///
 /// No build tests this: where it doesn't hold, the call panics or its result is unspecified.
 #[must_use]
-pub fn div_2by1<T: PathWord>(d: T, reciprocal: T, a: T::Double) -> (T, T) {
+pub fn div_2by1<T: PathWord>(d: T, reciprocal: T, a: T::Double) -> (T, T)
+{
     let (low, high) = T::split(a);
     let (q0, q1) = T::split(T::double_plus(reciprocal.product(high), a));
     // The remainders for both candidate quotients are computed before the comparison, so that compilers select one
@@ -63,7 +65,8 @@ pub fn div_2by1<T: PathWord>(d: T, reciprocal: T, a: T::Double) -> (T, T) {
 
 // The quotient of a word by a divisor, by the divisor's multiplier and shift.
 #[inline]
-fn quotient_1by1<T: PathWord>(d: T, multiplier: T, shift: u32, a: T) -> T {
+fn quotient_1by1<T: PathWord>(d: T, multiplier: T, shift: u32, a: T) -> T
+{
     let _ = d;
     let (_, t) = T::split(multiplier.product(a));
     t.plus(a.minus(t).shift_right(1)).shift_right(shift)
@@ -81,10 +84,12 @@ fn quotient_1by1<T: PathWord>(d: T, multiplier: T, shift: u32, a: T) -> T {
 /// No build tests this: where it doesn't hold, the call panics or its result is unspecified.
 #[must_use]
 #[inline]
-pub fn div_1by1<T: PathWord>(d: T, multiplier: T, shift: u32, a: T) -> (T, T) {
+pub fn div_1by1<T: PathWord>(d: T, multiplier: T, shift: u32, a: T) -> (T, T)
+{
     let q = quotient_1by1(d, multiplier, shift, a);
     let r = a.minus(q.times(d));
     (q, r)
+}
 }
 
 /// The quotient of a word by an odd divisor d, by the inverse of d; `None` exactly where d doesn't divide it.

@@ -67,7 +67,7 @@ pub fn nm_divider(d: u64, divider: &mut NmDivider) -> u32 {
     if d == 0 {
         return NM_BAD_ARGUMENT;
     }
-    *divider = NmDivider { divisor: d, reciprocal: Normalized2by1Divisor::invert_word(to_the_top(d)) };
+    *divider = NmDivider { divisor: d, reciprocal: Normalized2by1Divisor::<u64>::invert_word(to_the_top(d)) };
     NM_OK
 }
 

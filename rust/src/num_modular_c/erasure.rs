@@ -189,7 +189,7 @@ fn fits_correct(n: usize, s: usize, k: usize, symbols: usize, word: usize, scrat
 
 // The code of an error of `correct`; writes the number of an error that has one.
 #[inline]
-fn correct_code(error: CorrectError<u64>, number: &mut u64) -> u32 {
+pub(crate) fn correct_code(error: CorrectError<u64>, number: &mut u64) -> u32 {
     match error {
         CorrectError::Restore(error) => restore_code(error),
         CorrectError::TooManyErrors => NM_TOO_MANY_ERRORS,

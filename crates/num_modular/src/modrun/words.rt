@@ -43,6 +43,7 @@ fn first_register(text: &str) -> Option<(usize, &str)>
 }
 
 // A register and a number.
+#[tactic(auto, using(crate::proofs::CommandTexts::last_number, crate::proofs::CommandTexts::read_rest, crate::proofs::CommandTexts::last_text, crate::proofs::CommandTexts::read_more))]
 fn register_and_number(text: &str) -> Option<(usize, u64)>
     ensures { FindsWhere (λ p. (p.0 < 8) × AreNumberTexts (parts text.now) (p.0 ∷ p.1 ∷ [])) result }
 {
@@ -51,6 +52,7 @@ fn register_and_number(text: &str) -> Option<(usize, u64)>
 }
 
 // Two registers.
+#[tactic(auto, using(crate::proofs::CommandTexts::last_number, crate::proofs::CommandTexts::read_rest))]
 fn two_registers(text: &str) -> Option<(usize, usize)>
     ensures { FindsWhere (λ p. (p.0 < 8) × (p.1 < 8) × AreNumberTexts (parts text.now) (p.0 ∷ p.1 ∷ [])) result }
 {
@@ -78,6 +80,7 @@ fn three_registers(text: &str) -> Option<(usize, usize, usize)>
 }
 
 // The command of a name and of the text after the first comma.
+#[tactic(auto, using(crate::proofs::CommandTexts::no_load, crate::proofs::CommandTexts::no_add, crate::proofs::CommandTexts::no_sub, crate::proofs::CommandTexts::no_mul, crate::proofs::CommandTexts::no_neg, crate::proofs::CommandTexts::no_dbl, crate::proofs::CommandTexts::no_sqr, crate::proofs::CommandTexts::no_inv, crate::proofs::CommandTexts::no_div, crate::proofs::CommandTexts::no_pow))]
 fn named_command(name: &str, numbers: &str) -> Option<RingCommand<u64>>
     ensures { FindsWhere (IsCommand name.now (parts numbers.now)) result }
 {

@@ -12,6 +12,7 @@ use num_modular::laws::{inverse_laws, remainder_laws, residue_laws};
 use num_modular::ring::{AsCommand, RunEnd, run};
 
 // Writes the forms of the words at one place of each register, of those at `count` places.
+#[tactic(auto, using(crate::proofs::Columns::all_of_each))]
 fn load_column<R: Reducer<u64>>(
     reducer: &R,
     count: usize,

@@ -21,6 +21,7 @@ use num_modular::{Reducer, RingWord};
 ///
 /// - point, symbol and pair are checked forms
 /// - the numerator is within the pair
+#[tactic(auto, using(crate::proofs::Pairs::rest_whole))]
 pub fn discrepancy<T: RingWord, R: Reducer<T>>(
     r: &R,
     point: &T,
@@ -49,6 +50,7 @@ pub fn discrepancy<T: RingWord, R: Reducer<T>>(
 /// # Preconditions
 ///
 /// - point and coefficients are checked forms
+#[tactic(auto, using(num_modular::specs::Callers::form_read))]
 pub fn multiply_by_root<T: RingWord, R: Reducer<T>>(r: &R, point: &T, coefficients: &mut [T])
     requires point { IsForm R.form R.value (R.modulus r.now) (T.number point.now) }
     requires coefficients { All (λ f. IsForm R.form R.value (R.modulus r.now) (T.number f)) coefficients.old }
@@ -73,6 +75,7 @@ pub fn multiply_by_root<T: RingWord, R: Reducer<T>>(r: &R, point: &T, coefficien
 ///
 /// - all are checked forms
 /// - the polynomials have as many coefficients
+#[tactic(auto, using(num_modular::specs::Callers::form_read))]
 pub fn eliminate<T: RingWord, R: Reducer<T>>(
     r: &R,
     a: &T,
@@ -103,6 +106,7 @@ pub fn eliminate<T: RingWord, R: Reducer<T>>(
 /// # Preconditions
 ///
 /// - the list has that place
+#[tactic(auto, using(num_modular::specs::Callers::forms_written, num_modular::specs::Callers::held_forms, num_modular::specs::Callers::entry_written))]
 pub fn set_unit<T: RingWord, R: Reducer<T>>(r: &R, place: usize, coefficients: &mut [T])
     requires { place < length coefficients.old }
     ensures checked { All (λ f. IsForm R.form R.value (R.modulus r.now) (T.number f)) coefficients.new }
@@ -284,6 +288,7 @@ pub fn advance<T: RingWord, R: Reducer<T>>(
 /// - each point has its symbol
 /// - k is at least 1
 /// - both numerators have `split` coefficients, the locators k - 1 fewer, but one at least
+#[tactic(auto, using(num_modular::specs::Callers::form_read))]
 pub fn solve<T: RingWord, R: Reducer<T>>(
     r: &R,
     points: &[T],

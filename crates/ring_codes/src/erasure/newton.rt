@@ -17,6 +17,7 @@ use num_modular::{Reducer, RingWord};
 ///
 /// - the points are checked forms
 /// - there is a point at the place
+#[tactic(auto, using(num_modular::specs::Callers::product_none, num_modular::specs::Callers::form_read, num_modular::specs::Callers::entry, num_modular::specs::Callers::product_below))]
 pub fn differences_before<T: RingWord, R: Reducer<T>>(r: &R, points: &[T], place: usize) -> T
     requires checked { All (λ f. IsForm R.form R.value (R.modulus r.now) (T.number f)) points.now }
     requires within { place < length points.now }
@@ -39,6 +40,7 @@ pub fn differences_before<T: RingWord, R: Reducer<T>>(r: &R, points: &[T], place
 ///
 /// - the points are checked forms
 /// - there are as many points as weights or more
+#[tactic(auto, using(num_modular::specs::Callers::entry, num_modular::specs::Callers::hold_more, num_modular::specs::Callers::product_below, num_modular::specs::Callers::held_forms, num_modular::specs::Callers::held_entry))]
 pub fn fill_weights<T: RingWord, R: Reducer<T>>(r: &R, points: &[T], weights: &mut [T])
     requires checked { All (λ f. IsForm R.form R.value (R.modulus r.now) (T.number f)) points.now }
     requires within { length weights.old ≤ length points.now }
@@ -58,6 +60,7 @@ pub fn fill_weights<T: RingWord, R: Reducer<T>>(r: &R, points: &[T], weights: &m
 ///
 /// - points, form and point are checked forms
 /// - there are at least `count` points and coefficients
+#[tactic(auto, using(crate::proofs::NewtonForms::form_nothing, num_modular::specs::Callers::form_read))]
 pub fn newton_value<T: RingWord, R: Reducer<T>>(
     r: &R,
     points: &[T],
@@ -93,6 +96,7 @@ pub fn newton_value<T: RingWord, R: Reducer<T>>(
 /// - points, inverses and values are checked forms
 /// - there are as many points and inverses as values or more
 /// - each inverse is that of the product of the point's differences from those before it
+#[tactic(auto, using(num_modular::specs::Callers::form_read, num_modular::specs::Callers::entry))]
 pub fn divide_differences<T: RingWord, R: Reducer<T>>(
     r: &R,
     points: &[T],
@@ -157,6 +161,7 @@ pub fn subtract_multiples<T: RingWord, R: Reducer<T>>(
 ///
 /// - points and form are checked forms
 /// - there are as many points as coefficients or more
+#[tactic(auto, using(num_modular::specs::Callers::form_read, crate::proofs::Symbols::back_within))]
 pub fn expand<T: RingWord, R: Reducer<T>>(r: &R, points: &[T], form: &mut [T])
     requires points { All (λ f. IsForm R.form R.value (R.modulus r.now) (T.number f)) points.now }
     requires form { All (λ f. IsForm R.form R.value (R.modulus r.now) (T.number f)) form.old }

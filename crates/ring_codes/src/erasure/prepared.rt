@@ -224,6 +224,7 @@ impl<'a, T: RingWord, R: Reducer<T>> PreparedCode<'a, T, R> {
 }
 
 // Writes for each point the product of the differences of a point from the other ones.
+#[tactic(auto, using(num_modular::specs::Callers::form_read, crate::proofs::Symbols::back_within))]
 fn fill_products<T: RingWord, R: Reducer<T>>(r: &R, points: &[T], point: &T, products: &mut [T])
     requires points { All (λ f. IsForm R.form R.value (R.modulus r.now) (T.number f)) points.now }
     requires point { IsForm R.form R.value (R.modulus r.now) (T.number point.now) }
@@ -279,6 +280,7 @@ fn fill_products<T: RingWord, R: Reducer<T>>(r: &R, points: &[T], point: &T, pro
 /// ```
 // rust: #[must_use]
 // rust: #[track_caller]
+#[tactic(auto, using(num_modular::specs::Callers::form_read))]
 pub fn fill_barycentric_weights<T: RingWord, R: Reducer<T>>(
     r: &R,
     points: &[T],
@@ -307,6 +309,7 @@ pub fn fill_barycentric_weights<T: RingWord, R: Reducer<T>>(
 
 // Writes a row for each wanted point: for each known point the product of the differences of the wanted point from the
 // other known ones, times the weight of the known point.
+#[tactic(auto, using(crate::proofs::Lagrange::row_within, num_modular::specs::Callers::form_read))]
 fn fill_rows<T: RingWord, R: Reducer<T>>(
     r: &R,
     known: &[T],

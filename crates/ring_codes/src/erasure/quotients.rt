@@ -61,6 +61,7 @@ pub fn quotient<T: RingWord, R: Reducer<T>>(
 ///
 /// - all are checked forms
 /// - k is at least 1 and at most the number of points
+#[tactic(auto, using(num_modular::specs::Callers::form_read))]
 pub fn divide<T: RingWord, R: Reducer<T>>(
     r: &R,
     points: &[T],
@@ -121,6 +122,7 @@ pub fn divide<T: RingWord, R: Reducer<T>>(
 /// - the numerator is within the pair
 /// - there are three places of scratch for each symbol of the message
 /// - the points fit
+#[tactic(auto, using(crate::proofs::Pairs::rest_whole))]
 pub fn divide_pair<T: RingWord, R: Reducer<T>>(
     r: &R,
     points: &[T],

@@ -154,6 +154,7 @@ pub fn share<T: RingWord, R: Reducer<T>>(
 /// assert_eq!(secret, Ok(5));
 /// ```
 // rust: #[track_caller]
+#[tactic(auto, using(num_modular::specs::Callers::form_read))]
 pub fn recover<T: RingWord, R: Reducer<T>>(
     r: &R,
     points: &[T],

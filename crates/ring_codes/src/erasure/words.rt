@@ -29,6 +29,7 @@ pub fn index_of(places: &[usize], count: usize, place: usize) -> Option<usize>
 }
 
 // Writes the word of a message: the kept symbols, and the values of the message at the other points.
+#[tactic(auto, using(num_modular::specs::Callers::held_forms, num_modular::specs::Callers::held_entry, num_modular::specs::Callers::form_read))]
 fn fill_word<T: RingWord, R: Reducer<T>>(
     r: &R,
     points: &[T],

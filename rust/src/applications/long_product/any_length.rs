@@ -12,7 +12,7 @@ use crate::{ModularPow, ModularUnaryOps, PreMulInv2by1, Reducer};
 /// polynomials, for fewer by the sums.
 pub const LEAST_CONVOLVED: usize = 6;
 
-/// The scratch for n entries: the numbers of words, and of factors of each of the three tables.
+/// The scratch for n entries: `(words, factors)`, the numbers of words, and of factors of each of the three tables.
 ///
 /// Both are 0 where n is below [`LEAST_CONVOLVED`]; else the words are 6·n more than `polynomials::room(n, 2n - 1)`
 /// returns, and the factors are as many.

@@ -12,9 +12,3 @@ returns-then-text-gt42 c = (
       let long = c.if-text-gt42.true in
       absurd (omega (arith, count, most, long)),
 )
-
-pub write_ungrouped-count-requires : goal.write_ungrouped-count-requires
-write_ungrouped-count-requires c =
-    let count = ungrouped_length c.args.text.now (c.is_grouped.ensures.0 c.if-not-is_grouped.false) in
-    let short = c.if-text-gt42.false in
-    omega (arith, count, short)

@@ -1,5 +1,4 @@
 use Rattle.std.proofs.Common.{◌+◌, length, sym, subst}
-use Rattle.std.proofs.lemmas.List.{length-take-le}
 use Rattle.long_product.specs.Room.{HasScratch}
 use Rattle.long_product.proofs.polynomials.fill.Goals as goal
 
@@ -8,6 +7,3 @@ entries_for-n-requires-clause-room g c =
     subst (λ t. HasScratch (length c.args.xs.now + length c.args.ys.now) (length c.args.words.now) t)
     (sym c.factors.ensures)
     (c.requires.room.scratch c.if-xs-lt-LEAST_TRANSFORMED.false c.if-ys-lt-LEAST_TRANSFORMED.false)
-
-pub multiply_modulo-requires-clause-words : goal.multiply_modulo-requires-clause-words
-multiply_modulo-requires-clause-words g c = length-take-le _ c.args.words.now c.entries_for-n.ensures.words

@@ -1,25 +1,7 @@
-use Rattle.std.proofs.Common.{◌≡◌, ℕ, ◌+◌, ◌*◌, ◌%◌, ◌<◌, ◌≤◌, length, get_or, ap, sym, ◌∙◌, subst, arith}
+use Rattle.std.proofs.Common.{◌≡◌, ℕ, ◌+◌, ◌*◌, ◌%◌, ◌<◌, length, get_or, ap, sym, ◌∙◌, subst, arith}
 use Rattle.long_product.specs.Residues.{HasResidues}
 use Rattle.long_product.proofs.Bluestein.{stored_more}
 use Rattle.long_product.proofs.remainders.write_folded.Goals as goal
-
-pub places-init : goal.places-init
-places-init c i x y l = absurd (omega (arith, l))
-
-pub folded_at-requires-clause-second : goal.folded_at-requires-clause-second
-folded_at-requires-clause-second c = λ some. c.requires.second (subst (λ k. 2 ≤ k) c.modulo-remainders.ensures.count some)
-
-pub folded_at-requires-clause-third : goal.folded_at-requires-clause-third
-folded_at-requires-clause-third c = λ some. c.requires.third (subst (λ k. 3 ≤ k) c.modulo-remainders.ensures.count some)
-
-pub folded_at-requires-clause-first : goal.folded_at-requires-clause-first
-folded_at-requires-clause-first c = c.requires.first
-
-pub folded_at-requires-clause-within : goal.folded_at-requires-clause-within
-folded_at-requires-clause-within c = let places = c.requires.places in omega (arith, places)
-
-pub folded_at-requires-clause-past : goal.folded_at-requires-clause-past
-folded_at-requires-clause-past c some = let past = c.requires.past some in omega (arith, past)
 
 pub places-preserved : goal.places-preserved
 places-preserved c i x y l =
@@ -34,6 +16,3 @@ places-preserved c i x y l =
     (λ x y first second. c.folded_at.ensures x y (moved c.places.e x first) (λ some. moved (c.places.e + n) y (second some))
     ∙ ap (λ m. (x + c.args.c * y) % m) c.modulo-remainders.ensures.modulus)
     i l x y
-
-pub returns : goal.returns
-returns c e x y l = c.places.invariant e x y (omega (arith, l))

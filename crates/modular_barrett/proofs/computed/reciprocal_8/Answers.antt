@@ -1,10 +1,7 @@
-use Rattle.std.proofs.Common.{◌-◌, ◌/◌, ◌^◌, arith}
+use Rattle.std.proofs.Common.{◌-◌, ◌^◌, arith}
 use Rattle.std.proofs.lemmas.Nat.{and_mask}
 use Rattle.modular_prim.proofs.ReciprocalOf.{reciprocal_of}
 use Rattle.modular_barrett.proofs.computed.reciprocal_8.Goals as goal
 
 pub returns : goal.returns
-returns c =
-    let d = c.args.d in
-    let greatest = 2 ^ 16 - 1 in
-    reciprocal_of (2 ^ 8) d _ greatest c.ranges.d.fits c.requires (omega arith) (and_mask (greatest / d) 8)
+returns c = reciprocal_of (2 ^ 8) c.args.d _ (2 ^ 16 - 1) c.ranges.d.fits c.requires (omega arith) (and_mask _ 8)

@@ -6,11 +6,7 @@ use Rattle.modular_plan_passes.proofs.Fours.{stage_of_fours_more, stage_of_fours
 use Rattle.modular_plan_passes.proofs.join_stages.join_each.Goals as goal
 
 pub fours-init : goal.fours-init
-fours-init g c = record {
-  kept = λ k l. refl;
-  below = λ k l. absurd (omega arith);
-  done = λ root z twiddles. stage_of_fours_none _ 1 _;
-}
+fours-init g c = search (arith, stage_of_fours_none)
 
 pub returns-then-is_beyond : goal.returns-then-is_beyond
 returns-then-is_beyond g c =

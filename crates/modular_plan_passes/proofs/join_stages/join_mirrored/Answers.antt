@@ -10,29 +10,7 @@ use Rattle.modular_plan_passes.proofs.Runs.{front_of, shorter_front, read_at_end
 use Rattle.modular_plan_passes.proofs.join_stages.join_mirrored.Goals as goal
 
 pub fours-init : goal.fours-init
-fours-init g c =
-    let value = g.F.PlanEntry.value in
-    let P = λ (f : g.row.F.Denot). IsFactor g.T.PathWord.base (g.M.JoinSteps.modulus c.args.m.now) (value f) (g.F.PlanEntry.quotient f) in
-    let table = c.args.table.now in
-    let own = c.split_at.result.0.now in
-    let after = c.split_at.result.1.now in
-    let own_is = c.split_at.ensures.by_index.0 in
-    let own_length = c.split_at.ensures.front_len in
-    let halves = c.split_at-2.result.0.now in
-    let rest = c.split_at-2.result.1.now in
-    let halves_is = c.split_at-2.ensures.by_index.0 in
-    let halves_length = c.split_at-2.ensures.front_len in
-    record {
-      kept = λ k l. refl;
-      below = λ k l. absurd (omega arith);
-      done = λ root z twiddles. stage_of_fours_none _ 1 _;
-      own = front_of value table own after own_is;
-      own_length = omega (arith, own_length);
-      own_factors = all_in_front P own after (subst (λ t. All P t) own_is c.requires.pass.factors);
-      halves = front_of value table halves rest halves_is;
-      halves_length = omega (arith, halves_length);
-      halves_factors = all_in_front P halves rest (subst (λ t. All P t) halves_is c.requires.pass.factors);
-    }
+fours-init g c = search (arith, stage_of_fours_none, front_of, all_in_front)
 
 pub returns-then-is_beyond : goal.returns-then-is_beyond
 returns-then-is_beyond g c =
@@ -43,32 +21,7 @@ returns-then-is_beyond g c =
     (c.fours.invariant.kept (c.fours.p * 4) (omega arith)) (omega (arith, far, room))
 
 pub invariant_of-step : goal.invariant_of-step
-invariant_of-step g c =
-    let value = g.F.PlanEntry.value in
-    let quotient = g.F.PlanEntry.quotient in
-    let P = λ (f : g.row.F.Denot). IsFactor g.T.PathWord.base (g.M.JoinSteps.modulus c.args.m.now) (value f) (quotient f) in
-    let own = c.split_at-in-fours in
-    let halves = c.split_at-in-fours-2 in
-    let one : All P own.result.1.now = all_behind P own.result.0.now own.result.1.now
-    (subst (λ t. All P t) own.ensures.by_index.0 c.fours.invariant.own_factors) in
-    let two : All P halves.result.1.now = all_behind P halves.result.0.now halves.result.1.now
-    (subst (λ t. All P t) halves.ensures.by_index.0 c.fours.invariant.halves_factors) in
-    let own_back = own.ensures.back_len in
-    let halves_back = halves.ensures.back_len in
-    let own_length = c.fours.invariant.own_length in
-    let halves_length = c.fours.invariant.halves_length in
-    let highest = c.requires.mirrored.2 in
-    let sum = c.requires.mirrored.3 in
-    record {
-      factors = record {
-        whole = factor_read value quotient _ 0 _ one (omega (arith, own_back, own_length, highest, sum)) c.index-one-0.is
-            c.factor-w.ensures.value c.factor-w.ensures.quotient;
-        low = factor_read value quotient _ 1 _ two (omega (arith, halves_back, halves_length, highest, sum)) c.index-two-1.is
-            c.factor-u.ensures.value c.factor-u.ensures.quotient;
-        high = factor_read value quotient _ 0 _ two (omega (arith, halves_back, halves_length, highest, sum)) c.index-two-0.is
-            c.factor-v.ensures.value c.factor-v.ensures.quotient;
-      };
-    }
+invariant_of-step g c = search (arith, all_behind, factor_read)
 
 pub neighbours-requires : goal.neighbours-requires
 neighbours-requires g c =

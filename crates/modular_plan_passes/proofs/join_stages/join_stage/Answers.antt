@@ -17,11 +17,7 @@ overflow_add-half g c =
     omega (arith, room, whole)
 
 pub overflow_mul-p : goal.overflow_mul-p
-overflow_mul-p g c =
-    let half = c.args.half in
-    let whole = c.requires.whole in
-    let room = mul-le-mul_right (half + half) (let l : c.each_block.p + 1 ≤ c.args.blocks = omega arith in l) in
-    omega (arith, room, whole)
+overflow_mul-p g c = search (arith, mul-le-mul_right)
 
 pub pairs-requires : goal.pairs-requires
 pairs-requires g c =

@@ -5,6 +5,7 @@ use Rattle.modular_plan_passes.proofs.Entries.{number_read}
 use Rattle.modular_plan_passes.specs.Joins.{IsMinusInverse}
 use Rattle.modular_plan_passes.proofs.Mirrors.{mirror_of_twiddles, first_of_twiddles}
 use Rattle.modular_plan_passes.proofs.Columns.{factor_read}
+use Rattle.modular_plan_passes.proofs.Runs.{inverses_of, mirrored_inverses}
 use Rattle.modular_plan_passes.proofs.join_stages.minus_inverses.Goals as goal
 
 pub returns-then-place-eq0 : goal.returns-then-place-eq0
@@ -49,10 +50,6 @@ returns-then-other-table g c = record {
       let place = c.args.place in
       let other = c.mirrored-other.result in
       let at = c.mirrored-other.ensures in
-      let least = at.1 in
-      let most = at.2 in
-      let sum = at.3 in
-      let two = two-pow-succ at.0 in
       let inside = c.if-other-table.true in
       let within = c.requires.within in
       let own = c.factor-then-other-table.ensures.value ∙ number_read g.F.PlanEntry.value table other
@@ -61,18 +58,8 @@ returns-then-other-table g c = record {
       c.index-table-other-then-other-table.result (omega (arith, inside)) c.index-table-other-then-other-table.is in
       let high = c.factor-then-other-table-3.ensures.value ∙ number_read g.F.PlanEntry.value table (2 * other)
       c.index-table-other-then-other-table-2.result (omega (arith, inside)) c.index-table-other-then-other-table-2.is in
-      λ root z twiddles. record {
-        own = subst (λ v. IsMinusInverse m (w place) v) (sym own)
-            (mirror_of_twiddles root z (length table) at.0 place other w twiddles (omega (arith, within)) least most
-            sum).inverse;
-        low = subst (λ v. IsMinusInverse m (w (2 * place)) v) (sym low)
-            (mirror_of_twiddles root z (length table) (suc at.0) (2 * place) (2 * other + 1) w twiddles
-            (omega (arith, within)) (omega (arith, two, least)) (omega (arith, two, most))
-            (omega (arith, two, sum))).inverse;
-        high = subst (λ v. IsMinusInverse m (w (2 * place + 1)) v) (sym high)
-            (mirror_of_twiddles root z (length table) (suc at.0) (2 * place + 1) (2 * other) w twiddles within
-            (omega (arith, two, least)) (omega (arith, two, most)) (omega (arith, two, sum))).inverse;
-      });
+      λ root z twiddles. inverses_of own low high
+      (mirrored_inverses root z (length table) at.0 place other w twiddles within at.1 at.2 at.3));
   factors = (let other = c.mirrored-other.result in
       let inside = c.if-other-table.true in
       let each = c.requires.factors.each in
@@ -97,15 +84,12 @@ returns-else-other-table g c = record {
       let place = c.args.place in
       let other = c.mirrored-other.result in
       let at = c.mirrored-other.ensures in
-      let least = at.1 in
-      let most = at.2 in
-      let sum = at.3 in
       let two = two-pow-succ at.0 in
       let within = c.requires.within in
       let outside = c.if-other-table.false in
       λ root z twiddles.
       let inside = (mirror_of_twiddles root z (length table) (suc at.0) (2 * place) (2 * other + 1) w twiddles
-      (omega (arith, within)) (omega (arith, two, least)) (omega (arith, two, most)) (omega (arith, two, sum))).within in
+      (omega (arith, within)) (omega (arith, two, at.1)) (omega (arith, two, at.2)) (omega (arith, two, at.3))).within in
       absurd (omega (arith, inside, outside)));
   factors = (let minus = c.requires.factors.minus_factor in
       record { whole = minus; low = minus; high = minus });

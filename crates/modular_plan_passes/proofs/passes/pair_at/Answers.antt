@@ -6,15 +6,7 @@ use Rattle.modular_plan_passes.proofs.Steps.{pair_written}
 use Rattle.modular_plan_passes.proofs.passes.pair_at.Goals as goal
 
 pub pair-first-requires : goal.pair-first-requires
-pair-first-requires g c =
-    let n = g.T.RingWord.number in
-    let bound = g.S.PairStep.bound c.args.step.now in
-    let xs = c.args.xs.now in
-    record {
-      below = below_read n bound xs c.args.low c.index-xs-low.result c.requires.entries (omega arith) c.index-xs-low.is;
-      other_below = below_read n bound xs c.args.high c.index-xs-high.result c.requires.entries c.requires.within
-          c.index-xs-high.is;
-    }
+pair-first-requires g c = search (arith, below_read)
 
 pub returns : goal.returns
 returns g c =

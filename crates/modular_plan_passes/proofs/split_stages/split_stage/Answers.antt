@@ -26,12 +26,7 @@ overflow_mul-p g c =
     omega (arith, room)
 
 pub invariant_of-step : goal.invariant_of-step
-invariant_of-step g c =
-    let read = c.index-table-first in
-    record {
-      factor = factor_read g.F.PlanEntry.value g.F.PlanEntry.quotient c.args.table.now (c.args.first + c.each_block.p)
-          read.result c.requires.factors (omega arith) read.is c.factor-w.ensures.value c.factor-w.ensures.quotient;
-    }
+invariant_of-step g c = search (arith, factor_read)
 
 pub pairs-requires : goal.pairs-requires
 pairs-requires g c =

@@ -1,4 +1,4 @@
-use Rattle.std.proofs.Common.{◌≡◌, ℕ, ◌+◌, ◌-◌, ◌*◌, ◌/◌, ◌%◌, ◌^◌, ◌<◌, ◌≤◌, length, refl, sym, ◌∙◌, ap, arith, subst}
+use Rattle.std.proofs.Common.{◌≡◌, ℕ, ◌+◌, ◌-◌, ◌*◌, ◌/◌, ◌%◌, ◌^◌, ◌<◌, ◌≤◌, length, sym, ◌∙◌, ap, arith, subst}
 use Rattle.std.proofs.Math.ListN.{set, length-set}
 use Rattle.std.proofs.Math.Nat.{mod-lt}
 use Rattle.std.proofs.lemmas.Nat.{pow_pos}
@@ -117,17 +117,7 @@ squares-preserved g c =
     }
 
 pub doublings-init : goal.doublings-init
-doublings-init g c =
-    let n = g.T.RingWord.number in
-    let before = c.squares.invariant in
-    let made = IsMade g.F.PlanEntry.value g.F.PlanEntry.quotient g.T.PathWord.base (n c.args.m.now.modulus) (n c.args.g)
-    (trailing_zeros w64 (length (set c.args.table.now 0 c.entry.result))) c.squares.table in
-    record {
-      whole = before.whole;
-      count = refl;
-      single = λ t h. before.single t (omega arith) h;
-      first = one_more made 0 (λ k l. absurd (omega arith)) before.first;
-    }
+doublings-init g c = search (arith, set, one_more)
 
 pub offset_bounds-table-count : goal.offset_bounds-table-count
 offset_bounds-table-count g c =
@@ -161,16 +151,7 @@ others-init g c =
     }
 
 pub product-power-requires-in-others : goal.product-power-requires-in-others
-product-power-requires-in-others g c =
-    let n = g.T.RingWord.number in
-    let m = n c.args.m.now.modulus in
-    let before = c.doublings.invariant in
-    let bits = trailing_zeros w64 (length (set c.args.table.now 0 c.entry.result)) in
-    let made = IsMade g.F.PlanEntry.value g.F.PlanEntry.quotient g.T.PathWord.base m (n c.args.g) bits
-    c.doublings.table in
-    let is : made c.doublings.count = subst made (sym before.count) (before.single c.doublings._bit c.doublings-test.true) in
-    same_factor (is.factor c.index-table-count.result)
-    c.factor-factor-in-doublings.ensures.value c.factor-factor-in-doublings.ensures.quotient
+product-power-requires-in-others g c = search (arith, set, same_factor)
 
 pub others-preserved : goal.others-preserved
 others-preserved g c =
@@ -261,11 +242,7 @@ factor-requires-in-others-2 g c =
     c.product-power-in-others.ensures c.args.m.now.some
 
 pub overflow_add-count : goal.overflow_add-count
-overflow_add-count g c =
-    let room = c.others.invariant.room in
-    let few = c.well_formed.1.1.0.0 in
-    let len = length-set c.args.table.now 0 c.entry.result in
-    omega (arith, room, few, len)
+overflow_add-count g c = search (arith, length-set)
 
 pub offset_bounds-table-count-in-others : goal.offset_bounds-table-count-in-others
 offset_bounds-table-count-in-others g c =
@@ -275,8 +252,4 @@ offset_bounds-table-count-in-others g c =
     scaled_Fits _ _ _ within c.well_formed.1.1.0.1
 
 pub overflow_mul-count : goal.overflow_mul-count
-overflow_mul-count g c =
-    let room = c.others.invariant.room in
-    let few = c.well_formed.1.1.0.0 in
-    let len = length-set c.args.table.now 0 c.entry.result in
-    omega (arith, room, few, len)
+overflow_mul-count g c = search (arith, length-set)

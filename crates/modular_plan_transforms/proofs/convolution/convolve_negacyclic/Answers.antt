@@ -3,17 +3,6 @@ use Rattle.std.proofs.lemmas.Nat.{pow_pos}
 use Rattle.modular_plan_transforms.proofs.Convolutions.{negacyclic}
 use Rattle.modular_plan_transforms.proofs.convolution.convolve_negacyclic.Goals as goal
 
-pub convolve_block-requires : goal.convolve_block-requires
-convolve_block-requires g c =
-    let given = c.requires in
-    record {
-      entries_xs = given.entries_xs;
-      entries_ys = given.entries_ys;
-      equal = given.equal;
-      factors = given.factors;
-      blocks = given.blocks;
-    }
-
 pub returns : goal.returns
 returns g c =
     let e = c.requires.blocks.count.1 in

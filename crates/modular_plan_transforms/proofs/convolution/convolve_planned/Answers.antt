@@ -2,17 +2,6 @@ use Rattle.std.proofs.Common.{◌<◌, length, ◌∙◌, arith}
 use Rattle.modular_plan_transforms.proofs.Convolutions.{cyclic}
 use Rattle.modular_plan_transforms.proofs.convolution.convolve_planned.Goals as goal
 
-pub convolve_block-requires : goal.convolve_block-requires
-convolve_block-requires g c =
-    let given = c.requires in
-    record {
-      entries_xs = given.entries_xs;
-      entries_ys = given.entries_ys;
-      equal = given.equal;
-      factors = given.factors;
-      blocks = given.blocks;
-    }
-
 pub returns : goal.returns
 returns g c =
     let are = c.convolve_block.ensures in

@@ -2,17 +2,12 @@ use Rattle.std.proofs.Common.{◌≡◌, ℕ, ◌*◌, ◌/◌, ◌%◌, length,
 use Rattle.modular_word.specs.Congruence.{Congruent}
 use Rattle.modular_plan_passes.specs.Plans.{numbers, AreRemainders}
 use Rattle.modular_plan_transforms.specs.PlanConditions.{AreBlocks}
-use Rattle.modular_plan_transforms.specs.ProductConditions.{AreSmallBlocks}
 use Rattle.modular_plan_transforms.specs.Products.{AreProducts}
 use Rattle.modular_plan_transforms.proofs.Convolutions.{blocks_of, joined_product}
 use Rattle.modular_plan_transforms.proofs.convolution.convolve_scaled.Goals as goal
 
 pub split_first-requires : goal.split_first-requires
-split_first-requires g c = record {
-  entries = c.requires.entries_xs;
-  factors = c.requires.factors;
-  blocks = blocks_of c.requires.blocks;
-}
+split_first-requires g c = search (arith, blocks_of)
 
 pub split-requires : goal.split-requires
 split-requires g c =
@@ -25,16 +20,7 @@ split-requires g c =
     }
 
 pub join_products-requires : goal.join_products-requires
-join_products-requires g c =
-    let same : length c.args.xs.now ≡ length c.split_first.new.xs = omega arith in
-    record {
-      below = c.split_first.ensures.below;
-      other_below = c.split.ensures.below;
-      equal = omega arith;
-      factors = c.requires.factors;
-      blocks = subst (λ n. AreSmallBlocks n (length c.args.table.now) c.args.b c.args.last) same c.requires.blocks;
-      factor = c.requires.factor;
-    }
+join_products-requires g c = search arith
 
 pub returns : goal.returns
 returns g c =

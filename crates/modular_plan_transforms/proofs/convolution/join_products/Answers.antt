@@ -7,23 +7,10 @@ use Rattle.modular_plan_passes.proofs.Entries.{all_wider}
 use Rattle.modular_plan_transforms.specs.PlanConditions.{AreBlocks}
 use Rattle.modular_plan_transforms.proofs.Convolutions.{blocks_of}
 use Rattle.modular_plan_transforms.proofs.SmallProducts.{are_products_of_one}
-use Rattle.modular_plan_transforms.proofs.Reductions.{inverse_of_negated, remainders_times, over_base, made_up_for}
+use Rattle.modular_plan_transforms.proofs.Reductions.{remainders_times, over_base, made_up_for}
 use Rattle.modular_plan_transforms.proofs.convolution.join_products.Goals as goal
 use Rattle.std.proofs.lemmas.Bool.{false≢true}
-use Rattle.std.proofs.Math.Nat.{mod-lt}
-use Rattle.modular_plan_transforms.proofs.convolution.join_products.Goals.{else-last-eq1-via-then-last-eq1+else-is_odd, else-last-eq1-via-else-last-eq1}
-
-pub reduce_products-requires : goal.reduce_products-requires
-reduce_products-requires g c =
-    let n = g.T.RingWord.number in
-    let m = c.args.m.now in
-    record {
-      inverse = inverse_of_negated g.T.PathWord.base (n m.modulus) (n c.neginv.result) (n c.wrapping_sub-inverse.result)
-          (omega (arith, m.some, m.room)) c.neginv.ensures (c.wrapping_sub-inverse.ensures.value ∙ c.zero.ensures)
-          c.wrapping_sub-inverse.ensures.fits;
-      below = c.requires.other_below;
-      equal = c.requires.equal;
-    }
+use Rattle.modular_plan_transforms.proofs.convolution.join_products.Goals.{else-last-eq1-via-else-last-eq1}
 
 pub join_scaled-requires : goal.join_scaled-requires
 join_scaled-requires g c =
@@ -112,32 +99,5 @@ returns-else-last-eq1 g c =
       );
     }
 
-pub neginv-requires : goal.neginv-requires
-neginv-requires g c = c.if-is_odd.ensures.odd.0 refl
-
-pub times_base-requires : goal.times_base-requires
-times_base-requires g c = c.requires.factor
-
-pub factor-scaled-requires : goal.factor-scaled-requires
-factor-scaled-requires g c =
-    let n = g.T.RingWord.number in
-    let some : 0 < n c.args.m.now.modulus = let some = c.args.m.now.some in omega (arith, some) in
-    subst (λ v. v < n c.args.m.now.modulus) (sym c.times_base.ensures)
-    (mod-lt (n c.args.w.now.value * g.T.PathWord.base) some)
-
 pub multiply-requires : goal.multiply-requires
-multiply-requires g c =
-    let given = c.requires.blocks in
-    record {
-      below = c.requires.below
-          (λ both. elim c.else-last-eq1.branch [
-            | else-last-eq1-via-then-last-eq1+else-is_odd w ↦ false≢true (w.if-is_odd.ensures.odd.1 both.1)
-            | else-last-eq1-via-else-last-eq1 w ↦ w.if-last-eq1.false both.0
-          ]);
-      factors = c.requires.factors;
-      equal = c.requires.equal;
-      some = given.some;
-      few = given.few;
-      whole = given.whole;
-      within = given.within;
-    }
+multiply-requires g c = search (arith, false≢true, else-last-eq1-via-else-last-eq1)

@@ -2,14 +2,6 @@ use Rattle.std.proofs.Common.{◌/◌, length}
 use Rattle.modular_plan_transforms.proofs.Convolutions.{residues_again}
 use Rattle.modular_plan_transforms.proofs.convolution.split_first.Goals as goal
 
-pub split_loosely-requires : goal.split_loosely-requires
-split_loosely-requires g c =
-    record { entries = c.requires.entries; factors = c.requires.factors; blocks = c.requires.blocks }
-
-pub split-requires : goal.split-requires
-split-requires g c =
-    record { entries = c.requires.entries; factors = c.requires.factors; blocks = c.requires.blocks }
-
 pub returns-else-last-eq1 : goal.returns-else-last-eq1
 returns-else-last-eq1 g c = record {
   below = λ other. c.split.ensures.below;

@@ -10,11 +10,7 @@ use Rattle.modular_plan_transforms.proofs.filled.are_powers.Goals.{After-next_re
 use borrow.Author.Count.{falls}
 
 pub powers-init : goal.powers-init
-powers-init g c = record {
-  power = power_first _ _ _ _ c.one.ensures c.residue-power.ensures;
-  place = sym (bits_reversed_of_zero c.args.bits);
-  passed = λ k l. absurd (omega arith);
-}
+powers-init g c = search (arith, power_first, bits_reversed_of_zero)
 
 pub powers-smaller : goal.powers-smaller
 powers-smaller g c = falls _ _ c.powers-test.true
@@ -73,15 +69,4 @@ powers-preserved g c =
     }
 
 pub returns : goal.returns
-returns g c = (
-  λ t k l.
-      let bits = c.args.bits in
-      let w = c.requires.whole in
-      let done = c.powers-test.false in
-      let end = c.powers.auto.exponent-end in
-      let twice = bits_reversed_twice bits k (omega (arith, w, l)) in
-      let below = bits_reversed_below bits k in
-      ap (numbers g.F.PlanEntry.value c.args.table.now) (sym twice)
-      ∙ c.powers.invariant.passed (bits_reversed bits k) (omega (arith, below, w, done, end)),
-  λ all. refl,
-)
+returns g c = search (arith, bits_reversed_twice, bits_reversed_below)

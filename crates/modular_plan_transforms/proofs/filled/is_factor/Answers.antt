@@ -30,11 +30,7 @@ tested g c =
     c.split-high.ensures.low_fits
 
 pub returns-then-not-is_below-2 : goal.returns-then-not-is_below-2
-returns-then-not-is_below-2 g c = (
-  λ t. absurd (false≢true t),
-  λ is. absurd (false≢true (sym c.if-not-is_below-2.true
-      ∙ c.is_below-2.ensures.below.1 ((tested g (goal.at.returns-then-not-is_below-2 g c).After-split-high).1 is).1)),
-)
+returns-then-not-is_below-2 g c = search (arith, false≢true, tested)
 
 pub returns : goal.returns
 returns g c =

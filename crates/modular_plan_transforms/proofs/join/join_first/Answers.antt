@@ -1,5 +1,7 @@
-use Rattle.std.proofs.Common.{◌≡◌, ◌*◌, ◌/◌, length, sym, ◌∙◌, arith}
+use Rattle.std.proofs.Common.{◌/◌, length, sym, ◌∙◌, arith}
 use Rattle.modular_plan_passes.specs.Plans.{numbers}
+use Rattle.modular_plan_passes.proofs.TwoLevels.{two_rooms}
+use Rattle.modular_plan_transforms.proofs.JoinedPasses.{sizes_left}
 use Rattle.modular_plan_transforms.proofs.LastJoins.{remainders_once}
 use Rattle.modular_plan_passes.proofs.TwoJoins.{first_fours, remainders_of_fours, remainders_reduced}
 use Rattle.modular_plan_transforms.proofs.join.join_first.Goals as goal
@@ -8,14 +10,14 @@ pub join_fours-requires : goal.join_fours-requires
 join_fours-requires g c =
     let one = c.if-last-eq1.true in
     let some = c.if-fours-gt0.true in
-    let all = first_fours c.args.b c.args.last (length c.args.xs.now) (length c.args.table.now) (omega (arith, one))
-    (omega (arith, some)) c.requires.blocks.count c.requires.blocks.whole c.requires.blocks.within in
+    let first = first_fours c.args.b c.args.last (length c.args.xs.now) (length c.args.table.now) (omega (arith, one))
+    (omega (arith, some)) c.requires.blocks.count c.requires.blocks.within in
     record {
       pass = record {
         entries = c.requires.entries;
         factors = c.requires.factors.each;
-        whole = all.whole;
-        within = all.room;
+        whole = first.can.whole;
+        within = two_rooms _ _ _ _ first.can.few first.room;
         some = omega arith;
       };
       minus_factor = c.requires.factors.minus_factor;
@@ -26,20 +28,16 @@ pub returns-then-fours-gt0 : goal.returns-then-fours-gt0
 returns-then-fours-gt0 g c =
     let one = c.if-last-eq1.true in
     let some = c.if-fours-gt0.true in
-    let all = first_fours c.args.b c.args.last (length c.args.xs.now) (length c.args.table.now) (omega (arith, one))
-    (omega (arith, some)) c.requires.blocks.count c.requires.blocks.whole c.requires.blocks.within in
-    let n = g.T.RingWord.number in
-    let before = c.args.xs.now in
-    let four : 4 * (length before / 4) ≡ length before / 4 * 4 = omega arith in
+    let first = first_fours c.args.b c.args.last (length c.args.xs.now) (length c.args.table.now) (omega (arith, one))
+    (omega (arith, some)) c.requires.blocks.count c.requires.blocks.within in
+    let left = sizes_left (length c.args.table.now) c.args.b first.can.next first.room in
     record {
       scale = 4;
       entries = c.join_fours.ensures.entries;
-      blocks = record { some = omega arith; count = all.power; whole = all.whole; within = all.rest };
-      times = four ∙ all.whole ∙ sym all.count;
-      joined = λ r z x twiddles are.
-          remainders_of_fours r z c.args.b c.args.last (length before) (length c.args.table.now)
-          (numbers g.F.PlanEntry.value c.args.table.now) x (numbers n before) (numbers n c.join_fours.new.xs)
-          (omega (arith, one)) all c.requires.blocks.within twiddles are (c.join_fours.ensures.done r z twiddles);
+      blocks = left.given;
+      times = left.scale ∙ sym first.count;
+      joined = λ r z x twiddles are. remainders_of_fours r z (omega (arith, one)) first twiddles are
+          (c.join_fours.ensures.done r z twiddles);
     }
 
 pub returns-else-last-eq1 : goal.returns-else-last-eq1
@@ -58,6 +56,3 @@ returns-else-last-eq1 g c =
           remainders_once r z b count last x _ (remainders_reduced r z b count last (length before) x (numbers n before)
           (numbers n c.lower_each.new.xs) c.requires.blocks.whole c.lower_each.ensures.congruent are);
     }
-
-pub lower_each-requires : goal.lower_each-requires
-lower_each-requires g c = c.requires.entries

@@ -6,24 +6,6 @@ use Rattle.modular_plan_passes.proofs.Columns.{fours_below}
 use Rattle.modular_plan_passes.proofs.Entries.{number_read, all_below}
 use Rattle.modular_plan_transforms.proofs.LastJoins.{last_joined, numbers_past, two_entries}
 use Rattle.modular_plan_transforms.proofs.join.join_last.Goals as goal
-use Rattle.modular_plan_passes.proofs.Entries.{all_wider}
-
-pub minus_inverses-v-requires : goal.minus_inverses-v-requires
-minus_inverses-v-requires g c =
-    let two = two_entries c.args.b (length c.args.xs.now / c.args.last) (length c.args.table.now) c.if-b-eq0.true
-    c.if-xs-last-eq4.true c.requires.ready.blocks.within in
-    record { factors = c.requires.ready.factors; within = omega (arith, two) }
-
-pub invariant_of-step : goal.invariant_of-step
-invariant_of-step g c = record { factor = c.minus_inverses-v.ensures.factors.high; scale = c.requires.factor }
-
-pub quarters-requires : goal.quarters-requires
-quarters-requires g c =
-    let bound = g.met.M.JoinSteps.bound_fits c.args.m.now in
-    let limit = g.met.M.JoinSteps.room c.args.m.now in
-    let fill : 4 * c.args.last ≡ length c.args.xs.now =
-    ap (λ v. v * c.args.last) (sym c.if-xs-last-eq4.true) ∙ c.requires.ready.blocks.whole in
-    record { entries = c.requires.ready.entries; within = omega (arith, fill); fits = omega (arith, bound, limit) }
 
 pub returns-then-is_one : goal.returns-then-is_one
 returns-then-is_one g c = record {
@@ -67,17 +49,4 @@ returns-else-b-eq0 g c = record {
       c.scale_each.ensures.products i (omega (arith, kept, l))
       ∙ (mod_mul (c.join_blocks.ensures.joined r z x twiddles are i l) (mod_refl (n c.args.w.now.value))).same);
   below = c.scale_each.ensures.below;
-}
-
-pub nonzero_div-xs : goal.nonzero_div-xs
-nonzero_div-xs g c = c.requires.ready.blocks.some
-
-pub join_blocks-requires : goal.join_blocks-requires
-join_blocks-requires g c = c.requires.ready
-
-pub scale_each-requires : goal.scale_each-requires
-scale_each-requires g c = record {
-  entries = all_wider g.T.RingWord.number c.join_blocks.new.xs (g.met.M.JoinSteps.bound_fits c.args.m.now)
-      c.join_blocks.ensures.entries;
-  factor = c.requires.factor;
 }

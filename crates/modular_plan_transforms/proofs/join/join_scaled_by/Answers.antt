@@ -1,6 +1,5 @@
 use Rattle.std.proofs.Common.{◌≡◌, ◌*◌, ◌/◌, ◌%◌, length, sym, ◌∙◌, ap, arith, subst}
 use Rattle.modular_plan_passes.specs.Plans.{numbers, AreRemainders}
-use Rattle.modular_plan_transforms.specs.PlanConditions.{AreBlocks}
 use Rattle.modular_plan_transforms.proofs.LastJoins.{rescaled}
 use Rattle.modular_plan_transforms.proofs.join.join_scaled_by.Goals as goal
 
@@ -33,46 +32,4 @@ returns g c = record {
       (omega (arith, l, same, again))
       ∙ ap (λ v. (v * n c.args.w.now.value) % m) times);
   below = c.join_last.ensures.below;
-}
-
-pub join_first-size-requires : goal.join_first-size-requires
-join_first-size-requires g c = record {
-  entries = c.requires.fits.entries;
-  factors = record {
-    each = c.requires.fits.factors;
-    minus_factor = c.minus_one-minus.ensures.factor;
-    is_minus = c.minus_one-minus.ensures.value;
-  };
-  blocks = c.requires.fits.blocks;
-}
-
-pub join_passes-size-requires : goal.join_passes-size-requires
-join_passes-size-requires g c = record {
-  entries = c.join_first-size.ensures.entries;
-  factors = record {
-    each = c.requires.fits.factors;
-    minus_factor = c.minus_one-minus.ensures.factor;
-    is_minus = c.minus_one-minus.ensures.value;
-  };
-  blocks =
-      let same : length c.args.xs.now ≡ length c.join_first-size.new.xs = omega arith in
-      subst (λ n. AreBlocks n (length c.args.table.now) c.args.b c.join_first-size.result) same
-      c.join_first-size.ensures.blocks;
-}
-
-pub join_last-requires : goal.join_last-requires
-join_last-requires g c = record {
-  ready = (record {
-    entries = c.join_passes-size.ensures.entries;
-    factors = record {
-      each = c.requires.fits.factors;
-      minus_factor = c.minus_one-minus.ensures.factor;
-      is_minus = c.minus_one-minus.ensures.value;
-    };
-    blocks =
-        let same : length c.join_first-size.new.xs ≡ length c.join_passes-size.new.xs = omega arith in
-        subst (λ n. AreBlocks n (length c.args.table.now) c.args.b c.join_passes-size.result) same
-        c.join_passes-size.ensures.blocks;
-  });
-  factor = c.requires.factor;
 }

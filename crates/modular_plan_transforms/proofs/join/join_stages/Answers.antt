@@ -1,7 +1,6 @@
 use Rattle.std.proofs.Common.{◌≡◌, ◌*◌, ◌/◌, ◌%◌, length, sym, ◌∙◌, ap, arith, subst}
 use Rattle.modular_word.proofs.Congruence.{mod_of_eq, mod_trans}
 use Rattle.modular_plan_passes.specs.Plans.{numbers, AreRemainders}
-use Rattle.modular_plan_transforms.specs.PlanConditions.{AreBlocks}
 use Rattle.modular_plan_transforms.proofs.LastJoins.{rescaled}
 use Rattle.modular_plan_transforms.proofs.join.join_stages.Goals as goal
 
@@ -23,29 +22,4 @@ returns g c = record {
       (subst (λ v. AreRemainders m r z b (v / size) size (λ k. first.scale * x k) (λ k. numbers n after k % m)) (sym same)
       (first.joined r z x twiddles are)) i (omega (arith, l, same))) (mod_of_eq times));
   entries = c.join_blocks.ensures.entries;
-}
-
-pub join_first-size-requires : goal.join_first-size-requires
-join_first-size-requires g c = record {
-  entries = c.requires.entries;
-  factors = record {
-    each = c.requires.factors;
-    minus_factor = c.minus_one-minus.ensures.factor;
-    is_minus = c.minus_one-minus.ensures.value;
-  };
-  blocks = c.requires.blocks;
-}
-
-pub join_blocks-requires : goal.join_blocks-requires
-join_blocks-requires g c = record {
-  entries = c.join_first-size.ensures.entries;
-  factors = record {
-    each = c.requires.factors;
-    minus_factor = c.minus_one-minus.ensures.factor;
-    is_minus = c.minus_one-minus.ensures.value;
-  };
-  blocks =
-      let same : length c.args.xs.now ≡ length c.join_first-size.new.xs = omega arith in
-      subst (λ n. AreBlocks n (length c.args.table.now) c.args.b c.join_first-size.result) same
-      c.join_first-size.ensures.blocks;
 }

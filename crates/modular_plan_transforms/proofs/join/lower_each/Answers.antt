@@ -4,8 +4,6 @@ use Rattle.modular_word.proofs.Congruence.{mod_of_eq, mod_trans}
 use Rattle.modular_plan_passes.specs.Plans.{numbers}
 use Rattle.modular_plan_passes.proofs.Entries.{number_read, bounded, entry_written, entry_kept, all_below}
 use Rattle.modular_plan_transforms.proofs.join.lower_each.Goals as goal
-use borrow.Author.Count.{falls}
-use borrow.Author.Rules.{scaled_Fits}
 
 pub lowered-requires : goal.lowered-requires
 lowered-requires g c =
@@ -43,12 +41,3 @@ returns g c = record {
       (λ k l. c.entries.invariant.below k (omega arith)));
   congruent = (λ k l. c.entries.invariant.done k (omega arith));
 }
-
-pub offset_bounds-xs-i : goal.offset_bounds-xs-i
-offset_bounds-xs-i g c = scaled_Fits _ _ _ c.entries-test.true c.well_formed.1.0.1
-
-pub offset_bounds-xs-i-in-entries : goal.offset_bounds-xs-i-in-entries
-offset_bounds-xs-i-in-entries g c = scaled_Fits _ _ _ c.entries-test.true c.well_formed.1.0.1
-
-pub entries-smaller : goal.entries-smaller
-entries-smaller g c = falls _ _ c.entries-test.true

@@ -2,8 +2,6 @@ use Rattle.std.proofs.Common.{◌%◌, ◌<◌, length, ◌∙◌, ap, arith, su
 use Rattle.modular_plan_passes.specs.Plans.{numbers}
 use Rattle.modular_plan_passes.proofs.Entries.{number_read, bounded, entry_done, entry_kept, all_residues}
 use Rattle.modular_plan_transforms.proofs.join.reduce_each.Goals as goal
-use borrow.Author.Count.{falls}
-use borrow.Author.Rules.{scaled_Fits}
 
 pub residue-requires : goal.residue-requires
 residue-requires g c =
@@ -41,12 +39,3 @@ returns g c = record {
       (λ k l. c.entries.invariant.done k (omega arith)));
   residues = λ k l. c.entries.invariant.done k (omega arith);
 }
-
-pub offset_bounds-xs-i : goal.offset_bounds-xs-i
-offset_bounds-xs-i g c = scaled_Fits _ _ _ c.entries-test.true c.well_formed.1.0.1
-
-pub offset_bounds-xs-i-in-entries : goal.offset_bounds-xs-i-in-entries
-offset_bounds-xs-i-in-entries g c = scaled_Fits _ _ _ c.entries-test.true c.well_formed.1.0.1
-
-pub entries-smaller : goal.entries-smaller
-entries-smaller g c = falls _ _ c.entries-test.true

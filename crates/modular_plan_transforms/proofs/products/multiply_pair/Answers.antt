@@ -8,32 +8,10 @@ use Rattle.modular_plan_transforms.proofs.products.multiply_pair.Goals as goal
 use borrow.Author.Rules.{scaled_Fits}
 
 pub product_sum-requires : goal.product_sum-requires
-product_sum-requires g c =
-    let n = g.T.RingWord.number in
-    let m = n c.args.m.now.modulus in
-    let xs = c.args.xs.now in
-    let low = c.args.place in
-    let within = c.requires.within in
-    let low_within : low < length xs = omega arith in
-    let x = number_read n xs low c.index-xs-place.result low_within c.index-xs-place.is in
-    let u = number_read n xs (low + 1) c.index-xs-next.result within c.index-xs-next.is in
-    let x_below = bounded n m xs low c.index-xs-place.result c.requires.below low_within in
-    let u_below = bounded n m xs (low + 1) c.index-xs-place.result c.requires.below within in
-    omega (arith, x, u, x_below, u_below)
+product_sum-requires g c = search (arith, number_read, bounded)
 
 pub product_sum-requires-2 : goal.product_sum-requires-2
-product_sum-requires-2 g c =
-    let n = g.T.RingWord.number in
-    let m = n c.args.m.now.modulus in
-    let xs = c.args.xs.now in
-    let low = c.args.place in
-    let within = c.requires.within in
-    let low_within : low < length xs = omega arith in
-    let x = number_read n xs low c.index-xs-place.result low_within c.index-xs-place.is in
-    let u = number_read n xs (low + 1) c.index-xs-next.result within c.index-xs-next.is in
-    let x_below = bounded n m xs low c.index-xs-place.result c.requires.below low_within in
-    let u_below = bounded n m xs (low + 1) c.index-xs-place.result c.requires.below within in
-    omega (arith, x, u, x_below, u_below, c.requires.most)
+product_sum-requires-2 g c = search (arith, number_read, bounded)
 
 pub returns : goal.returns
 returns g c =

@@ -4,8 +4,6 @@ use Rattle.modular_plan_passes.specs.Plans.{numbers, constant}
 use Rattle.modular_plan_passes.proofs.Entries.{number_read}
 use Rattle.modular_plan_transforms.proofs.SmallProducts.{pairs_more}
 use Rattle.modular_plan_transforms.proofs.products.multiply_pairs.Goals as goal
-use borrow.Author.Count.{falls}
-use borrow.Author.Rules.{scaled_Fits}
 
 pub each_block-preserved : goal.each_block-preserved
 each_block-preserved g c =
@@ -36,28 +34,4 @@ returns g c = record {
   products = (λ root z twiddles.
       record { each = λ j i lj li. c.each_block.invariant.done root z twiddles j i (omega arith) li });
   below = c.each_block.invariant.below;
-}
-
-pub each_block-smaller : goal.each_block-smaller
-each_block-smaller g c = falls _ _ c.each_block-test.true
-
-pub offset_bounds-xs-j : goal.offset_bounds-xs-j
-offset_bounds-xs-j g c =
-    let within : 2 * c.each_block.j + 1 < length c.args.xs.now = omega arith in
-    scaled_Fits _ _ _ within c.well_formed.1.0.1
-
-pub times_constant-turned-requires : goal.times_constant-turned-requires
-times_constant-turned-requires g c = record {
-  factors = c.requires.factors;
-  block = c.each_block-test.true;
-  fits = (let few = c.well_formed.1.0.0 in omega (arith, few));
-  within = c.requires.within;
-}
-
-pub multiply_pair-requires : goal.multiply_pair-requires
-multiply_pair-requires g c = record {
-  below = c.each_block.invariant.below;
-  equal = omega arith;
-  within = omega arith;
-  most = c.times_constant-turned.ensures.most;
 }

@@ -1,11 +1,12 @@
 use Rattle.std.proofs.Common.{◌≡◌, ℕ, ◌+◌, ◌*◌, ◌/◌, ◌%◌, ◌<◌, length, sym, ◌∙◌, ap, arith, subst}
 use Rattle.std.proofs.Math.Nat.{mod-lt}
 use Rattle.modular_word.specs.Congruence.{Congruent}
-use Rattle.modular_word.proofs.Congruence.{mod_trans, mod_of_eq, mod_refl, mod_mul, residue_of}
+use Rattle.modular_word.proofs.Congruence.{mod_trans, mod_of_eq, mod_refl, mod_sym, mod_mul, residue_of}
 use Rattle.modular_barrett.specs.Factors.{IsFactor}
 use Rattle.modular_plan_passes.specs.Plans.{constant}
 use Rattle.modular_plan_passes.proofs.Entries.{number_read}
-use Rattle.modular_plan_transforms.proofs.Constants.{pair_of_constants, block_of}
+use Rattle.modular_plan_transforms.proofs.Constants.{odd_constant, block_of}
+use Rattle.modular_plan_passes.proofs.Levels.{constants}
 use Rattle.modular_plan_transforms.proofs.SmallProducts.{product_by_odd}
 use Rattle.modular_plan_transforms.proofs.products.times_constant.Goals as goal
 
@@ -43,14 +44,6 @@ product-turned-requires g c =
     (subst (λ v. IsFactor g.T.PathWord.base m v (g.F.PlanEntry.quotient c.index-table-b.result))
     (sym c.factor-w.ensures.value) is)
 
-pub minus-requires : goal.minus-requires
-minus-requires g c =
-    let n = g.T.RingWord.number in
-    let m = n c.args.m.now.modulus in
-    let some = c.args.m.now.some in
-    let less = mod-lt (n c.args.x * n c.factor-w.result.value) (let k : 0 < m = omega (arith, some) in k) in
-    omega (arith, less, c.product-turned.ensures)
-
 pub returns-then-rest-eq0 : goal.returns-then-rest-eq0
 returns-then-rest-eq0 g c = record {
   most = (let n = g.T.RingWord.number in
@@ -73,7 +66,7 @@ returns-then-rest-eq0 g c = record {
       subst (λ v. Congruent m (n c.product-turned.result) (x * constant root z v)) at
       (mod_trans (mod_of_eq c.product-turned.ensures) (mod_trans (residue_of (x * n c.factor-w.result.value))
       (mod_mul (mod_refl x) (subst (λ v. Congruent m v (constant root z (2 * p))) (sym is)
-      (pair_of_constants root z (length table) p _ twiddles block.within).even)))));
+      (mod_sym (constants root z (length table) p _ twiddles block.within).even_is))))));
 }
 
 pub returns-else-rest-eq0 : goal.returns-else-rest-eq0
@@ -95,7 +88,7 @@ returns-else-rest-eq0 g c = record {
       subst (λ v. Congruent m (n c.minus.result) (x * constant root z v)) at
       (product_by_odd x (n c.factor-w.result.value) (constant root z (2 * p + 1)) (n c.product-turned.result) (n c.minus.result)
       (subst (λ v. v < m) (sym c.factor-w.ensures.value) below)
-      (λ v h. (pair_of_constants root z (length table) p _ twiddles block.within).odd v (ap (λ k. v + k) (sym is) ∙ h))
+      (λ v h. odd_constant p v twiddles block.within (ap (λ k. v + k) (sym is) ∙ h))
       c.product-turned.ensures c.minus.ensures.value));
   most = (let is = c.minus.ensures.value in omega (arith, is));
 }

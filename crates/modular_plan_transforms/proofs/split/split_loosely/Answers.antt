@@ -2,20 +2,7 @@ use Rattle.std.proofs.Common.{◌≡◌, ◌/◌, length, refl, sym, ap, subst}
 use Rattle.modular_plan_passes.specs.Plans.{numbers, AreTwiddles}
 use Rattle.modular_plan_passes.specs.Steps.{IsLevel}
 use Rattle.modular_plan_passes.proofs.Levels.{remainders_of}
-use Rattle.modular_plan_transforms.specs.PlanConditions.{FitsPlan}
 use Rattle.modular_plan_transforms.proofs.split.split_loosely.Goals as goal
-
-pub split_blocks-requires : goal.split_blocks-requires
-split_blocks-requires g c =
-    let n = g.T.RingWord.number in
-    let same : n c.in-Some.roomy.planned.modulus ≡ n c.args.m.now.modulus = ap (λ p. n p.modulus) c.in-Some.ensures in
-    subst (λ k. FitsPlan n g.F.PlanEntry.value g.F.PlanEntry.quotient g.T.PathWord.base k c.args.b c.args.last
-    c.args.xs.now c.args.table.now) (sym same)
-    (record { entries = c.requires.entries; factors = c.requires.factors; blocks = c.requires.blocks })
-
-pub split_blocks-requires-in-None : goal.split_blocks-requires-in-None
-split_blocks-requires-in-None g c =
-    record { entries = c.requires.entries; factors = c.requires.factors; blocks = c.requires.blocks }
 
 pub returns-in-Some : goal.returns-in-Some
 returns-in-Some g c =

@@ -25,22 +25,5 @@ less b half factors some room = elim (cases_lt b (factors / half)) [
       absurd (omega (arith, few, room))
 ]
 
-pub returns-then-not-is_power_of_two : goal.returns-then-not-is_power_of_two
-returns-then-not-is_power_of_two c =
-    let tested = power_of_two_tested (c.args.length / c.args.last) in
-    (λ h. cc, λ h. let t = tested.1 h.count in cc)
-
 pub returns : goal.returns
-returns c =
-    let count = c.args.length / c.args.last in
-    let power = (power_of_two_tested count).0 cc in
-    let some : 0 < count / 2 = let p = pow_pos power.0 in let e = power.1 in
-    let other = c.if-count-eq1.false in omega (arith, p, e) in (
-      λ h. record {
-        some = omega arith;
-        count = power;
-        whole = c.if-count-last.false;
-        within = enough c.args.b (count / 2) c.args.factors (less_of c.args.b (c.args.factors / (count / 2)) h);
-      },
-      λ h. test_of c.args.b (c.args.factors / (count / 2)) (less c.args.b (count / 2) c.args.factors some h.within),
-    )
+returns c = search (arith, power_of_two_tested, pow_pos, enough, less_of, test_of, less)

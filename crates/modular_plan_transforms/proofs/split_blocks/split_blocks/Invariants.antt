@@ -1,6 +1,7 @@
-use Rattle.std.proofs.Common.{◌≡◌, ℕ, ◌*◌, ◌/◌, ◌^◌, ◌<◌, All, length}
+use Rattle.std.proofs.Common.{◌≡◌, ℕ, ◌*◌, ◌/◌, ◌<◌, All, length}
 use Rattle.modular_plan_passes.specs.Plans.{numbers, AreTwiddles}
 use Rattle.modular_plan_passes.specs.Steps.{IsLevel}
+use Rattle.modular_plan_passes.proofs.TreeLevels.{IsTreeLevel}
 use Rattle.modular_plan_transforms.proofs.split_blocks.split_blocks.Given as goal
 
 -- the levels so far are done
@@ -10,8 +11,8 @@ invariant-stages g l =
     let value = g.F.PlanEntry.value in
     let m = g.M.SplitSteps.modulus l.m in
     record {
-      sized : l.size ≡ 2 ^ l.left * l.last;
-      counted : l.blocks * 2 ^ l.left ≡ length l.fn.xs / l.last;
+      above : ℕ;
+      tree : IsTreeLevel l.size l.blocks above l.left l.last (length l.fn.xs / l.last) (length l.fn.xs);
       entries : All (λ x. number x < g.M.Bounded.limit l.m) l.xs;
       first : l.blocks ≡ 1 → All (λ x. number x < 4 * m) l.xs;
       level : (g z : ℕ) → AreTwiddles m g z (length l.table) (numbers value l.table)

@@ -1,20 +1,7 @@
 use Rattle.std.proofs.Common.{sym, ◌∙◌, arith}
-use Rattle.std.proofs.lemmas.Bool.{false≢true}
 use Rattle.modular_transform.proofs.PowersOfTwo.{power_of_two_tested}
-use Rattle.modular_plan_passes.proofs.Tables.{half_power}
 use Rattle.modular_plan_transforms.proofs.Wholes.{suits_by_turn}
 use Rattle.modular_plan_transforms.proofs.tables.suits.Goals as goal
-
-pub returns-then-not-is_power_of_two : goal.returns-then-not-is_power_of_two
-returns-then-not-is_power_of_two g c = (
-  λ h. absurd (false≢true h),
-  λ suits. absurd (false≢true (sym c.if-not-is_power_of_two.true ∙ c.is_power_of_two.ensures
-      ∙ (power_of_two_tested c.args.count).1 (half_power suits.1.power_of_two))),
-)
-
-pub power-requires-clause-power_of_two : goal.power-requires-clause-power_of_two
-power-requires-clause-power_of_two g c =
-    (power_of_two_tested c.args.count).0 (sym c.is_power_of_two.ensures ∙ c.if-not-is_power_of_two.false)
 
 pub returns : goal.returns
 returns g c =

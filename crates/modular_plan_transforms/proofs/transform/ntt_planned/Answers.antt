@@ -1,30 +1,9 @@
-use Rattle.std.proofs.Common.{◌≡◌, ◌+◌, ◌*◌, ◌/◌, ◌<◌, ◌≤◌, length, refl, arith, subst, sym, ◌∙◌}
+use Rattle.std.proofs.Common.{◌≡◌, ◌/◌, ◌<◌, length, refl, arith, subst, sym, ◌∙◌}
 use Rattle.std.specs.Int.{trailing_zeros, w64, IsPowerOfTwo}
 use Rattle.modular_transform.proofs.PowersOfTwo.{power_by_zeros}
 use Rattle.modular_plan_passes.specs.Plans.{numbers, AreRemainders}
 use Rattle.modular_plan_transforms.proofs.NaturalOrder.{in_natural_order, all_reordered}
 use Rattle.modular_plan_transforms.proofs.transform.ntt_planned.Goals as goal
-
-pub reverse_places-requires-clause-whole : goal.reverse_places-requires-clause-whole
-reverse_places-requires-clause-whole g c =
-    let split = c.split.new.xs in
-    power_by_zeros (length split) (subst IsPowerOfTwo (omega arith) c.requires.count) (omega arith)
-
-pub split-requires : goal.split-requires
-split-requires g c =
-    let given = c.requires in
-    let one : length c.args.xs.now ≡ length c.args.xs.now / 1 = omega arith in
-    let within = given.within in
-    record {
-      entries = given.entries;
-      factors = given.factors;
-      blocks = record {
-        some = omega arith;
-        count = subst IsPowerOfTwo one given.count;
-        whole = omega arith;
-        within = subst (λ n. (0 + 1) * (n / 2) ≤ length c.args.table.now) one (omega (arith, within));
-      };
-    }
 
 pub returns : goal.returns
 returns g c =

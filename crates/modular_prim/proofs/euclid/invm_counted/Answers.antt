@@ -1,6 +1,6 @@
-use Rattle.std.proofs.Common.{◌≡◌, ◌+◌, ◌<◌, ◌≤◌, ◌%◌, ◌*◌, sym, refl, arith}
+use Rattle.std.proofs.Common.{◌≡◌, ◌<◌, ◌≤◌, ◌%◌, sym, refl, arith}
 use Rattle.std.proofs.Math.Nat.{mod-eq_of_lt}
-use Rattle.modular_prim.proofs.DivisionCounts.{counts_below, counts_above, counts_next, counts_end, counts_few}
+use Rattle.modular_prim.proofs.DivisionCounts.{counts_below, counts_above, counts_next, counts_end, inverse_divisions-few}
 use Rattle.modular_prim.proofs.EuclidSteps.{euclid_start, next_fits, next_step}
 use Rattle.modular_prim.proofs.EuclidSteps.{euclid_found, euclid_found_negative, euclid_none}
 use Rattle.modular_prim.proofs.euclid.invm_counted.Goals as goal
@@ -31,6 +31,10 @@ euclid-init g c =
                 counts_below (n c.args.a) (n c.args.m)
                 (n c.if-not-is_below.r) c.if-not-is_below.count below start w.count-is
           ];
+      most =
+          inverse_divisions-few g.T.RingWord.width (n c.args.a) (n c.args.m) (omega (arith, g.met.T.RingWord.width_from))
+          c.requires (omega (arith, c.is_below.ensures.other_fits, g.met.T.PathWord.base_is))
+          (omega (arith, c.is_below.ensures.fits, g.met.T.PathWord.base_is));
     }
 
 pub step-rest-requires-clause-fits : goal.step-rest-requires-clause-fits
@@ -40,12 +44,7 @@ step-rest-requires-clause-fits g c =
     omega (arith, next_fits c.euclid.invariant.steps positive, c.is_below.ensures.other_fits)
 
 pub overflow_add-count : goal.overflow_add-count
-overflow_add-count g c =
-    let n = g.T.RingWord.number in
-    let few : c.euclid.count ≤ 2 * g.T.RingWord.width =
-    counts_few g.T.RingWord.width g.T.PathWord.base (n c.args.a) (n c.args.m) _ _ _ c.euclid.invariant.counts
-    g.met.T.RingWord.width_from g.met.T.PathWord.base_is c.requires c.is_below.ensures.fits c.is_below.ensures.other_fits in
-    omega (arith, few, g.met.T.RingWord.width_to)
+overflow_add-count g c = omega (arith, g.met.T.RingWord.width_to)
 
 pub step-rest-requires-in-euclid-clause-fits : goal.step-rest-requires-in-euclid-clause-fits
 step-rest-requires-in-euclid-clause-fits g c =
@@ -58,10 +57,9 @@ step-rest-requires-in-euclid-clause-fits g c =
 pub overflow_add-count-in-euclid : goal.overflow_add-count-in-euclid
 overflow_add-count-in-euclid g c =
     let n = g.T.RingWord.number in
-    let few : c.euclid.count ≤ 2 * g.T.RingWord.width =
-    counts_few g.T.RingWord.width g.T.PathWord.base (n c.args.a) (n c.args.m) _ _ _ c.euclid.invariant.counts
-    g.met.T.RingWord.width_from g.met.T.PathWord.base_is c.requires c.is_below.ensures.fits c.is_below.ensures.other_fits in
-    omega (arith, few, g.met.T.RingWord.width_to)
+    let positive : 0 < n c.euclid.r = grind arith in
+    let next = counts_next c.euclid.invariant.counts positive c.step-rest.ensures.rest in
+    omega (arith, next, g.met.T.RingWord.width_to)
 
 pub euclid-preserved : goal.euclid-preserved
 euclid-preserved g c =
@@ -72,77 +70,50 @@ euclid-preserved g c =
     let second = c.step-rest-in-euclid.ensures in
     record {
       steps = next_step (next_step c.euclid.invariant.steps positive first.rest first.coefficient) some second.rest second.coefficient;
-      counts = counts_next _ _ _ _ _ _ (counts_next _ _ _ _ _ _ c.euclid.invariant.counts positive first.rest) some second.rest;
+      counts = counts_next (counts_next c.euclid.invariant.counts positive first.rest) some second.rest;
+      most = c.euclid.invariant.most;
     }
 
-pub returns-then-is_zero_word-clause-inverse : goal.returns-then-is_zero_word-clause-inverse
-returns-then-is_zero_word-clause-inverse g c =
+pub returns-then-is_zero_word : goal.returns-then-is_zero_word
+returns-then-is_zero_word g c =
     let n = g.T.RingWord.number in
     let positive : 0 < n c.euclid.r = grind arith in
     let ended : n c.step-rest.result.0 ≡ 0 = grind arith in
     let last = next_step c.euclid.invariant.steps positive c.step-rest.ensures.rest c.step-rest.ensures.coefficient in
-    elim c.if-is_below.branch [
-      | then-is_below w ↦
-          let above : 1 < n c.euclid.r = grind arith in
-          rw w.inverse-is (λ x i. euclid_none _ _ _ _ _ _ x _ last ended above i)
-      | else-is_below w ↦
-          let small : n c.euclid.r ≤ 1 = grind arith in
-          rw w.inverse-is (euclid_found _ _ _ _ _ _ _ last refl small)
-    ]
+    let count = counts_end (counts_next c.euclid.invariant.counts positive c.step-rest.ensures.rest) ended in
+    record {
+      inverse = elim c.if-is_below.branch [
+        | then-is_below w ↦
+            let above : 1 < n c.euclid.r = grind arith in
+            rw w.inverse-is (λ x i. euclid_none _ _ _ _ _ _ x _ last ended above i)
+        | else-is_below w ↦
+            let small : n c.euclid.r ≤ 1 = grind arith in
+            rw w.inverse-is (euclid_found _ _ _ _ _ _ _ last refl small)
+      ];
+      count = count;
+      at_most = omega (arith, count);
+    }
 
-pub returns-then-is_zero_word-clause-count : goal.returns-then-is_zero_word-clause-count
-returns-then-is_zero_word-clause-count g c =
-    let n = g.T.RingWord.number in
-    let positive : 0 < n c.euclid.r = grind arith in
-    let ended : n c.step-rest.result.0 ≡ 0 = grind arith in
-    counts_end _ _ _ _ _ (counts_next _ _ _ _ _ _ c.euclid.invariant.counts positive c.step-rest.ensures.rest) ended
-
-pub returns-then-is_zero_word-clause-at_most : goal.returns-then-is_zero_word-clause-at_most
-returns-then-is_zero_word-clause-at_most g c =
-    let n = g.T.RingWord.number in
-    let positive : 0 < n c.euclid.r = grind arith in
-    let few : c.euclid.count + 1 ≤ 2 * g.T.RingWord.width =
-    counts_few g.T.RingWord.width g.T.PathWord.base (n c.args.a) (n c.args.m) _ _ _ (counts_next _ _ _ _ _ _ c.euclid.invariant.counts positive c.step-rest.ensures.rest)
-    g.met.T.RingWord.width_from g.met.T.PathWord.base_is c.requires c.is_below.ensures.fits c.is_below.ensures.other_fits in
-    omega (arith, few)
-
-pub returns-then-is_below-2-clause-inverse : goal.returns-then-is_below-2-clause-inverse
-returns-then-is_below-2-clause-inverse g c =
+pub returns-then-is_below-2 : goal.returns-then-is_below-2
+returns-then-is_below-2 g c =
     let n = g.T.RingWord.number in
     let ended : n c.euclid.r ≡ 0 = grind arith in
     let above : 1 < n c.euclid.last_r = grind arith in
-    λ x i. euclid_none _ _ _ _ _ _ x _ c.euclid.invariant.steps ended above i
+    let count = counts_end c.euclid.invariant.counts ended in
+    record {
+      inverse = λ x i. euclid_none _ _ _ _ _ _ x _ c.euclid.invariant.steps ended above i;
+      count = count;
+      at_most = omega (arith, count);
+    }
 
-pub returns-then-is_below-2-clause-count : goal.returns-then-is_below-2-clause-count
-returns-then-is_below-2-clause-count g c =
+pub returns-else-is_below-2 : goal.returns-else-is_below-2
+returns-else-is_below-2 g c =
     let n = g.T.RingWord.number in
     let ended : n c.euclid.r ≡ 0 = grind arith in
-    counts_end _ _ _ _ _ c.euclid.invariant.counts ended
-
-pub returns-then-is_below-2-clause-at_most : goal.returns-then-is_below-2-clause-at_most
-returns-then-is_below-2-clause-at_most g c =
-    let n = g.T.RingWord.number in
-    let few : c.euclid.count ≤ 2 * g.T.RingWord.width =
-    counts_few g.T.RingWord.width g.T.PathWord.base (n c.args.a) (n c.args.m) _ _ _ c.euclid.invariant.counts
-    g.met.T.RingWord.width_from g.met.T.PathWord.base_is c.requires c.is_below.ensures.fits c.is_below.ensures.other_fits in
-    omega (arith, few)
-
-pub returns-else-is_below-2-clause-inverse : goal.returns-else-is_below-2-clause-inverse
-returns-else-is_below-2-clause-inverse g c =
-    let n = g.T.RingWord.number in
     let small : n c.euclid.last_r ≤ 1 = grind arith in
-    euclid_found_negative _ _ _ _ _ _ _ _ c.euclid.invariant.steps refl small c.neg_below.ensures.value
-
-pub returns-else-is_below-2-clause-count : goal.returns-else-is_below-2-clause-count
-returns-else-is_below-2-clause-count g c =
-    let n = g.T.RingWord.number in
-    let ended : n c.euclid.r ≡ 0 = grind arith in
-    counts_end _ _ _ _ _ c.euclid.invariant.counts ended
-
-pub returns-else-is_below-2-clause-at_most : goal.returns-else-is_below-2-clause-at_most
-returns-else-is_below-2-clause-at_most g c =
-    let n = g.T.RingWord.number in
-    let few : c.euclid.count ≤ 2 * g.T.RingWord.width =
-    counts_few g.T.RingWord.width g.T.PathWord.base (n c.args.a) (n c.args.m) _ _ _ c.euclid.invariant.counts
-    g.met.T.RingWord.width_from g.met.T.PathWord.base_is c.requires c.is_below.ensures.fits c.is_below.ensures.other_fits in
-    omega (arith, few)
+    let count = counts_end c.euclid.invariant.counts ended in
+    record {
+      inverse = euclid_found_negative _ _ _ _ _ _ _ _ c.euclid.invariant.steps refl small c.neg_below.ensures.value;
+      count = count;
+      at_most = omega (arith, count);
+    }

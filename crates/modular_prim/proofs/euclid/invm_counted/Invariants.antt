@@ -1,4 +1,5 @@
-use Rattle.std.proofs.Common.{false}
+use Rattle.std.proofs.Common.{false, ◌*◌, ◌≤◌}
+use Rattle.modular_prim.specs.Divisions.{inverse_divisions}
 use Rattle.modular_prim.proofs.DivisionCounts.{Counts}
 use Rattle.modular_prim.proofs.EuclidSteps.{Euclid}
 use Rattle.modular_prim.proofs.euclid.invm_counted.Given as goal
@@ -9,6 +10,7 @@ invariant-euclid g l =
     record {
       steps : Euclid (n l.fn.a) (n l.m) (n l.last_r) (n l.r) (n l.last_t) (n l.t) false;
       counts : Counts (n l.fn.a) (n l.m) (n l.last_r) (n l.r) l.count;
+      most : inverse_divisions (n l.fn.a) (n l.m) ≤ 2 * g.T.RingWord.width;
     }
 
 abbrev pub decreases-euclid : goal.decreases-euclid

@@ -13,60 +13,34 @@ ordered : (g : Over) (c : goal.Joined-less g)
     → Ordered g.T.PathWord.base (g.T.RingWord.number c.args.pair.above) (g.T.RingWord.number c.args.pair.below)
     (g.T.RingWord.number c.args.pair.above_factor) (g.T.RingWord.number c.args.pair.below_factor) c.args.pair.twos
     (g.T.RingWord.number c.if-less.chosen.0) (g.T.RingWord.number c.if-less.chosen.1)
-    (g.T.RingWord.number c.if-less.chosen.2)
+    (g.T.RingWord.number c.if-less.chosen.2) c.trailing_zeros-zeros.result
     c.args.pair.minus (not (beq c.args.pair.minus c.is_below-less.result))
 ordered g c =
     let n = g.T.RingWord.number in
+    let a = n c.args.pair.above in
+    let b = n c.args.pair.below in
+    let wrapped = c.wrapping_sub.ensures.value in
+    let zeros = c.trailing_zeros-zeros.ensures.value in
     elim c.if-less.branch [
       | then-less w ↦
-          ordered_below _ _ _ _ _ _ _ _ _ _ _ c.requires.fits w.if-less.true
-          (ap (λ v. n v.0 + n c.args.pair.above) w.chosen-is ∙ w.minus.ensures.value)
+          let e : n c.if-less.chosen.0 + a ≡ b = ap (λ v. n v.0 + a) w.chosen-is ∙ w.minus.ensures.value in
+          ordered_below _ _ _ _ _ _ _ _ _ _ _ _ c.requires.fits w.if-less.true c.requires.differ
+          c.is_below-less.ensures.other_fits e (zeros_below _ _ _ a b _ _ g.met.T.PathWord.base_is wrapped zeros e)
           (ap (λ v. n v.1) w.chosen-is) (ap (λ v. n v.2) w.chosen-is)
       | else-less w ↦
-          ordered_above _ _ _ _ _ _ _ _ _ _ _ c.requires.fits w.if-less.false
-          (ap (λ v. n v.0 + n c.args.pair.below) w.chosen-is ∙ w.minus-else-less.ensures.value)
+          let e : n c.if-less.chosen.0 + b ≡ a = ap (λ v. n v.0 + b) w.chosen-is ∙ w.minus-else-less.ensures.value in
+          ordered_above _ _ _ _ _ _ _ _ _ _ _ _ c.requires.fits w.if-less.false c.requires.differ
+          c.is_below-less.ensures.fits e (zeros_above _ _ _ a b _ _ g.met.T.PathWord.base_is wrapped zeros e)
           (ap (λ v. n v.1) w.chosen-is) (ap (λ v. n v.2) w.chosen-is)
     ]
 
 halved : (g : Over) (c : goal.Joined-less g)
     → Without (g.T.RingWord.number c.if-less.chosen.0) c.trailing_zeros-zeros.result
     (g.T.RingWord.number c.if-less.chosen.0 / 2 ^ c.trailing_zeros-zeros.result)
-halved g c =
-    let n = g.T.RingWord.number in
-    let a = n c.args.pair.above in
-    let b = n c.args.pair.below in
-    let d = n c.if-less.chosen.0 in
-    let differ = c.requires.differ in
-    elim c.if-less.branch [
-      | then-less w ↦
-          let e : d + a ≡ b = ap (λ v. n v.0 + a) w.chosen-is ∙ w.minus.ensures.value in
-          without d c.trailing_zeros-zeros.result _ (omega arith)
-          (zeros_below _ _ _ a b d _ g.met.T.PathWord.base_is c.wrapping_sub.ensures.value
-          c.trailing_zeros-zeros.ensures.value e) refl
-      | else-less w ↦
-          let e : d + b ≡ a = ap (λ v. n v.0 + b) w.chosen-is ∙ w.minus-else-less.ensures.value in
-          without d c.trailing_zeros-zeros.result _ (omega arith)
-          (zeros_above _ _ _ a b d _ g.met.T.PathWord.base_is c.wrapping_sub.ensures.value
-          c.trailing_zeros-zeros.ensures.value e) refl
-    ]
+halved g c = let o = ordered g c in without _ _ _ o.some o.even refl
 
 few : (g : Over) (c : goal.Joined-less g) → c.trailing_zeros-zeros.result < g.T.RingWord.width
-few g c =
-    let n = g.T.RingWord.number in
-    let d = n c.if-less.chosen.0 in
-    let a_fits = c.is_below-less.ensures.fits in
-    let b_fits = c.is_below-less.ensures.other_fits in
-    let fits : d < g.T.PathWord.base = elim c.if-less.branch [
-      | then-less w ↦
-          let e : d + n c.args.pair.above ≡ n c.args.pair.below =
-          ap (λ v. n v.0 + n c.args.pair.above) w.chosen-is ∙ w.minus.ensures.value in
-          omega arith
-      | else-less w ↦
-          let e : d + n c.args.pair.below ≡ n c.args.pair.above =
-          ap (λ v. n v.0 + n c.args.pair.below) w.chosen-is ∙ w.minus-else-less.ensures.value in
-          omega arith
-    ] in
-    fewer_zeros _ d _ _ (halved g c) (omega (arith, g.met.T.PathWord.base_is))
+few g c = fewer_zeros _ _ _ _ (halved g c) (omega (arith, (ordered g c).below, g.met.T.PathWord.base_is))
 
 pub shift_right-requires : goal.shift_right-requires
 shift_right-requires g c = few g (goal.at.shift_right-requires g c).Joined-less

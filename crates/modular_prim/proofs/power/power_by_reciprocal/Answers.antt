@@ -1,7 +1,7 @@
-use Rattle.std.proofs.Common.{◌≡◌, ◌≢◌, ◌*◌, ◌%◌, ◌^◌, ◌<◌, ◌≤◌, sym, ap, ◌∙◌, subst, arith}
-use Rattle.modular_prim.proofs.Scaled.{IsNormalized, scaled_to_top, scaled_below}
-use Rattle.modular_prim.proofs.PowerSteps.{PowerSoFar, start_odd, start_even, step_odd}
-use Rattle.modular_prim.proofs.PowerSteps.{step_even, finished, product_below, power_below}
+use Rattle.std.proofs.Common.{ℕ, ◌≡◌, ◌≢◌, ◌*◌, ◌/◌, ◌%◌, ◌^◌, ◌<◌, ◌≤◌, sym, ap, ◌∙◌, subst, arith}
+use Rattle.std.proofs.lemmas.Nat.{shl-shr}
+use Rattle.modular_prim.proofs.Scaled.{IsNormalized, scaled_to_top, scaled_below, scaled_product_of}
+use Rattle.modular_prim.proofs.PowerSteps.{start_odd, start_even, step_odd, step_even, finished}
 use Rattle.modular_prim.proofs.power.power_by_reciprocal.Goals as goal
 use Rattle.modular_prim.proofs.power.power_by_reciprocal.Goals.{After-leading_zeros-shift, then-is_odd}
 use Rattle.modular_prim.proofs.power.power_by_reciprocal.Goals.{else-is_odd, then-is_odd-2, else-is_odd-2}
@@ -36,36 +36,30 @@ invert_word-reciprocal-requires g c =
 
 pub scaled_product-power-requires-clause-below : goal.scaled_product-power-requires-clause-below
 scaled_product-power-requires-clause-below g c =
-    let n = g.T.RingWord.number in
-    power_below (n c.args.m) c.leading_zeros-shift.result (n c.shift_left-divisor.result) _ (n c.digits.power)
-    (n c.digits.product) (n c.digits.rest)
-    c.shift_left-divisor.ensures c.digits.invariant
+    let w = c.digits.invariant in
+    omega (arith, w.power_is, scaled_below w.x _ c.leading_zeros-shift.result w.x_below, c.shift_left-divisor.ensures)
 
 pub scaled_product-product-requires-clause-below : goal.scaled_product-product-requires-clause-below
 scaled_product-product-requires-clause-below g c =
-    let n = g.T.RingWord.number in
-    product_below (n c.args.m) c.leading_zeros-shift.result (n c.shift_left-divisor.result) _ (n c.digits.power)
-    (n c.digits.product) (n c.digits.rest)
-    c.shift_left-divisor.ensures c.digits.invariant
+    let w = c.digits.invariant in
+    omega (arith, w.product_is, scaled_below w.y _ c.leading_zeros-shift.result w.y_below, c.shift_left-divisor.ensures)
 
 pub digits-init : goal.digits-init
 digits-init g c =
     let n = g.T.RingWord.number in
-    let m = n c.args.m in
-    let s = c.leading_zeros-shift.result in
+    let p = 2 ^ c.leading_zeros-shift.result in
     elim c.if-is_odd.branch [
       | then-is_odd w ↦
           let odd : n c.args.exp % 2 ≡ 1 = grind arith in
-          start_odd m s (n c.args.base) (n c.args.exp) (n c.shift_left-power.result)
-          (n c.if-is_odd.product) (n c.half-rest.result)
-          c.requires c.shift_left-power.ensures (ap n w.product-is) odd c.half-rest.ensures.value
+          start_odd (λ x. x * p) (λ y. y * p) (n c.args.m) (n c.args.base) (n c.args.exp) c.requires
+          c.shift_left-power.ensures (ap n w.product-is ∙ c.shift_left-power.ensures) c.half-rest.ensures.value odd
       | else-is_odd w ↦
           let even : n c.args.exp % 2 ≢ 1 = grind arith in
-          start_even m s (n c.args.base) (n c.args.exp) (n c.shift_left-power.result)
-          (n c.if-is_odd.product) (n c.half-rest.result)
-          (n w.reduced.result) c.requires c.shift_left-power.ensures
-          (w.reduced.ensures.value ∙ ap (λ v. v % m) w.one.ensures)
-          (ap n w.product-is ∙ w.shift_left-product.ensures) (omega arith) c.half-rest.ensures.value
+          start_even (λ x. x * p) (λ y. y * p) (n c.args.m) (n c.args.base) (n c.args.exp) c.requires
+          c.shift_left-power.ensures
+          (ap n w.product-is ∙ w.shift_left-product.ensures
+          ∙ ap (λ v. v * p) (w.reduced.ensures.value ∙ ap (λ v. v % n c.args.m) w.one.ensures))
+          c.half-rest.ensures.value even
     ]
 
 pub digits-preserved : goal.digits-preserved
@@ -73,29 +67,26 @@ digits-preserved g c =
     let n = g.T.RingWord.number in
     let m = n c.args.m in
     let s = c.leading_zeros-shift.result in
+    let some : 0 < m = omega (arith, c.requires) in
+    let made = c.shift_left-divisor.ensures in
+    let squared = λ (x : ℕ) (e : n c.digits.power ≡ x * 2 ^ s).
+    scaled_product_of m s _ x x _ _ _ some made e e c.scaled_product-power.ensures in
     elim c.if-is_odd-2.branch [
       | then-is_odd-2 w ↦
           let odd : n c.digits.rest % 2 ≡ 1 = grind arith in
-          step_odd m s (n c.shift_left-divisor.result) _ (n c.digits.power) (n c.digits.product) (n c.digits.rest)
-          (n c.scaled_product-power.result) (n c.if-is_odd-2.product)
-          (n c.half-rest-in-digits.result) c.shift_left-divisor.ensures
-          c.digits.invariant c.scaled_product-power.ensures (ap n w.product-is ∙ w.scaled_product-product.ensures)
+          step_odd (λ x. x * 2 ^ s) (λ y. y * 2 ^ s) m c.digits.invariant squared
+          (λ x y ex ey.
+          scaled_product_of m s _ x y _ _ _ some made ex ey (ap n w.product-is ∙ w.scaled_product-product.ensures))
           c.half-rest-in-digits.ensures.value odd
       | else-is_odd-2 w ↦
           let even : n c.digits.rest % 2 ≢ 1 = grind arith in
-          let same : n c.digits.product ≡ n c.if-is_odd-2.product = sym (ap n w.product-is) in
-          subst
-          (λ v. PowerSoFar m s (n c.args.base ^ n c.args.exp % m) (n c.scaled_product-power.result) v
-          (n c.half-rest-in-digits.result)) same
-          (step_even m s (n c.shift_left-divisor.result) _ (n c.digits.power) (n c.digits.product) (n c.digits.rest)
-          (n c.scaled_product-power.result) (n c.half-rest-in-digits.result) c.shift_left-divisor.ensures
-          c.digits.invariant c.scaled_product-power.ensures c.half-rest-in-digits.ensures.value even)
+          step_even (λ x. x * 2 ^ s) (λ y. y * 2 ^ s) m c.digits.invariant squared (ap n w.product-is)
+          c.half-rest-in-digits.ensures.value even
     ]
 
 pub returns : goal.returns
 returns g c =
-    let n = g.T.RingWord.number in
-    let ended : n c.digits.rest ≡ 0 = grind arith in
-    finished (n c.args.m) c.leading_zeros-shift.result _ (n c.digits.power) (n c.digits.product)
-    (n c.digits.rest) (n c.shift_right.result)
-    c.digits.invariant ended c.shift_right.ensures.value
+    let w = c.digits.invariant in
+    let ended : g.T.RingWord.number c.digits.rest ≡ 0 = grind arith in
+    c.shift_right.ensures.value ∙ ap (λ v. v / 2 ^ c.leading_zeros-shift.result) w.product_is
+    ∙ shl-shr w.y c.leading_zeros-shift.result ∙ finished w ended

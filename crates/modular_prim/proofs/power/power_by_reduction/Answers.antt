@@ -1,69 +1,60 @@
-use Rattle.std.proofs.Common.{◌≡◌, ◌≢◌, ◌%◌, ◌^◌, ◌<◌, sym, ap, ◌∙◌, subst, arith}
-use Rattle.modular_prim.proofs.PowerSteps.{IsReducer, ReducedSoFar, reduced_start, start_from_base}
-use Rattle.modular_prim.proofs.PowerSteps.{start_from_one, product_fits, reduced_odd, reduced_even, reduced_end}
-use Rattle.std.proofs.Math.Nat.{mod-eq_of_lt}
-use Rattle.modular_word.specs.Reduction.{IsReduction}
+use Rattle.std.proofs.Common.{ℕ, ◌≡◌, ◌≢◌, ◌*◌, ◌%◌, ◌<◌, ap, ◌∙◌, arith}
+use Rattle.std.proofs.Math.Nat.{mod-lt}
+use Rattle.modular_prim.proofs.PowerSteps.{start_odd, start_even, step_odd, step_even, finished}
+use Rattle.modular_prim.proofs.PowerSteps.{product_fits, square_reduced, product_reduced}
 use Rattle.modular_prim.proofs.power.power_by_reduction.Goals as goal
 use Rattle.modular_prim.proofs.power.power_by_reduction.Goals.{then-is_odd, else-is_odd, then-is_odd-2, else-is_odd-2}
 
 pub digits-init : goal.digits-init
 digits-init g c =
     let n = g.T.RingWord.number in
+    let b = g.T.PathWord.base in
     let m = n c.args.m in
     let x = n c.args.base in
+    let whole : g.T.PathWord.double_number c.merge.result ≡ x * b = omega (arith, c.merge.ensures.value, c.zero.ensures) in
+    let power = c.narrow_remainder-power.ensures.value ∙ ap (λ v. v % m) whole in
     elim c.if-is_odd.branch [
       | then-is_odd w ↦
           let odd : n c.args.exp % 2 ≡ 1 = grind arith in
-          reduced_start g.T.PathWord.base m x (n c.args.exp) x (n c.narrow_remainder-power.result)
-          (n c.if-is_odd.product) (n c.half-rest.result)
-          c.requires.below c.merge.ensures.value c.zero.ensures c.narrow_remainder-power.ensures.value
-          (ap n w.product-is ∙ sym (mod-eq_of_lt c.requires.below)) (start_from_base m x (n c.args.exp) odd)
-          c.half-rest.ensures.value
+          start_odd (λ v. (v * b) % m) (λ y. y) m x (n c.args.exp) c.requires.below power (ap n w.product-is)
+          c.half-rest.ensures.value odd
       | else-is_odd w ↦
           let even : n c.args.exp % 2 ≢ 1 = grind arith in
-          reduced_start g.T.PathWord.base m x (n c.args.exp) 1 (n c.narrow_remainder-power.result)
-          (n c.if-is_odd.product) (n c.half-rest.result)
-          c.requires.below c.merge.ensures.value c.zero.ensures c.narrow_remainder-power.ensures.value
+          start_even (λ v. (v * b) % m) (λ y. y) m x (n c.args.exp) c.requires.below power
           (ap n w.product-is ∙ w.reduced-product.ensures.value ∙ ap (λ v. v % m) w.one.ensures)
-          (start_from_one m x (n c.args.exp) (omega arith)) c.half-rest.ensures.value
+          c.half-rest.ensures.value even
     ]
 
 pub redc-power-requires-clause-below : goal.redc-power-requires-clause-below
 redc-power-requires-clause-below g c =
-    product_fits _ _ c.product.ensures.value c.product.ensures.fits c.digits.invariant.power_below
+    let w = c.digits.invariant in
+    product_fits _ _ c.product.ensures.value c.product.ensures.fits
+    (omega (arith, w.power_is, w.x_below, mod-lt (w.x * g.T.PathWord.base) {m = g.T.RingWord.number c.args.m}))
 
 pub digits-preserved : goal.digits-preserved
 digits-preserved g c =
     let n = g.T.RingWord.number in
     let b = g.T.PathWord.base in
     let m = n c.args.m in
-    let reducer : IsReducer b m (n c.neginv-negated_inverse.result) = record {
-      some = let h : 0 < b = omega (arith, c.product.ensures.fits) in h;
-      inverse = c.neginv-negated_inverse.ensures;
-    } in
+    let i = n c.neginv-negated_inverse.result in
+    let some : 0 < b = omega (arith, c.product.ensures.fits) in
+    let inverse = c.neginv-negated_inverse.ensures in
+    let squared = λ (x : ℕ) (e : n c.digits.power ≡ (x * b) % m).
+    square_reduced b m i x _ some inverse e c.product.ensures.value c.redc-power.ensures in
     elim c.if-is_odd-2.branch [
       | then-is_odd-2 w ↦
           let odd : n c.digits.rest % 2 ≡ 1 = grind arith in
-          reduced_odd b m (n c.neginv-negated_inverse.result) _ (n c.digits.power)
-          (n c.digits.product) (n c.digits.rest)
-          (n c.redc-power.result) (n c.if-is_odd-2.product) (n c.half-rest-in-digits.result) reducer c.digits.invariant
-          c.product.ensures.value c.redc-power.ensures w.product-then-is_odd-2.ensures.value
-          (subst (λ v. IsReduction b m (g.T.PathWord.double_number w.product-then-is_odd-2.result) v)
-          (sym (ap n w.product-is)) w.redc-product.ensures)
+          step_odd (λ v. (v * b) % m) (λ y. y) m c.digits.invariant squared
+          (λ x y ex ey. ap n w.product-is ∙ product_reduced b m i x _ _ some inverse ex
+          w.product-then-is_odd-2.ensures.value w.redc-product.ensures ∙ ap (λ v. (x * v) % m) ey)
           c.half-rest-in-digits.ensures.value odd
       | else-is_odd-2 w ↦
           let even : n c.digits.rest % 2 ≢ 1 = grind arith in
-          subst (λ v. ReducedSoFar b m (n c.args.base ^ n c.args.exp % m) (n c.redc-power.result) v
-          (n c.half-rest-in-digits.result)) (sym (ap n w.product-is))
-          (reduced_even b m (n c.neginv-negated_inverse.result) _ (n c.digits.power)
-          (n c.digits.product) (n c.digits.rest)
-          (n c.redc-power.result) (n c.half-rest-in-digits.result) reducer c.digits.invariant
-          c.product.ensures.value c.redc-power.ensures c.half-rest-in-digits.ensures.value even)
+          step_even (λ v. (v * b) % m) (λ y. y) m c.digits.invariant squared (ap n w.product-is)
+          c.half-rest-in-digits.ensures.value even
     ]
 
 pub returns : goal.returns
 returns g c =
-    let n = g.T.RingWord.number in
-    let ended : n c.digits.rest ≡ 0 = grind arith in
-    reduced_end g.T.PathWord.base (n c.args.m) _ (n c.digits.power) (n c.digits.product)
-    (n c.digits.rest) c.digits.invariant ended
+    let ended : g.T.RingWord.number c.digits.rest ≡ 0 = grind arith in
+    c.digits.invariant.product_is ∙ finished c.digits.invariant ended

@@ -55,16 +55,11 @@ digits-preserved g c =
           }
     ]
 
-pub returns-clause-power : goal.returns-clause-power
-returns-clause-power g c =
-    let ended : g.T.RingWord.number c.digits.rest ≡ 0 = c.is_zero_word.ensures.zero.0 c.digits-test.false in
-    power_end c.digits.invariant.so_far ended
-
-pub returns-clause-count : goal.returns-clause-count
-returns-clause-count g c =
+pub returns : goal.returns
+returns g c =
     let ended : g.T.RingWord.number c.digits.rest ≡ 0 = c.is_zero_word.ensures.zero.0 c.digits-test.false in
     let none = steps_of_zero (g.T.RingWord.number c.digits.rest) ended in
-    omega (arith, c.digits.invariant.counted)
+    record { power = power_end c.digits.invariant.so_far ended; count = omega (arith, c.digits.invariant.counted) }
 
 pub digits-smaller : goal.digits-smaller
 digits-smaller g c =

@@ -6,63 +6,40 @@ use Rattle.modular_reduced.specs.Powers.{products, digits, digits_within}
 use Rattle.modular_reduced.proofs.power.pow_counted.Goals as goal
 use Rattle.modular_reduced.proofs.power.pow_counted.Goals.{then-eq-2+else-not-is_odd, else-eq-2}
 
-pub returns-then-eq-clause-power : goal.returns-then-eq-clause-power
-returns-then-eq-clause-power g c =
+pub returns-then-eq : goal.returns-then-eq
+returns-then-eq g c =
+    let canonical = g.met.R.Reducer.canonical c.args.reducer.now in
     let same : IsTrue (g.T.PartialEq.eq c.args.exp.now c.one.result) = search rules in
-    power_of_one c.requires ((g.met.T.RingWord.equal c.args.exp.now c.one.result).0 same ∙ c.one.ensures)
+    let one = (g.met.T.RingWord.equal c.args.exp.now c.one.result).0 same ∙ c.one.ensures in
+    let power = power_of_one c.requires one in
+    record {
+      power = power;
+      checked = c.requires;
+      value = canonical.one_value _ _ power;
+      count = sym (products_of_one (g.T.RingWord.number c.args.exp.now) one);
+      at_most = omega arith;
+    }
 
-pub returns-then-eq-clause-value : goal.returns-then-eq-clause-value
-returns-then-eq-clause-value g c =
-    let same : IsTrue (g.T.PartialEq.eq c.args.exp.now c.one.result) = search rules in
-    (g.met.R.Reducer.canonical c.args.reducer.now).one_value _ _
-    (power_of_one c.requires ((g.met.T.RingWord.equal c.args.exp.now c.one.result).0 same ∙ c.one.ensures))
-
-pub returns-then-eq-clause-count : goal.returns-then-eq-clause-count
-returns-then-eq-clause-count g c =
-    let exp = g.T.RingWord.number c.args.exp.now in
-    let same : IsTrue (g.T.PartialEq.eq c.args.exp.now c.one.result) = search rules in
-    sym (products_of_one exp ((g.met.T.RingWord.equal c.args.exp.now c.one.result).0 same ∙ c.one.ensures))
-
-pub returns-then-not-is_odd-clause-power : goal.returns-then-not-is_odd-clause-power
-returns-then-not-is_odd-clause-power g c =
-    let exp = g.T.RingWord.number c.args.exp.now in
-    let same : IsTrue (g.T.PartialEq.eq c.half.result c.one-2.result) = search rules in
-    let half : exp / 2 ≡ 1 =
-    sym c.half.ensures.value ∙ (g.met.T.RingWord.equal c.half.result c.one-2.result).0 same ∙ c.one-2.ensures in
-    let even : exp % 2 ≢ 1 = search rules in
-    power_of_two (g.R.Reducer.value (g.R.Reducer.modulus c.args.reducer.now) (g.T.RingWord.number c.args.base)) exp
-    (let two : exp ≡ 2 = omega arith in two) c.sqr.ensures.form
-
-pub returns-then-not-is_odd-clause-value : goal.returns-then-not-is_odd-clause-value
-returns-then-not-is_odd-clause-value g c =
-    let exp = g.T.RingWord.number c.args.exp.now in
-    let same : IsTrue (g.T.PartialEq.eq c.half.result c.one-2.result) = search rules in
-    let half : exp / 2 ≡ 1 =
-    sym c.half.ensures.value ∙ (g.met.T.RingWord.equal c.half.result c.one-2.result).0 same ∙ c.one-2.ensures in
-    let even : exp % 2 ≢ 1 = search rules in
-    (g.met.R.Reducer.canonical c.args.reducer.now).one_value _ _
-    (power_of_two (g.R.Reducer.value (g.R.Reducer.modulus c.args.reducer.now) (g.T.RingWord.number c.args.base)) exp
-    (let two : exp ≡ 2 = omega arith in two) c.sqr.ensures.form)
-
-pub returns-then-not-is_odd-clause-count : goal.returns-then-not-is_odd-clause-count
-returns-then-not-is_odd-clause-count g c =
-    let exp = g.T.RingWord.number c.args.exp.now in
-    let same : IsTrue (g.T.PartialEq.eq c.half.result c.one-2.result) = search rules in
-    let half : exp / 2 ≡ 1 =
-    sym c.half.ensures.value ∙ (g.met.T.RingWord.equal c.half.result c.one-2.result).0 same ∙ c.one-2.ensures in
-    let even : exp % 2 ≢ 1 = search rules in
-    sym (products_of_two exp (let two : exp ≡ 2 = omega arith in two))
-
-pub returns-then-not-is_odd-clause-at_most : goal.returns-then-not-is_odd-clause-at_most
+pub returns-then-not-is_odd : goal.returns-then-not-is_odd
 unfolding digits digits_within
-returns-then-not-is_odd-clause-at_most g c =
+returns-then-not-is_odd g c =
     let exp = g.T.RingWord.number c.args.exp.now in
     let same : IsTrue (g.T.PartialEq.eq c.half.result c.one-2.result) = search rules in
     let half : exp / 2 ≡ 1 =
     sym c.half.ensures.value ∙ (g.met.T.RingWord.equal c.half.result c.one-2.result).0 same ∙ c.one-2.ensures in
     let even : exp % 2 ≢ 1 = search rules in
-    let digit : digits exp ≡ 2 = ap digits (let two : exp ≡ 2 = omega arith in two) in
-    omega (arith, digit)
+    let two : exp ≡ 2 = omega arith in
+    let power =
+    power_of_two (g.R.Reducer.value (g.R.Reducer.modulus c.args.reducer.now) (g.T.RingWord.number c.args.base)) exp two
+    c.sqr.ensures.form in
+    let digit : digits exp ≡ 2 = ap digits two in
+    record {
+      power = power;
+      checked = c.sqr.ensures.checked;
+      value = (g.met.R.Reducer.canonical c.args.reducer.now).one_value _ _ power;
+      count = sym (products_of_two exp two);
+      at_most = omega (arith, digit);
+    }
 
 pub returns : goal.returns
 returns g c =

@@ -1,27 +1,10 @@
-use Rattle.std.proofs.Common.{◌≡◌, ℕ, ◌+◌, ◌-◌, ◌%◌, ◌<◌, ◌≤◌, length, ◌∙◌, arith, refl, sym}
-use Rattle.std.proofs.lemmas.Nat.{mul-mod_first}
-use Rattle.modular_word.specs.Inverses.{IsInverse}
+use Rattle.std.proofs.Common.{◌≡◌, ℕ, ◌+◌, ◌-◌, length, ◌∙◌, arith, refl}
+use Rattle.modular_word.proofs.InverseLemmas.{inverse_from_mod}
 use Rattle.modular_reduced.specs.Entries.{entry}
 use Rattle.modular_reduced.specs.EntryLaws.{entry_at, forms_written, done_before}
 use Rattle.modular_ring.specs.Products.{product_below}
 use Rattle.modular_ring.specs.ProductLaws.{no_inverse, inverse_before, inverse_last}
 use Rattle.modular_ring.proofs.list_inverses.invert_each.Goals as goal
-
--- the inverse of a residue
-of_residue : (m a x : ℕ) → IsInverse m (a % m) x → IsInverse m a x
-of_residue m a x found = record { below = found.below; one = sym (mul-mod_first a x m) ∙ found.one }
-
--- the place k before the last of a list is one of a list that is as long
-behind : (k : ℕ) {m n : ℕ} → m ≡ n → k < n → m - 1 - k < n
-behind k same within = omega (arith, same, within)
-
--- where there is a place k, the list has a last one ..
-some_left : (k : ℕ) {m n : ℕ} → m ≡ n → k < n → 1 ≤ m
-some_left k same within = omega (arith, same, within)
-
--- .. and k isn't after it
-last_left : (k : ℕ) {m n : ℕ} → m ≡ n → k < n → k ≤ m - 1
-last_left k same within = omega (arith, same, within)
 
 pub returns-in_default-clause-each : goal.returns-in_default-clause-each
 returns-in_default-clause-each g c =
@@ -53,7 +36,7 @@ backward-init g c =
     let ended : c.forward.i ≡ n - 0 = omega arith in let all = rw ended at c.forward.invariant.0.same in
     let found = rw all at c.in-Some.ensures.value in (
       c.in-Some.ensures.checked,
-      of_residue m (product_below (n - 0) v) _ found,
+      inverse_from_mod m (product_below (n - 0) v) _ found,
       c.requires.checked,
       record { done = λ k low up. absurd (omega arith); kept = λ k l. refl },
     )

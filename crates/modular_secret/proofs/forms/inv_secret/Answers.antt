@@ -1,4 +1,4 @@
-use Rattle.modular_secret.proofs.ExponentSteps.{inverted}
+use Rattle.modular_reduced.proofs.FormLemmas.{inverted}
 use Rattle.modular_secret.proofs.forms.inv_secret.Goals as goal
 
 pub returns-in-Some : goal.returns-in-Some

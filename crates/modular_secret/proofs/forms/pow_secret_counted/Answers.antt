@@ -1,4 +1,5 @@
 use Rattle.std.proofs.Common.{◌≡◌, ◌-◌, ◌^◌, sym, subst, arith, ◌<◌}
+use Rattle.modular_reduced.proofs.FormLemmas.{answered}
 use Rattle.modular_reduced.proofs.PowerForms.{power_start, power_end}
 use Rattle.modular_secret.proofs.ExponentSteps.{half_below, none_left, power_step}
 use Rattle.modular_secret.proofs.forms.pow_secret_counted.Goals as goal
@@ -26,11 +27,14 @@ digits-preserved g c =
       count = omega (arith, c.digits.invariant.count);
     }
 
-pub returns-clause-form : goal.returns-clause-form
-returns-clause-form g c =
-    power_end c.digits.invariant.so_far (none_left _ c.args.bits c.digits._done c.digits.invariant.below (omega arith))
-
-pub returns-clause-value : goal.returns-clause-value
-returns-clause-value g c =
-    (g.met.R.Reducer.canonical c.args.reducer.now).one_value _ _
-    (power_end c.digits.invariant.so_far (none_left _ c.args.bits c.digits._done c.digits.invariant.below (omega arith)))
+pub returns : goal.returns
+returns g c =
+    let form =
+    power_end c.digits.invariant.so_far (none_left _ c.args.bits c.digits._done c.digits.invariant.below (omega arith)) in
+    let clauses = answered (g.met.R.Reducer.canonical c.args.reducer.now) form in
+    record {
+      form = form;
+      checked = clauses.checked;
+      value = clauses.value;
+      count = omega (arith, c.digits.invariant.count);
+    }

@@ -1,17 +1,12 @@
+use Rattle.std.proofs.Common.{◌<◌}
 use Rattle.modular_secret.proofs.Masks.{negative_with_borrow}
 use Rattle.modular_secret.proofs.inverse.negative.Goals as goal
 
-pub returns-clause-congruent : goal.returns-clause-congruent
-returns-clause-congruent g c below =
+pub returns : goal.returns
+returns g c =
+    let n = g.T.RingWord.number in
     let taken = c.borrowing_sub-difference.ensures in
-    record {
-      same =
-          (negative_with_borrow _ _ _ _ _ _ _ _ below c.masked.ensures.fits c.zero.ensures taken.below taken.all taken.exact
-          taken.none c.masked.ensures.all c.masked.ensures.none c.wrapping_add.ensures.value).1;
-    }
-
-pub returns-clause-below : goal.returns-clause-below
-returns-clause-below g c below =
-    let taken = c.borrowing_sub-difference.ensures in
-    (negative_with_borrow _ _ _ _ _ _ _ _ below c.masked.ensures.fits c.zero.ensures taken.below taken.all taken.exact
-    taken.none c.masked.ensures.all c.masked.ensures.none c.wrapping_add.ensures.value).0
+    let is = λ (below : n c.args.v < n c.args.m).
+    negative_with_borrow _ _ _ _ _ _ _ _ below c.masked.ensures.fits c.zero.ensures taken.below taken.all taken.exact
+    taken.none c.masked.ensures.all c.masked.ensures.none c.wrapping_add.ensures.value in
+    record { congruent = λ below. record { same = (is below).1 }; below = λ below. (is below).0 }

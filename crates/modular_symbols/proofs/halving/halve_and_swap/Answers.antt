@@ -1,5 +1,6 @@
 -- Each turn of the loop keeps the symbol up to its sign, and counts its steps.
-use Rattle.modular_symbols.proofs.SymbolBytes.{in_byte}
+use Rattle.std.proofs.lemmas.Int.{to_z-of_z}
+use Rattle.std.specs.Int.{w8}
 use Rattle.std.proofs.Common.{rules, arith, ◌≢◌, ◌+◌, ◌*◌, ◌≤◌, ◌∙◌, pos, sym}
 use Rattle.std.proofs.lemmas.Bool.{false≢true}
 use Rattle.modular_symbols.specs.Jacobi.{jacobi}
@@ -76,8 +77,7 @@ few g c =
     c.odd_part-odd.result.1 (n c.odd_part-odd.result.0) (n c.rest-above.result) c.swaps.count
     c.swaps.invariant.counts h c.rest-above.ensures.rest g.met.T.PathWord.base_is
     c.rest-above.ensures.fits in
-    counts_few g.T.RingWord.width (n c.args.a) (n c.args.n) (n c.rest-above.result) (n c.odd_part-odd.result.0)
-    (c.swaps.count + (c.odd_part-odd.result.1 + 1)) after c.requires.below
+    search (arith, counts_few)
 
 pub overflow_add-count : goal.overflow_add-count
 overflow_add-count g c =
@@ -89,7 +89,7 @@ overflow_add-count-in-swaps g c =
 
 pub returns-clause-symbol : goal.returns-clause-symbol
 returns-clause-symbol g c =
-    in_byte c.last_symbol.result (search rules)
+    to_z-of_z w8 c.last_symbol.result (search rules)
     ∙ kept_last _ _ _ _ c.swaps.turned c.swaps.invariant.symbol (c.is_zero_word.ensures.zero.0 c.swaps-test.false)
     c.last_symbol.ensures.one c.last_symbol.ensures.more
 

@@ -1,5 +1,5 @@
 -- The class of each power, in the order of the tests.
-use Rattle.std.proofs.Common.{◌≡◌, ◌≢◌, ◌-◌, pos, sym, ◌∙◌, arith}
+use Rattle.std.proofs.Common.{◌≡◌, ◌≢◌, pos, sym, ◌∙◌, arith}
 use Rattle.std.proofs.lemmas.Bool.{false≢true}
 use Rattle.modular_symbols.specs.Kronecker.{signed}
 use Rattle.modular_symbols.specs.Legendre.{checked_legendre_of}
@@ -12,13 +12,7 @@ class : (g : _) (c : After-powm-power g)
     → checked_legendre_of (signed c.args.a_minus (pos (g.T.RingWord.number c.args.a)))
     (signed c.args.n_minus (pos (g.T.RingWord.number c.args.n)))
     ≡ class_by (g.T.RingWord.number c.minus-last.result) (g.T.RingWord.number c.powm-power.result)
-class g c =
-    let n = g.T.RingWord.number in
-    let some : n c.args.n ≢ 0 = λ e. false≢true (sym c.if-is_zero_word.false ∙ c.is_zero_word.ensures.zero.1 e) in
-    let last : n c.minus-last.result ≡ n c.args.n - 1 = omega (arith, c.minus-last.ensures.value, c.one.ensures) in
-    class_is (signed c.args.a_minus (pos (n c.args.a))) c.args.n_minus (n c.args.n) (n c.minus-last.result)
-    (n c.half.result) (n c.signed_residue.result) (n c.powm-power.result) c.if-n_minus.false
-    some last c.half.ensures.value c.signed_residue.ensures c.powm-power.ensures
+class g c = search (arith, false≢true, class_is)
 
 pub returns-then-is_zero_word-2 : goal.returns-then-is_zero_word-2
 returns-then-is_zero_word-2 g c =
@@ -39,10 +33,7 @@ not_zero : (g : _) (c : After-eq-else-eq g) → g.T.RingWord.number c.powm-power
 not_zero g c = λ e. false≢true (sym c.if-is_zero_word-2.false ∙ c.is_zero_word-else-is_zero_word.ensures.zero.1 e)
 
 not_one : (g : _) (c : After-eq-else-eq g) → g.T.RingWord.number c.powm-power.result ≢ 1
-not_one g c = λ e.
-    let t = (g.met.T.RingWord.equal c.powm-power.result c.one-else-is_zero_word-2.result).1
-    (e ∙ sym c.one-else-is_zero_word-2.ensures) in
-    false≢true (sym c.if-eq.false ∙ c.eq.ensures ∙ t)
+not_one g c = search (arith, false≢true)
 
 pub returns-then-eq-2 : goal.returns-then-eq-2
 returns-then-eq-2 g c =

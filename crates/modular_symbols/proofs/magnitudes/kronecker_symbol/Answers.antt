@@ -3,7 +3,8 @@ use Rattle.std.proofs.Common.{◌≡◌, ◌≢◌, ◌&&◌, ℤ, pos, sym, ap,
 use Rattle.std.proofs.lemmas.Bool.{cond-true, cond-false, eq-eqb, ne_eqb, false≢true}
 use Rattle.modular_symbols.specs.Kronecker.{signed, kronecker_above}
 use Rattle.modular_symbols.proofs.KroneckerSteps.{kronecker-over_zero, kronecker-over}
-use Rattle.modular_symbols.proofs.SymbolBytes.{in_byte}
+use Rattle.std.proofs.lemmas.Int.{to_z-of_z}
+use Rattle.std.specs.Int.{w8}
 use Rattle.modular_symbols.proofs.magnitudes.kronecker_symbol.Goals as goal
 use Rattle.modular_symbols.proofs.magnitudes.kronecker_symbol.Goals.{then-a_minus, else-a_minus}
 
@@ -36,9 +37,9 @@ returns-after-a_minus g c =
       | else-a_minus w ↦
           w.turned_symbol-is ∙ w.if-a_minus.false ∙ sym (ap (λ b. b && c.args.n_minus) w.if-a_minus.false)
     ] in
-    in_byte c.turned_symbol.result (search rules) ∙ c.turned_symbol.ensures.value
+    to_z-of_z w8 c.turned_symbol.result (search rules) ∙ c.turned_symbol.ensures.value
     ∙ ap (λ v. signed c.if-a_minus.turned_symbol v)
-    (in_byte c.symbol_above.result (search rules) ∙ c.symbol_above.ensures.value)
+    (to_z-of_z w8 c.symbol_above.result (search rules) ∙ c.symbol_above.ensures.value)
     ∙ ap (λ b. signed b (kronecker_above z (n c.args.n))) turned
     ∙ sym (kronecker-over c.args.a_minus c.args.n_minus (n c.args.a) (n c.args.n) c.requires.a_sign c.requires.n_sign
     (omega arith))

@@ -7,7 +7,8 @@ use Rattle.modular_symbols.specs.Kronecker.{signed}
 use Rattle.modular_symbols.proofs.KroneckerSteps.{jacobi-small, above-odd, above-both_even}
 use Rattle.modular_symbols.proofs.KroneckerSteps.{above-twos, leaves_3_or_5, times_two, times_four}
 use Rattle.modular_symbols.proofs.TwoPart.{SplitAt, split_at}
-use Rattle.modular_symbols.proofs.SymbolBytes.{in_byte}
+use Rattle.std.proofs.lemmas.Int.{to_z-of_z}
+use Rattle.std.specs.Int.{w8}
 use Rattle.modular_symbols.proofs.magnitudes.symbol_above.Goals as goal
 use Rattle.modular_symbols.proofs.magnitudes.symbol_above.Goals.{then-twos-eq1, else-twos-eq1}
 
@@ -22,20 +23,20 @@ pub turned_symbol-requires : goal.turned_symbol-requires
 turned_symbol-requires g c =
     let n = g.T.RingWord.number in
     subst (λ (v : ℤ). nat_abs v ≤ 1)
-    (sym (in_byte c.jacobi_symbol-symbol.result (search rules) ∙ c.jacobi_symbol-symbol.ensures))
+    (sym (to_z-of_z w8 c.jacobi_symbol-symbol.result (search rules) ∙ c.jacobi_symbol-symbol.ensures))
     (jacobi-small (signed c.args.a_minus (pos (n c.args.a))) (n c.shift_right.result))
 
 pub returns-then-is_odd-clause-value : goal.returns-then-is_odd-clause-value
 returns-then-is_odd-clause-value g c =
     let n = g.T.RingWord.number in
     let odd : n c.args.n % 2 ≡ 1 = c.is_odd.ensures.odd.0 c.if-is_odd.true in
-    in_byte c.jacobi_symbol.result (search rules) ∙ c.jacobi_symbol.ensures
+    to_z-of_z w8 c.jacobi_symbol.result (search rules) ∙ c.jacobi_symbol.ensures
     ∙ sym (above-odd (signed c.args.a_minus (pos (n c.args.a))) (n c.args.n) odd)
 
 pub returns-then-is_odd-clause-small : goal.returns-then-is_odd-clause-small
 returns-then-is_odd-clause-small g c =
     let n = g.T.RingWord.number in
-    subst (λ (v : ℤ). nat_abs v ≤ 1) (sym (in_byte c.jacobi_symbol.result (search rules) ∙ c.jacobi_symbol.ensures))
+    subst (λ (v : ℤ). nat_abs v ≤ 1) (sym (to_z-of_z w8 c.jacobi_symbol.result (search rules) ∙ c.jacobi_symbol.ensures))
     (jacobi-small (signed c.args.a_minus (pos (n c.args.a))) (n c.args.n))
 
 pub returns-after-twos-eq1-clause-value : goal.returns-after-twos-eq1-clause-value
@@ -52,9 +53,9 @@ returns-after-twos-eq1-clause-value g c =
           times_two s (n c.args.a) _ w.if-twos-eq1.true (w.turned_symbol-is ∙ w.is_minus_over_two.ensures)
       | else-twos-eq1 w ↦ times_four s (n c.args.a) _ w.if-twos-eq1.false w.turned_symbol-is
     ] in
-    in_byte c.turned_symbol.result (search rules) ∙ c.turned_symbol.ensures.value
+    to_z-of_z w8 c.turned_symbol.result (search rules) ∙ c.turned_symbol.ensures.value
     ∙ ap (λ v. signed c.if-twos-eq1.turned_symbol v)
-    (in_byte c.jacobi_symbol-symbol.result (search rules) ∙ c.jacobi_symbol-symbol.ensures
+    (to_z-of_z w8 c.jacobi_symbol-symbol.result (search rules) ∙ c.jacobi_symbol-symbol.ensures
     ∙ ap (λ k. jacobi z k) c.shift_right.ensures.value)
     ∙ ap (λ b. signed b (jacobi z (n c.args.n / 2 ^ s))) turned
     ∙ sym (above-twos c.args.a_minus (n c.args.a) (n c.args.n) s odd split)

@@ -3,12 +3,13 @@ use Rattle.std.proofs.Common.{arith, rules, ◌∙◌, ap, sym, pos}
 use Rattle.modular_symbols.specs.Jacobi.{jacobi}
 use Rattle.modular_symbols.specs.Kronecker.{signed}
 use Rattle.modular_symbols.proofs.JacobiLaws.{jacobi-residue}
-use Rattle.modular_symbols.proofs.SymbolBytes.{in_byte}
+use Rattle.std.proofs.lemmas.Int.{to_z-of_z}
+use Rattle.std.specs.Int.{w8}
 use Rattle.modular_symbols.proofs.subtraction.jacobi_by_subtraction.Goals as goal
 
 pub returns : goal.returns
 returns g c =
     let n = g.T.RingWord.number in
-    in_byte c.subtract_and_halve.result (search rules) ∙ c.subtract_and_halve.ensures
+    to_z-of_z w8 c.subtract_and_halve.result (search rules) ∙ c.subtract_and_halve.ensures
     ∙ ap (λ v. jacobi (pos v) (n c.args.n)) c.signed_residue.ensures
     ∙ sym (jacobi-residue (signed c.args.a_minus (pos (n c.args.a))) (n c.args.n) (omega (arith, c.requires)))

@@ -14,16 +14,10 @@ halves : (g : Over) (c : goal.After-turn_by_twos g)
     (g.T.RingWord.number c.shift_right.result)
 halves g c =
     let n = g.T.RingWord.number in
-    let some : n c.if-is_zero_word.some ≢ 0 = elim c.if-is_zero_word.branch [
-      | then-is_zero_word w ↦ λ e. let f = ap n w.some-is in omega (arith, c.requires)
-      | else-is_zero_word w ↦
-          λ e.
-          false≢true (sym w.if-is_zero_word.false ∙ c.is_zero_word.ensures.zero.1 (sym (ap n w.some-is) ∙ e))
-    ] in
+    let some : n c.if-is_zero_word.some ≢ 0 = search (arith, then-is_zero_word, else-is_zero_word, false≢true) in
     let fits : n c.if-is_zero_word.some < 2 ^ g.T.RingWord.width =
     omega (arith, c.trailing_zeros-twos.ensures.fits, g.met.T.PathWord.base_is) in
-    halved g.T.RingWord.width (n c.if-is_zero_word.some) c.trailing_zeros-twos.result (n c.shift_right.result) some fits
-    c.trailing_zeros-twos.ensures.value c.shift_right.ensures.value
+    search (arith, halved)
 
 pub returns-clause-odd : goal.returns-clause-odd
 returns-clause-odd g c = (halves g c).odd

@@ -15,14 +15,7 @@ halves : (g : Over) (c : goal.After-shift_right g)
     (g.T.RingWord.number c.shift_right.result)
 halves g c =
     let n = g.T.RingWord.number in
-    let wraps : Wraps g.T.RingWord.width g.T.PathWord.base (n c.wrapping_sub.result) (n c.args.a) (n c.args.n) =
-    record {
-      base_is = g.met.T.PathWord.base_is;
-      sum = c.wrapping_sub.ensures.value;
-      fits = c.wrapping_sub.ensures.fits;
-      a_fits = c.is_below-less.ensures.fits;
-      n_fits = c.is_below-less.ensures.other_fits;
-    } in
+    let wraps : Wraps g.T.RingWord.width g.T.PathWord.base (n c.wrapping_sub.result) (n c.args.a) (n c.args.n) = search arith in
     elim c.if-less.branch [
       | then-less w ↦
           halved_below _ _ _ _ _ (n c.if-less.difference.0) _ _ wraps c.requires.differ

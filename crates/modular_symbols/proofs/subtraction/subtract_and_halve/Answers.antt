@@ -1,5 +1,6 @@
 -- The turns of the loop, and the symbol of two equal numbers.
-use Rattle.modular_symbols.proofs.SymbolBytes.{in_byte}
+use Rattle.std.proofs.lemmas.Int.{to_z-of_z}
+use Rattle.std.specs.Int.{w8}
 use Rattle.std.proofs.Common.{rules, ◌≡◌, ◌+◌, ◌/◌, pos, sym, ap, ◌∙◌, arith}
 use Rattle.modular_symbols.specs.Jacobi.{jacobi}
 use Rattle.modular_symbols.specs.Kronecker.{signed}
@@ -25,7 +26,7 @@ differences-init g c =
 pub returns : goal.returns
 returns g c =
     let n = g.T.RingWord.number in
-    in_byte c.last_symbol.result (search rules)
+    to_z-of_z w8 c.last_symbol.result (search rules)
     ∙ kept_equal_last _ _ (n c.differences.above) (n c.differences.below) (c.differences.swaps / 2 + c.differences.twos) _
     c.differences.invariant.symbol ((g.met.T.RingWord.equal c.differences.above c.differences.below).0
     (is_by_not _ (sym c.ne.ensures ∙ c.differences-test.false))) (xor-parity (c.differences.swaps / 2) c.differences.twos)

@@ -4,10 +4,7 @@ use Rattle.modular_transform.proofs.lists.load_forms.Goals as goal
 use Rattle.modular_transform.proofs.lists.load_forms.Goals.{then-i-words, else-i-words}
 
 pub returns-clause-values : goal.returns-clause-values
-returns-clause-values g c i l =
-    let ring = g.R.Reducer in let m = ring.modulus c.args.r.now in
-    held_entry g.T.RingWord.number ring.form ring.value m c.entries.forms _ _ i c.entries.invariant
-    (omega arith) (omega arith)
+returns-clause-values g c = search (arith, held_entry)
 
 pub entries-preserved : goal.entries-preserved
 entries-preserved g c =

@@ -2,8 +2,7 @@ use Rattle.std.proofs.Common.{◌≡◌, ◌+◌, ◌-◌, ◌<◌, ◌≤◌, l
 use Rattle.std.proofs.lemmas.List.Edits.{swapped_from_swap}
 use Rattle.std.specs.List.{swap}
 use Rattle.modular_transform.specs.Orders.{mirrored}
-use Rattle.modular_transform.proofs.Reordering.{ReorderedSoFar}
-use Rattle.modular_transform.proofs.Reordering.{mirror_exchange, mirrored_other, reordered_swapped}
+use Rattle.modular_transform.proofs.Reordering.{ReorderedSoFar, mirror_exchange, mirrored_other, reordered_swapped}
 use Rattle.modular_transform.proofs.Reordering.{exchanged_of_swapped, reordered_passed, reordered_all}
 use Rattle.modular_transform.proofs.order.mirror.Goals as goal
 use Rattle.modular_transform.proofs.order.mirror.Goals.{then-place-other, else-place-other}

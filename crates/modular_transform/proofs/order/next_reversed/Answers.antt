@@ -1,10 +1,6 @@
-use Rattle.std.proofs.Common.{sym, ◌∙◌, ap, arith}
-use Rattle.modular_transform.specs.Orders.{bits_reversed}
-use Rattle.modular_transform.proofs.BitReversal.{bits_reversed_of_zero, step_in_word}
+use Rattle.std.proofs.Common.{arith}
+use Rattle.modular_transform.proofs.BitReversal.{step_in_word}
 use Rattle.modular_transform.proofs.order.next_reversed.Goals as goal
-
-pub returns-then-place-eq0 : goal.returns-then-place-eq0
-returns-then-place-eq0 c = sym (ap (bits_reversed c.args.bits) c.if-place-eq0.true ∙ bits_reversed_of_zero c.args.bits)
 
 pub overflow_sub-step-2 : goal.overflow_sub-step-2
 overflow_sub-step-2 c =
@@ -32,12 +28,6 @@ overflow_sub-result c =
 
 pub overflow_sub-result-2 : goal.overflow_sub-result-2
 overflow_sub-result-2 c =
-    let step = step_in_word c.args.last c.args.place c.args.bits c.requires.few c.requires.below c.requires.last
-    c.if-place-eq0.false in
-    omega (arith, step.zeros, step.twice, step.small, step.below, step.enough, step.next)
-
-pub returns : goal.returns
-returns c =
     let step = step_in_word c.args.last c.args.place c.args.bits c.requires.few c.requires.below c.requires.last
     c.if-place-eq0.false in
     omega (arith, step.zeros, step.twice, step.small, step.below, step.enough, step.next)

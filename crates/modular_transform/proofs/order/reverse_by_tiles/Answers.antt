@@ -1,36 +1,26 @@
-use Rattle.std.proofs.Common.{◌≡◌, ℕ, ◌+◌, ◌-◌, ◌*◌, ◌/◌, ◌^◌, ◌<◌, ◌≤◌, length, get_or, subst, sym, ◌∙◌, ap, arith}
+use Rattle.std.proofs.Common.{◌≡◌, ◌+◌, ◌-◌, ◌*◌, ◌/◌, ◌^◌, ◌<◌, length, get_or, subst, sym, ◌∙◌, ap, arith}
 use Rattle.std.proofs.lemmas.List.Edits.{swapped_from_swap}
 use Rattle.modular_transform.specs.Orders.{bits_reversed}
 use Rattle.modular_transform.proofs.BitReversal.{bits_reversed_of_zero}
-use Rattle.modular_transform.proofs.Reordering.{ReorderedSoFar, reordered_none, reordered_at}
-use Rattle.modular_transform.proofs.Tiles.{place_of, tiles_reversed, tiles_of_whole, Spot, spot, reversed_below_8}
+use Rattle.modular_transform.proofs.Reordering.{ReorderedSoFar, reordered_at}
+use Rattle.modular_transform.proofs.Tiles.{place_of, tiles_reversed, tiles_of_whole, Spot, spot}
 use Rattle.modular_transform.proofs.Tiles.{spot_swapped, spot_passed, tile_passed, places_reversed}
 use Rattle.modular_transform.proofs.order.reverse_by_tiles.Goals as goal
+use Rattle.modular_transform.proofs.order.reverse_by_tiles.Goals.{After-next_reversed-to_row, then-tile-other-2}
 use Rattle.modular_transform.proofs.order.reverse_by_tiles.Goals.{then-tile-other+else-rows-test, else-tile-other}
-use Rattle.modular_transform.proofs.order.reverse_by_tiles.Goals.{then-tile-other-2}
 use Rattle.modular_transform.proofs.order.reverse_by_tiles.Goals.{then-tile-other-2-via-then-tile-other-2}
 use Rattle.modular_transform.proofs.order.reverse_by_tiles.Goals.{then-tile-other-2-via-else-tile-other-2+then-row-column}
 use Rattle.modular_transform.proofs.order.reverse_by_tiles.Goals.{else-tile-other-2+else-row-column}
 
-spot_of : (bits n tile other row column to_row to_column : ℕ) → 6 ≤ bits → n ≡ 2 ^ bits → tile < n / 8 / 8 → row < 8
-    → column < 8 → other ≡ bits_reversed (bits - 6) tile → to_row ≡ bits_reversed 3 column
-    → to_column ≡ bits_reversed 3 row → Spot (bits - 6) (n / 8) tile other row column to_row to_column
-spot_of bits n tile other row column to_row to_column some whole lt lr lc is_other is_row is_column =
-    let w = tiles_of_whole bits n some whole in
-    spot (bits - 6) (n / 8) tile other row column to_row to_column (omega (arith, w)) (omega (arith, w)) lr lc is_other
-    is_row is_column
-
-pub tiles-init : goal.tiles-init
-tiles-init g c = record {
-  last = sym (bits_reversed_of_zero (c.args.bits - 6));
-  reordered = λ d. reordered_none (2 ^ (c.args.bits - 6) * 64) (tiles_reversed (c.args.bits - 6))
-      (λ t. get_or c.args.entries.now (place_of (length c.args.entries.now / 8) t) d);
-}
-
-pub next_reversed-other-requires-clause-below : goal.next_reversed-other-requires-clause-below
-next_reversed-other-requires-clause-below g c =
+-- the places that change with one another at this row and column
+spot_at : (g : _) (c : After-next_reversed-to_row g) → Spot (c.args.bits - 6) (length c.args.entries.now / 8) c.tiles.tile
+    c.next_reversed-other.result c.rows.row c.columns.column c.next_reversed-to_row.result c.next_reversed-to_column.result
+spot_at g c =
     let w = tiles_of_whole c.args.bits (length c.args.entries.now) c.requires.tiles c.requires.whole in
-    omega (arith, w)
+    spot (c.args.bits - 6) (length c.args.entries.now / 8) c.tiles.tile c.next_reversed-other.result c.rows.row
+    c.columns.column c.next_reversed-to_row.result c.next_reversed-to_column.result
+    (omega (arith, w)) (omega (arith, w)) (omega arith) (omega arith)
+    c.next_reversed-other.ensures c.next_reversed-to_row.ensures c.next_reversed-to_column.ensures
 
 pub rows-init : goal.rows-init
 rows-init g c = record {
@@ -47,65 +37,29 @@ columns-init g c = record {
 }
 
 pub overflow_mul-to_row : goal.overflow_mul-to_row
-overflow_mul-to_row g c =
-    let x = reversed_below_8 c.columns.column in
-    let y = reversed_below_8 c.rows.row in
-    let to_row = c.next_reversed-to_row.ensures in
-    let to_column = c.next_reversed-to_column.ensures in
-    omega (arith, x, y, to_row, to_column)
+overflow_mul-to_row g c = omega (arith, spot_at g (goal.at.overflow_mul-to_row g c).After-next_reversed-to_row)
 
 pub overflow_add-to_row : goal.overflow_add-to_row
-overflow_add-to_row g c =
-    let x = reversed_below_8 c.columns.column in
-    let y = reversed_below_8 c.rows.row in
-    let to_row = c.next_reversed-to_row.ensures in
-    let to_column = c.next_reversed-to_column.ensures in
-    omega (arith, x, y, to_row, to_column)
+overflow_add-to_row g c = omega (arith, spot_at g (goal.at.overflow_add-to_row g c).After-next_reversed-to_row)
 
 pub overflow_mul-to_row-then-tile-other-2 : goal.overflow_mul-to_row-then-tile-other-2
 overflow_mul-to_row-then-tile-other-2 g c =
-    let second =
-    (spot_of c.args.bits (length c.args.entries.now) c.tiles.tile c.next_reversed-other.result c.rows.row
-    c.columns.column c.next_reversed-to_row.result c.next_reversed-to_column.result c.requires.tiles c.requires.whole
-    (omega arith) (omega arith) (omega arith) c.next_reversed-other.ensures c.next_reversed-to_row.ensures
-    c.next_reversed-to_column.ensures).second_below in
-    omega (arith, second)
+    omega (arith, spot_at g (goal.at.overflow_mul-to_row-then-tile-other-2 g c).After-next_reversed-to_row)
 
 pub overflow_mul-other : goal.overflow_mul-other
-overflow_mul-other g c =
-    let second =
-    (spot_of c.args.bits (length c.args.entries.now) c.tiles.tile c.next_reversed-other.result c.rows.row
-    c.columns.column c.next_reversed-to_row.result c.next_reversed-to_column.result c.requires.tiles c.requires.whole
-    (omega arith) (omega arith) (omega arith) c.next_reversed-other.ensures c.next_reversed-to_row.ensures
-    c.next_reversed-to_column.ensures).second_below in
-    omega (arith, second)
+overflow_mul-other g c = omega (arith, spot_at g (goal.at.overflow_mul-other g c).After-next_reversed-to_row)
 
 pub overflow_add-to_row-then-tile-other-2 : goal.overflow_add-to_row-then-tile-other-2
 overflow_add-to_row-then-tile-other-2 g c =
-    let second =
-    (spot_of c.args.bits (length c.args.entries.now) c.tiles.tile c.next_reversed-other.result c.rows.row
-    c.columns.column c.next_reversed-to_row.result c.next_reversed-to_column.result c.requires.tiles c.requires.whole
-    (omega arith) (omega arith) (omega arith) c.next_reversed-other.ensures c.next_reversed-to_row.ensures
-    c.next_reversed-to_column.ensures).second_below in
-    omega (arith, second)
+    omega (arith, spot_at g (goal.at.overflow_add-to_row-then-tile-other-2 g c).After-next_reversed-to_row)
 
 pub overflow_add-to_row-then-tile-other-2-2 : goal.overflow_add-to_row-then-tile-other-2-2
 overflow_add-to_row-then-tile-other-2-2 g c =
-    let second =
-    (spot_of c.args.bits (length c.args.entries.now) c.tiles.tile c.next_reversed-other.result c.rows.row
-    c.columns.column c.next_reversed-to_row.result c.next_reversed-to_column.result c.requires.tiles c.requires.whole
-    (omega arith) (omega arith) (omega arith) c.next_reversed-other.ensures c.next_reversed-to_row.ensures
-    c.next_reversed-to_column.ensures).second_below in
-    omega (arith, second)
+    omega (arith, spot_at g (goal.at.overflow_add-to_row-then-tile-other-2-2 g c).After-next_reversed-to_row)
 
 pub swap-requires-clause-b_in_bounds : goal.swap-requires-clause-b_in_bounds
 swap-requires-clause-b_in_bounds g c =
-    let second =
-    (spot_of c.args.bits (length c.args.entries.now) c.tiles.tile c.next_reversed-other.result c.rows.row
-    c.columns.column c.next_reversed-to_row.result c.next_reversed-to_column.result c.requires.tiles c.requires.whole
-    (omega arith) (omega arith) (omega arith) c.next_reversed-other.ensures c.next_reversed-to_row.ensures
-    c.next_reversed-to_column.ensures).second_below in
-    omega (arith, second)
+    omega (arith, spot_at g (goal.at.swap-requires-clause-b_in_bounds g c).After-next_reversed-to_row)
 
 pub columns-preserved : goal.columns-preserved
 columns-preserved g c =
@@ -117,11 +71,7 @@ columns-preserved g c =
     let to_row = c.next_reversed-to_row.result in
     let to_column = c.next_reversed-to_column.result in
     let step = length c.args.entries.now / 8 in
-    let here = spot_of c.args.bits (length c.args.entries.now) c.tiles.tile c.next_reversed-other.result c.rows.row
-    c.columns.column c.next_reversed-to_row.result c.next_reversed-to_column.result c.requires.tiles c.requires.whole
-    (omega arith) (omega arith) (omega arith) c.next_reversed-other.ensures c.next_reversed-to_row.ensures
-    c.next_reversed-to_column.ensures in
-    let first_below = here.first_below in
+    let here = spot_at g (goal.at.columns-preserved g c).After-next_reversed-to_row in
     let second_below = here.second_below in
     let back : column + 1 - 1 ≡ column = omega arith in
     record {
@@ -136,7 +86,7 @@ columns-preserved g c =
             spot_swapped (bits - 6) step tile other row column to_row to_column (λ k. get_or c.args.entries.now k d)
             (λ k. get_or c.columns.entries k d) (λ k. get_or c.if-tile-other-2.entries k d) here order
             (swapped_from_swap c.columns.entries c.if-tile-other-2.entries (row * step + tile * 8 + column)
-            (to_row * step + other * 8 + to_column) d (omega (arith, first_below)) (omega (arith, second_below))
+            (to_row * step + other * 8 + to_column) d (omega (arith, here.first_below)) (omega (arith, second_below))
             (w.entries-is ∙ w.swap.ensures.after))
             (c.columns.invariant.reordered d)
         | else-tile-other-2+else-row-column w ↦

@@ -9,17 +9,10 @@ use Rattle.modular_transform.proofs.order.reverse_one_by_one.Goals as goal
 use Rattle.modular_transform.proofs.order.reverse_one_by_one.Goals.{then-place-other, else-place-other}
 
 pub places-init : goal.places-init
-places-init g c = record {
-  other = sym (bits_reversed_of_zero c.args.bits);
-  reordered = λ d. reordered_none (length c.args.entries.now) (bits_reversed c.args.bits)
-      (λ k. get_or c.args.entries.now k d);
-}
+places-init g c = search (arith, bits_reversed_of_zero, reordered_none)
 
 pub swap-requires-clause-b_in_bounds : goal.swap-requires-clause-b_in_bounds
-swap-requires-clause-b_in_bounds g c =
-    let b = bits_reversed_below c.args.bits c.places.place in
-    let next = c.next_reversed-other.ensures in
-    omega (arith, b, next)
+swap-requires-clause-b_in_bounds g c = search (arith, bits_reversed_below)
 
 pub places-preserved : goal.places-preserved
 places-preserved g c =

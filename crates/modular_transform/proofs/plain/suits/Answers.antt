@@ -3,11 +3,6 @@ use Rattle.modular_transform.proofs.PowersOfTwo.{power_of_two_tested}
 use Rattle.modular_transform.proofs.PlainSums.{suits_by_power}
 use Rattle.modular_transform.proofs.plain.suits.Goals as goal
 
-pub returns-then-not-is_power_of_two : goal.returns-then-not-is_power_of_two
-returns-then-not-is_power_of_two c =
-    let tested = power_of_two_tested c.args.n in
-    (λ h. cc, λ suits. let t = tested.1 suits.power_of_two in cc)
-
 pub returns : goal.returns
 returns c =
     let power = (power_of_two_tested c.args.n).0 cc in

@@ -1,20 +1,9 @@
 use Rattle.std.proofs.Common.{◌≡◌, ℕ, ◌+◌, ◌-◌, ◌/◌, ◌%◌, ◌^◌, ◌≤◌, inl, inr, sym, ◌∙◌, ap, subst, arith}
 use Rattle.std.proofs.lemmas.Bool.{cases_eq, false≢true}
 use Rattle.modular_transform.specs.Transforms.{Suits}
-use Rattle.modular_transform.proofs.PowersOfTwo.{power_of_two_tested}
 use Rattle.modular_transform.specs.Roots.{root_by}
 use Rattle.modular_transform.proofs.SmallBases.{one_more, power_of_rest}
 use Rattle.modular_transform.proofs.roots.find_root.Goals as goal
-
-pub returns-then-not-is_power_of_two : goal.returns-then-not-is_power_of_two
-returns-then-not-is_power_of_two g c =
-    λ x from below suits.
-    false≢true (sym c.if-not-is_power_of_two.true ∙ c.is_power_of_two.ensures
-    ∙ (power_of_two_tested c.args.n).1 suits.power_of_two)
-
-pub exponent-exponent-requires : goal.exponent-exponent-requires
-exponent-exponent-requires g c =
-    (power_of_two_tested c.args.n).0 (sym c.is_power_of_two.ensures ∙ c.if-not-is_power_of_two.false)
 
 pub bases-init : goal.bases-init
 bases-init g c = record {

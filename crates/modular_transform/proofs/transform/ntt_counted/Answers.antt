@@ -12,8 +12,7 @@ use Rattle.modular_word.proofs.Powers.{pow-one}
 use Rattle.modular_reduced.specs.Entries.{entry}
 use Rattle.modular_reduced.specs.EntryLaws.{entry_at, entry_kept, entry_written}
 use Rattle.modular_reduced.specs.Forms.{IsForm}
-use Rattle.modular_transform.specs.Transforms.{transform}
-use Rattle.modular_transform.specs.Transforms.{Suits}
+use Rattle.modular_transform.specs.Transforms.{transform, Suits}
 use Rattle.modular_transform.proofs.Places.{StagesLeft, stage_offset, stages_left, two_left}
 use Rattle.modular_transform.proofs.PowersOfTwo.{trailing_zeros_of_power, exponent_below}
 use Rattle.modular_transform.proofs.StageLemmas.{BlocksTransform, stages_start}
@@ -152,15 +151,9 @@ passes-init g c =
           let odd : z % 2 ≡ 1 = w.if-stages-eq1.true in
           let sizes = stage_sizes z 0 n (n / 2) 1 (omega (arith, odd)) whole (ap (λ v. v / 2) size) refl in
           let next = sizes.next in
-          let more = sizes.more in
           let some = pow_pos (z - (0 + 1)) in
           let done : d ≡ 0 + 1 = w.done-is in
           let left = ap (λ k. 2 ^ (z - k)) done in
-          let rows = ap (λ k. k * (n / 2)) done in
-          let powers = ap (λ k. 2 ^ k) done in
-          let half = w.half-is in
-          let blocks = w.blocks-is in
-          let products = w.products-is in
           let two : n / 2 + n / 2 ≡ n / 2 * 2 = omega arith in
           let count = products_more z 0 n (n / 2) 1 c.roots.products w.first_stage.result z sizes
           (omega (arith, squares, all, size)) (w.first_stage.ensures.count ∙ two) in
@@ -168,31 +161,26 @@ passes-init g c =
             checked = subst All_forms (sym w.xs-is) w.first_stage.ensures.checked;
             upto = omega (arith, odd, done);
             even = omega (arith, odd, done);
-            half = omega (arith, half, left, next);
-            blocks = omega (arith, blocks, powers, more);
+            half = omega (arith, w.half-is, left, next);
+            blocks = omega (arith, w.blocks-is, ap (λ k. 2 ^ k) done, sizes.more);
             transforms = moved (0 + 1) w.first_stage.new.forms done w.xs-is
                 (blocks_more root z 0 n (n / 2) 1 root x x (of w.first_stage.new.forms) sizes refl (omega (arith, next, some))
                 c.requires.suits (mod_of_eq (sym (pow-one root))) start w.first_stage.ensures.stage);
-            count = omega (arith, products, count, left, rows, done);
+            count = omega (arith, w.products-is, count, left, ap (λ k. k * (n / 2)) done, done);
           }
       | else-stages-eq1 w ↦
           let odd : z % 2 ≢ 1 = w.if-stages-eq1.false in
           let done : d ≡ 0 = w.done-is in
           let left = ap (λ k. 2 ^ (z - k)) done in
-          let rows = ap (λ k. k * (n / 2)) done in
-          let powers = ap (λ k. 2 ^ k) done in
           let one : 2 ^ 0 ≡ 1 = refl in
-          let half = w.half-is in
-          let blocks = w.blocks-is in
-          let products = w.products-is in
           record {
             checked = subst All_forms (sym w.xs-is) c.requires.checked;
             upto = omega (arith, done);
             even = omega (arith, odd, done);
-            half = omega (arith, half, left, size);
-            blocks = omega (arith, blocks, powers, one);
+            half = omega (arith, w.half-is, left, size);
+            blocks = omega (arith, w.blocks-is, ap (λ k. 2 ^ k) done, one);
             transforms = moved 0 c.args.xs.now done w.xs-is start;
-            count = omega (arith, products, squares, all, left, rows, size);
+            count = omega (arith, w.products-is, squares, all, left, ap (λ k. k * (n / 2)) done, size);
           }
     ]
 
@@ -260,11 +248,10 @@ returns-clause-entries g c =
 pub returns-clause-values : goal.returns-clause-values
 returns-clause-values g c j l =
     let kept = c.reverse_places.auto.entries in
-    let same = c.passes.auto.xs in
     held_values g.T.RingWord.number c.reverse_places.new.entries (transform (g.R.Reducer.modulus c.args.r.now)
     (g.R.Reducer.value (g.R.Reducer.modulus c.args.r.now) (g.T.RingWord.number c.args.g.now)) (length c.args.xs.now)
     (entry g.T.RingWord.number g.R.Reducer.value (g.R.Reducer.modulus c.args.r.now) c.args.xs.now)) j
-    (g.met.R.Reducer.canonical c.args.r.now) (returns-clause-entries g c) (omega (arith, kept, same))
+    (g.met.R.Reducer.canonical c.args.r.now) (returns-clause-entries g c) (omega (arith, kept, c.passes.auto.xs))
 
 pub returns-clause-checked : goal.returns-clause-checked
 returns-clause-checked g c = held_checked g.T.RingWord.number c.reverse_places.new.entries (transform (g.R.Reducer.modulus c.args.r.now)

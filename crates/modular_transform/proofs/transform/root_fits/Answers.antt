@@ -9,11 +9,7 @@ use Rattle.modular_transform.proofs.TransformLemmas.{root_more, suits_tested}
 use Rattle.modular_transform.proofs.transform.root_fits.Goals as goal
 
 pub returns-then-not-is_power_of_two : goal.returns-then-not-is_power_of_two
-returns-then-not-is_power_of_two g c = (
-  λ h. absurd (false≢true h),
-  λ suits. absurd (false≢true (sym c.if-not-is_power_of_two.true ∙ c.is_power_of_two.ensures
-      ∙ (power_of_two_tested c.args.n).1 suits.power_of_two)),
-)
+returns-then-not-is_power_of_two g c = search (arith, false≢true, power_of_two_tested)
 
 pub squares-init : goal.squares-init
 squares-init g c = record { form = c.requires; power = mod_of_eq (sym (pow-one _)) }

@@ -1,8 +1,8 @@
-use Rattle.std.proofs.Common.{◌≡◌, ◌+◌, ◌*◌, ◌^◌, refl, arith, subst}
+use Rattle.std.proofs.Common.{◌≡◌, ◌+◌, ◌*◌, arith, subst}
 use Rattle.std.proofs.Math.Nat.{le-add_right, add_assoc, le_antisymm}
 use Rattle.modular_reduced.specs.Entries.{entry}
 use Rattle.modular_transform.proofs.Columns.{IsColumn, column_more, filled_more}
-use Rattle.modular_transform.proofs.FourLemmas.{FoursDone, one_done, columns_joined, blocks_joined, done_by, block_fits}
+use Rattle.modular_transform.proofs.FourLemmas.{FoursDone, one_done, columns_joined, blocks_joined, done_by}
 use Rattle.modular_transform.proofs.StripCounts.{fours_done, strip_counted, width_fits, fours_count_fits}
 use Rattle.modular_transform.proofs.StripPlaces.{strip_offset}
 use Rattle.modular_transform.proofs.TwoStages.{two_stages_done}
@@ -56,17 +56,8 @@ fill-preserved g c =
 
 pub four-requires-clause-powers : goal.four-requires-clause-powers
 four-requires-clause-powers g c =
-    let all = le_antisymm c.fill.auto.i-end c.fill-test.false in
     (c.fill.invariant.filled c.columns.k c.index-firsts-k.result c.index-seconds-k.result c.index-boths-k.result
-    (omega (arith, c.columns-test.true, all))).powers
-
-pub four-requires-clause-within : goal.four-requires-clause-within
-four-requires-clause-within g c =
-    let least = c.min-width.ensures in
-    let fit = block_fits c.each_block.block c.args.blocks c.args.step _ c.each_block-test.true c.requires.whole in (
-      omega (arith, c.columns-test.true, least),
-      omega (arith, fit, c.columns.auto.forms, c.each_block.auto.forms, c.strips.auto.forms),
-    )
+    (omega (arith, c.columns-test.true, le_antisymm c.fill.auto.i-end c.fill-test.false))).powers
 
 pub overflow_add-products-in-columns : goal.overflow_add-products-in-columns
 overflow_add-products-in-columns g c =
@@ -91,17 +82,15 @@ columns-preserved g c =
     let x = of c.each_block.forms in
     let y = of c.columns.forms in
     let z = of c.four.new.forms in
-    let all = le_antisymm c.fill.auto.i-end c.fill-test.false in
     let is = c.fill.invariant.filled k c.index-firsts-k.result c.index-seconds-k.result c.index-boths-k.result
-    (omega (arith, l, all)) in
-    let one = one_done (λ i. w ^ i) (λ i. w ^ (h + i)) (λ i. v ^ i) h p i y z (omega (arith, l, least)) refl refl refl refl
-    (done_by is.first is.second is.both c.four.ensures.done) in
-    let joined = columns_joined {m = m} {h = h} {a = p} {b = p + 1} {c = start} {d = i} {e = i + 1}
-    {p = λ i. w ^ i} {q = λ i. w ^ (h + i)} {s = λ i. v ^ i} x y z (le-add_right start k) (omega arith)
+    (omega (arith, l, le_antisymm c.fill.auto.i-end c.fill-test.false)) in
+    let one : FoursDone m w v h p (p + 1) i (i + 1) y z =
+    one_done h p i y z (omega (arith, l, least)) (done_by is.first is.second is.both c.four.ensures.done) in
+    let joined = columns_joined {h = h} {c = start} {d = i} {e = i + 1} x y z (le-add_right start k) (omega arith)
     (omega (arith, l, least)) c.columns.invariant.done one in
     record {
       checked = c.four.ensures.checked;
-      done = subst (λ e. FoursDone m (λ i. w ^ i) (λ i. w ^ (h + i)) (λ i. v ^ i) h p (p + 1) start e x z)
+      done = subst (λ e. FoursDone m w v h p (p + 1) start e x z)
           (add_assoc start k 1) joined;
       count = omega (arith, c.columns.invariant.count);
     }
@@ -123,12 +112,11 @@ each_block-preserved g c =
     let y = of c.each_block.forms in
     let z = of c.columns.forms in
     let all : c.columns.k ≡ width = le_antisymm c.columns.auto.k-end c.columns-test.false in
-    let here = subst (λ k. FoursDone m (λ i. w ^ i) (λ i. w ^ (h + i)) (λ i. v ^ i) h p (p + 1) start (start + k) y z)
+    let here = subst (λ k. FoursDone m w v h p (p + 1) start (start + k) y z)
     all c.columns.invariant.done in
     record {
       checked = c.columns.invariant.checked;
-      done = blocks_joined {m = m} {h = h} {a = 0} {b = p} {c = start} {d = start + width} {e = p + 1}
-          {p = λ i. w ^ i} {q = λ i. w ^ (h + i)} {s = λ i. v ^ i} x y z (omega arith) (omega arith)
+      done = blocks_joined {h = h} {a = 0} {b = p} {d = start + width} {e = p + 1} x y z (omega arith) (omega arith)
           (width_fits least c.strips.invariant.within) c.each_block.invariant.done here;
       count = fours_done (start * (4 * c.args.blocks + 3) + 3 * width) p c.columns.invariant.count all;
     }
@@ -151,7 +139,7 @@ strips-preserved g c =
     let before = c.strips.invariant in
     let all : c.fill.i ≡ width = le_antisymm c.fill.auto.i-end c.fill-test.false in
     let blocks : c.each_block.block ≡ c.args.blocks = le_antisymm c.each_block.auto.block-end c.each_block-test.false in
-    let strip = subst (λ b. FoursDone m (λ i. w ^ i) (λ i. w ^ (h + i)) (λ i. v ^ i) h 0 b start (start + width) y z)
+    let strip = subst (λ b. FoursDone m w v h 0 b start (start + width) y z)
     blocks c.each_block.invariant.done in
     let within = width_fits c.min-width.ensures before.within in
     record {
@@ -159,8 +147,7 @@ strips-preserved g c =
       column = subst (λ i. IsColumn form value m w v h (start + i) (number c.fill.column.first)
           (number c.fill.column.second) (number c.fill.column.both)) all c.fill.invariant.column;
       within = within;
-      done = columns_joined {m = m} {h = h} {a = 0} {b = c.args.blocks} {c = 0} {d = start} {e = start + width}
-          {p = λ i. w ^ i} {q = λ i. w ^ (h + i)} {s = λ i. v ^ i} x y z (omega arith) (le-add_right start width)
+      done = columns_joined {h = h} {c = 0} {d = start} {e = start + width} x y z (omega arith) (le-add_right start width)
           within before.done strip;
       count = strip_counted start width c.each_block.invariant.count blocks;
     }
@@ -178,5 +165,5 @@ returns-clause-stages g c =
     let e = le_antisymm c.strips.invariant.within c.strips-test.false in
     two_stages_done m w v h c.args.blocks _ x y c.requires.whole
     (λ k l. values_below number g.R.Reducer.form value m c.args.forms.now k c.requires.checked l)
-    (subst (λ d. FoursDone m (λ i. w ^ i) (λ i. w ^ (h + i)) (λ i. v ^ i) h 0 c.args.blocks 0 d x y) e
+    (subst (λ d. FoursDone m w v h 0 c.args.blocks 0 d x y) e
     c.strips.invariant.done)

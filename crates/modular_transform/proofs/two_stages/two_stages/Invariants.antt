@@ -1,4 +1,4 @@
-use Rattle.std.proofs.Common.{◌≡◌, ℕ, ◌+◌, ◌-◌, ◌*◌, ◌^◌, ◌<◌, ◌≤◌, All, slice_index_or}
+use Rattle.std.proofs.Common.{◌≡◌, ℕ, ◌+◌, ◌-◌, ◌*◌, ◌<◌, ◌≤◌, All, slice_index_or}
 use Rattle.modular_reduced.specs.Entries.{entry}
 use Rattle.modular_reduced.specs.Forms.{IsForm}
 use Rattle.modular_transform.proofs.Columns.{IsColumn}
@@ -19,7 +19,7 @@ invariant-strips g l =
       column : IsColumn form value m w v l.step l.start (number l.column.first) (number l.column.second)
           (number l.column.both);
       within : l.start ≤ l.step;
-      done : FoursDone m (λ i. w ^ i) (λ i. w ^ (l.step + i)) (λ i. v ^ i) l.step 0 l.blocks 0 l.start
+      done : FoursDone m w v l.step 0 l.blocks 0 l.start
           (entry number value m l.fn.forms) (entry number value m l.forms);
       count : l.products ≡ l.start * (4 * l.blocks + 3);
     }
@@ -55,7 +55,7 @@ invariant-each_block g l =
     let v = value m (number l.square) in
     record {
       checked : All (λ f. IsForm g.R.Reducer.form value m (number f)) l.forms;
-      done : FoursDone m (λ i. w ^ i) (λ i. w ^ (l.step + i)) (λ i. v ^ i) l.step 0 l.block l.start (l.start + l.width)
+      done : FoursDone m w v l.step 0 l.block l.start (l.start + l.width)
           (entry number value m l.initial.forms) (entry number value m l.forms);
       count : l.products ≡ l.start * (4 * l.blocks + 3) + 3 * l.width + l.block * (4 * l.width);
     }
@@ -70,7 +70,7 @@ invariant-columns g l =
     let v = value m (number l.square) in
     record {
       checked : All (λ f. IsForm g.R.Reducer.form value m (number f)) l.forms;
-      done : FoursDone m (λ i. w ^ i) (λ i. w ^ (l.step + i)) (λ i. v ^ i) l.step l.block (l.block + 1) l.start
+      done : FoursDone m w v l.step l.block (l.block + 1) l.start
           (l.start + l.k) (entry number value m l.initial.forms) (entry number value m l.forms);
       count : l.products ≡ l.start * (4 * l.blocks + 3) + 3 * l.width + l.block * (4 * l.width) + 4 * l.k;
     }

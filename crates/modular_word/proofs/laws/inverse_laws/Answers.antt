@@ -4,23 +4,13 @@ use Rattle.modular_word.proofs.InverseLemmas.{inverse_unique, inverse_of-found, 
 use Rattle.modular_word.proofs.InverseLemmas.{inverse_mod, HasInverse-from_mod, HasInverse-mod}
 use Rattle.modular_word.proofs.laws.inverse_laws.Goals as goal
 
-pub returns-clause-exists : goal.returns-clause-exists
-returns-clause-exists c m a p = HasInverse-gcd a m p
-
-pub returns-clause-coprime : goal.returns-clause-coprime
-returns-clause-coprime c m a p = ((λ h. Coprime-from_IsInverse a m h.0 h.1), HasInverse-from_Coprime a m p)
-
-pub returns-clause-unique : goal.returns-clause-unique
-returns-clause-unique c m a x y p q = inverse_unique m a x y p q
-
-pub returns-clause-named : goal.returns-clause-named
-returns-clause-named c m a = inverse_of-is m a
-
-pub returns-clause-found : goal.returns-clause-found
-returns-clause-found c m a x p = inverse_of-found m a x p
-
-pub returns-clause-residue : goal.returns-clause-residue
-returns-clause-residue c m a x = (inverse_from_mod m a x, inverse_mod m a x)
-
-pub returns-clause-has_residue : goal.returns-clause-has_residue
-returns-clause-has_residue c m a = (HasInverse-from_mod m a, HasInverse-mod m a)
+pub returns : goal.returns
+returns c = record {
+  exists = λ m a p. HasInverse-gcd a m p;
+  coprime = λ m a p. ((λ h. Coprime-from_IsInverse a m h.0 h.1), HasInverse-from_Coprime a m p);
+  unique = λ m a x y p q. inverse_unique m a x y p q;
+  named = λ m a. inverse_of-is m a;
+  found = λ m a x p. inverse_of-found m a x p;
+  residue = λ m a x. (inverse_from_mod m a x, inverse_mod m a x);
+  has_residue = λ m a. (HasInverse-from_mod m a, HasInverse-mod m a);
+}

@@ -34,16 +34,13 @@ divisors-preserved c =
           w.greatest-is ∙ c.divisors.invariant ∙ sym (gcd_up_to-miss a n k miss) ∙ sym step
     ]
 
-pub returns-clause-greatest : goal.returns-clause-greatest
-returns-clause-greatest c =
+pub returns : goal.returns
+returns c =
     let e : c.divisors.below ≡ c.args.n = omega arith in
     let same : c.divisors.greatest ≡ gcd c.args.a c.args.n =
     c.divisors.invariant ∙ ap (λ v. gcd_up_to c.args.a c.args.n v) e in
-    rw same (gcd_is c.args.a c.args.n c.requires)
-
-pub returns-clause-inverse : goal.returns-clause-inverse
-returns-clause-inverse c =
-    let e : c.divisors.below ≡ c.args.n = omega arith in
-    let same : c.divisors.greatest ≡ gcd c.args.a c.args.n =
-    c.divisors.invariant ∙ ap (λ v. gcd_up_to c.args.a c.args.n v) e in
-    rw same (HasInverse-gcd c.args.a c.args.n c.requires)
+    record {
+      computed = same;
+      greatest = rw same (gcd_is c.args.a c.args.n c.requires);
+      inverse = rw same (HasInverse-gcd c.args.a c.args.n c.requires);
+    }

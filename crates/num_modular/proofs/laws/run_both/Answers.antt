@@ -2,30 +2,6 @@ use Rattle.std.proofs.Common.{arith}
 use Rattle.num_modular.proofs.SameRuns.{run_of, run_as, same_end, same_residues}
 use Rattle.num_modular.proofs.laws.run_both.Goals as goal
 
-pub run-left_end-requires-clause-checked : goal.run-left_end-requires-clause-checked
-run-left_end-requires-clause-checked g c = c.requires.left_checked
-
-pub run-left_end-requires-clause-fit : goal.run-left_end-requires-clause-fit
-run-left_end-requires-clause-fit g c = c.requires.left_fit
-
-pub run-right_end-requires-clause-checked : goal.run-right_end-requires-clause-checked
-run-right_end-requires-clause-checked g c = c.requires.right_checked
-
-pub run-right_end-requires-clause-fit : goal.run-right_end-requires-clause-fit
-run-right_end-requires-clause-fit g c = c.requires.right_fit
-
-pub returns-clause-stops : goal.returns-clause-stops
-returns-clause-stops g c = c.run-left_end.ensures.stops
-
-pub returns-clause-done : goal.returns-clause-done
-returns-clause-done g c = c.run-left_end.ensures.done
-
-pub returns-clause-left_values : goal.returns-clause-left_values
-returns-clause-left_values g c = c.run-left_end.ensures.values
-
-pub returns-clause-right_checked : goal.returns-clause-right_checked
-returns-clause-right_checked g c = c.run-right_end.ensures.checked
-
 pub returns-clause-one_end : goal.returns-clause-one_end
 returns-clause-one_end g c =
     let left = c.run-left_end.ensures in

@@ -1,11 +1,7 @@
 use Rattle.std.proofs.Common.{rules, ◌≡◌, ◌∷◌, ◌++◌, ◌+◌, [], take, sym, subst}
-use Rattle.std.proofs.lemmas.List.{take_all}
 use Rattle.num_modular.specs.Program.{AreCommands}
 use Rattle.num_modular.proofs.ProgramLemmas.{unreadable_at, more_read}
 use Rattle.num_modular.proofs.modrun.read_commands.Goals as goal
-
-pub words-init : goal.words-init
-words-init c = subst (AreCommands []) (sym c.new-commands.ensures.items) tt
 
 pub words-preserved : goal.words-preserved
 words-preserved c =
@@ -16,8 +12,3 @@ words-preserved c =
 
 pub returns-in_default : goal.returns-in_default
 returns-in_default c = unreadable_at c.args.words.now c.words.word-index _ c.words-test.true c.in_default.ensures
-
-pub returns : goal.returns
-returns c =
-    subst (λ ws. AreCommands ws c.words.commands.items)
-    (take_all c.words.word-index c.args.words.now c.words-test.false) c.words.invariant

@@ -6,11 +6,6 @@ use Rattle.num_modular.specs.Program.{numbers_to}
 use Rattle.num_modular.proofs.ProgramLemmas.{appends_more, if_ok}
 use Rattle.num_modular.proofs.modrun.write_residues.Goals as goal
 
-pub rest-init : goal.rest-init
-rest-init g c =
-    subst (λ n. Appends (g.O.Write.contents c.args.out.now) (g.O.Write.contents c.write.new.self) (decimal n))
-    c.residue_at.ensures c.in_ok-write.ensures.bytes
-
 pub rest-preserved : goal.rest-preserved
 rest-preserved g c =
     let v : ℕ → ℕ = λ r. slice_index

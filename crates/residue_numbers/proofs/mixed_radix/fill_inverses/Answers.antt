@@ -3,7 +3,6 @@ use Rattle.std.proofs.lemmas.List.{length-set}
 use Rattle.num_modular.specs.Inverses.{IsInverse}
 use Rattle.num_modular.specs.Systems.{range_below}
 use Rattle.num_modular.specs.SystemLaws.{set_more}
-use Rattle.residue_numbers.proofs.MixedRadix.{unit_at}
 use Rattle.residue_numbers.proofs.mixed_radix.fill_inverses.Goals as goal
 
 pub moduli-preserved : goal.moduli-preserved
@@ -16,9 +15,3 @@ moduli-preserved c =
       inverted = set_more c.moduli.inverses place x (λ i r. IsInverse (get_or ms i 0) (range_below i ms) r)
           (omega (arith, before.entries)) before.inverted c.in-Some.ensures.1;
     }
-
-pub unreachable-requires : goal.unreachable-requires
-unreachable-requires c =
-    let ms : List ℕ = c.args.moduli.now in let place : ℕ = c.moduli.place in
-    c.in-None.ensures (c.requires.coprime.positive place c.moduli-test.true)
-    (unit_at ms place c.inverse_laws.ensures.coprime c.requires.coprime c.moduli-test.true)

@@ -1,23 +1,6 @@
-use Rattle.std.proofs.lemmas.Bool.{false≢true}
-use Rattle.num_modular.specs.Callers.{◌≡◌, ◌%◌, length, entry, ◌∙◌, ap, sym, refl, subst, arith}
-use Rattle.num_modular.specs.Polynomials.{polynomial_at, HaveUnitDifferences}
+use Rattle.num_modular.specs.Callers.{◌≡◌, ◌%◌, length, entry, ◌∙◌, ap, sym, refl, arith}
+use Rattle.num_modular.specs.Polynomials.{polynomial_at}
 use Rattle.ring_codes.proofs.erasure.encode_systematic.Goals as goal
-
-pub returns-then-not-interpolate-clause-fit : goal.returns-then-not-interpolate-clause-fit
-returns-then-not-interpolate-clause-fit g c =
-    let ring = g.R.Reducer in let m = ring.modulus c.args.r.now in
-    let x = entry g.T.RingWord.number ring.value m c.args.points.now in (
-      λ t. absurd (false≢true t),
-      λ fit. c.if-not-interpolate.ensures.fit.1 (subst (λ k. HaveUnitDifferences m k x) (sym c.requires.coefficients) fit),
-    )
-
-pub returns-clause-fit : goal.returns-clause-fit
-returns-clause-fit g c =
-    let ring = g.R.Reducer in let m = ring.modulus c.args.r.now in
-    let x = entry g.T.RingWord.number ring.value m c.args.points.now in (
-      λ t. subst (λ k. HaveUnitDifferences m k x) c.requires.coefficients (c.if-not-interpolate.ensures.fit.0 refl),
-      λ fit. refl,
-    )
 
 pub returns-clause-encoding : goal.returns-clause-encoding
 returns-clause-encoding g c t =

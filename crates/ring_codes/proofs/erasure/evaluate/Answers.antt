@@ -1,14 +1,7 @@
 use Rattle.num_modular.specs.Polynomials.{polynomial_at}
-use Rattle.num_modular.specs.Callers.{ℕ, ◌+◌, ◌-◌, ◌%◌, length, ◌∙◌, ap, arith, entry, entry_read, ◌≡◌, form_read}
-use Rattle.ring_codes.proofs.NewtonForms.{value_none, value_more, value_all}
+use Rattle.num_modular.specs.Callers.{ℕ, ◌+◌, ◌-◌, ◌%◌, length, ◌∙◌, ap, arith, entry, entry_read, ◌≡◌}
+use Rattle.ring_codes.proofs.NewtonForms.{value_more, value_all}
 use Rattle.ring_codes.proofs.erasure.evaluate.Goals as goal
-
-pub coefficients-init : goal.coefficients-init
-coefficients-init g c =
-    let m = g.R.Reducer.modulus c.args.r.now in record {
-      checked = c.transform-value.ensures.checked;
-      same = value_none m _ _ _ (c.transform-value.ensures.value ∙ ap (λ v. v % m) c.zero.ensures);
-    }
 
 pub coefficients-preserved : goal.coefficients-preserved
 coefficients-preserved g c =
@@ -21,12 +14,6 @@ coefficients-preserved g c =
           c.mul-product.ensures.value
           (c.add-value.ensures.value ∙ ap (λ v. (v + ring.value m (number c.mul-product.result)) % m) read);
     }
-
-pub add-value-requires-clause-left : goal.add-value-requires-clause-left
-add-value-requires-clause-left g c =
-    let ring = g.R.Reducer in let m = ring.modulus c.args.r.now in
-    form_read g.T.RingWord.number ring.form ring.value m c.args.coefficients.now (length c.args.coefficients.now - 1 - c.coefficients.k) _ c.requires.coefficients (omega arith)
-    c.index-coefficients-i.is
 
 pub returns-clause-value : goal.returns-clause-value
 returns-clause-value g c =

@@ -1,10 +1,8 @@
 use Rattle.std.proofs.lemmas.Bool.{false≢true}
-use Rattle.num_modular.specs.Callers.{length, HasInverse, entry, same_coefficients, ◌∙◌, ap, sym, refl, subst, arith, ◌≤◌, All, IsForm}
+use Rattle.num_modular.specs.Callers.{length, HasInverse, entry, same_coefficients, ◌∙◌, ap, sym, refl, subst, arith, ◌≤◌}
 use Rattle.std.proofs.Common.{le_refl}
-use Rattle.std.proofs.lemmas.List.{length-take-le}
-use Rattle.std.proofs.lemmas.List.Elements.{All-take}
 use Rattle.num_modular.specs.Callers.{mod-eq_of_lt}
-use Rattle.ring_codes.proofs.NewtonForms.{fit_from_products, products_from_fit, inverse_of_product, interpolated}
+use Rattle.ring_codes.proofs.NewtonForms.{fit_from_products, products_from_fit, interpolated}
 use Rattle.ring_codes.proofs.Symbols.{entry_below, entry_front}
 use Rattle.ring_codes.proofs.erasure.interpolate.Goals as goal
 
@@ -18,12 +16,6 @@ returns-then-not-invert_each-clause-fit g c =
           (λ i l. subst (HasInverse m) (sym (c.fill_weights.ensures.values i (omega arith)))
           (products_from_fit m n x positive fit i (omega arith))),
     )
-
-pub divide_differences-requires-clause-inverse : goal.divide_differences-requires-clause-inverse
-divide_differences-requires-clause-inverse g c i l =
-    let m = g.R.Reducer.modulus c.args.r.now in
-    inverse_of_product m _ _ _ (c.fill_weights.ensures.values i (omega arith))
-    (c.if-not-invert_each.ensures.inverses refl i (omega arith))
 
 pub returns-clause-fit : goal.returns-clause-fit
 returns-clause-fit g c =
@@ -59,21 +51,6 @@ returns-clause-only g c t other is i l =
     let below = entry_below number ring.form ring.value m form i c.expand.ensures.checked (omega arith) in
     sym (mod-eq_of_lt below) ∙ same.same
 
-pub fill_weights-requires-clause-within : goal.fill_weights-requires-clause-within
-fill_weights-requires-clause-within g c =
-    subst (λ n. n ≤ length c.args.points.now) (sym c.requires.weights) c.requires.points_within
-
-pub copy_from_slice-requires : goal.copy_from_slice-requires
-copy_from_slice-requires g c =
-    sym (length-take-le _ c.args.values.now
-    (subst (λ n. n ≤ length c.args.values.now) (sym c.invert_each.auto.scratch) c.requires.values_within))
-
-pub divide_differences-requires-clause-values : goal.divide_differences-requires-clause-values
-divide_differences-requires-clause-values g c =
-    let ring = g.R.Reducer in let m = ring.modulus c.args.r.now in
-    subst (λ xs. All (λ f. IsForm ring.form ring.value m (g.T.RingWord.number f)) xs) (sym c.copy_from_slice.ensures.after)
-    (All-take (λ f. IsForm ring.form ring.value m (g.T.RingWord.number f)) (length c.invert_each.new.scratch) c.args.values.now c.requires.values)
-
 pub divide_differences-requires-clause-inverses_within :
     goal.divide_differences-requires-clause-inverses_within
 divide_differences-requires-clause-inverses_within g c =
@@ -86,8 +63,3 @@ pub divide_differences-requires-clause-points_within :
 divide_differences-requires-clause-points_within g c =
     subst (λ n. n ≤ length c.args.points.now)
     (sym (c.copy_from_slice.auto.self ∙ c.invert_each.auto.scratch)) c.requires.points_within
-
-pub expand-requires-clause-within : goal.expand-requires-clause-within
-expand-requires-clause-within g c =
-    subst (λ n. n ≤ length c.args.points.now)
-    (sym (c.divide_differences.auto.values ∙ c.copy_from_slice.auto.self ∙ c.invert_each.auto.scratch)) c.requires.points_within

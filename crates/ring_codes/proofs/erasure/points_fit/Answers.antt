@@ -1,16 +1,9 @@
-use Rattle.num_modular.specs.Callers.{ℕ, ◌%◌, length, ◌∙◌, ap, arith, entry, product_below, product_none, product_step}
+use Rattle.num_modular.specs.Callers.{ℕ, ◌%◌, length, ◌∙◌, arith, entry, product_below, product_step}
 use Rattle.num_modular.specs.Callers.{has_each, has_product}
 use Rattle.ring_codes.specs.Newton.{difference}
 use Rattle.ring_codes.proofs.NewtonForms.{inversion_tells, fit_from_products, products_from_fit, has_of_residue}
 use Rattle.ring_codes.proofs.NewtonForms.{has_to_residue}
 use Rattle.ring_codes.proofs.erasure.points_fit.Goals as goal
-
-pub points-init : goal.points-init
-points-init g c =
-    let m = g.R.Reducer.modulus c.args.r.now in record {
-      checked = c.transform-product.ensures.checked;
-      same = product_none m _ _ (c.transform-product.ensures.value ∙ ap (λ v. v % m) c.one.ensures);
-    }
 
 pub points-preserved : goal.points-preserved
 points-preserved g c =

@@ -8,9 +8,9 @@ use crate::applications::long_product::polynomials::{
 use crate::applications::long_product::{entries_for, room_once_from};
 use crate::plans::PlanEntry;
 
-/// The scratch for a product without plans: the numbers of words, and of factors of all three tables together, for
-/// [`multiply_once`] and its like of polynomials with so many coefficients, as `room` returns them, but for three
-/// tables.
+/// The scratch for a product without plans: `(words, factors)`, the numbers of words, and of factors of all three tables
+/// together, for [`multiply_once`] and its like of polynomials with so many coefficients, as `room` returns them, but
+/// for three tables.
 ///
 /// # Panics
 ///

@@ -6,8 +6,9 @@ use super::syndromes::are_power_sums;
 use crate::{Reducer, RingWord};
 
 // The number of the values that are 0.
+#[must_use]
 #[inline]
-fn count_zeros<T: RingWord, R: Reducer<T>>(r: &R, values: &[T]) -> usize {
+pub fn count_zeros<T: RingWord, R: Reducer<T>>(r: &R, values: &[T]) -> usize {
     let mut count = 0;
     for i in 0..values.len() {
         if r.is_zero(&values[i]) {

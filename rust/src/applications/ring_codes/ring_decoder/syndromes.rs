@@ -115,8 +115,9 @@ pub fn expand_roots<T: RingWord, R: Reducer<T>>(r: &R, points: &[T], coefficient
 }
 
 // The sum of the coefficients, each times its number, from an index of these on.
+#[must_use]
 #[inline]
-fn sum_from<T: RingWord, R: Reducer<T>>(r: &R, coefficients: &[T], numbers: &[T], start: usize) -> T {
+pub fn sum_from<T: RingWord, R: Reducer<T>>(r: &R, coefficients: &[T], numbers: &[T], start: usize) -> T {
     dot_product(r, coefficients, &numbers[start..start + coefficients.len()])
 }
 

@@ -1,4 +1,4 @@
-use Rattle.std.proofs.Common.{◌≡◌, ℕ, ◌*◌, ◌%◌, ◌/◌, ◌<◌, length, slice_index, ◌∙◌, arith}
+use Rattle.std.proofs.Common.{◌≡◌, ℕ, ◌%◌, ◌/◌, ◌<◌, length, slice_index, ◌∙◌, arith}
 use Rattle.std.proofs.Math.Nat.{mod-mod}
 use Rattle.lattice_rings.proofs.Blocks.{AreValues, IsRingPlan, joined}
 use Rattle.lattice_rings.proofs.Dsa.{back_suits, back_inverse}
@@ -10,20 +10,9 @@ join-requires-clause-blocks c =
     let table = c.plan.ensures.table in
     record { some = omega arith; count = (8, omega arith); whole = omega arith; within = omega (arith, table) }
 
-pub join-requires-clause-entries : goal.join-requires-clause-entries
-join-requires-clause-entries c = λ k d l.
-    let below = c.requires k d l in
-    let is = c.plan.ensures.modulus in
-    omega (arith, below, is)
-
 ring : (c : goal.After-join) → IsRingPlan 8380417 1753 8 c.plan.result.modulus.modulus c.plan.result.root c.plan.result.bits
     (length c.args.w.now / 1)
-ring c = record {
-  modulus = c.plan.ensures.modulus;
-  root = c.plan.ensures.root;
-  exponent = c.plan.ensures.bits;
-  count = omega arith;
-}
+ring c = search arith
 
 -- the list is that of each polynomial whose transform was given
 entries : (c : goal.After-join) (x : ℕ → ℕ) → AreValues 8380417 1753 8 1 x (slice_index c.args.w.now)

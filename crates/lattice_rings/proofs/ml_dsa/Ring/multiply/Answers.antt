@@ -1,19 +1,12 @@
-use Rattle.std.proofs.Common.{◌<◌, All, slice_index, refl, sym, arith, subst}
+use Rattle.std.proofs.Common.{slice_index, refl, arith}
 use Rattle.lattice_rings.specs.Rings.{IsDsaProduct}
 use Rattle.lattice_rings.proofs.Blocks.{multiplied_words, product_transformed}
 use Rattle.lattice_rings.proofs.Dsa.{zeta_suits, transform_of, values_of_transform, products_of_places}
 use Rattle.lattice_rings.proofs.ml_dsa.Ring.multiply.Goals as goal
 
-pub multiply-requires-clause-entries : goal.multiply-requires-clause-entries
-multiply-requires-clause-entries c = subst (λ m. All (λ x. x < m) c.args.xs.now) (sym c.plan.ensures.modulus) c.requires.xs
-
 products : (c : goal.After-multiply) → IsDsaProduct (slice_index c.args.xs.now) (slice_index c.args.ys.now)
     (slice_index c.multiply.new.xs)
-products c = record {
-  each = λ i l.
-      multiplied_words c.args.xs.now c.args.ys.now c.multiply.new.xs c.plan.ensures.modulus c.multiply.ensures.products i
-      (omega (arith, l));
-}
+products c = search (arith, multiplied_words)
 
 pub returns-clause-products : goal.returns-clause-products
 returns-clause-products c = products c

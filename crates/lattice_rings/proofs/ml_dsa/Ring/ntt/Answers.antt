@@ -5,12 +5,7 @@ use Rattle.lattice_rings.proofs.ml_dsa.Ring.ntt.Goals as goal
 
 ring : (c : goal.After-split) → IsRingPlan 8380417 1753 8 c.plan.result.modulus.modulus c.plan.result.root c.plan.result.bits
     (length c.args.w.now / 1)
-ring c = record {
-  modulus = c.plan.ensures.modulus;
-  root = c.plan.ensures.root;
-  exponent = c.plan.ensures.bits;
-  count = omega arith;
-}
+ring c = search arith
 
 pub split-requires-clause-blocks : goal.split-requires-clause-blocks
 split-requires-clause-blocks c =

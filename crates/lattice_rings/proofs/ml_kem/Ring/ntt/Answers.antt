@@ -5,23 +5,12 @@ use Rattle.lattice_rings.proofs.ml_kem.Ring.ntt.Goals as goal
 
 ring : (c : goal.After-split) → IsRingPlan 3329 17 7 c.plan.result.modulus.modulus c.plan.result.root c.plan.result.bits
     (length c.args.w.now / 2)
-ring c = record {
-  modulus = c.plan.ensures.modulus;
-  root = c.plan.ensures.root;
-  exponent = c.plan.ensures.bits;
-  count = omega arith;
-}
+ring c = search arith
 
 pub split-requires-clause-blocks : goal.split-requires-clause-blocks
 split-requires-clause-blocks c =
     let table = c.plan.ensures.table in
     record { some = omega arith; count = (7, omega arith); whole = omega arith; within = omega (arith, table) }
-
-pub split-requires-clause-entries : goal.split-requires-clause-entries
-split-requires-clause-entries c = λ k d l.
-    let below = c.requires k d l in
-    let is = c.plan.ensures.modulus in
-    omega (arith, below, is)
 
 pub returns-clause-remainders : goal.returns-clause-remainders
 returns-clause-remainders c = transform_of _ _ (told 2 c.args.w.now c.split.new.xs (ring c) c.split.ensures.remainders)

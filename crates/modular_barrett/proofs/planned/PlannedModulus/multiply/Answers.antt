@@ -1,8 +1,8 @@
 use Rattle.std.proofs.Common.{◌*◌, ◌^◌, ◌<◌, ◌∙◌, ap, sym, subst, arith}
-use Rattle.std.proofs.lemmas.Nat.{pow_pos}
+use Rattle.std.proofs.lemmas.Nat.{mul-lt, pow_pos}
 use Rattle.std.proofs.Math.Nat.{mul-lt-mul_of_pos_right}
 use Rattle.modular_word.specs.Division.{IsDivision}
-use Rattle.modular_barrett.proofs.Quotients.{scaled_rest, scaled_below, divisor_fits}
+use Rattle.modular_barrett.proofs.Quotients.{scaled_rest, divisor_fits}
 use Rattle.modular_barrett.proofs.planned.PlannedModulus.multiply.Goals as goal
 
 pub shift_left-divisor-requires : goal.shift_left-divisor-requires
@@ -25,7 +25,7 @@ div_2by1-rest-requires-clause-high g c =
     let high : n c.shift_left-scaled.result < n c.shift_left-divisor.result =
     omega (arith, less, c.shift_left-divisor.ensures, c.shift_left-scaled.ensures) in
     subst (λ v. v < n c.shift_left-divisor.result * g.T.PathWord.base) (sym c.product.ensures.value)
-    (scaled_below _ _ _ _ high c.product.ensures.other_fits)
+    (mul-lt _ _ _ _ high c.product.ensures.other_fits)
 
 pub returns : goal.returns
 returns g c =

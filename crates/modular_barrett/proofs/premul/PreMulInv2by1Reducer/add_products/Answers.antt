@@ -1,6 +1,5 @@
 use Rattle.std.proofs.Common.{◌≡◌, ℕ, ◌+◌, ◌*◌, ◌/◌, ◌%◌, ◌^◌, ◌≤◌, length, map, slice_index, sym, ap, ◌∙◌, arith}
 use Rattle.modular_word.specs.Sums.{sum_below}
-use Rattle.modular_reduced.specs.Values.{sum_of_products}
 use Rattle.modular_reduced.proofs.FormLemmas.{form_as, form_of_value}
 use Rattle.modular_reduced.proofs.ListProducts.{number_checked, products_of_numbers, products_none}
 use Rattle.modular_barrett.specs.Scaling.{scaled_form, scaled_value}
@@ -8,7 +7,7 @@ use Rattle.modular_barrett.specs.ScaledForms.{scaled_canonical}
 use Rattle.modular_barrett.proofs.ScaledLemmas.{divisor_is, form_below}
 use Rattle.modular_barrett.proofs.ScaledSums.{scaled_products, block_of, block_stands, block_added}
 use Rattle.modular_barrett.proofs.premul.PreMulInv2by1Reducer.add_products.Goals as goal
-use Rattle.modular_barrett.proofs.premul.PreMulInv2by1Reducer.add_products.Goals.{After-each_block, After-reduced_products-reduced}
+use Rattle.modular_barrett.proofs.premul.PreMulInv2by1Reducer.add_products.Goals.{After-reduced_products-reduced}
 
 pub each_block-init : goal.each_block-init
 each_block-init g c = record {
@@ -78,24 +77,14 @@ each_block-preserved g c =
       within = omega (arith, c.min.ensures);
     }
 
--- the value of the result
-summed : (g : _) (c : After-each_block g)
-    → let number = g.T.RingWord.number in let value = scaled_value g.T.RingWord.width in
-    let m = number c.args.self.now.divider.divisor / 2 ^ c.args.self.now.shift in
-    value m (number c.each_block.total)
-    ≡ (value m (number c.args.sum) + sum_of_products number value m c.args.xs.now c.args.ys.now) % m
-summed g c =
+pub returns : goal.returns
+returns g c =
     let number = g.T.RingWord.number in let value = scaled_value g.T.RingWord.width in
     let m = number c.args.self.now.divider.divisor / 2 ^ c.args.self.now.shift in
     let xs = c.args.xs.now in let ys = c.args.ys.now in
     let all : c.each_block.from ≡ length xs = omega (arith, c.each_block.invariant.within) in
     let f = λ (i : ℕ). value m (slice_index (map number xs) i) * value m (slice_index (map number ys) i) in
-    c.each_block.invariant.value
+    let sum = c.each_block.invariant.value
     ∙ ap (λ n. (value m (number c.args.sum) + n) % m)
-    (ap (λ n. sum_below n f) all ∙ products_of_numbers number value m xs ys c.requires.equal)
-
-pub returns-clause-form : goal.returns-clause-form
-returns-clause-form g c = form_as c.each_block.invariant.form (summed g (goal.at.returns-clause-form g c).After-each_block)
-
-pub returns-clause-value : goal.returns-clause-value
-returns-clause-value g c = summed g (goal.at.returns-clause-value g c).After-each_block
+    (ap (λ n. sum_below n f) all ∙ products_of_numbers number value m xs ys c.requires.equal) in
+    record { form = form_as c.each_block.invariant.form sum; checked = c.each_block.invariant.form; value = sum }

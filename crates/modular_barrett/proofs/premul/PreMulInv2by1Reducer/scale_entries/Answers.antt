@@ -26,29 +26,24 @@ multiply_by_factor-requires g c =
     subst (λ m. IsFactor b m value q) (sym c.divisor-divisor.ensures)
     (factor_is b d value q rest (value_below ring.scaling c.residue-value.ensures.form.below) division)
 
-pub returns-clause-entries : goal.returns-clause-entries
-returns-clause-entries g c =
-    let ring = c.args.self.now in let is = ring.scaling in
+pub returns : goal.returns
+returns g c =
+    let ring = c.args.self.now in let is = ring.scaling in let canonical = scaled_canonical is in
     let number = g.T.RingWord.number in let w = g.T.RingWord.width in
     let m = number ring.divider.divisor / 2 ^ ring.shift in let value = scaled_value w in
     let factor = value m (number c.args.factor.now) in let by = number c.residue-value.result in
     let d = number c.divisor-divisor.result in
-    each_taken number (scaled_form w) value m (λ f. (f * by) % d) (λ v. (v * factor) % m) c.args.xs.now
-    c.multiply_by_factor.new.xs
+    let forms = c.multiply_by_factor.new.xs in
+    let held = each_taken number (scaled_form w) value m (λ f. (f * by) % d) (λ v. (v * factor) % m) c.args.xs.now forms
     (λ f form.
     let first : f * by ≡ f * factor = ap (λ v. f * v) c.residue-value.ensures.value in
     let second : f * factor ≡ (value m f * scale w m) * factor = ap (λ v. v * factor) form.same in
     let whole : f * by ≡ (value m f * factor) * scale w m = omega (arith, first, second) in
     stands_for w m d (value m f * factor) ((f * by) % d) is.positive
     (c.divisor-divisor.ensures ∙ divisor_is is) (ap (λ v. v % d) whole))
-    c.requires.checked c.multiply_by_factor.auto.xs c.multiply_by_factor.ensures
-
-pub returns-clause-values : goal.returns-clause-values
-returns-clause-values g c = λ i l.
-    held_values g.T.RingWord.number c.multiply_by_factor.new.xs _ i (scaled_canonical c.args.self.now.scaling)
-    (returns-clause-entries g c) (omega (arith, l, c.multiply_by_factor.auto.xs))
-
-pub returns-clause-checked : goal.returns-clause-checked
-returns-clause-checked g c =
-    held_checked g.T.RingWord.number c.multiply_by_factor.new.xs _ (scaled_canonical c.args.self.now.scaling)
-    (returns-clause-entries g c)
+    c.requires.checked c.multiply_by_factor.auto.xs c.multiply_by_factor.ensures in
+    record {
+      entries = held;
+      values = λ i l. held_values number forms _ i canonical held (omega (arith, l, c.multiply_by_factor.auto.xs));
+      checked = held_checked number forms _ canonical held;
+    }

@@ -1,7 +1,7 @@
-use Rattle.std.proofs.Common.{refl, ◌+◌}
+use Rattle.std.proofs.Common.{◌+◌, ◌%◌}
 use Rattle.modular_word.proofs.Congruence.{same_sum}
 use Rattle.modular_monty.proofs.MontgomerySteps.{sum_made, form_below}
-use Rattle.modular_monty.proofs.TwoPartSteps.{operation_made, high_checked, all_high, one_part}
+use Rattle.modular_monty.proofs.TwoPartSteps.{operation_made, odd_checked, odd_answered}
 use Rattle.modular_monty.proofs.montgomery.MontgomeryReducer.add.Goals as goal
 
 pub add_below-requires : goal.add_below-requires
@@ -9,19 +9,18 @@ add_below-requires g c =
     let r = c.args.self.now.ring in
     let none = c.if-self-eq0.true in
     record {
-      left = form_below r.odd (high_checked r c.requires.left (all_high _ _ none));
-      right = form_below r.odd (high_checked r c.requires.right (all_high _ _ none));
+      left = form_below r.odd (odd_checked r none c.requires.left);
+      right = form_below r.odd (odd_checked r none c.requires.right);
     }
 
 pub returns-then-self-eq0 : goal.returns-then-self-eq0
 returns-then-self-eq0 g c =
+    let n = g.T.RingWord.number in
     let r = c.args.self.now.ring in
     let none = c.if-self-eq0.true in
     let made =
-    sum_made r.odd (high_checked r c.requires.left (all_high _ _ none))
-    (high_checked r c.requires.right (all_high _ _ none)) c.add_below.ensures.value in
-    operation_made r (λ x y. x + y) same_sum c.requires.left c.requires.right
-    (all_high _ _ none) (all_high _ _ none) made.form refl (one_part _ _ _ none)
+    sum_made r.odd (odd_checked r none c.requires.left) (odd_checked r none c.requires.right) c.add_below.ensures.value in
+    odd_answered r none (λ v m. (v (n c.args.a.now) + v (n c.args.b.now)) % m) made.form
 
 pub returns : goal.returns
 returns g c =

@@ -1,6 +1,6 @@
-use Rattle.std.proofs.Common.{refl, ◌*◌}
+use Rattle.std.proofs.Common.{◌*◌, ◌%◌}
 use Rattle.modular_word.proofs.Congruence.{same_product}
-use Rattle.modular_monty.proofs.TwoPartSteps.{operation_made, high_checked, all_high, one_part}
+use Rattle.modular_monty.proofs.TwoPartSteps.{operation_made, odd_checked, odd_answered}
 use Rattle.modular_monty.proofs.montgomery.MontgomeryReducer.mul.Goals as goal
 
 pub mul-requires : goal.mul-requires
@@ -8,16 +8,15 @@ mul-requires g c =
     let r = c.args.self.now.ring in
     let none = c.if-self-eq0.true in
     record {
-      left = high_checked r c.requires.left (all_high _ _ none);
-      right = high_checked r c.requires.right (all_high _ _ none);
+      left = odd_checked r none c.requires.left;
+      right = odd_checked r none c.requires.right;
     }
 
 pub returns-then-self-eq0 : goal.returns-then-self-eq0
 returns-then-self-eq0 g c =
-    let none = c.if-self-eq0.true in
-    operation_made c.args.self.now.ring (λ x y. x * y) same_product c.requires.left c.requires.right
-    (all_high _ _ none) (all_high _ _ none)
-    c.mul.ensures.form refl (one_part _ _ _ none)
+    let n = g.T.RingWord.number in
+    odd_answered c.args.self.now.ring c.if-self-eq0.true (λ v m. (v (n c.args.a.now) * v (n c.args.b.now)) % m)
+    c.mul.ensures.form
 
 pub returns : goal.returns
 returns g c =

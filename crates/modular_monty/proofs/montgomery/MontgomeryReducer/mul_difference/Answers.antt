@@ -1,4 +1,6 @@
-use Rattle.modular_monty.proofs.TwoPartSteps.{difference_product_made, high_checked, all_high, none_low, one_part}
+use Rattle.std.proofs.Common.{◌*◌, ◌%◌, pos, ◌-ℤ◌}
+use Rattle.modular_word.specs.Residues.{residue}
+use Rattle.modular_monty.proofs.TwoPartSteps.{odd_checked, odd_answered}
 use Rattle.modular_monty.proofs.montgomery.MontgomeryReducer.mul_difference.Goals as goal
 
 pub mul_difference-requires : goal.mul_difference-requires
@@ -6,14 +8,14 @@ mul_difference-requires g c =
     let r = c.args.self.now.ring in
     let none = c.if-self-eq0.true in
     record {
-      left = high_checked r c.requires.left (all_high _ _ none);
-      right = high_checked r c.requires.right (all_high _ _ none);
-      factor = high_checked r c.requires.factor (all_high _ _ none);
+      left = odd_checked r none c.requires.left;
+      right = odd_checked r none c.requires.right;
+      factor = odd_checked r none c.requires.factor;
     }
 
 pub returns-then-self-eq0 : goal.returns-then-self-eq0
 returns-then-self-eq0 g c =
-    let none = c.if-self-eq0.true in
-    difference_product_made c.args.self.now.ring 0 c.requires.left c.requires.right c.requires.factor
-    (all_high _ _ none) (all_high _ _ none) (all_high _ _ none)
-    c.mul_difference.ensures.form (none_low _ _ _ none) (one_part _ _ _ none)
+    let n = g.T.RingWord.number in
+    odd_answered c.args.self.now.ring c.if-self-eq0.true
+    (λ v m. (residue m (pos (v (n c.args.a.now)) -ℤ pos (v (n c.args.b.now))) * v (n c.args.factor.now)) % m)
+    c.mul_difference.ensures.form

@@ -1,12 +1,16 @@
+use Rattle.std.proofs.Common.{pos, neg_ℤ}
+use Rattle.modular_word.specs.Residues.{residue}
 use Rattle.modular_monty.specs.TwoPartLaws.{modulus_positive}
-use Rattle.modular_monty.proofs.TwoPartSteps.{below_is_form, negative_made, odd_negative_made, high_checked, all_high}
+use Rattle.modular_monty.proofs.TwoPartSteps.{below_is_form, negative_made, odd_checked, odd_answered}
 use Rattle.modular_monty.proofs.montgomery.MontgomeryReducer.neg.Goals as goal
 
 pub neg-requires : goal.neg-requires
-neg-requires g c = high_checked c.args.self.now.ring c.requires (all_high _ _ c.if-self-eq0.true)
+neg-requires g c = odd_checked c.args.self.now.ring c.if-self-eq0.true c.requires
 
 pub returns-then-self-eq0 : goal.returns-then-self-eq0
-returns-then-self-eq0 g c = odd_negative_made c.args.self.now.ring c.if-self-eq0.true c.requires c.neg.ensures.form
+returns-then-self-eq0 g c =
+    odd_answered c.args.self.now.ring c.if-self-eq0.true
+    (λ v m. residue m (neg_ℤ (pos (v (g.T.RingWord.number c.args.f))))) c.neg.ensures.form
 
 pub sub-requires-clause-left : goal.sub-requires-clause-left
 sub-requires-clause-left g c =

@@ -1,12 +1,12 @@
 use Rattle.std.proofs.Common.{◌+◌, ap, ◌∙◌}
-use Rattle.modular_monty.proofs.TwoPartSteps.{value_made, odd_value_made, turns_fit, low_word, high_checked, all_high}
+use Rattle.modular_monty.proofs.TwoPartSteps.{value_made, turns_fit, low_word, odd_checked, odd_value_answered}
 use Rattle.modular_monty.proofs.montgomery.MontgomeryReducer.residue.Goals as goal
 
 pub residue-requires : goal.residue-requires
-residue-requires g c = high_checked c.args.self.now.ring c.requires (all_high _ _ c.if-self-eq0.true)
+residue-requires g c = odd_checked c.args.self.now.ring c.if-self-eq0.true c.requires
 
 pub returns-then-self-eq0 : goal.returns-then-self-eq0
-returns-then-self-eq0 g c = odd_value_made c.args.self.now.ring c.if-self-eq0.true c.residue.ensures.form
+returns-then-self-eq0 g c = odd_value_answered c.args.self.now.ring c.if-self-eq0.true c.residue.ensures.form
 
 pub plus-requires : goal.plus-requires
 plus-requires g c =

@@ -7,29 +7,24 @@ use Rattle.modular_monty.specs.TwoPartLaws.{two_part_canonical}
 use Rattle.modular_monty.proofs.TwoPartSteps.{scaled_made, all_high, one_part}
 use Rattle.modular_monty.proofs.montgomery.MontgomeryReducer.scale_entries.Goals as goal
 
-pub returns-then-self-eq0-clause-entries : goal.returns-then-self-eq0-clause-entries
-returns-then-self-eq0-clause-entries g c =
+pub returns-then-self-eq0 : goal.returns-then-self-eq0
+returns-then-self-eq0 g c =
     let number = g.T.RingWord.number in let w = g.T.RingWord.width in let value = two_part_value w in
     let none = c.if-self-eq0.true in
     let k = number c.args.self.now.odd.kept.modulus in let m = k * 2 ^ c.args.self.now.twos in
     let by = number c.reduced_factor-value.result.0 in let factor = value m (number c.args.factor.now) in
-    each_taken number (two_part_form w) value m (λ f. (f * by) % k) (λ v. (v * factor) % m) c.args.xs.now
-    c.multiply_by_factor.new.xs
+    let canonical = two_part_canonical c.args.self.now.ring in let forms = c.multiply_by_factor.new.xs in
+    let held = each_taken number (two_part_form w) value m (λ f. (f * by) % k) (λ v. (v * factor) % m) c.args.xs.now forms
     (λ f form.
     (scaled_made c.args.self.now.ring form c.requires.factor (all_high _ f none) c.high.ensures.value
     c.merge-high.ensures.value c.zero.ensures c.reduced_factor-value.ensures.reduction refl refl
     (one_part _ ((f * by) % k) _ none)).form)
-    c.requires.checked c.multiply_by_factor.auto.xs c.multiply_by_factor.ensures
-
-pub returns-then-self-eq0-clause-values : goal.returns-then-self-eq0-clause-values
-returns-then-self-eq0-clause-values g c = λ i l.
-    held_values g.T.RingWord.number c.multiply_by_factor.new.xs _ i (two_part_canonical c.args.self.now.ring)
-    (returns-then-self-eq0-clause-entries g c) (omega (arith, l, c.multiply_by_factor.auto.xs))
-
-pub returns-then-self-eq0-clause-checked : goal.returns-then-self-eq0-clause-checked
-returns-then-self-eq0-clause-checked g c =
-    held_checked g.T.RingWord.number c.multiply_by_factor.new.xs _ (two_part_canonical c.args.self.now.ring)
-    (returns-then-self-eq0-clause-entries g c)
+    c.requires.checked c.multiply_by_factor.auto.xs c.multiply_by_factor.ensures in
+    record {
+      entries = held;
+      values = λ i l. held_values number forms _ i canonical held (omega (arith, l, c.multiply_by_factor.auto.xs));
+      checked = held_checked number forms _ canonical held;
+    }
 
 pub entries-preserved : goal.entries-preserved
 entries-preserved g c =

@@ -1,5 +1,6 @@
-use Rattle.std.proofs.Common.{sym}
-use Rattle.modular_monty.proofs.TwoPartSteps.{difference_made, low_word, high_checked, all_high, none_low, one_part}
+use Rattle.std.proofs.Common.{sym, pos, ◌-ℤ◌}
+use Rattle.modular_word.specs.Residues.{residue}
+use Rattle.modular_monty.proofs.TwoPartSteps.{difference_made, low_word, odd_checked, odd_answered}
 use Rattle.modular_monty.proofs.montgomery.MontgomeryReducer.sub.Goals as goal
 
 pub sub-requires : goal.sub-requires
@@ -7,15 +8,15 @@ sub-requires g c =
     let r = c.args.self.now.ring in
     let none = c.if-self-eq0.true in
     record {
-      left = high_checked r c.requires.left (all_high _ _ none);
-      right = high_checked r c.requires.right (all_high _ _ none);
+      left = odd_checked r none c.requires.left;
+      right = odd_checked r none c.requires.right;
     }
 
 pub returns-then-self-eq0 : goal.returns-then-self-eq0
 returns-then-self-eq0 g c =
-    let none = c.if-self-eq0.true in
-    difference_made c.args.self.now.ring 0 c.requires.left c.requires.right (all_high _ _ none) (all_high _ _ none)
-    c.sub.ensures.form (none_low _ _ _ none) (one_part _ _ _ none)
+    let n = g.T.RingWord.number in
+    odd_answered c.args.self.now.ring c.if-self-eq0.true
+    (λ v m. residue m (pos (v (n c.args.a.now)) -ℤ pos (v (n c.args.b.now)))) c.sub.ensures.form
 
 pub returns : goal.returns
 returns g c =

@@ -3,13 +3,11 @@ use Rattle.modular_word.specs.Congruence.{Congruent}
 use Rattle.modular_word.specs.Sums.{sum_below}
 use Rattle.modular_word.proofs.Congruence.{mod_of_eq}
 use Rattle.modular_word.proofs.Sums.{sum_below-zero}
-use Rattle.modular_reduced.specs.Values.{sum_of_products}
 use Rattle.modular_reduced.proofs.ListProducts.{number_checked, products_of_numbers}
 use Rattle.modular_monty.specs.Montgomery.{montgomery_form, montgomery_value}
 use Rattle.modular_monty.proofs.ReducedSums.{block_added}
 use Rattle.modular_monty.proofs.MontgomerySteps.{Made, form_below, products_made}
 use Rattle.modular_monty.proofs.odd_ring.OddRingReducer.add_products.Goals as goal
-use Rattle.modular_monty.proofs.odd_ring.OddRingReducer.add_products.Goals.{After-each_block}
 
 pub each_block-init : goal.each_block-init
 each_block-init g c =
@@ -50,13 +48,8 @@ each_block-preserved g c =
       within = omega arith;
     }
 
--- the clauses of the result
-sums : (g : _) (c : After-each_block g)
-    → let m = g.M.OddModulus.modulus c.args.self.now.kept in let number = g.T.RingWord.number in
-    let value = montgomery_value g.T.RingWord.width in
-    Made g.T.RingWord.width m (number c.each_block.total)
-    ((value m (number c.args.sum) + sum_of_products number value m c.args.xs.now c.args.ys.now) % m)
-sums g c =
+pub returns : goal.returns
+returns g c =
     let m = g.M.OddModulus.modulus c.args.self.now.kept in let number = g.T.RingWord.number in
     let w = g.T.RingWord.width in let form = montgomery_form w in let value = montgomery_value w in
     let xs = c.args.xs.now in let ys = c.args.ys.now in
@@ -70,12 +63,3 @@ sums g c =
     (number c.args.sum * g.T.PathWord.base + sum_below n (λ i. x i * y i))) all c.each_block.invariant.congruent) in
     subst (λ n. Made w m (number c.each_block.total) ((value m (number c.args.sum) + n) % m))
     (products_of_numbers number value m xs ys c.requires.equal) made
-
-pub returns-clause-form : goal.returns-clause-form
-returns-clause-form g c = (sums g c).form
-
-pub returns-clause-checked : goal.returns-clause-checked
-returns-clause-checked g c = (sums g c).checked
-
-pub returns-clause-value : goal.returns-clause-value
-returns-clause-value g c = (sums g c).value

@@ -1,5 +1,5 @@
 use Rattle.modular_monty.specs.MontgomeryLaws.{montgomery_canonical}
-use Rattle.modular_monty.proofs.MontgomerySteps.{inverted}
+use Rattle.modular_reduced.proofs.FormLemmas.{inverted}
 use Rattle.modular_monty.proofs.odd_ring.OddRingReducer.inv.Goals as goal
 
 pub returns-in-Some : goal.returns-in-Some

@@ -5,40 +5,16 @@ use Rattle.modular_plan_passes.proofs.JoinedPairs.{joined_pair_reduced}
 use Rattle.modular_plan_passes.proofs.join_steps.RoomyModulusJoinSteps.four.Goals as goal
 
 pub gather-e-requires : goal.gather-e-requires
-gather-e-requires g c = record {
-  multiple = multiple_is_none 4 _ c.fourfold-fourfold.ensures;
-  room = (let room = c.args.self.now.room in let is = c.fourfold-fourfold.ensures in omega (arith, room, is));
-  below = (let is = c.fourfold-fourfold.ensures in let l = c.requires.below.first in omega (arith, is, l));
-  other_below = (let is = c.fourfold-fourfold.ensures in let l = c.requires.below.second in omega (arith, is, l));
-  factor = c.requires.factors.low;
-}
+gather-e-requires g c = search (arith, multiple_is_none)
 
 pub gather-g-requires : goal.gather-g-requires
-gather-g-requires g c = record {
-  multiple = multiple_is_none 4 _ c.fourfold-fourfold.ensures;
-  room = (let room = c.args.self.now.room in let is = c.fourfold-fourfold.ensures in omega (arith, room, is));
-  below = (let is = c.fourfold-fourfold.ensures in let l = c.requires.below.third in omega (arith, is, l));
-  other_below = (let is = c.fourfold-fourfold.ensures in let l = c.requires.below.fourth in omega (arith, is, l));
-  factor = c.requires.factors.high;
-}
+gather-g-requires g c = search (arith, multiple_is_none)
 
 pub gather-a-requires : goal.gather-a-requires
-gather-a-requires g c = record {
-  multiple = multiple_is_none 8 _ c.eightfold-eightfold.ensures;
-  room = (let room = c.args.self.now.room in let is = c.eightfold-eightfold.ensures in omega (arith, room, is));
-  below = (let is = c.eightfold-eightfold.ensures in let l = c.requires.below in let e = c.gather-e.ensures.sum in let m = l.first in let k = l.second in omega (arith, is, e, m, k));
-  other_below = (let is = c.eightfold-eightfold.ensures in let l = c.requires.below in let e = c.gather-g.ensures.sum in let m = l.third in let k = l.fourth in omega (arith, is, e, m, k));
-  factor = c.requires.factors.whole;
-}
+gather-a-requires g c = search (arith, multiple_is_none)
 
 pub gather-b-requires : goal.gather-b-requires
-gather-b-requires g c = record {
-  multiple = multiple_is_none 2 _ c.twice.ensures;
-  room = (let room = c.args.self.now.room in let is = c.twice.ensures in omega (arith, room, is));
-  below = (let is = c.twice.ensures in let l = c.gather-e.ensures.product_below in omega (arith, is, l));
-  other_below = (let is = c.twice.ensures in let l = c.gather-g.ensures.product_below in omega (arith, is, l));
-  factor = c.requires.factors.whole;
-}
+gather-b-requires g c = search (arith, multiple_is_none)
 
 pub returns : goal.returns
 returns g c = record {

@@ -1,4 +1,4 @@
-use Rattle.std.proofs.Common.{◌≡◌, ℕ, ◌%◌, ◌<◌, arith, refl, subst, sym}
+use Rattle.std.proofs.Common.{◌≡◌, ℕ, ◌%◌, ◌<◌, arith, subst, sym}
 use Rattle.std.proofs.Math.Nat.{mod-lt}
 use Rattle.modular_plan_passes.specs.Steps.{IsPairSplit}
 use Rattle.modular_word.proofs.Congruence.{mod_of_eq, mod_trans, residue_of}
@@ -17,25 +17,4 @@ residue_below : {m x : ℕ} (y : ℕ) → 0 < m → x ≡ y % m → x < m
 residue_below {m} {x} y some is = subst (λ v. v < m) (sym is) (mod-lt y some)
 
 pub returns : goal.returns
-returns g c =
-    let n = g.T.RingWord.number in
-    let step = c.args.self.now.step in
-    let m = g.M.SplitSteps.modulus step.m in
-    let u = n step.u.value in
-    let v = n step.v.value in
-    let some : 0 < m = (let s = g.met.M.SplitSteps.some step.m in omega (arith, s)) in
-    let split = c.four-a.ensures.done in
-    let a = c.residue in
-    let b = c.residue-second in
-    let d = c.residue-third in
-    let e = c.residue-fourth in
-    record {
-      below = record {
-        first = residue_below _ some a.ensures;
-        second = residue_below _ some b.ensures;
-        third = residue_below _ some d.ensures;
-        fourth = residue_below _ some e.ensures;
-      };
-      done = four_of_pairs (n step.w.value) u v refl refl refl refl split.first split.second
-          (pair_of_residues u a.ensures b.ensures split.low) (pair_of_residues v d.ensures e.ensures split.high);
-    }
+returns g c = search (arith, residue_below, four_of_pairs, pair_of_residues)

@@ -1,3 +1,4 @@
+use Rattle.std.proofs.Common.{arith}
 use Rattle.modular_plan_transforms.proofs.Wholes.{twiddles_of}
 use Rattle.modular_plan_transforms.proofs.plan.Plan.convolve_block.Goals as goal
 
@@ -5,15 +6,7 @@ pub part-part-requires : goal.part-part-requires
 part-part-requires g c = c.requires.blocks.count
 
 pub convolve_scaled-requires : goal.convolve_scaled-requires
-convolve_scaled-requires g c = record {
-  entries_xs = c.requires.entries_xs;
-  entries_ys = c.requires.entries_ys;
-  equal = c.requires.equal;
-  factors = c.args.self.now.factors;
-  blocks = c.requires.blocks;
-  factor = c.part-part.ensures.factor;
-  inverse = c.part-part.ensures.inverse;
-}
+convolve_scaled-requires g c = search arith
 
 pub returns-clause-product : goal.returns-clause-product
 returns-clause-product g c e below =

@@ -1,30 +1,12 @@
-use Rattle.std.proofs.Common.{◌≡◌, ◌<◌, ◌*◌, ◌/◌, length, arith, ◌∙◌, sym, subst}
+use Rattle.std.proofs.Common.{◌<◌, length, arith, ◌∙◌}
 use Rattle.std.proofs.lemmas.Nat.{pow_pos}
-use Rattle.std.specs.Int.{IsPowerOfTwo}
 use Rattle.modular_plan_passes.proofs.Tables.{half_power}
 use Rattle.modular_plan_transforms.proofs.Convolutions.{negacyclic}
 use Rattle.modular_plan_transforms.proofs.Wholes.{twiddles_of}
 use Rattle.modular_plan_transforms.proofs.plan.Plan.convolve_negacyclic.Goals as goal
 
 pub convolve_block-requires : goal.convolve_block-requires
-convolve_block-requires g c =
-    let plan = c.args.self.now in
-    let half = plan.half in
-    let whole = c.requires.whole in
-    let twice : 2 * length plan.table.now ≡ length c.args.xs.now = half ∙ sym whole in
-    let halved : length plan.table.now ≡ length c.args.xs.now / 2 = omega (arith, twice) in
-    record {
-      equal = c.requires.equal;
-      blocks = record {
-        some = omega arith;
-        few = omega arith;
-        count = subst IsPowerOfTwo halved (half_power (plan.bits, half));
-        whole = omega (arith, twice);
-        within = omega (arith, twice);
-      };
-      entries_xs = c.requires.entries_xs;
-      entries_ys = c.requires.entries_ys;
-    }
+convolve_block-requires g c = search (arith, half_power)
 
 pub returns-clause-product : goal.returns-clause-product
 returns-clause-product g c e below =

@@ -13,11 +13,7 @@ test_of : (b q : ℕ) → b < q → IsTrue (nat_lt b q)
 test_of b q h = grind (arith, nat_tests)
 
 pub returns-then-not-is_power_of_two : goal.returns-then-not-is_power_of_two
-returns-then-not-is_power_of_two g c = (
-  λ h. absurd (false≢true h),
-  λ given. absurd (false≢true (sym c.if-not-is_power_of_two.true ∙ c.is_power_of_two.ensures
-      ∙ (power_of_two_tested c.args.n).1 given.0)),
-)
+returns-then-not-is_power_of_two g c = search (arith, false≢true, power_of_two_tested)
 
 pub returns : goal.returns
 returns g c =

@@ -3,9 +3,6 @@ use Rattle.modular_plan_transforms.proofs.Backward.{unscaled}
 use Rattle.modular_plan_transforms.proofs.Wholes.{twiddles_of}
 use Rattle.modular_plan_transforms.proofs.plan.Plan.join.Goals as goal
 
-pub part-part-requires : goal.part-part-requires
-part-part-requires g c = c.requires.blocks.count
-
 pub returns-clause-joined : goal.returns-clause-joined
 returns-clause-joined g c x are i below =
     let n = g.T.RingWord.number in

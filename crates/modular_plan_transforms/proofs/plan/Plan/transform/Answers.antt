@@ -1,19 +1,7 @@
-use Rattle.std.proofs.Common.{length, arith, ◌∙◌}
+use Rattle.std.proofs.Common.{length, ◌∙◌}
 use Rattle.modular_plan_passes.specs.Plans.{numbers}
 use Rattle.modular_plan_transforms.proofs.Wholes.{twiddles_of, root_itself}
 use Rattle.modular_plan_transforms.proofs.plan.Plan.transform.Goals as goal
-
-pub ntt_planned-requires : goal.ntt_planned-requires
-ntt_planned-requires g c =
-    let plan = c.args.self.now in
-    let half = plan.half in
-    let whole = c.requires.whole in
-    record {
-      entries = c.requires.entries;
-      factors = plan.factors;
-      count = (plan.bits, whole);
-      within = omega (arith, half, whole);
-    }
 
 pub returns-clause-values : goal.returns-clause-values
 returns-clause-values g c j below =

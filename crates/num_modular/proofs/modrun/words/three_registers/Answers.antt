@@ -1,9 +1,5 @@
-use Rattle.std.proofs.Common.{[], ◌∷◌}
 use Rattle.num_modular.proofs.CommandTexts.{read_rest}
 use Rattle.num_modular.proofs.modrun.words.three_registers.Goals as goal
-
-pub returns-in_err-dst : goal.returns-in_err-dst
-returns-in_err-dst c = rw c.from_residual.ensures (λ p h. c.in_err-dst.ensures p.0 p.1 (p.2 ∷ []) h.0 h.3)
 
 pub returns-in_err-a : goal.returns-in_err-a
 returns-in_err-a c = rw c.from_residual-in_err-a.ensures

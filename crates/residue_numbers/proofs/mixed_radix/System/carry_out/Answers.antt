@@ -1,6 +1,6 @@
 use Rattle.std.proofs.Common.{◌≡◌, length, arith, sym, ◌∙◌, subst}
 use Rattle.std.proofs.lemmas.List.{length-map}
-use Rattle.residue_numbers.proofs.Runs.{laws_of}
+use Rattle.residue_numbers.proofs.Runs.{Laws}
 use Rattle.residue_numbers.proofs.Columns.{over_whole, AreRunBefore, more_run, more_again, all_run}
 use Rattle.residue_numbers.proofs.mixed_radix.System.carry_out.Goals as goal
 
@@ -43,8 +43,14 @@ again-preserved g c start entries with =
 
 pub returns-clause-run : goal.returns-clause-run
 returns-clause-run g c start entries with =
-    let laws = laws_of c.residue_laws.ensures.residue c.residue_laws.ensures.difference c.remainder_laws.ensures.powers
-    c.inverse_laws.ensures.found c.inverse_laws.ensures.coprime c.inverse_laws.ensures.has_residue in
+    let laws : Laws = record {
+      is_residue = c.residue_laws.ensures.residue;
+      sum = c.residue_laws.ensures.difference;
+      powers = c.remainder_laws.ensures.powers;
+      found = c.inverse_laws.ensures.found;
+      coprime = c.inverse_laws.ensures.coprime;
+      has_residue = c.inverse_laws.ensures.has_residue;
+    } in
     let all : c.moduli.place ≡ length c.args.self.now.moduli.now = omega arith in
     all_run laws c.inverse_laws.ensures.named _ start _ c.moduli.registers _ _ _ _ c.args.self.now.coprime.positive
     (subst (AreRunBefore _ start _ c.moduli.registers _ _) all (c.moduli.invariant.run start entries with))

@@ -1,4 +1,4 @@
-use Rattle.std.proofs.Common.{◌≡◌, ℕ, ◌<◌, ◌≤◌, List, length, map}
+use Rattle.std.proofs.Common.{◌≡◌, ℕ, ◌≤◌, List, length, map}
 use Rattle.residue_numbers.specs.Registers.{StartWith}
 use Rattle.residue_numbers.proofs.Columns.{over_whole, AreRunBefore, HoldBut}
 use Rattle.residue_numbers.proofs.mixed_radix.System.carry_out.Given as goal

@@ -1,6 +1,6 @@
-use Rattle.std.proofs.Common.{◌≡◌, ◌≢◌, ℕ, ◌+◌, ◌*◌, ◌<◌, List, length, get_or, set, arith, sym, ◌∙◌, below_more}
+use Rattle.std.proofs.Common.{◌≡◌, ◌≢◌, ℕ, ◌+◌, ◌*◌, ◌<◌, List, length, get_or, set, arith, ◌∙◌, below_more}
 use Rattle.std.proofs.Math.Nat.{mul-le-mul_left}
-use Rattle.std.proofs.lemmas.List.{length-set, get_or-map, get_or-set_same, get_or-set_other}
+use Rattle.std.proofs.lemmas.List.{length-set, get_or-set_same, get_or-set_other}
 use Rattle.residue_numbers.proofs.Columns.{place_within, other_place}
 use Rattle.residue_numbers.proofs.mixed_radix.runs.unload_column.Goals as goal
 
@@ -24,8 +24,3 @@ registers-preserved g c =
           get_or-set_other words at (r * n + i) x 0 (λ e. other (other_place n r q i place k c.requires.within e))
           ∙ before.kept r i h k other;
     }
-
-pub returns-clause-written : goal.returns-clause-written
-returns-clause-written g c r h =
-    let ring = g.R.Reducer in let m = ring.modulus c.args.reducer.now in
-    c.registers.invariant.written r (omega (arith, h)) ∙ sym (get_or-map (λ f. ring.value m f) c.args.forms.now r 0 0 h)

@@ -1,12 +1,10 @@
-use Rattle.num_modular.specs.Callers.{ℕ, ◌+◌, ◌*◌, ◌-◌, ◌≤◌, ◌∙◌, arith, length}
+use Rattle.num_modular.specs.Callers.{ℕ, ◌+◌, ◌*◌, ◌-◌, ◌≤◌, arith, length}
 use Rattle.num_modular.specs.Callers.{entry}
 use Rattle.num_modular.specs.Callers.{◌/◌}
 use Rattle.ring_codes.proofs.KeyPairs.{ok_then}
 use Rattle.std.proofs.Common.{take, length-take-le}
-use Rattle.std.proofs.lemmas.List.Elements.{All-take}
-use Rattle.num_modular.specs.Callers.{◌≡◌, IsForm}
-use Rattle.ring_codes.proofs.NearPairs.{distance_taken, fit_taken, half_of}
-use Rattle.num_modular.specs.Callers.{sym}
+use Rattle.num_modular.specs.Callers.{◌≡◌}
+use Rattle.ring_codes.proofs.NearPairs.{distance_taken, half_of}
 use Rattle.ring_codes.proofs.erasure.correction.decode.Goals as goal
 
 pub returns-in-Ok-clause-message : goal.returns-in-Ok-clause-message
@@ -28,57 +26,3 @@ returns-in-Ok-clause-message g c =
     h d y sent (omega (arith, c.solve.auto.first, first)) (omega (arith, c.solve.auto.second, second))
     (omega arith) (omega arith) (omega (arith, long)) (omega (arith, weights, long)) pairs (omega (arith, near, front, high, long)))
     c.divide_lighter.ensures.message
-
-pub solve-requires-clause-points : goal.solve-requires-clause-points
-solve-requires-clause-points g c =
-    let ring = g.R.Reducer in let m = ring.modulus c.args.r.now in
-    All-take (λ f. IsForm ring.form ring.value m (g.T.RingWord.number f)) _ c.args.points.now c.requires.points
-
-pub solve-requires-clause-symbols : goal.solve-requires-clause-symbols
-solve-requires-clause-symbols g c =
-    let ring = g.R.Reducer in let m = ring.modulus c.args.r.now in
-    All-take (λ f. IsForm ring.form ring.value m (g.T.RingWord.number f)) _ c.args.symbols.now c.requires.symbols
-
-pub divide_lighter-requires-clause-points : goal.divide_lighter-requires-clause-points
-divide_lighter-requires-clause-points g c =
-    let ring = g.R.Reducer in let m = ring.modulus c.args.r.now in
-    All-take (λ f. IsForm ring.form ring.value m (g.T.RingWord.number f)) _ c.args.points.now c.requires.points
-
-pub solve-requires-clause-symbols_each : goal.solve-requires-clause-symbols_each
-solve-requires-clause-symbols_each g c =
-    let low = (half_of (length c.args.points.now - length c.args.message.now)).0 in
-    let few = c.requires.few in
-    length-take-le _ c.args.symbols.now (omega (arith, few, low, c.requires.pairs))
-    ∙ sym (length-take-le _ c.args.points.now (omega (arith, few, low)))
-
-pub divide_lighter-requires-clause-fit : goal.divide_lighter-requires-clause-fit
-divide_lighter-requires-clause-fit g c =
-    let low = (half_of (length c.args.points.now - length c.args.message.now)).0 in
-    let few = c.requires.few in
-    fit_taken g.T.RingWord.number g.R.Reducer.value _ _ c.args.points.now (omega (arith, few, low)) c.requires.fit
-
-pub slice_bounds-points-end : goal.slice_bounds-points-end
-slice_bounds-points-end g c =
-    let low = (half_of (length c.args.points.now - length c.args.message.now)).0 in let few = c.requires.few in
-    sym (length-take-le _ c.args.points.now (omega (arith, few, low)))
-
-pub slice_bounds-symbols-end : goal.slice_bounds-symbols-end
-slice_bounds-symbols-end g c =
-    let low = (half_of (length c.args.points.now - length c.args.message.now)).0 in let few = c.requires.few in
-    sym (length-take-le _ c.args.symbols.now (omega (arith, few, low, c.requires.pairs)))
-
-pub solve-requires-clause-few : goal.solve-requires-clause-few
-solve-requires-clause-few g c =
-    let s = length c.args.points.now in let k = length c.args.message.now in let count : ℕ = k + 2 * ((s - k) / 2) in
-    let low = (half_of (s - k)).0 in let few = c.requires.few in
-    let within : count ≤ s = omega (arith, few, low) in
-    let long : length (take count c.args.points.now) ≡ count = length-take-le count c.args.points.now within in
-    omega (arith, long)
-
-pub divide_lighter-requires-clause-few : goal.divide_lighter-requires-clause-few
-divide_lighter-requires-clause-few g c =
-    let s = length c.args.points.now in let k = length c.args.message.now in let count : ℕ = k + 2 * ((s - k) / 2) in
-    let low = (half_of (s - k)).0 in let few = c.requires.few in
-    let within : count ≤ s = omega (arith, few, low) in
-    let long : length (take count c.args.points.now) ≡ count = length-take-le count c.args.points.now within in
-    omega (arith, long)

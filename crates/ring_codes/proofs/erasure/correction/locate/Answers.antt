@@ -1,13 +1,11 @@
-use Rattle.num_modular.specs.Callers.{◌≡◌, ◌∙◌, ℕ, ◌<◌, sym, refl, arith, subst, length, entry}
+use Rattle.num_modular.specs.Callers.{◌∙◌, ℕ, sym, refl, arith, subst, length, entry}
 use Rattle.std.proofs.lemmas.Bool.{false≢true}
-use Rattle.num_modular.specs.Polynomials.{HaveUnitDifferences}
-use Rattle.std.proofs.Common.{slice_index}
-use Rattle.ring_codes.specs.Erasure.{ArePlaces, IsFault}
+use Rattle.ring_codes.specs.Erasure.{IsFault}
 use Rattle.std.proofs.Common.{rules, List, ◌≤◌}
 use Rattle.ring_codes.specs.Correction.{ArePlacesAtFault}
 use Rattle.ring_codes.specs.declared.erasure.RestoreError.{RestoreError}
 use Rattle.ring_codes.specs.declared.erasure.RestoreError.TheVariants.{TooFewSymbols, PlaceOutOfRange, PlaceTwice, PointsDontFit}
-use Rattle.ring_codes.proofs.Symbols.{entry_chosen, fit_same}
+use Rattle.ring_codes.proofs.Symbols.{are_chosen}
 use Rattle.ring_codes.proofs.erasure.correction.locate.Goals as goal
 
 -- a fault of s places, of which there are at least k
@@ -28,46 +26,24 @@ returns-in-Err g c =
 
 pub returns-then-points_fit : goal.returns-then-points_fit
 returns-then-points_fit g c =
-    let ring = g.R.Reducer in let m = ring.modulus c.args.r.now in let number = g.T.RingWord.number in
-    let points = c.args.points.now in let places = c.args.places.now in let s = length places in
-    let right = subst (λ k. ArePlaces k (length points) places) c.requires.room (c.in-Ok.ensures.places refl) in
-    let chosen = c.choose.new.chosen in
-    let same : (i : ℕ) → i < s → entry number ring.value m chosen i
-    ≡ entry number ring.value m points (slice_index places i) =
-    λ i l. entry_chosen number ring.value m points chosen i (slice_index places i)
-    (λ d. c.in-Ok.ensures.chosen refl i d (omega (arith, c.requires.room, l))) (omega (arith, c.requires.room, l))
-    (right.within i l) in
-    let differences = c.points_fit.ensures.0 c.if-points_fit.true in
-    let count : length chosen ≡ s = omega (arith, c.requires.room) in
-    record {
-      fit = record {
-        enough = c.if-places-k.false;
-        right = right;
-        points = fit_same m s (entry number ring.value m chosen)
-            (λ i. entry number ring.value m points (slice_index places i)) same
-            (subst (λ k. HaveUnitDifferences m k (entry number ring.value m chosen)) count differences);
-      };
+    let ring = g.R.Reducer in
+    let is = are_chosen g.T.RingWord.number ring.value (ring.modulus c.args.r.now) _ (length c.args.places.now) c.args.points.now
+    c.choose.new.chosen c.args.places.now c.choose.auto.chosen c.requires.room (c.in-Ok.ensures.places refl)
+    (c.in-Ok.ensures.chosen refl) in
+    let differences = c.points_fit.ensures.0 c.if-points_fit.true in record {
+      fit = record { enough = c.if-places-k.false; right = is.right; points = is.fit.0 (rw is.count at differences) };
       checked = search rules;
-      pairs = count;
-      same = same;
+      pairs = is.count;
+      same = is.same;
       differences = differences;
     }
 
 pub returns-else-points_fit : goal.returns-else-points_fit
 returns-else-points_fit g c =
-    let ring = g.R.Reducer in let m = ring.modulus c.args.r.now in let number = g.T.RingWord.number in
-    let points = c.args.points.now in let places = c.args.places.now in let s = length places in
-    let right = subst (λ k. ArePlaces k (length points) places) c.requires.room (c.in-Ok.ensures.places refl) in
-    let chosen = c.choose.new.chosen in
-    let count : length chosen ≡ s = omega (arith, c.requires.room) in (
+    let ring = g.R.Reducer in
+    let is = are_chosen g.T.RingWord.number ring.value (ring.modulus c.args.r.now) _ (length c.args.places.now) c.args.points.now
+    c.choose.new.chosen c.args.places.now c.choose.auto.chosen c.requires.room (c.in-Ok.ensures.places refl)
+    (c.in-Ok.ensures.chosen refl) in (
       c.if-places-k.false,
-      (
-        right,
-        λ fit. false≢true (sym c.if-points_fit.false ∙ c.points_fit.ensures.1
-            (subst (λ k. HaveUnitDifferences m k (entry number ring.value m chosen)) (sym count)
-            (fit_same m s (λ i. entry number ring.value m points (slice_index places i)) (entry number ring.value m chosen)
-            (λ i l. sym (entry_chosen number ring.value m points chosen i (slice_index places i)
-            (λ d. c.in-Ok.ensures.chosen refl i d (omega (arith, c.requires.room, l))) (omega (arith, c.requires.room, l))
-            (right.within i l))) fit))),
-      ),
+      (is.right, λ fit. false≢true (sym c.if-points_fit.false ∙ c.points_fit.ensures.1 (rw is.count (is.fit.1 fit)))),
     )

@@ -1,5 +1,5 @@
 use Rattle.num_modular.specs.Callers.{◌*◌, ◌%◌, ◌∙◌, ap, arith}
-use Rattle.num_modular.specs.Callers.{entry, entry_at, entry_read, form_read, forms_written, done_more}
+use Rattle.num_modular.specs.Callers.{entry, entry_at, entry_read, forms_written, done_more}
 use Rattle.num_modular.specs.NumberLaws.{mod_of_eq, mod_trans, residue_of}
 use Rattle.ring_codes.proofs.NewtonForms.{subtracted}
 use Rattle.ring_codes.proofs.erasure.key_equation.eliminate.Goals as goal
@@ -23,9 +23,3 @@ coefficients-preserved g c =
       forms_written number ring.form ring.value m list i c.sub.result c.sub.ensures.checked so_far.0,
       done_more number ring.value m list i c.sub.result _ old (omega arith) so_far.1 one,
     )
-
-pub mul-product-requires-clause-right : goal.mul-product-requires-clause-right
-mul-product-requires-clause-right g c =
-    let ring = g.R.Reducer in let m = ring.modulus c.args.r.now in
-    form_read g.T.RingWord.number ring.form ring.value m c.args.pivots.now c.coefficients.i _ c.requires.pivots
-    (omega (arith, c.requires.equal)) c.index-pivots-i.is

@@ -1,7 +1,5 @@
-use Rattle.std.proofs.Common.{drop, All, subst, sym, ◌≡◌, ◌+◌, ◌∙◌, length}
-use Rattle.std.proofs.lemmas.List.Elements.{All-take, All-drop, All-append}
-use Rattle.num_modular.specs.Callers.{IsForm, entry, entry_past, arith}
-use Rattle.ring_codes.specs.KeyEquations.{IsKeyPair}
+use Rattle.std.proofs.Common.{◌≡◌, ◌+◌, ◌∙◌, length}
+use Rattle.num_modular.specs.Callers.{entry_past, arith}
 use Rattle.ring_codes.proofs.KeyPairs.{raised}
 use Rattle.ring_codes.proofs.Pairs.{joined_pair}
 use Rattle.ring_codes.proofs.erasure.key_equation.raise.Goals as goal
@@ -13,11 +11,7 @@ returns-clause-pair g c d k i u x y whole lengths room at pair =
     let front = c.split_at_mut-numerator.result.0.now in let back = c.split_at_mut-numerator.result.1.now in
     let is_c : length front ≡ split = c.split_at_mut-numerator.ensures.front_len in
     let is_d : length back ≡ d = omega (arith, c.split_at_mut-numerator.ensures.back_len, whole) in
-    let parts : IsKeyPair m k split d i u x y (entry number ring.value m front) (entry number ring.value m back) =
-    subst (λ b. IsKeyPair m k split d i u x y (entry number ring.value m front) (entry number ring.value m b))
-    (sym c.split_at_mut-numerator.ensures.back)
-    (subst (λ a. IsKeyPair m k split d i u x y (entry number ring.value m a) (entry number ring.value m (drop split list)))
-    (sym c.split_at_mut-numerator.ensures.front) pair) in
+    let parts = rw (← c.split_at_mut-numerator.ensures.front, ← c.split_at_mut-numerator.ensures.back) at pair in
     let long_c = c.multiply_by_root.auto.coefficients in let long_d = c.multiply_by_root-2.auto.coefficients in
     joined_pair number ring.value m k split d (i + 1) (u + 2) x y c.multiply_by_root.new.coefficients
     c.multiply_by_root-2.new.coefficients (long_c ∙ is_c)
@@ -26,21 +20,3 @@ returns-clause-pair g c d k i u x y whole lengths room at pair =
     (λ l b. c.multiply_by_root-2.ensures.product l (omega (arith, b, is_d)))
     (λ l b. entry_past number ring.value m c.multiply_by_root.new.coefficients l (omega (arith, b, is_c, long_c)))
     (λ l b. entry_past number ring.value m c.multiply_by_root-2.new.coefficients l (omega (arith, b, is_d, long_d))) parts)
-
-pub multiply_by_root-requires-clause-coefficients : goal.multiply_by_root-requires-clause-coefficients
-multiply_by_root-requires-clause-coefficients g c =
-    let ring = g.R.Reducer in let m = ring.modulus c.args.r.now in
-    subst (λ xs. All (λ f. IsForm ring.form ring.value m (g.T.RingWord.number f)) xs) (sym c.split_at_mut-numerator.ensures.front)
-    (All-take (λ f. IsForm ring.form ring.value m (g.T.RingWord.number f)) c.args.split c.args.pair.now c.requires.pair)
-
-pub multiply_by_root-requires-2-clause-coefficients : goal.multiply_by_root-requires-2-clause-coefficients
-multiply_by_root-requires-2-clause-coefficients g c =
-    let ring = g.R.Reducer in let m = ring.modulus c.args.r.now in
-    subst (λ xs. All (λ f. IsForm ring.form ring.value m (g.T.RingWord.number f)) xs) (sym c.split_at_mut-numerator.ensures.back)
-    (All-drop (λ f. IsForm ring.form ring.value m (g.T.RingWord.number f)) c.args.split c.args.pair.now c.requires.pair)
-
-pub returns-clause-checked : goal.returns-clause-checked
-returns-clause-checked g c =
-    let ring = g.R.Reducer in let m = ring.modulus c.args.r.now in
-    All-append (λ f. IsForm ring.form ring.value m (g.T.RingWord.number f)) c.multiply_by_root.new.coefficients
-    c.multiply_by_root-2.new.coefficients c.multiply_by_root.ensures.checked c.multiply_by_root-2.ensures.checked

@@ -1,7 +1,7 @@
 use Rattle.num_modular.specs.Callers.{◌∙◌, arith, inl, inr, length}
 use Rattle.num_modular.specs.Callers.{entry_past, entry_kept, held_entry}
 use Rattle.std.proofs.lemmas.Bool.{cases_lt}
-use Rattle.num_modular.specs.Callers.{◌<◌, ◌≤◌, ◌%◌, ap, sym, subst, hold_more, held_forms, forms_written, entry_written}
+use Rattle.num_modular.specs.Callers.{◌<◌, ◌%◌, ap, sym, subst, hold_more}
 use Rattle.ring_codes.proofs.Counts.{zero_mod}
 use Rattle.ring_codes.proofs.erasure.key_equation.set_unit.Goals as goal
 
@@ -24,18 +24,3 @@ coefficients-preserved g c =
     hold_more number ring.form ring.value m list i c.transform-zero.result (λ k. 0) within c.coefficients.invariant
     c.transform-zero.ensures.checked
     (c.transform-zero.ensures.value ∙ ap (λ v. v % m) c.zero.ensures ∙ zero_mod m)
-
-pub returns-clause-checked : goal.returns-clause-checked
-returns-clause-checked g c =
-    let ring = g.R.Reducer in let m = ring.modulus c.args.r.now in let number = g.T.RingWord.number in
-    let list = c.coefficients.coefficients in
-    let all : length list ≤ c.coefficients.i = subst (λ n. n ≤ c.coefficients.i) (sym c.coefficients.auto.coefficients) c.coefficients-test.false in
-    forms_written number ring.form ring.value m list c.args.place _ c.transform-one.ensures.checked
-    (held_forms number ring.form ring.value m list (λ k. 0) c.coefficients.i c.coefficients.invariant all)
-
-pub returns-clause-one : goal.returns-clause-one
-returns-clause-one g c =
-    let ring = g.R.Reducer in let m = ring.modulus c.args.r.now in let number = g.T.RingWord.number in
-    entry_written number ring.value m c.coefficients.coefficients c.args.place _
-    (subst (λ n. c.args.place < n) (sym c.coefficients.auto.coefficients) c.requires)
-    ∙ c.transform-one.ensures.value ∙ ap (λ v. v % m) c.one.ensures

@@ -1,8 +1,7 @@
 use Rattle.std.proofs.Common.{take, drop}
-use Rattle.num_modular.specs.Callers.{◌≡◌, ◌-◌, ◌<◌, ◌≤◌, ◌∙◌, sym, arith, subst, length}
-use Rattle.num_modular.specs.Callers.{entry, entry_read, form_read}
+use Rattle.num_modular.specs.Callers.{◌≡◌, ◌-◌, ◌<◌, ◌∙◌, sym, arith, subst, length}
+use Rattle.num_modular.specs.Callers.{entry, entry_read}
 use Rattle.ring_codes.specs.KeyEquations.{AreKeyPairs}
-use Rattle.std.proofs.Math.Nat.{le_of_lt}
 use Rattle.ring_codes.proofs.Counts.{weights_first}
 use Rattle.ring_codes.proofs.Pairs.{unit_pairs}
 use Rattle.ring_codes.proofs.erasure.key_equation.solve.Goals as goal
@@ -51,19 +50,3 @@ symbols-init g c =
           c.requires.positive wide (omega (arith, long, c.requires.some)) (omega (arith, long_too, c.requires.equal, c.requires.some))
           c.set_unit.ensures.one c.set_unit.ensures.others c.set_unit-2.ensures.one c.set_unit-2.ensures.others,
     )
-
-pub advance-requires-clause-point : goal.advance-requires-clause-point
-advance-requires-clause-point g c =
-    let ring = g.R.Reducer in let m = ring.modulus c.args.r.now in
-    form_read g.T.RingWord.number ring.form ring.value m c.args.points.now c.symbols.i _ c.requires.points
-    c.symbols-test.true c.index-points-i.is
-
-pub advance-requires-clause-symbol : goal.advance-requires-clause-symbol
-advance-requires-clause-symbol g c =
-    let ring = g.R.Reducer in let m = ring.modulus c.args.r.now in
-    form_read g.T.RingWord.number ring.form ring.value m c.args.symbols.now c.symbols.i _ c.requires.symbols
-    (subst (λ n. c.symbols.i < n) (sym c.requires.symbols_each) c.symbols-test.true) c.index-symbols-i.is
-
-pub advance-requires-clause-within : goal.advance-requires-clause-within
-advance-requires-clause-within g c =
-    subst (λ n. c.args.split ≤ n) (sym (c.symbols.auto.first ∙ c.set_unit.auto.coefficients)) (le_of_lt c.requires.some)

@@ -1,5 +1,5 @@
 use Rattle.std.proofs.Common.{pos, ◌-ℤ◌, set}
-use Rattle.num_modular.specs.Callers.{◌≢◌, ◌*◌, ◌%◌, ◌∙◌, ap, arith, entry, entry_at, entry_read, entry_written, entry_kept, ◌≡◌, length}
+use Rattle.num_modular.specs.Callers.{◌≢◌, ◌*◌, ◌%◌, ◌∙◌, ap, arith, entry, entry_at, entry_read, entry_written, entry_kept}
 use Rattle.num_modular.specs.Callers.{form_read, forms_written}
 use Rattle.num_modular.specs.Residues.{residue}
 use Rattle.ring_codes.specs.Newton.{newton_form}
@@ -35,23 +35,3 @@ points-preserved g c =
       λ k l. let other : k ≢ i = omega arith in
           entry_kept number ring.value m values i k c.mul.result other ∙ so_far.2 k (omega arith),
     )
-
-pub newton_value-known-requires-clause-point : goal.newton_value-known-requires-clause-point
-newton_value-known-requires-clause-point g c =
-    let ring = g.R.Reducer in let m = ring.modulus c.args.r.now in
-    form_read g.T.RingWord.number ring.form ring.value m c.args.points.now c.points.i _ c.requires.points (omega arith)
-    c.index-points-i.is
-
-pub mul-requires-clause-right : goal.mul-requires-clause-right
-mul-requires-clause-right g c =
-    let ring = g.R.Reducer in let m = ring.modulus c.args.r.now in
-    form_read g.T.RingWord.number ring.form ring.value m c.args.inverses.now c.points.i _ c.requires.inverses (omega arith)
-    c.index-inverses-i.is
-
-pub returns-clause-values : goal.returns-clause-values
-returns-clause-values g c i l =
-    let ring = g.R.Reducer in let m = ring.modulus c.args.r.now in let number = g.T.RingWord.number in
-    let x = entry number ring.value m c.args.points.now in
-    let count : length c.args.values.now ≡ c.points.i = omega arith in
-    ap (λ n. newton_form m n (entry number ring.value m c.points.values) x (x i) % m) count
-    ∙ c.points.invariant.1 i (omega (arith, l))

@@ -1,10 +1,7 @@
-use Rattle.num_modular.specs.Callers.{◌≡◌, ◌+◌, ◌-◌, ◌*◌, length, ◌∙◌, ap, sym, refl, arith, entry, entry_read, form_read}
+use Rattle.num_modular.specs.Callers.{◌≡◌, ◌+◌, ◌-◌, ◌*◌, length, ◌∙◌, ap, sym, refl, arith, entry, entry_read}
 use Rattle.num_modular.specs.NumberLaws.{mod_of_eq, mod_trans}
 use Rattle.num_modular.specs.PolynomialLaws.{polynomial-none}
 use Rattle.ring_codes.proofs.NewtonForms.{form-none, expanded_more, expanded_all}
-use Rattle.ring_codes.proofs.Symbols.{back_within}
-use Rattle.std.proofs.Math.Nat.{le_refl}
-use Rattle.num_modular.specs.Callers.{◌<◌, subst}
 use Rattle.ring_codes.proofs.erasure.newton.expand.Goals as goal
 
 pub points-init : goal.points-init
@@ -38,13 +35,3 @@ returns-clause-same g c =
     let points = c.args.points.now in
     expanded_all m (length c.args.form.now) c.points.k (entry number ring.value m c.args.form.now)
     (entry number ring.value m c.points.form) (entry number ring.value m points) (omega arith) c.points.invariant.1
-
-pub subtract_multiples-requires-clause-point : goal.subtract_multiples-requires-clause-point
-subtract_multiples-requires-clause-point g c =
-    let ring = g.R.Reducer in let m = ring.modulus c.args.r.now in
-    form_read g.T.RingWord.number ring.form ring.value m c.args.points.now (length c.points.form - 1 - c.points.k) _ c.requires.points (omega arith)
-    c.index-points-from.is
-
-pub subtract_multiples-requires-clause-within : goal.subtract_multiples-requires-clause-within
-subtract_multiples-requires-clause-within g c =
-    back_within _ _ _ (subst (λ n. c.points.k < n) (sym c.points.auto.form) c.points-test.true) (le_refl _)

@@ -1,16 +1,9 @@
 use Rattle.ring_codes.specs.Newton.{newton_form}
 use Rattle.std.proofs.Common.{pos, ◌-ℤ◌}
-use Rattle.num_modular.specs.Callers.{ℕ, ◌+◌, ◌-◌, ◌%◌, ◌∙◌, ap, arith, entry, entry_read, ◌≡◌, form_read}
+use Rattle.num_modular.specs.Callers.{ℕ, ◌+◌, ◌-◌, ◌%◌, ◌∙◌, ap, arith, entry, entry_read, ◌≡◌}
 use Rattle.num_modular.specs.Residues.{residue}
-use Rattle.ring_codes.proofs.NewtonForms.{form_nothing, form_before, form_all}
+use Rattle.ring_codes.proofs.NewtonForms.{form_before, form_all}
 use Rattle.ring_codes.proofs.erasure.newton.newton_value.Goals as goal
-
-pub coefficients-init : goal.coefficients-init
-coefficients-init g c =
-    let m = g.R.Reducer.modulus c.args.r.now in record {
-      checked = c.transform-value.ensures.checked;
-      same = form_nothing m _ _ _ _ (c.transform-value.ensures.value ∙ ap (λ v. v % m) c.zero.ensures);
-    }
 
 pub coefficients-preserved : goal.coefficients-preserved
 coefficients-preserved g c =
@@ -28,18 +21,6 @@ coefficients-preserved g c =
           c.mul-product.ensures.value
           (c.add-value.ensures.value ∙ ap (λ v. (v + ring.value m (number c.mul-product.result)) % m) read);
     }
-
-pub sub-difference-requires-clause-right : goal.sub-difference-requires-clause-right
-sub-difference-requires-clause-right g c =
-    let ring = g.R.Reducer in let m = ring.modulus c.args.r.now in
-    form_read g.T.RingWord.number ring.form ring.value m c.args.points.now (c.args.count - 1 - c.coefficients.k) _ c.requires.points (omega arith)
-    c.index-points-i.is
-
-pub add-value-requires-clause-left : goal.add-value-requires-clause-left
-add-value-requires-clause-left g c =
-    let ring = g.R.Reducer in let m = ring.modulus c.args.r.now in
-    form_read g.T.RingWord.number ring.form ring.value m c.args.form.now (c.args.count - 1 - c.coefficients.k) _ c.requires.form (omega arith)
-    c.index-form-i.is
 
 pub returns-clause-value : goal.returns-clause-value
 returns-clause-value g c =

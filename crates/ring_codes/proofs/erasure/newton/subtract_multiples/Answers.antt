@@ -36,7 +36,3 @@ places-preserved g c =
       λ k l. kept k (omega arith) ∙ so_far.2 k l,
       λ k l. kept k (omega arith) ∙ so_far.3 k (omega arith),
     )
-
-pub sub-requires-clause-left : goal.sub-requires-clause-left
-sub-requires-clause-left g c =
-    c.places.invariant.0 (c.places.i - 1) c.index-values-i-in-places.result (omega arith)

@@ -44,8 +44,3 @@ returns-clause-inverses g c t i l =
     of_residue m (product_but m n x i (x i)) (entry number ring.value m c.invert_each.new.forms i)
     (subst (λ a. IsInverse m a (entry number ring.value m c.invert_each.new.forms i)) each
     (c.invert_each.ensures.inverses t i (omega arith)))
-
-pub fill_products-requires-clause-point : goal.fill_products-requires-clause-point
-fill_products-requires-clause-point g c =
-    let ring = g.R.Reducer in let m = ring.modulus c.args.r.now in let number = g.T.RingWord.number in
-    form_read number ring.form ring.value m c.args.points.now c.points.i _ c.requires.points c.points-test.true c.index-points-i.is

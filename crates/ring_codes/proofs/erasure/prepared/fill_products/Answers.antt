@@ -6,9 +6,6 @@ use Rattle.std.proofs.lemmas.Bool.{cases_eq}
 use Rattle.num_modular.specs.Residues.{residue}
 use Rattle.ring_codes.specs.Prepared.{product_but}
 use Rattle.ring_codes.proofs.Lagrange.{product_of_parts}
-use Rattle.num_modular.specs.Callers.{form_read}
-use Rattle.std.proofs.Math.Nat.{le_refl}
-use Rattle.ring_codes.proofs.Symbols.{back_within}
 use Rattle.ring_codes.proofs.erasure.prepared.fill_products.Goals as goal
 
 pub forward-init : goal.forward-init
@@ -91,13 +88,3 @@ backward-preserved g c =
             (c.sub-difference-in-backward.ensures.value ∙ ap (λ v. residue m (pos a -ℤ pos v)) point);
       },
     )
-
-pub sub-difference-requires-clause-right : goal.sub-difference-requires-clause-right
-sub-difference-requires-clause-right g c =
-    let ring = g.R.Reducer in let m = ring.modulus c.args.r.now in let number = g.T.RingWord.number in
-    form_read number ring.form ring.value m c.args.points.now c.forward.i _ c.requires.points c.forward-test.true c.index-points-i.is
-
-pub sub-difference-requires-in-backward-clause-right : goal.sub-difference-requires-in-backward-clause-right
-sub-difference-requires-in-backward-clause-right g c =
-    let ring = g.R.Reducer in let m = ring.modulus c.args.r.now in let number = g.T.RingWord.number in
-    form_read number ring.form ring.value m c.args.points.now _ _ c.requires.points (back_within _ _ _ c.backward-test.true (le_refl _)) c.index-points-i-in-backward.is

@@ -5,14 +5,7 @@ use Rattle.std.proofs.lemmas.Nat.{mod-mul-add, div-mul-add}
 use borrow.Author.Rules.{scaled_Fits}
 use Rattle.ring_codes.specs.Prepared.{product_but}
 use Rattle.ring_codes.proofs.Lagrange.{row_within}
-use Rattle.num_modular.specs.Callers.{◌<◌, subst, form_read}
 use Rattle.ring_codes.proofs.erasure.prepared.fill_rows.Goals as goal
-
-pub bounds-rows-next : goal.bounds-rows-next
-bounds-rows-next g c =
-    let k : ℕ = length c.args.known.now in
-    let inside = row_within c.wanted.j (length c.args.wanted.now) k c.known.i c.wanted-test.true c.known-test.true in
-    omega (arith, inside, c.known.invariant.0, c.requires.count)
 
 pub offset_bounds-rows-next : goal.offset_bounds-rows-next
 offset_bounds-rows-next g c =
@@ -70,13 +63,3 @@ returns-clause-checked g c =
     let at = c.wanted.invariant.0 in
     held_forms g.T.RingWord.number ring.form ring.value m c.wanted.rows _ _ c.wanted.invariant.1
     (omega (arith, all, at, c.wanted.auto.rows, c.requires.count))
-
-pub fill_products-requires-clause-point : goal.fill_products-requires-clause-point
-fill_products-requires-clause-point g c =
-    let ring = g.R.Reducer in let m = ring.modulus c.args.r.now in let number = g.T.RingWord.number in
-    form_read number ring.form ring.value m c.args.wanted.now c.wanted.j _ c.requires.wanted c.wanted-test.true c.index-wanted-j.is
-
-pub mul-requires-clause-right : goal.mul-requires-clause-right
-mul-requires-clause-right g c =
-    let ring = g.R.Reducer in let m = ring.modulus c.args.r.now in let number = g.T.RingWord.number in
-    form_read number ring.form ring.value m c.args.weights.now c.known.i _ c.requires.weights (subst (λ n. c.known.i < n) (sym c.requires.each) c.known-test.true) c.index-weights-i.is

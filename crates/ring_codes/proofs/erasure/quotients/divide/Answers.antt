@@ -1,8 +1,7 @@
-use Rattle.num_modular.specs.Callers.{◌+◌, ◌%◌, ◌<◌, ◌∙◌, ap, sym, arith, subst, length}
-use Rattle.num_modular.specs.Callers.{entry, entry_read, form_read}
+use Rattle.num_modular.specs.Callers.{◌+◌, ◌%◌, ◌<◌, ◌∙◌, ap, sym, refl, arith, subst, length}
+use Rattle.num_modular.specs.Callers.{entry, entry_read}
 use Rattle.num_modular.specs.Polynomials.{polynomial_at}
-use Rattle.std.proofs.Common.{length-set}
-use Rattle.ring_codes.specs.KeyEquations.{IsQuotient}
+use Rattle.std.proofs.Common.{length-set, rules}
 use Rattle.ring_codes.proofs.NearPairs.{found_none, found_kept, found_more, found_all, zeros_kept, zeros_more, none_counted}
 use Rattle.num_modular.specs.Callers.{◌≡◌, held_forms}
 use Rattle.ring_codes.specs.Erasure.{distance}
@@ -38,100 +37,43 @@ points-preserved-in-Ok-None g c =
 pub points-preserved : goal.points-preserved
 points-preserved g c =
     let ring = g.R.Reducer in let m = ring.modulus c.args.r.now in let number = g.T.RingWord.number in
-    let i = c.points.i in let so_far = c.points.invariant in
-    let points = c.args.points.now in let x = entry number ring.value m points in
-    let p = polynomial_at (length c.args.numerator.now) (entry number ring.value m c.args.numerator.now) in
+    let i = c.points.i in let (below, few, _, zeros, found) = c.points.invariant in
+    let x = entry number ring.value m c.args.points.now in
     let e = polynomial_at (length c.args.locator.now) (entry number ring.value m c.args.locator.now) in
-    let few = so_far.1 in let below = so_far.0 in
-    let within : i < length points = omega arith in
-    let is = rw c.in-Ok-Some.field-0-is at c.in-Ok-Some.ensures.quotient in
-    let point = entry_read number ring.value m points i _ within c.index-points-i.is in
-    let point_again = entry_read number ring.value m points i _ within c.index-points-i-in-Ok-Some.is in
-    let form = form_read number ring.form ring.value m points i _ c.requires.points within c.index-points-i-in-Ok-Some.is in
     let same = length-set c.points.chosen c.points.found c.index-points-i-in-Ok-Some.result in
-    let same_values = length-set c.points.values c.points.found c.in-Ok-Some.value in
-    let equal = c.requires.equal in
-    let more = found_more number ring.form ring.value m i c.points.found x p e c.points.chosen c.points.values
-    c.index-points-i-in-Ok-Some.result c.in-Ok-Some.value (omega (arith, below)) (omega (arith, below, equal)) so_far.4 form point_again
-    is.0 (subst (λ a. IsQuotient m (p a) (e a) (ring.value m (number c.in-Ok-Some.value))) point is.1) in
     let other = c.if-found-chosen.false in (
       omega (arith, below, other, same),
       omega (arith, few),
-      λ l. so_far.2 (omega arith),
-      zeros_more i _ (λ j. e (x j) % m) (λ j. 0) so_far.3,
-      more,
+      λ l. c.points.invariant.2 (omega arith),
+      zeros_more i _ (λ j. e (x j) % m) (λ j. 0) zeros,
+      found_more number ring.form ring.value m i c.points.found _ e c.args.points.now c.points.chosen c.points.values
+          _ _ c.in-Ok-Some.value (omega (arith, below)) (omega (arith, below, c.requires.equal)) found c.requires.points
+          (omega arith) c.index-points-i.is c.index-points-i-in-Ok-Some.is
+          (rw c.in-Ok-Some.field-0-is at c.in-Ok-Some.ensures.quotient),
     )
 
-pub returns-then-found-chosen-clause-quotients : goal.returns-then-found-chosen-clause-quotients
-returns-then-found-chosen-clause-quotients g c t =
+pub returns-then-found-chosen : goal.returns-then-found-chosen
+returns-then-found-chosen g c =
     let ring = g.R.Reducer in let m = ring.modulus c.args.r.now in let number = g.T.RingWord.number in
-    let i = c.points.i in let so_far = c.points.invariant in
-    let points = c.args.points.now in let x = entry number ring.value m points in
-    let p = polynomial_at (length c.args.numerator.now) (entry number ring.value m c.args.numerator.now) in
+    let i = c.points.i in let (below, _, _, _, found) = c.points.invariant in
     let e = polynomial_at (length c.args.locator.now) (entry number ring.value m c.args.locator.now) in
-    let few = so_far.1 in let below = so_far.0 in
-    let within : i < length points = omega arith in
-    let is = rw c.in-Ok-Some.field-0-is at c.in-Ok-Some.ensures.quotient in
-    let point = entry_read number ring.value m points i _ within c.index-points-i.is in
-    let point_again = entry_read number ring.value m points i _ within c.index-points-i-in-Ok-Some.is in
-    let form = form_read number ring.form ring.value m points i _ c.requires.points within c.index-points-i-in-Ok-Some.is in
     let same = length-set c.points.chosen c.points.found c.index-points-i-in-Ok-Some.result in
     let same_values = length-set c.points.values c.points.found c.in-Ok-Some.value in
-    let equal = c.requires.equal in
-    let more = found_more number ring.form ring.value m i c.points.found x p e c.points.chosen c.points.values
-    c.index-points-i-in-Ok-Some.result c.in-Ok-Some.value (omega (arith, below)) (omega (arith, below, equal)) so_far.4 form point_again
-    is.0 (subst (λ a. IsQuotient m (p a) (e a) (ring.value m (number c.in-Ok-Some.value))) point is.1) in
-    let last = c.if-found-chosen.true in
-    found_all number ring.form ring.value m (i + 1) (c.points.found + 1) _ (length c.args.points.now) x p e _ _ (omega (arith, last, same))
-    last (omega (arith, last, same, same_values, equal)) (omega arith) more
-
-pub quotient-requires-clause-point : goal.quotient-requires-clause-point
-quotient-requires-clause-point g c =
-    let ring = g.R.Reducer in let m = ring.modulus c.args.r.now in
-    form_read g.T.RingWord.number ring.form ring.value m c.args.points.now c.points.i _ c.requires.points
-    (c.points-test.true) c.index-points-i.is
-
-pub returns-then-found-chosen-clause-checked_values : goal.returns-then-found-chosen-clause-checked_values
-returns-then-found-chosen-clause-checked_values g c t =
-    let ring = g.R.Reducer in let m = ring.modulus c.args.r.now in let number = g.T.RingWord.number in
-    let i = c.points.i in let so_far = c.points.invariant in
-    let points = c.args.points.now in let x = entry number ring.value m points in
-    let p = polynomial_at (length c.args.numerator.now) (entry number ring.value m c.args.numerator.now) in
-    let e = polynomial_at (length c.args.locator.now) (entry number ring.value m c.args.locator.now) in
-    let below = so_far.0 in let within : i < length points = c.points-test.true in
-    let is = rw c.in-Ok-Some.field-0-is at c.in-Ok-Some.ensures.quotient in
-    let point = entry_read number ring.value m points i _ within c.index-points-i.is in
-    let point_again = entry_read number ring.value m points i _ within c.index-points-i-in-Ok-Some.is in
-    let form = form_read number ring.form ring.value m points i _ c.requires.points within c.index-points-i-in-Ok-Some.is in
-    let same = length-set c.points.chosen c.points.found c.index-points-i-in-Ok-Some.result in
-    let same_values = length-set c.points.values c.points.found c.in-Ok-Some.value in
-    let equal = c.requires.equal in
-    let more = found_more number ring.form ring.value m i c.points.found x p e c.points.chosen c.points.values
-    c.index-points-i-in-Ok-Some.result c.in-Ok-Some.value (omega (arith, below)) (omega (arith, below, equal)) so_far.4 form point_again
-    is.0 (subst (λ a. IsQuotient m (p a) (e a) (ring.value m (number c.in-Ok-Some.value))) point is.1) in
-    let last = c.if-found-chosen.true in
-    found_forms number ring.form ring.value m (i + 1) (c.points.found + 1) x p e _ _ (omega (arith, last, same, same_values, equal)) more
-
-pub returns-then-found-chosen-clause-checked_chosen : goal.returns-then-found-chosen-clause-checked_chosen
-returns-then-found-chosen-clause-checked_chosen g c t =
-    let ring = g.R.Reducer in let m = ring.modulus c.args.r.now in let number = g.T.RingWord.number in
-    let i = c.points.i in let so_far = c.points.invariant in
-    let points = c.args.points.now in let x = entry number ring.value m points in
-    let p = polynomial_at (length c.args.numerator.now) (entry number ring.value m c.args.numerator.now) in
-    let e = polynomial_at (length c.args.locator.now) (entry number ring.value m c.args.locator.now) in
-    let below = so_far.0 in let within : i < length points = c.points-test.true in
-    let is = rw c.in-Ok-Some.field-0-is at c.in-Ok-Some.ensures.quotient in
-    let point = entry_read number ring.value m points i _ within c.index-points-i.is in
-    let point_again = entry_read number ring.value m points i _ within c.index-points-i-in-Ok-Some.is in
-    let form = form_read number ring.form ring.value m points i _ c.requires.points within c.index-points-i-in-Ok-Some.is in
-    let same = length-set c.points.chosen c.points.found c.index-points-i-in-Ok-Some.result in
-    let same_values = length-set c.points.values c.points.found c.in-Ok-Some.value in
-    let equal = c.requires.equal in
-    let more = found_more number ring.form ring.value m i c.points.found x p e c.points.chosen c.points.values
-    c.index-points-i-in-Ok-Some.result c.in-Ok-Some.value (omega (arith, below)) (omega (arith, below, equal)) so_far.4 form point_again
-    is.0 (subst (λ a. IsQuotient m (p a) (e a) (ring.value m (number c.in-Ok-Some.value))) point is.1) in
-    let last = c.if-found-chosen.true in
-    held_forms number ring.form ring.value m _ _ (c.points.found + 1) more.chosen_there (omega (arith, last, same))
+    let last = c.if-found-chosen.true in let equal = c.requires.equal in
+    let more = found_more number ring.form ring.value m i c.points.found _ e c.args.points.now c.points.chosen c.points.values
+    _ _ c.in-Ok-Some.value (omega (arith, below)) (omega (arith, below, equal)) found c.requires.points
+    (omega arith) c.index-points-i.is c.index-points-i-in-Ok-Some.is
+    (rw c.in-Ok-Some.field-0-is at c.in-Ok-Some.ensures.quotient) in
+    record {
+      inverse = search rules;
+      checked_chosen = λ t. held_forms number ring.form ring.value m _ _ (c.points.found + 1) more.chosen_there
+          (omega (arith, last, same));
+      checked_values = λ t. found_forms number ring.form ring.value m (i + 1) (c.points.found + 1) _ _ _ _ _
+          (omega (arith, last, same, same_values, equal)) more;
+      quotients = λ t. found_all number ring.form ring.value m (i + 1) (c.points.found + 1) _ (length c.args.points.now) _ _ _ _ _
+          (omega (arith, last, same)) last (omega (arith, last, same, same_values, equal)) (omega arith) more;
+      zeros = λ other. absurd (other refl);
+    }
 
 pub returns-clause-zeros : goal.returns-clause-zeros
 returns-clause-zeros g c h =

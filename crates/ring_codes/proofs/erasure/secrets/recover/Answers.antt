@@ -1,11 +1,5 @@
-use Rattle.num_modular.specs.Callers.{entry_read, form_read, ◌∙◌, refl, arith}
+use Rattle.num_modular.specs.Callers.{entry_read, ◌∙◌, refl, arith}
 use Rattle.ring_codes.proofs.erasure.secrets.recover.Goals as goal
-
-pub returns-in-Ok-clause-checked : goal.returns-in-Ok-clause-checked
-returns-in-Ok-clause-checked g c =
-    let ring = g.R.Reducer in let m = ring.modulus c.args.r.now in
-    form_read g.T.RingWord.number ring.form ring.value m c.restore.new.message 0 c.index-coefficients-0.result
-    (c.in-Ok.ensures.checked refl) (omega (arith, c.requires.some)) c.index-coefficients-0.is
 
 pub returns-in-Ok-clause-secret : goal.returns-in-Ok-clause-secret
 returns-in-Ok-clause-secret g c original word is read =

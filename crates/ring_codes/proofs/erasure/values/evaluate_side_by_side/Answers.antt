@@ -1,29 +1,8 @@
 use Rattle.num_modular.specs.Polynomials.{polynomial_at}
 use Rattle.num_modular.specs.Callers.{ℕ, ◌+◌, ◌-◌, ◌*◌, ◌%◌, ◌≡◌, length, ◌∙◌, ap, refl, arith}
-use Rattle.num_modular.specs.Callers.{entry, entry_read, form_read, hold_more, held_forms, held_entry}
-use Rattle.ring_codes.proofs.NewtonForms.{value_none, value_more, value_all}
+use Rattle.num_modular.specs.Callers.{entry, entry_read}
+use Rattle.ring_codes.proofs.NewtonForms.{value_more, value_all}
 use Rattle.ring_codes.proofs.erasure.values.evaluate_side_by_side.Goals as goal
-
-pub zeros-preserved : goal.zeros-preserved
-zeros-preserved g c =
-    let ring = g.R.Reducer in let m = ring.modulus c.args.r.now in
-    hold_more g.T.RingWord.number ring.form ring.value m c.zeros.values c.zeros.i c.transform-zero.result (λ i. 0 % m)
-    (omega arith) c.zeros.invariant c.transform-zero.ensures.checked
-    (c.transform-zero.ensures.value ∙ ap (λ v. v % m) c.zero.ensures)
-
-pub coefficients-init : goal.coefficients-init
-coefficients-init g c =
-    let ring = g.R.Reducer in let m = ring.modulus c.args.r.now in let number = g.T.RingWord.number in (
-      held_forms number ring.form ring.value m c.zeros.values _ _ c.zeros.invariant (omega arith),
-      λ j l. value_none m _ _ _
-          (held_entry number ring.form ring.value m c.zeros.values _ _ j c.zeros.invariant (omega arith) (omega arith)),
-    )
-
-pub step_each-requires-clause-coefficient : goal.step_each-requires-clause-coefficient
-step_each-requires-clause-coefficient g c =
-    let ring = g.R.Reducer in let m = ring.modulus c.args.r.now in
-    form_read g.T.RingWord.number ring.form ring.value m c.args.coefficients.now _ _ c.requires.coefficients (omega arith)
-    c.index-coefficients-i.is
 
 pub coefficients-preserved : goal.coefficients-preserved
 coefficients-preserved g c =

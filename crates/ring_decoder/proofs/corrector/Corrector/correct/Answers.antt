@@ -1,29 +1,28 @@
 use Rattle.num_modular.specs.Callers.{◌≡◌, ◌*◌, ◌-◌, ℕ, ◌∙◌, sym, subst, refl, arith, length, entry}
-use Rattle.std.proofs.lemmas.Bool.{false≢true}
 use Rattle.ring_codes.proofs.Symbols.{entry_below}
-use Rattle.ring_decoder.proofs.CorrectedWords.{fit_of_weights, right_already, right_word, fault_of_word}
+use Rattle.ring_decoder.proofs.CorrectedWords.{all_zero, not_one, fit_of_weights, right_already, right_word, fault_of_word}
 use Rattle.ring_decoder.proofs.DualCode.{weight_unit}
 use Rattle.ring_decoder.specs.Corrector.{AreLost}
 use Rattle.ring_decoder.specs.ErrorPatterns.{IsPatternFault, IsSolution}
 use Rattle.ring_decoder.specs.PowerSums.{ArePowerSums}
 use Rattle.ring_decoder.proofs.corrector.Corrector.correct.Goals as goal
 
-pub returns-then-are_zero : goal.returns-then-are_zero
-returns-then-are_zero g c =
+pub returns-then-count_zeros-syndromes : goal.returns-then-count_zeros-syndromes
+returns-then-count_zeros-syndromes g c =
     let self = c.args.self.now in let ring = g.R.Reducer in let m = ring.modulus self.ring.now in
     let number = g.T.RingWord.number in let positive = (g.met.R.Reducer.canonical self.ring.now).positive in
     let x = entry number ring.value m self.points.now in let v = entry number ring.value m self.weights.now in
     let y = entry number ring.value m c.args.word.now in let n : ℕ = length self.points.now in let k = self.k in
-    let s = entry number ring.value m c.fill_syndromes.new.syndromes in let lost = c.args.lost.now in
+    let s = entry number ring.value m c.write_syndromes.new.syndromes in let lost = c.args.lost.now in
     let places : AreLost k n lost = c.in-Ok.ensures m x in
     let room = c.requires.room in
-    let long : length c.fill_syndromes.new.syndromes ≡ n - k =
-    c.fill_syndromes.auto.syndromes ∙ c.split_at_mut-syndromes.ensures.front_len in
+    let long : length c.write_syndromes.new.syndromes ≡ n - k =
+    c.write_syndromes.auto.syndromes ∙ c.split_at_mut-syndromes.ensures.front_len in
     let right = right_already m k n x v lost y s positive places self.inverses
     (λ i l. entry_below number ring.form ring.value m c.args.word.now i c.requires.word (omega (arith, l, room)))
     (subst (λ t. ArePowerSums m t n x (λ i. v i * y i) s) c.split_at_mut-syndromes.ensures.front_len
-    c.fill_syndromes.ensures.sums)
-    (λ h l. c.are_zero.ensures.all c.if-are_zero.true h (omega (arith, l, long))) in
+    c.write_syndromes.ensures.sums)
+    (λ h l. all_zero _ _ (sym c.count_zeros.ensures ∙ c.if-count_zeros-syndromes.true) h (omega (arith, l, long))) in
     record {
       places = places;
       checked = c.requires.word;
@@ -51,10 +50,10 @@ find_errors-requires-clause-places g c =
     let self = c.args.self.now in let ring = g.R.Reducer in let m = ring.modulus self.ring.now in
     let n : ℕ = length self.points.now in let lost = c.args.lost.now in
     let places : AreLost self.k n lost = c.in-Ok.ensures m (entry g.T.RingWord.number ring.value m self.points.now) in
-    let long : length c.fill_syndromes.new.syndromes ≡ n - self.k =
-    c.fill_syndromes.auto.syndromes ∙ c.split_at_mut-syndromes.ensures.front_len in
+    let long : length c.write_syndromes.new.syndromes ≡ n - self.k =
+    c.write_syndromes.auto.syndromes ∙ c.split_at_mut-syndromes.ensures.front_len in
     let few = self.few in
-    let same : self.k ≡ n - length c.fill_syndromes.new.syndromes = omega (arith, long, few) in
+    let same : self.k ≡ n - length c.write_syndromes.new.syndromes = omega (arith, long, few) in
     subst (λ k. AreLost k n lost) same places
 
 pub returns-in-Err-find_errors : goal.returns-in-Err-find_errors
@@ -63,14 +62,14 @@ returns-in-Err-find_errors g c =
     let number = g.T.RingWord.number in let positive = (g.met.R.Reducer.canonical self.ring.now).positive in
     let x = entry number ring.value m self.points.now in let v = entry number ring.value m self.weights.now in
     let y = entry number ring.value m c.args.word.now in let n : ℕ = length self.points.now in let k = self.k in
-    let s = entry number ring.value m c.fill_syndromes.new.syndromes in let lost = c.args.lost.now in
+    let s = entry number ring.value m c.write_syndromes.new.syndromes in let lost = c.args.lost.now in
     let places : AreLost k n lost = c.in-Ok.ensures m x in
-    let long : length c.fill_syndromes.new.syndromes ≡ n - k =
-    c.fill_syndromes.auto.syndromes ∙ c.split_at_mut-syndromes.ensures.front_len in (
+    let long : length c.write_syndromes.new.syndromes ≡ n - k =
+    c.write_syndromes.auto.syndromes ∙ c.split_at_mut-syndromes.ensures.front_len in (
       refl,
       fault_of_word number m k n x v lost y s positive places self.inverses
           (subst (λ t. ArePowerSums m t n x (λ i. v i * y i) s) c.split_at_mut-syndromes.ensures.front_len
-          c.fill_syndromes.ensures.sums)
+          c.write_syndromes.ensures.sums)
           c.in-Err-find_errors.error
           (subst (λ t. IsPatternFault number m t n x v lost s c.in-Err-find_errors.error) long c.in-Err-find_errors.ensures),
     )
@@ -81,12 +80,12 @@ returns-in-Ok-find_errors g c =
     let number = g.T.RingWord.number in let positive = (g.met.R.Reducer.canonical self.ring.now).positive in
     let x = entry number ring.value m self.points.now in let v = entry number ring.value m self.weights.now in
     let y = entry number ring.value m c.args.word.now in let n : ℕ = length self.points.now in let k = self.k in
-    let s = entry number ring.value m c.fill_syndromes.new.syndromes in let lost = c.args.lost.now in
+    let s = entry number ring.value m c.write_syndromes.new.syndromes in let lost = c.args.lost.now in
     let e = entry number ring.value m c.find_errors.new.errors in let w = entry number ring.value m c.subtract.new.word in
     let places : AreLost k n lost = c.in-Ok.ensures m x in
     let room = c.requires.room in let kept = c.subtract.auto.word in
-    let long : length c.fill_syndromes.new.syndromes ≡ n - k =
-    c.fill_syndromes.auto.syndromes ∙ c.split_at_mut-syndromes.ensures.front_len in
+    let long : length c.write_syndromes.new.syndromes ≡ n - k =
+    c.write_syndromes.auto.syndromes ∙ c.split_at_mut-syndromes.ensures.front_len in
     let each : length c.find_errors.new.errors ≡ n =
     c.find_errors.auto.errors ∙ c.split_at_mut-errors.ensures.front_len in
     let found = c.in-Ok-find_errors.ensures in
@@ -95,7 +94,7 @@ returns-in-Ok-find_errors g c =
     (λ i l. entry_below number ring.form ring.value m c.subtract.new.word i c.subtract.ensures.checked
     (omega (arith, l, kept, room)))
     (subst (λ t. ArePowerSums m t n x (λ i. v i * y i) s) c.split_at_mut-syndromes.ensures.front_len
-    c.fill_syndromes.ensures.sums)
+    c.write_syndromes.ensures.sums)
     (subst (λ t. IsSolution m t n x v lost s e c.in-Ok-find_errors.wrong) long found.1)
     (λ i l. c.subtract.ensures.difference i (omega (arith, l, each))) in
     record {
@@ -108,7 +107,12 @@ returns-in-Ok-find_errors g c =
     }
 
 pub find_errors-requires-clause-modulus : goal.find_errors-requires-clause-modulus
-find_errors-requires-clause-modulus g c = c.are_zero.ensures.other (λ t. false≢true (sym c.if-are_zero.false ∙ t))
+find_errors-requires-clause-modulus g c =
+    let ring = g.R.Reducer in let m = ring.modulus c.args.self.now.ring.now in let number = g.T.RingWord.number in
+    let syndromes = c.write_syndromes.new.syndromes in
+    not_one m (length syndromes) (entry number ring.value m syndromes)
+    (λ i l. entry_below number ring.form ring.value m syndromes i c.write_syndromes.ensures.checked l)
+    (λ all. c.if-count_zeros-syndromes.false (c.count_zeros.ensures ∙ all))
 
 pub find_errors-requires-clause-points : goal.find_errors-requires-clause-points
 find_errors-requires-clause-points g c = c.args.self.now.point_forms
@@ -117,23 +121,23 @@ pub find_errors-requires-clause-weights : goal.find_errors-requires-clause-weigh
 find_errors-requires-clause-weights g c = c.args.self.now.weight_forms
 
 pub find_errors-requires-clause-syndromes : goal.find_errors-requires-clause-syndromes
-find_errors-requires-clause-syndromes g c = c.fill_syndromes.ensures.checked
+find_errors-requires-clause-syndromes g c = c.write_syndromes.ensures.checked
 
 pub find_errors-requires-clause-each_weight : goal.find_errors-requires-clause-each_weight
 find_errors-requires-clause-each_weight g c = c.args.self.now.count
 
-pub fill_syndromes-requires-clause-points : goal.fill_syndromes-requires-clause-points
-fill_syndromes-requires-clause-points g c = c.args.self.now.point_forms
+pub write_syndromes-requires-clause-points : goal.write_syndromes-requires-clause-points
+write_syndromes-requires-clause-points g c = c.args.self.now.point_forms
 
-pub fill_syndromes-requires-clause-weights : goal.fill_syndromes-requires-clause-weights
-fill_syndromes-requires-clause-weights g c = c.args.self.now.weight_forms
+pub write_syndromes-requires-clause-weights : goal.write_syndromes-requires-clause-weights
+write_syndromes-requires-clause-weights g c = c.args.self.now.weight_forms
 
-pub fill_syndromes-requires-clause-word : goal.fill_syndromes-requires-clause-word
-fill_syndromes-requires-clause-word g c = c.requires.word
+pub write_syndromes-requires-clause-word : goal.write_syndromes-requires-clause-word
+write_syndromes-requires-clause-word g c = c.requires.word
 
-pub are_zero-requires : goal.are_zero-requires
-are_zero-requires g c = record { values = c.fill_syndromes.ensures.checked }
+pub count_zeros-requires : goal.count_zeros-requires
+count_zeros-requires g c = record { values = c.write_syndromes.ensures.checked }
 
 pub find_errors-requires-clause-few : goal.find_errors-requires-clause-few
 find_errors-requires-clause-few g c =
-    let long = c.fill_syndromes.auto.syndromes ∙ c.split_at_mut-syndromes.ensures.front_len in omega (arith, long)
+    let long = c.write_syndromes.auto.syndromes ∙ c.split_at_mut-syndromes.ensures.front_len in omega (arith, long)

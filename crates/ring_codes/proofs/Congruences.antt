@@ -1,0 +1,28 @@
+-- Congruences that are linear combinations of others.
+use Rattle.std.proofs.Common.{◌≡◌, ℕ, ◌+◌, ◌*◌, ◌%◌, ◌<◌, pos, ◌-ℤ◌, ap, ◌∙◌, arith}
+use Rattle.std.proofs.Math.Nat.{add-mul-mod_self_left}
+use Rattle.num_modular.specs.Congruence.{Congruent}
+use Rattle.num_modular.specs.Inverses.{IsInverse}
+use Rattle.num_modular.specs.NumberLaws.{mod_of_eq, mod_refl, residue_of, mod_trans, mod_add, mod_mul, mod_add_cancel, difference_and}
+use Rattle.num_modular.specs.Residues.{residue}
+
+-- two numbers whose difference is that of two congruent ones, such as a sum of multiples
+pub mod_of_combination : {m a b u v : ℕ} → Congruent m a b → u + b ≡ v + a → Congruent m u v
+mod_of_combination {m} {a} {b} {u} {v} h e = mod_add_cancel b (mod_trans (mod_of_eq e) (mod_add (mod_refl v) h))
+
+-- what such a sum is made of: a multiple of a congruence, and a multiple of the modulus
+pub mod_times : {m a b : ℕ} (c : ℕ) → Congruent m a b → Congruent m (c * a) (c * b)
+mod_times c h = mod_mul (mod_refl c) h
+
+pub mod_of_modulus : {m : ℕ} (q : ℕ) → Congruent m (m * q) 0
+mod_of_modulus {m} q = record { same = (let e : m * q ≡ 0 + m * q = omega arith in ap (λ v. v % m) e ∙ add-mul-mod_self_left 0 m q) }
+
+-- .. a residue, the residue of a difference, and an inverse
+pub mod_of_residue : {m a b : ℕ} → a ≡ b % m → Congruent m a b
+mod_of_residue {m} {a} {b} e = mod_trans (mod_of_eq e) (residue_of b)
+
+pub mod_of_difference : {m d a : ℕ} (b : ℕ) → 0 < m → d ≡ residue m (pos a -ℤ pos b) → Congruent m (d + b) a
+mod_of_difference {m} {d} {a} b positive e = record { same = ap (λ v. (v + b) % m) e ∙ difference_and m a b positive }
+
+pub mod_of_inverse : {m a x : ℕ} → IsInverse m a x → Congruent m (a * x) 1
+mod_of_inverse h = record { same = h.one }

@@ -1,0 +1,125 @@
+-- Syndromes at the powers of a root: the last coefficients of the polynomial through all symbols (Reed and Solomon,
+-- "Polynomial codes over certain finite fields", 1960; Blahut, "Transform techniques for error control codes", IBM Journal
+-- of Research and Development 23, 1979).
+use Rattle.std.proofs.Common.{◌≡◌, ◌≢◌, ℕ, zero, suc, ◌+◌, ◌-◌, ◌*◌, ◌/◌, ◌%◌, ◌^◌, ◌<◌, ◌≤◌, ap, sym, ◌∙◌, arith, refl, inl, inr}
+use Rattle.std.proofs.Math.Logic.{∥∥₁_elim}
+use Rattle.std.proofs.Math.Nat.{zero-mod, pow-zero, pow-suc}
+use Rattle.std.specs.Int.{IsPowerOfTwo}
+use lib.Pow.{pow-lt}
+use mathlib.Core.HLevel.{Σ_prop_path}
+use native.Mathlib.Nat.{ℕ_set}
+use Rattle.std.proofs.lemmas.Bool.{cases_lt}
+use Rattle.std.proofs.lemmas.Nat.{pow-add}
+use Rattle.num_modular.specs.Congruence.{Congruent}
+use Rattle.num_modular.specs.NumberLaws.{mod_of_eq, mod_refl, residue_of, mod_sym, mod_trans, mod_add, mod_mul, mod_pow}
+use Rattle.num_modular.specs.NumberLaws.{mod_add_cancel, sum_below-congruent, pow-mul, one-pow}
+use Rattle.num_modular.specs.Polynomials.{polynomial_at, HaveUnitDifferences}
+use Rattle.num_modular.specs.Sums.{sum_below}
+use Rattle.num_modular.specs.Transforms.{Suits, transform}
+use Rattle.ring_codes.proofs.RootPowers.{word_of_coefficients}
+use Rattle.ring_codes.specs.Erasure.{IsEncoding}
+use Rattle.ring_codes.specs.Powers.{ArePowers}
+use Rattle.ring_decoder.proofs.DualCode.{powers_vanish, top_power}
+use Rattle.ring_decoder.proofs.SyndromeSums.{moment, single_congruent}
+use Rattle.ring_decoder.specs.PowerSums.{ArePowerSums}
+use Rattle.ring_decoder.specs.Syndromes.{AreWeights}
+
+-- n is one power of two, so what a ghost field says of a root holds
+one_power : (n : ℕ) (u v : IsPowerOfTwo n) → u ≡ v
+one_power n u v = Σ_prop_path (λ k. ℕ_set n (2 ^ k)) (elim (cases_lt u.0 v.0) [
+  | inl less ↦ let h = pow-lt less in let a = u.1 in let b = v.1 in absurd (omega (arith, h, a, b))
+  | inr more ↦ elim (cases_lt v.0 u.0) [
+    | inl less ↦ let h = pow-lt less in let a = u.1 in let b = v.1 in absurd (omega (arith, h, a, b))
+    | inr other ↦ omega (arith, more, other)
+  ]
+])
+
+pub suits_known : (m g n : ℕ) → ∥ Suits m g n ∥₁ → Suits m g n
+suits_known m g n known = record {
+  power_of_two = ∥∥₁_elim known (one_power n) (λ suits. suits.power_of_two);
+  half_turn = λ more. ∥∥₁_elim known (λ p q. ℕ_set _ _ p q) (λ suits. suits.half_turn more);
+}
+
+-- where g suits n, its power n is 1
+root_turn : (m g n z : ℕ) → Suits m g n → n ≡ 2 ^ z → 1 < n → Congruent m (g ^ n) 1
+root_turn m g n zero suits whole more = let one : 2 ^ 0 ≡ 1 = refl in absurd (omega (arith, whole, one, more))
+root_turn m g n (suc y) suits whole more =
+    let s = pow-suc 2 y in
+    let h : ℕ = 2 ^ y in
+    let half : n / 2 ≡ h = omega (arith, whole, s) in
+    let double : n ≡ h + h = omega (arith, whole, s) in
+    let a : ℕ = g ^ h in
+    let turn : Congruent m (a + 1) 0 =
+    record { same = ap (λ v. (g ^ v + 1) % m) (sym half) ∙ suits.half_turn more ∙ sym (zero-mod m) } in
+    let square : a * a + (a + 1) ≡ (a + 1) * a + 1 = omega arith in
+    let z : 0 * a + 1 ≡ 1 + 0 = omega arith in
+    mod_trans (mod_of_eq (ap (λ v. g ^ v) double ∙ pow-add g h h))
+    (mod_add_cancel (a + 1) (mod_trans (mod_of_eq square) (mod_trans (mod_add (mod_mul turn (mod_refl a)) (mod_refl 1))
+    (mod_trans (mod_of_eq z) (mod_add (mod_refl 1) (mod_sym turn))))))
+
+-- and so is that of each of its powers
+pub point_turn : (m g n i : ℕ) (x : ℕ → ℕ) → Suits m g n → ArePowers m g n x → i < n → Congruent m (x i ^ n) 1
+point_turn m g n i x suits powers l =
+    let point : Congruent m (x i) (g ^ i) = mod_trans (mod_of_eq (powers.power i l)) (residue_of (g ^ i)) in
+    let swap : (g ^ i) ^ n ≡ (g ^ n) ^ i =
+    (let e : i * n ≡ n * i = omega arith in sym (pow-mul g i n) ∙ ap (λ v. g ^ v) e ∙ pow-mul g n i) in
+    mod_trans (mod_pow n point) (mod_trans (mod_of_eq swap)
+    (elim (cases_lt 1 n) [
+      | inl more ↦ mod_trans (mod_pow i (root_turn m g n suits.power_of_two.0 suits suits.power_of_two.1 more))
+          (mod_of_eq (one-pow i))
+      | inr one ↦ let first : i ≡ 0 = omega (arith, one, l) in
+          mod_of_eq (ap (λ v. (g ^ n) ^ v) first ∙ pow-zero (g ^ n))
+    ]))
+
+-- a coefficient of the polynomial through all symbols is a syndrome, the last one number 0
+pub syndrome_of_coefficient : (m d h : ℕ) (x v c w : ℕ → ℕ) → 0 < m → h < suc d → HaveUnitDifferences m (suc d) x
+    → AreWeights m (suc d) x v → ((i : ℕ) → i < suc d → Congruent m (x i ^ suc d) 1) → IsEncoding m (suc d) (suc d) x c w
+    → Congruent m (c (d - h)) (sum_below (suc d) (λ i. v i * w i * x i ^ h))
+syndrome_of_coefficient m d h x v c w positive row fit weights turn encoding =
+    let n : ℕ = suc d in
+    let t : ℕ → ℕ = λ e. sum_below n (λ i. v i * x i ^ e) in
+    let whole = moment m (h + n) n n h x v t c (record { sum = λ e l. mod_refl (t e) }) (omega arith) in
+    let early : (e : ℕ) → e < d → Congruent m (t e) 0 =
+    λ e l. mod_sym (powers_vanish m d e x v positive fit weights l) in
+    let late : (e : ℕ) → e < d → Congruent m (t (e + n)) 0 =
+    λ e l. mod_trans (sum_below-congruent n (λ i. v i * x i ^ (e + n)) (λ i. v i * x i ^ e) (λ i b.
+    let p = ap (λ a. v i * a) (pow-add (x i) e n) in
+    let o : v i * (x i ^ e * x i ^ n) ≡ v i * x i ^ e * x i ^ n = omega arith in
+    let z : v i * x i ^ e * 1 ≡ v i * x i ^ e = omega arith in
+    mod_trans (mod_of_eq (p ∙ o)) (mod_trans (mod_mul (mod_refl (v i * x i ^ e)) (turn i b)) (mod_of_eq z)))) (early e l) in
+    let others : (l : ℕ) → l < n → l ≢ d - h → Congruent m (c l * t (h + l)) 0 =
+    λ l b other.
+    let z : c l * 0 ≡ 0 = omega arith in
+    mod_trans (mod_mul (mod_refl (c l)) (elim (cases_lt (h + l) d) [
+      | inl less ↦ early (h + l) less
+      | inr more ↦
+          let e : ℕ = h + l - n in
+          let at : h + l ≡ e + n = omega (arith, more, other, row, b) in
+          mod_trans (mod_of_eq (ap t at)) (late e (omega (arith, at, row, b)))
+    ])) (mod_of_eq z) in
+    let alone = single_congruent m n (d - h) (λ l. c l * t (h + l)) (omega arith) others in
+    let at : h + (d - h) ≡ d = omega (arith, row) in
+    let one : Congruent m (t (h + (d - h))) 1 = mod_trans (mod_of_eq (ap t at)) (mod_sym (top_power m d x v positive fit weights)) in
+    let times : c (d - h) ≡ c (d - h) * 1 = omega arith in
+    mod_trans (mod_of_eq times) (mod_trans (mod_mul (mod_refl (c (d - h))) (mod_sym one))
+    (mod_trans (mod_sym alone) (mod_trans whole
+    (sum_below-congruent n (λ i. v i * x i ^ h * polynomial_at n c (x i)) (λ i. v i * w i * x i ^ h) (λ i b.
+    let P : ℕ = polynomial_at n c (x i) in
+    let order : v i * x i ^ h * P ≡ v i * P * x i ^ h = omega arith in
+    let symbol : Congruent m P (w i) = mod_trans (mod_sym (residue_of P)) (mod_of_eq (sym (encoding.symbol i b))) in
+    mod_trans (mod_of_eq order) (mod_mul (mod_mul (mod_refl (v i)) symbol) (mod_refl (x i ^ h))))))))
+
+-- the syndromes, from the coefficients that a transform back gives
+pub syndromes_by_transform : (m g n t : ℕ) (x v c w s : ℕ → ℕ) → 0 < m → t ≤ n → Suits m g n → ArePowers m g n x
+    → HaveUnitDifferences m n x → AreWeights m n x v → ((j : ℕ) → j < n → transform m g n c j ≡ w j)
+    → ((h : ℕ) → h < t → s h ≡ c (n - 1 - h)) → ArePowerSums m t n x (λ i. v i * w i) s
+syndromes_by_transform m g zero t x v c w s positive few suits powers fit weights values same =
+    record { sum = λ h l. absurd (omega arith) }
+syndromes_by_transform m g (suc d) t x v c w s positive few suits powers fit weights values same = record {
+  sum = λ h l.
+      let row : h < suc d = omega (arith, l, few) in
+      let at : suc d - 1 - h ≡ d - h = omega arith in
+      mod_trans (mod_of_eq (same h l ∙ ap c at))
+      (syndrome_of_coefficient m d h x v c w positive row fit weights (λ i b. point_turn m g (suc d) i x suits powers b)
+      (word_of_coefficients m g (suc d) (suc d) x c w (omega arith) powers values (λ i b k. absurd (omega (arith, b, k)))));
+}

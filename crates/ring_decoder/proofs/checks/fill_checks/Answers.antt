@@ -1,0 +1,79 @@
+use borrow.Author.Rules.{scaled_Fits}
+use Rattle.std.proofs.Common.{◌^◌}
+use Rattle.std.proofs.Math.Nat.{mul-le-mul_right}
+use Rattle.std.proofs.lemmas.Nat.{mod-mul-add, div-mul-add}
+use Rattle.num_modular.specs.Callers.{◌≡◌, ℕ, ◌+◌, ◌*◌, ◌/◌, ◌%◌, ◌<◌, ◌≤◌, ◌∙◌, ap, sym, arith, length}
+use Rattle.num_modular.specs.Callers.{entry, hold_more, held_forms, held_entry}
+use Rattle.num_modular.specs.NumberLaws.{mod_of_eq, mod_trans, residue_of}
+use Rattle.ring_codes.proofs.Lagrange.{row_within}
+use Rattle.ring_decoder.proofs.CheckTables.{place_above}
+use Rattle.ring_decoder.proofs.checks.fill_checks.Goals as goal
+
+pub bounds-checks-next : goal.bounds-checks-next
+bounds-checks-next g c =
+    let inside = row_within c.rows.h c.args.rows (length c.args.points.now) c.points.i c.rows-test.true c.points-test.true in
+    omega (arith, inside, c.points.invariant.0, c.requires.room)
+
+pub offset_bounds-checks-next : goal.offset_bounds-checks-next
+offset_bounds-checks-next g c =
+    let inside = row_within c.rows.h c.args.rows (length c.args.points.now) c.points.i c.rows-test.true c.points-test.true in
+    let within : c.points.next < length c.args.checks.now = omega (arith, inside, c.points.invariant.0, c.requires.room) in
+    scaled_Fits _ _ _ within c.well_formed.1.1.1.1.0.1
+
+pub points-preserved : goal.points-preserved
+points-preserved g c =
+    let ring = g.R.Reducer in let m = ring.modulus c.args.r.now in let number = g.T.RingWord.number in
+    let n : ℕ = length c.args.points.now in let h = c.rows.h in let i = c.points.i in let next = c.points.next in
+    let x = entry number ring.value m c.args.points.now in let v = entry number ring.value m c.args.weights.now in
+    let f : ℕ → ℕ = λ e. (v (e % n) * x (e % n) ^ (e / n)) % m in
+    let at = c.points.invariant.0 in
+    let column : next % n ≡ i = ap (λ e. e % n) at ∙ mod-mul-add h n i c.points-test.true in
+    let row : next / n ≡ h = ap (λ e. e / n) at ∙ div-mul-add h n i c.points-test.true in
+    let here : f next ≡ (v i * x i ^ h) % m =
+    ap (λ e. (v e * x e ^ (next / n)) % m) column ∙ ap (λ e. (v i * x i ^ e) % m) row in
+    let inside = row_within h c.args.rows n i c.rows-test.true c.points-test.true in (
+      omega (arith, at),
+      hold_more number ring.form ring.value m c.points.checks next c.next_check.result f
+          (omega (arith, inside, at, c.requires.room)) c.points.invariant.1 c.next_check.ensures.checked
+          (c.next_check.ensures.value ∙ sym here),
+    )
+
+pub returns-clause-checked : goal.returns-clause-checked
+returns-clause-checked g c =
+    let ring = g.R.Reducer in let m = ring.modulus c.args.r.now in
+    let n : ℕ = length c.args.points.now in
+    let all : c.args.rows * n ≤ c.rows.h * n = mul-le-mul_right n c.rows-test.false in
+    held_forms g.T.RingWord.number ring.form ring.value m c.rows.checks _ _ c.rows.invariant.1
+    (omega (arith, all, c.rows.invariant.0, c.rows.auto.checks, c.requires.room))
+
+pub returns-clause-table : goal.returns-clause-table
+returns-clause-table g c =
+    let ring = g.R.Reducer in let m = ring.modulus c.args.r.now in let number = g.T.RingWord.number in
+    let n : ℕ = length c.args.points.now in
+    let x = entry number ring.value m c.args.points.now in let v = entry number ring.value m c.args.weights.now in
+    let f : ℕ → ℕ = λ e. (v (e % n) * x (e % n) ^ (e / n)) % m in
+    let all : c.args.rows * n ≤ c.rows.h * n = mul-le-mul_right n c.rows-test.false in
+    record {
+      check = λ h i l b.
+          let inside = row_within h c.args.rows n i l b in
+          mod_trans (mod_of_eq (held_entry number ring.form ring.value m c.rows.checks f c.rows.next (h * n + i)
+          c.rows.invariant.1 (omega (arith, inside, all, c.rows.invariant.0))
+          (omega (arith, inside, c.rows.auto.checks, c.requires.room))
+          ∙ ap (λ e. (v e * x e ^ ((h * n + i) / n)) % m) (mod-mul-add h n i b)
+          ∙ ap (λ e. (v i * x i ^ e) % m) (div-mul-add h n i b))) (residue_of (v i * x i ^ h));
+    }
+
+pub next_check-requires-clause-above : goal.next_check-requires-clause-above
+next_check-requires-clause-above g c some =
+    place_above c.rows.h (length c.args.points.now) c.points.i c.points.next some c.points.invariant.0
+
+pub next_check-requires-clause-at : goal.next_check-requires-clause-at
+next_check-requires-clause-at g c = c.points.invariant.0
+
+pub next_check-requires-clause-before : goal.next_check-requires-clause-before
+next_check-requires-clause-before g c = c.points.invariant.1
+
+pub next_check-requires-clause-within : goal.next_check-requires-clause-within
+next_check-requires-clause-within g c =
+    let inside = row_within c.rows.h c.args.rows (length c.args.points.now) c.points.i c.rows-test.true c.points-test.true in
+    omega (arith, inside, c.points.invariant.0, c.requires.room)

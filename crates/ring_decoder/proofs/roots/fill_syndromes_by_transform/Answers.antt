@@ -1,0 +1,36 @@
+use Rattle.num_modular.specs.Callers.{◌≡◌, ℕ, ◌-◌, ◌<◌, ◌∙◌, ap, subst, arith, length}
+use Rattle.num_modular.specs.Callers.{entry, entry_read, form_read, hold_more, held_forms, held_entry}
+use Rattle.num_modular.specs.Transforms.{transform}
+use Rattle.ring_decoder.proofs.RootSyndromes.{syndromes_by_transform}
+use Rattle.ring_decoder.proofs.roots.fill_syndromes_by_transform.Goals as goal
+
+pub syndromes-preserved : goal.syndromes-preserved
+syndromes-preserved g c =
+    let ring = g.R.Reducer in let m = ring.modulus c.args.r.now in let number = g.T.RingWord.number in
+    let found = c.intt.new.xs in let place : ℕ = length found - 1 - c.syndromes.h in
+    let count = c.intt.auto.xs ∙ ap length c.copy_from_slice.ensures.after in
+    let below : place < length found = omega (arith, count) in
+    hold_more number ring.form ring.value m c.syndromes.syndromes c.syndromes.h _
+    (λ h. entry number ring.value m found (length found - 1 - h)) (omega arith) c.syndromes.invariant
+    (form_read number ring.form ring.value m found place _ c.intt.ensures.checked below c.index-coefficients-coefficients.is)
+    (entry_read number ring.value m found place _ below c.index-coefficients-coefficients.is)
+
+pub returns-clause-checked : goal.returns-clause-checked
+returns-clause-checked g c t =
+    let ring = g.R.Reducer in let m = ring.modulus c.args.r.now in
+    held_forms g.T.RingWord.number ring.form ring.value m c.syndromes.syndromes _ _ c.syndromes.invariant (omega arith)
+
+pub returns-clause-sums : goal.returns-clause-sums
+returns-clause-sums g c t x v powers fit weights =
+    let ring = g.R.Reducer in let m = ring.modulus c.args.r.now in let number = g.T.RingWord.number in
+    let positive = (g.met.R.Reducer.canonical c.args.r.now).positive in
+    let a = ring.value m (number c.args.g.now) in let word = c.args.word.now in let found = c.intt.new.xs in
+    let copied = c.copy_from_slice.ensures.after in
+    let count : length found ≡ length word = c.intt.auto.xs ∙ ap length copied in
+    let f = entry number ring.value m found in
+    syndromes_by_transform m a (length word) (length c.args.syndromes.now) x v f (entry number ring.value m word)
+    (entry number ring.value m c.syndromes.syndromes) positive c.requires.few c.requires.suits powers fit weights
+    (subst (λ l. (j : ℕ) → j < length l → transform m a (length l) f j ≡ entry number ring.value m l j) copied
+    (c.intt.ensures.values c.if-not-intt.false))
+    (λ h l. held_entry number ring.form ring.value m c.syndromes.syndromes (λ h. f (length found - 1 - h)) c.syndromes.h h
+    c.syndromes.invariant (omega arith) (omega arith) ∙ ap (λ n. f (n - 1 - h)) count)
