@@ -6,9 +6,12 @@ use Rattle.std.proofs.lemmas.Nat.{mul-mod_first}
 use Rattle.check_digits.specs.Codes.{CheckCode, IsCodeword}
 use Rattle.check_digits.specs.Codes.{FindsEachChange, FindsEachExchange, FindsAllButFives}
 use Rattle.check_digits.specs.Standards.{from_right, mod_97_10, isbn_10, isbn_13, issn, ean_13, ean_8, upc_a, orcid, aba_rtn}
+use Rattle.check_digits.proofs.Characters.{characters}
 use Rattle.check_digits.proofs.CheckSums.{unit_cancels}
+use Rattle.check_digits.proofs.DammDigits.{damm_changes, damm_exchanges}
 use Rattle.check_digits.proofs.Decisions.{each_below, passes}
 use Rattle.check_digits.proofs.Codewords.{changed_word, exchanged_word, same_residues, a_difference}
+use Rattle.check_digits.proofs.VerhoeffDigits.{verhoeff_changes, verhoeff_exchanges}
 
 -- the symbols of each place are residues
 abbrev pub IsBounded : CheckCode → Type 0
@@ -262,3 +265,20 @@ of_iban n most =
           (λ i l. search (arith, eqb-true))
           (λ i l. search (arith, eqb-true)),
     )
+
+-- what the codes of the standards detect, but for what `standard_finds` answers
+pub ruleset found_by_standards = (
+  of_isbn_10,
+  of_issn,
+  of_orcid,
+  of_aba_rtn,
+  of_ean_13,
+  of_ean_8,
+  of_isbn_13,
+  of_upc_a,
+  characters,
+  verhoeff_changes,
+  verhoeff_exchanges,
+  damm_changes,
+  damm_exchanges,
+)

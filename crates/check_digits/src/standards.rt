@@ -114,7 +114,7 @@ pub fn standard_codes() -> [Code<'static>; 8]
 /// another of its kind, digit or letter, and every exchange of two neighbours that differ, except of 1 and B, of 2 and
 /// M, and of 3 and X after the check digits; none of these is detected. Luhn's check digit: every such exchange, except
 /// 09 and 90.
-#[tactic(auto, using(crate::proofs::Finds::of_isbn_10, crate::proofs::Finds::of_issn, crate::proofs::Finds::of_orcid, crate::proofs::Finds::of_aba_rtn, crate::proofs::Finds::of_ean_13, crate::proofs::Finds::of_ean_8, crate::proofs::Finds::of_isbn_13, crate::proofs::Finds::of_upc_a, crate::proofs::Characters::characters, crate::proofs::VerhoeffDigits::verhoeff_changes, crate::proofs::VerhoeffDigits::verhoeff_exchanges, crate::proofs::DammDigits::damm_changes, crate::proofs::DammDigits::damm_exchanges))]
+#[tactic(auto, using(crate::proofs::Finds::found_by_standards))]
 pub fn standard_finds()
     ensures changes_modulo_11 { FindsEachChange (IsCodeword isbn_10) × FindsEachChange (IsCodeword issn)
         × FindsEachChange (IsCodeword orcid) }
