@@ -262,7 +262,7 @@ impl<'a, T: RingWord, R: Reducer<T>> Corrector<'a, T, R> {
     pub fn with_checks(self, checks: &'a mut [T]) -> Self
         requires room { length checks.old ≡ (length self.points.now - self.k) * length self.points.now }
         ensures same { (result.ring.now ≡ self.entry.ring.now) × (result.points.now ≡ self.entry.points.now)
-            × (result.k ≡ self.entry.k) }
+            × (result.k ≡ self.entry.k) × (result.root ≡ self.entry.root) }
         ensures count { length result.checks.now ≡ length checks.old }
     {
         // rust: assert!(checks.len() == (self.points.len() - self.k) * self.points.len(),
@@ -312,11 +312,12 @@ impl<'a, T: RingWord, R: Reducer<T>> Corrector<'a, T, R> {
     // rust: #[cfg_attr(debug_assertions, track_caller)]
     pub fn with_root(self, g: T) -> Option<Self>
         requires root { IsForm R.form R.value (R.modulus self.ring.now) (T.number g) }
-        ensures { let m = R.modulus self.entry.ring.now in let n = length self.entry.points.now in MatchOption result
-            (Suits m (R.value m (T.number g)) n →
-            ArePowers m (R.value m (T.number g)) n (entry T.number R.value m self.entry.points.now) → ⊥)
+        ensures { let m = R.modulus self.entry.ring.now in let n = length self.entry.points.now in
+            let v = R.value m (T.number g) in let x = entry T.number R.value m self.entry.points.now in MatchOption result
+            (Suits m v n → ArePowers m v n x → ⊥)
             (λ made. (made.ring.now ≡ self.entry.ring.now) × (made.points.now ≡ self.entry.points.now)
-            × (made.k ≡ self.entry.k)) }
+            × (made.k ≡ self.entry.k) × (made.checks.now ≡ self.entry.checks.now) × (made.root ≡ Some g)
+            × Suits m v n × ArePowers m v n x) }
     {
         // rust: debug_assert!(self.ring.check(&g), "g must be a checked form");
         if !are_powers(self.ring, &g, self.points) {

@@ -115,14 +115,47 @@ fn assert_composite<R: Reducer<u64>>(rt: &impl Abort, r: &R, small: &R) {
     check!(rt, 12; corrected(small, WORD, &[]).is_none());
 }
 
+// A word of messages of two symbols at the powers of a root, corrected by a transform; none where the points aren't its powers.
+fn corrected_by_root<R: Reducer<u64>>(
+    r: &R,
+    root: u64,
+    word: &[u64; 4],
+) -> Option<(Result<usize, CorrectError<u64>>, [u64; 4])> {
+    let points = forms_of(r, &[1, 13, 84, 72]);
+    let mut word = forms_of(r, word);
+    let mut weights = [0; 4];
+    let mut scratch = [0; 25];
+    let mut products = [0; 4];
+    match Corrector::new(r, &points, 2, &mut weights, &mut products) {
+        None => None,
+        Some(code) => match code.with_root(r.transform(root)) {
+            None => None,
+            Some(code) => {
+                let found = code.correct(&mut word, &[], &mut scratch);
+                Some((found, words_of(r, &word)))
+            }
+        },
+    }
+}
+
+// Modulo 85, where 13^2 is -1. The word of 1 + 2X is 3, 27, 84, 60.
+fn assert_by_root<R: Reducer<u64>>(rt: &impl Abort, r: &R) {
+    check!(rt, 21; corrected_by_root(r, 13, &[3, 27, 0, 60]) == Some((Ok(1), [3, 27, 84, 60])));
+    check!(rt, 22; corrected_by_root(r, 13, &[3, 27, 84, 60]) == Some((Ok(0), [3, 27, 84, 60])));
+    check!(rt, 23; corrected_by_root(r, 72, &[3, 27, 84, 60]).is_none());
+    check!(rt, 24; corrected_by_root(r, 84, &[3, 27, 84, 60]).is_none());
+}
+
 // Generic in the reducer, as each call with a known one takes long to prove.
 fn assert_corrections<R: Reducer<u64> + Copy>(rt: &impl Abort)
     requires of_15 { R.admits 15 }
+    requires of_85 { R.admits 85 }
     requires of_929 { R.admits 929 }
     requires of_1001 { R.admits 1001 }
 {
     assert_rows(rt, &R::new(&929));
     assert_composite(rt, &R::new(&1001), &R::new(&15));
+    assert_by_root(rt, &R::new(&85));
 }
 
 #[test]
