@@ -68,7 +68,10 @@ fn words_of_codes() {
     panic_with!("the word must have n symbols: 3 and 4"; code.correct(&mut [12, 19, 26], &[], &mut [0; 25]));
     panic_with!("there must be at least 2·n + 7·(n - k) + 3 places of scratch: 24 and 25";
         code.correct(&mut [12, 19, 26, 33], &[], &mut [0; 24]));
-    panic_in_debug_with!("the symbols must be checked forms"; code.correct(&mut [12, 19, 26, 97], &[], &mut [0; 25]));
+    panic_in_debug_with!("the symbols must be checked forms"; code.correct(&mut [12, 19, 26, 97], &[], &mut [0; 25]),
+        code.is_codeword(&[12, 19, 26, 97], &mut [0; 6]));
+    panic_with!("the word must have n symbols: 3 and 4"; code.is_codeword(&[12, 19, 26], &mut [0; 6]));
+    panic_with!("there must be at least n + (n - k) places of scratch: 5 and 6"; code.is_codeword(&[12, 19, 26, 33], &mut [0; 5]));
     let of_3 = Vanilla::<u64>::new(&3);
     panic_with!("k must be at most n: 3 and 2"; is_codeword_by_transform(&of_3, &2, &[1, 1], &mut [0; 2], &mut [0; 3]));
     panic_with!("there must be n places of scratch: 1 and 2"; is_codeword_by_transform(&of_3, &2, &[1, 1], &mut [0; 1], &mut [0; 1]));

@@ -259,6 +259,17 @@ impl Damaged {
         }
     }
 
+    /// Whether the word is of the code, by brute force and by `Corrector::is_codeword`, with a table of checks and without.
+    fn assert_membership(&self) {
+        let (ring, n) = (Vanilla::<u64>::new(&self.m), self.points.len());
+        let (mut weights, mut room, mut checks) = (vec![0; n], vec![0; n], vec![self.m; n * (n - self.k)]);
+        let mut scratch = vec![self.m - 1; 2 * n - self.k];
+        let is_word = matches!(nearest(self.m, &self.points, &self.word, self.k), Some((_, 0)));
+        let code = Corrector::new(&ring, &self.points, self.k, &mut weights, &mut room).expect("the points fit");
+        assert_eq!(code.is_codeword(&self.word, &mut scratch), is_word, "modulo {}", self.m);
+        assert_eq!(code.with_checks(&mut checks).is_codeword(&self.word, &mut scratch), is_word, "modulo {}", self.m);
+    }
+
     /// What `Corrector::correct` leaves and returns, with a table of checks and without.
     fn corrected(&self) -> (Vec<u64>, Result<usize, CorrectError<u64>>) {
         let (ring, n) = (Vanilla::<u64>::new(&self.m), self.points.len());
@@ -285,6 +296,7 @@ fn words_in_place() {
         for _ in 0..400 {
             let it = Damaged::random(m, least, &mut random);
             let want = it.nearest();
+            it.assert_membership();
             without_by_correct += usize::from(it.is_without_inverse_by_correct());
             match it.corrected() {
                 (word, Ok(errors)) => {
@@ -386,7 +398,10 @@ fn words_at_the_powers_of_a_root() {
             let code = Corrector::new(&ring, &points, k, &mut weights, &mut room).expect("the points fit");
             let mut other = word.clone();
             let found = code.correct(&mut word, &lost, &mut scratch);
+            let is_word = code.is_codeword(&other, &mut scratch);
+            assert!(found.is_err() || code.is_codeword(&word, &mut scratch));
             let code = code.with_root(root).expect("the points are powers of the root");
+            assert_eq!(code.is_codeword(&other, &mut scratch), is_word);
             assert_eq!((code.correct(&mut other, &lost, &mut scratch), other), (found, word), "modulo {m}");
         }
         points.swap(0, n - 1);

@@ -98,6 +98,8 @@ fn products() {
                     };
                 let products = ring.products.take();
                 assert!(products <= most, "{products} above {most}: n {n}, t {t}, c {c}, {found:?}");
+                assert_eq!(code.is_codeword(&spoilt, &mut scratch), c + wrong == 0);
+                assert!(ring.products.take() <= of_syndromes);
             };
             count(&code, n * (t + 1));
             let code = code.with_checks(&mut checks);

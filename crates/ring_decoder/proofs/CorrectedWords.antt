@@ -148,6 +148,21 @@ right_already m k n x v lost y s positive places weights below sums none =
       only = λ u is_u near i l. near_same m k n x lost y y u places fit is is_u (omega (arith, same)) near i l;
     }
 
+-- a word is of the code exactly where all its syndromes are 0
+pub codeword_by_zeros : (m k n : ℕ) (x v y s : ℕ → ℕ) → 0 < m → k ≤ n → AreWeights m n x v → ((i : ℕ) → i < n → y i < m)
+    → ((h : ℕ) → h < n - k → s h < m) → ArePowerSums m (n - k) n x (λ i. v i * y i) s
+    → (zeros (n - k) s ≡ n - k → IsErasureCodeword m k n x y) × (IsErasureCodeword m k n x y → zeros (n - k) s ≡ n - k)
+codeword_by_zeros m k n x v y s positive few weights below small sums =
+    let t : ℕ = n - k in let fit = fit_of_weights m n x v weights in (
+      λ all. codeword_by_syndromes m k n x v y positive few fit weights below
+      (record { sum = λ h l. mod_trans (mod_of_eq (sym (all_zero t s all h l))) (sums.sum h l) }),
+      λ is.
+      let none = codeword_without_syndromes m k n x v y positive few fit weights is in
+      let each : (h : ℕ) → h < t → s h ≡ 0 =
+      λ h l. sym (mod-eq_of_lt (small h l)) ∙ zero_of m (s h) (mod_trans (sums.sum h l) (mod_sym (none.sum h l))) in
+      let same = no_distance t s (λ i. 0) each in let others = zeros_others t s in omega (arith, same, others),
+    )
+
 -- a word less errors that have its syndromes
 pub right_word : (m k n wrong : ℕ) (x v : ℕ → ℕ) (lost : List ℕ) (y s e w : ℕ → ℕ) → 0 < m → AreLost k n lost
     → AreWeights m n x v → ((i : ℕ) → i < n → y i < m) → ((i : ℕ) → i < n → w i < m)

@@ -5,6 +5,7 @@
 mod checks;
 mod choices;
 pub mod corrector;
+mod decoding;
 mod errors;
 mod locator;
 mod places;

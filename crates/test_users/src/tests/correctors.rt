@@ -26,6 +26,28 @@ fn corrected<R: Reducer<u64>>(
     }
 }
 
+// Whether a word at the points 0 to 6 is of the code of messages of three symbols.
+fn is_word<R: Reducer<u64>>(r: &R, word: &[u64; 7]) -> Option<bool> {
+    let points = forms_of(r, &[0, 1, 2, 3, 4, 5, 6]);
+    let word = forms_of(r, word);
+    let mut weights = [0; 7];
+    let mut checks = [0; 28];
+    let mut scratch = [0; 11];
+    let mut products = [0; 7];
+    match Corrector::new(r, &points, 3, &mut weights, &mut products) {
+        None => None,
+        Some(code) => {
+            let plain = code.is_codeword(&word, &mut scratch);
+            let code = code.with_checks(&mut checks);
+            if code.is_codeword(&word, &mut scratch) == plain {
+                Some(plain)
+            } else {
+                None
+            }
+        }
+    }
+}
+
 // Symbols at the points 0 to 6, lost places, and what is found: the result, and the word afterwards.
 struct Row<'a> {
     word: &'a [u64; 7],
@@ -106,6 +128,8 @@ fn assert_rows<R: Reducer<u64>>(rt: &impl Abort, r: &R) {
     check!(rt, 6; holds(r, FIVE_LOST));
     check!(rt, 7; holds(r, NO_PLACE));
     check!(rt, 8; holds(r, TWICE));
+    check!(rt, 9; is_word(r, WORD) == Some(true));
+    check!(rt, 10; is_word(r, TWO_ERRORS.word) == Some(false));
 }
 
 // Modulo composite numbers: two symbols are wrong, one of them by a multiple of a factor.

@@ -7,7 +7,7 @@ use Rattle.ring_decoder.proofs.CorrectedWords.{fit_of_weights}
 use Rattle.ring_decoder.proofs.RootSyndromes.{suits_known}
 use Rattle.ring_decoder.specs.PowerSums.{ArePowerSums}
 use Rattle.ring_decoder.specs.Syndromes.{AreChecks, AreWeights}
-use Rattle.ring_decoder.proofs.corrector.write_syndromes.Goals as goal
+use Rattle.ring_decoder.proofs.decoding.write_syndromes.Goals as goal
 
 pub fill_syndromes_by_transform-requires-clause-suits : goal.fill_syndromes_by_transform-requires-clause-suits
 fill_syndromes_by_transform-requires-clause-suits g c =

@@ -1,7 +1,7 @@
 use Rattle.num_modular.specs.Callers.{inl, inr, arith, length, entry}
 use Rattle.std.proofs.lemmas.Bool.{cases_lt}
 use Rattle.ring_decoder.specs.ErrorPatterns.{listed_weight}
-use Rattle.ring_decoder.proofs.corrector.find_errors.Goals as goal
+use Rattle.ring_decoder.proofs.decoding.find_errors.Goals as goal
 
 pub returns-in-Some-find_nonunit : goal.returns-in-Some-find_nonunit
 returns-in-Some-find_nonunit g c =
