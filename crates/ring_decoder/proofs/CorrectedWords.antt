@@ -155,12 +155,12 @@ pub codeword_by_zeros : (m k n : ℕ) (x v y s : ℕ → ℕ) → 0 < m → k �
 codeword_by_zeros m k n x v y s positive few weights below small sums =
     let t : ℕ = n - k in let fit = fit_of_weights m n x v weights in (
       λ all. codeword_by_syndromes m k n x v y positive few fit weights below
-      (record { sum = λ h l. mod_trans (mod_of_eq (sym (all_zero t s all h l))) (sums.sum h l) }),
+          (record { sum = λ h l. mod_trans (mod_of_eq (sym (all_zero t s all h l))) (sums.sum h l) }),
       λ is.
-      let none = codeword_without_syndromes m k n x v y positive few fit weights is in
-      let each : (h : ℕ) → h < t → s h ≡ 0 =
-      λ h l. sym (mod-eq_of_lt (small h l)) ∙ zero_of m (s h) (mod_trans (sums.sum h l) (mod_sym (none.sum h l))) in
-      let same = no_distance t s (λ i. 0) each in let others = zeros_others t s in omega (arith, same, others),
+          let none = codeword_without_syndromes m k n x v y positive few fit weights is in
+          let each : (h : ℕ) → h < t → s h ≡ 0 =
+          λ h l. sym (mod-eq_of_lt (small h l)) ∙ zero_of m (s h) (mod_trans (sums.sum h l) (mod_sym (none.sum h l))) in
+          let same = no_distance t s (λ i. 0) each in let others = zeros_others t s in omega (arith, same, others),
     )
 
 -- a word less errors that have its syndromes
