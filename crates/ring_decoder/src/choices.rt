@@ -38,6 +38,7 @@ fn put<T: RingWord>(numbers: &mut [T], place: usize, number: &T)
 }
 
 // Copies the numbers of the chosen places.
+#[tactic(auto, using(crate::proofs::ChosenPlaces::zeros_before, num_modular::specs::Callers::entry_read))]
 fn gather<T: RingWord, R: Reducer<T>>(r: &R, values: &[T], numbers: &[T], chosen: &mut [T])
     requires values { All (λ f. IsForm R.form R.value (R.modulus r.now) (T.number f)) values.now }
     requires numbers { All (λ f. IsForm R.form R.value (R.modulus r.now) (T.number f)) numbers.now }
@@ -58,6 +59,7 @@ fn gather<T: RingWord, R: Reducer<T>>(r: &R, values: &[T], numbers: &[T], chosen
 }
 
 // Writes the errors at all places: those at the chosen ones, and 0 at the others.
+#[tactic(auto, using(crate::specs::ErrorPatterns::spread, num_modular::specs::Callers::held_entry))]
 fn scatter<T: RingWord, R: Reducer<T>>(r: &R, values: &[T], chosen: &[T], errors: &mut [T])
     requires values { All (λ f. IsForm R.form R.value (R.modulus r.now) (T.number f)) values.now }
     requires chosen { All (λ f. IsForm R.form R.value (R.modulus r.now) (T.number f)) chosen.now }
@@ -81,6 +83,7 @@ fn scatter<T: RingWord, R: Reducer<T>>(r: &R, values: &[T], chosen: &[T], errors
 }
 
 // Writes the product of each two numbers.
+#[tactic(auto, using(num_modular::specs::Callers::held_entry))]
 fn multiply_each<T: RingWord, R: Reducer<T>>(r: &R, xs: &[T], ys: &[T], products: &mut [T])
     requires xs { All (λ f. IsForm R.form R.value (R.modulus r.now) (T.number f)) xs.now }
     requires ys { All (λ f. IsForm R.form R.value (R.modulus r.now) (T.number f)) ys.now }
@@ -150,6 +153,7 @@ fn is_wrong<T: RingWord, R: Reducer<T>>(r: &R, lost: &[usize], error: &T, place:
 }
 
 // The number of the errors that aren't 0, at places that aren't lost.
+#[tactic(auto, using(ring_codes::proofs::NearPairs::none_counted))]
 fn count_wrong<T: RingWord, R: Reducer<T>>(r: &R, lost: &[usize], errors: &[T]) -> usize
     requires errors { All (λ f. IsForm R.form R.value (R.modulus r.now) (T.number f)) errors.now }
     ensures { let m = R.modulus r.now in

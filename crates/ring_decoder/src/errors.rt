@@ -45,6 +45,7 @@ fn quotient_sum<T: RingWord, R: Reducer<T>>(
 }
 
 // The product of the differences of a point from the other ones.
+#[tactic(auto, using(num_modular::specs::Callers::form_read, num_modular::specs::Callers::product_none))]
 fn differences_from_others<T: RingWord, R: Reducer<T>>(r: &R, points: &[T], place: usize) -> T
     requires points { All (λ f. IsForm R.form R.value (R.modulus r.now) (T.number f)) points.now }
     requires within { place < length points.now }
@@ -83,6 +84,7 @@ fn differences_from_others<T: RingWord, R: Reducer<T>>(r: &R, points: &[T], plac
 /// - there are as many syndromes as points or more
 /// - `product` has one place more than there are points
 /// - points, weights and syndromes are checked forms
+#[tactic(auto, using(num_modular::specs::Callers::done_none, num_modular::specs::Callers::form_read, num_modular::specs::Callers::held_forms))]
 pub fn solve_errors<T: RingWord, R: Reducer<T>>(
     r: &R,
     points: &[T],

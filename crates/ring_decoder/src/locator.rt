@@ -33,6 +33,7 @@ fn apply<T: RingWord, R: Reducer<T>>(
 }
 
 // Replaces the first coefficients of a polynomial f by those of a·f - b·X^q·g.
+#[tactic(auto, using(num_modular::specs::Callers::form_read))]
 fn combine<T: RingWord, R: Reducer<T>>(
     r: &R,
     a: &T,
@@ -136,6 +137,7 @@ fn advance<T: RingWord, R: Reducer<T>>(
 }
 
 // Writes a polynomial without other coefficients than the constant one.
+#[tactic(auto, using(num_modular::specs::Callers::entry_written, num_modular::specs::Callers::forms_written, num_modular::specs::Callers::held_forms, num_modular::specs::Callers::hold_more, ring_codes::proofs::Counts::zero_mod))]
 fn set_constant<T: RingWord, R: Reducer<T>>(r: &R, constant: &T, polynomial: &mut [T])
     requires constant { IsForm R.form R.value (R.modulus r.now) (T.number constant.now) }
     requires some { 0 < length polynomial.old }

@@ -42,6 +42,7 @@ pub fn check_lost(k: usize, n: usize, lost: &[usize]) -> Result<(), RestoreError
 }
 
 // Copies the points at the lost places.
+#[tactic(auto, using(num_modular::specs::Callers::entry_read, num_modular::specs::Callers::form_read, num_modular::specs::Callers::held_entry, num_modular::specs::Callers::held_forms, num_modular::specs::Callers::hold_more))]
 pub fn copy_points<T: RingWord, R: Reducer<T>>(
     _r: &R,
     points: &[T],

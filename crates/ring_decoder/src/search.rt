@@ -16,6 +16,7 @@ use num_modular::{Reducer, RingWord};
 use ring_codes::erasure::evaluate_each;
 
 // Writes the locator's values at the points; ones, where its degree is 0.
+#[tactic(auto, using(num_modular::specs::Callers::held_entry))]
 fn fill_values<T: RingWord, R: Reducer<T>>(
     r: &R,
     points: &[T],

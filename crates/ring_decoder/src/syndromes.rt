@@ -15,6 +15,7 @@ use num_modular::ring::dot_product;
 use num_modular::{Reducer, RingWord};
 
 // The sum of the terms; each term is then multiplied by its point.
+#[tactic(auto, using(num_modular::specs::Callers::form_read))]
 fn next_sum<T: RingWord, R: Reducer<T>>(r: &R, points: &[T], terms: &mut [T]) -> T
     requires points { All (λ f. IsForm R.form R.value (R.modulus r.now) (T.number f)) points.now }
     requires terms { All (λ f. IsForm R.form R.value (R.modulus r.now) (T.number f)) terms.old }
@@ -44,6 +45,7 @@ fn next_sum<T: RingWord, R: Reducer<T>>(r: &R, points: &[T], terms: &mut [T]) ->
 ///
 /// - there is a term for each point
 /// - points and terms are checked forms
+#[tactic(auto, using(crate::proofs::SyndromeSums::terms_first, num_modular::specs::Callers::held_entry, num_modular::specs::Callers::held_forms, num_modular::specs::NumberLaws::mod_of_eq, num_modular::specs::NumberLaws::mod_trans, num_modular::specs::NumberLaws::residue_of))]
 pub fn fill_power_sums<T: RingWord, R: Reducer<T>>(
     r: &R,
     points: &[T],
@@ -133,6 +135,7 @@ pub fn fill_syndromes<T: RingWord, R: Reducer<T>>(
 }
 
 // Multiplies a polynomial with `count` coefficients by X - x, in place; the coefficient that has no place is dropped.
+#[tactic(auto, using(num_modular::specs::Callers::form_read))]
 fn multiply_front<T: RingWord, R: Reducer<T>>(
     r: &R,
     point: &T,
@@ -167,6 +170,7 @@ fn multiply_front<T: RingWord, R: Reducer<T>>(
 ///
 /// - there is one coefficient more than there are points
 /// - the points are checked forms
+#[tactic(auto, using(num_modular::specs::Callers::hold_more, ring_codes::proofs::Counts::zero_mod))]
 pub fn expand_roots<T: RingWord, R: Reducer<T>>(r: &R, points: &[T], coefficients: &mut [T])
     requires points { All (λ f. IsForm R.form R.value (R.modulus r.now) (T.number f)) points.now }
     requires room { length coefficients.old ≡ length points.now + 1 }
@@ -245,6 +249,7 @@ pub fn fill_moments<T: RingWord, R: Reducer<T>>(
 /// The weight of a point is the inverse of the product of its differences from the other points.
 ///
 /// Source: MacWilliams and Sloane, The Theory of Error-Correcting Codes, chapters 10 and 12.
+#[tactic(auto, using(crate::proofs::DualCode::codeword_by_syndromes, crate::proofs::DualCode::codeword_without_syndromes))]
 pub fn syndromes_law()
     ensures zero { (m k n : ℕ) (points weights word : ℕ → ℕ) → 0 < m → k ≤ n → HaveUnitDifferences m n points →
         AreWeights m n points weights → IsErasureCodeword m k n points word →

@@ -1,24 +1,11 @@
-use borrow.Author.Rules.{scaled_Fits}
 use Rattle.std.proofs.Common.{◌^◌}
 use Rattle.std.proofs.Math.Nat.{mul-le-mul_right}
 use Rattle.std.proofs.lemmas.Nat.{mod-mul-add, div-mul-add}
-use Rattle.num_modular.specs.Callers.{◌≡◌, ℕ, ◌+◌, ◌*◌, ◌/◌, ◌%◌, ◌<◌, ◌≤◌, ◌∙◌, ap, sym, arith, length}
-use Rattle.num_modular.specs.Callers.{entry, hold_more, held_forms, held_entry}
+use Rattle.num_modular.specs.Callers.{◌≡◌, ℕ, ◌+◌, ◌*◌, ◌/◌, ◌%◌, ◌≤◌, ◌∙◌, ap, sym, arith, length}
+use Rattle.num_modular.specs.Callers.{entry, hold_more, held_entry}
 use Rattle.num_modular.specs.NumberLaws.{mod_of_eq, mod_trans, residue_of}
 use Rattle.ring_codes.proofs.Lagrange.{row_within}
-use Rattle.ring_decoder.proofs.CheckTables.{place_above}
 use Rattle.ring_decoder.proofs.checks.fill_checks.Goals as goal
-
-pub bounds-checks-next : goal.bounds-checks-next
-bounds-checks-next g c =
-    let inside = row_within c.rows.h c.args.rows (length c.args.points.now) c.points.i c.rows-test.true c.points-test.true in
-    omega (arith, inside, c.points.invariant.0, c.requires.room)
-
-pub offset_bounds-checks-next : goal.offset_bounds-checks-next
-offset_bounds-checks-next g c =
-    let inside = row_within c.rows.h c.args.rows (length c.args.points.now) c.points.i c.rows-test.true c.points-test.true in
-    let within : c.points.next < length c.args.checks.now = omega (arith, inside, c.points.invariant.0, c.requires.room) in
-    scaled_Fits _ _ _ within c.well_formed.1.1.1.1.0.1
 
 pub points-preserved : goal.points-preserved
 points-preserved g c =
@@ -38,14 +25,6 @@ points-preserved g c =
           (c.next_check.ensures.value ∙ sym here),
     )
 
-pub returns-clause-checked : goal.returns-clause-checked
-returns-clause-checked g c =
-    let ring = g.R.Reducer in let m = ring.modulus c.args.r.now in
-    let n : ℕ = length c.args.points.now in
-    let all : c.args.rows * n ≤ c.rows.h * n = mul-le-mul_right n c.rows-test.false in
-    held_forms g.T.RingWord.number ring.form ring.value m c.rows.checks _ _ c.rows.invariant.1
-    (omega (arith, all, c.rows.invariant.0, c.rows.auto.checks, c.requires.room))
-
 pub returns-clause-table : goal.returns-clause-table
 returns-clause-table g c =
     let ring = g.R.Reducer in let m = ring.modulus c.args.r.now in let number = g.T.RingWord.number in
@@ -62,18 +41,3 @@ returns-clause-table g c =
           ∙ ap (λ e. (v e * x e ^ ((h * n + i) / n)) % m) (mod-mul-add h n i b)
           ∙ ap (λ e. (v i * x i ^ e) % m) (div-mul-add h n i b))) (residue_of (v i * x i ^ h));
     }
-
-pub next_check-requires-clause-above : goal.next_check-requires-clause-above
-next_check-requires-clause-above g c some =
-    place_above c.rows.h (length c.args.points.now) c.points.i c.points.next some c.points.invariant.0
-
-pub next_check-requires-clause-at : goal.next_check-requires-clause-at
-next_check-requires-clause-at g c = c.points.invariant.0
-
-pub next_check-requires-clause-before : goal.next_check-requires-clause-before
-next_check-requires-clause-before g c = c.points.invariant.1
-
-pub next_check-requires-clause-within : goal.next_check-requires-clause-within
-next_check-requires-clause-within g c =
-    let inside = row_within c.rows.h c.args.rows (length c.args.points.now) c.points.i c.rows-test.true c.points-test.true in
-    omega (arith, inside, c.points.invariant.0, c.requires.room)

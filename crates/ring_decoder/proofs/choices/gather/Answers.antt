@@ -11,15 +11,6 @@ pub values-init : goal.values-init
 values-init g c =
     (sym (zeros-none _), omega arith, λ k d l. absurd (omega arith), chosen_none _ _ _)
 
-pub put-requires : goal.put-requires
-put-requires g c =
-    let ring = g.R.Reducer in let m = ring.modulus c.args.r.now in let number = g.T.RingWord.number in
-    let values = c.args.values.now in let i = c.values.i in let z = entry number ring.value m values in
-    let at = entry_read number ring.value m values i _ c.values-test.true c.index-values-i.is in
-    let before = zeros_before i (length values) z c.values-test.true (sym at ∙ c.is_zero.ensures.0 c.if-is_zero.true) in
-    let is = c.values.invariant.0 in let kept = c.values.auto.chosen in let room = c.requires.room in
-    omega (arith, is, before, kept, room)
-
 pub values-preserved : goal.values-preserved
 values-preserved g c =
     let ring = g.R.Reducer in let m = ring.modulus c.args.r.now in let number = g.T.RingWord.number in

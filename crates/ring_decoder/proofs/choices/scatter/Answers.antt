@@ -1,5 +1,5 @@
 use Rattle.num_modular.specs.Callers.{◌≡◌, ◌<◌, ◌+◌, ◌%◌, ◌∙◌, ap, sym, subst, arith, length, HoldBelow}
-use Rattle.num_modular.specs.Callers.{entry, entry_read, form_read, hold_more, held_entry}
+use Rattle.num_modular.specs.Callers.{entry, entry_read, form_read, hold_more}
 use Rattle.std.proofs.Math.Nat.{zero-mod}
 use Rattle.std.proofs.lemmas.Bool.{false≢true}
 use Rattle.ring_decoder.proofs.ChosenPlaces.{zeros-none, zeros_more, zeros_kept, zeros_before, chosen_zero, chosen_nonzero}
@@ -59,11 +59,3 @@ values-preserved g c =
                 ∙ sym (chosen_nonzero (z i) (e (zeros i z)) 0 other))),
           )
     ]
-
-pub returns-clause-errors : goal.returns-clause-errors
-returns-clause-errors g c i l =
-    let ring = g.R.Reducer in let m = ring.modulus c.args.r.now in let number = g.T.RingWord.number in
-    let z = entry number ring.value m c.args.values.now in let e = entry number ring.value m c.args.chosen.now in
-    let kept = c.values.auto.errors in let room = c.requires.room in
-    held_entry number ring.form ring.value m c.values.errors (spread z e) _ i c.values.invariant.2 (omega arith)
-    (omega (arith, l, kept, room))

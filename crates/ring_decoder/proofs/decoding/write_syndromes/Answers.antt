@@ -1,5 +1,5 @@
 use Rattle.std.proofs.lemmas.Bool.{eqb-false}
-use Rattle.num_modular.specs.Callers.{ℕ, ◌*◌, ◌<◌, ◌∙◌, ap, sym, subst, arith, length, entry}
+use Rattle.num_modular.specs.Callers.{ℕ, ◌*◌, ◌<◌, ◌∙◌, sym, subst, arith, length, entry}
 use Rattle.num_modular.specs.Polynomials.{HaveUnitDifferences}
 use Rattle.num_modular.specs.Transforms.{Suits}
 use Rattle.ring_codes.specs.Powers.{ArePowers}
@@ -30,13 +30,6 @@ returns-then-fill_syndromes_by_transform-clause-sums g c =
     (subst (λ n. HaveUnitDifferences m n x) (sym same)
     (fit_of_weights m (length c.args.points.now) x v c.requires.weights_of))
     (subst (λ n. AreWeights m n x v) (sym same) c.requires.weights_of))
-
-pub fill_checked_syndromes-requires-clause-room : goal.fill_checked_syndromes-requires-clause-room
-fill_checked_syndromes-requires-clause-room g c =
-    let some_checks = eqb-false _ _ (sym c.is_empty.ensures ∙ c.if-is_empty.false) in
-    let some : 0 < length c.args.checks.now = omega (arith, some_checks) in
-    c.requires.each_check some ∙ ap (λ n. length c.args.syndromes.now * n) (sym c.requires.each_symbol)
-    ∙ ap (λ t. t * length c.args.word.now) (sym c.match-root.auto.syndromes)
 
 pub returns-else-is_empty-clause-sums : goal.returns-else-is_empty-clause-sums
 returns-else-is_empty-clause-sums g c =

@@ -1,17 +1,13 @@
 use Rattle.std.proofs.lemmas.Bool.{false≢true}
-use Rattle.num_modular.specs.Callers.{form_read}
 use Rattle.num_modular.specs.Callers.{◌<◌, ℕ, ◌+◌, ◌-◌, ◌*◌, ◌%◌, ◌∙◌, ap, refl, arith, length}
-use Rattle.num_modular.specs.Callers.{entry, entry_at, entry_read, forms_written, hold_more, held_forms, held_entry}
-use Rattle.num_modular.specs.Callers.{done_none, done_more}
+use Rattle.num_modular.specs.Callers.{entry, entry_at, entry_read, forms_written, hold_more, held_entry}
+use Rattle.num_modular.specs.Callers.{done_more}
 use Rattle.num_modular.specs.Polynomials.{polynomial_at}
 use Rattle.num_modular.specs.Sums.{sum_below}
 use Rattle.ring_codes.specs.Prepared.{product_but}
 use Rattle.ring_decoder.proofs.SyndromeErrors.{error_found, divisors_tell}
 use Rattle.ring_decoder.proofs.SyndromeSums.{product_of_equal}
 use Rattle.ring_decoder.proofs.errors.solve_errors.Goals as goal
-
-pub points-init : goal.points-init
-points-init g c = (record { each = λ k d l. absurd (omega arith) }, record { each = λ k d l. absurd (omega arith) })
 
 pub points-preserved : goal.points-preserved
 points-preserved g c =
@@ -32,18 +28,6 @@ points-preserved g c =
           (c.mul.ensures.value
           ∙ ap (λ v. (v * ring.value m (number c.index-weights-j.result)) % m) c.differences_from_others-differences.ensures.value
           ∙ ap (λ v. (product_but m q x j (x j) % m * v) % m) weight),
-    )
-
-pub invert_each-requires-clause-checked : goal.invert_each-requires-clause-checked
-invert_each-requires-clause-checked g c =
-    let ring = g.R.Reducer in let m = ring.modulus c.args.r.now in
-    held_forms g.T.RingWord.number ring.form ring.value m c.points.divisors _ _ c.points.invariant.1 (omega arith)
-
-pub errors-init : goal.errors-init
-errors-init g c =
-    let ring = g.R.Reducer in let m = ring.modulus c.args.r.now in (
-      held_forms g.T.RingWord.number ring.form ring.value m c.points.errors _ _ c.points.invariant.0 (omega arith),
-      done_none _ _,
     )
 
 pub errors-preserved : goal.errors-preserved
@@ -98,22 +82,3 @@ returns-clause-errors g c t e are j l =
     (held_entry number ring.form ring.value m c.points.divisors _ c.points.j j c.points.invariant.1 (omega arith) (omega arith))
     (c.if-not-invert_each.ensures.inverses refl j (omega arith))
     (c.errors.invariant.1.done j (omega arith))
-
-pub quotient_sum-requires-clause-point : goal.quotient_sum-requires-clause-point
-quotient_sum-requires-clause-point g c =
-    let ring = g.R.Reducer in let m = ring.modulus c.args.r.now in
-    form_read g.T.RingWord.number ring.form ring.value m c.args.points.now c.points.j _ c.requires.points c.points-test.true c.index-points-j.is
-
-pub mul-requires-clause-right : goal.mul-requires-clause-right
-mul-requires-clause-right g c =
-    let ring = g.R.Reducer in let m = ring.modulus c.args.r.now in
-    form_read g.T.RingWord.number ring.form ring.value m c.args.weights.now c.points.j _ c.requires.weights (omega arith) c.index-weights-j.is
-
-pub mul-requires-in-errors-clause-left : goal.mul-requires-in-errors-clause-left
-mul-requires-in-errors-clause-left g c = c.errors.invariant.0 c.errors.j c.index-errors-j.result (omega arith)
-
-pub mul-requires-in-errors-clause-right : goal.mul-requires-in-errors-clause-right
-mul-requires-in-errors-clause-right g c = c.invert_each.ensures.checked c.errors.j c.index-divisors-j.result (omega arith)
-
-pub returns-then-not-invert_each-clause-errors : goal.returns-then-not-invert_each-clause-errors
-returns-then-not-invert_each-clause-errors g c t = absurd (false≢true t)

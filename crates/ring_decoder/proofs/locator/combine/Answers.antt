@@ -1,5 +1,5 @@
 use Rattle.num_modular.specs.Callers.{◌≡◌, ◌+◌, ◌-◌, ◌*◌, ◌%◌, ◌∙◌, ap, subst, arith}
-use Rattle.num_modular.specs.Callers.{entry, entry_at, entry_read, form_read, forms_written, done_more}
+use Rattle.num_modular.specs.Callers.{entry, entry_at, entry_read, forms_written, done_more}
 use Rattle.num_modular.specs.Congruence.{Congruent}
 use Rattle.num_modular.specs.NumberLaws.{mod_of_eq, mod_trans, residue_of}
 use Rattle.ring_codes.proofs.NewtonForms.{subtracted}
@@ -46,15 +46,3 @@ high-preserved g c =
                 subst (λ l. Congruent m (ring.value m (number c.sub.result) + b * others l) (a * old k)) at one;
           }),
     )
-
-pub mul-scaled-requires-clause-right : goal.mul-scaled-requires-clause-right
-mul-scaled-requires-clause-right g c = c.low.invariant.0 c.low.i c.index-polynomial-i.result (omega arith)
-
-pub mul-own-requires-clause-right : goal.mul-own-requires-clause-right
-mul-own-requires-clause-right g c = c.high.invariant.0 c.high.k c.index-polynomial-k.result (omega arith)
-
-pub mul-product-requires-clause-right : goal.mul-product-requires-clause-right
-mul-product-requires-clause-right g c =
-    let ring = g.R.Reducer in let m = ring.modulus c.args.r.now in
-    form_read g.T.RingWord.number ring.form ring.value m c.args.other.now (c.high.k - c.args.q) _ c.requires.other
-    (omega (arith, c.requires.other_within)) c.index-other-place.is

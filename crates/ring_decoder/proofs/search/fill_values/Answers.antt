@@ -1,19 +1,9 @@
-use Rattle.num_modular.specs.Callers.{◌≤◌, ◌+◌, ◌%◌, ℕ, ◌∙◌, ap, arith, length, entry, held_entry}
+use Rattle.num_modular.specs.Callers.{◌≤◌, ◌+◌, ◌%◌, ℕ, ◌∙◌, ap, arith, length, entry}
 use Rattle.num_modular.specs.Polynomials.{polynomial_at}
 use Rattle.num_modular.specs.PolynomialLaws.{polynomial-same}
 use Rattle.std.proofs.Common.{take, length-take-le}
 use Rattle.ring_codes.proofs.Symbols.{entry_front}
 use Rattle.ring_decoder.proofs.search.fill_values.Goals as goal
-
-pub returns-after-ones-clause-values : goal.returns-after-ones-clause-values
-returns-after-ones-clause-values g c =
-    let ring = g.R.Reducer in let m = ring.modulus c.args.r.now in let number = g.T.RingWord.number in
-    let kept = c.ones.auto.values in let room = c.requires.room in let none = c.if-degree-eq0.true in
-    record {
-      none = λ e i l. held_entry number ring.form ring.value m c.ones.values (λ i. 1 % m) _ i c.ones.invariant (omega arith)
-          (omega (arith, l, kept, room));
-      some = λ l. absurd (omega (arith, l, none));
-    }
 
 pub returns-else-degree-eq0-clause-values : goal.returns-else-degree-eq0-clause-values
 returns-else-degree-eq0-clause-values g c =

@@ -1,22 +1,11 @@
-use Rattle.num_modular.specs.Callers.{◌<◌, ◌≤◌, ◌≡◌, ◌≢◌, ◌∙◌, ◌%◌, ap, sym, subst, arith, length}
-use Rattle.num_modular.specs.Callers.{entry, entry_read, entry_past, entry_kept, entry_written, held_entry, hold_more}
+use Rattle.num_modular.specs.Callers.{◌≤◌, ◌≢◌, ◌∙◌, ◌%◌, ap, arith, length}
+use Rattle.num_modular.specs.Callers.{entry_read, entry_past, entry_kept, entry_written, held_entry}
 use Rattle.num_modular.specs.Callers.{held_forms, forms_written}
 use Rattle.num_modular.specs.NumberLaws.{mod_of_eq, mod_trans, residue_of}
 use Rattle.std.proofs.Common.{inl, inr}
 use Rattle.std.proofs.lemmas.Bool.{cases_lt}
-use Rattle.ring_codes.proofs.Counts.{zero_mod}
-use Rattle.ring_decoder.specs.Syndromes.{HasRoots}
 use Rattle.ring_decoder.proofs.SyndromeRoots.{roots_none, roots_more}
 use Rattle.ring_decoder.proofs.syndromes.expand_roots.Goals as goal
-
-pub zeros-preserved : goal.zeros-preserved
-zeros-preserved g c =
-    let ring = g.R.Reducer in let m = ring.modulus c.args.r.now in let number = g.T.RingWord.number in
-    let list = c.zeros.coefficients in let i = c.zeros.i in
-    let within : i < length list = subst (λ n. i < n) (sym c.zeros.auto.coefficients) c.zeros-test.true in
-    hold_more number ring.form ring.value m list i c.transform-zero.result (λ k. 0) within c.zeros.invariant
-    c.transform-zero.ensures.checked
-    (c.transform-zero.ensures.value ∙ ap (λ v. v % m) c.zero.ensures ∙ zero_mod m)
 
 pub points-init : goal.points-init
 points-init g c =
@@ -46,10 +35,3 @@ points-preserved g c =
       roots_more m i _ _ _ _ positive so_far.1 so_far.2 point c.multiply_front.ensures.product,
       λ j l. c.multiply_front.ensures.behind j (omega arith) ∙ so_far.2 j (omega arith),
     )
-
-pub returns-clause-roots : goal.returns-clause-roots
-returns-clause-roots g c =
-    let ring = g.R.Reducer in let m = ring.modulus c.args.r.now in let number = g.T.RingWord.number in
-    let x = entry number ring.value m c.args.points.now in
-    let count : c.points.i ≡ length c.args.points.now = omega arith in
-    subst (λ n. HasRoots m n x (entry number ring.value m c.points.coefficients)) count c.points.invariant.1

@@ -36,9 +36,3 @@ coefficients-preserved g c =
       },
       done_more number ring.value m list i c.sub.result _ old (omega arith) so_far.2 one,
     )
-
-pub mul-product-requires-clause-right : goal.mul-product-requires-clause-right
-mul-product-requires-clause-right g c =
-    let ring = g.R.Reducer in let m = ring.modulus c.args.r.now in
-    form_read g.T.RingWord.number ring.form ring.value m c.coefficients.coefficients c.coefficients.i _
-    c.coefficients.invariant.0 (omega arith) c.index-coefficients-i.is

@@ -1,4 +1,3 @@
-use Rattle.num_modular.specs.Callers.{form_read}
 use Rattle.num_modular.specs.Callers.{◌%◌, ◌∙◌, ap, sym, arith}
 use Rattle.num_modular.specs.Callers.{entry, entry_at, entry_read, forms_written, done_none, done_more}
 use Rattle.num_modular.specs.NumberLaws.{mod_of_eq, sum_below-zero}
@@ -35,14 +34,3 @@ terms-preserved g c =
       done_more number ring.value m list i c.mul.result _ old (omega arith) so_far.2
           (product_of_equal m _ _ _ (old i) (entry number ring.value m points i) c.mul.ensures.value again point),
     )
-
-pub add-sum-requires-clause-right : goal.add-sum-requires-clause-right
-add-sum-requires-clause-right g c = c.terms.invariant.0 c.terms.i c.index-terms-i.result (omega arith)
-
-pub mul-requires-clause-left : goal.mul-requires-clause-left
-mul-requires-clause-left g c = c.terms.invariant.0 c.terms.i c.index-terms-i-in-terms.result (omega arith)
-
-pub mul-requires-clause-right : goal.mul-requires-clause-right
-mul-requires-clause-right g c =
-    let ring = g.R.Reducer in let m = ring.modulus c.args.r.now in
-    form_read g.T.RingWord.number ring.form ring.value m c.args.points.now c.terms.i _ c.requires.points c.terms-test.true c.index-points-i.is

@@ -113,31 +113,3 @@ find_errors-requires-clause-modulus g c =
     not_one m (length syndromes) (entry number ring.value m syndromes)
     (λ i l. entry_below number ring.form ring.value m syndromes i c.write_syndromes.ensures.checked l)
     (λ all. c.if-count_zeros-syndromes.false (c.count_zeros.ensures ∙ all))
-
-pub find_errors-requires-clause-points : goal.find_errors-requires-clause-points
-find_errors-requires-clause-points g c = c.args.self.now.point_forms
-
-pub find_errors-requires-clause-weights : goal.find_errors-requires-clause-weights
-find_errors-requires-clause-weights g c = c.args.self.now.weight_forms
-
-pub find_errors-requires-clause-syndromes : goal.find_errors-requires-clause-syndromes
-find_errors-requires-clause-syndromes g c = c.write_syndromes.ensures.checked
-
-pub find_errors-requires-clause-each_weight : goal.find_errors-requires-clause-each_weight
-find_errors-requires-clause-each_weight g c = c.args.self.now.count
-
-pub write_syndromes-requires-clause-points : goal.write_syndromes-requires-clause-points
-write_syndromes-requires-clause-points g c = c.args.self.now.point_forms
-
-pub write_syndromes-requires-clause-weights : goal.write_syndromes-requires-clause-weights
-write_syndromes-requires-clause-weights g c = c.args.self.now.weight_forms
-
-pub write_syndromes-requires-clause-word : goal.write_syndromes-requires-clause-word
-write_syndromes-requires-clause-word g c = c.requires.word
-
-pub count_zeros-requires : goal.count_zeros-requires
-count_zeros-requires g c = record { values = c.write_syndromes.ensures.checked }
-
-pub find_errors-requires-clause-few : goal.find_errors-requires-clause-few
-find_errors-requires-clause-few g c =
-    let long = c.write_syndromes.auto.syndromes ∙ c.split_at_mut-syndromes.ensures.front_len in omega (arith, long)
