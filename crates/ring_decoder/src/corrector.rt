@@ -286,7 +286,8 @@ impl<'a, T: RingWord, R: Reducer<T>> Corrector<'a, T, R> {
     // rust instead: pub(crate) fn over(ring: &'a R, points: &'a [T], k: usize, weights: &'a [T], checks: &'a [T]) -> Self
     pub fn over(ring: &'a R, points: &'a [T], k: usize, weights: &'a [T], checks: &'a [T]) -> Self
         requires { AreCorrectorLists T.number R.form R.value (R.modulus ring.now) k points.now weights.now checks.now }
-        ensures { (result.ring.now ≡ ring.now) × (result.points.now ≡ points.now) × (result.k ≡ k) }
+        ensures { (result.ring.now ≡ ring.now) × (result.points.now ≡ points.now) × (result.k ≡ k)
+            × (result.checks.now ≡ checks.now) }
     {
         Corrector {
             ring,
