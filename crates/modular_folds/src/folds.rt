@@ -5,7 +5,6 @@ ghost use Rattle.modular_folds.specs.Folds.{fold_of, folds, IsFewFolds, IsFoldin
 
 use crate::far::{has_few_folds, reduced_far};
 use crate::fold_word::FoldWord;
-use modular_prim::below::sum_once;
 use modular_reduced::lanes::reduced_by_sign;
 use modular_word::path_word::PathWord;
 // rattle: line
@@ -166,11 +165,11 @@ pub(crate) fn reduced_last<V: FoldWord>(v: V, m: V) -> V
 
 // `reduced_last` of a word. It isn't inlined always: LLVM then simplifies it first, and compares x with m, a constant, in
 // vectors too. Condition: x is below 2m.
-fn reduced_last_word(x: u32, m: u32) -> u32
-    requires { x < 2 * m }
-    ensures { result ≡ x % m }
+fn reduced_last_word<T: PathWord>(x: T, m: T) -> T
+    requires { T.number x < 2 * T.number m }
+    ensures { T.number result ≡ T.number x % T.number m }
 {
-    if x < m { x } else { x - m }
+    if x.is_below(m) { x } else { x.minus(m) }
 }
 
 // v modulo m, with the borrow of v - m as a mask. LLVM vectorizes products in independent chains, and a comparison of
@@ -424,8 +423,10 @@ impl FoldedWord for u32 {
     fn sum_of_parts(a: u32, b: u32, p: u32, m: u32) -> u32 {
         if p < 32 {
             reduced_by_sign(a + b, m)
+        } else if a < m - b {
+            a + b
         } else {
-            sum_once(a, b, m)
+            a - (m - b)
         }
     }
 }
@@ -500,7 +501,7 @@ pub fn reduce_by_folds<T: FoldedWord>(v: T::Double, p: u32, c: T, m: T) -> (T, u
     ensures few { IsFewFolds p (T.number c) (T.double_number v) result.1 }
 {
     let (rest, count) = T::fold_double(v, p, c, m);
-    (sum_once(rest, T::zero(), m), count)
+    (reduced_last_word(rest, m), count)
 }
 
 // v modulo m, by folds. Kept out of line and cold, so that loops over products stay small. Condition: m is 2^p - c and more

@@ -1,4 +1,3 @@
-pub mod ComparedSums
 pub mod DifferenceSteps
 pub mod DigitSteps
 pub mod DivisionCounts

@@ -24,45 +24,12 @@ pub fn reduced_once<T: PathWord>(x: T, m: T) -> T
 
 /// The residue of a + b, below m.
 ///
-/// # Preconditions
-///
-/// - b is at most m, and the sum below 2m
-pub fn sum_once<T: PathWord>(a: T, b: T, m: T) -> T
-    requires most { T.number b ≤ T.number m }
-    requires twice { T.number a + T.number b < 2 * T.number m }
-    ensures value { T.number result ≡ (T.number a + T.number b) % T.number m }
-    ensures below { T.number result < T.number m }
-{
-    let gap = m.minus(b);
-    if a.is_below(gap) {
-        a.plus(b)
-    } else {
-        a.minus(gap)
-    }
-}
-
-/// The residue of a + b, below m.
-///
-/// A carry or a comparison chooses between two sums; both need a, so that LLVM selects without a branch.
+/// The carry of a + (b - m) chooses between two sums; both need a, so that LLVM selects without a branch.
 ///
 /// # Preconditions
 ///
 /// - a and b are below m
 pub fn add_below<T: PathWord>(a: T, b: T, m: T) -> T
-    requires left { T.number a < T.number m }
-    requires right { T.number b < T.number m }
-    ensures value { T.number result ≡ (T.number a + T.number b) % T.number m }
-    ensures below { T.number result < T.number m }
-{
-    if T::bits() <= 16 {
-        sum_by_comparison(a, b, m)
-    } else {
-        sum_by_carry(a, b, m)
-    }
-}
-
-// The residue of a + b, below m. The carry of a + (b - m) chooses. Condition: both are below m.
-fn sum_by_carry<T: PathWord>(a: T, b: T, m: T) -> T
     requires left { T.number a < T.number m }
     requires right { T.number b < T.number m }
     ensures value { T.number result ≡ (T.number a + T.number b) % T.number m }
@@ -74,26 +41,12 @@ fn sum_by_carry<T: PathWord>(a: T, b: T, m: T) -> T
     if above { rest } else { a.plus(b) }
 }
 
-// The same: the sum of a and b - m is below b - m exactly where it carries. LLVM vectorizes this comparison over several
-// integers, each with its own modulus, but not the carry of `overflowing_add`. Condition: both are below m.
-fn sum_by_comparison<T: PathWord>(a: T, b: T, m: T) -> T
-    requires left { T.number a < T.number m }
-    requires right { T.number b < T.number m }
-    ensures value { T.number result ≡ (T.number a + T.number b) % T.number m }
-    ensures below { T.number result < T.number m }
-{
-    // Reading the word gives the proof that it fits its width.
-    let _ = m.is_below(a);
-    let step = b.wrapping_sub(m);
-    let rest = a.wrapping_add(step);
-    if rest.is_below(step) { rest } else { a.plus(b) }
-}
-
 /// The residue of a - b, below m.
 ///
 /// # Preconditions
 ///
 /// - a and b are below m
+// Inlined before LLVM simplifies it, which then knows the modulus of a fixed reducer, and selects.
 #[inline(always)]
 pub fn sub_below<T: PathWord>(a: T, b: T, m: T) -> T
     requires left { T.number a < T.number m }
@@ -104,22 +57,6 @@ pub fn sub_below<T: PathWord>(a: T, b: T, m: T) -> T
     // This test, which depends on m alone, makes LLVM load m before it compares a and b. Otherwise it branches on a and b
     // around the load.
     // rust: assert!(!m.is_zero_word(), "m must be at least 1");
-    if T::bits() >= 32 {
-        chosen_difference(a, b, m)
-    } else {
-        summed_difference(a, b, m)
-    }
-}
-
-// The residue of a - b, below m: the difference, or its sum with m. It is inlined before LLVM simplifies it, which
-// then knows the modulus of a fixed reducer, and chooses. Condition: both are below m.
-#[inline(always)]
-fn chosen_difference<T: PathWord>(a: T, b: T, m: T) -> T
-    requires left { T.number a < T.number m }
-    requires right { T.number b < T.number m }
-    ensures value { T.number result ≡ residue (T.number m) (pos (T.number a) -ℤ pos (T.number b)) }
-    ensures below { T.number result < T.number m }
-{
     // Reading the word gives the proof that it fits its width.
     let _ = m.is_below(a);
     let less = a.wrapping_sub(b);
@@ -128,20 +65,6 @@ fn chosen_difference<T: PathWord>(a: T, b: T, m: T) -> T
     } else {
         less
     }
-}
-
-// The same: the difference plus m or 0, as compilers work on several short words at once. Condition: both are below m.
-fn summed_difference<T: PathWord>(a: T, b: T, m: T) -> T
-    requires left { T.number a < T.number m }
-    requires right { T.number b < T.number m }
-    ensures value { T.number result ≡ residue (T.number m) (pos (T.number a) -ℤ pos (T.number b)) }
-    ensures below { T.number result < T.number m }
-{
-    // Reading the word gives the proof that it fits its width.
-    let _ = m.is_below(a);
-    let less = a.wrapping_sub(b);
-    let back = if a.is_below(b) { m } else { T::zero() };
-    less.wrapping_add(back)
 }
 
 /// The residue of a - b, as [`sub_below`] returns it, but branchless for words of 64 bits: the latency is higher, but

@@ -36,8 +36,10 @@ impl PathWord for u8 {
         self.wrapping_add(rhs)
     }
 
+    // LLVM vectorizes this comparison over several short words, but not the carry of `u8::overflowing_add`.
     fn overflowing_add(self, rhs: u8) -> (u8, bool) {
-        self.overflowing_add(rhs)
+        let sum = self.wrapping_add(rhs);
+        (sum, sum < rhs)
     }
 
     fn wrapping_sub(self, rhs: u8) -> u8 {
@@ -131,8 +133,10 @@ impl PathWord for u16 {
         self.wrapping_add(rhs)
     }
 
+    // As for `u8`.
     fn overflowing_add(self, rhs: u16) -> (u16, bool) {
-        self.overflowing_add(rhs)
+        let sum = self.wrapping_add(rhs);
+        (sum, sum < rhs)
     }
 
     fn wrapping_sub(self, rhs: u16) -> u16 {

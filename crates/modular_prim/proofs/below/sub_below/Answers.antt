@@ -1,7 +1,7 @@
 use Rattle.std.proofs.Common.{◌≡◌, ◌+◌, ◌-◌, ◌%◌, ◌<◌, arith, ap, ◌∙◌}
 use Rattle.std.proofs.Math.Nat.{mod-eq_of_lt, add-mod_right}
 use Rattle.modular_prim.proofs.ResidueSteps.{difference_below, lifted}
-use Rattle.modular_prim.proofs.below.chosen_difference.Goals as goal
+use Rattle.modular_prim.proofs.below.sub_below.Goals as goal
 
 pub returns-then-is_below-clause-value : goal.returns-then-is_below-clause-value
 returns-then-is_below-clause-value g c =
