@@ -7,7 +7,7 @@
     bench/speed.py goals           compares the goals of bench/thresholds.txt with the results; the status is 1 if one is missed
     bench/speed.py page [--check]  writes the table of the goals into docs/speed.md; with --check, the status is 1 if it differs
 
-The parts are crate, peers, plans, crossings, calls, random and secrets. What is shown is of the processor that
+The parts are crate, peers, plans, crossings, calls, random, secrets and widths. What is shown is of the processor that
 bench/thresholds.txt names.
 """
 import datetime
@@ -23,7 +23,7 @@ from pathlib import Path
 HERE = Path(__file__).resolve().parent
 RESULTS, THRESHOLDS, PAGE = HERE / "results", HERE / "thresholds.txt", HERE.parent / "docs/speed.md"
 BEGIN, END = "<!-- written by bench/speed.py page -->", "<!-- end of what bench/speed.py page writes -->"
-PARTS = ("crate", "peers", "plans", "crossings", "calls", "random", "secrets")
+PARTS = ("crate", "peers", "plans", "crossings", "calls", "random", "secrets", "widths")
 ABOVE = 1.05
 KINDS = (("words", r"u\d+ modulo .*"), ("Vanilla", r"Vanilla.*"), ("PreMulInv2by1", r"PreMul.*"), ("Montgomery", r"Montgomery.*"),
          ("Mersenne", r"FixedMersenne.*"), ("Solinas", r"FixedTrinomial.*"), ("Proth", r"FixedProth.*"), ("fixed Montgomery", r"FixedMont.*"))
