@@ -3,9 +3,10 @@
 ghost use Rattle.std.specs.Prelude.{◌≡◌, ℕ, ◌+◌, ◌*◌, ◌/◌, ◌^◌, ◌<◌, ◌≤◌, All, length};
 ghost use Rattle.std.specs.Int.{IsPowerOfTwo};
 ghost use Rattle.modular_transform.specs.Transforms.{Suits};
-ghost use Rattle.modular_barrett.specs.Factors.{IsFactorOf};
+ghost use Rattle.modular_plan_passes.specs.Factors.{IsFactorOf};
 
-use modular_barrett::planned::{Factor, PlannedModulus};
+use modular_plan_passes::factor::Factor;
+use modular_plan_passes::modulus::PlannedModulus;
 use modular_plan_passes::table::fill_table;
 use modular_plan_transforms::join::join_scaled;
 use modular_plan_transforms::plan::Plan;

@@ -3,7 +3,7 @@ use Rattle.std.proofs.Common.{◌≡◌, ◌≢◌, ℕ, ◌+◌, ◌-◌, ◌*�
 use Rattle.std.proofs.Common.{sym, ◌∙◌, ap, arith, subst}
 use Rattle.std.proofs.Math.ListN.{set}
 use Rattle.std.proofs.lemmas.Bool.{cases_lt}
-use Rattle.modular_barrett.specs.Factors.{IsFactor}
+use Rattle.modular_plan_passes.specs.Factors.{IsFactor}
 use Rattle.modular_plan_passes.specs.Plans.{numbers}
 use Rattle.modular_plan_passes.specs.Splits.{AreAt, AreFourBelow, AreNeighbours, AreQuarters, ColumnsDone}
 use Rattle.modular_plan_passes.specs.Splits.{FourDoneWithin, HalvesDone}

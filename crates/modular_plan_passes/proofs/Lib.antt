@@ -1,5 +1,6 @@
 pub mod Bounds
 pub mod Columns
+pub mod DoubleWords
 pub mod Doublings
 pub mod Entries
 pub mod Fours
@@ -10,9 +11,11 @@ pub mod KnownJoins
 pub mod Levels
 pub mod Mirrors
 pub mod Quarters
+pub mod Quotients
 pub mod Runs
 pub mod Shorter
 pub mod Steps
+pub mod SumsOfProducts
 pub mod Tables
 pub mod TreeLevels
 pub mod TwoJoins

@@ -2,7 +2,7 @@
 -- (Harvey, "Faster arithmetic for number-theoretic transforms", section 3), in blocks of the tree of remainders
 -- (Bernstein, "Multidigit multiplication for mathematicians", section 2). The names are the library's own words.
 use Rattle.std.specs.Prelude.{◌≡◌, ℕ, ◌+◌, ◌*◌, ◌<◌, ◌≤◌, List, All, length}
-use Rattle.modular_barrett.specs.Factors.{IsFactor, AllFactors}
+use Rattle.modular_plan_passes.specs.Factors.{IsFactor, AllFactors}
 use Rattle.modular_plan_passes.specs.Plans.{numbers, AreTwiddles}
 use Rattle.modular_plan_passes.specs.Steps.{StageOfFours}
 use Rattle.modular_plan_passes.specs.Splits.{IsPassReady}

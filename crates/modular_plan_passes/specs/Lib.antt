@@ -1,3 +1,4 @@
+pub mod Factors
 pub mod JoinPasses
 pub mod Joins
 pub mod Plans

@@ -3,8 +3,8 @@
 -- "Multidigit multiplication for mathematicians", section 2) and entries below a multiple of m (Harvey, "Faster
 -- arithmetic for number-theoretic transforms", section 3). The names are the library's own words.
 use Rattle.std.specs.Prelude.{◌≡◌, ℕ, ◌+◌, ◌*◌, ◌<◌, ◌≤◌, List, All, length}
-use Rattle.modular_barrett.specs.Factors.{IsFactor, AllFactors}
-use Rattle.modular_barrett.specs.declared.planned.Factor.{Factor}
+use Rattle.modular_plan_passes.specs.Factors.{IsFactor, AllFactors}
+use Rattle.modular_plan_passes.specs.declared.factor.Factor.{Factor}
 use Rattle.modular_plan_passes.specs.Plans.{numbers}
 use Rattle.modular_plan_passes.specs.Steps.{IsFourSplit, StageOfFours}
 

@@ -1,18 +1,16 @@
 //! The passes of a join over all blocks: a stage, or two.
 
 ghost use Rattle.std.specs.Prelude.{◌≡◌, ℕ, ◌+◌, ◌*◌, ◌^◌, ◌<◌, ◌≤◌, All, length};
-ghost use Rattle.modular_barrett.specs.Factors.{IsFactorOf};
+ghost use Rattle.modular_plan_passes.specs.Factors.{IsFactorOf};
 ghost use Rattle.modular_plan_passes.specs.Plans.{numbers, AreTwiddles};
 ghost use Rattle.modular_plan_passes.specs.Splits.{AreFactorsOf, IsPassReady};
 ghost use Rattle.modular_plan_passes.specs.Steps.{StageDone};
 ghost use Rattle.modular_plan_passes.specs.Joins.{IsPairJoin, IsMinusInverse, AreMinusInverses};
 ghost use Rattle.modular_plan_passes.specs.JoinPasses.{IsTableOfFactors, IsStageReady, IsJoinPassReady, IsPassJoined};
 
-use crate::entry::PlanEntry;
-use crate::join_steps::JoinSteps;
-use crate::pass_joins::{JoinFour, JoinLowered, JoinPair};
+use crate::factor::{Factor, PlanEntry};
+use crate::join_steps::{JoinFour, JoinLowered, JoinPair, JoinSteps};
 use crate::passes::{neighbours, pairs, quarters};
-use modular_barrett::planned::Factor;
 use modular_prim::plain_word::PlainWord;
 // rattle: line
 use modular_word::path_word::PathWord;

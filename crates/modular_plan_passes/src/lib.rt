@@ -1,15 +1,12 @@
-//! Tables of twiddle factors for transforms, which the caller owns, and the passes of splits and joins by them over a
-//! list: a stage of all blocks, or two.
+//! The moduli of plans, factors and tables of twiddle factors, which the caller owns, and the passes of splits and joins by
+//! them over a list: a stage of all blocks, or two.
 #![tactic(auto)]
 
-pub mod bounded;
-pub mod entry;
+pub mod factor;
 pub mod join_stages;
 pub mod join_steps;
-pub mod pass_joins;
-mod pass_splits;
+pub mod modulus;
 pub mod passes;
-mod places;
 pub mod split_stages;
 pub mod split_steps;
 pub mod table;

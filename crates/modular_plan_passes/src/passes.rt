@@ -1,17 +1,55 @@
 //! A stage of a block, on each two of its entries half a block apart; and two stages in one pass, on each four of its
 //! entries a quarter of the block apart.
 
-ghost use Rattle.std.specs.Prelude.{ℕ, ◌+◌, ◌<◌, ◌≤◌, All, length};
+ghost use Rattle.std.specs.Prelude.{◌≡◌, ℕ, ◌+◌, ◌*◌, ◌<◌, ◌≤◌, IsTrue, All, length};
 ghost use Rattle.modular_plan_passes.specs.Plans.{numbers};
-ghost use Rattle.modular_plan_passes.specs.Splits.{AreFourBelow, AreHalves, AreNeighbours, AreQuarters, IsBlockReady};
+ghost use Rattle.modular_plan_passes.specs.Splits.{AreAt, AreFourBelow, AreHalves, AreInOrder, AreNeighbours, AreQuarters, IsBlockReady};
 ghost use Rattle.modular_plan_passes.specs.Splits.{ColumnsDone, HalvesDone};
 ghost use Rattle.modular_plan_passes.specs.Steps.{PairDone, BlockDone, FourDone, BlockOfFours};
 
-use crate::bounded::Bounded;
-use crate::places::{four_at, set_four};
+use crate::modulus::{PlannedModulus, RoomyModulus};
 use modular_prim::plain_word::PlainWord;
 // rattle: line
+use modular_word::path_word::PathWord;
+// rattle: line
 use modular_word::ring_word::RingWord;
+
+/// A modulus with a limit that the entries of a list stay below.
+// rust instead: pub trait Bounded<T: PlainWord>: Sized {
+pub trait Bounded<T: PlainWord> {
+    ghost limit: { Self → ℕ };
+
+    /// The greatest word below the limit.
+    fn greatest(&self) -> T
+        ensures { T.number result + 1 ≡ limit self.now };
+
+    /// Whether a word of more than 32 bits is at least the limit; false for shorter words.
+    ///
+    /// A loop over entries returns where this is true, which it never is: so compilers can't compute the loop's trip
+    /// count, and don't vectorize it. Vectors of words of more than 32 bits would be slower.
+    final fn is_beyond(&self, x: T) -> bool
+        ensures { IsTrue result → limit self.now ≤ T.number x }
+    {
+        T::bits() > 32 && self.greatest().is_below(x)
+    }
+}
+
+impl<T: PlainWord> Bounded<T> for PlannedModulus<T> {
+    ghost limit = { λ m. 4 * T.number m.modulus };
+
+    fn greatest(&self) -> T {
+        let twice = self.twice();
+        twice.plus(twice.minus(T::one()))
+    }
+}
+
+impl<T: PlainWord> Bounded<T> for RoomyModulus<T> {
+    ghost limit = { λ m. 12 * T.number m.planned.modulus };
+
+    fn greatest(&self) -> T {
+        self.eightfold().plus(self.fourfold().minus(T::one()))
+    }
+}
 
 /// What a stage makes of two entries half a block apart.
 // rust instead: pub trait PairStep<T: PlainWord>: Sized {
@@ -146,6 +184,30 @@ fn halves<T: PlainWord, M: Bounded<T>, S: FourStep<T>>(
     let (a, b) = low.split_at_mut(q);
     let (c, d) = high.split_at_mut(q);
     columns(m, step, a, b, c, d);
+}
+
+// The entries at four indexes.
+#[inline(always)]
+fn four_at<T: PlainWord>(xs: &[T], i: usize, j: usize, k: usize, l: usize) -> (T, T, T, T)
+    requires { AreInOrder i j k l (length xs.now) }
+    ensures { AreAt i j k l (numbers T.number xs.now)
+        (T.number result.0) (T.number result.1) (T.number result.2) (T.number result.3) }
+{
+    (xs[i], xs[j], xs[k], xs[l])
+}
+
+// Writes the entries at four indexes.
+#[inline(always)]
+fn set_four<T: PlainWord>(xs: &mut [T], i: usize, j: usize, k: usize, l: usize, four: (T, T, T, T))
+    requires { AreInOrder i j k l (length xs.old) }
+    ensures { FourDone (λ x y z t a b c d. (a ≡ T.number four.0) × (b ≡ T.number four.1)
+        × (c ≡ T.number four.2) × (d ≡ T.number four.3)) i j k l
+        (numbers T.number xs.old) (numbers T.number xs.new) }
+{
+    xs[l] = four.3;
+    xs[k] = four.2;
+    xs[j] = four.1;
+    xs[i] = four.0;
 }
 
 /// Two stages of the four entries whose first index is `first`.

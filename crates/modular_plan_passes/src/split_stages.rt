@@ -1,16 +1,14 @@
 //! The passes of a split over all blocks: a stage, or two.
 
-ghost use Rattle.std.specs.Prelude.{◌≡◌, ◌+◌, ◌*◌, ◌<◌, ◌≤◌, All, length};
-ghost use Rattle.modular_barrett.specs.Factors.{AllFactors};
+ghost use Rattle.std.specs.Prelude.{◌≡◌, ℕ, ◌+◌, ◌*◌, ◌<◌, ◌≤◌, All, length};
+ghost use Rattle.modular_plan_passes.specs.Factors.{AllFactors};
 ghost use Rattle.modular_plan_passes.specs.Plans.{numbers};
-ghost use Rattle.modular_plan_passes.specs.Splits.{IsPassDone, IsPassReady};
+ghost use Rattle.modular_plan_passes.specs.Splits.{AreFactorsOf, IsPassDone, IsPassReady};
 ghost use Rattle.modular_plan_passes.specs.Steps.{IsPairSplit, StageDone};
 
-use crate::entry::PlanEntry;
-use crate::pass_splits::{SplitByOne, SplitFour, SplitPair, SplitToResidues};
+use crate::factor::{Factor, PlanEntry};
 use crate::passes::{neighbours, pairs, quarters};
-use crate::places::factors_at;
-use crate::split_steps::SplitSteps;
+use crate::split_steps::{SplitByOne, SplitFour, SplitPair, SplitSteps, SplitToResidues};
 use modular_prim::plain_word::PlainWord;
 // rattle: line
 use modular_word::path_word::PathWord;
@@ -45,6 +43,24 @@ pub fn split_stage<T: PlainWord, M: SplitSteps<T>, F: PlanEntry<T>>(
         let step = SplitPair { m: *m, w };
         pairs(m, &step, xs, p * (half + half), half);
     }
+}
+
+// The factor of the block with this index in the table, and the factors of its halves.
+#[inline(always)]
+fn factors_at<T: PlainWord, F: PlanEntry<T>>(
+    table: &[F],
+    place: usize,
+) -> (Factor<T>, Factor<T>, Factor<T>)
+    requires { 2 * place + 1 < length table.now }
+    ensures factors { (m : ℕ) → AllFactors T.base m F.value F.quotient table.now →
+        AreFactorsOf T.base T.number m result.0 result.1 result.2 }
+    ensures values { let w = numbers F.value table.now in (T.number result.0.value ≡ w place)
+        × (T.number result.1.value ≡ w (2 * place)) × (T.number result.2.value ≡ w (2 * place + 1)) }
+{
+    let w = table[place].factor();
+    let u = table[2 * place].factor();
+    let v = table[2 * place + 1].factor();
+    (w, u, v)
 }
 
 // Two stages of all blocks: block p by entry first + p of the table, and its halves by the entries 2·(first + p)

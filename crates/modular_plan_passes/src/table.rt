@@ -2,11 +2,11 @@
 
 ghost use Rattle.std.specs.Prelude.{◌≡◌, ℕ, ◌+◌, ◌*◌, ◌/◌, ◌%◌, ◌^◌, ◌<◌, All, length};
 ghost use Rattle.modular_transform.specs.Transforms.{Suits};
-ghost use Rattle.modular_barrett.specs.Factors.{AllFactors};
+ghost use Rattle.modular_plan_passes.specs.Factors.{AllFactors};
 ghost use Rattle.modular_plan_passes.specs.Plans.{numbers, AreTwiddles};
 
-use crate::entry::PlanEntry;
-use modular_barrett::planned::PlannedModulus;
+use crate::factor::PlanEntry;
+use crate::modulus::PlannedModulus;
 use modular_prim::plain_word::PlainWord;
 // rattle: line
 use modular_word::path_word::PathWord;

@@ -1,7 +1,7 @@
 -- The table of a plan that owns it: its fields say of the entries what a plan over them says.
 use Rattle.std.proofs.Common.{◌≡◌, ℕ, ◌+◌, ◌-◌, ◌*◌, ◌/◌, ◌%◌, ◌^◌, ◌<◌, List, length, arith, sym, ap, subst, ◌∙◌}
 use Rattle.std.specs.Int.{trailing_zeros, w64}
-use Rattle.modular_barrett.specs.Factors.{AllFactors}
+use Rattle.modular_plan_passes.specs.Factors.{AllFactors}
 use Rattle.modular_plan_passes.proofs.Tables.{exponent, half_power}
 use Rattle.modular_transform.proofs.PowersOfTwo.{power_by_zeros}
 use Rattle.modular_transform.specs.Orders.{bits_reversed}

@@ -4,7 +4,7 @@ use Rattle.std.proofs.Math.Nat.{two-pow-succ, pow-zero, lt-div-mul-add, div-mul-
 use Rattle.std.proofs.lemmas.Nat.{mul-mod_first, pow-add, div-mul-add}
 use Rattle.modular_word.proofs.Congruence.{same_rest, factor_cancel}
 use Rattle.modular_word.proofs.Powers.{pow-one}
-use Rattle.modular_barrett.specs.Factors.{IsFactor, AllFactors}
+use Rattle.modular_plan_passes.specs.Factors.{IsFactor, AllFactors}
 use Rattle.modular_plan_passes.specs.Plans.{numbers, AreTwiddles}
 use Rattle.modular_plan_passes.proofs.Tables.{exponent}
 use Rattle.modular_transform.specs.Orders.{bits_reversed}

@@ -3,7 +3,7 @@
 -- (Bernstein, "Multidigit multiplication for mathematicians", section 2). The names are the library's own words.
 use Rattle.std.specs.Prelude.{◌≡◌, ℕ, ◌+◌, ◌*◌, ◌/◌, ◌%◌, ◌<◌, ◌≤◌, List, All, length}
 use Rattle.std.specs.Int.{IsPowerOfTwo}
-use Rattle.modular_barrett.specs.Factors.{AllFactors}
+use Rattle.modular_plan_passes.specs.Factors.{AllFactors}
 use Rattle.modular_plan_passes.specs.Plans.{numbers, AreTwiddles, AreRemainders}
 use Rattle.modular_plan_passes.specs.JoinPasses.{IsTableOfFactors}
 

@@ -1,7 +1,7 @@
 -- The table of a root (Harvey, "Faster arithmetic for number-theoretic transforms", section 3). The name is the
 -- library's own word.
 use Rattle.std.specs.Prelude.{◌≡◌, ℕ, ◌*◌, ◌^◌, List, length}
-use Rattle.modular_barrett.specs.Factors.{AllFactors}
+use Rattle.modular_plan_passes.specs.Factors.{AllFactors}
 use Rattle.modular_plan_passes.specs.Plans.{numbers, AreTwiddles}
 
 -- the table is that of g: the twiddle factors, with their quotients by m, for as many entries as twice its length; b is

@@ -3,7 +3,7 @@
 ghost use Rattle.std.specs.Prelude.{◌≡◌, ℕ, ◌+◌, ◌-◌, ◌*◌, ◌/◌, ◌%◌, ◌<◌, ◌≤◌, ◌↔◌, IsTrue, All, length};
 ghost use Rattle.modular_word.specs.Inverses.{IsInverse, HasInverse};
 ghost use Rattle.modular_transform.specs.Transforms.{cyclic_product};
-ghost use Rattle.modular_barrett.specs.Factors.{IsFactorOf, AllFactors};
+ghost use Rattle.modular_plan_passes.specs.Factors.{IsFactorOf, AllFactors};
 ghost use Rattle.modular_plan_passes.specs.Plans.{numbers, constant, AreTwiddles, AreRemainders};
 ghost use Rattle.modular_plan_transforms.specs.PlanConditions.{AreBlocks};
 ghost use Rattle.modular_plan_transforms.specs.ProductConditions.{AreSmallBlocks};
@@ -13,8 +13,8 @@ use crate::join::join_scaled;
 use crate::products::{multiply, reduce_products};
 use crate::split::{split, split_loosely, splits};
 use crate::tables::inverse_of_count;
-use modular_barrett::planned::{Factor, PlannedModulus};
-use modular_plan_passes::entry::PlanEntry;
+use modular_plan_passes::factor::{Factor, PlanEntry};
+use modular_plan_passes::modulus::PlannedModulus;
 use modular_prim::plain_word::PlainWord;
 // rattle: line
 use modular_word::path_word::PathWord;

@@ -1,14 +1,14 @@
 //! Tests of tables that are filled already.
 
 ghost use Rattle.std.specs.Prelude.{◌≡◌, ℕ, ◌-◌, ◌*◌, ◌%◌, ◌^◌, ◌<◌, ◌≤◌, ◌↔◌, IsTrue, length};
-ghost use Rattle.modular_barrett.specs.Factors.{IsFactorOf, AllFactors};
+ghost use Rattle.modular_plan_passes.specs.Factors.{IsFactorOf, AllFactors};
 ghost use Rattle.modular_plan_passes.specs.Plans.{numbers};
 ghost use Rattle.modular_plan_transforms.specs.Tables.{IsTable};
 ghost use Rattle.modular_transform.specs.Orders.{bits_reversed};
 ghost use Rattle.modular_transform.specs.Transforms.{Suits};
 
-use modular_barrett::planned::{Factor, PlannedModulus};
-use modular_plan_passes::entry::PlanEntry;
+use modular_plan_passes::factor::{Factor, PlanEntry};
+use modular_plan_passes::modulus::PlannedModulus;
 use modular_prim::plain_word::PlainWord;
 use modular_transform::order::next_reversed;
 use modular_word::path_word::PathWord;

@@ -2,7 +2,7 @@
 
 ghost use Rattle.std.specs.Prelude.{◌≡◌, ℕ, ◌+◌, ◌*◌, ◌%◌, ◌^◌, ◌<◌, length, MatchOption, ⊤};
 ghost use Rattle.std.specs.Int.{trailing_zeros, w64};
-ghost use Rattle.modular_barrett.specs.Factors.{AllFactors};
+ghost use Rattle.modular_plan_passes.specs.Factors.{AllFactors};
 ghost use Rattle.modular_plan_passes.specs.Plans.{numbers};
 ghost use Rattle.modular_plan_transforms.specs.Tables.{IsTable};
 ghost use Rattle.modular_transform.specs.Orders.{bits_reversed};
@@ -10,8 +10,8 @@ ghost use Rattle.modular_transform.specs.Transforms.{Suits};
 
 use crate::plan::Plan;
 use crate::tables::suits;
-use modular_barrett::planned::PlannedModulus;
-use modular_plan_passes::entry::PlanEntry;
+use modular_plan_passes::factor::PlanEntry;
+use modular_plan_passes::modulus::PlannedModulus;
 use modular_plan_passes::table::fill_table;
 use modular_prim::plain_word::PlainWord;
 use modular_word::path_word::PathWord;

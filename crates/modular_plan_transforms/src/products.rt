@@ -3,14 +3,14 @@
 ghost use Rattle.std.specs.Prelude.{◌≡◌, ℕ, ◌+◌, ◌*◌, ◌/◌, ◌%◌, ◌^◌, ◌<◌, ◌≤◌, All, length};
 ghost use Rattle.modular_word.specs.Congruence.{Congruent};
 ghost use Rattle.modular_word.specs.Inverses.{IsInverse};
-ghost use Rattle.modular_barrett.specs.Factors.{AllFactors};
+ghost use Rattle.modular_plan_passes.specs.Factors.{AllFactors};
 ghost use Rattle.modular_plan_passes.specs.Plans.{numbers, constant, AreTwiddles};
 ghost use Rattle.modular_plan_passes.specs.Steps.{PairDone};
 ghost use Rattle.modular_plan_transforms.specs.Products.{AreProducts};
 
-use modular_barrett::planned::PlannedModulus;
-use modular_plan_passes::bounded::Bounded;
-use modular_plan_passes::entry::PlanEntry;
+use modular_plan_passes::factor::PlanEntry;
+use modular_plan_passes::modulus::PlannedModulus;
+use modular_plan_passes::passes::Bounded;
 use modular_prim::plain_word::PlainWord;
 // rattle: line
 use modular_word::path_word::PathWord;

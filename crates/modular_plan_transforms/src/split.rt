@@ -1,18 +1,19 @@
-//! From a polynomial to its remainders modulo X^last - c, in place, by stages.
+//! From a polynomial to its remainders modulo X^last - c, in place, by stages; and the transform in natural order.
 
-ghost use Rattle.std.specs.Prelude.{◌≡◌, ℕ, ◌+◌, ◌*◌, ◌/◌, ◌%◌, ◌<◌, ◌≤◌, ◌↔◌, IsTrue, All, length};
+ghost use Rattle.std.specs.Prelude.{◌≡◌, ℕ, ◌+◌, ◌*◌, ◌/◌, ◌%◌, ◌^◌, ◌<◌, ◌≤◌, ◌↔◌, IsTrue, All, length};
 ghost use Rattle.std.specs.Int.{IsPowerOfTwo};
-ghost use Rattle.modular_barrett.specs.Factors.{AllFactors};
+ghost use Rattle.modular_transform.specs.Transforms.{transform};
+ghost use Rattle.modular_plan_passes.specs.Factors.{AllFactors};
 ghost use Rattle.modular_plan_passes.specs.Plans.{numbers, AreTwiddles, AreRemainders};
+ghost use Rattle.modular_plan_passes.specs.Steps.{IsLevel};
 ghost use Rattle.modular_plan_transforms.specs.PlanConditions.{AreBlocks, FitsPlan};
 
-use crate::split_blocks::split_blocks;
-use modular_barrett::planned::PlannedModulus;
-use modular_barrett::roomy::RoomyModulus;
-use modular_plan_passes::entry::PlanEntry;
-use modular_plan_passes::split_stages::split_fours;
+use modular_plan_passes::factor::PlanEntry;
+use modular_plan_passes::modulus::{PlannedModulus, RoomyModulus};
+use modular_plan_passes::split_stages::{split_fours, split_pass, split_stage};
 use modular_plan_passes::split_steps::SplitSteps;
 use modular_prim::plain_word::PlainWord;
+use modular_transform::order::reverse_places;
 // rattle: line
 use modular_word::path_word::PathWord;
 
@@ -58,6 +59,47 @@ pub fn splits(length: usize, factors: usize, b: usize, last: usize) -> bool
         return true;
     }
     b < factors / (count / 2)
+}
+
+/// All stages from block b down to blocks of `last` entries.
+///
+/// Where their number is odd, a single stage comes first, so that each other pass does two.
+///
+/// # Preconditions
+///
+/// - the entries are below 4m
+/// - `last` is at least 1, the number of entries is `last` times a power of two, and the table has (b +
+///   1)·(count/2) entries or more, count being the number of blocks
+/// - the table's entries are factors modulo m
+pub fn split_blocks<T: PlainWord, M: SplitSteps<T>, F: PlanEntry<T>>(
+    m: &M,
+    xs: &mut [T],
+    table: &[F],
+    b: usize,
+    last: usize,
+)
+    requires { FitsPlan T.number F.value F.quotient T.base (M.modulus m.now) b last xs.old table.now }
+    ensures entries { All (λ x. T.number x < M.limit m.now) xs.new }
+    ensures level { let modulus = M.modulus m.now in (g z : ℕ) →
+        AreTwiddles modulus g z (length table.now) (numbers F.value table.now) →
+        IsLevel modulus g z b (length xs.old / last) last (numbers T.number xs.old) (numbers T.number xs.new) }
+{
+    let mut left = (xs.len() / last).trailing_zeros();
+    let mut size = xs.len();
+    let mut blocks = 1;
+    'stages: while 0 < left {
+        if left % 2 == 0 {
+            size /= 4;
+            split_pass(m, xs, size, blocks, table, b * blocks);
+            blocks *= 4;
+            left -= 2;
+        } else {
+            size /= 2;
+            split_stage(m, xs, size, blocks, table, b * blocks);
+            blocks *= 2;
+            left -= 1;
+        }
+    }
 }
 
 // `split`, by the steps for a modulus of type M.
@@ -174,4 +216,48 @@ pub fn split<T: PlainWord, F: PlanEntry<T>>(
         Some(roomy) => split_by(&roomy, xs, table, b, last),
         None => split_by(m, xs, table, b, last),
     }
+}
+
+/// Replaces xs by its transform, in natural order: entry j becomes the sum over i of x_i·h^(i·j) modulo m, below m.
+///
+/// Here the table is that of a root g (`fill_table`), and h is g, or, where the table is for more entries, the power of
+/// g that suits n entries. The table must be that of some root: with other factors modulo m, the results are below m
+/// and meaningless.
+///
+/// Source: `split`, and a reversal of the bits of the indexes.
+///
+/// # Conditions
+///
+/// - n is a power of two, and at most twice as many as the table's factors
+/// - (debug) the entries are below 4m
+/// - (debug) the table's entries are factors modulo m
+///
+/// # Examples
+///
+/// ```
+/// use num_modular::plans::{fill_table, ntt_planned, Factor, PlannedModulus};
+///
+/// let modulus = PlannedModulus::<u64>::new(17);
+/// let mut table = [Factor::<u64>::ZERO; 2];
+/// fill_table(&modulus, 4, &mut table);
+/// let mut entries = [1, 2, 3, 4];
+/// ntt_planned(&modulus, &mut entries, &table);
+/// assert_eq!(entries, [10, 7, 15, 6]); // 1 + 2X + 3X^2 + 4X^3 at 1, 4, -1 and -4
+/// ```
+// rust: #[track_caller]
+#[tactic(auto, using(modular_transform::proofs::PowersOfTwo::power_by_zeros))]
+pub fn ntt_planned<T: PlainWord, F: PlanEntry<T>>(m: &PlannedModulus<T>, xs: &mut [T], table: &[F])
+    requires entries { All (λ x. T.number x < 4 * T.number m.now.modulus) xs.old }
+    requires factors { AllFactors T.base (T.number m.now.modulus) F.value F.quotient table.now }
+    requires count { IsPowerOfTwo (length xs.old) }
+    requires within { length xs.old / 2 ≤ length table.now }
+    ensures below { All (λ x. T.number x < T.number m.now.modulus) xs.new }
+    ensures values { let modulus = T.number m.now.modulus in (g z j : ℕ) →
+        AreTwiddles modulus g z (length table.now) (numbers F.value table.now) → j < length xs.old →
+        numbers T.number xs.new j ≡ transform modulus (g ^ (2 ^ z / length xs.old))
+        (length xs.old) (numbers T.number xs.old) j }
+{
+    split(m, xs, table, 0, 1);
+    let bits = xs.len().trailing_zeros();
+    reverse_places(xs, bits);
 }

@@ -3,10 +3,11 @@
 ghost use Rattle.std.specs.Prelude.{◌≡◌, ◌+◌, ◌*◌, ◌%◌, ◌^◌, ◌<◌, ◌↔◌, IsTrue, MatchOption};
 ghost use Rattle.std.specs.Int.{IsPowerOfTwo};
 ghost use Rattle.modular_word.specs.Inverses.{HasInverse, IsInverse};
-ghost use Rattle.modular_barrett.specs.Factors.{IsFactorOf};
+ghost use Rattle.modular_plan_passes.specs.Factors.{IsFactorOf};
 ghost use Rattle.modular_transform.specs.Transforms.{Suits};
 
-use modular_barrett::planned::{Factor, PlannedModulus};
+use modular_plan_passes::factor::Factor;
+use modular_plan_passes::modulus::PlannedModulus;
 use modular_prim::plain_word::PlainWord;
 // rattle: line
 use modular_word::path_word::PathWord;

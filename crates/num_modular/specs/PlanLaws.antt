@@ -1,7 +1,7 @@
 -- Laws of remainders and their products, for proofs of callers. The names are the library's own words.
 
 -- an entry of a table, as `num_modular::plans` exports it
-pub use Rattle.modular_barrett.specs.declared.planned.Factor.{Factor}
+pub use Rattle.modular_plan_passes.specs.declared.factor.Factor.{Factor}
 -- the result of the test for a power of two
 pub use Rattle.modular_transform.proofs.PowersOfTwo.{power_of_two_tested}
 -- reversed bits: they are below the same power of two; with one more bit; and of twice a number

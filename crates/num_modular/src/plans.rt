@@ -15,8 +15,8 @@
 //! - the table's entries are factors modulo m
 //! - the factor was made by this modulus
 
-pub use modular_barrett::planned::{Factor, PlannedModulus};
-pub use modular_plan_passes::entry::PlanEntry;
+pub use modular_plan_passes::factor::{Factor, PlanEntry};
+pub use modular_plan_passes::modulus::PlannedModulus;
 pub use modular_plan_passes::table::fill_table;
 pub use modular_plan_transforms::convolution::{
     convolve_block, convolve_negacyclic, convolve_planned, convolves,
@@ -25,5 +25,4 @@ pub use modular_plan_transforms::join::{join, join_scaled};
 pub use modular_plan_transforms::owned::OwnedPlan;
 pub use modular_plan_transforms::plan::Plan;
 pub use modular_plan_transforms::products::multiply;
-pub use modular_plan_transforms::split::{split, splits};
-pub use modular_plan_transforms::transform::ntt_planned;
+pub use modular_plan_transforms::split::{ntt_planned, split, splits};

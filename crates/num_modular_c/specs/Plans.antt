@@ -1,6 +1,6 @@
 -- Tables and plans for C, and the lists of words that calls by them accept. The names are the library's own words.
 use Rattle.std.specs.Prelude.{◌≡◌, ℕ, ◌*◌, ◌/◌, ◌%◌, ◌^◌, ◌<◌, ◌≤◌, List, All, length}
-use Rattle.modular_barrett.specs.Factors.{AllFactors}
+use Rattle.modular_plan_passes.specs.Factors.{AllFactors}
 use Rattle.modular_plan_passes.specs.Plans.{numbers, AreTwiddles, AreRemainders}
 use Rattle.modular_plan_transforms.specs.Tables.{IsTable as IsTableOf}
 use Rattle.num_modular.specs.PlanConditions.{AreBlocks}

@@ -8,7 +8,7 @@ ghost use Rattle.num_modular_c.specs.Plans.{AreBelow, AreFactors, FitPlannedProd
 use crate::codes::{NM_BAD_ARGUMENT, NM_NO_INVERSE, NM_OK};
 use crate::plan_value::NmPlan;
 use crate::planned::is_pair;
-use modular_barrett::planned::PlannedModulus;
+use modular_plan_passes::modulus::PlannedModulus;
 use modular_plan_transforms::join::join_scaled;
 use modular_plan_transforms::split::split;
 use modular_plan_transforms::tables::inverse_of_count;

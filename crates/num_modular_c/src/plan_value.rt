@@ -12,11 +12,10 @@ ghost use Rattle.num_modular_c.specs.Plans.{IsMade, IsPlannedProduct, IsSplit, I
 use crate::codes::{NM_BAD_ARGUMENT, NM_BAD_CONTEXT, NM_NO_INVERSE, NM_NO_ROOT, NM_OK};
 use crate::planned::{is_pair, is_split, product_code};
 use crate::plans::{NmFactor, nm_fill_table, nm_table_fits};
-use modular_barrett::planned::PlannedModulus;
+use modular_plan_passes::modulus::PlannedModulus;
 use modular_plan_transforms::join::join_scaled;
-use modular_plan_transforms::split::split;
+use modular_plan_transforms::split::{ntt_planned, split};
 use modular_plan_transforms::tables::inverse_of_count;
-use modular_plan_transforms::transform::ntt_planned;
 use modular_transform::order::reverse_places;
 
 /// A plan: a modulus m, a root, and the table of the factors of its powers, which the caller owns.

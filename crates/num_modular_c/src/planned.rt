@@ -11,12 +11,11 @@ ghost use Rattle.num_modular_c.specs.Plans.{IsSplit, FitPlannedProduct, IsPlanne
 
 use crate::codes::{NM_BAD_ARGUMENT, NM_BAD_CONTEXT, NM_NO_INVERSE, NM_OK};
 use crate::plans::NmFactor;
-use modular_barrett::planned::PlannedModulus;
+use modular_plan_passes::modulus::PlannedModulus;
 use modular_plan_transforms::convolution::{convolve_block, convolves};
 use modular_plan_transforms::filled::are_factors;
 use modular_plan_transforms::join::join;
-use modular_plan_transforms::split::{split, splits};
-use modular_plan_transforms::transform::ntt_planned;
+use modular_plan_transforms::split::{ntt_planned, split, splits};
 
 // Whether each word is below 4m.
 fn have_room(m: &PlannedModulus<u64>, words: &[u64]) -> bool

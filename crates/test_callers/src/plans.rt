@@ -2,12 +2,12 @@
 
 ghost use Rattle.std.specs.Prelude.{◌≡◌, ◌*◌, ◌/◌, ◌<◌, ◌≤◌, IsTrue, All, length};
 ghost use Rattle.std.specs.Int.{IsPowerOfTwo};
-ghost use Rattle.modular_barrett.specs.Factors.{AllFactors};
+ghost use Rattle.modular_plan_passes.specs.Factors.{AllFactors};
 
-use modular_barrett::planned::{Factor, PlannedModulus};
-use modular_plan_passes::entry::PlanEntry;
+use modular_plan_passes::factor::{Factor, PlanEntry};
+use modular_plan_passes::modulus::PlannedModulus;
 use modular_plan_transforms::plan::Plan;
-use modular_plan_transforms::transform::ntt_planned;
+use modular_plan_transforms::split::ntt_planned;
 use modular_prim::plain_word::PlainWord;
 use modular_word::path_word::PathWord;
 

@@ -4,7 +4,7 @@ ghost use Rattle.std.specs.Prelude.{◌≡◌, ℕ, ◌-◌, ◌*◌, ◌/◌, �
 ghost use Rattle.std.specs.Int.{IsPowerOfTwo};
 ghost use Rattle.modular_word.specs.Inverses.{IsInverse};
 ghost use Rattle.modular_transform.specs.Transforms.{transform, cyclic_product};
-ghost use Rattle.modular_barrett.specs.Factors.{IsFactorOf};
+ghost use Rattle.modular_plan_passes.specs.Factors.{IsFactorOf};
 ghost use Rattle.modular_plan_passes.specs.Plans.{numbers, constant, AreRemainders};
 ghost use Rattle.modular_plan_transforms.specs.PlanConditions.{AreBlocks};
 ghost use Rattle.modular_plan_transforms.specs.ProductConditions.{AreSmallBlocks};
@@ -14,11 +14,9 @@ use super::Plan;
 use crate::convolution::convolve_scaled;
 use crate::join::join_scaled;
 use crate::products::multiply_each;
-use crate::split::split;
+use crate::split::{ntt_planned, split};
 use crate::tables::inverse_of_power;
-use crate::transform::ntt_planned;
-use modular_barrett::planned::Factor;
-use modular_plan_passes::entry::PlanEntry;
+use modular_plan_passes::factor::{Factor, PlanEntry};
 use modular_prim::plain_word::PlainWord;
 use modular_transform::order::reverse_places;
 // rattle: line

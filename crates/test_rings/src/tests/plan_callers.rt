@@ -4,17 +4,16 @@ ghost use Rattle.std.specs.Prelude.{◌≡◌, ℕ, ◌+◌, ◌*◌, ◌/◌, �
 ghost use Rattle.modular_word.specs.Inverses.{IsInverse};
 ghost use Rattle.modular_transform.specs.Orders.{bits_reversed};
 ghost use Rattle.modular_transform.specs.Transforms.{Suits, transform};
-ghost use Rattle.modular_barrett.specs.Factors.{IsFactorOf};
+ghost use Rattle.modular_plan_passes.specs.Factors.{IsFactorOf};
 ghost use Rattle.modular_plan_passes.specs.Plans.{numbers};
 ghost use Rattle.num_modular.specs.PlanConditions.{AreBlocks};
 
-use modular_barrett::planned::{Factor, PlannedModulus};
-use modular_plan_passes::entry::PlanEntry;
+use modular_plan_passes::factor::{Factor, PlanEntry};
+use modular_plan_passes::modulus::PlannedModulus;
 use modular_plan_passes::table::fill_table;
 use modular_plan_transforms::join::join_scaled;
 use modular_plan_transforms::plan::Plan;
-use modular_plan_transforms::split::split;
-use modular_plan_transforms::transform::ntt_planned;
+use modular_plan_transforms::split::{ntt_planned, split};
 use modular_prim::plain_word::PlainWord;
 use modular_word::path_word::PathWord;
 use num_modular::laws::split_laws;

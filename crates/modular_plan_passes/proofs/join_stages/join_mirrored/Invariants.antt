@@ -1,5 +1,5 @@
 use Rattle.std.proofs.Common.{◌≡◌, ℕ, ◌+◌, ◌*◌, ◌<◌, ◌≤◌, length}
-use Rattle.modular_barrett.specs.Factors.{AllFactors}
+use Rattle.modular_plan_passes.specs.Factors.{AllFactors}
 use Rattle.modular_plan_passes.specs.Plans.{numbers, AreTwiddles}
 use Rattle.modular_plan_passes.specs.Steps.{StageOfFours}
 use Rattle.modular_plan_passes.specs.Joins.{IsFourJoin}

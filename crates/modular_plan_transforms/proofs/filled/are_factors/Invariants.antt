@@ -1,5 +1,5 @@
 use Rattle.std.proofs.Common.{ℕ, ◌<◌, get_or}
-use Rattle.modular_barrett.specs.Factors.{IsFactor}
+use Rattle.modular_plan_passes.specs.Factors.{IsFactor}
 use Rattle.modular_plan_transforms.proofs.filled.are_factors.Given as goal
 
 -- the entries before this one are factors

@@ -1,6 +1,6 @@
 use Rattle.std.proofs.Common.{◌≡◌, ◌+◌, ◌*◌, ◌<◌, ◌↔◌, ap, arith, sym, ◌∙◌}
 use Rattle.std.proofs.lemmas.Bool.{false≢true}
-use Rattle.modular_barrett.specs.Factors.{IsFactor}
+use Rattle.modular_plan_passes.specs.Factors.{IsFactor}
 use Rattle.modular_plan_transforms.proofs.PlanTables.{factor_by_sum}
 use Rattle.modular_plan_transforms.proofs.filled.is_factor.Goals as goal
 use Rattle.modular_plan_transforms.proofs.filled.is_factor.Goals.{After-split-high}

@@ -1,5 +1,5 @@
 use Rattle.std.proofs.Common.{◌*◌, sym, ◌∙◌, arith}
-use Rattle.modular_barrett.proofs.Quotients.{any_times_below}
+use Rattle.modular_plan_passes.proofs.Quotients.{any_times_below}
 use Rattle.modular_plan_transforms.proofs.Reductions.{IsReducing, reducing, high_words, reduced}
 use Rattle.modular_plan_transforms.proofs.products.reduced_product.Goals as goal
 use Rattle.modular_plan_transforms.proofs.products.reduced_product.Goals.{After-split-multiple}

@@ -1,11 +1,11 @@
-use Rattle.std.proofs.Common.{◌*◌, ◌/◌, ◌%◌, ◌^◌, ◌≡◌, ◌<◌, ◌∙◌, ap, arith, subst, sym}
+use Rattle.std.proofs.Common.{ℕ, ◌*◌, ◌/◌, ◌%◌, ◌^◌, ◌≡◌, ◌<◌, ◌∙◌, ap, arith, subst, sym}
 use Rattle.std.proofs.Math.Nat.{mul-lt-mul_of_pos_right}
+use Rattle.std.proofs.lemmas.Nat.{div-mul-add}
 use Rattle.modular_word.specs.Division.{IsDivision}
 use Rattle.modular_reduced.proofs.ListSteps.{each_taken, held_values, held_checked}
 use Rattle.modular_reduced.specs.Factors.{IsFactor}
 use Rattle.modular_barrett.specs.Scaling.{scale, scaled_form, scaled_value}
 use Rattle.modular_barrett.specs.ScaledForms.{scaled_canonical}
-use Rattle.modular_barrett.proofs.Quotients.{factor_is}
 use Rattle.modular_barrett.proofs.ScaledLemmas.{divisor_is, stands_for, value_below}
 use Rattle.modular_barrett.proofs.premul.PreMulInv2by1Reducer.scale_entries.Goals as goal
 
@@ -14,6 +14,10 @@ div_rem_2by1-quotient-requires g c =
     let some : 0 < g.T.PathWord.base = omega (arith, c.merge.ensures.high_fits) in
     let below = value_below c.args.self.now.scaling c.residue-value.ensures.form.below in
     omega (arith, mul-lt-mul_of_pos_right below some, c.merge.ensures.value, c.zero.ensures)
+
+-- a factor with the quotient of its product with the base
+is_factor_of_division : (b m w q r : ℕ) → w < m → IsDivision (b * w) m q r → IsFactor b m w q
+is_factor_of_division b m w q r below h = grind (arith, div-mul-add)
 
 pub multiply_by_factor-requires : goal.multiply_by_factor-requires
 multiply_by_factor-requires g c =
@@ -24,7 +28,7 @@ multiply_by_factor-requires g c =
     omega (arith, c.merge.ensures.value, c.zero.ensures) in
     let division = subst (λ a. IsDivision a d q rest) dividend c.div_rem_2by1-quotient.ensures in
     subst (λ m. IsFactor b m value q) (sym c.divisor-divisor.ensures)
-    (factor_is b d value q rest (value_below ring.scaling c.residue-value.ensures.form.below) division)
+    (is_factor_of_division b d value q rest (value_below ring.scaling c.residue-value.ensures.form.below) division)
 
 pub returns : goal.returns
 returns g c =

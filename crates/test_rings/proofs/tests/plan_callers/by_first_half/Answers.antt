@@ -5,7 +5,7 @@ use Rattle.std.proofs.lemmas.List.{take-map, get_or-take, length-take-le}
 use Rattle.std.proofs.lemmas.Nat.{pow_pos}
 use Rattle.std.specs.Int.{IsPowerOfTwo}
 use Rattle.modular_transform.specs.Transforms.{transform}
-use Rattle.modular_barrett.specs.Factors.{IsFactor}
+use Rattle.modular_plan_passes.specs.Factors.{IsFactor}
 use Rattle.modular_plan_passes.specs.Plans.{numbers, AreTwiddles}
 use Rattle.test_rings.proofs.tests.plan_callers.by_first_half.Goals as goal
 
