@@ -1,17 +1,18 @@
 //! Text search by polynomial hashes modulo 2^61 - 1: the hash of a window is computed from that of the one before.
 
-ghost use Rattle.std.specs.Prelude.{◌≡◌, ℕ, ◌+◌, ◌*◌, ◌%◌, ◌^◌, ◌≤◌, ◌↔◌, List, []};
+ghost use Rattle.std.specs.Prelude.{◌≡◌, ℕ, ◌+◌, ◌*◌, ◌/◌, ◌%◌, ◌^◌, ◌<◌, ◌≤◌, ◌↔◌, List, []};
 ghost use Rattle.std.specs.Prelude.{◌∷◌, ◌++◌, IsTrue, length, slice_index, slice_range, pos, ◌-ℤ◌};
 ghost use Rattle.modular_reduced.specs.Integers.{residue_of};
 ghost use Rattle.modular_folds.specs.Mersenne.{mersenne};
 ghost use Rattle.modular_word.specs.Residues.{residue};
-ghost use Rattle.modular_ring.specs.Hashes.{StandsAt, IsSearch};
+ghost use Rattle.modular_ring.specs.Hashes.{window_hash, StandsAt, IsSearch, IsSearchBetween};
 ghost use Rattle.modular_word.specs.Sums.{polynomial_highest_first};
 
 use modular_folds::mersenne::FixedMersenne64;
 use modular_reduced::modular_integer::ModularInteger;
 use modular_reduced::reduced_int::ReducedInt;
 use modular_word::laws::residue_laws;
+use modular_word::path_word::PathWord;
 
 /// A hash: an integer modulo 2^61 - 1.
 ///
@@ -71,6 +72,18 @@ pub fn hash(base: Hash, text: &[u8]) -> Hash
     value
 }
 
+// An eighth of n, modulo 2^61 - 1. The parts of the eighth below and above the bit 61 are those of n below and above the bit
+// 64, that is, its words. Conditions: 8 divides n, and n is below 2^126.
+#[inline(always)]
+fn reduced_eighth(like: Hash, n: u128) -> Hash
+    requires multiple { n % 8 ≡ 0 }
+    requires below { n < 2 ^ 126 }
+    ensures { residue_of result ≡ n / 8 % mersenne 61 1 }
+{
+    let (low, high) = <u64 as PathWord>::split(n);
+    like.convert(high + (low >> 3))
+}
+
 /// The hash of the next window: it moves by one byte, `first` is the byte that it drops at its start, and `next` the
 /// byte that it gains at its end.
 ///
@@ -97,8 +110,9 @@ pub fn roll(base: Hash, power: Hash, window: Hash, first: u8, next: u8) -> Hash
         residue_of result ≡ polynomial_highest_first (length moved) (slice_index moved) (residue_of base) % mersenne 61 1 }
 {
     residue_laws();
-    let longer = window * base + next as u64;
-    longer - power * first as u64
+    let kept = window.residue() as u128 * (8 * base.residue()) as u128;
+    let change = (8 * (-power).residue()) as u128 * first as u128 + 8 * next as u128;
+    reduced_eighth(base, kept + change)
 }
 
 /// Whether the pattern occurs at a position: the hashes of the pattern, `wanted`, and of the window there are given,
@@ -137,6 +151,116 @@ pub fn is_hit(wanted: Hash, window: Hash, text: &[u8], pattern: &[u8], at: usize
     window == wanted && &text[at..at + pattern.len()] == pattern
 }
 
+// A search: the text and the pattern, with the pattern's hash and the power of the base to its length.
+// rust instead: #[derive(Clone, Copy)]
+#[derive(Drop)]
+struct Search<'a> {
+    base: Hash,
+    power: Hash,
+    wanted: Hash,
+    text: &'a [u8],
+    pattern: &'a [u8],
+    ghost raised: { residue_of power ≡ residue_of base ^ length pattern.now % mersenne 61 1 },
+    ghost hashed: { residue_of wanted ≡ window_hash pattern.now (length pattern.now) (residue_of base) 0 },
+}
+
+impl<'a> Search<'a> {
+    fn new(base: Hash, text: &'a [u8], pattern: &'a [u8]) -> Self
+        ensures base { residue_of result.base ≡ residue_of base }
+        ensures text { result.text.now ≡ text.now }
+        ensures pattern { result.pattern.now ≡ pattern.now }
+    {
+        Search {
+            base,
+            power: base.pow(&(pattern.len() as u64)),
+            wanted: hash(base, pattern),
+            text,
+            pattern,
+        }
+    }
+
+    // The hash of the window at a position.
+    fn window(&self, at: usize) -> Hash
+        requires { at + length self.now.pattern.now ≤ length self.now.text.now }
+        ensures { residue_of result
+            ≡ window_hash self.now.text.now (length self.now.pattern.now) (residue_of self.now.base) at }
+    {
+        hash(self.base, &self.text[at..at + self.pattern.len()])
+    }
+
+    // The hash of the next window.
+    #[inline(always)]
+    fn next(&self, window: Hash, at: usize) -> Hash
+        requires within { at + length self.now.pattern.now < length self.now.text.now }
+        requires hashed { residue_of window
+            ≡ window_hash self.now.text.now (length self.now.pattern.now) (residue_of self.now.base) at }
+        ensures { residue_of result
+            ≡ window_hash self.now.text.now (length self.now.pattern.now) (residue_of self.now.base) (at + 1) }
+    {
+        roll(
+            self.base,
+            self.power,
+            window,
+            self.text[at],
+            self.text[at + self.pattern.len()],
+        )
+    }
+
+    // Whether the pattern occurs at a position.
+    #[inline(always)]
+    fn hits(&self, window: Hash, at: usize) -> bool
+        requires within { at + length self.now.pattern.now ≤ length self.now.text.now }
+        requires hashed { residue_of window
+            ≡ window_hash self.now.text.now (length self.now.pattern.now) (residue_of self.now.base) at }
+        ensures { IsTrue result ↔ StandsAt self.now.text.now self.now.pattern.now at }
+    {
+        is_hit(self.wanted, window, self.text, self.pattern, at)
+    }
+
+    // The first position of the pattern from `from` on and before `to`.
+    fn first_between(&self, window: Hash, from: usize, to: usize) -> Option<usize>
+        requires order { from ≤ to }
+        requires within { to + length self.now.pattern.now ≤ length self.now.text.now }
+        requires hashed { residue_of window
+            ≡ window_hash self.now.text.now (length self.now.pattern.now) (residue_of self.now.base) from }
+        ensures { IsSearchBetween self.now.text.now self.now.pattern.now from to result }
+    {
+        let mut window = window;
+        'windows: for at in from..to {
+            if self.hits(window, at) {
+                return Some(at);
+            }
+            window = self.next(window, at);
+        }
+        None
+    }
+
+    // The first position of the pattern before `to`. Where there are more positions than a window has bytes, the windows of
+    // both halves are hashed side by side, since each hash waits for the one before.
+    fn first_before(&self, to: usize) -> Option<usize>
+        requires { to + length self.now.pattern.now ≤ length self.now.text.now }
+        ensures { IsSearchBetween self.now.text.now self.now.pattern.now 0 to result }
+    {
+        let half = to / 2;
+        let mut low = self.window(0);
+        if half < self.pattern.len() {
+            return self.first_between(low, 0, to);
+        }
+        let mut high = self.window(half);
+        'windows: for at in 0..half {
+            if self.hits(low, at) {
+                return Some(at);
+            }
+            if self.hits(high, half + at) {
+                return self.first_between(low, at, half).or(Some(half + at));
+            }
+            low = self.next(low, at);
+            high = self.next(high, half + at);
+        }
+        self.first_between(high, 2 * half, to)
+    }
+}
+
 /// The first position of the pattern; `None` exactly where it occurs nowhere.
 ///
 /// The result is right for every base, because the bytes of a window are compared where its hash is the pattern's.
@@ -160,21 +284,15 @@ pub fn is_hit(wanted: Hash, window: Hash, text: &[u8], pattern: &[u8], at: usize
 pub fn find(base: Hash, text: &[u8], pattern: &[u8]) -> Option<usize>
     ensures { IsSearch text.now pattern.now result }
 {
-    let length = pattern.len();
-    if length > text.len() {
+    if pattern.len() > text.len() {
         return None;
     }
-    let wanted = hash(base, pattern);
-    let power = base.pow(&(length as u64));
-    let mut window = hash(base, &text[..length]);
-    let last = text.len() - length;
-    'windows: for at in 0..last {
-        if is_hit(wanted, window, text, pattern, at) {
-            return Some(at);
-        }
-        window = roll(base, power, window, text[at], text[at + length]);
+    let search = Search::new(base, text, pattern);
+    let last = text.len() - pattern.len();
+    if let Some(at) = search.first_before(last) {
+        return Some(at);
     }
-    if is_hit(wanted, window, text, pattern, last) {
+    if &text[last..] == pattern {
         Some(last)
     } else {
         None

@@ -24,6 +24,15 @@ const SEARCHES: &[(&[u8], &[u8], Option<usize>)] = &[
     (b"aaaaab", b"aab", Some(3)),
     (b"abracadabra", b"abracadabra", Some(0)),
     (b"a", b"a", Some(0)),
+    // In the first half of the positions, in the second, in both, and at the last ones.
+    (b"xxabxxxxabxx", b"ab", Some(2)),
+    (b"xxxababxxxxx", b"ab", Some(3)),
+    (b"xxxxxabxxabx", b"ab", Some(5)),
+    (b"xxxxxxxxabxx", b"ab", Some(8)),
+    (b"xxxxxxxxxabx", b"ab", Some(9)),
+    (b"xxxxxxxxxxab", b"ab", Some(10)),
+    (b"xxxxxxxxxab", b"ab", Some(9)),
+    (b"xxxxxxxxxxxx", b"ab", None),
 ];
 
 // Whether each search returns this. At the base 0 a hash is the last byte, and at 1 it is the sum of the bytes, so

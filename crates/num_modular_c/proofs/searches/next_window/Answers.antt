@@ -1,7 +1,5 @@
-use Rattle.std.proofs.Common.{ℕ, ◌≡◌, ◌+◌, ◌%◌, ◌^◌, ◌≤◌, ◌<◌, List, length, take, drop, arith, ap, sym, ◌∙◌, length-drop}
-use Rattle.std.proofs.lemmas.List.{length-take-le}
-use Rattle.modular_ring.proofs.Windows.{window_moves, window_is}
-use Rattle.mersenne_hash.specs.Collisions.{hash_of}
+use Rattle.std.proofs.Common.{ℕ, ◌+◌, ◌%◌, ◌^◌, ◌<◌, List, length, slice_range, arith, ap, sym, ◌∙◌}
+use Rattle.modular_ring.proofs.Windows.{window_moves, window_length}
 use Rattle.num_modular.specs.Integers.{residue_of}
 use Rattle.num_modular.specs.Mersenne.{mersenne}
 use Rattle.num_modular_c.proofs.searches.next_window.Goals as goal
@@ -11,11 +9,8 @@ returns-then-size-text c within =
     let n : ℕ = c.args.size in
     let text : List ℕ = c.args.text.now in
     let at : ℕ = c.args.at in
-    let x = residue_of c.args.base in
     let inside : at + n < length text = omega (arith, within) in
-    let room : n ≤ length (drop at text) = omega (arith, length-drop at text, inside) in
-    let count : length (take n (drop at text)) ≡ n = length-take-le n (drop at text) room in
-    c.roll.ensures.hash (take n (drop at text)) (take n (drop (at + 1) text)) (window_moves n at text inside)
-    (c.requires.window (omega (arith, inside)) ∙ ap (λ s. hash_of s x) (window_is n at text))
-    (c.requires.power ∙ ap (λ k. x ^ k % mersenne 61 1) (sym count))
-    ∙ ap (λ s. hash_of s x) (sym (window_is n (at + 1) text))
+    c.roll.ensures.hash (slice_range text at (at + n)) (slice_range text (at + 1) (at + 1 + n)) (window_moves n at text inside)
+    (c.requires.window (omega (arith, inside)))
+    (c.requires.power ∙ ap (λ k. residue_of c.args.base ^ k % mersenne 61 1)
+    (sym (window_length n at text (omega (arith, inside)))))
