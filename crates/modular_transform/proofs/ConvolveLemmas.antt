@@ -15,7 +15,7 @@ use Rattle.modular_reduced.specs.Values.{HoldValues}
 use Rattle.modular_word.proofs.Congruence.{mod_of_eq, mod_refl, mod_sym, mod_trans, mod_mul, residue_of}
 use Rattle.modular_reduced.specs.Entries.{entry}
 use Rattle.modular_reduced.specs.EntryLaws.{entry_at}
-use Rattle.modular_transform.proofs.CyclicProducts.{HalfTurn, Mirrored, convolved}
+use Rattle.modular_transform.proofs.CyclicProducts.{HalfTurn, Mirrored, transform_of_products}
 use Rattle.modular_transform.proofs.Reordering.{mirrored_first, mirrored_other}
 use Rattle.modular_reduced.proofs.ListSteps.{held_values}
 
@@ -38,6 +38,14 @@ mirrored_place n e l = elim (cases_eq e 0) [
       record { place = l; image = omega (arith, k); sum = inr (omega (arith, k)) }
 ]
 
+-- what is n times v, times 1/n
+pub by_part : {m n part u : ℕ} (v : ℕ) → IsInverse m n part → Congruent m u (n * v) → Congruent m (u * part) v
+by_part {m} {n} {part} v inverse is =
+    let turn : n * v * part ≡ n * part * v = omega arith in
+    let one : 1 * v ≡ v = omega arith in
+    mod_trans (mod_mul is (mod_refl part))
+    (mod_trans (mod_of_eq turn) (mod_trans (mod_mul (record { same = inverse.one }) (mod_refl v)) (mod_of_eq one)))
+
 -- entry e of the cyclic product, from the transform of the product
 -- of the transforms, mirrored and multiplied by the inverse of n
 pub convolved_entry : {m : ℕ} (g n e part : ℕ) (x y c : ℕ → ℕ) → 0 < m → Suits m g n → e < n → IsInverse m n part
@@ -46,17 +54,12 @@ pub convolved_entry : {m : ℕ} (g n e part : ℕ) (x y c : ℕ → ℕ) → 0 <
 convolved_entry {m} g n e part x y c positive suits l inverse is =
     let whole : Congruent m (transform m g n c (mirrored n e)) (n * cyclic_product m n x y e) =
     mod_trans (residue_of _)
-    (mod_trans (convolved g n e (mirrored n e) x y c (half_turn suits) (mirrored_place n e l)
+    (mod_trans (transform_of_products g n e (mirrored n e) x y c (half_turn suits) (mirrored_place n e l)
     (λ j k. mod_trans (mod_of_eq (is j k)) (mod_trans (residue_of _) (mod_mul (residue_of _) (residue_of _)))))
     (mod_mul (mod_refl n) (mod_sym (residue_of _)))) in
     let p = cyclic_product m n x y e in
-    let one : Congruent m (n * part) 1 = record { same = inverse.one } in
-    let q : n * p * part ≡ n * part * p = omega arith in
-    let o : 1 * p ≡ p = omega arith in
-    let r = mod_trans (mod_mul whole (mod_refl part))
-    (mod_trans (mod_of_eq q) (mod_trans (mod_mul one (mod_refl p)) (mod_of_eq o))) in
     let small : p < m = mod_below _ m positive in
-    r.same ∙ mod-eq_of_lt small
+    (by_part p inverse whole).same ∙ mod-eq_of_lt small
 
 -- a doubling of 1 more
 pub doubled_more : {m : ℕ} (v w t : ℕ) → Congruent m v (2 ^ t) → w ≡ (2 * v) % m → Congruent m w (2 ^ (t + 1))

@@ -33,14 +33,14 @@ geometric_of_one n h is =
     (mod_of_eq (sum_below-of_constant n 1 ∙ o))
 
 -- g to some full turns
-turns : {m : ℕ} (g n q : ℕ) → HalfTurn m g n → 1 < n → Congruent m (g ^ (n * q)) 1
-turns g n q turn l =
+power_of_full_turns : {m : ℕ} (g n q : ℕ) → HalfTurn m g n → 1 < n → Congruent m (g ^ (n * q)) 1
+power_of_full_turns g n q turn l =
     mod_trans (mod_of_eq (pow-mul g n q)) (mod_trans (mod_pow q (full_turn g n turn l)) (mod_of_eq (one-pow q)))
 
 -- full turns add up to n ..
 at_full_turns : {m : ℕ} (g n q d : ℕ) → HalfTurn m g n → 1 < n → d ≡ n * q → Congruent m (geometric n (g ^ d)) n
 at_full_turns g n q d turn l e =
-    geometric_of_one n (g ^ d) (mod_trans (mod_of_eq (ap (λ v. g ^ v) e)) (turns g n q turn l))
+    geometric_of_one n (g ^ d) (mod_trans (mod_of_eq (ap (λ v. g ^ v) e)) (power_of_full_turns g n q turn l))
 
 at_no_turn : {m : ℕ} (g n : ℕ) → Congruent m (geometric n (g ^ 0)) n
 at_no_turn g n = geometric_of_one n (g ^ 0) (mod_of_eq (pow-zero g))
@@ -52,7 +52,7 @@ at_other_turns {m} g n q r d turn l some below e =
     let k = turn.known l in
     let o : 1 * g ^ r ≡ g ^ r = omega arith in
     let same : Congruent m (g ^ d) (g ^ r) = mod_trans (mod_of_eq (ap (λ v. g ^ v) e ∙ pow-add g (n * q) r))
-    (mod_trans (mod_mul (turns g n q turn l) (mod_refl (g ^ r))) (mod_of_eq o)) in
+    (mod_trans (mod_mul (power_of_full_turns g n q turn l) (mod_refl (g ^ r))) (mod_of_eq o)) in
     let within : r < 2 ^ suc k.0 = let s = k.1 in omega arith in
     mod_trans (sum_below-congruent n (λ j. (g ^ d) ^ j) (λ j. (g ^ r) ^ j) (λ j h. mod_pow j same))
     (mod_trans (mod_of_eq (ap (λ v. geometric v (g ^ r)) k.1)) (powers_vanish k.0 g r k.2 some within))
@@ -64,9 +64,9 @@ pub record Mirrored (n e k : ℕ) : Type 0 where
   pub sum : (e + k ≡ 0) ⊎ (e + k ≡ n)
 
 -- where a + b is e or e + n, a + b + k is 0, or n or twice n beyond one value
-turned : (n e k a b : ℕ) → Mirrored n e k → a < n → b < n → (a + b ≡ e) ⊎ (a + b ≡ e + n)
+sum_is_full_turns : (n e k a b : ℕ) → Mirrored n e k → a < n → b < n → (a + b ≡ e) ⊎ (a + b ≡ e + n)
     → (a + b + k ≡ 0) ⊎ ((1 < n) × ((a + b + k ≡ n * 1) ⊎ (a + b + k ≡ n * 2)))
-turned n e k a b mirror la lb at =
+sum_is_full_turns n e k a b mirror la lb at =
     let le = mirror.place in
     let lk = mirror.image in
     elim at [
@@ -78,9 +78,9 @@ turned n e k a b mirror la lb at =
     ]
 
 -- there the powers of g ^ (a + b + k) add up to n ..
-summed_at : {m : ℕ} (g n e k a b : ℕ) → HalfTurn m g n → Mirrored n e k → a < n → b < n → (a + b ≡ e) ⊎ (a + b ≡ e + n)
+geometric_of_full_turns : {m : ℕ} (g n e k a b : ℕ) → HalfTurn m g n → Mirrored n e k → a < n → b < n → (a + b ≡ e) ⊎ (a + b ≡ e + n)
     → Congruent m (geometric n (g ^ (a + b + k))) n
-summed_at {m} g n e k a b turn mirror la lb at = elim (turned n e k a b mirror la lb at) [
+geometric_of_full_turns {m} g n e k a b turn mirror la lb at = elim (sum_is_full_turns n e k a b mirror la lb at) [
   | inl none ↦ mod_trans (mod_of_eq (ap (λ v. geometric n (g ^ v)) none)) (at_no_turn g n)
   | inr some ↦ elim some.1 [
     | inl once ↦ at_full_turns g n 1 (a + b + k) turn some.0 once
@@ -88,9 +88,9 @@ summed_at {m} g n e k a b turn mirror la lb at = elim (turned n e k a b mirror l
   ]
 ]
 
-between : {m : ℕ} (g n d : ℕ) → HalfTurn m g n → 1 < n → d < n + n + n → d ≢ 0 → d ≢ n → d ≢ n + n
+geometric_vanishes_between : {m : ℕ} (g n d : ℕ) → HalfTurn m g n → 1 < n → d < n + n + n → d ≢ 0 → d ≢ n → d ≢ n + n
     → Congruent m (geometric n (g ^ d)) 0
-between g n d turn l below no_0 no_1 no_2 =
+geometric_vanishes_between g n d turn l below no_0 no_1 no_2 =
     elim (cases_lt d n) [
       | inl h ↦ at_other_turns g n 0 d d turn l (omega arith) h (omega arith)
       | inr h ↦ elim (cases_lt d (n + n)) [
@@ -100,30 +100,30 @@ between g n d turn l below no_0 no_1 no_2 =
     ]
 
 -- .. and where it is neither
-vanished_at : {m : ℕ} (g n e k a b : ℕ) → HalfTurn m g n → Mirrored n e k → a < n → b < n → a + b ≢ e → a + b ≢ e + n
+geometric_vanishes_at_others : {m : ℕ} (g n e k a b : ℕ) → HalfTurn m g n → Mirrored n e k → a < n → b < n → a + b ≢ e → a + b ≢ e + n
     → Congruent m (geometric n (g ^ (a + b + k))) 0
-vanished_at {m} g n e k a b turn mirror la lb not_e not_en = grind (arith, between)
+geometric_vanishes_at_others {m} g n e k a b turn mirror la lb not_e not_en = grind (arith, geometric_vanishes_between)
 
 -- one product of two values, with the test of the cyclic product
-tested : {m : ℕ} (g n e k a b c : ℕ) → HalfTurn m g n → Mirrored n e k → a < n → b < n
+geometric_by_test : {m : ℕ} (g n e k a b c : ℕ) → HalfTurn m g n → Mirrored n e k → a < n → b < n
     → Congruent m (c * geometric n (g ^ (a + b + k))) (n * (cond (eqb (a + b) e || eqb (a + b) (e + n)) c 0))
-tested {m} g n e k a b c turn mirror la lb =
+geometric_by_test {m} g n e k a b c turn mirror la lb =
     let yes : c * n ≡ n * c = omega arith in
     let no : c * 0 ≡ n * 0 = omega arith in
     elim (eqb_tells (a + b) e) [
       | inl p ↦
-          rw p.0 (mod_trans (mod_mul (mod_refl c) (summed_at g n e k a b turn mirror la lb (inl p.1))) (mod_of_eq yes))
+          rw p.0 (mod_trans (mod_mul (mod_refl c) (geometric_of_full_turns g n e k a b turn mirror la lb (inl p.1))) (mod_of_eq yes))
       | inr p ↦ elim (eqb_tells (a + b) (e + n)) [
         | inl q ↦ rw (p.0, q.0)
-            (mod_trans (mod_mul (mod_refl c) (summed_at g n e k a b turn mirror la lb (inr q.1))) (mod_of_eq yes))
+            (mod_trans (mod_mul (mod_refl c) (geometric_of_full_turns g n e k a b turn mirror la lb (inr q.1))) (mod_of_eq yes))
         | inr q ↦ rw (p.0, q.0)
-            (mod_trans (mod_mul (mod_refl c) (vanished_at g n e k a b turn mirror la lb p.1 q.1)) (mod_of_eq no))
+            (mod_trans (mod_mul (mod_refl c) (geometric_vanishes_at_others g n e k a b turn mirror la lb p.1 q.1)) (mod_of_eq no))
       ]
     ]
 
 -- one summand of the transform of the product
-summand : (g k a b j x y : ℕ) → (x * g ^ (a * j)) * (y * g ^ (b * j)) * g ^ (j * k) ≡ x * y * (g ^ (a + b + k)) ^ j
-summand g k a b j x y =
+summand_by_power : (g k a b j x y : ℕ) → (x * g ^ (a * j)) * (y * g ^ (b * j)) * g ^ (j * k) ≡ x * y * (g ^ (a + b + k)) ^ j
+summand_by_power g k a b j x y =
     let e : (a + b + k) * j ≡ a * j + b * j + j * k = omega arith in
     let p = sym (pow-mul g (a + b + k) j) ∙ ap (λ n. g ^ n) e ∙ pow-add g (a * j + b * j) (j * k)
     ∙ ap (λ v. v * g ^ (j * k)) (pow-add g (a * j) (b * j)) in
@@ -138,10 +138,10 @@ scaled n k c f =
     (λ a l. sum_below-mul k c (f a)) ∙ sum_below-mul n c (λ a. sum_below k (λ b. f a b))
 
 -- entry j of a product of transforms, in the sum of the product's transform
-expanded : (g n k j : ℕ) (x y : ℕ → ℕ)
+product_of_transforms_expanded : (g n k j : ℕ) (x y : ℕ → ℕ)
     → sum_below n (λ a. x a * g ^ (a * j)) * sum_below n (λ b. y b * g ^ (b * j)) * g ^ (j * k)
     ≡ sum_below n (λ a. sum_below n (λ b. x a * y b * (g ^ (a + b + k)) ^ j))
-expanded g n k j x y =
+product_of_transforms_expanded g n k j x y =
     let s = g ^ (j * k) in
     let f = λ (a b : ℕ). (x a * g ^ (a * j)) * (y b * g ^ (b * j)) in
     let t = sum_below-times_sum n n (λ a. x a * g ^ (a * j)) (λ b. y b * g ^ (b * j)) in
@@ -151,7 +151,7 @@ expanded g n k j x y =
     p ∙ q ∙ sym (scaled n n s f)
     ∙ sum_below-same n (λ a. sum_below n (λ b. s * f a b)) (λ a. sum_below n (λ b. x a * y b * (g ^ (a + b + k)) ^ j))
     (λ a la. sum_below-same n (λ b. s * f a b) (λ b. x a * y b * (g ^ (a + b + k)) ^ j)
-    (λ b lb. let u : s * f a b ≡ f a b * s = omega arith in u ∙ summand g k a b j (x a) (y b)))
+    (λ b lb. let u : s * f a b ≡ f a b * s = omega arith in u ∙ summand_by_power g k a b j (x a) (y b)))
 
 -- the outermost of three sums becomes the innermost
 pub moved : (p n : ℕ) (f : ℕ → ℕ → ℕ → ℕ) → sum_below p (λ e. sum_below n (λ i. sum_below n (λ j. f i j e)))
@@ -163,20 +163,20 @@ moved p n f =
 
 -- the convolution theorem: at the mirror image of e, the transform of
 -- the product of two transforms is n times entry e of the cyclic product
-pub convolved : {m : ℕ} (g n e k : ℕ) (x y c : ℕ → ℕ) → HalfTurn m g n → Mirrored n e k
+pub transform_of_products : {m : ℕ} (g n e k : ℕ) (x y c : ℕ → ℕ) → HalfTurn m g n → Mirrored n e k
     → ((j : ℕ) → j < n
     → Congruent m (c j) (sum_below n (λ a. x a * g ^ (a * j)) * sum_below n (λ b. y b * g ^ (b * j))))
     → Congruent m (sum_below n (λ j. c j * g ^ (j * k)))
     (n * sum_below n (λ a. sum_below n (λ b. cond (eqb (a + b) e || eqb (a + b) (e + n)) (x a * y b) 0)))
-convolved {m} g n e k x y c turn mirror is =
+transform_of_products {m} g n e k x y c turn mirror is =
     let f = λ (a b j : ℕ). x a * y b * (g ^ (a + b + k)) ^ j in
     mod_trans (sum_below-congruent n (λ j. c j * g ^ (j * k)) (λ j. sum_below n (λ a. sum_below n (λ b. f a b j)))
-    (λ j l. mod_trans (mod_mul (is j l) (mod_refl (g ^ (j * k)))) (mod_of_eq (expanded g n k j x y))))
+    (λ j l. mod_trans (mod_mul (is j l) (mod_refl (g ^ (j * k)))) (mod_of_eq (product_of_transforms_expanded g n k j x y))))
     (mod_trans (mod_of_eq (moved n n f))
     (mod_trans (sum_below-congruent n (λ a. sum_below n (λ b. sum_below n (λ j. f a b j)))
     (λ a. sum_below n (λ b. n * (cond (eqb (a + b) e || eqb (a + b) (e + n)) (x a * y b) 0)))
     (λ a la. sum_below-congruent n (λ b. sum_below n (λ j. f a b j))
     (λ b. n * (cond (eqb (a + b) e || eqb (a + b) (e + n)) (x a * y b) 0))
     (λ b lb. mod_trans (mod_of_eq (sum_below-mul n (x a * y b) (λ j. (g ^ (a + b + k)) ^ j)))
-    (tested g n e k a b (x a * y b) turn mirror la lb))))
+    (geometric_by_test g n e k a b (x a * y b) turn mirror la lb))))
     (mod_of_eq (scaled n n n (λ a b. cond (eqb (a + b) e || eqb (a + b) (e + n)) (x a * y b) 0)))))

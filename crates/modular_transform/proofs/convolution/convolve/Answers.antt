@@ -1,22 +1,16 @@
-use Rattle.std.proofs.Common.{refl, sym, arith, subst}
+use Rattle.std.proofs.Common.{refl, arith}
 use Rattle.std.proofs.lemmas.Bool.{false≢true}
-use Rattle.modular_word.specs.Inverses.{IsInverse}
 use Rattle.modular_word.proofs.Congruence.{mod_sym}
 use Rattle.modular_transform.proofs.ConvolveLemmas.{inverse_along}
 use Rattle.modular_reduced.proofs.ListSteps.{held_values}
 use Rattle.modular_transform.proofs.convolution.convolve.Goals as goal
 
 pub multiply-requires-clause-inverse : goal.multiply-requires-clause-inverse
-multiply-requires-clause-inverse g c =
-    let m = g.R.Reducer.modulus c.args.r.now in
-    let found = c.in-Some.ensures.form in
-    let part_is = (g.met.R.Reducer.canonical c.args.r.now).one_value _ _ found.2 in
-    subst (IsInverse m _) (sym part_is) (inverse_along c.length_form-length.ensures.counted found.1)
+multiply-requires-clause-inverse g c = inverse_along c.length_form-length.ensures.counted c.in-Some.ensures.value
 
 pub returns-in-Some-clause-inverse : goal.returns-in-Some-clause-inverse
 returns-in-Some-clause-inverse g c =
-    let found = c.in-Some.ensures.form in
-    (λ h. (found.0, inverse_along c.length_form-length.ensures.counted found.1), λ h. refl)
+    (λ h. (_, inverse_along c.length_form-length.ensures.counted c.in-Some.ensures.value), λ h. refl)
 
 pub returns-in-Some-clause-values : goal.returns-in-Some-clause-values
 returns-in-Some-clause-values g c h e l =
@@ -32,5 +26,5 @@ returns-in-Some-clause-transformed_values g c h j l =
 pub returns-in-None-clause-inverse : goal.returns-in-None-clause-inverse
 returns-in-None-clause-inverse g c = (
   λ h. absurd (false≢true h),
-  λ h. absurd (c.in-None.ensures.form h.0 (inverse_along (mod_sym c.length_form-length.ensures.counted) h.1)),
+  λ h. absurd (c.in-None.ensures.value h.0 (inverse_along (mod_sym c.length_form-length.ensures.counted) h.1)),
 )
