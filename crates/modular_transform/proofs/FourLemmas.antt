@@ -47,9 +47,9 @@ pub done_by : {m p q s h k p' q' s' : ℕ} {x y : ℕ → ℕ} → Congruent m p
 done_by is_p is_q is_s done = record { four = four_by is_p is_q is_s done.four; kept = done.kept }
 
 -- a place names its block and its column
-placed : (h c j l b t i : ℕ) → j < 4 → t < 4 → l < h → i < h
+same_block_and_column : (h c j l b t i : ℕ) → j < 4 → t < 4 → l < h → i < h
     → c * (4 * h) + (j * h + l) ≡ b * (4 * h) + (t * h + i) → (c ≡ b) × (l ≡ i)
-placed h c j l b t i lj lt ll li e =
+same_block_and_column h c j l b t i lj lt ll li e =
     let from = mul-le (j + 1) h 4 h (omega arith) (omega arith) in
     let to = mul-le (t + 1) h 4 h (omega arith) (omega arith) in
     let outer = same_from_place c (j * h + l) b (t * h + i) (4 * h) (omega (arith, from)) (omega (arith, to)) e in
@@ -65,7 +65,7 @@ one_done {m} {w} {v} h b i x y l done = record {
       rw (eb, ei) at done.four;
   kept = λ n j o lj lo outside.
       let other = λ (t : ℕ) (lt : t < 4) (e : n * (4 * h) + (j * h + o) ≡ b * (4 * h) + (t * h + i)).
-      let s = placed h n j o b t i lj lt lo l e in
+      let s = same_block_and_column h n j o b t i lj lt lo l e in
       outside (omega (arith, s.0)) (omega (arith, s.0)) (omega (arith, s.1)) (omega (arith, s.1)) in
       done.kept (n * (4 * h) + (j * h + o)) (λ e. other 0 (omega arith) (e ∙ omega arith))
       (λ e. other 1 (omega arith) (e ∙ omega arith)) (λ e. other 2 (omega arith) (e ∙ omega arith))

@@ -10,12 +10,12 @@ use Rattle.modular_transform.proofs.PairLemmas.{pair_along}
 use Rattle.modular_transform.proofs.ValueLemmas.{forms_written, pair_of}
 
 -- the sum and the weighted difference of two forms are a pair of their values
-represented : {form value : ℕ → ℕ → ℕ} {width m power a b sum product : ℕ} → IsCanonical form value width m
+pair_of_forms : {form value : ℕ → ℕ → ℕ} {width m power a b sum product : ℕ} → IsCanonical form value width m
     → IsForm form value m a → IsForm form value m b
     → Represents form m sum ((value m a + value m b) % m)
     → Represents form m product (weighted m power (value m a) (value m b))
     → IsPair m power (value m a) (value m b) (value m sum) (value m product)
-represented {form} {value} {width} {m} {power} {a} {b} canonical is_a is_b is_sum is_product =
+pair_of_forms {form} {value} {width} {m} {power} {a} {b} canonical is_a is_b is_sum is_product =
     pair_of (value m a) (value m b) power _ _ is_a.below is_b.below (canonical.one_value _ _ is_sum)
     (canonical.one_value _ _ is_product)
 
@@ -74,9 +74,9 @@ four_written {T} number form value width m k step p q s forms a b c d left right
     let vd : value m (number d) ≡ x (k + 3 * step) =
     entry_read number value m forms (k + 3 * step) d (omega arith) read_d in
     let w = all_written number value m k step forms e f g h some within in
-    let sums = represented {power = s} canonical (form_of_value canonical is_left) (form_of_value canonical is_right)
+    let sums = pair_of_forms {power = s} canonical (form_of_value canonical is_left) (form_of_value canonical is_right)
     is_e is_f in
-    let differences = represented {power = s} canonical (form_of_value canonical is_lt)
+    let differences = pair_of_forms {power = s} canonical (form_of_value canonical is_lt)
     (form_of_value canonical is_rt) is_g is_h in
     record {
       four = record {

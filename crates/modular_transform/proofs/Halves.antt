@@ -10,15 +10,15 @@ use Rattle.modular_transform.proofs.MinusOne.{even_power_of_minus_one, odd_power
 use Rattle.modular_word.proofs.Sums.{sum_below-joined, sum_below-add, sum_below-congruent}
 
 -- the sum over 2 h values, by pairs of values h apart
-pairs : (h w k : ℕ) (x : ℕ → ℕ)
+sum_by_pairs : (h w k : ℕ) (x : ℕ → ℕ)
     → sum_below (h + h) (λ i. x i * w ^ (i * k)) ≡ sum_below h (λ i. x i * w ^ (i * k) + x (h + i) * w ^ ((h + i) * k))
-pairs h w k x =
+sum_by_pairs h w k x =
     sum_below-joined h h (λ i. x i * w ^ (i * k))
     ∙ sym (sum_below-add h (λ i. x i * w ^ (i * k)) (λ i. x (h + i) * w ^ ((h + i) * k)))
 
 -- a power at a place h further
-further : (h w k i : ℕ) → w ^ ((h + i) * k) ≡ (w ^ h) ^ k * w ^ (i * k)
-further h w k i =
+power_further : (h w k i : ℕ) → w ^ ((h + i) * k) ≡ (w ^ h) ^ k * w ^ (i * k)
+power_further h w k i =
     let e : (h + i) * k ≡ h * k + i * k = omega arith in
     ap (λ n. w ^ n) e ∙ pow-add w (h * k) (i * k) ∙ ap (λ v. v * w ^ (i * k)) (pow-mul w h k)
 
@@ -30,7 +30,7 @@ even_pair : {m : ℕ} (w h r i x y u : ℕ) → IsMinusOne m (w ^ h) → Congrue
 even_pair {m} w h r i x y u half_turn is =
     let q = w ^ (i * (2 * r)) in
     let o : 1 * q ≡ q = omega arith in
-    let one : Congruent m (w ^ ((h + i) * (2 * r))) q = mod_trans (mod_of_eq (further h w (2 * r) i))
+    let one : Congruent m (w ^ ((h + i) * (2 * r))) q = mod_trans (mod_of_eq (power_further h w (2 * r) i))
     (mod_trans (mod_mul (even_power_of_minus_one r half_turn) (mod_refl q)) (mod_of_eq o)) in
     let d : x * q + y * q ≡ (x + y) * q = omega arith in
     mod_trans (mod_add (mod_refl (x * q)) (mod_mul (mod_refl y) one))
@@ -41,7 +41,7 @@ pub even_entries : {m : ℕ} (w h r : ℕ) (x u : ℕ → ℕ) → IsMinusOne m 
     → ((i : ℕ) → i < h → Congruent m (u i) (x i + x (h + i)))
     → Congruent m (sum_below (h + h) (λ i. x i * w ^ (i * (2 * r)))) (sum_below h (λ i. u i * (w * w) ^ (i * r)))
 even_entries {m} w h r x u half_turn is =
-    mod_trans (mod_of_eq (pairs h w (2 * r) x))
+    mod_trans (mod_of_eq (sum_by_pairs h w (2 * r) x))
     (sum_below-congruent h (λ i. x i * w ^ (i * (2 * r)) + x (h + i) * w ^ ((h + i) * (2 * r)))
     (λ i. u i * (w * w) ^ (i * r)) (λ i l. even_pair w h r i (x i) (x (h + i)) (u i) half_turn (is i l)))
 
@@ -54,7 +54,7 @@ odd_pair {m} w h r i x y v half_turn is =
     let e : i * (2 * r + 1) ≡ i + i * (2 * r) = omega arith in
     let qs : q ≡ w ^ i * s =
     ap (λ n. w ^ n) e ∙ pow-add w i (i * (2 * r)) ∙ ap (λ n. w ^ i * n) (sym (square_root w i r)) in
-    let z : w ^ ((h + i) * (2 * r + 1)) ≡ p * q = further h w (2 * r + 1) i in
+    let z : w ^ ((h + i) * (2 * r + 1)) ≡ p * q = power_further h w (2 * r + 1) i in
     let yz = ap (λ n. y * n) z in
     let yq = ap (λ n. y * n) qs in
     let xq = ap (λ n. x * n) qs in
@@ -72,6 +72,6 @@ pub odd_entries : {m : ℕ} (w h r : ℕ) (x v : ℕ → ℕ) → IsMinusOne m (
     → ((i : ℕ) → i < h → Congruent m (v i + x (h + i) * w ^ i) (x i * w ^ i))
     → Congruent m (sum_below (h + h) (λ i. x i * w ^ (i * (2 * r + 1)))) (sum_below h (λ i. v i * (w * w) ^ (i * r)))
 odd_entries {m} w h r x v half_turn is =
-    mod_trans (mod_of_eq (pairs h w (2 * r + 1) x))
+    mod_trans (mod_of_eq (sum_by_pairs h w (2 * r + 1) x))
     (sum_below-congruent h (λ i. x i * w ^ (i * (2 * r + 1)) + x (h + i) * w ^ ((h + i) * (2 * r + 1)))
     (λ i. v i * (w * w) ^ (i * r)) (λ i l. odd_pair w h r i (x i) (x (h + i)) (v i) half_turn (is i l)))

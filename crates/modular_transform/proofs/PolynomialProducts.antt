@@ -58,14 +58,14 @@ one_place : (n i j e v : ℕ) → (n ≤ i + j → v ≡ 0)
 one_place n i j e v room = grind arith
 
 -- the terms at place e
-terms : ℕ → (ℕ → ℕ) → (ℕ → ℕ) → ℕ → ℕ
-terms n x y e = sum_below n (λ i. sum_below n (λ j. cond (eqb (i + j) e) (x i * y j) 0))
+product_terms : ℕ → (ℕ → ℕ) → (ℕ → ℕ) → ℕ → ℕ
+product_terms n x y e = sum_below n (λ i. sum_below n (λ j. cond (eqb (i + j) e) (x i * y j) 0))
 
-entry : (m n s t : ℕ) (x y : ℕ → ℕ) (e : ℕ) → ((i : ℕ) → i < n → x i ≤ s)
+cyclic_product_is_terms : (m n s t : ℕ) (x y : ℕ → ℕ) (e : ℕ) → ((i : ℕ) → i < n → x i ≤ s)
     → ((j : ℕ) → j < n → y j ≤ t) → n * (s * t) < m
-    → ((i j : ℕ) → i < n → j < n → n ≤ i + j → x i * y j ≡ 0) → cyclic_product m n x y e ≡ terms n x y e
-unfolding terms
-entry m n s t x y e few few_y small room =
+    → ((i j : ℕ) → i < n → j < n → n ≤ i + j → x i * y j ≡ 0) → cyclic_product m n x y e ≡ product_terms n x y e
+unfolding product_terms
+cyclic_product_is_terms m n s t x y e few few_y small room =
     let same = sum_below-same n (λ i. sum_below n (λ j. cond (eqb (i + j) e || eqb (i + j) (e + n)) (x i * y j) 0))
     (λ i. sum_below n (λ j. cond (eqb (i + j) e) (x i * y j) 0))
     (λ i l. sum_below-same n (λ j. cond (eqb (i + j) e || eqb (i + j) (e + n)) (x i * y j) 0)
@@ -76,9 +76,9 @@ entry m n s t x y e few few_y small room =
     ap (λ v. v % m) same ∙ mod-eq_of_lt (omega (arith, below, small))
 
 -- one term of the product, in the sum over all places
-spread : (n b i j v w : ℕ) → (n ≤ i + j → v * w ≡ 0)
+term_over_places : (n b i j v w : ℕ) → (n ≤ i + j → v * w ≡ 0)
     → sum_below n (λ e. cond (eqb (i + j) e) (b ^ e * (v * w)) 0) ≡ (v * b ^ i) * (w * b ^ j)
-spread n b i j v w room = elim (cases_lt (i + j) n) [
+term_over_places n b i j v w room = elim (cases_lt (i + j) n) [
   | inl l ↦
       let p = ap (λ k. k * (v * w)) (pow-add b i j) in
       sum_at_place n (i + j) (λ e. b ^ e * (v * w)) l ∙ p ∙ omega arith
@@ -92,10 +92,10 @@ spread n b i j v w room = elim (cases_lt (i + j) n) [
 factor_in : (s e c v : ℕ) → c * cond (eqb s e) v 0 ≡ cond (eqb s e) (c * v) 0
 factor_in s e c v = elim (eqb_tells s e) [ inl p ↦ rw p.0 (omega arith) | inr p ↦ rw p.0 (omega arith) ]
 
-placed : (n b e : ℕ) (x y : ℕ → ℕ)
-    → terms n x y e * b ^ e ≡ sum_below n (λ i. sum_below n (λ j. cond (eqb (i + j) e) (b ^ e * (x i * y j)) 0))
-unfolding terms
-placed n b e x y =
+terms_times_power : (n b e : ℕ) (x y : ℕ → ℕ)
+    → product_terms n x y e * b ^ e ≡ sum_below n (λ i. sum_below n (λ j. cond (eqb (i + j) e) (b ^ e * (x i * y j)) 0))
+unfolding product_terms
+terms_times_power n b e x y =
     let t = λ (i j : ℕ). cond (eqb (i + j) e) (x i * y j) 0 in
     let q : sum_below n (λ i. sum_below n (λ j. t i j)) * b ^ e ≡ b ^ e * sum_below n (λ i. sum_below n (λ j. t i j)) =
     omega arith in
@@ -114,10 +114,10 @@ pub polynomial_product : {m : ℕ} (n b s t : ℕ) (x y : ℕ → ℕ) → ((i :
 polynomial_product {m} n b s t x y few few_y small room =
     let f = λ (i j e : ℕ). cond (eqb (i + j) e) (b ^ e * (x i * y j)) 0 in
     sum_below-same n (λ e. cyclic_product m n x y e * b ^ e) (λ e. sum_below n (λ i. sum_below n (λ j. f i j e)))
-    (λ e l. ap (λ v. v * b ^ e) (entry m n s t x y e few few_y small room) ∙ placed n b e x y)
+    (λ e l. ap (λ v. v * b ^ e) (cyclic_product_is_terms m n s t x y e few few_y small room) ∙ terms_times_power n b e x y)
     ∙ moved n n f
     ∙ sum_below-same n (λ i. sum_below n (λ j. sum_below n (λ e. f i j e)))
     (λ i. sum_below n (λ j. (x i * b ^ i) * (y j * b ^ j)))
     (λ i l. sum_below-same n (λ j. sum_below n (λ e. f i j e)) (λ j. (x i * b ^ i) * (y j * b ^ j))
-    (λ j k. spread n b i j (x i) (y j) (room i j l k)))
+    (λ j k. term_over_places n b i j (x i) (y j) (room i j l k)))
     ∙ sym (sum_below-times_sum n n (λ i. x i * b ^ i) (λ j. y j * b ^ j))

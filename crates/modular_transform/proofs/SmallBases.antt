@@ -16,8 +16,8 @@ pub halved_once_more : (e x z : ℕ) → x ≡ e / 2 ^ z → x / 2 ≡ e / 2 ^ (
 halved_once_more e x z is = grind (arith, pow-add, div-div-eq-div-mul)
 
 -- one more in a sum of remainders
-pub one_more : (m x v w : ℕ) → v ≡ x % m → w ≡ 1 % m → (v + w) % m ≡ (x + 1) % m
-one_more m x v w is one = ap (λ a. (a + w) % m) is ∙ ap (λ b. (x % m + b) % m) one ∙ sym (add-mod x 1 m)
+pub remainder_of_successor : (m x v w : ℕ) → v ≡ x % m → w ≡ 1 % m → (v + w) % m ≡ (x + 1) % m
+remainder_of_successor m x v w is one = ap (λ a. (a + w) % m) is ∙ ap (λ b. (x % m + b) % m) one ∙ sym (add-mod x 1 m)
 
 -- the power of a remainder
 pub power_of_rest : (m x e v w k : ℕ) → v ≡ x % m → k ≡ e → w ≡ v ^ k % m → w ≡ x ^ e % m

@@ -2,7 +2,7 @@ use Rattle.std.proofs.Common.{◌≡◌, ℕ, ◌+◌, ◌-◌, ◌/◌, ◌%◌
 use Rattle.std.proofs.lemmas.Bool.{cases_eq, false≢true}
 use Rattle.modular_transform.specs.Transforms.{Suits}
 use Rattle.modular_transform.specs.Roots.{root_by}
-use Rattle.modular_transform.proofs.SmallBases.{one_more, power_of_rest}
+use Rattle.modular_transform.proofs.SmallBases.{remainder_of_successor, power_of_rest}
 use Rattle.modular_transform.proofs.roots.find_root.Goals as goal
 
 pub bases-init : goal.bases-init
@@ -17,7 +17,7 @@ tried : (m x e one base power v k : ℕ) → 2 ≤ x → base ≡ (x - 1) % m �
     → power ≡ v ^ k % m → power ≡ x ^ e % m
 tried m x e one base power v k from is is_one sum exponent is_power =
     let next : x - 1 + 1 ≡ x = omega (arith, from) in
-    power_of_rest m x e v power k (sum ∙ one_more m (x - 1) base one is is_one ∙ ap (λ n. n % m) next) exponent is_power
+    power_of_rest m x e v power k (sum ∙ remainder_of_successor m (x - 1) base one is is_one ∙ ap (λ n. n % m) next) exponent is_power
 
 pub returns-then-root_fits : goal.returns-then-root_fits
 returns-then-root_fits g c =
@@ -50,7 +50,7 @@ bases-preserved g c =
     c.exponent-exponent.ensures c.pow-g.ensures.value in
     record {
       form = c.add-base.ensures.checked;
-      base = c.add-base.ensures.value ∙ one_more m (x - 1) _ _ c.bases.invariant.base is_one ∙ ap (λ v. v % m) same;
+      base = c.add-base.ensures.value ∙ remainder_of_successor m (x - 1) _ _ c.bases.invariant.base is_one ∙ ap (λ v. v % m) same;
       tried = λ y low high suits. elim (cases_eq y x) [
         | inl e ↦
             let by_x = subst (λ v. Suits m (root_by m n v) n) e suits in
