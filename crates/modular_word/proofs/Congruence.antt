@@ -1,6 +1,6 @@
 -- Congruence: numbers that leave the same remainder modulo m.
 -- First by equal remainders, then by the relation `Congruent`.
-use Rattle.std.proofs.Common.{◌≡◌, ℕ, suc, zero, ◌^◌, ◌+◌, ◌-◌, ◌*◌, ◌/◌, ◌%◌, ◌<◌, sym, ap, ◌∙◌, arith, refl}
+use Rattle.std.proofs.Common.{◌≡◌, ℕ, suc, zero, ◌^◌, ◌+◌, ◌-◌, ◌*◌, ◌%◌, ◌<◌, sym, ap, ◌∙◌, arith, refl}
 use Rattle.std.proofs.Math.Nat.{add-mod, mod-add-mod, mod-mod, mod-zero, mod-lt, mod-eq_of_lt, mod-mod_of_dvd}
 use Rattle.std.proofs.Math.Nat.{dvd-mul_left, dvd-mul_right, div-add-mod, add-mul-mod_self_left, mul-div_cancel_left}
 use Rattle.std.proofs.lemmas.Nat.{mul-mod, pow-mod}
@@ -14,10 +14,7 @@ same_rest B x y s t hx hy e =
 
 -- a summand cancels under a remainder
 pub mod_cancel : (B x y z : ℕ) → x < B → y < B → (x + z) % B ≡ (y + z) % B → x ≡ y
-mod_cancel B x y z hx hy e =
-    let ex : B * ((x + z) / B) + (x + z) % B ≡ x + z = div-add-mod (x + z) B in
-    let ey : B * ((y + z) / B) + (y + z) % B ≡ y + z = div-add-mod (y + z) B in
-    same_rest B x y ((y + z) / B) ((x + z) / B) hx hy (omega arith)
+mod_cancel B x y z hx hy e = grind (arith, div-add-mod, same_rest)
 
 -- a positive factor cancels
 pub factor_cancel : (B x y : ℕ) → 0 < B → B * x ≡ B * y → x ≡ y
@@ -98,10 +95,7 @@ mod_pow {m} {a} {b} k h = record { same = sym (pow-mod a k m) ∙ ap (λ n. n ^ 
 
 -- a summand on both sides goes
 pub mod_add_cancel : {m a b : ℕ} (c : ℕ) → Congruent m (a + c) (b + c) → Congruent m a b
-mod_add_cancel {m = zero} {a} {b} c h =
-    let e : a + c ≡ b + c = sym (mod-zero (a + c)) ∙ h.same ∙ mod-zero (b + c) in
-    let f : a ≡ b = omega (arith, e) in
-    mod_of_eq f
+mod_add_cancel {m = zero} {a} {b} c h = grind (arith, mod-zero, mod_of_eq)
 mod_add_cancel {m = suc m} {a} {b} c h = record { same = same_without (suc m) a b c (omega arith) h.same }
 
 -- a factor with an inverse on both sides goes
@@ -111,3 +105,6 @@ mod_mul_cancel {m} {a} {b} c j u h = record { same = same_without_unit m a b c j
 -- numbers below m that are congruent are equal
 pub equal_below : {m a b : ℕ} → a < m → b < m → Congruent m a b → a ≡ b
 equal_below {m} {a} {b} p q h = sym (mod-eq_of_lt p) ∙ h.same ∙ mod-eq_of_lt q
+
+-- what congruence is taken to be: an equivalence that sums, products and powers keep
+pub ruleset congruences = (residue_of, mod_sym, mod_trans, mod_add, mod_mul, mod_pow, mod_add_cancel, mod_mul_cancel)

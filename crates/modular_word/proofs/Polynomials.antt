@@ -53,3 +53,6 @@ pub residue_more : (m : ℕ) (cs : List ℕ) (c x value product : ℕ)
     → value ≡ polynomial_highest_first (length cs) (slice_index cs) x % m → product ≡ (value * x) % m
     → (product + c) % m ≡ polynomial_highest_first (length (cs ++ c ∷ [])) (slice_index (cs ++ c ∷ [])) x % m
 residue_more m cs c x value product e f = grind (arith, length, get_or, mul-mod_first, mod-add-mod, value_more)
+
+-- the laws of sums over ranges
+pub ruleset ranges = (sum_below-zero, sum_below-more, horner)

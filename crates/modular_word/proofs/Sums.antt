@@ -20,16 +20,12 @@ sum_to-suc f h = refl
 pub sum_to-same : (f g : ℕ → ℕ) (h : ℕ) → ((x : ℕ) → 0 < x → x ≤ h → f x ≡ g x) → sum_to f h ≡ sum_to g h
 unfolding sum_to
 sum_to-same f g zero e = refl
-sum_to-same f g (suc h) e =
-    let i = sum_to-same f g h (λ x p q. e x p (omega arith)) in
-    omega arith
+sum_to-same f g (suc h) e = grind (arith, sum_to-same f g h (λ x p q. e x p (omega arith)))
 
 pub sum_to-le : (f g : ℕ → ℕ) (h : ℕ) → ((x : ℕ) → 0 < x → x ≤ h → f x ≤ g x) → sum_to f h ≤ sum_to g h
 unfolding sum_to
 sum_to-le f g zero e = omega arith
-sum_to-le f g (suc h) e =
-    let i = sum_to-le f g h (λ x p q. e x p (omega arith)) in
-    omega arith
+sum_to-le f g (suc h) e = grind (arith, sum_to-le f g h (λ x p q. e x p (omega arith)))
 
 pub sum_to-add : (f g : ℕ → ℕ) (h : ℕ) → sum_to (λ x. f x + g x) h ≡ sum_to f h + sum_to g h
 unfolding sum_to
@@ -99,10 +95,7 @@ pub sum_to-parity : (f g : ℕ → ℕ) (h : ℕ) → ((x : ℕ) → 0 < x → x
     → sum_to f h % 2 ≡ sum_to g h % 2
 unfolding sum_to
 sum_to-parity f g zero e = refl
-sum_to-parity f g (suc h) e =
-    let i = sum_to-parity f g h (λ x p q. e x p (omega arith)) in
-    let j = e (suc h) (omega arith) (omega arith) in
-    omega arith
+sum_to-parity f g (suc h) e = grind (arith, sum_to-parity f g h (λ x p q. e x p (omega arith)))
 
 none_or_one : (n : ℕ) → n ≤ 1 → (n ≡ 0) ⊎ (n ≡ 1)
 none_or_one n h = grind arith
@@ -214,10 +207,7 @@ sum_below-first (suc n) f = let before = sum_below-first n f in omega (arith, be
 pub sum_below-same : (n : ℕ) (f g : ℕ → ℕ) → ((i : ℕ) → i < n → f i ≡ g i) → sum_below n f ≡ sum_below n g
 unfolding sum_below
 sum_below-same zero f g h = refl
-sum_below-same (suc n) f g h =
-    let e = sum_below-same n f g (λ i l. h i (omega arith)) in
-    let l = h n (omega arith) in
-    omega (arith, e, l)
+sum_below-same (suc n) f g h = grind (arith, sum_below-same n f g (λ i l. h i (omega arith)))
 
 -- congruent summands, congruent sums
 pub sum_below-congruent : {m : ℕ} (n : ℕ) (f g : ℕ → ℕ) → ((i : ℕ) → i < n → Congruent m (f i) (g i))
@@ -239,19 +229,13 @@ sum_below-mul (suc n) c f = let e = sum_below-mul n c f in omega (arith, e)
 pub sum_below-of_zeros : (n : ℕ) (f : ℕ → ℕ) → ((i : ℕ) → i < n → f i ≡ 0) → sum_below n f ≡ 0
 unfolding sum_below
 sum_below-of_zeros zero f h = refl
-sum_below-of_zeros (suc n) f h =
-    let e = sum_below-of_zeros n f (λ i l. h i (omega arith)) in
-    let l = h n (omega arith) in
-    omega (arith, e, l)
+sum_below-of_zeros (suc n) f h = grind (arith, sum_below-of_zeros n f (λ i l. h i (omega arith)))
 
 -- n summands of at most b
 pub sum_below-bounded : (n b : ℕ) (f : ℕ → ℕ) → ((i : ℕ) → i < n → f i ≤ b) → sum_below n f ≤ n * b
 unfolding sum_below
 sum_below-bounded zero b f few = omega arith
-sum_below-bounded (suc n) b f few =
-    let i = sum_below-bounded n b f (λ i l. few i (omega arith)) in
-    let l = few n (omega arith) in
-    omega (arith, i, l)
+sum_below-bounded (suc n) b f few = grind (arith, sum_below-bounded n b f (λ i l. few i (omega arith)))
 
 -- n summands c
 pub sum_below-of_constant : (n c : ℕ) → sum_below n (λ i. c) ≡ n * c
@@ -303,3 +287,6 @@ pub count_to-parts : (p : ℕ → Bool) (h : ℕ) → count_to p h + count_to (�
 unfolding sum_to
 count_to-parts p zero = refl
 count_to-parts p (suc h) = count_more (p (suc h)) (count_to p h) (count_to (λ x. not (p x)) h) h (count_to-parts p h)
+
+-- the laws of sums
+pub ruleset sums = (sum_to-swap, sum_to-permuted, sum_to-reversed, sum_to-from_below, sum_to-parity, count_to-parts)

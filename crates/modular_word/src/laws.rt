@@ -15,6 +15,7 @@ use crate::path_word::PathWord;
 ///
 /// The base is at least
 /// 256. Its square is the number of double words, and the high word of a double word is below it.
+#[tactic(auto, using(crate::proofs::Bases::base_at_least, crate::proofs::Bases::below_base, crate::proofs::Bases::below_power, crate::proofs::Bases::double_base))]
 pub fn base_laws<T: PathWord>()
     ensures at_least { 256 ≤ T.base }
     ensures same { (n : ℕ) → n < T.base ↔ (n < 2 ^ T.width) }
@@ -39,6 +40,7 @@ pub fn residue_laws()
 /// [`inner_remainders`].
 ///
 /// Source: Gauss, Disquisitiones Arithmeticae, articles 6 to 8.
+#[tactic(auto, using(crate::proofs::Remainders::nested_remainders))]
 pub fn remainder_laws()
     ensures once { (m a : ℕ) → a % m % m ≡ a % m }
     ensures sums { (m a b : ℕ) → (a % m + b % m) % m ≡ (a + b) % m }
@@ -53,6 +55,7 @@ pub fn remainder_laws()
 /// Sums, products and powers preserve it. A term cancels, and so does a factor that has an inverse.
 ///
 /// Source: Gauss, Disquisitiones Arithmeticae, articles 2, 6 to 8 and 22.
+#[tactic(auto, using(crate::proofs::Congruence::congruences))]
 pub fn congruence_laws()
     ensures residue { (m a : ℕ) → Congruent m (a % m) a }
     ensures symmetric { (m a b : ℕ) → Congruent m a b → Congruent m b a }
@@ -65,6 +68,7 @@ pub fn congruence_laws()
 {}
 
 /// Exponents.
+#[tactic(auto, using(crate::proofs::Powers::powers))]
 pub fn power_laws()
     ensures one { (k : ℕ) → 1 ^ k ≡ 1 }
     ensures first { (a : ℕ) → a ^ 1 ≡ a }
@@ -101,6 +105,7 @@ pub fn inverse_laws()
 /// Euclid's lemma: where n divides a·b and is coprime to a, it divides b.
 ///
 /// Source: Euclid, Elements, book VII, proposition 30 (there for a prime n).
+#[tactic(auto, using(crate::proofs::Divisors::coprime_cancel))]
 pub fn euclids_lemma()
     ensures { (a n x : ℕ) → 0 < n → Coprime a n → (a * x) % n ≡ 0 → x % n ≡ 0 }
 {}
@@ -112,6 +117,7 @@ pub fn euclids_lemma()
 /// sum from 1 to h is a sum from 0 to h - 1.
 ///
 /// Source: Graham, Knuth and Patashnik, Concrete Mathematics, chapter 2.
+#[tactic(auto, using(crate::proofs::Sums::sums))]
 pub fn sum_laws()
     ensures exchanged { (f : ℕ → ℕ → ℕ) (h k : ℕ)
         → sum_to (λ x. sum_to (λ y. f x y) k) h ≡ sum_to (λ y. sum_to (λ x. f x y) h) k }
@@ -129,6 +135,7 @@ pub fn sum_laws()
 /// times the former polynomial, plus that coefficient.
 ///
 /// Source: Knuth, The Art of Computer Programming, volume 2, section 4.6.4.
+#[tactic(auto, using(crate::proofs::Polynomials::ranges))]
 pub fn range_laws()
     ensures none { (f : ℕ → ℕ) → sum_below 0 f ≡ 0 }
     ensures more { (f : ℕ → ℕ) (n : ℕ) → sum_below (n + 1) f ≡ sum_below n f + f n }
@@ -143,6 +150,7 @@ pub fn range_laws()
 ///
 /// Source: Gauss, Disquisitiones Arithmeticae, articles 29, 31 and 36; Knuth, The Art of Computer
 /// Programming, volume 2, section 4.3.2.
+#[tactic(auto, using(crate::proofs::LinearCongruences::solution, crate::proofs::LinearCongruences::both_remainders, crate::proofs::ResidueLemmas::difference_and))]
 pub fn linear_congruence_laws()
     ensures solved { (m a b x : ℕ) → IsInverse m a x → (a * ((b * x) % m)) % m ≡ b % m }
     ensures pair { (m n a b x : ℕ) → 0 < m → 0 < n → IsInverse n m x →
