@@ -22,16 +22,14 @@ use Rattle.modular_prim.specs.Differences.{CongruentBySign, IsDifferencePair, Pa
 zeros_step : (n k t : ℕ) → (n / 2) % 2 ^ t ≡ 0 → (r : ℕ) → r ≡ n % 2 → n % 2 ^ under r t ≡ 0
 zeros_step n k t h zero e =
     let q = n / 2 / 2 ^ t in
-    let power : 2 ^ suc t ≡ 2 ^ t * 2 = pow-suc 2 t in
-    let scaled : 2 ^ suc t * q ≡ 2 ^ t * 2 * q = ap (λ v. v * q) power in
+    let scaled : 2 ^ suc t * q ≡ 2 ^ t * 2 * q = ap (λ v. v * q) (pow-suc _ _) in
     divides (2 ^ suc t) n q (omega arith)
 zeros_step n k t h (suc r) e = ap (λ v. n % v) (pow-zero 2) ∙ mod-one n
 
 pub zeros_divide : (w n : ℕ) → n % 2 ^ count_trailing_zeros w n ≡ 0
 unfolding count_trailing_zeros
 zeros_divide zero n = ap (λ v. n % v) (pow-zero 2) ∙ mod-one n
-zeros_divide (suc w) n =
-    zeros_step n w (count_trailing_zeros w (n / 2)) (zeros_divide w (n / 2)) (n % 2) refl
+zeros_divide (suc w) n = zeros_step n w (count_trailing_zeros w (n / 2)) (zeros_divide w (n / 2)) (n % 2) refl
 
 -- a power of at most the width divides the base
 base_divided : (w t : ℕ) → t ≤ w → 2 ^ w % 2 ^ t ≡ 0
@@ -46,16 +44,14 @@ zeros_of_wrapped w base v a b t eb ev et =
 pub zeros_above : (w base v a b d t : ℕ) → base ≡ 2 ^ w → (v + b) % base ≡ a → t ≡ count_trailing_zeros w v
     → d + b ≡ a → d % 2 ^ t ≡ 0
 zeros_above w base v a b d t eb ev et e =
-    let z = zeros_of_wrapped w base v a b t eb ev et in
-    let s : base * ((v + b) / base) + d ≡ v = omega (arith, z.2) in
-    divides_rest (2 ^ t) (base * ((v + b) / base)) d z.1 (ap (λ k. k % 2 ^ t) s ∙ z.0)
+    let z = zeros_of_wrapped _ _ _ _ _ _ eb ev et in
+    divides_rest _ (base * ((v + b) / base)) _ z.1 (ap (λ k. k % 2 ^ t) (omega (arith, z.2)) ∙ z.0)
 
 pub zeros_below : (w base v a b d t : ℕ) → base ≡ 2 ^ w → (v + b) % base ≡ a → t ≡ count_trailing_zeros w v
     → d + a ≡ b → d % 2 ^ t ≡ 0
 zeros_below w base v a b d t eb ev et e =
-    let z = zeros_of_wrapped w base v a b t eb ev et in
-    let s : v + d ≡ base * ((v + b) / base) = omega (arith, z.2) in
-    divides_rest (2 ^ t) v d z.0 (ap (λ k. k % 2 ^ t) s ∙ z.1)
+    let z = zeros_of_wrapped _ _ _ _ _ _ eb ev et in
+    divides_rest _ _ _ z.0 (ap (λ k. k % 2 ^ t) (omega (arith, z.2)) ∙ z.1)
 
 -- a positive number without a power of two that divides it
 pub record Without (d t o : ℕ) : Type 0 where
@@ -77,22 +73,19 @@ turned_twice m false p q h = h
 
 pub scaled_by_sign : (m : ℕ) (s : Bool) (p q c : ℕ) → CongruentBySign m s p q → CongruentBySign m s (p * c) (q * c)
 scaled_by_sign m true p q c h =
-    let e : p * c + q * c ≡ (p + q) * c = omega arith in
     let z : 0 * c ≡ 0 = omega arith in
-    mod_trans (mod_of_eq e) (mod_trans (mod_mul h (mod_refl c)) (mod_of_eq z))
+    mod_trans (mod_of_eq (omega arith)) (mod_trans (mod_mul h (mod_refl _)) (mod_of_eq z))
 scaled_by_sign m false p q c h = mod_mul h (mod_refl c)
 
 pub difference_by_sign : (m : ℕ) (s : Bool) (d b a p q : ℕ) → d + b ≡ a → CongruentBySign m s a p → CongruentBySign m (not s) b q
     → CongruentBySign m s d (p + q)
 difference_by_sign m true d b a p q e h l =
-    let f : d + (p + q) ≡ d + p + q = omega arith in
     let g : d + p + b ≡ a + p = omega arith in
-    mod_trans (mod_of_eq f) (mod_trans (mod_add (mod_refl (d + p)) (mod_sym l)) (mod_trans (mod_of_eq g) h))
+    mod_trans (mod_of_eq (omega arith)) (mod_trans (mod_add (mod_refl _) (mod_sym l)) (mod_trans (mod_of_eq g) h))
 difference_by_sign m false d b a p q e h l =
-    let f : d ≡ d + 0 = omega arith in
     let g : d + (b + q) ≡ a + q = omega arith in
-    mod_trans (mod_of_eq f) (mod_trans (mod_add (mod_refl d) (mod_sym l))
-    (mod_trans (mod_of_eq g) (mod_add h (mod_refl q))))
+    mod_trans (mod_of_eq (omega arith)) (mod_trans (mod_add (mod_refl _) (mod_sym l))
+    (mod_trans (mod_of_eq g) (mod_add h (mod_refl _))))
 
 -- ---- a turn of the loop
 -- the numbers change places
@@ -112,40 +105,35 @@ factors_same a b u v d t o e h =
 pub pair_next : (m x a b u v k d t o u' v' : ℕ) (s : Bool) → d + b ≡ a → Without d t o
     → u' ≡ u + v → v' ≡ v * 2 ^ t → IsDifferencePair m x a b u v k s → IsDifferencePair m x o b u' v' (k + t) s
 pair_next m x a b u v k d t o u' v' s e h eu ev p =
-    let power : 2 ^ (k + t) ≡ 2 ^ k * 2 ^ t = pow-add 2 k t in
     let eo : o * 2 ^ (k + t) ≡ d * 2 ^ k =
-    ap (λ n. o * n) power ∙ (let r : o * (2 ^ k * 2 ^ t) ≡ o * 2 ^ t * 2 ^ k = omega arith in r)
+    ap (λ n. o * n) (pow-add _ _ _) ∙ (let r : o * (2 ^ k * 2 ^ t) ≡ o * 2 ^ t * 2 ^ k = omega arith in r)
     ∙ ap (λ n. n * 2 ^ k) h.whole in
     let ed : d * 2 ^ k + b * 2 ^ k ≡ a * 2 ^ k =
     (let r : d * 2 ^ k + b * 2 ^ k ≡ (d + b) * 2 ^ k = omega arith in r) ∙ ap (λ n. n * 2 ^ k) e in
     let ex : u' * x ≡ u * x + v * x = ap (λ n. n * x) eu ∙ omega arith in
-    let eb : b * 2 ^ (k + t) ≡ b * 2 ^ k * 2 ^ t = ap (λ n. b * n) power ∙ omega arith in
+    let eb : b * 2 ^ (k + t) ≡ b * 2 ^ k * 2 ^ t = ap (λ n. b * n) (pow-add _ _ _) ∙ omega arith in
     let ey : v' * x ≡ v * x * 2 ^ t = ap (λ n. n * x) ev ∙ omega arith in
-    let sum = difference_by_sign m s (d * 2 ^ k) (b * 2 ^ k) (a * 2 ^ k) (u * x) (v * x) ed p.above p.below in
-    let kept = scaled_by_sign m (not s) (b * 2 ^ k) (v * x) (2 ^ t) p.below in
+    let sum = difference_by_sign _ _ (d * 2 ^ k) (b * 2 ^ k) (a * 2 ^ k) _ _ ed p.above p.below in
     record {
       whole =
           grind (arith, factors_same);
       above = rw (eo, ex) sum;
-      below = rw (eb, ey) kept;
+      below = rw (eb, ey) (scaled_by_sign _ (not s) (b * 2 ^ k) _ _ p.below);
       common = λ g i j.
-          let id : d % g ≡ 0 = ap (λ n. n % g) (sym h.whole) ∙ divides_product g o (2 ^ t) i in
-          p.common g (ap (λ n. n % g) (sym e) ∙ divides_sum g d b id j) j;
+          let id : d % g ≡ 0 = ap (λ n. n % g) (sym h.whole) ∙ divides_product g _ _ i in
+          p.common g (ap (λ n. n % g) (sym e) ∙ divides_sum g _ _ id j) j;
     }
 
 pub fits_next : (base a b u v k d t o u' v' : ℕ) → d + b ≡ a → Without d t o
     → u' ≡ u + v → v' ≡ v * 2 ^ t → PairFits base a b u v k → PairFits base o b u' v' (k + t)
 fits_next base a b u v k d t o u' v' e h eu ev f =
-    let vsome : 0 < v =
-    grind arith in
-    let grown : v * 1 ≤ v * 2 ^ t = mul-le-mul_left v (pow_pos t) in
-    let power : 2 ^ (k + t) ≡ 2 ^ k * 2 ^ t = pow-add 2 k t in
+    let grown : v * 1 ≤ v * 2 ^ t = mul-le-mul_left _ (pow_pos _) in
     let eo : o * b * 2 ^ (k + t) ≡ d * (b * 2 ^ k) =
-    ap (λ n. o * b * n) power ∙ (let r : o * b * (2 ^ k * 2 ^ t) ≡ o * 2 ^ t * (b * 2 ^ k) = omega arith in r)
+    ap (λ n. o * b * n) (pow-add _ _ _) ∙ (let r : o * b * (2 ^ k * 2 ^ t) ≡ o * 2 ^ t * (b * 2 ^ k) = omega arith in r)
     ∙ ap (λ n. n * (b * 2 ^ k)) h.whole in
     let less : d * (b * 2 ^ k) ≤ a * (b * 2 ^ k) = mul-le-mul_right (b * 2 ^ k) (let r : d ≤ a = omega arith in r) in
     let same : o * v' + b * u' ≡ a * v + b * u =
-    ap (λ n. o * n + b * u') ev ∙ ap (λ n. o * (v * 2 ^ t) + b * n) eu ∙ factors_same a b u v d t o e h.whole in
+    ap (λ n. o * n + b * u') ev ∙ ap (λ n. o * (v * 2 ^ t) + b * n) eu ∙ factors_same _ _ _ _ _ _ _ e h.whole in
     omega arith
 
 -- the start of a turn, a pair with its greater number first: its difference d, whose zeros are t, smaller number y and
@@ -182,25 +170,19 @@ ordered_below base a b u v k d y f t s l h el differ fits e even ey ef = grind (
 -- the shift of a turn fits
 pub shift_fits : (base a b u v k d t o : ℕ) → d + b ≡ a → Without d t o → PairFits base a b u v k → v * 2 ^ t < base
 shift_fits base a b u v k d t o e h f =
-    let n = fits_next base a b u v k d t o (u + v) (v * 2 ^ t) e h refl refl f in
+    let n = fits_next _ _ _ _ _ _ _ _ _ _ (v * 2 ^ t) e h refl refl f in
     let l : 1 * (v * 2 ^ t) ≤ o * (v * 2 ^ t) = mul-le-mul_right (v * 2 ^ t) h.some in
     omega (arith, n.factors)
 
 -- the twos are fewer than two words have
 pub few_twos : (w base a b u v k : ℕ) → base ≡ 2 ^ w → PairFits base a b u v k → k < w + w
 few_twos w base a b u v k eb f =
-    let double : 2 ^ (w + w) ≡ base * base =
-    pow-add 2 w w ∙ ap (λ n. n * 2 ^ w) (sym eb) ∙ ap (λ n. base * n) (sym eb) in
-    let some : 1 * 1 ≤ a * 1 = mul-le-mul_right 1 f.above_some in
-    let both : a * 1 ≤ a * b = mul-le-mul_left a f.below_some in
+    let double : 2 ^ (w + w) ≡ base * base = pow-add _ _ _ ∙ ap (λ n. n * 2 ^ w) (sym eb) ∙ ap (λ n. base * n) (sym eb) in
     grind (arith, pow-le-pow_right)
 
 -- ---- the first and the last pair
 pub first_pair : (m x t o u v : ℕ) → Without x t o → u ≡ 1 → v ≡ 0 → IsDifferencePair m x o m u v t false
 first_pair m x t o u v h eu ev =
-    let ov : o * v ≡ o * 0 = ap (λ n. o * n) ev in
-    let mu : m * u ≡ m * 1 = ap (λ n. m * n) eu in
-    let ux : u * x ≡ 1 * x = ap (λ n. n * x) eu in
     let vx : v * x ≡ 0 * x = ap (λ n. n * x) ev in
     let below : m * 2 ^ t + v * x ≡ 0 + m * 2 ^ t = omega arith in
     grind (arith, mod_of_eq, add-mul-mod_self_left, divides_product)
@@ -210,8 +192,8 @@ first_fits base m x t o u v h eu ev l b =
     let ov : o * v ≡ o * 0 = ap (λ n. o * n) ev in
     let mu : m * u ≡ m * 1 = ap (λ n. m * n) eu in
     let e : o * m * 2 ^ t ≡ x * m = grind arith in
-    let p : (x + 1) * m ≤ base * m = mul-le-mul_right m (let r : x + 1 ≤ base = omega arith in r) in
-    let q : base * m ≤ base * base = mul-le-mul_left base (let r : m ≤ base = omega arith in r) in
+    let p : (x + 1) * m ≤ base * m = mul-le-mul_right _ (let r : x + 1 ≤ base = omega arith in r) in
+    let q : base * m ≤ base * base = mul-le-mul_left _ (let r : m ≤ base = omega arith in r) in
     omega arith
 
 -- where the numbers are equal, the factor of the one is a residue other than 0
@@ -222,16 +204,16 @@ last_factor base m x a b u v k s p f e = grind (arith, mul-le-mul_right)
 -- their common value divides x and m, so where it isn't 1 there is no inverse
 pub last_none : (m x a b u v k y : ℕ) (s : Bool) → IsDifferencePair m x a b u v k s → a ≡ b → a ≢ 1 → IsInverse m x y → ⊥
 last_none m x a b u v k y s p e h i =
-    let c = p.common a (mod_self a) (ap (λ n. n % a) (sym e) ∙ mod_self a) in
-    h ((Coprime-from_IsInverse x m y i).only_one a c.1 c.0)
+    let c = p.common a (mod_self _) (ap (λ n. n % a) (sym e) ∙ mod_self _) in
+    h ((Coprime-from_IsInverse _ _ _ i).only_one a c.1 c.0)
 
 -- ---- powers of two modulo an odd number
 unit_power : (m k : ℕ) → m % 2 ≡ 1 → Congruent m (2 ^ k * ((m + 1) / 2) ^ k) 1
 unit_power m k o =
     let j = (m + 1) / 2 in
     let e : 2 * j ≡ 1 + m * 1 = omega arith in
-    let one : Congruent m (2 * j) 1 = record { same = ap (λ n. n % m) e ∙ add-mul-mod_self_left 1 m 1 } in
-    mod_trans (mod_of_eq (sym (mul-pow 2 j k))) (mod_trans (mod_pow k one) (mod_of_eq (one-pow k)))
+    let one : Congruent m (2 * j) 1 = record { same = ap (λ n. n % m) e ∙ add-mul-mod_self_left _ _ _ } in
+    mod_trans (mod_of_eq (sym (mul-pow _ j _))) (mod_trans (mod_pow _ one) (mod_of_eq (one-pow _)))
 
 without_power : {m a b : ℕ} (k : ℕ) → m % 2 ≡ 1 → Congruent m (a * 2 ^ k) (b * 2 ^ k) → Congruent m a b
 without_power {m} {a} {b} k o h = mod_mul_cancel (2 ^ k) (((m + 1) / 2) ^ k) (unit_power m k o) h
@@ -241,7 +223,7 @@ pub factor_minus : (m u w : ℕ) (s : Bool) → s ≡ true → w + u ≡ m → C
 factor_minus m u w false e h = absurd (cc)
 factor_minus m u w true e h =
     let f : w + u ≡ 0 + m * 1 = omega arith in
-    record { same = ap (λ n. n % m) f ∙ add-mul-mod_self_left 0 m 1 }
+    record { same = ap (λ n. n % m) f ∙ add-mul-mod_self_left _ _ _ }
 
 pub factor_plus : (m u w : ℕ) (s : Bool) → s ≡ false → w ≡ u → CongruentBySign m s w u
 factor_plus m u w false e h = mod_of_eq h
@@ -250,22 +232,18 @@ factor_plus m u w true e h = absurd (cc)
 factor_power : (m x u p w : ℕ) (s : Bool) → CongruentBySign m s p (u * x) → CongruentBySign m s w u
     → Congruent m (x * w) p
 factor_power m x u p w true h f =
-    let e : x * w + u * x ≡ x * (w + u) = omega arith in
     let z : x * 0 ≡ 0 = omega arith in
-    mod_add_cancel (u * x) (mod_trans (mod_of_eq e) (mod_trans (mod_mul (mod_refl x) f)
+    mod_add_cancel _ (mod_trans (mod_of_eq (omega arith)) (mod_trans (mod_mul (mod_refl _) f)
     (mod_trans (mod_of_eq z) (mod_sym h))))
-factor_power m x u p w false h f =
-    let e : x * u ≡ u * x = omega arith in
-    mod_trans (mod_mul (mod_refl x) f) (mod_trans (mod_of_eq e) (mod_sym h))
+factor_power m x u p w false h f = mod_trans (mod_mul (mod_refl _) f) (mod_trans (mod_of_eq (omega arith)) (mod_sym h))
 
 -- where it is 1, the factor with its sign, without the twos, is the inverse
 pub last_inverse : (m x a b u v k w y : ℕ) (s : Bool) → m % 2 ≡ 1 → IsDifferencePair m x a b u v k s → a ≡ 1
     → CongruentBySign m s w u → y < m → Congruent m (y * 2 ^ k) w → IsInverse m x y
 last_inverse m x a b u v k w y s o p e f l h =
     let r : x * y * 2 ^ k ≡ x * (y * 2 ^ k) = omega arith in
-    let product : Congruent m (x * w) (a * 2 ^ k) = factor_power m x u (a * 2 ^ k) w s p.above f in
-    let one : Congruent m (x * y) 1 =
-    grind (arith, without_power, mod_trans, mod_of_eq, mod_mul, mod_refl) in
+    let product : Congruent m (x * w) (a * 2 ^ k) = factor_power _ _ _ (a * 2 ^ k) _ _ p.above f in
+    let one : Congruent m (x * y) 1 = grind (arith, without_power, mod_trans, mod_of_eq, mod_mul, mod_refl) in
     record { below = l; one = one.same }
 
 -- ---- the twos taken out
@@ -273,35 +251,33 @@ last_inverse m x a b u v k w y s o p e f l h =
 pub word_taken : (m base w r r' t z j x : ℕ) → base ≡ 2 ^ w → t ≡ r + base * z → z ≡ 0 → IsReduction base m t r'
     → Congruent m (r * 2 ^ j) x → Congruent m (r' * 2 ^ (w + j)) x
 word_taken m base w r r' t z j x eb et ez h c =
-    let p : 2 ^ (w + j) ≡ base * 2 ^ j = pow-add 2 w j ∙ ap (λ n. n * 2 ^ j) (sym eb) in
-    let e : r' * 2 ^ (w + j) ≡ r' * base * 2 ^ j = ap (λ n. r' * n) p ∙ omega arith in
+    let e : r' * 2 ^ (w + j) ≡ r' * base * 2 ^ j = ap (λ n. r' * n) (pow-add _ _ _ ∙ ap (λ n. n * 2 ^ j) (sym eb))
+    ∙ omega arith in
     let b : base * z ≡ base * 0 = ap (λ n. base * n) ez in
-    let low : t ≡ r = omega arith in
-    let g : Congruent m (r' * base) r = record { same = h.congruent ∙ ap (λ n. n % m) low } in
-    mod_trans (mod_of_eq e) (mod_trans (mod_mul g (mod_refl (2 ^ j))) c)
+    let g : Congruent m (r' * base) r = record { same = h.congruent ∙ ap (λ n. n % m) (omega arith) } in
+    mod_trans (mod_of_eq e) (mod_trans (mod_mul g (mod_refl _)) c)
 
 -- the last one, of a number times what is left up to a word
 pub rest_taken : (m base w v r r' t k j x : ℕ) → m % 2 ≡ 1 → base ≡ 2 ^ w → k ≤ w → v ≡ w → t ≡ r * 2 ^ (v - k)
     → IsReduction base m t r' → Congruent m (r * 2 ^ j) x → Congruent m (r' * 2 ^ (k + j)) x
 rest_taken m base w v r r' t k j x o eb l ev et h c =
     let p : base ≡ 2 ^ k * 2 ^ (w - k) =
-    eb ∙ ap (λ n. 2 ^ n) (let s : w ≡ k + (w - k) = omega arith in s) ∙ pow-add 2 k (w - k) in
-    let f : r' * 2 ^ k * 2 ^ (w - k) ≡ r' * (2 ^ k * 2 ^ (w - k)) = omega arith in
-    let e : r' * 2 ^ k * 2 ^ (w - k) ≡ r' * base = f ∙ ap (λ n. r' * n) (sym p) in
-    let shifted : t ≡ r * 2 ^ (w - k) = et ∙ ap (λ n. r * 2 ^ (n - k)) ev in
-    let g : Congruent m (r' * base) (r * 2 ^ (w - k)) = record { same = h.congruent ∙ ap (λ n. n % m) shifted } in
-    let here : Congruent m (r' * 2 ^ k) r = without_power (w - k) o (mod_trans (mod_of_eq e) g) in
-    let q : r' * 2 ^ (k + j) ≡ r' * 2 ^ k * 2 ^ j = ap (λ n. r' * n) (pow-add 2 k j) ∙ omega arith in
-    mod_trans (mod_of_eq q) (mod_trans (mod_mul here (mod_refl (2 ^ j))) c)
+    eb ∙ ap (λ n. 2 ^ n) (let s : w ≡ k + (w - k) = omega arith in s) ∙ pow-add _ _ _ in
+    let e : r' * 2 ^ k * 2 ^ (w - k) ≡ r' * base = (omega arith) ∙ ap (λ n. r' * n) (sym p) in
+    let g : Congruent m (r' * base) (r * 2 ^ (w - k)) = record {
+      same = h.congruent ∙ ap (λ n. n % m) (et ∙ ap (λ n. r * 2 ^ (n - k)) ev);
+    } in
+    mod_trans (mod_of_eq (ap (λ n. r' * n) (pow-add _ _ _)
+    ∙ omega arith)) (mod_trans (mod_mul (without_power _ o (mod_trans (mod_of_eq e) g)) (mod_refl _)) c)
 
 -- what is reduced is below the modulus times the base
 pub scaled_fits : (base m r t v k w : ℕ) → base ≡ 2 ^ w → v ≡ w → t ≡ r * 2 ^ (v - k) → r < m → t < base * m
 scaled_fits base m r t v k w eb ev et h =
     let p : 2 ^ (v - k) ≤ 2 ^ w = pow-le-pow_right {n = 2} (omega arith) (omega arith) in
-    let one : 0 < 2 ^ (v - k) = pow_pos (v - k) in
+    let one : 0 < 2 ^ (v - k) = pow_pos _ in
     let q : (r + 1) * 2 ^ (v - k) ≤ m * 2 ^ (v - k) =
     mul-le-mul_right (2 ^ (v - k)) (let s : r + 1 ≤ m = omega arith in s) in
-    let a : m * 2 ^ (v - k) ≤ m * 2 ^ w = mul-le-mul_left m p in
+    let a : m * 2 ^ (v - k) ≤ m * 2 ^ w = mul-le-mul_left _ p in
     let b : m * base ≡ m * 2 ^ w = ap (λ n. m * n) eb in
     omega arith
 
@@ -312,6 +288,6 @@ pub inversion_of_residue : {T : Type 0} (number : T → ℕ) (m a x : ℕ) (foun
 inversion_of_residue number m a x None e h =
     λ y i. h y (record {
       below = i.below;
-      one = ap (λ n. (n * y) % m) e ∙ mul-mod_first a y m ∙ i.one;
+      one = ap (λ n. (n * y) % m) e ∙ mul-mod_first _ y _ ∙ i.one;
     })
 inversion_of_residue number m a x (Some y) e h = grind (arith, mul-mod_first)

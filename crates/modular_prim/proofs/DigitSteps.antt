@@ -28,10 +28,8 @@ two_are {a} {d} {fourfold} {high} {left} {low} {rest} {q} four first second eq =
 pub four_leave : {a d scaled high left low rest : ℕ} → scaled ≡ d * 16 → IsDivision a scaled high left
     → IsDivision left d low rest → rest ≡ a % d
 four_leave {a} {d} {scaled} {high} {left} {low} {rest} is first second =
-    let e : high * scaled ≡ high * (d * 16) = ap (λ v. high * v) is in
-    let f : (high * 16 + low) * d ≡ high * (d * 16) + low * d = omega arith in
     remainder_is {q = high * 16 + low} (record {
-      whole = omega (arith, e, f, first.whole, second.whole);
+      whole = omega (arith, (ap (λ v. high * v) is), first.whole, second.whole);
       below = second.below;
     })
 

@@ -4,7 +4,7 @@ use Rattle.std.proofs.lemmas.Bool.Decides.{nat_tests}
 use Rattle.std.proofs.lemmas.Nat.{mod_below, mul-lt, mul-le}
 use Rattle.std.proofs.Math.Nat.{mul-le-mul_left}
 use Rattle.modular_prim.specs.Divisions.{divisions_within, divisions, inverse_divisions}
-use Rattle.modular_prim.proofs.FewSteps.{zero_or_positive, doubled, rest_twice, few_steps}
+use Rattle.modular_prim.proofs.FewSteps.{zero_or_positive, rest_twice, few_steps}
 
 within_none : (k u v : ℕ) → v ≡ 0 → divisions_within k u v ≡ 0
 unfolding divisions_within
@@ -21,11 +21,10 @@ within_enough zero l u v p q = within_none zero u v (omega arith) ∙ sym (withi
 within_enough (suc k) zero u v p q = within_none (suc k) u v (omega arith) ∙ sym (within_none zero u v (omega arith))
 within_enough (suc k) (suc l) u v p q =
     ⊎_elim
-    (λ (e : v ≡ 0). within_none (suc k) u v e ∙ sym (within_none (suc l) u v e))
+    (λ (e : v ≡ 0). within_none (suc k) _ _ e ∙ sym (within_none (suc l) _ _ e))
     (λ (z : 0 < v).
-    let b = mod_below u v z in
-    within_next k u v z ∙ ap suc (within_enough k l v (u % v) (omega arith) (omega arith)) ∙ sym (within_next l u v z))
-    (zero_or_positive v)
+    within_next _ _ _ z ∙ ap suc (within_enough k l v (u % v) (omega arith) (omega arith)) ∙ sym (within_next _ _ _ z))
+    (zero_or_positive _)
 
 -- ---- the equations of the count
 pub divisions-none : (u v : ℕ) → v ≡ 0 → divisions u v ≡ 0
@@ -35,7 +34,7 @@ divisions-none u v e = within_none v u v e
 pub divisions-next : (u v : ℕ) → 0 < v → divisions u v ≡ 1 + divisions v (u % v)
 unfolding divisions
 divisions-next u v p =
-    let s : divisions_within (suc v) u v ≡ 1 + divisions_within v v (u % v) = within_next v u v p ∙ omega arith in
+    let s : divisions_within (suc v) u v ≡ 1 + divisions_within v v (u % v) = within_next _ _ _ p ∙ omega arith in
     grind (arith, within_enough)
 
 pub inverse_divisions-below : (a m : ℕ) → a < m → inverse_divisions a m ≡ divisions m (a % m)
@@ -55,10 +54,8 @@ power_within (suc k) u v p l b =
     ⊎_elim
     (λ (z : u % v ≡ 0). let w = ap (λ x. 2 ^ x) (within_none k v (u % v) z) in omega arith)
     (λ (z : 0 < u % v).
-    let m = mod_below u v p in
-    let i = power_within k v (u % v) z m (omega arith) in
-    let h : 2 * (u % v) ≤ u = rest_twice u v p (omega arith) in
-    let t = mul-le-mul_left v h in
+    let i = power_within k v (u % v) z (mod_below u v p) (omega arith) in
+    let t = mul-le-mul_left v (rest_twice u v p (omega arith)) in
     omega arith)
     (zero_or_positive (u % v))
 
@@ -71,19 +68,15 @@ few_below : (w a m : ℕ) → a < m → m < 2 ^ w → divisions m a ≤ 2 * w
 few_below w a m l h =
     ⊎_elim
     (λ (z : a ≡ 0). let n = divisions-none m a z in omega arith)
-    (λ (z : 0 < a). few_steps w (divisions m a) m a h (omega arith) (divisions-power m a z l))
-    (zero_or_positive a)
+    (λ (z : 0 < a). few_steps w (divisions m a) m a h (omega arith) (divisions-power m a z l)) (zero_or_positive a)
 
 few_above : (w a m : ℕ) → 1 ≤ w → 0 < m → m ≤ a → a < 2 ^ w → 1 + divisions m (a % m) ≤ 2 * w
 few_above w a m one p l h =
-    let b = mod_below a m p in
     ⊎_elim
     (λ (z : a % m ≡ 0). let e = divisions-none m (a % m) z in omega arith)
     (λ (z : 0 < a % m).
-    let i = divisions-power m (a % m) z b in
-    let d = doubled (divisions m (a % m)) in
-    let t : 2 * (a % m) ≤ a = rest_twice a m p l in
-    let u = mul-le m (2 * (a % m)) a a l t in
+    let i = divisions-power m (a % m) z (mod_below a m p) in
+    let u = mul-le m (2 * (a % m)) a a l (rest_twice a m p l) in
     let s = few_steps w (suc (divisions m (a % m))) a a h h (omega arith) in
     omega arith)
     (zero_or_positive (a % m))

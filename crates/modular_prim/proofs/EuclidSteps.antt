@@ -49,15 +49,11 @@ euclid_fits a m last_r r last_t t q odd s hr eq = grind (arith, div-add-mod, mul
 leaves_next : (m a q t r last_t last_r rest : ℕ) (odd : Bool) → rest + q * r ≡ last_r
     → Leaves m a odd last_t last_r → Leaves m a (not odd) t r → Leaves m a odd (last_t + q * t) rest
 leaves_next m a q t r last_t last_r rest true e l c =
-    let k = l.0 in
-    let j = c.0 in
-    let cq : q * (t * a + r) ≡ q * (m * j) = ap (λ n. q * n) c.1 in
-    (k + q * j, omega (arith, l.1))
+    let cq : q * (t * a + r) ≡ q * (m * c.0) = ap (λ n. q * n) c.1 in
+    (l.0 + q * c.0, omega (arith, l.1))
 leaves_next m a q t r last_t last_r rest false e l c =
-    let k = l.0 in
-    let j = c.0 in
-    let cq : q * (t * a) ≡ q * (r + m * j) = ap (λ n. q * n) c.1 in
-    (k + q * j, omega (arith, l.1))
+    let cq : q * (t * a) ≡ q * (r + m * c.0) = ap (λ n. q * n) c.1 in
+    (l.0 + q * c.0, omega (arith, l.1))
 
 leaves_twice : (m a t r : ℕ) (odd : Bool) → Leaves m a odd t r → Leaves m a (not (not odd)) t r
 leaves_twice m a t r true l = l
@@ -71,10 +67,9 @@ euclid_step : (a m last_r r last_t t next q rest : ℕ) (odd : Bool) → Euclid 
     → 0 < r → q ≡ last_r / r → rest + q * r ≡ last_r → next ≡ last_t + q * t
     → Euclid a m r rest t next (not odd)
 euclid_step a m last_r r last_t t next q rest odd s hr eq erest enext =
-    let left : rest ≡ last_r % r = rest_is last_r r q rest eq erest in
-    let one : 1 ≤ q = grind (arith, mul-le-mul_right, mod-lt) in
-    let grows : 1 * t ≤ q * t = mul-le-mul_right t one in
-    let two : t * 2 ≤ t * last_r = mul-le-mul_left t (let l : 2 ≤ last_r = omega (arith, s.falling) in l) in
+    let left : rest ≡ last_r % r = rest_is _ _ _ _ eq erest in
+    let grows : 1 * t ≤ q * t = mul-le-mul_right _ (grind (arith, mul-le-mul_right, mod-lt)) in
+    let two : t * 2 ≤ t * last_r = mul-le-mul_left _ (let l : 2 ≤ last_r = omega (arith, s.falling) in l) in
     let nr : next * r ≡ (last_t + q * t) * r = ap (λ n. n * r) enext in
     let tr : t * (rest + q * r) ≡ t * last_r = ap (λ n. t * n) erest in
     record {
@@ -115,14 +110,13 @@ pub euclid_found_negative : (a m last_r r last_t t x : ℕ) (odd : Bool)
     → x ≡ residue m (neg_ℤ (pos last_t)) → IsInverse m a x
 euclid_found_negative a m last_r r last_t t x true s o h ex = absurd (cc)
 euclid_found_negative a m last_r r last_t t x false s o h ex =
-    let k = s.last.0 in
-    let n = with_negative m last_t x s.last_below ex in
+    let n = with_negative _ _ _ s.last_below ex in
     let j = n.1.0 in
     let f : a * (x + last_t) ≡ a * (m * j) = ap (λ v. a * v) n.1.1 in
-    let g : a * x + m * k ≡ 1 + m * (a * j) = omega arith in
+    let g : a * x + m * s.last.0 ≡ 1 + m * (a * j) = omega arith in
     record {
       below = n.0;
-      one = sym (add-mul-mod_self_left (a * x) m k) ∙ ap (λ v. v % m) g ∙ add-mul-mod_self_left 1 m (a * j);
+      one = sym (add-mul-mod_self_left _ _ s.last.0) ∙ ap (λ v. v % m) g ∙ add-mul-mod_self_left _ _ (a * j);
     }
 
 -- at the end there is no inverse, where the last remainder is above 1
@@ -130,19 +124,17 @@ pub euclid_none : (a m last_r r last_t t x : ℕ) (odd : Bool) → Euclid a m la
     → IsInverse m a x → ⊥
 euclid_none a m last_r r last_t t x odd s er h i =
     let G = last_r in
-    let common : IsGcd m (a % m) G = s.common G (IsGcd-from_zero G r er) in
-    let m0 : m % G ≡ 0 = mod-eq-zero_of_dvd G common.0 in
-    let a0 : a % G ≡ 0 = sym (mod-mod_of_dvd G a common.0) ∙ mod-eq-zero_of_dvd G common.1 in
+    let common : IsGcd m (a % m) G = s.common G (IsGcd-from_zero G _ er) in
+    let a0 : a % G ≡ 0 = sym (mod-mod_of_dvd G _ common.0) ∙ mod-eq-zero_of_dvd G common.1 in
     let k = (a * x) / m in
     let left : (a * x) % G ≡ 0 =
-    sym (mul-mod_first a x G) ∙ ap (λ n. (n * x) % G) a0
+    sym (mul-mod_first _ _ G) ∙ ap (λ n. (n * x) % G) a0
     ∙ ap (λ n. n % G) (let z : 0 * x ≡ 0 = omega arith in z) ∙ mod-eq_of_lt (let p : 0 < G = omega arith in p) in
     let mk : (m * k) % G ≡ 0 =
-    sym (mul-mod_first m k G) ∙ ap (λ n. (n * k) % G) m0
+    sym (mul-mod_first _ k G) ∙ ap (λ n. (n * k) % G) (mod-eq-zero_of_dvd G common.0)
     ∙ ap (λ n. n % G) (let z : 0 * k ≡ 0 = omega arith in z) ∙ mod-eq_of_lt (let p : 0 < G = omega arith in p) in
     let big : 1 < m = omega (arith, le_of_dvd {n = m} (let p : 0 < m = omega (arith, s.last_below) in p) common.0) in
     let one : (a * x) % m ≡ 1 = i.one ∙ mod-eq_of_lt big in
-    let whole : a * x ≡ m * k + 1 = omega arith in
     let right : (a * x) % G ≡ 1 =
-    ap (λ n. n % G) whole ∙ sym (mod-add-mod (m * k) G 1) ∙ ap (λ n. (n + 1) % G) mk ∙ mod-eq_of_lt h in
+    ap (λ n. n % G) (omega arith) ∙ sym (mod-add-mod (m * k) G _) ∙ ap (λ n. (n + 1) % G) mk ∙ mod-eq_of_lt h in
     absurd (omega arith)

@@ -20,9 +20,7 @@ few_steps w s a b h k l =
     (λ (t : 2 * w < s).
     let u : suc (w + w) ≤ s = omega arith in
     let g = pow-le-pow_right (let two : 0 < 2 = omega arith in two) u in
-    let d = doubled (w + w) in
     let e = pow-add 2 w w in
     let m = mul-lt a b (2 ^ w) (2 ^ w) h k in
     absurd (omega arith))
-    (λ (t : s ≤ 2 * w). t)
-    (cases_lt (2 * w) s)
+    (λ (t : s ≤ 2 * w). t) (cases_lt (2 * w) s)

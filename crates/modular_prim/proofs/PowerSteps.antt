@@ -20,31 +20,34 @@ pub record PowerSoFar (form made : ℕ → ℕ) (m target power product rest : �
 
 pub start_odd : (form made : ℕ → ℕ) (m x n : ℕ) {power product rest : ℕ} → x < m → power ≡ form x → product ≡ made x
     → rest ≡ n / 2 → n % 2 ≡ 1 → PowerSoFar form made m (x ^ n % m) power product rest
-start_odd form made m x n {power} {product} {rest} h ep er en odd = record {
-  x = x;
-  y = x;
-  x_below = h;
-  y_below = h;
-  power_is = ep;
-  product_is = er;
-  left =
-      digit.step_odd m 1 x n x (x * x % m) rest (x ^ n % m) (sym (ap (λ v. v % m) (one-mul x) ∙ mod-eq_of_lt h)) refl en odd
-      (ap (λ v. v % m) (one-mul (x ^ n)));
-}
+start_odd form made m x n {power} {product} {rest} h ep er en odd =
+    record {
+      x = x;
+      y = x;
+      x_below = h;
+      y_below = h;
+      power_is = ep;
+      product_is = er;
+      left =
+          digit.step_odd m 1 x n x (x * x % m) rest (x ^ n % m) (sym (ap (λ v. v % m) (one-mul _)
+          ∙ mod-eq_of_lt h)) refl en odd
+          (ap (λ v. v % m) (one-mul _));
+    }
 
 pub start_even : (form made : ℕ → ℕ) (m x n : ℕ) {power product rest : ℕ} → x < m → power ≡ form x
     → product ≡ made (1 % m) → rest ≡ n / 2 → n % 2 ≢ 1 → PowerSoFar form made m (x ^ n % m) power product rest
-start_even form made m x n {power} {product} {rest} h ep er en even = record {
-  x = x;
-  y = 1 % m;
-  x_below = h;
-  y_below = mod-lt 1 (let some : 0 < m = omega arith in some);
-  power_is = ep;
-  product_is = er;
-  left =
-      digit.step_even m (1 % m) x n (x * x % m) rest (x ^ n % m) refl en even
-      (mul-mod_first 1 (x ^ n) m ∙ ap (λ v. v % m) (one-mul (x ^ n)));
-}
+start_even form made m x n {power} {product} {rest} h ep er en even =
+    record {
+      x = x;
+      y = 1 % m;
+      x_below = h;
+      y_below = mod-lt _ (let some : 0 < m = omega arith in some);
+      power_is = ep;
+      product_is = er;
+      left =
+          digit.step_even m (1 % m) x n (x * x % m) rest (x ^ n % m) refl en even
+          (mul-mod_first _ _ _ ∙ ap (λ v. v % m) (one-mul _));
+    }
 
 -- a digit, by what is made of the forms
 pub step_odd : (form made : ℕ → ℕ) (m : ℕ) {target power product rest power' product' rest' : ℕ}
@@ -100,8 +103,8 @@ power_two m b n r e er = er ∙ ap (λ v. v % m) (sym (square_of b) ∙ ap (λ v
 
 pub power_three : (m b s r : ℕ) → s ≡ (b * b) % m → r ≡ (s * b) % m → r ≡ b ^ 3 % m
 power_three m b s r es er =
-    let f : b ^ 3 ≡ b * b * b = pow-add b 2 1 ∙ ap (λ v. v * b ^ 1) (square_of b) ∙ ap (λ v. b * b * v) (pow-one b) in
-    er ∙ ap (λ v. (v * b) % m) es ∙ mul-mod_first (b * b) b m ∙ ap (λ v. v % m) (sym f)
+    let f : b ^ 3 ≡ b * b * b = pow-add _ _ _ ∙ ap (λ v. v * b ^ 1) (square_of _) ∙ ap (λ v. b * b * v) (pow-one _) in
+    er ∙ ap (λ v. (v * b) % m) es ∙ mul-mod_first _ _ _ ∙ ap (λ v. v % m) (sym f)
 
 -- the power of a base reduced
 pub power_of_rest : (m b x n r : ℕ) → x ≡ b % m → r ≡ x ^ n % m → r ≡ b ^ n % m
@@ -116,11 +119,10 @@ product_fits b m {t} {f} {g} e h k = omega (arith, e, mul-lt f g b m h k)
 pub square_reduced : (b m i x power : ℕ) {t power' : ℕ} → 0 < b → IsNegatedInverse b m i → power ≡ (x * b) % m
     → t ≡ power * power → IsReduction b m t power' → power' ≡ (x * x % m * b) % m
 square_reduced b m i x power {t} {power'} some inverse ep et is =
-    let c : power % m ≡ (x * b) % m = ap (λ v. v % m) ep ∙ mod-mod (x * b) m in
-    reduced_is b m i (x * x * b) some inverse
-    (ap (λ v. v % m) et ∙ same_product m power (x * b) power (x * b) c c
+    reduced_is _ _ _ (x * x * b) some inverse
+    (ap (λ v. v % m) et ∙ same_product _ _ _ _ _ (ap (λ v. v % m) ep ∙ mod-mod _ _) (ap (λ v. v % m) ep ∙ mod-mod _ _)
     ∙ ap (λ v. v % m) (let e : x * b * (x * b) ≡ x * x * b * b = omega arith in e)) is
-    ∙ sym (mul-mod_first (x * x) b m)
+    ∙ sym (mul-mod_first _ _ _)
 
 -- the reduction of the power times the product is the product's next
 pub product_reduced : (b m i x power product : ℕ) {t product' : ℕ} → 0 < b → IsNegatedInverse b m i

@@ -1,6 +1,6 @@
 -- The reciprocal of a divisor with its top bit set.
 use Rattle.std.proofs.Common.{◌≡◌, ℕ, ◌+◌, ◌-◌, ◌*◌, ◌/◌, ◌%◌, ◌<◌, ◌≤◌, ap, sym, ◌∙◌, arith, ⊎_elim}
-use Rattle.std.proofs.Math.Nat.{mod-lt, mod-eq_of_lt, div-add-mod, mul-le-mul_left, add-mod_right, add-mul-div_left}
+use Rattle.std.proofs.Math.Nat.{mod-lt, mod-eq_of_lt, mul-le-mul_left, add-mod_right, add-mul-div_left}
 use Rattle.std.proofs.lemmas.Bool.{cases_lt}
 use Rattle.modular_word.proofs.Congruence.{same_rest, mod_cancel}
 use Rattle.modular_word.specs.Reciprocals.{IsReciprocal}
@@ -10,28 +10,19 @@ reciprocal_is : (B d v a : ℕ) → d < B → B ≤ 2 * d → a + 1 ≡ B * B �
     → v + B ≡ a / d
 reciprocal_is B d v a hd hn ea ev =
     let Q = a / d in
-    let f : d * (a / d) + a % d ≡ a = div-add-mod a d in
-    let l : a % d < d = mod-lt a (omega arith) in
-    let g : B * ((a / d) / B) + (a / d) % B ≡ a / d = div-add-mod (a / d) B in
-    let l2 : (a / d) % B < B = mod-lt (a / d) (omega arith) in
-    let m1 : B * d ≤ B * (B - 1) = mul-le-mul_left B (omega arith) in
-    let m2 : B * B ≤ B * (2 * d) = mul-le-mul_left B hn in
-    let low : B ≤ Q =
-    grind (arith, mul-le-mul_left) in
+    let m2 : B * B ≤ B * (2 * d) = mul-le-mul_left _ hn in
+    let low : B ≤ Q = grind (arith, mul-le-mul_left) in
     let high : Q < 2 * B =
     ⊎_elim (λ (h : Q < 2 * B). h)
-    (λ (h : 2 * B ≤ Q). let m : d * (2 * B) ≤ d * Q = mul-le-mul_left d h in absurd (omega arith))
-    (cases_lt Q (2 * B)) in
+    (λ (h : 2 * B ≤ Q). let m : d * (2 * B) ≤ d * Q = mul-le-mul_left _ h in absurd (omega arith)) (cases_lt Q _) in
     let e : (a / d) % B ≡ Q - B =
-    same_rest B ((a / d) % B) (Q - B) ((a / d) / B) 1 l2 (omega arith) (omega arith) in
+    same_rest B ((a / d) % B) (Q - B) ((a / d) / B) 1 (mod-lt _ (omega arith)) (omega arith) (omega arith) in
     omega arith
 
 pub reciprocal_of : (B d v a : ℕ) → d < B → B ≤ 2 * d → a + 1 ≡ B * B → v ≡ (a / d) % B
     → IsReciprocal B d v
 reciprocal_of B d v a hd hn ea ev =
-    let f : d * (a / d) + a % d ≡ a = div-add-mod a d in
-    let l : a % d < d = mod-lt a (omega arith) in
-    let e : d * (v + B) ≡ d * (a / d) = ap (λ n. d * n) (reciprocal_is B d v a hd hn ea ev) in
+    let e : d * (v + B) ≡ d * (a / d) = ap (λ n. d * n) (reciprocal_is _ _ _ _ hd hn ea ev) in
     record { normalized = hn; below = omega arith; close = omega arith }
 
 -- the greatest double word, by its two words
@@ -44,10 +35,10 @@ greatest_is B x top =
 pub reciprocal_of_less : (B d v x h : ℕ) → d < B → B ≤ 2 * d → x + 1 ≡ B → h < B → (h + d) % B ≡ x
     → v ≡ ((x + B * h) / d) % B → IsReciprocal B d v
 reciprocal_of_less B d v x h hd hn top hh eh ev =
-    let whole : (x - d + d) % B ≡ x = ap (λ n. n % B) (let s : x - d + d ≡ x = omega arith in s) ∙ mod-eq_of_lt (omega arith) in
-    let less : h ≡ x - d = mod_cancel B h (x - d) d hh (omega arith) (eh ∙ sym whole) in
+    let whole : (x - d + d) % B ≡ x = ap (λ n. n % B) (let s : x - d + d ≡ x = omega arith in s)
+    ∙ mod-eq_of_lt (omega arith) in
+    let less : h ≡ x - d = mod_cancel _ _ _ _ hh (omega arith) (eh ∙ sym whole) in
     let scaled : B * (h + d) ≡ B * x = ap (λ n. B * n) (let s : h + d ≡ x = omega arith in s) in
-    let greatest : x + B * h + d * B + 1 ≡ B * B = omega (arith, greatest_is B x top) in
-    let same : v ≡ ((x + B * h + d * B) / d) % B =
-    grind (arith, add-mod_right, add-mul-div_left) in
+    let greatest : x + B * h + d * B + 1 ≡ B * B = omega (arith, greatest_is _ _ top) in
+    let same : v ≡ ((x + B * h + d * B) / d) % B = grind (arith, add-mod_right, add-mul-div_left) in
     grind (arith, reciprocal_of)

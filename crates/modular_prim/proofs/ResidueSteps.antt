@@ -1,7 +1,7 @@
 -- Residues of sums and of negatives.
 use Rattle.std.proofs.Common.{◌≡◌, ℕ, ◌+◌, ◌-◌, ◌*◌, ◌/◌, ◌%◌, ◌<◌, ◌≤◌, pos}
 use Rattle.std.proofs.Common.{negsuc, neg_ℤ, ◌-ℤ◌, sym, ap, ◌∙◌, arith, ⊎_elim}
-use Rattle.std.proofs.Math.Nat.{add-mod_right, mod-lt, mod-mod, mod_self, mod-eq_of_lt, div-add-mod, add-mul-mod_self_left}
+use Rattle.std.proofs.Math.Nat.{add-mod_right, mod-mod, mod_self, mod-eq_of_lt, add-mul-mod_self_left}
 use Rattle.std.proofs.lemmas.Bool.{cases_lt}
 use Rattle.std.proofs.lemmas.Int.{ints}
 use Rattle.modular_word.specs.Residues.{residue}
@@ -13,18 +13,13 @@ neg_value m n h =
     ⊎_elim
     (λ (l : 0 < n).
     let e : neg_ℤ (pos n) ≡ negsuc (n - 1) = omega (arith, ints) in
-    let f : m * ((n - 1) / m) + (n - 1) % m ≡ n - 1 = div-add-mod (n - 1) m in
-    let b : (n - 1) % m < m = mod-lt (n - 1) h in
     let r = (n - 1) % m in
-    let q = (n - 1) / m in
-    let whole : (r + 1) + m * q ≡ n = omega arith in
-    let rest : n % m ≡ (r + 1) % m = ap (λ v. v % m) (sym whole) ∙ add-mul-mod_self_left (r + 1) m q in
-    let done : m - 1 - r ≡ (m - n % m) % m =
-    grind (arith, mod-eq_of_lt, mod_self) in
-    ap (residue m) e ∙ done)
+    let whole : (r + 1) + m * ((n - 1) / m) ≡ n = omega arith in
+    let rest : n % m ≡ (r + 1) % m = ap (λ v. v % m) (sym whole) ∙ add-mul-mod_self_left (r + 1) _ ((n - 1) / m) in
+    ap (residue m) e ∙ (grind (arith, mod-eq_of_lt, mod_self)))
     (λ (l : n ≤ 0).
     grind (arith, mod-eq_of_lt, neg_ℤ, mod_self))
-    (cases_lt 0 n)
+    (cases_lt _ _)
 
 pub neg_of_some : (m a d : ℕ) → a < m → 0 < a → d + a ≡ m → d ≡ residue m (neg_ℤ (pos a))
 neg_of_some m a d l s e = grind (arith, neg_value, mod-eq_of_lt)
@@ -40,8 +35,7 @@ sub_of_less m a b d e = grind (arith, neg_ℤ, ints)
 -- where a is below b, m less the difference is left
 pub difference_below : (m a b d r : ℕ) → b < m → a < b → d + a ≡ b → r + d ≡ m → r ≡ residue m (pos a -ℤ pos b)
 difference_below m a b d r h k e f =
-    let u : r ≡ m - d = omega arith in
-    u ∙ sym (residue_neg m d (omega arith) (omega arith)) ∙ sub_of_less m a b d e
+    (omega arith) ∙ sym (residue_neg _ _ (omega arith) (omega arith)) ∙ sub_of_less _ _ _ _ e
 
 -- elsewhere the difference itself
 pub difference_above : (m a b r : ℕ) → a < m → r + b ≡ a → r ≡ residue m (pos a -ℤ pos b)

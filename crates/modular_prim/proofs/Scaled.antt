@@ -14,11 +14,10 @@ pub record IsNormalized (w b m s : ℕ) : Type 0 where
 
 pub scaled_to_top : (w b m s : ℕ) → b ≡ 2 ^ w → 0 < m → m < b → s ≡ count_leading_zeros w m → IsNormalized w b m s
 scaled_to_top w b m s eb some below es =
-    let t = leading_top w m some (subst (λ n. m < n) eb below) in
-    let e : s + suc t.0 ≡ w = omega (arith, t.1) in
+    let t = leading_top _ _ some (subst (λ n. m < n) eb below) in
     let whole : b ≡ 2 * (2 ^ t.0 * 2 ^ s) =
-    eb ∙ ap (λ n. 2 ^ n) (let u : w ≡ suc (t.0 + s) = omega arith in u) ∙ pow-succ' 2 (t.0 + s)
-    ∙ ap (λ n. 2 * n) (pow-add 2 t.0 s) in
+    eb ∙ ap (λ n. 2 ^ n) (let u : w ≡ suc (t.0 + s) = omega arith in u) ∙ pow-succ' _ (t.0 + s)
+    ∙ ap (λ n. 2 * n) (pow-add _ t.0 _) in
     let power : 2 ^ (suc t.0 + s) ≡ b = ap (λ n. 2 ^ n) (let u : suc t.0 + s ≡ w = omega arith in u) ∙ sym eb in
     grind (arith, shl_below)
 
@@ -29,8 +28,7 @@ scaled_below x m s h = mul-lt-mul_of_pos_right h (pow_pos s)
 -- the remainder of scaled numbers is the scaled remainder
 pub scaled_remainder : (x m p : ℕ) → 0 < m → 0 < p → (x * p) % (m * p) ≡ x % m * p
 scaled_remainder x m p hm hp =
-    let f : m * (x / m) + x % m ≡ x = div-add-mod x m in
-    let g : (m * (x / m) + x % m) * p ≡ x * p = ap (λ n. n * p) f in
+    let g : (m * (x / m) + x % m) * p ≡ x * p = ap (λ n. n * p) (div-add-mod _ _) in
     let e : x * p ≡ x % m * p + m * p * (x / m) = omega arith in
     grind (arith, add-mul-mod_self_left, mod-eq_of_lt, mul-lt-mul_of_pos_right, mod-lt)
 
@@ -39,17 +37,15 @@ pub scaled_product_of : (m s d x y a b r : ℕ) → 0 < m → d ≡ m * 2 ^ s �
     → b ≡ y * 2 ^ s → r ≡ (a / 2 ^ s * b) % d
     → r ≡ x * y % m * 2 ^ s
 scaled_product_of m s d x y a b r h ed ea eb er =
-    let un : a / 2 ^ s ≡ x = ap (λ v. v / 2 ^ s) ea ∙ shl-shr x s in
+    let un : a / 2 ^ s ≡ x = ap (λ v. v / 2 ^ s) ea ∙ shl-shr _ _ in
     let p : x * (y * 2 ^ s) ≡ x * y * 2 ^ s = omega arith in
     grind (arith, scaled_remainder, pow_pos)
 
 -- a remainder by a multiple of m has the residue of its number, and so has its sum with a
 pub sum_of_rest : (m p a b r : ℕ) → r ≡ b % (m * p) → (a + r) % m ≡ (a + b) % m
 sum_of_rest m p a b r e =
-    let rest : r % m ≡ b % m = ap (λ v. v % m) e ∙ mod_of_multiple m p b in
-    add-mod a r m ∙ ap (λ v. (a % m + v) % m) rest ∙ sym (add-mod a b m)
+    add-mod _ _ _ ∙ ap (λ v. (a % m + v) % m) (ap (λ v. v % m) e ∙ mod_of_multiple _ _ _) ∙ sym (add-mod _ _ _)
 
 -- the same for the sum less the multiple
 pub sum_less_multiple : (m p a b r x : ℕ) → r ≡ b % (m * p) → x + m * p ≡ a + r → x % m ≡ (a + b) % m
-sum_less_multiple m p a b r x e h =
-    sym (add-mul-mod_self_left x m p) ∙ ap (λ v. v % m) h ∙ sum_of_rest m p a b r e
+sum_less_multiple m p a b r x e h = sym (add-mul-mod_self_left x m p) ∙ ap (λ v. v % m) h ∙ sum_of_rest m p a b r e

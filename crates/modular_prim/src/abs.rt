@@ -14,6 +14,7 @@ use crate::residues::reduced;
 ///
 /// - m is at least 1
 // rust: #[cfg_attr(debug_assertions, track_caller)]
+#[tactic(auto, using(crate::proofs::ResidueSteps::neg_of_rest))]
 pub fn signed_residue<T: PlainWord>(negative: bool, magnitude: T, m: T) -> T
     requires { 1 ≤ T.number m }
     ensures { T.number result

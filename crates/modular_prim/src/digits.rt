@@ -120,6 +120,7 @@ fn has_short_quotient<T: PathWord>(a: T, d: T) -> bool
 }
 
 // The remainder where the quotient is below 16: in two digits where 16d fits the base. Condition: a is below 16d.
+#[tactic(auto, using(crate::proofs::DigitSteps::remainder_is))]
 fn rest_of_short_quotient<T: PlainWord>(a: T, d: T) -> T
     requires { T.number a < 16 * T.number d }
     ensures { T.number result ≡ T.number a % T.number d }

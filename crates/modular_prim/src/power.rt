@@ -49,6 +49,7 @@ fn divides_fast<T: PathWord>(m: T) -> bool {
 
 // The residue of the third power, by a division for each product. Condition: m is at least 1.
 // rust: #[cfg_attr(debug_assertions, track_caller)]
+#[tactic(auto, using(crate::proofs::PowerSteps::power_three))]
 fn cube<T: PlainWord>(base: T, m: T) -> T
     requires { 1 ≤ T.number m }
     ensures { T.number result ≡ T.number base ^ 3 % T.number m }

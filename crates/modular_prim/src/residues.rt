@@ -143,6 +143,7 @@ pub fn mulm<T: PlainWord>(a: T, b: T, m: T) -> T
 ///
 /// - m is at least 1
 // rust: #[cfg_attr(debug_assertions, track_caller)]
+#[tactic(auto, using(crate::proofs::ResidueSteps::neg_of_rest))]
 pub fn negm<T: PlainWord>(a: T, m: T) -> T
     requires { 1 ≤ T.number m }
     ensures { T.number result ≡ residue (T.number m) (neg_ℤ (pos (T.number a))) }
@@ -156,6 +157,7 @@ pub fn negm<T: PlainWord>(a: T, m: T) -> T
 ///
 /// - m is at least 1
 // rust: #[cfg_attr(debug_assertions, track_caller)]
+#[tactic(auto, using(modular_word::proofs::Remainders::remainders))]
 pub fn dblm<T: PlainWord>(a: T, m: T) -> T
     requires { 1 ≤ T.number m }
     ensures { T.number result ≡ (2 * T.number a) % T.number m }

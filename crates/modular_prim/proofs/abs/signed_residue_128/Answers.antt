@@ -1,4 +1,4 @@
-use Rattle.std.proofs.Common.{◌≡◌, ◌<◌, ◌-◌, ◌%◌, ap, sym, ◌∙◌, arith}
+use Rattle.std.proofs.Common.{◌-◌, ◌%◌, ap, sym, ◌∙◌, arith}
 use Rattle.std.proofs.Math.Nat.{mod_self, mod-eq_of_lt}
 use Rattle.modular_prim.proofs.ResidueSteps.{neg_value}
 use Rattle.modular_prim.proofs.abs.signed_residue_128.Goals as goal
@@ -6,11 +6,11 @@ use Rattle.modular_prim.proofs.abs.signed_residue_128.Goals as goal
 pub returns-then-rest-eq0 : goal.returns-then-rest-eq0
 returns-then-rest-eq0 c =
     let m = c.args.m in
-    let e : m - c.args.magnitude % m ≡ m = omega (arith, c.if-rest-eq0.true) in
-    rw c.if-not-negative.false (sym (neg_value m c.args.magnitude c.requires ∙ ap (λ v. v % m) e ∙ mod_self m))
+    rw c.if-not-negative.false (sym (neg_value _ _ c.requires ∙ ap (λ v. v % m) (omega (arith, c.if-rest-eq0.true))
+    ∙ mod_self _))
 
 pub returns-else-rest-eq0 : goal.returns-else-rest-eq0
 returns-else-rest-eq0 c =
     let m = c.args.m in
-    let below : m - c.args.magnitude % m < m = omega (arith, c.if-rest-eq0.false, c.requires) in
-    rw c.if-not-negative.false (sym (neg_value m c.args.magnitude c.requires ∙ mod-eq_of_lt below))
+    rw c.if-not-negative.false (sym (neg_value _ _ c.requires
+    ∙ mod-eq_of_lt (omega (arith, c.if-rest-eq0.false, c.requires))))

@@ -14,23 +14,19 @@ past g c more =
     let base = g.T.PathWord.base in
     let a = n c.args.a in
     let m = n c.args.m in
-    let less = n c.wrapping_sub-less.result in
-    let half = c.half.ensures.value in
-    let at_least : m ≤ a + a = omega (arith, half, c.minus-high.ensures.value, more) in
-    let twice = c.wrapping_add-twice.ensures.value in
-    let is = c.wrapping_sub-less.ensures.value in
+    let at_least : m ≤ a + a = omega (arith, c.half.ensures.value, c.minus-high.ensures.value, more) in
     let m_fits = c.is_below.ensures.fits in
-    let sum : less + m ≡ a + a =
-    elim (cases_lt (a + a) base) [
-      | inl below ↦ settled base m (a + a) less below c.wrapping_sub-less.ensures.fits at_least
-          (is ∙ twice ∙ mod-eq_of_lt below)
+    let sum : n c.wrapping_sub-less.result + m ≡ a + a =
+    elim (cases_lt _ _) [
+      | inl below ↦ settled _ _ _ _ below c.wrapping_sub-less.ensures.fits at_least
+          (c.wrapping_sub-less.ensures.value ∙ c.wrapping_add-twice.ensures.value ∙ mod-eq_of_lt below)
       | inr above ↦
           let x = a + a - base in
           let whole : a + a ≡ x + base = omega arith in
           let small : x < m = omega (arith, c.requires, m_fits) in
-          let rest : x < base = omega (arith, small, m_fits) in
-          let up = lifted base m x less m_fits c.wrapping_sub-less.ensures.fits small
-          (is ∙ twice ∙ ap (λ v. v % base) whole ∙ add-mod_right x base ∙ mod-eq_of_lt rest) in
+          let up = lifted _ _ x _ m_fits c.wrapping_sub-less.ensures.fits small
+          (c.wrapping_sub-less.ensures.value ∙ c.wrapping_add-twice.ensures.value ∙ ap (λ v. v % base) whole
+          ∙ add-mod_right x _ ∙ mod-eq_of_lt (omega (arith, small, m_fits))) in
           omega (arith, up, whole)
     ] in
     omega (arith, sum)
@@ -39,12 +35,9 @@ pub returns-then-is_below-clause-value : goal.returns-then-is_below-clause-value
 returns-then-is_below-clause-value g c =
     let n = g.T.RingWord.number in
     let a = n c.args.a in
-    let less = c.is_below-2.ensures.below.0 c.if-is_below.true in
-    let small : a + a < n c.args.m = omega (arith, c.half.ensures.value, c.minus-high.ensures.value, less) in
-    let fits : a + a < g.T.PathWord.base = omega (arith, small, c.is_below.ensures.fits) in
-    let twice : a + a ≡ 2 * a = omega arith in
-    let double : 2 * a < n c.args.m = omega (arith, small) in
-    c.wrapping_add-twice.ensures.value ∙ mod-eq_of_lt fits ∙ twice ∙ sym (mod-eq_of_lt double)
+    let fits : a + a < g.T.PathWord.base = omega (arith, c.is_below.ensures.fits) in
+    let double : 2 * a < n c.args.m = omega arith in
+    c.wrapping_add-twice.ensures.value ∙ mod-eq_of_lt fits ∙ (omega arith) ∙ sym (mod-eq_of_lt double)
 
 pub returns-else-is_below : goal.returns-else-is_below
 returns-else-is_below g c =

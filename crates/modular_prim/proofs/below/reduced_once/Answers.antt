@@ -9,8 +9,7 @@ taken : (g : _) (c : After-wrapping_sub-less g)
     → IsWrapped (g.T.RingWord.number c.args.m) (g.T.RingWord.number c.args.x)
     (g.T.RingWord.number c.wrapping_sub-less.result)
 taken g c =
-    let n = g.T.RingWord.number in
-    wrapped g.T.PathWord.base (n c.args.m) (n c.args.x) (n c.wrapping_sub-less.result)
+    wrapped _ _ _ _
     c.is_below.ensures.fits c.wrapping_sub-less.ensures.fits c.requires c.wrapping_sub-less.ensures.value
 
 pub returns-else-is_below : goal.returns-else-is_below

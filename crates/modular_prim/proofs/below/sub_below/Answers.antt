@@ -1,4 +1,4 @@
-use Rattle.std.proofs.Common.{◌≡◌, ◌+◌, ◌-◌, ◌%◌, ◌<◌, arith, ap, ◌∙◌}
+use Rattle.std.proofs.Common.{◌≡◌, ◌-◌, ◌%◌, arith, ap, ◌∙◌}
 use Rattle.std.proofs.Math.Nat.{mod-eq_of_lt, add-mod_right}
 use Rattle.modular_prim.proofs.ResidueSteps.{difference_below, lifted}
 use Rattle.modular_prim.proofs.below.sub_below.Goals as goal
@@ -8,13 +8,11 @@ returns-then-is_below-clause-value g c =
     let n = g.T.RingWord.number in
     let base = g.T.PathWord.base in
     let less = c.is_below-2.ensures.below.0 c.if-is_below.true in
-    let is = lifted base (n c.args.b) (n c.args.a) (n c.wrapping_sub-less.result) c.is_below-2.ensures.other_fits
+    let is = lifted _ _ _ _ c.is_below-2.ensures.other_fits
     c.wrapping_sub-less.ensures.fits less c.wrapping_sub-less.ensures.value in
     let gap = n c.args.b - n c.args.a in
-    let past : n c.wrapping_sub-less.result + n c.args.m ≡ (n c.args.m - gap) + base =
-    omega (arith, is, less, c.requires.right) in
-    let within : n c.args.m - gap < base = omega (arith, c.is_below.ensures.fits) in
     let result : n c.wrapping_add.result ≡ n c.args.m - gap =
-    c.wrapping_add.ensures.value ∙ ap (λ v. v % base) past ∙ add-mod_right (n c.args.m - gap) base ∙ mod-eq_of_lt within in
+    c.wrapping_add.ensures.value ∙ ap (λ v. v % base) (omega (arith, is, less, c.requires.right))
+    ∙ add-mod_right (n c.args.m - gap) _ ∙ mod-eq_of_lt (omega (arith, c.is_below.ensures.fits)) in
     difference_below (n c.args.m) (n c.args.a) (n c.args.b) gap (n c.wrapping_add.result) c.requires.right less
     (omega (arith, less)) (omega (arith, result, less, c.requires.right))

@@ -3,8 +3,9 @@ use Rattle.modular_prim.proofs.DivisionCounts.{divisions-none, divisions-next, d
 use Rattle.modular_prim.proofs.euclid.division_laws.Goals as goal
 
 pub returns : goal.returns
-returns c = record {
-  none = λ u. divisions-none u 0 refl;
-  next = divisions-next;
-  few = divisions-power;
-}
+returns c =
+    record {
+      none = λ u. divisions-none u _ refl;
+      next = divisions-next;
+      few = divisions-power;
+    }

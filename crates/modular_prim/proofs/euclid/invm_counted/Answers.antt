@@ -18,29 +18,23 @@ euclid-init g c =
     ] in
     record {
       steps =
-          euclid_start (n c.args.a) (n c.args.m) (n c.if-not-is_below.r) (n c.zero-last_t.result) (n c.one-t.result)
-          c.requires start c.zero-last_t.ensures c.one-t.ensures;
+          euclid_start _ _ _ _ _ c.requires start c.zero-last_t.ensures c.one-t.ensures;
       counts =
           elim c.if-not-is_below.branch [
             | then-not-is_below w ↦
-                let above : n c.args.m ≤ n c.args.a = grind arith in
-                counts_above (n c.args.a) (n c.args.m)
-                (n c.if-not-is_below.r) c.if-not-is_below.count above start w.count-is
+                counts_above _ _ _ c.if-not-is_below.count (grind arith) start w.count-is
             | else-not-is_below w ↦
-                let below : n c.args.a < n c.args.m = grind arith in
-                counts_below (n c.args.a) (n c.args.m)
-                (n c.if-not-is_below.r) c.if-not-is_below.count below start w.count-is
+                counts_below _ _ _ c.if-not-is_below.count (grind arith) start w.count-is
           ];
       most =
-          inverse_divisions-few g.T.RingWord.width (n c.args.a) (n c.args.m) (omega (arith, g.met.T.RingWord.width_from))
+          inverse_divisions-few _ _ _ (omega (arith, g.met.T.RingWord.width_from))
           c.requires (omega (arith, c.is_below.ensures.other_fits, g.met.T.PathWord.base_is))
           (omega (arith, c.is_below.ensures.fits, g.met.T.PathWord.base_is));
     }
 
 pub step-rest-requires-clause-fits : goal.step-rest-requires-clause-fits
 step-rest-requires-clause-fits g c =
-    let n = g.T.RingWord.number in
-    let positive : 0 < n c.euclid.r = grind arith in
+    let positive : 0 < g.T.RingWord.number c.euclid.r = grind arith in
     omega (arith, next_fits c.euclid.invariant.steps positive, c.is_below.ensures.other_fits)
 
 pub overflow_add-count : goal.overflow_add-count
@@ -48,24 +42,21 @@ overflow_add-count g c = omega (arith, g.met.T.RingWord.width_to)
 
 pub step-rest-requires-in-euclid-clause-fits : goal.step-rest-requires-in-euclid-clause-fits
 step-rest-requires-in-euclid-clause-fits g c =
-    let n = g.T.RingWord.number in
-    let positive : 0 < n c.euclid.r = grind arith in
-    let some : 0 < n c.step-rest.result.0 = grind arith in
+    let positive : 0 < g.T.RingWord.number c.euclid.r = grind arith in
+    let some : 0 < g.T.RingWord.number c.step-rest.result.0 = grind arith in
     let halfway = next_step c.euclid.invariant.steps positive c.step-rest.ensures.rest c.step-rest.ensures.coefficient in
     omega (arith, next_fits halfway some, c.is_below.ensures.other_fits)
 
 pub overflow_add-count-in-euclid : goal.overflow_add-count-in-euclid
 overflow_add-count-in-euclid g c =
-    let n = g.T.RingWord.number in
-    let positive : 0 < n c.euclid.r = grind arith in
+    let positive : 0 < g.T.RingWord.number c.euclid.r = grind arith in
     let next = counts_next c.euclid.invariant.counts positive c.step-rest.ensures.rest in
     omega (arith, next, g.met.T.RingWord.width_to)
 
 pub euclid-preserved : goal.euclid-preserved
 euclid-preserved g c =
-    let n = g.T.RingWord.number in
-    let positive : 0 < n c.euclid.r = grind arith in
-    let some : 0 < n c.step-rest.result.0 = grind arith in
+    let positive : 0 < g.T.RingWord.number c.euclid.r = grind arith in
+    let some : 0 < g.T.RingWord.number c.step-rest.result.0 = grind arith in
     let first = c.step-rest.ensures in
     let second = c.step-rest-in-euclid.ensures in
     record {
@@ -77,18 +68,14 @@ euclid-preserved g c =
 pub returns-then-is_zero_word : goal.returns-then-is_zero_word
 returns-then-is_zero_word g c =
     let n = g.T.RingWord.number in
-    let positive : 0 < n c.euclid.r = grind arith in
-    let ended : n c.step-rest.result.0 ≡ 0 = grind arith in
-    let last = next_step c.euclid.invariant.steps positive c.step-rest.ensures.rest c.step-rest.ensures.coefficient in
-    let count = counts_end (counts_next c.euclid.invariant.counts positive c.step-rest.ensures.rest) ended in
+    let last = next_step c.euclid.invariant.steps (grind arith) c.step-rest.ensures.rest c.step-rest.ensures.coefficient in
+    let count = counts_end (counts_next c.euclid.invariant.counts (grind arith) c.step-rest.ensures.rest) (grind arith) in
     record {
       inverse = elim c.if-is_below.branch [
         | then-is_below w ↦
-            let above : 1 < n c.euclid.r = grind arith in
-            rw w.inverse-is (λ x i. euclid_none _ _ _ _ _ _ x _ last ended above i)
+            rw w.inverse-is (λ x i. euclid_none _ _ _ _ _ _ x _ last (grind arith) (grind arith) i)
         | else-is_below w ↦
-            let small : n c.euclid.r ≤ 1 = grind arith in
-            rw w.inverse-is (euclid_found _ _ _ _ _ _ _ last refl small)
+            rw w.inverse-is (euclid_found _ _ _ _ _ _ _ last refl (grind arith))
       ];
       count = count;
       at_most = omega (arith, count);
@@ -96,9 +83,8 @@ returns-then-is_zero_word g c =
 
 pub returns-then-is_below-2 : goal.returns-then-is_below-2
 returns-then-is_below-2 g c =
-    let n = g.T.RingWord.number in
-    let ended : n c.euclid.r ≡ 0 = grind arith in
-    let above : 1 < n c.euclid.last_r = grind arith in
+    let ended : g.T.RingWord.number c.euclid.r ≡ 0 = grind arith in
+    let above : 1 < g.T.RingWord.number c.euclid.last_r = grind arith in
     let count = counts_end c.euclid.invariant.counts ended in
     record {
       inverse = λ x i. euclid_none _ _ _ _ _ _ x _ c.euclid.invariant.steps ended above i;
@@ -108,9 +94,8 @@ returns-then-is_below-2 g c =
 
 pub returns-else-is_below-2 : goal.returns-else-is_below-2
 returns-else-is_below-2 g c =
-    let n = g.T.RingWord.number in
-    let ended : n c.euclid.r ≡ 0 = grind arith in
-    let small : n c.euclid.last_r ≤ 1 = grind arith in
+    let ended : g.T.RingWord.number c.euclid.r ≡ 0 = grind arith in
+    let small : g.T.RingWord.number c.euclid.last_r ≤ 1 = grind arith in
     let count = counts_end c.euclid.invariant.counts ended in
     record {
       inverse = euclid_found_negative _ _ _ _ _ _ _ _ c.euclid.invariant.steps refl small c.neg_below.ensures.value;

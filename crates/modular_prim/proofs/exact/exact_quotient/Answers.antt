@@ -1,5 +1,4 @@
 use Rattle.std.proofs.Common.{◌≡◌, ◌≢◌, ◌+◌, ◌*◌, ◌/◌, ◌%◌, sym, ap, ◌∙◌, arith}
-use Rattle.std.proofs.Math.Nat.{div-add-mod}
 use Rattle.std.proofs.lemmas.Nat.{mod-mul-add}
 use Rattle.modular_prim.proofs.exact.exact_quotient.Goals as goal
 
@@ -8,16 +7,13 @@ returns-then-is_zero_word g c =
     let n = g.T.RingWord.number in
     let a = n c.args.n in
     let d = n c.args.d in
-    let none = c.is_zero_word.ensures.zero.0 c.if-is_zero_word.true in
-    let whole : d * (a / d) + a % d ≡ a = div-add-mod a d in
     let e : n c.quotient.result * d ≡ a / d * d = ap (λ v. v * d) c.quotient.ensures in
     omega (arith, c.remainder.ensures.value)
 
 pub returns-else-is_zero_word : goal.returns-else-is_zero_word
 returns-else-is_zero_word g c =
     let n = g.T.RingWord.number in
-    let d = n c.args.d in
     let some : n c.remainder.result ≢ 0 = grind arith in
     λ k e.
-    let whole : k * d + 0 ≡ n c.args.n = omega arith in
-    some (c.remainder.ensures.value ∙ sym (ap (λ v. v % d) whole) ∙ mod-mul-add k d 0 (omega (arith, c.requires)))
+    let whole : k * n c.args.d + 0 ≡ n c.args.n = omega arith in
+    some (c.remainder.ensures.value ∙ sym (ap (λ v. v % n c.args.d) whole) ∙ mod-mul-add k _ _ (omega (arith, c.requires)))

@@ -13,32 +13,30 @@ is_by_not false e = absurd (false≢true (sym e))
 
 pub returns-then-ne : goal.returns-then-ne
 returns-then-ne g c y i =
-    let n = g.T.RingWord.number in
-    let p = c.last_pair-pair.result in
-    let other : n p.above ≢ 1 =
-    λ e. let one = (g.met.T.RingWord.equal p.above c.one-2.result).1 (e ∙ sym c.one-2.ensures) in
+    let other : g.T.RingWord.number c.last_pair-pair.result.above ≢ 1 =
+    λ e. let one = (g.met.T.RingWord.equal c.last_pair-pair.result.above c.one-2.result).1 (e ∙ sym c.one-2.ensures) in
     false≢true (sym (ap not one) ∙ sym c.ne.ensures ∙ c.if-ne.true) in
     last_none _ _ _ _ _ _ _ y _ c.last_pair-pair.ensures.pair c.last_pair-pair.ensures.equal other i
 
 pub returns : goal.returns
 returns g c =
     let n = g.T.RingWord.number in
-    let m = n c.args.m in
     let p = c.last_pair-pair.result in
     let one : n p.above ≡ 1 =
     (g.met.T.RingWord.equal p.above c.one-2.result).0 (is_by_not _ (sym c.ne.ensures ∙ c.if-ne.false)) ∙ c.one-2.ensures in
-    let sign : CongruentBySign m p.minus (n c.if-pair.factor) (n p.above_factor) = elim c.if-pair.branch [
+    let sign : CongruentBySign (n c.args.m) p.minus (n c.if-pair.factor) (n p.above_factor) = elim c.if-pair.branch [
       | then-pair w ↦
-          factor_minus m (n p.above_factor) (n c.if-pair.factor) p.minus w.if-pair.true
+          factor_minus _ _ _ p.minus w.if-pair.true
           (ap (λ v. n v + n p.above_factor) w.factor-is ∙ w.minus-factor.ensures.value)
       | else-pair w ↦
-          factor_plus m (n p.above_factor) (n c.if-pair.factor) p.minus w.if-pair.false (ap n w.factor-is)
+          factor_plus _ _ _ p.minus w.if-pair.false (ap n w.factor-is)
     ] in
     let twos : c.if-pair.pair.twos ≡ p.twos = elim c.if-pair.branch [
       | then-pair w ↦ ap (λ o. o.twos) w.pair-is
       | else-pair w ↦ ap (λ o. o.twos) w.pair-is
     ] in
     let value =
-    subst (λ k. Congruent m (n c.without_twos.result * 2 ^ k) (n c.if-pair.factor)) twos c.without_twos.ensures.value in
-    last_inverse m (n c.args.x) _ _ _ _ _ _ _ p.minus c.requires.odd c.last_pair-pair.ensures.pair one sign
+    subst (λ k. Congruent (n c.args.m) (n c.without_twos.result * 2 ^ k)
+    (n c.if-pair.factor)) twos c.without_twos.ensures.value in
+    last_inverse _ _ _ _ _ _ _ _ _ p.minus c.requires.odd c.last_pair-pair.ensures.pair one sign
     c.without_twos.ensures.below value

@@ -4,22 +4,18 @@ use Rattle.modular_prim.proofs.inverse.last_pair.Goals as goal
 
 pub differences-init : goal.differences-init
 differences-init g c =
-    let n = g.T.RingWord.number in
-    let x = n c.args.x in
+    let x = g.T.RingWord.number c.args.x in
     let t = c.trailing_zeros-twos.result in
-    let divided : x % 2 ^ t ≡ 0 =
-    ap (λ k. x % 2 ^ k) c.trailing_zeros-twos.ensures.value ∙ zeros_divide g.T.RingWord.width x in
-    let h : Without x t (n c.shift_right.result) =
-    without x t (n c.shift_right.result) c.requires.some divided c.shift_right.ensures.value in
+    let divided : x % 2 ^ t ≡ 0 = ap (λ k. x % 2 ^ k) c.trailing_zeros-twos.ensures.value ∙ zeros_divide _ _ in
+    let h : Without x t (g.T.RingWord.number c.shift_right.result) =
+    without _ t _ c.requires.some divided c.shift_right.ensures.value in
     record {
-      pair = first_pair (n c.args.m) x t _ _ _ h c.one.ensures c.zero.ensures;
+      pair = first_pair _ _ t _ _ _ h c.one.ensures c.zero.ensures;
       fits =
-          first_fits g.T.PathWord.base (n c.args.m) x t _ _ _ h c.one.ensures c.zero.ensures
-          c.requires.below c.requires.fits;
+          first_fits _ _ _ t _ _ _ h c.one.ensures c.zero.ensures c.requires.below c.requires.fits;
     }
 
 pub returns-clause-factor_below : goal.returns-clause-factor_below
 returns-clause-factor_below g c =
-    let p = c.differences.pair in
     (last_factor _ _ _ _ _ _ _ _ _ c.differences.invariant.pair c.differences.invariant.fits
-    ((g.met.T.RingWord.equal p.above p.below).0 (search rules))).1
+    ((g.met.T.RingWord.equal c.differences.pair.above c.differences.pair.below).0 (search rules))).1

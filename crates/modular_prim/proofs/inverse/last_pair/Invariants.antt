@@ -7,7 +7,8 @@ invariant-differences g l =
     let n = g.T.RingWord.number in
     let p = l.pair in
     record {
-      pair : IsDifferencePair (n l.fn.m) (n l.fn.x) (n p.above) (n p.below) (n p.above_factor) (n p.below_factor) p.twos p.minus;
+      pair : IsDifferencePair (n l.fn.m) (n l.fn.x) (n p.above) (n p.below) (n p.above_factor)
+          (n p.below_factor) p.twos p.minus;
       fits : PairFits g.T.PathWord.base (n p.above) (n p.below) (n p.above_factor) (n p.below_factor) p.twos;
     }
 

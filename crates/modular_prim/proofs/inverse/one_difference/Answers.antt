@@ -19,18 +19,17 @@ ordered g c =
     let n = g.T.RingWord.number in
     let a = n c.args.pair.above in
     let b = n c.args.pair.below in
-    let wrapped = c.wrapping_sub.ensures.value in
-    let zeros = c.trailing_zeros-zeros.ensures.value in
     elim c.if-less.branch [
       | then-less w ↦
           let e : n c.if-less.chosen.0 + a ≡ b = ap (λ v. n v.0 + a) w.chosen-is ∙ w.minus.ensures.value in
           ordered_below _ _ _ _ _ _ _ _ _ _ _ _ c.requires.fits w.if-less.true c.requires.differ
-          c.is_below-less.ensures.other_fits e (zeros_below _ _ _ a b _ _ g.met.T.PathWord.base_is wrapped zeros e)
+          c.is_below-less.ensures.other_fits e
+          (zeros_below _ _ _ a b _ _ g.met.T.PathWord.base_is c.wrapping_sub.ensures.value c.trailing_zeros-zeros.ensures.value e)
           (ap (λ v. n v.1) w.chosen-is) (ap (λ v. n v.2) w.chosen-is)
       | else-less w ↦
           let e : n c.if-less.chosen.0 + b ≡ a = ap (λ v. n v.0 + b) w.chosen-is ∙ w.minus-else-less.ensures.value in
           ordered_above _ _ _ _ _ _ _ _ _ _ _ _ c.requires.fits w.if-less.false c.requires.differ
-          c.is_below-less.ensures.fits e (zeros_above _ _ _ a b _ _ g.met.T.PathWord.base_is wrapped zeros e)
+          c.is_below-less.ensures.fits e (zeros_above _ _ _ a b _ _ g.met.T.PathWord.base_is c.wrapping_sub.ensures.value c.trailing_zeros-zeros.ensures.value e)
           (ap (λ v. n v.1) w.chosen-is) (ap (λ v. n v.2) w.chosen-is)
     ]
 

@@ -1,4 +1,4 @@
-use Rattle.std.proofs.Common.{ℕ, ◌≡◌, ◌≢◌, ◌*◌, ◌/◌, ◌%◌, ◌^◌, ◌<◌, ◌≤◌, sym, ap, ◌∙◌, subst, arith}
+use Rattle.std.proofs.Common.{ℕ, ◌≡◌, ◌*◌, ◌/◌, ◌%◌, ◌^◌, ◌<◌, ◌≤◌, sym, ap, ◌∙◌, subst, arith}
 use Rattle.std.proofs.lemmas.Nat.{shl-shr}
 use Rattle.modular_prim.proofs.Scaled.{IsNormalized, scaled_to_top, scaled_below, scaled_product_of}
 use Rattle.modular_prim.proofs.PowerSteps.{start_odd, start_even, step_odd, step_even, finished}
@@ -10,10 +10,8 @@ use Rattle.modular_prim.proofs.power.power_by_reciprocal.Goals.{else-is_odd, the
 normalized : (g : _) (c : After-leading_zeros-shift g)
     → IsNormalized g.T.RingWord.width g.T.PathWord.base (g.T.RingWord.number c.args.m) c.leading_zeros-shift.result
 normalized g c =
-    let n = g.T.RingWord.number in
-    scaled_to_top g.T.RingWord.width g.T.PathWord.base
-    (n c.args.m) c.leading_zeros-shift.result g.met.T.PathWord.base_is
-    (let h : 0 < n c.args.m = omega (arith, c.requires) in
+    scaled_to_top _ _ _ _ g.met.T.PathWord.base_is
+    (let h : 0 < g.T.RingWord.number c.args.m = omega (arith, c.requires) in
     h) c.leading_zeros-shift.ensures.fits c.leading_zeros-shift.ensures.value
 
 pub shift_left-divisor-requires-clause-fits : goal.shift_left-divisor-requires-clause-fits
@@ -50,43 +48,36 @@ digits-init g c =
     let p = 2 ^ c.leading_zeros-shift.result in
     elim c.if-is_odd.branch [
       | then-is_odd w ↦
-          let odd : n c.args.exp % 2 ≡ 1 = grind arith in
-          start_odd (λ x. x * p) (λ y. y * p) (n c.args.m) (n c.args.base) (n c.args.exp) c.requires
-          c.shift_left-power.ensures (ap n w.product-is ∙ c.shift_left-power.ensures) c.half-rest.ensures.value odd
+          start_odd (λ x. x * p) (λ y. y * p) _ _ _ c.requires
+          c.shift_left-power.ensures (ap n w.product-is ∙ c.shift_left-power.ensures) c.half-rest.ensures.value (grind arith)
       | else-is_odd w ↦
-          let even : n c.args.exp % 2 ≢ 1 = grind arith in
-          start_even (λ x. x * p) (λ y. y * p) (n c.args.m) (n c.args.base) (n c.args.exp) c.requires
-          c.shift_left-power.ensures
+          start_even (λ x. x * p) (λ y. y * p) _ _ _ c.requires c.shift_left-power.ensures
           (ap n w.product-is ∙ w.shift_left-product.ensures
           ∙ ap (λ v. v * p) (w.reduced.ensures.value ∙ ap (λ v. v % n c.args.m) w.one.ensures))
-          c.half-rest.ensures.value even
+          c.half-rest.ensures.value (grind arith)
     ]
 
 pub digits-preserved : goal.digits-preserved
 digits-preserved g c =
     let n = g.T.RingWord.number in
-    let m = n c.args.m in
     let s = c.leading_zeros-shift.result in
-    let some : 0 < m = omega (arith, c.requires) in
-    let made = c.shift_left-divisor.ensures in
+    let some : 0 < n c.args.m = omega (arith, c.requires) in
     let squared = λ (x : ℕ) (e : n c.digits.power ≡ x * 2 ^ s).
-    scaled_product_of m s _ x x _ _ _ some made e e c.scaled_product-power.ensures in
+    scaled_product_of _ s _ x x _ _ _ some c.shift_left-divisor.ensures e e c.scaled_product-power.ensures in
     elim c.if-is_odd-2.branch [
       | then-is_odd-2 w ↦
-          let odd : n c.digits.rest % 2 ≡ 1 = grind arith in
-          step_odd (λ x. x * 2 ^ s) (λ y. y * 2 ^ s) m c.digits.invariant squared
+          step_odd (λ x. x * 2 ^ s) (λ y. y * 2 ^ s) _ c.digits.invariant squared
           (λ x y ex ey.
-          scaled_product_of m s _ x y _ _ _ some made ex ey (ap n w.product-is ∙ w.scaled_product-product.ensures))
-          c.half-rest-in-digits.ensures.value odd
+          scaled_product_of _ s _ x y _ _ _ some c.shift_left-divisor.ensures ex ey (ap n w.product-is
+          ∙ w.scaled_product-product.ensures))
+          c.half-rest-in-digits.ensures.value (grind arith)
       | else-is_odd-2 w ↦
-          let even : n c.digits.rest % 2 ≢ 1 = grind arith in
-          step_even (λ x. x * 2 ^ s) (λ y. y * 2 ^ s) m c.digits.invariant squared (ap n w.product-is)
-          c.half-rest-in-digits.ensures.value even
+          step_even (λ x. x * 2 ^ s) (λ y. y * 2 ^ s) _ c.digits.invariant squared (ap n w.product-is)
+          c.half-rest-in-digits.ensures.value (grind arith)
     ]
 
 pub returns : goal.returns
 returns g c =
     let w = c.digits.invariant in
-    let ended : g.T.RingWord.number c.digits.rest ≡ 0 = grind arith in
     c.shift_right.ensures.value ∙ ap (λ v. v / 2 ^ c.leading_zeros-shift.result) w.product_is
-    ∙ shl-shr w.y c.leading_zeros-shift.result ∙ finished w ended
+    ∙ shl-shr w.y _ ∙ finished w (grind arith)

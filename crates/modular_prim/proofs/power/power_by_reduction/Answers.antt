@@ -1,4 +1,4 @@
-use Rattle.std.proofs.Common.{ℕ, ◌≡◌, ◌≢◌, ◌*◌, ◌%◌, ◌<◌, ap, ◌∙◌, arith}
+use Rattle.std.proofs.Common.{ℕ, ◌≡◌, ◌*◌, ◌%◌, ap, ◌∙◌, arith}
 use Rattle.std.proofs.Math.Nat.{mod-lt}
 use Rattle.modular_prim.proofs.PowerSteps.{start_odd, start_even, step_odd, step_even, finished}
 use Rattle.modular_prim.proofs.PowerSteps.{product_fits, square_reduced, product_reduced}
@@ -10,19 +10,16 @@ digits-init g c =
     let n = g.T.RingWord.number in
     let b = g.T.PathWord.base in
     let m = n c.args.m in
-    let x = n c.args.base in
-    let whole : g.T.PathWord.double_number c.merge.result ≡ x * b = omega (arith, c.merge.ensures.value, c.zero.ensures) in
+    let whole : g.T.PathWord.double_number c.merge.result ≡ n c.args.base * b = omega (arith, c.merge.ensures.value, c.zero.ensures) in
     let power = c.narrow_remainder-power.ensures.value ∙ ap (λ v. v % m) whole in
     elim c.if-is_odd.branch [
       | then-is_odd w ↦
-          let odd : n c.args.exp % 2 ≡ 1 = grind arith in
-          start_odd (λ v. (v * b) % m) (λ y. y) m x (n c.args.exp) c.requires.below power (ap n w.product-is)
-          c.half-rest.ensures.value odd
+          start_odd (λ v. (v * b) % m) (λ y. y) _ _ _ c.requires.below power (ap n w.product-is)
+          c.half-rest.ensures.value (grind arith)
       | else-is_odd w ↦
-          let even : n c.args.exp % 2 ≢ 1 = grind arith in
-          start_even (λ v. (v * b) % m) (λ y. y) m x (n c.args.exp) c.requires.below power
+          start_even (λ v. (v * b) % m) (λ y. y) _ _ _ c.requires.below power
           (ap n w.product-is ∙ w.reduced-product.ensures.value ∙ ap (λ v. v % m) w.one.ensures)
-          c.half-rest.ensures.value even
+          c.half-rest.ensures.value (grind arith)
     ]
 
 pub redc-power-requires-clause-below : goal.redc-power-requires-clause-below
@@ -36,25 +33,19 @@ digits-preserved g c =
     let n = g.T.RingWord.number in
     let b = g.T.PathWord.base in
     let m = n c.args.m in
-    let i = n c.neginv-negated_inverse.result in
-    let some : 0 < b = omega (arith, c.product.ensures.fits) in
-    let inverse = c.neginv-negated_inverse.ensures in
     let squared = λ (x : ℕ) (e : n c.digits.power ≡ (x * b) % m).
-    square_reduced b m i x _ some inverse e c.product.ensures.value c.redc-power.ensures in
+    square_reduced _ _ _ x _ (omega (arith, c.product.ensures.fits)) c.neginv-negated_inverse.ensures e c.product.ensures.value c.redc-power.ensures in
     elim c.if-is_odd-2.branch [
       | then-is_odd-2 w ↦
-          let odd : n c.digits.rest % 2 ≡ 1 = grind arith in
-          step_odd (λ v. (v * b) % m) (λ y. y) m c.digits.invariant squared
-          (λ x y ex ey. ap n w.product-is ∙ product_reduced b m i x _ _ some inverse ex
+          step_odd (λ v. (v * b) % m) (λ y. y) _ c.digits.invariant squared
+          (λ x y ex ey. ap n w.product-is
+          ∙ product_reduced _ _ _ x _ _ (omega (arith, c.product.ensures.fits)) c.neginv-negated_inverse.ensures ex
           w.product-then-is_odd-2.ensures.value w.redc-product.ensures ∙ ap (λ v. (x * v) % m) ey)
-          c.half-rest-in-digits.ensures.value odd
+          c.half-rest-in-digits.ensures.value (grind arith)
       | else-is_odd-2 w ↦
-          let even : n c.digits.rest % 2 ≢ 1 = grind arith in
-          step_even (λ v. (v * b) % m) (λ y. y) m c.digits.invariant squared (ap n w.product-is)
-          c.half-rest-in-digits.ensures.value even
+          step_even (λ v. (v * b) % m) (λ y. y) _ c.digits.invariant squared (ap n w.product-is)
+          c.half-rest-in-digits.ensures.value (grind arith)
     ]
 
 pub returns : goal.returns
-returns g c =
-    let ended : g.T.RingWord.number c.digits.rest ≡ 0 = grind arith in
-    c.digits.invariant.product_is ∙ finished c.digits.invariant ended
+returns g c = c.digits.invariant.product_is ∙ finished c.digits.invariant (grind arith)

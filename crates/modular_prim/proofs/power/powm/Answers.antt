@@ -3,18 +3,14 @@ use Rattle.modular_prim.proofs.PowerSteps.{power_one, power_two, power_of_rest}
 use Rattle.modular_prim.proofs.power.powm.Goals as goal
 
 pub returns-else-eq : goal.returns-else-eq
-returns-else-eq g c =
-    let n = g.T.RingWord.number in
-    power_of_rest (n c.args.m) (n c.args.base) (n c.reduced.result) (n c.args.exp) (n c.power_below.result)
-    c.reduced.ensures.value c.power_below.ensures
+returns-else-eq g c = power_of_rest _ _ _ _ _ c.reduced.ensures.value c.power_below.ensures
 
 pub returns-then-is_odd : goal.returns-then-is_odd
 returns-then-is_odd g c =
     let n = g.T.RingWord.number in
     let odd : n c.args.exp % 2 ≡ 1 = grind arith in
     let small : n c.args.exp ≤ n c.two.result = grind arith in
-    power_one (n c.args.m) (n c.args.base) (n c.args.exp) (n c.reduced-then-is_odd.result)
-    (omega (arith, c.two.ensures)) c.reduced-then-is_odd.ensures.value
+    power_one _ _ _ _ (omega (arith, c.two.ensures)) c.reduced-then-is_odd.ensures.value
 
 pub returns-else-is_odd : goal.returns-else-is_odd
 returns-else-is_odd g c =
@@ -22,5 +18,4 @@ returns-else-is_odd g c =
     let even : n c.args.exp % 2 ≢ 1 = grind arith in
     let some : n c.args.exp ≢ 0 = grind arith in
     let small : n c.args.exp ≤ n c.two.result = grind arith in
-    power_two (n c.args.m) (n c.args.base) (n c.args.exp) (n c.sqm.result)
-    (omega (arith, c.two.ensures)) c.sqm.ensures
+    power_two _ _ _ _ (omega (arith, c.two.ensures)) c.sqm.ensures

@@ -8,17 +8,16 @@ returns g c =
     let n = g.T.RingWord.number in
     let B = g.T.PathWord.base in
     let x = n c.ones-greatest.result in
-    let d = n c.args.d in
     let v = n c.low_quotient.result in
     let top : x + 1 ≡ B = c.ones-greatest.ensures ∙ ap (λ k. 2 ^ k) c.bits.ensures ∙ sym g.met.T.PathWord.base_is in
-    let divided : (h : _) → n c.if-bits-lt64.high ≡ h → v ≡ ((x + B * h) / d) % B =
+    let divided : (h : _) → n c.if-bits-lt64.high ≡ h → v ≡ ((x + B * h) / (n c.args.d)) % B =
     λ h e.
-    c.low_quotient.ensures.value ∙ ap (λ a. (a / d) % B) (c.merge.ensures.value ∙ ap (λ y. x + B * y) e) in
+    c.low_quotient.ensures.value ∙ ap (λ a. (a / (n c.args.d)) % B) (c.merge.ensures.value ∙ ap (λ y. x + B * y) e) in
     elim c.if-bits-lt64.branch [
       | then-bits-lt64 w ↦
-          reciprocal_of B d v (x + B * x) c.low_quotient.ensures.fits c.requires (greatest_is B x top)
+          reciprocal_of _ _ _ (x + B * x) c.low_quotient.ensures.fits c.requires (greatest_is _ _ top)
           (divided x (ap n w.high-is))
       | else-bits-lt64 w ↦
-          reciprocal_of_less B d v x (n w.wrapping_sub-high.result) c.low_quotient.ensures.fits c.requires top
+          reciprocal_of_less _ _ _ _ _ c.low_quotient.ensures.fits c.requires top
           w.wrapping_sub-high.ensures.fits w.wrapping_sub-high.ensures.value (divided _ (ap n w.high-is))
     ]

@@ -7,10 +7,8 @@ use Rattle.modular_prim.proofs.residues.congruent_sum.Goals.{After-leading_zeros
 normalized : (g : _) (c : After-leading_zeros g)
     → IsNormalized g.T.RingWord.width g.T.PathWord.base (g.T.RingWord.number c.args.m) c.leading_zeros.result
 normalized g c =
-    let n = g.T.RingWord.number in
-    scaled_to_top g.T.RingWord.width g.T.PathWord.base
-    (n c.args.m) c.leading_zeros.result g.met.T.PathWord.base_is
-    (let h : 0 < n c.args.m = omega (arith, c.requires) in
+    scaled_to_top _ _ _ _ g.met.T.PathWord.base_is
+    (let h : 0 < g.T.RingWord.number c.args.m = omega (arith, c.requires) in
     h) c.leading_zeros.ensures.fits c.leading_zeros.ensures.value
 
 -- the remainder, by the multiple as a product

@@ -8,20 +8,16 @@ use Rattle.modular_prim.proofs.reducer_word.AnyReducerWord.square_of_base.Goals 
 square_less : (b m low high double : ℕ) → 0 < m → m < b → low < b → (low + m) % b ≡ 0 → high + 1 ≡ b
     → double ≡ low + b * high → double % m ≡ (b * b) % m
 square_less b m low high double some below fits rest top e =
-    let s : b - m + m ≡ b = omega arith in
     let l : low ≡ b - m =
-    mod_cancel b low (b - m) m fits (omega arith) (rest ∙ sym (ap (λ v. v % b) s ∙ mod_self b)) in
+    mod_cancel _ _ _ _ fits (omega arith) (rest ∙ sym (ap (λ v. v % b) (omega arith) ∙ mod_self _)) in
     let h : b * (high + 1) ≡ b * b = ap (λ v. b * v) top in
     let whole : b * b ≡ double + m * 1 = omega arith in
-    sym (ap (λ v. v % m) whole ∙ add-mul-mod_self_left double m 1)
+    sym (ap (λ v. v % m) whole ∙ add-mul-mod_self_left _ _ _)
 
 pub returns-clause-value : goal.returns-clause-value
 returns-clause-value g c =
-    let n = g.T.RingWord.number in
-    let b = g.T.PathWord.base in
-    let top : n c.ones.result + 1 ≡ b =
+    let top : g.T.RingWord.number c.ones.result + 1 ≡ g.T.PathWord.base =
     c.ones.ensures ∙ ap (λ v. 2 ^ v) c.bits.ensures ∙ sym g.met.T.PathWord.base_is in
-    c.narrow_remainder.ensures.value
-    ∙ square_less b (n c.args.m) (n c.wrapping_sub.result) (n c.ones.result) _ (omega (arith, c.requires))
+    c.narrow_remainder.ensures.value ∙ square_less _ _ _ _ _ (omega (arith, c.requires))
     c.narrow_remainder.ensures.fits c.wrapping_sub.ensures.fits (c.wrapping_sub.ensures.value ∙ c.zero.ensures) top
     c.merge-less.ensures.value
