@@ -59,10 +59,10 @@ pub record IsPrepared (w b d less n gap : ℕ) : Type 0 where
   pub fits : d < b
   pub whole : gap + d ≡ 2 ^ n
 
-pub prepared : (w b d less n gap one all : ℕ) → 0 < less → n ≡ digits less → n ≤ w → d < b → one ≡ 1 → less + one ≡ d
+pub multiplier_prepared : (w b d less n gap one all : ℕ) → 0 < less → n ≡ digits less → n ≤ w → d < b → one ≡ 1 → less + one ≡ d
     → all + 1 ≡ 2 ^ n → gap + less ≡ all
     → IsPrepared w b d less n gap
-prepared w b d less n gap one all some counted most fits e1 e2 e3 e4 =
+multiplier_prepared w b d less n gap one all some counted most fits e1 e2 e3 e4 =
     record { digits = digits_counted w less n some counted most; next = omega arith; fits = fits; whole = omega arith }
 
 -- the quotient leaves room for one more
@@ -92,17 +92,17 @@ multiplier_is w b d less n gap q m p e em =
     let below : less < 2 * N = subst (λ n. less < n) (digits_power p.digits) p.digits.below in
     omega arith
 
--- what is stored for d in words of w bits, where the power of two is computed as g
+-- what is stored for d in words of w bits, where the power of two is multiplier_computed as g
 pub prepared_by : (w d g : ℕ) → 1 < d → d < 2 ^ w → g ≡ 2 ^ (w - count_leading_zeros w (d - 1))
     → IsPrepared w (2 ^ w) d (d - 1) (w - count_leading_zeros w (d - 1)) (g - d)
 prepared_by w d g some fits e = grind (arith, digits_below_leading)
 
 -- so it is in words of twice as many bits, with a mask for the low ones
-pub computed : (w d : ℕ) → 0 < w → 1 < d → d < 2 ^ w →
+pub multiplier_computed : (w d : ℕ) → 0 < w → 1 < d → d < 2 ^ w →
     let n = w - count_leading_zeros w (d - 1) in let power = 1 * 2 ^ n % 2 ^ (2 * w) in
     let q = bit_and ((power - d) * 2 ^ w / d) (2 ^ w - 1) in
     (d ≤ power) × (q + 1 < 2 ^ w) × IsMultiplier w (2 ^ w) d (q + 1) (n - 1)
-computed w d wide some fits =
+multiplier_computed w d wide some fits =
     let power = one_shl (w - count_leading_zeros w (d - 1)) (2 * w) (omega arith) in
     let p = prepared_by w d _ some fits power in
     let q = and_mask _ w ∙ ap (λ v. v / d % 2 ^ w) (mul_comm _ (2 ^ w)) in

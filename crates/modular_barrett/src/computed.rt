@@ -6,6 +6,7 @@ ghost use Rattle.std.specs.Prelude.{◌*◌, ◌^◌, ◌<◌, ◌≤◌};
 ghost use Rattle.modular_word.specs.Reciprocals.{IsMultiplier, IsReciprocal};
 
 // `invert_word` in words of 8 bits.
+#[tactic(auto, using(modular_prim::proofs::ReciprocalOf::reciprocal_of, std::proofs::lemmas::Nat::and_mask))]
 pub(crate) const fn reciprocal_8(d: u8) -> u8
     requires { 2 ^ 8 ≤ 2 * d }
     ensures { IsReciprocal (2 ^ 8) d result }
@@ -14,6 +15,7 @@ pub(crate) const fn reciprocal_8(d: u8) -> u8
 }
 
 // `invert_word` in words of 16 bits.
+#[tactic(auto, using(modular_prim::proofs::ReciprocalOf::reciprocal_of, std::proofs::lemmas::Nat::and_mask))]
 pub(crate) const fn reciprocal_16(d: u16) -> u16
     requires { 2 ^ 16 ≤ 2 * d }
     ensures { IsReciprocal (2 ^ 16) d result }
@@ -22,6 +24,7 @@ pub(crate) const fn reciprocal_16(d: u16) -> u16
 }
 
 // `invert_word` in words of 32 bits.
+#[tactic(auto, using(modular_prim::proofs::ReciprocalOf::reciprocal_of, std::proofs::lemmas::Nat::and_mask))]
 pub(crate) const fn reciprocal_32(d: u32) -> u32
     requires { 2 ^ 32 ≤ 2 * d }
     ensures { IsReciprocal (2 ^ 32) d result }
@@ -31,6 +34,7 @@ pub(crate) const fn reciprocal_32(d: u32) -> u32
 
 // `invert_word` in words of 64 bits. Its dividend is less the divisor times the base, so that one instruction
 // divides it.
+#[tactic(auto, using(modular_prim::proofs::ReciprocalOf::reciprocal_of_less, std::proofs::lemmas::Nat::and_mask))]
 pub(crate) const fn reciprocal_64(d: u64) -> u64
     requires { 2 ^ 64 ≤ 2 * d }
     ensures { IsReciprocal (2 ^ 64) d result }
@@ -41,6 +45,7 @@ pub(crate) const fn reciprocal_64(d: u64) -> u64
 }
 
 // What `PreMulInv1by1::new` stores for a divisor of 8 bits.
+#[tactic(auto, using(crate::proofs::Multiplier::multiplier_computed))]
 pub(crate) const fn multiplier_8(d: u8) -> (u8, u32)
     requires { 1 < d }
     ensures { IsMultiplier 8 (2 ^ 8) d result.0 result.1 }
@@ -52,6 +57,7 @@ pub(crate) const fn multiplier_8(d: u8) -> (u8, u32)
 }
 
 // What `PreMulInv1by1::new` stores for a divisor of 16 bits.
+#[tactic(auto, using(crate::proofs::Multiplier::multiplier_computed))]
 pub(crate) const fn multiplier_16(d: u16) -> (u16, u32)
     requires { 1 < d }
     ensures { IsMultiplier 16 (2 ^ 16) d result.0 result.1 }
@@ -63,6 +69,7 @@ pub(crate) const fn multiplier_16(d: u16) -> (u16, u32)
 }
 
 // What `PreMulInv1by1::new` stores for a divisor of 32 bits.
+#[tactic(auto, using(crate::proofs::Multiplier::multiplier_computed))]
 pub(crate) const fn multiplier_32(d: u32) -> (u32, u32)
     requires { 1 < d }
     ensures { IsMultiplier 32 (2 ^ 32) d result.0 result.1 }
@@ -74,6 +81,7 @@ pub(crate) const fn multiplier_32(d: u32) -> (u32, u32)
 }
 
 // What `PreMulInv1by1::new` stores for a divisor of 64 bits.
+#[tactic(auto, using(crate::proofs::Multiplier::multiplier_computed))]
 pub(crate) const fn multiplier_64(d: u64) -> (u64, u32)
     requires { 1 < d }
     ensures { IsMultiplier 64 (2 ^ 64) d result.0 result.1 }

@@ -201,6 +201,7 @@ impl<T: PlainWord> Reducer<T> for PreMulInv2by1<T> {
         self.divisor().shift_right(self.shift)
     }
 
+    #[tactic(auto, using(modular_reduced::proofs::FormLemmas::form_as))]
     fn residue(&self, f: T) -> T {
         f.shift_right(self.shift)
     }
@@ -217,6 +218,7 @@ impl<T: PlainWord> Reducer<T> for PreMulInv2by1<T> {
         dbl_below_stored(f, self.divisor())
     }
 
+    #[tactic(auto, using(crate::proofs::ScaledLemmas::form_below))]
     fn sub(&self, a: &T, b: &T) -> T {
         sub_below(*a, *b, self.divisor())
     }
@@ -248,6 +250,7 @@ impl<T: PlainWord> Reducer<T> for PreMulInv2by1<T> {
     // Each product takes the factor's quotient by the divisor, which is computed once. Out of line, because it is slower
     // inside a caller's loop over short lists.
     #[inline(never)]
+    #[tactic(auto, using(crate::proofs::ScaledLemmas::value_below))]
     fn scale_entries(&self, xs: &mut [T], factor: &T) {
         let divisor = self.divider.divisor();
         let value = self.residue(*factor);
@@ -257,6 +260,7 @@ impl<T: PlainWord> Reducer<T> for PreMulInv2by1<T> {
 
     // Products are added as whole numbers and reduced once a block.
     // rust: #[track_caller]
+    #[tactic(auto, using(modular_reduced::proofs::ListProducts::products_none))]
     fn add_products(&self, sum: T, xs: &[T], ys: &[T]) -> T {
         // rust: assert!(ys.len() == xs.len(), "the lists must have the same length: {} and {}", xs.len(), ys.len());
         // rust: debug_assert!(self.check(&sum) && xs.iter().chain(ys).all(|x| self.check(x)),

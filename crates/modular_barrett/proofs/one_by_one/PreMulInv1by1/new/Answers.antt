@@ -1,6 +1,6 @@
 use Rattle.std.proofs.Common.{◌≡◌, ◌*◌, ◌/◌, ◌%◌, ◌^◌, ◌<◌, ap, ◌∙◌, sym, subst, arith}
 use Rattle.modular_reduced.proofs.PowerCounts.{digits_above}
-use Rattle.modular_barrett.proofs.Multiplier.{IsPrepared, prepared, multiplier_fits, multiplier_is}
+use Rattle.modular_barrett.proofs.Multiplier.{IsPrepared, multiplier_prepared, multiplier_fits, multiplier_is}
 use Rattle.modular_barrett.proofs.one_by_one.PreMulInv1by1.new.Goals as goal
 use Rattle.modular_barrett.proofs.one_by_one.PreMulInv1by1.new.Goals.{After-low_quotient-quotient}
 
@@ -15,7 +15,7 @@ is_prepared : (g : _) (c : After-low_quotient-quotient g)
     (g.T.RingWord.number c.minus-less.result)
     c.binary_digits-n.result (g.T.RingWord.number c.minus-gap.result)
 is_prepared g c =
-    prepared _ _ _ _ _ _ _ _ (omega (arith, c.requires, c.one.ensures, c.minus-less.ensures.value))
+    multiplier_prepared _ _ _ _ _ _ _ _ (omega (arith, c.requires, c.one.ensures, c.minus-less.ensures.value))
     c.binary_digits-n.ensures.value c.binary_digits-n.ensures.at_most c.low_quotient-quotient.ensures.fits c.one.ensures
     c.minus-less.ensures.value c.ones.ensures c.minus-gap.ensures.value
 

@@ -1,5 +1,4 @@
-use Rattle.std.proofs.Common.{◌/◌, ◌^◌, ap, ◌∙◌, arith}
-use Rattle.std.proofs.lemmas.Nat.{shl-shr}
+use Rattle.std.proofs.Common.{◌∙◌, arith}
 use Rattle.modular_barrett.proofs.ScaledLemmas.{scaling_of}
 use Rattle.modular_prim.proofs.Scaled.{scaled_to_top}
 use Rattle.modular_barrett.proofs.premul.PreMulInv2by1.new.Goals as goal
@@ -20,8 +19,3 @@ invariant_of-result g c =
     let zeros = c.leading_zeros-shift.ensures in
     let divisor = c.new.ensures ∙ c.shift_left.ensures in
     record { scaling = scaling_of _ _ _ _ _ g.met.T.PathWord.base_is c.requires zeros.fits zeros.value divisor }
-
-pub returns : goal.returns
-returns g c =
-    ap (λ n. n / 2 ^ c.leading_zeros-shift.result) (c.new.ensures ∙ c.shift_left.ensures)
-    ∙ shl-shr (g.T.RingWord.number c.args.m) c.leading_zeros-shift.result

@@ -1,20 +1,13 @@
 use Rattle.std.proofs.Common.{◌≡◌, ℕ, ◌+◌, ◌*◌, ◌/◌, ◌%◌, ◌^◌, ◌≤◌, length, map, slice_index, sym, ap, ◌∙◌, arith}
 use Rattle.modular_word.specs.Sums.{sum_below}
 use Rattle.modular_reduced.proofs.FormLemmas.{form_as, form_of_value}
-use Rattle.modular_reduced.proofs.ListProducts.{number_checked, products_of_numbers, products_none}
+use Rattle.modular_reduced.proofs.ListProducts.{number_checked, products_of_numbers}
 use Rattle.modular_barrett.specs.Scaling.{scaled_form, scaled_value}
 use Rattle.modular_barrett.specs.ScaledForms.{scaled_canonical}
 use Rattle.modular_barrett.proofs.ScaledLemmas.{divisor_is, form_below}
 use Rattle.modular_barrett.proofs.ScaledSums.{scaled_products, block_of, block_stands, block_added}
 use Rattle.modular_barrett.proofs.premul.PreMulInv2by1Reducer.add_products.Goals as goal
 use Rattle.modular_barrett.proofs.premul.PreMulInv2by1Reducer.add_products.Goals.{After-reduced_products-reduced}
-
-pub each_block-init : goal.each_block-init
-each_block-init g c = record {
-  form = c.requires.sum;
-  value = products_none _ _ _ c.requires.sum.below;
-  within = omega arith;
-}
 
 -- the product of the values at an index
 abbrev term : (g : _) (c : After-reduced_products-reduced g) → ℕ → ℕ

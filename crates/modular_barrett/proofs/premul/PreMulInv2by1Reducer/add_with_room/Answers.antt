@@ -2,7 +2,7 @@ use Rattle.std.proofs.Common.{arith}
 use Rattle.modular_reduced.proofs.FormLemmas.{answered}
 use Rattle.modular_barrett.specs.ScaledForms.{scaled_canonical}
 use Rattle.modular_barrett.proofs.ScaledLemmas.{sum_stands}
-use Rattle.modular_barrett.proofs.ScaledHalves.{AreHalves, halves, sum_of_halves}
+use Rattle.modular_barrett.proofs.ScaledHalves.{AreHalves, halves_of_scaled, sum_of_halves}
 use Rattle.modular_barrett.proofs.premul.PreMulInv2by1Reducer.add_with_room.Goals as goal
 use Rattle.modular_barrett.proofs.premul.PreMulInv2by1Reducer.add_with_room.Goals.{After-half-3}
 
@@ -11,7 +11,7 @@ are : (g : _) (c : After-half-3 g)
     AreHalves (n c.divisor.result) (n c.args.a.now) (n c.args.b.now) (n c.half-3.result) (n c.half.result) (n c.half-2.result)
 are g c =
     let n = g.T.RingWord.number in
-    halves g.T.RingWord.width _ (n c.divisor.result) (n c.args.a.now) (n c.args.b.now)
+    halves_of_scaled g.T.RingWord.width _ (n c.divisor.result) (n c.args.a.now) (n c.args.b.now)
     (n c.half-3.result) (n c.half.result) (n c.half-2.result) c.divisor.ensures.scaled c.requires.room
     (let b = g.met.T.PathWord.base_is in omega (arith, c.divisor.ensures.top, b)) c.requires.left c.requires.right
     c.half-3.ensures.value c.half.ensures.value c.half-2.ensures.value

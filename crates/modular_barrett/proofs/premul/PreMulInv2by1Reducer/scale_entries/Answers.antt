@@ -1,5 +1,4 @@
 use Rattle.std.proofs.Common.{ℕ, ◌*◌, ◌/◌, ◌%◌, ◌^◌, ◌≡◌, ◌<◌, ◌∙◌, ap, arith, subst, sym}
-use Rattle.std.proofs.Math.Nat.{mul-lt-mul_of_pos_right}
 use Rattle.std.proofs.lemmas.Nat.{div-mul-add}
 use Rattle.modular_word.specs.Division.{IsDivision}
 use Rattle.modular_reduced.proofs.ListSteps.{each_taken, held_values, held_checked}
@@ -8,12 +7,6 @@ use Rattle.modular_barrett.specs.Scaling.{scale, scaled_form, scaled_value}
 use Rattle.modular_barrett.specs.ScaledForms.{scaled_canonical}
 use Rattle.modular_barrett.proofs.ScaledLemmas.{divisor_is, stands_for, value_below}
 use Rattle.modular_barrett.proofs.premul.PreMulInv2by1Reducer.scale_entries.Goals as goal
-
-pub div_rem_2by1-quotient-requires : goal.div_rem_2by1-quotient-requires
-div_rem_2by1-quotient-requires g c =
-    let some : 0 < g.T.PathWord.base = omega (arith, c.merge.ensures.high_fits) in
-    let below = value_below c.args.self.now.scaling c.residue-value.ensures.form.below in
-    omega (arith, mul-lt-mul_of_pos_right below some, c.merge.ensures.value, c.zero.ensures)
 
 -- a factor with the quotient of its product with the base
 is_factor_of_division : (b m w q r : ℕ) → w < m → IsDivision (b * w) m q r → IsFactor b m w q

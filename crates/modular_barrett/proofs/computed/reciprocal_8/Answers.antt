@@ -1,7 +1,0 @@
-use Rattle.std.proofs.Common.{◌-◌, ◌^◌, arith}
-use Rattle.std.proofs.lemmas.Nat.{and_mask}
-use Rattle.modular_prim.proofs.ReciprocalOf.{reciprocal_of}
-use Rattle.modular_barrett.proofs.computed.reciprocal_8.Goals as goal
-
-pub returns : goal.returns
-returns c = reciprocal_of (2 ^ 8) c.args.d _ (2 ^ 16 - 1) c.ranges.d.fits c.requires (omega arith) (and_mask _ 8)
