@@ -1,0 +1,149 @@
+-- Polynomials with given roots, and the values of their derivatives there.
+use Rattle.std.proofs.Common.{◌≡◌, ◌≢◌, ℕ, zero, suc, ◌+◌, ◌-◌, ◌*◌, ◌%◌, ◌^◌, ◌<◌, ◌≤◌, pos, ◌-ℤ◌, ap, sym, ◌∙◌, arith}
+use Rattle.std.proofs.Common.{refl, inl, inr, cond, eqb}
+use Rattle.std.proofs.Math.Nat.{zero-mod}
+use Rattle.std.proofs.lemmas.Bool.{cases_eq}
+use Rattle.std.proofs.lemmas.Bool.Decides.{eqb_tells}
+use Rattle.num_modular.specs.Congruence.{Congruent}
+use Rattle.num_modular.specs.NumberLaws.{mod_of_eq, mod_sym, mod_add, sum_below-suc}
+use Rattle.num_modular.specs.Polynomials.{polynomial_at}
+use Rattle.num_modular.specs.PolynomialLaws.{polynomial-first, polynomial-same}
+use Rattle.num_modular.specs.ProductLaws.{product-same}
+use Rattle.num_modular.specs.Products.{product_below}
+use Rattle.num_modular.specs.Residues.{residue}
+use Rattle.ring_codes.specs.KeyEquations.{shifted}
+use Rattle.ring_codes.proofs.Congruences.{mod_of_combination, mod_times}
+use Rattle.ring_codes.proofs.KeyPairs.{shifted-values}
+use Rattle.ring_codes.proofs.NearestWords.{combined, difference_alike, at_root}
+use Rattle.ring_codes.proofs.NewtonForms.{no_difference, product-none}
+use Rattle.ring_erasures.specs.Erasures.{locator_at, root_weight}
+
+-- the coefficients of the derivative
+abbrev pub derivative : (ℕ → ℕ) → ℕ → ℕ
+derivative p i = suc i * p (suc i)
+
+-- the coefficients of X + r times a polynomial
+times_root : ℕ → (ℕ → ℕ) → ℕ → ℕ
+times_root r h i = shifted h i + r * h i
+
+times_root_behind : (d r i : ℕ) (h : ℕ → ℕ) → ((i : ℕ) → d ≤ i → h i ≡ 0) → suc d ≤ i → times_root r h i ≡ 0
+unfolding times_root shifted
+times_root_behind d r zero h none l = absurd (omega (arith, l))
+times_root_behind d r (suc i) h none l =
+    let p = none i (omega (arith, l)) in
+    let q = ap (λ w. r * w) (none (suc i) (omega (arith, l))) in
+    omega (arith, p, q)
+
+times_root_value : (d r X : ℕ) (h : ℕ → ℕ) → h d ≡ 0
+    → polynomial_at (suc d) (times_root r h) X ≡ (X + r) * polynomial_at d h X
+unfolding times_root
+times_root_value d r X h none =
+    let parts = combined (suc d) (shifted h) h r X in
+    let first = shifted-values d X h in
+    let more = sum_below-suc d (λ i. h i * X ^ i) in
+    let gone = ap (λ w. w * X ^ d) none in
+    let same : polynomial_at (suc d) h X ≡ polynomial_at d h X = omega (arith, more, gone) in
+    let rest = ap (λ w. r * w) same in
+    omega (arith, parts, first, rest)
+
+-- (X + r)·h has the derivative h + (X + r)·h'
+derivative_of_times_root : (d r X : ℕ) (h : ℕ → ℕ) → h d ≡ 0
+    → polynomial_at d (derivative (times_root r h)) X
+    ≡ polynomial_at d h X + (X + r) * polynomial_at d (derivative h) X
+unfolding times_root shifted
+derivative_of_times_root d r X h none =
+    let a : ℕ = polynomial_at d (λ i. i * h i) X in
+    let s : ℕ = polynomial_at d (derivative h) X in
+    let parts : polynomial_at d (λ i. suc i * (h i + r * h (suc i))) X
+    ≡ polynomial_at d (λ i. (i * h i + 1 * h i) + r * derivative h i) X =
+    polynomial-same d (λ i. suc i * (h i + r * h (suc i))) (λ i. (i * h i + 1 * h i) + r * derivative h i) X (λ i l. omega arith) in
+    let split = combined d (λ i. i * h i + 1 * h i) (derivative h) r X in
+    let inner = combined d (λ i. i * h i) h 1 X in
+    let more = sum_below-suc d (λ i. i * h i * X ^ i) in
+    let gone = ap (λ w. d * w * X ^ d) none in
+    let front = polynomial-first d (λ i. i * h i) X in
+    let turned : a ≡ X * s = omega (arith, more, gone, front) in
+    omega (arith, parts, split, inner, turned)
+
+-- the coefficients of f times the product of X - z for the c points z
+pub rooted : ℕ → ℕ → (ℕ → ℕ) → (ℕ → ℕ) → ℕ → ℕ
+rooted m zero z f = f
+rooted m (suc c) z f = times_root ((m - 1) * z c) (rooted m c z f)
+
+pub rooted_behind : (m k c : ℕ) (z f : ℕ → ℕ) → ((i : ℕ) → k ≤ i → f i ≡ 0)
+    → (i : ℕ) → k + c ≤ i → rooted m c z f i ≡ 0
+unfolding rooted
+rooted_behind m k zero z f none i l = none i (omega (arith, l))
+rooted_behind m k (suc c) z f none i l =
+    times_root_behind (k + c) ((m - 1) * z c) i (rooted m c z f) (rooted_behind m k c z f none) (omega (arith, l))
+
+pub rooted_value : (m k c X : ℕ) (z f : ℕ → ℕ) → 0 < m → ((i : ℕ) → k ≤ i → f i ≡ 0)
+    → Congruent m (polynomial_at (k + c) (rooted m c z f) X) (polynomial_at k f X * locator_at m c z X)
+unfolding rooted product_below
+rooted_value m k zero X z f positive none =
+    let same : k + 0 ≡ k = omega arith in
+    let p = ap (λ n. polynomial_at n f X) same in mod_of_eq (omega (arith, p))
+rooted_value m k (suc c) X z f positive none =
+    let r : ℕ = (m - 1) * z c in let h = rooted m c z f in
+    let next : k + suc c ≡ suc (k + c) = omega arith in
+    let size = ap (λ n. polynomial_at n (times_root r h) X) next in
+    let value = times_root_value (k + c) r X h (rooted_behind m k c z f none (k + c) (omega arith)) in
+    mod_of_combination (mod_add (mod_times (X + r) (rooted_value m k c X z f positive none))
+    (mod_times (polynomial_at k f X * locator_at m c z X) (mod_sym (difference_alike m X (z c) positive))))
+    (omega (arith, size, value))
+
+-- the weight of the last of c + 1 roots, and of another one
+last_weight : (m c l : ℕ) (z : ℕ → ℕ) → l ≡ c → root_weight m (suc c) z l ≡ locator_at m c z (z l)
+unfolding product_below
+last_weight m c l z e =
+    let g : ℕ → ℕ = λ j. cond (eqb j l) 1 (residue m (pos (z l) -ℤ pos (z j))) in
+    let before : product_below c g ≡ locator_at m c z (z l) =
+    product-same c g (λ j. residue m (pos (z l) -ℤ pos (z j))) (λ j b. elim (eqb_tells j l) [
+      | inl p ↦ let q = p.1 in absurd (omega (arith, q, b, e))
+      | inr p ↦ rw p.0 refl
+    ]) in
+    let one : g c ≡ 1 = elim (eqb_tells c l) [ inl p ↦ rw p.0 refl | inr p ↦ absurd (p.1 (sym e)) ] in
+    let whole = ap (λ v. product_below c g * v) one in
+    omega (arith, whole, before)
+
+other_weight : (m c l : ℕ) (z : ℕ → ℕ) → l ≢ c
+    → root_weight m (suc c) z l ≡ root_weight m c z l * residue m (pos (z l) -ℤ pos (z c))
+unfolding product_below
+other_weight m c l z other =
+    let g : ℕ → ℕ = λ j. cond (eqb j l) 1 (residue m (pos (z l) -ℤ pos (z j))) in
+    let last : g c ≡ residue m (pos (z l) -ℤ pos (z c)) =
+    elim (eqb_tells c l) [ inl p ↦ absurd (other (sym p.1)) | inr p ↦ rw p.0 refl ] in
+    ap (λ v. product_below c g * v) last
+
+-- at a root z l the derivative of f times the product of X - z is f times the root's weight
+pub derivative_at_root : (m k c l : ℕ) (z f : ℕ → ℕ) → 0 < m → ((i : ℕ) → k ≤ i → f i ≡ 0) → l < c
+    → Congruent m (polynomial_at (k + c) (derivative (rooted m c z f)) (z l))
+    (polynomial_at k f (z l) * root_weight m c z l)
+unfolding rooted
+derivative_at_root m k zero l z f positive none within = absurd (omega arith)
+derivative_at_root m k (suc c) l z f positive none within =
+    let X : ℕ = z l in let r : ℕ = (m - 1) * z c in let h = rooted m c z f in
+    let F : ℕ = polynomial_at k f X in let D : ℕ = polynomial_at (k + c) (derivative h) X in
+    let next : k + suc c ≡ suc (k + c) = omega arith in
+    let size = ap (λ n. polynomial_at n (derivative (times_root r h)) X) next in
+    let top = sum_below-suc (k + c) (λ i. derivative (times_root r h) i * X ^ i) in
+    let none_more = times_root_behind (k + c) r (suc (k + c)) h (rooted_behind m k c z f none) (omega arith) in
+    let gone = ap (λ w. suc (k + c) * w * X ^ (k + c)) none_more in
+    let whole = derivative_of_times_root (k + c) r X h (rooted_behind m k c z f none (k + c) (omega arith)) in
+    let value = rooted_value m k c X z f positive none in
+    let near = difference_alike m X (z c) positive in
+    elim (cases_eq l c) [
+      | inl e ↦
+          let zero_there : Congruent m (X + r) 0 = record {
+            same = ap (λ v. (v + r) % m) (ap z e) ∙ at_root m (z c) positive ∙ sym (zero-mod m);
+          } in
+          let w = ap (λ v. F * v) (last_weight m c l z e) in
+          mod_of_combination (mod_add value (mod_times D zero_there)) (omega (arith, size, top, gone, whole, w))
+      | inr other ↦
+          let root = product-none c l (λ j. residue m (pos X -ℤ pos (z j))) (omega arith) (no_difference m X) in
+          let away = ap (λ v. F * v) root in
+          let before = derivative_at_root m k c l z f positive none (omega arith) in
+          let w = ap (λ v. F * v) (other_weight m c l z other) in
+          mod_of_combination (mod_add value (mod_add (mod_times (X + r) before)
+          (mod_times (F * root_weight m c z l) (mod_sym near)))) (omega (arith, size, top, gone, whole, w, away))
+    ]

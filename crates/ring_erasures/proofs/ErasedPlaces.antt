@@ -1,0 +1,66 @@
+-- Places of lost symbols, and the others.
+use Rattle.std.proofs.Common.{◌≡◌, ◌≢◌, ℕ, zero, suc, ◌+◌, ◌<◌, List, length, slice_index, ◌⊎◌, inl, inr, sym, ◌∙◌}
+use Rattle.std.proofs.Common.{arith, refl, subst}
+use Rattle.std.proofs.Math.ListN.{set}
+use Rattle.std.proofs.lemmas.Bool.{cases_eq, cases_lt}
+use Rattle.num_modular.specs.Callers.{entry, entry_written, entry_kept}
+use Rattle.num_modular.specs.Polynomials.{HaveUnitDifferences}
+use Rattle.ring_codes.specs.Erasure.{ArePlaces}
+use Rattle.ring_erasures.specs.Erasures.{IsKept, AreErased}
+
+found_below : (c i : ℕ) (s : ℕ → ℕ) → ((l : ℕ) × (l < c) × (s l ≡ i)) ⊎ ((l : ℕ) → l < c → s l ≢ i)
+found_below zero i s = inr (λ l b. absurd (omega arith))
+found_below (suc c) i s = elim (cases_eq (s c) i) [
+  | inl e ↦ inl (c, omega arith, e)
+  | inr other ↦ elim (found_below c i s) [
+    | inl there ↦ let b = there.1 in inl (there.0, omega (arith, b), there.2)
+    | inr none ↦ inr (λ l b. elim (cases_eq l c) [
+      | inl e ↦ λ same. other (rw (← e) same)
+      | inr before ↦ none l (omega arith)
+    ])
+  ]
+]
+
+-- a symbol is lost at a place, or none is
+pub lost_or_kept : (lost : List ℕ) (i : ℕ) → ((l : ℕ) × (l < length lost) × (slice_index lost l ≡ i)) ⊎ IsKept lost i
+lost_or_kept lost i = found_below (length lost) i (slice_index lost)
+
+-- the points at the lost places fit
+pub lost_points_fit : (m k n : ℕ) (x : ℕ → ℕ) (lost : List ℕ) → AreErased k n lost → HaveUnitDifferences m n x
+    → HaveUnitDifferences m (length lost) (λ l. x (slice_index lost l))
+lost_points_fit m k n x lost erased fit = record {
+  unit = λ i j a b other. fit.unit (slice_index lost i) (slice_index lost j) (erased.places.within i a)
+      (erased.places.within j b) (elim (cases_eq (slice_index lost i) (slice_index lost j)) [
+        | inl e ↦ absurd (apart i j a b other e)
+        | inr o ↦ o
+      ]);
+}
+  where
+    apart : (i j : ℕ) → i < length lost → j < length lost → i ≢ j → slice_index lost i ≢ slice_index lost j
+    apart i j a b other e = elim (cases_lt i j) [
+      | inl before ↦ erased.places.distinct i j before b e
+      | inr behind ↦ erased.places.distinct j i (omega arith) a (sym e)
+    ]
+
+-- from the values old to the values new: v i stands at lost place number i for the first c of them, and no other is changed
+pub record IsScattered (c : ℕ) (lost : List ℕ) (v old new : ℕ → ℕ) : Type 0 where
+  pub there : (i : ℕ) → i < c → new (slice_index lost i) ≡ v i
+  pub kept : (p : ℕ) → ((i : ℕ) → i < c → slice_index lost i ≢ p) → new p ≡ old p
+
+pub scattered_none : (lost : List ℕ) (v old : ℕ → ℕ) → IsScattered 0 lost v old old
+scattered_none lost v old = record { there = λ i l. absurd (omega arith); kept = λ p none. refl }
+
+pub scattered_more : {T : Type 0} (number : T → ℕ) (value : ℕ → ℕ → ℕ) (m c : ℕ) (lost : List ℕ) (v old : ℕ → ℕ) (list : List T)
+    (a : T) → ArePlaces (length lost) (length list) lost → c < length lost
+    → IsScattered c lost v old (entry number value m list) → value m (number a) ≡ v c
+    → IsScattered (c + 1) lost v old (entry number value m (set list (slice_index lost c) a))
+scattered_more number value m c lost v old list a places within before is = record {
+  there = λ i l. elim (cases_eq i c) [
+    | inl e ↦ subst (λ j. entry number value m (set list (slice_index lost c) a) (slice_index lost j) ≡ v j) (sym e)
+        (entry_written number value m list (slice_index lost c) a (places.within c within) ∙ is)
+    | inr other ↦ entry_kept number value m list (slice_index lost c) (slice_index lost i) a
+        (places.distinct i c (omega arith) within) ∙ before.there i (omega arith)
+  ];
+  kept = λ p none. entry_kept number value m list (slice_index lost c) p a (λ e. none c (omega arith) (sym e))
+      ∙ before.kept p (λ i l. none i (omega arith));
+}

@@ -1,0 +1,24 @@
+-- What a field says of a root: n is one power of two, so that it suits n is known.
+use Rattle.std.proofs.Common.{◌≡◌, ℕ, ◌^◌, arith, inl, inr}
+use Rattle.std.proofs.Math.Logic.{∥∥₁_elim}
+use Rattle.std.proofs.lemmas.Bool.{cases_lt}
+use Rattle.std.specs.Int.{IsPowerOfTwo}
+use Rattle.num_modular.specs.Transforms.{Suits}
+use lib.Pow.{pow-lt}
+use mathlib.Core.HLevel.{Σ_prop_path}
+use native.Mathlib.Nat.{ℕ_set}
+
+one_power : (n : ℕ) (u v : IsPowerOfTwo n) → u ≡ v
+one_power n u v = Σ_prop_path (λ k. ℕ_set n (2 ^ k)) (elim (cases_lt u.0 v.0) [
+  | inl less ↦ let h = pow-lt less in let a = u.1 in let b = v.1 in absurd (omega (arith, h, a, b))
+  | inr more ↦ elim (cases_lt v.0 u.0) [
+    | inl less ↦ let h = pow-lt less in let a = u.1 in let b = v.1 in absurd (omega (arith, h, a, b))
+    | inr other ↦ omega (arith, more, other)
+  ]
+])
+
+pub suits_known : (m g n : ℕ) → ∥ Suits m g n ∥₁ → Suits m g n
+suits_known m g n known = record {
+  power_of_two = ∥∥₁_elim known (one_power n) (λ suits. suits.power_of_two);
+  half_turn = λ more. ∥∥₁_elim known (λ p q. ℕ_set _ _ p q) (λ suits. suits.half_turn more);
+}

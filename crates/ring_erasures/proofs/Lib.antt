@@ -1,0 +1,5 @@
+pub mod Derivatives
+pub mod ErasedPlaces
+pub mod KnownRoots
+pub mod Locators
+pub mod RestoredWords

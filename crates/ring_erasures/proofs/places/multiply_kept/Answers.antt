@@ -1,0 +1,50 @@
+use Rattle.num_modular.specs.Callers.{◌*◌, ◌%◌, ◌∙◌, ap, subst, sym, arith, length}
+use Rattle.num_modular.specs.Callers.{entry, entry_read, forms_written, hold_more, held_forms, held_entry}
+use Rattle.std.proofs.Common.{slice_index}
+use Rattle.std.proofs.Math.Nat.{zero-mod}
+use Rattle.ring_codes.specs.Erasure.{ArePlaces}
+use Rattle.ring_codes.proofs.Symbols.{entry_below}
+use Rattle.ring_erasures.proofs.ErasedPlaces.{scattered_none, scattered_more}
+use Rattle.ring_erasures.proofs.places.multiply_kept.Goals as goal
+
+pub symbols-preserved : goal.symbols-preserved
+symbols-preserved g c =
+    let ring = g.R.Reducer in let m = ring.modulus c.args.r.now in let number = g.T.RingWord.number in
+    let word = c.args.word.now in let factors = c.args.factors.now in let products = c.symbols.products in let i = c.symbols.i in
+    let below = c.symbols-test.true in let kept = c.symbols.auto.products in
+    let left = entry_read number ring.value m word i _ (omega (arith, below, kept, c.requires.each_symbol)) c.index-word-i.is in
+    let right = entry_read number ring.value m factors i _ (omega (arith, below, kept, c.requires.each_factor)) c.index-factors-i.is in
+    hold_more number ring.form ring.value m products i c.mul.result
+    (λ i. (entry number ring.value m word i * entry number ring.value m factors i) % m) (omega (arith, below, kept)) c.symbols.invariant
+    c.mul.ensures.checked
+    (c.mul.ensures.value ∙ ap (λ v. (v * ring.value m (number c.index-factors-i.result)) % m) left
+    ∙ ap (λ v. (entry number ring.value m word i * v) % m) right)
+
+pub places-init : goal.places-init
+places-init g c =
+    let ring = g.R.Reducer in let m = ring.modulus c.args.r.now in (
+      held_forms g.T.RingWord.number ring.form ring.value m c.symbols.products _ _ c.symbols.invariant (omega arith),
+      scattered_none c.args.lost.now _ _,
+    )
+
+pub places-preserved : goal.places-preserved
+places-preserved g c =
+    let ring = g.R.Reducer in let m = ring.modulus c.args.r.now in let number = g.T.RingWord.number in
+    let products = c.places.products in let l = c.places.l in let lost = c.args.lost.now in
+    let so_far = c.places.invariant in let zero = c.transform-zero in (
+      forms_written number ring.form ring.value m products (slice_index lost l) zero.result zero.ensures.checked so_far.0,
+      scattered_more number ring.value m l lost _ _ products zero.result
+          (subst (λ n. ArePlaces (length lost) n lost) (sym (c.places.auto.products ∙ c.symbols.auto.products)) c.requires.places) c.places-test.true so_far.1
+          (zero.ensures.value ∙ ap (λ v. v % m) c.zero.ensures ∙ zero-mod m),
+    )
+
+pub returns-clause-products : goal.returns-clause-products
+returns-clause-products g c =
+    let ring = g.R.Reducer in let m = ring.modulus c.args.r.now in let number = g.T.RingWord.number in
+    let kept = c.places.auto.products in let before = c.symbols.auto.products in record {
+      zeros = λ l below. c.places.invariant.1.there l (omega arith);
+      each = λ i below left. c.places.invariant.1.kept i (λ l b. left l (omega arith))
+          ∙ held_entry number ring.form ring.value m c.symbols.products _ _ i c.symbols.invariant (omega arith) (omega arith);
+      below = λ i b. entry_below number ring.form ring.value m c.places.products i c.places.invariant.0
+          (omega (arith, b, kept, before));
+    }

@@ -1,0 +1,30 @@
+use Rattle.num_modular.specs.Callers.{◌<◌, subst, sym, arith, length}
+use Rattle.num_modular.specs.Callers.{entry, entry_read, form_read, forms_written}
+use Rattle.std.proofs.Common.{slice_index}
+use Rattle.ring_codes.specs.Erasure.{ArePlaces}
+use Rattle.ring_erasures.proofs.ErasedPlaces.{scattered_none, scattered_more}
+use Rattle.ring_erasures.proofs.places.scatter.Goals as goal
+
+pub places-init : goal.places-init
+places-init g c = (c.requires.list, scattered_none c.args.lost.now _ _)
+
+pub places-preserved : goal.places-preserved
+places-preserved g c =
+    let ring = g.R.Reducer in let m = ring.modulus c.args._r.now in let number = g.T.RingWord.number in
+    let numbers = c.args.numbers.now in let list = c.places.list in let l = c.places.l in let lost = c.args.lost.now in
+    let so_far = c.places.invariant in let each = c.requires.each in let below = c.places-test.true in
+    let x = c.index-numbers-l.result in
+    let within : l < length numbers = omega (arith, each, below) in
+    let is = c.index-numbers-l.is in (
+      forms_written number ring.form ring.value m list (slice_index lost l) x
+          (form_read number ring.form ring.value m numbers l x c.requires.numbers within is) so_far.0,
+      scattered_more number ring.value m l lost (entry number ring.value m numbers) _ list x
+          (subst (λ n. ArePlaces (length lost) n lost) (sym c.places.auto.list) c.requires.places) below so_far.1
+          (entry_read number ring.value m numbers l x within is),
+    )
+
+pub returns-clause-there : goal.returns-clause-there
+returns-clause-there g c l below = c.places.invariant.1.there l (omega arith)
+
+pub returns-clause-kept : goal.returns-clause-kept
+returns-clause-kept g c i kept = c.places.invariant.1.kept i (λ l b. kept l (omega arith))

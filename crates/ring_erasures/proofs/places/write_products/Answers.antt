@@ -1,0 +1,31 @@
+use Rattle.num_modular.specs.Callers.{◌*◌, ◌%◌, ◌∙◌, ap, subst, sym, arith, length}
+use Rattle.num_modular.specs.Callers.{entry, entry_read, forms_written}
+use Rattle.std.proofs.Common.{slice_index}
+use Rattle.ring_codes.specs.Erasure.{ArePlaces}
+use Rattle.ring_erasures.proofs.ErasedPlaces.{scattered_none, scattered_more}
+use Rattle.ring_erasures.proofs.places.write_products.Goals as goal
+
+pub places-init : goal.places-init
+places-init g c = (c.requires.word, scattered_none c.args.lost.now _ _)
+
+pub places-preserved : goal.places-preserved
+places-preserved g c =
+    let ring = g.R.Reducer in let m = ring.modulus c.args.r.now in let number = g.T.RingWord.number in
+    let values = c.args.values.now in let factors = c.args.factors.now in let word = c.places.word in
+    let l = c.places.l in let lost = c.args.lost.now in let p = slice_index lost l in
+    let so_far = c.places.invariant in let below = c.places-test.true in
+    let there = c.requires.places.within l below in
+    let left = entry_read number ring.value m values p _ (omega (arith, there, c.requires.each_value)) c.index-values-place.is in
+    let right = entry_read number ring.value m factors p _ (omega (arith, there, c.requires.each_factor)) c.index-factors-place.is in (
+      forms_written number ring.form ring.value m word p c.mul.result c.mul.ensures.checked so_far.0,
+      scattered_more number ring.value m l lost _ _ word c.mul.result
+          (subst (λ n. ArePlaces (length lost) n lost) (sym c.places.auto.word) c.requires.places) below so_far.1
+          (c.mul.ensures.value ∙ ap (λ v. (v * ring.value m (number c.index-factors-place.result)) % m) left
+          ∙ ap (λ v. (entry number ring.value m values p * v) % m) right),
+    )
+
+pub returns-clause-there : goal.returns-clause-there
+returns-clause-there g c l below = c.places.invariant.1.there l (omega arith)
+
+pub returns-clause-kept : goal.returns-clause-kept
+returns-clause-kept g c i kept = c.places.invariant.1.kept i (λ l b. kept l (omega arith))

@@ -1,0 +1,67 @@
+//! The polynomial whose roots are the points at the lost places, and derivatives.
+
+ghost use Rattle.std.specs.Prelude.{◌≡◌, ℕ, ◌+◌, ◌*◌, ◌%◌, ◌<◌, ◌≤◌, All, length};
+ghost use Rattle.num_modular.specs.Congruence.{Congruent};
+ghost use Rattle.num_modular.specs.Entries.{entry};
+ghost use Rattle.num_modular.specs.Forms.{IsForm};
+ghost use Rattle.ring_codes.specs.KeyEquations.{shifted};
+ghost use Rattle.ring_erasures.specs.Erasures.{IsLocator};
+
+use num_modular::{Reducer, RingWord};
+
+// Multiplies a polynomial by X - x, in place; a coefficient that has no place is dropped.
+#[tactic(auto, using(num_modular::specs::Callers::form_read))]
+fn multiply_by_root<T: RingWord, R: Reducer<T>>(r: &R, point: &T, coefficients: &mut [T])
+    requires point { IsForm R.form R.value (R.modulus r.now) (T.number point.now) }
+    requires coefficients { All (λ f. IsForm R.form R.value (R.modulus r.now) (T.number f)) coefficients.old }
+    ensures checked { All (λ f. IsForm R.form R.value (R.modulus r.now) (T.number f)) coefficients.new }
+    ensures product { let m = R.modulus r.now in (i : ℕ) → i < length coefficients.old →
+        Congruent m (entry T.number R.value m coefficients.new i
+        + R.value m (T.number point.now) * entry T.number R.value m coefficients.old i)
+        (shifted (entry T.number R.value m coefficients.old) i) }
+{
+    let mut before = r.transform(T::zero());
+    'coefficients: for i in 0..coefficients.len() {
+        let coefficient = coefficients[i];
+        let product = r.mul(point, &coefficient);
+        coefficients[i] = r.sub(&before, &product);
+        before = coefficient;
+    }
+}
+
+// Writes the coefficients, the constant first, of the product of X - x for the points x, followed by zeros.
+#[tactic(auto, using(num_modular::specs::Callers::hold_more, ring_codes::proofs::Counts::zero_mod))]
+pub fn expand_locator<T: RingWord, R: Reducer<T>>(r: &R, points: &[T], coefficients: &mut [T])
+    requires points { All (λ f. IsForm R.form R.value (R.modulus r.now) (T.number f)) points.now }
+    requires room { length points.now < length coefficients.old }
+    ensures checked { All (λ f. IsForm R.form R.value (R.modulus r.now) (T.number f)) coefficients.new }
+    ensures roots { let m = R.modulus r.now in IsLocator m (length coefficients.old) (length points.now)
+        (entry T.number R.value m points.now) (entry T.number R.value m coefficients.new) }
+{
+    let zero = r.transform(T::zero());
+    'zeros: for i in 0..coefficients.len() {
+        coefficients[i] = zero;
+    }
+    coefficients[0] = r.transform(T::one());
+    'points: for i in 0..points.len() {
+        multiply_by_root(r, &points[i], coefficients);
+    }
+}
+
+// Writes the coefficients of the derivative, one less; the last place is left as it is.
+#[tactic(auto, using(num_modular::specs::Callers::form_read))]
+pub fn differentiate<T: RingWord, R: Reducer<T>>(r: &R, coefficients: &mut [T])
+    requires coefficients { All (λ f. IsForm R.form R.value (R.modulus r.now) (T.number f)) coefficients.old }
+    requires some { 0 < length coefficients.old }
+    ensures checked { All (λ f. IsForm R.form R.value (R.modulus r.now) (T.number f)) coefficients.new }
+    ensures derivative { let m = R.modulus r.now in (i : ℕ) → i + 1 < length coefficients.old →
+        entry T.number R.value m coefficients.new i
+        ≡ ((i + 1) * entry T.number R.value m coefficients.old (i + 1)) % m }
+{
+    let one = r.transform(T::one());
+    let mut index = r.transform(T::zero());
+    'coefficients: for i in 0..coefficients.len() - 1 {
+        index = r.add(&index, &one);
+        coefficients[i] = r.mul(&index, &coefficients[i + 1]);
+    }
+}

@@ -1,0 +1,124 @@
+//! Places of lost symbols.
+
+ghost use Rattle.std.specs.Prelude.{◌≡◌, ℕ, ◌+◌, ◌*◌, ◌%◌, ◌<◌, ◌≤◌, All, MatchResult, length, slice_index};
+ghost use Rattle.num_modular.specs.Entries.{entry};
+ghost use Rattle.num_modular.specs.Forms.{IsForm};
+ghost use Rattle.ring_codes.specs.Erasure.{ArePlaces};
+ghost use Rattle.ring_erasures.specs.Erasures.{IsKept, AreErased, AreKeptProducts, IsErasureFault};
+
+use num_modular::{Reducer, RingWord};
+use ring_codes::erasure::RestoreError;
+
+// Whether the lost places are right: what is wrong first, otherwise. There is a mark for each symbol, to be overwritten.
+pub fn check_places<T: RingWord>(
+    k: usize,
+    lost: &[usize],
+    marks: &mut [T],
+) -> Result<(), RestoreError>
+    ensures { (m g : ℕ) → MatchResult result (λ _. AreErased k (length marks.old) lost.now)
+        (λ e. IsErasureFault m g k (length marks.old) lost.now e) }
+{
+    if k > marks.len() || lost.len() > marks.len() - k {
+        return Err(RestoreError::TooFewSymbols);
+    }
+    'marks: for i in 0..marks.len() {
+        marks[i] = T::zero();
+    }
+    'places: for i in 0..lost.len() {
+        let place = lost[i];
+        if place >= marks.len() {
+            return Err(RestoreError::PlaceOutOfRange);
+        }
+        if !marks[place].is_zero_word() {
+            return Err(RestoreError::PlaceTwice);
+        }
+        marks[place] = T::one();
+    }
+    Ok(())
+}
+
+// Copies the numbers at the lost places.
+pub fn gather<T: RingWord, R: Reducer<T>>(_r: &R, lost: &[usize], list: &[T], numbers: &mut [T])
+    requires list { All (λ f. IsForm R.form R.value (R.modulus _r.now) (T.number f)) list.now }
+    requires within { (l : ℕ) → l < length lost.now → slice_index lost.now l < length list.now }
+    requires room { length numbers.old ≡ length lost.now }
+    ensures checked { All (λ f. IsForm R.form R.value (R.modulus _r.now) (T.number f)) numbers.new }
+    ensures same { let m = R.modulus _r.now in (l : ℕ) → l < length lost.now →
+        entry T.number R.value m numbers.new l ≡ entry T.number R.value m list.now (slice_index lost.now l) }
+{
+    'places: for l in 0..lost.len() {
+        numbers[l] = list[lost[l]];
+    }
+}
+
+// Writes the numbers to the lost places.
+pub fn scatter<T: RingWord, R: Reducer<T>>(_r: &R, lost: &[usize], numbers: &[T], list: &mut [T])
+    requires numbers { All (λ f. IsForm R.form R.value (R.modulus _r.now) (T.number f)) numbers.now }
+    requires list { All (λ f. IsForm R.form R.value (R.modulus _r.now) (T.number f)) list.old }
+    requires each { length numbers.now ≡ length lost.now }
+    requires places { ArePlaces (length lost.now) (length list.old) lost.now }
+    ensures checked { All (λ f. IsForm R.form R.value (R.modulus _r.now) (T.number f)) list.new }
+    ensures there { let m = R.modulus _r.now in (l : ℕ) → l < length lost.now →
+        entry T.number R.value m list.new (slice_index lost.now l) ≡ entry T.number R.value m numbers.now l }
+    ensures kept { let m = R.modulus _r.now in (i : ℕ) → IsKept lost.now i →
+        entry T.number R.value m list.new i ≡ entry T.number R.value m list.old i }
+{
+    'places: for l in 0..lost.len() {
+        list[lost[l]] = numbers[l];
+    }
+}
+
+// Writes to the lost places the products of the values and the factors there.
+pub fn write_products<T: RingWord, R: Reducer<T>>(
+    r: &R,
+    lost: &[usize],
+    values: &[T],
+    factors: &[T],
+    word: &mut [T],
+)
+    requires values { All (λ f. IsForm R.form R.value (R.modulus r.now) (T.number f)) values.now }
+    requires factors { All (λ f. IsForm R.form R.value (R.modulus r.now) (T.number f)) factors.now }
+    requires word { All (λ f. IsForm R.form R.value (R.modulus r.now) (T.number f)) word.old }
+    requires each_value { length values.now ≡ length word.old }
+    requires each_factor { length factors.now ≡ length word.old }
+    requires places { ArePlaces (length lost.now) (length word.old) lost.now }
+    ensures checked { All (λ f. IsForm R.form R.value (R.modulus r.now) (T.number f)) word.new }
+    ensures there { let m = R.modulus r.now in (l : ℕ) → l < length lost.now →
+        entry T.number R.value m word.new (slice_index lost.now l)
+        ≡ (entry T.number R.value m values.now (slice_index lost.now l)
+        * entry T.number R.value m factors.now (slice_index lost.now l)) % m }
+    ensures kept { let m = R.modulus r.now in (i : ℕ) → IsKept lost.now i →
+        entry T.number R.value m word.new i ≡ entry T.number R.value m word.old i }
+{
+    'places: for l in 0..lost.len() {
+        let place = lost[l];
+        word[place] = r.mul(&values[place], &factors[place]);
+    }
+}
+
+// Writes the products of the symbols and their factors, and 0 at the lost places.
+pub fn multiply_kept<T: RingWord, R: Reducer<T>>(
+    r: &R,
+    lost: &[usize],
+    word: &[T],
+    factors: &[T],
+    products: &mut [T],
+)
+    requires word { All (λ f. IsForm R.form R.value (R.modulus r.now) (T.number f)) word.now }
+    requires factors { All (λ f. IsForm R.form R.value (R.modulus r.now) (T.number f)) factors.now }
+    requires each_symbol { length word.now ≡ length products.old }
+    requires each_factor { length factors.now ≡ length products.old }
+    requires places { ArePlaces (length lost.now) (length products.old) lost.now }
+    ensures checked { All (λ f. IsForm R.form R.value (R.modulus r.now) (T.number f)) products.new }
+    ensures products { let m = R.modulus r.now in AreKeptProducts m (length products.old) lost.now
+        (entry T.number R.value m word.now) (entry T.number R.value m factors.now)
+        (entry T.number R.value m products.new) }
+{
+    'symbols: for i in 0..products.len() {
+        products[i] = r.mul(&word[i], &factors[i]);
+    }
+    let zero = r.transform(T::zero());
+    'places: for l in 0..lost.len() {
+        products[lost[l]] = zero;
+    }
+}
