@@ -53,19 +53,30 @@ locator_more m (suc n) c x z e f positive is top same each a =
     (mod_times (a * a ^ n) (mod_sym gone)))))
     (omega (arith, parts, front, ap (λ v. a * v) last, point, product))
 
--- and the coefficients behind are still 0
-pub locator_behind : (m n c x : ℕ) (e f : ℕ → ℕ) → ((i : ℕ) → c < i → Congruent m (e i) 0)
-    → ((i : ℕ) → i < n → Congruent m (f i + x * e i) (shifted e i)) → ((i : ℕ) → n ≤ i → f i ≡ 0)
-    → (i : ℕ) → c + 1 < i → Congruent m (f i) 0
-locator_behind m n c x e f behind each past zero l = absurd (omega arith)
-locator_behind m n c x e f behind each past (suc i) l = elim (cases_lt (suc i) n) [
-  | inl b ↦
+-- each coefficient is that of the product, if those behind are 0
+pub product_behind : (m c x : ℕ) (e f : ℕ → ℕ) → ((i : ℕ) → c < i → Congruent m (e i) 0)
+    → ((i : ℕ) → i < c + 2 → Congruent m (f i + x * e i) (shifted e i)) → ((i : ℕ) → c + 2 ≤ i → f i ≡ e i)
+    → (i : ℕ) → Congruent m (f i + x * e i) (shifted e i)
+product_behind m c x e f behind each kept zero = each zero (omega arith)
+product_behind m c x e f behind each kept (suc i) = elim (cases_lt (suc i) (c + 2)) [
+  | inl b ↦ each (suc i) b
+  | inr b ↦
       let next : i + 1 ≡ suc i = omega arith in
       let moved = ap (shifted e) (sym next) ∙ shifted_next e i in
-      mod_of_combination (mod_add (each (suc i) b) (mod_add (behind i (omega arith))
-      (mod_times x (mod_sym (behind (suc i) (omega arith)))))) (omega (arith, moved))
-  | inr b ↦ mod_of_eq (past (suc i) b)
+      let same = kept (suc i) b in
+      mod_of_combination (mod_add (mod_times (1 + x) (behind (suc i) (omega (arith, b)))) (mod_sym (behind i (omega (arith, b)))))
+      (omega (arith, moved, same))
 ]
+
+-- and those behind are still 0
+pub locator_behind : (m c x : ℕ) (e f : ℕ → ℕ) → ((i : ℕ) → c < i → Congruent m (e i) 0)
+    → ((i : ℕ) → Congruent m (f i + x * e i) (shifted e i)) → (i : ℕ) → c + 1 < i → Congruent m (f i) 0
+locator_behind m c x e f behind each zero l = absurd (omega (arith, l))
+locator_behind m c x e f behind each (suc i) l =
+    let next : i + 1 ≡ suc i = omega arith in
+    let moved = ap (shifted e) (sym next) ∙ shifted_next e i in
+    mod_of_combination (mod_add (each (suc i)) (mod_add (behind i (omega (arith, l)))
+    (mod_times x (mod_sym (behind (suc i) (omega (arith, l))))))) (omega (arith, moved))
 
 -- the derivative has an inverse at each root, where the roots fit
 pub weight_unit : (m c l : ℕ) (z : ℕ → ℕ) → 0 < m → HaveUnitDifferences m c z → l < c → HasInverse m (root_weight m c z l)

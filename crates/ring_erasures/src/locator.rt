@@ -9,19 +9,27 @@ ghost use Rattle.ring_erasures.specs.Erasures.{IsLocator};
 
 use num_modular::{Reducer, RingWord};
 
-// Multiplies a polynomial by X - x, in place; a coefficient that has no place is dropped.
+// Multiplies a polynomial with `count` coefficients by X - x, in place; the coefficient that has no place is dropped.
 #[tactic(auto, using(num_modular::specs::Callers::form_read))]
-fn multiply_by_root<T: RingWord, R: Reducer<T>>(r: &R, point: &T, coefficients: &mut [T])
+fn multiply_by_root<T: RingWord, R: Reducer<T>>(
+    r: &R,
+    point: &T,
+    coefficients: &mut [T],
+    count: usize,
+)
     requires point { IsForm R.form R.value (R.modulus r.now) (T.number point.now) }
     requires coefficients { All (λ f. IsForm R.form R.value (R.modulus r.now) (T.number f)) coefficients.old }
+    requires within { count ≤ length coefficients.old }
     ensures checked { All (λ f. IsForm R.form R.value (R.modulus r.now) (T.number f)) coefficients.new }
-    ensures product { let m = R.modulus r.now in (i : ℕ) → i < length coefficients.old →
+    ensures product { let m = R.modulus r.now in (i : ℕ) → i < count →
         Congruent m (entry T.number R.value m coefficients.new i
         + R.value m (T.number point.now) * entry T.number R.value m coefficients.old i)
         (shifted (entry T.number R.value m coefficients.old) i) }
+    ensures behind { let m = R.modulus r.now in (i : ℕ) → count ≤ i →
+        entry T.number R.value m coefficients.new i ≡ entry T.number R.value m coefficients.old i }
 {
     let mut before = r.transform(T::zero());
-    'coefficients: for i in 0..coefficients.len() {
+    'coefficients: for i in 0..count {
         let coefficient = coefficients[i];
         let product = r.mul(point, &coefficient);
         coefficients[i] = r.sub(&before, &product);
@@ -44,7 +52,7 @@ pub fn expand_locator<T: RingWord, R: Reducer<T>>(r: &R, points: &[T], coefficie
     }
     coefficients[0] = r.transform(T::one());
     'points: for i in 0..points.len() {
-        multiply_by_root(r, &points[i], coefficients);
+        multiply_by_root(r, &points[i], coefficients, i + 2);
     }
 }
 

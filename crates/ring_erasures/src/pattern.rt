@@ -61,7 +61,7 @@ impl<'a, T: RingWord, R: Reducer<T>> ErasurePattern<'a, T, R> {
     /// Fills the factors, n of them, and returns the lost places prepared for words of n symbols.
     ///
     /// The contents of `factors` and `scratch` are ignored. Afterwards those of `scratch` are unspecified, and after an error
-    /// those of both. With c lost places it takes about n·c products, two transforms and one inversion.
+    /// those of both. With c lost places it takes about c²/2 products, two transforms and one inversion.
     ///
     /// Source: Didier, "Efficient erasure decoding of Reed-Solomon codes"; Soro and Lacan, "FNT-based Reed-Solomon erasure
     /// codes".

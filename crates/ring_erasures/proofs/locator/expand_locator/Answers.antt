@@ -7,7 +7,7 @@ use Rattle.std.proofs.Common.{inl, inr}
 use Rattle.std.proofs.Math.ListN.{set, length-set}
 use Rattle.std.proofs.lemmas.Bool.{cases_lt}
 use Rattle.ring_erasures.specs.Erasures.{IsLocator}
-use Rattle.ring_erasures.proofs.Locators.{locator_none, locator_more, locator_behind}
+use Rattle.ring_erasures.proofs.Locators.{locator_none, locator_more, product_behind, locator_behind}
 use Rattle.ring_erasures.proofs.locator.expand_locator.Goals as goal
 
 pub points-init : goal.points-init
@@ -38,11 +38,11 @@ points-preserved g c =
     let point = entry_read number ring.value m points i _ c.points-test.true c.index-points-i.is in
     let n : ℕ = length c.points.coefficients in let below = c.points-test.true in let room = c.requires.room in
     let kept = c.points.auto.coefficients in let before = c.zeros.auto.coefficients in
+    let all = product_behind m i _ _ _ so_far.2 c.multiply_by_root.ensures.product c.multiply_by_root.ensures.behind in
     let set_one = length-set c.zeros.coefficients 0 c.transform.result in (
       c.multiply_by_root.ensures.checked,
       subst (λ s. IsLocator m s (i + 1) (entry number ring.value m points) (entry number ring.value m c.multiply_by_root.new.coefficients))
           (sym c.multiply_by_root.auto.coefficients)
-          (locator_more m n i _ _ _ _ positive so_far.1 (so_far.2 (n - 1) (omega (arith, below, room, kept, before, set_one))) point c.multiply_by_root.ensures.product),
-      locator_behind m n i _ _ _ so_far.2 c.multiply_by_root.ensures.product
-          (λ j l. entry_past number ring.value m c.multiply_by_root.new.coefficients j (omega arith)),
+          (locator_more m n i _ _ _ _ positive so_far.1 (so_far.2 (n - 1) (omega (arith, below, room, kept, before, set_one))) point (λ j l. all j)),
+      locator_behind m i _ _ _ so_far.2 all,
     )
