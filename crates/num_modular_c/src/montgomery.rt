@@ -1,10 +1,10 @@
 //! Montgomery's representation modulo m, by a context that is precomputed of m.
 
-ghost use Rattle.std.specs.Prelude.{◌≡◌, ◌+◌, ◌*◌, ◌%◌, ◌^◌, ◌<◌, ◌≤◌, ◌↔◌, IsTrue, pos, ◌-ℤ◌, MatchOption};
+ghost use Rattle.std.specs.Prelude.{◌≡◌, ◌+◌, ◌*◌, ◌%◌, ◌^◌, ◌<◌, ◌≤◌, ◌↔◌, IsTrue, pos, ◌-ℤ◌, MatchOption, MatchResult};
 ghost use Rattle.num_modular.specs.Inverses.{HasInverse, IsInverse};
 ghost use Rattle.num_modular.specs.Residues.{residue};
 ghost use Rattle.num_modular_c.specs.Codes.{Did, Refused};
-ghost use Rattle.num_modular_c.specs.Contexts.{IsMontgomery, IsMontgomeryForm, IsMontgomeryFormOf, value_of};
+ghost use Rattle.num_modular_c.specs.Contexts.{IsContextFault, IsMontgomery, IsMontgomeryForm, IsMontgomeryFormOf, value_of};
 
 use crate::codes::{NM_BAD_ARGUMENT, NM_BAD_CONTEXT, NM_NO_INVERSE, NM_OK};
 use num_modular::{Montgomery, Reducer};
@@ -28,6 +28,40 @@ pub(crate) fn reducer(context: &NmMontgomery) -> Option<Montgomery<u64>>
         (λ r. (⟦<Montgomery<u64> as Reducer<u64>>⟧.modulus r ≡ context.now.modulus) × IsMontgomery context.now) }
 {
     Montgomery::restored(context.modulus, context.negated_inverse, context.square)
+}
+
+// The reducer of a context over which a word is a form, or the code that says what is wrong.
+fn reducer_with_form(context: &NmMontgomery, form: u64) -> Result<Montgomery<u64>, u32>
+    ensures { let m = context.now.modulus in MatchResult result
+        (λ r. (m ≡ ⟦<Montgomery<u64> as Reducer<u64>>⟧.modulus r) × IsMontgomery context.now × (form < m)
+        × IsMontgomeryForm m form)
+        (IsContextFault context.now (form < m)) }
+{
+    let Some(ring) = reducer(context) else {
+        return Err(NM_BAD_CONTEXT);
+    };
+    if !is_form(&ring, form) {
+        return Err(NM_BAD_ARGUMENT);
+    }
+    Ok(ring)
+}
+
+// The same for two words.
+fn reducer_with_forms(context: &NmMontgomery, a: u64, b: u64) -> Result<Montgomery<u64>, u32>
+    ensures { let m = context.now.modulus in MatchResult result
+        (λ r. (m ≡ ⟦<Montgomery<u64> as Reducer<u64>>⟧.modulus r) × IsMontgomery context.now × (a < m) × (b < m)
+        × IsMontgomeryForm m a × IsMontgomeryForm m b)
+        (IsContextFault context.now ((a < m) × (b < m))) }
+{
+    match reducer_with_form(context, a) {
+        Err(code) => Err(code),
+        Ok(ring) => {
+            if !is_form(&ring, b) {
+                return Err(NM_BAD_ARGUMENT);
+            }
+            Ok(ring)
+        }
+    }
 }
 
 // Whether a word is a form: it is below the modulus.
@@ -80,12 +114,10 @@ pub extern "C" fn nm_montgomery_residue(context: &NmMontgomery, form: u64, value
         IsMontgomery context.now → m ≤ form → Refused NM_BAD_ARGUMENT result value.old value.new }
     ensures bad_context { (IsMontgomery context.now → ⊥) → Refused NM_BAD_CONTEXT result value.old value.new }
 {
-    let Some(ring) = reducer(context) else {
-        return NM_BAD_CONTEXT;
+    let ring = match reducer_with_form(context, form) {
+        Ok(ring) => ring,
+        Err(code) => return code,
     };
-    if !is_form(&ring, form) {
-        return NM_BAD_ARGUMENT;
-    }
     *value = ring.residue(form);
     NM_OK
 }
@@ -101,12 +133,10 @@ pub extern "C" fn nm_montgomery_add(context: &NmMontgomery, a: u64, b: u64, sum:
         → Refused NM_BAD_ARGUMENT result sum.old sum.new }
     ensures bad_context { (IsMontgomery context.now → ⊥) → Refused NM_BAD_CONTEXT result sum.old sum.new }
 {
-    let Some(ring) = reducer(context) else {
-        return NM_BAD_CONTEXT;
+    let ring = match reducer_with_forms(context, a, b) {
+        Ok(ring) => ring,
+        Err(code) => return code,
     };
-    if !is_form(&ring, a) || !is_form(&ring, b) {
-        return NM_BAD_ARGUMENT;
-    }
     *sum = ring.add(&a, &b);
     NM_OK
 }
@@ -127,12 +157,10 @@ pub extern "C" fn nm_montgomery_sub(
         → Refused NM_BAD_ARGUMENT result difference.old difference.new }
     ensures bad_context { (IsMontgomery context.now → ⊥) → Refused NM_BAD_CONTEXT result difference.old difference.new }
 {
-    let Some(ring) = reducer(context) else {
-        return NM_BAD_CONTEXT;
+    let ring = match reducer_with_forms(context, a, b) {
+        Ok(ring) => ring,
+        Err(code) => return code,
     };
-    if !is_form(&ring, a) || !is_form(&ring, b) {
-        return NM_BAD_ARGUMENT;
-    }
     *difference = ring.sub(&a, &b);
     NM_OK
 }
@@ -153,12 +181,10 @@ pub extern "C" fn nm_montgomery_mul(
         → Refused NM_BAD_ARGUMENT result product.old product.new }
     ensures bad_context { (IsMontgomery context.now → ⊥) → Refused NM_BAD_CONTEXT result product.old product.new }
 {
-    let Some(ring) = reducer(context) else {
-        return NM_BAD_CONTEXT;
+    let ring = match reducer_with_forms(context, a, b) {
+        Ok(ring) => ring,
+        Err(code) => return code,
     };
-    if !is_form(&ring, a) || !is_form(&ring, b) {
-        return NM_BAD_ARGUMENT;
-    }
     *product = ring.mul(&a, &b);
     NM_OK
 }
@@ -178,12 +204,10 @@ pub extern "C" fn nm_montgomery_pow(
         IsMontgomery context.now → m ≤ form → Refused NM_BAD_ARGUMENT result power.old power.new }
     ensures bad_context { (IsMontgomery context.now → ⊥) → Refused NM_BAD_CONTEXT result power.old power.new }
 {
-    let Some(ring) = reducer(context) else {
-        return NM_BAD_CONTEXT;
+    let ring = match reducer_with_form(context, form) {
+        Ok(ring) => ring,
+        Err(code) => return code,
     };
-    if !is_form(&ring, form) {
-        return NM_BAD_ARGUMENT;
-    }
     *power = ring.pow(form, &exponent);
     NM_OK
 }
@@ -203,12 +227,10 @@ pub extern "C" fn nm_montgomery_inv(context: &NmMontgomery, form: u64, inverse: 
         IsMontgomery context.now → m ≤ form → Refused NM_BAD_ARGUMENT result inverse.old inverse.new }
     ensures bad_context { (IsMontgomery context.now → ⊥) → Refused NM_BAD_CONTEXT result inverse.old inverse.new }
 {
-    let Some(ring) = reducer(context) else {
-        return NM_BAD_CONTEXT;
+    let ring = match reducer_with_form(context, form) {
+        Ok(ring) => ring,
+        Err(code) => return code,
     };
-    if !is_form(&ring, form) {
-        return NM_BAD_ARGUMENT;
-    }
     let Some(found) = ring.inv(form) else {
         return NM_NO_INVERSE;
     };
