@@ -1,14 +1,14 @@
 //! Operations on lists of Montgomery forms, entry by entry, given a context.
 
-ghost use Rattle.std.specs.Prelude.{◌≡◌, ℕ, ◌+◌, ◌*◌, ◌%◌, ◌<◌, ◌↔◌, IsTrue, All, pos, ◌-ℤ◌, length, slice_index};
+ghost use Rattle.std.specs.Prelude.{◌≡◌, ℕ, ◌+◌, ◌*◌, ◌%◌, ◌<◌, ◌↔◌, IsTrue, All, pos, ◌-ℤ◌, length, slice_index, MatchResult};
 ghost use Rattle.num_modular.specs.Residues.{residue};
 ghost use Rattle.num_modular.specs.Sums.{sum_below};
 ghost use Rattle.num_modular_c.specs.Codes.{Did, Refused};
-ghost use Rattle.num_modular_c.specs.Contexts.{IsMontgomery, IsMontgomeryForm, IsMontgomeryFormOf, value_of};
+ghost use Rattle.num_modular_c.specs.Contexts.{IsContextFault, IsMontgomery, IsMontgomeryForm, IsMontgomeryFormOf, value_of};
 ghost use Rattle.num_modular_c.specs.Lists.{AreForms, AreFormLists};
 
 use crate::codes::{NM_BAD_ARGUMENT, NM_BAD_CONTEXT, NM_OK};
-use crate::montgomery::{NmMontgomery, is_form, reducer};
+use crate::montgomery::{NmMontgomery, reducer, reducer_with_form};
 use num_modular::ring::{
     add_lists, all_checked, dot_product, multiply_lists, scale_list, sub_lists,
 };
@@ -38,6 +38,26 @@ fn are_form_lists(ring: &Montgomery<u64>, xs: &[u64], ys: &[u64]) -> bool
     are_forms(ring, ys)
 }
 
+// The reducer of a context over which two lists are equally long lists of forms, or the code that says what is wrong.
+fn reducer_with_lists(
+    context: &NmMontgomery,
+    xs: &[u64],
+    ys: &[u64],
+) -> Result<Montgomery<u64>, u32>
+    ensures { let m = context.now.modulus in MatchResult result
+        (λ r. (m ≡ ⟦<Montgomery<u64> as Reducer<u64>>⟧.modulus r) × IsMontgomery context.now
+        × AreFormLists m xs.now ys.now × All (IsMontgomeryForm m) xs.now × All (IsMontgomeryForm m) ys.now)
+        (IsContextFault context.now (AreFormLists m xs.now ys.now)) }
+{
+    let Some(ring) = reducer(context) else {
+        return Err(NM_BAD_CONTEXT);
+    };
+    if !are_form_lists(&ring, xs, ys) {
+        return Err(NM_BAD_ARGUMENT);
+    }
+    Ok(ring)
+}
+
 /// Replaces each form of the first list by that of its sum with the form of the second list at the same index.
 /// `NM_BAD_CONTEXT`: the context isn't one that `nm_montgomery` makes. `NM_BAD_ARGUMENT`: the lengths differ, or a word
 /// isn't below m, and so is no form.
@@ -50,12 +70,10 @@ pub extern "C" fn nm_montgomery_add_lists(context: &NmMontgomery, xs: &mut [u64]
         → Refused NM_BAD_ARGUMENT result xs.old xs.new }
     ensures bad_context { (IsMontgomery context.now → ⊥) → Refused NM_BAD_CONTEXT result xs.old xs.new }
 {
-    let Some(ring) = reducer(context) else {
-        return NM_BAD_CONTEXT;
+    let ring = match reducer_with_lists(context, xs, ys) {
+        Ok(ring) => ring,
+        Err(code) => return code,
     };
-    if !are_form_lists(&ring, xs, ys) {
-        return NM_BAD_ARGUMENT;
-    }
     add_lists(&ring, xs, ys);
     NM_OK
 }
@@ -71,12 +89,10 @@ pub extern "C" fn nm_montgomery_sub_lists(context: &NmMontgomery, xs: &mut [u64]
         → Refused NM_BAD_ARGUMENT result xs.old xs.new }
     ensures bad_context { (IsMontgomery context.now → ⊥) → Refused NM_BAD_CONTEXT result xs.old xs.new }
 {
-    let Some(ring) = reducer(context) else {
-        return NM_BAD_CONTEXT;
+    let ring = match reducer_with_lists(context, xs, ys) {
+        Ok(ring) => ring,
+        Err(code) => return code,
     };
-    if !are_form_lists(&ring, xs, ys) {
-        return NM_BAD_ARGUMENT;
-    }
     sub_lists(&ring, xs, ys);
     NM_OK
 }
@@ -96,12 +112,10 @@ pub extern "C" fn nm_montgomery_multiply_lists(
         → Refused NM_BAD_ARGUMENT result xs.old xs.new }
     ensures bad_context { (IsMontgomery context.now → ⊥) → Refused NM_BAD_CONTEXT result xs.old xs.new }
 {
-    let Some(ring) = reducer(context) else {
-        return NM_BAD_CONTEXT;
+    let ring = match reducer_with_lists(context, xs, ys) {
+        Ok(ring) => ring,
+        Err(code) => return code,
     };
-    if !are_form_lists(&ring, xs, ys) {
-        return NM_BAD_ARGUMENT;
-    }
     multiply_lists(&ring, xs, ys);
     NM_OK
 }
@@ -121,12 +135,10 @@ pub extern "C" fn nm_montgomery_scale_list(
         → Refused NM_BAD_ARGUMENT result xs.old xs.new }
     ensures bad_context { (IsMontgomery context.now → ⊥) → Refused NM_BAD_CONTEXT result xs.old xs.new }
 {
-    let Some(ring) = reducer(context) else {
-        return NM_BAD_CONTEXT;
+    let ring = match reducer_with_form(context, factor) {
+        Ok(ring) => ring,
+        Err(code) => return code,
     };
-    if !is_form(&ring, factor) {
-        return NM_BAD_ARGUMENT;
-    }
     if !are_forms(&ring, xs) {
         return NM_BAD_ARGUMENT;
     }
@@ -150,12 +162,10 @@ pub extern "C" fn nm_montgomery_dot_product(
         → Refused NM_BAD_ARGUMENT result product.old product.new }
     ensures bad_context { (IsMontgomery context.now → ⊥) → Refused NM_BAD_CONTEXT result product.old product.new }
 {
-    let Some(ring) = reducer(context) else {
-        return NM_BAD_CONTEXT;
+    let ring = match reducer_with_lists(context, xs, ys) {
+        Ok(ring) => ring,
+        Err(code) => return code,
     };
-    if !are_form_lists(&ring, xs, ys) {
-        return NM_BAD_ARGUMENT;
-    }
     *product = dot_product(&ring, xs, ys);
     NM_OK
 }

@@ -31,7 +31,7 @@ pub(crate) fn reducer(context: &NmMontgomery) -> Option<Montgomery<u64>>
 }
 
 // The reducer of a context over which a word is a form, or the code that says what is wrong.
-fn reducer_with_form(context: &NmMontgomery, form: u64) -> Result<Montgomery<u64>, u32>
+pub(crate) fn reducer_with_form(context: &NmMontgomery, form: u64) -> Result<Montgomery<u64>, u32>
     ensures { let m = context.now.modulus in MatchResult result
         (λ r. (m ≡ ⟦<Montgomery<u64> as Reducer<u64>>⟧.modulus r) × IsMontgomery context.now × (form < m)
         × IsMontgomeryForm m form)

@@ -4,19 +4,15 @@ use Rattle.num_modular_c.specs.Contexts.{value_of}
 use Rattle.num_modular_c.proofs.WordLists.{scaled_values}
 use Rattle.num_modular_c.proofs.form_lists.nm_montgomery_scale_list.Goals as goal
 
-pub returns-then-not-is_form-clause-did : goal.returns-then-not-is_form-clause-did
-returns-then-not-is_form-clause-did c is all below =
-    absurd (false≢true ((rw c.in-Some.ensures.0 at c.if-not-is_form.ensures.below).1 below))
-
 pub returns-then-not-are_forms-clause-did : goal.returns-then-not-are_forms-clause-did
 returns-then-not-are_forms-clause-did c is all below =
-    absurd (false≢true ((rw c.in-Some.ensures.0 at c.if-not-are_forms.ensures.below).1 all))
+    absurd (false≢true ((rw (sym c.in-Ok.ensures.0) at c.if-not-are_forms.ensures.below).1 all))
 
 pub returns-clause-did : goal.returns-clause-did
 returns-clause-did c is all below =
     let m = c.args.context.now.modulus in
-    let checked = rw c.in-Some.ensures.0 at c.scale_list.ensures.checked in
-    let values = rw c.in-Some.ensures.0 at c.scale_list.ensures.values in (
+    let checked = rw (sym c.in-Ok.ensures.0) at c.scale_list.ensures.checked in
+    let values = rw (sym c.in-Ok.ensures.0) at c.scale_list.ensures.values in (
       refl,
       λ i l. (
         checked i 0 (subst (λ n. i < n) (sym c.scale_list.auto.xs) l),
@@ -27,6 +23,6 @@ returns-clause-did c is all below =
 
 pub returns-clause-bad_argument : goal.returns-clause-bad_argument
 returns-clause-bad_argument c is none =
-    let all = rw c.in-Some.ensures.0 at (c.if-not-are_forms.ensures.below.0 refl) in
-    let below = rw c.in-Some.ensures.0 at (c.if-not-is_form.ensures.below.0 refl) in
+    let all = rw (sym c.in-Ok.ensures.0) at (c.if-not-are_forms.ensures.below.0 refl) in
+    let below = c.in-Ok.ensures.2 in
     absurd (none (all, below))
