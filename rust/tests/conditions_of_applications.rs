@@ -10,9 +10,9 @@ use num_modular::applications::long_product::{self, any_length, polynomials};
 use num_modular::applications::mersenne_hash::prefixes::PrefixHashes;
 use num_modular::applications::residue_numbers::{combine, from_remainders};
 use num_modular::applications::ring_codes::erasure::{
-    correct, encode, encode_systematic, evaluate, evaluate_each, fill_barycentric_weights, fill_powers, interpolate,
-    is_codeword, is_codeword_by_transform, points_fit, recover, recover_correct, restore, restore_word, share, CorrectError,
-    Corrector, RestoreError,
+    correct, encode, encode_systematic, evaluate, evaluate_each, fill_barycentric_weights, fill_differences, fill_powers,
+    interpolate, is_codeword, is_codeword_by_transform, points_fit, recover, recover_correct, restore, restore_word, share,
+    CorrectError, Corrector, RestoreError,
 };
 use num_modular::hashes;
 use num_modular::plans::PlannedModulus;
@@ -56,6 +56,8 @@ fn words_of_codes() {
     panic_with!("k must be at most the number of points: 5 and 4"; encode(&ring(), &POINTS, &[5; 5], &mut [0; 4]));
     panic_with!("there must be a place for the value at each point: 3 and 4"; evaluate_each(&ring(), &[5, 7], &POINTS, &mut [0; 3]));
     panic_in_debug_with!("coefficients and points must be checked forms"; evaluate_each(&ring(), &[5, 97], &POINTS, &mut [0; 4]));
+    panic_with!("there must be n products: 3 and 4"; fill_differences(&ring(), &POINTS, &mut [0; 3]));
+    panic_in_debug_with!("the points must be checked forms"; fill_differences(&ring(), &[1, 97], &mut [0; 2]));
     panic_with!("there must be n products: 3 and 4"; fill_barycentric_weights(&ring(), &POINTS, &mut [0; 3], &mut [0; 4]));
     panic_with!("there must be n weights: 3 and 4"; fill_barycentric_weights(&ring(), &POINTS, &mut [0; 4], &mut [0; 3]));
     panic_with!("k must be at most n: 5 and 4"; Corrector::new(&ring(), &POINTS, 5, &mut [0; 4], &mut [0; 4]));

@@ -78,7 +78,7 @@ fn products() {
             let sent: Vec<u64> = points.iter().map(|x| value(m, &message, *x)).collect();
             let (mut weights, mut room, mut checks) = (vec![0; n], vec![0; n], vec![0; n * t]);
             let code = Corrector::new(&ring, &points, n - t, &mut weights, &mut room).unwrap();
-            assert!(ring.products.take() <= 3 * n * n + 3 * n);
+            assert!(ring.products.take() <= n * n + 3 * n);
             let c = random.below(t as u64 + 1) as usize;
             let wrong = random.below(((t - c) / 2) as u64 + 2).min((n - c) as u64) as usize;
             let mut places: Vec<usize> = (0..n).collect();

@@ -7,7 +7,7 @@ use Rattle.std.proofs.lemmas.List.{get_or-map, length-map}
 use Rattle.std.proofs.lemmas.List.Elements.{All-map}
 use Rattle.num_modular.specs.Forms.{IsForm}
 use Rattle.ring_codes.specs.Erasure.{IsErasureCodeword}
-use Rattle.ring_codes.specs.declared.erasure.correction.CorrectError.{CorrectError}
+use Rattle.ring_codes.specs.declared.erasure.errors.CorrectError.{CorrectError}
 use Rattle.ring_decoder.specs.Corrector.{AreLost, IsCorrectedWord, IsCorrectorFault, IsNearWord, listed_distance}
 use Rattle.num_modular_c.proofs.Moved.{moved}
 use Rattle.num_modular_c.specs.Commands.{residues_of}

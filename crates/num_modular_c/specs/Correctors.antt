@@ -2,7 +2,7 @@
 -- are the library's own words.
 use Rattle.std.specs.Prelude.{◌≡◌, ℕ, ◌+◌, ◌-◌, ◌*◌, ◌<◌, ◌≤◌, List, length, map, slice_index}
 use Rattle.num_modular.specs.TwoParts.{two_part_form, two_part_value}
-use Rattle.ring_codes.specs.declared.erasure.correction.CorrectError.{CorrectError}
+use Rattle.ring_codes.specs.declared.erasure.errors.CorrectError.{CorrectError}
 use Rattle.ring_decoder.specs.Corrector.{AreCorrectorLists, IsCorrectedWord, IsCorrectorFault}
 use Rattle.num_modular_c.specs.Commands.{residues_of}
 use Rattle.num_modular_c.specs.Contexts.{value_of}

@@ -1,12 +1,12 @@
 -- Erasure codes for C: which lengths the calls accept, and what they answer. The names are the library's own words.
 use Rattle.std.specs.Prelude.{◌≡◌, ℕ, ◌+◌, ◌-◌, ◌*◌, ◌%◌, ◌<◌, ◌≤◌, List, length, slice_index}
 use Rattle.num_modular.specs.Polynomials.{HaveUnitDifferences}
-use Rattle.ring_codes.specs.Correction.{IsNear, IsCorrectFault}
+use Rattle.ring_correction.specs.Correction.{IsNear, IsCorrectFault}
 use Rattle.ring_codes.specs.Erasure.{IsEncoding, ArePlaces, IsFault, IsShareFault, distance}
 use Rattle.ring_codes.specs.declared.erasure.RestoreError.{RestoreError}
 use Rattle.ring_codes.specs.declared.erasure.RestoreError.TheVariants.{TooFewSymbols, PlaceOutOfRange, PlaceTwice, PointsDontFit}
-use Rattle.ring_codes.specs.declared.erasure.correction.CorrectError.{CorrectError}
-use Rattle.ring_codes.specs.declared.erasure.correction.CorrectError.TheVariants.{Restore, TooManyErrors, NoInverse}
+use Rattle.ring_codes.specs.declared.erasure.errors.CorrectError.{CorrectError}
+use Rattle.ring_codes.specs.declared.erasure.errors.CorrectError.TheVariants.{Restore, TooManyErrors, NoInverse}
 use Rattle.ring_codes.specs.declared.erasure.secrets.ShareError.{ShareError}
 use Rattle.ring_codes.specs.declared.erasure.secrets.ShareError.TheVariants as refused
 use Rattle.num_modular_c.specs.declared.codes.TheConstants.{NM_BAD_ARGUMENT, NM_NO_INVERSE, NM_TOO_FEW_SYMBOLS, NM_PLACE_OUT_OF_RANGE}

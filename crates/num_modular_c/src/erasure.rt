@@ -9,7 +9,7 @@ ghost use Rattle.num_modular_c.specs.Contexts.{IsMontgomery};
 ghost use Rattle.num_modular_c.specs.Erasure.{FitsEncode, FitsShare, FitsRestore, FitsCorrect, ArePlaced, IsRestored};
 ghost use Rattle.num_modular_c.specs.Erasure.{IsRestoreFailure, IsCorrected, IsCorrectFailure, IsShareFailure};
 ghost use Rattle.num_modular_c.specs.Erasure.{code_of, share_code_of, correct_code_of, number_after};
-ghost use Rattle.ring_codes.specs.Correction.{AreFit};
+ghost use Rattle.ring_correction.specs.Correction.{AreFit};
 ghost use Rattle.ring_codes.specs.Erasure.{IsEncoding};
 
 use crate::codes::{
@@ -19,9 +19,8 @@ use crate::codes::{
 use crate::lists::{load_from, unload, unload_from};
 use crate::montgomery::{NmMontgomery, reducer};
 use num_modular::Reducer;
-use ring_codes::erasure::{
-    CorrectError, RestoreError, ShareError, correct, evaluate_each, restore, share,
-};
+use ring_codes::erasure::{CorrectError, RestoreError, ShareError, evaluate_each, restore, share};
+use ring_correction::correct;
 
 // Whether the lists of `nm_erasure_encode` have fitting lengths.
 fn fits_encode(n: usize, k: usize, word: usize, scratch: usize) -> bool

@@ -1,9 +1,10 @@
 -- Congruences that are linear combinations of others.
-use Rattle.std.proofs.Common.{◌≡◌, ℕ, ◌+◌, ◌*◌, ◌%◌, ◌<◌, pos, ◌-ℤ◌, ap, ◌∙◌, arith}
+use Rattle.std.proofs.Common.{◌≡◌, ℕ, ◌+◌, ◌*◌, ◌%◌, ◌<◌, pos, ◌-ℤ◌, ap, ◌∙◌, arith, mod-lt}
 use Rattle.std.proofs.Math.Nat.{add-mul-mod_self_left}
+use Rattle.std.proofs.lemmas.Nat.{mul-mod_first, mul-mod_second}
 use Rattle.num_modular.specs.Congruence.{Congruent}
-use Rattle.num_modular.specs.Inverses.{IsInverse}
-use Rattle.num_modular.specs.NumberLaws.{mod_of_eq, mod_refl, residue_of, mod_trans, mod_add, mod_mul, mod_add_cancel, difference_and}
+use Rattle.num_modular.specs.Inverses.{IsInverse, HasInverse}
+use Rattle.num_modular.specs.NumberLaws.{mod_of_eq, mod_refl, mod_sym, residue_of, mod_trans, mod_add, mod_mul, mod_add_cancel, difference_and}
 use Rattle.num_modular.specs.Residues.{residue}
 
 -- two numbers whose difference is that of two congruent ones, such as a sum of multiples
@@ -26,3 +27,15 @@ mod_of_difference {m} {d} {a} b positive e = record { same = ap (λ v. (v + b) %
 
 pub mod_of_inverse : {m a x : ℕ} → IsInverse m a x → Congruent m (a * x) 1
 mod_of_inverse h = record { same = h.one }
+
+-- a multiple of 0 may be left out
+pub left_alone : (m a q b c : ℕ) → Congruent m (a + q * b) c → Congruent m b 0 → Congruent m a c
+left_alone m a q b c is none = mod_of_combination (mod_add is (mod_times q (mod_sym none))) (omega arith)
+
+pub left_alone_other : (m a q b : ℕ) → Congruent m b 0 → Congruent m (a + q * b) a
+left_alone_other m a q b none = mod_of_combination (mod_times q none) (omega arith)
+
+pub has_one : (m : ℕ) → 0 < m → HasInverse m (1 % m)
+has_one m positive =
+    let e : 1 * 1 ≡ 1 = omega arith in
+    (1 % m, record { below = mod-lt 1 positive; one = mul-mod_second (1 % m) 1 m ∙ mul-mod_first 1 1 m ∙ ap (λ v. v % m) e })

@@ -1,12 +1,9 @@
 -- Bounds on lengths, counts and weights, over plain numbers.
-use Rattle.std.proofs.Common.{◌≡◌, ℕ, ◌+◌, ◌-◌, ◌%◌, ◌≤◌, arith}
+use Rattle.std.proofs.Common.{◌≡◌, ℕ, ◌%◌, ◌≤◌, arith}
 use Rattle.num_modular.specs.Polynomials.{HaveUnitDifferences}
 
 pub zero_mod : (m : ℕ) → 0 % m ≡ 0
 zero_mod m = omega arith
-
-pub weights_first : (k : ℕ) → 1 ≤ k → 0 + (k - 1) + 1 ≤ 0 + k
-weights_first k some = omega arith
 
 -- the first points fit where all do
 pub fit_front : (m n k : ℕ) (x : ℕ → ℕ) → k ≤ n → HaveUnitDifferences m n x → HaveUnitDifferences m k x

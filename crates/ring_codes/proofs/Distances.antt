@@ -5,7 +5,7 @@ use Rattle.std.proofs.lemmas.Bool.{cases_eq, cases_lt}
 use Rattle.std.proofs.lemmas.Bool.Decides.{eqb_tells}
 use Rattle.num_modular.specs.Callers.{same_coefficients}
 use Rattle.num_modular.specs.Congruence.{Congruent}
-use Rattle.num_modular.specs.NumberLaws.{mod_refl, sum_below-of_zeros}
+use Rattle.num_modular.specs.NumberLaws.{mod_refl, sum_below-zero, sum_below-more, sum_below-of_zeros}
 use Rattle.num_modular.specs.Sums.{sum_below}
 use Rattle.num_modular.specs.Polynomials.{HaveUnitDifferences}
 use Rattle.num_modular.specs.PolynomialLaws.{polynomial-congruent}
@@ -148,3 +148,10 @@ words_apart m k n points u v few fit is_u is_v differ = elim (cases_lt n (distan
       ∙ sym (is_v.1.symbol i l)) in
       absurd (omega (arith, none, differ))
 ]
+
+pub one_counted : (n e r : ℕ) (a b : ℕ → ℕ) → e ≡ distance n a b → r ≡ counted (a n) (b n)
+    → e + r ≡ distance (n + 1) a b
+one_counted n e r a b is_e is_r = omega (arith, is_e, is_r, sum_below-more (λ i. counted (a i) (b i)) n)
+
+pub none_counted : (a b : ℕ → ℕ) → 0 ≡ distance 0 a b
+none_counted a b = sym (sum_below-zero (λ i. counted (a i) (b i)))

@@ -7,7 +7,7 @@ use Rattle.std.proofs.lemmas.Slice.{take-put_mid, take-put_mid_below}
 use borrow.Rule.Slice.PartMut.{put_mid}
 use Rattle.num_modular.specs.Callers.{IsForm, IsCheckedFormOf, HoldBelow, entry, entry_at}
 use Rattle.num_modular.specs.Polynomials.{polynomial_at}
-use Rattle.ring_codes.proofs.Pairs.{entry_slice, slice_length}
+use Rattle.ring_codes.proofs.Symbols.{entry_slice, slice_length}
 use Rattle.ring_codes.specs.Erasure.{IsEncoding}
 
 -- where the entries before a part hold their values, and the part now has the next ones, all up to its end hold them

@@ -6,7 +6,7 @@ use Rattle.num_modular.specs.PolynomialLaws.{polynomial-congruent}
 use Rattle.num_modular.specs.Transforms.{transform}
 use Rattle.ring_codes.specs.Erasure.{IsEncoding, IsErasureCodeword}
 use Rattle.ring_codes.specs.Powers.{ArePowers}
-use Rattle.ring_codes.proofs.Pairs.{entry_slice, slice_length}
+use Rattle.ring_codes.proofs.Symbols.{entry_slice, slice_length}
 use Rattle.ring_codes.proofs.RootPowers.{word_of_coefficients, coefficients_end}
 
 -- the same coefficients have the same word

@@ -64,7 +64,7 @@ found (suc size) v f = elim (cases_eq (f size) v) [
 ]
 
 -- different numbers below a bound are at most as many
-pigeonholes : (most size : ℕ) (f : ℕ → ℕ) → ((a : ℕ) → a < size → f a < most)
+pub pigeonholes : (most size : ℕ) (f : ℕ → ℕ) → ((a : ℕ) → a < size → f a < most)
     → ((a b : ℕ) → a < size → b < size → a ≢ b → f a ≢ f b) → size ≤ most
 pigeonholes zero zero f below apart = omega arith
 pigeonholes zero (suc size) f below apart = let l = below 0 (omega arith) in absurd (omega (arith, l))

@@ -2,9 +2,10 @@
 use Rattle.std.proofs.Common.{◌≡◌, ℕ, ◌<◌, ◌≤◌, List, [], ◌∷◌, length, take, get_or, All, pos, ◌-ℤ◌, sym, ◌∙◌, ap, subst, arith}
 use Rattle.std.proofs.Common.{◌-◌, ◌++◌, drop, length-append, length-drop, ◌↔◌, Bool, true, false, not, IsTrue, refl}
 use Rattle.std.proofs.Common.{◌≢◌, Option, Some, None, is_some, MatchOption}
-use Rattle.std.proofs.lemmas.Bool.{false≢true}
+use Rattle.std.proofs.Common.{◌+◌, slice_range, get_or-drop, inl, inr}
+use Rattle.std.proofs.lemmas.Bool.{cases_lt, false≢true}
 use Rattle.std.proofs.lemmas.List.{get_or-take, length-take-le}
-use Rattle.num_modular.specs.Callers.{IsForm, HasInverse, entry, entry_at}
+use Rattle.num_modular.specs.Callers.{IsForm, HasInverse, entry, entry_at, entry_past}
 use Rattle.num_modular.specs.Polynomials.{HaveUnitDifferences}
 use Rattle.num_modular.specs.Residues.{residue}
 use Rattle.ring_codes.specs.Erasure.{ArePlaces, IsFault}
@@ -108,3 +109,37 @@ no_fault m k n x places TooFewSymbols right fit h = let l = right.enough in omeg
 no_fault m k n x places PlaceOutOfRange right fit h = let l = right.within h.0 h.1 in let o = h.4 in omega (arith, l, o)
 no_fault m k n x places PlaceTwice right fit h = right.distinct h.0 h.1 h.2 h.3 h.6
 no_fault m k n x places PointsDontFit right fit h = h.1 fit
+
+-- the entries after the first k
+pub entry_back : {T : Type 0} (number : T → ℕ) (value : ℕ → ℕ → ℕ) (m : ℕ) (forms : List T) (k i : ℕ)
+    → entry number value m (drop k forms) i ≡ entry number value m forms (k + i)
+entry_back {T} number value m forms k i =
+    let left = length-drop k forms in
+    elim (cases_lt (k + i) (length forms)) [
+      | inl b ↦ inside forms k i b
+      | inr past ↦ entry_past number value m (drop k forms) i (omega (arith, left, past))
+          ∙ sym (entry_past number value m forms (k + i) past)
+    ]
+  where
+    inside : (forms : List T) (k i : ℕ) → k + i < length forms
+        → entry number value m (drop k forms) i ≡ entry number value m forms (k + i)
+    inside [] k i b = absurd (omega arith)
+    inside (x ∷ xs) k i b =
+        let left = length-drop k (x ∷ xs) in
+        sym (entry_at number value m (drop k (x ∷ xs)) i x (omega (arith, left, b)))
+        ∙ ap (λ f. value m (number f)) (get_or-drop k (x ∷ xs) i x)
+        ∙ entry_at number value m (x ∷ xs) (k + i) x b
+
+-- the length and the entries of a slice
+pub slice_length : {T : Type 0} (forms : List T) (from to : ℕ) → from ≤ to → to ≤ length forms
+    → length (slice_range forms from to) ≡ to - from
+slice_length forms from to ordered within =
+    let left = length-drop from forms in length-take-le (to - from) (drop from forms) (omega (arith, left, ordered, within))
+
+pub entry_slice : {T : Type 0} (number : T → ℕ) (value : ℕ → ℕ → ℕ) (m : ℕ) (forms : List T) (from to i : ℕ)
+    → from ≤ to → to ≤ length forms → i < to - from
+    → entry number value m (slice_range forms from to) i ≡ entry number value m forms (from + i)
+entry_slice number value m forms from to i ordered within l =
+    let left = length-drop from forms in
+    entry_front number value m (drop from forms) (to - from) i l (omega (arith, left, ordered, within))
+    ∙ entry_back number value m forms from i

@@ -2,7 +2,7 @@
 -- Journal of the Society for Industrial and Applied Mathematics 8, 1960; over rings Quintin, Barbier and Chabot,
 -- "On generalized Reed-Solomon codes over commutative and noncommutative rings", 2013).
 use Rattle.std.specs.Prelude.{◌≡◌, ◌≢◌, ℕ, ◌%◌, ◌<◌, ◌≤◌, List, All, length, slice_index, ◌==◌, if◌then◌else◌}
-use Rattle.num_modular.specs.Inverses.{HasInverse}
+use Rattle.num_modular.specs.Inverses.{IsInverse, HasInverse}
 use Rattle.num_modular.specs.Polynomials.{polynomial_at, HaveUnitDifferences}
 use Rattle.num_modular.specs.Sums.{sum_below}
 use Rattle.ring_codes.specs.declared.erasure.RestoreError.{RestoreError}
@@ -64,3 +64,9 @@ pub record AreShares {T : Type 0} (IsChecked : T → Type 0) (entries : List T �
   pub checked : All IsChecked shares
   pub encoding : IsEncoding m (length coefficients) (length points) (entries points) (entries coefficients)
       (entries shares)
+
+-- a isn't 0, is below m and has no inverse modulo m
+pub record IsWithoutInverse (m a : ℕ) : Type 0 where
+  pub nonzero : a ≢ 0
+  pub below : a < m
+  pub none : (x : ℕ) → IsInverse m a x → ⊥

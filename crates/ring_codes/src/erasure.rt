@@ -37,29 +37,32 @@ ghost use Rattle.ring_codes.specs.Erasure.{IsEncoding, IsErasureCodeword, ArePla
 
 // rattle: line
 mod bounds;
-mod correction;
-mod key_equation;
+mod errors;
 mod newton;
+mod places;
 mod powers;
 mod prepared;
-mod quotients;
 mod secrets;
 mod values;
 mod words;
 
 pub use bounds::{distance_laws, singleton_law};
-pub use correction::{CorrectError, correct};
+pub use errors::CorrectError;
+pub use newton::fill_differences;
 use newton::{differences_before, divide_differences, expand, fill_weights};
 use num_modular::ring::invert_each;
 use num_modular::{Reducer, RingWord};
+pub use places::choose_points;
 pub use powers::{
     encode_by_plan, encode_by_transform, fill_powers, is_codeword_by_transform, root_laws,
 };
 pub use prepared::{PreparedCode, fill_barycentric_weights};
-pub use secrets::{ShareError, recover, recover_correct, secrecy_laws, share};
+pub use secrets::{ShareError, recover, secrecy_laws, share};
 use values::evaluate_side_by_side;
-use words::index_of;
-pub use words::restore_word;
+// rust: pub(crate) use words::fill_word;
+// rust instead: pub use words::restore_word;
+pub use words::{fill_word, restore_word};
+// rust: pub use super::ring_correction::{correct, recover_correct};
 // rust: pub use super::ring_decoder::corrector::Corrector;
 // rust: pub use crate::layers::codes::{Code, Corrected};
 
@@ -465,30 +468,6 @@ pub fn encode_systematic<T: RingWord, R: Reducer<T>>(
     true
 }
 
-// Copies the points at the first places, as many as `chosen` holds.
-fn choose<T: RingWord>(points: &[T], places: &[usize], chosen: &mut [T]) -> Result<(), RestoreError>
-    ensures places { IsOk result → ArePlaces (length chosen.old) (length points.now) places.now }
-    ensures chosen { IsOk result → (i : ℕ) (d : T) → i < length chosen.old →
-        slice_index_or chosen.new i d ≡ slice_index_or points.now (slice_index places.now i) d }
-    ensures fault { (m : ℕ) (x : ℕ → ℕ) →
-        IfErr result (λ e. IsFault m (length chosen.old) (length points.now) x places.now e) }
-{
-    if places.len() < chosen.len() {
-        return Err(RestoreError::TooFewSymbols);
-    }
-    'places: for i in 0..chosen.len() {
-        let place = places[i];
-        if place >= points.len() {
-            return Err(RestoreError::PlaceOutOfRange);
-        }
-        if index_of(places, i, place).is_some() {
-            return Err(RestoreError::PlaceTwice);
-        }
-        chosen[i] = points[place];
-    }
-    Ok(())
-}
-
 /// Restores the message from any k places: its k symbols, k being the length of `message`, from the first k places and
 /// the symbols there.
 ///
@@ -562,7 +541,7 @@ pub fn restore<T: RingWord, R: Reducer<T>>(
     // rust: assert!(weights.len() == message.len(), "there must be k weights: {} and {}", weights.len(), message.len());
     // rust: assert!(chosen.len() == message.len(), "`chosen` must have k places: {} and {}", chosen.len(),
     // rust:     message.len());
-    match choose(points, places, chosen) {
+    match choose_points(points, places, chosen) {
         Err(error) => Err(error),
         Ok(()) => {
             if interpolate(r, chosen, symbols, weights, message) {

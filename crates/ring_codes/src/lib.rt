@@ -5,4 +5,5 @@
 #![tactic(auto)]
 
 pub mod erasure;
+// rust: pub mod ring_correction;
 // rust: pub mod ring_decoder;

@@ -12,8 +12,8 @@ use Rattle.num_modular.specs.Sums.{sum_below}
 use Rattle.ring_codes.proofs.Distances.{counted, counted_same, counted_other, no_distance, words_apart}
 use Rattle.ring_codes.proofs.Lagrange.{fit_from_all}
 use Rattle.ring_codes.specs.Erasure.{IsErasureCodeword, distance}
-use Rattle.ring_codes.specs.declared.erasure.correction.CorrectError.{CorrectError}
-use Rattle.ring_codes.specs.declared.erasure.correction.CorrectError.TheVariants.{Restore, TooManyErrors, NoInverse}
+use Rattle.ring_codes.specs.declared.erasure.errors.CorrectError.{CorrectError}
+use Rattle.ring_codes.specs.declared.erasure.errors.CorrectError.TheVariants.{Restore, TooManyErrors, NoInverse}
 use Rattle.ring_decoder.proofs.ChosenPlaces.{zeros_others}
 use Rattle.ring_decoder.proofs.DualCode.{codeword_without_syndromes, codeword_by_syndromes}
 use Rattle.ring_decoder.proofs.LostPlaces.{lost_or_listed, without_lost, without_listed, counted_below, few_hidden, distance_sum}

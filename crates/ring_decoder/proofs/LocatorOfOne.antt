@@ -6,7 +6,7 @@ use Rattle.std.proofs.lemmas.Bool.{cases_lt}
 use Rattle.num_modular.specs.Congruence.{Congruent}
 use Rattle.num_modular.specs.NumberLaws.{mod_of_eq, mod_refl, mod_sym, mod_trans, mod_add, mod_mul, mod_add_cancel}
 use Rattle.num_modular.specs.NumberLaws.{sum_below-zero, sum_below-suc}
-use Rattle.ring_codes.proofs.KeyPairs.{left_alone}
+use Rattle.ring_codes.proofs.Congruences.{left_alone}
 use Rattle.ring_decoder.proofs.LocatorPlaces.{applied}
 use Rattle.ring_decoder.proofs.LocatorSums.{residue_none}
 use Rattle.ring_decoder.specs.Locators.{IsGeometric, IsLinear}

@@ -10,7 +10,7 @@ use Rattle.num_modular.specs.Inverses.{HasInverse}
 use Rattle.num_modular.specs.NumberLaws.{mod_of_eq, mod_refl, residue_of, mod_sym, mod_trans, mod_add, mod_mul, mod_add_cancel}
 use Rattle.num_modular.specs.NumberLaws.{sum_below-zero, sum_below-suc, sum_below-mul, sum_below-congruent}
 use Rattle.num_modular.specs.SystemLaws.{modulo_one}
-use Rattle.ring_codes.proofs.KeyPairs.{left_alone, left_alone_other, has_one}
+use Rattle.ring_codes.proofs.Congruences.{left_alone, left_alone_other, has_one}
 use Rattle.ring_codes.proofs.NearestWords.{turned_sign, unit_alike}
 use Rattle.ring_decoder.proofs.LocatorOfOne.{kept_one, corrected_one, longer_one}
 use Rattle.ring_decoder.proofs.LocatorPlaces.{applied, massey_bound}

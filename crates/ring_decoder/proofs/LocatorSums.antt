@@ -9,7 +9,7 @@ use Rattle.num_modular.specs.NumberLaws.{sum_below-zero, sum_below-suc, sum_belo
 use Rattle.num_modular.specs.Polynomials.{HaveUnitDifferences}
 use Rattle.num_modular.specs.Sums.{sum_below}
 use Rattle.ring_codes.proofs.Distances.{counted, counted_same, counted_other}
-use Rattle.ring_codes.proofs.KeyPairs.{left_alone, left_alone_other}
+use Rattle.ring_codes.proofs.Congruences.{left_alone, left_alone_other}
 use Rattle.ring_codes.proofs.NearestWords.{at_root, difference_alike, unit_alike}
 use Rattle.ring_decoder.specs.PowerSums.{hamming_weight}
 

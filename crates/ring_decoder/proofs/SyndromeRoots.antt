@@ -11,9 +11,9 @@ use Rattle.num_modular.specs.ProductLaws.{product-zero, product-more}
 use Rattle.num_modular.specs.Products.{product_below}
 use Rattle.num_modular.specs.Residues.{residue}
 use Rattle.num_modular.specs.Sums.{sum_below}
-use Rattle.ring_codes.specs.KeyEquations.{shifted}
+use Rattle.ring_codes.specs.Shifts.{shifted}
 use Rattle.ring_codes.specs.Prepared.{product_but}
-use Rattle.ring_codes.proofs.KeyPairs.{shifted-values}
+use Rattle.ring_codes.proofs.Shifts.{shifted-values}
 use Rattle.ring_codes.proofs.NearestWords.{combined, difference_alike, no_value}
 use Rattle.ring_codes.proofs.Distances.{extended, at_end, before_end}
 use Rattle.ring_decoder.specs.PowerSums.{ArePowerSums}

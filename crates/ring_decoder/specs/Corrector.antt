@@ -5,9 +5,9 @@ use Rattle.std.specs.List.{list_any}
 use Rattle.num_modular.specs.Entries.{entry}
 use Rattle.num_modular.specs.Forms.{IsForm}
 use Rattle.ring_codes.specs.Erasure.{IsErasureCodeword, ArePlaces, IsFault, distance}
-use Rattle.ring_codes.specs.KeyEquations.{IsWithoutInverse}
-use Rattle.ring_codes.specs.declared.erasure.correction.CorrectError.{CorrectError}
-use Rattle.ring_codes.specs.declared.erasure.correction.CorrectError.TheVariants.{Restore, TooManyErrors, NoInverse}
+use Rattle.ring_codes.specs.Erasure.{IsWithoutInverse}
+use Rattle.ring_codes.specs.declared.erasure.errors.CorrectError.{CorrectError}
+use Rattle.ring_codes.specs.declared.erasure.errors.CorrectError.TheVariants.{Restore, TooManyErrors, NoInverse}
 use Rattle.ring_codes.specs.declared.erasure.RestoreError.{RestoreError}
 use Rattle.ring_codes.specs.declared.erasure.RestoreError.TheVariants.{TooFewSymbols, PlaceOutOfRange, PlaceTwice, PointsDontFit}
 use Rattle.ring_decoder.specs.Syndromes.{AreChecks, AreWeights}

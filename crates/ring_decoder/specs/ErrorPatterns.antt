@@ -5,9 +5,9 @@ use Rattle.num_modular.specs.Congruence.{Congruent}
 use Rattle.num_modular.specs.Inverses.{HasInverse}
 use Rattle.num_modular.specs.Polynomials.{polynomial_at}
 use Rattle.num_modular.specs.Sums.{sum_below}
-use Rattle.ring_codes.specs.KeyEquations.{IsWithoutInverse}
-use Rattle.ring_codes.specs.declared.erasure.correction.CorrectError.{CorrectError}
-use Rattle.ring_codes.specs.declared.erasure.correction.CorrectError.TheVariants.{Restore, TooManyErrors, NoInverse}
+use Rattle.ring_codes.specs.Erasure.{IsWithoutInverse}
+use Rattle.ring_codes.specs.declared.erasure.errors.CorrectError.{CorrectError}
+use Rattle.ring_codes.specs.declared.erasure.errors.CorrectError.TheVariants.{Restore, TooManyErrors, NoInverse}
 use Rattle.ring_decoder.specs.Corrector.{without}
 use Rattle.ring_decoder.specs.PowerSums.{ArePowerSums, hamming_weight}
 

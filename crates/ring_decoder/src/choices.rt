@@ -153,7 +153,7 @@ fn is_wrong<T: RingWord, R: Reducer<T>>(r: &R, lost: &[usize], error: &T, place:
 }
 
 // The number of the errors that aren't 0, at places that aren't lost.
-#[tactic(auto, using(ring_codes::proofs::NearPairs::none_counted))]
+#[tactic(auto, using(ring_codes::proofs::Distances::none_counted))]
 fn count_wrong<T: RingWord, R: Reducer<T>>(r: &R, lost: &[usize], errors: &[T]) -> usize
     requires errors { All (λ f. IsForm R.form R.value (R.modulus r.now) (T.number f)) errors.now }
     ensures { let m = R.modulus r.now in

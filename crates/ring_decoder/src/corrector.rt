@@ -76,7 +76,7 @@ impl<'a, T: RingWord, R: Reducer<T>> Corrector<'a, T, R> {
     /// `None` exactly where the points don't fit.
     ///
     /// The contents of `scratch` are ignored, and unspecified afterwards. The contents of `weights` are ignored, and
-    /// unspecified after `None`. It takes 3·n² + 3·n products and one inversion.
+    /// unspecified after `None`. It takes n² + 3·n products and one inversion.
     ///
     /// # Conditions
     ///
@@ -246,7 +246,6 @@ impl<'a, T: RingWord, R: Reducer<T>> Corrector<'a, T, R> {
     /// - k is at most n
     /// - there are n weights, n places of scratch, and n·(n - k) checks or none
     /// - the points are checked forms
-    // rust: #[cfg(feature = "capi")]
     // rust instead: pub(crate) fn fill_lists(
     pub fn fill_lists(
         ring: &R,
@@ -282,7 +281,6 @@ impl<'a, T: RingWord, R: Reducer<T>> Corrector<'a, T, R> {
     /// # Preconditions
     ///
     /// - the lists are as `fill_lists` left them: it returned true, for these points and k
-    // rust: #[cfg(feature = "capi")]
     // rust instead: pub(crate) fn over(ring: &'a R, points: &'a [T], k: usize, weights: &'a [T], checks: &'a [T]) -> Self
     pub fn over(ring: &'a R, points: &'a [T], k: usize, weights: &'a [T], checks: &'a [T]) -> Self
         requires { AreCorrectorLists T.number R.form R.value (R.modulus ring.now) k points.now weights.now checks.now }
@@ -363,8 +361,8 @@ impl<'a, T: RingWord, R: Reducer<T>> Corrector<'a, T, R> {
     ///
     /// The modulus may be composite. `NoInverse(a)` then says that a number without an inverse was met, and a has a common
     /// factor with m; it never comes where m is a prime, or where at most one symbol is wrong that isn't lost. Of random
-    /// words of up to 8 symbols modulo composite numbers one in 50 gives it, by `correct` one in 20.
-    /// `TooManyErrors` comes only where no word is that near. `Restore(..)` says what is wrong with the lost places:
+    /// words of up to 8 symbols modulo composite numbers one in 46 gives it, and one in 50 by `correct`, which has a second
+    /// method. `TooManyErrors` comes only where no word is that near. `Restore(..)` says what is wrong with the lost places:
     /// `TooFewSymbols`, fewer than k others are left; `PlaceOutOfRange`, a place isn't below n; `PlaceTwice`, a place
     /// occurs twice; the first cause.
     ///

@@ -6,12 +6,12 @@ ghost use Rattle.num_modular.specs.Forms.{IsForm};
 ghost use Rattle.num_modular.specs.Inverses.{HasInverse};
 ghost use Rattle.num_modular.specs.Polynomials.{HaveUnitDifferences, polynomial_at};
 ghost use Rattle.num_modular.specs.Sums.{sum_below};
-ghost use Rattle.ring_codes.specs.Prepared.{product_but};
 ghost use Rattle.ring_decoder.specs.PowerSums.{ArePowerSums};
 
 use super::syndromes::expand_roots;
 use num_modular::ring::invert_each;
 use num_modular::{Reducer, RingWord};
+use ring_codes::erasure::fill_differences;
 
 // The sum of the numbers, each times its coefficient of the quotient of a polynomial with q + 1 coefficients by X - x.
 // The quotient's coefficients are found by Horner's rule, the highest first.
@@ -42,29 +42,6 @@ fn quotient_sum<T: RingWord, R: Reducer<T>>(
         sum = r.add(&sum, &term);
     }
     sum
-}
-
-// The product of the differences of a point from the other ones.
-#[tactic(auto, using(num_modular::specs::Callers::form_read, num_modular::specs::Callers::product_none))]
-fn differences_from_others<T: RingWord, R: Reducer<T>>(r: &R, points: &[T], place: usize) -> T
-    requires points { All (λ f. IsForm R.form R.value (R.modulus r.now) (T.number f)) points.now }
-    requires within { place < length points.now }
-    ensures checked { IsForm R.form R.value (R.modulus r.now) (T.number result) }
-    ensures value { let m = R.modulus r.now in let x = entry T.number R.value m points.now in
-        R.value m (T.number result) ≡ product_but m (length points.now) x place (x place) % m }
-{
-    let one = r.transform(T::one());
-    let mut before = one;
-    'front: for i in 0..place {
-        let difference = r.sub(&points[place], &points[i]);
-        before = r.mul(&before, &difference);
-    }
-    let mut after = one;
-    'back: for k in 0..points.len() - 1 - place {
-        let difference = r.sub(&points[place], &points[points.len() - 1 - k]);
-        after = r.mul(&after, &difference);
-    }
-    r.mul(&before, &after)
 }
 
 /// Writes the errors at q points, given at least q syndromes.
@@ -114,10 +91,10 @@ pub fn solve_errors<T: RingWord, R: Reducer<T>>(
         (j : ℕ) → j < q → entry T.number R.value m errors.new j ≡ e j % m }
 {
     expand_roots(r, points, product);
+    fill_differences(r, points, divisors);
     'points: for j in 0..points.len() {
         errors[j] = quotient_sum(r, product, &points[j], syndromes, points.len());
-        let differences = differences_from_others(r, points, j);
-        divisors[j] = r.mul(&differences, &weights[j]);
+        divisors[j] = r.mul(&divisors[j], &weights[j]);
     }
     if !invert_each(r, divisors, scratch) {
         return false;

@@ -5,7 +5,7 @@ ghost use Rattle.num_modular.specs.Entries.{entry};
 ghost use Rattle.num_modular.specs.Forms.{IsForm};
 ghost use Rattle.num_modular.specs.Inverses.{HasInverse};
 ghost use Rattle.num_modular.specs.Polynomials.{HaveUnitDifferences, polynomial_at};
-ghost use Rattle.ring_codes.specs.KeyEquations.{IsWithoutInverse};
+ghost use Rattle.ring_codes.specs.Erasure.{IsWithoutInverse};
 ghost use Rattle.ring_decoder.specs.Corrector.{AreLost};
 ghost use Rattle.ring_decoder.specs.ErrorPatterns.{IsNearPattern, IsLocated, AreLocatorValues};
 

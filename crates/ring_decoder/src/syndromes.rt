@@ -7,7 +7,7 @@ ghost use Rattle.num_modular.specs.Forms.{IsForm};
 ghost use Rattle.num_modular.specs.Polynomials.{HaveUnitDifferences};
 ghost use Rattle.num_modular.specs.Sums.{sum_below};
 ghost use Rattle.ring_codes.specs.Erasure.{IsErasureCodeword};
-ghost use Rattle.ring_codes.specs.KeyEquations.{shifted};
+ghost use Rattle.ring_codes.specs.Shifts.{shifted};
 ghost use Rattle.ring_decoder.specs.PowerSums.{ArePowerSums};
 ghost use Rattle.ring_decoder.specs.Syndromes.{product_of_differences, HasRoots, AreWeights};
 

@@ -8,6 +8,7 @@ ghost use Rattle.num_modular.specs.Inverses.{IsInverse};
 ghost use Rattle.num_modular.specs.Polynomials.{polynomial_at};
 ghost use Rattle.num_modular.specs.Products.{product_below};
 ghost use Rattle.ring_codes.specs.Newton.{difference, newton_form};
+ghost use Rattle.ring_codes.specs.Prepared.{product_but};
 
 use num_modular::{Reducer, RingWord};
 
@@ -33,14 +34,46 @@ pub fn differences_before<T: RingWord, R: Reducer<T>>(r: &R, points: &[T], place
     product
 }
 
+// Multiplies each of the products from `start` to before `end` by the difference of its point from that at a place.
+#[tactic(auto, using(num_modular::specs::Callers::form_read))]
+fn multiply_by_differences<T: RingWord, R: Reducer<T>>(
+    r: &R,
+    points: &[T],
+    place: usize,
+    start: usize,
+    end: usize,
+    products: &mut [T],
+)
+    requires points { All (λ f. IsForm R.form R.value (R.modulus r.now) (T.number f)) points.now }
+    requires products { All (λ f. IsForm R.form R.value (R.modulus r.now) (T.number f)) products.old }
+    requires inside { place < length points.now }
+    requires ordered { start ≤ end }
+    requires points_within { end ≤ length points.now }
+    requires products_within { end ≤ length products.old }
+    ensures checked { All (λ f. IsForm R.form R.value (R.modulus r.now) (T.number f)) products.new }
+    ensures multiplied { let m = R.modulus r.now in (i : ℕ) → start ≤ i → i < end →
+        entry T.number R.value m products.new i
+        ≡ (entry T.number R.value m products.old i * difference m (entry T.number R.value m points.now) i place) % m }
+    ensures before { let m = R.modulus r.now in (i : ℕ) → i < start →
+        entry T.number R.value m products.new i ≡ entry T.number R.value m products.old i }
+    ensures behind { let m = R.modulus r.now in (i : ℕ) → end ≤ i →
+        entry T.number R.value m products.new i ≡ entry T.number R.value m products.old i }
+{
+    'points: for i in start..end {
+        let difference = r.sub(&points[i], &points[place]);
+        products[i] = r.mul(&products[i], &difference);
+    }
+}
+
 /// Writes, for each point, the product of its differences from those before it, for as many points as there are
 /// weights.
+///
+/// Point after point, each difference is multiplied into the products of all later points, which are independent.
 ///
 /// # Preconditions
 ///
 /// - the points are checked forms
 /// - there are as many points as weights or more
-#[tactic(auto, using(num_modular::specs::Callers::entry, num_modular::specs::Callers::hold_more, num_modular::specs::Callers::product_below, num_modular::specs::Callers::held_forms, num_modular::specs::Callers::held_entry))]
 pub fn fill_weights<T: RingWord, R: Reducer<T>>(r: &R, points: &[T], weights: &mut [T])
     requires checked { All (λ f. IsForm R.form R.value (R.modulus r.now) (T.number f)) points.now }
     requires within { length weights.old ≤ length points.now }
@@ -49,8 +82,50 @@ pub fn fill_weights<T: RingWord, R: Reducer<T>>(r: &R, points: &[T], weights: &m
         entry T.number R.value m weights.new i
         ≡ product_below i (difference m (entry T.number R.value m points.now) i) % m }
 {
-    'points: for i in 0..weights.len() {
-        weights[i] = differences_before(r, points, i);
+    let one = r.transform(T::one());
+    'ones: for i in 0..weights.len() {
+        weights[i] = one;
+    }
+    'points: for j in 0..weights.len() {
+        multiply_by_differences(r, points, j, j + 1, weights.len(), weights);
+    }
+}
+
+/// Writes for each of n points the product of its differences from the other ones.
+///
+/// It takes n·(n - 1) products.
+///
+/// # Conditions
+///
+/// - there are n products
+/// - (debug) the points are checked forms
+///
+/// # Examples
+///
+/// ```
+/// use num_modular::applications::ring_codes::erasure::fill_differences;
+/// use num_modular::{Reducer, Vanilla};
+///
+/// let ring = Vanilla::<u8>::new(&97);
+/// let mut products = [0; 3];
+/// fill_differences(&ring, &[0, 1, 3], &mut products);
+/// assert_eq!(products, [3, 95, 6]); // (0 - 1)(0 - 3), (1 - 0)(1 - 3) and (3 - 0)(3 - 1)
+/// ```
+// rust: #[track_caller]
+pub fn fill_differences<T: RingWord, R: Reducer<T>>(r: &R, points: &[T], products: &mut [T])
+    requires points { All (λ f. IsForm R.form R.value (R.modulus r.now) (T.number f)) points.now }
+    requires room { length products.old ≡ length points.now }
+    ensures checked { All (λ f. IsForm R.form R.value (R.modulus r.now) (T.number f)) products.new }
+    ensures products { let m = R.modulus r.now in let x = entry T.number R.value m points.now in
+        (i : ℕ) → i < length points.now →
+        entry T.number R.value m products.new i ≡ product_but m (length points.now) x i (x i) % m }
+{
+    // rust: debug_assert!(points.iter().all(|x| r.check(x)), "the points must be checked forms");
+    // rust: assert!(products.len() == points.len(), "there must be n products: {} and {}", products.len(), points.len());
+    fill_weights(r, points, products);
+    'points: for k in 0..points.len() {
+        let j = points.len() - 1 - k;
+        multiply_by_differences(r, points, j, 0, j, products);
     }
 }
 

@@ -9,6 +9,7 @@ ghost use Rattle.num_modular.specs.Sums.{sum_below};
 ghost use Rattle.ring_codes.specs.Erasure.{IsEncoding};
 ghost use Rattle.ring_codes.specs.Prepared.{product_but, AreRows};
 
+use super::newton::fill_differences;
 use num_modular::ring::{dot_product, invert_each};
 use num_modular::{Reducer, RingWord};
 
@@ -63,7 +64,7 @@ impl<'a, T: RingWord, R: Reducer<T>> PreparedCode<'a, T, R> {
     /// `None` exactly where the known points don't fit.
     ///
     /// The contents of `scratch` are ignored, and unspecified afterwards. The contents of `rows` are ignored, and
-    /// unspecified after `None`. It takes about 3·k² + 4·t·k products and one inversion.
+    /// unspecified after `None`. It takes about k² + 4·t·k products and one inversion.
     ///
     /// Source: Lagrange's form: Knuth, The Art of Computer Programming, volume 2, section 4.6.4.
     ///
@@ -256,7 +257,7 @@ fn fill_products<T: RingWord, R: Reducer<T>>(r: &R, points: &[T], point: &T, pro
 /// Returns false exactly where the points don't fit.
 ///
 /// `products` is scratch: its contents are ignored, and unspecified afterwards. The contents of `weights` are ignored, and
-/// unspecified after false. It takes 3·n² + 3·n products and one inversion.
+/// unspecified after false. It takes n² + 3·n products and one inversion.
 ///
 /// Source: Berrut and Trefethen, "Barycentric Lagrange interpolation", SIAM Review 46, 2004.
 ///
@@ -300,10 +301,7 @@ pub fn fill_barycentric_weights<T: RingWord, R: Reducer<T>>(
     // rust: debug_assert!(points.iter().all(|x| r.check(x)), "the points must be checked forms");
     // rust: assert!(products.len() == points.len(), "there must be n products: {} and {}", products.len(), points.len());
     // rust: assert!(weights.len() == points.len(), "there must be n weights: {} and {}", weights.len(), points.len());
-    'points: for i in 0..points.len() {
-        fill_products(r, points, &points[i], products);
-        weights[i] = products[i];
-    }
+    fill_differences(r, points, weights);
     invert_each(r, weights, products)
 }
 

@@ -7,33 +7,24 @@ ghost use Rattle.num_modular.specs.Forms.{IsForm};
 ghost use Rattle.num_modular.specs.Polynomials.{polynomial_at, HaveUnitDifferences};
 ghost use Rattle.ring_codes.specs.Erasure.{IsEncoding, IsErasureCodeword, ArePlaces, IsFault};
 
+use super::places::index_of;
 use super::{RestoreError, evaluate, restore};
 use num_modular::{Reducer, RingWord};
 
-/// An index below `count` of a place in the list; `None` exactly where there is none.
+/// Writes the word of a message: the symbols at the first `count` places, and the message's values at the other points.
 ///
 /// # Preconditions
 ///
-/// - the list has at least that many entries
-pub fn index_of(places: &[usize], count: usize, place: usize) -> Option<usize>
-    requires { count ≤ length places.now }
-    ensures { MatchOption result ((j : ℕ) → j < count → slice_index places.now j ≢ place)
-        (λ j. (j < count) × (slice_index places.now j ≡ place)) }
-{
-    'indices: for j in 0..count {
-        if places[j] == place {
-            return Some(j);
-        }
-    }
-    None
-}
-
-// Writes the word of a message: the kept symbols, and the values of the message at the other points.
+/// - there are at least `count` places, and as many symbols as places
+/// - the word has as many places as there are points
+/// - the first `count` symbols are the message's values at the points of their places
+/// - points, message and symbols are checked forms
 #[tactic(auto, using(num_modular::specs::Callers::held_forms, num_modular::specs::Callers::held_entry, num_modular::specs::Callers::form_read))]
-fn fill_word<T: RingWord, R: Reducer<T>>(
+pub fn fill_word<T: RingWord, R: Reducer<T>>(
     r: &R,
     points: &[T],
     message: &[T],
+    count: usize,
     places: &[usize],
     symbols: &[T],
     word: &mut [T],
@@ -42,9 +33,9 @@ fn fill_word<T: RingWord, R: Reducer<T>>(
     requires message { All (λ f. IsForm R.form R.value (R.modulus r.now) (T.number f)) message.now }
     requires symbols { All (λ f. IsForm R.form R.value (R.modulus r.now) (T.number f)) symbols.now }
     requires pairs { length symbols.now ≡ length places.now }
-    requires enough { length message.now ≤ length places.now }
+    requires enough { count ≤ length places.now }
     requires room { length word.old ≡ length points.now }
-    requires kept { let m = R.modulus r.now in IsEncoding m (length message.now) (length message.now)
+    requires kept { let m = R.modulus r.now in IsEncoding m (length message.now) count
         (λ i. entry T.number R.value m points.now (slice_index places.now i))
         (entry T.number R.value m message.now) (entry T.number R.value m symbols.now) }
     ensures checked { All (λ f. IsForm R.form R.value (R.modulus r.now) (T.number f)) word.new }
@@ -53,7 +44,7 @@ fn fill_word<T: RingWord, R: Reducer<T>>(
         (entry T.number R.value m message.now) (entry T.number R.value m word.new) }
 {
     'points: for i in 0..points.len() {
-        word[i] = match index_of(places, message.len(), i) {
+        word[i] = match index_of(places, count, i) {
             Some(j) => symbols[j],
             None => evaluate(r, message, &points[i]),
         };
@@ -146,7 +137,7 @@ pub fn restore_word<T: RingWord, R: Reducer<T>>(
     match restore(r, points, places, symbols, chosen, weights, message) {
         Err(error) => Err(error),
         Ok(()) => {
-            fill_word(r, points, message, places, symbols, word);
+            fill_word(r, points, message, message.len(), places, symbols, word);
             Ok(())
         }
     }

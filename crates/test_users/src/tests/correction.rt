@@ -5,22 +5,25 @@ ghost use Rattle.std.specs.Prelude.{◌+◌, ◌*◌, ◌<◌, ◌≤◌};
 
 use super::erasure::{forms_of, words_of};
 use num_modular::{FixedMersenne64, Montgomery, Reducer};
-use ring_codes::erasure::{CorrectError, RestoreError, correct, recover_correct};
+use ring_codes::erasure::{CorrectError, RestoreError};
+use ring_correction::{correct, recover_correct};
 use std::process::Abort;
 
 const MERSENNE_PRIME: u64 = 2305843009213693951;
 
 type Found<const K: usize> = Result<([u64; K], usize), CorrectError<u64>>;
 
-// The message and the number of wrong symbols, given the symbols at places of the points.
-fn corrected<R: Reducer<u64>, const N: usize, const S: usize, const K: usize>(
+// The message and the number of wrong symbols, given the symbols at places of the points, with so much scratch.
+fn corrected_in<R: Reducer<u64>, const N: usize, const S: usize, const K: usize>(
     r: &R,
+    room: usize,
     points: &[u64; N],
     places: &[usize; S],
     symbols: &[u64; S],
 ) -> Found<K>
     requires some { 0 < K }
-    requires room { 3 * (S + K) + 2 ≤ 100 }
+    requires room { 3 * (S + K) + 2 ≤ room }
+    requires within { room ≤ 100 }
 {
     let points = forms_of(r, points);
     let symbols = forms_of(r, symbols);
@@ -32,13 +35,25 @@ fn corrected<R: Reducer<u64>, const N: usize, const S: usize, const K: usize>(
         &points,
         places,
         &symbols,
-        &mut scratch,
+        &mut scratch[..room],
         &mut message,
         &mut word,
     ) {
         Err(error) => Err(error),
         Ok(errors) => Ok((words_of(r, &message), errors)),
     }
+}
+
+fn corrected<R: Reducer<u64>, const N: usize, const S: usize, const K: usize>(
+    r: &R,
+    points: &[u64; N],
+    places: &[usize; S],
+    symbols: &[u64; S],
+) -> Found<K>
+    requires some { 0 < K }
+    requires room { 3 * (S + K) + 2 ≤ 100 }
+{
+    corrected_in(r, 100, points, places, symbols)
 }
 
 // Symbols at places of the points 0 to 6, and the message of three symbols with the number of errors.
@@ -129,11 +144,14 @@ fn assert_composite<R: Reducer<u64>>(rt: &impl Abort, r: &R, small: &R, square: 
     check!(rt, 18; found == Ok(([101, 202, 5], 2)));
 }
 
-// Numbers without an inverse are in the way; the row was found by search.
-fn stops_at_fourteen<R: Reducer<u64>>(r: &R) -> bool {
+// Numbers without an inverse are in the way of the key equation, which goes alone where scratch is short; the row was
+// found by search.
+fn found_of_five<R: Reducer<u64>>(r: &R, room: usize) -> Found<2>
+    requires enough { 23 ≤ room }
+    requires within { room ≤ 100 }
+{
     let places = &[0, 1, 2, 3, 4];
-    corrected::<_, 5, 5, 2>(r, &[0, 1, 2, 3, 4], places, &[2, 10, 4, 26, 34])
-        == Err(CorrectError::NoInverse(14))
+    corrected_in(r, room, &[0, 1, 2, 3, 4], places, &[2, 10, 4, 26, 34])
 }
 
 // The points are 3^(16·i) modulo 257.
@@ -161,7 +179,8 @@ fn assert_corrections<R: Reducer<u64> + Copy>(rt: &impl Abort)
     let (product, small, square) = (&R::new(&1001), &R::new(&15), &R::new(&10201));
     assert_without_errors(rt, product, small, square);
     assert_composite(rt, product, small, square);
-    check!(rt, 19; stops_at_fourteen(&R::new(&35)));
+    check!(rt, 19; found_of_five(&R::new(&35), 43) == Err(CorrectError::NoInverse(14)));
+    check!(rt, 20; found_of_five(&R::new(&35), 44) == Ok(([2, 8], 1)));
     check!(rt, 21; corrects_four(&R::new(&257)));
 }
 

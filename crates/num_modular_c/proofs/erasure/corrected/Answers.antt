@@ -2,7 +2,7 @@ use Rattle.std.proofs.Common.{◌∙◌, slice_index, sym, refl}
 use Rattle.num_modular_c.proofs.Moved.{moved}
 use Rattle.num_modular_c.proofs.Rooms.{fits, left, correct_rooms, correct_room}
 use Rattle.num_modular_c.specs.Erasure.{IsCorrected}
-use Rattle.ring_codes.specs.Correction.{AreFit, IsCorrectFault}
+use Rattle.ring_correction.specs.Correction.{AreFit, IsCorrectFault}
 use Rattle.num_modular_c.proofs.erasure.corrected.Goals as goal
 
 pub returns-in-Ok-clause-ok : goal.returns-in-Ok-clause-ok

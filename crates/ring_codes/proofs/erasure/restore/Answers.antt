@@ -28,7 +28,7 @@ pub returns-then-interpolate : goal.returns-then-interpolate
 returns-then-interpolate g c =
     let ring = g.R.Reducer in let m = ring.modulus c.args.r.now in let number = g.T.RingWord.number in
     let k = length c.args.message.now in let places = c.args.places.now in
-    let is = are_chosen number ring.value m _ k c.args.points.now c.choose.new.chosen places c.choose.auto.chosen
+    let is = are_chosen number ring.value m _ k c.args.points.now c.choose_points.new.chosen places c.choose_points.auto.chosen
     c.requires.chosen (c.in-Ok.ensures.places refl) (c.in-Ok.ensures.chosen refl) in record {
       accepted = ((λ t. (is.right, is.fit.0 (c.if-interpolate.ensures.fit.0 refl))), λ h. refl);
       fault = search rules;
@@ -48,7 +48,7 @@ pub returns-else-interpolate : goal.returns-else-interpolate
 returns-else-interpolate g c =
     let ring = g.R.Reducer in
     let is = are_chosen g.T.RingWord.number ring.value (ring.modulus c.args.r.now) _ (length c.args.message.now) c.args.points.now
-    c.choose.new.chosen c.args.places.now c.choose.auto.chosen c.requires.chosen (c.in-Ok.ensures.places refl)
+    c.choose_points.new.chosen c.args.places.now c.choose_points.auto.chosen c.requires.chosen (c.in-Ok.ensures.places refl)
     (c.in-Ok.ensures.chosen refl) in record {
       accepted = ((λ t. absurd (false≢true t)), λ h. c.if-interpolate.ensures.fit.1 (is.fit.1 h.1));
       fault = (is.right, λ fit. false≢true (c.if-interpolate.ensures.fit.1 (is.fit.1 fit)));
@@ -72,4 +72,4 @@ interpolate-requires-clause-values_within g c =
 
 pub interpolate-requires-clause-points_within : goal.interpolate-requires-clause-points_within
 interpolate-requires-clause-points_within g c =
-    subst (λ n. length c.args.message.now ≤ n) (sym (c.choose.auto.chosen ∙ c.requires.chosen)) (le_refl _)
+    subst (λ n. length c.args.message.now ≤ n) (sym (c.choose_points.auto.chosen ∙ c.requires.chosen)) (le_refl _)

@@ -1,7 +1,7 @@
 use Rattle.std.proofs.Common.{slice_range}
 use Rattle.num_modular.specs.Callers.{ℕ, ◌+◌, ◌-◌, ◌*◌, ◌%◌, ◌≡◌, ◌≤◌, ◌∙◌, ap, arith, length, entry}
 use Rattle.num_modular.specs.NumberLaws.{sum_below-same}
-use Rattle.ring_codes.proofs.Pairs.{entry_slice}
+use Rattle.ring_codes.proofs.Symbols.{entry_slice}
 use Rattle.ring_decoder.proofs.syndromes.sum_from.Goals as goal
 
 pub returns-clause-value : goal.returns-clause-value

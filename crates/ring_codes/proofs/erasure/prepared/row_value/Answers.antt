@@ -2,7 +2,7 @@ use Rattle.std.proofs.Common.{slice_range}
 use Rattle.num_modular.specs.Callers.{ℕ, ◌+◌, ◌-◌, ◌*◌, ◌%◌, ◌≡◌, ◌≤◌, ◌∙◌, ap, arith, length, entry}
 use Rattle.num_modular.specs.NumberLaws.{sum_below-same}
 use Rattle.num_modular.specs.Sums.{sum_below}
-use Rattle.ring_codes.proofs.Pairs.{entry_slice, slice_length}
+use Rattle.ring_codes.proofs.Symbols.{entry_slice, slice_length}
 use Rattle.ring_codes.proofs.erasure.prepared.row_value.Goals as goal
 
 pub returns-clause-value : goal.returns-clause-value

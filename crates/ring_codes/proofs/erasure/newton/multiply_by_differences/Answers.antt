@@ -1,0 +1,40 @@
+use Rattle.std.proofs.Common.{pos, ◌-ℤ◌}
+use Rattle.num_modular.specs.Callers.{◌*◌, ◌%◌, ◌∙◌, ap, refl, arith, entry, entry_at, entry_read, forms_written, done_more}
+use Rattle.num_modular.specs.Residues.{residue}
+use Rattle.ring_codes.proofs.erasure.newton.multiply_by_differences.Goals as goal
+
+pub points-init : goal.points-init
+points-init g c = (
+  c.requires.products,
+  record { done = λ k b. ((λ a. absurd (omega (arith, a, b))), λ s. refl); kept = λ k b. refl },
+)
+
+pub points-preserved : goal.points-preserved
+points-preserved g c =
+    let ring = g.R.Reducer in let m = ring.modulus c.args.r.now in let number = g.T.RingWord.number in
+    let points = c.args.points.now in let x = entry number ring.value m points in
+    let old = entry number ring.value m c.args.products.now in
+    let list = c.points.products in let i = c.points.i in let so_far = c.points.invariant in
+    let own = entry_at number ring.value m list i c.index-products-i.result (omega arith) ∙ so_far.1.kept i (omega arith) in
+    let here = entry_read number ring.value m points i _ (omega arith) c.index-points-i.is in
+    let there = entry_read number ring.value m points c.args.place _ c.requires.inside c.index-points-place.is in
+    let difference = c.sub-difference.ensures.value
+    ∙ ap (λ v. residue m (pos v -ℤ pos (ring.value m (number c.index-points-place.result)))) here
+    ∙ ap (λ v. residue m (pos (x i) -ℤ pos v)) there in (
+      forms_written number ring.form ring.value m list i c.mul.result c.mul.ensures.checked so_far.0,
+      done_more number ring.value m list i c.mul.result _ old (omega arith) so_far.1 (
+        (λ a. c.mul.ensures.value
+            ∙ ap (λ v. (v * ring.value m (number c.sub-difference.result)) % m) own
+            ∙ ap (λ v. (old i * v) % m) difference),
+        λ s. absurd (omega arith),
+      ),
+    )
+
+pub returns-clause-multiplied : goal.returns-clause-multiplied
+returns-clause-multiplied g c i a b = (c.points.invariant.1.done i (omega arith)).0 a
+
+pub returns-clause-before : goal.returns-clause-before
+returns-clause-before g c i l = (c.points.invariant.1.done i (omega arith)).1 l
+
+pub returns-clause-behind : goal.returns-clause-behind
+returns-clause-behind g c i l = c.points.invariant.1.kept i (omega arith)

@@ -1,0 +1,3 @@
+pub mod KeyPairs
+pub mod NearPairs
+pub mod Pairs

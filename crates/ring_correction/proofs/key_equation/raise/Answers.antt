@@ -1,0 +1,22 @@
+use Rattle.std.proofs.Common.{◌≡◌, ◌+◌, ◌∙◌, length}
+use Rattle.num_modular.specs.Callers.{entry_past, arith}
+use Rattle.ring_correction.proofs.KeyPairs.{raised}
+use Rattle.ring_correction.proofs.Pairs.{joined_pair}
+use Rattle.ring_correction.proofs.key_equation.raise.Goals as goal
+
+pub returns-clause-pair : goal.returns-clause-pair
+returns-clause-pair g c d k i u x y whole lengths room at pair =
+    let ring = g.R.Reducer in let m = ring.modulus c.args.r.now in let number = g.T.RingWord.number in
+    let split = c.args.split in let list = c.args.pair.now in
+    let front = c.split_at_mut-numerator.result.0.now in let back = c.split_at_mut-numerator.result.1.now in
+    let is_c : length front ≡ split = c.split_at_mut-numerator.ensures.front_len in
+    let is_d : length back ≡ d = omega (arith, c.split_at_mut-numerator.ensures.back_len, whole) in
+    let parts = rw (← c.split_at_mut-numerator.ensures.front, ← c.split_at_mut-numerator.ensures.back) at pair in
+    let long_c = c.multiply_by_root.auto.coefficients in let long_d = c.multiply_by_root-2.auto.coefficients in
+    joined_pair number ring.value m k split d (i + 1) (u + 2) x y c.multiply_by_root.new.coefficients
+    c.multiply_by_root-2.new.coefficients (long_c ∙ is_c)
+    (raised m k split d i u _ x y _ _ _ _ lengths room at
+    (λ l b. c.multiply_by_root.ensures.product l (omega (arith, b, is_c)))
+    (λ l b. c.multiply_by_root-2.ensures.product l (omega (arith, b, is_d)))
+    (λ l b. entry_past number ring.value m c.multiply_by_root.new.coefficients l (omega (arith, b, is_c, long_c)))
+    (λ l b. entry_past number ring.value m c.multiply_by_root-2.new.coefficients l (omega (arith, b, is_d, long_d))) parts)

@@ -1,0 +1,3 @@
+pub mod Correction
+pub mod KeyAdvance
+pub mod KeyEquations

@@ -1,0 +1,14 @@
+//! Correction of Reed and Solomon's codes from listed symbols, over any modulus: in the Cargo crate in `ring_codes::erasure`.
+//!
+//! `correct` goes by the syndromes of `ring_decoder`, and `recover_correct` corrects shares of Shamir's secrets. `key_equation`
+//! and `quotients` have a second method.
+#![tactic(auto)]
+
+mod correction;
+mod key_equation;
+mod quotients;
+mod search;
+mod secrets;
+
+pub use correction::correct;
+pub use secrets::recover_correct;
