@@ -154,6 +154,48 @@ pub fn measured() -> Rows {
     }
 }
 
+/// The microseconds of the check symbols: by prepared rows, and by a loop of products and sums over the same rows.
+fn rows_line<T: RingWord + Debug, R: Reducer<T>>(of: &Modulus<T, R>) -> (String, Vec<f64>) {
+    let (ring, zero) = (&of.ring, of.form(0));
+    let points: Vec<T> = (1..=SYMBOLS as u64).map(|x| of.form(x)).collect();
+    let message: Vec<T> = (0..MESSAGE as u64).map(|i| of.form(i * i + 3)).collect();
+    let (mut rows, mut scratch) = (vec![zero; SPARE * MESSAGE], vec![zero; 2 * MESSAGE]);
+    let _ = PreparedCode::new(ring, &points[..MESSAGE], &points[MESSAGE..], &mut rows, &mut scratch).expect("the points fit");
+    let mut same = rows.clone();
+    let code = PreparedCode::new(ring, &points[..MESSAGE], &points[MESSAGE..], &mut same, &mut scratch).expect("the points fit");
+    let (mut checks, mut summed, mut times) = (vec![zero; SPARE], vec![zero; SPARE], [f64::INFINITY; 2]);
+    for _ in 0..300 {
+        let start = Instant::now();
+        code.extend(black_box(&message), &mut checks);
+        times[0] = times[0].min(start.elapsed().as_secs_f64() * 1e6);
+        let start = Instant::now();
+        for (sum, row) in summed.iter_mut().zip(black_box(&rows).chunks(MESSAGE)) {
+            *sum = row.iter().zip(&message).fold(zero, |sum, (a, b)| ring.add(&sum, &ring.mul(a, b)));
+        }
+        times[1] = times[1].min(start.elapsed().as_secs_f64() * 1e6);
+    }
+    assert_eq!(checks, summed);
+    (of.name.to_string(), times.to_vec())
+}
+
+/// Prepared rows beside loops.
+pub fn prepared_rows() -> Rows {
+    let wide = |name, m: u64| Modulus::new(name, <Montgomery<u64> as Reducer<u64>>::new(&m), 8, |x| x, |x| x);
+    Rows {
+        key: "prepared_rows",
+        title: "32 check symbols of 223 by prepared rows, and by a loop of mul and add over the same rows, in microseconds".to_string(),
+        heads: vec!["prepared", "loop"],
+        ratios: vec![("loop/prepared", 1, 0)],
+        lines: vec![
+            rows_line(&montgomery("Montgomery<u32>, 2^16 + 1", 65537, 2)),
+            rows_line(&montgomery("Montgomery<u32>, 2^32 - 2^20 + 1", 4_293_918_721, 4)),
+            rows_line(&wide("Montgomery<u64>, 2^61 - 1", (1 << 61) - 1)),
+            rows_line(&wide("Montgomery<u64>, 2^64 - 59", u64::MAX - 58)),
+            rows_line(&goldilocks()),
+        ],
+    }
+}
+
 /// Debian's libfec, whose code of 255 symbols with messages of 223 is over the field of 256 elements.
 #[cfg(libfec)]
 pub mod libfec {

@@ -1,10 +1,11 @@
 //! Words with wrong symbols, corrected by the Cargo crate's `Corrector`, with a table of checks and without: of 255 symbols from
-//! messages of 223, beside `correct`, FLINT and, with 8 bits, libfec; and of 4096 from messages of 3584. The calls of a line
-//! are measured in turns.
+//! messages of 223, beside `correct`, FLINT and, with 8 bits, libfec; and of 4096 from messages of 3584, at the powers of a
+//! root, also by a transform. The calls of a line are measured in turns.
 
 use crate::codes::{Modulus, goldilocks, montgomery};
 use crate::report::Rows;
-use erased::applications::ring_codes::erasure::{Corrector, correct, encode};
+use erased::applications::ring_codes::erasure::{Corrector, correct, encode, fill_powers};
+use erased::ring::find_root;
 use erased::{OddMontgomery, Reducer, RingWord};
 use std::fmt::Debug;
 use std::hint::black_box;
@@ -19,6 +20,13 @@ const LONG: (usize, usize) = (4096, 3584);
 
 /// The places from one wrong symbol to the next.
 const STEP: usize = 15;
+
+/// How the syndromes are found.
+enum By {
+    Checks,
+    Weights,
+    Transform,
+}
 
 type Line = (String, Vec<f64>);
 type Turn<'a> = Box<dyn FnMut() + 'a>;
@@ -42,9 +50,10 @@ fn least(turns: &mut [Turn], rounds: usize) -> Vec<f64> {
     times
 }
 
-/// A code, the word of a message, and the same word with wrong symbols.
+/// A code, the word of a message, and the same word with wrong symbols. The points of a long word are the powers of the root.
 struct Spoilt<T> {
     points: Vec<T>,
+    root: Option<T>,
     k: usize,
     right: Vec<T>,
     spoilt: Vec<T>,
@@ -53,23 +62,29 @@ struct Spoilt<T> {
 
 impl<T: RingWord + Debug> Spoilt<T> {
     fn new<R: Reducer<T>>(of: &Modulus<T, R>, (n, k): (usize, usize), wrong: usize) -> Spoilt<T> {
-        let points: Vec<T> = (1..=n as u64).map(|x| of.form(x)).collect();
+        let mut points: Vec<T> = (1..=n as u64).map(|x| of.form(x)).collect();
+        let root = if (n, k) == LONG { find_root(&of.ring, n) } else { None };
+        if let Some(root) = &root {
+            fill_powers(&of.ring, root, &mut points);
+        }
         let message: Vec<T> = (0..k as u64).map(|i| of.form(i * i + 3)).collect();
         let mut right = points.clone();
         encode(&of.ring, &points, &message, &mut right);
         let mut spoilt = right.clone();
         spoilt.iter_mut().step_by(STEP).take(wrong).for_each(|symbol| *symbol = of.ring.add(symbol, &of.form(1)));
-        Spoilt { points, k, right, spoilt, wrong }
+        Spoilt { points, root, k, right, spoilt, wrong }
     }
 
-    /// `Corrector::correct`, with a table of checks or without.
-    fn corrector<'a, R: Reducer<T>>(&'a self, of: &'a Modulus<T, R>, has_checks: bool) -> Turn<'a> {
+    /// `Corrector::correct`.
+    fn corrector<'a, R: Reducer<T>>(&'a self, of: &'a Modulus<T, R>, by: By) -> Turn<'a> {
         let (n, k, zero) = (self.points.len(), self.k, of.form(0));
         let list = |length: usize| vec![zero; length].leak();
-        let mut code = Corrector::new(&of.ring, &self.points, k, list(n), list(n)).expect("the points fit");
-        if has_checks {
-            code = code.with_checks(list(n * (n - k)));
-        }
+        let code = Corrector::new(&of.ring, &self.points, k, list(n), list(n)).expect("the points fit");
+        let code = match (by, self.root) {
+            (By::Checks, _) => code.with_checks(list(n * (n - k))),
+            (By::Transform, Some(root)) => code.with_root(root).expect("the points are its powers"),
+            _ => code,
+        };
         let (mut word, mut scratch) = (self.spoilt.clone(), vec![zero; 2 * n + 7 * (n - k) + 3]);
         Box::new(move || {
             word.copy_from_slice(black_box(&self.spoilt));
@@ -103,14 +118,12 @@ impl<T: RingWord + Debug> Spoilt<T> {
     }
 }
 
-/// The lines of a modulus: with the table, without, by `correct` if the word is short, and by FLINT.
+/// The lines of a modulus: with the table, without, by FLINT, and by `correct` or, if the word is long, by a transform.
 fn lines<T: RingWord + Debug, R: Reducer<T>>(of: &Modulus<T, R>, size: (usize, usize)) -> Vec<Line> {
     let line = |wrong: usize| {
         let it = Spoilt::new(of, size, wrong);
-        let mut turns = vec![it.corrector(of, true), it.corrector(of, false), it.by_flint(of)];
-        if size == SHORT {
-            turns.push(it.by_correct(of));
-        }
+        let last = if size == SHORT { it.by_correct(of) } else { it.corrector(of, By::Transform) };
+        let mut turns = [it.corrector(of, By::Checks), it.corrector(of, By::Weights), it.by_flint(of), last];
         let times = least(&mut turns, if size == SHORT { 300 } else { 20 });
         unsafe { peer_flint_code_clear() };
         (format!("{}, {wrong} wrong", of.name), times)
@@ -127,7 +140,7 @@ fn libfec_line<R: Reducer<u16>>(of: &Modulus<u16, R>, wrong: usize) -> Line {
         assert_eq!(word.correct(), wrong);
         assert!(word.is_right());
     };
-    let times = least(&mut [it.corrector(of, true), it.corrector(of, false), Box::new(theirs)], 2000);
+    let times = least(&mut [it.corrector(of, By::Checks), it.corrector(of, By::Weights), Box::new(theirs)], 2000);
     (format!("{wrong} wrong"), times)
 }
 
@@ -167,8 +180,8 @@ pub fn measured() -> [Rows; 2] {
         Rows {
             key: "long_corrections",
             title: "Words of 4096 symbols with wrong ones, messages of 3584, corrected, in microseconds".to_string(),
-            heads: vec!["with checks", "Corrector", "FLINT"],
-            ratios,
+            heads: vec!["with checks", "Corrector", "FLINT", "by transform"],
+            ratios: [ratios, vec![("by transform/FLINT", 3, 2)]].concat(),
             lines: long,
         },
     ]

@@ -143,6 +143,7 @@ fn beside_peers() -> Option<Report> {
         beside: format!("FLINT {}", peers::version()),
         tables: [peers::measured(), word_lists::measured(), erasure::measured(), codes::measured()]
             .into_iter()
+            .chain([codes::prepared_rows()])
             .chain(corrections::measured())
             .chain(codes::beside_libfec())
             .chain(corrections::beside_libfec())
