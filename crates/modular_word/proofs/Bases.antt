@@ -6,8 +6,8 @@ use Rattle.std.proofs.lemmas.Nat.{pow-add, pow_pos}
 pub base_at_least : (w b : ℕ) → b ≡ 2 ^ w → 8 ≤ w → 256 ≤ b
 base_at_least w b e h =
     let s : w ≡ 8 + (w - 8) = omega arith in
-    let p : 0 < 2 ^ (w - 8) = pow_pos (w - 8) in
-    let f : b ≡ 256 * 2 ^ (w - 8) = e ∙ ap (λ v. 2 ^ v) s ∙ pow-add 2 8 (w - 8) in
+    let p : 0 < 2 ^ (w - 8) = pow_pos _ in
+    let f : b ≡ 256 * 2 ^ (w - 8) = e ∙ ap (λ v. 2 ^ v) s ∙ pow-add _ _ _ in
     omega arith
 
 -- a number below 2 ^ w is below the base, and the other way

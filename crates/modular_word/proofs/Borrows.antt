@@ -8,11 +8,9 @@ pub borrowed : (a b m low high : ℕ) → a < b → b < m → m < 2 ^ 64 → (a 
     → low < 2 ^ 64 → high < 2 ^ 64 → (low + bit_and high m) % 2 ^ 64 + b ≡ a + m
 borrowed a b m low high less below fits parts low_fits high_fits =
     let ones : high ≡ 2 ^ 64 - 1 = omega arith in
-    let rest : low + b ≡ a + 2 ^ 64 = omega (arith, ones) in
     let all : bit_and high m ≡ m = ap (λ v. bit_and v m) ones ∙ and_comm (2 ^ 64 - 1) m ∙ and_mask m 64
     ∙ mod-eq_of_lt fits in
-    let sum = ap (λ v. (low + v) % 2 ^ 64) all in
-    omega (arith, sum, rest)
+    omega (arith, (ap (λ v. (low + v) % 2 ^ 64) all))
 
 -- .. and else nothing
 pub not_borrowed : (a b m low high : ℕ) → b ≤ a → a < 2 ^ 64 → (a + (2 ^ 128 - b)) % 2 ^ 128 ≡ low + 2 ^ 64 * high

@@ -9,8 +9,8 @@ use Rattle.modular_word.specs.Congruence.{Congruent}
 -- two numbers below B that differ by multiples of B are equal
 pub same_rest : (B x y s t : ℕ) → x < B → y < B → x + B * s ≡ y + B * t → x ≡ y
 same_rest B x y s t hx hy e =
-    sym (mod-eq_of_lt hx) ∙ sym (add-mul-mod_self_left x B s) ∙ ap (λ n. n % B) e
-    ∙ add-mul-mod_self_left y B t ∙ mod-eq_of_lt hy
+    sym (mod-eq_of_lt hx) ∙ sym (add-mul-mod_self_left _ _ _) ∙ ap (λ n. n % B) e
+    ∙ add-mul-mod_self_left _ _ _ ∙ mod-eq_of_lt hy
 
 -- a summand cancels under a remainder
 pub mod_cancel : (B x y z : ℕ) → x < B → y < B → (x + z) % B ≡ (y + z) % B → x ≡ y
@@ -36,11 +36,8 @@ same_without m a b c h e =
 pub same_without_unit : (m a b c j : ℕ) → (c * j) % m ≡ 1 % m → (a * c) % m ≡ (b * c) % m → a % m ≡ b % m
 same_without_unit m a b c j u e =
     let back : (x : ℕ) → (x * c * j) % m ≡ x % m =
-    λ x.
-    let r : x * c * j ≡ x * (c * j) = omega arith in
-    let s : x * 1 ≡ x = omega arith in
-    ap (λ v. v % m) r ∙ same_product m x x (c * j) 1 refl u ∙ ap (λ v. v % m) s in
-    sym (back a) ∙ same_product m (a * c) (b * c) j j e refl ∙ back b
+    λ x. ap (λ v. v % m) (omega arith) ∙ same_product _ x x _ _ refl u ∙ ap (λ v. v % m) (omega arith) in
+    sym (back a) ∙ same_product _ _ _ _ _ e refl ∙ back b
 
 -- a factor with a negated inverse cancels
 pub same_without_negated_unit : (m a b c i : ℕ) → 0 < m → (c * i + 1) % m ≡ 0 % m → (a * c) % m ≡ (b * c) % m
@@ -49,14 +46,12 @@ same_without_negated_unit m a b c i h u e =
     let gone : (x : ℕ) → (x * c * i + x) % m ≡ 0 % m =
     λ x.
     let r : x * c * i + x ≡ x * (c * i + 1) = omega arith in
-    let s : x * 0 ≡ 0 = omega arith in
-    ap (λ v. v % m) r ∙ same_product m x x (c * i + 1) 0 refl u ∙ ap (λ v. v % m) s in
-    let f : (a * c * i) % m ≡ (b * c * i) % m = same_product m (a * c) (b * c) i i e refl in
+    ap (λ v. v % m) r ∙ same_product _ x x (c * i + 1) _ refl u ∙ ap (λ v. v % m) (omega arith) in
     let left : (a + b * c * i) % m ≡ (b + b * c * i) % m =
-    same_sum m a a (b * c * i) (a * c * i) refl (sym f)
+    same_sum _ _ _ (b * c * i) (a * c * i) refl (sym (same_product _ _ _ _ _ e refl))
     ∙ ap (λ v. v % m) (let r : a + a * c * i ≡ a * c * i + a = omega arith in r)
     ∙ gone a ∙ sym (gone b) ∙ ap (λ v. v % m) (let r : b * c * i + b ≡ b + b * c * i = omega arith in r) in
-    same_without m a b (b * c * i) h left
+    same_without _ _ _ (b * c * i) h left
 
 -- what is congruent modulo a multiple of m is congruent modulo m
 pub mod_of_multiple : (m q x : ℕ) → x % (m * q) % m ≡ x % m

@@ -27,21 +27,16 @@ absurd_small d i j a b g h l = grind arith
 rest : (d i j a b : ℕ) → a ≡ d * i → a + b ≡ d * j → b ≡ d * (j - i)
 rest d i j a b g h =
     ⊎_elim
-    (λ (l : j < i). absurd_small d i j a b g h l)
-    (λ (l : i ≤ j). let e : j ≡ i + (j - i) = omega arith in let f = ap (λ v. d * v) e in omega arith)
-    (cases_lt j i)
+    (λ (l : j < i). absurd_small _ _ _ _ _ g h l)
+    (λ (l : i ≤ j). let e : j ≡ i + (j - i) = omega arith in let f = ap (λ v. d * v) e in omega arith) (cases_lt _ _)
 
 pub divides_rest : (d a b : ℕ) → a % d ≡ 0 → (a + b) % d ≡ 0 → b % d ≡ 0
 divides_rest d a b g h =
-    let i = multiple_of d a g in
-    let j = multiple_of d (a + b) h in
-    divides d b ((a + b) / d - a / d) (rest d (a / d) ((a + b) / d) a b i j)
+    divides _ _ ((a + b) / d - a / d) (rest _ _ ((a + b) / d) _ _ (multiple_of _ _ g) (multiple_of _ _ h))
 
 -- what divides a number divides its multiples
 pub divides_product : (d a k : ℕ) → a % d ≡ 0 → (a * k) % d ≡ 0
-divides_product d a k g =
-    let i = multiple_of d a g in
-    divides d (a * k) (a / d * k) (ap (λ v. v * k) i ∙ omega arith)
+divides_product d a k g = divides _ _ (a / d * k) (ap (λ v. v * k) (multiple_of _ _ g) ∙ omega arith)
 
 pub divides_through : (d e n : ℕ) → e % d ≡ 0 → n % e ≡ 0 → n % d ≡ 0
 divides_through d e n g h = grind (arith, multiple_of, divides_product)
@@ -64,7 +59,7 @@ divides_mod d a n h g = grind (arith, divides_sum, divides_product)
 
 pub mod_divides : (d a n : ℕ) → n % d ≡ 0 → a % d ≡ 0 → (a % n) % d ≡ 0
 mod_divides d a n h g =
-    divides_rest d (n * (a / n)) (a % n) (divides_product d n (a / n) h)
+    divides_rest _ (n * (a / n)) _ (divides_product _ _ _ h)
     (let e : n * (a / n) + a % n ≡ a = omega arith in ap (λ v. v % d) e ∙ g)
 
 -- being coprime to n depends on the residue alone
@@ -79,17 +74,15 @@ turned_unit : (a n y : ℕ) → 1 < a → 0 < n → (n * y) % a ≡ 1 → (a * (
 turned_unit a n y ha hn e =
     let p = n - 1 in
     let q = n * y / a in
-    let g : a * q + 1 ≡ n * y = omega arith in
-    let k : p * (a * q + 1) ≡ p * (n * y) = ap (λ v. p * v) g in
+    let k : p * (a * q + 1) ≡ p * (n * y) = ap (λ v. p * v) (omega arith) in
     let s : a * (p * q) + n * 1 ≡ 1 + n * (p * y) = omega arith in
-    sym (add-mul-mod_self_left (a * (p * q)) n 1) ∙ ap (λ v. v % n) s ∙ add-mul-mod_self_left 1 n (p * y)
+    sym (add-mul-mod_self_left (a * (p * q)) _ _) ∙ ap (λ v. v % n) s ∙ add-mul-mod_self_left _ _ _
 
 turned : (a n y : ℕ) → 0 < a → 0 < n → (n * y) % a ≡ 1 % a → (x : ℕ) × ((a * x) % n ≡ 1 % n)
 turned a n y ha hn e =
     ⊎_elim
-    (λ (l : 1 < a). ((n - 1) * (n * y / a), turned_unit a n y l hn (e ∙ mod-eq_of_lt l)))
-    (λ (l : a ≤ 1). (1, ap (λ v. v % n) (let f : a * 1 ≡ 1 = omega arith in f)))
-    (cases_lt 1 a)
+    (λ (l : 1 < a). ((n - 1) * (n * y / a), turned_unit _ _ _ l hn (e ∙ mod-eq_of_lt l)))
+    (λ (l : a ≤ 1). (1, ap (λ v. v % n) (let f : a * 1 ≡ 1 = omega arith in f))) (cases_lt _ _)
 
 -- a multiple of a that is 1 modulo n, along Euclid's algorithm
 unit_within : (fuel a n : ℕ) → n ≤ fuel → 0 < n → Coprime a n → (x : ℕ) × ((a * x) % n ≡ 1 % n)
@@ -97,61 +90,58 @@ unit_within zero a n l p c = absurd (omega arith)
 unit_within (suc fuel) a n l p c =
     ⊎_elim
     (λ (h : 0 < a % n).
-    let k = Coprime-swap (a % n) n (Coprime-mod a n c) in
-    let below : a % n < n = mod-lt a p in
-    let i = unit_within fuel n (a % n) (omega arith) h k in
-    let t = turned (a % n) n i.0 h p i.1 in
-    (t.0, sym (mul-mod_first a t.0 n) ∙ t.1))
+    let i = unit_within fuel n (a % n) (omega arith) h (Coprime-swap _ _ (Coprime-mod _ _ c)) in
+    let t = turned _ _ i.0 h p i.1 in
+    (t.0, sym (mul-mod_first _ t.0 _) ∙ t.1))
     (λ (h : a % n ≤ 0).
     grind (arith, mod_self, mod-one))
-    (cases_lt 0 (a % n))
+    (cases_lt _ _)
 
 -- a number coprime to n has an inverse modulo n
 pub HasInverse-from_Coprime : (a n : ℕ) → 0 < n → Coprime a n → HasInverse n a
 HasInverse-from_Coprime a n p c =
     let u = unit_within n a n (omega arith) p c in
-    (u.0 % n, record { below = mod-lt u.0 p; one = mul-mod_second a u.0 n ∙ u.1 })
+    (u.0 % n, record { below = mod-lt u.0 p; one = mul-mod_second _ u.0 _ ∙ u.1 })
 
 -- and no other number has
 pub Coprime-from_IsInverse : (a n x : ℕ) → IsInverse n a x → Coprime a n
-Coprime-from_IsInverse a n x i = record {
-  only_one = λ d g h.
-      let one : (1 % n) % d ≡ 0 = ap (λ v. v % d) (sym i.one) ∙ mod_divides d (a * x) n h (divides_product d a x g) in
-      let b = divisor_below d 1 (let z : 0 < 1 = omega arith in z) (divides_mod d 1 n h one) in
-      let l = b.0 in
-      let m = b.1 in
-      omega arith;
-}
+Coprime-from_IsInverse a n x i =
+    record {
+      only_one = λ d g h.
+          let one : (1 % n) % d ≡ 0 = ap (λ v. v % d) (sym i.one) ∙ mod_divides d _ _ h (divides_product d _ _ g) in
+          let b = divisor_below d _ (let z : 0 < 1 = omega arith in z) (divides_mod d _ _ h one) in
+          omega arith;
+    }
 
 -- Euclid's lemma: a number coprime to n is cancelled from a multiple of n
 pub coprime_cancel : (a n x : ℕ) → 0 < n → Coprime a n → (a * x) % n ≡ 0 → x % n ≡ 0
 coprime_cancel a n x p c h =
     let u = unit_within n a n (omega arith) p c in
-    let e : x * (a * u.0) ≡ (a * x) * u.0 = omega arith in
     let o : x * 1 ≡ x = omega arith in
-    sym (ap (λ v. v % n) o) ∙ sym (same_product n x x (a * u.0) 1 refl u.1) ∙ ap (λ v. v % n) e
-    ∙ divides_product n (a * x) u.0 h
+    sym (ap (λ v. v % n) o) ∙ sym (same_product _ _ _ (a * u.0) _ refl u.1) ∙ ap (λ v. v % n) (omega arith)
+    ∙ divides_product _ _ u.0 h
 
 -- factors of a number coprime to n are, and products of such numbers
 pub Coprime-left : (a b n : ℕ) → Coprime (a * b) n → Coprime a n
 Coprime-left a b n c = record { only_one = λ d g h. c.only_one d (divides_product d a b g) h }
 
 pub Coprime-right : (a b n : ℕ) → Coprime (a * b) n → Coprime b n
-Coprime-right a b n c = record {
-  only_one = λ d g h.
-      let e : a * b ≡ b * a = omega arith in
-      c.only_one d (ap (λ v. v % d) e ∙ divides_product d b a g) h;
-}
+Coprime-right a b n c =
+    record {
+      only_one = λ d g h.
+          let e : a * b ≡ b * a = omega arith in
+          c.only_one d (ap (λ v. v % d) e ∙ divides_product d _ _ g) h;
+    }
 
 pub Coprime-product : (a b n : ℕ) → 0 < n → Coprime a n → Coprime b n → Coprime (a * b) n
-Coprime-product a b n p c k = record {
-  only_one = λ d g h.
-      k.only_one d
-      (coprime_cancel a d b (positive_divisor d n p h)
-      (record { only_one = λ e u v. c.only_one e u (divides_through e d n v h) })
-      g)
-      h;
-}
+Coprime-product a b n p c k =
+    record {
+      only_one = λ d g h. k.only_one d
+          (coprime_cancel _ d _ (positive_divisor d _ p h)
+          (record { only_one = λ e u v. c.only_one e u (divides_through e d _ v h) })
+          g)
+          h;
+    }
 
 -- what the greatest common divisor up to k is
 gcd_step : (a n k d g : ℕ) → (d ≤ k → a % d ≡ 0 → n % d ≡ 0 → d ≤ g) → d ≤ suc k → a % d ≡ 0 → n % d ≡ 0 → g ≤ k
@@ -182,8 +172,7 @@ gcd_common a n (suc k) p = gcd_common_step a n k (gcd_up_to a n k) (gcd_common a
 -- coprime numbers are those whose greatest common divisor is 1
 pub gcd-from_Coprime : (a n : ℕ) → 0 < n → Coprime a n → gcd a n ≡ 1
 gcd-from_Coprime a n p c =
-    let l = gcd_greatest a n n 1 p (mod-one a) (mod-one n) in
-    let b = gcd_common a n n l in
+    let b = gcd_common _ _ _ (gcd_greatest _ _ _ _ p (mod-one _) (mod-one _)) in
     c.only_one (gcd_up_to a n n) b.0 b.1
 
 pub Coprime-from_gcd : (a n : ℕ) → 0 < n → gcd a n ≡ 1 → Coprime a n
@@ -192,8 +181,7 @@ Coprime-from_gcd a n p e = grind (arith, divisor_below, gcd_greatest)
 -- `gcd` is the greatest common divisor
 pub gcd_is : (a n : ℕ) → 0 < n → IsGreatestCommonDivisor a n (gcd a n)
 gcd_is a n p =
-    let l = gcd_greatest a n n 1 p (mod-one a) (mod-one n) in
-    let b = gcd_common a n n l in
+    let b = gcd_common a n n (gcd_greatest a n n 1 p (mod-one a) (mod-one n)) in
     grind (arith, gcd_greatest, divisor_below)
 
 pub gcd_is_positive : (a n : ℕ) → 0 < n → 0 < gcd a n

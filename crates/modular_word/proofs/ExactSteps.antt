@@ -25,10 +25,8 @@ divisor_positive B d i e = grind (arith, mul-le-mul_right, zero-mod)
 pub exact_within : (B d i n q : ℕ) → n < B → (d * i) % B ≡ 1 → q ≡ (n * i) % B → q ≤ (B - 1) / d
     → q * d ≡ n
 exact_within B d i n q hn e eq hq =
-    let m : q * d ≤ (B - 1) / d * d = mul-le-mul_right d hq in
-    let small : q * d < B = omega arith in
-    let r : (q * d) % B ≡ n % B = ap (λ x. (x * d) % B) eq ∙ back B d i n e in
-    sym (mod-eq_of_lt small) ∙ r ∙ mod-eq_of_lt hn
+    let m : q * d ≤ (B - 1) / d * d = mul-le-mul_right _ hq in
+    sym (mod-eq_of_lt (omega arith)) ∙ (ap (λ x. (x * d) % B) eq ∙ back _ _ _ _ e) ∙ mod-eq_of_lt hn
 
 -- the quotient of a multiple of the divisor is within the limit
 pub quotient_within : (B d i n k q : ℕ) → n < B → (d * i) % B ≡ 1 → q ≡ (n * i) % B → k * d ≡ n
@@ -39,10 +37,9 @@ quotient_within B d i n k q hn e eq ek = grind (arith, divisor_positive, mul-le-
 pub low_again : (B d i n0 q0 low h : ℕ) → n0 < B → low < B → (d * i) % B ≡ 1
     → q0 ≡ (n0 * i) % B → q0 * d ≡ low + B * h → q0 * d ≡ n0 + B * h
 low_again B d i n0 q0 low h hn hlow e eq ep =
-    let r : (q0 * d) % B ≡ n0 % B = ap (λ x. (x * d) % B) eq ∙ back B d i n0 e in
-    let s : (low + B * h) % B ≡ low % B = add-mul-mod_self_left low B h in
     let same : low ≡ n0 =
-    sym (mod-eq_of_lt hlow) ∙ sym s ∙ ap (λ x. x % B) (sym ep) ∙ r ∙ mod-eq_of_lt hn in
+    sym (mod-eq_of_lt hlow) ∙ sym (add-mul-mod_self_left _ _ _) ∙ ap (λ x. x % B) (sym ep)
+    ∙ (ap (λ x. (x * d) % B) eq ∙ back _ _ _ _ e) ∙ mod-eq_of_lt hn in
     omega arith
 
 -- of a double word that the divisor divides, the high part of the quotient divides what is left
@@ -51,8 +48,7 @@ pub high_left : (B d i n0 n1 q0 h K : ℕ) → n0 < B → (d * i) % B ≡ 1 → 
 high_left B d i n0 n1 q0 h K hn e eq ep eK =
     let g : (n0 + B * n1) * i ≡ n0 * i + B * (n1 * i) = omega arith in
     let low : K % B ≡ q0 =
-    sym (forth B d i K e) ∙ ap (λ x. (x * i) % B) eK ∙ ap (λ x. x % B) g
-    ∙ add-mul-mod_self_left (n0 * i) B (n1 * i) ∙ sym eq in
+    sym (forth _ _ _ _ e) ∙ ap (λ x. (x * i) % B) eK ∙ ap (λ x. x % B) g ∙ add-mul-mod_self_left _ _ _ ∙ sym eq in
     let fd : (B * (K / B) + q0) * d ≡ K * d = ap (λ x. x * d) (let f' : B * (K / B) + q0 ≡ K = omega arith in f') in
     let top : B * (K / B * d + h) ≡ B * n1 = omega arith in
-    factor_cancel B (K / B * d + h) n1 (omega arith) top
+    factor_cancel _ (K / B * d + h) _ (omega arith) top

@@ -9,8 +9,8 @@ use Rattle.modular_word.specs.Inverses.{IsInverse, IsInversion, HasInverse, inve
 -- a number below m is what is left of it times an inverse pair
 undone : (m a x y : ℕ) → (a * y) % m ≡ 1 % m → x < m → (a * y * x) % m ≡ x
 undone m a x y e h =
-    sym (mul-mod_first (a * y) x m) ∙ ap (λ n. n * x % m) e ∙ mul-mod_first 1 x m
-    ∙ ap (λ n. n % m) (one-mul x) ∙ mod-eq_of_lt h
+    sym (mul-mod_first _ _ _) ∙ ap (λ n. n * x % m) e ∙ mul-mod_first _ _ _
+    ∙ ap (λ n. n % m) (one-mul _) ∙ mod-eq_of_lt h
 
 -- two inverses of one number are equal
 pub inverse_unique : (m a x y : ℕ) → IsInverse m a x → IsInverse m a y → x ≡ y
@@ -38,8 +38,7 @@ none_below m a (suc b) x e h w = none_step m a b x (inverse_below m a b) (none_b
 found_from : (m a x : ℕ) (o : Option ℕ) → inverse_of m a ≡ o → IsInverse m a x → inverse_of m a ≡ Some x
 found_from m a x None e h = absurd (none_below m a m x e h.below h.one)
 found_from m a x (Some y) e h =
-    let s = some_below m a m y e in
-    e ∙ ap Some (inverse_unique m a y x (record { below = s.0; one = s.1 }) h)
+    e ∙ ap Some (inverse_unique _ _ y _ (record { below = (some_below _ _ _ y e).0; one = (some_below _ _ _ y e).1 }) h)
 
 -- an inverse is the one that `inverse_of` names
 pub inverse_of-found : (m a x : ℕ) → IsInverse m a x → inverse_of m a ≡ Some x
@@ -47,9 +46,7 @@ inverse_of-found m a x h = found_from m a x (inverse_of m a) refl h
 
 none_from : (m a : ℕ) (o : Option ℕ) → inverse_of m a ≡ o → ((x : ℕ) → IsInverse m a x → ⊥) → inverse_of m a ≡ None
 none_from m a None e h = e
-none_from m a (Some y) e h =
-    let s = some_below m a m y e in
-    absurd (h y (record { below = s.0; one = s.1 }))
+none_from m a (Some y) e h = absurd (h y (record { below = (some_below _ _ _ y e).0; one = (some_below _ _ _ y e).1 }))
 
 -- where there is none, it names none
 pub inverse_of-none : (m a : ℕ) → ((x : ℕ) → IsInverse m a x → ⊥) → inverse_of m a ≡ None

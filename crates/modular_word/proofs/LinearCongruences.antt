@@ -10,8 +10,8 @@ regrouped a b x = omega arith
 -- the inverse times b, times a, is congruent to b
 pub solution : (m a b x : ℕ) → IsInverse m a x → (a * ((b * x) % m)) % m ≡ b % m
 solution m a b x h =
-    mul-mod_second a (b * x) m ∙ ap (λ n. n % m) (regrouped a b x) ∙ sym (mul-mod_first (a * x) b m)
-    ∙ ap (λ n. (n * b) % m) h.one ∙ mul-mod_first 1 b m ∙ ap (λ n. n % m) (one-mul b)
+    mul-mod_second _ _ _ ∙ ap (λ n. n % m) (regrouped _ _ _) ∙ sym (mul-mod_first _ _ _)
+    ∙ ap (λ n. (n * b) % m) h.one ∙ mul-mod_first _ _ _ ∙ ap (λ n. n % m) (one-mul _)
 
 -- the number of the parts r modulo m and d, the difference, times x, modulo n
 pub both_remainders : (m n a b d x : ℕ) → 0 < m → 0 < n → IsInverse n m x → (d + a % m) % n ≡ b % n
@@ -19,9 +19,9 @@ pub both_remainders : (m n a b d x : ℕ) → 0 < m → 0 < n → IsInverse n m 
     × ((a % m + m * ((d * x) % n)) % n ≡ b % n)
 both_remainders m n a b d x p q h e =
     let below : (d * x) % n * m + a % m < m * n =
-    mul-add-lt ((d * x) % n) m (a % m) n (mod-lt (d * x) q) (mod-lt a p) in (
+    mul-add-lt ((d * x) % n) _ _ _ (mod-lt _ q) (mod-lt _ p) in (
       omega (arith, below),
-      add-mul-mod_self_left (a % m) m ((d * x) % n) ∙ mod-mod a m,
-      ap (λ s. s % n) (add_comm (a % m) (m * ((d * x) % n))) ∙ sym (mod-add-mod (m * ((d * x) % n)) n (a % m))
-          ∙ ap (λ s. (s + a % m) % n) (solution n m d x h) ∙ mod-add-mod d n (a % m) ∙ e,
+      add-mul-mod_self_left _ _ ((d * x) % n) ∙ mod-mod _ _,
+      ap (λ s. s % n) (add_comm _ (m * ((d * x) % n))) ∙ sym (mod-add-mod (m * ((d * x) % n)) _ _)
+          ∙ ap (λ s. (s + a % m) % n) (solution _ _ _ _ h) ∙ mod-add-mod _ _ _ ∙ e,
     )

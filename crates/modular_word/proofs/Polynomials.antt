@@ -18,17 +18,13 @@ raised : (n k : ℕ) (c : ℕ → ℕ) (x : ℕ) → k ≤ n
 unfolding sum_below
 raised n zero c x h = omega arith
 raised n (suc k) c x h =
-    let i = raised n k c x (omega arith) in
-    let next : n + 1 - 1 - k ≡ suc (n - 1 - k) = omega arith in
-    let e : x ^ (n + 1 - 1 - k) ≡ x ^ (n - 1 - k) * x = ap (λ j. x ^ j) next ∙ pow-suc x (n - 1 - k) in
-    let t : c k * x ^ (n + 1 - 1 - k) ≡ c k * (x ^ (n - 1 - k) * x) = ap (λ j. c k * j) e in
-    omega (arith, i, t)
+    let e : x ^ (n + 1 - 1 - k) ≡ x ^ (n - 1 - k) * x = ap (λ j. x ^ j) (omega arith) ∙ pow-suc _ (n - 1 - k) in
+    omega (arith, (raised n k c x (omega arith)), (ap (λ j. c k * j) e))
 
 -- one more coefficient
 pub horner : (n : ℕ) (c : ℕ → ℕ) (x : ℕ) → polynomial_highest_first (n + 1) c x ≡ polynomial_highest_first n c x * x + c n
 horner n c x =
-    let last : n + 1 - 1 - n ≡ 0 = omega arith in
-    let e : c n * x ^ (n + 1 - 1 - n) ≡ c n * 1 = ap (λ j. c n * x ^ j) last ∙ ap (λ j. c n * j) (pow-zero x) in
+    let e : c n * x ^ (n + 1 - 1 - n) ≡ c n * 1 = ap (λ j. c n * x ^ j) (omega arith) ∙ ap (λ j. c n * j) (pow-zero _) in
     omega (arith, sum_below-more (λ i. c i * x ^ (n + 1 - 1 - i)) n, raised n n c x (omega arith), e)
 
 -- with no coefficient the value is 0

@@ -1,7 +1,7 @@
 -- The arithmetic of a division of two words by one through a reciprocal.
 use Rattle.std.proofs.Common.{◌≡◌, ℕ, ◌+◌, ◌-◌, ◌*◌, ◌/◌, ◌%◌, ◌<◌, ◌≤◌}
 use Rattle.std.proofs.Common.{ap, ◌∙◌, subst, arith, ◌⊎◌, ⊎_elim}
-use Rattle.std.proofs.Math.Nat.{mod-eq_of_lt, mod-lt, div-add-mod, mul-le-mul_left}
+use Rattle.std.proofs.Math.Nat.{mod-eq_of_lt, mod-lt, mul-le-mul_left}
 use Rattle.std.proofs.Math.Nat.{mul-le-mul_right, lt_of_mul-lt-mul_right}
 use Rattle.std.proofs.lemmas.Bool.{cases_lt}
 use Rattle.modular_word.specs.Reciprocals.{IsReciprocal}
@@ -12,13 +12,10 @@ pub guess_rest : (B d a0 A q q1 r R : ℕ) → r < B → R < B
     → q ≡ (q1 + 1) % B → (r + (q * d) % B) % B ≡ a0
     → R + (q1 + 1) * d ≡ a0 + B * A → R ≡ r
 guess_rest B d a0 A q q1 r R hr hR eq e0 e =
-    let m = (q * d) % B in
     let z = (q1 + 1) / B in
-    let w = (q * d) / B in
-    let u = (r + m) / B in
-    let ez' : B * z + q ≡ q1 + 1 = omega arith in
-    let ed : (B * z + q) * d ≡ (q1 + 1) * d = ap (λ x. x * d) ez' in
-    same_rest B R r (z * d + w + u) A hR hr (omega arith)
+    let u = (r + ((q * d) % B)) / B in
+    let ed : (B * z + q) * d ≡ (q1 + 1) * d = ap (λ x. x * d) (omega arith) in
+    same_rest B R r (z * d + ((q * d) / B) + u) A hR hr (omega arith)
 
 -- the dividend times the base, less the guessed multiple of the divisor
 pub scaled : (c d v k a0 a1 q0 q1 : ℕ)
@@ -40,14 +37,14 @@ guess_low c d k a0 a1 q0 q1 R hk h1 h0 e ea hq =
     ⊎_elim
     (λ (h : R < c). h)
     (λ (h : c ≤ R).
-    let m1 : a1 * k ≤ a1 * d = mul-le-mul_left a1 hk in
-    let m2 : (a1 + 1) * d ≤ d * d = mul-le-mul_right d (omega arith) in
-    let m3 : (a0 + 1) * c ≤ (c + d) * c = mul-le-mul_right c (omega arith) in
-    let m4 : c * c ≤ c * R = mul-le-mul_left c h in
-    let m5 : d * (q0 + 1) ≤ d * R = mul-le-mul_left d (omega arith) in
+    let m1 : a1 * k ≤ a1 * d = mul-le-mul_left _ hk in
+    let m2 : (a1 + 1) * d ≤ d * d = mul-le-mul_right _ (omega arith) in
+    let m3 : (a0 + 1) * c ≤ (c + d) * c = mul-le-mul_right _ (omega arith) in
+    let m4 : c * c ≤ c * R = mul-le-mul_left _ h in
+    let m5 : d * (q0 + 1) ≤ d * R = mul-le-mul_left _ (omega arith) in
     let ea' : (c + d) * (a0 + (c + d) * a1) ≡ (c + d) * ((q1 + 1) * d + R) = ap (λ x. (c + d) * x) ea in
     absurd (omega arith))
-    (cases_lt R c)
+    (cases_lt _ _)
 
 -- a guess that is too great is so by S, which is at most d, and B - S is above q0
 pub guess_high : (c d k a0 a1 q0 q1 S : ℕ)
@@ -58,17 +55,15 @@ pub guess_high : (c d k a0 a1 q0 q1 S : ℕ)
 guess_high c d k a0 a1 q0 q1 S hc h0 hS e ea =
     let ea' : (c + d) * (a0 + (c + d) * a1 + S) ≡ (c + d) * ((q1 + 1) * d) = ap (λ x. (c + d) * x) ea in
     let main : (c + d) * S + q0 * d ≤ (c + d) * d = omega arith in
-    let first : S ≤ d =
-    grind (arith, mul-le-mul_left) in
     let second : S + q0 < c + d =
     ⊎_elim
     (λ (h : S + q0 < c + d). h)
     (λ (h : c + d ≤ S + q0).
-    let m : d * (c + d) ≤ d * (S + q0) = mul-le-mul_left d h in
-    let n : c * 1 ≤ c * S = mul-le-mul_left c (omega arith) in
+    let m : d * (c + d) ≤ d * (S + q0) = mul-le-mul_left _ h in
+    let n : c * 1 ≤ c * S = mul-le-mul_left _ (omega arith) in
     absurd (omega arith))
-    (cases_lt (S + q0) (c + d)) in
-    (first, second)
+    (cases_lt _ _) in
+    ((grind (arith, mul-le-mul_left)), second)
 
 -- what a division by a reciprocal starts from: the divisor's reciprocal v, a dividend whose high
 -- word is below the divisor, and the product of v and the high word, plus the dividend
@@ -100,27 +95,21 @@ guess_at_sum : (c d v a0 a1 q0 q1 q r : ℕ) → Setting (c + d) d v a0 a1 q0 q1
     → Guess (c + d) d (a0 + (c + d) * a1) q0 q1 r
 guess_at_sum c d v a0 a1 q0 q1 q r s hr eq er =
     let k = (c + d) * (c + d) - (v + (c + d)) * d in
-    let ek : (v + (c + d)) * d + k ≡ (c + d) * (c + d) = omega (arith, s.reciprocal.below) in
-    let hk : k ≤ d = omega (arith, s.reciprocal.close) in
-    let e = scaled c d v k a0 a1 q0 q1 ek s.product in
+    let e = scaled _ _ _ k _ _ _ _ (omega (arith, s.reciprocal.below)) s.product in
     let a = a0 + (c + d) * a1 in
     ⊎_elim
     (λ (h : a < (q1 + 1) * d).
     let S = (q1 + 1) * d - a in
     let R = c + d - S in
-    let hS : 0 < S = omega arith in
-    let eS : a0 + (c + d) * a1 + S ≡ (q1 + 1) * d = omega arith in
-    let both = guess_high c d k a0 a1 q0 q1 S (omega (arith, s.divisor_fits)) s.low_fits hS e eS in
+    let both = guess_high _ _ k _ _ _ _ S (omega (arith, s.divisor_fits)) s.low_fits (omega arith) e (omega arith) in
     let eR : R ≡ r =
     guess_rest (c + d) d a0 (a1 + 1) q q1 r R hr (omega (arith, both.0)) eq er (omega (arith, both.0)) in
     grind arith)
     (λ (h : (q1 + 1) * d ≤ a).
     let R = a - (q1 + 1) * d in
-    let eA : a0 + (c + d) * a1 ≡ (q1 + 1) * d + R = omega arith in
-    let low : q0 < R → R < c = guess_low c d k a0 a1 q0 q1 R hk s.high s.low_fits e eA in
-    let fits : R < c + d =
-    grind arith in
-    let eR : R ≡ r = guess_rest (c + d) d a0 a1 q q1 r R hr fits eq er (omega arith) in
+    let low : q0 < R → R < c = guess_low _ _ k _ _ _ _ R (omega (arith, s.reciprocal.close)) s.high s.low_fits e
+    (omega arith) in
+    let eR : R ≡ r = guess_rest (c + d) d a0 a1 q q1 r R hr (grind arith) eq er (omega arith) in
     grind arith)
     (cases_lt a ((q1 + 1) * d))
 
@@ -129,29 +118,25 @@ pub guess_of : (B d v a0 a1 q0 q1 q r : ℕ) → Setting B d v a0 a1 q0 q1
     → r < B → q ≡ (q1 + 1) % B → (r + (q * d) % B) % B ≡ a0
     → Guess B d (a0 + B * a1) q0 q1 r
 guess_of B d v a0 a1 q0 q1 q r s hr eq er =
-    let c = B - d in
-    let e : c + d ≡ B = omega (arith, s.divisor_fits) in
+    let e : (B - d) + d ≡ B = omega (arith, s.divisor_fits) in
     subst
     (λ b. Setting b d v a0 a1 q0 q1 → r < b → q ≡ (q1 + 1) % b → (r + (q * d) % b) % b ≡ a0
     → Guess b d (a0 + b * a1) q0 q1 r)
-    e (guess_at_sum c d v a0 a1 q0 q1 q r) s hr eq er
+    e (guess_at_sum (B - d) _ _ _ _ _ _ _ _) s hr eq er
 
 -- one step down after a guess that leaves more than q0
 pub step_down : (B d a q0 q1 q r q' r' : ℕ) → d < B → q1 < B → r < B → q' < B
     → Guess B d a q0 q1 r → q ≡ (q1 + 1) % B → (q' + 1) % B ≡ q → r' ≡ (r + d) % B → q0 < r
     → a ≡ q' * d + r'
 step_down B d a q0 q1 q r q' r' hd h1 hr hq' guess eq eq' er' hr0 =
-    let e : q' ≡ q1 = mod_cancel B q' q1 1 hq' h1 (eq' ∙ eq) in
-    let ed : q' * d ≡ q1 * d = ap (λ x. x * d) e in
+    let ed : q' * d ≡ q1 * d = ap (λ x. x * d) (mod_cancel _ _ _ _ hq' h1 (eq' ∙ eq)) in
     ⊎_elim
     (λ (f : GuessFits B d a q0 q1 r).
     grind (arith, mod-eq_of_lt))
     (λ (o : GuessIsOver B d a q0 q1 r).
-    let m : B * ((r + d) / B) + (r + d) % B ≡ r + d = div-add-mod (r + d) B in
-    let x = r + d - B in
-    let b : (r + d) % B < B = mod-lt (r + d) (omega arith) in
-    let ex : (r + d) % B ≡ x =
-    same_rest B ((r + d) % B) x ((r + d) / B) 1 b (omega arith) (omega (arith, o.carries)) in
+    let ex : (r + d) % B ≡ (r + d - B) =
+    same_rest B ((r + d) % B) (r + d - B) ((r + d) / B) 1 (mod-lt _ (omega arith)) (omega arith)
+    (omega (arith, o.carries)) in
     omega (arith, o.rest, o.carries))
     guess
 
@@ -161,23 +146,17 @@ pub step_none : (B d a q0 q1 q r : ℕ) → d < B → a < d * B → q1 < B
 step_none B d a q0 q1 q r hd ha h1 guess eq hr0 =
     ⊎_elim
     (λ (f : GuessFits B d a q0 q1 r).
-    let h : q1 + 1 < B =
-    lt_of_mul-lt-mul_right d (let h' : (q1 + 1) * d < B * d = omega (arith, f.rest) in h') in
-    let e : q ≡ q1 + 1 = eq ∙ mod-eq_of_lt h in
-    let ed : q * d ≡ (q1 + 1) * d = ap (λ x. x * d) e in
+    let h : q1 + 1 < B = lt_of_mul-lt-mul_right _ (let h' : (q1 + 1) * d < B * d = omega (arith, f.rest) in h') in
+    let ed : q * d ≡ (q1 + 1) * d = ap (λ x. x * d) (eq ∙ mod-eq_of_lt h) in
     omega (arith, f.rest))
-    (λ (o : GuessIsOver B d a q0 q1 r). absurd (omega (arith, o.above)))
-    guess
+    (λ (o : GuessIsOver B d a q0 q1 r). absurd (omega (arith, o.above))) guess
 
 -- one step up
 pub step_up : (B d a q r q' r' : ℕ) → d < B → a < d * B → r < B → r' < B → d ≤ r
     → a ≡ q * d + r → q' ≡ (q + 1) % B → (r' + d) % B ≡ r → (a ≡ q' * d + r') × (r' + d ≡ r)
 step_up B d a q r q' r' hd ha hr hr' hd' e eq er =
     let x = r - d in
-    let ex : r' ≡ x =
-    grind (arith, mod_cancel, mod-eq_of_lt) in
-    let h : q + 1 < B =
-    lt_of_mul-lt-mul_right d (let h' : (q + 1) * d < B * d = omega arith in h') in
-    let e' : q' ≡ q + 1 = eq ∙ mod-eq_of_lt h in
-    let ed : q' * d ≡ (q + 1) * d = ap (λ x. x * d) e' in
+    let ex : r' ≡ x = grind (arith, mod_cancel, mod-eq_of_lt) in
+    let h : q + 1 < B = lt_of_mul-lt-mul_right _ (let h' : (q + 1) * d < B * d = omega arith in h') in
+    let ed : q' * d ≡ (q + 1) * d = ap (λ x. x * d) (eq ∙ mod-eq_of_lt h) in
     (omega arith, omega arith)

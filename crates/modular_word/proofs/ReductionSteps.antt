@@ -10,21 +10,20 @@ use Rattle.modular_word.specs.Reduction.{IsReduction, IsNegatedInverse}
 pub sum_is_cleared : (B m i t0 t1 x : ℕ) → 0 < B → (m * i) % B ≡ B - 1 → x ≡ (t0 * i) % B
     → (t0 + B * t1 + x * m) % B ≡ 0
 sum_is_cleared B m i t0 t1 x hB e ex =
-    let next : (m * i + 1) % B ≡ 0 = next_is_multiple B (m * i) hB e ∙ mod-eq_of_lt hB in
-    let multiple : (x * m) % B ≡ (t0 * i * m) % B = ap (λ v. (v * m) % B) ex ∙ mul-mod_first (t0 * i) m B in
+    let next : (m * i + 1) % B ≡ 0 = next_is_multiple _ _ hB e ∙ mod-eq_of_lt hB in
+    let multiple : (x * m) % B ≡ (t0 * i * m) % B = ap (λ v. (v * m) % B) ex ∙ mul-mod_first _ _ _ in
     ap (λ v. v % B) (let h : t0 + B * t1 + x * m ≡ t0 + x * m + B * t1 = omega arith in h)
-    ∙ add-mul-mod_self_left (t0 + x * m) B t1
-    ∙ add-mod t0 (x * m) B ∙ ap (λ v. (t0 % B + v) % B) multiple ∙ sym (add-mod t0 (t0 * i * m) B)
+    ∙ add-mul-mod_self_left (t0 + x * m) _ _
+    ∙ add-mod _ _ _ ∙ ap (λ v. (t0 % B + v) % B) multiple ∙ sym (add-mod _ (t0 * i * m) _)
     ∙ ap (λ v. v % B) (let h : t0 + t0 * i * m ≡ t0 * (m * i + 1) = omega arith in h)
-    ∙ sym (mul-mod_second t0 (m * i + 1) B) ∙ ap (λ v. (t0 * v) % B) next
+    ∙ sym (mul-mod_second _ (m * i + 1) _) ∙ ap (λ v. (t0 * v) % B) next
     ∙ ap (λ v. v % B) (let h : t0 * 0 ≡ 0 = omega arith in h) ∙ mod-eq_of_lt hB
 
 -- a multiple of m by a word is below m times the base
 pub multiple_below : (B m x t : ℕ) → t < B * m → x < B → x * m < B * m
 multiple_below B m x t below fits =
     ⊎_elim (λ (h : 0 < m). grind (arith, mul-le-mul_right))
-    (λ (h : m ≤ 0). let a : B * m ≤ B * 0 = mul-le-mul_left B h in absurd (omega (arith, below)))
-    (cases_lt 0 m)
+    (λ (h : m ≤ 0). let a : B * m ≤ B * 0 = mul-le-mul_left _ h in absurd (omega (arith, below))) (cases_lt _ _)
 
 -- a sum of two numbers below m times the base, by the base, less m where it is at least m, is the remainder
 pub high_sum_is : (m q r : ℕ) → q < m + m → ((q < m) × (r ≡ q)) ⊎ (r + m ≡ q) → r ≡ q % m
@@ -35,8 +34,8 @@ high_sum_is m q r below is = ⊎_elim (λ (h : (q < m) × (r ≡ q)). h.1 ∙ sy
 only_multiple : (B x s q : ℕ) → x < B → x + B * s ≡ B * q → (x ≡ 0) × (s ≡ q)
 only_multiple B x s q below e =
     let some : 0 < B = omega (arith, below) in
-    let none : x ≡ 0 = same_rest B x 0 s q below some (let h : x + B * s ≡ 0 + B * q = omega (arith, e) in h) in
-    (none, factor_cancel B s q some (let h : B * s ≡ B * q = omega (arith, none, e) in h))
+    let none : x ≡ 0 = same_rest _ _ _ _ _ below some (let h : x + B * s ≡ 0 + B * q = omega (arith, e) in h) in
+    (none, factor_cancel _ _ _ some (let h : B * s ≡ B * q = omega (arith, none, e) in h))
 
 -- a sum whose low word is 0, by the base: the sum of the high words, and 1 where the low words aren't 0
 pub high_sum_of : (B t u t0 h l k carried : ℕ) → (t + u) % B ≡ 0 → t ≡ t0 + B * h → t0 < B → u ≡ l + B * k → l < B
@@ -90,7 +89,7 @@ pub double_carried : (B m q c t u more s s0 r : ℕ) → t + u ≡ B * q → c +
     → more + u ≡ s + B * B → s ≡ s0 + B * r → s0 < B → r + m ≡ q
 double_carried B m q c t u more s s0 r whole complement em es parts s0_fits =
     let e : s0 + B * (r + B) ≡ B * (q + c) = omega (arith, whole, em, es, parts) in
-    let h = (only_multiple B s0 (r + B) (q + c) s0_fits e).1 in
+    let h = (only_multiple _ _ _ _ s0_fits e).1 in
     omega (arith, h, complement)
 
 -- .. and the base more without
@@ -98,7 +97,7 @@ pub double_exact : (B m q c t u more s s0 r : ℕ) → t + u ≡ B * q → c + m
     → more + u ≡ s → s ≡ s0 + B * r → s0 < B → r + m ≡ q + B
 double_exact B m q c t u more s s0 r whole complement em es parts s0_fits =
     let e : s0 + B * r ≡ B * (q + c) = omega (arith, whole, em, es, parts) in
-    let h = (only_multiple B s0 r (q + c) s0_fits e).1 in
+    let h = (only_multiple _ _ _ _ s0_fits e).1 in
     omega (arith, h, complement)
 
 -- t and a multiple of m, by the base, modulo m: the reduction of t
@@ -110,13 +109,13 @@ reduces B m t x r below cleared is =
 -- by the negated inverse the base has an inverse modulo m
 pub base_inverse : (B m i : ℕ) → 0 < B → IsNegatedInverse B m i → (B * ((m * i + 1) / B)) % m ≡ 1 % m
 base_inverse B m i some inverse =
-    let z : (m * i + 1) % B ≡ 0 = next_is_multiple B (m * i) some inverse.product ∙ mod-eq_of_lt some in
+    let z : (m * i + 1) % B ≡ 0 = next_is_multiple _ _ some inverse.product ∙ mod-eq_of_lt some in
     let g : B * ((m * i + 1) / B) ≡ 1 + m * i = omega arith in
-    ap (λ v. v % m) g ∙ add-mul-mod_self_left 1 m i
+    ap (λ v. v % m) g ∙ add-mul-mod_self_left _ _ _
 
 -- so what reduces a number congruent to x times the base is the residue of x
 pub reduced_is : (B m i x : ℕ) {t u : ℕ} → 0 < B → IsNegatedInverse B m i → t % m ≡ (x * B) % m
     → IsReduction B m t u → u ≡ x % m
 reduced_is B m i x {t} {u} some inverse e is =
     sym (mod-eq_of_lt is.below)
-    ∙ same_without_unit m u x B ((m * i + 1) / B) (base_inverse B m i some inverse) (is.congruent ∙ e)
+    ∙ same_without_unit _ _ _ _ ((m * i + 1) / B) (base_inverse _ _ _ some inverse) (is.congruent ∙ e)

@@ -8,16 +8,18 @@ use Rattle.modular_word.specs.Residues.{IsResidue, residue}
 
 -- `residue` is the residue
 pub residue_is : (m : ℕ) (z : ℤ) → 0 < m → IsResidue m z (residue m z)
-residue_is m (pos n) h = record {
-  below = mod_below n m h;
-  quotient = pos (n / m);
-  differs = ap pos (omega arith);
-}
-residue_is m (negsuc n) h = record {
-  below = let b = mod_below n m h in omega arith;
-  quotient = negsuc (n / m);
-  differs = let b = mod_below n m h in omega (arith, ints);
-}
+residue_is m (pos n) h =
+    record {
+      below = mod_below n _ h;
+      quotient = pos (n / m);
+      differs = ap pos (omega arith);
+    }
+residue_is m (negsuc n) h =
+    record {
+      below = let b = mod_below n _ h in omega arith;
+      quotient = negsuc (n / m);
+      differs = let b = mod_below n _ h in omega (arith, ints);
+    }
 
 unique_at : (m v w : ℕ) (p q : ℤ) → v < m → w < m → pos v +ℤ (p *ℤ pos m) ≡ pos w +ℤ (q *ℤ pos m) → v ≡ w
 unique_at m v w (pos a) (pos b) h k e =
@@ -32,18 +34,14 @@ pub residue_unique : (m : ℕ) (z : ℤ) (v w : ℕ) → IsResidue m z v → IsR
 residue_unique m z v w p q = unique_at m v w p.quotient q.quotient p.below q.below (sym p.differs ∙ q.differs)
 
 difference_at : (m a b v : ℕ) (q : ℤ) → pos a -ℤ pos b ≡ pos v +ℤ (q *ℤ pos m) → (v + b) % m ≡ a % m
-difference_at m a b v (pos k) e =
-    let n : a ≡ v + b + m * k = omega (arith, ints) in
-    sym (add-mul-mod_self_left (v + b) m k) ∙ ap (λ x. x % m) (sym n)
-difference_at m a b v (negsuc k) e =
-    let n : v + b ≡ a + m * suc k = omega (arith, ints) in
-    ap (λ x. x % m) n ∙ add-mul-mod_self_left a m (suc k)
+difference_at m a b v (pos k) e = sym (add-mul-mod_self_left _ _ k) ∙ ap (λ x. x % m) (sym (omega (arith, ints)))
+difference_at m a b v (negsuc k) e = ap (λ x. x % m) (omega (arith, ints)) ∙ add-mul-mod_self_left _ _ (suc k)
 
 -- the residue of a - b, and b
 pub difference_and : (m a b : ℕ) → 0 < m → (residue m (pos a -ℤ pos b) + b) % m ≡ a % m
 difference_and m a b h =
-    let r = residue_is m (pos a -ℤ pos b) h in
-    difference_at m a b (residue m (pos a -ℤ pos b)) r.quotient r.differs
+    difference_at _ _ _ (residue m (pos a -ℤ pos b)) (residue_is _ (pos a -ℤ pos b) h).quotient
+    (residue_is _ (pos a -ℤ pos b) h).differs
 
 -- the residue of a difference of numbers below m, without a borrow and with one
 pub residue_sub : (m v w : ℕ) → v < m → w ≤ v → residue m (pos v -ℤ pos w) ≡ v - w

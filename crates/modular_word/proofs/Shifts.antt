@@ -14,12 +14,11 @@ mask_keeps w n k h = ap (λ v. bit_and n (v - 1)) (one_shl k w h) ∙ and_mask n
 -- a word shifted left by less than its width fits a double word
 pub shifted_fits : (w n k : ℕ) → n < 2 ^ w → k < w → n * 2 ^ k % 2 ^ (w + w) ≡ n * 2 ^ k
 shifted_fits w n k h l =
-    let whole : 2 ^ (w + w) ≡ 2 ^ w * 2 ^ w = pow-add 2 w w in
+    let whole : 2 ^ (w + w) ≡ 2 ^ w * 2 ^ w = pow-add _ _ _ in
     let split : 2 ^ w ≡ 2 ^ k * 2 ^ (w - k) =
-    ap (λ v. 2 ^ v) (let s : w ≡ k + (w - k) = omega arith in s) ∙ pow-add 2 k (w - k) in
-    let p : 0 < 2 ^ (w - k) = pow_pos (w - k) in
-    let q : 0 < 2 ^ k = pow_pos k in
-    let m1 : 2 ^ k * 1 ≤ 2 ^ k * 2 ^ (w - k) = mul-le-mul_left (2 ^ k) p in
-    let m2 : (n + 1) * 2 ^ k ≤ 2 ^ w * 2 ^ k = mul-le-mul_right (2 ^ k) (let a : n + 1 ≤ 2 ^ w = omega arith in a) in
-    let m3 : 2 ^ w * 2 ^ k ≤ 2 ^ w * 2 ^ w = mul-le-mul_left (2 ^ w) (let a : 2 ^ k ≤ 2 ^ w = omega arith in a) in
+    ap (λ v. 2 ^ v) (let s : w ≡ k + (w - k) = omega arith in s) ∙ pow-add _ _ _ in
+    let q : 0 < 2 ^ k = pow_pos _ in
+    let m1 : 2 ^ k * 1 ≤ 2 ^ k * 2 ^ (w - k) = mul-le-mul_left _ (pow_pos _) in
+    let m2 : (n + 1) * 2 ^ k ≤ 2 ^ w * 2 ^ k = mul-le-mul_right _ (let a : n + 1 ≤ 2 ^ w = omega arith in a) in
+    let m3 : 2 ^ w * 2 ^ k ≤ 2 ^ w * 2 ^ w = mul-le-mul_left _ (let a : 2 ^ k ≤ 2 ^ w = omega arith in a) in
     mod-eq_of_lt (let a : n * 2 ^ k < 2 ^ (w + w) = omega arith in a)

@@ -82,8 +82,7 @@ sum_to-full f (suc h) e s x p q =
     let o = sum_to-ones h in
     ⊎_elim
     (λ (l : x ≤ h). sum_to-full f h (λ x u v. e x u (omega arith)) (omega arith) x p l)
-    (λ (l : x ≡ suc h). let k = ap f l in omega arith)
-    (last_or_before x h q)
+    (λ (l : x ≡ suc h). let k = ap f l in omega arith) (last_or_before x h q)
 
 pub sum_to-scale : (f : ℕ → ℕ) (h k : ℕ) → sum_to (λ x. f x * k) h ≡ sum_to f h * k
 unfolding sum_to
@@ -143,15 +142,13 @@ hits f h y = sum_to (λ x. hit (f x) y) h
 
 one_hit : (f : ℕ → ℕ) (h x : ℕ) → Permutes f h → 0 < x → x ≤ h → sum_to (λ y. hit (f x) y) h ≡ 1
 one_hit f h x m p q =
-    sum_to-only (λ y. hit (f x) y) h (f x) (m.positive x p q) (m.within x p q)
-    (λ y u v w. hit-other (f x) y (λ e. w (sym e)))
-    ∙ hit-same (f x) (f x) refl
+    sum_to-only (λ y. hit (f x) y) _ (f x) (m.positive x p q) (m.within x p q)
+    (λ y u v w. hit-other (f x) y (λ e. w (sym e))) ∙ hit-same (f x) (f x) refl
 
 all_hits : (f : ℕ → ℕ) (h : ℕ) → Permutes f h → sum_to (λ y. hits f h y) h ≡ h
 all_hits f h m =
-    sym (sum_to-swap (λ x y. hit (f x) y) h h)
-    ∙ sum_to-same (λ x. sum_to (λ y. hit (f x) y) h) (λ x. 1) h (λ x p q. one_hit f h x m p q)
-    ∙ sum_to-ones h
+    sym (sum_to-swap (λ x y. hit (f x) y) _ _)
+    ∙ sum_to-same (λ x. sum_to (λ y. hit (f x) y) h) (λ x. 1) _ (λ x p q. one_hit _ _ x m p q) ∙ sum_to-ones _
 
 hits_le : (f : ℕ → ℕ) (h y : ℕ) → Permutes f h → hits f h y ≤ 1
 hits_le f h y m = grind (arith, sum_to-at_most_one, hit, hit-le, hit-one)
@@ -163,14 +160,12 @@ hits_one f h y m p q = sum_to-full (λ y. hits f h y) h (λ z u v. hits_le f h z
 -- the term at f x, among all
 picked : (f g : ℕ → ℕ) (h x : ℕ) → Permutes f h → 0 < x → x ≤ h → sum_to (λ y. hit (f x) y * g y) h ≡ g (f x)
 picked f g h x m p q =
-    sum_to-only (λ y. hit (f x) y * g y) h (f x) (m.positive x p q) (m.within x p q)
+    sum_to-only (λ y. hit (f x) y * g y) _ (f x) (m.positive x p q) (m.within x p q)
     (λ y u v w. let z = hit-other (f x) y (λ e. w (sym e)) in ap (λ n. n * g y) z ∙ omega arith)
     ∙ (let o = hit-same (f x) (f x) refl in ap (λ n. n * g (f x)) o ∙ omega arith)
 
 taken : (f g : ℕ → ℕ) (h y : ℕ) → Permutes f h → 0 < y → y ≤ h → sum_to (λ x. hit (f x) y * g y) h ≡ g y
-taken f g h y m p q =
-    sum_to-scale (λ x. hit (f x) y) h (g y)
-    ∙ ap (λ n. n * g y) (hits_one f h y m p q) ∙ omega arith
+taken f g h y m p q = sum_to-scale (λ x. hit (f x) y) _ (g y) ∙ ap (λ n. n * g y) (hits_one _ _ _ m p q) ∙ omega arith
 
 -- a permutation leaves a sum as it is
 pub sum_to-permuted : (f g : ℕ → ℕ) (h : ℕ) → Permutes f h → sum_to (λ x. g (f x)) h ≡ sum_to g h
@@ -182,7 +177,7 @@ sum_to-permuted f g h m =
 -- a sum taken backwards
 pub sum_to-reversed : (g : ℕ → ℕ) (h : ℕ) → sum_to (λ x. g (suc h - x)) h ≡ sum_to g h
 sum_to-reversed g h =
-    sum_to-permuted (λ x. suc h - x) g h
+    sum_to-permuted (λ x. suc h - x) _ _
     (record {
       positive = λ x p q. omega arith;
       within = λ x p q. omega arith;
@@ -248,9 +243,8 @@ pub sum_below-joined : (a b : ℕ) (f : ℕ → ℕ) → sum_below (a + b) f ≡
 unfolding sum_below
 sum_below-joined a zero f = rw (add-zero a) (omega arith)
 sum_below-joined a (suc b) f =
-    let e = sum_below-joined a b f in
     let s : a + suc b ≡ suc (a + b) = omega arith in
-    ap (λ n. sum_below n f) s ∙ omega (arith, e)
+    ap (λ n. sum_below n f) s ∙ omega (arith, (sum_below-joined a b f))
 
 -- rows or columns first
 pub sum_below-exchanged : (n k : ℕ) (f : ℕ → ℕ → ℕ)
@@ -258,19 +252,15 @@ pub sum_below-exchanged : (n k : ℕ) (f : ℕ → ℕ → ℕ)
 unfolding sum_below
 sum_below-exchanged zero k f = sym (sum_below-of_zeros k (λ j. 0) (λ i l. refl))
 sum_below-exchanged (suc n) k f =
-    let e = sum_below-exchanged n k f in
-    let s = sum_below-add k (λ j. sum_below n (λ i. f i j)) (λ j. f n j) in
-    ap (λ v. v + sum_below k (λ j. f n j)) e ∙ sym s
+    let s = sum_below-add _ (λ j. sum_below n (λ i. f i j)) (λ j. f n j) in
+    ap (λ v. v + sum_below k (λ j. f n j)) (sum_below-exchanged n k f) ∙ sym s
 
 -- a product of sums
 pub sum_below-times_sum : (n k : ℕ) (f g : ℕ → ℕ)
     → sum_below n f * sum_below k g ≡ sum_below n (λ i. sum_below k (λ j. f i * g j))
 unfolding sum_below
 sum_below-times_sum zero k f g = omega arith
-sum_below-times_sum (suc n) k f g =
-    let e = sum_below-times_sum n k f g in
-    let s = sum_below-mul k (f n) g in
-    omega (arith, e, s)
+sum_below-times_sum (suc n) k f g = omega (arith, (sum_below-times_sum n k f g), (sum_below-mul k (f n) g))
 
 -- a sum from 1 to h, with the places counted from 0
 pub sum_to-from_below : (f : ℕ → ℕ) (h : ℕ) → sum_to f h ≡ sum_below h (λ x. f (suc x))

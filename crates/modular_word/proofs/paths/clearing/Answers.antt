@@ -5,9 +5,6 @@ use Rattle.modular_word.proofs.paths.clearing.Goals as goal
 
 pub returns-clause-low : goal.returns-clause-low
 returns-clause-low g c =
-    let n = g.T.RingWord.number in
-    let B = g.T.PathWord.base in
-    ap (λ v. (v + n c.wrapping_mul.result * n c.args.m) % B) c.split-low.ensures.value
-    ∙ sum_is_cleared B (n c.args.m) (n c.args.negated_inverse) (n c.split-low.result.0) (n c.split-low.result.1)
-    (n c.wrapping_mul.result) (omega (arith, c.wrapping_mul.ensures.fits)) c.requires.product
+    ap (λ v. (v + g.T.RingWord.number c.wrapping_mul.result * g.T.RingWord.number c.args.m) % g.T.PathWord.base) c.split-low.ensures.value
+    ∙ sum_is_cleared _ _ _ _ _ _ (omega (arith, c.wrapping_mul.ensures.fits)) c.requires.product
     c.wrapping_mul.ensures.value

@@ -6,17 +6,14 @@ use Rattle.modular_word.proofs.paths.exact_1.Goals as goal
 pub returns-then-is_below : goal.returns-then-is_below
 returns-then-is_below g c =
     let n = g.T.RingWord.number in
-    let B = g.T.PathWord.base in
     λ k e.
-    let w = quotient_within B (n c.args.d) (n c.args.inverse) (n c.args.n) k (n c.wrapping_mul-q.result)
+    let w = quotient_within _ _ _ _ k _
     c.wrapping_mul-q.ensures.self_fits c.requires.unit c.wrapping_mul-q.ensures.value e in
     let over : n c.args.limit < n c.wrapping_mul-q.result = grind arith in
     absurd (omega (arith, w.1, c.requires.greatest))
 
 pub returns-else-is_below : goal.returns-else-is_below
 returns-else-is_below g c =
-    let n = g.T.RingWord.number in
-    let within : n c.wrapping_mul-q.result ≤ n c.args.limit = grind arith in
-    exact_within g.T.PathWord.base (n c.args.d) (n c.args.inverse) (n c.args.n) (n c.wrapping_mul-q.result)
-    c.wrapping_mul-q.ensures.self_fits c.requires.unit c.wrapping_mul-q.ensures.value
+    let within : g.T.RingWord.number c.wrapping_mul-q.result ≤ g.T.RingWord.number c.args.limit = grind arith in
+    exact_within _ _ _ _ _ c.wrapping_mul-q.ensures.self_fits c.requires.unit c.wrapping_mul-q.ensures.value
     (omega (arith, c.requires.greatest))

@@ -9,11 +9,8 @@ low_word : (g : _) (c : After-split-h g)
     → g.T.RingWord.number c.wrapping_mul-q0.result * g.T.RingWord.number c.args.d
     ≡ g.T.RingWord.number c.split-n0.result.0 + g.T.PathWord.base * g.T.RingWord.number c.split-h.result.1
 low_word g c =
-    let n = g.T.RingWord.number in
-    low_again g.T.PathWord.base (n c.args.d) (n c.args.inverse) (n c.split-n0.result.0) (n c.wrapping_mul-q0.result)
-    (n c.split-h.result.0) (n c.split-h.result.1) c.split-n0.ensures.low_fits c.split-h.ensures.low_fits
-    c.requires.unit c.wrapping_mul-q0.ensures.value
-    (sym c.product.ensures.value ∙ c.split-h.ensures.value)
+    low_again _ _ _ _ _ _ _ c.split-n0.ensures.low_fits c.split-h.ensures.low_fits
+    c.requires.unit c.wrapping_mul-q0.ensures.value (sym c.product.ensures.value ∙ c.split-h.ensures.value)
 
 pub returns-then-is_below : goal.returns-then-is_below
 returns-then-is_below g c =

@@ -9,9 +9,7 @@ use Rattle.modular_word.proofs.paths.high_sum_by_double_words.Goals.{After-merge
 complement : (g : _) (c : After-merge g)
     → g.T.RingWord.number c.wrapping_sub-complement.result + g.T.RingWord.number c.args.m ≡ g.T.PathWord.base
 complement g c =
-    let n = g.T.RingWord.number in
-    complement_of g.T.PathWord.base (n c.args.m) (g.T.PathWord.double_number c.args.t)
-    (n c.wrapping_sub-complement.result) (n c.zero.result) c.requires.first c.requires.fits
+    complement_of _ _ _ _ _ c.requires.first c.requires.fits
     c.wrapping_sub-complement.ensures.fits c.zero.ensures c.wrapping_sub-complement.ensures.value
 
 pub double_plus-more-requires : goal.double_plus-more-requires
@@ -27,17 +25,14 @@ double_plus-more-requires g c =
 -- what is added to t
 added : (g : _) (c : After-split-rest g)
     → g.T.PathWord.double_number c.double_plus-more.result
-    ≡ g.T.PathWord.double_number c.args.t
-    + g.T.PathWord.base * g.T.RingWord.number c.wrapping_sub-complement.result
+    ≡ g.T.PathWord.double_number c.args.t + g.T.PathWord.base * g.T.RingWord.number c.wrapping_sub-complement.result
 added g c = omega (arith, c.double_plus-more.ensures, c.merge.ensures.value, c.zero-2.ensures)
 
 -- the high word is less than twice m
 twice : (g : _) (c : After-split-rest g)
     → (g.T.PathWord.double_number c.args.t + g.T.PathWord.double_number c.args.multiple) / g.T.PathWord.base
     < g.T.RingWord.number c.args.m + g.T.RingWord.number c.args.m
-twice g c =
-    high_sum_below g.T.PathWord.base (g.T.RingWord.number c.args.m) (g.T.PathWord.double_number c.args.t)
-    (g.T.PathWord.double_number c.args.multiple) c.requires.cleared c.requires.first c.requires.second
+twice g c = high_sum_below _ _ _ _ c.requires.cleared c.requires.first c.requires.second
 
 pub returns-then-is_above : goal.returns-then-is_above
 returns-then-is_above g c =
@@ -50,7 +45,8 @@ returns-then-is_above g c =
     (double_carried B (n c.args.m) _ (n c.wrapping_sub-complement.result) (W c.args.t) (W c.args.multiple)
     (W c.double_plus-more.result) (W c.double_overflowing_add-sum.result.0) (n c.split-rest.result.0)
     (n c.split-rest.result.1) (multiple_of B (W c.args.t + W c.args.multiple) c.requires.cleared)
-    (complement g (goal.at.returns-then-is_above g c).After-merge) (added g at) (c.double_overflowing_add-sum.ensures.carried c.if-is_above.true)
+    (complement g (goal.at.returns-then-is_above g c).After-merge) (added g at)
+    (c.double_overflowing_add-sum.ensures.carried c.if-is_above.true)
     rest.value rest.low_fits)
 
 pub returns-else-is_above : goal.returns-else-is_above
@@ -65,5 +61,6 @@ returns-else-is_above g c =
     (double_exact B (n c.args.m) _ (n c.wrapping_sub-complement.result) (W c.args.t) (W c.args.multiple)
     (W c.double_plus-more.result) (W c.double_overflowing_add-sum.result.0) (n c.split-rest.result.0)
     (n c.split-rest.result.1) (multiple_of B (W c.args.t + W c.args.multiple) c.requires.cleared)
-    (complement g (goal.at.returns-else-is_above g c).After-merge) (added g at) (c.double_overflowing_add-sum.ensures.exact c.if-is_above.false)
+    (complement g (goal.at.returns-else-is_above g c).After-merge) (added g at)
+    (c.double_overflowing_add-sum.ensures.exact c.if-is_above.false)
     rest.value rest.low_fits) c.wrapping_add.ensures.value

@@ -12,28 +12,22 @@ sum : (g : _) (c : After-overflowing_add-rest g)
     + g.T.PathWord.base
 sum g c =
     let n = g.T.RingWord.number in
-    let B = g.T.PathWord.base in
-    let t = g.T.PathWord.double_number c.args.t in
-    let low = n c.split-low.result.0 in
-    let more = n c.split-low.result.1 in
-    let high = n c.split-high.result.1 in
     let first = c.split-high.ensures in
-    let second = c.split-low.ensures in
     let quotient =
-    high_sum_of B t (g.T.PathWord.double_number c.args.multiple) (n c.split-high.result.0) high low more
-    (n c.if-is_zero_word.carried) c.requires.cleared first.value first.low_fits second.value second.low_fits
+    high_sum_of _ _ _ _ _ _ _
+    _ c.requires.cleared first.value first.low_fits c.split-low.ensures.value c.split-low.ensures.low_fits
     (elim c.if-is_zero_word.branch [
       | then-is_zero_word w ↦ inl (c.is_zero_word.ensures.zero.0 w.if-is_zero_word.true, ap n w.carried-is)
       | else-is_zero_word w ↦
           inr (
-            let other : low ≡ 0 → ⊥ = λ e. let s = c.is_zero_word.ensures.zero.1 e in cc (s, w.if-is_zero_word.false) in
+            let other : n c.split-low.result.0 ≡ 0 → ⊥ = λ e. let s = c.is_zero_word.ensures.zero.1 e in cc
+                (s, w.if-is_zero_word.false) in
                 omega arith,
-            ap n w.carried-is ∙ w.plus-carried.ensures ∙ ap (λ v. more + v) w.one.ensures,
+            ap n w.carried-is ∙ w.plus-carried.ensures ∙ ap (λ v. (n c.split-low.result.1) + v) w.one.ensures,
           )
     ]) in
     let difference =
-    borrowing B high (n c.args.m) (n c.wrapping_sub.result)
-    (high_below B (n c.args.m) t (n c.split-high.result.0) high first.value c.requires.first) c.requires.fits
+    borrowing _ _ _ _ (high_below _ _ _ _ _ first.value c.requires.first) c.requires.fits
     c.wrapping_sub.ensures.fits c.wrapping_sub.ensures.value in
     omega (arith, quotient, difference)
 
@@ -41,9 +35,7 @@ sum g c =
 twice : (g : _) (c : After-overflowing_add-rest g)
     → (g.T.PathWord.double_number c.args.t + g.T.PathWord.double_number c.args.multiple) / g.T.PathWord.base
     < g.T.RingWord.number c.args.m + g.T.RingWord.number c.args.m
-twice g c =
-    high_sum_below g.T.PathWord.base (g.T.RingWord.number c.args.m) (g.T.PathWord.double_number c.args.t)
-    (g.T.PathWord.double_number c.args.multiple) c.requires.cleared c.requires.first c.requires.second
+twice g c = high_sum_below _ _ _ _ c.requires.cleared c.requires.first c.requires.second
 
 pub returns-then-is_above : goal.returns-then-is_above
 returns-then-is_above g c =

@@ -15,12 +15,10 @@ cleared g c =
 second : (g : _) (c : After-bits g)
     → g.T.PathWord.double_number c.args.multiple < g.T.PathWord.base * g.T.RingWord.number c.args.m
 second g c =
-    let n = g.T.RingWord.number in
     omega (
       arith,
       c.requires.multiple,
-      multiple_below g.T.PathWord.base (n c.args.m) (n c.args.x) (g.T.PathWord.double_number c.args.t)
-          c.requires.below c.requires.x_fits,
+      multiple_below _ _ _ _ c.requires.below c.requires.x_fits,
     )
 
 -- a result that is the high word modulo m is the reduction
@@ -30,11 +28,8 @@ reduced : (g : _) (c : After-bits g) (r : ℕ)
     % g.T.RingWord.number c.args.m
     → IsReduction g.T.PathWord.base (g.T.RingWord.number c.args.m) (g.T.PathWord.double_number c.args.t) r
 reduced g c r is =
-    let n = g.T.RingWord.number in
-    let B = g.T.PathWord.base in
-    let t = g.T.PathWord.double_number c.args.t in
-    reduces B (n c.args.m) t (n c.args.x) r c.requires.below c.requires.low
-    (is ∙ ap (λ v. ((t + v) / B) % n c.args.m) c.requires.multiple)
+    reduces _ _ _ _ _ c.requires.below c.requires.low
+    (is ∙ ap (λ v. (((g.T.PathWord.double_number c.args.t) + v) / g.T.PathWord.base) % g.T.RingWord.number c.args.m) c.requires.multiple)
 
 pub high_sum_by_words-requires-clause-cleared : goal.high_sum_by_words-requires-clause-cleared
 high_sum_by_words-requires-clause-cleared g c =
@@ -53,8 +48,7 @@ high_sum_by_double_words-requires-clause-second g c =
     second g (goal.at.high_sum_by_double_words-requires-clause-second g c).After-bits
 
 pub returns-then-bits-gt32 : goal.returns-then-bits-gt32
-returns-then-bits-gt32 g c =
-    reduced g (goal.at.returns-then-bits-gt32 g c).After-bits _ c.high_sum_by_words.ensures
+returns-then-bits-gt32 g c = reduced g (goal.at.returns-then-bits-gt32 g c).After-bits _ c.high_sum_by_words.ensures
 
 pub returns-else-bits-gt32 : goal.returns-else-bits-gt32
 returns-else-bits-gt32 g c =

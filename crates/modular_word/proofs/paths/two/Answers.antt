@@ -4,6 +4,5 @@ use Rattle.modular_word.proofs.paths.two.Goals as goal
 
 pub plus-requires : goal.plus-requires
 plus-requires g c =
-    let many = base_above_two g.T.RingWord.width g.T.PathWord.base g.met.T.PathWord.base_is
-    g.met.T.RingWord.width_from in
+    let many = base_above_two _ _ g.met.T.PathWord.base_is g.met.T.RingWord.width_from in
     omega (arith, many, c.one.ensures, c.one-2.ensures)

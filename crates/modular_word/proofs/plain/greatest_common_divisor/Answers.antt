@@ -18,20 +18,14 @@ divisors-preserved c =
     let n = c.args.n in
     let k = c.divisors.below in
     let next : k + 1 ≡ suc k = add-one k in
-    let step = ap (λ v. gcd_up_to a n v) next in
     elim c.if-a-divisor-eq0.branch [
       | then-a-divisor-eq0+then-n-divisor-eq0 w ↦
           let u : a % suc k ≡ 0 = sym (ap (λ v. a % v) next) ∙ w.if-a-divisor-eq0.true in
           let v : n % suc k ≡ 0 = sym (ap (λ v. n % v) next) ∙ w.if-n-divisor-eq0.true in
-          w.greatest-is ∙ next ∙ sym (gcd_up_to-hit a n k u v) ∙ sym step
+          w.greatest-is ∙ next ∙ sym (gcd_up_to-hit _ _ k u v) ∙ sym (ap (λ v. gcd_up_to a n v) next)
       | else-a-divisor-eq0 w ↦
-          let miss : a % suc k ≡ 0 → n % suc k ≢ 0 = λ u v.
-          elim w.else-a-divisor-eq0.branch [
-            | else-a-divisor-eq0-via-then-a-divisor-eq0+else-n-divisor-eq0 x ↦
-                x.if-n-divisor-eq0.false (ap (λ v. n % v) next ∙ v)
-            | else-a-divisor-eq0-via-else-a-divisor-eq0 x ↦ x.if-a-divisor-eq0.false (ap (λ v. a % v) next ∙ u)
-          ] in
-          w.greatest-is ∙ c.divisors.invariant ∙ sym (gcd_up_to-miss a n k miss) ∙ sym step
+          let miss : a % suc k ≡ 0 → n % suc k ≢ 0 = grind (arith, else-a-divisor-eq0-via-then-a-divisor-eq0+else-n-divisor-eq0, else-a-divisor-eq0-via-else-a-divisor-eq0) in
+          w.greatest-is ∙ c.divisors.invariant ∙ sym (gcd_up_to-miss _ _ k miss) ∙ sym (ap (λ v. gcd_up_to a n v) next)
     ]
 
 pub returns : goal.returns
@@ -41,6 +35,6 @@ returns c =
     c.divisors.invariant ∙ ap (λ v. gcd_up_to c.args.a c.args.n v) e in
     record {
       computed = same;
-      greatest = rw same (gcd_is c.args.a c.args.n c.requires);
-      inverse = rw same (HasInverse-gcd c.args.a c.args.n c.requires);
+      greatest = rw same (gcd_is _ _ c.requires);
+      inverse = rw same (HasInverse-gcd _ _ c.requires);
     }

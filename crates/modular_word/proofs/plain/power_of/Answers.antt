@@ -8,5 +8,5 @@ pub loop-preserved : goal.loop-preserved
 loop-preserved c =
     let a = c.args.base in
     let k = c.loop.counter in
-    ap (λ n. n * a % c.args.m) c.loop.invariant ∙ mul-mod_first (a ^ k) a c.args.m
-    ∙ ap (λ n. n % c.args.m) (sym (pow-suc a k)) ∙ ap (λ n. a ^ n % c.args.m) (sym (add-one k))
+    ap (λ n. n * a % c.args.m) c.loop.invariant ∙ mul-mod_first (a ^ k) _ _
+    ∙ ap (λ n. n % c.args.m) (sym (pow-suc _ k)) ∙ ap (λ n. a ^ n % c.args.m) (sym (add-one k))

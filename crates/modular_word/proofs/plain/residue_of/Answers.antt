@@ -7,9 +7,9 @@ use Rattle.modular_word.proofs.plain.residue_of.Goals as goal
 pub returns : goal.returns
 returns c =
     let same : c.computed_residue.result ≡ residue c.args.m c.args.z = search rules in
-    let is = residue_is c.args.m c.args.z c.requires in
+    let is = residue_is _ _ c.requires in
     record {
       computed = same;
       is_residue = rw same is;
-      unique = λ v other. residue_unique c.args.m c.args.z v _ other is ∙ sym same;
+      unique = λ v other. residue_unique _ _ v _ other is ∙ sym same;
     }
