@@ -24,15 +24,15 @@ divides_sum d a b g h = divides d (a + b) (a / d + b / d) (omega arith)
 absurd_small : (d i j a b : ℕ) → a ≡ d * i → a + b ≡ d * j → j < i → b ≡ d * (j - i)
 absurd_small d i j a b g h l = grind arith
 
-rest : (d i j a b : ℕ) → a ≡ d * i → a + b ≡ d * j → b ≡ d * (j - i)
-rest d i j a b g h =
+rest_is_multiple : (d i j a b : ℕ) → a ≡ d * i → a + b ≡ d * j → b ≡ d * (j - i)
+rest_is_multiple d i j a b g h =
     ⊎_elim
     (λ (l : j < i). absurd_small _ _ _ _ _ g h l)
     (λ (l : i ≤ j). let e : j ≡ i + (j - i) = omega arith in let f = ap (λ v. d * v) e in omega arith) (cases_lt _ _)
 
 pub divides_rest : (d a b : ℕ) → a % d ≡ 0 → (a + b) % d ≡ 0 → b % d ≡ 0
 divides_rest d a b g h =
-    divides _ _ ((a + b) / d - a / d) (rest _ _ ((a + b) / d) _ _ (multiple_of _ _ g) (multiple_of _ _ h))
+    divides _ _ ((a + b) / d - a / d) (rest_is_multiple _ _ ((a + b) / d) _ _ (multiple_of _ _ g) (multiple_of _ _ h))
 
 -- what divides a number divides its multiples
 pub divides_product : (d a k : ℕ) → a % d ≡ 0 → (a * k) % d ≡ 0
@@ -78,8 +78,8 @@ turned_unit a n y ha hn e =
     let s : a * (p * q) + n * 1 ≡ 1 + n * (p * y) = omega arith in
     sym (add-mul-mod_self_left (a * (p * q)) _ _) ∙ ap (λ v. v % n) s ∙ add-mul-mod_self_left _ _ _
 
-turned : (a n y : ℕ) → 0 < a → 0 < n → (n * y) % a ≡ 1 % a → (x : ℕ) × ((a * x) % n ≡ 1 % n)
-turned a n y ha hn e =
+inverse_of_modulus : (a n y : ℕ) → 0 < a → 0 < n → (n * y) % a ≡ 1 % a → (x : ℕ) × ((a * x) % n ≡ 1 % n)
+inverse_of_modulus a n y ha hn e =
     ⊎_elim
     (λ (l : 1 < a). ((n - 1) * (n * y / a), turned_unit _ _ _ l hn (e ∙ mod-eq_of_lt l)))
     (λ (l : a ≤ 1). (1, ap (λ v. v % n) (let f : a * 1 ≡ 1 = omega arith in f))) (cases_lt _ _)
@@ -91,7 +91,7 @@ unit_within (suc fuel) a n l p c =
     ⊎_elim
     (λ (h : 0 < a % n).
     let i = unit_within fuel n (a % n) (omega arith) h (Coprime-swap _ _ (Coprime-mod _ _ c)) in
-    let t = turned _ _ i.0 h p i.1 in
+    let t = inverse_of_modulus _ _ i.0 h p i.1 in
     (t.0, sym (mul-mod_first _ t.0 _) ∙ t.1))
     (λ (h : a % n ≤ 0).
     grind (arith, mod_self, mod-one))

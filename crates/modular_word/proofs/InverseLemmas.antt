@@ -7,15 +7,15 @@ use Rattle.std.proofs.Math.Nat.{mod-eq_of_lt, one-mul, mul_right_comm}
 use Rattle.modular_word.specs.Inverses.{IsInverse, IsInversion, HasInverse, inverse_below, inverse_of}
 
 -- a number below m is what is left of it times an inverse pair
-undone : (m a x y : ℕ) → (a * y) % m ≡ 1 % m → x < m → (a * y * x) % m ≡ x
-undone m a x y e h =
+product_with_inverse : (m a x y : ℕ) → (a * y) % m ≡ 1 % m → x < m → (a * y * x) % m ≡ x
+product_with_inverse m a x y e h =
     sym (mul-mod_first _ _ _) ∙ ap (λ n. n * x % m) e ∙ mul-mod_first _ _ _
     ∙ ap (λ n. n % m) (one-mul _) ∙ mod-eq_of_lt h
 
 -- two inverses of one number are equal
 pub inverse_unique : (m a x y : ℕ) → IsInverse m a x → IsInverse m a y → x ≡ y
 inverse_unique m a x y p q =
-    sym (undone m a x y q.one p.below) ∙ ap (λ n. n % m) (mul_right_comm a y x) ∙ undone m a y x p.one q.below
+    sym (product_with_inverse m a x y q.one p.below) ∙ ap (λ n. n % m) (mul_right_comm a y x) ∙ product_with_inverse m a y x p.one q.below
 
 some_step : (m a b x : ℕ) (rest : Option ℕ) → (rest ≡ Some x → (x < b) × ((a * x) % m ≡ 1 % m))
     → cond (eqb ((a * b) % m) (1 % m)) (Some b) rest ≡ Some x → (x < suc b) × ((a * x) % m ≡ 1 % m)

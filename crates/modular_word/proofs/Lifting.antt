@@ -43,10 +43,10 @@ lift_start w m bits odd e =
     }
 
 -- one lifting, modulo 2^c where x is 1 modulo 2^d
-pub lifted : (c d x t : ℕ) → c ≤ d + d → x % 2 ^ d ≡ 1 % 2 ^ d → (t + x) % 2 ^ c ≡ 2 % 2 ^ c
+pub inverse_to_more_bits : (c d x t : ℕ) → c ≤ d + d → x % 2 ^ d ≡ 1 % 2 ^ d → (t + x) % 2 ^ c ≡ 2 % 2 ^ c
     → (x * t) % 2 ^ c ≡ 1 % 2 ^ c
-lifted c zero x t h ex et = grind (arith, mod-one)
-lifted c (suc d) x t h ex et =
+inverse_to_more_bits c zero x t h ex et = grind (arith, mod-one)
+inverse_to_more_bits c (suc d) x t h ex et =
     let D = 2 ^ suc d in
     let one : x % D ≡ 1 = ex ∙ mod-eq_of_lt (omega (arith, pow_pos d)) in
     let e = x / D in
@@ -76,7 +76,7 @@ lift_step w b m i bits p s n bits' eb h ep es en e =
           let product : (m * n) % 2 ^ w ≡ (m * i * s) % 2 ^ w =
           ap (λ v. (m * n) % v) (sym eb) ∙ product_b ∙ ap (λ v. (m * i * s) % v) eb in
           lower_power c _ _ (m * i * s) hw product
-          ∙ lifted c ((c + 1) / 2) _ _ (omega arith) (h.inverse ((c + 1) / 2) (omega arith) (omega arith))
+          ∙ inverse_to_more_bits c ((c + 1) / 2) _ _ (omega arith) (h.inverse ((c + 1) / 2) (omega arith) (omega arith))
           (lower_power c _ (s + m * i) _ hw sum);
     }
 

@@ -4,13 +4,13 @@ use Rattle.std.proofs.lemmas.Nat.{mul-mod_first, mul-mod_second, mul-add-lt}
 use Rattle.std.proofs.Math.Nat.{mod-lt, mod-mod, mod-add-mod, add-mul-mod_self_left, one-mul, add_comm}
 use Rattle.modular_word.specs.Inverses.{IsInverse}
 
-regrouped : (a b x : ℕ) → a * (b * x) ≡ a * x * b
-regrouped a b x = omega arith
+product_regrouped : (a b x : ℕ) → a * (b * x) ≡ a * x * b
+product_regrouped a b x = omega arith
 
 -- the inverse times b, times a, is congruent to b
 pub solution : (m a b x : ℕ) → IsInverse m a x → (a * ((b * x) % m)) % m ≡ b % m
 solution m a b x h =
-    mul-mod_second _ _ _ ∙ ap (λ n. n % m) (regrouped _ _ _) ∙ sym (mul-mod_first _ _ _)
+    mul-mod_second _ _ _ ∙ ap (λ n. n % m) (product_regrouped _ _ _) ∙ sym (mul-mod_first _ _ _)
     ∙ ap (λ n. (n * b) % m) h.one ∙ mul-mod_first _ _ _ ∙ ap (λ n. n % m) (one-mul _)
 
 -- the number of the parts r modulo m and d, the difference, times x, modulo n

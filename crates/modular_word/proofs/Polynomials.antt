@@ -13,19 +13,19 @@ unfolding sum_below
 sum_below-more f n = ap (λ k. sum_below k f) (add-one n)
 
 -- each power one higher
-raised : (n k : ℕ) (c : ℕ → ℕ) (x : ℕ) → k ≤ n
+powers_raised : (n k : ℕ) (c : ℕ → ℕ) (x : ℕ) → k ≤ n
     → sum_below k (λ i. c i * x ^ (n + 1 - 1 - i)) ≡ sum_below k (λ i. c i * x ^ (n - 1 - i)) * x
 unfolding sum_below
-raised n zero c x h = omega arith
-raised n (suc k) c x h =
+powers_raised n zero c x h = omega arith
+powers_raised n (suc k) c x h =
     let e : x ^ (n + 1 - 1 - k) ≡ x ^ (n - 1 - k) * x = ap (λ j. x ^ j) (omega arith) ∙ pow-suc _ (n - 1 - k) in
-    omega (arith, (raised n k c x (omega arith)), (ap (λ j. c k * j) e))
+    omega (arith, (powers_raised n k c x (omega arith)), (ap (λ j. c k * j) e))
 
 -- one more coefficient
 pub horner : (n : ℕ) (c : ℕ → ℕ) (x : ℕ) → polynomial_highest_first (n + 1) c x ≡ polynomial_highest_first n c x * x + c n
 horner n c x =
     let e : c n * x ^ (n + 1 - 1 - n) ≡ c n * 1 = ap (λ j. c n * x ^ j) (omega arith) ∙ ap (λ j. c n * j) (pow-zero _) in
-    omega (arith, sum_below-more (λ i. c i * x ^ (n + 1 - 1 - i)) n, raised n n c x (omega arith), e)
+    omega (arith, sum_below-more (λ i. c i * x ^ (n + 1 - 1 - i)) n, powers_raised n n c x (omega arith), e)
 
 -- with no coefficient the value is 0
 pub value_none : (x : ℕ) → polynomial_highest_first 0 (slice_index []) x ≡ 0

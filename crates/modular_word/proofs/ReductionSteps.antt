@@ -64,16 +64,16 @@ high_sum_below B m t u cleared first second =
     lt_of_mul-lt-mul_right B (let h : (t + u) / B * B < (m + m) * B = omega arith in h)
 
 -- a number that is the base more than a word
-wrapped : (B q s : ℕ) → q < B → s ≡ q + B → s % B ≡ q
-wrapped B q s fits e = grind (arith, add-mul-mod_self_left, mod-eq_of_lt)
+mod_of_one_base_more : (B q s : ℕ) → q < B → s ≡ q + B → s % B ≡ q
+mod_of_one_base_more B q s fits e = grind (arith, add-mul-mod_self_left, mod-eq_of_lt)
 
 -- a wrapping difference of a word and a greater one
-pub borrowing : (B a b d : ℕ) → a < b → b < B → d < B → (d + b) % B ≡ a → d + b ≡ a + B
-borrowing B a b d less fits d_fits e = grind (arith, mod-eq_of_lt, wrapped)
+pub borrow_adds_base : (B a b d : ℕ) → a < b → b < B → d < B → (d + b) % B ≡ a → d + b ≡ a + B
+borrow_adds_base B a b d less fits d_fits e = grind (arith, mod-eq_of_lt, mod_of_one_base_more)
 
 -- the base less m, where some number is below m times the base
 pub complement_of : (B m t c z : ℕ) → t < B * m → m < B → c < B → z ≡ 0 → (c + m) % B ≡ z → c + m ≡ B
-complement_of B m t c z below fits c_fits none e = grind (arith, borrowing, mul-le-mul_left)
+complement_of B m t c z below fits c_fits none e = grind (arith, borrow_adds_base, mul-le-mul_left)
 
 -- q modulo m, where q less m is known modulo the base: q is at least m ..
 pub above_modulus : (m q r : ℕ) → q < m + m → r + m ≡ q → r ≡ q % m
@@ -82,7 +82,7 @@ above_modulus m q r twice e = high_sum_is m q r twice (inr e)
 -- .. or below m
 pub below_modulus : (B m q rest r : ℕ) → m < B → q < m + m → rest < B → rest + m ≡ q + B → r ≡ (rest + m) % B
     → r ≡ q % m
-below_modulus B m q rest r fits twice rest_fits e is = grind (arith, high_sum_is, wrapped)
+below_modulus B m q rest r fits twice rest_fits e is = grind (arith, high_sum_is, mod_of_one_base_more)
 
 -- a sum and the base less m, each times the base, in double words: q less m is the high word, with a carry ..
 pub double_carried : (B m q c t u more s s0 r : ℕ) → t + u ≡ B * q → c + m ≡ B → more ≡ t + B * c

@@ -158,21 +158,21 @@ pub hits_one : (f : ℕ → ℕ) (h y : ℕ) → Permutes f h → 0 < y → y �
 hits_one f h y m p q = sum_to-full (λ y. hits f h y) h (λ z u v. hits_le f h z m) (all_hits f h m) y p q
 
 -- the term at f x, among all
-picked : (f g : ℕ → ℕ) (h x : ℕ) → Permutes f h → 0 < x → x ≤ h → sum_to (λ y. hit (f x) y * g y) h ≡ g (f x)
-picked f g h x m p q =
+sum_of_hits_at_index : (f g : ℕ → ℕ) (h x : ℕ) → Permutes f h → 0 < x → x ≤ h → sum_to (λ y. hit (f x) y * g y) h ≡ g (f x)
+sum_of_hits_at_index f g h x m p q =
     sum_to-only (λ y. hit (f x) y * g y) _ (f x) (m.positive x p q) (m.within x p q)
     (λ y u v w. let z = hit-other (f x) y (λ e. w (sym e)) in ap (λ n. n * g y) z ∙ omega arith)
     ∙ (let o = hit-same (f x) (f x) refl in ap (λ n. n * g (f x)) o ∙ omega arith)
 
-taken : (f g : ℕ → ℕ) (h y : ℕ) → Permutes f h → 0 < y → y ≤ h → sum_to (λ x. hit (f x) y * g y) h ≡ g y
-taken f g h y m p q = sum_to-scale (λ x. hit (f x) y) _ (g y) ∙ ap (λ n. n * g y) (hits_one _ _ _ m p q) ∙ omega arith
+sum_of_hits_at_value : (f g : ℕ → ℕ) (h y : ℕ) → Permutes f h → 0 < y → y ≤ h → sum_to (λ x. hit (f x) y * g y) h ≡ g y
+sum_of_hits_at_value f g h y m p q = sum_to-scale (λ x. hit (f x) y) _ (g y) ∙ ap (λ n. n * g y) (hits_one _ _ _ m p q) ∙ omega arith
 
 -- a permutation leaves a sum as it is
 pub sum_to-permuted : (f g : ℕ → ℕ) (h : ℕ) → Permutes f h → sum_to (λ x. g (f x)) h ≡ sum_to g h
 sum_to-permuted f g h m =
-    sym (sum_to-same (λ x. sum_to (λ y. hit (f x) y * g y) h) (λ x. g (f x)) h (λ x p q. picked f g h x m p q))
+    sym (sum_to-same (λ x. sum_to (λ y. hit (f x) y * g y) h) (λ x. g (f x)) h (λ x p q. sum_of_hits_at_index f g h x m p q))
     ∙ sum_to-swap (λ x y. hit (f x) y * g y) h h
-    ∙ sum_to-same (λ y. sum_to (λ x. hit (f x) y * g y) h) g h (λ y p q. taken f g h y m p q)
+    ∙ sum_to-same (λ y. sum_to (λ x. hit (f x) y * g y) h) g h (λ y p q. sum_of_hits_at_value f g h y m p q)
 
 -- a sum taken backwards
 pub sum_to-reversed : (g : ℕ → ℕ) (h : ℕ) → sum_to (λ x. g (suc h - x)) h ≡ sum_to g h

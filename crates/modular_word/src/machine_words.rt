@@ -309,7 +309,7 @@ impl PathWord for u64 {
         self - rhs
     }
 
-    #[tactic(auto, using(crate::proofs::Borrows::borrowed, crate::proofs::Borrows::not_borrowed))]
+    #[tactic(auto, using(crate::proofs::Borrows::difference_with_borrow, crate::proofs::Borrows::difference_without_borrow))]
     fn minus_modulo(self, rhs: u64, m: u64) -> u64 {
         let difference = (self as u128).wrapping_sub(rhs as u128);
         let (low, borrowed) = <u64 as PathWord>::split(difference);
@@ -407,7 +407,7 @@ impl PathWord for usize {
         self - rhs
     }
 
-    #[tactic(auto, using(crate::proofs::Borrows::borrowed, crate::proofs::Borrows::not_borrowed))]
+    #[tactic(auto, using(crate::proofs::Borrows::difference_with_borrow, crate::proofs::Borrows::difference_without_borrow))]
     fn minus_modulo(self, rhs: usize, m: usize) -> usize {
         let difference = (self as u128).wrapping_sub(rhs as u128);
         let (low, borrowed) = <usize as PathWord>::split(difference);

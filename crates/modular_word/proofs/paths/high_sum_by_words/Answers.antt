@@ -1,6 +1,6 @@
 -- The high words, with the carry of the low ones, less m.
 use Rattle.std.proofs.Common.{◌≡◌, ◌+◌, ◌/◌, ◌<◌, ap, ◌∙◌, arith, inl, inr}
-use Rattle.modular_word.proofs.ReductionSteps.{high_sum_of, high_below, high_sum_below, borrowing, above_modulus, below_modulus}
+use Rattle.modular_word.proofs.ReductionSteps.{high_sum_of, high_below, high_sum_below, borrow_adds_base, above_modulus, below_modulus}
 use Rattle.modular_word.proofs.paths.high_sum_by_words.Goals as goal
 use Rattle.modular_word.proofs.paths.high_sum_by_words.Goals.{After-overflowing_add-rest, then-is_zero_word, else-is_zero_word}
 
@@ -27,7 +27,7 @@ sum g c =
           )
     ]) in
     let difference =
-    borrowing _ _ _ _ (high_below _ _ _ _ _ first.value c.requires.first) c.requires.fits
+    borrow_adds_base _ _ _ _ (high_below _ _ _ _ _ first.value c.requires.first) c.requires.fits
     c.wrapping_sub.ensures.fits c.wrapping_sub.ensures.value in
     omega (arith, quotient, difference)
 
