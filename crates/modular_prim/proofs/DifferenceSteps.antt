@@ -59,8 +59,8 @@ pub record Without (d t o : ℕ) : Type 0 where
   pub some : 0 < o
   pub within : o ≤ d
 
-pub without : (d t o : ℕ) → 0 < d → d % 2 ^ t ≡ 0 → o ≡ d / 2 ^ t → Without d t o
-without d t o p h e = grind (arith, multiple_of, mul-le-mul_left, pow_pos, mul-le-mul_right)
+pub Without-of_quotient : (d t o : ℕ) → 0 < d → d % 2 ^ t ≡ 0 → o ≡ d / 2 ^ t → Without d t o
+Without-of_quotient d t o p h e = grind (arith, multiple_of, mul-le-mul_left, pow_pos, mul-le-mul_right)
 
 -- the power is one of fewer bits than the number has
 pub fewer_zeros : (w d t o : ℕ) → Without d t o → d < 2 ^ w → t < w

@@ -86,9 +86,9 @@ step_even form made m {target} {power} {product} {rest} {power'} {product'} {res
     }
 
 -- nothing is left to do
-pub finished : {form made : ℕ → ℕ} {m target power product rest : ℕ}
+pub power_at_end : {form made : ℕ → ℕ} {m target power product rest : ℕ}
     (w : PowerSoFar form made m target power product rest) → rest ≡ 0 → w.y ≡ target
-finished {form} {made} {m} {target} {power} {product} {rest} w e =
+power_at_end {form} {made} {m} {target} {power} {product} {rest} w e =
     digit.step_end m w.y (w.x * w.x % m) rest target e w.y_below w.left
 
 -- the short powers

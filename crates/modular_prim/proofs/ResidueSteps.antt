@@ -50,9 +50,9 @@ pub record IsWrapped (m x r : ℕ) : Type 0 where
   pub taken : r < x → r + m ≡ x
   pub left : x ≤ r → x < m
 
-pub wrapped : (b m x r : ℕ) → m < b → r < b → x < 2 * m → (r + m) % b ≡ x
+pub wrapped_difference : (b m x r : ℕ) → m < b → r < b → x < 2 * m → (r + m) % b ≡ x
     → IsWrapped m x r
-wrapped b m x r m_fits r_fits below e = grind (arith, mod-eq_of_lt, add-mod_right)
+wrapped_difference b m x r m_fits r_fits below e = grind (arith, mod-eq_of_lt, add-mod_right)
 
 -- a difference below 0 wraps around the bound
 pub lifted : (b m x r : ℕ) → m < b → r < b → x < m → (r + m) % b ≡ x → r + m ≡ x + b

@@ -1,5 +1,5 @@
 use Rattle.std.proofs.Common.{◌≡◌, ◌%◌, ◌^◌, ap, ◌∙◌, rules}
-use Rattle.modular_prim.proofs.DifferenceSteps.{Without, without, zeros_divide, first_pair, first_fits, last_factor}
+use Rattle.modular_prim.proofs.DifferenceSteps.{Without, Without-of_quotient, zeros_divide, first_pair, first_fits, last_factor}
 use Rattle.modular_prim.proofs.inverse.last_pair.Goals as goal
 
 pub differences-init : goal.differences-init
@@ -8,7 +8,7 @@ differences-init g c =
     let t = c.trailing_zeros-twos.result in
     let divided : x % 2 ^ t ≡ 0 = ap (λ k. x % 2 ^ k) c.trailing_zeros-twos.ensures.value ∙ zeros_divide _ _ in
     let h : Without x t (g.T.RingWord.number c.shift_right.result) =
-    without _ t _ c.requires.some divided c.shift_right.ensures.value in
+    Without-of_quotient _ t _ c.requires.some divided c.shift_right.ensures.value in
     record {
       pair = first_pair _ _ t _ _ _ h c.one.ensures c.zero.ensures;
       fits =

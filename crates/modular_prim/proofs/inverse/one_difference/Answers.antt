@@ -3,7 +3,7 @@ use Rattle.std.proofs.Common.{◌≡◌, ◌+◌, ◌/◌, ◌^◌, ◌<◌, not
 use mathlib.Core.Bool.{beq}
 use Rattle.modular_prim.specs.Differences.{PairFits}
 use Rattle.modular_prim.proofs.DifferenceSteps.{Ordered, ordered_above, ordered_below, pair_next, fits_next}
-use Rattle.modular_prim.proofs.DifferenceSteps.{Without, without, fewer_zeros, shift_fits, few_twos}
+use Rattle.modular_prim.proofs.DifferenceSteps.{Without, Without-of_quotient, fewer_zeros, shift_fits, few_twos}
 use Rattle.modular_prim.proofs.DifferenceSteps.{zeros_above, zeros_below}
 use Rattle.modular_prim.proofs.inverse.one_difference.Given.{Over}
 use Rattle.modular_prim.proofs.inverse.one_difference.Goals as goal
@@ -36,7 +36,7 @@ ordered g c =
 halved : (g : Over) (c : goal.Joined-less g)
     → Without (g.T.RingWord.number c.if-less.chosen.0) c.trailing_zeros-zeros.result
     (g.T.RingWord.number c.if-less.chosen.0 / 2 ^ c.trailing_zeros-zeros.result)
-halved g c = let o = ordered g c in without _ _ _ o.some o.even refl
+halved g c = let o = ordered g c in Without-of_quotient _ _ _ o.some o.even refl
 
 few : (g : Over) (c : goal.Joined-less g) → c.trailing_zeros-zeros.result < g.T.RingWord.width
 few g c = fewer_zeros _ _ _ _ (halved g c) (omega (arith, (ordered g c).below, g.met.T.PathWord.base_is))

@@ -1,7 +1,7 @@
 use Rattle.std.proofs.Common.{ℕ, ◌≡◌, ◌*◌, ◌/◌, ◌%◌, ◌^◌, ◌<◌, ◌≤◌, sym, ap, ◌∙◌, subst, arith}
 use Rattle.std.proofs.lemmas.Nat.{shl-shr}
 use Rattle.modular_prim.proofs.Scaled.{IsNormalized, scaled_to_top, scaled_below, scaled_product_of}
-use Rattle.modular_prim.proofs.PowerSteps.{start_odd, start_even, step_odd, step_even, finished}
+use Rattle.modular_prim.proofs.PowerSteps.{start_odd, start_even, step_odd, step_even, power_at_end}
 use Rattle.modular_prim.proofs.power.power_by_reciprocal.Goals as goal
 use Rattle.modular_prim.proofs.power.power_by_reciprocal.Goals.{After-leading_zeros-shift, then-is_odd}
 use Rattle.modular_prim.proofs.power.power_by_reciprocal.Goals.{else-is_odd, then-is_odd-2, else-is_odd-2}
@@ -80,4 +80,4 @@ pub returns : goal.returns
 returns g c =
     let w = c.digits.invariant in
     c.shift_right.ensures.value ∙ ap (λ v. v / 2 ^ c.leading_zeros-shift.result) w.product_is
-    ∙ shl-shr w.y _ ∙ finished w (grind arith)
+    ∙ shl-shr w.y _ ∙ power_at_end w (grind arith)

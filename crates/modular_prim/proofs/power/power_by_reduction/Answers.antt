@@ -1,6 +1,6 @@
 use Rattle.std.proofs.Common.{ℕ, ◌≡◌, ◌*◌, ◌%◌, ap, ◌∙◌, arith}
 use Rattle.std.proofs.Math.Nat.{mod-lt}
-use Rattle.modular_prim.proofs.PowerSteps.{start_odd, start_even, step_odd, step_even, finished}
+use Rattle.modular_prim.proofs.PowerSteps.{start_odd, start_even, step_odd, step_even, power_at_end}
 use Rattle.modular_prim.proofs.PowerSteps.{product_fits, square_reduced, product_reduced}
 use Rattle.modular_prim.proofs.power.power_by_reduction.Goals as goal
 use Rattle.modular_prim.proofs.power.power_by_reduction.Goals.{then-is_odd, else-is_odd, then-is_odd-2, else-is_odd-2}
@@ -48,4 +48,4 @@ digits-preserved g c =
     ]
 
 pub returns : goal.returns
-returns g c = c.digits.invariant.product_is ∙ finished c.digits.invariant (grind arith)
+returns g c = c.digits.invariant.product_is ∙ power_at_end c.digits.invariant (grind arith)
