@@ -64,10 +64,8 @@ only_multiple n u e p l = search (arith, mod-eq_of_lt, mod-eq-sub-mod, cases_lt)
 -- the remainders of two numbers whose sum n divides add up to n
 opposite_remainders : (n v w : ℕ) → 0 < n → (v + w) % n ≡ 0 → w % n ≢ 0 → v % n + w % n ≡ n
 opposite_remainders n v w p e z =
-    let k : ℕ = n * (v / n + w / n) in
-    let t : k + (v % n + w % n) ≡ v + w = omega arith in
-    let d = divides_rest n k (v % n + w % n) (mul-mod_right n (v / n + w / n)) (ap (λ u. u % n) t ∙ e) in
-    only_multiple n (v % n + w % n) d (omega arith) (omega arith)
+    let d = divides_rest _ _ (v % n + w % n) (mul-mod_right _ (v / n + w / n)) (ap (λ u. u % n) (omega arith) ∙ e) in
+    only_multiple _ (v % n + w % n) d (omega arith) (omega arith)
 
 -- where n is odd, one of two opposite remainders lies above the half system
 one_above : (n v w : ℕ) → n % 2 ≡ 1 → v % n + w % n ≡ n → above n v + above n w ≡ 1
@@ -79,19 +77,15 @@ opposite_product n a v p z =
     let r : (a * (v % n)) % n ≡ (a * v) % n = mul-mod_second a v n in
     let u : (n - v % n) + v % n ≡ n = omega arith in
     let k = ap (λ x. a * x) u in
-    let t : a * (n - v % n) + a * (v % n) ≡ n * a = omega arith in
     let o = opposite_remainders n (a * (n - v % n)) (a * (v % n)) p
-    (ap (λ u. u % n) t ∙ mul-mod_right n a) (λ e. z (sym r ∙ e)) in
+    (ap (λ u. u % n) (omega arith) ∙ mul-mod_right n a) (λ e. z (sym r ∙ e)) in
     omega arith
 
 -- a * v lies above as a times the distance of v does, and the other way where v itself lies above
 above-product : (n a v : ℕ) → n % 2 ≡ 1 → (a * v) % n ≢ 0
     → above n (a * v) % 2 ≡ (above n (a * distance n v) + above n v) % 2
 above-product n a v o z =
-    ⊎_elim
-    (λ (l : (n - 1) / 2 < v % n). search (arith, distance_high, above_high, one_above, opposite_product))
-    (λ (l : v % n ≤ (n - 1) / 2). search (arith, distance_low, above_low, above-same, mul-mod_second))
-    (cases_lt ((n - 1) / 2) (v % n))
+    grind (arith, distance_high, above_high, one_above, opposite_product, distance_low, above_low, above-same, mul-mod_second, cases_lt)
 
 -- ---- a factor coprime to n permutes the half system, up to signs
 -- n divides no product of such a factor and a number below n
@@ -103,17 +97,15 @@ pub equal_remainders : (n b x z : ℕ) → Coprime b n → x ≤ z → z < n →
 equal_remainders n b x z c l h e =
     let u : x + (z - x) ≡ z = omega arith in
     let k = ap (λ v. b * v) u in
-    let s : n * (b * x / n) + b * (z - x) ≡ n * (b * z / n) = omega arith in
     let d : (b * (z - x)) % n ≡ 0 =
     divides_rest n (n * (b * x / n)) (b * (z - x)) (mul-mod_right n (b * x / n))
-    (ap (λ v. v % n) s ∙ mul-mod_right n (b * z / n)) in
+    (ap (λ v. v % n) (omega arith) ∙ mul-mod_right n (b * z / n)) in
     search (arith, coprime_cancel, mod-eq_of_lt)
 
 opposite_never : (n b x z : ℕ) → Coprime b n → 0 < x → x + z < n → (b * x) % n + (b * z) % n ≡ n → ⊥
 opposite_never n b x z c p l e =
-    let k : ℕ = b * x / n + b * z / n + 1 in
-    let s : b * (x + z) ≡ n * k = omega arith in
-    not_divided n b (x + z) c (omega arith) l (ap (λ v. v % n) s ∙ mul-mod_right n k)
+    let s : b * (x + z) ≡ n * (b * x / n + b * z / n + 1) = omega arith in
+    not_divided _ _ _ c (omega arith) l (ap (λ v. v % n) s ∙ mul-mod_right _ _)
 
 distance_positive : (n v : ℕ) → 0 < n → v % n ≢ 0 → 0 < distance n v
 unfolding distance
@@ -132,8 +124,8 @@ distances_apart : (n b x z : ℕ) → n % 2 ≡ 1 → Coprime b n → 0 < x → 
 distances_apart n b x z o c p q u v e =
     ⊎_elim
     (λ (s : (b * x) % n ≡ (b * z) % n). search (arith, equal_remainders, cases_lt))
-    (λ (s : (b * x) % n + (b * z) % n ≡ n). absurd (opposite_never n b x z c p (omega arith) s))
-    (equal_distances n (b * x) (b * z) (omega arith) e)
+    (λ (s : (b * x) % n + (b * z) % n ≡ n). absurd (opposite_never _ _ _ _ c p (omega arith) s))
+    (equal_distances _ _ _ (omega arith) e)
 
 pub half_system_permuted : (n b : ℕ) → n % 2 ≡ 1 → Coprime b n → Permutes (λ x. distance n (b * x)) ((n - 1) / 2)
 half_system_permuted n b o c = search (arith, distance_positive, not_divided, distance_within, distances_apart)
@@ -146,9 +138,8 @@ half_system_count-product a b n o c k =
     let h : ℕ = (n - 1) / 2 in
     let i = sum_to-parity (λ x. above n (a * b * x)) (λ x. above n (a * distance n (b * x)) + above n (b * x)) h
     (λ x p l.
-    let z = not_divided n (a * b) x c p (omega arith) in
-    let e : a * b * x ≡ a * (b * x) = omega arith in
-    ap (λ v. above n v % 2) e ∙ above-product n a (b * x) o (λ w. z (ap (λ v. v % n) e ∙ w))) in
+    ap (λ v. above n v % 2) (omega arith)
+    ∙ above-product n a (b * x) o (λ w. (not_divided n (a * b) x c p (omega arith)) (ap (λ v. v % n) (omega arith) ∙ w))) in
     let j = sum_to-add (λ x. above n (a * distance n (b * x))) (λ x. above n (b * x)) h in
     let m = sum_to-permuted (λ x. distance n (b * x)) (λ y. above n (a * y)) h (half_system_permuted n b o k) in
     search (arith, half_system_count-sum)

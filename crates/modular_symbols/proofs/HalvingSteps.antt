@@ -8,8 +8,8 @@ use Rattle.modular_symbols.proofs.JacobiLaws.{jacobi-residue}
 use Rattle.modular_symbols.proofs.TurnedSymbols.{Keeps, kept_turned}
 use Rattle.modular_symbols.proofs.TwoPart.{Halved}
 
-pub smaller : (x s a y : ℕ) → Halved x s a → y % a < x
-smaller x s a y h = search (arith, mod_below)
+pub mod_of_odd_part_below : (x s a y : ℕ) → Halved x s a → y % a < x
+mod_of_odd_part_below x s a y h = search (arith, mod_below)
 
 pub kept_swapped : (w : ℤ) (x y s a r : ℕ) (t u : Bool) → Keeps w x y t → Halved x s a
     → jacobi (pos (a * 2 ^ s)) y ≡ signed u (jacobi (pos y) a) → r ≡ y % a → Keeps w r a (not (beq t u))

@@ -27,16 +27,13 @@ jacobi-coprime a n p c = let e = gcd-from_Coprime (nat_abs a) n p c in grind (ar
 
 pub jacobi-shared : (a : ℤ) (n : ℕ) → 0 < n → (Coprime (nat_abs a) n → ⊥) → jacobi a n ≡ pos 0
 unfolding jacobi
-jacobi-shared a n p c =
-    let e : gcd (nat_abs a) n ≢ 1 = λ e. c (Coprime-from_gcd (nat_abs a) n p e) in
-    grind (arith, nat_tests)
+jacobi-shared a n p c = grind (arith, Coprime-from_gcd, nat_tests)
 
 pub coprime_or_not : (a n : ℕ) → 0 < n → Coprime a n ⊎ (Coprime a n → ⊥)
 coprime_or_not a n p =
     ⊎_elim
-    (λ (e : gcd a n ≡ 1). inl (Coprime-from_gcd a n p e))
-    (λ (z : gcd a n ≡ 1 → ⊥). inr (λ c. z (gcd-from_Coprime a n p c)))
-    (cases_eq (gcd a n) 1)
+    (λ (e : gcd a n ≡ 1). inl (Coprime-from_gcd _ _ p e))
+    (λ (z : gcd a n ≡ 1 → ⊥). inr (λ c. z (gcd-from_Coprime _ _ p c))) (cases_eq (gcd a n) _)
 
 -- ---- signs
 pub sign-even : (i : ℕ) → i % 2 ≡ 0 → sign i ≡ pos 1
@@ -45,15 +42,15 @@ sign-even i e = grind (arith, nat_tests)
 pub sign-odd : (i : ℕ) → i % 2 ≡ 1 → sign i ≡ negsuc 0
 sign-odd i e = grind (arith, nat_tests)
 
-pub parities : (i : ℕ) → (i % 2 ≡ 0) ⊎ (i % 2 ≡ 1)
-parities i = grind arith
+pub even_or_odd : (i : ℕ) → (i % 2 ≡ 0) ⊎ (i % 2 ≡ 1)
+even_or_odd i = grind arith
 
 pub sign-parity : (i : ℕ) (odd : Bool) → i % 2 ≡ cond odd 1 0 → sign i ≡ cond odd (negsuc 0) (pos 1)
 sign-parity i true e = sign-odd i e
 sign-parity i false e = sign-even i e
 
 pub sign-sum : (i j k : ℕ) → k % 2 ≡ (i + j) % 2 → sign k ≡ sign i *ℤ sign j
-sign-sum i j k e = search (arith, sign-even, sign-odd, parities)
+sign-sum i j k e = search (arith, sign-even, sign-odd, even_or_odd)
 
 pub one_times : (z : ℤ) → pos 1 *ℤ z ≡ z
 one_times z = omega (arith, ints)
@@ -70,29 +67,28 @@ times_zero z = omega (arith, ints)
 -- ---- the residue alone decides
 Coprime-residue : (a : ℤ) (n : ℕ) → 0 < n → Coprime (nat_abs a) n → Coprime (residue n a) n
 Coprime-residue (pos a) n p c = Coprime-mod a n c
-Coprime-residue (negsuc a) n p c = record {
-  only_one = λ d g h.
-      let r : ℕ = residue n (negsuc a) in
-      c.only_one d (divides_rest d r (suc a) g (divides_through d n (r + suc a) h (residue_opposite n a p))) h;
-}
+Coprime-residue (negsuc a) n p c =
+    record {
+      only_one = λ d g h.
+          c.only_one d (divides_rest d _ (suc a) g
+          (divides_through d _ ((residue n (negsuc a)) + suc a) h (residue_opposite _ _ p))) h;
+    }
 
 Coprime-from_residue : (a : ℤ) (n : ℕ) → 0 < n → Coprime (residue n a) n → Coprime (nat_abs a) n
 Coprime-from_residue (pos a) n p c = Coprime-from_mod a n c
-Coprime-from_residue (negsuc a) n p c = record {
-  only_one = λ d g h.
-      let r : ℕ = residue n (negsuc a) in
-      let e : suc a + r ≡ r + suc a = omega arith in
-      c.only_one d
-      (divides_rest d (suc a) r g (ap (λ v. v % d) e ∙ divides_through d n (r + suc a) h (residue_opposite n a p)))
-      h;
-}
+Coprime-from_residue (negsuc a) n p c =
+    record {
+      only_one = λ d g h. c.only_one d
+          (divides_rest d (suc a) _ g (ap (λ v. v % d) (omega arith)
+          ∙ divides_through d _ ((residue n (negsuc a)) + suc a) h (residue_opposite _ _ p)))
+          h;
+    }
 
 pub jacobi-residue : (a : ℤ) (n : ℕ) → 0 < n → jacobi a n ≡ jacobi (pos (residue n a)) n
 jacobi-residue a n p =
     ⊎_elim
     (λ (c : Coprime (nat_abs a) n). search (arith, jacobi-coprime, half_system_count-residue, Coprime-residue))
-    (search (arith, jacobi-shared, Coprime-from_residue))
-    (coprime_or_not (nat_abs a) n p)
+    (search (arith, jacobi-shared, Coprime-from_residue)) (coprime_or_not (nat_abs a) _ p)
 
 -- ---- products
 jacobi-natural_product : (a b n : ℕ) → n % 2 ≡ 1 → jacobi (pos (a * b)) n ≡ jacobi (pos a) n *ℤ jacobi (pos b) n
@@ -102,26 +98,24 @@ jacobi-natural_product a b n o =
     (λ (c : Coprime a n).
     ⊎_elim
     (λ (k : Coprime b n).
-    let w = Coprime-product a b n p c k in
+    let w = Coprime-product _ _ _ p c k in
     search (arith, jacobi-coprime, sign-sum, half_system_count-product))
     (λ (z : Coprime b n → ⊥).
-    jacobi-shared (pos (a * b)) n p (λ w. z (Coprime-right a b n w))
-    ∙ sym (ap (λ v. jacobi (pos a) n *ℤ v) (jacobi-shared (pos b) n p z) ∙ times_zero (jacobi (pos a) n)))
-    (coprime_or_not b n p))
+    jacobi-shared (pos (a * b)) _ p (λ w. z (Coprime-right _ _ _ w))
+    ∙ sym (ap (λ v. jacobi (pos a) n *ℤ v) (jacobi-shared (pos b) _ p z) ∙ times_zero (jacobi (pos a) n)))
+    (coprime_or_not _ _ p))
     (λ (z : Coprime a n → ⊥).
-    jacobi-shared (pos (a * b)) n p (λ w. z (Coprime-left a b n w))
-    ∙ sym (ap (λ v. v *ℤ jacobi (pos b) n) (jacobi-shared (pos a) n p z) ∙ zero_times (jacobi (pos b) n)))
-    (coprime_or_not a n p)
+    jacobi-shared (pos (a * b)) _ p (λ w. z (Coprime-left _ _ _ w))
+    ∙ sym (ap (λ v. v *ℤ jacobi (pos b) n) (jacobi-shared (pos a) _ p z) ∙ zero_times (jacobi (pos b) n)))
+    (coprime_or_not _ _ p)
 
 pub jacobi-product : (a b : ℤ) (n : ℕ) → n % 2 ≡ 1 → jacobi (a *ℤ b) n ≡ jacobi a n *ℤ jacobi b n
 jacobi-product a b n o =
     let p : 0 < n = omega arith in
-    let r : ℕ = residue n a in
-    let s : ℕ = residue n b in
-    jacobi-residue (a *ℤ b) n p ∙ ap (λ v. jacobi (pos v) n) (residue-product n a b p)
-    ∙ sym (jacobi-residue (pos (r * s)) n p) ∙ jacobi-natural_product r s n o
-    ∙ sym (ap (λ v. v *ℤ jacobi (pos s) n) (jacobi-residue a n p))
-    ∙ sym (ap (λ v. jacobi a n *ℤ v) (jacobi-residue b n p))
+    jacobi-residue (a *ℤ b) _ p ∙ ap (λ v. jacobi (pos v) n) (residue-product _ _ _ p)
+    ∙ sym (jacobi-residue (pos ((residue n a) * (residue n b))) _ p) ∙ jacobi-natural_product _ _ _ o
+    ∙ sym (ap (λ v. v *ℤ jacobi (pos (residue n b)) n) (jacobi-residue _ _ p))
+    ∙ sym (ap (λ v. jacobi a n *ℤ v) (jacobi-residue _ _ p))
 
 -- ---- the symbol of 2
 doubles_step : (h k s : ℕ) → s ≡ k - h / 2 → s + cond (ltb h (2 * suc k)) 1 0 ≡ suc k - h / 2
@@ -135,11 +129,8 @@ doubles_above h (suc k) = doubles_step h k (sum_to (λ x. cond (ltb h (2 * x)) 1
 
 half_system_count-two : (n : ℕ) → n % 2 ≡ 1 → half_system_count (pos 2) n ≡ (n - 1) / 2 - (n - 1) / 2 / 2
 half_system_count-two n o =
-    let h : ℕ = (n - 1) / 2 in
-    half_system_count-sum 2 n
-    ∙ sum_to-same (λ x. above n (2 * x)) (λ x. cond (ltb h (2 * x)) 1 0) h
-    (λ x p q. above-small n (2 * x) (omega arith))
-    ∙ doubles_above h h
+    half_system_count-sum _ _ ∙ sum_to-same (λ x. above _ (2 * x)) (λ x. cond (ltb ((n - 1) / 2) (2 * x)) 1 0) _
+    (λ x p q. above-small _ (2 * x) (omega arith)) ∙ doubles_above _ _
 
 Coprime-two : (n : ℕ) → n % 2 ≡ 1 → Coprime 2 n
 Coprime-two n o = search (arith, divisor_below, cases_eq)
@@ -161,7 +152,7 @@ jacobi-two n o = let k = jacobi-two_kept n o in let t = jacobi-two_turned n o in
 
 -- ---- reciprocity
 pub product_parity : (i j : ℕ) → (i * j) % 2 ≡ (i % 2) * (j % 2)
-product_parity i j = search (arith, zero-mod, mul-mod, parities)
+product_parity i j = search (arith, zero-mod, mul-mod, even_or_odd)
 
 -- the number of pairs is odd exactly where both numbers are 3 modulo 4
 odd_pairs : (m n : ℕ) → m % 4 ≡ 3 → n % 4 ≡ 3 → ((n - 1) / 2 * ((m - 1) / 2)) % 2 ≡ 1
@@ -182,8 +173,8 @@ jacobi-both m n k o c = search (arith, jacobi-coprime, sign-sum, counts_reciproc
 pub jacobi-reciprocal : (m n : ℕ) → m % 2 ≡ 1 → n % 2 ≡ 1 → Coprime m n
     → jacobi (pos m) n *ℤ jacobi (pos n) m ≡ cond (eqb (m % 4) 3 && eqb (n % 4) 3) (negsuc 0) (pos 1)
 jacobi-reciprocal m n k o c =
-    sym (jacobi-both m n k o c)
-    ∙ sign-parity ((n - 1) / 2 * ((m - 1) / 2)) (eqb (m % 4) 3 && eqb (n % 4) 3) (pairs-parity m n k o)
+    sym (jacobi-both _ _ k o c)
+    ∙ sign-parity ((n - 1) / 2 * ((m - 1) / 2)) (eqb (m % 4) 3 && eqb (n % 4) 3) (pairs-parity _ _ k o)
 
 -- ---- the symbol of 0
 pub jacobi-zero_one : jacobi (pos 0) 1 ≡ pos 1
@@ -195,12 +186,11 @@ jacobi-zero n l =
 
 -- ---- the values
 pub sign-values : (i : ℕ) → (sign i ≡ pos 1) ⊎ (sign i ≡ negsuc 0)
-sign-values i = search (arith, sign-even, sign-odd, parities)
+sign-values i = search (arith, sign-even, sign-odd, even_or_odd)
 
 values_from : (a : ℤ) (n : ℕ) (z : ℤ) → jacobi a n ≡ z → (z ≡ pos 1) ⊎ (z ≡ negsuc 0)
     → (jacobi a n ≡ pos 1) ⊎ ((jacobi a n ≡ negsuc 0) ⊎ (jacobi a n ≡ pos 0))
-values_from a n z e h =
-    ⊎_elim (λ (f : z ≡ pos 1). inl (e ∙ f)) (λ (f : z ≡ negsuc 0). inr (inl (e ∙ f))) h
+values_from a n z e h = ⊎_elim (λ (f : z ≡ pos 1). inl (e ∙ f)) (λ (f : z ≡ negsuc 0). inr (inl (e ∙ f))) h
 
 pub jacobi-values : (a : ℤ) (n : ℕ) → (jacobi a n ≡ pos 1) ⊎ ((jacobi a n ≡ negsuc 0) ⊎ (jacobi a n ≡ pos 0))
 unfolding jacobi
@@ -212,12 +202,4 @@ sign-nonzero i e = search (arith, sign-values)
 -- the symbol is 0 exactly where there is a common divisor above 1
 pub jacobi-zero_exactly : (a : ℤ) (n : ℕ) → 0 < n → (jacobi a n ≡ pos 0) ↔ (1 < gcd (nat_abs a) n)
 jacobi-zero_exactly a n p =
-    let positive = (gcd_is_positive (nat_abs a) n p) in (
-      (λ e.
-          ⊎_elim
-          (λ (f : gcd (nat_abs a) n ≡ 1). absurd
-          (sign-nonzero (half_system_count a n) (sym (jacobi-coprime a n p (Coprime-from_gcd (nat_abs a) n p f)) ∙ e)))
-          (λ (z : gcd (nat_abs a) n ≡ 1 → ⊥). omega arith)
-          (cases_eq (gcd (nat_abs a) n) 1)),
-      (λ l. jacobi-shared a n p (λ c. let e = gcd-from_Coprime (nat_abs a) n p c in omega arith)),
-    )
+    grind (arith, gcd_is_positive, sign-nonzero, jacobi-coprime, Coprime-from_gcd, cases_eq, jacobi-shared, gcd-from_Coprime)

@@ -68,19 +68,17 @@ above-form z n s split = ap (λ v. int_pow (over_two z) v *ℤ jacobi z (n / 2 ^
 
 pub above-odd : (z : ℤ) (n : ℕ) → n % 2 ≡ 1 → kronecker_above z n ≡ jacobi z n
 above-odd z n o =
-    above-form z n 0 (split_odd n o)
-    ∙ ap (λ t. t *ℤ jacobi z (n / 2 ^ 0)) (power_zero (over_two z))
-    ∙ one_times (jacobi z (n / 2 ^ 0)) ∙ ap (λ k. jacobi z k) (div-one n)
+    above-form _ _ _ (split_odd _ o) ∙ ap (λ t. t *ℤ jacobi z (n / 2 ^ 0)) (power_zero (over_two z))
+    ∙ one_times (jacobi z (n / 2 ^ 0)) ∙ ap (λ k. jacobi z k) (div-one _)
 
 pub above-both_even : (minus : Bool) (a n w : ℕ) → a % 2 ≢ 1 → n % 2 ≢ 1 → 0 < n → n < 2 ^ w
     → kronecker_above (signed minus (pos a)) n ≡ pos 0
 above-both_even minus a n w e f p l =
     let z = signed minus (pos a) in
     let s : ℕ = count_trailing_zeros w n in
-    let split = split_at w n p l in
-    above-form z n s split
+    above-form z n s (split_at w n p l)
     ∙ ap (λ t. int_pow t s *ℤ jacobi z (n / 2 ^ s)) (over_two-even minus a (omega arith))
-    ∙ ap (λ t. t *ℤ jacobi z (n / 2 ^ s)) (zero_power s (some_twos n s f split))
+    ∙ ap (λ t. t *ℤ jacobi z (n / 2 ^ s)) (zero_power s (some_twos n s f (split_at w n p l)))
     ∙ zero_times (jacobi z (n / 2 ^ s))
 
 pub above-twos : (minus : Bool) (a n s : ℕ) → a % 2 ≡ 1 → SplitAt n s
@@ -88,8 +86,7 @@ pub above-twos : (minus : Bool) (a n s : ℕ) → a % 2 ≡ 1 → SplitAt n s
     ≡ signed ((s % 2 == 1) && leaves_3_or_5 a) (jacobi (signed minus (pos a)) (n / 2 ^ s))
 above-twos minus a n s o split =
     let z = signed minus (pos a) in
-    above-form z n s split
-    ∙ ap (λ t. int_pow t s *ℤ jacobi z (n / 2 ^ s)) (over_two-odd minus a o)
+    above-form z n s split ∙ ap (λ t. int_pow t s *ℤ jacobi z (n / 2 ^ s)) (over_two-odd minus a o)
     ∙ ap (λ t. t *ℤ jacobi z (n / 2 ^ s)) (power_of_sign (leaves_3_or_5 a) s)
     ∙ sign_times ((s % 2 == 1) && leaves_3_or_5 a) (jacobi z (n / 2 ^ s))
 

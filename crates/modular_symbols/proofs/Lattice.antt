@@ -27,9 +27,9 @@ pairs-same f g h k e = search (arith, sum_to-same)
 pairs-add : (f g : ℕ → ℕ → ℕ) (h k : ℕ) → pairs (λ x y. f x y + g x y) h k ≡ pairs f h k + pairs g h k
 unfolding pairs
 pairs-add f g h k =
-    sum_to-same (λ x. sum_to (λ y. f x y + g x y) k) (λ x. sum_to (λ y. f x y) k + sum_to (λ y. g x y) k) h
-    (λ x p q. sum_to-add (λ y. f x y) (λ y. g x y) k)
-    ∙ sum_to-add (λ x. sum_to (λ y. f x y) k) (λ x. sum_to (λ y. g x y) k) h
+    sum_to-same (λ x. sum_to (λ y. f x y + g x y) k) (λ x. sum_to (λ y. f x y) k + sum_to (λ y. g x y) k) _
+    (λ x p q. sum_to-add (λ y. f x y) (λ y. g x y) _)
+    ∙ sum_to-add (λ x. sum_to (λ y. f x y) k) (λ x. sum_to (λ y. g x y) k) _
 
 pairs-turned : (f : ℕ → ℕ → ℕ) (h k : ℕ) → pairs (λ y x. f x y) k h ≡ pairs f h k
 unfolding pairs
@@ -38,15 +38,14 @@ pairs-turned f h k = sum_to-swap (λ y x. f x y) k h
 pairs-ones : (h k : ℕ) → pairs (λ x y. 1) h k ≡ h * k
 unfolding pairs
 pairs-ones h k =
-    sum_to-same (λ x. sum_to (λ y. 1) k) (λ x. 1 * k) h (λ x p q. sum_to-ones k ∙ omega arith)
-    ∙ sum_to-scale (λ x. 1) h k ∙ ap (λ v. v * k) (sum_to-ones h)
+    sum_to-same (λ x. sum_to (λ y. 1) k) (λ x. 1 * k) _ (λ x p q. sum_to-ones _ ∙ omega arith)
+    ∙ sum_to-scale (λ x. 1) _ _ ∙ ap (λ v. v * k) (sum_to-ones _)
 
 pairs-reflected : (f : ℕ → ℕ → ℕ) (h k : ℕ) → pairs (λ x y. f (suc h - x) (suc k - y)) h k ≡ pairs f h k
 unfolding pairs
 pairs-reflected f h k =
-    sum_to-same (λ x. sum_to (λ y. f (suc h - x) (suc k - y)) k) (λ x. sum_to (λ y. f (suc h - x) y) k) h
-    (λ x p q. sum_to-reversed (λ y. f (suc h - x) y) k)
-    ∙ sum_to-reversed (λ x. sum_to (λ y. f x y) k) h
+    sum_to-same (λ x. sum_to (λ y. f (suc h - x) (suc k - y)) k) (λ x. sum_to (λ y. f (suc h - x) y) k) _
+    (λ x p q. sum_to-reversed (λ y. f (suc h - x) y) _) ∙ sum_to-reversed (λ x. sum_to (λ y. f x y) k) _
 
 -- ---- the four regions
 -- 1 where u - v lies strictly between -n / 2 and 0, else 0
@@ -96,31 +95,31 @@ row_within m n x o k p h =
     let l : n * (2 * (m * x / n) + 1) < n * m = omega arith in
     search (arith, lt_of_mul-lt-mul_left)
 
-row : (m n x : ℕ) → n % 2 ≡ 1 → m % 2 ≡ 1 → x ≤ (n - 1) / 2
+row_is_above : (m n x : ℕ) → n % 2 ≡ 1 → m % 2 ≡ 1 → x ≤ (n - 1) / 2
     → sum_to (λ y. just_below n (m * x) (n * y)) ((m - 1) / 2) ≡ above n (m * x)
-row m n x o k p =
+row_is_above m n x o k p =
     let others : (y : ℕ) → y ≢ suc (m * x / n) → just_below n (m * x) (n * y) ≡ 0 =
-    λ y z. row_other m n x y (omega arith) z in
+    λ y z. row_other _ _ _ y (omega arith) z in
     ⊎_elim
     (λ (l : (n - 1) / 2 < (m * x) % n).
     sum_to-only (λ y. just_below n (m * x) (n * y)) ((m - 1) / 2) (suc (m * x / n)) (omega arith)
-    (row_within m n x o k p l) (λ y u v z. others y z)
-    ∙ row_one m n x o l ∙ sym (above_high n (m * x) l))
+    (row_within _ _ _ o k p l) (λ y u v z. others y z)
+    ∙ row_one _ _ _ o l ∙ sym (above_high _ _ l))
     (λ (l : (m * x) % n ≤ (n - 1) / 2).
     sum_to-same (λ y. just_below n (m * x) (n * y)) (λ y. 0) ((m - 1) / 2)
     (λ y u v.
     ⊎_elim
-    (λ (e : y ≡ suc (m * x / n)). ap (λ w. just_below n (m * x) (n * w)) e ∙ row_none m n x o l)
+    (λ (e : y ≡ suc (m * x / n)). ap (λ w. just_below n (m * x) (n * w)) e ∙ row_none _ _ _ o l)
     (λ (z : y ≡ suc (m * x / n) → ⊥). others y z)
     (cases_eq y (suc (m * x / n))))
-    ∙ sum_to-nothing ((m - 1) / 2) ∙ sym (above_low n (m * x) l))
+    ∙ sum_to-nothing ((m - 1) / 2) ∙ sym (above_low _ _ l))
     (cases_lt ((n - 1) / 2) ((m * x) % n))
 
 -- so the pairs just below are as many as the count of m over n
 just_below-count : (m n : ℕ) → n % 2 ≡ 1 → m % 2 ≡ 1
     → pairs (λ x y. just_below n (m * x) (n * y)) ((n - 1) / 2) ((m - 1) / 2) ≡ half_system_count (pos m) n
 unfolding pairs
-just_below-count m n o k = search (arith, sum_to-same, just_below, row, half_system_count-sum)
+just_below-count m n o k = search (arith, sum_to-same, just_below, row_is_above, half_system_count-sum)
 
 -- ---- the pairs far below
 reflected_region : (m n a b c d : ℕ) → 2 * a + 2 * b ≡ m * n + m → 2 * c + 2 * d ≡ m * n + n
@@ -129,16 +128,15 @@ unfolding far_below
 reflected_region m n a b c d p q = grind (arith, nat_tests)
 
 -- the reflection takes them to the pairs far above
-reflected : (m n x y : ℕ) → n % 2 ≡ 1 → m % 2 ≡ 1 → x ≤ (n - 1) / 2 → y ≤ (m - 1) / 2
+far_below-reflected : (m n x y : ℕ) → n % 2 ≡ 1 → m % 2 ≡ 1 → x ≤ (n - 1) / 2 → y ≤ (m - 1) / 2
     → far_below n (m * (suc ((n - 1) / 2) - x)) (n * (suc ((m - 1) / 2) - y)) ≡ far_below m (n * y) (m * x)
-reflected m n x y o k p q =
-    let x' : ℕ = suc ((n - 1) / 2) - x in
-    let y' : ℕ = suc ((m - 1) / 2) - y in
-    let d : 2 * x' + 2 * x ≡ n + 1 = omega arith in
-    let e : 2 * y' + 2 * y ≡ m + 1 = omega arith in
+far_below-reflected m n x y o k p q =
+    let d : 2 * (suc ((n - 1) / 2) - x) + 2 * x ≡ n + 1 = omega arith in
+    let e : 2 * (suc ((m - 1) / 2) - y) + 2 * y ≡ m + 1 = omega arith in
     let i = ap (λ v. m * v) d in
     let j = ap (λ v. n * v) e in
-    reflected_region m n (m * x') (m * x) (n * y') (n * y) (omega arith) (omega arith)
+    reflected_region m n (m * (suc ((n - 1) / 2) - x)) (m * x) (n * (suc ((m - 1) / 2) - y)) (n * y) (omega arith)
+    (omega arith)
 
 -- ---- the sum of the two counts has the parity of the number of all pairs
 pub counts_reciprocal : (m n : ℕ) → n % 2 ≡ 1 → m % 2 ≡ 1 → Coprime m n
@@ -159,5 +157,5 @@ counts_reciprocal m n o k c =
     let lower = just_below-count m n o k in
     let upper = sym (pairs-turned d h l) ∙ just_below-count n m k o in
     let mirror = sym (pairs-reflected a h l) ∙ pairs-same (λ x y. a (suc h - x) (suc l - y)) e h l
-    (λ x y p q u v. reflected m n x y o k q v) in
+    (λ x y p q u v. far_below-reflected m n x y o k q v) in
     omega arith

@@ -18,8 +18,7 @@ pub prime_to : (a p : ℕ) → IsPrime p → a % p ≢ 0 → Coprime a p
 prime_to a p u z = search (arith, below_coprime, mod_below)
 
 pub inverse_to : (a p : ℕ) → IsPrime p → a % p ≢ 0 → HasInverse p a
-inverse_to a p u z =
-    HasInverse-from_Coprime a p (omega arith) (prime_to a p u z)
+inverse_to a p u z = HasInverse-from_Coprime a p (omega arith) (prime_to a p u z)
 
 -- the half power is 1 or -1, and its square is 1
 square_of_half : (p v : ℕ) → 1 < p → (v % p ≡ 1) ⊎ (v % p ≡ p - 1) → (v * v) % p ≡ 1
@@ -37,11 +36,9 @@ pub fermat : (a p : ℕ) → IsPrime p → a % p ≢ 0 → a ^ (p - 1) % p ≡ 1
 fermat a p u z =
     ⊎_elim
     (λ (o : p % 2 ≡ 1).
-    let h : ℕ = (p - 1) / 2 in
-    let e : p - 1 ≡ h + h = omega arith in
+    let e : p - 1 ≡ ((p - 1) / 2) + ((p - 1) / 2) = omega arith in
     search (arith, pow-add, square_of_half, half_power))
-    (λ (n : p % 2 ≡ 1 → ⊥). search (arith, even_prime, pow-one))
-    (cases_eq (p % 2) 1)
+    (λ (n : p % 2 ≡ 1 → ⊥). search (arith, even_prime, pow-one)) (cases_eq _ _)
 
 -- over an odd prime the symbols are there
 pub class_is_some : (a z : ℤ) → IsOddPrime z → IsSome (checked_legendre_of a z)

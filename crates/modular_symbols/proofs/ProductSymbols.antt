@@ -9,12 +9,14 @@ use Rattle.modular_word.specs.Divisors.{Coprime}
 use Rattle.modular_word.specs.Residues.{residue}
 use Rattle.modular_word.proofs.Congruence.{mod_of_multiple}
 use Rattle.modular_word.proofs.Divisors.{divides, divides_through}
-use Rattle.modular_word.proofs.Divisors.{Coprime-swap, Coprime-left, Coprime-right, Coprime-product}
+use Rattle.modular_word.proofs.Divisors.{Coprime-swap, Coprime-left, Coprime-right, Coprime-product, Coprime-from_gcd}
+use Rattle.modular_symbols.proofs.Euler.{classed_power-jacobi}
 use Rattle.modular_symbols.specs.PrimeFactors.{IsLegendre, product, symbol_product}
 use Rattle.modular_symbols.specs.Jacobi.{half_system_count, jacobi}
 use Rattle.modular_symbols.proofs.HalfSystem.{half_system_count-product}
 use Rattle.modular_symbols.proofs.JacobiLaws.{jacobi-coprime, jacobi-shared, coprime_or_not, jacobi-residue}
-use Rattle.modular_symbols.proofs.JacobiLaws.{jacobi-zero_one, parities, product_parity, sign-sum, zero_times, times_zero}
+use Rattle.modular_symbols.proofs.JacobiLaws.{jacobi-zero_one, even_or_odd, product_parity, sign-sum, zero_times, times_zero}
+use Rattle.modular_symbols.proofs.JacobiLaws.{jacobi-values, jacobi-zero_exactly, jacobi-product, jacobi-two, jacobi-reciprocal}
 use Rattle.modular_symbols.proofs.Lattice.{counts_reciprocal}
 use Rattle.modular_symbols.proofs.LegendreClass.{class_over_prime}
 use Rattle.modular_symbols.proofs.ResidueProducts.{residue_below, residue_opposite, residue_minus}
@@ -32,9 +34,9 @@ pairs_of_product : (m n k : ℕ) → m % 2 ≡ 1 → n % 2 ≡ 1
 pairs_of_product m n k o p =
     let i : ℕ = (m - 1) / 2 in
     let j : ℕ = (n - 1) / 2 in
-    let h = half_of_product m n i j (omega arith) (omega arith) in
+    let h = half_of_product _ _ _ _ (omega arith) (omega arith) in
     let d : (i + j + 2 * (i * j)) * k ≡ i * k + j * k + 2 * (i * j * k) = omega arith in
-    ap (λ v. (v * k) % 2) h ∙ ap (λ v. v % 2) d ∙ add-mul-mod_self_left (i * k + j * k) 2 (i * j * k)
+    ap (λ v. (v * k) % 2) h ∙ ap (λ v. v % 2) d ∙ add-mul-mod_self_left (i * k + j * k) _ (i * j * k)
 
 odd_product : (m n : ℕ) → m % 2 ≡ 1 → n % 2 ≡ 1 → (m * n) % 2 ≡ 1
 odd_product m n o p = product_parity m n ∙ ap (λ v. v * (n % 2)) o ∙ omega arith
@@ -48,81 +50,69 @@ count_over_product : (b m n : ℕ) → b % 2 ≡ 1 → m % 2 ≡ 1 → n % 2 ≡
     → half_system_count (pos b) (m * n) % 2 ≡ (half_system_count (pos b) m + half_system_count (pos b) n) % 2
 count_over_product b m n q o p c d w =
     let k : ℕ = (b - 1) / 2 in
-    parity_of_sum
-    (half_system_count (pos b) (m * n)) (half_system_count (pos (m * n)) b) ((m * n - 1) / 2 * k)
+    parity_of_sum (half_system_count (pos b) (m * n)) (half_system_count (pos (m * n)) b) ((m * n - 1) / 2 * k)
     (half_system_count (pos b) m) (half_system_count (pos m) b) ((m - 1) / 2 * k)
     (half_system_count (pos b) n) (half_system_count (pos n) b) ((n - 1) / 2 * k)
-    (counts_reciprocal b (m * n) (odd_product m n o p) q w)
-    (counts_reciprocal b m o q c) (counts_reciprocal b n p q d)
-    (half_system_count-product m n b q (Coprime-swap b (m * n) w) (Coprime-swap b n d))
-    (pairs_of_product m n k o p)
+    (counts_reciprocal _ _ (odd_product _ _ o p) q w) (counts_reciprocal _ _ o q c) (counts_reciprocal _ _ p q d)
+    (half_system_count-product _ _ _ q (Coprime-swap _ _ w) (Coprime-swap _ _ d)) (pairs_of_product _ _ _ o p)
 
 odd_over_product : (b m n : ℕ) → b % 2 ≡ 1 → m % 2 ≡ 1 → n % 2 ≡ 1
     → jacobi (pos b) (m * n) ≡ jacobi (pos b) m *ℤ jacobi (pos b) n
 odd_over_product b m n q o p =
-    let l : 0 < m = omega arith in
-    let r : 0 < n = omega arith in
-    let u = odd_product m n o p in
-    let t : 0 < m * n = omega (arith, u) in
     ⊎_elim
     (λ (c : Coprime b m).
     ⊎_elim
     (λ (d : Coprime b n).
-    let w = Coprime-swap (m * n) b
-    (Coprime-product m n b (omega arith) (Coprime-swap b m c) (Coprime-swap b n d)) in
+    let w = Coprime-swap _ _ (Coprime-product _ _ _ (omega arith) (Coprime-swap _ _ c) (Coprime-swap _ _ d)) in
     search (arith, jacobi-coprime, sign-sum, count_over_product))
     (λ (z : Coprime b n → ⊥).
-    jacobi-shared (pos b) (m * n) t (λ w. z (Coprime-swap n b (Coprime-right m n b (Coprime-swap b (m * n) w))))
-    ∙ sym (ap (λ v. jacobi (pos b) m *ℤ v) (jacobi-shared (pos b) n r z) ∙ times_zero (jacobi (pos b) m)))
-    (coprime_or_not b n r))
+    jacobi-shared (pos b) _ (omega (arith, (odd_product _ _ o p)))
+    (λ w. z (Coprime-swap _ _ (Coprime-right _ _ _ (Coprime-swap _ _ w))))
+    ∙ sym (ap (λ v. jacobi (pos b) m *ℤ v) (jacobi-shared (pos b) _ (omega arith) z) ∙ times_zero (jacobi (pos b) m)))
+    (coprime_or_not _ _ (omega arith)))
     (λ (z : Coprime b m → ⊥).
-    jacobi-shared (pos b) (m * n) t (λ w. z (Coprime-swap m b (Coprime-left m n b (Coprime-swap b (m * n) w))))
-    ∙ sym (ap (λ v. v *ℤ jacobi (pos b) n) (jacobi-shared (pos b) m l z) ∙ zero_times (jacobi (pos b) n)))
-    (coprime_or_not b m l)
+    jacobi-shared (pos b) _ (omega (arith, (odd_product _ _ o p)))
+    (λ w. z (Coprime-swap _ _ (Coprime-left _ _ _ (Coprime-swap _ _ w))))
+    ∙ sym (ap (λ v. v *ℤ jacobi (pos b) n) (jacobi-shared (pos b) _ (omega arith) z) ∙ zero_times (jacobi (pos b) n)))
+    (coprime_or_not _ _ (omega arith))
 
 -- ---- over a product of odd numbers, for every a
 -- the residue modulo a divisor
 residue_of_multiple : (m k : ℕ) (z : ℤ) → 0 < m → 0 < m * k → residue (m * k) z % m ≡ residue m z
 residue_of_multiple m k (pos x) p q = mod_of_multiple m k x
 residue_of_multiple m k (negsuc x) p q =
-    let r : ℕ = residue (m * k) (negsuc x) in
-    let d : (m * k) % m ≡ 0 = divides m (m * k) k refl in
-    sym (residue_minus m (suc x) (r % m) (mod_below r m p)
-    (mod-add-mod r m (suc x) ∙ divides_through m (m * k) (r + suc x) d (residue_opposite (m * k) x q)))
+    sym (residue_minus _ (suc x) _ (mod_below _ _ p)
+    (mod-add-mod _ _ (suc x)
+    ∙ divides_through _ _ ((residue (m * k) (negsuc x)) + suc x) (divides _ _ _ refl) (residue_opposite _ x q)))
 
 -- an odd number that is congruent to z modulo an odd number
 odd_representative : (n : ℕ) (z : ℤ) → n % 2 ≡ 1 → (b : ℕ) × (b % 2 ≡ 1) × (b % n ≡ residue n z)
 odd_representative n z o =
     let r : ℕ = residue n z in
-    let p : 0 < n = omega arith in
-    let l = residue_below n z p in
     let e : n * 1 ≡ n = omega arith in
     ⊎_elim
-    (λ (i : r % 2 ≡ 0).
-    (r + n, omega arith, ap (λ v. (r + v) % n) (sym e) ∙ add-mul-mod_self_left r n 1 ∙ mod-eq_of_lt l))
-    (λ (i : r % 2 ≡ 1). (r, i, mod-eq_of_lt l))
-    (parities r)
+    (λ (i : r % 2 ≡ 0). (
+      r + n,
+      omega arith,
+      ap (λ v. (r + v) % n) (sym e) ∙ add-mul-mod_self_left _ _ _ ∙ mod-eq_of_lt (residue_below _ _ (omega arith)),
+    ))
+    (λ (i : r % 2 ≡ 1). (r, i, mod-eq_of_lt (residue_below _ _ (omega arith)))) (even_or_odd _)
 
 same_residues : (a : ℤ) (b n : ℕ) → 0 < n → b % n ≡ residue n a → jacobi a n ≡ jacobi (pos b) n
-same_residues a b n p e =
-    jacobi-residue a n p ∙ sym (jacobi-residue (pos b) n p ∙ ap (λ v. jacobi (pos v) n) e)
+same_residues a b n p e = jacobi-residue a n p ∙ sym (jacobi-residue (pos b) n p ∙ ap (λ v. jacobi (pos v) n) e)
 
 pub jacobi-factors : (a : ℤ) (m n : ℕ) → m % 2 ≡ 1 → n % 2 ≡ 1 → jacobi a (m * n) ≡ jacobi a m *ℤ jacobi a n
 jacobi-factors a m n o p =
-    let u = odd_product m n o p in
-    let l : 0 < m = omega arith in
-    let r : 0 < n = omega arith in
-    let t : 0 < m * n = omega (arith, u) in
+    let t : 0 < m * n = omega (arith, (odd_product _ _ o p)) in
     let s : n * m ≡ m * n = omega arith in
-    let h = odd_representative (m * n) a u in
+    let h = odd_representative _ _ (odd_product _ _ o p) in
     let b : ℕ = h.0 in
     let e : b % m ≡ residue m a =
-    sym (mod_of_multiple m n b) ∙ ap (λ v. v % m) h.2 ∙ residue_of_multiple m n a l t in
+    sym (mod_of_multiple _ _ _) ∙ ap (λ v. v % m) h.2 ∙ residue_of_multiple _ _ _ (omega arith) t in
     let f : b % n ≡ residue n a =
-    sym (mod_of_multiple n m b) ∙ ap (λ v. b % v % n) s ∙ ap (λ v. v % n) h.2
-    ∙ ap (λ v. residue v a % n) (sym s) ∙ residue_of_multiple n m a r (omega arith) in
-    same_residues a b (m * n) t h.2 ∙ odd_over_product b m n h.1 o p
-    ∙ sym (search (arith, same_residues))
+    sym (mod_of_multiple _ _ _) ∙ ap (λ v. b % v % n) s ∙ ap (λ v. v % n) h.2
+    ∙ ap (λ v. residue v a % n) (sym s) ∙ residue_of_multiple _ _ _ (omega arith) (omega arith) in
+    same_residues _ _ _ t h.2 ∙ odd_over_product _ _ _ h.1 o p ∙ sym (search (arith, same_residues))
 
 -- ---- over a product of odd primes
 legendre-jacobi : (a : ℤ) (p : ℕ) (s : ℤ) → IsLegendre a p s → jacobi a p ≡ s
@@ -135,9 +125,8 @@ primes_after a [] [] n z o e h = e
 primes_after a [] (s ∷ ss) n z o e h = absurd h
 primes_after a (p ∷ ps) [] n z o e h = absurd h
 primes_after a (p ∷ ps) (s ∷ ss) n z o e h =
-    primes_after a ps ss (n * p) (z *ℤ s) (odd_product n p o h.0.0.0)
-    (jacobi-factors a n p o h.0.0.0 ∙ ap (λ v. v *ℤ jacobi a p) e ∙ ap (λ v. z *ℤ v) (legendre-jacobi a p s h.0))
-    h.1
+    primes_after a ps ss (n * p) (z *ℤ s) (odd_product _ p o h.0.0.0)
+    (jacobi-factors _ _ p o h.0.0.0 ∙ ap (λ v. v *ℤ jacobi a p) e ∙ ap (λ v. z *ℤ v) (legendre-jacobi _ p s h.0)) h.1
 
 jacobi-one : (a : ℤ) → jacobi a 1 ≡ pos 1
 jacobi-one a = search (arith, residue_below, jacobi-residue, jacobi-zero_one)
@@ -145,3 +134,7 @@ jacobi-one a = search (arith, residue_below, jacobi-residue, jacobi-zero_one)
 pub jacobi-primes : (a : ℤ) (primes : List ℕ) (symbols : List ℤ) → AllZip (IsLegendre a) primes symbols
     → jacobi a (product primes) ≡ symbol_product symbols
 jacobi-primes a primes symbols h = primes_after a primes symbols 1 (pos 1) (omega arith) (jacobi-one a) h
+
+-- the laws of the symbol
+pub ruleset symbol_laws =
+    (jacobi-values, jacobi-zero_exactly, jacobi-residue, jacobi-product, jacobi-two, jacobi-reciprocal, classed_power-jacobi, jacobi-factors, jacobi-primes, Coprime-from_gcd)

@@ -54,7 +54,7 @@ unfolding product_to
 product_to-swap f zero k = sym (product_to-ones k)
 product_to-swap f (suc h) k =
     ap (λ v. v * product_to (λ y. f (suc h) y) k) (product_to-swap f h k)
-    ∙ sym (product_to-times (λ y. product_to (λ x. f x y) h) (λ y. f (suc h) y) k)
+    ∙ sym (product_to-times (λ y. product_to (λ x. f x y) h) (λ y. f (suc h) y) _)
 
 -- one factor of a product is split off
 pub product_to-only : (f : ℕ → ℕ) (h z : ℕ) → 0 < z → z ≤ h → ((x : ℕ) → 0 < x → x ≤ h → x ≢ z → f x ≡ 1)
@@ -65,24 +65,24 @@ product_to-only f (suc h) z p q e =
     ⊎_elim
     (λ (l : z ≤ h). search (arith, mul-one, product_to-only f h z p l (λ x u v w. e x u (omega arith) w)))
     (λ (l : z ≡ suc h).
-    let i = product_to-same f (λ x. 1) h (λ x u v. e x u (omega arith) (omega arith)) in
-    ap (λ v. v * f (suc h)) (i ∙ product_to-ones h) ∙ one-mul (f (suc h)) ∙ sym (ap f l))
-    (last_or_before z h q)
+    let i = product_to-same _ (λ x. 1) _ (λ x u v. e x u (omega arith) (omega arith)) in
+    ap (λ v. v * f (suc h)) (i ∙ product_to-ones _) ∙ one-mul (f (suc h)) ∙ sym (ap f l))
+    (last_or_before _ _ q)
 
 -- the factor at f x, among all
-picked : (f g : ℕ → ℕ) (h x : ℕ) → Permutes f h → 0 < x → x ≤ h → product_to (λ y. g y ^ hit (f x) y) h ≡ g (f x)
-picked f g h x m p q =
-    product_to-only (λ y. g y ^ hit (f x) y) h (f x) (m.positive x p q) (m.within x p q)
+product_of_hits_at_index : (f g : ℕ → ℕ) (h x : ℕ) → Permutes f h → 0 < x → x ≤ h → product_to (λ y. g y ^ hit (f x) y) h ≡ g (f x)
+product_of_hits_at_index f g h x m p q =
+    product_to-only (λ y. g y ^ hit (f x) y) _ (f x) (m.positive x p q) (m.within x p q)
     (λ y u v w. ap (λ n. g y ^ n) (hit-other (f x) y (λ e. w (sym e))) ∙ pow-zero (g y))
     ∙ ap (λ n. g (f x) ^ n) (hit-same (f x) (f x) refl) ∙ pow-one (g (f x))
 
-taken : (f g : ℕ → ℕ) (h y : ℕ) → Permutes f h → 0 < y → y ≤ h → product_to (λ x. g y ^ hit (f x) y) h ≡ g y
-taken f g h y m p q =
+product_of_hits_at_value : (f g : ℕ → ℕ) (h y : ℕ) → Permutes f h → 0 < y → y ≤ h → product_to (λ x. g y ^ hit (f x) y) h ≡ g y
+product_of_hits_at_value f g h y m p q =
     product_to-power (g y) (λ x. hit (f x) y) h ∙ ap (λ n. g y ^ n) (hits_one f h y m p q) ∙ pow-one (g y)
 
 -- a permutation leaves a product as it is
 pub product_to-permuted : (f g : ℕ → ℕ) (h : ℕ) → Permutes f h → product_to (λ x. g (f x)) h ≡ product_to g h
 product_to-permuted f g h m =
-    sym (product_to-same (λ x. product_to (λ y. g y ^ hit (f x) y) h) (λ x. g (f x)) h (λ x p q. picked f g h x m p q))
+    sym (product_to-same (λ x. product_to (λ y. g y ^ hit (f x) y) h) (λ x. g (f x)) h (λ x p q. product_of_hits_at_index f g h x m p q))
     ∙ product_to-swap (λ x y. g y ^ hit (f x) y) h h
-    ∙ product_to-same (λ y. product_to (λ x. g y ^ hit (f x) y) h) g h (λ y p q. taken f g h y m p q)
+    ∙ product_to-same (λ y. product_to (λ x. g y ^ hit (f x) y) h) g h (λ y p q. product_of_hits_at_value f g h y m p q)

@@ -19,23 +19,21 @@ residue_opposite n a p = search (arith, mod_below, divides)
 pub residue_minus : (n m r : ℕ) → r < n → (r + m) % n ≡ 0 → residue n (neg_ℤ (pos m)) ≡ r
 residue_minus n zero r h e = search (arith, zero-mod, mod-eq_of_lt)
 residue_minus n (suc a) r h e =
-    let p : 0 < n = omega arith in
-    mod_cancel n (residue n (negsuc a)) r (suc a) (residue_below n (negsuc a) p) h (residue_opposite n a p ∙ sym e)
+    mod_cancel _ (residue n (negsuc a)) _ (suc a) (residue_below _ (negsuc a) (omega arith)) h
+    (residue_opposite _ a (omega arith) ∙ sym e)
 
 -- r * b is opposite to m * b where r is to m
 opposite_product : (n r m b : ℕ) → (r + m) % n ≡ 0 → ((r * b) % n + m * b) % n ≡ 0
 opposite_product n r m b e =
     let f : (r + m) * b ≡ r * b + m * b = omega arith in
-    mod-add-mod (r * b) n (m * b) ∙ sym (ap (λ v. v % n) f) ∙ divides_product n (r + m) b e
+    mod-add-mod _ _ _ ∙ sym (ap (λ v. v % n) f) ∙ divides_product _ _ _ e
 
 both_opposite : (n r s a b : ℕ) → (r + a) % n ≡ 0 → (s + b) % n ≡ 0 → (a * b) % n ≡ (r * s) % n
 both_opposite n r s a b e f =
-    let i : ℕ = (r + a) / n in
-    let j : ℕ = (s + b) / n in
     let u = ap (λ v. v * b) (multiple_of n (r + a) e) in
     let w = ap (λ v. r * v) (multiple_of n (s + b) f) in
-    let t : a * b + n * (j * r) ≡ r * s + n * (i * b) = omega arith in
-    sym (add-mul-mod_self_left (a * b) n (j * r)) ∙ ap (λ v. v % n) t ∙ add-mul-mod_self_left (r * s) n (i * b)
+    sym (add-mul-mod_self_left (a * b) n (((s + b) / n) * r)) ∙ ap (λ v. v % n) (omega arith)
+    ∙ add-mul-mod_self_left (r * s) n (((r + a) / n) * b)
 
 pub residue-product : (n : ℕ) (z w : ℤ) → 0 < n → residue n (z *ℤ w) ≡ (residue n z * residue n w) % n
 residue-product n (pos a) (pos b) p = mul-mod a b n
@@ -43,7 +41,7 @@ residue-product n (pos a) (negsuc b) p =
     let r : ℕ = residue n (negsuc b) in
     let e : r * (a % n) ≡ a % n * r = omega arith in
     let f : suc b * a ≡ a * suc b = omega arith in
-    residue_minus n (a * suc b) ((a % n * r) % n) (mod_below (a % n * r) n p)
+    residue_minus _ (a * suc b) ((a % n * r) % n) (mod_below (a % n * r) _ p)
     (search (arith, mul-mod_second, opposite_product, residue_opposite))
 residue-product n (negsuc a) (pos b) p =
     search (arith, residue_minus, mod_below, mul-mod_second, opposite_product, residue_opposite)

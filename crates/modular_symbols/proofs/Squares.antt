@@ -34,13 +34,10 @@ below_not_divided p x q l e = let m = mod-eq_of_lt l in absurd (omega arith)
 
 partner_product : (p a x : ℕ) → IsPrime p → 0 < x → x < p → (x * partner p a x) % p ≡ a % p
 partner_product p a x u q l =
-    let w : ℕ = x ^ (p - 2) in
-    let s : suc (p - 2) ≡ p - 1 = omega arith in
-    let e : x * (a * w) ≡ a * (w * x) = omega arith in
-    let f : w * x ≡ x ^ (p - 1) = sym (pow-suc x (p - 2)) ∙ ap (λ k. x ^ k) s in
-    mul-mod_second x (a * w) p ∙ ap (λ v. v % p) e ∙ ap (λ v. (a * v) % p) f
-    ∙ sym (mul-mod_second a (x ^ (p - 1)) p) ∙ ap (λ v. (a * v) % p) (fermat x p u (below_not_divided p x q l))
-    ∙ ap (λ v. v % p) (mul-one a)
+    let f : (x ^ (p - 2)) * x ≡ x ^ (p - 1) = sym (pow-suc _ _) ∙ ap (λ k. x ^ k) (omega arith) in
+    mul-mod_second _ _ _ ∙ ap (λ v. v % p) (omega arith) ∙ ap (λ v. (a * v) % p) f
+    ∙ sym (mul-mod_second _ (x ^ (p - 1)) _) ∙ ap (λ v. (a * v) % p) (fermat _ _ u (below_not_divided _ _ q l))
+    ∙ ap (λ v. v % p) (mul-one _)
 
 partner_below : (p a x : ℕ) → IsPrime p → partner p a x < p
 partner_below p a x u = let two : 1 < p = u.above_one in mod_below (a * x ^ (p - 2)) p (omega arith)
@@ -48,25 +45,24 @@ partner_below p a x u = let two : 1 < p = u.above_one in mod_below (a * x ^ (p -
 partner_positive : (p a x : ℕ) → IsPrime p → a % p ≢ 0 → 0 < x → x < p → 0 < partner p a x
 partner_positive p a x u z q l =
     let never : partner p a x ≢ 0 =
-    λ e. z (sym (partner_product p a x u q l) ∙ ap (λ v. (x * v) % p) e ∙ ap (λ v. v % p) (mul-zero x) ∙ zero-mod p) in
+    λ e. z (sym (partner_product _ _ _ u q l) ∙ ap (λ v. (x * v) % p) e ∙ ap (λ v. v % p) (mul-zero _) ∙ zero-mod _) in
     omega arith
 
 partner_of_partner : (p a x : ℕ) → IsPrime p → a % p ≢ 0 → 0 < x → x < p → partner p a (partner p a x) ≡ x
 partner_of_partner p a x u z q l =
-    let y : ℕ = partner p a x in
-    let b : 0 < y = partner_positive p a x u z q l in
-    let m : y < p = partner_below p a x u in
-    cancel_below p y (partner p a y) x (below_coprime p y u b m) (partner_below p a y u) l
-    (partner_product p a y u b m ∙ sym (partner_product p a x u q l) ∙ ap (λ v. v % p) (mul_comm x y))
+    cancel_below _ _ (partner p a (partner p a x)) _
+    (below_coprime _ _ u (partner_positive _ _ _ u z q l) (partner_below _ _ _ u)) (partner_below _ _ _ u) l
+    (partner_product _ _ _ u (partner_positive _ _ _ u z q l) (partner_below _ _ _ u) ∙ sym (partner_product _ _ _ u q l)
+    ∙ ap (λ v. v % p) (mul_comm _ _))
 
 partners_permute : (p a : ℕ) → IsPrime p → a % p ≢ 0 → Permutes (λ x. partner p a x) (p - 1)
-partners_permute p a u z = record {
-  positive = λ x q l. partner_positive p a x u z q (omega arith);
-  within = λ x q l. let two : 1 < p = u.above_one in omega arith;
-  apart = λ x y q l r m e.
-      sym (partner_of_partner p a x u z q (omega arith)) ∙ ap (λ v. partner p a v) e
-      ∙ partner_of_partner p a y u z r (omega arith);
-}
+partners_permute p a u z =
+    record {
+      positive = λ x q l. partner_positive _ _ x u z q (omega arith);
+      within = λ x q l. let two : 1 < p = u.above_one in omega arith;
+      apart = λ x y q l r m e. sym (partner_of_partner _ _ x u z q (omega arith)) ∙ ap (λ v. partner p a v) e
+          ∙ partner_of_partner _ _ y u z r (omega arith);
+    }
 
 -- ---- a product over a range that a permutation pairs
 abbrev lower : (ℕ → ℕ) → ℕ → ℕ
@@ -84,19 +80,18 @@ pair s x = cond (ltb x (s x)) (x * s x) 1
 one_of_three : (x y : ℕ) → x ≡ cond (ltb x y) x 1 * cond (ltb y x) x 1 * cond (eqb x y) x 1
 one_of_three x y = grind (arith, nat_tests)
 
-paired : (x y z : ℕ) → z ≡ x → cond (ltb x y) x 1 * cond (ltb z y) y 1 ≡ cond (ltb x y) (x * y) 1
-paired x y z e = grind (arith, nat_tests)
+factors_of_pair : (x y z : ℕ) → z ≡ x → cond (ltb x y) x 1 * cond (ltb z y) y 1 ≡ cond (ltb x y) (x * y) 1
+factors_of_pair x y z e = grind (arith, nat_tests)
 
 product_in_pairs : (s : ℕ → ℕ) (h : ℕ) → Permutes s h → ((x : ℕ) → 0 < x → x ≤ h → s (s x) ≡ x)
     → product_to (λ x. x) h ≡ product_to (pair s) h * product_to (fixed s) h
 product_in_pairs s h m twice =
     product_to-same (λ x. x) (λ x. lower s x * higher s x * fixed s x) h (λ x p q. one_of_three x (s x))
-    ∙ product_to-times (λ x. lower s x * higher s x) (fixed s) h
-    ∙ ap (λ v. v * product_to (fixed s) h)
+    ∙ product_to-times (λ x. lower s x * higher s x) (fixed s) h ∙ ap (λ v. v * product_to (fixed s) h)
     (product_to-times (lower s) (higher s) h
     ∙ ap (λ v. product_to (lower s) h * v) (sym (product_to-permuted s (higher s) h m))
     ∙ sym (product_to-times (lower s) (λ x. higher s (s x)) h)
-    ∙ product_to-same (λ x. lower s x * higher s (s x)) (pair s) h (λ x p q. paired x (s x) (s (s x)) (twice x p q)))
+    ∙ product_to-same (λ x. lower s x * higher s (s x)) (pair s) h (λ x p q. factors_of_pair x (s x) (s (s x)) (twice x p q)))
 
 -- congruent factors, congruent products
 product_to-congruent : (n : ℕ) (f g : ℕ → ℕ) (h : ℕ) → ((x : ℕ) → 0 < x → x ≤ h → f x % n ≡ g x % n)
@@ -119,11 +114,11 @@ half_lead : (s : ℕ → ℕ) (h : ℕ) → Permutes s h → ((x : ℕ) → 0 < 
     → ((x : ℕ) → 0 < x → x ≤ h → x ≢ s x) → sum_to (leads s) h + sum_to (leads s) h ≡ h
 half_lead s h m twice apart =
     let same : sum_to (leads s) h ≡ sum_to (trails s) h =
-    sum_to-same (leads s) (λ x. trails s (s x)) h (λ x p q. ap (λ v. cond (ltb v (s x)) 1 0) (sym (twice x p q)))
-    ∙ sum_to-permuted s (trails s) h m in
-    ap (λ v. sum_to (leads s) h + v) same ∙ sym (sum_to-add (leads s) (trails s) h)
-    ∙ sum_to-same (λ x. leads s x + trails s x) (λ x. 1) h (λ x p q. leads_or_trails x (s x) (apart x p q))
-    ∙ sum_to-ones h
+    sum_to-same (leads s) (λ x. trails s (s x)) _ (λ x p q. ap (λ v. cond (ltb v (s x)) 1 0) (sym (twice x p q)))
+    ∙ sum_to-permuted _ (trails s) _ m in
+    ap (λ v. sum_to (leads s) h + v) same ∙ sym (sum_to-add (leads s) (trails s) _)
+    ∙ sum_to-same (λ x. leads s x + trails s x) (λ x. 1) _ (λ x p q. leads_or_trails _ (s x) (apart x p q))
+    ∙ sum_to-ones _
 
 pair_power : (n a x y : ℕ) → (x * y) % n ≡ a % n → cond (ltb x y) (x * y) 1 % n ≡ a ^ cond (ltb x y) 1 0 % n
 pair_power n a x y e = search (arith, pow-one, pow-zero, nat_tests)
@@ -137,9 +132,8 @@ product_of_pairs : (p a : ℕ) → p % 2 ≡ 1 → IsPrime p → a % p ≢ 0
 product_of_pairs p a o u z apart =
     let s : ℕ → ℕ = λ x. partner p a x in
     let h : ℕ = p - 1 in
-    let m = partners_permute p a u z in
-    let twice : (x : ℕ) → 0 < x → x ≤ h → s (s x) ≡ x = λ x q l. partner_of_partner p a x u z q (omega arith) in
-    let count : sum_to (leads s) h ≡ (p - 1) / 2 = omega (arith, half_lead) in
+    let m = partners_permute _ _ u z in
+    let twice : (x : ℕ) → 0 < x → x ≤ h → s (s x) ≡ x = λ x q l. partner_of_partner _ _ _ u z q (omega arith) in
     ap (λ v. v % p)
     (product_in_pairs s h m twice
     ∙ ap (λ v. product_to (pair s) h * v)
@@ -147,7 +141,7 @@ product_of_pairs p a o u z apart =
     ∙ mul-one (product_to (pair s) h))
     ∙ product_to-congruent p (pair s) (λ x. a ^ leads s x) h
     (λ x q l. pair_power p a x (s x) (partner_product p a x u q (omega arith)))
-    ∙ ap (λ v. v % p) (product_to-power a (leads s) h ∙ ap (λ k. a ^ k) count)
+    ∙ ap (λ v. v % p) (product_to-power a (leads s) h ∙ ap (λ k. a ^ k) (omega (arith, half_lead)))
 
 -- ---- Wilson's theorem: the pairs of product 1, where 1 and p - 1 alone are paired with themselves
 square_less_one : (y : ℕ) → suc y * suc y ≡ y * (y + 2) + 1
@@ -159,13 +153,11 @@ root_of_one p (suc y) u q l e z =
     ⊎_elim
     (λ (n : y ≡ 0). omega arith)
     (λ (n : y ≡ 0 → ⊥).
-    let two : 1 < p = u.above_one in
-    let one : 1 % p ≡ 1 = mod-eq_of_lt two in
-    let positive : 0 < p = omega arith in
     let gone : (y * (y + 2)) % p ≡ 0 % p =
-    same_without p (y * (y + 2)) 0 1 positive (sym (ap (λ v. v % p) (square_less_one y)) ∙ e ∙ sym one) in
+    same_without _ (y * (y + 2)) _ _ (omega arith) (sym (ap (λ v. v % p) (square_less_one y)) ∙ e
+    ∙ sym (mod-eq_of_lt u.above_one)) in
     search (arith, coprime_cancel, below_coprime, zero-mod, below_not_divided))
-    (cases_eq y 0)
+    (cases_eq y _)
 
 pair_one : (n x y : ℕ) → (x * y) % n ≡ 1 % n → cond (ltb x y) (x * y) 1 % n ≡ 1 % n
 pair_one n x y e = grind (arith, nat_tests)
@@ -178,35 +170,30 @@ fixed_at x y e = grind (arith, nat_tests)
 
 last_is_fixed : (p : ℕ) → IsPrime p → p - 1 ≡ partner p 1 (p - 1)
 last_is_fixed p u =
-    let q : 0 < p - 1 = omega arith in
     let l : p - 1 < p = omega arith in
-    let s : p ≡ (p - 2) + 2 = omega arith in
-    cancel_below p (p - 1) (p - 1) (partner p 1 (p - 1)) (below_coprime p (p - 1) u q l) l (partner_below p 1 (p - 1) u)
-    (ap (λ v. v % p) (square_of_last p (p - 2) s) ∙ add-mul-mod_self_left 1 p (p - 2)
-    ∙ sym (partner_product p 1 (p - 1) u q l))
+    cancel_below p (p - 1) (p - 1) (partner p 1 (p - 1)) (below_coprime p (p - 1) u (omega arith) l) l
+    (partner_below p 1 (p - 1) u)
+    (ap (λ v. v % p) (square_of_last p (p - 2) (omega arith)) ∙ add-mul-mod_self_left 1 p (p - 2)
+    ∙ sym (partner_product p 1 (p - 1) u (omega arith) l))
 
 pub wilson : (p : ℕ) → IsPrime p → product_to (λ x. x) (p - 1) % p ≡ p - 1
 wilson p u =
-    let two : 1 < p = u.above_one in
-    let one : 1 % p ≡ 1 = mod-eq_of_lt two in
-    let z : 1 % p ≢ 0 = λ e. omega arith in
+    let one : 1 % p ≡ 1 = mod-eq_of_lt u.above_one in
     let s : ℕ → ℕ = λ x. partner p 1 x in
     let h : ℕ = p - 1 in
-    let m = partners_permute p 1 u z in
-    let twice : (x : ℕ) → 0 < x → x ≤ h → s (s x) ≡ x = λ x q l. partner_of_partner p 1 x u z q (omega arith) in
+    let twice : (x : ℕ) → 0 < x → x ≤ h → s (s x) ≡ x = grind (arith, partner_of_partner) in
     let last : product_to (fixed s) h ≡ p - 1 =
-    product_to-only (fixed s) h h (omega arith) (omega arith)
+    product_to-only (fixed s) _ _ (omega arith) (omega arith)
     (λ x q l n. fixed_cases x (s x) (λ e.
-    root_of_one p x u q (omega arith)
-    (ap (λ v. (x * v) % p) e ∙ partner_product p 1 x u q (omega arith) ∙ one) n))
-    ∙ fixed_at h (s h) (last_is_fixed p u) in
+    root_of_one _ x u q (omega arith)
+    (ap (λ v. (x * v) % p) e ∙ partner_product _ _ x u q (omega arith) ∙ one) n))
+    ∙ fixed_at _ (s h) (last_is_fixed _ u) in
     let pairs : product_to (pair s) h % p ≡ 1 % p =
-    product_to-congruent p (pair s) (λ x. 1) h (λ x q l. pair_one p x (s x) (partner_product p 1 x u q (omega arith)))
-    ∙ ap (λ v. v % p) (product_to-ones h) in
-    let l : p - 1 < p = omega arith in
-    ap (λ v. v % p) (product_in_pairs s h m twice)
-    ∙ same_product p (product_to (pair s) h) 1 (product_to (fixed s) h) (p - 1) pairs (ap (λ v. v % p) last)
-    ∙ ap (λ v. v % p) (one-mul (p - 1)) ∙ mod-eq_of_lt l
+    product_to-congruent _ (pair s) (λ x. 1) _ (λ x q l. pair_one _ x (s x) (partner_product _ _ x u q (omega arith)))
+    ∙ ap (λ v. v % p) (product_to-ones _) in
+    ap (λ v. v % p) (product_in_pairs _ _ (partners_permute p 1 u (λ e. omega arith)) twice)
+    ∙ same_product _ (product_to (pair s) _) _ (product_to (fixed s) _) _ pairs (ap (λ v. v % p) last)
+    ∙ ap (λ v. v % p) (one-mul _) ∙ mod-eq_of_lt (omega arith)
 
 -- ---- a root of r below k, or none
 abbrev IsRoot : ℕ → ℕ → ℕ → ℕ → Type 0
@@ -221,7 +208,7 @@ root_or_none p r (suc k) =
     ⊎_elim
     (λ (e : (suc k * suc k) % p ≡ r). inl (suc k, (omega arith, (omega arith, e))))
     (λ (z : (suc k * suc k) % p ≡ r → ⊥). search (arith, last_or_before))
-    (cases_eq ((suc k * suc k) % p) r))
+    (cases_eq ((suc k * suc k) % p) _))
     (root_or_none p r k)
 
 -- ---- the theorem
@@ -237,25 +224,23 @@ half_power_is_one a p o u e =
 
 not_zero_power : (p r : ℕ) → 1 < p → p % 2 ≡ 1 → r ^ ((p - 1) / 2) % p ≡ 1 → r ≢ 0
 not_zero_power p r l o e z =
-    let h : ℕ = (p - 1) / 2 in
-    let k : suc (h - 1) ≡ h = omega arith in
+    let k : suc (((p - 1) / 2) - 1) ≡ ((p - 1) / 2) = omega arith in
     search (arith, pow-suc, mul-zero, zero-mod)
 
 -- a number of symbol 1 has a root
 pub root_from_symbol : (a : ℤ) (p : ℕ) → p % 2 ≡ 1 → IsPrime p → jacobi a p ≡ pos 1
     → (x : ℕ) × ((x % p ≢ 0) × ((x * x) % p ≡ residue p a))
 root_from_symbol a p o u e =
-    let two : 1 < p = u.above_one in
     let r : ℕ = residue p a in
-    let below : r < p = residue_below p a (omega arith) in
-    let same : r % p ≡ r = mod-eq_of_lt below in
     let half = half_power_is_one a p o u e in
-    let z : r % p ≢ 0 = λ n. not_zero_power p r two o half (sym same ∙ n) in
+    let z : r % p ≢ 0 = λ n. not_zero_power p r u.above_one o half (sym (mod-eq_of_lt (residue_below p a (omega arith)))
+    ∙ n) in
     ⊎_elim
     (λ (f : (x : ℕ) × IsRoot p r (p - 1) x). search (arith, below_not_divided))
     (λ (n : (x : ℕ) → 0 < x → x ≤ p - 1 → (x * x) % p ≢ r).
     let c = product_of_pairs p r o u z (λ x q l f.
-    n x q l (ap (λ v. (x * v) % p) f ∙ partner_product p r x u q (omega arith) ∙ same)) in
+    n x q l (ap (λ v. (x * v) % p) f ∙ partner_product p r x u q (omega arith)
+    ∙ (mod-eq_of_lt (residue_below p a (omega arith))))) in
     search (arith, wilson))
     (root_or_none p r (p - 1))
 
@@ -267,7 +252,6 @@ pub symbol_of_root : (a : ℤ) (p x : ℕ) → p % 2 ≡ 1 → IsPrime p → x %
     → (x * x) % p ≡ residue p a → jacobi a p ≡ pos 1
 symbol_of_root a p x o u z e =
     let q : 0 < p = omega arith in
-    let j = jacobi-coprime (pos x) p q (prime_to x p u z) in
-    jacobi-residue a p q ∙ ap (λ v. jacobi (pos v) p) (sym e) ∙ sym (jacobi-residue (pos (x * x)) p q)
-    ∙ jacobi-product (pos x) (pos x) p o
-    ∙ ap (λ v. v *ℤ v) j ∙ one_square (sign (half_system_count (pos x) p)) (sign-values (half_system_count (pos x) p))
+    jacobi-residue _ _ q ∙ ap (λ v. jacobi (pos v) p) (sym e) ∙ sym (jacobi-residue (pos (x * x)) _ q)
+    ∙ jacobi-product (pos x) (pos x) _ o ∙ ap (λ v. v *ℤ v) (jacobi-coprime (pos x) _ q (prime_to _ _ u z))
+    ∙ one_square (sign (half_system_count (pos x) p)) (sign-values (half_system_count (pos x) p))

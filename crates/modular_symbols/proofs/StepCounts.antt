@@ -7,7 +7,7 @@ use Rattle.std.proofs.Math.Nat.{mul-le-mul_left, pow-suc, mul-one}
 use Rattle.modular_prim.proofs.FewSteps.{zero_or_positive, rest_twice, few_steps}
 use Rattle.modular_symbols.specs.Steps.{steps_within, jacobi_steps}
 use Rattle.modular_symbols.proofs.TwoPart.{Halved}
-use Rattle.modular_symbols.proofs.JacobiLaws.{parities}
+use Rattle.modular_symbols.proofs.JacobiLaws.{even_or_odd}
 
 within_none : (k a n : ℕ) → a ≡ 0 → steps_within k a n ≡ 0
 unfolding steps_within
@@ -28,13 +28,13 @@ within_enough zero l a n p q = within_none zero a n (omega arith) ∙ sym (withi
 within_enough (suc k) zero a n p q = within_none (suc k) a n (omega arith) ∙ sym (within_none zero a n (omega arith))
 within_enough (suc k) (suc l) a n p q =
     ⊎_elim
-    (λ (e : a ≡ 0). within_none (suc k) a n e ∙ sym (within_none (suc l) a n e))
+    (λ (e : a ≡ 0). within_none (suc k) _ _ e ∙ sym (within_none (suc l) _ _ e))
     (λ (z : 0 < a).
     ⊎_elim
     (λ (e : a % 2 ≡ 0). search (arith, within_halved, within_enough k l (a / 2) n (omega arith) (omega arith)))
     (λ (o : a % 2 ≡ 1). search (arith, mod_below, within_swapped, within_enough k l (n % a) a (omega arith) (omega arith)))
-    (parities a))
-    (zero_or_positive a)
+    (even_or_odd _))
+    (zero_or_positive _)
 
 -- ---- the equations of the count
 pub jacobi_steps-none : (a n : ℕ) → a ≡ 0 → jacobi_steps a n ≡ 0
@@ -44,14 +44,14 @@ jacobi_steps-none a n e = within_none a a n e
 jacobi_steps-halved : (a n : ℕ) → 0 < a → a % 2 ≡ 0 → jacobi_steps a n ≡ suc (jacobi_steps (a / 2) n)
 unfolding jacobi_steps
 jacobi_steps-halved a n p e =
-    within_enough a (suc a) a n (omega arith) (omega arith) ∙ within_halved a a n p e
-    ∙ ap suc (within_enough a (a / 2) (a / 2) n (omega arith) (omega arith))
+    within_enough _ (suc a) _ _ (omega arith) (omega arith) ∙ within_halved _ _ _ p e
+    ∙ ap suc (within_enough _ _ _ _ (omega arith) (omega arith))
 
 jacobi_steps-swapped : (a n : ℕ) → a % 2 ≡ 1 → jacobi_steps a n ≡ suc (jacobi_steps (n % a) a)
 unfolding jacobi_steps
 jacobi_steps-swapped a n o =
-    within_enough a (suc a) a n (omega arith) (omega arith) ∙ within_swapped a a n o
-    ∙ ap suc (within_enough a (n % a) (n % a) a (omega arith) (omega arith))
+    within_enough _ (suc a) _ _ (omega arith) (omega arith) ∙ within_swapped _ _ _ o
+    ∙ ap suc (within_enough _ _ _ _ (omega arith) (omega arith))
 
 -- z twos are halved away, then the odd part o changes its place
 pub jacobi_steps-turn : (o z n : ℕ) → o % 2 ≡ 1 → jacobi_steps (o * 2 ^ z) n ≡ z + 1 + jacobi_steps (n % o) o
@@ -84,7 +84,7 @@ power_within (suc k) a n p l b =
     let t = mul-le-mul_left a u in
     omega arith)
     (zero_or_positive (n % a)))
-    (parities a)
+    (even_or_odd a)
 
 -- two to the number of steps is at most twice the product
 pub jacobi_steps-power : (a n : ℕ) → 0 < a → a < n → 2 ^ jacobi_steps a n ≤ 2 * (a * n)

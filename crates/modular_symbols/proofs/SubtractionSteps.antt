@@ -34,12 +34,10 @@ pub halved_above : (w b v a n d s o : ℕ) → Wraps w b v a n → a ≢ n → d
     → s ≡ count_trailing_zeros w v → o ≡ d / 2 ^ s
     → Halved d s o
 halved_above w b v a n d s o r z e f g =
-    let l = r.a_fits in
-    let small : d < b = omega arith in
-    let same : v ≡ d = mod_cancel b v d n r.fits small (r.sum ∙ sym (ap (λ k. k % b) e ∙ mod-eq_of_lt l)) in
-    let fits : d < 2 ^ w = omega (arith, r.base_is) in
+    let same : v ≡ d = mod_cancel _ _ _ _ r.fits (omega arith) (r.sum ∙ sym (ap (λ k. k % b) e ∙ mod-eq_of_lt r.a_fits)) in
     halved_split d s o
-    (subst (λ k. SplitAt d k) (sym (f ∙ ap (λ k. count_trailing_zeros w k) same)) (split_at w d (omega arith) fits)) g
+    (subst (λ k. SplitAt d k) (sym (f
+    ∙ ap (λ k. count_trailing_zeros w k) same)) (split_at w d (omega arith) (omega (arith, r.base_is)))) g
 
 -- the second number is the greater one
 pub halved_below : (w b v a n d s o : ℕ) → Wraps w b v a n → a ≢ n → d + a ≡ n
@@ -58,17 +56,16 @@ pub record TurnsBy (s y : ℕ) (p : Bool) : Type 0 where
 -- a number congruent to 2 ^ s times o
 pub jacobi-odd_part : (x d y s o : ℕ) (p : Bool) → TurnsBy s y p → Halved d s o → 0 < y → x % y ≡ d % y
     → jacobi (pos x) y ≡ signed p (jacobi (pos o) y)
-jacobi-odd_part x d y s o p t h l e =
-    jacobi-congruent x d y l e ∙ sym (ap (λ v. jacobi (pos v) y) h.whole) ∙ t.law o
+jacobi-odd_part x d y s o p t h l e = jacobi-congruent x d y l e ∙ sym (ap (λ v. jacobi (pos v) y) h.whole) ∙ t.law o
 
 -- a symbol that is that of the greater one of two odd numbers over the smaller one, y, turned as x says
 jacobi-difference : (z : ℤ) (x q m y d s o : ℕ) → z ≡ signed (is_odd (x / 2)) (jacobi (pos m) y)
     → TurnsBy s y (is_odd q)
     → Halved d s o → y % 2 ≡ 1 → d + y ≡ m → z ≡ signed (is_odd (x / 2 + q)) (jacobi (pos o) y)
 jacobi-difference z x q m y d s o e t h k f =
-    turned_twice z (jacobi (pos m) y) (jacobi (pos o) y) (is_odd (x / 2)) (is_odd q) e
-    (jacobi-odd_part m d y s o (is_odd q) t h (omega arith) (ap (λ v. v % y) (sym f) ∙ add-mod_right d y))
-    ∙ sym (ap (λ v. signed v (jacobi (pos o) y)) (odd-sum (x / 2) q))
+    turned_twice _ (jacobi (pos m) y) (jacobi (pos o) y) (is_odd _) (is_odd _) e
+    (jacobi-odd_part _ _ _ _ _ (is_odd _) t h (omega arith) (ap (λ v. v % y) (sym f) ∙ add-mod_right _ _))
+    ∙ sym (ap (λ v. signed v (jacobi (pos o) y)) (odd-sum _ _))
 
 -- the symbol of the greater one over the smaller one
 pub jacobi-above : (l : Bool) (x q a n y d s o : ℕ) → l ≡ false → y ≡ n
@@ -76,8 +73,7 @@ pub jacobi-above : (l : Bool) (x q a n y d s o : ℕ) → l ≡ false → y ≡ 
     → TurnsBy s y (is_odd q) → Halved d s o → n % 2 ≡ 1 → d + n ≡ a
     → jacobi (pos a) n ≡ signed (is_odd (x / 2 + q)) (jacobi (pos o) y)
 jacobi-above l x q a n y d s o e b r t h k f =
-    jacobi-difference (jacobi (pos a) n) x q a y d s o
-    (search arith)
+    jacobi-difference (jacobi (pos a) n) _ _ _ _ _ _ _ (search arith)
     t h (ap (λ v. v % 2) b ∙ k) (ap (λ v. d + v) b ∙ f)
 
 -- the symbol of the smaller one over the greater one, by the other way round
@@ -86,8 +82,7 @@ pub jacobi-below : (l : Bool) (x q a n y d s o : ℕ) → l ≡ true → y ≡ a
     → TurnsBy s y (is_odd q) → Halved d s o → a % 2 ≡ 1 → d + a ≡ n
     → jacobi (pos a) n ≡ signed (is_odd (x / 2 + q)) (jacobi (pos o) y)
 jacobi-below l x q a n y d s o e b r t h k f =
-    jacobi-difference (jacobi (pos a) n) x q n y d s o
-    (search arith)
+    jacobi-difference (jacobi (pos a) n) _ _ _ _ _ _ _ (search arith)
     t h (ap (λ v. v % 2) b ∙ k) (ap (λ v. d + v) b ∙ f)
 
 -- the same with the turns before: t of them, u by this difference, and k together
@@ -102,5 +97,5 @@ kept_equal w x y t k e = search (arith, jacobi-congruent, zero-mod, mod_self)
 pub kept_equal_last : (w s : ℤ) (x y t b : ℕ) → Keeps w x y (is_odd t) → x ≡ y → b % 2 ≡ t % 2
     → (y ≡ 1 → s ≡ signed (is_odd b) (pos 1)) → (y ≢ 1 → s ≡ pos 0) → s ≡ w
 kept_equal_last w s x y t b k e f one more =
-    kept_last w s 0 y (is_odd t) (kept_equal w x y (is_odd t) k e) refl
+    kept_last _ _ _ _ (is_odd _) (kept_equal _ _ _ (is_odd _) k e) refl
     (λ h. one h ∙ ap (λ v. signed (eqb v 1) (pos 1)) f) more

@@ -1,5 +1,5 @@
 -- What turns a symbol, and what a loop keeps of it: the symbol, up to a sign.
-use Rattle.std.proofs.Common.{◌≡◌, ◌≢◌, ℕ, zero, suc, ◌+◌, ◌*◌, ◌%◌, ◌^◌, ◌<◌, Bool, true, false, cond}
+use Rattle.std.proofs.Common.{◌≡◌, ◌≢◌, ℕ, zero, suc, ◌+◌, ◌*◌, ◌%◌, ◌^◌, Bool, true, false, cond}
 use Rattle.std.proofs.Common.{eqb, ◌&&◌, ℤ, pos, ◌*ℤ◌, sym, ◌∙◌, ap, refl, arith, ⊎_elim, ◌⊎◌}
 use Rattle.std.proofs.lemmas.Bool.Decides.{nat_tests}
 use Rattle.std.proofs.lemmas.Bool.{cases_eq, eq-eqb, ne_eqb}
@@ -10,7 +10,7 @@ use Rattle.modular_word.specs.Divisors.{Coprime}
 use Rattle.modular_symbols.specs.Jacobi.{jacobi, sign}
 use Rattle.modular_symbols.specs.Kronecker.{signed}
 use Rattle.modular_symbols.proofs.JacobiLaws.{jacobi-coprime, jacobi-shared, coprime_or_not, sign-even, sign-odd}
-use Rattle.modular_symbols.proofs.JacobiLaws.{parities, pairs-parity, one_times, minus_one_times, jacobi-product}
+use Rattle.modular_symbols.proofs.JacobiLaws.{even_or_odd, pairs-parity, one_times, minus_one_times, jacobi-product}
 use Rattle.modular_symbols.proofs.JacobiLaws.{jacobi-two_kept, jacobi-two_turned, jacobi-zero_one, jacobi-zero}
 use Rattle.modular_symbols.proofs.KroneckerSteps.{leaves_3_or_5}
 use Rattle.modular_symbols.proofs.Lattice.{counts_reciprocal}
@@ -32,17 +32,16 @@ signed-zero true = refl
 signed-zero false = refl
 
 -- ---- a power of two above
-eighth : (n : ℕ) → n % 2 ≡ 1 → ((n % 8 ≡ 3) ⊎ (n % 8 ≡ 5)) ⊎ ((n % 8 ≡ 1) ⊎ (n % 8 ≡ 7))
-eighth n o = search (arith, cases_eq)
+odd_modulo_8 : (n : ℕ) → n % 2 ≡ 1 → ((n % 8 ≡ 3) ⊎ (n % 8 ≡ 5)) ⊎ ((n % 8 ≡ 1) ⊎ (n % 8 ≡ 7))
+odd_modulo_8 n o = search (arith, cases_eq)
 
 jacobi-twice : (k n : ℕ) → n % 2 ≡ 1 → jacobi (pos (2 * k)) n ≡ signed (leaves_3_or_5 n) (jacobi (pos k) n)
 jacobi-twice k n o =
-    let j : ℤ = jacobi (pos k) n in
-    let product : jacobi (pos (2 * k)) n ≡ jacobi (pos 2) n *ℤ j = jacobi-product (pos 2) (pos k) n o in
-    search (arith, nat_tests, jacobi-two_turned, minus_one_times, jacobi-two_kept, one_times, eighth)
+    let product : jacobi (pos (2 * k)) n ≡ jacobi (pos 2) n *ℤ (jacobi (pos k) n) = jacobi-product (pos 2) (pos k) _ o in
+    search (arith, nat_tests, jacobi-two_turned, minus_one_times, jacobi-two_kept, one_times, odd_modulo_8)
 
 one_more_two : (s : ℕ) (t : Bool) (z : ℤ) → signed t (signed (eqb (s % 2) 1 && t) z) ≡ signed (eqb (suc s % 2) 1 && t) z
-one_more_two s t z = search (arith, ne_eqb, eq-eqb, signed-twice, parities)
+one_more_two s t z = search (arith, ne_eqb, eq-eqb, signed-twice, even_or_odd)
 
 -- a factor 2 ^ s negates the symbol where s is odd and n is 3 or 5 modulo 8
 jacobi-twos : (a s n : ℕ) → n % 2 ≡ 1
@@ -60,8 +59,8 @@ jacobi-twos_by b a s n o e = jacobi-twos a s n o ∙ sym (ap (λ v. signed v (ja
 
 -- ---- two odd numbers that change places
 sign-turned : (i j : ℕ) (t : Bool) → (i + j) % 2 ≡ cond t 1 0 → sign i ≡ signed t (sign j)
-sign-turned i j true e = search (arith, sign-odd, sign-even, parities)
-sign-turned i j false e = search (arith, sign-even, sign-odd, parities)
+sign-turned i j true e = search (arith, sign-odd, sign-even, even_or_odd)
+sign-turned i j false e = search (arith, sign-even, sign-odd, even_or_odd)
 
 -- both m and n are 3 modulo 4
 abbrev pub both_leave_3 : ℕ → ℕ → Bool
@@ -70,11 +69,9 @@ both_leave_3 m n = eqb (m % 4) 3 && eqb (n % 4) 3
 -- the symbol is negated where both are 3 modulo 4
 jacobi-swapped : (m n : ℕ) → m % 2 ≡ 1 → n % 2 ≡ 1 → jacobi (pos m) n ≡ signed (both_leave_3 m n) (jacobi (pos n) m)
 jacobi-swapped m n k o =
-    let p : 0 < n = omega arith in
     ⊎_elim
     (λ (c : Coprime m n). search (arith, jacobi-coprime, sign-turned, counts_reciprocal, pairs-parity))
-    (λ (z : Coprime m n → ⊥). search (arith, jacobi-shared, signed-zero))
-    (coprime_or_not m n p)
+    (λ (z : Coprime m n → ⊥). search (arith, jacobi-shared, signed-zero)) (coprime_or_not _ _ (omega arith))
 
 -- the same by a test of one's own
 pub jacobi-swapped_by : (b : Bool) (m n : ℕ) → m % 2 ≡ 1 → n % 2 ≡ 1 → b ≡ both_leave_3 m n

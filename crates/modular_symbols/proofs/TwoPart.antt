@@ -41,11 +41,10 @@ twos_up_to-none n = refl
 no_more : (n s k : ℕ) → s < k → SplitAt n s → n % 2 ^ k ≢ 0
 no_more n s k l split e =
     let p : 2 ^ k ≡ 2 ^ suc s * 2 ^ (k - suc s) =
-    ap (λ v. 2 ^ v) (let f : k ≡ suc s + (k - suc s) = omega arith in f) ∙ pow-add 2 (suc s) (k - suc s) in
+    ap (λ v. 2 ^ v) (let f : k ≡ suc s + (k - suc s) = omega arith in f) ∙ pow-add _ (suc s) (k - suc s) in
     let d : n % 2 ^ suc s ≡ 0 = search (arith, divides_through, divides) in
     let q : ℕ = n / 2 ^ suc s in
-    let t : 2 ^ suc s ≡ 2 ^ s * 2 = pow-suc 2 s in
-    let u : 2 ^ suc s * q ≡ 2 ^ s * 2 * q = ap (λ v. v * q) t in
+    let u : 2 ^ suc s * q ≡ 2 ^ s * 2 * q = ap (λ v. v * q) (pow-suc _ _) in
     let w : 2 ^ s * (n / 2 ^ s) ≡ 2 ^ s * (2 * q) = omega (arith, split.whole) in
     search (arith, factor_cancel, pow_pos)
 
@@ -53,15 +52,13 @@ twos_from : (n s k : ℕ) → s ≤ k → SplitAt n s → twos_up_to n k ≡ s
 twos_from n s zero l split = let z = twos_up_to-none n in omega arith
 twos_from n s (suc k) l split =
     ⊎_elim
-    (λ (b : s ≤ k). twos_up_to-miss n k (no_more n s (suc k) (omega arith) split) ∙ twos_from n s k b split)
-    (λ (e : s ≡ suc k). search (arith, divides, twos_up_to-hit))
-    (last_or_before s k l)
+    (λ (b : s ≤ k). twos_up_to-miss _ _ (no_more _ _ (suc k) (omega arith) split) ∙ twos_from n s k b split)
+    (λ (e : s ≡ suc k). search (arith, divides, twos_up_to-hit)) (last_or_before _ _ l)
 
 -- it is the exponent of 2
 pub twos-is : (n s : ℕ) → SplitAt n s → twos n ≡ s
 twos-is n s split =
-    let one : 1 * 2 ^ s ≤ n / 2 ^ s * 2 ^ s =
-    mul-le-mul_right (2 ^ s) (let b : 1 ≤ n / 2 ^ s = omega arith in b) in
+    let one : 1 * 2 ^ s ≤ n / 2 ^ s * 2 ^ s = mul-le-mul_right _ (let b : 1 ≤ n / 2 ^ s = omega arith in b) in
     search (arith, exponent-below, twos_from)
 
 -- ---- the trailing zeros of a word
@@ -80,26 +77,24 @@ split_at (suc w) n h k =
 -- a number of w bits that isn't 0 has fewer trailing zeros
 pub fewer_zeros : (w v : ℕ) → 0 < v → v < 2 ^ w → count_trailing_zeros w v < w
 fewer_zeros w v p l =
-    let s : ℕ = count_trailing_zeros w v in
-    let split : SplitAt v s = split_at w v p l in
+    let split : SplitAt v (count_trailing_zeros w v) = split_at _ _ p l in
     search (arith, trailing_le, mul-le-mul_right)
 
 -- the trailing zeros of the number that a power of two lacks d
 pub split_opposite : (w v d : ℕ) → 0 < v → 0 < d → v + d ≡ 2 ^ w → SplitAt d (count_trailing_zeros w v)
 split_opposite w v d p q e =
     let s : ℕ = count_trailing_zeros w v in
-    let split : SplitAt v s = split_at w v p (omega arith) in
-    let most : s ≤ w = trailing_le w v in
+    let split : SplitAt v s = split_at _ _ p (omega arith) in
+    let most : s ≤ w = trailing_le _ _ in
     let u : ℕ = v / 2 ^ s in
-    let one : 1 * 2 ^ s ≤ u * 2 ^ s = mul-le-mul_right (2 ^ s) (let b : 1 ≤ u = omega arith in b) in
+    let one : 1 * 2 ^ s ≤ u * 2 ^ s = mul-le-mul_right _ (let b : 1 ≤ u = omega arith in b) in
     let below : s ≢ w = λ f. let g = ap (λ k. 2 ^ k) f in omega arith in
     let m : ℕ = 2 ^ (w - suc s) in
     let power : 2 ^ w ≡ 2 ^ s * (2 * m) =
-    ap (λ k. 2 ^ k) (let f : w ≡ suc s + (w - suc s) = omega arith in f) ∙ pow-add 2 (suc s) (w - suc s)
-    ∙ ap (λ k. k * m) (pow-suc 2 s) ∙ omega arith in
-    let first : v % 2 ^ s ≡ 0 = divides (2 ^ s) v u (omega arith) in
-    let both : (v + d) % 2 ^ s ≡ 0 = divides (2 ^ s) (v + d) (2 * m) (e ∙ power) in
-    let rest : d ≡ 2 ^ s * (d / 2 ^ s) = multiple_of (2 ^ s) d (divides_rest (2 ^ s) v d first both) in
+    ap (λ k. 2 ^ k) (let f : w ≡ suc s + (w - suc s) = omega arith in f) ∙ pow-add _ (suc s) (w - suc s)
+    ∙ ap (λ k. k * m) (pow-suc _ _) ∙ omega arith in
+    let rest : d ≡ 2 ^ s * (d / 2 ^ s) = multiple_of _ _
+    (divides_rest _ _ _ (divides (2 ^ s) v u (omega arith)) (divides _ _ _ (e ∙ power))) in
     let sum : u + d / 2 ^ s ≡ 2 * m = factor_cancel (2 ^ s) (u + d / 2 ^ s) (2 * m) (pow_pos s) (omega arith) in
     search arith
 
@@ -114,9 +109,7 @@ pub halved_by : (x s a : ℕ) → a % 2 ≡ 1 → a * 2 ^ s ≡ x → Halved x s
 halved_by x s a o m = search (arith, pow_pos, mul-le-mul_left)
 
 pub halved_split : (x s a : ℕ) → SplitAt x s → a ≡ x / 2 ^ s → Halved x s a
-halved_split x s a split f =
-    halved_by x s a (ap (λ v. v % 2) f ∙ split.odd) (ap (λ v. v * 2 ^ s) f ∙ split.whole)
+halved_split x s a split f = halved_by x s a (ap (λ v. v % 2) f ∙ split.odd) (ap (λ v. v * 2 ^ s) f ∙ split.whole)
 
-pub halved : (w x s a : ℕ) → (x ≡ 0 → ⊥) → x < 2 ^ w → s ≡ count_trailing_zeros w x → a ≡ x / 2 ^ s → Halved x s a
-halved w x s a p l e f =
-    halved_split x s a (subst (λ v. SplitAt x v) (sym e) (split_at w x (omega arith) l)) f
+pub Halved-of_shift : (w x s a : ℕ) → (x ≡ 0 → ⊥) → x < 2 ^ w → s ≡ count_trailing_zeros w x → a ≡ x / 2 ^ s → Halved x s a
+Halved-of_shift w x s a p l e f = halved_split x s a (subst (λ v. SplitAt x v) (sym e) (split_at w x (omega arith) l)) f

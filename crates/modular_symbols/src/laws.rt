@@ -26,6 +26,7 @@ ghost use Rattle.modular_symbols.specs.Primes.{IsPrime, IsOddPrime};
 ///
 /// Source: Hardy and Wright, "An Introduction to the Theory of Numbers", sections 6.5 to 6.13, there
 /// for primes; Ireland and Rosen, "A Classical Introduction to Modern Number Theory", section 5.2.
+#[tactic(auto, using(crate::proofs::ProductSymbols::symbol_laws))]
 pub fn jacobi_laws()
     ensures values { (a : ℤ) (n : ℕ) → (jacobi a n ≡ pos 1) ⊎ ((jacobi a n ≡ negsuc 0) ⊎ (jacobi a n ≡ pos 0)) }
     ensures zero { (a : ℤ) (n : ℕ) → 0 < n → (jacobi a n ≡ pos 0) ↔ (1 < gcd (nat_abs a) n) }
@@ -48,6 +49,7 @@ pub fn jacobi_laws()
 /// residue: a number congruent to the square of one that p doesn't divide.
 ///
 /// Source: Hardy and Wright, "An Introduction to the Theory of Numbers", sections 6.1 to 6.6.
+#[tactic(auto, using(crate::proofs::LegendreClass::class_over_prime, crate::proofs::PrimeLaws::inverse_to, crate::proofs::PrimeLaws::fermat, crate::proofs::PrimeLaws::class_is_some))]
 pub fn prime_laws()
     ensures coprime { (a p : ℕ) → IsPrime p → (a % p ≡ 0 → ⊥) → Coprime a p }
     ensures inverse { (a p : ℕ) → IsPrime p → (a % p ≡ 0 → ⊥) → HasInverse p a }

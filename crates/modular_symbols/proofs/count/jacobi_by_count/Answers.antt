@@ -1,5 +1,5 @@
 -- The count one number on, and the symbol at its end.
-use Rattle.std.proofs.Common.{◌<◌, ◌≤◌, cond, pos, negsuc, sym, ap, ◌∙◌, arith}
+use Rattle.std.proofs.Common.{cond, pos, negsuc, sym, ap, ◌∙◌, arith}
 use Rattle.modular_symbols.specs.Kronecker.{signed}
 use Rattle.modular_symbols.proofs.CountSteps.{counted_next, counted_all}
 use Rattle.modular_symbols.proofs.CountSteps.{shared_divisor, no_inverse, with_inverse}
@@ -7,10 +7,8 @@ use Rattle.modular_symbols.proofs.count.jacobi_by_count.Goals as goal
 
 pub returns-then-is_none : goal.returns-then-is_none
 returns-then-is_none g c =
-    let n = g.T.RingWord.number in
-    let p : 0 < n c.args.n = omega (arith, c.requires) in
-    sym (shared_divisor (signed c.args.a_minus (pos (n c.args.a))) (n c.args.n)
-    (no_inverse n (n c.args.n) (n c.args.a) c.args.a_minus c.invm.result p c.invm.ensures c.if-is_none.ensures))
+    sym (shared_divisor (signed c.args.a_minus (pos (g.T.RingWord.number c.args.a))) _
+    (no_inverse _ _ _ _ _ (omega (arith, c.requires)) c.invm.ensures c.if-is_none.ensures))
 
 pub half_system-preserved : goal.half_system-preserved
 half_system-preserved g c = counted_next record {
@@ -25,24 +23,14 @@ half_system-preserved g c = counted_next record {
 
 pub returns-then-odd : goal.returns-then-odd
 returns-then-odd g c =
-    let n = g.T.RingWord.number in
-    let p : 0 < n c.args.n = omega (arith, c.requires) in
-    let coprime = with_inverse n (n c.args.n)
-    (n c.args.a) c.args.a_minus c.invm.result p c.invm.ensures c.if-is_none.ensures in
-    let reached : n c.half-half.result ≤ n c.half_system.x = grind arith in
-    sym (counted_all (signed c.args.a_minus (pos (n c.args.a))) (n c.args.n) (n c.half_system.x)
-    (n c.half-half.result) c.half_system.odd
-    c.half_system.invariant c.requires c.half-half.ensures.value reached coprime
+    let coprime = with_inverse _ _ _ _ _ (omega (arith, c.requires)) c.invm.ensures c.if-is_none.ensures in
+    sym (counted_all (signed c.args.a_minus (pos (g.T.RingWord.number c.args.a))) _ _
+    _ c.half_system.odd c.half_system.invariant c.requires c.half-half.ensures.value (grind arith) coprime
     ∙ ap (λ v. cond v (negsuc 0) (pos 1)) c.if-odd.true)
 
 pub returns-else-odd : goal.returns-else-odd
 returns-else-odd g c =
-    let n = g.T.RingWord.number in
-    let p : 0 < n c.args.n = omega (arith, c.requires) in
-    let coprime = with_inverse n (n c.args.n)
-    (n c.args.a) c.args.a_minus c.invm.result p c.invm.ensures c.if-is_none.ensures in
-    let reached : n c.half-half.result ≤ n c.half_system.x = grind arith in
-    sym (counted_all (signed c.args.a_minus (pos (n c.args.a))) (n c.args.n) (n c.half_system.x)
-    (n c.half-half.result) c.half_system.odd
-    c.half_system.invariant c.requires c.half-half.ensures.value reached coprime
+    let coprime = with_inverse _ _ _ _ _ (omega (arith, c.requires)) c.invm.ensures c.if-is_none.ensures in
+    sym (counted_all (signed c.args.a_minus (pos (g.T.RingWord.number c.args.a))) _ _
+    _ c.half_system.odd c.half_system.invariant c.requires c.half-half.ensures.value (grind arith) coprime
     ∙ ap (λ v. cond v (negsuc 0) (pos 1)) c.if-odd.false)

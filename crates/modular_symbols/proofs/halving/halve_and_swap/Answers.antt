@@ -1,10 +1,10 @@
 -- Each turn of the loop keeps the symbol up to its sign, and counts its steps.
 use Rattle.std.proofs.lemmas.Int.{to_z-of_z}
 use Rattle.std.specs.Int.{w8}
-use Rattle.std.proofs.Common.{rules, arith, ◌≢◌, ◌+◌, ◌*◌, ◌≤◌, ◌∙◌, pos, sym}
+use Rattle.std.proofs.Common.{rules, arith, ◌≢◌, ◌+◌, ◌*◌, ◌≤◌, ◌∙◌, pos}
 use Rattle.std.proofs.lemmas.Bool.{false≢true}
 use Rattle.modular_symbols.specs.Jacobi.{jacobi}
-use Rattle.modular_symbols.proofs.HalvingSteps.{smaller, kept_swapped}
+use Rattle.modular_symbols.proofs.HalvingSteps.{kept_swapped}
 use Rattle.modular_symbols.proofs.TurnedSymbols.{kept_start, kept_last}
 use Rattle.modular_symbols.proofs.TwoPart.{halved_by}
 use Rattle.modular_symbols.proofs.StepCounts.{counts_start, counts_turn, counts_end, counts_few}
@@ -13,10 +13,9 @@ use Rattle.modular_symbols.proofs.halving.halve_and_swap.Goals.{After-rest-above
 
 pub swaps-init : goal.swaps-init
 swaps-init g c =
-    let n = g.T.RingWord.number in
     record {
-      symbol = kept_start (n c.args.a) (n c.args.n) c.requires.odd;
-      counts = counts_start g.T.RingWord.width (n c.args.a) (n c.args.n);
+      symbol = kept_start _ _ c.requires.odd;
+      counts = counts_start _ _ _;
     }
 
 pub is_turned-turned-requires-clause-a_odd : goal.is_turned-turned-requires-clause-a_odd
@@ -27,43 +26,30 @@ is_turned-turned-requires-clause-n_odd g c = c.swaps.invariant.symbol.odd
 
 pub odd_part-odd-requires : goal.odd_part-odd-requires
 odd_part-odd-requires g c =
-    let n = g.T.RingWord.number in
-    let some : n c.swaps.above ≢ 0 = λ e. false≢true (sym c.swaps-test.true ∙ c.is_zero_word.ensures.zero.1 e) in
+    let some : g.T.RingWord.number c.swaps.above ≢ 0 = grind (arith, false≢true) in
     omega (arith, some)
 
 pub rest-above-requires : goal.rest-above-requires
-rest-above-requires g c =
-    let n = g.T.RingWord.number in
-    let h = halved_by (n c.swaps.above) c.odd_part-odd.result.1 (n c.odd_part-odd.result.0) c.odd_part-odd.ensures.odd
-    c.odd_part-odd.ensures.whole in
-    let odd = h.odd in
-    omega arith
+rest-above-requires g c = omega arith
 
 pub swaps-smaller : goal.swaps-smaller
 swaps-smaller g c =
     let n = g.T.RingWord.number in
     let h = halved_by (n c.swaps.above) c.odd_part-odd.result.1 (n c.odd_part-odd.result.0) c.odd_part-odd.ensures.odd
     c.odd_part-odd.ensures.whole in
-    let less = smaller (n c.swaps.above) c.odd_part-odd.result.1
-    (n c.odd_part-odd.result.0) (n c.swaps.below) h in
     omega (arith, c.rest-above.ensures.rest)
 
 pub swaps-preserved : goal.swaps-preserved
 swaps-preserved g c =
     let n = g.T.RingWord.number in
-    let h = halved_by (n c.swaps.above) c.odd_part-odd.result.1 (n c.odd_part-odd.result.0) c.odd_part-odd.ensures.odd
-    c.odd_part-odd.ensures.whole in
+    let h = halved_by _ _ _ c.odd_part-odd.ensures.odd c.odd_part-odd.ensures.whole in
     record {
       symbol =
-          kept_swapped (jacobi (pos (n c.args.a)) (n c.args.n)) (n c.swaps.above)
-          (n c.swaps.below) c.odd_part-odd.result.1
-          (n c.odd_part-odd.result.0) (n c.rest-above.result) c.swaps.turned c.is_turned-turned.result
+          kept_swapped (jacobi (pos (n c.args.a)) (n c.args.n)) _ _ _ _ _ c.swaps.turned _
           c.swaps.invariant.symbol h c.is_turned-turned.ensures c.rest-above.ensures.rest;
       counts =
-          counts_turn g.T.RingWord.width g.T.PathWord.base (n c.args.a) (n c.args.n) (n c.swaps.above) (n c.swaps.below)
-          c.odd_part-odd.result.1 (n c.odd_part-odd.result.0) (n c.rest-above.result) c.swaps.count
-          c.swaps.invariant.counts h c.rest-above.ensures.rest g.met.T.PathWord.base_is
-          c.rest-above.ensures.fits;
+          counts_turn _ _ _ _ _ _ _ _ _ c.swaps.count
+          c.swaps.invariant.counts h c.rest-above.ensures.rest g.met.T.PathWord.base_is c.rest-above.ensures.fits;
     }
 
 -- the steps so far are few
@@ -75,8 +61,7 @@ few g c =
     let after =
     counts_turn g.T.RingWord.width g.T.PathWord.base (n c.args.a) (n c.args.n) (n c.swaps.above) (n c.swaps.below)
     c.odd_part-odd.result.1 (n c.odd_part-odd.result.0) (n c.rest-above.result) c.swaps.count
-    c.swaps.invariant.counts h c.rest-above.ensures.rest g.met.T.PathWord.base_is
-    c.rest-above.ensures.fits in
+    c.swaps.invariant.counts h c.rest-above.ensures.rest g.met.T.PathWord.base_is c.rest-above.ensures.fits in
     search (arith, counts_few)
 
 pub overflow_add-count : goal.overflow_add-count
@@ -89,7 +74,7 @@ overflow_add-count-in-swaps g c =
 
 pub returns-clause-symbol : goal.returns-clause-symbol
 returns-clause-symbol g c =
-    to_z-of_z w8 c.last_symbol.result (search rules)
+    to_z-of_z w8 _ (search rules)
     ∙ kept_last _ _ _ _ c.swaps.turned c.swaps.invariant.symbol (c.is_zero_word.ensures.zero.0 c.swaps-test.false)
     c.last_symbol.ensures.one c.last_symbol.ensures.more
 

@@ -8,5 +8,4 @@ pub returns : goal.returns
 returns g c =
     let n = g.T.RingWord.number in
     turned_twice (jacobi (pos (n c.args.a * 2 ^ c.args.twos)) (n c.args.n)) (jacobi (pos (n c.args.a)) (n c.args.n))
-    (jacobi (pos (n c.args.n)) (n c.args.a)) c.is_turned_by_twos.result c.is_turned_by_swap.result
-    (c.is_turned_by_twos.ensures (n c.args.a)) c.is_turned_by_swap.ensures
+    (jacobi (pos (n c.args.n)) (n c.args.a)) _ _ (c.is_turned_by_twos.ensures (n c.args.a)) c.is_turned_by_swap.ensures

@@ -15,6 +15,5 @@ halve_and_swap-requires-clause-below g c =
 pub returns-clause-symbol : goal.returns-clause-symbol
 returns-clause-symbol g c =
     let n = g.T.RingWord.number in
-    c.halve_and_swap.ensures.symbol
-    ∙ ap (λ v. jacobi (pos v) (n c.args.n)) c.signed_residue.ensures
-    ∙ sym (jacobi-residue (signed c.args.a_minus (pos (n c.args.a))) (n c.args.n) (omega (arith, c.requires)))
+    c.halve_and_swap.ensures.symbol ∙ ap (λ v. jacobi (pos v) (n c.args.n)) c.signed_residue.ensures
+    ∙ sym (jacobi-residue (signed c.args.a_minus (pos (n c.args.a))) _ (omega (arith, c.requires)))

@@ -3,8 +3,9 @@ use Rattle.modular_symbols.proofs.StepCounts.{jacobi_steps-none, jacobi_steps-tu
 use Rattle.modular_symbols.proofs.halving.step_laws.Goals as goal
 
 pub returns : goal.returns
-returns c = record {
-  none = λ n. jacobi_steps-none 0 n refl;
-  turn = jacobi_steps-turn;
-  few = jacobi_steps-power;
-}
+returns c =
+    record {
+      none = λ n. jacobi_steps-none _ n refl;
+      turn = jacobi_steps-turn;
+      few = jacobi_steps-power;
+    }

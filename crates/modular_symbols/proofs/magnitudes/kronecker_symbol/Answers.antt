@@ -37,9 +37,8 @@ returns-after-a_minus g c =
       | else-a_minus w ↦
           w.turned_symbol-is ∙ w.if-a_minus.false ∙ sym (ap (λ b. b && c.args.n_minus) w.if-a_minus.false)
     ] in
-    to_z-of_z w8 c.turned_symbol.result (search rules) ∙ c.turned_symbol.ensures.value
-    ∙ ap (λ v. signed c.if-a_minus.turned_symbol v)
-    (to_z-of_z w8 c.symbol_above.result (search rules) ∙ c.symbol_above.ensures.value)
+    to_z-of_z w8 _ (search rules) ∙ c.turned_symbol.ensures.value ∙ ap (λ v. signed c.if-a_minus.turned_symbol v)
+    (to_z-of_z w8 _ (search rules) ∙ c.symbol_above.ensures.value)
     ∙ ap (λ b. signed b (kronecker_above z (n c.args.n))) turned
-    ∙ sym (kronecker-over c.args.a_minus c.args.n_minus (n c.args.a) (n c.args.n) c.requires.a_sign c.requires.n_sign
+    ∙ sym (kronecker-over _ _ _ _ c.requires.a_sign c.requires.n_sign
     (omega arith))

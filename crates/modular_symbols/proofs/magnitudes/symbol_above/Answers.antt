@@ -21,23 +21,19 @@ jacobi_symbol-symbol-requires g c =
 
 pub turned_symbol-requires : goal.turned_symbol-requires
 turned_symbol-requires g c =
-    let n = g.T.RingWord.number in
-    subst (λ (v : ℤ). nat_abs v ≤ 1)
-    (sym (to_z-of_z w8 c.jacobi_symbol-symbol.result (search rules) ∙ c.jacobi_symbol-symbol.ensures))
-    (jacobi-small (signed c.args.a_minus (pos (n c.args.a))) (n c.shift_right.result))
+    subst (λ (v : ℤ). nat_abs v ≤ 1) (sym (to_z-of_z w8 _ (search rules) ∙ c.jacobi_symbol-symbol.ensures))
+    (jacobi-small (signed c.args.a_minus (pos (g.T.RingWord.number c.args.a))) _)
 
 pub returns-then-is_odd-clause-value : goal.returns-then-is_odd-clause-value
 returns-then-is_odd-clause-value g c =
-    let n = g.T.RingWord.number in
-    let odd : n c.args.n % 2 ≡ 1 = c.is_odd.ensures.odd.0 c.if-is_odd.true in
-    to_z-of_z w8 c.jacobi_symbol.result (search rules) ∙ c.jacobi_symbol.ensures
-    ∙ sym (above-odd (signed c.args.a_minus (pos (n c.args.a))) (n c.args.n) odd)
+    to_z-of_z w8 _ (search rules) ∙ c.jacobi_symbol.ensures
+    ∙ sym (above-odd (signed c.args.a_minus (pos (g.T.RingWord.number c.args.a))) _
+    (c.is_odd.ensures.odd.0 c.if-is_odd.true))
 
 pub returns-then-is_odd-clause-small : goal.returns-then-is_odd-clause-small
 returns-then-is_odd-clause-small g c =
-    let n = g.T.RingWord.number in
-    subst (λ (v : ℤ). nat_abs v ≤ 1) (sym (to_z-of_z w8 c.jacobi_symbol.result (search rules) ∙ c.jacobi_symbol.ensures))
-    (jacobi-small (signed c.args.a_minus (pos (n c.args.a))) (n c.args.n))
+    subst (λ (v : ℤ). nat_abs v ≤ 1) (sym (to_z-of_z w8 _ (search rules) ∙ c.jacobi_symbol.ensures))
+    (jacobi-small (signed c.args.a_minus (pos (g.T.RingWord.number c.args.a))) _)
 
 pub returns-after-twos-eq1-clause-value : goal.returns-after-twos-eq1-clause-value
 returns-after-twos-eq1-clause-value g c =
@@ -53,12 +49,10 @@ returns-after-twos-eq1-clause-value g c =
           times_two s (n c.args.a) _ w.if-twos-eq1.true (w.turned_symbol-is ∙ w.is_minus_over_two.ensures)
       | else-twos-eq1 w ↦ times_four s (n c.args.a) _ w.if-twos-eq1.false w.turned_symbol-is
     ] in
-    to_z-of_z w8 c.turned_symbol.result (search rules) ∙ c.turned_symbol.ensures.value
-    ∙ ap (λ v. signed c.if-twos-eq1.turned_symbol v)
-    (to_z-of_z w8 c.jacobi_symbol-symbol.result (search rules) ∙ c.jacobi_symbol-symbol.ensures
+    to_z-of_z w8 _ (search rules) ∙ c.turned_symbol.ensures.value ∙ ap (λ v. signed c.if-twos-eq1.turned_symbol v)
+    (to_z-of_z w8 _ (search rules) ∙ c.jacobi_symbol-symbol.ensures
     ∙ ap (λ k. jacobi z k) c.shift_right.ensures.value)
-    ∙ ap (λ b. signed b (jacobi z (n c.args.n / 2 ^ s))) turned
-    ∙ sym (above-twos c.args.a_minus (n c.args.a) (n c.args.n) s odd split)
+    ∙ ap (λ b. signed b (jacobi z (n c.args.n / 2 ^ s))) turned ∙ sym (above-twos _ _ _ s odd split)
 
 pub returns-else-is_odd-2-clause-value : goal.returns-else-is_odd-2-clause-value
 returns-else-is_odd-2-clause-value g c =
@@ -66,5 +60,5 @@ returns-else-is_odd-2-clause-value g c =
     let n_even : n c.args.n % 2 ≢ 1 = λ e. false≢true (sym c.if-is_odd.false ∙ c.is_odd.ensures.odd.1 e) in
     let a_even : n c.args.a % 2 ≢ 1 = λ e.
     false≢true (sym c.if-is_odd-2.false ∙ c.is_odd-else-is_odd.ensures.odd.1 e) in
-    sym (above-both_even c.args.a_minus (n c.args.a)
-    (n c.args.n) g.T.RingWord.width a_even n_even c.requires c.is_odd.ensures.fits)
+    sym (above-both_even _ _
+    _ _ a_even n_even c.requires c.is_odd.ensures.fits)

@@ -10,6 +10,6 @@ use Rattle.modular_symbols.proofs.subtraction.jacobi_by_subtraction.Goals as goa
 pub returns : goal.returns
 returns g c =
     let n = g.T.RingWord.number in
-    to_z-of_z w8 c.subtract_and_halve.result (search rules) ∙ c.subtract_and_halve.ensures
+    to_z-of_z w8 _ (search rules) ∙ c.subtract_and_halve.ensures
     ∙ ap (λ v. jacobi (pos v) (n c.args.n)) c.signed_residue.ensures
-    ∙ sym (jacobi-residue (signed c.args.a_minus (pos (n c.args.a))) (n c.args.n) (omega (arith, c.requires)))
+    ∙ sym (jacobi-residue (signed c.args.a_minus (pos (n c.args.a))) _ (omega (arith, c.requires)))

@@ -15,45 +15,38 @@ halves : (g : Over) (c : goal.After-shift_right g)
     (g.T.RingWord.number c.shift_right.result)
 halves g c =
     let n = g.T.RingWord.number in
-    let wraps : Wraps g.T.RingWord.width g.T.PathWord.base (n c.wrapping_sub.result) (n c.args.a) (n c.args.n) = search arith in
+    let wraps : Wraps g.T.RingWord.width g.T.PathWord.base (n c.wrapping_sub.result) (n c.args.a)
+    (n c.args.n) = search arith in
     elim c.if-less.branch [
       | then-less w ↦
-          halved_below _ _ _ _ _ (n c.if-less.difference.0) _ _ wraps c.requires.differ
+          halved_below _ _ _ _ _ _ _ _ wraps c.requires.differ
           (ap (λ v. n v.0 + n c.args.a) w.difference-is ∙ w.minus.ensures.value)
           c.trailing_zeros-zeros.ensures.value c.shift_right.ensures.value
       | else-less w ↦
-          halved_above _ _ _ _ _ (n c.if-less.difference.0) _ _ wraps c.requires.differ
+          halved_above _ _ _ _ _ _ _ _ wraps c.requires.differ
           (ap (λ v. n v.0 + n c.args.n) w.difference-is ∙ w.minus-else-less.ensures.value)
           c.trailing_zeros-zeros.ensures.value c.shift_right.ensures.value
     ]
 
 pub turn_by_twos-requires : goal.turn_by_twos-requires
 turn_by_twos-requires g c =
-    let n = g.T.RingWord.number in
     elim c.if-less.branch [
-      | then-less w ↦ ap (λ v. n v.1 % 2) w.difference-is ∙ c.requires.a_odd
-      | else-less w ↦ ap (λ v. n v.1 % 2) w.difference-is ∙ c.requires.n_odd
+      | then-less w ↦ ap (λ v. g.T.RingWord.number v.1 % 2) w.difference-is ∙ c.requires.a_odd
+      | else-less w ↦ ap (λ v. g.T.RingWord.number v.1 % 2) w.difference-is ∙ c.requires.n_odd
     ]
 
 pub shift_right-requires : goal.shift_right-requires
 shift_right-requires g c =
     let n = g.T.RingWord.number in
-    let wraps : Wraps g.T.RingWord.width g.T.PathWord.base (n c.wrapping_sub.result) (n c.args.a) (n c.args.n) =
-    record {
-      base_is = g.met.T.PathWord.base_is;
-      sum = c.wrapping_sub.ensures.value;
-      fits = c.wrapping_sub.ensures.fits;
-      a_fits = c.is_below-less.ensures.fits;
-      n_fits = c.is_below-less.ensures.other_fits;
-    } in
+    let wraps : Wraps g.T.RingWord.width g.T.PathWord.base (n c.wrapping_sub.result) (n c.args.a)
+    (n c.args.n) = grind arith in
     wrapped_zeros _ _ _ _ _ _ wraps c.requires.differ c.trailing_zeros-zeros.ensures.value
 
 pub returns-clause-below_odd : goal.returns-clause-below_odd
 returns-clause-below_odd g c =
-    let n = g.T.RingWord.number in
     elim c.if-less.branch [
-      | then-less w ↦ ap (λ v. n v.1 % 2) w.difference-is ∙ c.requires.a_odd
-      | else-less w ↦ ap (λ v. n v.1 % 2) w.difference-is ∙ c.requires.n_odd
+      | then-less w ↦ ap (λ v. g.T.RingWord.number v.1 % 2) w.difference-is ∙ c.requires.a_odd
+      | else-less w ↦ ap (λ v. g.T.RingWord.number v.1 % 2) w.difference-is ∙ c.requires.n_odd
     ]
 
 pub returns-clause-above_odd : goal.returns-clause-above_odd
@@ -67,15 +60,11 @@ turn g c =
     let n = g.T.RingWord.number in
     elim c.if-less.branch [
       | then-less w ↦
-          jacobi-below c.is_below-less.result c.turn_by_swap.result c.turn_by_twos.result (n c.args.a) (n c.args.n)
-          (n c.if-less.difference.1) (n c.if-less.difference.0) c.trailing_zeros-zeros.result (n c.shift_right.result)
-          w.if-less.true (ap (λ v. n v.1) w.difference-is) c.turn_by_swap.ensures
+          jacobi-below _ _ _ _ _ _ _ _ _ w.if-less.true (ap (λ v. n v.1) w.difference-is) c.turn_by_swap.ensures
           (record { law = c.turn_by_twos.ensures }) (halves g c) c.requires.a_odd
           (ap (λ v. n v.0 + n c.args.a) w.difference-is ∙ w.minus.ensures.value)
       | else-less w ↦
-          jacobi-above c.is_below-less.result c.turn_by_swap.result c.turn_by_twos.result (n c.args.a) (n c.args.n)
-          (n c.if-less.difference.1) (n c.if-less.difference.0) c.trailing_zeros-zeros.result (n c.shift_right.result)
-          w.if-less.false (ap (λ v. n v.1) w.difference-is) c.turn_by_swap.ensures
+          jacobi-above _ _ _ _ _ _ _ _ _ w.if-less.false (ap (λ v. n v.1) w.difference-is) c.turn_by_swap.ensures
           (record { law = c.turn_by_twos.ensures }) (halves g c) c.requires.n_odd
           (ap (λ v. n v.0 + n c.args.n) w.difference-is ∙ w.minus-else-less.ensures.value)
     ]
@@ -86,17 +75,16 @@ returns-clause-symbol g c =
     turns_added (jacobi (pos (n c.args.a)) (n c.args.n))
     (jacobi (pos (n c.shift_right.result)) (n c.if-less.difference.1))
     (c.args.swaps / 2 + c.args.twos) (c.turn_by_swap.result / 2 + c.turn_by_twos.result) _ (turn g c)
-    (xor-parities c.args.swaps c.turn_by_swap.result c.args.twos c.turn_by_twos.result)
+    (xor-parities _ _ _ _)
 
 pub returns-clause-less : goal.returns-clause-less
 returns-clause-less g c =
     let n = g.T.RingWord.number in
-    let half = (halves g c).within in
     elim c.if-less.branch [
       | then-less w ↦
           let sum = ap (λ v. n v.0 + n c.args.a) w.difference-is ∙ w.minus.ensures.value in
-          omega (arith, half, sum, ap (λ v. n v.1) w.difference-is, c.requires.a_odd)
+          omega (arith, ((halves g c).within), sum, ap (λ v. n v.1) w.difference-is, c.requires.a_odd)
       | else-less w ↦
           let sum = ap (λ v. n v.0 + n c.args.n) w.difference-is ∙ w.minus-else-less.ensures.value in
-          omega (arith, half, sum, ap (λ v. n v.1) w.difference-is, c.requires.n_odd)
+          omega (arith, ((halves g c).within), sum, ap (λ v. n v.1) w.difference-is, c.requires.n_odd)
     ]

@@ -10,10 +10,9 @@ use Rattle.modular_symbols.proofs.turns.turn_by_swap.Goals as goal
 pub returns-then-swap : goal.returns-then-swap
 returns-then-swap g c =
     let n = g.T.RingWord.number in
-    let k = c.low_part.result in
-    let l = c.low_part-then-swap.result in
-    jacobi-swapped_by _ (n c.args.a) (n c.args.n) c.requires.a_odd c.requires.n_odd
-    (odd-both (n c.args.a) (n c.args.n) k l c.requires.a_odd c.requires.n_odd
+    jacobi-swapped_by _ _ _ c.requires.a_odd c.requires.n_odd
+    (odd-both _ _ _ _ c.requires.a_odd c.requires.n_odd
     c.low_part.ensures c.low_part-then-swap.ensures)
-    ∙ sym (ap (λ v. signed (is_odd (bit_and k l / 2)) (if v then jacobi (pos (n c.args.n)) (n c.args.a)
+    ∙ sym (ap (λ v. signed (is_odd (bit_and c.low_part.result c.low_part-then-swap.result / 2))
+    (if v then jacobi (pos (n c.args.n)) (n c.args.a)
     else jacobi (pos (n c.args.a)) (n c.args.n))) c.if-swap.true)

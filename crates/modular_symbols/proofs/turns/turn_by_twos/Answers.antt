@@ -4,6 +4,4 @@ use Rattle.modular_symbols.proofs.TurnedSymbols.{jacobi-twos_by}
 use Rattle.modular_symbols.proofs.turns.turn_by_twos.Goals as goal
 
 pub returns : goal.returns
-returns g c = λ a.
-    let n = g.T.RingWord.number c.args.n in
-    jacobi-twos_by _ a c.args.twos n c.requires (odd-twos c.args.twos n c.low_part.result c.requires c.low_part.ensures)
+returns g c = λ a. jacobi-twos_by _ a _ _ c.requires (odd-twos _ _ _ c.requires c.low_part.ensures)

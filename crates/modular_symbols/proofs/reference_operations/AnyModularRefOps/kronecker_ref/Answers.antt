@@ -7,7 +7,8 @@ use Rattle.modular_symbols.proofs.reference_operations.AnyModularRefOps.kronecke
 
 pub returns : goal.returns
 returns g c =
-    let integer = g.met.T.UnsignedOperand.integer_is_number in
-    to_z-of_z w8 c.kronecker.result (search rules) ∙ c.kronecker.ensures
-    ∙ ap (λ z. kronecker z (g.T.IntegerValued.integer_value c.args.n.now)) (integer c.args.self.now)
-    ∙ ap (λ z. kronecker (pos (g.T.Numbered.whole_number c.args.self.now)) z) (integer c.args.n.now)
+    to_z-of_z w8 _ (search rules) ∙ c.kronecker.ensures
+    ∙ ap (λ z. kronecker z (g.T.IntegerValued.integer_value c.args.n.now))
+    (g.met.T.UnsignedOperand.integer_is_number c.args.self.now)
+    ∙ ap (λ z. kronecker (pos (g.T.Numbered.whole_number c.args.self.now)) z)
+    (g.met.T.UnsignedOperand.integer_is_number c.args.n.now)
