@@ -1,5 +1,5 @@
 -- Powers to secret exponents: what a digit leaves to do, and the clauses of an inverse.
-use Rattle.std.proofs.Common.{◌≡◌, ℕ, suc, ◌+◌, ◌-◌, ◌*◌, ◌/◌, ◌%◌, ◌^◌, ◌<◌, ◌≤◌, ◌∙◌, ap, arith, ⊎_elim}
+use Rattle.std.proofs.Common.{◌≡◌, ℕ, ◌+◌, ◌-◌, ◌*◌, ◌/◌, ◌%◌, ◌^◌, ◌<◌, ◌≤◌, ◌∙◌, ap, arith, ⊎_elim}
 use Rattle.std.proofs.Math.Nat.{pow-suc, pow-zero}
 use Rattle.std.proofs.lemmas.Bool.{cases_lt}
 use Rattle.modular_reduced.specs.Forms.{Represents, IsCanonical}
@@ -10,8 +10,8 @@ use Rattle.modular_reduced.proofs.PowerSoFar.{PowerSoFar}
 pub half_below : (rest half bits done : ℕ) → done < bits → rest < 2 ^ (bits - done) → half ≡ rest / 2
     → half < 2 ^ (bits - (done + 1))
 half_below rest half bits done more fits e =
-    let longer : bits - done ≡ suc (bits - (done + 1)) = omega arith in
-    let power : 2 ^ (bits - done) ≡ 2 ^ (bits - (done + 1)) * 2 = ap (λ n. 2 ^ n) longer ∙ pow-suc 2 (bits - (done + 1)) in
+    let power : 2 ^ (bits - done) ≡ 2 ^ (bits - (done + 1)) * 2 = ap (λ n. 2 ^ n) (omega arith)
+    ∙ pow-suc _ (bits - (done + 1)) in
     omega (arith, power)
 
 -- with no digit left, nothing is left of the exponent
@@ -29,9 +29,7 @@ power_step {form} {value} {width} {m} {product} {power} {rest} {wanted} {longer}
     taken kept =
     ⊎_elim
     (λ (l : rest % 2 < 1).
-    let even : rest % 2 ≡ 0 = omega arith in
-    rw (kept even) (power_even_step canonical so_far (λ (odd : rest % 2 ≡ 1). absurd (omega arith)) squared halved))
+    rw (kept (omega arith)) (power_even_step canonical so_far (λ (odd : rest % 2 ≡ 1). absurd (omega arith)) squared halved))
     (λ (l : 1 ≤ rest % 2).
-    let odd : rest % 2 ≡ 1 = omega arith in
-    rw (taken odd) (power_odd_step canonical so_far odd made squared halved))
-    (cases_lt (rest % 2) 1)
+    rw (taken (omega arith)) (power_odd_step canonical so_far (omega arith) made squared halved))
+    (cases_lt _ _)

@@ -40,11 +40,11 @@ pub ready_even : (base m x k n a b u v o t : ℕ) → IsHalvedPair base m x k n 
 ready_even base m x k n a b u v o t p e = grind arith
 
 -- the difference of two odd numbers, the first being the greater one
-differing : (m x k n a b u v d : ℕ) (s : Bool) → d + b ≡ a → a % 2 ≡ 1 → b % 2 ≡ 1 → a * v + b * u ≡ m → 0 < u + v → v < m
+halved_pair_of_difference : (m x k n a b u v d : ℕ) (s : Bool) → d + b ≡ a → a % 2 ≡ 1 → b % 2 ≡ 1 → a * v + b * u ≡ m → 0 < u + v → v < m
     → CongruentBySign m s (a * 2 ^ k) (u * x) → CongruentBySign m (not s) (b * 2 ^ k) (v * x)
     → ((n : ℕ) → a % n ≡ 0 → b % n ≡ 0 → (m % n ≡ 0) × (x % n ≡ 0)) → HaveDigits a b n
     → Ready m x k n d b (u + v) v s
-differing m x k n a b u v d s e ea eb w us vm above below common few =
+halved_pair_of_difference m x k n a b u v d s e ea eb w us vm above below common few =
     let scaled_difference : d * 2 ^ k + b * 2 ^ k ≡ a * 2 ^ k =
     (let r : d * 2 ^ k + b * 2 ^ k ≡ (d + b) * 2 ^ k = omega arith in r) ∙ ap (λ n. n * 2 ^ k) e in
     let factors : (u + v) * x ≡ u * x + v * x = omega arith in
@@ -58,16 +58,15 @@ differing m x k n a b u v d s e ea eb w us vm above below common few =
       above =
           grind (arith, difference_by_sign);
       below = below;
-      common = λ c i j. common c (ap (λ n. n % c) (sym e) ∙ divides_sum c d b i j) j;
+      common = λ c i j. common c (ap (λ n. n % c) (sym e) ∙ divides_sum c _ _ i j) j;
       few = grind arith;
     }
 
 pub ready_above : (base m x k n a b u v o t d : ℕ) → IsHalvedPair base m x k n a b u v o t → a % 2 ≡ 1 → d + b ≡ a
     → Ready m x k n d b (u + v) v (t % 2 == 1)
 ready_above base m x k n a b u v o t d p ea e =
-    let some : 0 < a = omega arith in
-    differing m x k n a b u v d (t % 2 == 1) e ea p.below_odd (p.whole some) (omega (arith, p.above_factor)) p.below_factor p.above p.below
-    p.common (p.few some)
+    halved_pair_of_difference _ _ _ _ _ _ _ _ _ (t % 2 == 1) e ea p.below_odd (p.whole (omega arith))
+    (omega (arith, p.above_factor)) p.below_factor p.above p.below p.common (p.few (omega arith))
 
 -- the factor of the smaller number is below the modulus
 pub factor_below : (m a b u v : ℕ) → a * v + b * u ≡ m → a % 2 ≡ 1 → a < b → v < m → u < m
@@ -76,15 +75,11 @@ factor_below m a b u v w ea l vm = grind (arith, mul-le-mul_right)
 pub ready_below : (base m x k n a b u v o t d : ℕ) → IsHalvedPair base m x k n a b u v o t → a % 2 ≡ 1 → a < b → d + a ≡ b
     → Ready m x k n d a (u + v) u (not (t % 2 == 1))
 ready_below base m x k n a b u v o t d p ea l e =
-    let s : Bool = t % 2 == 1 in
-    let some : 0 < a = omega arith in
-    let w = p.whole some in
-    let few = p.few some in
-    let vs : 0 < v + u = omega (arith, p.above_factor) in
-    let sum : v + u ≡ u + v = omega arith in
-    let w' : b * u + a * v ≡ m = omega (arith, w) in
-    let r = differing m x k n b a v u d (not s) e p.below_odd ea w' vs (factor_below m a b u v w ea l p.below_factor) p.below
-    (subst (λ c. CongruentBySign m c (a * 2 ^ k) (u * x)) (sym (twice_turned s)) p.above)
+    let w = p.whole (omega arith) in
+    let few = p.few (omega arith) in
+    let r = halved_pair_of_difference _ _ _ _ _ _ _ _ _ (not (t % 2 == 1)) e p.below_odd ea (omega (arith, w))
+    (omega (arith, p.above_factor)) (factor_below _ _ _ _ _ w ea l p.below_factor) p.below
+    (subst (λ c. CongruentBySign m c (a * 2 ^ k) (u * x)) (sym (twice_turned _)) p.above)
     (λ c i j. p.common c j i)
     (record {
       first = few.second;
@@ -93,7 +88,7 @@ ready_below base m x k n a b u v o t d p ea l e =
       second_fits = few.first_fits;
       total = omega (arith, few.total);
     }) in
-    subst (λ f. Ready m x k n d a f u (not s)) sum r
+    subst (λ f. Ready m x k n d a f u (not (t % 2 == 1))) (omega arith) r
 
 -- a sum of the factors of two positive numbers fits
 pub sum_fits : (base m a b u v : ℕ) → a * v + b * u ≡ m → a % 2 ≡ 1 → b % 2 ≡ 1 → m < base → u + v < base
@@ -109,21 +104,20 @@ pub ready_halved : (base m x k n d y f g h v o t : ℕ) (s : Bool) → Ready m x
     → IsHalvedPair base m x (k + 1) n h y f v o t
 ready_halved base m x k n d y f g h v o t s p eh ev all none sign =
     let double : h * 2 ≡ d = omega (arith, p.even) in
-    let power : 2 ^ (k + 1) ≡ 2 ^ k * 2 = ap (λ c. 2 ^ c) (let r : k + 1 ≡ suc k = omega arith in r) ∙ pow-suc 2 k in
+    let power : 2 ^ (k + 1) ≡ 2 ^ k * 2 = ap (λ c. 2 ^ c) (let r : k + 1 ≡ suc k = omega arith in r) ∙ pow-suc _ _ in
     let numbers : h * 2 ^ (k + 1) ≡ d * 2 ^ k =
     ap (λ c. h * c) power ∙ (let r : h * (2 ^ k * 2) ≡ h * 2 * 2 ^ k = omega arith in r) ∙ ap (λ c. c * 2 ^ k) double in
     let smaller : y * 2 ^ (k + 1) ≡ y * 2 ^ k * 2 = ap (λ c. y * c) power ∙ omega arith in
-    let twice : Congruent m v (2 * g) = mod_trans (mod_of_eq ev) (residue_of (2 * g)) in
-    let same : 2 * g * x ≡ g * x * 2 = omega arith in
-    let factors : Congruent m (v * x) (g * x * 2) = mod_trans (mod_mul twice (mod_refl x)) (mod_of_eq same) in
-    let kept = congruent_second _ _ _ _ _ factors (scaled_by_sign m (not s) (y * 2 ^ k) (g * x) 2 p.below) in
+    let factors : Congruent m (v * x) (g * x * 2) = mod_trans
+    (mod_mul (mod_trans (mod_of_eq ev) (residue_of _)) (mod_refl _)) (mod_of_eq (omega arith)) in
+    let kept = congruent_second _ _ _ _ _ factors (scaled_by_sign _ (not s) (y * 2 ^ k) _ _ p.below) in
     record {
       below_odd = p.odd;
       mask_all = all;
       mask_none = none;
       whole = λ some.
-          let most : 2 * g ≤ d * g = mul-le-mul_right g (let r : 2 ≤ d = omega arith in r) in
-          let one : 1 * f ≤ y * f = mul-le-mul_right f (let r : 1 ≤ y = omega (arith, p.odd) in r) in
+          let most : 2 * g ≤ d * g = mul-le-mul_right _ (let r : 2 ≤ d = omega arith in r) in
+          let one : 1 * f ≤ y * f = mul-le-mul_right _ (let r : 1 ≤ y = omega (arith, p.odd) in r) in
           let w = p.whole (let r : 0 < d = omega arith in r) in
           let exact : v ≡ 2 * g = ev ∙ mod-eq_of_lt (let r : 2 * g < m = omega (arith, p.above_factor) in r) in
           let product : h * v ≡ d * g =
@@ -138,42 +132,41 @@ ready_halved base m x k n d y f g h v o t s p eh ev all none sign =
     }
 
 -- a turn changes the sign
-pub turned : (t t' : ℕ) → t' % 2 ≡ (t + 1) % 2 → (t' % 2 == 1) ≡ not (t % 2 == 1)
-turned t t' e = grind (arith, nat_tests)
+pub odd_flips : (t t' : ℕ) → t' % 2 ≡ (t + 1) % 2 → (t' % 2 == 1) ≡ not (t % 2 == 1)
+odd_flips t t' e = grind (arith, nat_tests)
 
 -- ---- the first and the last pair
 pub first_pair : (base m x w a b u v o t : ℕ) → m % 2 ≡ 1 → x < 2 ^ w → m < 2 ^ w → a ≡ x → b ≡ m → u ≡ 1 → v ≡ 0
     → (x % 2 ≡ 1 → o + 1 ≡ base) → (x % 2 ≡ 0 → o ≡ 0) → t ≡ 0 → IsHalvedPair base m x 0 (2 * w) a b u v o t
-first_pair base m x w a b u v o t odd xf mf ea eb eu ev all none et = grind (arith, mod_of_eq, pow-zero, add-mul-mod_self_left)
+first_pair base m x w a b u v o t odd xf mf ea eb eu ev all none et =
+    grind (arith, mod_of_eq, pow-zero, add-mul-mod_self_left)
 
 -- with one digit left, the first number is 0
 ended_at : (a b i j : ℕ) → b % 2 ≡ 1 → a < 2 ^ i → b < 2 ^ j → i + j ≡ 1 → a ≡ 0
 ended_at a b zero j odd first second total = let z : 2 ^ 0 ≡ 1 = pow-zero 2 in omega arith
 ended_at a b (suc i) j odd first second total = grind (arith, pow-zero)
 
-pub ended : (base m x k a b u v o t : ℕ) → IsHalvedPair base m x k 1 a b u v o t → a ≡ 0
-ended base m x k a b u v o t p = grind (arith, ended_at)
+pub above_is_zero_at_end : (base m x k a b u v o t : ℕ) → IsHalvedPair base m x k 1 a b u v o t → a ≡ 0
+above_is_zero_at_end base m x k a b u v o t p = grind (arith, ended_at)
 
 -- where the other number isn't 1, there is no inverse
 pub last_none : (base m x k a b u v o t y : ℕ) → IsHalvedPair base m x k 1 a b u v o t → b ≢ 1 → IsInverse m x y → ⊥
 last_none base m x k a b u v o t y p h i =
-    let zero : a ≡ b * 0 = omega (arith, ended base m x k a b u v o t p) in
-    let c = p.common b (divides b a 0 zero) (mod_self b) in
-    h ((Coprime-from_IsInverse x m y i).only_one b c.1 c.0)
+    let zero : a ≡ b * 0 = omega (arith, above_is_zero_at_end _ _ _ _ _ _ _ _ _ _ p) in
+    h ((Coprime-from_IsInverse _ _ _ i).only_one b (p.common b (divides _ _ _ zero) (mod_self _)).1
+    (p.common b (divides _ _ _ zero) (mod_self _)).0)
 
 multiple_of_modulus : (m : ℕ) (s : Bool) (p x : ℕ) → p ≡ 0 → CongruentBySign m s p (m * x)
 multiple_of_modulus m true p x e = grind (arith, add-mul-mod_self_left)
 multiple_of_modulus m false p x e =
     let none : 0 + m * x ≡ m * x = omega arith in
-    record { same = ap (λ c. c % m) e ∙ sym (add-mul-mod_self_left 0 m x) ∙ ap (λ c. c % m) none }
+    record { same = ap (λ c. c % m) e ∙ sym (add-mul-mod_self_left _ _ _) ∙ ap (λ c. c % m) none }
 
 -- where it is 1, it is as if the factor of 0 were m
 pub last_difference : (base m x k a b u v o t : ℕ) → IsHalvedPair base m x k 1 a b u v o t → b ≡ 1
     → IsDifferencePair m x b a v m k (not (t % 2 == 1))
 last_difference base m x k a b u v o t p e =
-    let zero = ended base m x k a b u v o t p in
-    let none : a * v ≡ 0 * v = ap (λ c. c * v) zero in
-    let one : b * m ≡ 1 * m = ap (λ c. c * m) e in
+    let zero = above_is_zero_at_end _ _ _ _ _ _ _ _ _ _ p in
     grind (arith, multiple_of_modulus)
 
 -- the factor with its sign

@@ -13,7 +13,7 @@ steps-init g c =
     record {
       pair =
           rw all
-          (first_pair g.T.PathWord.base (n c.args.m) (n c.args.x) w _ _ _ _ _ _ c.requires x_fits m_fits refl refl
+          (first_pair _ _ _ _ _ _ _ _ _ _ c.requires x_fits m_fits refl refl
           c.one.ensures c.zero.ensures c.odd_mask.ensures.all c.odd_mask.ensures.none c.zero-2.ensures);
       count = refl;
     }

@@ -4,9 +4,8 @@ use Rattle.modular_secret.proofs.inverse.negative.Goals as goal
 
 pub returns : goal.returns
 returns g c =
-    let n = g.T.RingWord.number in
     let taken = c.borrowing_sub-difference.ensures in
-    let is = λ (below : n c.args.v < n c.args.m).
+    let is = λ (below : g.T.RingWord.number c.args.v < g.T.RingWord.number c.args.m).
     negative_with_borrow _ _ _ _ _ _ _ _ below c.masked.ensures.fits c.zero.ensures taken.below taken.all taken.exact
     taken.none c.masked.ensures.all c.masked.ensures.none c.wrapping_add.ensures.value in
     record { congruent = λ below. record { same = (is below).1 }; below = λ below. (is below).0 }

@@ -5,7 +5,7 @@ use Rattle.modular_secret.proofs.secret_word.odd_mask.Goals as goal
 
 pub returns : goal.returns
 returns g c =
-    let bit = c.low_bits.ensures.value ∙ ap (λ k. g.T.RingWord.number c.args.x % k) (pow-one 2) in
+    let bit = c.low_bits.ensures.value ∙ ap (λ k. g.T.RingWord.number c.args.x % k) (pow-one _) in
     let minus = c.wrapping_sub.ensures in
     record {
       all = λ odd. all_of_one _ _ _ (bit ∙ odd) (minus.value ∙ c.zero.ensures) minus.fits;
