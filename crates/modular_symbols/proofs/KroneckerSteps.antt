@@ -37,9 +37,9 @@ abbrev pub leaves_3_or_5 : ℕ → Bool
 leaves_3_or_5 a = (a % 8 == 3) || (a % 8 == 5)
 
 -- half of an odd number, and 1, has an odd half for these
-pub half_more-3_or_5 : (a h k q : ℕ) (s : Bool) → a % 2 ≡ 1 → h ≡ a / 2 → k ≡ h + 1 → q ≡ k / 2
+pub half_more_is_3_or_5 : (a h k q : ℕ) (s : Bool) → a % 2 ≡ 1 → h ≡ a / 2 → k ≡ h + 1 → q ≡ k / 2
     → (IsTrue s ↔ (q % 2 ≡ 1)) → s ≡ leaves_3_or_5 a
-half_more-3_or_5 a h k q s o e f g d = grind (arith, nat_tests)
+half_more_is_3_or_5 a h k q s o e f g d = grind (arith, nat_tests)
 
 over_two-odd : (minus : Bool) (a : ℕ) → a % 2 ≡ 1 → over_two (signed minus (pos a)) ≡ signed (leaves_3_or_5 a) (pos 1)
 over_two-odd true zero e = absurd (omega arith)

@@ -118,3 +118,6 @@ counts_end w a n x y count c e = search (arith, jacobi_steps-none)
 
 pub counts_few : (w a n x y count : ℕ) → Counts w a n x y count → a < n → count ≤ 2 * w
 counts_few w a n x y count c l = search (arith, jacobi_steps-few)
+
+-- the laws of the count of steps
+pub ruleset step_laws = (jacobi_steps-none, jacobi_steps-turn, jacobi_steps-power)

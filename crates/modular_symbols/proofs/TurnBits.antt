@@ -56,6 +56,6 @@ third_bit : (n l : ℕ) → n % 2 ≡ 1 → l ≡ n % 2 ^ 32 → is_odd ((l + 2)
 third_bit n l o e = grind (arith, nat_tests)
 
 -- the third bit of the low part and 2, where the lowest of s is set
-pub odd-twos : (s n l : ℕ) → n % 2 ≡ 1 → l ≡ n % 2 ^ 32
+pub odd_twos : (s n l : ℕ) → n % 2 ≡ 1 → l ≡ n % 2 ^ 32
     → is_odd (bit_and s ((l + 2) % 2 ^ 32 / 4)) ≡ is_odd s && leaves_3_or_5 n
-odd-twos s n l o e = odd-and s ((l + 2) % 2 ^ 32 / 4) ∙ ap (λ v. is_odd s && v) (third_bit n l o e)
+odd_twos s n l o e = odd-and s ((l + 2) % 2 ^ 32 / 4) ∙ ap (λ v. is_odd s && v) (third_bit n l o e)

@@ -53,9 +53,9 @@ jacobi-twos a (suc s) n o =
     search (arith, jacobi-twice, one_more_two, jacobi-twos a s n o)
 
 -- the same by a test of one's own
-pub jacobi-twos_by : (b : Bool) (a s n : ℕ) → n % 2 ≡ 1 → b ≡ eqb (s % 2) 1 && leaves_3_or_5 n
+pub jacobi_twos_by : (b : Bool) (a s n : ℕ) → n % 2 ≡ 1 → b ≡ eqb (s % 2) 1 && leaves_3_or_5 n
     → jacobi (pos (a * 2 ^ s)) n ≡ signed b (jacobi (pos a) n)
-jacobi-twos_by b a s n o e = jacobi-twos a s n o ∙ sym (ap (λ v. signed v (jacobi (pos a) n)) e)
+jacobi_twos_by b a s n o e = jacobi-twos a s n o ∙ sym (ap (λ v. signed v (jacobi (pos a) n)) e)
 
 -- ---- two odd numbers that change places
 sign-turned : (i j : ℕ) (t : Bool) → (i + j) % 2 ≡ cond t 1 0 → sign i ≡ signed t (sign j)
@@ -74,9 +74,9 @@ jacobi-swapped m n k o =
     (λ (z : Coprime m n → ⊥). search (arith, jacobi-shared, signed-zero)) (coprime_or_not _ _ (omega arith))
 
 -- the same by a test of one's own
-pub jacobi-swapped_by : (b : Bool) (m n : ℕ) → m % 2 ≡ 1 → n % 2 ≡ 1 → b ≡ both_leave_3 m n
+pub jacobi_swapped_by : (b : Bool) (m n : ℕ) → m % 2 ≡ 1 → n % 2 ≡ 1 → b ≡ both_leave_3 m n
     → jacobi (pos m) n ≡ signed b (jacobi (pos n) m)
-jacobi-swapped_by b m n k o e = jacobi-swapped m n k o ∙ sym (ap (λ v. signed v (jacobi (pos n) m)) e)
+jacobi_swapped_by b m n k o e = jacobi-swapped m n k o ∙ sym (ap (λ v. signed v (jacobi (pos n) m)) e)
 
 -- two turns, one after the other
 pub turned_twice : (x y z : ℤ) (t u : Bool) → x ≡ signed t y → y ≡ signed u z → x ≡ signed (not (beq t u)) z

@@ -132,6 +132,7 @@ pub fn jacobi_counted<T: PlainWord>(a_minus: bool, a: T, n: T) -> (i8, u32)
 ///
 /// 2^z times an odd number takes z halvings, a swap, and the steps of the residue after the swap. 2 to the number of
 /// steps is at most 2·a·n, for a from 1 to n - 1.
+#[tactic(auto, using(crate::proofs::StepCounts::step_laws))]
 pub fn step_laws()
     ensures none { (n : ℕ) → jacobi_steps 0 n ≡ 0 }
     ensures turn { (odd z n : ℕ) → odd % 2 ≡ 1 → jacobi_steps (odd * 2 ^ z) n ≡ z + 1 + jacobi_steps (n % odd) odd }

@@ -24,6 +24,7 @@ fn leaves_3<T: PlainWord>(n: T) -> bool
 /// # Preconditions
 ///
 /// - n is odd
+#[tactic(auto, using(crate::proofs::KroneckerSteps::half_more_is_3_or_5))]
 pub fn is_minus_over_two<T: PlainWord>(n: T) -> bool
     requires { T.number n % 2 ≡ 1 }
     ensures { result ≡ (T.number n % 8 == 3) || (T.number n % 8 == 5) }
@@ -32,6 +33,7 @@ pub fn is_minus_over_two<T: PlainWord>(n: T) -> bool
 }
 
 // Whether removing 2^twos from the upper number negates the symbol over an odd n.
+#[tactic(auto, using(crate::proofs::TurnedSymbols::jacobi_twos_by))]
 pub(crate) fn is_turned_by_twos<T: PlainWord>(twos: u32, n: T) -> bool
     requires { T.number n % 2 ≡ 1 }
     ensures { (a : ℕ) → jacobi (pos (a * 2 ^ twos)) (T.number n) ≡ signed result (jacobi (pos a) (T.number n)) }
@@ -40,6 +42,7 @@ pub(crate) fn is_turned_by_twos<T: PlainWord>(twos: u32, n: T) -> bool
 }
 
 // Whether swapping two odd numbers negates the symbol.
+#[tactic(auto, using(crate::proofs::TurnedSymbols::jacobi_swapped_by))]
 pub(crate) fn is_turned_by_swap<T: PlainWord>(a: T, n: T) -> bool
     requires a_odd { T.number a % 2 ≡ 1 }
     requires n_odd { T.number n % 2 ≡ 1 }
@@ -62,6 +65,7 @@ pub(crate) fn last_symbol<T: PlainWord>(n: T, turned: bool) -> i8
 
 // In the lowest bit, whether removing 2^twos from the upper number negates the symbol over an odd n. The other bits
 // are unspecified.
+#[tactic(auto, using(crate::proofs::TurnedSymbols::jacobi_twos_by, crate::proofs::TurnBits::odd_twos))]
 pub(crate) fn turn_by_twos<T: LowPart>(twos: u32, n: T) -> u32
     requires { T.number n % 2 ≡ 1 }
     ensures { (a : ℕ)
