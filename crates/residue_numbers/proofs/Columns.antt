@@ -19,7 +19,7 @@ use Rattle.num_modular.specs.Stops.{NeedsInverse}
 use Rattle.num_modular.specs.Systems.{range_of}
 use Rattle.residue_numbers.specs.Registers.{register, StartWith, IsCarriedOut, IsColumnRun, IsRun, value_modulo}
 use Rattle.residue_numbers.proofs.Encodings.{ArePositive, range_positive}
-use Rattle.residue_numbers.proofs.Runs.{Laws, IsFactor, inverse_within, values_within, units_below, lacks_none, starts, begins, factor}
+use Rattle.residue_numbers.proofs.Runs.{Laws, IsFactor, inverse_within, values_within, units_below, lacks_none, starts, start_residue, modulus_is_factor}
 
 -- a command over whole numbers
 abbrev pub over_whole : {C : Type 0} → (C → RingCommand ℕ) → C → RingCommand ℕ
@@ -30,9 +30,9 @@ abbrev pub Named : Type 0
 Named = (m a : ℕ) → IsInversion (λ x. x) m a (inverse_of m a)
 
 -- an inverse that isn't missing exists
-found : (m a : ℕ) (o : Option ℕ) → IsInversion (λ x. x) m a o → ((HasInverse m a → ⊥) → ⊥) → HasInverse m a
-found m a None none missing = absurd (missing (λ h. none h.0 h.1))
-found m a (Some x) is missing = (x, is)
+inverse_exists : (m a : ℕ) (o : Option ℕ) → IsInversion (λ x. x) m a o → ((HasInverse m a → ⊥) → ⊥) → HasInverse m a
+inverse_exists m a None none missing = absurd (missing (λ h. none h.0 h.1))
+inverse_exists m a (Some x) is missing = (x, is)
 
 none_is_some : {r : ℕ} → None ≡ Some r → ⊥
 none_is_some e = cc
@@ -45,9 +45,9 @@ has_inverse : Named → (m : ℕ) (v : ℕ → ℕ) (read : Option (RingCommand 
     → (r : ℕ) → IsSomeAnd read (λ command. inverted_by command ≡ Some r) → HasInverse m (v r)
 has_inverse named m v None lacks r needs = absurd needs
 has_inverse named m v (Some (Inv dst a)) lacks r needs =
-    subst (λ q. HasInverse m (v q)) (same_register needs) (found m (v a) (inverse_of m (v a)) (named m (v a)) lacks)
+    subst (λ q. HasInverse m (v q)) (same_register needs) (inverse_exists m (v a) (inverse_of m (v a)) (named m (v a)) lacks)
 has_inverse named m v (Some (Div dst a b)) lacks r needs =
-    subst (λ q. HasInverse m (v q)) (same_register needs) (found m (v b) (inverse_of m (v b)) (named m (v b)) lacks)
+    subst (λ q. HasInverse m (v q)) (same_register needs) (inverse_exists m (v b) (inverse_of m (v b)) (named m (v b)) lacks)
 has_inverse named m v (Some _) lacks r needs = absurd (none_is_some needs)
 
 -- an inverse that doesn't exist modulo a factor of the range doesn't exist modulo the range
@@ -68,11 +68,11 @@ NoneLacks moduli start commands done i =
 module _ (laws : Laws) (named : Named) (moduli start : List ℕ) (commands : List (RingCommand ℕ)) (done : ℕ)
     (positive : ArePositive moduli) (each : (i : ℕ) → i < length moduli → NoneLacks moduli start commands done i) where
   -- so each inverse before it exists modulo the range
-  units : (j r : ℕ) → j < done → NeedsInverse commands j r
+  inverses_modulo_range : (j r : ℕ) → j < done → NeedsInverse commands j r
       → HasInverse (range_of moduli) (value_at (range_of moduli) start commands j r)
-  units =
-      units_below laws (length moduli) moduli start (λ i. starts (get_or moduli i 0) start) commands (factor moduli positive)
-      (range_positive moduli positive) (λ i r h. begins (get_or moduli i 0) start (positive i h) r) done
+  inverses_modulo_range =
+      units_below laws (length moduli) moduli start (λ i. starts (get_or moduli i 0) start) commands (modulus_is_factor moduli positive)
+      (range_positive moduli positive) (λ i r h. start_residue (get_or moduli i 0) start (positive i h) r) done
       (λ i j r h b needs. has_inverse named (get_or moduli i 0)
       (value_at (get_or moduli i 0) (starts (get_or moduli i 0) start) commands j)
       (slice_get commands j) (each i h j b) r needs)
@@ -81,19 +81,19 @@ module _ (laws : Laws) (named : Named) (moduli start : List ℕ) (commands : Lis
   values_left : (i : ℕ) → i < length moduli → (r : ℕ) → value_at (range_of moduli) start commands done r % get_or moduli i 0
       ≡ value_at (get_or moduli i 0) (starts (get_or moduli i 0) start) commands done r
   values_left i h =
-      values_within laws (factor moduli positive i h) start (starts (get_or moduli i 0) start) commands done
-      (begins (get_or moduli i 0) start (positive i h)) (λ j r b needs. units j r b needs)
+      values_within laws (modulus_is_factor moduli positive i h) start (starts (get_or moduli i 0) start) commands done
+      (start_residue (get_or moduli i 0) start (positive i h)) (λ j r b needs. inverses_modulo_range j r b needs)
 
   carried_before : (at : ℕ) → at < done → LacksInverseAt (range_of moduli) start commands at → ⊥
   carried_before at h lacks =
       lacks_none (range_of moduli) (value_at (range_of moduli) start commands at) (slice_get commands at) lacks
-      (λ r needs. units at r h needs)
+      (λ r needs. inverses_modulo_range at r h needs)
 
   carried_next : (i : ℕ) → i < length moduli
       → LacksInverseAt (get_or moduli i 0) (starts (get_or moduli i 0) start) commands done
       → LacksInverseAt (range_of moduli) start commands done
   carried_next i h lacks =
-      lacks_above (factor moduli positive i h) (value_at (range_of moduli) start commands done)
+      lacks_above (modulus_is_factor moduli positive i h) (value_at (range_of moduli) start commands done)
       (value_at (get_or moduli i 0) (starts (get_or moduli i 0) start) commands done) (values_left i h)
       (slice_get commands done) lacks
 
@@ -104,24 +104,12 @@ stopped_at e = cc
 stop_exactly : (m : ℕ) (start : List ℕ) (commands : List (RingCommand ℕ)) (done : ℕ)
     → ((at : ℕ) → at < done → LacksInverseAt m start commands at → ⊥) → LacksInverseAt m start commands done
     → (at : ℕ) → (NoInverse done ≡ NoInverse at) ↔ IsStop m start commands at
-stop_exactly m start commands done before next at = (
-  λ e. subst (IsStop m start commands) (stopped_at e) record { lacks = next; first = before },
-  λ stop. elim (cases_lt at done) [
-    | inl below ↦ absurd (before at below stop.lacks)
-    | inr other ↦ elim (cases_lt done at) [
-      | inl above ↦ absurd (stop.first done above next)
-      | inr same ↦ let e : done ≡ at = omega (arith, other, same) in ap NoInverse e
-    ]
-  ],
-)
+stop_exactly m start commands done before next at = search (arith, stopped_at, cases_lt)
 
 -- where all are carried out, there is none
 no_stop_at_all : (m : ℕ) (start : List ℕ) (commands : List (RingCommand ℕ))
     → ((at : ℕ) → at < length commands → LacksInverseAt m start commands at → ⊥) → (at : ℕ) → IsStop m start commands at → ⊥
-no_stop_at_all m start commands before at stop = elim (cases_lt at (length commands)) [
-  | inl below ↦ before at below stop.lacks
-  | inr past ↦ subst (λ o. IsSomeAnd o (LacksInverse m (value_at m start commands at))) (slice_get_past commands at past) stop.lacks
-]
+no_stop_at_all m start commands before at stop = search (arith, cases_lt, slice_get_past)
 
 -- the first commands of a list
 read_prefix : {X : Type 0} (xs : List X) (k i : ℕ) → i < k → slice_get (take k xs) i ≡ slice_get xs i
@@ -141,19 +129,11 @@ value_prefix m start commands k (suc i) h r =
 
 lacks_of_prefix : (m : ℕ) (start : List ℕ) (commands : List (RingCommand ℕ)) (k i : ℕ) → i < k
     → LacksInverseAt m start (take k commands) i → LacksInverseAt m start commands i
-lacks_of_prefix m start commands k i h lacks =
-    let same : value_at m start (take k commands) i ≡ value_at m start commands i =
-    fun_ext (value_prefix m start commands k i (omega (arith, h))) in
-    subst (λ v. IsSomeAnd (slice_get commands i) (LacksInverse m v)) same
-    (subst (λ o. IsSomeAnd o (LacksInverse m (value_at m start (take k commands) i))) (read_prefix commands k i h) lacks)
+lacks_of_prefix m start commands k i h lacks = search (arith, value_prefix, read_prefix)
 
 prefix_lacks : (m : ℕ) (start : List ℕ) (commands : List (RingCommand ℕ)) (k i : ℕ) → i < k
     → LacksInverseAt m start commands i → LacksInverseAt m start (take k commands) i
-prefix_lacks m start commands k i h lacks =
-    let same : value_at m start (take k commands) i ≡ value_at m start commands i =
-    fun_ext (value_prefix m start commands k i (omega (arith, h))) in
-    subst (λ v. IsSomeAnd (slice_get (take k commands) i) (LacksInverse m v)) (sym same)
-    (subst (λ o. IsSomeAnd o (LacksInverse m (value_at m start commands i))) (sym (read_prefix commands k i h)) lacks)
+prefix_lacks m start commands k i h lacks = search (arith, value_prefix, read_prefix)
 
 -- what is carried out of the first k commands alone
 part_of : {C : Type 0} (f : C → RingCommand ℕ) (commands : List C) (m : ℕ) (start : List ℕ) (k done : ℕ) → done ≤ k
@@ -188,11 +168,7 @@ none_lacks m start commands never (suc n) at h lacks = elim (cases_lt at n) [
 -- a command that lacks its inverse is one of the list
 lacks_within : (m : ℕ) (start : List ℕ) (commands : List (RingCommand ℕ)) (at : ℕ) → LacksInverseAt m start commands at
     → at < length commands
-lacks_within m start commands at lacks = elim (cases_lt at (length commands)) [
-  | inl below ↦ below
-  | inr past ↦ absurd (subst (λ o. IsSomeAnd o (LacksInverse m (value_at m start commands at)))
-      (slice_get_past commands at past) lacks)
-]
+lacks_within m start commands at lacks = search (arith, cases_lt, slice_get_past)
 
 -- places of a list of registers, of n words each
 pub place_within : (count n r i : ℕ) → r < count → i < n → r * n + i < count * n
@@ -229,10 +205,7 @@ all_of_each P xs each i d h = subst P (sym (get_or_default_zero xs i d h)) (each
 start_is : (m n place : ℕ) (words values start : List ℕ) → length values ≡ length start
     → ((r : ℕ) → r < length start → get_or values r 0 ≡ get_or words (r * n + place) 0 % m)
     → ((r : ℕ) → r < length start → get_or words (r * n + place) 0 % m ≡ get_or start r 0 % m) → values ≡ starts m start
-start_is m n place words values start count loaded congruent =
-    same_number_lists values (starts m start) (count ∙ sym (length-map start (λ k. k % m))) (λ r h.
-    let within : r < length start = omega (arith, h, count) in
-    loaded r within ∙ congruent r within ∙ sym (get_or-map (λ k. k % m) start r 0 0 within))
+start_is m n place words values start count loaded congruent = search (arith, same_number_lists, length-map, get_or-map)
 
 -- the modulus of a reducer of the list
 pub modulus_of : {R : Type 0} (modulus : R → ℕ) (reducers : List R) (moduli : List ℕ) (place : ℕ) (reducer : R)
@@ -279,9 +252,7 @@ pub by_end : {C : Type 0} (f : C → RingCommand ℕ) (commands : List C) (m : �
     → count ≤ length commands → ((at : ℕ) → (end ≡ NoInverse at) ↔ IsStop m start (map f (take count commands)) at)
     → ((end ≡ Done) ↔ ((at : ℕ) → IsStop m start (map f (take count commands)) at → ⊥)) → (end ≡ Done → done ≡ count)
     → ((at : ℕ) → end ≡ NoInverse at → done ≡ at) → IsCarriedBy m start (map f (take count commands)) end count done
-by_end f commands m start end count done within =
-    carried_by_end m start (map f (take count commands)) end count done
-    (length-map (take count commands) f ∙ length-take-le count commands within)
+by_end f commands m start end count done within = search (arith, carried_by_end, length-map, length-take-le)
 
 -- a run modulo one modulus, from the inputs at its place
 pub column_run : {C : Type 0} (f : C → RingCommand ℕ) (commands : List C) (moduli words start values registers : List ℕ)
@@ -364,13 +335,7 @@ pub more_again : (moduli start : List ℕ) (commands : List (RingCommand ℕ)) (
     → IsKept moduli start before after place → done ≤ count → NoneLacks moduli start commands count place
     → HoldBut moduli start commands after count again (place + 1)
 more_again moduli start commands before after count done again place was here kept most none r i h within side =
-    let all : done ≡ count = elim (cases_lt done count) [
-      | inl less ↦ absurd (none done less (here.carried.next less))
-      | inr more ↦ omega (arith, more, most)
-    ] in
-    at_or_not (λ q. get_or after (r * length moduli + q) 0 ≡ value_modulo moduli q start commands count r) i place
-    (here.values r h ∙ ap (λ k. value_modulo moduli place start commands k r) all)
-    (λ other. kept r i h within other ∙ was r i h within (λ l. side (omega (arith, l, other))))
+    search (arith, cases_lt, at_or_not)
 
 -- all moduli are run, and those before `again` once more
 pub all_run : Laws → Named → (moduli start : List ℕ) (commands : List (RingCommand ℕ)) (first last : List ℕ)
@@ -396,11 +361,11 @@ pub record IsEnd (m : ℕ) (start : List ℕ) (commands : List (RingCommand ℕ)
   pub never : (end ≡ Done) ↔ ((at : ℕ) → IsStop m start commands at → ⊥)
   pub same : carried_out end commands ≡ done
 
-pub ends : {C : Type 0} (f : C → RingCommand ℕ) (commands : List C) (m : ℕ) (start : List ℕ) (end : RunEnd) (done : ℕ)
+pub end_of_run : {C : Type 0} (f : C → RingCommand ℕ) (commands : List C) (m : ℕ) (start : List ℕ) (end : RunEnd) (done : ℕ)
     → IsCarriedOut m start (map f commands) (length (map f commands)) done → done ≤ length commands
     → (done ≡ length commands → end ≡ Done) → (done < length commands → end ≡ NoInverse done)
     → IsEnd m start (map f commands) end done
-ends f commands m start end done is most all part =
+end_of_run f commands m start end done is most all part =
     let long = length-map commands f in
     elim (cases_lt done (length commands)) [
       | inl less ↦

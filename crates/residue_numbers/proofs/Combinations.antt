@@ -17,8 +17,8 @@ abbrev pub Quotients : Type 0
 Quotients = (m a b c j : ℕ) → Congruent m (c * j) 1 → Congruent m (a * c) (b * c) → Congruent m a b
 
 -- a positive factor cancels
-cancelled : (g x y : ℕ) → 0 < g → g * x ≡ g * y → x ≡ y
-cancelled g x y h e = sym (mul-div_cancel_left x h) ∙ ap (λ k. k / g) e ∙ mul-div_cancel_left y h
+positive_factor_cancels : (g x y : ℕ) → 0 < g → g * x ≡ g * y → x ≡ y
+positive_factor_cancels g x y h e = sym (mul-div_cancel_left x h) ∙ ap (λ k. k / g) e ∙ mul-div_cancel_left y h
 
 -- what is congruent modulo a multiple of g is congruent modulo g
 to_divisor : (g q n a b : ℕ) → n ≡ g * q → a % n ≡ b % n → a % g ≡ b % g
@@ -28,30 +28,15 @@ to_divisor g q n a b e h =
 
 -- a divisor of a positive number is positive
 positive_divisor : (d n : ℕ) → 0 < n → n % d ≡ 0 → 0 < d
-positive_divisor d n above divides = elim (cases_lt 0 d) [
-  | inl one ↦ one
-  | inr none ↦
-      let zero_is : d ≡ 0 = omega (arith, none) in
-      let n_is = sym (mod-zero n) ∙ ap (λ k. n % k) (sym zero_is) ∙ divides in
-      absurd (omega (arith, n_is, above))
-]
+positive_divisor d n above divides = search (arith, cases_lt, mod-zero)
 
 -- the greatest common divisor that Euclid's algorithm leaves
 pub euclid_is : (m n d g : ℕ) → 0 < n → IsGcd m n d → IsGreatestCommonDivisor m n g → d ≡ g
-euclid_is m n d g above is greatest =
-    let d_first = mod-eq-zero_of_dvd d is.0 in
-    let d_second = mod-eq-zero_of_dvd d is.1 in
-    let most = greatest.greatest d d_first d_second in
-    let least = le_of_dvd (positive_divisor d n above d_second)
-    (is.2 g (dvd_of_mod-eq-zero g greatest.first) (dvd_of_mod-eq-zero g greatest.second)) in
-    omega (arith, most, least)
+euclid_is m n d g above is greatest = search (arith, mod-eq-zero_of_dvd, le_of_dvd, positive_divisor, dvd_of_mod-eq-zero)
 
 -- a common divisor d of u and v makes g·d one of m and n
 at_most_one : (g d : ℕ) → 0 < g → g * d ≤ g → d ≤ 1
-at_most_one g d positive most = elim (cases_lt 1 d) [
-  | inl two ↦ let more = mul-le-mul_left g two in absurd (omega (arith, more, most, positive))
-  | inr one ↦ one
-]
+at_most_one g d positive most = search (arith, cases_lt, mul-le-mul_left)
 
 -- u and v are coprime
 coprime_parts : (m n g u v : ℕ) → 0 < n → IsGreatestCommonDivisor m n g → m ≡ g * u → n ≡ g * v → 0 < g → Coprime u v
@@ -94,9 +79,9 @@ parts_of m n g above greatest =
     }
 
 -- the number with the steps t is congruent to b modulo n
-solved : (m n g u v a b s k t : ℕ) → m ≡ g * u → n ≡ g * v → s ≡ g * k → (u * t) % v ≡ k % v
+solution_is_common : (m n g u v a b s k t : ℕ) → m ≡ g * u → n ≡ g * v → s ≡ g * k → (u * t) % v ≡ k % v
     → (s + a) % n ≡ b % n → (a + m * t) % n ≡ b % n
-solved m n g u v a b s k t m_is n_is s_is steps difference =
+solution_is_common m n g u v a b s k t m_is n_is s_is steps difference =
     let p : ℕ = k / v in
     let q : ℕ = u * t / v in
     let parts : u * t + v * p ≡ k + v * q = spread v (u * t) k steps in
@@ -123,7 +108,7 @@ only_one quotients m n g u v a b t y positive m_is n_is (j, inverse) a_below t_b
     let n_first = ap (λ w. w * r) n_is in
     let n_second = ap (λ w. w * p) n_is in
     let through : g * (u * q + v * r) ≡ g * (u * t + v * p) = omega (arith, equal, m_first, m_second, n_first, n_second) in
-    let parts = cancelled g (u * q + v * r) (u * t + v * p) positive through in
+    let parts = positive_factor_cancels g (u * q + v * r) (u * t + v * p) positive through in
     let products : (q * u) % v ≡ (t * u) % v =
     gathered v (q * u) (t * u) r p (omega (arith, parts)) in
     let same = (quotients v q t u j record { same = inverse.one } record { same = products }).same in
@@ -155,7 +140,7 @@ pub combined : Quotients → (m n g a b s t : ℕ) → AreParts m n g → 0 < m 
 combined quotients m n g a b s t parts above unit divides steps below difference =
     let reduced = mod-lt a above in
     let s_is : s ≡ g * (s / g) = omega (arith, divides) in
-    let is = solved m n g (m / g) (n / g) (a % m) b s (s / g) t parts.first parts.second s_is steps difference in
+    let is = solution_is_common m n g (m / g) (n / g) (a % m) b s (s / g) t parts.first parts.second s_is steps difference in
     record {
       multiple = multiple_is quotients m n g (m / g) (n / g) parts.positive above parts.step parts.first parts.second unit;
       below = within m (n / g) (a % m) t reduced below;

@@ -17,19 +17,13 @@ remainder_within range m k a e =
 
 -- the sum, the product and the difference of residues are the residues of those modulo the range
 pub sum_within : (range m k x y a b : ℕ) → range ≡ m * k → x % m ≡ a → y % m ≡ b → (a + b) % m ≡ (x + y) % range % m
-sum_within range m k x y a b e p q =
-    ap (λ n. (n + b) % m) (sym p) ∙ ap (λ n. (x % m + n) % m) (sym q) ∙ mod-add-mod x m (y % m) ∙ add-mod-mod x y m
-    ∙ sym (remainder_within range m k (x + y) e)
+sum_within range m k x y a b e p q = search (arith, mod-add-mod, add-mod-mod, remainder_within)
 
 pub product_within : (range m k x y a b : ℕ) → range ≡ m * k → x % m ≡ a → y % m ≡ b → (a * b) % m ≡ (x * y) % range % m
-product_within range m k x y a b e p q =
-    ap (λ n. (n * b) % m) (sym p) ∙ ap (λ n. (x % m * n) % m) (sym q) ∙ sym (mul-mod x y m)
-    ∙ sym (remainder_within range m k (x * y) e)
+product_within range m k x y a b e p q = search (arith, mul-mod, remainder_within)
 
-cancelled : (m a b c : ℕ) → (a + c) % m ≡ (b + c) % m → a % m ≡ b % m
-cancelled m a b c e =
-    let f = spread m (a + c) (b + c) e in
-    gathered m a b ((b + c) / m) ((a + c) / m) (omega (arith, f))
+summand_cancels : (m a b c : ℕ) → (a + c) % m ≡ (b + c) % m → a % m ≡ b % m
+summand_cancels m a b c e = search (arith, spread, gathered)
 
 pub difference_within : ((m : ℕ) (z : ℤ) → 0 < m → IsResidue m z (residue m z))
     → ((m a b : ℕ) → 0 < m → (residue m (pos a -ℤ pos b) + b) % m ≡ a % m)
@@ -43,7 +37,7 @@ difference_within is_residue sum range m k x y a b e wide positive p q =
     ∙ remainder_within range m k x e in
     let moved : (r + b) % m ≡ (r + y) % m =
     sym (add-mod-mod r b m) ∙ ap (λ n. (r + n) % m) (sym q) ∙ add-mod-mod r y m in
-    let same : s % m ≡ r % m = cancelled m s r b (sum m a b positive ∙ sym p ∙ sym left ∙ sym moved) in
+    let same : s % m ≡ r % m = summand_cancels m s r b (sum m a b positive ∙ sym p ∙ sym left ∙ sym moved) in
     let small : s < m = (is_residue m (pos a -ℤ pos b) positive).below in
     sym (mod-eq_of_lt small) ∙ same
 

@@ -26,9 +26,7 @@ mixed_more n ms ds =
 -- digits that are equal denote equal numbers
 pub mixed_same : (n : ℕ) (ms ds es : List ℕ) → ((i : ℕ) → i < n → get_or ds i 0 ≡ get_or es i 0)
     → mixed_below n ms ds ≡ mixed_below n ms es
-mixed_same n ms ds es same =
-    sum_below-same n (λ i. get_or ds i 0 * range_below i ms) (λ i. get_or es i 0 * range_below i ms)
-    (λ i l. ap (λ d. d * range_below i ms) (same i l))
+mixed_same n ms ds es same = search (arith, sum_below-same)
 
 -- a write of a digit leaves the number of those before it
 pub mixed_before : (n d : ℕ) (ms ds : List ℕ) → mixed_below n ms (set ds n d) ≡ mixed_below n ms ds
@@ -38,11 +36,7 @@ mixed_before n d ms ds =
 -- and adds its part
 pub mixed_written : (n d : ℕ) (ms ds : List ℕ) → n < length ds
     → mixed_below (n + 1) ms (set ds n d) ≡ mixed_below n ms ds + range_below n ms * d
-mixed_written n d ms ds room =
-    let whole = mixed_more n ms (set ds n d) in
-    let before = mixed_before n d ms ds in
-    let here = ap (λ k. k * range_below n ms) (get_or-set_same ds n d 0 room) in
-    omega (arith, whole, before, here)
+mixed_written n d ms ds room = search (arith, mixed_more, mixed_before, get_or-set_same)
 
 -- digits below the moduli denote a number below their product
 pub mixed_within : (n : ℕ) (ms ds : List ℕ) → ((i : ℕ) → i < n → get_or ds i 0 < get_or ms i 0)
@@ -55,8 +49,8 @@ mixed_within (suc n) ms ds below =
     omega (arith, inside)
 
 -- the first digit from the top that differs decides
-lower : (p a b d e : ℕ) → a < p → d < e → a + d * p < b + e * p
-lower p a b d e l h = let f = mul-le-mul_left p h in omega (arith, f, l)
+higher_digit_decides : (p a b d e : ℕ) → a < p → d < e → a + d * p < b + e * p
+higher_digit_decides p a b d e l h = let f = mul-le-mul_left p h in omega (arith, f, l)
 
 pub mixed_less : (n k : ℕ) (ms ds es : List ℕ) → k < n → ((i : ℕ) → i < k → get_or ds i 0 < get_or ms i 0)
     → get_or ds k 0 < get_or es k 0 → ((i : ℕ) → k < i → i < n → get_or ds i 0 ≡ get_or es i 0)
@@ -72,7 +66,7 @@ mixed_less (suc n) k ms ds es inside below less same = elim (cases_lt k n) [
       let here : n ≡ k = omega arith in
       let inside = mixed_within n ms ds (λ i l. below i (omega (arith, l, here))) in
       let digits = subst (λ i. get_or ds i 0 < get_or es i 0) (sym here) less in
-      omega (arith, lower (range_below n ms) (mixed_below n ms ds) (mixed_below n ms es) _ _ inside digits)
+      omega (arith, higher_digit_decides (range_below n ms) (mixed_below n ms ds) (mixed_below n ms es) _ _ inside digits)
 ]
 
 -- in a system the product of the moduli before one has an inverse modulo it

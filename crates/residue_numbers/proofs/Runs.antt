@@ -1,5 +1,5 @@
 -- Runs of one list of commands modulo the range and modulo the moduli.
-use Rattle.std.proofs.Common.{◌≡◌, ℕ, zero, suc, ◌+◌, ◌*◌, ◌%◌, ◌^◌, ◌<◌, ◌==◌, if◌then◌else◌, List, slice_index, Bool}
+use Rattle.std.proofs.Common.{◌≡◌, ℕ, zero, suc, ◌+◌, ◌*◌, ◌%◌, ◌^◌, ◌<◌, ◌==◌, if◌then◌else◌, List, Bool}
 use Rattle.std.proofs.Common.{true, false, Option, Some, None, option_map, unwrap_or, IsSomeAnd, get_or}
 use Rattle.std.proofs.Common.{length, map, sym, ap, subst, ◌∙◌, refl, arith, pos, neg_ℤ, ◌-ℤ◌, ℤ, ◌↔◌}
 use Rattle.std.specs.List.{slice_get}
@@ -99,10 +99,10 @@ outcome_within laws {range} {m} f V v same (Pow dst a exp) unit = (
       ∙ sym (remainder_within range m f.times (V a ^ exp) f.is)),
 )
 
-chosen : (b : Bool) (o p : Option ℕ) (x y w m : ℕ) → o ≡ Some w → p ≡ Some (w % m) → x % m ≡ y
+written_value_within : (b : Bool) (o p : Option ℕ) (x y w m : ℕ) → o ≡ Some w → p ≡ Some (w % m) → x % m ≡ y
     → (if b then unwrap_or o x else x) % m ≡ (if b then unwrap_or p y else y)
-chosen true o p x y w m e f h = ap (λ q. unwrap_or q x % m) e ∙ sym (ap (λ q. unwrap_or q y) f)
-chosen false o p x y w m e f h = h
+written_value_within true o p x y w m e f h = ap (λ q. unwrap_or q x % m) e ∙ sym (ap (λ q. unwrap_or q y) f)
+written_value_within false o p x y w m e f h = h
 
 after_within : Laws → {range m : ℕ} (f : IsFactor range m) (V v : ℕ → ℕ) → ((r : ℕ) → V r % m ≡ v r)
     → (read : Option (RingCommand ℕ))
@@ -111,7 +111,7 @@ after_within : Laws → {range m : ℕ} (f : IsFactor range m) (V v : ℕ → �
 after_within laws f V v same None unit r = same r
 after_within laws {range} {m} f V v same (Some command) unit r =
     let (w, p, q) = outcome_within laws f V v same command unit in
-    chosen (r == destination_of command) (outcome range V command) (outcome m v command) (V r) (v r) w m p q (same r)
+    written_value_within (r == destination_of command) (outcome range V command) (outcome m v command) (V r) (v r) w m p q (same r)
 
 -- so the values modulo the range leave the values modulo m, as long as each inverse is there modulo the range
 pub values_within : Laws
@@ -125,19 +125,17 @@ values_within laws {range} {m} f start starts commands (suc i) begin unit r =
     (values_within laws f start starts commands i begin (λ j q h. unit j q (omega (arith, h)))) (slice_get commands i)
     (λ q needs. unit i q (omega arith) needs) r
 
-swapped : {a n : ℕ} → Coprime a n → Coprime n a
-swapped {a} {n} h = record { only_one = λ d p q. h.only_one d q p }
+coprime_swapped : {a n : ℕ} → Coprime a n → Coprime n a
+coprime_swapped {a} {n} h = record { only_one = λ d p q. h.only_one d q p }
 
-turned : Laws → (m a : ℕ) → 0 < m → 0 < a → HasInverse m a → HasInverse a m
-turned laws m a positive above unit = (laws.coprime a m above).1 (swapped ((laws.coprime m a positive).0 unit))
+inverse_swapped : Laws → (m a : ℕ) → 0 < m → 0 < a → HasInverse m a → HasInverse a m
+inverse_swapped laws m a positive above unit = (laws.coprime a m above).1 (coprime_swapped ((laws.coprime m a positive).0 unit))
 
 -- a number with an inverse modulo each modulus has one modulo their product
 unit_above : Laws → (n : ℕ) (moduli : List ℕ) (a : ℕ) → 0 < a → 0 < range_below n moduli
     → ((i : ℕ) → i < n → 0 < get_or moduli i 0)
     → ((i : ℕ) → i < n → HasInverse (get_or moduli i 0) a) → HasInverse (range_below n moduli) a
-unit_above laws n moduli a above wide positive each =
-    turned laws a (range_below n moduli) above wide
-    (has_product a n (slice_index moduli) above (λ i h. turned laws (get_or moduli i 0) a (positive i h) above (each i h)))
+unit_above laws n moduli a above wide positive each = search (arith, inverse_swapped, has_product)
 
 pub unit_of_product : Laws → (n : ℕ) (moduli : List ℕ) (a : ℕ) → 0 < range_below n moduli
     → ((i : ℕ) → i < n → 0 < get_or moduli i 0)
@@ -188,13 +186,13 @@ lacks_none m v (Some _) h unit = h
 abbrev pub starts : ℕ → List ℕ → List ℕ
 starts m numbers = map (λ n. n % m) numbers
 
-pub begins : (m : ℕ) (numbers : List ℕ) → 0 < m → (r : ℕ) → get_or numbers r 0 % m ≡ get_or (starts m numbers) r 0
-begins m numbers positive r =
+pub start_residue : (m : ℕ) (numbers : List ℕ) → 0 < m → (r : ℕ) → get_or numbers r 0 % m ≡ get_or (starts m numbers) r 0
+start_residue m numbers positive r =
     sym (subst (λ d. get_or (starts m numbers) r d ≡ get_or numbers r 0 % m) (mod-eq_of_lt positive)
     (get_or-map (λ n. n % m) numbers r 0))
 
-pub factor : (moduli : List ℕ) → ArePositive moduli → (i : ℕ) → i < length moduli
+pub modulus_is_factor : (moduli : List ℕ) → ArePositive moduli → (i : ℕ) → i < length moduli
     → IsFactor (range_of moduli) (get_or moduli i 0)
-factor moduli positive i h =
+modulus_is_factor moduli positive i h =
     let (k, e) = divides (length moduli) i moduli h in
     record { times = k; is = e; wide = range_positive moduli positive; positive = positive i h }

@@ -42,10 +42,7 @@ negative_high : (range x : ℕ) → x < range → range ≤ 2 * x → signed_num
 negative_high range x h high = let e = signed_high range x high in omega (arith, ints, e, h)
 
 high_of_negative : (range x : ℕ) → signed_number range x <ℤ pos 0 → range ≤ 2 * x
-high_of_negative range x negative = elim (cases_lt (2 * x) range) [
-  | inl low ↦ let e = signed_low range x low in absurd (omega (arith, ints, e, negative))
-  | inr high ↦ high
-]
+high_of_negative range x negative = search (arith, cases_lt, signed_low)
 
 same_bool : (l r : Bool) → beq l r ≡ true → l ≡ r
 same_bool true true e = refl
@@ -78,17 +75,10 @@ sign_even x low before p q m d range e f g h half even =
 -- by digits that are all halves
 pub sign_none : (x low p range : ℕ) → 2 * x + p ≡ 2 * low + range → low ≡ 0 → p ≡ 1
     → IsTrue false ↔ (signed_number range x <ℤ pos 0)
-sign_none x low p range e f g =
-    let low_is = half_of_none x low p range e f g in (
-      (λ t. absurd (false≢true t)),
-      λ negative. let wrong = high_of_negative range x negative in absurd (omega (arith, wrong, low_is)),
-    )
+sign_none x low p range e f g = search (arith, half_of_none, false≢true, high_of_negative)
 
 low_of_other : (range x : ℕ) → x < range → (signed_number range x <ℤ pos 0 → ⊥) → 2 * x < range
-low_of_other range x h other = elim (cases_lt (2 * x) range) [
-  | inl low ↦ low
-  | inr high ↦ absurd (other (negative_high range x h high))
-]
+low_of_other range x h other = search (arith, cases_lt, negative_high)
 
 -- numbers on one side compare as what they represent
 ordered : (o : Ordering) (x y : ℕ) (v w : ℤ) → (x < y → v <ℤ w) → (x ≡ y → v ≡ w) → (y < x → w <ℤ v)
@@ -110,9 +100,6 @@ pub ordered_alike : (l r : Bool) (o : Ordering) (range x y : ℕ) → x < range 
     → MatchOrdering o (x < y) (x ≡ y) (y < x)
     → MatchOrdering o (signed_number range x <ℤ signed_number range y) (signed_number range x ≡ signed_number range y)
     (signed_number range y <ℤ signed_number range x)
-ordered_alike true r o range x y h k left right alike =
-    ordered_with o range range x y (signed_high range x (high_of_negative range x (left.0 refl)))
-    (signed_high range y (high_of_negative range y (right.0 (sym (same_bool true r alike)))))
+ordered_alike true r o range x y h k left right alike = search (arith, ordered_with, signed_high, high_of_negative, same_bool)
 ordered_alike false r o range x y h k left right alike =
-    ordered_with o range 0 x y (signed_low range x (low_of_other range x h (λ n. false≢true (left.1 n))))
-    (signed_low range y (low_of_other range y k (λ n. false≢true (same_bool false r alike ∙ right.1 n))))
+    search (arith, ordered_with, signed_low, low_of_other, false≢true, same_bool)

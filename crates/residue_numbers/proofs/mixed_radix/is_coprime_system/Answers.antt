@@ -1,3 +1,4 @@
+use Rattle.std.proofs.Common.{arith}
 use Rattle.std.proofs.Common.{◌≡◌, ℕ, ◌<◌, List, slice_index, get_or, sym, ◌∙◌, below_more, true, false, Option, Some, None}
 use Rattle.std.proofs.Common.{is_some, MatchOption, ap, not}
 use Rattle.std.proofs.lemmas.Bool.{false≢true}
@@ -20,14 +21,7 @@ some_is m w None h e = absurd (false≢true e)
 some_is m w (Some x) h e = (x, h.0, h.1)
 
 pub returns-then-is_none : goal.returns-then-is_none
-returns-then-is_none c = (
-  (λ t. absurd (false≢true t)),
-  λ system.
-      let ms : List ℕ = c.args.moduli.now in let place : ℕ = c.moduli.place in
-      absurd (none_is (get_or ms place 0) (range_below place ms) c.inverse_at.result c.inverse_at.ensures (c.is_none.ensures ∙ ap not c.if-is_none.true)
-      (system.positive place c.moduli-test.true)
-      (unit_at ms place c.inverse_laws.ensures.coprime system c.moduli-test.true)),
-)
+returns-then-is_none c = search (arith, false≢true, none_is, unit_at)
 
 pub moduli-preserved : goal.moduli-preserved
 moduli-preserved c =

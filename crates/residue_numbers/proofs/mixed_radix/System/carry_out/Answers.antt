@@ -1,19 +1,7 @@
 use Rattle.std.proofs.Common.{◌≡◌, length, arith, sym, ◌∙◌, subst}
-use Rattle.std.proofs.lemmas.List.{length-map}
 use Rattle.residue_numbers.proofs.Runs.{Laws}
-use Rattle.residue_numbers.proofs.Columns.{over_whole, AreRunBefore, more_run, more_again, all_run}
+use Rattle.residue_numbers.proofs.Columns.{AreRunBefore, more_run, more_again, all_run}
 use Rattle.residue_numbers.proofs.mixed_radix.System.carry_out.Goals as goal
-
-pub moduli-init : goal.moduli-init
-moduli-init g c = record {
-  within = omega arith;
-  first = omega arith;
-  run = λ start entries with. record {
-    each = λ i h. absurd (omega (arith, h));
-    next = λ h. absurd (let long = length-map c.args.commands.now (over_whole g.C.AsCommand.command) in omega (arith, h, long));
-    values = λ r i h from to. absurd (omega (arith, to));
-  };
-}
 
 pub moduli-preserved : goal.moduli-preserved
 moduli-preserved g c =

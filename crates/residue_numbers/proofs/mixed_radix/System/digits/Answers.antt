@@ -10,14 +10,7 @@ use Rattle.residue_numbers.proofs.MixedRadix.{mixed_none, mixed_written, mixed_w
 use Rattle.residue_numbers.proofs.mixed_radix.System.digits.Goals as goal
 
 pub moduli-init : goal.moduli-init
-moduli-init c =
-    let ms : List ℕ = c.args.self.now.moduli.now in
-    record {
-      entries = c.requires.room;
-      below = λ i h. absurd (omega arith);
-      each = λ i h. absurd (omega arith);
-      only = λ x h. ap (λ k. x % k) (product-zero (slice_index ms)) ∙ modulo_one x ∙ sym (mixed_none ms c.args.digits.now);
-    }
+moduli-init c = search (arith, product-zero, modulo_one, mixed_none)
 
 pub moduli-preserved : goal.moduli-preserved
 moduli-preserved c =
@@ -63,9 +56,7 @@ moduli-preserved c =
     }
 
 pub returns-clause-below : goal.returns-clause-below
-returns-clause-below c =
-    let ms : List ℕ = c.args.self.now.moduli.now in
-    mixed_within (length ms) ms c.moduli.digits (λ i h. c.moduli.invariant.below i (omega arith))
+returns-clause-below c = search (arith, mixed_within)
 
 pub returns-clause-only : goal.returns-clause-only
 returns-clause-only c x below are =

@@ -4,11 +4,6 @@ use Rattle.num_modular.specs.Ring.{values_of}
 use Rattle.residue_numbers.proofs.Columns.{over_whole, by_end, column_run, modulus_of, count_of}
 use Rattle.residue_numbers.proofs.mixed_radix.System.run_column.Goals as goal
 
-pub bounds-reducers-place : goal.bounds-reducers-place
-bounds-reducers-place g c =
-    let count = count_of g.R.Reducer.modulus c.args.reducers.now c.args.self.now.moduli.now c.requires.reducers in
-    omega (arith, count, c.requires.within)
-
 pub returns-clause-most : goal.returns-clause-most
 returns-clause-most g c =
     (by_end (over_whole g.C.AsCommand.command) c.args.commands.now _ _ _ _ _ c.requires.count
