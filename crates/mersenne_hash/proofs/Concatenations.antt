@@ -13,8 +13,8 @@ use Rattle.num_modular.specs.Sums.{sum_below, polynomial_highest_first}
 abbrev pub Horner : Type 0
 Horner = (n : ℕ) (c : ℕ → ℕ) (x : ℕ) → polynomial_highest_first (n + 1) c x ≡ polynomial_highest_first n c x * x + c n
 
-step : (a b d p q x s t : ℕ) → p ≡ (a * q + b) * x + d → s ≡ q * x → t ≡ b * x + d → p ≡ a * s + t
-step a b d p q x s t e f g = let h = ap (λ k. a * k) f in omega (arith, e, h, g)
+joined_horner_step : (a b d p q x s t : ℕ) → p ≡ (a * q + b) * x + d → s ≡ q * x → t ≡ b * x + d → p ≡ a * s + t
+joined_horner_step a b d p q x s t e f g = let h = ap (λ k. a * k) f in omega (arith, e, h, g)
 
 -- the first n of n + k coefficients, and the others
 pub polynomial_joined : Horner → (n k : ℕ) (c : ℕ → ℕ) (x : ℕ) → polynomial_highest_first (n + k) c x
@@ -28,7 +28,7 @@ polynomial_joined horner n (suc k) c x =
     let before = polynomial_joined horner n k c x in
     let one_more = ap (λ k. polynomial_highest_first k c x) (let e : n + suc k ≡ n + k + 1 = omega arith in e) in
     let last = ap (λ k. polynomial_highest_first k (λ i. c (n + i)) x) (let e : suc k ≡ k + 1 = omega arith in e) in
-    step (polynomial_highest_first n c x) (polynomial_highest_first k (λ i. c (n + i)) x) (c (n + k)) _ (x ^ k) x _ _
+    joined_horner_step (polynomial_highest_first n c x) (polynomial_highest_first k (λ i. c (n + i)) x) (c (n + k)) _ (x ^ k) x _ _
     (one_more ∙ horner (n + k) c x ∙ ap (λ v. v * x + c (n + k)) before) (pow-suc x k)
     (last ∙ horner k (λ i. c (n + i)) x)
 
@@ -38,15 +38,7 @@ pub polynomial_of_joined : Horner → (s t : List ℕ) (x : ℕ)
     ≡ polynomial_highest_first (length s) (slice_index s) x * x ^ length t
     + polynomial_highest_first (length t) (slice_index t) x
 polynomial_of_joined horner s t x =
-    let n = length s in let k = length t in let c : ℕ → ℕ = λ i. get_or (s ++ t) i 0 in
-    let first : polynomial_highest_first n c x ≡ polynomial_highest_first n (λ i. get_or s i 0) x =
-    sum_below-same n (λ i. c i * x ^ (n - 1 - i)) (λ i. get_or s i 0 * x ^ (n - 1 - i))
-    (λ i l. ap (λ v. v * x ^ (n - 1 - i)) (get_or-append s t 0 i l)) in
-    let second : polynomial_highest_first k (λ i. c (n + i)) x ≡ polynomial_highest_first k (λ i. get_or t i 0) x =
-    sum_below-same k (λ i. c (n + i) * x ^ (k - 1 - i)) (λ i. get_or t i 0 * x ^ (k - 1 - i))
-    (λ i l. ap (λ v. v * x ^ (k - 1 - i)) (get_or-append-add s t i 0)) in
-    ap (λ l. polynomial_highest_first l c x) (length-append s t) ∙ polynomial_joined horner n k c x
-    ∙ ap₂ (λ v w. v * x ^ k + w) first second
+    search (arith, sum_below-same, get_or-append, get_or-append-add, length-append, polynomial_joined)
 
 -- zeros in front change nothing
 pub polynomial_behind_zeros : Horner → (d : ℕ) (cs : List ℕ) (x : ℕ)

@@ -21,27 +21,27 @@ abbrev pub place : (ℕ → ℕ) → ℕ → ℕ → ℕ → ℕ
 place f w zero k = 0
 place f w (suc n) k = cond (eqb (f n) w && eqb (count f w n) k) n (place f w n k)
 
-one_more : (v w : ℕ) → tick (ltb v (suc w)) ≡ tick (ltb v w) + tick (eqb v w)
-one_more v w = grind (arith, nat_tests)
+tick_below_suc : (v w : ℕ) → tick (ltb v (suc w)) ≡ tick (ltb v w) + tick (eqb v w)
+tick_below_suc v w = grind (arith, nat_tests)
 
 below_suc : (f : ℕ → ℕ) (w n : ℕ) → count_below f (suc w) n ≡ count_below f w n + count f w n
 below_suc f w zero = omega arith
-below_suc f w (suc n) = omega (arith, below_suc f w n, one_more (f n) w)
+below_suc f w (suc n) = omega (arith, below_suc f w n, tick_below_suc (f n) w)
 
-none_below : (v : ℕ) → tick (ltb v 0) ≡ 0
-none_below v = grind (arith, nat_tests)
+tick_below_zero : (v : ℕ) → tick (ltb v 0) ≡ 0
+tick_below_zero v = grind (arith, nat_tests)
 
 below_zero : (f : ℕ → ℕ) (n : ℕ) → count_below f 0 n ≡ 0
 below_zero f zero = omega arith
-below_zero f (suc n) = omega (arith, below_zero f n, none_below (f n))
+below_zero f (suc n) = omega (arith, below_zero f n, tick_below_zero (f n))
 
-one_below : (v w : ℕ) → v < w → tick (ltb v w) ≡ 1
-one_below v w h = grind (arith, nat_tests)
+tick_below : (v w : ℕ) → v < w → tick (ltb v w) ≡ 1
+tick_below v w h = grind (arith, nat_tests)
 
 below_all : (f : ℕ → ℕ) (w n : ℕ) → ((i : ℕ) → i < n → f i < w) → count_below f w n ≡ n
 below_all f w zero each = omega arith
 below_all f w (suc n) each =
-    omega (arith, below_all f w n (λ i h. each i (omega arith)), one_below (f n) w (each n (omega arith)))
+    omega (arith, below_all f w n (λ i h. each i (omega arith)), tick_below (f n) w (each n (omega arith)))
 
 -- the place of a time: it is before n, the value is w there, and it is w at k places before
 pub record IsPlace (f : ℕ → ℕ) (w n k i : ℕ) : Type 0 where
@@ -58,17 +58,15 @@ first_fails a b c d e = grind (arith, nat_tests)
 second_fails : (a b c d : ℕ) → c ≢ d → (eqb a b && eqb c d) ≡ false
 second_fails a b c d e = grind (arith, nat_tests)
 
-not_counted : (a b : ℕ) → a ≢ b → tick (eqb a b) ≡ 0
-not_counted a b e = grind (arith, nat_tests)
+tick_of_different : (a b : ℕ) → a ≢ b → tick (eqb a b) ≡ 0
+tick_of_different a b e = grind (arith, nat_tests)
 
-counted : (a b : ℕ) → a ≡ b → tick (eqb a b) ≡ 1
-counted a b e = grind (arith, nat_tests)
+tick_of_same : (a b : ℕ) → a ≡ b → tick (eqb a b) ≡ 1
+tick_of_same a b e = grind (arith, nat_tests)
 
-earlier : (f : ℕ → ℕ) (w n k : ℕ) → (eqb (f n) w && eqb (count f w n) k) ≡ false
+is_place_suc : (f : ℕ → ℕ) (w n k : ℕ) → (eqb (f n) w && eqb (count f w n) k) ≡ false
     → IsPlace f w n k (place f w n k) → IsPlace f w (suc n) k (place f w (suc n) k)
-earlier f w n k test is =
-    let e : place f w n k ≡ place f w (suc n) k = sym (ap (λ b. cond b n (place f w n k)) test) in
-    subst (IsPlace f w (suc n) k) e record { within = omega (arith, is.within); value = is.value; rank = is.rank }
+is_place_suc f w n k test is = search arith
 
 pub place_right : (f : ℕ → ℕ) (w n k : ℕ) → k < count f w n → IsPlace f w n k (place f w n k)
 place_right f w zero k h = absurd (omega arith)
@@ -79,12 +77,12 @@ place_right f w (suc n) k h = elim (cases_eq (f n) w) [
         (sym (ap (λ b. cond b n (place f w n k)) (both_tests (f n) w (count f w n) k same last)))
         record { within = omega arith; value = same; rank = last }
     | inr other ↦
-        let one = counted (f n) w same in
-        earlier f w n k (second_fails (f n) w (count f w n) k other) (place_right f w n k (omega (arith, h, one, other)))
+        let one = tick_of_same (f n) w same in
+        is_place_suc f w n k (second_fails (f n) w (count f w n) k other) (place_right f w n k (omega (arith, h, one, other)))
   ]
   | inr differs ↦
-      let none = not_counted (f n) w differs in
-      earlier f w n k (first_fails (f n) w (count f w n) k differs) (place_right f w n k (omega (arith, h, none)))
+      let none = tick_of_different (f n) w differs in
+      is_place_suc f w n k (first_fails (f n) w (count f w n) k differs) (place_right f w n k (omega (arith, h, none)))
 ]
 
 -- if each value below w is taken at most m times, there are at most w * m places

@@ -1,5 +1,5 @@
 -- Bases at which a part of a text has the hash of a pattern that it isn't.
-use Rattle.std.proofs.Common.{◌≡◌, ℕ, ◌+◌, ◌-◌, ◌<◌, ◌≤◌, List, length, slice_range, drop, All}
+use Rattle.std.proofs.Common.{◌≡◌, ℕ, ◌+◌, ◌-◌, ◌<◌, ◌≤◌, List, length, slice_range, All}
 use Rattle.std.proofs.Common.{arith, ap, sym, subst, ◌∙◌, inl, inr, length-drop}
 use Rattle.std.proofs.lemmas.Bool.{cases_lt}
 use Rattle.std.proofs.lemmas.List.{length-take-le, get_or-take, get_or-drop}
@@ -13,17 +13,10 @@ abbrev part : List ℕ → ℕ → ℕ → List ℕ
 part text n v = slice_range text v (v + n)
 
 pub part_length : (text : List ℕ) (n v : ℕ) → v + n ≤ length text → length (part text n v) ≡ n
-part_length text n v within =
-    let e = length-drop v text in
-    length-take-le (v + n - v) (drop v text) (omega (arith, e, within)) ∙ (let e : v + n - v ≡ n = omega arith in e)
+part_length text n v within = search (arith, length-drop, length-take-le)
 
 part_below : (p n v : ℕ) (text : List ℕ) → v + n ≤ length text → All (λ c. c < p) text → All (λ c. c < p) (part text n v)
-part_below p n v text within below =
-    All-from_get_or (λ c. c < p) (part text n v) 0
-    (λ i l.
-    let count = part_length text n v within in
-    subst (λ c. c < p) (sym (get_or-take (v + n - v) (drop v text) i 0 (omega (arith, l, count)) ∙ get_or-drop v text i 0))
-    (below (v + i) 0 (omega (arith, l, count, within))))
+part_below p n v text within below = search (arith, All-from_get_or, part_length, get_or-take, get_or-drop)
 
 -- at one position there are fewer bases than the pattern has symbols
 few_at : FewCollisions → (text pattern : List ℕ) (n v : ℕ) (x at : ℕ → ℕ) → AreApart n x

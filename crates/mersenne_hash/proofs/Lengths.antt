@@ -17,9 +17,7 @@ at_mark d text i =
     ∙ get_or-append-add (replicate d 0) (1 ∷ text) i 0
 
 before_mark : (d : ℕ) (text : List ℕ) (i : ℕ) → i < d → get_or (marked d text) i 0 ≡ 0
-before_mark d text i l =
-    get_or-append (replicate d 0) (1 ∷ text) 0 i (let zeros : List ℕ = replicate d 0 in let e : length zeros ≡ d = length-replicate d 0 in omega (arith, l, e))
-    ∙ get_or-replicate d i 0 0 l
+before_mark d text i l = search (arith, get_or-append, length-replicate, get_or-replicate)
 
 -- the marks of texts with congruent symbols stand at one place
 mark_not_before : (p d e : ℕ) (s t : List ℕ) → 1 < p → d + length s ≡ e + length t

@@ -1,6 +1,6 @@
 -- The hash of a part of a text, by those of two beginnings.
 use Rattle.std.proofs.Common.{◌≡◌, ℕ, ◌+◌, ◌-◌, ◌*◌, ◌%◌, ◌^◌, ◌<◌, ◌≤◌, List, length, slice_index, slice_range, get_or, map}
-use Rattle.std.proofs.Common.{take, drop, arith, ap, sym, ◌∙◌, length-drop, mod-eq_of_lt}
+use Rattle.std.proofs.Common.{arith, ap, sym, ◌∙◌, length-drop, mod-eq_of_lt}
 use Rattle.std.proofs.lemmas.List.{length-take-le, get_or-take, get_or-drop, get_or-map}
 use Rattle.num_modular.specs.NumberLaws.{mod_add, mod_mul, mod_refl, mod_sym, mod_trans, mod_of_eq, mod_add_cancel, residue_of, sum_below-same}
 use Rattle.num_modular.specs.Congruence.{Congruent}
@@ -17,13 +17,7 @@ part_polynomial : (from to : ℕ) (text : List ℕ) (x : ℕ) → from ≤ to �
     → polynomial_highest_first (length (slice_range text from to)) (slice_index (slice_range text from to)) x
     ≡ polynomial_highest_first (to - from) (λ i. get_or text (from + i) 0) x
 part_polynomial from to text x ordered within =
-    let k : ℕ = to - from in
-    let count : length (take k (drop from text)) ≡ k =
-    length-take-le k (drop from text) (let e = length-drop from text in omega (arith, e, ordered, within)) in
-    ap (λ n. polynomial_highest_first n (λ i. get_or (take k (drop from text)) i 0) x) count
-    ∙ sum_below-same k (λ i. get_or (take k (drop from text)) i 0 * x ^ (k - 1 - i))
-    (λ i. get_or text (from + i) 0 * x ^ (k - 1 - i))
-    (λ i l. ap (λ v. v * x ^ (k - 1 - i)) (get_or-take k (drop from text) i 0 l ∙ get_or-drop from text i 0))
+    search (arith, length-take-le, length-drop, sum_below-same, get_or-take, get_or-drop)
 
 -- what the hash of the longer beginning leaves, less that of the shorter one times a power
 pub part_is : Horner → (p from to : ℕ) (text : List ℕ) (x whole start power product value : ℕ)

@@ -1,7 +1,7 @@
 -- A certificate that a number is prime (Pocklington, "The determination of the prime or composite nature of large
 -- numbers by Fermat's theorem", 1914; Crandall and Pomerance, Prime Numbers, section 4.1).
 use Rattle.std.proofs.Common.{◌≡◌, ◌≢◌, ℕ, zero, suc, ◌+◌, ◌-◌, ◌*◌, ◌/◌, ◌%◌, ◌^◌, ◌<◌, ◌≤◌, ◌⊎◌, inl, inr, ⊎_elim}
-use Rattle.std.proofs.Common.{arith, ap, sym, ◌∙◌, refl, subst, lit<}
+use Rattle.std.proofs.Common.{arith, ap, sym, ◌∙◌, refl, lit<}
 use Rattle.std.proofs.Math.Nat.{pow-suc, mod_self, mod-mod_of_dvd, dvd-mul_left, dvd-mul_right, zero-mod}
 use Rattle.std.proofs.Math.Nat.{div-add-mod, mod-eq_of_lt, mul-le-mul_left}
 use Rattle.std.proofs.lemmas.Nat.Gcd.{dvd_of_mod-eq-zero, mod-eq-zero_of_dvd, dvd_trans}
@@ -26,24 +26,19 @@ record Divisor (n k : ℕ) : Type 0 where
 abbrev NoDivisor : ℕ → ℕ → Type 0
 NoDivisor n k = (d : ℕ) → 1 < d → d < k → n % d ≡ 0 → ⊥
 
-one_more : (n k : ℕ) → NoDivisor n k → (n % k ≢ 0) ⊎ (k ≤ 1) → NoDivisor n (suc k)
-one_more n k none last d h l e = elim (cases_lt d k) [
-  | inl b ↦ none d h b e
-  | inr b ↦
-      let here : d ≡ k = omega arith in
-      elim last [ inl ne ↦ ne (subst (λ j. n % j ≡ 0) here e) | inr small ↦ absurd (omega arith) ]
-]
+no_divisor_suc : (n k : ℕ) → NoDivisor n k → (n % k ≢ 0) ⊎ (k ≤ 1) → NoDivisor n (suc k)
+no_divisor_suc n k none last d h l e = search (arith, cases_lt)
 
-found : (n k : ℕ) → Divisor n k ⊎ NoDivisor n k
-found n zero = inr (λ d h l e. absurd (omega (arith, l)))
-found n (suc k) = elim (found n k) [
+divisor_or_none : (n k : ℕ) → Divisor n k ⊎ NoDivisor n k
+divisor_or_none n zero = inr (λ d h l e. absurd (omega (arith, l)))
+divisor_or_none n (suc k) = elim (divisor_or_none n k) [
   | inl w ↦ inl record { number = w.number; above = w.above; below = omega (arith, w.below); divides = w.divides }
   | inr none ↦ elim (cases_lt 1 k) [
     | inl large ↦ elim (cases_eq (n % k) 0) [
       | inl e ↦ inl record { number = k; above = large; below = omega arith; divides = e }
-      | inr ne ↦ inr (one_more n k none (inl ne))
+      | inr ne ↦ inr (no_divisor_suc n k none (inl ne))
     ]
-    | inr small ↦ inr (one_more n k none (inr small))
+    | inr small ↦ inr (no_divisor_suc n k none (inr small))
   ]
 ]
 
@@ -56,7 +51,7 @@ record PrimeDivisor (n : ℕ) : Type 0 where
 
 prime_divisor : (fuel n : ℕ) → n ≤ fuel → 1 < n → PrimeDivisor n
 prime_divisor zero n h l = absurd (omega (arith, h, l))
-prime_divisor (suc fuel) n h l = elim (found n n) [
+prime_divisor (suc fuel) n h l = elim (divisor_or_none n n) [
   | inl w ↦
       let r = prime_divisor fuel w.number (omega (arith, w.below, h)) w.above in
       record {
@@ -107,8 +102,8 @@ no_small n k h square none =
     }
 
 -- powers of a number that is congruent to 1
-ones : {d x : ℕ} (k : ℕ) → Congruent d x 1 → Congruent d (x ^ k) 1
-ones k h = mod_trans (mod_pow k h) (mod_of_eq (one-pow k))
+power_of_one : {d x : ℕ} (k : ℕ) → Congruent d x 1 → Congruent d (x ^ k) 1
+power_of_one k h = mod_trans (mod_pow k h) (mod_of_eq (one-pow k))
 
 -- congruent modulo a divisor
 modulo_divisor : (n r x y : ℕ) → n % r ≡ 0 → x % n ≡ y % n → Congruent r x y
@@ -134,9 +129,7 @@ less_one b r positive one =
 
 -- 1 isn't 0 modulo a number above 1
 one_not_none : (r x : ℕ) → 1 < r → Congruent r x 1 → Congruent r x 0 → ⊥
-one_not_none r x above one none =
-    let small : 1 % r ≡ 1 = mod-eq_of_lt above in
-    absurd (omega (arith, one.same, none.same, small, zero-mod r))
+one_not_none r x above one none = search (arith, mod-eq_of_lt, zero-mod)
 
 not_zero : (b q r : ℕ) → 1 < q → 1 < r → Congruent r (b ^ q) 1 → b % r ≡ 0 → ⊥
 not_zero b zero r q_above r_above power none = absurd (omega (arith, q_above))
@@ -168,17 +161,17 @@ one_less n q b c r fermat inverts w q_prime r_prime e = elim (cases_eq ((r - 1) 
       let unit = not_zero b q r q_prime.above_one r_prime.above_one power in
       let by_fermat : Congruent r (b ^ t) 1 =
       mod_trans (mod_of_eq (pow-mul b (r - 1) i))
-      (ones i (record { same = fermat b r r_prime unit ∙ sym (mod-eq_of_lt r_prime.above_one) })) in
+      (power_of_one i (record { same = fermat b r r_prime unit ∙ sym (mod-eq_of_lt r_prime.above_one) })) in
       let alone : 1 * b ≡ b = omega arith in
       let by_power : Congruent r (b ^ t) b =
       mod_trans (mod_of_eq (ap (λ j. b ^ j) whole ∙ pow-suc b (q * k) ∙ ap (λ j. j * b) (pow-mul b q k)))
-      (mod_trans (mod_mul (ones k power) (mod_refl b)) (mod_of_eq alone)) in
+      (mod_trans (mod_mul (power_of_one k power) (mod_refl b)) (mod_of_eq alone)) in
       absurd (not_one n q b c r w r_prime.above_one e (mod_trans (mod_sym by_power) by_fermat))
 ]
 
 -- a product with a factor that has an inverse
-cancelled : (q a y k : ℕ) → (a * y) % q ≡ 1 % q → (a * k) % q ≡ 0 → k % q ≡ 0
-cancelled q a y k one none =
+unit_cancels_from_zero : (q a y k : ℕ) → (a * y) % q ≡ 1 % q → (a * k) % q ≡ 0 → k % q ≡ 0
+unit_cancels_from_zero q a y k one none =
     let alone : k ≡ 1 * k = omega arith in
     let turned : a * y * k ≡ a * k * y = omega arith in
     let nothing : 0 * y ≡ 0 = omega arith in
@@ -188,11 +181,11 @@ cancelled q a y k one none =
     whole.same ∙ zero-mod q
 
 -- divisors of which one has an inverse modulo the other
-joined : (n a q y : ℕ) → (a * y) % q ≡ 1 % q → n % a ≡ 0 → n % q ≡ 0 → n % (a * q) ≡ 0
-joined n a q y one e f =
+product_divides : (n a q y : ℕ) → (a * y) % q ≡ 1 % q → n % a ≡ 0 → n % q ≡ 0 → n % (a * q) ≡ 0
+product_divides n a q y one e f =
     let k = n / a in
     let whole : a * k ≡ n = omega (arith, div-add-mod n a, e) in
-    let rest : k % q ≡ 0 = cancelled q a y k one (ap (λ j. j % q) whole ∙ f) in
+    let rest : k % q ≡ 0 = unit_cancels_from_zero q a y k one (ap (λ j. j % q) whole ∙ f) in
     let j = k / q in
     let part : q * j ≡ k = omega (arith, div-add-mod k q, rest) in
     let times = ap (λ i. a * i) part in
@@ -204,27 +197,27 @@ abbrev each_below : ℕ → (ℕ → Bool) → Bool
 each_below zero test = true
 each_below (suc n) test = each_below n test && test n
 
-passes : (n : ℕ) (test : ℕ → Bool) → each_below n test ≡ true → (i : ℕ) → i < n → test i ≡ true
-passes zero test h i l = absurd (omega (arith, l))
-passes (suc n) test h i l =
+each_passes : (n : ℕ) (test : ℕ → Bool) → each_below n test ≡ true → (i : ℕ) → i < n → test i ≡ true
+each_passes zero test h i l = absurd (omega (arith, l))
+each_passes (suc n) test h i l =
     let parts = and_parts (each_below n test) (test n) h in
     elim (cases_lt i n) [
-      | inl b ↦ passes n test parts.0 i b
+      | inl b ↦ each_passes n test parts.0 i b
       | inr b ↦ let here : i ≡ n = omega arith in ap test here ∙ parts.1
     ]
 
-abbrev leaves : ℕ → ℕ → Bool
-leaves q d = nat_lt d 2 || nat_lt 0 (q % d)
+abbrev leaves_remainder : ℕ → ℕ → Bool
+leaves_remainder q d = nat_lt d 2 || nat_lt 0 (q % d)
 
-tried : (q k : ℕ) → 1 < q → q < k * k → each_below k (leaves q) ≡ true → IsPrime q
-tried q k above square h =
+prime_by_trial : (q k : ℕ) → 1 < q → q < k * k → each_below k (leaves_remainder q) ≡ true → IsPrime q
+prime_by_trial q k above square h =
     no_small q k above square
     (λ r prime below e.
     let one = prime.above_one in
     ⊎_elim
     (λ t. let small = ltb-true r 2 t in absurd (omega (arith, small, one)))
     (λ t. let some = ltb-true 0 (q % r) t in absurd (omega (arith, some, e)))
-    (or_cases (nat_lt r 2) (nat_lt 0 (q % r)) (passes k (leaves q) h r below)))
+    (or_cases (nat_lt r 2) (nat_lt 0 (q % r)) (each_passes k (leaves_remainder q) h r below)))
 
 -- 31, 151, 331 and 1321 divide 2^61 - 2, and their product is above the root of 2^61 - 1
 pub modulus_prime : Fermat → Inverts → IsPrime 2305843009213693951
@@ -233,14 +226,14 @@ modulus_prime fermat inverts =
     (λ r prime below e.
     let one = prime.above_one in
     let first = one_less 2305843009213693951 1321 234060095121088422 828993518632009434 r fermat inverts
-    record { power = refl; apart = refl; positive = lit≤ tt } (tried 1321 37 (lit< tt) (lit< tt) refl) prime e in
+    record { power = refl; apart = refl; positive = lit≤ tt } (prime_by_trial 1321 37 (lit< tt) (lit< tt) refl) prime e in
     let second = one_less 2305843009213693951 331 1491285494954315879 1881382712785867029 r fermat inverts
-    record { power = refl; apart = refl; positive = lit≤ tt } (tried 331 19 (lit< tt) (lit< tt) refl) prime e in
+    record { power = refl; apart = refl; positive = lit≤ tt } (prime_by_trial 331 19 (lit< tt) (lit< tt) refl) prime e in
     let third = one_less 2305843009213693951 151 2211238755008147949 1896004468068488480 r fermat inverts
-    record { power = refl; apart = refl; positive = lit≤ tt } (tried 151 13 (lit< tt) (lit< tt) refl) prime e in
+    record { power = refl; apart = refl; positive = lit≤ tt } (prime_by_trial 151 13 (lit< tt) (lit< tt) refl) prime e in
     let fourth = one_less 2305843009213693951 31 484083891529811867 42235654463646013 r fermat inverts
-    record { power = refl; apart = refl; positive = lit≤ tt } (tried 31 6 (lit< tt) (lit< tt) refl) prime e in
+    record { power = refl; apart = refl; positive = lit≤ tt } (prime_by_trial 31 6 (lit< tt) (lit< tt) refl) prime e in
     let all : (r - 1) % 2046771931 ≡ 0 =
-    joined (r - 1) 66024901 31 2 refl
-    (joined (r - 1) 437251 151 104 refl (joined (r - 1) 1321 331 110 refl first second) third) fourth in
+    product_divides (r - 1) 66024901 31 2 refl
+    (product_divides (r - 1) 437251 151 104 refl (product_divides (r - 1) 1321 331 110 refl first second) third) fourth in
     absurd (omega (arith, all, below, one)))

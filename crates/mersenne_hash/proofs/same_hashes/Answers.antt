@@ -4,9 +4,6 @@ use Rattle.std.proofs.lemmas.List.Elements.{All-from_get_or}
 use Rattle.num_modular.specs.Mersenne.{mersenne}
 use Rattle.mersenne_hash.proofs.same_hashes.Goals as goal
 
-pub bases-init : goal.bases-init
-bases-init c i l = absurd (omega (arith, l))
-
 pub returns-clause-same : goal.returns-clause-same
 returns-clause-same c lengths enough bases =
     let p : ℕ = mersenne 61 1 in
