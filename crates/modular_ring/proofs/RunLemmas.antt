@@ -42,9 +42,7 @@ pub form_of_two : {T : Type 0} {number : T → ℕ} {form value : ℕ → ℕ �
     → b < length registers → x ≡ get_or registers a x → y ≡ get_or registers b y
     → Represents form m f (F (value m (number x)) (value m (number y))) → Represents form m f (F (v a) (v b))
 form_of_two {T} {number} {form} {value} {width} {m} {f} {registers}
-    {v} F a b x y canonical holds below_a below_b is_a is_b stands =
-    form_of_one {v = v} (λ u. F u (v b)) a x canonical holds below_a is_a
-    (form_of_one {v = v} (F (value m (number x))) b y canonical holds below_b is_b stands)
+    {v} F a b x y canonical holds below_a below_b is_a is_b stands = search (arith, form_of_one)
 
 -- what `inv` returns is the form of `inverse_of`
 pub inverse_form : {T : Type 0} (number : T → ℕ) (form : ℕ → ℕ → ℕ) (m u : ℕ) (found : Option T)
@@ -58,9 +56,7 @@ pub quotient_form : {T : Type 0} (number : T → ℕ) {form value : ℕ → ℕ 
     → IsCanonical form value width m → IsInverseForm number form m y (Some inverse)
     → Represents form m (number product) ((x * value m (number inverse)) % m)
     → IsFormOf number form m (option_map (λ i. (x * i) % m) (inverse_of m y)) (Some product)
-quotient_form {T} number {form} {value} {width} {m} x y inverse product canonical h stands =
-    rw (inverse_of-found m y h.0 h.1)
-    (subst (λ i. Represents form m (number product) ((x * i) % m)) (canonical.one_value _ _ h.2) stands)
+quotient_form {T} number {form} {value} {width} {m} x y inverse product canonical h stands = search (arith, inverse_of-found)
 
 -- checked forms hold their values
 pub start_holds : {T : Type 0} (number : T → ℕ) (form value : ℕ → ℕ → ℕ) (m : ℕ) (registers : List T)
@@ -182,19 +178,12 @@ lacks_of m start commands i command is lacks = rw is at lacks
 -- there is at most one stop
 pub same_stop : {m : ℕ} {start : List ℕ} {commands : List (RingCommand ℕ)} {i j : ℕ} → IsStop m start commands i
     → IsStop m start commands j → i ≡ j
-same_stop {m} {start} {commands} {i} {j} p q =
-    elim (cases_lt i j) [
-      | inl h ↦ absurd (q.first i h p.lacks)
-      | inr h ↦ elim (cases_lt j i) [ inl k ↦ absurd (p.first j k q.lacks) | inr k ↦ omega arith ]
-    ]
+same_stop {m} {start} {commands} {i} {j} p q = search (arith, cases_lt)
 
 -- a run that ends at its stop ends right
 pub stops_at : {m : ℕ} {start : List ℕ} {commands : List (RingCommand ℕ)} {i : ℕ} → IsStop m start commands i → (at : ℕ)
     → (NoInverse i ≡ NoInverse at) ↔ IsStop m start commands at
-stops_at {m} {start} {commands} {i} stop at = (
-  λ e. let same : i ≡ at = cc in subst (IsStop m start commands) same stop,
-  λ other. ap NoInverse (same_stop stop other),
-)
+stops_at {m} {start} {commands} {i} stop at = search (arith, same_stop)
 
 pub not_done : {m : ℕ} {start : List ℕ} {commands : List (RingCommand ℕ)} {i : ℕ} → IsStop m start commands i
     → (NoInverse i ≡ Done) ↔ ((at : ℕ) → IsStop m start commands at → ⊥)

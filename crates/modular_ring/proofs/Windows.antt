@@ -43,9 +43,7 @@ window_moves n at xs h =
     ∙ ap (take (suc n)) (drop-cons xs at 0 (omega arith)) ∙ ap (λ k. get_or xs at 0 ∷ take n (drop k xs)) (sym (add-one at)))
 
 pub window_length : (n at : ℕ) (xs : List ℕ) → at + n ≤ length xs → length (slice_range xs at (at + n)) ≡ n
-window_length n at xs h =
-    let same : at + n - at ≡ n = omega arith in
-    rw same (length-take-le n (drop at xs) (omega (arith, length-drop at xs)))
+window_length n at xs h = search (arith, length-take-le, length-drop)
 
 -- a residue and the residue of its negative
 residue_and_negative : (m p : ℕ) → p < m → (k : ℕ) × (residue m (neg_ℤ (pos p)) + p ≡ m * k)

@@ -1,8 +1,6 @@
 use Rattle.std.proofs.Common.{◌≡◌, ℕ, ◌+◌, ◌-◌, length, ◌∙◌, arith, refl}
 use Rattle.modular_word.proofs.InverseLemmas.{inverse_from_mod}
-use Rattle.modular_reduced.specs.Entries.{entry}
 use Rattle.modular_reduced.specs.EntryLaws.{entry_at, forms_written, done_before}
-use Rattle.modular_ring.specs.Products.{product_below}
 use Rattle.modular_ring.specs.ProductLaws.{no_inverse, inverse_before, inverse_last}
 use Rattle.modular_ring.proofs.list_inverses.invert_each.Goals as goal
 
@@ -30,13 +28,4 @@ pub returns-clause-each : goal.returns-clause-each
 returns-clause-each g c = (λ t i l. (_, c.backward.invariant.3.done i (omega arith) l), λ each. refl)
 
 pub backward-init : goal.backward-init
-backward-init g c =
-    let ring = g.R.Reducer in let m = ring.modulus c.args.r.now in let number = g.T.RingWord.number in
-    let n = length c.args.forms.now in let v = entry number ring.value m c.args.forms.now in
-    let ended : c.forward.i ≡ n - 0 = omega arith in let all = rw ended at c.forward.invariant.0.same in
-    let found = rw all at c.in-Some.ensures.value in (
-      c.in-Some.ensures.checked,
-      inverse_from_mod m (product_below (n - 0) v) _ found,
-      c.requires.checked,
-      record { done = λ k low up. absurd (omega arith); kept = λ k l. refl },
-    )
+backward-init g c = search (arith, inverse_from_mod)

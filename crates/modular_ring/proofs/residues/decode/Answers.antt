@@ -8,12 +8,7 @@ use Rattle.modular_ring.specs.SystemLaws.{only_digit, unit_here, next_fits, modu
 use Rattle.modular_ring.proofs.residues.decode.Goals as goal
 
 pub moduli-init : goal.moduli-init
-moduli-init c = record {
-  range = sym (product-zero _);
-  below = omega arith;
-  each = λ i h. absurd (omega arith);
-  only = λ x h. modulo_one x;
-}
+moduli-init c = search (arith, product-zero, modulo_one)
 
 pub next_digit-digit-requires-clause-unit : goal.next_digit-digit-requires-clause-unit
 next_digit-digit-requires-clause-unit c =
@@ -38,10 +33,7 @@ overflow_add-number c =
     omega (arith, fits, inside)
 
 pub overflow_mul-range : goal.overflow_mul-range
-overflow_mul-range c =
-    let fits = next_fits c.args.moduli.now c.moduli.place c.moduli.range c.moduli.invariant.range
-    c.requires.system c.moduli-test.true in
-    omega (arith, fits)
+overflow_mul-range c = search (arith, next_fits)
 
 pub moduli-preserved : goal.moduli-preserved
 moduli-preserved c =

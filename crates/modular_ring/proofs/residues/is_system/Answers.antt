@@ -1,5 +1,5 @@
 use Rattle.std.proofs.Common.{◌≡◌, ℕ, ◌*◌, ◌<◌, List, slice_index, get_or, true, false}
-use Rattle.std.proofs.Common.{arith, rules, lit<, ap, sym, subst, ◌∙◌, below_more}
+use Rattle.std.proofs.Common.{arith, rules, ap, sym, subst, ◌∙◌, below_more}
 use Rattle.std.proofs.lemmas.Bool.{false≢true}
 use Rattle.modular_word.specs.Divisors.{Coprime}
 use Rattle.modular_word.specs.Inverses.{HasInverse}
@@ -10,12 +10,7 @@ use Rattle.modular_ring.proofs.residues.is_system.Goals.{then-modulus-eq0-via-th
 use Rattle.modular_ring.proofs.residues.is_system.Goals.{then-modulus-eq0-via-else-modulus-eq0+then-not-has_inverse}
 
 pub moduli-init : goal.moduli-init
-moduli-init c = record {
-  range = sym (product-zero _);
-  fits = lit< tt;
-  positive = λ i h. absurd (omega arith);
-  coprime = λ i j h k. absurd (omega arith);
-}
+moduli-init c = search (arith, product-zero)
 
 pub returns-then-modulus-eq0 : goal.returns-then-modulus-eq0
 returns-then-modulus-eq0 c = (
@@ -36,13 +31,7 @@ returns-then-modulus-eq0 c = (
 )
 
 pub returns-in-None : goal.returns-in-None
-returns-in-None c = (
-  (λ t. absurd (false≢true t)),
-  λ system.
-      let fits =
-      next_fits c.args.moduli.now c.moduli.place c.moduli.range c.moduli.invariant.range system c.moduli-test.true in
-      absurd (omega (arith, fits, c.in-None.ensures)),
-)
+returns-in-None c = search (arith, false≢true, next_fits)
 
 pub moduli-preserved : goal.moduli-preserved
 moduli-preserved c =

@@ -1,3 +1,4 @@
+use Rattle.std.proofs.Common.{arith}
 use Rattle.std.proofs.Common.{◌≡◌, ℕ, ◌+◌, ◌*◌, ◌%◌, ◌-ℤ◌, pos, List, Some, length, get_or, refl, ap}
 use Rattle.std.proofs.Math.ListN.{set}
 use Rattle.modular_word.specs.Residues.{residue}
@@ -16,8 +17,7 @@ after_write : {T : Type 0} (number : T → ℕ) (form : ℕ → ℕ → ℕ) (m 
     → IsFormOf number form m (outcome m v (whole number command)) (Some f)
     → HoldValues number form m after (value_after m v (Some (whole number command)))
 after_write number form m {before} {after} {v} command f holds fit written found =
-    rw written (after_found number form m before v (whole number command) f _ refl holds
-    (destination_below number (length before) command fit) found)
+    search (arith, after_found, destination_below)
 
 -- what is no sum, no difference and no product
 neither : {T : Type 0} (command : RingCommand T) → ((x y z : ℕ) → command ≡ Add x y z → ⊥)
@@ -66,22 +66,10 @@ returns-in-Some-clause-values g c done v holds =
     (destination_below number (length c.args.regs.now) c.args.command c.requires.fit) (c.in-Some.ensures v holds))
 
 pub returns-in-Some-clause-missing : goal.returns-in-Some-clause-missing
-returns-in-Some-clause-missing g c v holds = (
-  λ e. cc,
-  λ lacks. absurd (finds_here g.T.RingWord.number g.R.Reducer.form (g.R.Reducer.modulus c.args.r.now) v
-      (whole g.T.RingWord.number c.args.command) c.in-Some.form (c.in-Some.ensures v holds) lacks),
-)
+returns-in-Some-clause-missing g c v holds = search (arith, finds_here)
 
 pub returns-in_default-computed_form-clause-missing : goal.returns-in_default-computed_form-clause-missing
-returns-in_default-computed_form-clause-missing g c v holds = (
-  λ e. lacks_here g.T.RingWord.number g.R.Reducer.form (g.R.Reducer.modulus c.args.r.now) v
-      (whole g.T.RingWord.number c.args.command) (c.in_default-computed_form.ensures v holds),
-  λ lacks. refl,
-)
+returns-in_default-computed_form-clause-missing g c v holds = search (arith, lacks_here)
 
 pub computed_form-requires : goal.computed_form-requires
-computed_form-requires g c = record {
-  checked = c.requires.checked;
-  fit = c.requires.fit;
-  other = neither c.args.command c.in_default.not-Add c.in_default.not-Sub c.in_default.not-Mul;
-}
+computed_form-requires g c = search (arith, neither)

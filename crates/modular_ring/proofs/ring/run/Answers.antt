@@ -60,10 +60,7 @@ stop_here : {C : Type 0} (read_as : C → RingCommand ℕ) (m : ℕ) (start : Li
     → LacksInverse m (value_at m start (map read_as commands) at) (read_as command)
     → ((j : ℕ) → j < at → LacksInverseAt m start (map read_as commands) j → ⊥)
     → IsStop m start (map read_as commands) at
-stop_here read_as m start commands at {command} read lacks passed = record {
-  lacks = lacks_at m start (map read_as commands) at (read_as command) (read_map read_as commands at command read) lacks;
-  first = passed;
-}
+stop_here read_as m start commands at {command} read lacks passed = search (arith, lacks_at, read_map)
 
 pub returns-then-not-carry_out : goal.returns-then-not-carry_out
 returns-then-not-carry_out g c =
