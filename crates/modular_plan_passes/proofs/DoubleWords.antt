@@ -4,8 +4,8 @@ use Rattle.std.proofs.Math.Nat.{mod_self, mod-eq_of_lt, mul-le-mul_right, add-mu
 use Rattle.modular_word.proofs.Congruence.{mod_cancel}
 
 -- the word whose sum with m is 0 modulo b
-pub complement : (b m c : ℕ) → 0 < m → m ≤ b → c < b → (c + m) % b ≡ 0 → c + m ≡ b
-complement b m c some room fits none = grind (arith, mod_self, mod_cancel)
+pub minus_is_complement : (b m c : ℕ) → 0 < m → m ≤ b → c < b → (c + m) % b ≡ 0 → c + m ≡ b
+minus_is_complement b m c some room fits none = grind (arith, mod_self, mod_cancel)
 
 -- a difference below b, in a sum of double words
 pub sum_fits : (b m p q c : ℕ) → 2 * m ≤ b → q < b → p < q * m + 2 * m → c + m ≡ b → p + q * c < b * b
@@ -15,10 +15,10 @@ sum_fits b m p q c room fits below is =
     omega (arith, whole, upper, room, below)
 
 -- the difference is the low word of the sum
-pub low_word : (b m p q c low high : ℕ) → 2 * m ≤ b → q * m ≤ p → p < q * m + 2 * m → c + m ≡ b
+pub rest_is_low_word : (b m p q c low high : ℕ) → 2 * m ≤ b → q * m ≤ p → p < q * m + 2 * m → c + m ≡ b
     → p + q * c ≡ low + b * high → low < b
     → low + q * m ≡ p
-low_word b m p q c low high room most below is sum fits =
+rest_is_low_word b m p q c low high room most below is sum fits =
     let rest : ℕ = p - q * m in
     let s : rest + q * m ≡ p = omega (arith, most) in
     let small : rest < b = omega (arith, s, below, room) in

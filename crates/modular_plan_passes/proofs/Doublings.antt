@@ -12,7 +12,7 @@ use Rattle.modular_transform.specs.Transforms.{Suits}
 use Rattle.modular_transform.proofs.BitReversal.{bits_reversed-suc, bits_reversed_of_zero, bits_reversed_of_parts}
 use Rattle.modular_plan_passes.specs.Factors.{IsFactor}
 use Rattle.modular_plan_passes.specs.Plans.{numbers, AreTwiddles}
-use Rattle.modular_plan_passes.proofs.Entries.{written, not_written}
+use Rattle.modular_plan_passes.proofs.Entries.{number_written, number_not_written}
 use Rattle.modular_plan_passes.proofs.Tables.{exponent}
 
 -- the reversed bits of a place below 2^t and one of bit t
@@ -20,8 +20,8 @@ record AreApart (s t x : ℕ) : Type 0 where
   low : bits_reversed s (2 ^ t) ≡ 2 ^ (s - 1 - t)
   both : bits_reversed s (2 ^ t + x) ≡ bits_reversed s x + bits_reversed s (2 ^ t)
 
-apart : (s t x u : ℕ) → s ≡ t + suc u → x < 2 ^ t → AreApart s t x
-apart s t x u is below =
+are_apart : (s t x u : ℕ) → s ≡ t + suc u → x < 2 ^ t → AreApart s t x
+are_apart s t x u is below =
     let p = pow_pos t in
     let of = λ (y a : ℕ) (l : a < 2 ^ t) (n : ℕ) (e : n ≡ a + 2 ^ t * y).
     ap (λ v. bits_reversed s v) e ∙ ap (λ v. bits_reversed v (a + 2 ^ t * y)) is
@@ -45,11 +45,11 @@ apart s t x u is below =
 
 pub reversed_of_one_bit : (s t : ℕ) → t < s → bits_reversed s (2 ^ t) ≡ 2 ^ (s - 1 - t)
 reversed_of_one_bit s t below = let p = pow_pos t in
-    (apart s t 0 (s - 1 - t) (omega (arith, below)) (omega (arith, p))).low
+    (are_apart s t 0 (s - 1 - t) (omega (arith, below)) (omega (arith, p))).low
 
 pub reversed_of_sum : (s t x : ℕ) → t < s → x < 2 ^ t
     → bits_reversed s (2 ^ t + x) ≡ bits_reversed s x + bits_reversed s (2 ^ t)
-reversed_of_sum s t x below within = (apart s t x (s - 1 - t) (omega (arith, below)) within).both
+reversed_of_sum s t x below within = (are_apart s t x (s - 1 - t) (omega (arith, below)) within).both
 
 -- the entry at place k is the twiddle factor
 pub record IsMade {F : Type 0} (value quotient : F → ℕ) (base m g bits : ℕ) (table : List F) (k : ℕ) : Type 0 where
@@ -62,7 +62,7 @@ pub made_now : {F : Type 0} (value quotient : F → ℕ) (base m g bits : ℕ) (
     → IsMade value quotient base m g bits (set table i x) i
 made_now value quotient base m g bits table i x within factor power = record {
   factor = λ d. subst (λ y. IsFactor base m (value y) (quotient y)) (sym (get_or-set_same table i x d within)) factor;
-  power = written value table i x within ∙ power;
+  power = number_written value table i x within ∙ power;
 }
 
 -- .. and one that was made before
@@ -74,7 +74,7 @@ made_before value quotient base m g bits table i x k now before = elim (cases_eq
   | inr ne ↦ record {
     factor = λ d. subst (λ y. IsFactor base m (value y) (quotient y)) (sym (get_or-set_other table i k x d ne))
         (before.factor d);
-    power = not_written value table i k x ne ∙ before.power;
+    power = number_not_written value table i k x ne ∙ before.power;
   }
 ]
 
@@ -83,11 +83,11 @@ pub same_factor : {base m v q w r : ℕ} → IsFactor base m v q → w ≡ v →
 same_factor {base} {m} {v} {q} {w} {r} is e f =
     subst (λ y. IsFactor base m y r) (sym e) (subst (IsFactor base m v) (sym f) is)
 
-pub one_more : (P : ℕ → Type 0) (i : ℕ) → ((k : ℕ) → k < i → P k) → P i → (k : ℕ) → k < i + 1 → P k
-one_more P i before now k l = grind arith
+pub holds_below_next : (P : ℕ → Type 0) (i : ℕ) → ((k : ℕ) → k < i → P k) → P i → (k : ℕ) → k < i + 1 → P k
+holds_below_next P i before now k l = grind arith
 
-pub one_lower : (P : ℕ → Type 0) (i : ℕ) → ((k : ℕ) → i + 1 ≤ k → P k) → P i → (k : ℕ) → i ≤ k → P k
-one_lower P i before now k l = grind arith
+pub holds_from_previous : (P : ℕ → Type 0) (i : ℕ) → ((k : ℕ) → i + 1 ≤ k → P k) → P i → (k : ℕ) → i ≤ k → P k
+holds_from_previous P i before now k l = grind arith
 
 -- the first place
 pub first_power : (m one power value g bits : ℕ) → one ≡ 1 → power ≡ one % m → value ≡ power
@@ -144,7 +144,7 @@ pub product_of_two : (m g s t x v w result : ℕ) → t < s → x < 2 ^ t → v 
 product_of_two m g s t x v w result below within is_v is_w e = grind (arith, mul-mod, pow-add, reversed_of_sum)
 
 -- all entries are made
-pub planned : {F : Type 0} (value quotient : F → ℕ) (base m g n bits z : ℕ) (table : List F) → Suits m g (2 * n)
+pub twiddles_of_made : {F : Type 0} (value quotient : F → ℕ) (base m g n bits z : ℕ) (table : List F) → Suits m g (2 * n)
     → 2 ^ z ≡ 2 * n → n ≡ 2 ^ bits → ((k : ℕ) → k < n → IsMade value quotient base m g bits table k)
     → AreTwiddles m g z n (numbers value table)
-planned value quotient base m g n bits z table suits e whole made = grind (arith, exponent)
+twiddles_of_made value quotient base m g n bits z table suits e whole made = grind (arith, exponent)

@@ -1,4 +1,4 @@
--- A list of words as the function from places to numbers: what is read and what is written.
+-- A list of words as the function from places to numbers: what is read and what is number_written.
 use Rattle.std.proofs.Common.{◌≡◌, ◌≢◌, ℕ, ◌+◌, ◌%◌, ◌<◌, ◌≤◌, List, [], ◌∷◌, All, map, get_or, length}
 use Rattle.std.proofs.Common.{sym, ◌∙◌, ap, arith, subst, get_or-set_same, get_or-set_other}
 use Rattle.std.proofs.Math.Nat.{mod-lt}
@@ -17,16 +17,16 @@ pub number_read : {T : Type 0} (number : T → ℕ) (words : List T) (i : ℕ) (
 number_read number words i x below is = ap number is ∙ number_at number words i x below
 
 -- after a write: the place itself ..
-pub written : {T : Type 0} (number : T → ℕ) (words : List T) (i : ℕ) (x : T) → i < length words
+pub number_written : {T : Type 0} (number : T → ℕ) (words : List T) (i : ℕ) (x : T) → i < length words
     → numbers number (set words i x) i ≡ number x
-written number words i x below =
+number_written number words i x below =
     let l : i < length (set words i x) = subst (λ n. i < n) (sym (length-set words i x)) below in
     sym (number_at number (set words i x) i x l) ∙ ap number (get_or-set_same words i x x below)
 
 -- .. and every other
-pub not_written : {T : Type 0} (number : T → ℕ) (words : List T) (i j : ℕ) (x : T) → j ≢ i
+pub number_not_written : {T : Type 0} (number : T → ℕ) (words : List T) (i j : ℕ) (x : T) → j ≢ i
     → numbers number (set words i x) j ≡ numbers number words j
-not_written number words i j x ne =
+number_not_written number words i j x ne =
     ap (λ vs. get_or vs j 0) (map-set number words i x) ∙ get_or-set_other (map number words) i j (number x) 0 ne
 
 -- a bound of all words
@@ -54,7 +54,7 @@ all_wider number words wide all i d l = let h = all i d l in omega (arith, h, wi
 pub entry_written : {T : Type 0} (number : T → ℕ) (words : List T) (i : ℕ) (x : T) (P : ℕ → ℕ → Type 0) → i < length words
     → ((k : ℕ) → k < i → P k (numbers number words k)) → P i (number x)
     → (k : ℕ) → k < i + 1 → P k (numbers number (set words i x) k)
-entry_written number words i x P within before is k l = grind (arith, set, written, not_written)
+entry_written number words i x P within before is k l = grind (arith, set, number_written, number_not_written)
 
 pub entry_done : {T : Type 0} (number : T → ℕ) (words : List T) (i : ℕ) (x : T) (target : ℕ → ℕ) → i < length words
     → ((k : ℕ) → k < i → numbers number words k ≡ target k)
@@ -65,7 +65,7 @@ pub entry_kept : {T : Type 0} (number : T → ℕ) (words : List T) (i : ℕ) (x
     → ((k : ℕ) → i ≤ k → numbers number words k ≡ old k)
     → (k : ℕ) → i + 1 ≤ k → numbers number (set words i x) k ≡ old k
 entry_kept number words i x old before k l = let ne : k ≢ i = omega arith in
-    not_written number words i k x ne ∙ before k (omega arith)
+    number_not_written number words i k x ne ∙ before k (omega arith)
 
 -- .. of their numbers
 pub all_below : {T : Type 0} (number : T → ℕ) (bound n : ℕ) (words : List T) → length words ≡ n

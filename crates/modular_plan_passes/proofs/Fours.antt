@@ -4,7 +4,7 @@ use Rattle.std.proofs.Math.ListN.{set, length-set}
 use Rattle.modular_plan_passes.specs.Plans.{numbers}
 use Rattle.modular_plan_passes.specs.Splits.{FourDoneWithin}
 use Rattle.modular_plan_passes.specs.Steps.{IsPairSplit, IsFourSplit, FourDone, BlockOfFours, StageOfFours}
-use Rattle.modular_plan_passes.proofs.Entries.{written, not_written}
+use Rattle.modular_plan_passes.proofs.Entries.{number_written, number_not_written}
 
 -- a split of four entries by those of its pairs
 pub four_of_pairs : {m : ℕ} (w u v : ℕ) {a b c d a' b' c' d' e f g h p q r s : ℕ} → a' ≡ a → b' ≡ b → c' ≡ c → d' ≡ d
@@ -19,7 +19,7 @@ pub four_written : {T : Type 0} (number : T → ℕ) (R : ℕ → ℕ → ℕ �
     → R (numbers number words i) (numbers number words j) (numbers number words k) (numbers number words l) (number a)
     (number b) (number c) (number d)
     → FourDone R i j k l (numbers number words) (numbers number (set (set (set (set words l d) k c) j b) i a))
-four_written number R words i j k l a b c d ij jk kl within four = grind (arith, set, length-set, written, not_written)
+four_written number R words i j k l a b c d ij jk kl within four = grind (arith, set, length-set, number_written, number_not_written)
 
 pub four_along : (R : ℕ → ℕ → ℕ → ℕ → ℕ → ℕ → ℕ → ℕ → Type 0) {a b c d e f g h a' b' c' d' e' f' g' h' : ℕ} → a ≡ a'
     → b ≡ b' → c ≡ c' → d ≡ d' → e ≡ e' → f ≡ f' → g ≡ g' → h ≡ h'

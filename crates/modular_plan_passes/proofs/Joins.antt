@@ -11,7 +11,7 @@ use Rattle.modular_plan_passes.specs.Joins.{IsPairJoin}
 use Rattle.modular_plan_passes.specs.Plans.{constant, AreTwiddles, AreRemainders}
 use Rattle.modular_plan_passes.specs.Steps.{StageDone, IsLevel}
 use Rattle.modular_plan_passes.proofs.TreeLevels.{IsTreeLevel, CanJoin, one_block}
-use Rattle.modular_plan_passes.proofs.Levels.{coefficient_at, constants, level_sum, moved_to}
+use Rattle.modular_plan_passes.proofs.Levels.{coefficient_at, constants_of_halves, level_sum, moved_to}
 
 -- a sum of terms that are scaled twice as much
 scaled_sum : (n s size i c : ℕ) (x : ℕ → ℕ)
@@ -52,7 +52,7 @@ joined_pair {m} {g} {z} {entries} {w = w} q count half s i x twiddles below is_y
     let c = constant g z q in
     let even = constant g z (2 * q) in
     let odd = constant g z (2 * q + 1) in
-    let are = constants g z entries q w twiddles below in
+    let are = constants_of_halves g z entries q w twiddles below in
     let f = λ (k : ℕ). s * x k in
     let a = coefficient_at g z count (half + half) f q i in
     let d = coefficient_at g z count (half + half) f q (half + i) in

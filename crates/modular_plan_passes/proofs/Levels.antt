@@ -71,7 +71,7 @@ are_reversed u p below = record {
   odd = grind (arith, bits_reversed-suc);
 }
 
--- the constants of a block, c, and of its halves, by the entry w of the table for the block
+-- the constants_of_halves of a block, c, and of its halves, by the entry w of the table for the block
 pub record AreConstants (m c even odd w : ℕ) : Type 0 where
   pub even_is : Congruent m even w
   pub root : Congruent m (even * even) c
@@ -80,11 +80,11 @@ pub record AreConstants (m c even odd w : ℕ) : Type 0 where
   pub inverse : ℕ
   pub unit : Congruent m (w * inverse) 1
 
-pub constants : {m : ℕ} (g z count p : ℕ) (w : ℕ → ℕ) → AreTwiddles m g z count w → p < count
+pub constants_of_halves : {m : ℕ} (g z count p : ℕ) (w : ℕ → ℕ) → AreTwiddles m g z count w → p < count
     → AreConstants m (constant g z p) (constant g z (2 * p)) (constant g z (2 * p + 1)) (w p)
-constants {m} g zero count p w twiddles below =
+constants_of_halves {m} g zero count p w twiddles below =
     let none : 2 ^ 0 / 2 ≡ 0 = refl in absurd (omega (arith, twiddles.half, none, below))
-constants {m} g (suc u) count p w twiddles below =
+constants_of_halves {m} g (suc u) count p w twiddles below =
     let r = bits_reversed u p in
     let t = g ^ r in
     let h = g ^ (2 ^ u) in
@@ -138,7 +138,7 @@ pub level_pair : {m g z entries y v sum difference : ℕ} {w : ℕ → ℕ} (q c
 level_pair {m} {g} {z} {entries} {y} {v} {sum} {difference} {w} q count half i x twiddles below first second pair =
     let even = constant g z (2 * q) in
     let odd = constant g z (2 * q + 1) in
-    let are = constants g z entries q w twiddles below in
+    let are = constants_of_halves g z entries q w twiddles below in
     let a = coefficient_at g z count (half + half) x q i in
     let d = coefficient_at g z count (half + half) x q (half + i) in
     let left : Congruent m (difference + v * w q) (a + odd * d + v * w q) =

@@ -1,4 +1,4 @@
--- The entry of a table whose product with another is -1: the one mirrored in its power of two.
+-- The entry of a table whose product with another is -1: the one are_mirrored in its power of two.
 use Rattle.std.proofs.Common.{◌≡◌, ℕ, suc, zero, ◌+◌, ◌-◌, ◌*◌, ◌/◌, ◌%◌, ◌^◌, ◌<◌, ◌≤◌, refl, sym, ◌∙◌, ap, arith}
 use Rattle.std.proofs.Math.Nat.{two-pow-succ, pow-zero, mod-eq_of_lt, zero-mod, add-mul-mod_self_right}
 use Rattle.std.proofs.lemmas.Nat.{pow-add, pow_pos}
@@ -14,16 +14,16 @@ record AreMirrored (u q r : ℕ) : Type 0 where
   within : r < 2 ^ u
   total : bits_reversed u q + bits_reversed u r ≡ 2 ^ u
 
-mirrored : (u k q r : ℕ) → 2 ^ k ≤ q → q < 2 * 2 ^ k → q + r + 1 ≡ 3 * 2 ^ k → q < 2 ^ u → AreMirrored u q r
-mirrored zero k q r least most mirror below = let p = pow_pos k in
+are_mirrored : (u k q r : ℕ) → 2 ^ k ≤ q → q < 2 * 2 ^ k → q + r + 1 ≡ 3 * 2 ^ k → q < 2 ^ u → AreMirrored u q r
+are_mirrored zero k q r least most mirror below = let p = pow_pos k in
     let one : 2 ^ 0 ≡ 1 = refl in absurd (omega (arith, p, least, below, one))
-mirrored (suc u) zero q r least most mirror below =
+are_mirrored (suc u) zero q r least most mirror below =
     grind (arith, two-pow-succ, pow_pos, bits_reversed-suc, bits_reversed_of_zero)
-mirrored (suc u) (suc k) q r least most mirror below =
+are_mirrored (suc u) (suc k) q r least most mirror below =
     let two = two-pow-succ u in
     let half = two-pow-succ k in
     let parity : r % 2 ≡ 1 - q % 2 = omega (arith, mirror, half) in
-    let rest = mirrored u k (q / 2) (r / 2) (omega (arith, least, half)) (omega (arith, most, half))
+    let rest = are_mirrored u k (q / 2) (r / 2) (omega (arith, least, half)) (omega (arith, most, half))
     (omega (arith, mirror, half, parity)) (omega (arith, below, two)) in
     let within = rest.within in
     let total = rest.total in
@@ -34,7 +34,7 @@ mirrored (suc u) (suc k) q r least most mirror below =
     ∙ ap (λ v. v * 2 ^ u) (let o : q % 2 + r % 2 ≡ 1 = omega (arith, parity) in o) ∙ omega arith in
     record { within = omega (arith, within, two); total = omega (arith, total, eq, er, bits, two) }
 
--- the mirrored entry lies in the table, and is minus the inverse
+-- the are_mirrored entry lies in the table, and is minus the inverse
 pub record IsMirror (m count place : ℕ) (w : ℕ → ℕ) (r : ℕ) : Type 0 where
   pub within : r < count
   pub inverse : IsMinusInverse m (w place) (w r)
@@ -47,7 +47,7 @@ mirror_of_twiddles {m} g (suc u) count k q r w twiddles below least most mirror 
     let two = two-pow-succ u in
     let some = pow_pos u in
     let count_is : count ≡ 2 ^ u = omega (arith, half, two) in
-    let are = mirrored u k q r least most mirror (omega (arith, below, count_is)) in
+    let are = are_mirrored u k q r least most mirror (omega (arith, below, count_is)) in
     let inside = are.within in
     let r_below : r < count = omega (arith, inside, count_is) in
     let is_half : 2 ^ suc u / 2 ≡ 2 ^ u = omega (arith, two) in
@@ -77,7 +77,7 @@ first_of_twiddles {m} g z count v w twiddles some is =
     let gone : Congruent m (0 + 1 * m) 0 = record { same = add-mul-mod_self_right 0 1 m } in
     grind arith
 
--- the place mirrored in its power of two, as words have it
+-- the place are_mirrored in its power of two, as words have it
 pub mirrored_place : (k q power : ℕ) → 2 ^ k ≤ q → q < 2 * 2 ^ k → q < 18446744073709551616
     → power ≡ (1 * 2 ^ k) % 18446744073709551616
     → q + (power + (power - 1 - (q - power))) + 1 ≡ 3 * 2 ^ k

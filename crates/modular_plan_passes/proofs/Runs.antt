@@ -10,7 +10,7 @@ use Rattle.modular_plan_passes.specs.Steps.{StageOfFours}
 use Rattle.modular_plan_passes.proofs.Entries.{number_read}
 use Rattle.modular_plan_passes.proofs.Fours.{four_along}
 use Rattle.modular_plan_passes.proofs.Mirrors.{mirror_of_twiddles}
-use Rattle.modular_plan_passes.proofs.Quarters.{in_front, behind}
+use Rattle.modular_plan_passes.proofs.ListParts.{number_in_front, number_behind}
 
 -- a part begins a list, by the numbers of their entries
 pub record IsFrontOf {F : Type 0} (value : F → ℕ) (table part : List F) : Type 0 where
@@ -18,7 +18,7 @@ pub record IsFrontOf {F : Type 0} (value : F → ℕ) (table part : List F) : Ty
 
 pub front_of : {F : Type 0} (value : F → ℕ) (table front back : List F) → table ≡ front ++ back
     → IsFrontOf value table front
-front_of value table front back is = grind (arith, in_front)
+front_of value table front back is = grind (arith, number_in_front)
 
 -- the front of a front
 pub shorter_front : {F : Type 0} (value : F → ℕ) (table part front back : List F) → IsFrontOf value table part
@@ -35,7 +35,7 @@ pub read_at_end : {F : Type 0} (value : F → ℕ) (table part front back : List
     → value x ≡ numbers value table (n + i)
 read_at_end value table part front back n i x of is front_length within read =
     let len = ap (λ t. length t) is ∙ length-append front back in
-    number_read value back i x within read ∙ sym (behind value front back n i front_length)
+    number_read value back i x within read ∙ sym (number_behind value front back n i front_length)
     ∙ ap (λ t. numbers value t (n + i)) (sym is) ∙ of.same (n + i) (omega (arith, len, front_length, within))
 
 -- the entries at the mirrored indexes of a block and of its halves
@@ -66,10 +66,10 @@ pub stages_appended : {X : Type 0} (number : X → ℕ) (S : ℕ → ℕ → ℕ
 stages_appended number S first n more a b a' b' la la' front back =
     let x = numbers number (a ++ b) in
     let y = numbers number (a' ++ b') in
-    let old_front : (k : ℕ) → k < 4 * n → numbers number a k ≡ x k = λ k l. sym (in_front number a b k (omega (arith, la, l))) in
-    let new_front : (k : ℕ) → k < 4 * n → numbers number a' k ≡ y k = λ k l. sym (in_front number a' b' k (omega (arith, la', l))) in
-    let old_back : (k : ℕ) → numbers number b k ≡ x (4 * n + k) = λ k. sym (behind number a b (4 * n) k la) in
-    let new_back : (k : ℕ) → numbers number b' k ≡ y (4 * n + k) = λ k. sym (behind number a' b' (4 * n) k la') in
+    let old_front : (k : ℕ) → k < 4 * n → numbers number a k ≡ x k = λ k l. sym (number_in_front number a b k (omega (arith, la, l))) in
+    let new_front : (k : ℕ) → k < 4 * n → numbers number a' k ≡ y k = λ k l. sym (number_in_front number a' b' k (omega (arith, la', l))) in
+    let old_back : (k : ℕ) → numbers number b k ≡ x (4 * n + k) = λ k. sym (number_behind number a b (4 * n) k la) in
+    let new_back : (k : ℕ) → numbers number b' k ≡ y (4 * n + k) = λ k. sym (number_behind number a' b' (4 * n) k la') in
     record {
       fours = λ p i l one. elim (cases_lt p n) [
         | inl less ↦

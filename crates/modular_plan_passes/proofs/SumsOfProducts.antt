@@ -3,7 +3,7 @@ use Rattle.std.proofs.Common.{◌≡◌, ℕ, zero, suc, ◌+◌, ◌-◌, ◌*�
 use Rattle.std.proofs.Math.Nat.{mul-le-mul_left, mul-le-mul_right, mul-lt-mul_of_pos_right, two-pow-succ}
 use Rattle.modular_word.specs.Division.{IsDivision}
 use Rattle.modular_word.specs.Reciprocals.{IsReciprocal}
-use Rattle.modular_plan_passes.proofs.Quotients.{scaled_rest}
+use Rattle.modular_plan_passes.proofs.FactorProducts.{scaled_rest}
 
 -- half the power of two by which a number is shifted to a divisor's place
 pub record IsHalvedShift (m s : ℕ) : Type 0 where
@@ -24,9 +24,9 @@ pub summand_fits : {b m s : ℕ} (x : ℕ) → IsHalvedShift m s → m * 2 ^ s <
 summand_fits {b} {m} {s} x h fits below = grind (arith, mul-le-mul_right)
 
 -- a sum of two scaled products, in words of which there are b, where the scale is p and the divisor d
-pub scaled_sum : (b d m p x u v y : ℕ) → 2 * m * p ≡ d → 0 < p → x + u < 2 * m → v < b → y < b
+pub scaled_sum_fits : (b d m p x u v y : ℕ) → 2 * m * p ≡ d → 0 < p → x + u < 2 * m → v < b → y < b
     → x * p * v + u * p * y < d * b
-scaled_sum b d m p x u v y twice some below v_fits y_fits =
+scaled_sum_fits b d m p x u v y twice some below v_fits y_fits =
     let first : x * p * v ≤ x * p * b = mul-le-mul_left (x * p) (let k : v ≤ b = omega arith in k) in
     let second : u * p * y ≤ u * p * b = mul-le-mul_left (u * p) (let k : y ≤ b = omega arith in k) in
     let more : (x + u) * p < (2 * m) * p = mul-lt-mul_of_pos_right below some in

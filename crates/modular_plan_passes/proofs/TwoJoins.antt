@@ -84,13 +84,13 @@ first_fours b last length entries is some power room =
     }
 
 -- .. and what they make of the remainders
-pub remainders_of_fours : {m : ℕ} (g z : ℕ) {b last length entries : ℕ} {w x y after : ℕ → ℕ} → last ≡ 1
+pub remainders_of_joined_fours : {m : ℕ} (g z : ℕ) {b last length entries : ℕ} {w x y after : ℕ → ℕ} → last ≡ 1
     → FirstFours b last length entries → AreTwiddles m g z entries w
     → AreRemainders m g z b (length / last) last x (λ i. y i % m)
     → StageOfFours (λ p. IsFourJoin m (w (b * (length / 4) + p)) (w (2 * (b * (length / 4) + p)))
     (w (2 * (b * (length / 4) + p) + 1))) 1 (length / 4) y after
     → AreRemainders m g z b (length / 4) 4 (λ k. 4 * x k) (λ i. after i % m)
-remainders_of_fours g z {b} {last} {length} {x = x} {y} is first twiddles before stage =
+remainders_of_joined_fours g z {b} {last} {length} {x = x} {y} is first twiddles before stage =
     let one : length / 1 ≡ length = omega arith in
     let level = level_joined_two g z x first.can first.room twiddles
     (level_lowest g z b length 1 x y (rw (is, one) at before)) stage in

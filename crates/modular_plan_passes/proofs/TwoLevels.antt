@@ -84,12 +84,12 @@ whole_fours n last b entries is large power room =
     fours_of_power power.0 n b entries (sym all ∙ power.1) large (rw all at room)
 
 -- the last two stages leave the remainders
-pub remainders_of_fours : {m : ℕ} (g z b n last entries : ℕ) (w x y after : ℕ → ℕ) → last ≡ 1 → WholeFours n b entries
+pub remainders_of_split_fours : {m : ℕ} (g z b n last entries : ℕ) (w x y after : ℕ → ℕ) → last ≡ 1 → WholeFours n b entries
     → AreTwiddles m g z entries w → IsLevel m g z b (n / 4) 4 x y
     → StageOfFours (λ p. IsFourSplit m (w (b * (n / 4) + p)) (w (2 * (b * (n / 4) + p)))
     (w (2 * (b * (n / 4) + p) + 1))) 1 (n / 4) y after
     → ((i : ℕ) → i < n → after i < m) → AreRemainders m g z b (n / last) last x after
-remainders_of_fours {m} g z b n last entries w x y after is fours twiddles before stage below =
+remainders_of_split_fours {m} g z b n last entries w x y after is fours twiddles before stage below =
     let level = level_fours b (n / 4) 1 x y after w fours.last_room twiddles before stage in
     let all : n ≡ n / last = sym (ap (λ v. n / v) is ∙ omega arith) in
     let whole : n / 4 * 2 * 2 ≡ n = omega (arith, fours.whole) in

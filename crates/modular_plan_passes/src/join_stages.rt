@@ -18,6 +18,7 @@ use modular_word::path_word::PathWord;
 use modular_word::ring_word::RingWord;
 
 // The index with the bits below its highest bit 2^k inverted.
+#[tactic(auto, using(crate::proofs::Mirrors::mirrored_place))]
 fn mirrored(place: usize) -> usize
     requires { 0 < place }
     ensures { (k : ℕ) × (2 ^ k ≤ place) × (place < 2 * 2 ^ k) × (place + result + 1 ≡ 3 * 2 ^ k) }
@@ -115,6 +116,7 @@ pub fn minus_inverses<T: PlainWord, F: PlanEntry<T>, M: JoinSteps<T>>(
 /// - the list's entries are below the bound
 /// - the table's entries are factors modulo m, one for each block
 /// - `minus` is the factor -1
+#[tactic(auto, using(crate::proofs::PairSteps::stage_none))]
 pub fn join_stage<T: PlainWord, F: PlanEntry<T>, M: JoinSteps<T>>(
     m: &M,
     xs: &mut [T],
@@ -143,6 +145,7 @@ pub fn join_stage<T: PlainWord, F: PlanEntry<T>, M: JoinSteps<T>>(
 // Two stages of all blocks: block p by entry first + p of the table, and its halves by the entries 2·(first + p)
 // and 2·(first + p) + 1.
 #[inline(always)]
+#[tactic(auto, using(crate::proofs::Fours::stage_of_fours_none))]
 fn join_two_stages<T: PlainWord, F: PlanEntry<T>, M: JoinSteps<T>>(
     m: &M,
     xs: &mut [T],

@@ -192,6 +192,7 @@ impl<T: PlainWord> JoinSteps<T> for PlannedModulus<T> {
         (a, b, c, d)
     }
 
+    #[tactic(auto, using(crate::proofs::Bounds::multiple_is_none))]
     fn four_by_one(&self, x: T, y: T, z: T, t: T, v: &Factor<T>, s: &Factor<T>) -> (T, T, T, T) {
         let twice = self.twice();
         let e = reduced(x.plus(y), twice);
@@ -237,6 +238,7 @@ impl<T: PlainWord> JoinSteps<T> for RoomyModulus<T> {
         (reduced(sum, fourfold), product)
     }
 
+    #[tactic(auto, using(crate::proofs::Bounds::multiple_is_none))]
     fn four(
         &self,
         x: T,

@@ -1,7 +1,7 @@
 //! The moduli of plans, with their reciprocals, and products by factors with a precomputed quotient: `PlannedModulus` is at
 //! most a quarter of the base, `RoomyModulus` at most a sixteenth.
 
-ghost use Rattle.std.specs.Prelude.{◌≡◌, ℕ, ◌+◌, ◌*◌, ◌/◌, ◌%◌, ◌^◌, ◌<◌, ◌≤◌, ◌↔◌, IsTrue, ⊤, MatchOption};
+ghost use Rattle.std.specs.Prelude.{◌≡◌, ℕ, ◌+◌, ◌-◌, ◌*◌, ◌/◌, ◌%◌, ◌^◌, ◌<◌, ◌≤◌, ◌↔◌, IsTrue, ⊤, MatchOption};
 ghost use Rattle.modular_word.specs.Congruence.{Congruent};
 ghost use Rattle.modular_word.specs.Reciprocals.{IsReciprocal};
 ghost use Rattle.modular_plan_passes.specs.Factors.{IsFactorOf};
@@ -35,6 +35,15 @@ pub fn reduced<T: PlainWord>(x: T, m: T) -> T
     } else {
         reduced_once(x, m)
     }
+}
+
+// The base divided by 2^k.
+fn part_of_base<T: PlainWord>(k: u32) -> T
+    requires some { 1 ≤ k }
+    requires few { k ≤ 8 }
+    ensures { T.number result ≡ 2 ^ (T.width - k) }
+{
+    T::one().shift_left(T::bits() - k)
 }
 
 /// A modulus m with its reciprocal.
@@ -99,7 +108,7 @@ impl<T: PlainWord> PlannedModulus<T> {
     pub fn admits(m: T) -> bool
         ensures { IsTrue result ↔ ((1 ≤ T.number m) × (4 * T.number m ≤ T.base)) }
     {
-        let greatest = T::one().shift_left(T::bits() - 2);
+        let greatest = part_of_base::<T>(2);
         if m.is_zero_word() {
             false
         } else {
@@ -154,6 +163,7 @@ impl<T: PlainWord> PlannedModulus<T> {
     /// assert_eq!(modulus.product(1000, &ten), 9); // 10000 = 103 * 97 + 9
     /// ```
     // rust: #[cfg_attr(debug_assertions, track_caller)]
+    #[tactic(auto, using(crate::proofs::FactorProducts::divisor_fits, std::proofs::lemmas::Nat::pow_pos))]
     pub fn factor(&self, w: T) -> Factor<T>
         requires { T.number w < T.number self.now.modulus }
         ensures value { T.number result.value ≡ T.number w }
@@ -183,6 +193,7 @@ impl<T: PlainWord> PlannedModulus<T> {
     /// assert_eq!(modulus.times_base(&modulus.factor(5)), 6); // 5 * 256 = 98 * 13 + 6
     /// ```
     // rust: #[cfg_attr(debug_assertions, track_caller)]
+    #[tactic(auto, using(crate::proofs::FactorProducts::left_by_quotient))]
     pub fn times_base(&self, w: &Factor<T>) -> T
         requires { IsFactorOf T.base T.number (T.number self.now.modulus) w.now }
         ensures { T.number result ≡ (T.number w.now.value * T.base) % T.number self.now.modulus }
@@ -326,6 +337,7 @@ impl<T: PlainWord> PlannedModulus<T> {
     /// assert_eq!(modulus.product_sum(5, 200, 7, 100), 10); // 5 * 200 + 7 * 100 = 130 * 13 + 10
     /// ```
     // rust: #[cfg_attr(debug_assertions, track_caller)]
+    #[tactic(auto, using(crate::proofs::FactorProducts::divisor_fits))]
     pub fn product_sum(&self, x: T, v: T, u: T, y: T) -> T
         requires { T.number x + T.number u < 2 * T.number self.now.modulus }
         ensures value { T.number result ≡ (T.number x * T.number v + T.number u * T.number y)
@@ -386,6 +398,7 @@ impl<T: PlainWord> PlannedModulus<T> {
     /// assert_eq!(PlannedModulus::<u8>::new(13).residue(51), 12);
     /// ```
     // rust: #[cfg_attr(debug_assertions, track_caller)]
+    #[tactic(auto, using(modular_word::proofs::Congruence::mod_of_multiple_left))]
     pub fn residue(&self, x: T) -> T
         requires { T.number x < 4 * T.number self.now.modulus }
         ensures { T.number result ≡ T.number x % T.number self.now.modulus }
@@ -431,7 +444,7 @@ impl<T: PlainWord> RoomyModulus<T> {
     pub fn new(planned: &PlannedModulus<T>) -> Option<Self>
         ensures { MatchOption result (T.base < 16 * T.number planned.now.modulus) (λ roomy. roomy.planned ≡ planned.now) }
     {
-        let greatest = T::one().shift_left(T::bits() - 4);
+        let greatest = part_of_base::<T>(4);
         if greatest.is_below(planned.modulus) {
             None
         } else {

@@ -75,6 +75,7 @@ pub trait PairStep<T: PlainWord> {
 
 // The pair of entries at two indexes.
 #[inline(always)]
+#[tactic(auto, using(crate::proofs::Entries::below_read))]
 fn pair_at<T: PlainWord, S: PairStep<T>>(step: &S, xs: &mut [T], low: usize, high: usize)
     requires entries { All (λ x. T.number x < S.bound step.now) xs.old }
     requires order { low < high }
@@ -93,6 +94,7 @@ fn pair_at<T: PlainWord, S: PairStep<T>>(step: &S, xs: &mut [T], low: usize, hig
 ///
 /// - the entries are below the bound of the step, which is at most the limit
 #[inline(always)]
+#[tactic(auto, using(crate::proofs::Entries::never_beyond, crate::proofs::PairSteps::block_all, crate::proofs::PairSteps::block_more, crate::proofs::PairSteps::block_none))]
 pub fn pairs<T: PlainWord, M: Bounded<T>, S: PairStep<T>>(
     m: &M,
     step: &S,
@@ -170,6 +172,7 @@ fn columns<T: PlainWord, M: Bounded<T>, S: FourStep<T>>(
 
 // The two halves of a block, of q + q entries each.
 #[inline(always)]
+#[tactic(auto, using(crate::proofs::FourColumns::columns_all, crate::proofs::FourColumns::halves_done, crate::proofs::ListParts::all_behind, crate::proofs::ListParts::all_in_front))]
 fn halves<T: PlainWord, M: Bounded<T>, S: FourStep<T>>(
     m: &M,
     step: &S,
@@ -188,6 +191,7 @@ fn halves<T: PlainWord, M: Bounded<T>, S: FourStep<T>>(
 
 // The entries at four indexes.
 #[inline(always)]
+#[tactic(auto, using(crate::proofs::Entries::number_read))]
 fn four_at<T: PlainWord>(xs: &[T], i: usize, j: usize, k: usize, l: usize) -> (T, T, T, T)
     requires { AreInOrder i j k l (length xs.now) }
     ensures { AreAt i j k l (numbers T.number xs.now)
@@ -232,6 +236,7 @@ pub fn neighbours<T: PlainWord, S: FourStep<T>>(step: &S, xs: &mut [T], first: u
 // A block of four entries. The quarters of such blocks are too short for a loop over one to be vectorized, but compilers
 // vectorize a loop over the blocks.
 #[inline(always)]
+#[tactic(auto, using(crate::proofs::Entries::bounded_at))]
 fn one_column<T: PlainWord, M: Bounded<T>, S: FourStep<T>>(
     m: &M,
     step: &S,
@@ -255,6 +260,7 @@ fn one_column<T: PlainWord, M: Bounded<T>, S: FourStep<T>>(
 ///
 /// - the entries are below the bound of the step, which is at most the limit
 #[inline(always)]
+#[tactic(auto, using(crate::proofs::FourColumns::block_of_halves, crate::proofs::ListParts::all_behind, crate::proofs::ListParts::all_in_front))]
 pub fn quarters<T: PlainWord, M: Bounded<T>, S: FourStep<T>>(
     m: &M,
     step: &S,

@@ -20,6 +20,7 @@ use modular_word::path_word::PathWord;
 /// - the blocks, of 2·half entries each, fill the list, and half is at least 1
 /// - the list's entries are below the limit
 /// - the table's entries are factors modulo m, one for each block
+#[tactic(auto, using(crate::proofs::FourColumns::factor_read, crate::proofs::PairSteps::stage_all, crate::proofs::PairSteps::stage_none))]
 pub fn split_stage<T: PlainWord, M: SplitSteps<T>, F: PlanEntry<T>>(
     m: &M,
     xs: &mut [T],
@@ -47,6 +48,7 @@ pub fn split_stage<T: PlainWord, M: SplitSteps<T>, F: PlanEntry<T>>(
 
 // The factor of the block with this index in the table, and the factors of its halves.
 #[inline(always)]
+#[tactic(auto, using(crate::proofs::Entries::number_read, crate::proofs::FourColumns::factor_read))]
 fn factors_at<T: PlainWord, F: PlanEntry<T>>(
     table: &[F],
     place: usize,
@@ -122,6 +124,7 @@ fn split_known<T: PlainWord, M: SplitSteps<T>, F: PlanEntry<T>>(
 /// - the blocks, of 4·q entries each, fill the list, and q is at least 1
 /// - the list's entries are below the limit, and below 4m where there is only one block
 /// - the table's entries are factors modulo m, one for each block and two for its halves
+#[tactic(auto, using(crate::proofs::FourColumns::factor_read))]
 pub fn split_pass<T: PlainWord, M: SplitSteps<T>, F: PlanEntry<T>>(
     m: &M,
     xs: &mut [T],

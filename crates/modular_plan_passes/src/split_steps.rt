@@ -130,6 +130,7 @@ impl<T: PlainWord> SplitSteps<T> for PlannedModulus<T> {
         spread(self, reduced(x, self.twice()), y, w)
     }
 
+    #[tactic(auto, using(crate::proofs::Fours::four_of_pairs))]
     fn four(
         &self,
         x: T,

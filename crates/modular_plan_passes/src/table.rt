@@ -37,6 +37,7 @@ use modular_word::ring_word::RingWord;
 /// assert_eq!(table.map(|factor| factor.value()), [1, 2 * 2, 2, 2 * 2 * 2]);
 /// ```
 // rust: #[track_caller]
+#[tactic(auto, using(crate::proofs::Doublings::holds_below_next, crate::proofs::Doublings::same_factor))]
 pub fn fill_table<T: PlainWord, F: PlanEntry<T>>(m: &PlannedModulus<T>, g: T, table: &mut [F])
     requires below { T.number g < T.number m.now.modulus }
     requires suits { Suits (T.number m.now.modulus) (T.number g) (2 * length table.old) }

@@ -39,8 +39,8 @@ remainders_of_transform number m g n bits x old new whole len len_new reordered 
     grind (arith, remainders_reversed, bits_reversed_below, number_reordered)
 
 -- a number of blocks times an entry, times the inverse of the number
-pub unscaled : (m n part v : ℕ) → IsInverse m n part → (n * v * part) % m ≡ v % m
-unscaled m n part v inverse =
+pub inverse_unscales : (m n part v : ℕ) → IsInverse m n part → (n * v * part) % m ≡ v % m
+inverse_unscales m n part v inverse =
     let moved : n * v * part ≡ n * part * v = omega arith in
     let one : 1 * v ≡ v = omega arith in
     let unit : Congruent m (n * part) 1 = record { same = inverse.one } in

@@ -1,11 +1,11 @@
--- The constants of the tree, by the entries of a root's table.
+-- The constants_of_halves of the tree, by the entries of a root's table.
 use Rattle.std.proofs.Common.{◌≡◌, ℕ, ◌+◌, ◌*◌, ◌/◌, ◌%◌, ◌<◌, ◌≤◌, ◌∙◌, ap, arith}
 use Rattle.std.proofs.Math.Nat.{mul-le-mul_right}
 use Rattle.modular_word.specs.Congruence.{Congruent}
 use Rattle.modular_word.proofs.Congruence.{mod_sym, mod_trans, mod_add_cancel}
 use Rattle.modular_plan_passes.specs.Plans.{constant, AreTwiddles}
 use Rattle.modular_plan_passes.proofs.Bounds.{multiple_is_none}
-use Rattle.modular_plan_passes.proofs.Levels.{constants}
+use Rattle.modular_plan_passes.proofs.Levels.{constants_of_halves}
 
 -- an entry is the constant of one block, and minus it that of the next
 pub record IsPairOfConstants (m g z p w : ℕ) : Type 0 where
@@ -16,12 +16,12 @@ pub record IsPairOfConstants (m g z p w : ℕ) : Type 0 where
 pub odd_constant : {m g z count : ℕ} {w : ℕ → ℕ} (p v : ℕ) → AreTwiddles m g z count w → p < count → v + w p ≡ m
     → Congruent m v (constant g z (2 * p + 1))
 odd_constant {m} {g} {z} {count} {w} p v twiddles below is = mod_add_cancel (w p)
-    (mod_trans (multiple_is_none 1 (v + w p) (omega (arith, is))) (mod_sym (constants g z count p w twiddles below).opposite))
+    (mod_trans (multiple_is_none 1 (v + w p) (omega (arith, is))) (mod_sym (constants_of_halves g z count p w twiddles below).opposite))
 
 pub pair_of_constants : {m : ℕ} (g z count p : ℕ) (w : ℕ → ℕ) → AreTwiddles m g z count w → p < count
     → IsPairOfConstants m g z p (w p)
 pair_of_constants {m} g z count p w twiddles below = record {
-  even = mod_sym (constants g z count p w twiddles below).even_is;
+  even = mod_sym (constants_of_halves g z count p w twiddles below).even_is;
   odd = λ v is. odd_constant p v twiddles below is;
 }
 

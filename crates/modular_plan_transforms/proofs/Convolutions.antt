@@ -14,20 +14,20 @@ use Rattle.modular_transform.proofs.BitReversal.{bits_reversed_of_zero}
 use Rattle.modular_transform.proofs.MinusOne.{pow_of_square}
 use Rattle.modular_plan_passes.specs.Plans.{constant, AreTwiddles, AreRemainders}
 use Rattle.modular_plan_passes.proofs.Bounds.{multiple_is_none}
-use Rattle.modular_plan_passes.proofs.Levels.{by_halves, constants}
+use Rattle.modular_plan_passes.proofs.Levels.{by_halves, constants_of_halves}
 use Rattle.modular_plan_transforms.specs.PlanConditions.{AreBlocks}
 use Rattle.modular_plan_transforms.specs.ProductConditions.{AreSmallBlocks}
 use Rattle.modular_plan_transforms.specs.Products.{coefficient, product_modulo, AreProducts}
-use Rattle.modular_plan_transforms.proofs.Columns.{column_of_product}
+use Rattle.modular_plan_transforms.proofs.ProductColumns.{column_of_product}
 
 -- the square of a constant is the constant of the block above
 square_of_constant : {m : ℕ} (g z count j : ℕ) (w : ℕ → ℕ) → AreTwiddles m g z count w → j / 2 < count
     → Congruent m (constant g z j * constant g z j) (constant g z (j / 2))
 square_of_constant {m} g z count j w twiddles below =
-    let are = constants g z count (j / 2) w twiddles below in
+    let are = constants_of_halves g z count (j / 2) w twiddles below in
     by_halves (λ k. Congruent m (constant g z k * constant g z k) (constant g z (j / 2))) j are.root are.odd_root
 
--- 2^k blocks below block b: their constants to that power are that of b
+-- 2^k blocks below block b: their constants_of_halves to that power are that of b
 power_of_constant : {m : ℕ} (g z b k j count : ℕ) (w : ℕ → ℕ) → AreTwiddles m g z count w → (b + 1) * (2 ^ k / 2) ≤ count
     → j < 2 ^ k → Congruent m (constant g z (b * 2 ^ k + j) ^ (2 ^ k)) (constant g z b)
 power_of_constant g z b zero j count w twiddles room below = grind (arith, mod_of_eq, pow-one)
@@ -118,10 +118,10 @@ joined_product {m} g z b last entries count size part w x y u v p out power whol
 both_tests : (n s e v : ℕ) → 0 < n → cond (eqb s e || eqb s (e + n)) v 0 ≡ cond (eqb s e) v 0 + cond (eqb s (e + n)) v 0
 both_tests n s e v some = grind arith
 
--- modulo X^n - 1 the product is the cyclic one
-pub cyclic : (m n e g z : ℕ) (x y : ℕ → ℕ) → 0 < n
+-- modulo X^n - 1 the product is the product_is_cyclic one
+pub product_is_cyclic : (m n e g z : ℕ) (x y : ℕ → ℕ) → 0 < n
     → product_modulo m n (constant g z 0) x y e ≡ cyclic_product m n x y e
-cyclic m n e g z x y some =
+product_is_cyclic m n e g z x y some =
     let one : constant g z 0 ≡ 1 = ap (λ k. g ^ k) (bits_reversed_of_zero z) ∙ pow-zero g in
     let f = λ (i j : ℕ). cond (eqb (i + j) e) (x i * y j) 0 in
     let h = λ (i j : ℕ). cond (eqb (i + j) (e + n)) (x i * y j) 0 in
@@ -138,7 +138,7 @@ cyclic m n e g z x y some =
 pub negacyclic : {m : ℕ} (n e g z count : ℕ) (w x y : ℕ → ℕ) → 0 < m → 0 < count → AreTwiddles m g z count w
     → product_modulo m n (constant g z 1) x y e ≡ product_modulo m n (m - 1) x y e
 negacyclic {m} n e g z count w x y positive some twiddles =
-    let are = constants g z count 0 w twiddles some in
+    let are = constants_of_halves g z count 0 w twiddles some in
     let one : constant g z 0 ≡ 1 = ap (λ k. g ^ k) (bits_reversed_of_zero z) ∙ pow-zero g in
     let zero_block : Congruent m (constant g z 1 + 1) 0 =
     mod_trans (mod_add (mod_refl _) (mod_trans (mod_of_eq (sym one)) are.even_is)) are.opposite in

@@ -23,8 +23,8 @@ numbers_past number words k le =
     get_or_past (map number words) k 0 (subst (λ v. v ≤ k) (sym (length-map words number)) le)
 
 -- a scale that is taken out
-pub rescaled : (a s n x : ℕ) → s * a ≡ n → a * (s * x) ≡ n * x
-rescaled a s n x is = (let e : a * (s * x) ≡ s * a * x = omega arith in e) ∙ ap (λ v. v * x) is
+pub scale_taken_out : (a s n x : ℕ) → s * a ≡ n → a * (s * x) ≡ n * x
+scale_taken_out a s n x is = (let e : a * (s * x) ≡ s * a * x = omega arith in e) ∙ ap (λ v. v * x) is
 
 -- remainders of the list once
 pub remainders_once : {m : ℕ} (g z b count last : ℕ) (x y : ℕ → ℕ) → AreRemainders m g z b count last x y

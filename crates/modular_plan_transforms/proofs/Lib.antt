@@ -1,12 +1,12 @@
 pub mod Backward
-pub mod Columns
 pub mod Constants
 pub mod Convolutions
 pub mod JoinedPasses
 pub mod LastJoins
 pub mod NaturalOrder
 pub mod OwnedTables
+pub mod PlanFields
 pub mod PlanTables
+pub mod ProductColumns
 pub mod Reductions
 pub mod SmallProducts
-pub mod Wholes

@@ -7,7 +7,7 @@ use Rattle.modular_transform.proofs.PowersOfTwo.{power_by_zeros}
 use Rattle.modular_transform.specs.Orders.{bits_reversed}
 use Rattle.modular_transform.specs.Transforms.{Suits}
 use Rattle.modular_plan_transforms.proofs.PlanTables.{ArePowers, table_of}
-use Rattle.modular_plan_transforms.proofs.Wholes.{doubled}
+use Rattle.modular_plan_transforms.proofs.PlanFields.{twice_power_of_two}
 use Rattle.modular_plan_transforms.specs.Tables.{IsTable}
 
 -- the fields
@@ -24,26 +24,26 @@ pub record IsLent {F : Type 0} (b m g : ℕ) (value quotient : F → ℕ) (entri
   pub suits : Suits m g (2 * length entries)
   pub holds : IsTable b m g value quotient entries
 
-pub lent : {F : Type 0} {b m g : ℕ} {value quotient : F → ℕ} {entries : List F}
+pub lent_by_kept : {F : Type 0} {b m g : ℕ} {value quotient : F → ℕ} {entries : List F}
     → IsKept b m g value quotient entries → IsLent b m g value quotient entries
-lent {b = b} {m} {g} {value} {quotient} {entries} kept =
+lent_by_kept {b = b} {m} {g} {value} {quotient} {entries} is =
     let count = length entries in
     let bits = trailing_zeros w64 count in
     let halved : count ≡ 2 * count / 2 = omega arith in
     let suits : Suits m g (2 * count) = record {
-      power_of_two = (bits + 1, doubled bits count kept.power_of_two);
-      half_turn = λ _. subst (λ k. (g ^ k + 1) % m ≡ 0) halved kept.half_turn;
+      power_of_two = (bits + 1, twice_power_of_two bits count is.power_of_two);
+      half_turn = λ _. subst (λ k. (g ^ k + 1) % m ≡ 0) halved is.half_turn;
     } in
     record {
       suits = suits;
-      holds = table_of b m g bits value quotient entries kept.power_of_two suits kept.factors kept.powers;
+      holds = table_of b m g bits value quotient entries is.power_of_two suits is.factors is.powers;
     }
 
 -- by a plan over them
-pub kept : {F : Type 0} (b m g bits : ℕ) (value quotient : F → ℕ) (entries : List F) → length entries < 2 ^ 64
+pub kept_by_plan : {F : Type 0} (b m g bits : ℕ) (value quotient : F → ℕ) (entries : List F) → length entries < 2 ^ 64
     → m % 2 ≡ 1 → g < m → 2 * length entries ≡ 2 ^ bits → (g ^ length entries + 1) % m ≡ 0 → AllFactors b m value quotient entries
     → ArePowers m g (bits - 1) value entries → IsKept b m g value quotient entries
-kept b m g bits value quotient entries few odd below half turn factors powers =
+kept_by_plan b m g bits value quotient entries few odd below half turn factors powers =
     let count = length entries in
     let power = power_by_zeros count (half_power (bits, half)) few in
     let same = (exponent bits count (trailing_zeros w64 count) (sym half) power).0 in

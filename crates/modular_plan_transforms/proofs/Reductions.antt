@@ -35,10 +35,10 @@ pub record IsReducing (b m t q low high multiple : ℕ) : Type 0 where
   pub fits : q < b
 
 -- the multiple by the inverse of m
-pub reducing : {b m i : ℕ} (t q low high p0 multiple : ℕ) → IsInverse b m i → t ≡ low + b * high → t < m * b → low < b
+pub is_reducing : {b m i : ℕ} (t q low high p0 multiple : ℕ) → IsInverse b m i → t ≡ low + b * high → t < m * b → low < b
     → q ≡ (low * i) % b → q < b → q * m ≡ p0 + b * multiple → p0 < b
     → IsReducing b m t q low high multiple
-reducing {b} {m} {i} t q low high p0 multiple inverse parts below low_fits is fits multiple_parts p0_fits =
+is_reducing {b} {m} {i} t q low high p0 multiple inverse parts below low_fits is fits multiple_parts p0_fits =
     let turn : low * i * m ≡ low * (m * i) = omega arith in
     let one : low * 1 ≡ low = omega arith in
     let same : Congruent b p0 low =
@@ -59,9 +59,9 @@ pub high_words : {b m t q low high multiple : ℕ} → IsReducing b m t q low hi
 high_words {b} {m} {t} {q} {low} {high} {multiple} h = grind arith
 
 -- the difference of the high words, made positive
-pub reduced : {b m t q low high multiple : ℕ} (rest r : ℕ) → IsReducing b m t q low high multiple → rest + multiple ≡ m
+pub reduced_congruent : {b m t q low high multiple : ℕ} (rest r : ℕ) → IsReducing b m t q low high multiple → rest + multiple ≡ m
     → r ≡ high + rest → Congruent m (r * b) t
-reduced {b} {m} {t} {q} {low} {high} {multiple} rest r h is_rest is =
+reduced_congruent {b} {m} {t} {q} {low} {high} {multiple} rest r h is_rest is =
     let first : r * b ≡ (high + rest) * b = ap (λ v. v * b) is in
     let second : (rest + multiple) * b ≡ m * b = ap (λ v. v * b) is_rest in
     let whole : r * b + q * m ≡ t + b * m = omega (arith, first, second, h.parts, h.multiple_parts) in

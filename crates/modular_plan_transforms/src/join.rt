@@ -197,7 +197,7 @@ fn scale_each<T: PlainWord, M: JoinSteps<T>>(m: &M, xs: &mut [T], w: &Factor<T>)
 
 // The last stages and the product of each entry with a factor. Where the table begins with 1 the last pass does
 // both, by five products in place of eight.
-#[tactic(auto, using(crate::proofs::LastJoins::two_entries, modular_plan_passes::proofs::Entries::all_wider))]
+#[tactic(auto, using(crate::proofs::LastJoins::two_entries, modular_plan_passes::proofs::Entries::all_wider, modular_word::proofs::Congruence::mod_mul, modular_word::proofs::Congruence::mod_refl))]
 fn join_last<T: PlainWord, F: PlanEntry<T>, M: JoinSteps<T>>(
     m: &M,
     xs: &mut [T],

@@ -109,6 +109,7 @@ impl<'a, T: PlainWord, F: PlanEntry<T>> Plan<'a, T, F> {
     /// let root = find_root(&Vanilla::<u64>::new(&17), 4).unwrap();
     /// assert!(Plan::new(&modulus, root, &mut table).is_some());
     /// ```
+    #[tactic(auto, using(crate::proofs::PlanTables::made_table))]
     pub fn new(m: &PlannedModulus<T>, g: T, table: &'a mut [F]) -> Option<Self>
         ensures { let modulus = T.number m.now.modulus in let n = 2 * length table.old in
             MatchOption result (modulus % 2 ≡ 1 → T.number g < modulus → Suits modulus (T.number g) n → ⊥)
@@ -205,6 +206,7 @@ impl<'a, T: PlainWord, F: PlanEntry<T>> Plan<'a, T, F> {
     /// assert_eq!((shorter.bits(), shorter.root()), (2, 4));
     /// ```
     // rust: #[track_caller]
+    #[tactic(auto, using(modular_transform::proofs::PowersOfTwo::power_by_zeros))]
     pub fn shorter(&self, n: usize) -> Plan<'a, T, F>
         requires power { IsPowerOfTwo n }
         requires some { 2 ≤ n }
@@ -237,6 +239,7 @@ impl<'a, T: PlainWord, F: PlanEntry<T>> Plan<'a, T, F> {
     /// assert!(plan.has_shorter(4) && plan.has_shorter(8));
     /// assert!(!plan.has_shorter(1) && !plan.has_shorter(16));
     /// ```
+    #[tactic(auto, using(modular_transform::proofs::PowersOfTwo::power_of_two_tested))]
     pub fn has_shorter(&self, n: usize) -> bool
         ensures { IsTrue result ↔ (IsPowerOfTwo n × (2 ≤ n) × (n ≤ 2 ^ self.now.bits)) }
     {

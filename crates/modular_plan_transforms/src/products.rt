@@ -105,6 +105,7 @@ fn times_constant<T: PlainWord, F: PlanEntry<T>>(
 }
 
 // Multiplies the polynomial x_0 + x_1·X at an index by that of the other list, modulo X^2 - c, given x_1·c.
+#[tactic(auto, using(modular_plan_passes::proofs::Entries::bounded, modular_plan_passes::proofs::Entries::number_read))]
 fn multiply_pair<T: PlainWord>(
     m: &PlannedModulus<T>,
     xs: &mut [T],

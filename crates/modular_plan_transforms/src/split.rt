@@ -131,6 +131,7 @@ fn split_by<T: PlainWord, M: SplitSteps<T>, F: PlanEntry<T>>(
 /// # Preconditions
 ///
 /// - the conditions of `split` hold
+#[tactic(auto, using(modular_plan_passes::proofs::Levels::remainders_of))]
 pub fn split_loosely<T: PlainWord, F: PlanEntry<T>>(
     m: &PlannedModulus<T>,
     xs: &mut [T],

@@ -15,6 +15,7 @@ use modular_word::path_word::PathWord;
 use modular_word::ring_word::RingWord;
 
 // The power of g to the exponent `count`, below m, by squarings.
+#[tactic(auto, using(crate::proofs::PlanFields::below_modulus, crate::proofs::PlanFields::square_of_power))]
 pub(crate) fn power<T: PlainWord>(m: &PlannedModulus<T>, g: T, count: usize) -> T
     requires below { T.number g < T.number m.now.modulus }
     requires power_of_two { IsPowerOfTwo count }
@@ -65,7 +66,7 @@ fn halved<T: PlainWord>(m: &PlannedModulus<T>, x: T) -> T
 }
 
 // The inverse of 2^bits modulo an odd m, by halvings of 1.
-#[tactic(auto, using(crate::proofs::Wholes::below_modulus, crate::proofs::Wholes::half_inverse))]
+#[tactic(auto, using(crate::proofs::PlanFields::below_modulus, crate::proofs::PlanFields::half_inverse))]
 pub(crate) fn inverse_of_power<T: PlainWord>(m: &PlannedModulus<T>, bits: u32) -> T
     requires { T.number m.now.modulus % 2 ≡ 1 }
     ensures { IsInverse (T.number m.now.modulus) (2 ^ bits) (T.number result) }
@@ -86,6 +87,7 @@ pub(crate) fn inverse_of_power<T: PlainWord>(m: &PlannedModulus<T>, bits: u32) -
 /// # Preconditions
 ///
 /// - the number is a power of two
+#[tactic(auto, using(crate::proofs::PlanFields::no_inverse_modulo_even, modular_transform::proofs::PowersOfTwo::power_by_zeros, std::proofs::lemmas::Nat::pow_pos))]
 pub fn inverse_of_count<T: PlainWord>(m: &PlannedModulus<T>, count: usize) -> Option<Factor<T>>
     requires { IsPowerOfTwo count }
     ensures { MatchOption result (HasInverse (T.number m.now.modulus) count → ⊥)

@@ -3,7 +3,7 @@ use Rattle.std.proofs.Common.{◌≡◌, ℕ, ◌+◌, ◌-◌, ◌*◌, ◌/◌
 use Rattle.std.proofs.lemmas.Nat.{pow_pos}
 use Rattle.modular_plan_passes.specs.Plans.{constant}
 use Rattle.modular_plan_transforms.specs.Products.{product_modulo}
-use Rattle.modular_plan_transforms.proofs.Convolutions.{cyclic, negacyclic}
+use Rattle.modular_plan_transforms.proofs.Convolutions.{product_is_cyclic, negacyclic}
 use Rattle.num_modular.specs.Transforms.{cyclic_product}
 use Rattle.num_modular_c.specs.Plans.{FitPlannedProduct, HasTwiddles, IsPlannedProduct}
 use Rattle.num_modular_c.specs.declared.plans.NmFactor.{NmFactor}
@@ -24,7 +24,7 @@ pub as_cyclic : (n : ℕ) (x y : ℕ → ℕ) {m last : ℕ} {table : List NmFac
     → IsPlannedProduct m 0 last table (λ g z e. product_modulo m n (constant g z 0) x y e) others words new_others
     → IsPlannedProduct m 0 last table (λ g z e. cyclic_product m n x y e) others words new_others
 as_cyclic n x y {m} all is =
-    as_other (λ g z e twiddles l. cyclic m n e g z x y (omega (arith, all, l))) is
+    as_other (λ g z e twiddles l. product_is_cyclic m n e g z x y (omega (arith, all, l))) is
 
 -- block 1 has a factor
 some_factor : (k factors : ℕ) → 0 < k → (1 + 1) * k ≤ 2 * factors → 0 < factors

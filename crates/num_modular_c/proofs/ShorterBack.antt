@@ -13,7 +13,7 @@ use Rattle.modular_transform.proofs.BitReversal.{bits_reversed_of_parts, bits_re
 use Rattle.modular_transform.proofs.InverseTransform.{power_suits, transform_congruent}
 use Rattle.modular_transform.proofs.TransformBack.{restored_at}
 use Rattle.modular_plan_passes.specs.Plans.{constant, remainder, AreRemainders, AreTwiddles}
-use Rattle.modular_plan_transforms.proofs.Backward.{remainders_of_transform, unscaled}
+use Rattle.modular_plan_transforms.proofs.Backward.{remainders_of_transform, inverse_unscales}
 use Rattle.modular_plan_transforms.proofs.NaturalOrder.{no_more_bits}
 use Rattle.num_modular_c.specs.Plans.{words_of, shorter_root}
 
@@ -92,7 +92,7 @@ only_back m g z n bits count part w old mid new whole len len_mid within twiddle
     let by_h = λ (j : ℕ) (k : j < n). subst (λ r. transform m r n x j ≡ words_of old j % m) longer.root (are j k) in
     let remainders = remainders_of_transform (λ v. v) m h n bits x old mid whole len len_mid reordered by_h in
     joined x (remainders_of_shorter m g z n bits longer.doublings x (λ k. words_of mid k % m) whole longer.sum remainders) i l
-    ∙ unscaled m n part (x i) inverse
+    ∙ inverse_unscales m n part (x i) inverse
 
 -- and their transform is what they were
 pub values_back : (m g z n bits count part : ℕ) (w : ℕ → ℕ) (old mid : List ℕ) (new : ℕ → ℕ) → 0 < m

@@ -91,6 +91,7 @@ impl<'a, T: PlainWord, F: PlanEntry<T>> Plan<'a, T, F> {
     /// assert_eq!(entries, [1, 2, 3, 4]);
     /// ```
     // rust: #[track_caller]
+    #[tactic(auto, using(modular_transform::proofs::PowersOfTwo::exponent_below))]
     pub fn inverse(&self, xs: &mut [T])
         requires whole { length xs.old ≡ 2 ^ self.now.bits }
         requires entries { All (λ x. T.number x < 4 * T.number self.now.modulus.modulus) xs.old }
@@ -136,6 +137,7 @@ impl<'a, T: PlainWord, F: PlanEntry<T>> Plan<'a, T, F> {
     /// assert_eq!(entries, [4, 6, 15, 15]); // 4 + 6X modulo X^2 - 1, and -2 - 2X modulo X^2 + 1
     /// ```
     // rust: #[track_caller]
+    #[tactic(auto, using(crate::proofs::PlanFields::twiddles_of))]
     pub fn split(&self, xs: &mut [T], b: usize, last: usize)
         requires blocks { AreBlocks (length xs.old) (length self.now.table.now) b last }
         requires entries { All (λ x. T.number x < 4 * T.number self.now.modulus.modulus) xs.old }
@@ -243,6 +245,7 @@ impl<'a, T: PlainWord, F: PlanEntry<T>> Plan<'a, T, F> {
     /// assert_eq!(xs, [11, 0]); // 3X * 2X is -6 modulo X^2 + 1
     /// ```
     // rust: #[track_caller]
+    #[tactic(auto, using(crate::proofs::PlanFields::twiddles_of))]
     pub fn convolve_block(&self, xs: &mut [T], ys: &mut [T], b: usize, last: usize)
         requires equal { length ys.old ≡ length xs.old }
         requires blocks { AreSmallBlocks (length xs.old) (length self.now.table.now) b last }
@@ -288,6 +291,7 @@ impl<'a, T: PlainWord, F: PlanEntry<T>> Plan<'a, T, F> {
     /// assert_eq!(xs, [3, 10, 8, 0]); // (1 + 2X)(3 + 4X)
     /// ```
     // rust: #[track_caller]
+    #[tactic(auto, using(crate::proofs::Convolutions::product_is_cyclic))]
     pub fn convolve(&self, xs: &mut [T], ys: &mut [T])
         requires whole { length xs.old ≡ 2 ^ self.now.bits }
         requires equal { length ys.old ≡ length xs.old }
@@ -330,6 +334,7 @@ impl<'a, T: PlainWord, F: PlanEntry<T>> Plan<'a, T, F> {
     /// assert_eq!(xs, [13, 1, 2, 3]); // times X; -4 + 17
     /// ```
     // rust: #[track_caller]
+    #[tactic(auto, using(modular_plan_passes::proofs::Tables::half_power))]
     pub fn convolve_negacyclic(&self, xs: &mut [T], ys: &mut [T])
         requires whole { length xs.old ≡ 2 ^ self.now.bits }
         requires equal { length ys.old ≡ length xs.old }

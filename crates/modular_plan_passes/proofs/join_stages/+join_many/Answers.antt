@@ -2,7 +2,7 @@ use Rattle.std.proofs.Common.{◌≡◌, ℕ, ◌+◌, ◌-◌, ◌*◌, ◌<◌
 use Rattle.modular_plan_passes.specs.Plans.{numbers}
 use Rattle.modular_plan_passes.specs.Joins.{IsFourJoin}
 use Rattle.modular_plan_passes.specs.Steps.{StageOfFours}
-use Rattle.modular_plan_passes.proofs.Quarters.{all_of_both}
+use Rattle.modular_plan_passes.proofs.ListParts.{all_of_both}
 use Rattle.modular_plan_passes.proofs.Runs.{stages_appended}
 use Rattle.modular_plan_passes.proofs.join_stages.+join_many.Goals as goal
 

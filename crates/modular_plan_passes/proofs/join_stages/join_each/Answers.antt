@@ -1,5 +1,5 @@
 use Rattle.std.proofs.Common.{◌*◌, length, ◌∙◌, arith, refl}
-use Rattle.modular_plan_passes.proofs.Columns.{neighbours_given}
+use Rattle.modular_plan_passes.proofs.FourColumns.{neighbours_given}
 use Rattle.modular_plan_passes.proofs.Entries.{all_below, never_beyond}
 use Rattle.modular_plan_passes.proofs.Fours.{block_mapped, neighbours_done, neighbours_below, stage_of_fours_none}
 use Rattle.modular_plan_passes.proofs.Fours.{stage_of_fours_more, stage_of_fours_all}

@@ -1,11 +1,11 @@
 use Rattle.std.proofs.Common.{◌≡◌, ℕ, ◌≤◌, ◌+◌, ◌-◌, ◌*◌, All, length, ap, subst, ◌∙◌, arith, refl}
 use Rattle.modular_plan_passes.specs.Factors.{IsFactor}
 use Rattle.modular_plan_passes.specs.Plans.{numbers}
-use Rattle.modular_plan_passes.proofs.Columns.{neighbours_given, factor_read}
+use Rattle.modular_plan_passes.proofs.FourColumns.{neighbours_given, factor_read}
 use Rattle.modular_plan_passes.proofs.Entries.{all_below, never_beyond}
 use Rattle.modular_plan_passes.proofs.Fours.{block_mapped, neighbours_done, neighbours_below, stage_of_fours_none}
 use Rattle.modular_plan_passes.proofs.Fours.{stage_of_fours_more, stage_of_fours_all}
-use Rattle.modular_plan_passes.proofs.Quarters.{all_in_front, all_behind}
+use Rattle.modular_plan_passes.proofs.ListParts.{all_in_front, all_behind}
 use Rattle.modular_plan_passes.proofs.Runs.{front_of, shorter_front, read_at_end, mirrored_inverses, inverses_of}
 use Rattle.modular_plan_passes.proofs.join_stages.join_mirrored.Goals as goal
 

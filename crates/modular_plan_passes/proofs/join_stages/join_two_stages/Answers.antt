@@ -1,32 +1,8 @@
 use Rattle.std.proofs.Common.{◌+◌, ◌≤◌, arith}
 use Rattle.std.proofs.Math.Nat.{mul-le-mul_right}
-use Rattle.modular_plan_passes.proofs.Columns.{block_below}
-use Rattle.modular_plan_passes.proofs.Fours.{block_mapped, stage_of_fours_none, stage_of_fours_more, stage_of_fours_all}
+use Rattle.modular_plan_passes.proofs.FourColumns.{block_below}
+use Rattle.modular_plan_passes.proofs.Fours.{block_mapped, stage_of_fours_more, stage_of_fours_all}
 use Rattle.modular_plan_passes.proofs.join_stages.join_two_stages.Goals as goal
-
-pub four_quarters-init : goal.four_quarters-init
-four_quarters-init g c = record {
-  entries = c.requires.pass.entries;
-  done = λ root z twiddles. stage_of_fours_none _ c.args.q _;
-}
-
-pub overflow_add-half : goal.overflow_add-half
-overflow_add-half g c =
-    let q = c.args.q in
-    let room = mul-le-mul_right (q + q + (q + q)) (let l : c.four_quarters.p + 1 ≤ c.args.blocks = omega arith in l) in
-    omega (arith, room)
-
-pub overflow_add-half-in-four_quarters : goal.overflow_add-half-in-four_quarters
-overflow_add-half-in-four_quarters g c =
-    let q = c.args.q in
-    let room = mul-le-mul_right (q + q + (q + q)) (let l : c.four_quarters.p + 1 ≤ c.args.blocks = omega arith in l) in
-    omega (arith, room)
-
-pub overflow_mul-p : goal.overflow_mul-p
-overflow_mul-p g c =
-    let q = c.args.q in
-    let room = mul-le-mul_right (q + q + (q + q)) (let l : c.four_quarters.p + 1 ≤ c.args.blocks = omega arith in l) in
-    omega (arith, room)
 
 pub quarters-requires : goal.quarters-requires
 quarters-requires g c =

@@ -3,7 +3,7 @@ use Rattle.modular_plan_passes.specs.Plans.{numbers}
 use Rattle.modular_plan_passes.proofs.Entries.{number_read}
 use Rattle.modular_plan_passes.specs.Joins.{IsMinusInverse}
 use Rattle.modular_plan_passes.proofs.Mirrors.{mirror_of_twiddles, first_of_twiddles}
-use Rattle.modular_plan_passes.proofs.Columns.{factor_read}
+use Rattle.modular_plan_passes.proofs.FourColumns.{factor_read}
 use Rattle.modular_plan_passes.proofs.join_stages.minus_inverse.Goals as goal
 
 pub returns-then-place-eq0 : goal.returns-then-place-eq0

@@ -1,5 +1,5 @@
 use Rattle.std.proofs.Common.{arith, refl}
-use Rattle.modular_plan_passes.proofs.Columns.{column_more, column_at, column_given, column_done}
+use Rattle.modular_plan_passes.proofs.FourColumns.{column_more, column_at, column_given, column_done}
 use Rattle.modular_plan_passes.proofs.Entries.{never_beyond, number_read}
 use Rattle.modular_plan_passes.proofs.Fours.{four_along}
 use Rattle.modular_plan_passes.proofs.passes.columns.Goals as goal

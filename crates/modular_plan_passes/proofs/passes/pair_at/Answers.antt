@@ -1,12 +1,9 @@
 use Rattle.std.proofs.Common.{◌<◌, length, arith, subst}
 use Rattle.std.proofs.lemmas.List.Elements.{All-set}
 use Rattle.modular_plan_passes.specs.Plans.{numbers}
-use Rattle.modular_plan_passes.proofs.Entries.{below_read, number_read}
-use Rattle.modular_plan_passes.proofs.Steps.{pair_written}
+use Rattle.modular_plan_passes.proofs.Entries.{number_read}
+use Rattle.modular_plan_passes.proofs.PairSteps.{pair_written}
 use Rattle.modular_plan_passes.proofs.passes.pair_at.Goals as goal
-
-pub pair-first-requires : goal.pair-first-requires
-pair-first-requires g c = search (arith, below_read)
 
 pub returns : goal.returns
 returns g c =

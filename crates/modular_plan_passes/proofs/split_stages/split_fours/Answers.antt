@@ -1,6 +1,6 @@
 use Rattle.std.proofs.Common.{◌*◌, length, arith, refl}
 use Rattle.modular_plan_passes.specs.Plans.{numbers}
-use Rattle.modular_plan_passes.proofs.Columns.{neighbours_given, stage_with}
+use Rattle.modular_plan_passes.proofs.FourColumns.{neighbours_given, stage_with}
 use Rattle.modular_plan_passes.proofs.Entries.{all_below, never_beyond}
 use Rattle.modular_plan_passes.proofs.Fours.{neighbours_done, neighbours_below, stage_of_fours_all}
 use Rattle.modular_plan_passes.proofs.split_stages.split_fours.Goals as goal

@@ -1,16 +1,10 @@
 use Rattle.std.proofs.Common.{sym, ◌∙◌, arith}
 use Rattle.modular_plan_passes.specs.Plans.{numbers}
 use Rattle.modular_plan_passes.specs.Steps.{IsFourSplit}
-use Rattle.modular_plan_passes.proofs.Columns.{block_below, factor_read}
+use Rattle.modular_plan_passes.proofs.FourColumns.{block_below}
 use Rattle.modular_plan_passes.proofs.Entries.{number_read}
 use Rattle.modular_plan_passes.proofs.Fours.{block_mapped, first_stage}
 use Rattle.modular_plan_passes.proofs.split_stages.split_pass.Goals as goal
-
-pub invariant_of-step : goal.invariant_of-step
-invariant_of-step g c = record {
-  factor = factor_read g.F.PlanEntry.value g.F.PlanEntry.quotient c.args.table.now 1 c.index-table-1.result
-      c.requires.ready.factors (omega arith) c.index-table-1.is c.factor-v.ensures.value c.factor-v.ensures.quotient;
-}
 
 pub returns-then-is_one : goal.returns-then-is_one
 returns-then-is_one g c =

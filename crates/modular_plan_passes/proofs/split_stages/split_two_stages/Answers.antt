@@ -1,27 +1,9 @@
 use Rattle.std.proofs.Common.{◌+◌, ◌≤◌, arith, le_refl}
 use Rattle.std.proofs.Math.Nat.{mul-le-mul_right}
-use Rattle.modular_plan_passes.proofs.Columns.{block_below, stage_with}
+use Rattle.modular_plan_passes.proofs.FourColumns.{block_below, stage_with}
 use Rattle.modular_plan_passes.proofs.Fours.{block_mapped, stage_of_fours_all}
 use Rattle.modular_plan_passes.specs.Plans.{numbers}
 use Rattle.modular_plan_passes.proofs.split_stages.split_two_stages.Goals as goal
-
-pub overflow_add-half : goal.overflow_add-half
-overflow_add-half g c =
-    let q = c.args.q in
-    let room = mul-le-mul_right (q + q + (q + q)) (let l : c.four_quarters.p + 1 ≤ c.args.blocks = omega arith in l) in
-    omega (arith, room)
-
-pub overflow_add-half-in-four_quarters : goal.overflow_add-half-in-four_quarters
-overflow_add-half-in-four_quarters g c =
-    let q = c.args.q in
-    let room = mul-le-mul_right (q + q + (q + q)) (let l : c.four_quarters.p + 1 ≤ c.args.blocks = omega arith in l) in
-    omega (arith, room)
-
-pub overflow_mul-p : goal.overflow_mul-p
-overflow_mul-p g c =
-    let q = c.args.q in
-    let room = mul-le-mul_right (q + q + (q + q)) (let l : c.four_quarters.p + 1 ≤ c.args.blocks = omega arith in l) in
-    omega (arith, room)
 
 pub invariant_of-step : goal.invariant_of-step
 invariant_of-step g c = record {

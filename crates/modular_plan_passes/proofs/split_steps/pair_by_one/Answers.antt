@@ -1,4 +1,4 @@
-use Rattle.modular_plan_passes.proofs.Steps.{pair_by_one, pair_along, reduced_by}
+use Rattle.modular_plan_passes.proofs.PairSteps.{pair_by_one, pair_along, reduced_by}
 use Rattle.modular_plan_passes.proofs.split_steps.pair_by_one.Goals as goal
 
 pub returns-clause-pair : goal.returns-clause-pair

@@ -1,5 +1,5 @@
 use Rattle.std.proofs.Common.{◌∙◌, arith}
-use Rattle.modular_plan_passes.proofs.Steps.{pair_of}
+use Rattle.modular_plan_passes.proofs.PairSteps.{pair_of}
 use Rattle.modular_plan_passes.proofs.split_steps.spread.Goals as goal
 
 pub returns : goal.returns

@@ -8,9 +8,9 @@ use Rattle.modular_transform.specs.Orders.{bits_reversed}
 use Rattle.modular_plan_passes.specs.Plans.{numbers}
 use Rattle.modular_plan_passes.proofs.Entries.{number_at}
 use Rattle.modular_plan_passes.proofs.Tables.{half_power}
-use Rattle.modular_plan_passes.proofs.Doublings.{IsMade, made_now, made_before, same_factor, one_more, one_lower}
+use Rattle.modular_plan_passes.proofs.Doublings.{IsMade, made_now, made_before, same_factor, holds_below_next, holds_from_previous}
 use Rattle.modular_plan_passes.proofs.Doublings.{first_power, half_place, two_within, twice_place, root_itself, square_next}
-use Rattle.modular_plan_passes.proofs.Doublings.{product_of_two, planned}
+use Rattle.modular_plan_passes.proofs.Doublings.{product_of_two, twiddles_of_made}
 use Rattle.modular_plan_passes.proofs.Shorter.{first_entries}
 use Rattle.modular_plan_passes.proofs.table.fill_table.Goals as goal
 use borrow.Author.Rules.{scaled_Fits}
@@ -111,13 +111,10 @@ squares-preserved g c =
       place = half.next;
       power = square_next m root i _ _ _ before.power c.factor-factor.ensures.value c.product-power.ensures;
       first = kept 0 before.first;
-      single = λ k l h. one_lower (λ k. k < bits → made (2 ^ k)) t
+      single = λ k l h. holds_from_previous (λ k. k < bits → made (2 ^ k)) t
           (λ k l h. kept (2 ^ k) (before.single k (omega arith) h))
           (λ h. subst made half.next now) k l h;
     }
-
-pub doublings-init : goal.doublings-init
-doublings-init g c = search (arith, set, one_more)
 
 pub offset_bounds-table-count : goal.offset_bounds-table-count
 offset_bounds-table-count g c =
@@ -146,12 +143,9 @@ others-init g c =
     record {
       room = two_within _ c.doublings._bit c.doublings.count _ c.doublings-test.true before.count before.whole;
       single = before.single;
-      first = one_more made c.doublings.count before.first
+      first = holds_below_next made c.doublings.count before.first
           (subst made (sym before.count) (before.single c.doublings._bit c.doublings-test.true));
     }
-
-pub product-power-requires-in-others : goal.product-power-requires-in-others
-product-power-requires-in-others g c = search (arith, set, same_factor)
 
 pub others-preserved : goal.others-preserved
 others-preserved g c =
@@ -194,7 +188,7 @@ others-preserved g c =
     record {
       room = room_kept count room len;
       single = λ k h. kept (2 ^ k) (before.single k h);
-      first = λ k l. one_more made (count + other) (λ k l. kept k (before.first k l)) now k (one_after count other l);
+      first = λ k l. holds_below_next made (count + other) (λ k l. kept k (before.first k l)) now k (one_after count other l);
     }
 
 pub doublings-preserved : goal.doublings-preserved
@@ -218,7 +212,7 @@ returns g c =
     let all : c.doublings._bit ≡ bits = omega arith in
     let e = ap (λ v. 2 ^ v) all in
     let len = length-set c.args.table.now 0 c.entry.result in
-    let twiddles_of = λ (z : ℕ). planned g.F.PlanEntry.value g.F.PlanEntry.quotient g.T.PathWord.base
+    let twiddles_of = λ (z : ℕ). twiddles_of_made g.F.PlanEntry.value g.F.PlanEntry.quotient g.T.PathWord.base
     (n c.args.m.now.modulus) (n c.args.g) (length c.args.table.now) bits z c.doublings.table c.requires.suits in
     let each : length c.args.table.now ≡ 2 ^ bits = omega (arith, whole, len) in
     record {
@@ -228,28 +222,8 @@ returns g c =
           (λ k l. last.first k (omega (arith, whole, count, e, len))));
     }
 
-pub offset_bounds-table-other : goal.offset_bounds-table-other
-offset_bounds-table-other g c =
-    let room = c.others.invariant.room in
-    let len = length-set c.args.table.now 0 c.entry.result in
-    let within : c.others.other < length c.args.table.now = omega (arith, room, len) in
-    scaled_Fits _ _ _ within c.well_formed.1.1.0.1
-
 pub factor-requires-in-others-2 : goal.factor-requires-in-others-2
 factor-requires-in-others-2 g c =
     let n = g.T.RingWord.number in
     residue_below (n c.factor-in-others.result.value * n c.factor-factor-in-doublings.result.value)
     c.product-power-in-others.ensures c.args.m.now.some
-
-pub overflow_add-count : goal.overflow_add-count
-overflow_add-count g c = search (arith, length-set)
-
-pub offset_bounds-table-count-in-others : goal.offset_bounds-table-count-in-others
-offset_bounds-table-count-in-others g c =
-    let room = c.others.invariant.room in
-    let len = length-set c.args.table.now 0 c.entry.result in
-    let within : c.doublings.count + c.others.other < length c.args.table.now = omega (arith, room, len) in
-    scaled_Fits _ _ _ within c.well_formed.1.1.0.1
-
-pub overflow_mul-count : goal.overflow_mul-count
-overflow_mul-count g c = search (arith, length-set)

@@ -1,5 +1,5 @@
 use Rattle.std.proofs.Common.{◌<◌, length, ◌∙◌, arith}
-use Rattle.modular_plan_transforms.proofs.Convolutions.{cyclic}
+use Rattle.modular_plan_transforms.proofs.Convolutions.{product_is_cyclic}
 use Rattle.modular_plan_transforms.proofs.convolution.convolve_planned.Goals as goal
 
 pub returns : goal.returns
@@ -11,7 +11,7 @@ returns g c =
       below = are.below;
       product = λ h root z e twiddles below.
           are.product h root z e twiddles below
-          ∙ cyclic (g.T.RingWord.number c.args.m.now.modulus) (length c.args.xs.now) e root z _ _
+          ∙ product_is_cyclic (g.T.RingWord.number c.args.m.now.modulus) (length c.args.xs.now) e root z _ _
           (let k : 0 < length c.args.xs.now = omega (arith, below) in k);
       remainders = are.remainders;
     }

@@ -19,9 +19,6 @@ split-requires g c =
           (blocks_of c.requires.blocks);
     }
 
-pub join_products-requires : goal.join_products-requires
-join_products-requires g c = search arith
-
 pub returns : goal.returns
 returns g c =
     let n = g.T.RingWord.number in

@@ -3,7 +3,7 @@ use Rattle.modular_plan_passes.specs.Plans.{numbers}
 use Rattle.modular_plan_passes.proofs.TwoLevels.{two_rooms}
 use Rattle.modular_plan_transforms.proofs.JoinedPasses.{sizes_left}
 use Rattle.modular_plan_transforms.proofs.LastJoins.{remainders_once}
-use Rattle.modular_plan_passes.proofs.TwoJoins.{first_fours, remainders_of_fours, remainders_reduced}
+use Rattle.modular_plan_passes.proofs.TwoJoins.{first_fours, remainders_of_joined_fours, remainders_reduced}
 use Rattle.modular_plan_transforms.proofs.join.join_first.Goals as goal
 
 pub join_fours-requires : goal.join_fours-requires
@@ -36,7 +36,7 @@ returns-then-fours-gt0 g c =
       entries = c.join_fours.ensures.entries;
       blocks = left.given;
       times = left.scale ∙ sym first.count;
-      joined = λ r z x twiddles are. remainders_of_fours r z (omega (arith, one)) first twiddles are
+      joined = λ r z x twiddles are. remainders_of_joined_fours r z (omega (arith, one)) first twiddles are
           (c.join_fours.ensures.done r z twiddles);
     }
 

@@ -1,8 +1,7 @@
 use Rattle.std.proofs.Common.{◌≡◌, ◌*◌, ◌/◌, length, sym, ◌∙◌, ap, arith}
 use Rattle.std.proofs.Math.Nat.{zero-mul, mod-eq_of_lt}
-use Rattle.modular_word.proofs.Congruence.{mod_refl, mod_mul}
 use Rattle.modular_plan_passes.specs.Plans.{numbers}
-use Rattle.modular_plan_passes.proofs.Columns.{fours_below}
+use Rattle.modular_plan_passes.proofs.FourColumns.{fours_below}
 use Rattle.modular_plan_passes.proofs.Entries.{number_read, all_below}
 use Rattle.modular_plan_transforms.proofs.LastJoins.{last_joined, numbers_past, two_entries}
 use Rattle.modular_plan_transforms.proofs.join.join_last.Goals as goal
@@ -39,14 +38,4 @@ returns-then-is_one g c = record {
       (λ k h. numbers_past n after k (omega (arith, same, h))
       ∙ sym (ap (λ v. v * s) (numbers_past n before k h) ∙ zero-mul s)) i l in
       sym (mod-eq_of_lt (fours_below i c.quarters.ensures (omega arith) (omega (arith, fill, l)))) ∙ joined.same);
-}
-
-pub returns-else-b-eq0 : goal.returns-else-b-eq0
-returns-else-b-eq0 g c = record {
-  joined = (let n = g.T.RingWord.number in
-      let kept = c.join_blocks.auto.xs in
-      λ r z x twiddles are i l.
-      c.scale_each.ensures.products i (omega (arith, kept, l))
-      ∙ (mod_mul (c.join_blocks.ensures.joined r z x twiddles are i l) (mod_refl (n c.args.w.now.value))).same);
-  below = c.scale_each.ensures.below;
 }

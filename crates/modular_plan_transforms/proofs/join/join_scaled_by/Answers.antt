@@ -1,6 +1,6 @@
 use Rattle.std.proofs.Common.{◌≡◌, ◌*◌, ◌/◌, ◌%◌, length, sym, ◌∙◌, ap, arith, subst}
 use Rattle.modular_plan_passes.specs.Plans.{numbers, AreRemainders}
-use Rattle.modular_plan_transforms.proofs.LastJoins.{rescaled}
+use Rattle.modular_plan_transforms.proofs.LastJoins.{scale_taken_out}
 use Rattle.modular_plan_transforms.proofs.join.join_scaled_by.Goals as goal
 
 pub returns : goal.returns
@@ -26,8 +26,8 @@ returns g c = record {
       (λ k. numbers n two k % m)) (sym again) (second.joined r z (λ k. first.scale * x k) twiddles lower) in
       let times : length two / last * (second.scale * (first.scale * x i)) ≡ length before / c.args.last * x i =
       ap (λ v. v / last * (second.scale * (first.scale * x i))) again
-      ∙ rescaled (length one / last) second.scale _ (first.scale * x i) second.times
-      ∙ ap (λ v. v / size * (first.scale * x i)) same ∙ rescaled (length before / size) first.scale _ (x i) first.times in
+      ∙ scale_taken_out (length one / last) second.scale _ (first.scale * x i) second.times
+      ∙ ap (λ v. v / size * (first.scale * x i)) same ∙ scale_taken_out (length before / size) first.scale _ (x i) first.times in
       c.join_last.ensures.joined r z (λ k. second.scale * (first.scale * x k)) twiddles upper i
       (omega (arith, l, same, again))
       ∙ ap (λ v. (v * n c.args.w.now.value) % m) times);

@@ -2,8 +2,6 @@ use Rattle.std.proofs.Common.{◌*◌, ◌%◌, ◌<◌, length, ◌∙◌, ap, 
 use Rattle.modular_plan_passes.specs.Plans.{numbers}
 use Rattle.modular_plan_passes.proofs.Entries.{number_read, bounded, entry_done, entry_kept, all_residues, never_beyond}
 use Rattle.modular_plan_transforms.proofs.products.multiply_each.Goals as goal
-use borrow.Author.Count.{falls}
-use borrow.Author.Rules.{scaled_Fits}
 
 pub multiply-requires : goal.multiply-requires
 multiply-requires g c =
@@ -55,12 +53,3 @@ returns-then-is_beyond g c =
     never_beyond n (n c.args.m.now.modulus) c.entries.xs c.args.xs.now c.entries.i c.index-xs-i.result
     c.requires.below (omega arith) (omega arith) c.index-xs-i.is (c.entries.invariant.kept c.entries.i (omega arith))
     (omega (arith, far))
-
-pub offset_bounds-xs-i : goal.offset_bounds-xs-i
-offset_bounds-xs-i g c = scaled_Fits _ _ _ c.entries-test.true c.well_formed.1.0.1
-
-pub offset_bounds-xs-i-in-entries : goal.offset_bounds-xs-i-in-entries
-offset_bounds-xs-i-in-entries g c = scaled_Fits _ _ _ c.entries-test.true c.well_formed.1.0.1
-
-pub entries-smaller : goal.entries-smaller
-entries-smaller g c = falls _ _ c.entries-test.true

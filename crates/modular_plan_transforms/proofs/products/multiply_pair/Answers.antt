@@ -1,17 +1,10 @@
 use Rattle.std.proofs.Common.{◌+◌, ◌<◌, length, arith}
 use Rattle.std.proofs.lemmas.List.Elements.{All-set}
 use Rattle.modular_plan_passes.specs.Plans.{numbers}
-use Rattle.modular_plan_passes.proofs.Entries.{number_read, bounded}
-use Rattle.modular_plan_passes.proofs.Steps.{pair_written}
+use Rattle.modular_plan_passes.proofs.Entries.{number_read}
+use Rattle.modular_plan_passes.proofs.PairSteps.{pair_written}
 use Rattle.modular_plan_transforms.proofs.SmallProducts.{IsPairProduct, pair_of_read}
 use Rattle.modular_plan_transforms.proofs.products.multiply_pair.Goals as goal
-use borrow.Author.Rules.{scaled_Fits}
-
-pub product_sum-requires : goal.product_sum-requires
-product_sum-requires g c = search (arith, number_read, bounded)
-
-pub product_sum-requires-2 : goal.product_sum-requires-2
-product_sum-requires-2 g c = search (arith, number_read, bounded)
 
 pub returns : goal.returns
 returns g c =
@@ -39,19 +32,3 @@ returns g c =
           (low + 1) low_is.result high_is.result (omega arith) within
           (pair_of_read m (n c.args.turned) x y u v low_is.ensures.value high_is.ensures.value);
     }
-
-pub offset_bounds-xs-place : goal.offset_bounds-xs-place
-offset_bounds-xs-place g c =
-    let within : c.args.place < length c.args.xs.now = omega arith in
-    scaled_Fits _ _ _ within c.well_formed.1.0.1
-
-pub offset_bounds-xs-next : goal.offset_bounds-xs-next
-offset_bounds-xs-next g c = scaled_Fits _ _ _ c.requires.within c.well_formed.1.0.1
-
-pub offset_bounds-xs-next-2 : goal.offset_bounds-xs-next-2
-offset_bounds-xs-next-2 g c = scaled_Fits _ _ _ c.requires.within c.well_formed.1.0.1
-
-pub offset_bounds-xs-place-2 : goal.offset_bounds-xs-place-2
-offset_bounds-xs-place-2 g c =
-    let within : c.args.place < length c.args.xs.now = omega arith in
-    scaled_Fits _ _ _ within c.well_formed.1.0.1

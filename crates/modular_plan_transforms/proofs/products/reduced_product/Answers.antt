@@ -1,6 +1,6 @@
 use Rattle.std.proofs.Common.{◌*◌, sym, ◌∙◌, arith}
-use Rattle.modular_plan_passes.proofs.Quotients.{any_times_below}
-use Rattle.modular_plan_transforms.proofs.Reductions.{IsReducing, reducing, high_words, reduced}
+use Rattle.modular_plan_passes.proofs.FactorProducts.{any_times_below}
+use Rattle.modular_plan_transforms.proofs.Reductions.{IsReducing, is_reducing, high_words, reduced_congruent}
 use Rattle.modular_plan_transforms.proofs.products.reduced_product.Goals as goal
 use Rattle.modular_plan_transforms.proofs.products.reduced_product.Goals.{After-split-multiple}
 
@@ -12,7 +12,7 @@ both : (g : _) (c : After-split-multiple g)
     (g.T.RingWord.number c.split-multiple.result.1)
 both g c =
     let n = g.T.RingWord.number in
-    reducing _ _ _ _ (n c.split-multiple.result.0) _ c.requires.inverse
+    is_reducing _ _ _ _ (n c.split-multiple.result.0) _ c.requires.inverse
     (sym c.product.ensures.value ∙ c.split-low.ensures.value)
     (any_times_below _ _ _ _ c.product.ensures.fits c.requires.below)
     c.split-low.ensures.low_fits c.wrapping_mul.ensures.value c.wrapping_mul.ensures.fits
@@ -34,5 +34,5 @@ returns-clause-below g c =
 
 pub returns-clause-congruent : goal.returns-clause-congruent
 returns-clause-congruent g c =
-    reduced _ _ (both g (goal.at.returns-clause-congruent g c).After-split-multiple) c.minus.ensures.value
+    reduced_congruent _ _ (both g (goal.at.returns-clause-congruent g c).After-split-multiple) c.minus.ensures.value
     c.plus.ensures

@@ -6,7 +6,7 @@ use Rattle.modular_plan_passes.specs.Factors.{IsFactor}
 use Rattle.modular_plan_passes.specs.Plans.{constant}
 use Rattle.modular_plan_passes.proofs.Entries.{number_read}
 use Rattle.modular_plan_transforms.proofs.Constants.{odd_constant, block_of}
-use Rattle.modular_plan_passes.proofs.Levels.{constants}
+use Rattle.modular_plan_passes.proofs.Levels.{constants_of_halves}
 use Rattle.modular_plan_transforms.proofs.SmallProducts.{product_by_odd}
 use Rattle.modular_plan_transforms.proofs.products.times_constant.Goals as goal
 
@@ -66,7 +66,7 @@ returns-then-rest-eq0 g c = record {
       subst (λ v. Congruent m (n c.product-turned.result) (x * constant root z v)) at
       (mod_trans (mod_of_eq c.product-turned.ensures) (mod_trans (residue_of (x * n c.factor-w.result.value))
       (mod_mul (mod_refl x) (subst (λ v. Congruent m v (constant root z (2 * p))) (sym is)
-      (mod_sym (constants root z (length table) p _ twiddles block.within).even_is))))));
+      (mod_sym (constants_of_halves root z (length table) p _ twiddles block.within).even_is))))));
 }
 
 pub returns-else-rest-eq0 : goal.returns-else-rest-eq0

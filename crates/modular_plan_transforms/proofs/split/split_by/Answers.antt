@@ -1,7 +1,7 @@
 use Rattle.std.proofs.Common.{◌≡◌, ◌/◌, length, arith}
 use Rattle.modular_plan_passes.proofs.Entries.{bounded_at}
 use Rattle.modular_plan_passes.proofs.Levels.{remainders_of}
-use Rattle.modular_plan_passes.proofs.TwoLevels.{whole_fours, remainders_of_fours}
+use Rattle.modular_plan_passes.proofs.TwoLevels.{whole_fours, remainders_of_split_fours}
 use Rattle.modular_plan_transforms.proofs.split.split_by.Goals as goal
 
 pub split_blocks-requires : goal.split_blocks-requires
@@ -37,7 +37,7 @@ returns-then-xs-ge4 g c =
     record {
       below = c.split_fours.ensures.entries;
       remainders = λ r z twiddles.
-          remainders_of_fours r z c.args.b (length c.args.xs.now) c.args.last (length c.args.table.now) _ _ _ _
+          remainders_of_split_fours r z c.args.b (length c.args.xs.now) c.args.last (length c.args.table.now) _ _ _ _
           c.if-last-eq1.true fours twiddles (c.split_blocks.ensures.level r z twiddles) c.split_fours.ensures.done
           (λ i l. bounded_at n m c.split_fours.new.xs i c.split_fours.ensures.entries (omega arith));
     }

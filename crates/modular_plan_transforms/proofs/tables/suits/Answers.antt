@@ -1,6 +1,6 @@
 use Rattle.std.proofs.Common.{sym, ◌∙◌, arith}
 use Rattle.modular_transform.proofs.PowersOfTwo.{power_of_two_tested}
-use Rattle.modular_plan_transforms.proofs.Wholes.{suits_by_turn}
+use Rattle.modular_plan_transforms.proofs.PlanFields.{suits_by_turn}
 use Rattle.modular_plan_transforms.proofs.tables.suits.Goals as goal
 
 pub returns : goal.returns

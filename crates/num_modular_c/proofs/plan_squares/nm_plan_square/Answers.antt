@@ -2,7 +2,7 @@ use Rattle.std.proofs.Common.{◌≡◌, ◌*◌, ◌/◌, ◌%◌, length, refl
 use Rattle.std.proofs.lemmas.List.{get_or-map}
 use Rattle.modular_word.specs.Congruence.{Congruent}
 use Rattle.modular_plan_passes.specs.Plans.{AreRemainders}
-use Rattle.modular_plan_transforms.proofs.Convolutions.{blocks_of, cyclic, joined_product, residues_again}
+use Rattle.modular_plan_transforms.proofs.Convolutions.{blocks_of, product_is_cyclic, joined_product, residues_again}
 use Rattle.modular_plan_transforms.proofs.SmallProducts.{are_products_of_one}
 use Rattle.num_modular_c.specs.Plans.{words_of}
 use Rattle.num_modular_c.proofs.plan_squares.nm_plan_square.Goals as goal
@@ -49,6 +49,6 @@ returns-clause-did c pair inverse =
             (subst (λ q. AreRemainders m g z 0 q 1 r (λ j. words_of squares j % m)) (sym same) remain) i (omega (arith, k))
             ∙ ap (λ q. (q * r i * part) % m) same)
             e l
-            ∙ cyclic m n e g z (words_of xs) (words_of xs) (omega (arith, l));
+            ∙ product_is_cyclic m n e g z (words_of xs) (words_of xs) (omega (arith, l));
       },
     )

@@ -1,5 +1,5 @@
 use Rattle.std.proofs.Common.{◌≡◌, ◌*◌, ◌/◌, ◌%◌, length, refl, ◌∙◌, ap, arith}
-use Rattle.modular_plan_transforms.proofs.Backward.{unscaled}
+use Rattle.modular_plan_transforms.proofs.Backward.{inverse_unscales}
 use Rattle.num_modular_c.proofs.plan_value.nm_plan_join.Goals as goal
 
 pub returns-clause-did : goal.returns-clause-did
@@ -11,7 +11,7 @@ returns-clause-did c fits inverse = (
         let m = c.args.plan.now.modulus in
         let scaled = (rw c.new-m.ensures at c.join_scaled.ensures.joined) g z x twiddles are i l in
         let one : x i ≡ 1 * x i = omega arith in
-        scaled ∙ unscaled m (length c.args.xs.now / c.args.last) _ (x i) (rw c.new-m.ensures at c.in-Some.ensures.1)
+        scaled ∙ inverse_unscales m (length c.args.xs.now / c.args.last) _ (x i) (rw c.new-m.ensures at c.in-Some.ensures.1)
         ∙ ap (λ v. v % m) one;
   },
 )

@@ -3,9 +3,6 @@ use Rattle.modular_plan_passes.proofs.Bounds.{multiple_is_none, reduced_by_multi
 use Rattle.modular_plan_passes.proofs.JoinedPairs.{joined_by_one, joined_pair_up_to, joined_pair_scaled}
 use Rattle.modular_plan_passes.proofs.join_steps.PlannedModulusJoinSteps.four_by_one.Goals as goal
 
-pub scaled_pair-a-requires-clause-multiple : goal.scaled_pair-a-requires-clause-multiple
-scaled_pair-a-requires-clause-multiple g c = multiple_is_none 2 _ c.twice-twice.ensures
-
 pub scaled_pair-b-requires-clause-multiple : goal.scaled_pair-b-requires-clause-multiple
 scaled_pair-b-requires-clause-multiple g c = multiple_is_none 2 _ c.twice-twice.ensures
 

@@ -13,9 +13,6 @@ gather-g-requires g c = search (arith, multiple_is_none)
 pub gather-a-requires : goal.gather-a-requires
 gather-a-requires g c = search (arith, multiple_is_none)
 
-pub gather-b-requires : goal.gather-b-requires
-gather-b-requires g c = search (arith, multiple_is_none)
-
 pub returns : goal.returns
 returns g c = record {
   below = (let below = c.reduced-2.ensures.below in

@@ -2,21 +2,8 @@ use Rattle.std.proofs.Common.{◌≡◌, ◌*◌, ◌^◌, ◌<◌, ap, subst, a
 use Rattle.std.proofs.lemmas.Nat.{pow_pos}
 use Rattle.std.proofs.Math.Nat.{mul-lt-mul_of_pos_right}
 use Rattle.modular_word.specs.Division.{IsDivision}
-use Rattle.modular_plan_passes.proofs.Quotients.{scaled_quotient, divisor_fits}
+use Rattle.modular_plan_passes.proofs.FactorProducts.{scaled_quotient}
 use Rattle.modular_plan_passes.proofs.modulus.PlannedModulus.factor.Goals as goal
-
-pub shift_left-divisor-requires : goal.shift_left-divisor-requires
-shift_left-divisor-requires g c =
-    let self = c.args.self.now in
-    record { by = self.shift_fits; fits = divisor_fits self.reciprocal_is }
-
-pub shift_left-scaled-requires : goal.shift_left-scaled-requires
-shift_left-scaled-requires g c =
-    let self = c.args.self.now in
-    let n = g.T.RingWord.number in
-    let fits = divisor_fits self.reciprocal_is in
-    let less = mul-lt-mul_of_pos_right c.requires (pow_pos self.shift) in
-    record { by = self.shift_fits; fits = omega (arith, fits, less) }
 
 pub div_2by1-quotient-requires-clause-high : goal.div_2by1-quotient-requires-clause-high
 div_2by1-quotient-requires-clause-high g c =

@@ -2,7 +2,7 @@ use Rattle.std.proofs.Common.{◌*◌, ◌^◌, ◌<◌, ◌∙◌, ap, sym, sub
 use Rattle.std.proofs.lemmas.Nat.{mul-lt, pow_pos}
 use Rattle.std.proofs.Math.Nat.{mul-lt-mul_of_pos_right}
 use Rattle.modular_word.specs.Division.{IsDivision}
-use Rattle.modular_plan_passes.proofs.Quotients.{scaled_rest, divisor_fits}
+use Rattle.modular_plan_passes.proofs.FactorProducts.{scaled_rest, divisor_fits}
 use Rattle.modular_plan_passes.proofs.modulus.PlannedModulus.multiply.Goals as goal
 
 pub shift_left-divisor-requires : goal.shift_left-divisor-requires

@@ -2,15 +2,10 @@ use Rattle.std.proofs.Common.{◌≡◌, ◌+◌, ◌-◌, ◌*◌, ◌%◌, ◌
 use Rattle.std.proofs.lemmas.Nat.{pow_pos}
 use Rattle.std.proofs.Math.Nat.{mod-lt, mul-lt-mul_of_pos_right}
 use Rattle.modular_word.proofs.Congruence.{mod_of_multiple_left}
-use Rattle.modular_plan_passes.proofs.Quotients.{divisor_fits}
-use Rattle.modular_plan_passes.proofs.SumsOfProducts.{halved_shift, summand_fits, scaled_sum, rest_of_sum}
+use Rattle.modular_plan_passes.proofs.FactorProducts.{divisor_fits}
+use Rattle.modular_plan_passes.proofs.SumsOfProducts.{halved_shift, summand_fits, scaled_sum_fits, rest_of_sum}
 use Rattle.modular_plan_passes.proofs.modulus.PlannedModulus.product_sum.Goals as goal
 use Rattle.modular_plan_passes.proofs.modulus.PlannedModulus.product_sum.Goals.{After-product-2, After-shift_right}
-
-pub shift_left-divisor-requires : goal.shift_left-divisor-requires
-shift_left-divisor-requires g c =
-    let self = c.args.self.now in
-    record { by = self.shift_fits; fits = divisor_fits self.reciprocal_is }
 
 pub shift_left-requires : goal.shift_left-requires
 shift_left-requires g c =
@@ -41,7 +36,7 @@ summands g c =
     let n = g.T.RingWord.number in
     let b = g.T.PathWord.base in
     let p = 2 ^ (self.shift - 1) in
-    let less = scaled_sum b (n self.modulus * 2 ^ self.shift) (n self.modulus) p (n c.args.x) (n c.args.u) (n c.args.v)
+    let less = scaled_sum_fits b (n self.modulus * 2 ^ self.shift) (n self.modulus) p (n c.args.x) (n c.args.u) (n c.args.v)
     (n c.args.y) (halved_shift (g.T.RingWord.number self.modulus) self.shift self.some self.room self.reciprocal_is).twice (pow_pos (self.shift - 1))
     c.requires c.product.ensures.other_fits c.product-2.ensures.other_fits in
     let first = ap (λ v. v * n c.args.v) c.shift_left.ensures in

@@ -1,7 +1,7 @@
 use Rattle.std.proofs.Common.{◌≡◌, ◌+◌, ◌*◌, sym, ◌∙◌, arith}
-use Rattle.modular_plan_passes.proofs.DoubleWords.{complement, sum_fits, low_word}
+use Rattle.modular_plan_passes.proofs.DoubleWords.{minus_is_complement, sum_fits, rest_is_low_word}
 use Rattle.modular_reduced.proofs.FixedFactors.{near, IsNear}
-use Rattle.modular_plan_passes.proofs.Quotients.{left_less}
+use Rattle.modular_plan_passes.proofs.FactorProducts.{left_less}
 use Rattle.modular_plan_passes.proofs.modulus.PlannedModulus.times_by_double_words.Goals as goal
 use Rattle.modular_plan_passes.proofs.modulus.PlannedModulus.times_by_double_words.Goals.{After-product-3}
 
@@ -21,7 +21,7 @@ is_minus : (g : _) (c : After-product-3 g)
 is_minus g c =
     let n = g.T.RingWord.number in
     let self = c.args.self.now in
-    complement g.T.PathWord.base (n self.modulus) (n c.wrapping_sub-minus.result) (omega (arith, self.some))
+    minus_is_complement g.T.PathWord.base (n self.modulus) (n c.wrapping_sub-minus.result) (omega (arith, self.some))
     (omega (arith, self.room)) c.wrapping_sub-minus.ensures.fits
     (c.wrapping_sub-minus.ensures.value ∙ c.zero.ensures)
 
@@ -46,7 +46,7 @@ returns g c =
     n c.split-low.result.0 + g.T.PathWord.base * n c.split-low.result.1 =
     omega (arith, c.product-2.ensures.value, c.product-3.ensures.value, c.double_plus.ensures, c.split-low.ensures.value) in
     let left = left_less (n self.modulus) product (n c.split-whole.result.1) (n c.split-low.result.0) near_it
-    (low_word g.T.PathWord.base (n self.modulus) product (n c.split-whole.result.1) (n c.wrapping_sub-minus.result)
+    (rest_is_low_word g.T.PathWord.base (n self.modulus) product (n c.split-whole.result.1) (n c.wrapping_sub-minus.result)
     (n c.split-low.result.0) (n c.split-low.result.1) (omega (arith, self.room)) near_it.at_most near_it.close
     (is_minus g at) sum c.split-low.ensures.low_fits) in
     record { below = left.below; congruent = left.congruent }

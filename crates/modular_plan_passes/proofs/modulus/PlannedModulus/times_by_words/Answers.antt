@@ -1,6 +1,6 @@
 use Rattle.std.proofs.Common.{◌*◌, ◌<◌, sym, ◌∙◌, arith}
 use Rattle.modular_reduced.proofs.FixedFactors.{near}
-use Rattle.modular_plan_passes.proofs.Quotients.{left_over, IsProduct}
+use Rattle.modular_plan_passes.proofs.FactorProducts.{left_over, IsProduct}
 use Rattle.modular_plan_passes.proofs.modulus.PlannedModulus.times_by_words.Goals as goal
 
 pub returns : goal.returns

@@ -1,6 +1,6 @@
 use Rattle.std.proofs.Common.{arith}
 use Rattle.modular_word.proofs.Congruence.{mod_refl}
-use Rattle.modular_plan_passes.proofs.Steps.{pair_along, reduced_by}
+use Rattle.modular_plan_passes.proofs.PairSteps.{pair_along, reduced_by}
 use Rattle.modular_plan_passes.proofs.split_steps.PlannedModulusSplitSteps.pair.Goals as goal
 
 pub returns-clause-pair : goal.returns-clause-pair

@@ -1,6 +1,6 @@
 use Rattle.std.proofs.Common.{arith, refl}
 use Rattle.modular_word.proofs.Congruence.{mod_refl}
-use Rattle.modular_plan_passes.proofs.Steps.{pair_along, reduced_by}
+use Rattle.modular_plan_passes.proofs.PairSteps.{pair_along, reduced_by}
 use Rattle.modular_plan_passes.proofs.Fours.{four_of_pairs}
 use Rattle.modular_plan_passes.proofs.split_steps.RoomyModulusSplitSteps.four.Goals as goal
 

@@ -1,5 +1,5 @@
 use Rattle.std.proofs.Common.{refl}
-use Rattle.modular_plan_passes.proofs.Steps.{pair_by_one, pair_up_to, reduced_by}
+use Rattle.modular_plan_passes.proofs.PairSteps.{pair_by_one, pair_up_to, reduced_by}
 use Rattle.modular_plan_passes.proofs.Fours.{four_of_pairs}
 use Rattle.modular_plan_passes.proofs.split_steps.RoomyModulusSplitSteps.four_by_one.Goals as goal
 

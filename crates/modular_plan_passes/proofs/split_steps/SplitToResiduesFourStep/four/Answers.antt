@@ -2,7 +2,7 @@ use Rattle.std.proofs.Common.{◌≡◌, ℕ, ◌%◌, ◌<◌, arith, subst, sy
 use Rattle.std.proofs.Math.Nat.{mod-lt}
 use Rattle.modular_plan_passes.specs.Steps.{IsPairSplit}
 use Rattle.modular_word.proofs.Congruence.{mod_of_eq, mod_trans, residue_of}
-use Rattle.modular_plan_passes.proofs.Steps.{pair_up_to}
+use Rattle.modular_plan_passes.proofs.PairSteps.{pair_up_to}
 use Rattle.modular_plan_passes.proofs.Fours.{four_of_pairs}
 use Rattle.modular_plan_passes.proofs.split_steps.SplitToResiduesFourStep.four.Goals as goal
 

@@ -4,7 +4,7 @@ use Rattle.modular_transform.proofs.PowersOfTwo.{power_by_zeros}
 use Rattle.modular_transform.specs.Transforms.{Suits}
 use Rattle.modular_plan_passes.proofs.Tables.{half_power}
 use Rattle.modular_plan_transforms.proofs.PlanTables.{made_table, powers_of}
-use Rattle.modular_plan_transforms.proofs.Wholes.{turn_of, doubled}
+use Rattle.modular_plan_transforms.proofs.PlanFields.{turn_of, twice_power_of_two}
 use Rattle.modular_plan_transforms.proofs.owned.OwnedPlan+T+F+array+N+F.new.Goals as goal
 
 pub invariant_of-result : goal.invariant_of-result
@@ -18,7 +18,7 @@ invariant_of-result g c =
     let size : g.row.N ≡ length table = omega arith in
     let suits = subst (λ k. Suits m root (2 * k)) size fit.1 in
     let power = power_by_zeros (length table) (half_power suits.power_of_two) (omega arith) in
-    let all = doubled bits (length table) power in
+    let all = twice_power_of_two bits (length table) power in
     let holds = made_table c.fill_table.auto.table c.fill_table.ensures.factors c.fill_table.ensures.twiddles in
     record {
       odd = c.is_odd.ensures.odd.0 c.if-not-is_odd.false;

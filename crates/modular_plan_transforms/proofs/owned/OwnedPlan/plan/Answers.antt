@@ -1,5 +1,5 @@
 use Rattle.std.proofs.Common.{subst, sym}
-use Rattle.modular_plan_transforms.proofs.OwnedTables.{IsKept, IsLent, lent}
+use Rattle.modular_plan_transforms.proofs.OwnedTables.{IsKept, IsLent, lent_by_kept}
 use Rattle.modular_plan_transforms.proofs.owned.OwnedPlan.plan.Goals as goal
 
 pub over-requires : goal.over-requires
@@ -17,7 +17,7 @@ over-requires g c =
       powers = owned.powers;
     } in
     let is = subst (IsLent g.T.PathWord.base m (n owned.root) g.F.PlanEntry.value g.F.PlanEntry.quotient)
-    (sym c.as_slice.ensures) (lent kept) in
+    (sym c.as_slice.ensures) (lent_by_kept kept) in
     record {
       odd = owned.odd;
       below = owned.root_below;

@@ -1,7 +1,7 @@
 use Rattle.std.proofs.Common.{◌≡◌, ◌*◌, ◌%◌, ◌<◌, length, arith, sym, subst, ◌∙◌}
 use Rattle.std.specs.Prelude.{MatchOption}
 use Rattle.modular_transform.specs.Transforms.{Suits}
-use Rattle.modular_plan_transforms.proofs.OwnedTables.{IsKept, kept}
+use Rattle.modular_plan_transforms.proofs.OwnedTables.{IsKept, kept_by_plan}
 use Rattle.modular_plan_transforms.specs.Tables.{IsTable}
 use Rattle.modular_plan_transforms.proofs.owned.OwnedPlan.with_table.Goals as goal
 
@@ -26,7 +26,7 @@ invariant_of-result g c =
     let quotient = g.F.PlanEntry.quotient in
     let plan = c.in_ok-plan.plan in
     let entries = g.S.AsSlice.items c.args.table in
-    let here = kept base (n plan.modulus.modulus) (n plan.root) plan.bits value quotient plan.table.now (omega arith)
+    let here = kept_by_plan base (n plan.modulus.modulus) (n plan.root) plan.bits value quotient plan.table.now (omega arith)
     plan.odd plan.root_below plan.half plan.half_turn plan.factors plan.powers in
     let lent = subst (IsKept base (n plan.modulus.modulus) (n plan.root) value quotient)
     (c.in_ok-plan.ensures.3 ∙ c.as_slice.ensures) here in

@@ -1,12 +1,8 @@
 use Rattle.std.proofs.Common.{◌<◌, length, arith, ◌∙◌}
 use Rattle.std.proofs.lemmas.Nat.{pow_pos}
-use Rattle.modular_plan_passes.proofs.Tables.{half_power}
 use Rattle.modular_plan_transforms.proofs.Convolutions.{negacyclic}
-use Rattle.modular_plan_transforms.proofs.Wholes.{twiddles_of}
+use Rattle.modular_plan_transforms.proofs.PlanFields.{twiddles_of}
 use Rattle.modular_plan_transforms.proofs.plan.Plan.convolve_negacyclic.Goals as goal
-
-pub convolve_block-requires : goal.convolve_block-requires
-convolve_block-requires g c = search (arith, half_power)
 
 pub returns-clause-product : goal.returns-clause-product
 returns-clause-product g c e below =

@@ -1,9 +1,8 @@
 use Rattle.std.proofs.Common.{ℕ, ◌-◌, ◌/◌, ◌<◌, ◌∙◌, IsTrue, nat_lt, length, arith, sym}
-use Rattle.std.proofs.lemmas.Bool.{false≢true}
 use Rattle.std.proofs.lemmas.Bool.Decides.{nat_tests}
 use Rattle.std.specs.Int.{IsPowerOfTwo}
 use Rattle.modular_transform.proofs.PowersOfTwo.{power_of_two_tested, beyond_one}
-use Rattle.modular_plan_transforms.proofs.Wholes.{even}
+use Rattle.modular_plan_transforms.proofs.PlanFields.{twice_half}
 use Rattle.modular_plan_transforms.proofs.plan.Plan.has_shorter.Goals as goal
 
 less_of : (b q : ℕ) → IsTrue (nat_lt b q) → b < q
@@ -11,9 +10,6 @@ less_of b q h = grind (arith, nat_tests)
 
 test_of : (b q : ℕ) → b < q → IsTrue (nat_lt b q)
 test_of b q h = grind (arith, nat_tests)
-
-pub returns-then-not-is_power_of_two : goal.returns-then-not-is_power_of_two
-returns-then-not-is_power_of_two g c = search (arith, false≢true, power_of_two_tested)
 
 pub returns : goal.returns
 returns g c =
@@ -23,7 +19,7 @@ returns g c =
     let power : IsPowerOfTwo n
     = (power_of_two_tested n).0 (sym c.is_power_of_two.ensures ∙ c.if-not-is_power_of_two.false) in
     let some = beyond_one n power c.if-n-eq1.false in
-    let twice = even power.0 n power.1 (omega (arith, some)) in (
+    let twice = twice_half power.0 n power.1 (omega (arith, some)) in (
       λ h. let l = less_of (n / 2 - 1) count h in
           (power, omega (arith, some), omega (arith, l, twice, half)),
       λ given. let most = given.2 in test_of (n / 2 - 1) count (omega (arith, most, twice, half, some)),

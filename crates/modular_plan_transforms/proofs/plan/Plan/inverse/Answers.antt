@@ -3,21 +3,13 @@ use Rattle.std.proofs.Math.Nat.{div-one}
 use Rattle.modular_word.proofs.Congruence.{mod_of_eq, mod_trans, residue_of}
 use Rattle.modular_word.specs.Inverses.{IsInverse}
 use Rattle.modular_transform.proofs.InverseTransform.{transform_congruent}
-use Rattle.modular_transform.proofs.PowersOfTwo.{exponent_below}
 use Rattle.modular_transform.proofs.TransformBack.{preimage, transform_of_preimage}
 use Rattle.modular_transform.specs.Transforms.{Suits}
 use Rattle.modular_plan_passes.specs.Plans.{numbers, AreRemainders}
 use Rattle.modular_plan_transforms.proofs.NaturalOrder.{all_reordered}
-use Rattle.modular_plan_transforms.proofs.Backward.{remainders_of_transform, unscaled}
-use Rattle.modular_plan_transforms.proofs.Wholes.{twiddles_of}
+use Rattle.modular_plan_transforms.proofs.Backward.{remainders_of_transform, inverse_unscales}
+use Rattle.modular_plan_transforms.proofs.PlanFields.{twiddles_of}
 use Rattle.modular_plan_transforms.proofs.plan.Plan.inverse.Goals as goal
-
-pub part-part-requires : goal.part-part-requires
-part-part-requires g c = (c.args.self.now.bits, c.requires.whole)
-
-pub reverse_places-requires-clause-few : goal.reverse_places-requires-clause-few
-reverse_places-requires-clause-few g c =
-    let l = exponent_below c.args.self.now.bits (length c.args.xs.now) c.requires.whole (omega arith) in omega (arith, l)
 
 pub join_scaled-requires : goal.join_scaled-requires
 join_scaled-requires g c =
@@ -55,7 +47,7 @@ returns-clause-undone g c x are i below =
     c.join_scaled.ensures.joined (n plan.root) plan.bits x (twiddles_of plan.half plan.half_turn plan.powers)
     (subst (λ k. AreRemainders m (n plan.root) plan.bits 0 k 1 x (λ i. numbers n mid i % m)) all remainders) i
     (omega (arith, same, below))
-    ∙ unscaled m (length mid / 1) part (x i) (subst (λ k. IsInverse m k part) all c.part-part.ensures.inverse)
+    ∙ inverse_unscales m (length mid / 1) part (x i) (subst (λ k. IsInverse m k part) all c.part-part.ensures.inverse)
 
 pub returns-clause-values : goal.returns-clause-values
 returns-clause-values g c j below =

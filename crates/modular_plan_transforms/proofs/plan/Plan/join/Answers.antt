@@ -1,6 +1,6 @@
 use Rattle.std.proofs.Common.{◌/◌, length, ◌∙◌}
-use Rattle.modular_plan_transforms.proofs.Backward.{unscaled}
-use Rattle.modular_plan_transforms.proofs.Wholes.{twiddles_of}
+use Rattle.modular_plan_transforms.proofs.Backward.{inverse_unscales}
+use Rattle.modular_plan_transforms.proofs.PlanFields.{twiddles_of}
 use Rattle.modular_plan_transforms.proofs.plan.Plan.join.Goals as goal
 
 pub returns-clause-joined : goal.returns-clause-joined
@@ -8,5 +8,5 @@ returns-clause-joined g c x are i below =
     let n = g.T.RingWord.number in
     let plan = c.args.self.now in
     c.join_scaled.ensures.joined (n plan.root) plan.bits x (twiddles_of plan.half plan.half_turn plan.powers) are i below
-    ∙ unscaled (n plan.modulus.modulus) (length c.args.xs.now / c.args.last) (n c.part-part.result.value) (x i)
+    ∙ inverse_unscales (n plan.modulus.modulus) (length c.args.xs.now / c.args.last) (n c.part-part.result.value) (x i)
     c.part-part.ensures.inverse

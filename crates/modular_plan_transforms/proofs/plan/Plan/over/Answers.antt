@@ -2,12 +2,12 @@ use Rattle.std.proofs.Common.{◌≡◌, ℕ, ◌+◌, ◌*◌, ◌^◌, ◌<◌
 use Rattle.std.specs.Int.{IsPowerOfTwo, trailing_zeros, w64}
 use Rattle.modular_transform.proofs.PowersOfTwo.{power_by_zeros}
 use Rattle.modular_plan_passes.proofs.Tables.{half_power}
-use Rattle.modular_plan_transforms.proofs.Wholes.{turn_of, doubled}
+use Rattle.modular_plan_transforms.proofs.PlanFields.{turn_of, twice_power_of_two}
 use Rattle.modular_plan_transforms.proofs.plan.Plan.over.Goals as goal
 
 -- twice the length of a table, by the number of its trailing zeros
 whole : (n : ℕ) → n < 18446744073709551616 → IsPowerOfTwo (2 * n) → 2 * n ≡ 2 ^ (trailing_zeros w64 n + 1)
-whole n few power = doubled (trailing_zeros w64 n) n (power_by_zeros n (half_power power) (omega (arith, few)))
+whole n few power = twice_power_of_two (trailing_zeros w64 n) n (power_by_zeros n (half_power power) (omega (arith, few)))
 
 pub invariant_of-result : goal.invariant_of-result
 invariant_of-result g c =

@@ -3,8 +3,8 @@ use Rattle.std.proofs.lemmas.List.{length-take-le}
 use Rattle.std.specs.Int.{trailing_zeros, w64}
 use Rattle.modular_plan_passes.specs.Factors.{IsFactor}
 use Rattle.modular_transform.proofs.PowersOfTwo.{power_by_zeros}
-use Rattle.modular_plan_transforms.proofs.Wholes.{twiddles_of, turn_of, below_modulus, is_shorter, shorter_twiddles}
-use Rattle.modular_plan_transforms.proofs.Wholes.{all_taken, number_taken}
+use Rattle.modular_plan_transforms.proofs.PlanFields.{twiddles_of, turn_of, below_modulus, is_shorter, shorter_twiddles}
+use Rattle.modular_plan_transforms.proofs.PlanFields.{all_taken, number_taken}
 use Rattle.modular_plan_transforms.proofs.plan.Plan.shorter.Goals as goal
 
 pub power-requires-clause-power_of_two : goal.power-requires-clause-power_of_two
@@ -53,6 +53,3 @@ returns-clause-root g c =
     let is = power_by_zeros c.args.n c.requires.power (omega arith) in
     let are = is_shorter plan.bits c.args.n (length plan.table.now) y is c.requires.some c.requires.within plan.half in
     c.power.ensures ∙ ap (λ k. n plan.root ^ k % n plan.modulus.modulus) (are.quotient ∙ sym are.root)
-
-pub returns-clause-entries : goal.returns-clause-entries
-returns-clause-entries g c = sym (power_by_zeros c.args.n c.requires.power (omega arith))

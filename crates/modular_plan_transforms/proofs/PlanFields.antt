@@ -30,19 +30,19 @@ pub turn_of : {m g bits count : ℕ} {w : ℕ → ℕ} → 2 * count ≡ 2 ^ bit
 turn_of {m} {g} {bits} whole twiddles = grind (arith, pow_pos)
 
 -- the root for all entries of a plan is the root itself
-pub root_itself : (m g bits n : ℕ) (x : ℕ → ℕ) (j : ℕ) → n ≡ 2 ^ bits
+pub transform_by_root_itself : (m g bits n : ℕ) (x : ℕ → ℕ) (j : ℕ) → n ≡ 2 ^ bits
     → transform m (g ^ (2 ^ bits / n)) n x j ≡ transform m g n x j
-root_itself m g bits n x j whole = grind (arith, div_self, pow_pos, pow-one)
+transform_by_root_itself m g bits n x j whole = grind (arith, div_self, pow_pos, pow-one)
 
 -- twice a power of two
-pub doubled : (z n : ℕ) → n ≡ 2 ^ z → 2 * n ≡ 2 ^ (z + 1)
-doubled z n e =
+pub twice_power_of_two : (z n : ℕ) → n ≡ 2 ^ z → 2 * n ≡ 2 ^ (z + 1)
+twice_power_of_two z n e =
     let two = two-pow-succ z in
     let next = ap (λ v. 2 ^ v) (add-one z) in
     omega (arith, e, two, next)
 
-pub squared : (m g t p q : ℕ) → p ≡ g ^ (2 ^ t) % m → q ≡ (p * p) % m → q ≡ g ^ (2 ^ (t + 1)) % m
-squared m g t p q is square =
+pub square_of_power : (m g t p q : ℕ) → p ≡ g ^ (2 ^ t) % m → q ≡ (p * p) % m → q ≡ g ^ (2 ^ (t + 1)) % m
+square_of_power m g t p q is square =
     let value : Congruent m p (g ^ (2 ^ t)) = mod_trans (mod_of_eq is) (residue_of (g ^ (2 ^ t))) in
     let more = root_squared g t ∙ ap (λ v. g ^ (2 ^ v)) (sym (add-one t)) in
     square ∙ (mod_trans (mod_mul value value) (mod_of_eq more)).same
@@ -60,7 +60,7 @@ suits_by_turn m g n p some power is =
     let least = pow_pos power.0 in
     let whole = power.1 in (
       λ (e : p + 1 ≡ m). record {
-        power_of_two = (power.0 + 1, doubled power.0 n power.1);
+        power_of_two = (power.0 + 1, twice_power_of_two power.0 n power.1);
         half_turn = λ l. ap (λ k. (g ^ k + 1) % m) halved ∙ sym same ∙ ap (λ v. v % m) e ∙ mod_self m;
       },
       λ (suits : Suits m g (2 * n)).
@@ -95,14 +95,14 @@ pub record IsShorter (bits n count y d : ℕ) : Type 0 where
   pub root : 2 ^ bits / n ≡ 2 ^ d
   pub first : 2 ^ y / 2 ≡ n / 2
 
-pub even : (y n : ℕ) → n ≡ 2 ^ y → 2 ≤ n → 2 * (n / 2) ≡ n
-even zero n is some = let one : 2 ^ 0 ≡ 1 = refl in absurd (omega (arith, is, some, one))
-even (suc y) n is some = let two = two-pow-succ y in omega (arith, is, two)
+pub twice_half : (y n : ℕ) → n ≡ 2 ^ y → 2 ≤ n → 2 * (n / 2) ≡ n
+twice_half zero n is some = let one : 2 ^ 0 ≡ 1 = refl in absurd (omega (arith, is, some, one))
+twice_half (suc y) n is some = let two = two-pow-succ y in omega (arith, is, two)
 
--- modulo an even number, a power of two above 1 has no inverse
-pub no_inverse : (m n k : ℕ) → 0 < m → m % 2 ≡ 0 → n ≡ 2 ^ k → 2 ≤ n → HasInverse m n → ⊥
-no_inverse m n k some halves is more h =
-    let half = even k n is more in
+-- modulo an twice_half number, a power of two above 1 has no inverse
+pub no_inverse_modulo_even : (m n k : ℕ) → 0 < m → m % 2 ≡ 0 → n ≡ 2 ^ k → 2 ≤ n → HasInverse m n → ⊥
+no_inverse_modulo_even m n k some halves is more h =
+    let half = twice_half k n is more in
     let twice : n * h.0 ≡ 2 * (n / 2 * h.0) = ap (λ v. v * h.0) (sym half) ∙ mul_assoc 2 (n / 2) h.0 in
     let product = mod_divides 2 (n * h.0) m halves (divides 2 (n * h.0) (n / 2 * h.0) twice) in
     let one : 1 % m ≡ 1 = mod-eq_of_lt (omega (arith, some, halves)) in
@@ -112,7 +112,7 @@ no_inverse m n k some halves is more h =
 pub is_shorter : (bits n count y : ℕ) → n ≡ 2 ^ y → 2 ≤ n → n ≤ 2 ^ bits → 2 * count ≡ 2 ^ bits
     → IsShorter bits n count y (bits - y)
 is_shorter bits n count y is some most whole =
-    let twice = even y n is some in
+    let twice = twice_half y n is some in
     let half : count ≡ 2 ^ bits / 2 = omega (arith, whole) in
     let within : n / 2 ≤ count = omega (arith, most, whole, twice) in
     let no_more = no_more_bits y bits n count is half within in

@@ -185,14 +185,14 @@ coefficient_of_remainders count last c s e x y =
     ≡ x (k * last + a) * y (l * last + d) * (c ^ (k + l) * c ^ e) = omega arith in r)
     ∙ ap (λ n. x (k * last + a) * y (l * last + d) * n) (sym (pow-add c (k + l) e)))))))
 
--- the coefficients of a product in the column i, by the powers of c
-column : (count last c i : ℕ) (x y : ℕ → ℕ) → i < last
+-- the coefficients of a product in the product_in_column i, by the powers of c
+product_in_column : (count last c i : ℕ) (x y : ℕ → ℕ) → i < last
     → sum_below (count + count) (λ k. coefficient (count * last) x y (k * last + i) * c ^ k)
     ≡ coefficient last (λ a. sum_below count (λ k. x (k * last + a) * c ^ k))
     (λ d. sum_below count (λ l. y (l * last + d) * c ^ l)) i
     + c * coefficient last (λ a. sum_below count (λ k. x (k * last + a) * c ^ k))
     (λ d. sum_below count (λ l. y (l * last + d) * c ^ l)) (i + last)
-column count last c i x y li =
+product_in_column count last c i x y li =
     let n = count * last in
     let u = λ (a : ℕ). sum_below count (λ k. x (k * last + a) * c ^ k) in
     let v = λ (d : ℕ). sum_below count (λ l. y (l * last + d) * c ^ l) in
@@ -231,11 +231,11 @@ tested_congruent {m} {a} {e} true h = h
 tested_congruent {m} {a} {e} false h = mod_refl 0
 
 -- a term of the product modulo X^n - d, by its two coefficients
-folded : {m : ℕ} (count last c d i k : ℕ) (x y : ℕ → ℕ) → Congruent m (c ^ count) d
+term_folded : {m : ℕ} (count last c d i k : ℕ) (x y : ℕ → ℕ) → Congruent m (c ^ count) d
     → Congruent m (product_modulo m (count * last) d x y (k * last + i) * c ^ k)
     (coefficient (count * last) x y (k * last + i) * c ^ k
     + coefficient (count * last) x y ((count + k) * last + i) * c ^ (count + k))
-folded {m} count last c d i k x y power =
+term_folded {m} count last c d i k x y power =
     let n = count * last in
     let a = coefficient n x y (k * last + i) in
     let b = coefficient n x y (k * last + i + n) in
@@ -253,7 +253,7 @@ coefficient-congruent : {m : ℕ} (n s : ℕ) (x y u v : ℕ → ℕ) → ((i : 
     → Congruent m (coefficient n x y s) (coefficient n u v s)
 coefficient-congruent {m} n s x y u v first second = search (arith, sum_below-congruent, tested_congruent, mod_mul)
 
--- a product modulo X^n - d, in the column i: the product of the remainders modulo X^last - c, where c to the count is d
+-- a product modulo X^n - d, in the product_in_column i: the product of the remainders modulo X^last - c, where c to the count is d
 pub column_of_product : {m : ℕ} (count last c d i : ℕ) (x y u v : ℕ → ℕ) → i < last → Congruent m (c ^ count) d
     → ((a : ℕ) → a < last → Congruent m (u a) (sum_below count (λ k. x (k * last + a) * c ^ k)))
     → ((a : ℕ) → a < last → Congruent m (v a) (sum_below count (λ l. y (l * last + a) * c ^ l)))
@@ -268,9 +268,9 @@ column_of_product {m} count last c d i x y u v li power first second =
     mod_trans (residue_of (coefficient last u v i + c * coefficient last u v (i + last)))
     (mod_trans (mod_add (coefficient-congruent last i u v _ _ first second)
     (mod_mul (mod_refl c) (coefficient-congruent last (i + last) u v _ _ first second)))
-    (mod_of_eq (sym (column count last c i x y li)))) in
+    (mod_of_eq (sym (product_in_column count last c i x y li)))) in
     let halves : sum_below (count + count) p ≡ sum_below count (λ k. p k + q k) =
     sum_below-joined count count p ∙ sym (sum_below-add count p q) in
     let terms : Congruent m (sum_below count (λ k. p k + q k)) (sum_below count r) =
-    sum_below-congruent count (λ k. p k + q k) r (λ k l. mod_sym (folded count last c d i k x y power)) in
+    sum_below-congruent count (λ k. p k + q k) r (λ k l. mod_sym (term_folded count last c d i k x y power)) in
     mod_trans whole (mod_trans (mod_of_eq halves) terms)

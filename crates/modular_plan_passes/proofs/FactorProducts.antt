@@ -47,9 +47,9 @@ left_over b m product whole p t r some room near_it is_p is_t fits e =
     let same : r ≡ rest = mod_cancel b r rest t fits small (e ∙ sym again) in
     grind (arith, left_less)
 
--- a part of 2 ^ w
-pub part : (k w b f : ℕ) → b ≡ 2 ^ w → k ≤ w → f ≡ 2 ^ (w - k) → 2 ^ k * f ≡ b
-part k w b f is_b wide is_f = grind (arith, pow-add)
+-- a part_of_power of 2 ^ w
+pub part_of_power : (k w b f : ℕ) → b ≡ 2 ^ w → k ≤ w → f ≡ 2 ^ (w - k) → 2 ^ k * f ≡ b
+part_of_power k w b f is_b wide is_f = grind (arith, pow-add)
 
 -- a divisor with a reciprocal is a word
 pub divisor_fits : {b d v : ℕ} → IsReciprocal b d v → d < b
@@ -70,8 +70,8 @@ scaled_rest m x y s q r some h =
     let scaled : (k + q * m) * s ≡ (x * y) * s = ap (λ v. v * s) rest in
     let is : k * s ≡ r = omega (arith, scaled, whole) in
     let less : k < m = lt_of_mul-lt-mul_right s (let l : k * s < m * s = omega (arith, is, h.below) in l) in
-    let part : r / s ≡ k = (let e : r ≡ k * s + 0 = omega (arith, is) in ap (λ v. v / s) e) ∙ div-mul-add k s 0 some in
-    part ∙ sym (ap (λ v. v % m) (sym rest) ∙ add-mul-mod_self_right k q m ∙ mod-eq_of_lt less)
+    let rest_is : r / s ≡ k = (let e : r ≡ k * s + 0 = omega (arith, is) in ap (λ v. v / s) e) ∙ div-mul-add k s 0 some in
+    rest_is ∙ sym (ap (λ v. v % m) (sym rest) ∙ add-mul-mod_self_right k q m ∙ mod-eq_of_lt less)
 
 -- what the quotient of a factor leaves
 pub left_by_quotient : (b m w q p r : ℕ) → 0 < m → m ≤ b → IsFactor b m w q → p ≡ (q * m) % b → (r + p) % b ≡ 0 → r < b

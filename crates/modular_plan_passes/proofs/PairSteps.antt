@@ -8,7 +8,7 @@ use Rattle.modular_word.proofs.Congruence.{mod_of_eq, mod_refl, mod_sym, mod_tra
 use Rattle.modular_word.proofs.Congruence.{mod_mul, mod_of_multiple_left}
 use Rattle.modular_plan_passes.specs.Plans.{numbers}
 use Rattle.modular_plan_passes.specs.Steps.{IsPairSplit, PairDone, BlockDone, StageDone}
-use Rattle.modular_plan_passes.proofs.Entries.{written, not_written}
+use Rattle.modular_plan_passes.proofs.Entries.{number_written, number_not_written}
 
 -- the sum and the difference of a pair
 pub pair_of : {m : ℕ} (w a b t rest sum difference : ℕ) → Congruent m t (b * w) → rest + t ≡ 2 * m
@@ -54,11 +54,11 @@ pub pair_written : {T : Type 0} (number : T → ℕ) (R : ℕ → ℕ → ℕ �
     → R (numbers number words low) (numbers number words high) (number sum) (number difference)
     → PairDone R low high (numbers number words) (numbers number (set (set words high difference) low sum))
 pair_written number R words low high sum difference order within pair =
-    grind (arith, set, length-set, written, not_written)
+    grind (arith, set, length-set, number_written, number_not_written)
 
-moved : (R : ℕ → ℕ → ℕ → ℕ → Type 0) {a b s d a' b' s' d' : ℕ} → a ≡ a' → b ≡ b' → s ≡ s'
+pair_moved : (R : ℕ → ℕ → ℕ → ℕ → Type 0) {a b s d a' b' s' d' : ℕ} → a ≡ a' → b ≡ b' → s ≡ s'
     → d ≡ d' → R a b s d → R a' b' s' d'
-moved R {a} {b} {s} {d} {a'} {b'} {s'} {d'} ea eb es ed h = grind arith
+pair_moved R {a} {b} {s} {d} {a'} {b'} {s'} {d'} ea eb es ed h = grind arith
 
 pub block_none : (R : ℕ → ℕ → ℕ → ℕ → Type 0) (first half : ℕ) (x : ℕ → ℕ) → BlockDone R first half 0 x x
 block_none R first half x = record { pairs = λ i l. absurd (omega arith); kept = λ k n1 n2. refl }
@@ -73,9 +73,9 @@ block_more R first half i x y after within before step = record {
         let low_kept = before.kept (first + i) (λ n s. omega arith) (λ n s. omega arith) in
         let high_kept = before.kept (first + (half + i)) (λ n s. omega arith) (λ n s. omega arith) in
         subst (λ n. R (x (first + n)) (x (first + (half + n))) (after (first + n)) (after (first + (half + n)))) (sym e)
-        (moved R low_kept high_kept refl refl step.pair)
+        (pair_moved R low_kept high_kept refl refl step.pair)
     | inr ne ↦
-        moved R refl refl (sym (step.kept (first + k) (omega arith) (omega arith)))
+        pair_moved R refl refl (sym (step.kept (first + k) (omega arith) (omega arith)))
         (sym (step.kept (first + (half + k)) (omega arith) (omega arith)))
         (before.pairs k (omega arith))
   ];

@@ -1,4 +1,4 @@
--- Four entries at once: what is read and written of them, and the columns of four quarters.
+-- Four entries at once: what is read and number_written of them, and the columns of four quarters.
 use Rattle.std.proofs.Common.{◌≡◌, ◌≢◌, ℕ, ◌+◌, ◌-◌, ◌*◌, ◌<◌, ◌≤◌, List, ◌++◌, All, get_or, length, inl, inr}
 use Rattle.std.proofs.Common.{sym, ◌∙◌, ap, arith, subst}
 use Rattle.std.proofs.Math.ListN.{set}
@@ -9,9 +9,9 @@ use Rattle.modular_plan_passes.specs.Splits.{AreAt, AreFourBelow, AreNeighbours,
 use Rattle.modular_plan_passes.specs.Splits.{FourDoneWithin, HalvesDone}
 use Rattle.modular_plan_passes.specs.Steps.{IsFourSplit, FourDone, BlockOfFours, StageOfFours}
 use Rattle.modular_plan_passes.proofs.Doublings.{same_factor}
-use Rattle.modular_plan_passes.proofs.Entries.{written, not_written, number_read, all_below, bounded_at}
+use Rattle.modular_plan_passes.proofs.Entries.{number_written, number_not_written, number_read, all_below, bounded_at}
 use Rattle.modular_plan_passes.proofs.Fours.{four_along, stage_of_fours_more}
-use Rattle.modular_plan_passes.proofs.Quarters.{in_front, behind}
+use Rattle.modular_plan_passes.proofs.ListParts.{number_in_front, number_behind}
 
 -- four writes of what comes of the numbers that were read
 pub done_by : (R : ℕ → ℕ → ℕ → ℕ → ℕ → ℕ → ℕ → ℕ → Type 0) {i j k l a b c d p q r s : ℕ} {x y : ℕ → ℕ}
@@ -47,14 +47,14 @@ pub record ColumnDone (R : ℕ → ℕ → ℕ → ℕ → ℕ → ℕ → ℕ �
   pub column : R (a i) (b i) (c i) (d i) (a' i) (b' i) (c' i) (d' i)
   pub kept : (k : ℕ) → k ≢ i → (a' k ≡ a k) × (b' k ≡ b k) × (c' k ≡ c k) × (d' k ≡ d k)
 
--- a column of four quarters is written
+-- a column of four quarters is number_written
 pub column_done : {X : Type 0} (number : X → ℕ) (R : ℕ → ℕ → ℕ → ℕ → ℕ → ℕ → ℕ → ℕ → Type 0) (a b c d : List X) (i : ℕ)
     (x y z t : X) → i < length a → i < length b → i < length c → i < length d
     → R (numbers number a i) (numbers number b i) (numbers number c i) (numbers number d i) (number x) (number y) (number z)
     (number t)
     → ColumnDone R i (numbers number a) (numbers number b) (numbers number c) (numbers number d) (numbers number (set a i x))
     (numbers number (set b i y)) (numbers number (set c i z)) (numbers number (set d i t))
-column_done number R a b c d i x y z t la lb lc ld four = grind (arith, four_along, written, not_written)
+column_done number R a b c d i x y z t la lb lc ld four = grind (arith, four_along, number_written, number_not_written)
 
 -- one more column
 pub column_more : (R : ℕ → ℕ → ℕ → ℕ → ℕ → ℕ → ℕ → ℕ → Type 0) (i : ℕ) {a b c d a' b' c' d' e f g h : ℕ → ℕ}
@@ -73,7 +73,7 @@ pub halves_done : {X : Type 0} (number : X → ℕ) (R : ℕ → ℕ → ℕ →
     → ColumnsDone R q (numbers number a) (numbers number b) (numbers number c) (numbers number d) (numbers number a')
     (numbers number b') (numbers number c') (numbers number d')
     → HalvesDone R q (numbers number (a ++ b)) (numbers number (c ++ d)) (numbers number (a' ++ b')) (numbers number (c' ++ d'))
-halves_done number R q a b c d a' b' c' d' la lc la' lc' done = grind (arith, four_along, in_front, behind)
+halves_done number R q a b c d a' b' c' d' la lc la' lc' done = grind (arith, four_along, number_in_front, number_behind)
 
 -- the numbers of two halves within a longer list
 record HalvesOf {X : Type 0} (number : X → ℕ) (first q : ℕ) (f l h t : List X) : Type 0 where
@@ -84,7 +84,7 @@ record HalvesOf {X : Type 0} (number : X → ℕ) (first q : ℕ) (f l h t : Lis
 
 halves_of : {X : Type 0} (number : X → ℕ) (first q : ℕ) (f l h t : List X) → length f ≡ first → length l ≡ q + q
     → length h ≡ q + q → HalvesOf number first q f l h t
-halves_of number first q f l h t lf ll lh = omega (arith, behind, in_front)
+halves_of number first q f l h t lf ll lh = omega (arith, number_behind, number_in_front)
 
 -- the halves make the block
 pub block_of_halves : {X : Type 0} (number : X → ℕ) (R : ℕ → ℕ → ℕ → ℕ → ℕ → ℕ → ℕ → ℕ → Type 0) (first q : ℕ)

@@ -6,13 +6,13 @@ use Rattle.std.proofs.lemmas.Bool.{cases_lt}
 use Rattle.std.proofs.lemmas.List.{length-map, map-append, get_or-append-add}
 use Rattle.modular_plan_passes.specs.Plans.{numbers}
 
-pub in_front : {T : Type 0} (number : T → ℕ) (xs ys : List T) (i : ℕ) → i < length xs
+pub number_in_front : {T : Type 0} (number : T → ℕ) (xs ys : List T) (i : ℕ) → i < length xs
     → numbers number (xs ++ ys) i ≡ numbers number xs i
-in_front number xs ys i l = grind (arith, map-append, get_or-append, length-map)
+number_in_front number xs ys i l = grind (arith, map-append, get_or-append, length-map)
 
-pub behind : {T : Type 0} (number : T → ℕ) (xs ys : List T) (n i : ℕ) → length xs ≡ n
+pub number_behind : {T : Type 0} (number : T → ℕ) (xs ys : List T) (n i : ℕ) → length xs ≡ n
     → numbers number (xs ++ ys) (n + i) ≡ numbers number ys i
-behind number xs ys n i e = grind (arith, map-append, length-map, get_or-append-add)
+number_behind number xs ys n i e = grind (arith, map-append, length-map, get_or-append-add)
 
 -- what holds for all words holds for those in front, and for those after them
 pub all_in_front : {T : Type 0} (P : T → Type 0) (xs ys : List T) → All P (xs ++ ys) → All P xs
