@@ -29,7 +29,7 @@ pub fn reduced<T: PlainWord>(x: T, m: T) -> T
     ensures value { T.number result ≡ T.number x % T.number m }
     ensures below { T.number result < T.number m }
 {
-    // Those instructions find the smaller of two words of 32 bits in more steps.
+    // The vector instructions that every x86-64 processor has find the smaller of two words of 32 bits in more steps.
     if T::bits() == 32 {
         reduced_by_sign(x, m)
     } else {

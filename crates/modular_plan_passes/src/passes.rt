@@ -1,5 +1,5 @@
 //! A stage of a block, on each two of its entries half a block apart; and two stages in one pass, on each four of its
-//! entries a quarter of the block apart.
+//! entries a quarter of the block apart. Entries stay below a limit of their modulus.
 
 ghost use Rattle.std.specs.Prelude.{◌≡◌, ℕ, ◌+◌, ◌*◌, ◌<◌, ◌≤◌, IsTrue, All, length};
 ghost use Rattle.modular_plan_passes.specs.Plans.{numbers};
