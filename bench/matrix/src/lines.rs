@@ -1,8 +1,9 @@
 //! The lines, written once by macros and compiled over either library.
 
-/// The lines of one library, with its reducer of odd moduli and its equality of integers of one ring.
+/// The lines of one library, with its reducer of odd moduli, its equality of integers of one ring, and its fastest reduction of
+/// double words.
 macro_rules! library {
-    ($folder:ident, $library:ident, $odd:ident, $equal:ident) => {
+    ($folder:ident, $library:ident, $odd:ident, $equal:ident, $uncounted:ident) => {
         pub mod $folder {
             library!(@width $library $odd $equal w8 u8 u16);
             library!(@width $library $odd $equal w16 u16 u32);
@@ -20,13 +21,13 @@ macro_rules! library {
                 lines
             }
 
-            library!(@fixed $library fixed32 w32 u32 u64;
+            library!(@fixed $library $uncounted fixed32 w32 u32 u64;
                 FixedMersenne32<2, 1>, FixedMersenne32<7, 1>, FixedMersenne32<16, 5>, FixedMersenne32<31, 1>, FixedMersenne32<32, 5>,
                 FixedTrinomialSolinas32<12, 5, 1>, FixedTrinomialSolinas32<20, 8, -1>, FixedTrinomialSolinas32<31, 24, 1>,
                 FixedTrinomialSolinas32<32, 20, 1>, FixedTrinomialSolinas32<32, 31, 1>;
                 FixedProth32<8, 3>, FixedProth32<16, 1>, FixedProth32<23, 255>,
                 FixedMontgomery32<3>, FixedMontgomery32<998244353>, FixedMontgomery32<4294967291>);
-            library!(@fixed $library fixed64 w64 u64 u128;
+            library!(@fixed $library $uncounted fixed64 w64 u64 u128;
                 FixedMersenne64<2, 1>, FixedMersenne64<31, 1>, FixedMersenne64<32, 5>, FixedMersenne64<61, 1>, FixedMersenne64<64, 59>,
                 FixedTrinomialSolinas64<12, 5, 1>, FixedTrinomialSolinas64<40, 20, 1>, FixedTrinomialSolinas64<61, 32, -1>,
                 FixedTrinomialSolinas64<64, 32, 1>, FixedTrinomialSolinas64<64, 62, 1>;
@@ -34,12 +35,12 @@ macro_rules! library {
                 FixedMontgomery64<3>, FixedMontgomery64<998244353>, FixedMontgomery64<18446744073709551557>);
         }
     };
-    (@fixed $library:ident $name:ident $module:ident $word:ident $double:ident; $($folds:ty),*; $($odd:ty),*) => {
+    (@fixed $library:ident $uncounted:ident $name:ident $module:ident $word:ident $double:ident; $($folds:ty),*; $($odd:ty),*) => {
         fn $name(lines: &mut Vec<crate::measure::Line>) {
             use $library::*;
             $(
                 $module::ring::<$folds>(lines, stringify!($folds), <$folds>::MODULUS);
-                crate::lines::folds!(lines $module $word $double $folds);
+                crate::lines::folds!(lines $module $word $double $uncounted $folds);
             )*
             $($module::ring::<$odd>(lines, stringify!($odd), <$odd>::MODULUS);)*
         }
@@ -195,7 +196,7 @@ macro_rules! library {
 }
 
 macro_rules! folds {
-    ($lines:ident $module:ident $word:ident $double:ident $ring:ty) => {{
+    ($lines:ident $module:ident $word:ident $double:ident $uncounted:ident $ring:ty) => {{
         use crate::measure::{Random, rows, step};
         let mut random = Random(0);
         let words = rows(|| random.next() as $word);
@@ -205,10 +206,13 @@ macro_rules! folds {
         step($lines, "reduce_double", place, ((), units[3], units), |_, x, y| {
             <$ring>::reduce_double(x as $double * y as $double)
         }, |x| *x as u64);
+        step($lines, "reduce_uncounted", place, ((), units[3], units), |_, x, y| {
+            <$ring>::$uncounted(x as $double * y as $double)
+        }, |x| *x as u64);
     }};
 }
 
 pub(crate) use folds;
 
-library!(rust, num_modular, Montgomery, eq);
-library!(cargo, erased, OddMontgomery, eq_in_same_ring);
+library!(rust, num_modular, Montgomery, eq, reduce_double);
+library!(cargo, erased, OddMontgomery, eq_in_same_ring, reduce_uncounted);
