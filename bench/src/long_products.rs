@@ -5,8 +5,8 @@ use crate::plans::{best, repeated, with_room};
 use crate::report::Rows;
 use std::ffi::{CStr, c_char};
 
-/// From so many digits on a factor is transformed; shorter ones are multiplied by rows.
-const LEAST_TRANSFORMED: usize = 400;
+/// From so many digits on products are computed by transforms, with plans; shorter ones by Karatsuba's method.
+const LEAST_BY_TRANSFORMS: usize = 850;
 
 unsafe extern "C" {
     safe fn peer_gmp_version() -> *const c_char;
@@ -54,7 +54,7 @@ impl Factors {
     }
 }
 
-/// Whether the products are GMP's, by rows and by transforms.
+/// Whether the products are GMP's, by Karatsuba's method and by transforms.
 fn all_agree() -> bool {
     let same = [256, 399, 400, 512, 4096].iter().all(|n| {
         let (mut ours, mut theirs) = (Factors::new(*n), Factors::new(*n));
@@ -93,7 +93,7 @@ fn measured_line(n: usize) -> [f64; 3] {
             *least = least.min(time);
         }
     }
-    let plan = if n < LEAST_TRANSFORMED { 0.0 } else { least[0] };
+    let plan = if n < LEAST_BY_TRANSFORMS { 0.0 } else { least[0] };
     [(least[1] - least[0]) / times as f64, plan, least[2]]
 }
 
@@ -102,9 +102,8 @@ fn lines() -> Vec<(String, Vec<f64>)> {
         let [product, plan, gmp] = measured_line(n);
         (name, vec![product, product + plan, gmp])
     };
-    let mut lines = vec![at("2^8 digits, by rows".to_string(), 256)];
-    lines.push(at(format!("{} digits, by rows", LEAST_TRANSFORMED - 1), LEAST_TRANSFORMED - 1));
-    lines.push(at(format!("{LEAST_TRANSFORMED} digits, by transforms"), LEAST_TRANSFORMED));
+    let mut lines = vec![at("2^8 digits".to_string(), 256), at("399 digits".to_string(), 399)];
+    lines.push(at("400 digits".to_string(), 400));
     lines.extend([10, 12, 14, 16, 18, 20].map(|bits| at(format!("2^{bits} digits"), 1 << bits)));
     lines
 }
