@@ -128,14 +128,14 @@ pub powers_cancel : {m : ℕ} (g h k : ℕ) → Congruent m (g * h) 1 → Congru
 powers_cancel {m} g h k one =
     mod_trans (mod_of_eq (sym (mul-pow g h k))) (mod_trans (mod_pow k one) (mod_of_eq (one-pow k)))
 
-regrouped : (x p u a b c d : ℕ) → x * a * (p * (b * d * u)) * c ≡ p * (x * u) * (b * a * (d * c))
-regrouped x p u a b c d = omega arith
+factors_regrouped : (x p u a b c d : ℕ) → x * a * (p * (b * d * u)) * c ≡ p * (x * u) * (b * a * (d * c))
+factors_regrouped x p u a b c d = omega arith
 
 -- one term
-term : (m part g h i j x a b w : ℕ) → Congruent m (g * h) 1 → Congruent m a (x * h ^ choose_two i)
+term_by_weights : (m part g h i j x a b w : ℕ) → Congruent m (g * h) 1 → Congruent m a (x * h ^ choose_two i)
     → Congruent m b (part * g ^ choose_two (i + j)) → Congruent m w (h ^ choose_two j)
     → Congruent m (a * b * w) (part * (x * g ^ (i * j)))
-term m part g h i j x a b w one is_a is_b is_w =
+term_by_weights m part g h i j x a b w one is_a is_b is_w =
     let s = choose_two i in
     let t = choose_two j in
     let u = g ^ (i * j) in
@@ -143,22 +143,22 @@ term m part g h i j x a b w one is_a is_b is_w =
     ap (λ k. g ^ k) (choose_sum i j) ∙ pow-add g (s + t) (i * j) ∙ ap (λ v. v * u) (pow-add g s t) in
     let o : part * (x * u) * (1 * 1) ≡ part * (x * u) = omega arith in
     mod_trans (mod_mul (mod_mul is_a (mod_trans is_b (mod_of_eq (ap (λ v. part * v) powers)))) is_w)
-    (mod_trans (mod_of_eq (regrouped x part u (h ^ s) (g ^ s) (h ^ t) (g ^ t)))
+    (mod_trans (mod_of_eq (factors_regrouped x part u (h ^ s) (g ^ s) (h ^ t) (g ^ t)))
     (mod_trans (mod_mul (mod_refl (part * (x * u))) (mod_mul (powers_cancel g h s one) (powers_cancel g h t one)))
     (mod_of_eq o)))
 
 -- all terms
-terms : (m part g h n j w : ℕ) (x a b : ℕ → ℕ) → Congruent m (g * h) 1
+sum_by_weights : (m part g h n j w : ℕ) (x a b : ℕ → ℕ) → Congruent m (g * h) 1
     → ((i : ℕ) → i < n → Congruent m (a i) (x i * h ^ choose_two i))
     → ((i : ℕ) → i < n → Congruent m (b i) (part * g ^ choose_two (i + j)))
     → Congruent m w (h ^ choose_two j)
     → Congruent m (sum_below n (λ i. a i * b i) * w) (part * sum_below n (λ i. x i * g ^ (i * j)))
-terms m part g h n j w x a b one is_a is_b is_w =
+sum_by_weights m part g h n j w x a b one is_a is_b is_w =
     let e : sum_below n (λ i. a i * b i) * w ≡ w * sum_below n (λ i. a i * b i) = omega arith in
     mod_trans (mod_of_eq (e ∙ sym (sum_below-mul n w (λ i. a i * b i))))
     (mod_trans (sum_below-congruent n (λ i. w * (a i * b i)) (λ i. part * (x i * g ^ (i * j)))
     (λ i l. let e : w * (a i * b i) ≡ a i * b i * w = omega arith in
-    mod_trans (mod_of_eq e) (term m part g h i j (x i) (a i) (b i) w one (is_a i l) (is_b i l) is_w)))
+    mod_trans (mod_of_eq e) (term_by_weights m part g h i j (x i) (a i) (b i) w one (is_a i l) (is_b i l) is_w)))
     (mod_of_eq (sum_below-mul n part (λ i. x i * g ^ (i * j)))))
 
 -- the coefficient at n - 1 + j of the product of the list in reverse
@@ -190,7 +190,7 @@ entry_convolved m part g h n j s v xs ws us bs inverse l within is_w is_b is_a i
     mod_trans (mod_of_eq (is_w k l)) (mod_trans (residue_of (1 * h ^ choose_two k)) (mod_of_eq e)) in is in
     let sum = sum_below n (λ i. get_or us i 0 * get_or bs (i + j) 0) in
     let is_sum : s ≡ sum % m = is_s ∙ ap (λ v. v % m) (reversed_product n j us bs l within) in
-    let all = terms m part g h n j w x (λ i. get_or us i 0) (λ i. get_or bs (i + j) 0) (record { same = inverse })
+    let all = sum_by_weights m part g h n j w x (λ i. get_or us i 0) (λ i. get_or bs (i + j) 0) (record { same = inverse })
     (λ i l. mod_trans (mod_of_eq (is_a i l)) (mod_trans (residue_of (x i * get_or ws i 0))
     (mod_mul (mod_refl (x i)) (weight i l))))
     (λ i l. mod_trans (mod_of_eq (is_b (i + j) (omega arith))) (residue_of (part * g ^ choose_two (i + j))))

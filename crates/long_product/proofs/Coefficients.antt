@@ -8,9 +8,9 @@ use Rattle.num_modular.specs.NumberLaws.{residue_of, mod_add, mod_mul, mod_refl}
 use Rattle.num_modular.specs.SumLaws.{tail}
 
 -- the high words are reduced first
-folded : (m low high top : ℕ) → top ≡ (high + low / 18446744073709551616) % m
+remainder_by_upper_word : (m low high top : ℕ) → top ≡ (high + low / 18446744073709551616) % m
     → (top * 18446744073709551616 + low % 18446744073709551616) % m ≡ (low + high * 18446744073709551616) % m
-folded m low high top is =
+remainder_by_upper_word m low high top is =
     let b : ℕ = 18446744073709551616 in
     let whole : (high + low / b) * b + low % b ≡ low + high * b = omega arith in
     ap (λ t. (t * b + low % b) % m) is
@@ -23,13 +23,13 @@ pub by_words : (m t top r : ℕ) → top ≡ t / 18446744073709551616 % m
 by_words m t top r top_is is =
     let none : 0 + t / 18446744073709551616 ≡ t / 18446744073709551616 = omega arith in
     let same : t + 0 * 18446744073709551616 ≡ t = omega arith in
-    is ∙ folded m t 0 top (top_is ∙ ap (λ v. v % m) (sym none)) ∙ ap (λ v. v % m) same
+    is ∙ remainder_by_upper_word m t 0 top (top_is ∙ ap (λ v. v % m) (sym none)) ∙ ap (λ v. v % m) same
 
 -- .. and a sum of words, by its upper ones
 pub by_upper_words : (m low high upper r : ℕ) → upper ≡ (high + low / 18446744073709551616) % m
     → r ≡ (upper * 18446744073709551616 + low % 18446744073709551616) % m
     → r ≡ (low + high * 18446744073709551616) % m
-by_upper_words m low high upper r upper_is is = is ∙ folded m low high upper upper_is
+by_upper_words m low high upper r upper_is is = is ∙ remainder_by_upper_word m low high upper upper_is
 
 -- the terms of which the second factor has no coefficient
 pub no_front : (xs ys : List ℕ) (e n : ℕ) → (0 < n → n + length ys ≤ e + 1)
@@ -71,8 +71,8 @@ folded_residues m c a b r s is_a is_b =
     ∙ (mod_add (residue_of a) (mod_mul (mod_refl c) (residue_of b))).same
 
 -- .. where c is 0
-pub unfolded : (m c a b : ℕ) → c ≡ 0 → a % m ≡ (a + c * b) % m
-unfolded m c a b none = search arith
+pub residue_without_second_term : (m c a b : ℕ) → c ≡ 0 → a % m ≡ (a + c * b) % m
+residue_without_second_term m c a b none = search arith
 
 -- .. and sums of products whose second factors are reduced
 pub reduced_factors : (m a s t p q f g : ℕ) → f ≡ p % m → g ≡ q % m

@@ -12,12 +12,12 @@ use Rattle.num_modular.specs.PlanProducts.{coefficient, product_modulo}
 use Rattle.long_product.specs.Polynomials.{folded_entry}
 
 -- a term at its place ..
-here : (s e v : ℕ) → s ≡ e → cond (eqb s e) v 0 ≡ v
-here s e v is = elim (eqb_tells s e) [ inl p ↦ rw p.0 (omega arith) | inr p ↦ absurd (p.1 is) ]
+chosen_value : (s e v : ℕ) → s ≡ e → cond (eqb s e) v 0 ≡ v
+chosen_value s e v is = elim (eqb_tells s e) [ inl p ↦ rw p.0 (omega arith) | inr p ↦ absurd (p.1 is) ]
 
 -- .. and elsewhere
-elsewhere : (s e v : ℕ) → (s ≡ e → v ≡ 0) → cond (eqb s e) v 0 ≡ 0
-elsewhere s e v none = search (arith, eqb_tells)
+value_not_chosen : (s e v : ℕ) → (s ≡ e → v ≡ 0) → cond (eqb s e) v 0 ≡ 0
+value_not_chosen s e v none = search (arith, eqb_tells)
 
 -- the terms of x i
 row : (n s i : ℕ) (x y : ℕ → ℕ) → ((j : ℕ) → n ≤ j → y j ≡ 0) → i ≤ s
@@ -27,9 +27,9 @@ row n s i x y few within =
     elim (cases_lt (s - i) n) [
       | inl l ↦
           single n (s - i) (λ j. cond (eqb (i + j) s) (x i * y j) 0) l
-          (λ j k other. elsewhere (i + j) s (x i * y j) (λ e. absurd (other (omega arith))))
-          ∙ here (i + (s - i)) s (x i * y (s - i)) at
-      | inr l ↦ search (arith, sum_below-of_zeros, elsewhere)
+          (λ j k other. value_not_chosen (i + j) s (x i * y j) (λ e. absurd (other (omega arith))))
+          ∙ chosen_value (i + (s - i)) s (x i * y (s - i)) at
+      | inr l ↦ search (arith, sum_below-of_zeros, value_not_chosen)
     ]
 
 -- a coefficient of the product is the sum of the terms at its place
@@ -43,7 +43,7 @@ coefficient_sum n s x y few_x few_y =
           let whole : n ≡ s + 1 + (n - (s + 1)) = omega arith in
           ap (λ k. sum_below k f) whole
           ∙ tail (s + 1) (n - (s + 1)) f (λ i a b. sum_below-of_zeros n (λ j. cond (eqb (i + j) s) (x i * y j) 0)
-          (λ j k. elsewhere (i + j) s (x i * y j) (λ e. absurd (omega arith))))
+          (λ j k. value_not_chosen (i + j) s (x i * y j) (λ e. absurd (omega arith))))
           ∙ sum_below-same (s + 1) f g (λ i k. row n s i x y few_y (omega arith))
       | inr l ↦
           let whole : s + 1 ≡ n + (s + 1 - n) = omega arith in
@@ -57,8 +57,8 @@ both_tests : (n s e v : ℕ) → 0 < n → cond (eqb s e || eqb s (e + n)) v 0 �
 both_tests n s e v some = search (arith, eqb_tells)
 
 -- modulo X^n - 1 the product is the cyclic one
-cyclic : (m n e : ℕ) (x y : ℕ → ℕ) → 0 < n → product_modulo m n 1 x y e ≡ cyclic_product m n x y e
-cyclic m n e x y some =
+product_modulo_one_is_cyclic : (m n e : ℕ) (x y : ℕ → ℕ) → 0 < n → product_modulo m n 1 x y e ≡ cyclic_product m n x y e
+product_modulo_one_is_cyclic m n e x y some =
     let f = λ (i j : ℕ). cond (eqb (i + j) e) (x i * y j) 0 in
     let h = λ (i j : ℕ). cond (eqb (i + j) (e + n)) (x i * y j) 0 in
     let row = λ (t : ℕ → ℕ → ℕ) (i : ℕ). sum_below n (λ j. t i j) in
@@ -78,4 +78,4 @@ folded_modulo m c n e xs ys left right = search (arith, coefficient_sum, get_or_
 pub folded_cyclic : (m n e : ℕ) (xs ys : List ℕ) → 0 < n → length xs ≡ n → length ys ≡ n
     → folded_entry m 1 n xs ys e ≡ cyclic_product m n (λ i. get_or xs i 0) (λ j. get_or ys j 0) e
 folded_cyclic m n e xs ys some left right =
-    folded_modulo m 1 n e xs ys left right ∙ cyclic m n e (λ i. get_or xs i 0) (λ j. get_or ys j 0) some
+    folded_modulo m 1 n e xs ys left right ∙ product_modulo_one_is_cyclic m n e (λ i. get_or xs i 0) (λ j. get_or ys j 0) some

@@ -8,7 +8,7 @@ use Rattle.std.proofs.lemmas.Nat.{pow-add}
 use Rattle.num_modular.specs.Congruence.{Congruent}
 use Rattle.num_modular.specs.NumberLaws.{mod_of_eq, mod_refl, mod_sym, mod_trans, mod_mul, mod_add_cancel}
 use Rattle.long_product.specs.AnyLength.{IsRootOfOrder}
-use Rattle.long_product.proofs.RootsOfOrder.{nothing_else, unit_cancels}
+use Rattle.long_product.proofs.RootsOfOrder.{zero_is_one_where_power_vanishes, unit_cancels}
 
 -- different numbers below a bound are at most as many
 few_below : (most size : ℕ) (f : ℕ → ℕ) → ((i : ℕ) → i < size → f i < most)
@@ -48,11 +48,11 @@ power_twice {m} {g} {n} i d root some few same =
           power_none g n i root.whole_turn (omega arith)
           (unit_cancels (a - 1) unit.0 s unit.1.one
           (mod_add_cancel s (mod_trans (mod_of_eq (sym t)) (mod_trans same (mod_of_eq z)))))
-      | inr l ↦ nothing_else g n d root.whole_turn (omega arith) l
+      | inr l ↦ zero_is_one_where_power_vanishes g n d root.whole_turn (omega arith) l
     ]
 
-never : (m : ℕ) → 1 < m → Congruent m 0 1 → ⊥
-never m more is = let s : 0 ≡ 1 = sym (zero-mod m) ∙ is.same ∙ mod-eq_of_lt more in absurd (omega (arith, s))
+zero_and_one_differ : (m : ℕ) → 1 < m → Congruent m 0 1 → ⊥
+zero_and_one_differ m more is = let s : 0 ≡ 1 = sym (zero-mod m) ∙ is.same ∙ mod-eq_of_lt more in absurd (omega (arith, s))
 
 -- modulo a number above 1 the order is below it
 pub order_below : (m g n : ℕ) → 2 ≤ m → IsRootOfOrder m g n → n < m
@@ -60,7 +60,7 @@ order_below m g n more root =
     let some : 0 < m = omega (arith, more) in
     let f = λ (i : ℕ). g ^ i % m in
     let apart_from_zero : (i : ℕ) → i < n → f i ≢ 0 = λ i l e.
-    never m more (power_none g n i root.whole_turn (omega (arith, l)) (record { same = e ∙ sym (zero-mod m) })) in
+    zero_and_one_differ m more (power_none g n i root.whole_turn (omega (arith, l)) (record { same = e ∙ sym (zero-mod m) })) in
     let l = few_below (m - 1) n (λ i. f i - 1)
     (λ i l. let b = mod-lt (g ^ i) some in let o = apart_from_zero i l in omega (arith, b, o, more))
     (λ i j l k e.
@@ -69,6 +69,6 @@ order_below m g n more root =
     let d : ℕ = j - i in
     let whole : i + d ≡ j = omega arith in
     let same : f j ≡ f i = omega (arith, e, first, second) in
-    never m more (power_twice i d root (omega (arith, l)) (omega (arith, whole, k))
+    zero_and_one_differ m more (power_twice i d root (omega (arith, l)) (omega (arith, whole, k))
     (record { same = ap (λ v. g ^ v % m) whole ∙ same }))) in
     omega (arith, l, more)

@@ -19,10 +19,10 @@ use Rattle.long_product.specs.AnyLength.{IsRootOfOrder, scaled_transform}
 use Rattle.long_product.proofs.Bluestein.{powers_cancel}
 
 -- the geometric series
-geometric : (n a : ℕ) → a * sum_below n (λ j. a ^ j) + 1 ≡ sum_below n (λ j. a ^ j) + a ^ n
-geometric zero a = search (arith, sum_below-zero, pow-zero)
-geometric (suc n) a =
-    let before = geometric n a in
+geometric_sum : (n a : ℕ) → a * sum_below n (λ j. a ^ j) + 1 ≡ sum_below n (λ j. a ^ j) + a ^ n
+geometric_sum zero a = search (arith, sum_below-zero, pow-zero)
+geometric_sum (suc n) a =
+    let before = geometric_sum n a in
     let s = sum_below-suc n (λ j. a ^ j) in
     let t = ap (λ v. a * v) s in
     let p = pow-suc a n in
@@ -43,22 +43,22 @@ all_zero : {m : ℕ} (s : ℕ) → Congruent m 0 1 → Congruent m s 0
 all_zero {m} s nothing = search (arith, mod_trans, mod_of_eq, mod_mul, mod_refl, mod_sym)
 
 -- the root's powers return after n steps
-turned : {m : ℕ} (g n d : ℕ) → g ^ n % m ≡ 1 % m → Congruent m ((g ^ d) ^ n) 1
-turned {m} g n d whole =
+power_of_root_turns_whole : {m : ℕ} (g n d : ℕ) → g ^ n % m ≡ 1 % m → Congruent m ((g ^ d) ^ n) 1
+power_of_root_turns_whole {m} g n d whole =
     let turn : Congruent m (g ^ n) 1 = record { same = whole } in
     let e : d * n ≡ n * d = omega arith in
     mod_trans (mod_of_eq (sym (pow-mul g d n) ∙ ap (λ k. g ^ k) e ∙ pow-mul g n d))
     (mod_trans (mod_pow d turn) (mod_of_eq (one-pow d)))
 
 -- so where a power is 0, 0 is congruent to 1
-pub nothing_else : {m : ℕ} (g n d : ℕ) → g ^ n % m ≡ 1 % m → 0 < n → g ^ d ≤ 0 → Congruent m 0 1
-nothing_else {m} g n d whole some none =
+pub zero_is_one_where_power_vanishes : {m : ℕ} (g n d : ℕ) → g ^ n % m ≡ 1 % m → 0 < n → g ^ d ≤ 0 → Congruent m 0 1
+zero_is_one_where_power_vanishes {m} g n d whole some none =
     let a = g ^ d in
     let k : ℕ = n - 1 in
     let e : n ≡ suc k = omega arith in
     let z : a ≡ 0 = omega arith in
     let zero_power : a ^ n ≡ 0 = ap (λ i. a ^ i) e ∙ pow-suc a k ∙ ap (λ v. a ^ k * v) z ∙ omega arith in
-    mod_trans (mod_of_eq (sym zero_power)) (turned g n d whole)
+    mod_trans (mod_of_eq (sym zero_power)) (power_of_root_turns_whole g n d whole)
 
 -- the sum of the powers of g^d is 0
 powers_vanish : {m g n : ℕ} (d : ℕ) → IsRootOfOrder m g n → 0 < d → d < n
@@ -67,7 +67,7 @@ powers_vanish {m} {g} {n} d root some few =
     let a = g ^ d in
     let s = sum_below n (λ j. a ^ j) in
     let same : Congruent m (a * s) s =
-    mod_add_cancel 1 (mod_trans (mod_of_eq (geometric n a)) (mod_add (mod_refl s) (turned g n d root.whole_turn))) in
+    mod_add_cancel 1 (mod_trans (mod_of_eq (geometric_sum n a)) (mod_add (mod_refl s) (power_of_root_turns_whole g n d root.whole_turn))) in
     let unit = root.no_shorter d some few in
     elim (cases_lt 0 a) [
       | inl l ↦
@@ -76,7 +76,7 @@ powers_vanish {m} {g} {n} d root some few =
           let z : s ≡ 0 + s = omega arith in
           unit_cancels (a - 1) unit.0 s unit.1.one
           (mod_add_cancel s (mod_trans (mod_of_eq (sym t)) (mod_trans same (mod_of_eq z))))
-      | inr l ↦ all_zero s (nothing_else g n d root.whole_turn (omega arith) l)
+      | inr l ↦ all_zero s (zero_is_one_where_power_vanishes g n d root.whole_turn (omega arith) l)
     ]
 
 -- g^i times h^k, for an inverse h of g, is a power of g between g^0 and g^n
@@ -123,8 +123,8 @@ between {m} {n} g h i k one root li lk other = elim (cases_lt k i) [
 ]
 
 -- the product of two powers with a common factor in the exponents
-together : (g h i j k : ℕ) → g ^ (i * j) * h ^ (j * k) ≡ (g ^ i * h ^ k) ^ j
-together g h i j k =
+powers_of_both_joined : (g h i j k : ℕ) → g ^ (i * j) * h ^ (j * k) ≡ (g ^ i * h ^ k) ^ j
+powers_of_both_joined g h i j k =
     let e : j * k ≡ k * j = omega arith in
     ap (λ v. v * h ^ (j * k)) (pow-mul g i j) ∙ ap (λ v. (g ^ i) ^ j * v) (ap (λ c. h ^ c) e ∙ pow-mul h k j)
     ∙ sym (mul-pow (g ^ i) (h ^ k) j)
@@ -135,14 +135,14 @@ other_places : {m n : ℕ} (g h i k : ℕ) → Congruent m (g * h) 1 → IsRootO
 other_places {m} {n} g h i k one root li lk other =
     let is = between g h i k one root li lk other in
     mod_trans (sum_below-congruent n (λ j. g ^ (i * j) * h ^ (j * k)) (λ j. (g ^ is.exponent) ^ j)
-    (λ j l. mod_trans (mod_of_eq (together g h i j k)) (mod_pow j is.same)))
+    (λ j l. mod_trans (mod_of_eq (powers_of_both_joined g h i j k)) (mod_pow j is.same)))
     (powers_vanish is.exponent root is.some is.few)
 
 -- .. where it is n
 same_place : {m : ℕ} (g h n k : ℕ) → Congruent m (g * h) 1
     → Congruent m (sum_below n (λ j. g ^ (k * j) * h ^ (j * k))) n
 same_place {m} g h n k one =
-    mod_trans (search (arith, sum_below-congruent, mod_trans, mod_of_eq, together, mod_pow, powers_cancel, one-pow))
+    mod_trans (search (arith, sum_below-congruent, mod_trans, mod_of_eq, powers_of_both_joined, mod_pow, powers_cancel, one-pow))
     (mod_of_eq (sum_below-of_constant n 1 ∙ omega arith))
 
 -- g and h have the sums of both orders of a root and its inverse
@@ -150,8 +150,8 @@ pub record AreOpposite (m g h n : ℕ) : Type 0 where
   pub same : (k : ℕ) → k < n → Congruent m (sum_below n (λ j. g ^ (k * j) * h ^ (j * k))) n
   pub other : (i k : ℕ) → i < n → k < n → i ≢ k → Congruent m (sum_below n (λ j. g ^ (i * j) * h ^ (j * k))) 0
 
-pub opposite : {m g h n : ℕ} → Congruent m (g * h) 1 → IsRootOfOrder m g n → AreOpposite m g h n
-opposite {m} {g} {h} {n} one root = search (arith, same_place, other_places)
+pub root_and_inverse_are_opposite : {m g h n : ℕ} → Congruent m (g * h) 1 → IsRootOfOrder m g n → AreOpposite m g h n
+root_and_inverse_are_opposite {m} {g} {h} {n} one root = search (arith, same_place, other_places)
 
 pub opposite_sym : {m g h n : ℕ} → AreOpposite m g h n → AreOpposite m h g n
 opposite_sym {m} {g} {h} {n} are =
@@ -211,7 +211,7 @@ pub transform_undone : (m g h part n i : ℕ) (x y : ℕ → ℕ) → (g * h) % 
     → scaled_transform m part h n y i ≡ x i % m
 transform_undone m g h part n i x y inverse of_length root within is =
     (value_back n part (sum_below n (λ j. y j * h ^ (j * i))) (x i) of_length
-    (taken_back n i x y (opposite (record { same = inverse }) root) within
+    (taken_back n i x y (root_and_inverse_are_opposite (record { same = inverse }) root) within
     (λ j l. record { same = sym (is j l) }))).same
 
 -- the transform by g of what an inverse transform computes
@@ -222,7 +222,7 @@ inverse_undone m g h part n j x inverse of_length root within =
     let e : n * (part * x j) ≡ n * part * x j = omega arith in
     let o : 1 * x j ≡ x j = omega arith in
     (mod_trans (taken_back n j (λ k. part * x k) (scaled_transform m part h n x)
-    (opposite_sym (opposite (record { same = inverse }) root)) within
+    (opposite_sym (root_and_inverse_are_opposite (record { same = inverse }) root)) within
     (λ i l.
     let f = λ (k : ℕ). x k * h ^ (k * i) in
     mod_trans (residue_of (part * sum_below n f))
@@ -297,7 +297,7 @@ root_found m g n power product modulus some is_power units one unit =
       no_shorter = λ d l k. elim (cases_lt 0 (g ^ d)) [
         | inl p ↦
             unit_same m (g ^ d + (m - 1)) (g ^ d - 1) (difference_same m (g ^ d) modulus p) (units.0 unit d l k)
-        | inr z ↦ every_unit m (g ^ d - 1) modulus (nothing_else g n d whole (omega arith) z)
+        | inr z ↦ every_unit m (g ^ d - 1) modulus (zero_is_one_where_power_vanishes g n d whole (omega arith) z)
       ];
     }
 
@@ -308,7 +308,7 @@ root_unit m g n product modulus units root =
     units.1 (λ d l k. elim (cases_lt 0 (g ^ d)) [
       | inl p ↦
           unit_same m (g ^ d - 1) (g ^ d + (m - 1)) (sym (difference_same m (g ^ d) modulus p)) (root.no_shorter d l k)
-      | inr z ↦ every_unit m (g ^ d + (m - 1)) modulus (nothing_else g n d root.whole_turn root.some z)
+      | inr z ↦ every_unit m (g ^ d + (m - 1)) modulus (zero_is_one_where_power_vanishes g n d root.whole_turn root.some z)
     ])
 
 -- whether an inverse was found

@@ -89,7 +89,7 @@ impl Remainders {
     }
 
     // The number with the residues at index e, and c times that n places after it, modulo the modulus.
-    #[tactic(auto, using(crate::proofs::Coefficients::unfolded, crate::proofs::Coefficients::words_fit, crate::proofs::Bounds::folded_fits, crate::proofs::Coefficients::folded_residues))]
+    #[tactic(auto, using(crate::proofs::Coefficients::residue_without_second_term, crate::proofs::Coefficients::words_fit, crate::proofs::Bounds::folded_fits, crate::proofs::Coefficients::folded_residues))]
     fn folded_at(
         &self,
         c: u64,

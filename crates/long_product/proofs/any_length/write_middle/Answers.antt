@@ -1,7 +1,7 @@
 use Rattle.std.proofs.Common.{◌+◌, ◌%◌, length, refl, ap, sym, ◌∙◌, subst, arith}
 use Rattle.long_product.specs.Polynomials.{product_sum}
 use Rattle.long_product.specs.Room.{HasScratch}
-use Rattle.long_product.proofs.Coefficients.{unfolded}
+use Rattle.long_product.proofs.Coefficients.{residue_without_second_term}
 use Rattle.long_product.proofs.any_length.write_middle.Goals as goal
 
 pub entries_for-n-requires-clause-room : goal.entries_for-n-requires-clause-room
@@ -19,5 +19,5 @@ returns g c e l k =
     let places = c.requires.places in
     let some = c.requires.some in
     c.multiply_modulo.ensures e (omega (arith, k, places, some))
-    ∙ sym (unfolded _ 0 (product_sum xs ys e) (product_sum xs ys (e + length c.args.out.now)) refl)
+    ∙ sym (residue_without_second_term _ 0 (product_sum xs ys e) (product_sum xs ys (e + length c.args.out.now)) refl)
     ∙ ap (λ m. product_sum xs ys e % m) c.modulus.ensures
