@@ -1,13 +1,6 @@
-use Rattle.std.proofs.Common.{◌%◌, ap, sym, ◌∙◌, slice_index}
+use Rattle.std.proofs.Common.{◌∙◌, slice_index}
 use Rattle.num_modular.specs.Remainders.{remainders}
 use Rattle.examples.proofs.hashes.hash.Goals as goal
-
-pub bytes-init : goal.bytes-init
-bytes-init c = record {
-  modulus = c.convert-value.ensures.modulus ∙ c.new-point.ensures.modulus;
-  residue = c.convert-value.ensures.residue ∙ ap (λ m. 0 % m) c.new-point.ensures.modulus
-      ∙ ap (λ v. v % 2305843009213693951) (sym (c.range_laws.ensures.none _));
-}
 
 pub bytes-preserved : goal.bytes-preserved
 bytes-preserved c =
