@@ -12,11 +12,5 @@ split-requires-clause-blocks c =
     let table = c.plan.ensures.table in
     record { some = omega arith; count = (8, omega arith); whole = omega arith; within = omega (arith, table) }
 
-pub split-requires-clause-entries : goal.split-requires-clause-entries
-split-requires-clause-entries c = λ k d l.
-    let below = c.requires k d l in
-    let is = c.plan.ensures.modulus in
-    omega (arith, below, is)
-
 pub returns-clause-values : goal.returns-clause-values
 returns-clause-values c = transform_of _ _ (told 1 c.args.w.now c.split.new.xs (ring c) c.split.ensures.remainders)
