@@ -71,7 +71,7 @@ pub struct Corrector<'a, T: RingWord, R: Reducer<T>> {
 }
 
 impl<'a, T: RingWord, R: Reducer<T>> Corrector<'a, T, R> {
-    /// Fills the weights and returns the code of messages of k symbols at n points.
+    /// Fills the weights and returns the code: of messages of k symbols at n points.
     ///
     /// `None` exactly where the points don't fit.
     ///
@@ -186,8 +186,8 @@ impl<'a, T: RingWord, R: Reducer<T>> Corrector<'a, T, R> {
         }
     }
 
-    /// The same code, whose points are the powers of g from g^0 on: `correct` then finds the syndromes by one transform, in
-    /// about n·log n products.
+    /// The same code with a root: its points are the powers of g from g^0 on. `correct` then finds the syndromes by one
+    /// transform, in about n·log n products.
     ///
     /// `None` exactly where they aren't, or g doesn't suit n.
     ///
@@ -353,7 +353,7 @@ impl<'a, T: RingWord, R: Reducer<T>> Corrector<'a, T, R> {
         count_zeros(self.ring, syndromes) == syndromes.len()
     }
 
-    /// Corrects a word in place, wrong symbols and lost ones, and returns the number of wrong symbols that weren't lost.
+    /// Corrects a word in place: wrong symbols and lost ones. Returns the number of wrong symbols that weren't lost.
     ///
     /// With c lost symbols and e wrong ones besides, it corrects all if 2·e + c ≤ n - k: the word becomes the only one of the
     /// code that differs from it in so few symbols. `lost` has the places of the lost symbols; what stands there is ignored.

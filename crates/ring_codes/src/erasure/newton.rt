@@ -91,7 +91,7 @@ pub fn fill_weights<T: RingWord, R: Reducer<T>>(r: &R, points: &[T], weights: &m
     }
 }
 
-/// Writes for each of n points the product of its differences from the other ones.
+/// Writes products of differences: for each of n points that of its differences from the other ones.
 ///
 /// It takes n·(n - 1) products.
 ///

@@ -25,7 +25,7 @@ pub fn index_of(places: &[usize], count: usize, place: usize) -> Option<usize>
     None
 }
 
-/// Copies the points at the first places, as many as `chosen` holds.
+/// Copies the points at places: at the first ones, as many as `chosen` holds.
 ///
 /// The contents of `chosen` are ignored, and unspecified after an error.
 ///
@@ -38,7 +38,7 @@ pub fn index_of(places: &[usize], count: usize, place: usize) -> Option<usize>
 /// ```
 /// use num_modular::applications::ring_codes::erasure::{choose_points, RestoreError};
 ///
-/// let mut chosen = [0; 2];
+/// let mut chosen = [0u8; 2];
 /// assert_eq!(choose_points(&[5, 6, 7], &[2, 0], &mut chosen), Ok(()));
 /// assert_eq!(chosen, [7, 5]);
 /// assert_eq!(choose_points(&[5, 6, 7], &[2, 2], &mut chosen), Err(RestoreError::PlaceTwice));

@@ -15,7 +15,8 @@ use num_modular::{Reducer, RingWord};
 ///
 /// # Preconditions
 ///
-/// - there are at least `count` places, and as many symbols as places
+/// - there are as many symbols as places
+/// - there are at least `count` places
 /// - the word has as many places as there are points
 /// - the first `count` symbols are the message's values at the points of their places
 /// - points, message and symbols are checked forms
