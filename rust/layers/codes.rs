@@ -1,6 +1,6 @@
 //! Reed-Solomon codes over arrays.
 
-use super::with_scratch;
+use super::{with_scratch, MOST};
 use crate::applications::ring_codes::erasure::{self, CorrectError, ShareError};
 use crate::{Reducer, RingWord};
 
@@ -77,7 +77,13 @@ impl<T: RingWord, R: Reducer<T>, const N: usize, const K: usize> Code<T, R, N, K
     const SCRATCH: usize = {
         assert!(1 <= K && K <= N, "K must be from 1 to N");
         assert!(N <= 5400, "there must be at most 5,400 points");
-        3 * (N + K) + 2
+        let (least, by_syndromes) = (3 * (N + K) + 2, 11 * N - 7 * K + 3);
+        // `correct` goes by syndromes where there is so much.
+        if least < by_syndromes && by_syndromes <= MOST {
+            by_syndromes
+        } else {
+            least
+        }
     };
 
     /// The code of these points; `None` exactly where they don't fit: the difference of two has no inverse modulo m.
