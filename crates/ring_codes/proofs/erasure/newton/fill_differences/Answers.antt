@@ -32,6 +32,3 @@ points-preserved g c =
         | inr before ↦ step.behind i (omega (arith, l, before, inside)) ∙ so_far.2 i l before
       ],
     )
-
-pub returns-clause-products : goal.returns-clause-products
-returns-clause-products g c i l = c.points.invariant.2 i l (omega arith)

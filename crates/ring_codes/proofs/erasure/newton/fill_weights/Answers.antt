@@ -30,6 +30,3 @@ points-preserved g c =
       λ i a b. step.multiplied i a (omega arith)
           ∙ product_step m j _ _ (difference m x i) (so_far.2 i (omega arith) b) refl,
     )
-
-pub returns-clause-values : goal.returns-clause-values
-returns-clause-values g c i l = c.points.invariant.1 i (omega arith)

@@ -29,12 +29,3 @@ points-preserved g c =
         λ s. absurd (omega arith),
       ),
     )
-
-pub returns-clause-multiplied : goal.returns-clause-multiplied
-returns-clause-multiplied g c i a b = (c.points.invariant.1.done i (omega arith)).0 a
-
-pub returns-clause-before : goal.returns-clause-before
-returns-clause-before g c i l = (c.points.invariant.1.done i (omega arith)).1 l
-
-pub returns-clause-behind : goal.returns-clause-behind
-returns-clause-behind g c i l = c.points.invariant.1.kept i (omega arith)
