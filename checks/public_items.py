@@ -7,7 +7,7 @@ from libraries import TOP, leaves
 
 CRATES = TOP / "crates"
 ROOT = "num_modular"
-USERS = ("check_digits", "ring_codes", "ring_decoder", "ring_correction", "residue_numbers", "mersenne_hash", "long_product", "lattice_rings", "examples")
+USERS = ("check_digits", "ring_codes", "ring_decoder", "ring_correction", "ring_erasures", "residue_numbers", "mersenne_hash", "long_product", "lattice_rings", "examples")
 # Of the modules w8, w16, w32, w64 and wsize, which have the same names, one is looked at.
 OTHER_WIDTHS = re.compile(r"\b(?:w8|w16|w32|wsize)\b")
 ITEM = re.compile(r"^pub (?:unsafe |const )?(?:fn|struct|enum|trait|type|const)\s+(\w+)", re.M)

@@ -4,11 +4,8 @@
 pub mod convolution;
 pub mod filled;
 pub mod join;
-mod join_blocks;
 pub mod owned;
 pub mod plan;
 pub mod products;
 pub mod split;
-mod split_blocks;
 pub mod tables;
-pub mod transform;

@@ -16,13 +16,12 @@
 //! - the table's entries are factors modulo m
 //! - the factor was made by this modulus
 
-pub use crate::modular_barrett::planned::{Factor, PlannedModulus};
-pub use crate::modular_plan_passes::entry::PlanEntry;
+pub use crate::modular_plan_passes::factor::{Factor, PlanEntry};
+pub use crate::modular_plan_passes::modulus::PlannedModulus;
 pub use crate::modular_plan_passes::table::fill_table;
 pub use crate::modular_plan_transforms::convolution::{convolve_block, convolve_negacyclic, convolve_planned, convolves};
 pub use crate::modular_plan_transforms::join::{join, join_scaled};
 pub use crate::modular_plan_transforms::owned::OwnedPlan;
 pub use crate::modular_plan_transforms::plan::Plan;
 pub use crate::modular_plan_transforms::products::multiply;
-pub use crate::modular_plan_transforms::split::{split, splits};
-pub use crate::modular_plan_transforms::transform::ntt_planned;
+pub use crate::modular_plan_transforms::split::{ntt_planned, split, splits};

@@ -4,4 +4,5 @@
 //!
 //! The codes of check digits are in `check_digits`.
 pub mod erasure;
+pub mod ring_correction;
 pub mod ring_decoder;

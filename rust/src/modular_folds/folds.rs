@@ -3,7 +3,6 @@
 
 use crate::modular_folds::far::{has_few_folds, reduced_far};
 use crate::modular_folds::fold_word::FoldWord;
-use crate::modular_prim::below::sum_once;
 use crate::modular_reduced::lanes::reduced_by_sign;
 use crate::modular_word::path_word::PathWord;
 
@@ -128,11 +127,11 @@ pub(crate) fn reduced_last<V: FoldWord>(v: V, m: V) -> V {
 // `reduced_last` of a word. It isn't inlined always: LLVM then simplifies it first, and compares x with m, a constant, in
 // vectors too. Condition: x is below 2m.
 #[inline]
-fn reduced_last_word(x: u32, m: u32) -> u32 {
-    if x < m {
+fn reduced_last_word<T: PathWord>(x: T, m: T) -> T {
+    if x.is_below(m) {
         x
     } else {
-        x - m
+        x.minus(m)
     }
 }
 
@@ -357,8 +356,10 @@ impl FoldedWord for u32 {
     fn sum_of_parts(a: u32, b: u32, p: u32, m: u32) -> u32 {
         if p < 32 {
             reduced_by_sign(a + b, m)
+        } else if a < m - b {
+            a + b
         } else {
-            sum_once(a, b, m)
+            a - (m - b)
         }
     }
 }
@@ -435,7 +436,7 @@ impl FoldedWord for u64 {
 #[inline]
 pub fn reduce_by_folds<T: FoldedWord>(v: T::Double, p: u32, c: T, m: T) -> (T, u32) {
     let (rest, count) = T::fold_double(v, p, c, m);
-    (sum_once(rest, T::zero(), m), count)
+    (reduced_last_word(rest, m), count)
 }
 
 // v modulo m, by folds. Kept out of line and cold, so that loops over products stay small. Condition: m is 2^p - c and more

@@ -3,8 +3,8 @@
 
 mod calls;
 
-use crate::modular_barrett::planned::PlannedModulus;
-use crate::modular_plan_passes::entry::PlanEntry;
+use crate::modular_plan_passes::factor::PlanEntry;
+use crate::modular_plan_passes::modulus::PlannedModulus;
 use crate::modular_plan_passes::table::fill_table;
 use crate::modular_plan_transforms::convolution::convolves;
 use crate::modular_plan_transforms::filled::is_table;

@@ -4,6 +4,8 @@
 use crate::modular_folds::mersenne::FixedMersenne64;
 use crate::modular_reduced::modular_integer::ModularInteger;
 use crate::modular_reduced::reduced_int::ReducedInt;
+use crate::modular_word::path_word::PathWord;
+
 /// A hash: an integer modulo 2^61 - 1.
 ///
 /// # Examples
@@ -61,6 +63,14 @@ pub fn hash(base: Hash, text: &[u8]) -> Hash {
     value
 }
 
+// An eighth of n, modulo 2^61 - 1. The parts of the eighth below and above the bit 61 are those of n below and above the bit
+// 64, that is, its words. Conditions: 8 divides n, and n is below 2^126.
+#[inline(always)]
+fn reduced_eighth(like: Hash, n: u128) -> Hash {
+    let (low, high) = <u64 as PathWord>::split(n);
+    like.convert(high + (low >> 3))
+}
+
 /// The hash of the next window: it moves by one byte, `first` is the byte that it drops at its start, and `next` the
 /// byte that it gains at its end.
 ///
@@ -81,8 +91,9 @@ pub fn hash(base: Hash, text: &[u8]) -> Hash {
 #[must_use]
 #[inline]
 pub fn roll(base: Hash, power: Hash, window: Hash, first: u8, next: u8) -> Hash {
-    let longer = window * base + next as u64;
-    longer - power * first as u64
+    let kept = window.residue() as u128 * (8 * base.residue()) as u128;
+    let change = (8 * (-power).residue()) as u128 * first as u128 + 8 * next as u128;
+    reduced_eighth(base, kept + change)
 }
 
 /// Whether the pattern occurs at a position: the hashes of the pattern, `wanted`, and of the window there are given,
@@ -126,6 +137,76 @@ pub fn is_hit(wanted: Hash, window: Hash, text: &[u8], pattern: &[u8], at: usize
     window == wanted && &text[at..at + pattern.len()] == pattern
 }
 
+// A search: the text and the pattern, with the pattern's hash and the power of the base to its length.
+#[derive(Clone, Copy)]
+struct Search<'a> {
+    base: Hash,
+    power: Hash,
+    wanted: Hash,
+    text: &'a [u8],
+    pattern: &'a [u8],
+}
+
+impl<'a> Search<'a> {
+    #[inline]
+    fn new(base: Hash, text: &'a [u8], pattern: &'a [u8]) -> Self {
+        Search { base, power: base.pow(&(pattern.len() as u64)), wanted: hash(base, pattern), text, pattern }
+    }
+
+    // The hash of the window at a position.
+    #[inline]
+    fn window(&self, at: usize) -> Hash {
+        hash(self.base, &self.text[at..at + self.pattern.len()])
+    }
+
+    // The hash of the next window.
+    #[inline(always)]
+    fn next(&self, window: Hash, at: usize) -> Hash {
+        roll(self.base, self.power, window, self.text[at], self.text[at + self.pattern.len()])
+    }
+
+    // Whether the pattern occurs at a position.
+    #[inline(always)]
+    fn hits(&self, window: Hash, at: usize) -> bool {
+        is_hit(self.wanted, window, self.text, self.pattern, at)
+    }
+
+    // The first position of the pattern from `from` on and before `to`.
+    #[inline]
+    fn first_between(&self, window: Hash, from: usize, to: usize) -> Option<usize> {
+        let mut window = window;
+        for at in from..to {
+            if self.hits(window, at) {
+                return Some(at);
+            }
+            window = self.next(window, at);
+        }
+        None
+    }
+
+    // The first position of the pattern before `to`. Where there are more positions than a window has bytes, the windows of
+    // both halves are hashed side by side, since each hash waits for the one before.
+    fn first_before(&self, to: usize) -> Option<usize> {
+        let half = to / 2;
+        let mut low = self.window(0);
+        if half < self.pattern.len() {
+            return self.first_between(low, 0, to);
+        }
+        let mut high = self.window(half);
+        for at in 0..half {
+            if self.hits(low, at) {
+                return Some(at);
+            }
+            if self.hits(high, half + at) {
+                return self.first_between(low, at, half).or(Some(half + at));
+            }
+            low = self.next(low, at);
+            high = self.next(high, half + at);
+        }
+        self.first_between(high, 2 * half, to)
+    }
+}
+
 /// The first position of the pattern; `None` exactly where it occurs nowhere.
 ///
 /// The result is right for every base, because the bytes of a window are compared where its hash is the pattern's.
@@ -148,21 +229,15 @@ pub fn is_hit(wanted: Hash, window: Hash, text: &[u8], pattern: &[u8], at: usize
 /// ```
 #[must_use]
 pub fn find(base: Hash, text: &[u8], pattern: &[u8]) -> Option<usize> {
-    let length = pattern.len();
-    if length > text.len() {
+    if pattern.len() > text.len() {
         return None;
     }
-    let wanted = hash(base, pattern);
-    let power = base.pow(&(length as u64));
-    let mut window = hash(base, &text[..length]);
-    let last = text.len() - length;
-    for at in 0..last {
-        if is_hit(wanted, window, text, pattern, at) {
-            return Some(at);
-        }
-        window = roll(base, power, window, text[at], text[at + length]);
+    let search = Search::new(base, text, pattern);
+    let last = text.len() - pattern.len();
+    if let Some(at) = search.first_before(last) {
+        return Some(at);
     }
-    if is_hit(wanted, window, text, pattern, last) {
+    if &text[last..] == pattern {
         Some(last)
     } else {
         None

@@ -35,9 +35,11 @@ impl PathWord for u8 {
         self.wrapping_add(rhs)
     }
 
+    // LLVM vectorizes this comparison over several short words, but not the carry of `u8::overflowing_add`.
     #[inline]
     fn overflowing_add(self, rhs: u8) -> (u8, bool) {
-        self.overflowing_add(rhs)
+        let sum = self.wrapping_add(rhs);
+        (sum, sum < rhs)
     }
 
     #[inline]
@@ -143,9 +145,11 @@ impl PathWord for u16 {
         self.wrapping_add(rhs)
     }
 
+    // As for `u8`.
     #[inline]
     fn overflowing_add(self, rhs: u16) -> (u16, bool) {
-        self.overflowing_add(rhs)
+        let sum = self.wrapping_add(rhs);
+        (sum, sum < rhs)
     }
 
     #[inline]

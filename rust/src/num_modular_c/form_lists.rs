@@ -2,7 +2,7 @@
 //! Operations on lists of Montgomery forms, entry by entry, given a context.
 
 use crate::num_modular_c::codes::{NM_BAD_ARGUMENT, NM_BAD_CONTEXT, NM_OK};
-use crate::num_modular_c::montgomery::{is_form, reducer, NmMontgomery};
+use crate::num_modular_c::montgomery::{reducer, reducer_with_form, NmMontgomery};
 use crate::ring::{add_lists, all_checked, dot_product, multiply_lists, scale_list, sub_lists};
 use crate::Montgomery;
 
@@ -21,20 +21,30 @@ fn are_form_lists(ring: &Montgomery<u64>, xs: &[u64], ys: &[u64]) -> bool {
     are_forms(ring, ys)
 }
 
+// The reducer of a context over which two lists are equally long lists of forms, or the code that says what is wrong.
+#[inline]
+fn reducer_with_lists(context: &NmMontgomery, xs: &[u64], ys: &[u64]) -> Result<Montgomery<u64>, u32> {
+    let ring = match reducer(context) {
+        Some(it) => it,
+        None => {
+            return Err(NM_BAD_CONTEXT);
+        }
+    };
+    if !are_form_lists(&ring, xs, ys) {
+        return Err(NM_BAD_ARGUMENT);
+    }
+    Ok(ring)
+}
+
 /// Replaces each form of the first list by that of its sum with the form of the second list at the same index.
 /// `NM_BAD_CONTEXT`: the context isn't one that `nm_montgomery` makes. `NM_BAD_ARGUMENT`: the lengths differ, or a word
 /// isn't below m, and so is no form.
 #[inline]
 pub fn nm_montgomery_add_lists(context: &NmMontgomery, xs: &mut [u64], ys: &[u64]) -> u32 {
-    let ring = match reducer(context) {
-        Some(it) => it,
-        None => {
-            return NM_BAD_CONTEXT;
-        }
+    let ring = match reducer_with_lists(context, xs, ys) {
+        Ok(ring) => ring,
+        Err(code) => return code,
     };
-    if !are_form_lists(&ring, xs, ys) {
-        return NM_BAD_ARGUMENT;
-    }
     add_lists(&ring, xs, ys);
     NM_OK
 }
@@ -43,15 +53,10 @@ pub fn nm_montgomery_add_lists(context: &NmMontgomery, xs: &mut [u64], ys: &[u64
 /// codes are those of `nm_montgomery_add_lists`.
 #[inline]
 pub fn nm_montgomery_sub_lists(context: &NmMontgomery, xs: &mut [u64], ys: &[u64]) -> u32 {
-    let ring = match reducer(context) {
-        Some(it) => it,
-        None => {
-            return NM_BAD_CONTEXT;
-        }
+    let ring = match reducer_with_lists(context, xs, ys) {
+        Ok(ring) => ring,
+        Err(code) => return code,
     };
-    if !are_form_lists(&ring, xs, ys) {
-        return NM_BAD_ARGUMENT;
-    }
     sub_lists(&ring, xs, ys);
     NM_OK
 }
@@ -60,30 +65,21 @@ pub fn nm_montgomery_sub_lists(context: &NmMontgomery, xs: &mut [u64], ys: &[u64
 /// codes are those of `nm_montgomery_add_lists`.
 #[inline]
 pub fn nm_montgomery_multiply_lists(context: &NmMontgomery, xs: &mut [u64], ys: &[u64]) -> u32 {
-    let ring = match reducer(context) {
-        Some(it) => it,
-        None => {
-            return NM_BAD_CONTEXT;
-        }
+    let ring = match reducer_with_lists(context, xs, ys) {
+        Ok(ring) => ring,
+        Err(code) => return code,
     };
-    if !are_form_lists(&ring, xs, ys) {
-        return NM_BAD_ARGUMENT;
-    }
     multiply_lists(&ring, xs, ys);
     NM_OK
 }
 
 /// Replaces each form by that of its product with the factor, a form. The codes are those of `nm_montgomery_add_lists`.
+#[inline]
 pub fn nm_montgomery_scale_list(context: &NmMontgomery, xs: &mut [u64], factor: u64) -> u32 {
-    let ring = match reducer(context) {
-        Some(it) => it,
-        None => {
-            return NM_BAD_CONTEXT;
-        }
+    let ring = match reducer_with_form(context, factor) {
+        Ok(ring) => ring,
+        Err(code) => return code,
     };
-    if !is_form(&ring, factor) {
-        return NM_BAD_ARGUMENT;
-    }
     if !are_forms(&ring, xs) {
         return NM_BAD_ARGUMENT;
     }
@@ -95,15 +91,10 @@ pub fn nm_montgomery_scale_list(context: &NmMontgomery, xs: &mut [u64], factor: 
 /// of `nm_montgomery_add_lists`.
 #[inline]
 pub fn nm_montgomery_dot_product(context: &NmMontgomery, xs: &[u64], ys: &[u64], product: &mut u64) -> u32 {
-    let ring = match reducer(context) {
-        Some(it) => it,
-        None => {
-            return NM_BAD_CONTEXT;
-        }
+    let ring = match reducer_with_lists(context, xs, ys) {
+        Ok(ring) => ring,
+        Err(code) => return code,
     };
-    if !are_form_lists(&ring, xs, ys) {
-        return NM_BAD_ARGUMENT;
-    }
     *product = dot_product(&ring, xs, ys);
     NM_OK
 }

@@ -23,6 +23,35 @@ pub(crate) fn reducer(context: &NmMontgomery) -> Option<Montgomery<u64>> {
     Montgomery::restored(context.modulus, context.negated_inverse, context.square)
 }
 
+// The reducer of a context over which a word is a form, or the code that says what is wrong.
+#[inline]
+pub(crate) fn reducer_with_form(context: &NmMontgomery, form: u64) -> Result<Montgomery<u64>, u32> {
+    let ring = match reducer(context) {
+        Some(it) => it,
+        None => {
+            return Err(NM_BAD_CONTEXT);
+        }
+    };
+    if !is_form(&ring, form) {
+        return Err(NM_BAD_ARGUMENT);
+    }
+    Ok(ring)
+}
+
+// The same for two words.
+#[inline]
+fn reducer_with_forms(context: &NmMontgomery, a: u64, b: u64) -> Result<Montgomery<u64>, u32> {
+    match reducer_with_form(context, a) {
+        Err(code) => Err(code),
+        Ok(ring) => {
+            if !is_form(&ring, b) {
+                return Err(NM_BAD_ARGUMENT);
+            }
+            Ok(ring)
+        }
+    }
+}
+
 // Whether a word is a form: it is below the modulus.
 #[inline]
 pub(crate) fn is_form(ring: &Montgomery<u64>, word: u64) -> bool {
@@ -57,15 +86,10 @@ pub fn nm_montgomery_transform(context: &NmMontgomery, word: u64, form: &mut u64
 /// isn't below m, and so is no form.
 #[inline]
 pub fn nm_montgomery_residue(context: &NmMontgomery, form: u64, value: &mut u64) -> u32 {
-    let ring = match reducer(context) {
-        Some(it) => it,
-        None => {
-            return NM_BAD_CONTEXT;
-        }
+    let ring = match reducer_with_form(context, form) {
+        Ok(ring) => ring,
+        Err(code) => return code,
     };
-    if !is_form(&ring, form) {
-        return NM_BAD_ARGUMENT;
-    }
     *value = ring.residue(form);
     NM_OK
 }
@@ -73,15 +97,10 @@ pub fn nm_montgomery_residue(context: &NmMontgomery, form: u64, value: &mut u64)
 /// Writes the form of the sum of two forms. The codes are those of `nm_montgomery_residue`.
 #[inline]
 pub fn nm_montgomery_add(context: &NmMontgomery, a: u64, b: u64, sum: &mut u64) -> u32 {
-    let ring = match reducer(context) {
-        Some(it) => it,
-        None => {
-            return NM_BAD_CONTEXT;
-        }
+    let ring = match reducer_with_forms(context, a, b) {
+        Ok(ring) => ring,
+        Err(code) => return code,
     };
-    if !is_form(&ring, a) || !is_form(&ring, b) {
-        return NM_BAD_ARGUMENT;
-    }
     *sum = ring.add(&a, &b);
     NM_OK
 }
@@ -89,15 +108,10 @@ pub fn nm_montgomery_add(context: &NmMontgomery, a: u64, b: u64, sum: &mut u64) 
 /// Writes the form of the difference of two forms. The codes are those of `nm_montgomery_residue`.
 #[inline]
 pub fn nm_montgomery_sub(context: &NmMontgomery, a: u64, b: u64, difference: &mut u64) -> u32 {
-    let ring = match reducer(context) {
-        Some(it) => it,
-        None => {
-            return NM_BAD_CONTEXT;
-        }
+    let ring = match reducer_with_forms(context, a, b) {
+        Ok(ring) => ring,
+        Err(code) => return code,
     };
-    if !is_form(&ring, a) || !is_form(&ring, b) {
-        return NM_BAD_ARGUMENT;
-    }
     *difference = ring.sub(&a, &b);
     NM_OK
 }
@@ -105,15 +119,10 @@ pub fn nm_montgomery_sub(context: &NmMontgomery, a: u64, b: u64, difference: &mu
 /// Writes the form of the product of two forms. The codes are those of `nm_montgomery_residue`.
 #[inline]
 pub fn nm_montgomery_mul(context: &NmMontgomery, a: u64, b: u64, product: &mut u64) -> u32 {
-    let ring = match reducer(context) {
-        Some(it) => it,
-        None => {
-            return NM_BAD_CONTEXT;
-        }
+    let ring = match reducer_with_forms(context, a, b) {
+        Ok(ring) => ring,
+        Err(code) => return code,
     };
-    if !is_form(&ring, a) || !is_form(&ring, b) {
-        return NM_BAD_ARGUMENT;
-    }
     *product = ring.mul(&a, &b);
     NM_OK
 }
@@ -122,15 +131,10 @@ pub fn nm_montgomery_mul(context: &NmMontgomery, a: u64, b: u64, product: &mut u
 /// `nm_montgomery_residue`.
 #[inline]
 pub fn nm_montgomery_pow(context: &NmMontgomery, form: u64, exponent: u64, power: &mut u64) -> u32 {
-    let ring = match reducer(context) {
-        Some(it) => it,
-        None => {
-            return NM_BAD_CONTEXT;
-        }
+    let ring = match reducer_with_form(context, form) {
+        Ok(ring) => ring,
+        Err(code) => return code,
     };
-    if !is_form(&ring, form) {
-        return NM_BAD_ARGUMENT;
-    }
     *power = ring.pow(form, &exponent);
     NM_OK
 }
@@ -139,15 +143,10 @@ pub fn nm_montgomery_pow(context: &NmMontgomery, form: u64, exponent: u64, power
 /// `nm_montgomery_residue`.
 #[inline]
 pub fn nm_montgomery_inv(context: &NmMontgomery, form: u64, inverse: &mut u64) -> u32 {
-    let ring = match reducer(context) {
-        Some(it) => it,
-        None => {
-            return NM_BAD_CONTEXT;
-        }
+    let ring = match reducer_with_form(context, form) {
+        Ok(ring) => ring,
+        Err(code) => return code,
     };
-    if !is_form(&ring, form) {
-        return NM_BAD_ARGUMENT;
-    }
     let found = match ring.inv(form) {
         Some(it) => it,
         None => {

@@ -29,27 +29,29 @@
 //!
 //! Source: Reed and Solomon, "Polynomial codes over certain finite fields".
 
-mod correction;
-mod key_equation;
+mod errors;
 mod newton;
+mod places;
 mod powers;
 mod prepared;
-mod quotients;
 mod secrets;
 mod values;
 mod words;
 
+pub use super::ring_correction::{correct, recover_correct};
 pub use super::ring_decoder::corrector::Corrector;
 pub use crate::layers::codes::{Code, Corrected};
 use crate::ring::invert_each;
 use crate::{Reducer, RingWord};
-pub use correction::{correct, CorrectError};
+pub use errors::CorrectError;
+pub use newton::fill_differences;
 use newton::{differences_before, divide_differences, expand, fill_weights};
+pub use places::choose_points;
 pub use powers::{encode_by_plan, encode_by_transform, fill_powers, is_codeword_by_transform};
 pub use prepared::{fill_barycentric_weights, PreparedCode};
-pub use secrets::{recover, recover_correct, share, ShareError};
+pub use secrets::{recover, share, ShareError};
 use values::evaluate_side_by_side;
-use words::index_of;
+pub(crate) use words::fill_word;
 pub use words::restore_word;
 
 /// How many points `encode` takes side by side.
@@ -400,24 +402,6 @@ pub fn encode_systematic<T: RingWord, R: Reducer<T>>(
     true
 }
 
-// Copies the points at the first places, as many as `chosen` holds.
-fn choose<T: RingWord>(points: &[T], places: &[usize], chosen: &mut [T]) -> Result<(), RestoreError> {
-    if places.len() < chosen.len() {
-        return Err(RestoreError::TooFewSymbols);
-    }
-    for i in 0..chosen.len() {
-        let place = places[i];
-        if place >= points.len() {
-            return Err(RestoreError::PlaceOutOfRange);
-        }
-        if index_of(places, i, place).is_some() {
-            return Err(RestoreError::PlaceTwice);
-        }
-        chosen[i] = points[place];
-    }
-    Ok(())
-}
-
 /// Restores the message from any k places: its k symbols, k being the length of `message`, from the first k places and
 /// the symbols there.
 ///
@@ -473,7 +457,7 @@ pub fn restore<T: RingWord, R: Reducer<T>>(
     assert!(symbols.len() == places.len(), "there must be as many symbols as places: {} and {}", symbols.len(), places.len());
     assert!(weights.len() == message.len(), "there must be k weights: {} and {}", weights.len(), message.len());
     assert!(chosen.len() == message.len(), "`chosen` must have k places: {} and {}", chosen.len(), message.len());
-    match choose(points, places, chosen) {
+    match choose_points(points, places, chosen) {
         Err(error) => Err(error),
         Ok(()) => {
             if interpolate(r, chosen, symbols, weights, message) {

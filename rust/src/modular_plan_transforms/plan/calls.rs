@@ -2,14 +2,12 @@
 //! The transforms and products of a plan.
 
 use super::Plan;
-use crate::modular_barrett::planned::Factor;
-use crate::modular_plan_passes::entry::PlanEntry;
+use crate::modular_plan_passes::factor::{Factor, PlanEntry};
 use crate::modular_plan_transforms::convolution::convolve_scaled;
 use crate::modular_plan_transforms::join::join_scaled;
 use crate::modular_plan_transforms::products::multiply_each;
-use crate::modular_plan_transforms::split::split;
+use crate::modular_plan_transforms::split::{ntt_planned, split};
 use crate::modular_plan_transforms::tables::inverse_of_power;
-use crate::modular_plan_transforms::transform::ntt_planned;
 use crate::modular_prim::plain_word::PlainWord;
 use crate::modular_transform::order::reverse_places;
 

@@ -1,5 +1,5 @@
 use Rattle.std.proofs.Common.{refl, arith}
-use Rattle.long_product.proofs.Halvings.{halved}
+use Rattle.long_product.proofs.Halvings.{half_of_power_of_two}
 use Rattle.num_modular_c.proofs.any_length.table_length.Goals as goal
 
 pub returns-clause-lengths : goal.returns-clause-lengths
@@ -10,7 +10,7 @@ returns-clause-lengths c =
     let long = c.if-n-lt-LEAST_TRANSFORMED.false in
     let few = is.least 4294967296 (32, refl) (omega (arith, c.requires)) in
     record {
-      power = (halved 1 n (0, refl) is.power.0 is.power.1 (omega (arith, enough, long))).power;
+      power = (half_of_power_of_two 1 n (0, refl) is.power.0 is.power.1 (omega (arith, enough, long))).power;
       few = omega (arith, few);
       equal = refl;
       equal_third = refl;
@@ -22,7 +22,7 @@ returns-clause-room c words table room long =
     let n = c.transform_length.result in
     let enough = is.enough in
     let all = c.if-n-lt-LEAST_TRANSFORMED.false in
-    let half = halved 1 n (0, refl) is.power.0 is.power.1 (omega (arith, enough, all)) in
+    let half = half_of_power_of_two 1 n (0, refl) is.power.0 is.power.1 (omega (arith, enough, all)) in
     let whole = half.whole in
     let old = room long in (
       old.0,

@@ -22,8 +22,26 @@ pub fn differences_before<T: RingWord, R: Reducer<T>>(r: &R, points: &[T], place
     product
 }
 
+// Multiplies each of the products from `start` to before `end` by the difference of its point from that at a place.
+#[inline]
+fn multiply_by_differences<T: RingWord, R: Reducer<T>>(
+    r: &R,
+    points: &[T],
+    place: usize,
+    start: usize,
+    end: usize,
+    products: &mut [T],
+) {
+    for i in start..end {
+        let difference = r.sub(&points[i], &points[place]);
+        products[i] = r.mul(&products[i], &difference);
+    }
+}
+
 /// Writes, for each point, the product of its differences from those before it, for as many points as there are
 /// weights.
+///
+/// Point after point, each difference is multiplied into the products of all later points, which are independent.
 ///
 /// # Preconditions
 ///
@@ -31,10 +49,48 @@ pub fn differences_before<T: RingWord, R: Reducer<T>>(r: &R, points: &[T], place
 /// - there are as many points as weights or more
 ///
 /// No build tests this: where it doesn't hold, the call panics or its result is unspecified.
-#[inline]
 pub fn fill_weights<T: RingWord, R: Reducer<T>>(r: &R, points: &[T], weights: &mut [T]) {
+    let one = r.transform(T::one());
     for i in 0..weights.len() {
-        weights[i] = differences_before(r, points, i);
+        weights[i] = one;
+    }
+    for j in 0..weights.len() {
+        multiply_by_differences(r, points, j, j + 1, weights.len(), weights);
+    }
+}
+
+/// Writes products of differences: for each of n points that of its differences from the other ones.
+///
+/// It takes n·(n - 1) products.
+///
+/// # Panics
+///
+/// Panics unless there are n products.
+///
+/// A debug build also panics unless the points are checked forms.
+///
+/// A release build doesn't test this: where it doesn't hold, the call panics or its result is unspecified.
+///
+/// # Examples
+///
+/// ```
+/// use num_modular::applications::ring_codes::erasure::fill_differences;
+/// use num_modular::{Reducer, Vanilla};
+///
+/// let ring = Vanilla::<u8>::new(&97);
+/// let mut products = [0; 3];
+/// fill_differences(&ring, &[0, 1, 3], &mut products);
+/// assert_eq!(products, [3, 95, 6]); // (0 - 1)(0 - 3), (1 - 0)(1 - 3) and (3 - 0)(3 - 1)
+/// ```
+#[track_caller]
+#[inline]
+pub fn fill_differences<T: RingWord, R: Reducer<T>>(r: &R, points: &[T], products: &mut [T]) {
+    debug_assert!(points.iter().all(|x| r.check(x)), "the points must be checked forms");
+    assert!(products.len() == points.len(), "there must be n products: {} and {}", products.len(), points.len());
+    fill_weights(r, points, products);
+    for k in 0..points.len() {
+        let j = points.len() - 1 - k;
+        multiply_by_differences(r, points, j, 0, j, products);
     }
 }
 

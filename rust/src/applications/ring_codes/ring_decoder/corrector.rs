@@ -42,12 +42,12 @@ pub struct Corrector<'a, T, R> {
 }
 
 impl<'a, T: RingWord, R: Reducer<T>> Corrector<'a, T, R> {
-    /// Fills the weights and returns the code of messages of k symbols at n points.
+    /// Fills the weights and returns the code: of messages of k symbols at n points.
     ///
     /// `None` exactly where the points don't fit.
     ///
     /// The contents of `scratch` are ignored, and unspecified afterwards. The contents of `weights` are ignored, and
-    /// unspecified after `None`. It takes 3·n² + 3·n products and one inversion.
+    /// unspecified after `None`. It takes n² + 3·n products and one inversion.
     ///
     /// # Panics
     ///
@@ -126,8 +126,8 @@ impl<'a, T: RingWord, R: Reducer<T>> Corrector<'a, T, R> {
         Corrector { ring: self.ring, points: self.points, k: self.k, weights: self.weights, checks, root: self.root }
     }
 
-    /// The same code, whose points are the powers of g from g^0 on: `correct` then finds the syndromes by one transform, in
-    /// about n·log n products.
+    /// The same code with a root: its points are the powers of g from g^0 on. `correct` then finds the syndromes by one
+    /// transform, in about n·log n products.
     ///
     /// `None` exactly where they aren't, or g doesn't suit n.
     ///
@@ -183,7 +183,6 @@ impl<'a, T: RingWord, R: Reducer<T>> Corrector<'a, T, R> {
     /// - the points are checked forms
     ///
     /// No build tests this: where it doesn't hold, the call panics or its result is unspecified.
-    #[cfg(feature = "capi")]
     #[inline]
     pub(crate) fn fill_lists(ring: &R, points: &[T], k: usize, weights: &mut [T], checks: &mut [T], scratch: &mut [T]) -> bool {
         if !fill_barycentric_weights(ring, points, scratch, weights) {
@@ -204,7 +203,6 @@ impl<'a, T: RingWord, R: Reducer<T>> Corrector<'a, T, R> {
     /// - the lists are as `fill_lists` left them: it returned true, for these points and k
     ///
     /// No build tests this: where it doesn't hold, the call panics or its result is unspecified.
-    #[cfg(feature = "capi")]
     #[inline]
     pub(crate) fn over(ring: &'a R, points: &'a [T], k: usize, weights: &'a [T], checks: &'a [T]) -> Self {
         Corrector { ring, points, k, weights, checks, root: None }
@@ -257,7 +255,7 @@ impl<'a, T: RingWord, R: Reducer<T>> Corrector<'a, T, R> {
         count_zeros(self.ring, syndromes) == syndromes.len()
     }
 
-    /// Corrects a word in place, wrong symbols and lost ones, and returns the number of wrong symbols that weren't lost.
+    /// Corrects a word in place: wrong symbols and lost ones. Returns the number of wrong symbols that weren't lost.
     ///
     /// With c lost symbols and e wrong ones besides, it corrects all if 2·e + c ≤ n - k: the word becomes the only one of the
     /// code that differs from it in so few symbols. `lost` has the places of the lost symbols; what stands there is ignored.
@@ -265,8 +263,8 @@ impl<'a, T: RingWord, R: Reducer<T>> Corrector<'a, T, R> {
     ///
     /// The modulus may be composite. `NoInverse(a)` then says that a number without an inverse was met, and a has a common
     /// factor with m; it never comes where m is a prime, or where at most one symbol is wrong that isn't lost. Of random
-    /// words of up to 8 symbols modulo composite numbers one in 50 gives it, by `correct` one in 20.
-    /// `TooManyErrors` comes only where no word is that near. `Restore(..)` says what is wrong with the lost places:
+    /// words of up to 8 symbols modulo composite numbers one in 46 gives it, and one in 50 by `correct`, which has a second
+    /// method. `TooManyErrors` comes only where no word is that near. `Restore(..)` says what is wrong with the lost places:
     /// `TooFewSymbols`, fewer than k others are left; `PlaceOutOfRange`, a place isn't below n; `PlaceTwice`, a place
     /// occurs twice; the first cause.
     ///

@@ -2,6 +2,7 @@
 //! The errors at given places, from the syndromes.
 
 use super::syndromes::expand_roots;
+use crate::applications::ring_codes::erasure::fill_differences;
 use crate::ring::invert_each;
 use crate::{Reducer, RingWord};
 
@@ -18,22 +19,6 @@ fn quotient_sum<T: RingWord, R: Reducer<T>>(r: &R, coefficients: &[T], point: &T
         sum = r.add(&sum, &term);
     }
     sum
-}
-
-// The product of the differences of a point from the other ones.
-fn differences_from_others<T: RingWord, R: Reducer<T>>(r: &R, points: &[T], place: usize) -> T {
-    let one = r.transform(T::one());
-    let mut before = one;
-    for i in 0..place {
-        let difference = r.sub(&points[place], &points[i]);
-        before = r.mul(&before, &difference);
-    }
-    let mut after = one;
-    for k in 0..points.len() - 1 - place {
-        let difference = r.sub(&points[place], &points[points.len() - 1 - k]);
-        after = r.mul(&after, &difference);
-    }
-    r.mul(&before, &after)
 }
 
 /// Writes the errors at q points, given at least q syndromes.
@@ -66,10 +51,10 @@ pub fn solve_errors<T: RingWord, R: Reducer<T>>(
     errors: &mut [T],
 ) -> bool {
     expand_roots(r, points, product);
+    fill_differences(r, points, divisors);
     for j in 0..points.len() {
         errors[j] = quotient_sum(r, product, &points[j], syndromes, points.len());
-        let differences = differences_from_others(r, points, j);
-        divisors[j] = r.mul(&differences, &weights[j]);
+        divisors[j] = r.mul(&divisors[j], &weights[j]);
     }
     if !invert_each(r, divisors, scratch) {
         return false;
