@@ -3,6 +3,4 @@ use Rattle.modular_secret.proofs.Masks.{negative_of_all}
 use Rattle.modular_secret.proofs.secret_word.U64SecretWord.negated.Goals as goal
 
 pub returns-clause-all : goal.returns-clause-all
-returns-clause-all c all =
-    let turned = negative_of_all 64 c.args.self c.args.mask (omega arith) all in
-    omega (arith, turned)
+returns-clause-all c all = omega (arith, negative_of_all 64 c.args.self c.args.mask (omega arith) all)
