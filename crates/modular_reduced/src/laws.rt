@@ -16,6 +16,7 @@ use modular_word::ring_word::RingWord;
 /// # Preconditions
 ///
 /// - a and b are checked forms
+#[tactic(auto, using(crate::proofs::RingLaws::same_form))]
 pub fn sums_commute<T: RingWord, R: Reducer<T>>(reducer: &R, a: T, b: T) -> (T, T)
     requires a { IsForm R.form R.value (R.modulus reducer.now) (T.number a) }
     requires b { IsForm R.form R.value (R.modulus reducer.now) (T.number b) }
@@ -53,6 +54,7 @@ pub fn sums_associate<T: RingWord, R: Reducer<T>>(reducer: &R, a: T, b: T, c: T)
 /// # Preconditions
 ///
 /// - a and b are checked forms
+#[tactic(auto, using(crate::proofs::RingLaws::same_form))]
 pub fn products_commute<T: RingWord, R: Reducer<T>>(reducer: &R, a: T, b: T) -> (T, T)
     requires a { IsForm R.form R.value (R.modulus reducer.now) (T.number a) }
     requires b { IsForm R.form R.value (R.modulus reducer.now) (T.number b) }

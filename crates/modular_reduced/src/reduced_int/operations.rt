@@ -37,6 +37,7 @@ pub fn sum<T: RingWord, R: Reducer<T> + Copy>(
 }
 
 /// The sum of an integer and a word.
+#[tactic(auto, using(crate::proofs::IntegerLemmas::sum_reduced))]
 // rust instead: pub fn sum_with<T, R: Reducer<T>>(x: ReducedInt<T, R>, n: T) -> ReducedInt<T, R>
 pub fn sum_with<T: RingWord, R: Reducer<T> + Copy>(x: ReducedInt<T, R>, n: T) -> ReducedInt<T, R>
     ensures { IsSum x (T.number n) result }
@@ -74,6 +75,7 @@ pub fn sum_assign<T: RingWord, R: Reducer<T> + Copy>(x: &mut ReducedInt<T, R>, y
 }
 
 /// The integer becomes the sum of it and a word.
+#[tactic(auto, using(crate::proofs::IntegerLemmas::sum_reduced))]
 // rust instead: pub fn sum_assign_with<T, R: Reducer<T>>(x: &mut ReducedInt<T, R>, n: T)
 pub fn sum_assign_with<T: RingWord, R: Reducer<T> + Copy>(x: &mut ReducedInt<T, R>, n: T)
     ensures { IsSum x.old (T.number n) x.new }
@@ -112,6 +114,7 @@ pub fn difference<T: RingWord, R: Reducer<T> + Copy>(
 }
 
 /// The difference of an integer and a word.
+#[tactic(auto, using(crate::proofs::IntegerLemmas::difference_reduced))]
 // rust instead: pub fn difference_with<T, R: Reducer<T>>(
 pub fn difference_with<T: RingWord, R: Reducer<T> + Copy>(
     x: ReducedInt<T, R>,
@@ -153,6 +156,7 @@ pub fn difference_assign<T: RingWord, R: Reducer<T> + Copy>(
 }
 
 /// The integer becomes the difference of it and a word.
+#[tactic(auto, using(crate::proofs::IntegerLemmas::difference_reduced))]
 // rust instead: pub fn difference_assign_with<T, R: Reducer<T>>(x: &mut ReducedInt<T, R>, n: T)
 pub fn difference_assign_with<T: RingWord, R: Reducer<T> + Copy>(x: &mut ReducedInt<T, R>, n: T)
     ensures { IsDifference x.old (T.number n) x.new }
@@ -191,6 +195,7 @@ pub fn product<T: RingWord, R: Reducer<T> + Copy>(
 }
 
 /// The product of an integer and a word.
+#[tactic(auto, using(crate::proofs::IntegerLemmas::product_reduced))]
 // rust instead: pub fn product_with<T, R: Reducer<T>>(
 pub fn product_with<T: RingWord, R: Reducer<T> + Copy>(
     x: ReducedInt<T, R>,
@@ -232,6 +237,7 @@ pub fn product_assign<T: RingWord, R: Reducer<T> + Copy>(
 }
 
 /// The integer becomes the product of it and a word.
+#[tactic(auto, using(crate::proofs::IntegerLemmas::product_reduced))]
 // rust instead: pub fn product_assign_with<T, R: Reducer<T>>(x: &mut ReducedInt<T, R>, n: T)
 pub fn product_assign_with<T: RingWord, R: Reducer<T> + Copy>(x: &mut ReducedInt<T, R>, n: T)
     ensures { IsProduct x.old (T.number n) x.new }
