@@ -15,6 +15,7 @@ mod correctors;
 mod decimal_digits;
 mod each_client;
 mod erasure;
+mod erasures;
 mod first_uses;
 mod generic_types;
 mod hashes;
