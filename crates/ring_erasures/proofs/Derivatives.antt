@@ -11,9 +11,9 @@ use Rattle.num_modular.specs.PolynomialLaws.{polynomial-first, polynomial-same}
 use Rattle.num_modular.specs.ProductLaws.{product-same}
 use Rattle.num_modular.specs.Products.{product_below}
 use Rattle.num_modular.specs.Residues.{residue}
-use Rattle.ring_codes.specs.KeyEquations.{shifted}
+use Rattle.ring_codes.specs.Shifts.{shifted}
 use Rattle.ring_codes.proofs.Congruences.{mod_of_combination, mod_times}
-use Rattle.ring_codes.proofs.KeyPairs.{shifted-values}
+use Rattle.ring_codes.proofs.Shifts.{shifted-values}
 use Rattle.ring_codes.proofs.NearestWords.{combined, difference_alike, at_root}
 use Rattle.ring_codes.proofs.NewtonForms.{no_difference, product-none}
 use Rattle.ring_erasures.specs.Erasures.{locator_at, root_weight}

@@ -12,9 +12,9 @@ use Rattle.num_modular.specs.PolynomialLaws.{polynomial-none, polynomial-first, 
 use Rattle.num_modular.specs.ProductLaws.{product-zero, product-more, has_product}
 use Rattle.num_modular.specs.Products.{product_below}
 use Rattle.num_modular.specs.Residues.{residue}
-use Rattle.ring_codes.specs.KeyEquations.{shifted}
+use Rattle.ring_codes.specs.Shifts.{shifted}
 use Rattle.ring_codes.proofs.Congruences.{mod_of_combination, mod_times, mod_of_difference, mod_of_inverse}
-use Rattle.ring_codes.proofs.KeyPairs.{shifted_next, shifted-values}
+use Rattle.ring_codes.proofs.Shifts.{shifted_next, shifted-values}
 use Rattle.ring_codes.proofs.NearestWords.{combined, no_value}
 use Rattle.ring_erasures.specs.Erasures.{IsKept, AreErased, locator_at, IsLocator, root_weight}
 

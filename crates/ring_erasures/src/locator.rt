@@ -4,7 +4,7 @@ ghost use Rattle.std.specs.Prelude.{◌≡◌, ℕ, ◌+◌, ◌*◌, ◌%◌, �
 ghost use Rattle.num_modular.specs.Congruence.{Congruent};
 ghost use Rattle.num_modular.specs.Entries.{entry};
 ghost use Rattle.num_modular.specs.Forms.{IsForm};
-ghost use Rattle.ring_codes.specs.KeyEquations.{shifted};
+ghost use Rattle.ring_codes.specs.Shifts.{shifted};
 ghost use Rattle.ring_erasures.specs.Erasures.{IsLocator};
 
 use num_modular::{Reducer, RingWord};

@@ -1,6 +1,6 @@
 use Rattle.num_modular.specs.Callers.{◌+◌, ◌*◌, All, IsForm, entry, DoneBelow, IsCheckedFormOf}
 use Rattle.num_modular.specs.Congruence.{Congruent}
-use Rattle.ring_codes.specs.KeyEquations.{shifted}
+use Rattle.ring_codes.specs.Shifts.{shifted}
 use Rattle.ring_erasures.proofs.locator.multiply_by_root.Given as goal
 
 -- the coefficients so far are replaced, and the one before is kept
