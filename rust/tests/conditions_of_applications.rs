@@ -12,7 +12,7 @@ use num_modular::applications::residue_numbers::{combine, from_remainders};
 use num_modular::applications::ring_codes::erasure::{
     correct, encode, encode_systematic, evaluate, evaluate_each, fill_barycentric_weights, fill_differences, fill_powers,
     interpolate, is_codeword, is_codeword_by_transform, points_fit, recover, recover_correct, restore, restore_word, share,
-    CorrectError, Corrector, RestoreError,
+    CorrectError, Corrector, ErasurePattern, RestoreError,
 };
 use num_modular::hashes;
 use num_modular::plans::PlannedModulus;
@@ -74,6 +74,15 @@ fn words_of_codes() {
         code.is_codeword(&[12, 19, 26, 97], &mut [0; 6]));
     panic_with!("the word must have n symbols: 3 and 4"; code.is_codeword(&[12, 19, 26], &mut [0; 6]));
     panic_with!("there must be at least n + (n - k) places of scratch: 5 and 6"; code.is_codeword(&[12, 19, 26, 33], &mut [0; 5]));
+    let mut factors = [0; 4];
+    panic_with!("k must be at least 1"; ErasurePattern::new(&ring(), &22, 0, &[], &mut [0; 4], &mut [0; 12]).is_ok());
+    panic_with!("there must be at least 3·n places of scratch: 11 and 12";
+        ErasurePattern::new(&ring(), &22, 2, &[], &mut [0; 4], &mut [0; 11]).is_ok());
+    panic_in_debug_with!("g must be a checked form"; ErasurePattern::new(&ring(), &97, 2, &[], &mut [0; 4], &mut [0; 12]).is_ok());
+    let pattern = ErasurePattern::new(&of_97, &22, 2, &[1], &mut factors, &mut [0; 12]).unwrap();
+    panic_with!("the word must have n symbols: 3 and 4"; pattern.restore(&mut [0; 3], &mut [0; 12]));
+    panic_with!("there must be at least 3·n places of scratch: 11 and 12"; pattern.restore(&mut [0; 4], &mut [0; 11]));
+    panic_in_debug_with!("the symbols must be checked forms"; pattern.restore(&mut [97; 4], &mut [0; 12]));
     let of_3 = Vanilla::<u64>::new(&3);
     panic_with!("k must be at most n: 3 and 2"; is_codeword_by_transform(&of_3, &2, &[1, 1], &mut [0; 2], &mut [0; 3]));
     panic_with!("there must be n places of scratch: 1 and 2"; is_codeword_by_transform(&of_3, &2, &[1, 1], &mut [0; 1], &mut [0; 1]));

@@ -64,6 +64,7 @@ use values::evaluate_side_by_side;
 pub use words::{fill_word, restore_word};
 // rust: pub use super::ring_correction::{correct, recover_correct};
 // rust: pub use super::ring_decoder::corrector::Corrector;
+// rust: pub use super::ring_erasures::pattern::ErasurePattern;
 // rust: pub use crate::layers::codes::{Code, Corrected};
 
 /// How many points `encode` takes side by side.

@@ -7,3 +7,4 @@
 pub mod erasure;
 // rust: pub mod ring_correction;
 // rust: pub mod ring_decoder;
+// rust: pub mod ring_erasures;
