@@ -11,7 +11,7 @@ use std::alloc::AllocError;
 
 /// A factor modulo m: a number w below m, and its quotient w·B/m, rounded down, with B the base.
 ///
-/// [`PlannedModulus::factor`] makes one for its modulus. Another modulus needs a factor of its own. The type doesn't
+/// `PlannedModulus::factor` makes one for its modulus. Another modulus needs a factor of its own. The type doesn't
 /// guarantee that the two numbers and a modulus belong together; calls that multiply by the factor require it.
 ///
 /// Source: Harvey, "Faster arithmetic for number-theoretic transforms", section 3, after Shoup.

@@ -6,3 +6,4 @@
 pub mod erasure;
 pub mod ring_correction;
 pub mod ring_decoder;
+pub mod ring_erasures;

@@ -40,6 +40,7 @@ mod words;
 
 pub use super::ring_correction::{correct, recover_correct};
 pub use super::ring_decoder::corrector::Corrector;
+pub use super::ring_erasures::pattern::ErasurePattern;
 pub use crate::layers::codes::{Code, Corrected};
 use crate::ring::invert_each;
 use crate::{Reducer, RingWord};

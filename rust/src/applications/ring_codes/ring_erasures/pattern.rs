@@ -110,8 +110,8 @@ impl<'a, T: RingWord, R: Reducer<T>> ErasurePattern<'a, T, R> {
     ///
     /// With the last n - k places lost it is a systematic encoder: the k symbols of the message are the first of the word.
     ///
-    /// The contents of `scratch` are ignored, and unspecified afterwards. It takes two transforms, about 3·n products more and
-    /// one inversion.
+    /// The contents of `scratch` are ignored, and unspecified afterwards. It takes two transforms, at most 4·n products more
+    /// and one inversion.
     ///
     /// Source: Didier, "Efficient erasure decoding of Reed-Solomon codes"; Soro and Lacan, "FNT-based Reed-Solomon erasure
     /// codes".
