@@ -3,7 +3,6 @@
 ghost use Rattle.std.specs.Prelude.{◌≡◌, ℕ, ◌+◌, ◌*◌, ◌%◌, ◌<◌, ◌≤◌, pos, ◌-ℤ◌, neg_ℤ};
 ghost use Rattle.modular_word.specs.Residues.{residue};
 
-// rust: use crate::additions::choose;
 use modular_word::path_word::PathWord;
 
 /// The residue of a word below 2m: the smaller of x and x - m modulo the base, which compilers select without a
@@ -55,11 +54,12 @@ pub fn sub_below<T: PathWord>(a: T, b: T, m: T) -> T
     ensures value { T.number result ≡ residue (T.number m) (pos (T.number a) -ℤ pos (T.number b)) }
     ensures below { T.number result < T.number m }
 {
+    // This test, which depends on m alone, makes LLVM load m before it compares a and b. Otherwise it branches on a and b
+    // around the load.
+    // rust: assert!(!m.is_zero_word(), "m must be at least 1");
     // Reading the word gives the proof that it fits its width.
     let _ = m.is_below(a);
     let less = a.wrapping_sub(b);
-    // rust: choose(a.is_below(b), less.wrapping_add(m), less)
-    // rattle: item
     if a.is_below(b) {
         less.wrapping_add(m)
     } else {
@@ -143,6 +143,7 @@ pub fn neg_below<T: PathWord>(a: T, m: T) -> T
     ensures value { T.number result ≡ residue (T.number m) (neg_ℤ (pos (T.number a))) }
     ensures below { T.number result < T.number m }
 {
-    // rust instead: choose(a.is_zero_word(), a, m.minus(a))
+    // As in `sub_below`.
+    // rust: assert!(!m.is_zero_word(), "m must be at least 1");
     if a.is_zero_word() { a } else { m.minus(a) }
 }
