@@ -71,9 +71,7 @@ fn words_restored() {
 #[test]
 fn errors() {
     let ring = Vanilla::<u64>::new(&97);
-    let error = |root: u64, k, lost: &[usize]| {
-        ErasurePattern::new(&ring, &root, k, lost, &mut [0; 4], &mut [0; 12]).err()
-    };
+    let error = |root: u64, k, lost: &[usize]| ErasurePattern::new(&ring, &root, k, lost, &mut [0; 4], &mut [0; 12]).err();
     assert_eq!(error(22, 2, &[0, 1, 2]), Some(RestoreError::TooFewSymbols));
     assert_eq!(error(22, 5, &[]), Some(RestoreError::TooFewSymbols));
     assert_eq!(error(22, 2, &[4, 4]), Some(RestoreError::PlaceOutOfRange));
