@@ -26,7 +26,8 @@ BEGIN, END = "<!-- written by bench/speed.py page -->", "<!-- end of what bench/
 PARTS = ("crate", "peers", "plans", "crossings", "calls", "random", "secrets", "widths")
 ABOVE = 1.05
 KINDS = (("words", r"u\d+ modulo .*"), ("Vanilla", r"Vanilla.*"), ("PreMulInv2by1", r"PreMul.*"), ("Montgomery", r"Montgomery.*"),
-         ("Mersenne", r"FixedMersenne.*"), ("Solinas", r"FixedTrinomial.*"), ("Proth", r"FixedProth.*"), ("fixed Montgomery", r"FixedMont.*"))
+         ("OddMontgomery", r"OddMontgomery.*"), ("Mersenne", r"FixedMersenne.*"), ("Solinas", r"FixedTrinomial.*"), ("Proth", r"FixedProth.*"),
+         ("fixed Montgomery", r"FixedMont.*"))
 
 
 def mean(ratios):
