@@ -3,6 +3,7 @@
 ghost use Rattle.std.specs.Prelude.{◌≡◌, ℕ, ◌+◌, ◌*◌, ◌%◌, ◌<◌, ◌≤◌, pos, ◌-ℤ◌, neg_ℤ};
 ghost use Rattle.modular_word.specs.Residues.{residue};
 
+// rust: use crate::additions::choose;
 use modular_word::path_word::PathWord;
 
 /// The residue of a word below 2m: the smaller of x and x - m modulo the base, which compilers select without a
@@ -60,6 +61,8 @@ pub fn sub_below<T: PathWord>(a: T, b: T, m: T) -> T
     // Reading the word gives the proof that it fits its width.
     let _ = m.is_below(a);
     let less = a.wrapping_sub(b);
+    // rust: choose(a.is_below(b), less.wrapping_add(m), less)
+    // rattle: item
     if a.is_below(b) {
         less.wrapping_add(m)
     } else {
