@@ -6,6 +6,7 @@ pub mod EncodedParts
 pub mod Lagrange
 pub mod NearestWords
 pub mod NewtonForms
+pub mod NewtonParts
 pub mod RootPowers
 pub mod RootWords
 pub mod Secrecy

@@ -8,7 +8,7 @@ use Rattle.std.proofs.lemmas.Int.{ints}
 use Rattle.std.proofs.lemmas.Nat.{mul-mod_first, mul-mod_second}
 use Rattle.num_modular.specs.Congruence.{Congruent}
 use Rattle.num_modular.specs.Inverses.{IsInverse, HasInverse, IsInversion}
-use Rattle.num_modular.specs.NumberLaws.{mod_of_eq, mod_refl, residue_of, mod_sym, mod_trans, mod_add, mod_mul}
+use Rattle.num_modular.specs.NumberLaws.{mod_of_eq, mod_sym, mod_trans, mod_add, mod_mul}
 use Rattle.num_modular.specs.Polynomials.{polynomial_at, HaveUnitDifferences}
 use Rattle.num_modular.specs.PolynomialLaws.{polynomial-none, polynomial-first, polynomial-same}
 use Rattle.num_modular.specs.ProductLaws.{has_each, has_product}
@@ -44,7 +44,7 @@ form-same m (suc n) c d x y a same points =
     cc (form-first m n c x a, form-first m n d y a)
 
 -- a product over a range, the first factor taken out
-product-first : (n : ℕ) (f : ℕ → ℕ) → product_below (suc n) f ≡ f 0 * product_below n (λ i. f (suc i))
+pub product-first : (n : ℕ) (f : ℕ → ℕ) → product_below (suc n) f ≡ f 0 * product_below n (λ i. f (suc i))
 unfolding product_below
 product-first zero f = omega arith
 product-first (suc n) f =
@@ -199,33 +199,6 @@ value_none m a value c is = is ∙ ap (λ v. v % m) (sym (polynomial-none c a))
 
 pub value_all : (n a : ℕ) (c : ℕ → ℕ) → polynomial_at n (λ i. c (n - n + i)) a ≡ polynomial_at n c a
 value_all n a c = polynomial-same n (λ i. c (n - n + i)) c a (λ i l. ap c (let e : n - n + i ≡ i = omega arith in e))
-
--- .. of Newton's form
-pub form_before : (m n k : ℕ) (c x : ℕ → ℕ) (a value difference product sum : ℕ) → k < n
-    → value ≡ newton_form m k (λ i. c (n - k + i)) (λ i. x (n - k + i)) a % m
-    → difference ≡ residue m (pos a -ℤ pos (x (n - 1 - k))) → product ≡ (difference * value) % m
-    → sum ≡ (c (n - 1 - k) + product) % m
-    → sum ≡ newton_form m (k + 1) (λ i. c (n - (k + 1) + i)) (λ i. x (n - (k + 1) + i)) a % m
-form_before m n k c x a value d product sum l is_value is_difference is_product is =
-    let v : ℕ = newton_form m k (λ i. c (n - k + i)) (λ i. x (n - k + i)) a in
-    let at_zero : n - (k + 1) + 0 ≡ n - 1 - k = omega arith in
-    let shift : (i : ℕ) → n - (k + 1) + suc i ≡ n - k + i = λ i. omega arith in
-    let e = form-first m k (λ i. c (n - (k + 1) + i)) (λ i. x (n - (k + 1) + i)) a in
-    let f = form-same m k (λ i. c (n - (k + 1) + suc i)) (λ i. c (n - k + i)) (λ i. x (n - (k + 1) + suc i))
-    (λ i. x (n - k + i)) a (λ i b. ap c (shift i)) (λ i b. ap x (shift i)) in
-    let whole : newton_form m (suc k) (λ i. c (n - (k + 1) + i)) (λ i. x (n - (k + 1) + i)) a ≡ c (n - 1 - k) + d * v =
-    e ∙ ap (λ w. c w + minus m a (x w) * newton_form m k (λ i. c (n - (k + 1) + suc i)) (λ i. x (n - (k + 1) + suc i)) a)
-    at_zero ∙ ap (λ w. c (n - 1 - k) + minus m a (x (n - 1 - k)) * w) f
-    ∙ ap (λ w. c (n - 1 - k) + w * v) (sym is_difference) in
-    let product_is : Congruent m product (d * v) =
-    mod_trans (mod_of_eq is_product) (mod_trans (residue_of (d * value))
-    (mod_mul (mod_refl d) (mod_trans (mod_of_eq is_value) (residue_of v)))) in
-    is ∙ (mod_add (mod_refl (c (n - 1 - k))) product_is).same ∙ ap (λ w. w % m) (sym whole)
-    ∙ ap (λ j. newton_form m j (λ i. c (n - (k + 1) + i)) (λ i. x (n - (k + 1) + i)) a % m)
-    (let t : suc k ≡ k + 1 = omega arith in t)
-
-pub form_nothing : (m a value : ℕ) (c x : ℕ → ℕ) → value ≡ 0 % m → value ≡ newton_form m 0 c x a % m
-form_nothing m a value c x is = is ∙ ap (λ v. v % m) (sym (form-none m c x a))
 
 pub form_all : (m n a : ℕ) (c x : ℕ → ℕ)
     → newton_form m n (λ i. c (n - n + i)) (λ i. x (n - n + i)) a ≡ newton_form m n c x a

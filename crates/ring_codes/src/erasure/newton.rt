@@ -129,13 +129,31 @@ pub fn fill_differences<T: RingWord, R: Reducer<T>>(r: &R, points: &[T], product
     }
 }
 
+// A step towards the value of Newton's form: a coefficient, plus the value so far times the difference from its point.
+#[tactic(auto, using(num_modular::specs::Callers::form_read))]
+fn newton_step<T: RingWord, R: Reducer<T>>(r: &R, coefficient: &T, difference: &T, value: &T) -> T
+    requires coefficient { IsForm R.form R.value (R.modulus r.now) (T.number coefficient.now) }
+    requires difference { IsForm R.form R.value (R.modulus r.now) (T.number difference.now) }
+    requires value { IsForm R.form R.value (R.modulus r.now) (T.number value.now) }
+    ensures checked { IsForm R.form R.value (R.modulus r.now) (T.number result) }
+    ensures value { let m = R.modulus r.now in R.value m (T.number result)
+        ≡ (R.value m (T.number coefficient.now)
+        + R.value m (T.number difference.now) * R.value m (T.number value.now)) % m }
+{
+    let product = r.mul(difference, value);
+    r.add(coefficient, &product)
+}
+
 /// The value at a point of Newton's form with the first `count` coefficients.
+///
+/// The two halves of the coefficients go side by side, with the product of the differences from the points of the lower
+/// half. It takes about 3/2 products for each coefficient.
 ///
 /// # Preconditions
 ///
 /// - points, form and point are checked forms
 /// - there are at least `count` points and coefficients
-#[tactic(auto, using(crate::proofs::NewtonForms::form_nothing, num_modular::specs::Callers::form_read))]
+#[tactic(auto, using(num_modular::specs::Callers::form_read))]
 pub fn newton_value<T: RingWord, R: Reducer<T>>(
     r: &R,
     points: &[T],
@@ -153,14 +171,19 @@ pub fn newton_value<T: RingWord, R: Reducer<T>>(
         ≡ newton_form m count (entry T.number R.value m form.now) (entry T.number R.value m points.now)
         (R.value m (T.number point.now)) % m }
 {
-    let mut value = r.transform(T::zero());
-    'coefficients: for k in 0..count {
-        let i = count - 1 - k;
+    let half = count / 2;
+    let mut low = r.transform(T::zero());
+    let mut product = r.transform(T::one());
+    let mut high = if count % 2 == 1 { form[count - 1] } else { low };
+    'coefficients: for k in 0..half {
+        let (i, j) = (half - 1 - k, 2 * half - 1 - k);
         let difference = r.sub(point, &points[i]);
-        let product = r.mul(&difference, &value);
-        value = r.add(&form[i], &product);
+        low = newton_step(r, &form[i], &difference, &low);
+        product = r.mul(&product, &difference);
+        let difference = r.sub(point, &points[j]);
+        high = newton_step(r, &form[j], &difference, &high);
     }
-    value
+    newton_step(r, &low, &product, &high)
 }
 
 /// Replaces the values at the points by the coefficients of Newton's form, by divided differences: the difference

@@ -1,12 +1,17 @@
-use Rattle.num_modular.specs.Callers.{◌+◌, ◌-◌, ◌%◌, IsCheckedFormOf, entry}
-use Rattle.ring_codes.specs.Newton.{newton_form}
+use Rattle.num_modular.specs.Callers.{◌+◌, ◌-◌, ◌*◌, IsForm, entry}
+use Rattle.num_modular.specs.Congruence.{Congruent}
+use Rattle.ring_codes.proofs.NewtonParts.{form_part, product_part}
 use Rattle.ring_codes.proofs.erasure.newton.newton_value.Given as goal
 
--- the form with the last k coefficients
+-- the values of the last k coefficients of each half, and the product of the differences from the points of the lower
 abbrev pub invariant-coefficients : goal.invariant-coefficients
 invariant-coefficients g l =
     let ring = g.R.Reducer in let m = ring.modulus l.fn.r in let number = g.T.RingWord.number in
-    let from = l.fn.count - l.k in
-    IsCheckedFormOf ring.form ring.value m (number l.value)
-    (newton_form m l.k (λ i. entry number ring.value m l.fn.form (from + i))
-    (λ i. entry number ring.value m l.fn.points (from + i)) (ring.value m (number l.fn.point)) % m)
+    let e = entry number ring.value m l.fn.form in let x = entry number ring.value m l.fn.points in
+    let a = ring.value m (number l.fn.point) in
+    IsForm ring.form ring.value m (number l.low)
+    × Congruent m (ring.value m (number l.low)) (form_part m e x a (l.half - l.k) l.k)
+    × IsForm ring.form ring.value m (number l.product)
+    × Congruent m (ring.value m (number l.product)) (product_part m x a (l.half - l.k) l.k)
+    × IsForm ring.form ring.value m (number l.high)
+    × Congruent m (ring.value m (number l.high)) (form_part m e x a (2 * l.half - l.k) (l.k + (l.fn.count - 2 * l.half)))
