@@ -116,25 +116,20 @@ pub reversed_step : (b p n o s : ℕ) → n ≡ 2 ^ b → n < 2 ^ 64 → 0 < p �
 reversed_step zero p n o s whole fits some l is_o is_s = let z : 2 ^ 0 ≡ 1 = refl in absurd (omega (arith, z))
 reversed_step (suc c) p n o s whole fits some l is_o is_s =
     let t : ℕ = count_trailing_zeros 64 p in
-    let k = next_reversed 64 (suc c) p some (omega arith) (omega arith) in
-    let few = k.few in
-    let next = k.next in
-    let u = two-pow-succ c in
+    let k = next_reversed 64 (suc c) _ some (omega arith) (omega arith) in
     let less = pow-le-pow_right {n = 2} (omega arith) {i = suc c - 1 - t} {j = c} (omega arith) in
-    let q : 2 ^ 64 ≡ 18446744073709551616 = refl in
     let one : 1 * 2 ^ (suc c - 1 - t) ≡ 2 ^ (suc c - 1 - t) = omega arith in
-    let small : 2 ^ (suc c - 1 - t) < 18446744073709551616 = omega (arith, less, u, q) in
-    let step : s ≡ 2 ^ (suc c - 1 - t) = is_s ∙ ap (λ v. v % 18446744073709551616) one ∙ mod-eq_of_lt small in
+    let small : 2 ^ (suc c - 1 - t) < 18446744073709551616 = omega (arith, less) in
     let below = bits_reversed_below (suc c) (p - 1) in
-    let exponent : suc c ≤ 63 = exponent_below_64 (suc c) (omega arith) in
+    let exponent : suc c ≤ 63 = exponent_below_64 _ (omega arith) in
     let most = pow-le-pow_right {n = 2} (omega arith) {i = suc c} {j = 63} exponent in
     record {
       zeros = omega arith;
-      twice = omega (arith, less, u, step);
+      twice = omega (arith, less);
       small = omega (arith, most);
       below = omega (arith, below);
-      enough = omega (arith, next, step, less, u);
-      next = omega (arith, next, step, less, u);
+      enough = omega (arith, less);
+      next = omega (arith, less);
     }
 
 -- the same of 2^b places in a word, the number of the places being a shifted one

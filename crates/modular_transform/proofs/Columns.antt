@@ -1,8 +1,7 @@
 -- The powers of the columns of two stages.
-use Rattle.std.proofs.Common.{◌≡◌, ℕ, ◌+◌, ◌*◌, ◌%◌, ◌^◌, ◌<◌, List, length, get_or, sym, ◌∙◌, ap, arith}
+use Rattle.std.proofs.Common.{ℕ, ◌+◌, ◌*◌, ◌%◌, ◌^◌, ◌<◌, List, length, get_or, sym, ◌∙◌, ap, arith}
 use Rattle.std.proofs.Common.{inl, inr, subst, get_or-set_same, get_or-set_other}
 use Rattle.std.proofs.Math.ListN.{set}
-use Rattle.std.proofs.Math.Nat.{add_assoc}
 use Rattle.std.proofs.lemmas.Bool.{cases_eq}
 use Rattle.modular_word.specs.Congruence.{Congruent}
 use Rattle.modular_reduced.specs.Forms.{Represents, IsCanonical}
@@ -23,19 +22,15 @@ pub column_more : {form value : ℕ → ℕ → ℕ} {width m w v h p q s p' q' 
     → Represents form m p' ((value m p * w) % m) → Represents form m q' ((value m q * w) % m)
     → Represents form m s' ((value m s * v) % m) → IsColumn form value m w v h (start + (i + 1)) p' q' s'
 column_more {form} {value} {m = m} {w} {v} {h} {p' = p'} {q' = q'} {s' = s'} start i canonical is first second both =
-    let next = add_assoc start i 1 in
-    let past : h + (start + i) + 1 ≡ h + (start + (i + 1)) = omega arith in
-    record {
-      powers = record {
-        first = form_of_value canonical first;
-        second = form_of_value canonical second;
-        both = form_of_value canonical both;
-      };
-      first = subst (λ e. Congruent m (value m p') (w ^ e)) next (power_more w (start + i) canonical is.first first);
-      second = subst (λ e. Congruent m (value m q') (w ^ e)) past
-          (power_more w (h + (start + i)) canonical is.second second);
-      both = subst (λ e. Congruent m (value m s') (v ^ e)) next (power_more v (start + i) canonical is.both both);
-    }
+    grind (
+      arith,
+      form_of_value canonical first,
+      form_of_value canonical second,
+      form_of_value canonical both,
+      power_more w (start + i) canonical is.first first,
+      power_more w (h + (start + i)) canonical is.second second,
+      power_more v (start + i) canonical is.both both,
+    )
 
 -- one column more of a strip has its powers, which three lists hold
 pub filled_more : {T : Type 0} (P : ℕ → T → T → T → Type 0) (firsts seconds boths : List T) (i : ℕ) (x y z : T)
@@ -45,13 +40,12 @@ pub filled_more : {T : Type 0} (P : ℕ → T → T → T → Type 0) (firsts se
     → P k (get_or (set firsts i x) k d) (get_or (set seconds i y) k e) (get_or (set boths i z) k f)
 filled_more P firsts seconds boths i x y z lx ly lz before is k d e f l = elim (cases_eq k i) [
   | inl s ↦
-      let at = λ (c : List _) (u v : _) (w : i < length c). ap (λ j. get_or (set c i u) j v) s ∙ get_or-set_same c i u v w in
-      subst (λ q. P k (get_or (set firsts i x) k d) (get_or (set seconds i y) k e) q) (sym (at boths z f lz))
-      (subst (λ q. P k (get_or (set firsts i x) k d) q z) (sym (at seconds y e ly))
-      (subst (λ q. P k q y z) (sym (at firsts x d lx)) (subst (λ j. P j x y z) (sym s) is)))
+      let at = λ (c : List _) (u v : _) (w : i < length c). ap (λ j. get_or (set c i u) j v) s
+      ∙ get_or-set_same c i u v w in
+      grind (arith, at boths z f lz, at seconds y e ly, at firsts x d lx)
   | inr n ↦
-      subst (λ q. P k (get_or (set firsts i x) k d) (get_or (set seconds i y) k e) q) (sym (get_or-set_other boths i k z f n))
-      (subst (λ q. P k (get_or (set firsts i x) k d) q (get_or boths k f)) (sym (get_or-set_other seconds i k y e n))
-      (subst (λ q. P k q (get_or seconds k e) (get_or boths k f)) (sym (get_or-set_other firsts i k x d n))
-      (before k d e f (omega arith))))
+      subst (λ q. P k (get_or (set firsts i x) k d) (get_or (set seconds i y) k e) q)
+      (sym (get_or-set_other boths i k z f n)) (subst (λ q. P k (get_or (set firsts i x) k d) q (get_or boths k f))
+      (sym (get_or-set_other seconds i k y e n)) (subst (λ q. P k q (get_or seconds k e) (get_or boths k f))
+      (sym (get_or-set_other firsts i k x d n)) (before k d e f (omega arith))))
 ]

@@ -33,18 +33,13 @@ mirrored_place n e l = elim (cases_eq e 0) [
       let k : mirrored n e ≡ 0 = ap (mirrored n) z ∙ mirrored_first n in
       record { place = l; image = omega (arith, k); sum = inl (omega (arith, k)) }
   | inr s ↦
-      let some : 0 < e = omega arith in
-      let k = mirrored_other n e some l in
-      record { place = l; image = omega (arith, k); sum = inr (omega (arith, k)) }
+      grind (arith, mirrored_other n e (omega arith) l)
 ]
 
 -- what is n times v, times 1/n
 pub by_part : {m n part u : ℕ} (v : ℕ) → IsInverse m n part → Congruent m u (n * v) → Congruent m (u * part) v
 by_part {m} {n} {part} v inverse is =
-    let turn : n * v * part ≡ n * part * v = omega arith in
-    let one : 1 * v ≡ v = omega arith in
-    mod_trans (mod_mul is (mod_refl part))
-    (mod_trans (mod_of_eq turn) (mod_trans (mod_mul (record { same = inverse.one }) (mod_refl v)) (mod_of_eq one)))
+    grind (arith, mod_mul is (mod_refl part), mod_mul (record { same = inverse.one }) (mod_refl v))
 
 -- entry e of the cyclic product, from the transform of the product
 -- of the transforms, mirrored and multiplied by the inverse of n
@@ -53,13 +48,11 @@ pub convolved_entry : {m : ℕ} (g n e part : ℕ) (x y c : ℕ → ℕ) → 0 <
     → (transform m g n c (mirrored n e) * part) % m ≡ cyclic_product m n x y e
 convolved_entry {m} g n e part x y c positive suits l inverse is =
     let whole : Congruent m (transform m g n c (mirrored n e)) (n * cyclic_product m n x y e) =
-    mod_trans (residue_of _)
-    (mod_trans (transform_of_products g n e (mirrored n e) x y c (half_turn suits) (mirrored_place n e l)
+    mod_trans (residue_of _) (mod_trans (transform_of_products _ _ _ _ _ _ _ (half_turn suits) (mirrored_place n e l)
     (λ j k. mod_trans (mod_of_eq (is j k)) (mod_trans (residue_of _) (mod_mul (residue_of _) (residue_of _)))))
-    (mod_mul (mod_refl n) (mod_sym (residue_of _)))) in
-    let p = cyclic_product m n x y e in
-    let small : p < m = mod_below _ m positive in
-    (by_part p inverse whole).same ∙ mod-eq_of_lt small
+    (mod_mul (mod_refl _) (mod_sym (residue_of _)))) in
+    let small : (cyclic_product m n x y e) < m = mod_below _ _ positive in
+    (by_part (cyclic_product m n x y e) inverse whole).same ∙ mod-eq_of_lt small
 
 -- a doubling of 1 more
 pub doubled_more : {m : ℕ} (v w t : ℕ) → Congruent m v (2 ^ t) → w ≡ (2 * v) % m → Congruent m w (2 ^ (t + 1))
@@ -93,23 +86,21 @@ pub convolution_end : {T : Type 0} (number : T → ℕ) (form value : ℕ → �
     (λ i. (transform m g (length xs2) (entry number value m xs2) (mirrored (length xs2) i) * part) % m)
     → HoldValues number form m xs3 (cyclic_product m n (entry number value m xs) (entry number value m ys))
 convolution_end number form value width m g n part xs ys xs1 ys1 xs2 xs3 canonical suits inverse l l_ys l1 l_ys1
-    l2 l3 is1 is_ys1 is2 is3 = record {
+    l2 l3 is1 is_ys1 is2 is3 =
+    record {
       each = λ i d in_range.
           let x = entry number value m xs in
           let y = entry number value m ys in
           let c = entry number value m xs2 in
           let li : i < n = omega arith in
           let product : (j : ℕ) → j < n → c j ≡ (transform m g n x j * transform m g n y j) % m = λ j h.
-          let x1 = held_values number xs1 (transform m g (length xs) x) j canonical is1 (omega arith)
-          ∙ ap (λ v. transform m g v x j) l in
-          let y1 = held_values number ys1
-          (transform m g (length ys) y) j canonical is_ys1 (omega arith)
-          ∙ ap (λ v. transform m g v y j) l_ys in
-          held_values number xs2
-          (λ i. (entry number value m xs1 i * entry number value m ys1 i) % m) j canonical is2 (omega arith)
-          ∙ ap (λ v. (v * entry number value m ys1 j) % m) x1 ∙ ap (λ v. (transform m g n x j * v) % m) y1 in
+          let x1 =
+          held_values _ _ _ j canonical is1 (omega arith) ∙ ap (λ v. transform m g v x j) l in
+          let y1 = held_values _ _ _ j canonical is_ys1 (omega arith) ∙ ap (λ v. transform m g v y j) l_ys in
+          held_values _ _ _ j canonical is2 (omega arith) ∙ ap (λ v. (v * entry number value m ys1 j) % m) x1
+          ∙ ap (λ v. (transform m g n x j * v) % m) y1 in
           let whole = ap (λ v. (transform m g v c (mirrored v i) * part) % m) l2
-          ∙ convolved_entry g n i part x y c canonical.positive suits li inverse product in
+          ∙ convolved_entry _ _ _ _ _ _ _ canonical.positive suits li inverse product in
           subst (λ v. Represents form m (number (get_or xs3 i d)) v) whole (is3.each i d in_range);
     }
 

@@ -66,16 +66,7 @@ pub record Mirrored (n e k : ℕ) : Type 0 where
 -- where a + b is e or e + n, a + b + k is 0, or n or twice n beyond one value
 sum_is_full_turns : (n e k a b : ℕ) → Mirrored n e k → a < n → b < n → (a + b ≡ e) ⊎ (a + b ≡ e + n)
     → (a + b + k ≡ 0) ⊎ ((1 < n) × ((a + b + k ≡ n * 1) ⊎ (a + b + k ≡ n * 2)))
-sum_is_full_turns n e k a b mirror la lb at =
-    let le = mirror.place in
-    let lk = mirror.image in
-    elim at [
-      | inl is ↦ elim mirror.sum [ inl none ↦ inl (omega arith) | inr whole ↦ inr (omega arith, inl (omega arith)) ]
-      | inr is ↦ elim mirror.sum [
-        | inl none ↦ inr (omega arith, inl (omega arith))
-        | inr whole ↦ inr (omega arith, inr (omega arith))
-      ]
-    ]
+sum_is_full_turns n e k a b mirror la lb at = search arith
 
 -- there the powers of g ^ (a + b + k) add up to n ..
 geometric_of_full_turns : {m : ℕ} (g n e k a b : ℕ) → HalfTurn m g n → Mirrored n e k → a < n → b < n → (a + b ≡ e) ⊎ (a + b ≡ e + n)
@@ -125,10 +116,9 @@ geometric_by_test {m} g n e k a b c turn mirror la lb =
 summand_by_power : (g k a b j x y : ℕ) → (x * g ^ (a * j)) * (y * g ^ (b * j)) * g ^ (j * k) ≡ x * y * (g ^ (a + b + k)) ^ j
 summand_by_power g k a b j x y =
     let e : (a + b + k) * j ≡ a * j + b * j + j * k = omega arith in
-    let p = sym (pow-mul g (a + b + k) j) ∙ ap (λ n. g ^ n) e ∙ pow-add g (a * j + b * j) (j * k)
+    let p = sym (pow-mul _ _ _) ∙ ap (λ n. g ^ n) e ∙ pow-add g (a * j + b * j) (j * k)
     ∙ ap (λ v. v * g ^ (j * k)) (pow-add g (a * j) (b * j)) in
-    let q = ap (λ v. x * y * v) p in
-    omega (arith, q)
+    omega (arith, ap (λ v. x * y * v) p)
 
 -- a factor of every summand of a double sum
 pub scaled : (n k c : ℕ) (f : ℕ → ℕ → ℕ)
@@ -144,14 +134,14 @@ product_of_transforms_expanded : (g n k j : ℕ) (x y : ℕ → ℕ)
 product_of_transforms_expanded g n k j x y =
     let s = g ^ (j * k) in
     let f = λ (a b : ℕ). (x a * g ^ (a * j)) * (y b * g ^ (b * j)) in
-    let t = sum_below-times_sum n n (λ a. x a * g ^ (a * j)) (λ b. y b * g ^ (b * j)) in
+    let t = sum_below-times_sum _ _ _ _ in
     let p = ap (λ v. v * s) t in
     let q : sum_below n (λ a. sum_below n (λ b. f a b)) * s ≡ s * sum_below n (λ a. sum_below n (λ b. f a b)) =
     omega arith in
-    p ∙ q ∙ sym (scaled n n s f)
-    ∙ sum_below-same n (λ a. sum_below n (λ b. s * f a b)) (λ a. sum_below n (λ b. x a * y b * (g ^ (a + b + k)) ^ j))
-    (λ a la. sum_below-same n (λ b. s * f a b) (λ b. x a * y b * (g ^ (a + b + k)) ^ j)
-    (λ b lb. let u : s * f a b ≡ f a b * s = omega arith in u ∙ summand_by_power g k a b j (x a) (y b)))
+    p ∙ q ∙ sym (scaled _ _ _ _) ∙ sum_below-same _ _ _
+    (λ a la. sum_below-same _ _ _ (λ b lb.
+    let u : s * f a b ≡ f a b * s = omega arith in u
+    ∙ summand_by_power g k a b j (x a) (y b)))
 
 -- the outermost of three sums becomes the innermost
 pub moved : (p n : ℕ) (f : ℕ → ℕ → ℕ → ℕ) → sum_below p (λ e. sum_below n (λ i. sum_below n (λ j. f i j e)))
@@ -170,13 +160,9 @@ pub transform_of_products : {m : ℕ} (g n e k : ℕ) (x y c : ℕ → ℕ) → 
     (n * sum_below n (λ a. sum_below n (λ b. cond (eqb (a + b) e || eqb (a + b) (e + n)) (x a * y b) 0)))
 transform_of_products {m} g n e k x y c turn mirror is =
     let f = λ (a b j : ℕ). x a * y b * (g ^ (a + b + k)) ^ j in
-    mod_trans (sum_below-congruent n (λ j. c j * g ^ (j * k)) (λ j. sum_below n (λ a. sum_below n (λ b. f a b j)))
-    (λ j l. mod_trans (mod_mul (is j l) (mod_refl (g ^ (j * k)))) (mod_of_eq (product_of_transforms_expanded g n k j x y))))
+    mod_trans (sum_below-congruent _ _ _ (λ j l. mod_trans (mod_mul (is j l) (mod_refl _))
+    (mod_of_eq (product_of_transforms_expanded _ _ _ _ _ _))))
     (mod_trans (mod_of_eq (moved n n f))
-    (mod_trans (sum_below-congruent n (λ a. sum_below n (λ b. sum_below n (λ j. f a b j)))
-    (λ a. sum_below n (λ b. n * (cond (eqb (a + b) e || eqb (a + b) (e + n)) (x a * y b) 0)))
-    (λ a la. sum_below-congruent n (λ b. sum_below n (λ j. f a b j))
-    (λ b. n * (cond (eqb (a + b) e || eqb (a + b) (e + n)) (x a * y b) 0))
-    (λ b lb. mod_trans (mod_of_eq (sum_below-mul n (x a * y b) (λ j. (g ^ (a + b + k)) ^ j)))
-    (geometric_by_test g n e k a b (x a * y b) turn mirror la lb))))
-    (mod_of_eq (scaled n n n (λ a b. cond (eqb (a + b) e || eqb (a + b) (e + n)) (x a * y b) 0)))))
+    (mod_trans (sum_below-congruent _ _ _
+    (λ a la. sum_below-congruent _ _ _ (λ b lb. mod_trans (mod_of_eq (sum_below-mul _ _ _))
+    (geometric_by_test _ _ _ _ _ _ _ turn mirror la lb)))) (mod_of_eq (scaled _ _ _ _))))

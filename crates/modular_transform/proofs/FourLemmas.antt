@@ -50,9 +50,8 @@ done_by is_p is_q is_s done = record { four = four_by is_p is_q is_s done.four; 
 same_block_and_column : (h c j l b t i : ℕ) → j < 4 → t < 4 → l < h → i < h
     → c * (4 * h) + (j * h + l) ≡ b * (4 * h) + (t * h + i) → (c ≡ b) × (l ≡ i)
 same_block_and_column h c j l b t i lj lt ll li e =
-    let from = mul-le (j + 1) h 4 h (omega arith) (omega arith) in
-    let to = mul-le (t + 1) h 4 h (omega arith) (omega arith) in
-    let outer = same_from_place c (j * h + l) b (t * h + i) (4 * h) (omega (arith, from)) (omega (arith, to)) e in
+    let outer = same_from_place _ _ _ _ _ (omega (arith, mul-le (j + 1) h 4 h (omega arith) (omega arith)))
+    (omega (arith, mul-le (t + 1) h 4 h (omega arith) (omega arith))) e in
     (outer.0, (same_from_place j l t i h ll li outer.1).1)
 
 -- one four alone

@@ -1,5 +1,5 @@
 -- What a four of two stages writes.
-use Rattle.std.proofs.Common.{◌≡◌, ◌≢◌, ℕ, ◌+◌, ◌*◌, ◌%◌, ◌<◌, List, length, get_or, All, ◌∙◌, ap, arith}
+use Rattle.std.proofs.Common.{◌≡◌, ◌≢◌, ℕ, ◌+◌, ◌*◌, ◌%◌, ◌<◌, List, length, get_or, All, arith}
 use Rattle.std.proofs.Math.ListN.{set, length-set}
 use Rattle.modular_reduced.specs.Entries.{entry}
 use Rattle.modular_reduced.specs.EntryLaws.{entry_kept, entry_read, entry_written}
@@ -74,23 +74,8 @@ four_written {T} number form value width m k step p q s forms a b c d left right
     let vd : value m (number d) ≡ x (k + 3 * step) =
     entry_read number value m forms (k + 3 * step) d (omega arith) read_d in
     let w = all_written number value m k step forms e f g h some within in
-    let sums = pair_of_forms {power = s} canonical (form_of_value canonical is_left) (form_of_value canonical is_right)
-    is_e is_f in
+    let sums = pair_of_forms {power = s} canonical (form_of_value canonical is_left)
+    (form_of_value canonical is_right) is_e is_f in
     let differences = pair_of_forms {power = s} canonical (form_of_value canonical is_lt)
     (form_of_value canonical is_rt) is_g is_h in
-    record {
-      four = record {
-        sums = pair_along
-            (canonical.one_value _ _ is_left ∙ ap (λ v. (v + value m (number c)) % m) va ∙ ap (λ v. (x k + v) % m) vc)
-            (canonical.one_value _ _ is_right ∙ ap (λ v. (v + value m (number d)) % m) vb
-            ∙ ap (λ v. (x (k + step) + v) % m) vd)
-            w.first w.second sums;
-        differences = pair_along
-            (canonical.one_value _ _ is_lt ∙ ap (λ v. weighted m p v (value m (number c))) va
-            ∙ ap (λ v. weighted m p (x k) v) vc)
-            (canonical.one_value _ _ is_rt ∙ ap (λ v. weighted m q v (value m (number d))) vb
-            ∙ ap (λ v. weighted m q (x (k + step)) v) vd)
-            w.third w.fourth differences;
-      };
-      kept = w.kept;
-    }
+    grind (arith, pair_along, w.kept)

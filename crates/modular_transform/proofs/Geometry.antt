@@ -19,8 +19,7 @@ pub geometric_doubled : (n h : ℕ) → geometric (n + n) h ≡ geometric n h * 
 geometric_doubled n h =
     let j = sum_below-joined n n (λ j. h ^ j) in
     let s = sum_below-same n (λ j. h ^ (n + j)) (λ j. h ^ n * h ^ j) (λ j l. pow-add h n j) in
-    let f = sum_below-mul n (h ^ n) (λ j. h ^ j) in
-    j ∙ ap (λ v. geometric n h + v) (s ∙ f) ∙ omega arith
+    j ∙ ap (λ v. geometric n h + v) (s ∙ (sum_below-mul n (h ^ n) (λ j. h ^ j))) ∙ omega arith
 
 -- a sum of 2 ^ z powers vanishes where one of its factors 1 + h ^ 2 ^ t does
 pub geometric_vanishes : {m : ℕ} (z t h : ℕ) → t < z → IsMinusOne m (h ^ (2 ^ t)) → Congruent m (geometric (2 ^ z) h) 0
@@ -31,13 +30,12 @@ geometric_vanishes {m} (suc z) t h l factor =
     let left : 0 * (h ^ (2 ^ z) + 1) ≡ 0 = omega arith in
     let right : geometric (2 ^ z) h * 0 ≡ 0 = omega arith in
     elim (cases_lt t z) [
-      | inl k ↦ mod_trans (mod_of_eq double)
-          (mod_trans (mod_mul (geometric_vanishes z t h k factor) (mod_refl (h ^ (2 ^ z) + 1))) (mod_of_eq left))
+      | inl k ↦ mod_trans (mod_of_eq double) (mod_trans (mod_mul (geometric_vanishes _ _ _ k factor) (mod_refl _))
+          (mod_of_eq left))
       | inr k ↦
           let same : t ≡ z = omega arith in
-          let factor_z : IsMinusOne m (h ^ (2 ^ z)) = same_minus_one (ap (λ n. h ^ (2 ^ n)) same) factor in
-          mod_trans (mod_of_eq double)
-          (mod_trans (mod_mul (mod_refl (geometric (2 ^ z) h)) factor_z.and_one) (mod_of_eq right))
+          mod_trans (mod_of_eq double) (mod_trans
+          (mod_mul (mod_refl _) (same_minus_one (ap (λ n. h ^ (2 ^ n)) same) factor).and_one) (mod_of_eq right))
     ]
 
 -- some doubling of d is an odd multiple of 2 ^ y
@@ -68,7 +66,7 @@ pub odd_multiple : (y d : ℕ) → 0 < d → d < 2 ^ suc y → OddMultiple y d
 odd_multiple zero d some below = omega (arith, of_odd)
 odd_multiple (suc y) d some below =
     elim (cases_eq (d % 2) 0) [
-      | inl e ↦ let p = two-pow-succ (suc y) in of_even y d e (odd_multiple y (d / 2) (omega arith) (omega (arith, p)))
+      | inl e ↦ of_even y d e (odd_multiple y (d / 2) (omega arith) (omega arith))
       | inr n ↦ of_odd (suc y) d (omega arith)
     ]
 
@@ -76,8 +74,7 @@ odd_multiple (suc y) d some below =
 pub powers_vanish : {m : ℕ} (y g d : ℕ) → IsMinusOne m (g ^ (2 ^ y)) → 0 < d → d < 2 ^ suc y
     → Congruent m (geometric (2 ^ suc y) (g ^ d)) 0
 powers_vanish {m} y g d half_turn some below =
-    let k = odd_multiple y d some below in
+    let k = odd_multiple _ _ some below in
     let e : (g ^ d) ^ (2 ^ k.doublings) ≡ (g ^ (2 ^ y)) ^ (2 * k.half + 1) =
-    sym (pow-mul g d (2 ^ k.doublings)) ∙ ap (λ n. g ^ n) k.reached ∙ pow-mul g (2 ^ y) (2 * k.half + 1) in
-    geometric_vanishes (suc y) k.doublings (g ^ d) k.few
-    (same_minus_one (sym e) (odd_power_of_minus_one k.half half_turn))
+    sym (pow-mul _ _ _) ∙ ap (λ n. g ^ n) k.reached ∙ pow-mul g (2 ^ y) (2 * k.half + 1) in
+    geometric_vanishes _ _ _ k.few (same_minus_one (sym e) (odd_power_of_minus_one _ half_turn))

@@ -41,9 +41,8 @@ pub even_entries : {m : ℕ} (w h r : ℕ) (x u : ℕ → ℕ) → IsMinusOne m 
     → ((i : ℕ) → i < h → Congruent m (u i) (x i + x (h + i)))
     → Congruent m (sum_below (h + h) (λ i. x i * w ^ (i * (2 * r)))) (sum_below h (λ i. u i * (w * w) ^ (i * r)))
 even_entries {m} w h r x u half_turn is =
-    mod_trans (mod_of_eq (sum_by_pairs h w (2 * r) x))
-    (sum_below-congruent h (λ i. x i * w ^ (i * (2 * r)) + x (h + i) * w ^ ((h + i) * (2 * r)))
-    (λ i. u i * (w * w) ^ (i * r)) (λ i l. even_pair w h r i (x i) (x (h + i)) (u i) half_turn (is i l)))
+    mod_trans (mod_of_eq (sum_by_pairs _ _ _ _))
+    (sum_below-congruent _ _ _ (λ i l. even_pair _ _ _ _ _ _ _ half_turn (is i l)))
 
 odd_pair : {m : ℕ} (w h r i x y v : ℕ) → IsMinusOne m (w ^ h) → Congruent m (v + y * w ^ i) (x * w ^ i)
     → Congruent m (x * w ^ (i * (2 * r + 1)) + y * w ^ ((h + i) * (2 * r + 1))) (v * (w * w) ^ (i * r))
@@ -53,8 +52,8 @@ odd_pair {m} w h r i x y v half_turn is =
     let p = (w ^ h) ^ (2 * r + 1) in
     let e : i * (2 * r + 1) ≡ i + i * (2 * r) = omega arith in
     let qs : q ≡ w ^ i * s =
-    ap (λ n. w ^ n) e ∙ pow-add w i (i * (2 * r)) ∙ ap (λ n. w ^ i * n) (sym (square_root w i r)) in
-    let z : w ^ ((h + i) * (2 * r + 1)) ≡ p * q = power_further h w (2 * r + 1) i in
+    ap (λ n. w ^ n) e ∙ pow-add w i (i * (2 * r)) ∙ ap (λ n. w ^ i * n) (sym (square_root _ _ _)) in
+    let z : w ^ ((h + i) * (2 * r + 1)) ≡ p * q = power_further _ _ _ _ in
     let yz = ap (λ n. y * n) z in
     let yq = ap (λ n. y * n) qs in
     let xq = ap (λ n. x * n) qs in
@@ -62,16 +61,14 @@ odd_pair {m} w h r i x y v half_turn is =
     let left : x * q + y * w ^ ((h + i) * (2 * r + 1)) + y * q ≡ x * q + y * q * (p + 1) = omega (arith, yz) in
     let none : x * q + y * q * 0 ≡ x * w ^ i * s = omega (arith, xq) in
     let right : (v + y * w ^ i) * s ≡ v * s + y * q = omega (arith, yq) in
-    mod_add_cancel (y * q)
-    (mod_trans (mod_of_eq left)
-    (mod_trans (mod_add (mod_refl (x * q)) (mod_mul (mod_refl (y * q)) (odd_power_of_minus_one r half_turn).and_one))
-    (mod_trans (mod_of_eq none) (mod_trans (mod_mul (mod_sym is) (mod_refl s)) (mod_of_eq right)))))
+    mod_add_cancel _ (mod_trans (mod_of_eq left)
+    (mod_trans (mod_add (mod_refl _) (mod_mul (mod_refl _) (odd_power_of_minus_one _ half_turn).and_one))
+    (mod_trans (mod_of_eq none) (mod_trans (mod_mul (mod_sym is) (mod_refl _)) (mod_of_eq right)))))
 
 -- the entries at odd places
 pub odd_entries : {m : ℕ} (w h r : ℕ) (x v : ℕ → ℕ) → IsMinusOne m (w ^ h)
     → ((i : ℕ) → i < h → Congruent m (v i + x (h + i) * w ^ i) (x i * w ^ i))
     → Congruent m (sum_below (h + h) (λ i. x i * w ^ (i * (2 * r + 1)))) (sum_below h (λ i. v i * (w * w) ^ (i * r)))
 odd_entries {m} w h r x v half_turn is =
-    mod_trans (mod_of_eq (sum_by_pairs h w (2 * r + 1) x))
-    (sum_below-congruent h (λ i. x i * w ^ (i * (2 * r + 1)) + x (h + i) * w ^ ((h + i) * (2 * r + 1)))
-    (λ i. v i * (w * w) ^ (i * r)) (λ i l. odd_pair w h r i (x i) (x (h + i)) (v i) half_turn (is i l)))
+    mod_trans (mod_of_eq (sum_by_pairs _ _ _ _))
+    (sum_below-congruent _ _ _ (λ i l. odd_pair _ _ _ _ _ _ _ half_turn (is i l)))

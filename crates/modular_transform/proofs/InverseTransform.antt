@@ -33,13 +33,8 @@ inverse_suits {m} {g} {h} {n} inverse suits = record {
       let k = n / 2 in
       let turn : Congruent m (g ^ k + 1) 0 = record { same = suits.half_turn l ∙ sym (zero-mod m) } in
       let cancel = powers_cancel k inverse in
-      let e : (g ^ k + 1) * h ^ k ≡ g ^ k * h ^ k + h ^ k = omega arith in
-      let o : 1 + h ^ k ≡ h ^ k + 1 = omega arith in
-      let z : 0 * h ^ k ≡ 0 = omega arith in
       let sum : Congruent m (h ^ k + 1) 0 =
-      mod_trans (mod_of_eq (sym o))
-      (mod_trans (mod_add (mod_sym cancel) (mod_refl (h ^ k)))
-      (mod_trans (mod_of_eq (sym e)) (mod_trans (mod_mul turn (mod_refl (h ^ k))) (mod_of_eq z)))) in
+      grind (arith, mod_add (mod_sym cancel) (mod_refl (h ^ k)), mod_mul turn (mod_refl (h ^ k))) in
       sum.same ∙ zero-mod m;
 }
 
@@ -71,29 +66,20 @@ product_by_unit : (n e : ℕ) (x : ℕ → ℕ) → e < n
     → sum_below n (λ a. sum_below n (λ b. cond (eqb (a + b) e || eqb (a + b) (e + n)) (x a * unit b) 0)) ≡ x e
 product_by_unit n e x l =
     let some : 0 < n = omega (arith, l) in
-    sum_below-same n (λ a. sum_below n (λ b. cond (eqb (a + b) e || eqb (a + b) (e + n)) (x a * unit b) 0))
-    (λ a. cond (eqb e a) (x a) 0)
-    (λ a la. sum_below-same n (λ b. cond (eqb (a + b) e || eqb (a + b) (e + n)) (x a * unit b) 0)
-    (λ b. cond (eqb 0 b) (cond (eqb e a) (x a) 0) 0) (λ b _. term_by_unit n e a b (x a) l la)
-    ∙ sum_at_place n 0 (λ b. cond (eqb e a) (x a) 0) some)
-    ∙ sum_at_place n e x l
+    sum_below-same _ _ _ (λ a la. sum_below-same _ _ _ (λ b _. term_by_unit n e a b (x a) l la)
+    ∙ sum_at_place _ 0 _ some) ∙ sum_at_place n e x l
 
 -- the transform of the transform is n times the values, all but the first in the opposite order
 pub transformed_twice : {m : ℕ} (g n k : ℕ) (x : ℕ → ℕ) → Suits m g n → k < n
     → Congruent m (transform m g n (transform m g n x) k) (n * x (mirrored n k))
 transformed_twice {m} g n k x suits l =
     let place = mirrored_place n k l in let e = mirrored n k in
-    let mirror : Mirrored n e k = record {
-      place = place.image;
-      image = l;
-      sum = elim place.sum [ inl z ↦ inl (omega arith) | inr s ↦ inr (omega arith) ];
-    } in
-    mod_trans (residue_of _) (mod_trans (transform_of_products g n e k x unit (transform m g n x) (half_turn suits) mirror
-    (λ j _. mod_trans (residue_of _) (mod_of_eq
-    (let one = unit_transformed g n j (omega (arith, l)) in
+    let mirror : Mirrored n e k = grind (arith, place.image) in
+    mod_trans (residue_of _) (mod_trans (transform_of_products _ _ _ _ _ _ _ (half_turn suits) mirror
+    (λ j _. mod_trans (residue_of _) (mod_of_eq (let one = unit_transformed g n j (omega (arith, l)) in
     let s = sum_below n (λ i. x i * g ^ (i * j)) in
     let whole : s ≡ s * 1 = omega arith in whole ∙ ap (λ v. s * v) (sym one)))))
-    (mod_of_eq (ap (λ v. n * v) (product_by_unit n e x place.image))))
+    (mod_of_eq (ap (λ v. n * v) (product_by_unit _ _ _ place.image))))
 
 -- the powers of the inverse of a root are those of the root at the mirrored places
 power_of_inverse : {m g h n : ℕ} (i : ℕ) → IsInverse m g h → Suits m g n → i < n
@@ -103,16 +89,13 @@ power_of_inverse {m} {g} {h} {n} i inverse suits l = elim (cases_eq i 0) [
       let image = ap (mirrored n) z ∙ mirrored_first n in
       mod_of_eq (ap (λ v. h ^ v) z ∙ pow-zero h ∙ sym (ap (λ v. g ^ v) image ∙ pow-zero g))
   | inr s ↦
-      let k = mirrored n i in
-      let all : k + i ≡ n = omega (arith, mirrored_other n i (omega arith) l) in
-      let one : h ^ i ≡ 1 * h ^ i = omega arith in
-      let whole : g ^ n ≡ g ^ k * g ^ i = ap (λ v. g ^ v) (sym all) ∙ pow-add g k i in
-      let regrouped : g ^ n * h ^ i ≡ g ^ k * (g ^ i * h ^ i) = ap (λ v. v * h ^ i) whole ∙ omega arith in
-      let last : g ^ k * 1 ≡ g ^ k = omega arith in
-      mod_trans (mod_of_eq one)
-      (mod_trans (mod_mul (mod_sym (full_turn g n (half_turn suits) (omega arith))) (mod_refl (h ^ i)))
-      (mod_trans (mod_of_eq regrouped)
-      (mod_trans (mod_mul (mod_refl (g ^ k)) (powers_cancel i inverse)) (mod_of_eq last))))
+      grind (
+        arith,
+        mod_mul (mod_sym (full_turn g n (half_turn suits) (omega arith))) (mod_refl (h ^ i)),
+        mirrored_other n i (omega arith) l,
+        pow-add g (mirrored n i) i,
+        mod_mul (mod_refl (g ^ (mirrored n i))) (powers_cancel i inverse),
+      )
 ]
 
 -- so that the transform by the inverse is that by the root at the mirrored places
@@ -130,10 +113,9 @@ at_mirror {m} {g} {h} n k c inverse suits l =
 pub transformed_back : {m g h : ℕ} (n k : ℕ) (x : ℕ → ℕ) → IsInverse m g h → Suits m g n → k < n
     → Congruent m (transform m h n (transform m g n x) k) (n * x k)
 transformed_back {m} {g} {h} n k x inverse suits l =
-    let mirror = mirror_exchange n in
-    mod_trans (mod_of_eq (at_mirror n k (transform m g n x) inverse suits l))
-    (mod_trans (transformed_twice g n (mirrored n k) x suits (mirror.within k l))
-    (mod_of_eq (ap (λ p. n * x p) (mirror.twice k l))))
+    mod_trans (mod_of_eq (at_mirror _ _ _ inverse suits l))
+    (mod_trans (transformed_twice _ _ _ _ suits ((mirror_exchange n).within k l))
+    (mod_of_eq (ap (λ p. n * x p) ((mirror_exchange n).twice k l))))
 
 -- .. and times 1/n the value itself
 pub value_back : {m g h : ℕ} (n k part : ℕ) (x : ℕ → ℕ) → IsInverse m g h → IsInverse m n part → Suits m g n → k < n

@@ -21,10 +21,8 @@ square_of_minus_one {m} {a} h =
     let e : a * a + a ≡ a * (a + 1) = omega arith in
     let z : a * 0 ≡ 0 = omega arith in
     let o : 1 + a ≡ a + 1 = omega arith in
-    mod_add_cancel a
-    (mod_trans (mod_of_eq e)
-    (mod_trans (mod_mul (mod_refl a) h.and_one) (mod_trans (mod_of_eq z)
-    (mod_trans (mod_sym h.and_one) (mod_of_eq (sym o))))))
+    mod_add_cancel _ (mod_trans (mod_of_eq e) (mod_trans (mod_mul (mod_refl _) h.and_one)
+    (mod_trans (mod_of_eq z) (mod_trans (mod_sym h.and_one) (mod_of_eq (sym o))))))
 
 pub even_power_of_minus_one : {m a : ℕ} (k : ℕ) → IsMinusOne m a → Congruent m (a ^ (2 * k)) 1
 even_power_of_minus_one {m} {a} k h =
@@ -33,13 +31,12 @@ even_power_of_minus_one {m} {a} k h =
 
 pub odd_power_of_minus_one : {m a : ℕ} (k : ℕ) → IsMinusOne m a → IsMinusOne m (a ^ (2 * k + 1))
 odd_power_of_minus_one {m} {a} k h =
-    let e : a ^ (2 * k + 1) ≡ a ^ (2 * k) * a = pow-add a (2 * k) 1 ∙ ap (λ v. a ^ (2 * k) * v) (pow-one a) in
+    let e : a ^ (2 * k + 1) ≡ a ^ (2 * k) * a = pow-add a (2 * k) 1 ∙ ap (λ v. a ^ (2 * k) * v) (pow-one _) in
     let o : 1 * a + 1 ≡ a + 1 = omega arith in
     record {
       and_one =
-          mod_trans (mod_add (mod_trans (mod_of_eq e) (mod_mul (even_power_of_minus_one k h) (mod_refl a)))
-          (mod_refl 1))
-          (mod_trans (mod_of_eq o) h.and_one);
+          mod_trans (mod_add (mod_trans (mod_of_eq e) (mod_mul (even_power_of_minus_one _ h) (mod_refl _)))
+          (mod_refl 1)) (mod_trans (mod_of_eq o) h.and_one);
     }
 
 pub same_minus_one : {m a b : ℕ} → a ≡ b → IsMinusOne m a → IsMinusOne m b

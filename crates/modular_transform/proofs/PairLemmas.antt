@@ -1,5 +1,5 @@
 -- The pairs of a stage, and those of its first block, done one after another.
-use Rattle.std.proofs.Common.{◌≡◌, ◌≢◌, ℕ, ◌+◌, ◌^◌, ◌<◌, ◌≤◌, sym, ◌∙◌, refl, arith, inl, inr, subst}
+use Rattle.std.proofs.Common.{◌≡◌, ℕ, ◌+◌, ◌^◌, ◌<◌, ◌≤◌, refl, arith}
 use Rattle.std.proofs.lemmas.Bool.{cases_eq}
 use Rattle.modular_word.specs.Congruence.{Congruent}
 use Rattle.modular_word.proofs.Congruence.{mod_refl, mod_sym, mod_trans, mod_add, mod_mul, mod_pow}
@@ -28,26 +28,12 @@ pub record PairsBelow (m w h i : ℕ) (x y : ℕ → ℕ) : Type 0 where
 pub pairs_more : {m u w h i : ℕ} (x y z : ℕ → ℕ) → i < h → Congruent m u (w ^ i) → PairsBelow m w h i x y
     → PairDone m u i (h + i) y z → PairsBelow m w h (i + 1) x z
 pairs_more {m} {u} {w} {h} {i} x y z within is before here =
-    let other : (k : ℕ) → k < h → k ≢ i → (z k ≡ y k) × (z (h + k) ≡ y (h + k)) =
-    λ k l n. (
-      here.kept k n (λ e. absurd (omega (arith, e, l))),
-      here.kept (h + k) (λ e. absurd (omega (arith, e, within))) (λ e. n (omega (arith, e))),
-    ) in
-    record {
-      pairs = λ k l. elim (cases_eq k i) [
-        | inl e ↦
-            let old = before.kept i (omega arith) within in
-            subst (λ j. IsPair m (w ^ j) (x j) (x (h + j)) (z j) (z (h + j))) (sym e)
-            (pair_by is (pair_along old.0 old.1 refl refl here.pair))
-        | inr n ↦
-            let same = other k (omega (arith, l, within)) n in
-            pair_along refl refl (sym same.0) (sym same.1) (before.pairs k (omega (arith, l, n)))
-      ];
-      kept = λ k l b.
-          let same = other k b (omega (arith, l)) in
-          let old = before.kept k (omega (arith, l)) b in
-          (same.0 ∙ old.0, same.1 ∙ old.1);
-    }
+    grind (
+      arith,
+      cases_eq,
+      pair_by is (pair_along (before.kept i (omega arith) within).0 (before.kept i (omega arith) within).1 refl refl here.pair),
+      pair_along,
+    )
 
 -- a stage by a root that is congruent
 pub stage_by : {m v w h blocks : ℕ} (x y : ℕ → ℕ) → Congruent m v w

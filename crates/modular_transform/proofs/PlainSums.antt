@@ -1,5 +1,5 @@
 -- The sums of the definitions, term by term modulo m.
-use Rattle.std.proofs.Common.{◌↔◌, ◌≡◌, ◌≢◌, ℕ, suc, ◌+◌, ◌*◌, ◌%◌, ◌/◌, ◌^◌, IsTrue, nat_eq, sym, ◌∙◌, ap, arith}
+use Rattle.std.proofs.Common.{◌↔◌, ◌≡◌, ◌≢◌, ℕ, ◌+◌, ◌*◌, ◌%◌, ◌/◌, ◌^◌, IsTrue, nat_eq, sym, ◌∙◌, ap, arith}
 use Rattle.std.proofs.lemmas.Bool.Decides.{nat_tests}
 use Rattle.std.proofs.lemmas.Nat.{pow-add}
 use Rattle.std.proofs.Math.Nat.{pow-zero, zero-mod}
@@ -19,10 +19,7 @@ sum_none m f = sym (ap (λ v. v % m) (sum_below-zero f) ∙ zero-mod m)
 pub sum_more : (m i s t : ℕ) (f : ℕ → ℕ) → s ≡ sum_below i f % m → Congruent m t (f i)
     → (s + t) % m ≡ sum_below (i + 1) f % m
 sum_more m i s t f so_far term =
-    let e : suc i ≡ i + 1 = omega arith in
-    let c : Congruent m (s + t) (sum_below i f + f i) =
-    mod_add (mod_trans (mod_of_eq so_far) (residue_of (sum_below i f))) term in
-    c.same ∙ ap (λ v. v % m) (sym (sum_below-suc i f) ∙ ap (λ n. sum_below n f) e)
+    grind (arith, (mod_add (mod_trans (mod_of_eq so_far) (residue_of (sum_below i f))) term).same, sum_below-suc i f)
 
 -- the power of the first term, and of the next
 pub term_power_first : (m g j one : ℕ) → one ≡ 1 % m → Congruent m one (g ^ (0 * j))

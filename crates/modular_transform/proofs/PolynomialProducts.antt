@@ -28,8 +28,7 @@ sum_at_place (suc n) s f l =
           let z = sum_below-of_zeros n (λ e. cond (eqb s e) (f e) 0) (λ e t. at_other s e (f e) (omega arith)) in
           omega (arith, d, z, at_place s n (f n) is, ap f is)
       | inr ne ↦
-          let i = sum_at_place n s f (omega arith) in
-          omega (arith, d, i, at_other s n (f n) ne)
+          omega (arith, d, sum_at_place n s f (omega arith), at_other s n (f n) ne)
     ]
 
 sum_at_none : (n s : ℕ) (f : ℕ → ℕ) → n ≤ s → sum_below n (λ e. cond (eqb s e) (f e) 0) ≡ 0
@@ -45,11 +44,9 @@ row_bounded (suc n) i e c f few =
       | inl is ↦
           let z = sum_below-of_zeros n (λ j. cond (eqb (i + j) e) (f j) 0)
           (λ j t. at_other (i + j) e (f j) (omega arith)) in
-          let l = few n (omega arith) in
-          omega (arith, d, z, at_place (i + n) e (f n) is, l)
+          omega (arith, d, z, at_place (i + n) e (f n) is, few n (omega arith))
       | inr ne ↦
-          let r = row_bounded n i e c f (λ j l. few j (omega arith)) in
-          omega (arith, d, r, at_other (i + n) e (f n) ne)
+          omega (arith, d, row_bounded n i e c f (λ j l. few j (omega arith)), at_other (i + n) e (f n) ne)
     ]
 
 -- where the terms of index n and above are 0, a term of the cyclic product has only one place
@@ -66,13 +63,11 @@ cyclic_product_is_terms : (m n s t : ℕ) (x y : ℕ → ℕ) (e : ℕ) → ((i 
     → ((i j : ℕ) → i < n → j < n → n ≤ i + j → x i * y j ≡ 0) → cyclic_product m n x y e ≡ product_terms n x y e
 unfolding product_terms
 cyclic_product_is_terms m n s t x y e few few_y small room =
-    let same = sum_below-same n (λ i. sum_below n (λ j. cond (eqb (i + j) e || eqb (i + j) (e + n)) (x i * y j) 0))
-    (λ i. sum_below n (λ j. cond (eqb (i + j) e) (x i * y j) 0))
+    let same = sum_below-same _ _ _
     (λ i l. sum_below-same n (λ j. cond (eqb (i + j) e || eqb (i + j) (e + n)) (x i * y j) 0)
-    (λ j. cond (eqb (i + j) e) (x i * y j) 0)
-    (λ j k. one_place n i j e (x i * y j) (room i j l k))) in
-    let below = sum_below-bounded n (s * t) (λ i. sum_below n (λ j. cond (eqb (i + j) e) (x i * y j) 0))
-    (λ i l. row_bounded n i e (s * t) (λ j. x i * y j) (λ j k. mul-le-mul (few i l) (few_y j k))) in
+    (λ j. cond (eqb (i + j) e) (x i * y j) 0) (λ j k. one_place n i j e (x i * y j) (room i j l k))) in
+    let below = sum_below-bounded _ _ _ (λ i l. row_bounded n i e (s * t) (λ j. x i * y j)
+    (λ j k. mul-le-mul (few i l) (few_y j k))) in
     ap (λ v. v % m) same ∙ mod-eq_of_lt (omega (arith, below, small))
 
 -- one term of the product, in the sum over all places
@@ -80,13 +75,11 @@ term_over_places : (n b i j v w : ℕ) → (n ≤ i + j → v * w ≡ 0)
     → sum_below n (λ e. cond (eqb (i + j) e) (b ^ e * (v * w)) 0) ≡ (v * b ^ i) * (w * b ^ j)
 term_over_places n b i j v w room = elim (cases_lt (i + j) n) [
   | inl l ↦
-      let p = ap (λ k. k * (v * w)) (pow-add b i j) in
-      sum_at_place n (i + j) (λ e. b ^ e * (v * w)) l ∙ p ∙ omega arith
+      sum_at_place _ _ _ l ∙ (ap (λ k. k * (v * w)) (pow-add b i j)) ∙ omega arith
   | inr l ↦
-      let z = room (omega arith) in
       let q : (v * b ^ i) * (w * b ^ j) ≡ v * w * (b ^ i * b ^ j) = omega arith in
-      let r : v * w * (b ^ i * b ^ j) ≡ 0 = ap (λ k. k * (b ^ i * b ^ j)) z ∙ omega arith in
-      sum_at_none n (i + j) (λ e. b ^ e * (v * w)) (omega arith) ∙ sym (q ∙ r)
+      let r : v * w * (b ^ i * b ^ j) ≡ 0 = ap (λ k. k * (b ^ i * b ^ j)) (room (omega arith)) ∙ omega arith in
+      sum_at_none _ _ _ (omega arith) ∙ sym (q ∙ r)
 ]
 
 factor_in : (s e c v : ℕ) → c * cond (eqb s e) v 0 ≡ cond (eqb s e) (c * v) 0
@@ -99,11 +92,7 @@ terms_times_power n b e x y =
     let t = λ (i j : ℕ). cond (eqb (i + j) e) (x i * y j) 0 in
     let q : sum_below n (λ i. sum_below n (λ j. t i j)) * b ^ e ≡ b ^ e * sum_below n (λ i. sum_below n (λ j. t i j)) =
     omega arith in
-    q ∙ sym (scaled n n (b ^ e) t)
-    ∙ sum_below-same n (λ i. sum_below n (λ j. b ^ e * t i j))
-    (λ i. sum_below n (λ j. cond (eqb (i + j) e) (b ^ e * (x i * y j)) 0))
-    (λ i l. sum_below-same n (λ j. b ^ e * t i j) (λ j. cond (eqb (i + j) e) (b ^ e * (x i * y j)) 0)
-    (λ j k. factor_in (i + j) e (b ^ e) (x i * y j)))
+    q ∙ sym (scaled _ _ _ _) ∙ sum_below-same _ _ _ (λ i l. sum_below-same _ _ _ (λ j k. factor_in _ _ _ _))
 
 -- the entries are the coefficients of the product
 pub polynomial_product : {m : ℕ} (n b s t : ℕ) (x y : ℕ → ℕ) → ((i : ℕ) → i < n → x i ≤ s)
@@ -113,11 +102,7 @@ pub polynomial_product : {m : ℕ} (n b s t : ℕ) (x y : ℕ → ℕ) → ((i :
     ≡ sum_below n (λ i. x i * b ^ i) * sum_below n (λ j. y j * b ^ j)
 polynomial_product {m} n b s t x y few few_y small room =
     let f = λ (i j e : ℕ). cond (eqb (i + j) e) (b ^ e * (x i * y j)) 0 in
-    sum_below-same n (λ e. cyclic_product m n x y e * b ^ e) (λ e. sum_below n (λ i. sum_below n (λ j. f i j e)))
-    (λ e l. ap (λ v. v * b ^ e) (cyclic_product_is_terms m n s t x y e few few_y small room) ∙ terms_times_power n b e x y)
-    ∙ moved n n f
-    ∙ sum_below-same n (λ i. sum_below n (λ j. sum_below n (λ e. f i j e)))
-    (λ i. sum_below n (λ j. (x i * b ^ i) * (y j * b ^ j)))
-    (λ i l. sum_below-same n (λ j. sum_below n (λ e. f i j e)) (λ j. (x i * b ^ i) * (y j * b ^ j))
-    (λ j k. term_over_places n b i j (x i) (y j) (room i j l k)))
-    ∙ sym (sum_below-times_sum n n (λ i. x i * b ^ i) (λ j. y j * b ^ j))
+    sum_below-same _ _ _ (λ e l. ap (λ v. v * b ^ e) (cyclic_product_is_terms _ _ _ _ _ _ _ few few_y small room)
+    ∙ terms_times_power n b e x y) ∙ moved n n f
+    ∙ sum_below-same _ _ _ (λ i l. sum_below-same _ _ _ (λ j k. term_over_places _ _ _ _ _ _ (room i j l k)))
+    ∙ sym (sum_below-times_sum _ _ _ _)

@@ -13,27 +13,17 @@ ones_of_power : (z : ℕ) → count_ones (2 ^ z) ≡ 1
 ones_of_power zero =
     let k : 2 ^ 0 ≡ 1 = refl in
     omega (arith, k, ones_step (2 ^ 0), ones_le_self (2 ^ 0 / 2))
-ones_of_power (suc z) =
-    let s = two-pow-succ z in
-    let h : 2 ^ suc z / 2 ≡ 2 ^ z = omega (arith, s) in
-    let e = ap (λ n. count_ones n) h ∙ ones_of_power z in
-    omega (arith, s, ones_step (2 ^ suc z), e)
+ones_of_power (suc z) = grind (arith, two-pow-succ z, ones_step (2 ^ suc z), ones_of_power z)
 
 power_of_ones : (fuel n : ℕ) → n ≤ fuel → count_ones n ≡ 1 → IsPowerOfTwo n
 power_of_ones zero n l h = let e = ones_le_self n in absurd (omega (arith, e, h))
 power_of_ones (suc fuel) n l h = elim (cases_eq (n % 2) 0) [
   | inl even ↦
       let o = ones_step n in
-      let some : 0 < n / 2 = elim (cases_eq (n / 2) 0) [
-        | inl z ↦ let e = ones_le_self (n / 2) in absurd (omega (arith, e, h, o, even))
-        | inr s ↦ omega arith
-      ] in
       let k = power_of_ones fuel (n / 2) (omega arith) (omega (arith, o, h, even)) in
       (suc k.0, omega (arith, k.1, two-pow-succ k.0, even))
   | inr odd ↦
-      let z = zero_from_ones (n / 2) (omega (arith, ones_step n, h, odd)) in
-      let p : 2 ^ 0 ≡ 1 = refl in
-      (0, omega (arith, z, p, odd))
+      grind (arith, zero_from_ones (n / 2) (omega (arith, ones_step n, h, odd)))
 ]
 
 -- the test of one bit is the test of a power of two
@@ -50,12 +40,7 @@ pub trailing_zeros_of_power : (z n : ℕ) → n ≡ 2 ^ z → n < 2 ^ 64 → tra
 trailing_zeros_of_power z n is below =
     let some : 0 < n = let p = pow_pos z in omega arith in
     let t = bit_at-trailing_zeros w64 n some below in
-    elim (cases_eq (trailing_zeros w64 n) z) [
-      | inl e ↦ e
-      | inr ne ↦
-          let b = ap (λ v. v / 2 ^ trailing_zeros w64 n % 2) is in
-          absurd (let q = t.1 in omega (arith, bit_at-pow_other z (trailing_zeros w64 n) ne, b, q))
-    ]
+    grind (arith, (cases_eq (trailing_zeros w64 n) z), bit_at-pow_other, t.1)
 
 pub power_by_zeros : (n : ℕ) → IsPowerOfTwo n → n < 2 ^ 64 → n ≡ 2 ^ trailing_zeros w64 n
 power_by_zeros n p below = p.1 ∙ ap (λ k. 2 ^ k) (sym (trailing_zeros_of_power p.0 n p.1 below))

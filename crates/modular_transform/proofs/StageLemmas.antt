@@ -9,7 +9,7 @@ use Rattle.modular_word.specs.Congruence.{Congruent}
 use Rattle.modular_transform.specs.Stages.{IsStage}
 use Rattle.modular_transform.specs.Orders.{bits_reversed}
 use Rattle.modular_transform.proofs.BitReversal.{bits_reversed-zero, bits_reversed-suc}
-use Rattle.modular_word.proofs.Congruence.{mod_of_eq, mod_sym, mod_trans}
+use Rattle.modular_word.proofs.Congruence.{mod_of_eq, mod_trans}
 use Rattle.modular_word.proofs.Powers.{pow-one}
 use Rattle.modular_transform.proofs.MinusOne.{IsMinusOne}
 use Rattle.modular_word.proofs.Sums.{sum_below-same, sum_below-suc, sum_below-zero}
@@ -38,14 +38,13 @@ next_block : {m : ℕ} (g n t h : ℕ) (x y z : ℕ → ℕ) (p q r b k : ℕ) �
     → Congruent m (sum_below h (λ i. z (p * h + i) * (g ^ (2 ^ suc t)) ^ (i * r)))
     (sum_below n (λ i. x i * g ^ (i * (bits_reversed (suc t) p + 2 ^ suc t * r))))
 next_block {m} g n t h x y z p q r b k is bit is_k within l blocks halves =
-    let half : bits_reversed t (p / 2) ≡ bits_reversed t q = ap (bits_reversed t) (let e : p / 2 ≡ q = omega arith in e) in
+    let half : bits_reversed t (p / 2) ≡ bits_reversed t q = ap (bits_reversed t)
+    (let e : p / 2 ≡ q = omega arith in e) in
     let low : p % 2 * 2 ^ t ≡ b * 2 ^ t = ap (λ v. v * 2 ^ t) (let e : p % 2 ≡ b = omega arith in e) in
     let place : bits_reversed t q + 2 ^ t * k ≡ bits_reversed (suc t) p + 2 ^ suc t * r =
     ap (λ v. bits_reversed t q + 2 ^ t * v) is_k
     ∙ omega (arith, ap (λ v. v * r) (two-pow-succ t), bits_reversed-suc t p, half, low) in
-    mod_trans (mod_of_eq (ap (λ v. sum_below h (λ i. z (p * h + i) * v ^ (i * r))) (sym (root_squared g t))))
-    (mod_trans (mod_sym halves) (mod_trans (blocks.entry q k within (omega arith))
-    (mod_of_eq (ap (λ v. sum_below n (λ i. x i * g ^ (i * v))) place))))
+    grind (arith, root_squared g t, blocks.entry q k within (omega arith))
 
 -- one stage further
 pub stages_more : {m : ℕ} (g n t h : ℕ) (x y z : ℕ → ℕ) → IsMinusOne m ((g ^ (2 ^ t)) ^ h)
@@ -53,26 +52,25 @@ pub stages_more : {m : ℕ} (g n t h : ℕ) (x y z : ℕ → ℕ) → IsMinusOne
     → BlocksTransform m g n (suc t) h x z
 stages_more {m} g n t h x y z half_turn blocks stage = record {
   entry = λ p r below l.
-      let w = g ^ (2 ^ t) in
-      let q : ℕ = p / 2 in
-      let within : q < 2 ^ t = omega (arith, two-pow-succ t) in
-      let u = λ (i : ℕ). y (q * (h + h) + i) in
+      let within : (p / 2) < 2 ^ t = omega (arith, two-pow-succ t) in
+      let u = λ (i : ℕ). y ((p / 2) * (h + h) + i) in
       let v = λ (i : ℕ). z (p * h + i) in
       elim (cases_eq (p % 2) 0) [
         | inl e ↦
-            let is : p ≡ 2 * q + 0 = omega arith in
-            let row = ap (λ v. v * h) is in
-            next_block g n t h x y z p q r 0 (2 * r) is (omega arith) (omega arith) within l blocks
-            (even_entries w h r u v half_turn
-            (λ i j. let at : q * (h + h) + i ≡ p * h + i = omega (arith, row) in
-            subst (λ k. Congruent m (z k) (u i + u (h + i))) at (stage.pairs q i within j).summed))
+            let is : p ≡ 2 * (p / 2) + 0 = omega arith in
+            next_block g n t h x y z p (p / 2) r 0 (2 * r) is (omega arith) (omega arith) within l blocks
+            (even_entries (g ^ (2 ^ t)) h r u v half_turn
+            (λ i j.
+            let at : (p / 2) * (h + h) + i ≡ p * h + i = omega (arith, ap (λ v. v * h) is) in
+            subst (λ k. Congruent m (z k) (u i + u (h + i))) at (stage.pairs (p / 2) i within j).summed))
         | inr o ↦
-            let is : p ≡ 2 * q + 1 = omega arith in
-            let row = ap (λ v. v * h) is in
-            next_block g n t h x y z p q r 1 (2 * r + 1) is (omega arith) (omega arith) within l blocks
-            (odd_entries w h r u v half_turn
-            (λ i j. let at : q * (h + h) + (h + i) ≡ p * h + i = omega (arith, row) in
-            subst (λ k. Congruent m (z k + u (h + i) * w ^ i) (u i * w ^ i)) at (stage.pairs q i within j).subtracted))
+            let is : p ≡ 2 * (p / 2) + 1 = omega arith in
+            next_block g n t h x y z p (p / 2) r 1 (2 * r + 1) is (omega arith) (omega arith) within l blocks
+            (odd_entries (g ^ (2 ^ t)) h r u v half_turn
+            (λ i j.
+            let at : (p / 2) * (h + h) + (h + i) ≡ p * h + i = omega (arith, ap (λ v. v * h) is) in
+            subst (λ k. Congruent m (z k + u (h + i) * (g ^ (2 ^ t)) ^ i) (u i * (g ^ (2 ^ t)) ^ i)) at
+            (stage.pairs (p / 2) i within j).subtracted))
       ];
 }
 
@@ -82,8 +80,7 @@ pub stages_end : {m : ℕ} (g n t : ℕ) (x y : ℕ → ℕ) (p : ℕ) → Block
 stages_end {m} g n t x y p blocks below small =
     let place : bits_reversed t p + 2 ^ t * 0 ≡ bits_reversed t p = omega arith in
     let at : p * 1 + 0 ≡ p = omega arith in
-    let one = sum_below-suc 0 (λ i. y (p * 1 + i) * (g ^ (2 ^ t)) ^ (i * 0)) ∙ ap
-    (λ v. v + y (p * 1 + 0) * (g ^ (2 ^ t)) ^ (0 * 0)) (sum_below-zero (λ i. y (p * 1 + i) * (g ^ (2 ^ t)) ^ (i * 0)))
+    let one = sum_below-suc 0 _ ∙ ap (λ v. v + y (p * 1 + 0) * (g ^ (2 ^ t)) ^ (0 * 0)) (sum_below-zero _)
     ∙ ap (λ v. 0 + y (p * 1 + 0) * v) (pow-zero (g ^ (2 ^ t))) ∙ ap (λ v. 0 + y v * 1) at in
     let single : 0 + y p * 1 ≡ y p = omega arith in
     let e = mod_trans (mod_of_eq (sym (one ∙ single))) (blocks.entry p 0 below (omega arith)) in

@@ -54,18 +54,15 @@ place_reversed bits b step t is_bits is_step l =
     let column = t % 8 in
     let high = tile + 2 ^ b * row in
     let rows = ap (λ v. row * v) is_step in
-    let eights = ap (λ v. v * high) e in
-    let place : place_of step t ≡ column + 2 ^ 3 * high = omega (arith, rows, eights) in
+    let place : place_of step t ≡ column + 2 ^ 3 * high = omega (arith, rows) in
     let number : bits ≡ 3 + (b + 3) = omega arith in
     let one = bits_reversed_of_parts 3 (b + 3) column high (omega (arith, e)) in
     let two = bits_reversed_of_parts b 3 tile row (omega arith) in
-    let other = ap (λ v. bits_reversed b tile * v) e in
     let third = ap (λ v. bits_reversed 3 column * v) (pow-add 2 b 3 ∙ ap (λ v. 2 ^ b * v) e ∙ sym is_step) in
     let to = place_of_parts step (bits_reversed b tile) (bits_reversed 3 column) (bits_reversed 3 row)
     (reversed_below_8 column) (reversed_below_8 row) in
-    let all = ap (λ v. bits_reversed v (place_of step t)) number
-    ∙ ap (bits_reversed (3 + (b + 3))) place ∙ one in
-    omega (arith, all, two, other, third, to)
+    let all = ap (λ v. bits_reversed v (place_of step t)) number ∙ ap (bits_reversed (3 + (b + 3))) place ∙ one in
+    omega (arith, all, two, third, to)
 
 place_below : (step tile row column : ℕ) → tile * 8 + 8 ≤ step → row < 8 → column < 8
     → row * step + tile * 8 + column < step * 8
@@ -74,14 +71,11 @@ place_below step tile row column t r c = grind arith
 -- the number of the place of a number
 number_again : (b step t : ℕ) → step ≡ 2 ^ b * 8 → t < 2 ^ b * 64 → number_of step (place_of step t) ≡ t
 number_again b step t is_step l =
-    let rest = t / 64 * 8 + t % 8 in
-    let small : rest < step = omega (arith, is_step) in
-    let sum : place_of step t ≡ t / 8 % 8 * step + rest = omega arith in
-    let q = ap (λ v. v / step) sum ∙ div-mul-add (t / 8 % 8) step rest small in
-    let r = ap (λ v. v % step) sum ∙ mod-mul-add (t / 8 % 8) step rest small in
-    let a = ap (λ v. v / 8) r in
-    let c = ap (λ v. v % 8) r in
-    omega (arith, q, a, c)
+    grind (
+      arith,
+      div-mul-add (t / 8 % 8) step (t / 64 * 8 + t % 8) (omega (arith, is_step)),
+      mod-mul-add (t / 8 % 8) step (t / 64 * 8 + t % 8) (omega (arith, is_step)),
+    )
 
 place_injective : (b step j k : ℕ) → step ≡ 2 ^ b * 8 → j < 2 ^ b * 64 → k < 2 ^ b * 64
     → place_of step j ≡ place_of step k → j ≡ k
@@ -100,17 +94,14 @@ pub places_reversed : {T : Type 0} (bits b step i : ℕ) (old new : ℕ → T) �
     → ReorderedSoFar (2 ^ b * 64) i (tiles_reversed b) (λ t. old (place_of step t)) (λ t. new (place_of step t))
     → (k : ℕ) → k < 2 ^ b * 64 → new k ≡ old (bits_reversed bits k)
 places_reversed bits b step i old new is_bits is_step all so_far k l =
-    let t = number_of step k in
     let some : 0 < step = omega arith in
     let eight : k < 8 * step = omega (arith, is_step) in
     let row : k / step < 8 = (div-lt_iff_lt-mul {k = step} {x = k} {y = 8} some).1 eight in
-    let rest : k % step < step = mod-lt k some in
-    let again = div-add-mod' k step in
-    let below : t < 2 ^ b * 64 = omega (arith, is_step, row, rest) in
-    let place : place_of step t ≡ k =
-    place_of_parts step ((k % step) / 8) (k / step) ((k % step) % 8) row (omega arith) ∙ omega (arith, again) in
-    ap new (sym place) ∙ reordered_all (2 ^ b * 64) i (tiles_reversed b) _ _ all so_far t below
-    ∙ ap old (sym (place_reversed bits b step t is_bits is_step below) ∙ ap (bits_reversed bits) place)
+    let below : (number_of step k) < 2 ^ b * 64 = omega (arith, is_step, row, mod-lt k some) in
+    let place : place_of step (number_of step k) ≡ k =
+    place_of_parts _ _ _ _ row (omega arith) ∙ omega (arith, div-add-mod' k step) in
+    ap new (sym place) ∙ reordered_all (2 ^ b * 64) i (tiles_reversed b) _ _ all so_far (number_of step k) below
+    ∙ ap old (sym (place_reversed bits b step (number_of step k) is_bits is_step below) ∙ ap (bits_reversed bits) place)
 
 pub tiles_of_whole : (bits n : ℕ) → 6 ≤ bits → n ≡ 2 ^ bits → n ≡ 2 ^ (bits - 6) * 64
 tiles_of_whole bits n some whole = grind (arith, pow-add)
@@ -152,11 +143,9 @@ spot_swapped b step tile other row column to_row to_column old new newer here or
     let at : Swapped new newer (place_of step t) (place_of step (s t)) =
     subst (λ i. Swapped new newer i (place_of step (s t))) (sym here.first)
     (subst (λ j. Swapped new newer (row * step + tile * 8 + column) j) (sym here.second) swapped) in
-    reordered_at n (t + 1) (tile * 64 + row * 8 + (column + 1)) s _ _ (omega arith)
-    (reordered_swapped n t s (λ k. old (place_of step k)) (λ k. new (place_of step k)) (λ k. newer (place_of step k))
-    exchange here.number_below (omega (arith, order, here.number))
-    (exchanged_numbers b step t (s t) new newer here.step_is here.number_below (exchange.within t here.number_below)
-    at) so_far)
+    reordered_at _ _ _ _ _ _ (omega arith) (reordered_swapped _ _ _ _ _ _ exchange here.number_below
+    (omega (arith, order, here.number)) (exchanged_numbers _ _ _ _ _ _ here.step_is here.number_below
+    (exchange.within t here.number_below) at) so_far)
 
 -- they were swapped before, or are the same place
 pub spot_passed : {T : Type 0} (b step tile other row column to_row to_column : ℕ) (old new : ℕ → T)
@@ -167,12 +156,8 @@ pub spot_passed : {T : Type 0} (b step tile other row column to_row to_column : 
     → ReorderedSoFar (2 ^ b * 64) (tile * 64 + row * 8 + (column + 1)) (tiles_reversed b) (λ t. old (place_of step t))
     (λ t. new (place_of step t))
 spot_passed b step tile other row column to_row to_column old new here order so_far =
-    let n = 2 ^ b * 64 in
-    let s = tiles_reversed b in
-    let t = tile * 64 + row * 8 + column in
-    reordered_at n (t + 1) (tile * 64 + row * 8 + (column + 1)) s _ _ (omega arith)
-    (reordered_passed n t s (λ k. old (place_of step k)) (λ k. new (place_of step k)) (tiles_exchange b n refl)
-    here.number_below (omega (arith, order, here.number)) so_far)
+    reordered_at _ _ _ _ _ _ (omega arith) (reordered_passed _ _ _ _ _ (tiles_exchange _ _ refl) here.number_below
+    (omega (arith, order, here.number)) so_far)
 
 -- so were all places of a tile
 pub tile_passed : {T : Type 0} (b step tile other : ℕ) (old new : ℕ → T) → other ≡ bits_reversed b tile → other < tile
@@ -181,11 +166,7 @@ pub tile_passed : {T : Type 0} (b step tile other : ℕ) (old new : ℕ → T) �
     → ReorderedSoFar (2 ^ b * 64) ((tile + 1) * 64) (tiles_reversed b) (λ t. old (place_of step t))
     (λ t. new (place_of step t))
 tile_passed b step tile other old new is_other order so_far =
-    let n = 2 ^ b * 64 in
-    let s = tiles_reversed b in
-    reordered_at n (tile * 64 + 64) ((tile + 1) * 64) s _ _ (omega arith)
-    (reordered_passed_by n (tile * 64) 64 s (λ k. old (place_of step k)) (λ k. new (place_of step k))
-    (tiles_exchange b n refl)
+    reordered_at _ _ _ _ _ _ (omega arith) (reordered_passed_by _ _ 64 _ _ _ (tiles_exchange _ _ refl)
     (λ k l from to.
     let at : k / 64 ≡ tile = omega arith in
     omega (arith, ap (bits_reversed b) at, reversed_below_8 (k % 8), reversed_below_8 (k / 8 % 8), is_other)) so_far)

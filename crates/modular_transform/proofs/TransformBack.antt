@@ -12,7 +12,7 @@ use Rattle.modular_reduced.specs.Values.{HoldValues}
 use Rattle.modular_reduced.proofs.ListSteps.{held_values}
 use Rattle.modular_transform.specs.Orders.{IsReordered, mirrored}
 use Rattle.modular_transform.specs.Transforms.{Suits, transform}
-use Rattle.modular_transform.proofs.ConvolveLemmas.{by_part, mirrored_place, reordered_value}
+use Rattle.modular_transform.proofs.ConvolveLemmas.{by_part, reordered_value}
 use Rattle.modular_transform.proofs.InverseTransform.{transform_congruent, transformed_twice}
 use Rattle.modular_transform.proofs.Reordering.{mirror_exchange}
 
@@ -20,22 +20,19 @@ use Rattle.modular_transform.proofs.Reordering.{mirror_exchange}
 transform_scaled : (m g n part j : ℕ) (u : ℕ → ℕ)
     → Congruent m (transform m g n (λ i. part * u i) j) (part * transform m g n u j)
 transform_scaled m g n part j u =
-    let s = sum_below n (λ i. u i * g ^ (i * j)) in
-    let terms = sum_below-same n (λ i. part * u i * g ^ (i * j)) (λ i. part * (u i * g ^ (i * j)))
-    (λ i _. omega arith) in
-    mod_trans (residue_of _) (mod_trans (mod_of_eq (terms ∙ sum_below-mul n part (λ i. u i * g ^ (i * j))))
-    (mod_mul (mod_refl part) (mod_sym (residue_of s))))
+    let terms = sum_below-same _ _ _ (λ i _. omega arith) in
+    mod_trans (residue_of _) (mod_trans (mod_of_eq (terms ∙ sum_below-mul _ _ _))
+    (mod_mul (mod_refl _) (mod_sym (residue_of (sum_below n (λ i. u i * g ^ (i * j)))))))
 
 -- the transform back of a transform
 pub undone_at : (m g n part i : ℕ) (x old : ℕ → ℕ) → Suits m g n → IsInverse m n part → i < n
     → ((j : ℕ) → j < n → transform m g n x j ≡ old j)
     → (transform m g n old (mirrored n i) * part) % m ≡ x i % m
 undone_at m g n part i x old suits inverse l is =
-    let mirror = mirror_exchange n in let k = mirrored n i in
-    (by_part (x i) inverse
-    (mod_trans (mod_of_eq (transform_congruent g n k old (transform m g n x) (λ j t. mod_of_eq (sym (is j t)))))
-    (mod_trans (transformed_twice g n k x suits (mirror.within i l))
-    (mod_of_eq (ap (λ p. n * x p) (mirror.twice i l)))))).same
+    (by_part (x i) inverse (mod_trans
+    (mod_of_eq (transform_congruent g n (mirrored n i) old (transform m g n x) (λ j t. mod_of_eq (sym (is j t)))))
+    (mod_trans (transformed_twice g n (mirrored n i) x suits ((mirror_exchange n).within i l))
+    (mod_of_eq (ap (λ p. n * x p) ((mirror_exchange n).twice i l)))))).same
 
 -- and the transform of a transform back
 pub restored_at : (m g n part j : ℕ) (new old : ℕ → ℕ) → g < m → Suits m g n → IsInverse m n part → j < n
@@ -45,16 +42,15 @@ restored_at m g n part j new old _ suits inverse l is =
     let mirror = mirror_exchange n in let u = transform m g n old in
     let twice = transform m g n (transform m g n u) in
     -- the values are 1/n^2 times the third transform, of which the transform is n^2 times the old values
-    let values = λ (i : ℕ) (k : i < n). mod_trans (mod_of_eq (is i k)) (mod_trans (residue_of _)
-    (mod_trans (mod_mul (mod_sym (by_part (u (mirrored n i)) inverse (transformed_twice g n i u suits k))) (mod_refl part))
-    (mod_of_eq (let e : twice i * part * part ≡ part * part * twice i = omega arith in e)))) in
-    let last = by_part (old j) inverse (mod_trans (transformed_twice g n (mirrored n j) old suits (mirror.within j l))
+    let values = λ (i : ℕ) (k : i < n). mod_trans (mod_of_eq (is i k))
+    (mod_trans (residue_of _) (mod_trans (mod_mul (mod_sym (by_part _ inverse (transformed_twice _ _ _ _ suits k)))
+    (mod_refl _)) (mod_of_eq (let e : twice i * part * part ≡ part * part * twice i = omega arith in e)))) in
+    let last = by_part _ inverse (mod_trans (transformed_twice _ _ _ _ suits (mirror.within j l))
     (mod_of_eq (ap (λ p. n * old p) (mirror.twice j l)))) in
-    let before = by_part _ inverse (transformed_twice g n j (transform m g n u) suits l) in
+    let before = by_part _ inverse (transformed_twice _ _ _ _ suits l) in
     sym (mod-mod (sum_below n (λ i. new i * g ^ (i * j))) m)
     ∙ (mod_trans (mod_of_eq (transform_congruent g n j new (λ i. part * part * twice i) values))
-    (mod_trans (transform_scaled m g n (part * part) j twice)
-    (mod_trans (mod_of_eq (let t = transform m g n twice j in
+    (mod_trans (transform_scaled m g n (part * part) j twice) (mod_trans (mod_of_eq (let t = transform m g n twice j in
     let e : part * part * t ≡ t * part * part = omega arith in e))
     (mod_trans (mod_mul before (mod_refl part)) last)))).same
 
@@ -82,12 +78,11 @@ stepped_back number form value width m g part xs xs1 xs2 xs3 canonical l1 l2 l3 
       let n = length xs in
       let x = entry number value m xs in
       let k = mirrored n i in
-      let lk : k < n = (mirrored_place n i (omega (arith, in_range, l3))).image in
       let e : mirrored (length xs1) i ≡ k = ap (λ v. mirrored v i) l1 in
       let v2 : entry number value m xs2 i ≡ transform m g n x k =
-      reordered_value number value m i d (mirrored (length xs1)) xs1 xs2 is2
-      (omega (arith, in_range, l1, l3)) (omega (arith, in_range, l2, l3)) (omega (arith, e, lk, l1))
-      ∙ ap (entry number value m xs1) e
-      ∙ held_values number xs1 (transform m g n x) k canonical is1 (omega (arith, lk, l1)) in
-      subst (λ v. Represents form m (number (get_or xs3 i d)) v) (ap (λ v. (v * part) % m) v2) (is3.each i d in_range);
+      reordered_value number value m i d _ _ _ is2 (omega (arith, in_range, l1, l3))
+      (omega (arith, in_range, l2, l3)) (omega (arith, e, l1)) ∙ ap (entry number value m xs1) e
+      ∙ held_values _ _ _ k canonical is1 (omega (arith, l1)) in
+      subst (λ v. Represents form m (number (get_or xs3 i d)) v) (ap (λ v. (v * part) % m) v2)
+      (is3.each i d in_range);
 }

@@ -11,7 +11,7 @@ use Rattle.modular_word.specs.Congruence.{Congruent}
 use Rattle.modular_transform.specs.Orders.{bits_reversed, IsReordered}
 use Rattle.modular_transform.specs.Stages.{IsStage, IsTwoStages}
 use Rattle.modular_reduced.specs.Values.{HoldValues}
-use Rattle.modular_word.proofs.Congruence.{mod_of_eq, mod_sym, mod_trans, mod_add, mod_mul, mod_pow, residue_of}
+use Rattle.modular_word.proofs.Congruence.{mod_of_eq, mod_trans, mod_add, mod_mul, mod_pow, residue_of}
 use Rattle.modular_word.proofs.Powers.{pow-mul}
 use Rattle.modular_reduced.specs.Entries.{entry}
 use Rattle.modular_reduced.specs.EntryLaws.{entry_at}
@@ -56,10 +56,8 @@ stage_sizes z t n half blocks l whole is_half is_blocks =
 pub stage_half_turn : {m : ℕ} (g z t n half blocks : ℕ) → StageSizes z t n half blocks → blocks ≡ 2 ^ t → 0 < half
     → Suits m g n → IsMinusOne m ((g ^ (2 ^ t)) ^ half)
 stage_half_turn {m} g z t n half blocks sizes is_blocks some suits =
-    let w = sizes.whole in
-    let p = sizes.some in
-    let l : 1 < n = omega (arith, w, mul-le-mul_right (half + half) p) in
-    let e : n / 2 ≡ blocks * half = omega (arith, w) in
+    let l : 1 < n = omega (arith, sizes.whole, mul-le-mul_right (half + half) sizes.some) in
+    let e : n / 2 ≡ blocks * half = omega (arith, sizes.whole) in
     let f : g ^ (n / 2) ≡ (g ^ (2 ^ t)) ^ half =
     ap (λ v. g ^ v) (e ∙ ap (λ v. v * half) is_blocks) ∙ pow-mul g (2 ^ t) half in
     same_minus_one f (record { and_one = record { same = suits.half_turn l ∙ sym (zero-mod m) } })
@@ -101,30 +99,18 @@ pub record TwoSizes (z t n half blocks : ℕ) : Type 0 where
 pub two_sizes : (z t n half blocks : ℕ) → t < z → (z - t) % 2 ≡ 0 → n ≡ 2 ^ z → half ≡ 2 ^ (z - t) / 2 → blocks ≡ 2 ^ t
     → TwoSizes z t n half blocks
 two_sizes z t n half blocks l even whole is_half is_blocks =
-    let one = stage_sizes z t n half blocks l whole is_half is_blocks in
+    let one = stage_sizes _ _ _ _ _ l whole is_half is_blocks in
     let next = one.next in
     let more = one.more in
     let is : half / 2 ≡ 2 ^ (z - (t + 1)) / 2 = ap (λ v. v / 2) (sym next) in
-    let two = stage_sizes z (t + 1) n (half / 2) (blocks * 2) (omega arith) whole is (sym more) in
-    let e : t + 1 + 1 ≡ t + 2 = omega arith in
-    let quarter = sym (ap (λ k. 2 ^ (z - k)) e) ∙ two.next in
-    record {
-      first = one;
-      second = two;
-      halved = omega (arith, next, two.now);
-      some = omega (arith, pow_pos (z - (t + 2)), quarter);
-      quarter = quarter;
-    }
+    let two = stage_sizes _ _ _ _ _ (omega arith) whole is (sym more) in
+    grind (arith, two.now, pow_pos (z - (t + 2)))
 
 -- the root of a pass to the quarter of its block
 pub quarter_turn : {m : ℕ} (g z t n half blocks v w : ℕ) → TwoSizes z t n half blocks → t + 2 ≤ z
     → Congruent m v (g ^ (2 ^ t)) → Congruent m w (g ^ (2 ^ (z - 2))) → Congruent m w (v ^ (half / 2))
 quarter_turn g z t n half blocks v w sizes l root quarter =
-    let e : t + (z - (t + 2)) ≡ z - 2 = omega arith in
-    let p : 2 ^ t * (half / 2) ≡ 2 ^ (z - 2) =
-    ap (λ k. 2 ^ t * k) (sym sizes.quarter) ∙ sym (pow-add 2 t (z - (t + 2))) ∙ ap (λ k. 2 ^ k) e in
-    let q = ap (λ k. g ^ k) (sym p) ∙ pow-mul g (2 ^ t) (half / 2) in
-    mod_trans quarter (mod_trans (mod_of_eq q) (mod_sym (mod_pow (half / 2) root)))
+    grind (arith, sizes.quarter, pow-add 2 t (z - (t + 2)), pow-mul g (2 ^ t) (half / 2), mod_pow (half / 2) root)
 
 -- two stages of the loop
 pub two_more : {m : ℕ} (g z t n half blocks v w : ℕ) (x y u : ℕ → ℕ) → TwoSizes z t n half blocks → blocks ≡ 2 ^ t

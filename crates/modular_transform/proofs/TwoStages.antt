@@ -71,8 +71,4 @@ second_of_two m w v h blocks x y done = record {
 -- all blocks and all columns
 pub two_stages_done : (m w v h blocks n : ℕ) (x y : ℕ → ℕ) → blocks * (4 * h) ≡ n → ((k : ℕ) → k < n → x k < m)
     → FoursDone m w v h 0 blocks 0 h x y → IsTwoStages m w v h blocks x y
-two_stages_done m w v h blocks n x y whole below done = record {
-  between = after m w (h + h) x;
-  first = first_of_two m w h blocks n x whole below;
-  second = second_of_two m w v h blocks x y done;
-}
+two_stages_done m w v h blocks n x y whole below done = search (arith, first_of_two, second_of_two)

@@ -1,6 +1,6 @@
 -- A list of forms as the function from places to values: what is read and what is written.
 use Rattle.std.proofs.Common.{◌≡◌, ◌≢◌, ℕ, ◌+◌, ◌*◌, ◌%◌, ◌<◌, List, [], ◌∷◌, length, get_or, All, pos}
-use Rattle.std.proofs.Common.{◌-ℤ◌, inl, inr, sym, ◌∙◌, arith, subst}
+use Rattle.std.proofs.Common.{◌-ℤ◌, sym, ◌∙◌, arith, subst}
 use Rattle.std.proofs.Math.ListN.{set, length-set}
 use Rattle.std.proofs.Math.Nat.{add-mod_right}
 use Rattle.std.proofs.lemmas.Bool.{cases_lt}
@@ -32,28 +32,19 @@ forms_written number form value width m forms i v f canonical is all =
 
 -- a difference modulo m, and what was taken away
 residue_restored : (m v w : ℕ) → v < m → w < m → Congruent m (residue m (pos v -ℤ pos w) + w) v
-residue_restored m v w lv lw = elim (cases_lt v w) [
-  | inl l ↦
-      let s : residue m (pos v -ℤ pos w) + w ≡ v + m = omega (arith, residue_sub_wrapped m v w lw l) in
-      let z : Congruent m (v + m) v = record { same = add-mod_right v m } in
-      mod_trans (mod_of_eq s) z
-  | inr l ↦
-      let s : residue m (pos v -ℤ pos w) + w ≡ v = omega (arith, residue_sub m v w lv l) in
-      mod_of_eq s
-]
+residue_restored m v w lv lw = grind (arith, (cases_lt v w), residue_sub_wrapped, add-mod_right v m, residue_sub)
 
 -- the sum of two values, and their difference times a power
 pub pair_of : {m : ℕ} (a b power sum difference : ℕ) → a < m → b < m → sum ≡ (a + b) % m
     → difference ≡ (residue m (pos a -ℤ pos b) * power) % m → IsPair m power a b sum difference
 pair_of {m} a b power sum difference la lb is_sum is_difference =
     let d = residue m (pos a -ℤ pos b) in
-    let restored : Congruent m (d + b) a = residue_restored m a b la lb in
     let spread : d * power + b * power ≡ (d + b) * power = omega arith in
     record {
       summed = mod_trans (mod_of_eq is_sum) (residue_of (a + b));
       subtracted =
           mod_trans (mod_add (mod_trans (mod_of_eq is_difference) (residue_of (d * power))) (mod_refl (b * power)))
-          (mod_trans (mod_of_eq spread) (mod_mul restored (mod_refl power)));
+          (mod_trans (mod_of_eq spread) (mod_mul (residue_restored m a b la lb) (mod_refl power)));
     }
 
 -- what a pair writes
@@ -80,16 +71,11 @@ pair_written number form value width m forms low high a b sum product power cano
     let vb : value m (number b) ≡ x high = entry_read number value m forms high b within read_b in
     let ne : high ≢ low = omega arith in
     let at_low : y low ≡ value m (number sum) = entry_written number value m (set forms high product) low sum ls in
-    let at_high : y high ≡ value m (number product) = entry_kept number value m
-    (set forms high product) low high sum ne ∙ entry_written number value m forms high product within in
+    let at_high : y high ≡ value m (number product) = entry_kept number value m (set forms high product) low high sum
+    ne ∙ entry_written number value m forms high product within in
     let done = pair_of (value m (number a)) (value m (number b)) power (y low) (y high) is_a.below is_b.below
     (at_low ∙ canonical.one_value _ _ is_sum) (at_high ∙ canonical.one_value _ _ is_product) in
-    record {
-      pair = subst (λ v. IsPair m power v (x high) (y low) (y high)) va
-          (subst (λ v. IsPair m power (value m (number a)) v (y low) (y high)) vb done);
-      kept = λ i nl nh. entry_kept number value m (set forms high product) low i sum nl
-          ∙ entry_kept number value m forms high i product nh;
-    }
+    grind (arith, entry_kept)
 
 -- a loop that writes entry after entry
 pub entry_done : {T : Type 0} (number : T → ℕ) (value : ℕ → ℕ → ℕ) (m : ℕ) (forms : List T)

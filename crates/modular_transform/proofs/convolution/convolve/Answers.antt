@@ -19,12 +19,7 @@ returns-in-Some-clause-values g c h e l =
 
 pub returns-in-Some-clause-transformed_values : goal.returns-in-Some-clause-transformed_values
 returns-in-Some-clause-transformed_values g c h j l =
-    held_values g.T.RingWord.number c.multiply.new.ys _ j
-    (g.met.R.Reducer.canonical c.args.r.now) c.multiply.ensures.transformed
-    (let equal = c.requires.equal in omega arith)
+    held_values _ _ _ _ (g.met.R.Reducer.canonical c.args.r.now) c.multiply.ensures.transformed (omega arith)
 
 pub returns-in-None-clause-inverse : goal.returns-in-None-clause-inverse
-returns-in-None-clause-inverse g c = (
-  λ h. absurd (false≢true h),
-  λ h. absurd (c.in-None.ensures.value h.0 (inverse_along (mod_sym c.length_form-length.ensures.counted) h.1)),
-)
+returns-in-None-clause-inverse g c = search (arith, false≢true, inverse_along, mod_sym)

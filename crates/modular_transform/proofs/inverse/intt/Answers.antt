@@ -1,12 +1,9 @@
-use Rattle.std.proofs.Common.{◌*◌, ◌%◌, length, refl, ◌∙◌, arith}
+use Rattle.std.proofs.Common.{refl, ◌∙◌, arith}
 use Rattle.std.proofs.lemmas.Bool.{false≢true}
 use Rattle.std.proofs.Math.Nat.{mod-eq_of_lt}
 use Rattle.modular_word.proofs.Congruence.{mod_sym}
-use Rattle.modular_reduced.specs.Entries.{entry}
 use Rattle.modular_reduced.proofs.ListSteps.{held_values}
 use Rattle.modular_transform.proofs.ValueLemmas.{values_below}
-use Rattle.modular_transform.specs.Orders.{mirrored}
-use Rattle.modular_transform.specs.Transforms.{transform}
 use Rattle.modular_transform.proofs.ConvolveLemmas.{inverse_along}
 use Rattle.modular_transform.proofs.TransformBack.{undone_at, restored_at}
 use Rattle.modular_transform.proofs.inverse.intt.Goals as goal
@@ -18,27 +15,16 @@ returns-in-Some-clause-inverse g c =
 pub returns-in-Some-clause-values : goal.returns-in-Some-clause-values
 returns-in-Some-clause-values g c h j l =
     let m = g.R.Reducer.modulus c.args.r.now in let number = g.T.RingWord.number in let value = g.R.Reducer.value in
-    let n = length c.args.xs.now in let root = value m (number c.args.g.now) in
-    let part = value m (number c.in-Some.part) in let old = entry number value m c.args.xs.now in
     let inverse = inverse_along c.length_form-length.ensures.counted c.in-Some.ensures.value in
-    restored_at m root n part j (entry number value m c.transform_back.new.xs) old c.requires.root.below c.requires.suits
-    inverse l (λ i k. held_values number c.transform_back.new.xs
-    (λ i. (transform m root n old (mirrored n i) * part) % m) i (g.met.R.Reducer.canonical c.args.r.now)
-    c.transform_back.ensures.entries (omega arith))
-    ∙ mod-eq_of_lt (values_below number g.R.Reducer.form value m c.args.xs.now j c.requires.checked l)
+    restored_at _ _ _ _ _ _ _ c.requires.root.below c.requires.suits inverse l
+    (λ i k. held_values _ _ _ _ (g.met.R.Reducer.canonical c.args.r.now) c.transform_back.ensures.entries
+    (omega arith)) ∙ mod-eq_of_lt (values_below number g.R.Reducer.form value m c.args.xs.now j c.requires.checked l)
 
 pub returns-in-Some-clause-undone : goal.returns-in-Some-clause-undone
 returns-in-Some-clause-undone g c h x are i l =
-    let m = g.R.Reducer.modulus c.args.r.now in let number = g.T.RingWord.number in let value = g.R.Reducer.value in
-    let n = length c.args.xs.now in let root = value m (number c.args.g.now) in
-    let part = value m (number c.in-Some.part) in let old = entry number value m c.args.xs.now in
-    held_values number c.transform_back.new.xs (λ i. (transform m root n old (mirrored n i) * part) % m) i
-    (g.met.R.Reducer.canonical c.args.r.now) c.transform_back.ensures.entries (omega arith)
-    ∙ undone_at m root n part i x old c.requires.suits
+    held_values _ _ _ i (g.met.R.Reducer.canonical c.args.r.now) c.transform_back.ensures.entries (omega arith)
+    ∙ undone_at _ _ _ _ _ _ _ c.requires.suits
     (inverse_along c.length_form-length.ensures.counted c.in-Some.ensures.value) l are
 
 pub returns-in-None-clause-inverse : goal.returns-in-None-clause-inverse
-returns-in-None-clause-inverse g c = (
-  λ h. absurd (false≢true h),
-  λ h. absurd (c.in-None.ensures.value h.0 (inverse_along (mod_sym c.length_form-length.ensures.counted) h.1)),
-)
+returns-in-None-clause-inverse g c = search (arith, false≢true, inverse_along, mod_sym)

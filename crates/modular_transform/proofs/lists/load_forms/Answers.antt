@@ -14,11 +14,10 @@ entries-preserved g c =
     let within = subst (λ n. i < n) (sym c.entries.auto.forms) c.entries-test.true in
     -- a word is its own value
     let is : number c.if-i-words.word ≡ slice_index (map number words) i = elim c.if-i-words.branch [
-      | then-i-words w ↦ ap number w.word-is
-          ∙ entry_read number (λ m v. v) m words i w.index-words-i.result w.if-i-words.true w.index-words-i.is
+      | then-i-words w ↦ ap number w.word-is ∙ entry_read number (λ m v. v) m words i w.index-words-i.result
+          w.if-i-words.true w.index-words-i.is
       | else-i-words w ↦ ap number w.word-is ∙ w.zero-word.ensures
           ∙ sym (entry_past number (λ m v. v) m words i w.if-i-words.false)
     ] in
-    hold_more number ring.form ring.value m c.entries.forms i c.transform.result
-    (λ k. slice_index (map number words) k % m) within c.entries.invariant c.transform.ensures.checked
-    (c.transform.ensures.value ∙ ap (λ v. v % m) is)
+    hold_more _ _ _ _ _ _ _ _ within c.entries.invariant c.transform.ensures.checked (c.transform.ensures.value
+    ∙ ap (λ v. v % m) is)

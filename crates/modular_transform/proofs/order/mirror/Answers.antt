@@ -13,27 +13,22 @@ places-preserved g c d =
     let i = c.places.place in
     let s = mirrored n in
     let l : i < n = omega arith in
-    let is : n - i ≡ s i = sym (mirrored_other n i (omega arith) l) in
+    let is : n - i ≡ s i = sym (mirrored_other _ _ (omega arith) l) in
     elim c.if-place-other.branch [
       | then-place-other w ↦
           let order : i < s i = omega (arith, is) in
           let within : s i < length c.places.entries = omega (arith, is) in
           let e = w.entries-is ∙ w.swap.ensures.after ∙ ap (λ j. swap c.places.entries i j) is in
-          reordered_swapped n i s (λ k. get_or c.args.entries.now k d) (λ k. get_or c.places.entries k d)
-          (λ k. get_or c.if-place-other.entries k d) (mirror_exchange n) l order
-          (exchanged_of_swapped n i (s i) _ _
-          (swapped_from_swap c.places.entries c.if-place-other.entries i (s i) d (omega arith) within e))
-          (c.places.invariant d)
+          reordered_swapped _ _ _ _ _ _ (mirror_exchange _) l order
+          (exchanged_of_swapped _ _ _ _ _ (swapped_from_swap c.places.entries c.if-place-other.entries i (s i) d
+          (omega arith) within e)) (c.places.invariant d)
       | else-place-other w ↦
           let order : s i ≤ i = omega (arith, is) in
           subst (λ es. ReorderedSoFar n (i + 1) s (λ k. get_or c.args.entries.now k d) (λ k. get_or es k d))
-          (sym w.entries-is)
-          (reordered_passed n i s (λ k. get_or c.args.entries.now k d) (λ k. get_or c.places.entries k d)
-          (mirror_exchange n) l order (c.places.invariant d))
+          (sym w.entries-is) (reordered_passed _ _ _ _ _ (mirror_exchange _) l order (c.places.invariant d))
     ]
 
 pub returns : goal.returns
 returns g c = record {
-  each = λ i d l. reordered_all (length c.args.entries.now) c.places.place (mirrored (length c.args.entries.now)) _ _
-      (omega arith) (c.places.invariant d) i l;
+  each = λ i d l. reordered_all _ _ _ _ _ (omega arith) (c.places.invariant d) _ l;
 }

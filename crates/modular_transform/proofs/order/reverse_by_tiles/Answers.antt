@@ -16,24 +16,20 @@ use Rattle.modular_transform.proofs.order.reverse_by_tiles.Goals.{else-tile-othe
 spot_at : (g : _) (c : After-next_reversed-to_row g) → Spot (c.args.bits - 6) (length c.args.entries.now / 8) c.tiles.tile
     c.next_reversed-other.result c.rows.row c.columns.column c.next_reversed-to_row.result c.next_reversed-to_column.result
 spot_at g c =
-    let w = tiles_of_whole c.args.bits (length c.args.entries.now) c.requires.tiles c.requires.whole in
-    spot (c.args.bits - 6) (length c.args.entries.now / 8) c.tiles.tile c.next_reversed-other.result c.rows.row
-    c.columns.column c.next_reversed-to_row.result c.next_reversed-to_column.result
-    (omega (arith, w)) (omega (arith, w)) (omega arith) (omega arith)
-    c.next_reversed-other.ensures c.next_reversed-to_row.ensures c.next_reversed-to_column.ensures
+    let w = tiles_of_whole _ _ c.requires.tiles c.requires.whole in
+    spot _ _ _ _ _ _ _ _ (omega (arith, w)) (omega (arith, w)) (omega arith)
+    (omega arith) c.next_reversed-other.ensures c.next_reversed-to_row.ensures c.next_reversed-to_column.ensures
 
 pub rows-init : goal.rows-init
 rows-init g c = record {
   last = sym (bits_reversed_of_zero 3);
-  reordered = λ d. reordered_at _ (c.tiles.tile * 64) (c.tiles.tile * 64 + 0) _ _ _ (omega arith)
-      (c.tiles.invariant.reordered d);
+  reordered = λ d. reordered_at _ _ _ _ _ _ (omega arith) (c.tiles.invariant.reordered d);
 }
 
 pub columns-init : goal.columns-init
 columns-init g c = record {
   last = sym (bits_reversed_of_zero 3);
-  reordered = λ d. reordered_at _ (c.tiles.tile * 64 + c.rows.row * 8) (c.tiles.tile * 64 + c.rows.row * 8 + 0) _ _ _
-      (omega arith) (c.rows.invariant.reordered d);
+  reordered = λ d. reordered_at _ _ _ _ _ _ (omega arith) (c.rows.invariant.reordered d);
 }
 
 pub overflow_mul-to_row : goal.overflow_mul-to_row
@@ -72,7 +68,6 @@ columns-preserved g c =
     let to_column = c.next_reversed-to_column.result in
     let step = length c.args.entries.now / 8 in
     let here = spot_at g (goal.at.columns-preserved g c).After-next_reversed-to_row in
-    let second_below = here.second_below in
     let back : column + 1 - 1 ≡ column = omega arith in
     record {
       last = c.next_reversed-to_row.ensures ∙ ap (bits_reversed 3) (sym back);
@@ -86,14 +81,12 @@ columns-preserved g c =
             spot_swapped (bits - 6) step tile other row column to_row to_column (λ k. get_or c.args.entries.now k d)
             (λ k. get_or c.columns.entries k d) (λ k. get_or c.if-tile-other-2.entries k d) here order
             (swapped_from_swap c.columns.entries c.if-tile-other-2.entries (row * step + tile * 8 + column)
-            (to_row * step + other * 8 + to_column) d (omega (arith, here.first_below)) (omega (arith, second_below))
-            (w.entries-is ∙ w.swap.ensures.after))
-            (c.columns.invariant.reordered d)
+            (to_row * step + other * 8 + to_column) d (omega (arith, here.first_below)) (omega arith) (w.entries-is
+            ∙ w.swap.ensures.after)) (c.columns.invariant.reordered d)
         | else-tile-other-2+else-row-column w ↦
-            subst
-            (λ es. ReorderedSoFar (2 ^ (bits - 6) * 64) (tile * 64 + row * 8 + (column + 1)) (tiles_reversed (bits - 6))
-            (λ t. get_or c.args.entries.now (place_of step t) d) (λ t. get_or es (place_of step t) d))
-            (sym w.entries-is)
+            subst (λ es. ReorderedSoFar (2 ^ (bits - 6) * 64) (tile * 64 + row * 8 + (column + 1))
+            (tiles_reversed (bits - 6)) (λ t. get_or c.args.entries.now (place_of step t) d)
+            (λ t. get_or es (place_of step t) d)) (sym w.entries-is)
             (spot_passed (bits - 6) step tile other row column to_row to_column (λ k. get_or c.args.entries.now k d)
             (λ k. get_or c.columns.entries k d) here (omega arith) (c.columns.invariant.reordered d))
       ];
@@ -101,12 +94,10 @@ columns-preserved g c =
 
 pub rows-preserved : goal.rows-preserved
 rows-preserved g c =
-    let all : c.columns.column ≡ 8 = omega arith in
     let back : c.rows.row + 1 - 1 ≡ c.rows.row = omega arith in
     record {
       last = c.next_reversed-to_column.ensures ∙ ap (bits_reversed 3) (sym back);
-      reordered = λ d. reordered_at _ (c.tiles.tile * 64 + c.rows.row * 8 + c.columns.column)
-          (c.tiles.tile * 64 + (c.rows.row + 1) * 8) _ _ _ (omega arith) (c.columns.invariant.reordered d);
+      reordered = λ d. reordered_at _ _ _ _ _ _ (omega arith) (c.columns.invariant.reordered d);
     }
 
 pub tiles-preserved : goal.tiles-preserved

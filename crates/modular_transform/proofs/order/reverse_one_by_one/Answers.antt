@@ -19,7 +19,7 @@ places-preserved g c =
     let n = length c.args.entries.now in
     let i = c.places.place in
     let s = bits_reversed c.args.bits in
-    let exchange = bits_exchange c.args.bits n c.requires.whole in
+    let exchange = bits_exchange _ _ c.requires.whole in
     let is = c.next_reversed-other.ensures in
     let l : i < n = omega arith in
     let back : i + 1 - 1 ≡ i = omega arith in
@@ -28,25 +28,19 @@ places-preserved g c =
       reordered = λ d. elim c.if-place-other.branch [
         | then-place-other w ↦
             let order : i < s i = omega (arith, is) in
-            let within : s i < length c.places.entries = let b = bits_reversed_below c.args.bits i in
-            omega (arith, b) in
+            let within : s i < length c.places.entries = omega arith in
             let e = w.entries-is ∙ w.swap.ensures.after ∙ ap (λ j. swap c.places.entries i j) is in
-            reordered_swapped n i s (λ k. get_or c.args.entries.now k d) (λ k. get_or c.places.entries k d)
-            (λ k. get_or c.if-place-other.entries k d) exchange l order
-            (exchanged_of_swapped n i (s i) _ _
-            (swapped_from_swap c.places.entries c.if-place-other.entries i (s i) d (omega arith) within e))
-            (c.places.invariant.reordered d)
+            reordered_swapped _ _ _ _ _ _ exchange l order
+            (exchanged_of_swapped _ _ _ _ _ (swapped_from_swap c.places.entries c.if-place-other.entries i (s i) d
+            (omega arith) within e)) (c.places.invariant.reordered d)
         | else-place-other w ↦
             let order : s i ≤ i = omega (arith, is) in
             subst (λ es. ReorderedSoFar n (i + 1) s (λ k. get_or c.args.entries.now k d) (λ k. get_or es k d))
-            (sym w.entries-is)
-            (reordered_passed n i s (λ k. get_or c.args.entries.now k d)
-            (λ k. get_or c.places.entries k d) exchange l order (c.places.invariant.reordered d))
+            (sym w.entries-is) (reordered_passed _ _ _ _ _ exchange l order (c.places.invariant.reordered d))
       ];
     }
 
 pub returns : goal.returns
 returns g c = record {
-  each = λ i d l. reordered_all (length c.args.entries.now) c.places.place (bits_reversed c.args.bits) _ _ (omega arith)
-      (c.places.invariant.reordered d) i l;
+  each = λ i d l. reordered_all _ _ _ _ _ (omega arith) (c.places.invariant.reordered d) _ l;
 }

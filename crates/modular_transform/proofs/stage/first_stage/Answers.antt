@@ -1,20 +1,17 @@
 use Rattle.modular_transform.proofs.PairLemmas.{pairs_more}
 use Rattle.modular_transform.proofs.StripPowers.{power_more}
 use Rattle.std.proofs.Common.{arith}
-use Rattle.modular_reduced.specs.Entries.{entry}
 use Rattle.modular_transform.proofs.stage.first_stage.Goals as goal
 
 pub columns-preserved : goal.columns-preserved
 columns-preserved g c =
     let m = g.R.Reducer.modulus c.args.r.now in
-    let of = entry g.T.RingWord.number g.R.Reducer.value m in
     let w = g.R.Reducer.value m (g.T.RingWord.number c.args.root.now) in
     let before = c.columns.invariant in
     record {
       checked = c.pair.ensures.checked;
       form = c.mul-power.ensures.checked;
       power = power_more w c.columns.i (g.met.R.Reducer.canonical c.args.r.now) before.power c.mul-power.ensures.form;
-      done = pairs_more (of c.args.forms.now) (of c.columns.forms) (of c.pair.new.forms) c.columns-test.true before.power
-          before.done c.pair.ensures.done;
+      done = pairs_more _ _ _ c.columns-test.true before.power before.done c.pair.ensures.done;
       count = omega (arith, before.count);
     }

@@ -3,7 +3,6 @@ use Rattle.modular_transform.proofs.stage.pair.Goals as goal
 
 pub returns-clause-done : goal.returns-clause-done
 returns-clause-done g c =
-    pair_written g.T.RingWord.number g.R.Reducer.form g.R.Reducer.value _ _ c.args.forms.now c.args.first c.args.second
-    c.index-forms-first.result c.index-forms-second.result c.add.result c.mul_difference.result _
-    (g.met.R.Reducer.canonical c.args.r.now) c.requires.checked c.requires.within.0 c.requires.within.1
-    c.index-forms-first.is c.index-forms-second.is c.add.ensures.form c.mul_difference.ensures.form
+    pair_written _ _ _ _ _ _ _ c.args.second c.index-forms-first.result c.index-forms-second.result c.add.result
+    c.mul_difference.result _ (g.met.R.Reducer.canonical c.args.r.now) c.requires.checked c.requires.within.0
+    c.requires.within.1 c.index-forms-first.is c.index-forms-second.is c.add.ensures.form c.mul_difference.ensures.form

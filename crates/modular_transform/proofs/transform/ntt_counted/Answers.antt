@@ -1,5 +1,5 @@
 use Rattle.std.proofs.Common.{◌≡◌, ℕ, ◌+◌, ◌-◌, ◌*◌, ◌/◌, ◌%◌, ◌^◌, ◌<◌, ◌≤◌, length, sym, ◌∙◌, ap, arith, refl}
-use Rattle.std.proofs.Common.{inl, inr, subst, List, All, ◌≢◌, replicate}
+use Rattle.std.proofs.Common.{subst, List, All}
 use Rattle.std.proofs.lemmas.Bool.{cases_eq}
 use Rattle.std.proofs.lemmas.List.Elements.{All-set}
 use Rattle.std.proofs.lemmas.Nat.{pow_pos, mul-le}
@@ -12,13 +12,13 @@ use Rattle.modular_word.proofs.Powers.{pow-one}
 use Rattle.modular_reduced.specs.Entries.{entry}
 use Rattle.modular_reduced.specs.EntryLaws.{entry_at, entry_kept, entry_written}
 use Rattle.modular_reduced.specs.Forms.{IsForm}
-use Rattle.modular_transform.specs.Transforms.{transform, Suits}
+use Rattle.modular_transform.specs.Transforms.{Suits}
 use Rattle.modular_transform.proofs.Places.{StagesLeft, stage_offset, stages_left, two_left}
 use Rattle.modular_transform.proofs.PowersOfTwo.{trailing_zeros_of_power, exponent_below}
 use Rattle.modular_transform.proofs.StageLemmas.{BlocksTransform, stages_start}
 use Rattle.modular_transform.proofs.StripPowers.{one_form}
 use Rattle.modular_transform.proofs.TransformLemmas.{TwoSizes, stage_sizes, two_sizes, suited_length, root_more, quarter_turn}
-use Rattle.modular_transform.proofs.TransformLemmas.{blocks_more, two_more, products_more, two_products_more}
+use Rattle.modular_transform.proofs.TransformLemmas.{blocks_more, two_more, two_products_more}
 use Rattle.modular_transform.proofs.TransformLemmas.{blocks_all, products_all, plain_order}
 use Rattle.modular_reduced.proofs.ListSteps.{held_checked, held_values}
 use Rattle.modular_transform.proofs.transform.ntt_counted.Goals as goal
@@ -35,12 +35,8 @@ root_written : {T : Type 0} (number : T → ℕ) (value : ℕ → ℕ → ℕ) (
     → s < length roots → ((t : ℕ) → t < s → Congruent m (entry number value m roots t) (w ^ (2 ^ t)))
     → Congruent m (value m (number root)) (w ^ (2 ^ s))
     → (t : ℕ) → t < s + 1 → Congruent m (entry number value m (set roots s root) t) (w ^ (2 ^ t))
-root_written number value m w roots s root within before is t l = elim (cases_eq t s) [
-  | inl e ↦ mod_trans (mod_of_eq (ap (entry number value m (set roots s root)) e
-      ∙ entry_written number value m roots s root within))
-      (subst (λ k. Congruent m (value m (number root)) (w ^ (2 ^ k))) (sym e) is)
-  | inr n ↦ mod_trans (mod_of_eq (entry_kept number value m roots s t root n)) (before t (omega arith))
-]
+root_written number value m w roots s root within before is t l =
+    search (arith, cases_eq, mod_trans, mod_of_eq, set, entry_written, entry_kept)
 
 -- what is left after two stages
 even_left : (t : ℕ) {z : ℕ} → (z - t) % 2 ≡ 0 → t + 2 ≤ z → (z - (t + 2)) % 2 ≡ 0
@@ -50,10 +46,7 @@ half_left : (half : ℕ) {p : ℕ} → p ≡ half / 2 → half / 4 ≡ p / 2
 half_left half is = omega (arith, is)
 
 blocks_left : (t blocks : ℕ) → 2 ^ (t + 1 + 1) ≡ blocks * 2 * 2 → blocks * 4 ≡ 2 ^ (t + 2)
-blocks_left t blocks is =
-    let e : t + 1 + 1 ≡ t + 2 = omega arith in
-    let powers = ap (λ k. 2 ^ k) e in
-    omega (arith, is, powers)
+blocks_left t blocks is = search arith
 
 blocks_fit : (t blocks : ℕ) {z n : ℕ} → 2 ^ (t + 1 + 1) ≡ blocks * 2 * 2 → n ≡ 2 ^ z → n < 2 ^ 64 → t + 2 ≤ z
     → Fits w64 (blocks * 4)
@@ -78,13 +71,8 @@ record Pass (z t n half blocks : ℕ) : Type 0 where
 pass_of : {m g n t half blocks : ℕ} → Suits m g n → n < 2 ^ 64 → (trailing_zeros w64 n - t) % 2 ≡ 0
     → t < trailing_zeros w64 n → half ≡ 2 ^ (trailing_zeros w64 n - t) / 2 → blocks ≡ 2 ^ t
     → Pass (trailing_zeros w64 n) t n half blocks
-pass_of suits below even more is_half is_blocks = let whole = suited_length suits below in record {
-  whole = whole;
-  few = exponent_below _ _ whole below;
-  two = two_left even more;
-  left = stages_left even more;
-  sizes = two_sizes _ _ _ _ _ more even whole is_half is_blocks;
-}
+pass_of suits below even more is_half is_blocks =
+    search (arith, suited_length, exponent_below, two_left, stages_left, two_sizes)
 
 pub roots-init : goal.roots-init
 roots-init g c =
@@ -95,7 +83,7 @@ roots-init g c =
       checked = one_form number g.R.Reducer.form value m 64 c.args.g.now c.requires.root;
       form = c.requires.root;
       root = mod_of_eq (sym (pow-one (value m (number c.args.g.now))));
-      written = no_roots m (entry number value m (replicate 64 c.args.g.now)) (λ t. value m (number c.args.g.now) ^ (2 ^ t));
+      written = no_roots _ _ _;
       count = refl;
     }
 
@@ -116,9 +104,8 @@ roots-preserved g c =
     record {
       checked = All-set P roots s root before.form before.checked;
       form = c.sqr-root.ensures.checked;
-      root = root_more w s (value m (number root)) (value m (number c.sqr-root.result)) before.root
-          (canonical.one_value (number c.sqr-root.result) ((value m (number root) * value m (number root)) % m)
-          c.sqr-root.ensures.form);
+      root = root_more _ _ _ _ before.root (canonical.one_value (number c.sqr-root.result)
+          ((value m (number root) * value m (number root)) % m) c.sqr-root.ensures.form);
       written = root_written number value m w roots s root (omega (arith, few)) before.written before.root;
       count = ap (λ v. v + 1) before.count;
     }
@@ -136,52 +123,42 @@ passes-init g c =
     let of = entry number value m in
     let x = of c.args.xs.now in
     let d = c.if-stages-eq1.done in
-    let all : c.roots.i ≡ z = le_antisymm c.roots.auto.i-end c.roots-test.false in
-    let squares = c.roots.invariant.count in
     let zero : z - 0 ≡ z = omega arith in
     let size : n ≡ 2 ^ (z - 0) = whole ∙ ap (λ k. 2 ^ k) (sym zero) in
     let start = subst (λ s. BlocksTransform m root n 0 s x x) size (stages_start root n x) in
     let All_forms = λ (forms : List _). All (λ f. IsForm g.R.Reducer.form value m (number f)) forms in
     let moved = λ (t : ℕ) (y : List _) (is_t : d ≡ t) (is_y : c.if-stages-eq1.xs ≡ y)
-    (done : BlocksTransform m root n t (2 ^ (z - t)) x (of y)).
-    subst (λ k. BlocksTransform m root n k (2 ^ (z - k)) x (of c.if-stages-eq1.xs)) (sym is_t)
-    (subst (λ l. BlocksTransform m root n t (2 ^ (z - t)) x (of l)) (sym is_y) done) in
+    (done : BlocksTransform m root n t (2 ^ (z - t)) x (of y)). subst (λ k. BlocksTransform m root n k (2 ^ (z - k)) x
+    (of c.if-stages-eq1.xs)) (sym is_t) (subst (λ l. BlocksTransform m root n t (2 ^ (z - t)) x (of l))
+    (sym is_y) done) in
     elim c.if-stages-eq1.branch [
       | then-stages-eq1 w ↦
-          let odd : z % 2 ≡ 1 = w.if-stages-eq1.true in
-          let sizes = stage_sizes z 0 n (n / 2) 1 (omega (arith, odd)) whole (ap (λ v. v / 2) size) refl in
-          let next = sizes.next in
+          let sizes = stage_sizes z 0 n (n / 2) 1 (omega arith) whole (ap (λ v. v / 2) size) refl in
           let some = pow_pos (z - (0 + 1)) in
           let done : d ≡ 0 + 1 = w.done-is in
           let left = ap (λ k. 2 ^ (z - k)) done in
-          let two : n / 2 + n / 2 ≡ n / 2 * 2 = omega arith in
-          let count = products_more z 0 n (n / 2) 1 c.roots.products w.first_stage.result z sizes
-          (omega (arith, squares, all, size)) (w.first_stage.ensures.count ∙ two) in
           record {
             checked = subst All_forms (sym w.xs-is) w.first_stage.ensures.checked;
-            upto = omega (arith, odd, done);
-            even = omega (arith, odd, done);
-            half = omega (arith, w.half-is, left, next);
+            upto = omega (arith, done);
+            even = omega (arith, done);
+            half = omega (arith, w.half-is, left);
             blocks = omega (arith, w.blocks-is, ap (λ k. 2 ^ k) done, sizes.more);
-            transforms = moved (0 + 1) w.first_stage.new.forms done w.xs-is
-                (blocks_more root z 0 n (n / 2) 1 root x x (of w.first_stage.new.forms) sizes refl (omega (arith, next, some))
-                c.requires.suits (mod_of_eq (sym (pow-one root))) start w.first_stage.ensures.stage);
-            count = omega (arith, w.products-is, count, left, ap (λ k. k * (n / 2)) done, done);
+            transforms = moved (0 + 1) w.first_stage.new.forms done w.xs-is (blocks_more root z 0 n (n / 2) 1 root x x
+                (of w.first_stage.new.forms) sizes refl (omega (arith, some)) c.requires.suits
+                (mod_of_eq (sym (pow-one root))) start w.first_stage.ensures.stage);
+            count = omega (arith, w.products-is, left, ap (λ k. k * (n / 2)) done, done);
           }
       | else-stages-eq1 w ↦
-          let odd : z % 2 ≢ 1 = w.if-stages-eq1.false in
           let done : d ≡ 0 = w.done-is in
-          let left = ap (λ k. 2 ^ (z - k)) done in
-          let one : 2 ^ 0 ≡ 1 = refl in
-          record {
-            checked = subst All_forms (sym w.xs-is) c.requires.checked;
-            upto = omega (arith, done);
-            even = omega (arith, odd, done);
-            half = omega (arith, w.half-is, left, size);
-            blocks = omega (arith, w.blocks-is, ap (λ k. 2 ^ k) done, one);
-            transforms = moved 0 c.args.xs.now done w.xs-is start;
-            count = omega (arith, w.products-is, squares, all, left, ap (λ k. k * (n / 2)) done, size);
-          }
+          grind (
+            arith,
+            w.xs-is,
+            c.requires.checked,
+            w.half-is,
+            w.blocks-is,
+            moved 0 c.args.xs.now done w.xs-is start,
+            w.products-is,
+          )
     ]
 
 pub first_stage-requires-clause-whole : goal.first_stage-requires-clause-whole
@@ -190,10 +167,9 @@ first_stage-requires-clause-whole g c =
     let z = trailing_zeros w64 n in
     let below : n < 2 ^ 64 = c.well_formed.1.0.0 in
     let whole = suited_length c.requires.suits below in
-    let odd : z % 2 ≡ 1 = c.if-stages-eq1.true in
     let zero : z - 0 ≡ z = omega arith in
     let size : n ≡ 2 ^ (z - 0) = whole ∙ ap (λ k. 2 ^ k) (sym zero) in
-    let one = (stage_sizes z 0 n (n / 2) 1 (omega (arith, odd)) whole (ap (λ v. v / 2) size) refl).whole in
+    let one = (stage_sizes z 0 n (n / 2) 1 (omega arith) whole (ap (λ v. v / 2) size) refl).whole in
     omega (arith, one)
 
 pub passes-preserved : goal.passes-preserved
@@ -203,87 +179,62 @@ passes-preserved g c =
     let value = g.R.Reducer.value in
     let n = length c.args.xs.now in
     let z = trailing_zeros w64 n in
-    let root = value m (number c.args.g.now) in
     let t = c.passes.done in
     let before = c.passes.invariant in
     let pass = pass_of c.requires.suits c.well_formed.1.0.0 before.even c.passes-test.true before.half before.blocks in
-    let all : c.roots.i ≡ z = le_antisymm c.roots.auto.i-end c.roots-test.false in
-    let at = λ (k : ℕ) (f : _) (l : k < z).
-    mod_trans (mod_of_eq (entry_at number value m c.roots.roots k f (omega (arith, l, pass.few))))
-    (c.roots.invariant.written k (omega (arith, l, all))) in
-    let of = entry number value m in
+    let at = λ (k : ℕ) (f : _) (l : k < z). mod_trans
+    (mod_of_eq (entry_at number value m c.roots.roots k f (omega (arith, l, pass.few))))
+    (c.roots.invariant.written k (omega (arith, l))) in
     record {
       checked = c.two_stages-products.ensures.checked;
       upto = pass.two;
       even = even_left t before.even pass.two;
       half = half_left c.passes.half pass.sizes.quarter;
       blocks = blocks_left t c.passes.blocks pass.sizes.second.more;
-      transforms = two_more root z t n c.passes.half c.passes.blocks _ _ (of c.args.xs.now) (of c.passes.xs)
-          (of c.two_stages-products.new.forms) pass.sizes before.blocks c.requires.suits
+      transforms = two_more _ _ _ _ _ _ _ _ _ _ _ pass.sizes before.blocks c.requires.suits
           (at t c.index-roots-done.result c.passes-test.true)
-          (at (t + 1) c.index-roots-done-in-passes.result pass.left.next)
-          before.transforms c.two_stages-products.ensures.stages;
-      count = two_products_more z t n c.passes.half c.passes.blocks c.passes.products c.two_stages-products.result z
-          pass.sizes before.count c.two_stages-products.ensures.count;
+          (at (t + 1) c.index-roots-done-in-passes.result pass.left.next) before.transforms
+          c.two_stages-products.ensures.stages;
+      count = two_products_more _ _ _ _ _ _ _ _ pass.sizes before.count c.two_stages-products.ensures.count;
     }
 
 pub returns-clause-entries : goal.returns-clause-entries
 returns-clause-entries g c =
-    let m = g.R.Reducer.modulus c.args.r.now in
-    let number = g.T.RingWord.number in
-    let value = g.R.Reducer.value in
-    let root = value m (number c.args.g.now) in
     let n = length c.args.xs.now in
-    let z = trailing_zeros w64 n in
-    let x = entry number value m c.args.xs.now in
     let before = c.passes.invariant in
-    let same = c.passes.auto.xs in
-    let kept = c.reverse_places.auto.entries in
     let below : n < 2 ^ 64 = c.well_formed.1.0.0 in
-    plain_order number g.R.Reducer.form value m root n z x c.passes.xs c.reverse_places.new.entries
-    (suited_length c.requires.suits below) (omega (arith, same)) (omega (arith, same, kept)) before.checked
-    (blocks_all root z c.passes.done n x (entry number value m c.passes.xs) c.passes-test.false
-    before.upto before.transforms) c.reverse_places.ensures
+    plain_order _ _ _ _ _ _ _ _ _ _ (suited_length c.requires.suits below) (omega arith) (omega arith) before.checked
+    (blocks_all _ _ _ _ _ _ c.passes-test.false before.upto before.transforms) c.reverse_places.ensures
 
 pub returns-clause-values : goal.returns-clause-values
 returns-clause-values g c j l =
-    let kept = c.reverse_places.auto.entries in
-    held_values g.T.RingWord.number c.reverse_places.new.entries (transform (g.R.Reducer.modulus c.args.r.now)
-    (g.R.Reducer.value (g.R.Reducer.modulus c.args.r.now) (g.T.RingWord.number c.args.g.now)) (length c.args.xs.now)
-    (entry g.T.RingWord.number g.R.Reducer.value (g.R.Reducer.modulus c.args.r.now) c.args.xs.now)) j
-    (g.met.R.Reducer.canonical c.args.r.now) (returns-clause-entries g c) (omega (arith, kept, c.passes.auto.xs))
+    held_values _ _ _ _ (g.met.R.Reducer.canonical c.args.r.now) (returns-clause-entries g c)
+    (omega (arith, c.passes.auto.xs))
 
 pub returns-clause-checked : goal.returns-clause-checked
-returns-clause-checked g c = held_checked g.T.RingWord.number c.reverse_places.new.entries (transform (g.R.Reducer.modulus c.args.r.now)
-    (g.R.Reducer.value (g.R.Reducer.modulus c.args.r.now) (g.T.RingWord.number c.args.g.now)) (length c.args.xs.now)
-    (entry g.T.RingWord.number g.R.Reducer.value (g.R.Reducer.modulus c.args.r.now) c.args.xs.now))
-    (g.met.R.Reducer.canonical c.args.r.now) (returns-clause-entries g c)
+returns-clause-checked g c = search (arith, held_checked, returns-clause-entries)
 
 pub returns-clause-count : goal.returns-clause-count
 returns-clause-count g c z is =
     let n = length c.args.xs.now in
     let below : n < 2 ^ 64 = c.well_formed.1.0.0 in
-    let e = trailing_zeros_of_power z n is below in
+    let e = trailing_zeros_of_power _ _ is below in
     let before = c.passes.invariant in
-    products_all (trailing_zeros w64 n) c.passes.done n c.passes.products c.passes-test.false
-    before.upto (suited_length c.requires.suits below) before.count ∙ ap (λ k. n * k / 2 + n - 1 + k) e
+    products_all _ _ _ _ c.passes-test.false before.upto (suited_length c.requires.suits below) before.count
+    ∙ ap (λ k. n * k / 2 + n - 1 + k) e
 
 pub two_stages-products-requires-clause-turn : goal.two_stages-products-requires-clause-turn
 two_stages-products-requires-clause-turn g c =
     let m = g.R.Reducer.modulus c.args.r.now in
-    let number = g.T.RingWord.number in
-    let value = g.R.Reducer.value in
-    let n = length c.args.xs.now in
-    let z = trailing_zeros w64 n in
-    let root = value m (number c.args.g.now) in
-    let t = c.passes.done in
-    let before = c.passes.invariant in
-    let pass = pass_of c.requires.suits c.well_formed.1.0.0 before.even c.passes-test.true before.half before.blocks in
-    let all : c.roots.i ≡ z = le_antisymm c.roots.auto.i-end c.roots-test.false in
-    let at = λ (k : ℕ) (f : _) (l : k < z).
-    mod_trans (mod_of_eq (entry_at number value m c.roots.roots k f (omega (arith, l, pass.few))))
-    (c.roots.invariant.written k (omega (arith, l, all))) in
-    quarter_turn root z t n c.passes.half c.passes.blocks _ _ pass.sizes pass.two (at t c.index-roots-done.result c.passes-test.true)
+    let z = trailing_zeros w64 (length c.args.xs.now) in
+    let root = g.R.Reducer.value m (g.T.RingWord.number c.args.g.now) in
+    let pass = pass_of c.requires.suits c.well_formed.1.0.0 c.passes.invariant.even c.passes-test.true
+    c.passes.invariant.half c.passes.invariant.blocks in
+    let at = λ (k : ℕ) (f : _) (l : k < z). mod_trans
+    (mod_of_eq (entry_at g.T.RingWord.number g.R.Reducer.value m c.roots.roots k f (omega (arith, l, pass.few))))
+    (c.roots.invariant.written k (omega (arith, l, le_antisymm c.roots.auto.i-end c.roots-test.false))) in
+    quarter_turn root z c.passes.done (length c.args.xs.now) c.passes.half c.passes.blocks _ _ pass.sizes pass.two
+    (at c.passes.done c.index-roots-done.result c.passes-test.true)
     (at (z - 2) c.index-roots-stages.result pass.left.turn)
 
 pub two_stages-products-requires-clause-whole : goal.two_stages-products-requires-clause-whole
@@ -305,9 +256,7 @@ pub overflow_add-products-in-passes : goal.overflow_add-products-in-passes
 overflow_add-products-in-passes g c =
     let before = c.passes.invariant in
     let pass = pass_of c.requires.suits c.well_formed.1.0.0 before.even c.passes-test.true before.half before.blocks in
-    products_fit c.passes.done _ (two_products_more _ _ _ c.passes.half c.passes.blocks c.passes.products
-    c.two_stages-products.result _ pass.sizes before.count c.two_stages-products.ensures.count) refl pass.few pass.two
-    c.well_formed.1.0.0
+    grind (arith, products_fit)
 
 pub reverse_places-requires-clause-whole : goal.reverse_places-requires-clause-whole
 reverse_places-requires-clause-whole g c =

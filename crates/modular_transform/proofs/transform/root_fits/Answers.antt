@@ -1,6 +1,5 @@
 use Rattle.std.proofs.Common.{◌≡◌, ◌+◌, ◌-◌, ◌^◌, ◌<◌, sym, ◌∙◌, arith, subst}
 use Rattle.std.proofs.lemmas.Bool.{false≢true}
-use Rattle.std.specs.Int.{trailing_zeros, w64}
 use Rattle.modular_word.specs.Congruence.{Congruent}
 use Rattle.modular_word.proofs.Congruence.{mod_of_eq}
 use Rattle.modular_word.proofs.Powers.{pow-one}
@@ -18,26 +17,22 @@ pub squares-preserved : goal.squares-preserved
 squares-preserved g c =
     let m = g.R.Reducer.modulus c.args.r.now in
     let root = g.R.Reducer.value m (g.T.RingWord.number c.args.g.now) in
-    let canonical = g.met.R.Reducer.canonical c.args.r.now in
-    let t = c.squares._done in
-    let e : t - 1 + 1 ≡ t + 1 - 1 = omega arith in
+    let e : c.squares._done - 1 + 1 ≡ c.squares._done + 1 - 1 = omega arith in
     record {
       form = c.sqr-power.ensures.checked;
-      power = subst (λ k. Congruent m (g.R.Reducer.value m (g.T.RingWord.number c.sqr-power.result)) (root ^ (2 ^ k))) e
-          (root_more root (t - 1) _ _ c.squares.invariant.power (canonical.one_value _ _ c.sqr-power.ensures.form));
+      power = subst (λ k. Congruent m (g.R.Reducer.value m (g.T.RingWord.number c.sqr-power.result))
+          (root ^ (2 ^ k))) e (root_more root (c.squares._done - 1) _ _ c.squares.invariant.power
+          ((g.met.R.Reducer.canonical c.args.r.now).one_value _ _ c.sqr-power.ensures.form));
     }
 
 pub returns : goal.returns
 returns g c =
-    let m = g.R.Reducer.modulus c.args.r.now in
-    let root = g.R.Reducer.value m (g.T.RingWord.number c.args.g.now) in
     let canonical = g.met.R.Reducer.canonical c.args.r.now in
     let n = c.args.n in
-    let z = trailing_zeros w64 n in
     let below : n < 2 ^ 64 = omega arith in
-    let whole = power_by_zeros n ((power_of_two_tested n).0 (sym c.is_power_of_two.ensures ∙ c.if-not-is_power_of_two.false)) below in
-    let some = exponent_above_zero z n whole (omega arith) in
-    let tested = suits_tested root n z (c.squares._done - 1) _ _ _ _ whole some
-    (omega (arith, some)) c.squares.invariant.power c.one.ensures (canonical.one_value _ _ c.transform-one.ensures.form)
-    (canonical.one_value _ _ c.add.ensures.form) in
+    let whole = power_by_zeros _ ((power_of_two_tested n).0 (sym c.is_power_of_two.ensures
+    ∙ c.if-not-is_power_of_two.false)) below in
+    let some = exponent_above_zero _ _ whole (omega arith) in
+    let tested = suits_tested _ _ _ _ _ _ _ _ whole some (omega (arith, some)) c.squares.invariant.power c.one.ensures
+    (canonical.one_value _ _ c.transform-one.ensures.form) (canonical.one_value _ _ c.add.ensures.form) in
     (λ h. tested.0 (c.is_zero.ensures.0 h), λ suits. c.is_zero.ensures.1 (tested.1 suits))

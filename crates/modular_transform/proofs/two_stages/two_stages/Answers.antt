@@ -36,22 +36,17 @@ offset_bounds-boths-k g c =
 pub fill-preserved : goal.fill-preserved
 fill-preserved g c =
     let m = g.R.Reducer.modulus c.args.r.now in
-    let form = g.R.Reducer.form in
-    let number = g.T.RingWord.number in
-    let value = g.R.Reducer.value in
-    let w = value m (number c.args.root.now) in
-    let v = value m (number c.args.square.now) in
-    let before = c.fill.invariant in
-    let least = c.min-width.ensures in
+    let w = g.R.Reducer.value m (g.T.RingWord.number c.args.root.now) in
+    let v = g.R.Reducer.value m (g.T.RingWord.number c.args.square.now) in
     record {
-      column = column_more c.strips.start c.fill.i (g.met.R.Reducer.canonical c.args.r.now) before.column
+      column = column_more c.strips.start c.fill.i (g.met.R.Reducer.canonical c.args.r.now) c.fill.invariant.column
           c.mul.ensures.form c.mul-in-fill.ensures.form c.mul-in-fill-2.ensures.form;
-      count = omega (arith, before.count);
-      filled = filled_more
-          (λ k x y z. IsColumn form value m w v c.args.step (c.strips.start + k) (number x) (number y) (number z))
-          c.fill.firsts c.fill.seconds c.fill.boths c.fill.i c.fill.column.first c.fill.column.second c.fill.column.both
-          (omega (arith, c.fill-test.true, least)) (omega (arith, c.fill-test.true, least))
-          (omega (arith, c.fill-test.true, least)) before.filled before.column;
+      count = omega (arith, c.fill.invariant.count);
+      filled = filled_more (λ k x y z. IsColumn g.R.Reducer.form g.R.Reducer.value m w v c.args.step
+          (c.strips.start + k) (g.T.RingWord.number x) (g.T.RingWord.number y) (g.T.RingWord.number z)) c.fill.firsts
+          c.fill.seconds c.fill.boths c.fill.i c.fill.column.first c.fill.column.second c.fill.column.both
+          (omega (arith, c.fill-test.true, c.min-width.ensures)) (omega (arith, c.fill-test.true, c.min-width.ensures))
+          (omega (arith, c.fill-test.true, c.min-width.ensures)) c.fill.invariant.filled c.fill.invariant.column;
     }
 
 pub four-requires-clause-powers : goal.four-requires-clause-powers
@@ -76,24 +71,17 @@ columns-preserved g c =
     let start = c.strips.start in
     let k = c.columns.k in
     let i = start + k in
-    let l = c.columns-test.true in
-    let least = c.min-width.ensures in
     let of = entry number value m in
     let x = of c.each_block.forms in
     let y = of c.columns.forms in
     let z = of c.four.new.forms in
     let is = c.fill.invariant.filled k c.index-firsts-k.result c.index-seconds-k.result c.index-boths-k.result
-    (omega (arith, l, le_antisymm c.fill.auto.i-end c.fill-test.false)) in
+    (omega (arith, le_antisymm c.fill.auto.i-end c.fill-test.false)) in
     let one : FoursDone m w v h p (p + 1) i (i + 1) y z =
-    one_done h p i y z (omega (arith, l, least)) (done_by is.first is.second is.both c.four.ensures.done) in
+    one_done h p i y z (omega arith) (done_by is.first is.second is.both c.four.ensures.done) in
     let joined = columns_joined {h = h} {c = start} {d = i} {e = i + 1} x y z (le-add_right start k) (omega arith)
-    (omega (arith, l, least)) c.columns.invariant.done one in
-    record {
-      checked = c.four.ensures.checked;
-      done = subst (λ e. FoursDone m w v h p (p + 1) start e x z)
-          (add_assoc start k 1) joined;
-      count = omega (arith, c.columns.invariant.count);
-    }
+    (omega arith) c.columns.invariant.done one in
+    grind (arith, c.four.ensures.checked, add_assoc start k 1, c.columns.invariant.count)
 
 pub each_block-preserved : goal.each_block-preserved
 each_block-preserved g c =
@@ -163,7 +151,5 @@ returns-clause-stages g c =
     let x = entry number value m c.args.forms.now in
     let y = entry number value m c.strips.forms in
     let e = le_antisymm c.strips.invariant.within c.strips-test.false in
-    two_stages_done m w v h c.args.blocks _ x y c.requires.whole
-    (λ k l. values_below number g.R.Reducer.form value m c.args.forms.now k c.requires.checked l)
-    (subst (λ d. FoursDone m w v h 0 c.args.blocks 0 d x y) e
-    c.strips.invariant.done)
+    two_stages_done _ _ _ _ _ _ _ _ c.requires.whole (λ k l. values_below _ _ _ _ _ _ c.requires.checked l)
+    (subst (λ d. FoursDone m w v h 0 c.args.blocks 0 d x y) e c.strips.invariant.done)
