@@ -57,7 +57,7 @@ both_tests : (n s e v : ℕ) → 0 < n → cond (eqb s e || eqb s (e + n)) v 0 �
 both_tests n s e v some = search (arith, eqb_tells)
 
 -- modulo X^n - 1 the product is the cyclic one
-product_modulo_one_is_cyclic : (m n e : ℕ) (x y : ℕ → ℕ) → 0 < n → product_modulo m n 1 x y e ≡ cyclic_product m n x y e
+pub product_modulo_one_is_cyclic : (m n e : ℕ) (x y : ℕ → ℕ) → 0 < n → product_modulo m n 1 x y e ≡ cyclic_product m n x y e
 product_modulo_one_is_cyclic m n e x y some =
     let f = λ (i j : ℕ). cond (eqb (i + j) e) (x i * y j) 0 in
     let h = λ (i j : ℕ). cond (eqb (i + j) (e + n)) (x i * y j) 0 in

@@ -1,8 +1,9 @@
 -- Products of polynomials modulo m, by their coefficients. The names are the library's own words.
-use Rattle.std.specs.Prelude.{◌≡◌, ℕ, ◌+◌, ◌-◌, ◌*◌, ◌%◌, ◌<◌, ◌≤◌, List, slice_index}
+use Rattle.std.specs.Prelude.{◌≡◌, ℕ, ◌+◌, ◌-◌, ◌*◌, ◌/◌, ◌%◌, ◌<◌, ◌≤◌, List, All, slice_index}
 use Rattle.num_modular.specs.Sums.{sum_below}
 use Rattle.long_product.specs.Room.{HasRoomFrom}
 use Rattle.long_product.specs.declared.primes.TheConstants.{FIRST_PRIME, SECOND_PRIME}
+use Rattle.long_product.specs.declared.two_parts.TheConstants.{PARTS}
 use Rattle.long_product.specs.declared.polynomials.TheConstants.{LEAST_TRANSFORMED}
 
 -- coefficient e of the product of two polynomials: the sum of x i * y j over i + j = e
@@ -24,6 +25,15 @@ pub record ArePrimesFor (count : ℕ) (xs ys : List ℕ) : Type 0 where
   pub most : count ≤ 3
   pub one : count ≡ 1 → (e : ℕ) → product_sum xs ys e < FIRST_PRIME
   pub two : count ≡ 2 → (e : ℕ) → product_sum xs ys e < FIRST_PRIME * SECOND_PRIME
+
+-- the products of n terms are below the first prime: of coefficients ys with low parts of xs, and with high parts
+pub record FitParts (n : ℕ) (xs ys : List ℕ) : Type 0 where
+  pub x : ℕ
+  pub y : ℕ
+  pub left : All (λ v. v ≤ x) xs
+  pub right : All (λ v. v ≤ y) ys
+  pub low : n * ((PARTS - 1) * y) < FIRST_PRIME
+  pub high : n * (x / PARTS * y) < FIRST_PRIME
 
 -- m is a modulus, and a list has one place for each coefficient of the product of polynomials with so many: one fewer
 -- than both have together, and none where one has none
