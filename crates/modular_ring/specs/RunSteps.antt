@@ -1,5 +1,6 @@
 -- What the steps of `run` ask of each other: the register that it wrote last is kept beside the list.
 use Rattle.std.specs.Prelude.{◌≡◌, ℕ, ◌<◌, List, length, slice_index_or}
+use Rattle.modular_ring.specs.Ring.{HoldValues, value_at, LacksInverseAt}
 use Rattle.modular_ring.specs.declared.ring.RingCommand.{RingCommand}
 use Rattle.modular_ring.specs.declared.ring.RingCommand.TheVariants.{Add, Sub, Mul}
 
@@ -13,3 +14,9 @@ Combines (Add dst a b) = Unit {0}
 Combines (Sub dst a b) = Unit {0}
 Combines (Mul dst a b) = Unit {0}
 Combines _ = ⊥
+
+-- the registers hold their values after `at` commands, none of which lacks its inverse
+pub record IsReached {T : Type 0} (number : T → ℕ) (form : ℕ → ℕ → ℕ) (m : ℕ) (start : List ℕ)
+    (commands : List (RingCommand ℕ)) (registers : List T) (at : ℕ) : Type 0 where
+  pub held : HoldValues number form m registers (value_at m start commands at)
+  pub passed : (j : ℕ) → j < at → LacksInverseAt m start commands j → ⊥

@@ -1,13 +1,13 @@
 //! Lists of commands on registers, run over any reducer.
 
-ghost use Rattle.std.specs.Prelude.{◌≡◌, ℕ, ◌*◌, ◌%◌, ◌<◌, ◌↔◌, IsTrue, IsFalse, Some, All, length};
+ghost use Rattle.std.specs.Prelude.{◌≡◌, ℕ, ◌+◌, ◌*◌, ◌%◌, ◌<◌, ◌≤◌, ◌↔◌, IsTrue, IsFalse, Some, All, List, length};
 ghost use Rattle.std.specs.Prelude.{map, option_map, slice_index, slice_index_or, slice_set};
 ghost use Rattle.modular_word.specs.Inverses.{inverse_of};
 ghost use Rattle.modular_reduced.specs.Forms.{IsForm};
 ghost use Rattle.modular_ring.specs.Ring.{whole, destination_of, outcome, value_at, IsStop};
 ghost use Rattle.modular_ring.specs.Ring.{value_after, LacksInverse, carried_out, IsFit, values_of, HoldValues};
-ghost use Rattle.modular_ring.specs.Ring.{IsFormOf};
-ghost use Rattle.modular_ring.specs.RunSteps.{IsHeldAt, Combines};
+ghost use Rattle.modular_ring.specs.Ring.{IsFormOf, LacksInverseAt};
+ghost use Rattle.modular_ring.specs.RunSteps.{IsHeldAt, Combines, IsReached};
 ghost use Rattle.modular_ring.specs.declared.ring.RingCommand.{RingCommand};
 
 use modular_reduced::reducer::Reducer;
@@ -436,6 +436,136 @@ fn carry_out<T: RingWord, R: Reducer<T>>(
     }
 }
 
+// Carries out command number `at` and counts it; false exactly where its inverse doesn't exist.
+#[inline(always)]
+fn carry_out_at<T: RingWord, R: Reducer<T>, C: AsCommand<T>>(
+    r: &R,
+    regs: &mut [T],
+    last: &mut Last<T>,
+    commands: &[C],
+    at: &mut usize,
+) -> bool
+    requires checked { All (λ f. IsForm R.form R.value (R.modulus r.now) (T.number f)) regs.old }
+    requires fit { All (λ c. IsFit (length regs.old) (C.command c)) commands.now }
+    requires holds { IsHeldAt regs.old last.old.register last.old.form }
+    requires within { at.old < length commands.now }
+    ensures count { length regs.new ≡ length regs.old }
+    ensures checked { All (λ f. IsForm R.form R.value (R.modulus r.now) (T.number f)) regs.new }
+    ensures holds { IsHeldAt regs.new last.new.register last.new.form }
+    ensures reached { let m = R.modulus r.now in
+        let wholes = map (λ c. whole T.number (C.command c)) commands.now in
+        (start : List ℕ) → IsReached T.number R.form m start wholes regs.old at.old →
+        IsReached T.number R.form m start wholes regs.new at.new }
+    ensures lacks { let m = R.modulus r.now in
+        let wholes = map (λ c. whole T.number (C.command c)) commands.now in
+        (start : List ℕ) → IsReached T.number R.form m start wholes regs.old at.old →
+        IsFalse result → LacksInverseAt m start wholes at.new }
+    ensures moved { IsTrue result → at.new ≡ at.old + 1 }
+{
+    let done = carry_out(r, regs, last, commands[*at].command());
+    if done {
+        *at += 1;
+    }
+    done
+}
+
+// The same of two commands: false where one's inverse doesn't exist, and `at` is then the number of that one.
+#[inline(always)]
+fn carry_out_two<T: RingWord, R: Reducer<T>, C: AsCommand<T>>(
+    r: &R,
+    regs: &mut [T],
+    last: &mut Last<T>,
+    commands: &[C],
+    at: &mut usize,
+) -> bool
+    requires checked { All (λ f. IsForm R.form R.value (R.modulus r.now) (T.number f)) regs.old }
+    requires fit { All (λ c. IsFit (length regs.old) (C.command c)) commands.now }
+    requires holds { IsHeldAt regs.old last.old.register last.old.form }
+    requires within { at.old + 2 ≤ length commands.now }
+    ensures count { length regs.new ≡ length regs.old }
+    ensures checked { All (λ f. IsForm R.form R.value (R.modulus r.now) (T.number f)) regs.new }
+    ensures holds { IsHeldAt regs.new last.new.register last.new.form }
+    ensures reached { let m = R.modulus r.now in
+        let wholes = map (λ c. whole T.number (C.command c)) commands.now in
+        (start : List ℕ) → IsReached T.number R.form m start wholes regs.old at.old →
+        IsReached T.number R.form m start wholes regs.new at.new }
+    ensures lacks { let m = R.modulus r.now in
+        let wholes = map (λ c. whole T.number (C.command c)) commands.now in
+        (start : List ℕ) → IsReached T.number R.form m start wholes regs.old at.old →
+        IsFalse result → LacksInverseAt m start wholes at.new }
+    ensures moved { IsTrue result → at.new ≡ at.old + 2 }
+{
+    carry_out_at(r, regs, last, commands, at) && carry_out_at(r, regs, last, commands, at)
+}
+
+// The same of four.
+#[inline(always)]
+fn carry_out_four<T: RingWord, R: Reducer<T>, C: AsCommand<T>>(
+    r: &R,
+    regs: &mut [T],
+    last: &mut Last<T>,
+    commands: &[C],
+    at: &mut usize,
+) -> bool
+    requires checked { All (λ f. IsForm R.form R.value (R.modulus r.now) (T.number f)) regs.old }
+    requires fit { All (λ c. IsFit (length regs.old) (C.command c)) commands.now }
+    requires holds { IsHeldAt regs.old last.old.register last.old.form }
+    requires within { at.old + 4 ≤ length commands.now }
+    ensures count { length regs.new ≡ length regs.old }
+    ensures checked { All (λ f. IsForm R.form R.value (R.modulus r.now) (T.number f)) regs.new }
+    ensures holds { IsHeldAt regs.new last.new.register last.new.form }
+    ensures reached { let m = R.modulus r.now in
+        let wholes = map (λ c. whole T.number (C.command c)) commands.now in
+        (start : List ℕ) → IsReached T.number R.form m start wholes regs.old at.old →
+        IsReached T.number R.form m start wholes regs.new at.new }
+    ensures lacks { let m = R.modulus r.now in
+        let wholes = map (λ c. whole T.number (C.command c)) commands.now in
+        (start : List ℕ) → IsReached T.number R.form m start wholes regs.old at.old →
+        IsFalse result → LacksInverseAt m start wholes at.new }
+    ensures moved { IsTrue result → at.new ≡ at.old + 4 }
+{
+    carry_out_two(r, regs, last, commands, at) && carry_out_two(r, regs, last, commands, at)
+}
+
+// The same of all commands. Four in a turn, each with code of its own, take fewer jumps than a turn for each.
+#[inline(always)]
+fn carry_out_all<T: RingWord, R: Reducer<T>, C: AsCommand<T>>(
+    r: &R,
+    regs: &mut [T],
+    last: &mut Last<T>,
+    commands: &[C],
+    at: &mut usize,
+) -> bool
+    requires checked { All (λ f. IsForm R.form R.value (R.modulus r.now) (T.number f)) regs.old }
+    requires fit { All (λ c. IsFit (length regs.old) (C.command c)) commands.now }
+    requires holds { IsHeldAt regs.old last.old.register last.old.form }
+    requires within { at.old ≤ length commands.now }
+    ensures count { length regs.new ≡ length regs.old }
+    ensures checked { All (λ f. IsForm R.form R.value (R.modulus r.now) (T.number f)) regs.new }
+    ensures holds { IsHeldAt regs.new last.new.register last.new.form }
+    ensures reached { let m = R.modulus r.now in
+        let wholes = map (λ c. whole T.number (C.command c)) commands.now in
+        (start : List ℕ) → IsReached T.number R.form m start wholes regs.old at.old →
+        IsReached T.number R.form m start wholes regs.new at.new }
+    ensures lacks { let m = R.modulus r.now in
+        let wholes = map (λ c. whole T.number (C.command c)) commands.now in
+        (start : List ℕ) → IsReached T.number R.form m start wholes regs.old at.old →
+        IsFalse result → LacksInverseAt m start wholes at.new }
+    ensures moved { IsTrue result → at.new ≡ length commands.now }
+{
+    'fours: while commands.len() - *at >= 4 {
+        if !carry_out_four(r, regs, last, commands, at) {
+            return false;
+        }
+    }
+    'commands: while *at < commands.len() {
+        if !carry_out_at(r, regs, last, commands, at) {
+            return false;
+        }
+    }
+    true
+}
+
 /// Carries out the commands in order, up to the first whose inverse doesn't exist.
 ///
 /// The run stops exactly at the first `Inv` or `Div` whose operand (for `Div`: b) has no inverse modulo m. That
@@ -503,10 +633,9 @@ pub fn run<T: RingWord, R: Reducer<T>, C: AsCommand<T>>(
     // rust: debug_assert!(commands_fit(commands, regs.len()),
     // rust:     "each register number must be below the number of registers");
     let mut last = first_register(regs);
-    'commands: for (at, command) in commands.iter().enumerate() {
-        if !carry_out(r, regs, &mut last, command.command()) {
-            return RunEnd::NoInverse { at };
-        }
+    let mut at = 0;
+    if !carry_out_all(r, regs, &mut last, commands, &mut at) {
+        return RunEnd::NoInverse { at };
     }
     RunEnd::Done
 }

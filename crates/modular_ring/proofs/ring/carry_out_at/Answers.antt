@@ -1,0 +1,54 @@
+use Rattle.std.proofs.Common.{◌≡◌, ℕ, Bool, IsTrue, IsFalse, map, Some, below_more, refl}
+use Rattle.std.specs.List.{slice_get}
+use Rattle.std.proofs.lemmas.Option.{slice_get_read}
+use Rattle.modular_reduced.proofs.ListSteps.{held_checked}
+use Rattle.modular_ring.specs.Ring.{whole, value_at, LacksInverseAt}
+use Rattle.modular_ring.specs.declared.ring.RingCommand.{RingCommand}
+use Rattle.modular_ring.proofs.RunLemmas.{after_command, lacks_at, lacks_of, start_holds, read_map}
+use Rattle.modular_ring.proofs.ring.carry_out_at.Goals as goal
+
+-- what a command represents, over whole numbers
+abbrev over_wholes : {T C : Type 0} → (T → ℕ) → (C → RingCommand T) → C → RingCommand ℕ
+over_wholes number command_of c = whole number (command_of c)
+
+true_not_false : {b : Bool} → IsTrue b → IsFalse b → ⊥
+true_not_false holds fails = cc
+
+pub returns-then-done-clause-checked : goal.returns-then-done-clause-checked
+returns-then-done-clause-checked g c =
+    let number = g.T.RingWord.number in
+    let m = g.R.Reducer.modulus c.args.r.now in
+    let before = start_holds number g.R.Reducer.form g.R.Reducer.value m c.args.regs.now c.requires.checked in
+    held_checked number c.carry_out-done.new.regs _ (g.met.R.Reducer.canonical c.args.r.now)
+    (c.carry_out-done.ensures.values c.if-done.true _ before)
+
+pub returns-then-done-clause-reached : goal.returns-then-done-clause-reached
+returns-then-done-clause-reached g c start reached =
+    let number = g.T.RingWord.number in
+    let m = g.R.Reducer.modulus c.args.r.now in
+    let read_as = over_wholes number g.C.AsCommand.command in
+    let wholes = map read_as c.args.commands.now in
+    let at = c.args.at.now in
+    let command = c.index-commands-at.result in
+    let read = slice_get_read c.args.commands.now _ at command refl c.requires.within c.index-commands-at.is in
+    let is : slice_get wholes at ≡ Some (read_as command) =
+    read_map read_as c.args.commands.now at command read in
+    let told = c.if-done.true in
+    record {
+      held = after_command number g.R.Reducer.form m start wholes at c.carry_out-done.new.regs (read_as command) is
+          ((rw c.command.ensures at c.carry_out-done.ensures.values) told (value_at m start wholes at) reached.held);
+      passed = below_more (λ j. LacksInverseAt m start wholes j → ⊥) at reached.passed (λ lacks. absurd (true_not_false told
+          (((rw c.command.ensures at c.carry_out-done.ensures.missing) (value_at m start wholes at) reached.held).1
+          (lacks_of m start wholes at (read_as command) is lacks))));
+    }
+
+pub returns-else-done-clause-lacks : goal.returns-else-done-clause-lacks
+returns-else-done-clause-lacks g c start reached fails =
+    let m = g.R.Reducer.modulus c.args.r.now in
+    let read_as = over_wholes g.T.RingWord.number g.C.AsCommand.command in
+    let wholes = map read_as c.args.commands.now in
+    let at = c.args.at.now in
+    let command = c.index-commands-at.result in
+    let read = slice_get_read c.args.commands.now _ at command refl c.requires.within c.index-commands-at.is in
+    lacks_at m start wholes at (read_as command) (read_map read_as c.args.commands.now at command read)
+    (((rw c.command.ensures at c.carry_out-done.ensures.missing) (value_at m start wholes at) reached.held).0 fails)
