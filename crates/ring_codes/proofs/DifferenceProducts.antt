@@ -9,9 +9,7 @@ use Rattle.ring_codes.specs.Prepared.{product_but}
 -- the two products, where the second has no factor, and with one more
 pub products_so_far_none : (m i : ℕ) {a : ℕ} (d g : ℕ → ℕ) → a ≡ product_below i d % m
     → a ≡ (product_below i d * product_below 0 g) % m
-products_so_far_none m i d g e =
-    let one = ap (λ v. product_below i d * v) (product-zero g) in
-    let same : product_below i d ≡ product_below i d * product_below 0 g = omega (arith, one) in e ∙ ap (λ v. v % m) same
+products_so_far_none m i d g e = grind (arith, product-zero)
 
 pub products_so_far_more : (m i k : ℕ) {a : ℕ} (d g : ℕ → ℕ) → a ≡ (product_below i d * product_below k g) % m
     → (a * g k) % m ≡ (product_below i d * product_below (k + 1) g) % m

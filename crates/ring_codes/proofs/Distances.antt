@@ -33,10 +33,7 @@ before_end k n s i other = elim (eqb_tells i k) [ inl p ↦ absurd (other p.1) |
 -- what holds of each place holds of one more
 pub extended_each : (k n : ℕ) (s : ℕ → ℕ) (P : ℕ → ℕ → Type 0) → ((i : ℕ) → i < k → P i (s i)) → P k n
     → (i : ℕ) → i < k + 1 → P i (extended k n s i)
-extended_each k n s P each last i l = elim (cases_eq i k) [
-  | inl e ↦ rw (at_end k n s i e, e) last
-  | inr o ↦ rw (before_end k n s i o) (each i (omega arith))
-]
+extended_each k n s P each last i l = grind (arith, cases_eq, at_end, before_end)
 
 pub extended_rising : (k n : ℕ) (s : ℕ → ℕ) → ((i : ℕ) → i < k → s i < n)
     → ((i j : ℕ) → i < j → j < k → s i < s j) → (i j : ℕ) → i < j → j < k + 1 → extended k n s i < extended k n s j
@@ -53,13 +50,8 @@ with_last n k a b s last = record {
   rising = λ i j l b. extended_rising k n s.place s.within s.rising i j l (omega arith);
 }
 
-widened : (n k : ℕ) (a b : ℕ → ℕ) → Selection n k a b → Selection (suc n) k a b
-widened n k a b s = record {
-  place = s.place;
-  within = λ i l. let q = s.within i l in omega (arith, q);
-  same = s.same;
-  rising = s.rising;
-}
+selected_of_more : (n k : ℕ) (a b : ℕ → ℕ) → Selection n k a b → Selection (suc n) k a b
+selected_of_more n k a b s = grind arith
 
 none_selected : (n : ℕ) (a b : ℕ → ℕ) → Selection n 0 a b
 none_selected n a b = record {
@@ -80,10 +72,7 @@ pub counted_other : (x y : ℕ) → x ≢ y → counted x y ≡ 1
 counted_other x y o = elim (eqb_tells x y) [ inl p ↦ absurd (o p.1) | inr p ↦ rw p.0 refl ]
 
 pub counted_most : (x y : ℕ) → counted x y ≤ 1
-counted_most x y = elim (cases_eq x y) [
-  | inl e ↦ let z = counted_same x y e in omega (arith, z)
-  | inr o ↦ let z = counted_other x y o in omega (arith, z)
-]
+counted_most x y = grind (arith, cases_eq, counted_same, counted_other)
 
 pub no_distance : (n : ℕ) (a b : ℕ → ℕ) → ((i : ℕ) → i < n → a i ≡ b i) → distance n a b ≡ 0
 no_distance n a b same =
@@ -100,20 +89,14 @@ selected (suc n) (suc k) a b few = elim (cases_eq (a n) (b n)) [
       with_last n k a b (selected n k a b (omega (arith, few, z))) e
   | inr o ↦
       let z = counted_other (a n) (b n) o in
-      widened n (suc k) a b (selected n (suc k) a b (omega (arith, few, z)))
+      selected_of_more n (suc k) a b (selected n (suc k) a b (omega (arith, few, z)))
 ]
 
 -- points at rising places fit
 pub rising_fit : (m n k : ℕ) (x place : ℕ → ℕ) → ((i : ℕ) → i < k → place i < n)
     → ((i j : ℕ) → i < j → j < k → place i < place j) → HaveUnitDifferences m n x
     → HaveUnitDifferences m k (λ i. x (place i))
-rising_fit m n k x place within rising fit = record {
-  unit = λ i j l d other. fit.unit (place i) (place j) (within i l) (within j d)
-      (elim (cases_lt i j) [
-        | inl b ↦ let r = rising i j b d in λ e. omega (arith, r, e)
-        | inr b ↦ let r = rising j i (omega arith) l in λ e. omega (arith, r, e)
-      ]);
-}
+rising_fit m n k x place within rising fit = grind (arith, cases_lt)
 
 -- two messages of k symbols whose words agree at k places
 pub same_messages : (m k n : ℕ) (points a b u v : ℕ → ℕ) → HaveUnitDifferences m n points → IsEncoding m k n points a u
@@ -129,25 +112,14 @@ same_messages m k n points a b u v fit is_u is_v few =
 pub messages_apart : (m k n : ℕ) (points a b u v : ℕ → ℕ) → k ≤ n → HaveUnitDifferences m n points
     → IsEncoding m k n points a u → IsEncoding m k n points b v
     → (i : ℕ) → i < k → a i % m ≢ b i % m → n - k + 1 ≤ distance n u v
-messages_apart m k n points a b u v few fit is_u is_v i l other = elim (cases_lt n (distance n u v + k)) [
-  | inl far ↦ omega (arith, far, few)
-  | inr near ↦ absurd (other (same_messages m k n points a b u v fit is_u is_v near i l).same)
-]
+messages_apart m k n points a b u v few fit is_u is_v i l other = grind (arith, cases_lt, same_messages)
 
 -- .. and two words that differ
 pub words_apart : (m k n : ℕ) (points u v : ℕ → ℕ) → k ≤ n → HaveUnitDifferences m n points
     → IsErasureCodeword m k n points u → IsErasureCodeword m k n points v → 0 < distance n u v
     → n - k + 1 ≤ distance n u v
-words_apart m k n points u v few fit is_u is_v differ = elim (cases_lt n (distance n u v + k)) [
-  | inl far ↦ omega (arith, far, few)
-  | inr near ↦
-      let same = same_messages m k n points is_u.0 is_v.0 u v fit is_u.1 is_v.1 near in
-      let none = no_distance n u v
-      (λ i l. is_u.1.symbol i l
-      ∙ (polynomial-congruent k is_u.0 is_v.0 (points i) (points i) same (mod_refl (points i))).same
-      ∙ sym (is_v.1.symbol i l)) in
-      absurd (omega (arith, none, differ))
-]
+words_apart m k n points u v few fit is_u is_v differ =
+    grind (arith, cases_lt, same_messages, no_distance, polynomial-congruent, mod_refl)
 
 pub one_counted : (n e r : ℕ) (a b : ℕ → ℕ) → e ≡ distance n a b → r ≡ counted (a n) (b n)
     → e + r ≡ distance (n + 1) a b

@@ -31,20 +31,14 @@ record IsPolynomial (m d : ℕ) (F : ℕ → ℕ) : Type 0 where
   behind : (i : ℕ) → d ≤ i → coefficient i ≡ 0
   value : (X : ℕ) → Congruent m (polynomial_at d coefficient X) (F X)
 
-moved : (m d e : ℕ) (F G : ℕ → ℕ) → d ≡ e → ((X : ℕ) → F X ≡ G X) → IsPolynomial m d F → IsPolynomial m e G
-moved m d e F G count same p = record {
-  coefficient = p.coefficient;
-  behind = λ i l. p.behind i (omega (arith, l, count));
-  value = λ X. mod_trans (mod_of_eq (ap (λ n. polynomial_at n p.coefficient X) (sym count)))
-      (mod_trans (p.value X) (mod_of_eq (same X)));
-}
+polynomial_same : (m d e : ℕ) (F G : ℕ → ℕ) → d ≡ e → ((X : ℕ) → F X ≡ G X) → IsPolynomial m d F → IsPolynomial m e G
+polynomial_same m d e F G count same p = grind (arith, mod_trans, mod_of_eq)
 
 constant_one : (m : ℕ) → IsPolynomial m 1 (λ X. 1)
 constant_one m = record {
   coefficient = raised 1 0 (λ i. 0);
   behind = raised_behind 0 1 0 (λ i. 0) (λ i l. refl);
-  value = λ X. mod_of_eq (value_raised 0 1 0 X (λ i. 0) refl
-      ∙ (let z = ap (λ v. (X + 0) * v) (polynomial-none (λ i. 0) X) in omega (arith, z)));
+  value = grind (arith, mod_of_eq, value_raised, polynomial-none);
 }
 
 -- times X - a
@@ -63,12 +57,11 @@ times_differences : (m b d : ℕ) (a F : ℕ → ℕ) → 0 < m → IsPolynomial
     → IsPolynomial m (b + d) (λ X. F X * product_below b (λ l. residue m (pos X -ℤ pos (a l))))
 unfolding product_below
 times_differences m zero d a F positive p =
-    moved m d (0 + d) F (λ X. F X * 1) (omega arith) (λ X. omega arith) p
+    polynomial_same m d (0 + d) F (λ X. F X * 1) (omega arith) (λ X. omega arith) p
 times_differences m (suc b) d a F positive p =
-    let P : ℕ → ℕ = λ X. product_below b (λ l. residue m (pos X -ℤ pos (a l))) in
-    moved m (suc (b + d)) (suc b + d) (λ X. F X * P X * residue m (pos X -ℤ pos (a b)))
-    (λ X. F X * (P X * residue m (pos X -ℤ pos (a b)))) (omega arith) (λ X. omega arith)
-    (times_difference m (b + d) (a b) (λ X. F X * P X) positive (times_differences m b d a F positive p))
+    polynomial_same _ (suc (b + d)) (suc b + d) _
+    _ (omega arith) (λ X. omega arith)
+    (times_difference _ (b + d) (a b) _ positive (times_differences m b d a F positive p))
 
 -- sums of multiples
 sum_of : (m k n : ℕ) (v : ℕ → ℕ) (F : ℕ → ℕ → ℕ) → ((i : ℕ) → i < n → IsPolynomial m k (F i))
@@ -94,7 +87,7 @@ unfolding product_but
 product_is m k i x positive l =
     let P : ℕ → ℕ = λ X. product_below i (λ l. residue m (pos X -ℤ pos (x l))) in
     let Q : ℕ → ℕ = λ X. product_below (k - 1 - i) (λ l. residue m (pos X -ℤ pos (x (k - 1 - l)))) in
-    moved m (k - 1 - i + (i + 1)) k (λ X. 1 * P X * Q X) (λ X. P X * Q X) (omega arith) (λ X. omega arith)
+    polynomial_same m (k - 1 - i + (i + 1)) k (λ X. 1 * P X * Q X) (λ X. P X * Q X) (omega arith) (λ X. omega arith)
     (times_differences m (k - 1 - i) (i + 1) (λ l. x (k - 1 - l)) (λ X. 1 * P X) positive
     (times_differences m i 1 x (λ X. 1) positive (constant_one m)))
 
@@ -176,10 +169,9 @@ pub all_from_fit : (m k : ℕ) (x : ℕ → ℕ) → 0 < m → HaveUnitDifferenc
     → (i : ℕ) → i < k → HasInverse m (product_but m k x i (x i))
 unfolding product_but
 all_from_fit m k x positive fit i l =
-    let f : ℕ → ℕ = difference m x i in
-    (has_both m (product_below i f) (product_below (k - 1 - i) (λ l. f (k - 1 - l)))).1 (
-      has_product m i f positive (λ j b. fit.unit i j l (omega arith) (omega arith)),
-      has_product m (k - 1 - i) (λ l. f (k - 1 - l)) positive
+    (has_both _ _ _).1 (
+      has_product _ _ _ positive (λ j b. fit.unit i j l (omega arith) (omega arith)),
+      has_product _ _ _ positive
           (λ j b. fit.unit i (k - 1 - j) l (omega arith) (omega arith)),
     )
 
@@ -202,10 +194,7 @@ message_of m k x symbols positive fit below =
 
 -- place i of row j, of n rows of k
 pub row_within : (j n k i : ℕ) → j < n → i < k → j * k + i < n * k
-row_within j n k i l b =
-    let most : suc j * k ≤ n * k = mul-le-mul_right k l in
-    let one : suc j * k ≡ j * k + k = omega arith in
-    omega (arith, most, one, b)
+row_within j n k i l b = grind (arith, mul-le-mul_right)
 
 -- whether there is an inverse is decided by trying each number
 tried_below : (m a b : ℕ) → b ≤ m → HasInverse m a ⊎ ((x : ℕ) → x < b → IsInverse m a x → ⊥)

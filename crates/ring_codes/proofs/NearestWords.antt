@@ -36,11 +36,11 @@ none_behind (suc d) (suc i) r l =
     omega (arith, p, q)
 
 -- the highest is 1
-highest : (d : ℕ) (r : ℕ → ℕ) → expanded d r d ≡ 1
+highest_is_one : (d : ℕ) (r : ℕ → ℕ) → expanded d r d ≡ 1
 unfolding expanded
-highest zero r = refl
-highest (suc d) r =
-    let p = highest d r in
+highest_is_one zero r = refl
+highest_is_one (suc d) r =
+    let p = highest_is_one d r in
     let q = ap (λ v. r d * v) (none_behind d (suc d) r (omega arith)) in
     omega (arith, p, q)
 
@@ -54,16 +54,12 @@ combined (suc n) f g a X = let i = combined n f g a X in omega (arith, i)
 pub with_multiple : (m n b X : ℕ) (e g h : ℕ → ℕ) → ((l : ℕ) → l < n → Congruent m (e l + b * g l) (h l))
     → Congruent m (polynomial_at n e X + b * polynomial_at n g X) (polynomial_at n h X)
 with_multiple m n b X e g h each =
-    mod_trans (mod_of_eq (sym (combined n e g b X)))
-    (polynomial-congruent n (λ i. e i + b * g i) h X X each (mod_refl X))
+    mod_trans (mod_of_eq (sym (combined _ _ _ _ _))) (polynomial-congruent _ _ _ _ _ each (mod_refl _))
 
 -- its values are the products
 value_is : (d X : ℕ) (r : ℕ → ℕ) → polynomial_at (suc d) (expanded d r) X ≡ product_below d (λ j. X + r j)
 unfolding expanded product_below
-value_is zero X r =
-    let f = polynomial-first 0 (expanded 0 r) X in
-    let z = ap (λ v. X * v) (polynomial-none (λ i. expanded 0 r (suc i)) X) in
-    omega (arith, f, z)
+value_is zero X r = grind (arith, polynomial-first, polynomial-none)
 value_is (suc d) X r =
     let w : ℕ → ℕ = expanded d r in
     let p : ℕ = polynomial_at (suc d) w X in
@@ -84,9 +80,7 @@ turned_sign m x positive =
     e ∙ ap (λ k. k * x) s
 
 pub at_root : (m x : ℕ) → 0 < m → (x + (m - 1) * x) % m ≡ 0
-at_root m x positive =
-    let e : m * x ≡ 0 + m * x = omega arith in
-    ap (λ v. v % m) (turned_sign m x positive ∙ e) ∙ add-mul-mod_self_left 0 m x ∙ zero-mod m
+at_root m x positive = grind (arith, turned_sign, add-mul-mod_self_left, zero-mod)
 
 pub difference_alike : (m X x : ℕ) → 0 < m → Congruent m (residue m (pos X -ℤ pos x)) (X + (m - 1) * x)
 difference_alike m X x positive =
@@ -150,7 +144,7 @@ bound_met m (suc d) n x two some few fit =
     (has_product m d (λ j. x i + r j) positive
     (λ j b. unit_alike m _ _ (difference_alike m (x i) (x j) positive)
     (fit.unit i j k (omega arith) (omega arith)))) (sym (value i) ∙ z)) in
-    let one : expanded d r d % m ≡ 1 = ap (λ v. v % m) (highest d r) ∙ mod-eq_of_lt two in
+    let one : expanded d r d % m ≡ 1 = ap (λ v. v % m) (highest_is_one d r) ∙ mod-eq_of_lt two in
     let none = zero-mod m in (
       expanded d r,
       (λ i. 0),

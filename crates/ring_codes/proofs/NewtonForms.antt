@@ -37,11 +37,9 @@ pub form-same : (m n : ℕ) (c d x y : ℕ → ℕ) (a : ℕ) → ((i : ℕ) →
     → ((i : ℕ) → i < n → x i ≡ y i) → newton_form m n c x a ≡ newton_form m n d y a
 form-same m zero c d x y a same points = form-none m c x a ∙ sym (form-none m d y a)
 form-same m (suc n) c d x y a same points =
-    let f = same 0 (omega arith) in
-    let p = points 0 (omega arith) in
     let i = form-same m n (λ i. c (suc i)) (λ i. d (suc i)) (λ i. x (suc i)) (λ i. y (suc i)) a
     (λ i l. same (suc i) (omega arith)) (λ i l. points (suc i) (omega arith)) in
-    cc (form-first m n c x a, form-first m n d y a)
+    grind (arith, form-first)
 
 -- a product over a range, the first factor taken out
 pub product-first : (n : ℕ) (f : ℕ → ℕ) → product_below (suc n) f ≡ f 0 * product_below n (λ i. f (suc i))
@@ -87,9 +85,9 @@ kept_before m n l c x below =
     omega (arith, form-more m n c x (x l), z)
 
 -- what is left, divided by the product of the differences
-divided : (m known f rest y d w c : ℕ) → known ≡ f % m → rest ≡ residue m (pos y -ℤ pos known) → IsInverse m d w
+value_completed : (m known f rest y d w c : ℕ) → known ≡ f % m → rest ≡ residue m (pos y -ℤ pos known) → IsInverse m d w
     → c ≡ (rest * w) % m → (f + d * c) % m ≡ y % m
-divided m known f rest y d w c is_known is_rest inverse is =
+value_completed m known f rest y d w c is_known is_rest inverse is =
     let whole : Congruent m (f + d * c) y =
     mod_of_combination (mod_add (mod_sym (mod_of_residue is_known)) (mod_add (mod_of_difference known (omega (arith, inverse.below)) is_rest)
     (mod_add (mod_times d (mod_of_residue is)) (mod_times rest (mod_of_inverse inverse))))) (omega arith) in whole.same
@@ -100,13 +98,12 @@ one_divided_at : (m i : ℕ) (c d x y : ℕ → ℕ) (known rest w : ℕ)
     → IsInverse m (product_below i (difference m x i)) w → d i ≡ (rest * w) % m → y i < m
     → (l : ℕ) → l < suc i → newton_form m (suc i) d x (x l) % m ≡ y l
 one_divided_at m i c d x y known rest w before kept is_known is_rest inverse is below l within =
-    let same : (a : ℕ) → newton_form m i d x a ≡ newton_form m i c x a =
-    λ a. form-same m i d c x x a kept (λ j k. refl) in
+    let same : (a : ℕ) → newton_form m i d x a ≡ newton_form m i c x a = grind (arith, form-same) in
     elim (cases_eq l i) [
       | inl e ↦
           let here : newton_form m (suc i) d x (x i) % m ≡ y i =
           ap (λ v. v % m) (form-more m i d x (x i) ∙ ap (λ v. v + product_below i (difference m x i) * d i) (same (x i)))
-          ∙ divided m known (newton_form m i c x (x i)) rest (y i) (product_below i (difference m x i)) w (d i) is_known
+          ∙ value_completed m known (newton_form m i c x (x i)) rest (y i) (product_below i (difference m x i)) w (d i) is_known
           is_rest inverse is
           ∙ mod-eq_of_lt below in
           ap (λ k. newton_form m (suc i) d x (x k) % m) e ∙ here ∙ ap y (sym e)
@@ -143,9 +140,9 @@ to_residue m a x h = record { below = h.below; one = mul-mod_first a x m ∙ h.o
 pub of_residue : (m a x : ℕ) → IsInverse m (a % m) x → IsInverse m a x
 of_residue m a x h = record { below = h.below; one = sym (mul-mod_first a x m) ∙ h.one }
 
-turned : (m u v a b x y : ℕ) → y + x ≡ m → Congruent m (u * x) 1 → Congruent m (u + b) a → Congruent m (v + a) b
+inverse_of_negative : (m u v a b x y : ℕ) → y + x ≡ m → Congruent m (u * x) 1 → Congruent m (u + b) a → Congruent m (v + a) b
     → Congruent m (v * y) 1
-turned m u v a b x y whole one at_u at_v =
+inverse_of_negative m u v a b x y whole one at_u at_v =
     let product = ap (λ k. v * k) whole in
     mod_of_combination (mod_add (mod_of_modulus v) (mod_add (mod_times x (mod_sym at_u)) (mod_add (mod_times x (mod_sym at_v)) one)))
     (omega (arith, product))
@@ -155,7 +152,7 @@ pub turned_difference : (m a b : ℕ) → HasInverse m (residue m (pos a -ℤ po
 turned_difference m a b h =
     let below = h.1.below in
     let positive : 0 < m = omega (arith, below) in
-    let product = turned m _ _ a b h.0 (m - h.0) (omega (arith, below)) (mod_of_inverse h.1)
+    let product = inverse_of_negative m _ _ a b h.0 (m - h.0) (omega (arith, below)) (mod_of_inverse h.1)
     (mod_of_difference _ positive refl) (mod_of_difference _ positive refl) in
     ((m - h.0) % m, record { below = mod-lt (m - h.0) positive; one = mul-mod_second _ (m - h.0) m ∙ product.same })
 
@@ -202,9 +199,7 @@ value_all n a c = polynomial-same n (λ i. c (n - n + i)) c a (λ i l. ap c (let
 
 pub form_all : (m n a : ℕ) (c x : ℕ → ℕ)
     → newton_form m n (λ i. c (n - n + i)) (λ i. x (n - n + i)) a ≡ newton_form m n c x a
-form_all m n a c x =
-    let shift : (i : ℕ) → n - n + i ≡ i = λ i. omega arith in
-    form-same m n (λ i. c (n - n + i)) c (λ i. x (n - n + i)) x a (λ i l. ap c (shift i)) (λ i l. ap x (shift i))
+form_all m n a c x = grind (arith, form-same)
 
 -- one point more of the coefficients: e are the coefficients behind it before, f after
 pub expanded_more : (m n k : ℕ) (c e f x : ℕ → ℕ) → 0 < m → k < n
@@ -221,23 +216,20 @@ expanded_more m n k c e f x positive l before kept done last a =
     let here : n - 1 - k ≡ from + 0 = omega arith in
     let shift : (i : ℕ) → from + suc i ≡ n - k + i = λ i. omega arith in
     let each : (i : ℕ) → i < k → Congruent m (f (from + i) + x (n - 1 - k) * e (from + suc i)) (e (from + i)) =
-    λ i b. let t : from + i + 1 ≡ from + suc i = omega arith in
-    mod_trans (mod_of_eq (ap (λ w. f (from + i) + x (n - 1 - k) * e w) (sym t)))
-    (done (from + i) (omega arith) (omega arith)) in
+    grind (arith, mod_trans, mod_of_eq) in
     let q : ℕ = polynomial_at k (λ i. e (from + suc i)) a in
     let rest : Congruent m q (newton_form m k (λ i. c (from + suc i)) (λ i. x (from + suc i)) a) =
-    mod_trans (mod_of_eq (polynomial-same k (λ i. e (from + suc i)) (λ i. e (n - k + i)) a (λ i b. ap e (shift i))))
+    mod_trans (mod_of_eq (polynomial-same _ _ _ _ (λ i b. ap e (shift i))))
     (mod_trans (before a)
-    (mod_of_eq (sym (form-same m k (λ i. c (from + suc i)) (λ i. c (n - k + i)) (λ i. x (from + suc i))
-    (λ i. x (n - k + i)) a (λ i b. ap c (shift i)) (λ i b. ap x (shift i)))))) in
-    let one = one_expanded m k (x (n - 1 - k)) a (λ i. f (from + i)) (λ i. e (from + i)) positive each
-    (last (from + k) (omega arith)) in
+    (mod_of_eq (sym (form-same _ _ _ _ _
+    _ _ (λ i b. ap c (shift i)) (λ i b. ap x (shift i)))))) in
+    let one = one_expanded _ _ _ _ _ _ positive each (last (from + k) (omega arith)) in
     let first : Congruent m (e (from + 0)) (c (from + 0)) = mod_of_eq (kept (from + 0) (omega arith)) in
     let next : suc k ≡ k + 1 = omega arith in
     mod_trans (mod_of_eq (ap (λ j. polynomial_at j (λ i. f (from + i)) a) (sym next)))
     (mod_trans one
     (mod_trans (mod_add first (mod_mul (mod_of_eq (ap (λ w. minus m a (x w)) here)) rest))
-    (mod_of_eq (sym (form-first m k (λ i. c (from + i)) (λ i. x (from + i)) a)
+    (mod_of_eq (sym (form-first _ _ _ _ _)
     ∙ ap (λ j. newton_form m j (λ i. c (from + i)) (λ i. x (from + i)) a) next))))
 
 pub expanded_all : (m n k : ℕ) (c e x : ℕ → ℕ) → k ≡ n
@@ -263,14 +255,10 @@ inversion_tells value m a (Some y) b h e = ((λ t. (value y, h)), λ inverse. e)
 
 -- a product and its residue
 pub has_of_residue : (m a v : ℕ) → v ≡ a % m → HasInverse m v → HasInverse m a
-has_of_residue m a v e h =
-    let k = h.1 in
-    (h.0, of_residue m a h.0 (record { below = k.below; one = ap (λ w. (w * h.0) % m) (sym e) ∙ k.one }))
+has_of_residue m a v e h = grind (arith, of_residue)
 
 pub has_to_residue : (m a v : ℕ) → v ≡ a % m → HasInverse m a → HasInverse m v
-has_to_residue m a v e h =
-    let k = to_residue m a h.0 h.1 in
-    (h.0, record { below = k.below; one = ap (λ w. (w * h.0) % m) e ∙ k.one })
+has_to_residue m a v e h = grind (arith, to_residue)
 
 pub inverse_of_product : (m a v x : ℕ) → v ≡ a % m → IsInverse m v x → IsInverse m a x
 inverse_of_product m a v x e h =
@@ -280,7 +268,4 @@ inverse_of_product m a v x e h =
 pub interpolated : (m n a b old y i : ℕ) (e f x : ℕ → ℕ) → a ≡ n → b ≡ n
     → ((q : ℕ) → Congruent m (polynomial_at a e q) (newton_form m a f x q))
     → newton_form m b f x (x i) % m ≡ old → old ≡ y → y ≡ polynomial_at n e (x i) % m
-interpolated m n a b old y i e f x is_a is_b same value is =
-    let s = same (x i) in
-    sym (ap (λ k. polynomial_at k e (x i) % m) (sym is_a) ∙ s.same
-    ∙ ap (λ k. newton_form m k f x (x i) % m) (is_a ∙ sym is_b) ∙ value ∙ is)
+interpolated m n a b old y i e f x is_a is_b same value is = grind arith

@@ -23,10 +23,7 @@ use Rattle.ring_codes.proofs.Congruences.{mod_of_combination, mod_times, mod_of_
 
 -- a, where h is a + 1, divides each power of h less 1
 divides_power : (m a h n : ℕ) → Congruent m (a + 1) h → (q : ℕ) × Congruent m (a * q + 1) (h ^ n)
-divides_power m a h zero is =
-    let z = pow-zero h in
-    let e : a * 0 + 1 ≡ h ^ 0 = omega (arith, z) in
-    (0, mod_of_eq e)
+divides_power m a h zero is = grind (arith, pow-zero, mod_of_eq)
 divides_power m a h (suc n) is =
     let (q, before) = divides_power m a h n is in
     (a * q + q + 1, mod_of_combination (mod_add (mod_times (a * q + 1) is) (mod_times h before)) (omega (arith, pow-suc h n)))
@@ -53,8 +50,7 @@ odd_power : (m x d : ℕ) → Congruent m (x + 1) 0 → d % 2 ≡ 1 → Congruen
 odd_power m x d is odd =
     let h : ℕ = d / 2 in
     let whole : d ≡ suc (2 * h) = omega (arith, odd) in
-    let square : x ^ 2 ≡ x * x = (let s = pow-suc x 1 in let t = pow-suc x 0 in let z = pow-zero x in
-    let u = ap (λ v. v * x) t in let w = ap (λ v. v * x * x) z in omega (arith, s, u, w)) in
+    let square : x ^ 2 ≡ x * x = grind (arith, pow-suc, pow-zero) in
     let even : Congruent m (x ^ (2 * h)) 1 =
     mod_trans (mod_of_eq (pow-mul x 2 h ∙ ap (λ v. v ^ h) square))
     (mod_trans (mod_pow h (square_of m x is)) (mod_of_eq (one-pow h))) in
@@ -98,9 +94,7 @@ below_order m g n d a zero odd suits whole some few is =
 below_order m g n d a (suc y) odd suits whole some few is =
     let s = pow-suc 2 y in
     let half : n / 2 ≡ 2 ^ y = omega (arith, whole, s) in
-    let turn : Congruent m (g ^ (2 ^ y) + 1) 0 =
-    record { same = ap (λ v. (g ^ v + 1) % m) (sym half) ∙ suits.half_turn (omega (arith, some, few)) ∙ sym (zero-mod m) } in
-    power_less_one m y g d a odd turn some (omega (arith, few, whole)) is
+    grind (arith, pow-suc, zero-mod, power_less_one)
 
 -- g and its powers have inverses
 own_inverse : (m x : ℕ) → 0 < m → Congruent m (x * x) 1 → HasInverse m x
@@ -111,15 +105,12 @@ root_unit : (m g n : ℕ) → 0 < m → 1 < n → Suits m g n → HasInverse m g
 root_unit m g n positive more suits =
     let h : ℕ = n / 2 in
     let some : h ≡ suc (h - 1) = omega (arith, more) in
-    let turn : Congruent m (g ^ h + 1) 0 = record { same = suits.half_turn more ∙ sym (zero-mod m) } in
-    let power : g ^ h ≡ g ^ (h - 1) * g = ap (λ v. g ^ v) some ∙ pow-suc g (h - 1) in
-    ((has_both m (g ^ (h - 1)) g).0
-    (subst (HasInverse m) power (own_inverse m (g ^ h) positive (square_of m (g ^ h) turn)))).1
+    let turn : Congruent m (g ^ h + 1) 0 = record { same = suits.half_turn more ∙ sym (zero-mod _) } in
+    let power : g ^ h ≡ g ^ (h - 1) * g = ap (λ v. g ^ v) some ∙ pow-suc _ _ in
+    ((has_both _ _ _).0 (subst (HasInverse m) power (own_inverse _ _ positive (square_of _ _ turn)))).1
 
 power_unit : (m g j : ℕ) → 0 < m → HasInverse m g → HasInverse m (g ^ j)
-power_unit m g zero positive unit =
-    let e : g ^ 0 * g ^ 0 ≡ 1 = let z = pow-zero g in ap (λ v. v * v) z in
-    own_inverse m (g ^ 0) positive (mod_of_eq e)
+power_unit m g zero positive unit = grind (arith, pow-zero, own_inverse, mod_of_eq)
 power_unit m g (suc j) positive unit =
     subst (HasInverse m) (sym (pow-suc g j)) ((has_both m (g ^ j) g).1 (power_unit m g j positive unit, unit))
 
@@ -159,11 +150,8 @@ value_by_transform m g k n j points message x few powers same none within =
     let d : ℕ = n - k in
     let whole : n ≡ k + d = omega (arith, few) in
     let f : ℕ → ℕ = λ i. x i * g ^ (i * j) in
-    let short : sum_below n f ≡ sum_below k f =
-    ap (λ v. sum_below v f) whole
-    ∙ tail k d f (λ i l b. let z = ap (λ v. v * g ^ (i * j)) (none i l (omega (arith, b, few))) in omega (arith, z)) in
-    let point : Congruent m (g ^ j) (points j) =
-    mod_trans (mod_sym (residue_of (g ^ j))) (mod_of_eq (sym (powers.power j within))) in
+    let short : sum_below n f ≡ sum_below k f = grind (arith, tail) in
+    let point : Congruent m (g ^ j) (points j) = grind (arith, mod_trans, mod_sym, residue_of, mod_of_eq) in
     let each : (i : ℕ) → i < k → Congruent m (f i) (message i * points j ^ i) =
     λ i l.
     let swap : i * j ≡ j * i = omega arith in
@@ -172,9 +160,7 @@ value_by_transform m g k n j points message x few powers same none within =
 
 pub encoding_by_transform : (m g k n : ℕ) (points message : ℕ → ℕ) → k ≤ n → ArePowers m g n points
     → ((i : ℕ) → k ≤ i → i < n → message i ≡ 0) → IsEncoding m k n points message (transform m g n message)
-encoding_by_transform m g k n points message few powers none = record {
-  symbol = λ j l. value_by_transform m g k n j points message message few powers (λ i l. refl) none l;
-}
+encoding_by_transform m g k n points message few powers none = grind (arith, value_by_transform)
 
 -- the number of the points has an inverse
 pub length_unit : (m g n : ℕ) → m % 2 ≡ 1 → Suits m g n → HasInverse m n

@@ -12,10 +12,7 @@ use Rattle.ring_codes.proofs.RootPowers.{word_of_coefficients, coefficients_end}
 -- the same coefficients have the same word
 pub encoding_alike : (m k n : ℕ) (points a b w : ℕ → ℕ) → ((i : ℕ) → i < k → a i ≡ b i) → IsEncoding m k n points a w
     → IsEncoding m k n points b w
-encoding_alike m k n points a b w same is = record {
-  symbol = λ j l. is.symbol j l
-      ∙ (polynomial-congruent k a b (points j) (points j) (λ i d. mod_of_eq (same i d)) (mod_refl (points j))).same;
-}
+encoding_alike m k n points a b w same is = grind (arith, polynomial-congruent, mod_of_eq, mod_refl)
 
 -- a word w, whose coefficients are c, is of a message of k symbols exactly where those from number k on are 0
 pub word_exactly : (m g k n : ℕ) (points c w : ℕ → ℕ) → k ≤ n → ArePowers m g n points
@@ -51,12 +48,4 @@ pub zeros_behind : {T : Type 0} (number : T → ℕ) (value : ℕ → ℕ → �
     → ((i : ℕ) → i < length (slice_range forms k (length forms))
     → entry number value m (slice_range forms k (length forms)) i ≡ 0)
     ↔ ((i : ℕ) → i < n - k → entry number value m forms (k + i) ≡ 0)
-zeros_behind number value m forms k n count few =
-    let ordered : k ≤ length forms = omega (arith, count, few) in
-    let end : length forms ≤ length forms = omega arith in
-    let long = slice_length forms k (length forms) ordered end in (
-      λ none i l. sym (entry_slice number value m forms k (length forms) i ordered end (omega (arith, count, l)))
-          ∙ none i (omega (arith, long, count, l)),
-      λ none i l. entry_slice number value m forms k (length forms) i ordered end (omega (arith, long, l))
-          ∙ none i (omega (arith, long, count, l)),
-    )
+zeros_behind number value m forms k n count few = grind (arith, slice_length, entry_slice)

@@ -16,11 +16,11 @@ use Rattle.ring_codes.proofs.NearestWords.{combined, turned_sign, at_root, diffe
 use Rattle.ring_codes.proofs.Congruences.{mod_of_combination, mod_times, mod_of_modulus, mod_of_inverse}
 
 -- the inverses of the first d numbers
-inverses : (m d : ℕ) (f : ℕ → ℕ) → ((i : ℕ) → i < d → HasInverse m (f i))
+inverses_below : (m d : ℕ) (f : ℕ → ℕ) → ((i : ℕ) → i < d → HasInverse m (f i))
     → (u : ℕ → ℕ) × ((i : ℕ) → i < d → IsInverse m (f i) (u i))
-inverses m zero f each = ((λ i. 0), λ i l. absurd (omega arith))
-inverses m (suc d) f each =
-    let (u, before) = inverses m d f (λ i l. each i (omega arith)) in
+inverses_below m zero f each = ((λ i. 0), λ i l. absurd (omega arith))
+inverses_below m (suc d) f each =
+    let (u, before) = inverses_below m d f (λ i l. each i (omega arith)) in
     let (last, is) = each d (omega arith) in
     (extended d last u, λ i l. extended_each d last u (λ i v. IsInverse m (f i) v) before is i (omega arith))
 
@@ -33,10 +33,7 @@ pub raised_behind : (d v r : ℕ) (h : ℕ → ℕ) → ((i : ℕ) → d ≤ i �
     → (i : ℕ) → suc d ≤ i → raised v r h i ≡ 0
 unfolding raised
 raised_behind d v r h none zero l = absurd (omega arith)
-raised_behind d v r h none (suc i) l =
-    let p = none i (omega arith) in
-    let q = ap (λ w. r * w) (none (suc i) (omega arith)) in
-    omega (arith, p, q)
+raised_behind d v r h none (suc i) l = grind arith
 
 pub value_raised : (d v r X : ℕ) (h : ℕ → ℕ) → h d ≡ 0
     → polynomial_at (suc d) (raised v r h) X ≡ v + (X + r) * polynomial_at d h X
@@ -51,9 +48,9 @@ value_raised d v r X h none =
     omega (arith, first, rest, whole)
 
 -- v + (X + r)·H is w, where H is the quotient of w - v by d, which is X + r
-divided : (m X r d u H v w : ℕ) → 0 < m → Congruent m d (X + r) → IsInverse m d u
+value_of_quotient : (m X r d u H v w : ℕ) → 0 < m → Congruent m d (X + r) → IsInverse m d u
     → Congruent m H ((w + (m - 1) * v) * u) → Congruent m (v + (X + r) * H) w
-divided m X r d u H v w positive unit inverse value =
+value_of_quotient m X r d u H v w positive unit inverse value =
     let s = turned_sign m v positive in
     mod_of_combination (mod_add (mod_times H (mod_sym unit)) (mod_add (mod_times d value)
     (mod_add (mod_times (w + (m - 1) * v) (mod_of_inverse inverse)) (mod_of_modulus v)))) (omega (arith, s))
@@ -69,11 +66,10 @@ values_raised m d x v u h positive none units values zero l =
     let root : Congruent m (x 0 + r) 0 = record { same = at_root m (x 0) positive ∙ sym (zero-mod m) } in
     mod_of_combination (mod_times (polynomial_at d h (x 0)) root) (omega (arith, value_raised d (v 0) r (x 0) h none))
 values_raised m d x v u h positive none units values (suc i) l =
-    let r : ℕ = (m - 1) * x 0 in
-    mod_trans (mod_of_eq (value_raised d (v 0) r (x (suc i)) h none))
-    (divided m (x (suc i)) r (residue m (pos (x (suc i)) -ℤ pos (x 0))) (u i)
-    (polynomial_at d h (x (suc i))) (v 0) (v (suc i)) positive
-    (difference_alike m (x (suc i)) (x 0) positive) (units i (omega arith)) (values i (omega arith)))
+    mod_trans (mod_of_eq (value_raised _ _ _ (x (suc i)) _ none))
+    (value_of_quotient _ (x (suc i)) _ (residue m (pos (x (suc i)) -ℤ pos (x 0))) (u i)
+    (polynomial_at d h (x (suc i))) _ (v (suc i)) positive
+    (difference_alike _ (x (suc i)) _ positive) (units i (omega arith)) (values i (omega arith)))
 
 -- d coefficients with these values at d points
 pub through : (m d : ℕ) (x v : ℕ → ℕ) → 0 < m → HaveUnitDifferences m d x
@@ -81,7 +77,7 @@ pub through : (m d : ℕ) (x v : ℕ → ℕ) → 0 < m → HaveUnitDifferences 
     × ((i : ℕ) → i < d → Congruent m (polynomial_at d h (x i)) (v i))
 through m zero x v positive fit = ((λ i. 0), (λ i l. refl), λ i l. absurd (omega arith))
 through m (suc d) x v positive fit =
-    let u = inverses m d (λ i. residue m (pos (x (suc i)) -ℤ pos (x 0)))
+    let u = inverses_below m d (λ i. residue m (pos (x (suc i)) -ℤ pos (x 0)))
     (λ i l. fit.unit (suc i) 0 (omega arith) (omega arith) (omega arith)) in
     let rest = through m d (λ i. x (suc i)) (λ i. (v (suc i) + (m - 1) * v 0) * u.0 i) positive
     (record { unit = λ i j k l other. fit.unit (suc i) (suc j) (omega arith) (omega arith) (omega arith) }) in (
@@ -121,7 +117,7 @@ fitting : (m d secret : ℕ) (x y : ℕ → ℕ) → secret < m → ((i : ℕ) �
 unfolding raised
 fitting m d secret x y small shares each fit =
     let positive : 0 < m = omega arith in
-    let u = inverses m d x each in
+    let u = inverses_below m d x each in
     let g = through m d x (λ i. (y i + (m - 1) * secret) * u.0 i) positive fit in
     let f : ℕ → ℕ = raised secret 0 g.0 in
     let value : (i : ℕ) → i < d → Congruent m (polynomial_at (suc d) (λ i. f i % m) (x i)) (y i) =
@@ -129,7 +125,7 @@ fitting m d secret x y small shares each fit =
     let same : x i ≡ x i + 0 = omega arith in
     mod_trans (polynomial-congruent (suc d) (λ i. f i % m) f (x i) (x i) (λ i l. residue_of (f i)) (mod_refl (x i)))
     (mod_trans (mod_of_eq (value_raised d secret 0 (x i) g.0 (g.1 d (omega arith))))
-    (divided m (x i) 0 (x i) (u.0 i) (polynomial_at d g.0 (x i)) secret (y i) positive (mod_of_eq same)
+    (value_of_quotient m (x i) 0 (x i) (u.0 i) (polynomial_at d g.0 (x i)) secret (y i) positive (mod_of_eq same)
     (u.1 i l) (g.2 i l))) in
     let first : secret + 0 * g.0 0 ≡ secret = omega arith in (
       (λ i. f i % m),

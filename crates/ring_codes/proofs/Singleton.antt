@@ -24,9 +24,9 @@ below_power (suc r) m c small =
     omega (arith, most, one, first, f, p, swap)
 
 -- a list by its first element and the others
-digit : (r : ℕ) (c d : ℕ → ℕ) (i : ℕ) → i < suc r → c 0 ≡ d 0 → ((j : ℕ) → j < r → c (suc j) ≡ d (suc j)) → c i ≡ d i
-digit r c d zero l first rest = first
-digit r c d (suc i) l first rest = rest i (omega arith)
+digit_same : (r : ℕ) (c d : ℕ → ℕ) (i : ℕ) → i < suc r → c 0 ≡ d 0 → ((j : ℕ) → j < r → c (suc j) ≡ d (suc j)) → c i ≡ d i
+digit_same r c d zero l first rest = first
+digit_same r c d (suc i) l first rest = rest i (omega arith)
 
 -- the number tells its digits
 same_digits : (r m : ℕ) (c d : ℕ → ℕ) → ((i : ℕ) → i < r → c i < m) → ((i : ℕ) → i < r → d i < m)
@@ -45,16 +45,16 @@ same_digits (suc r) m c d small_c small_d same i l =
     let more : m * v ≡ m * w = omega (arith, whole, first) in
     let rest : v ≡ w =
     sym (mul-div_cancel_left v positive) ∙ ap (λ n. n / m) more ∙ mul-div_cancel_left w positive in
-    digit r c d i l first
+    digit_same r c d i l first
     (same_digits r m (λ i. c (suc i)) (λ i. d (suc i)) (λ j k. small_c (suc j) (omega arith))
     (λ j k. small_d (suc j) (omega arith)) rest)
 
 -- where a function takes a value
-found : (size v : ℕ) (f : ℕ → ℕ) → ((a : ℕ) × (a < size) × (f a ≡ v)) ⊎ ((a : ℕ) → a < size → f a ≢ v)
-found zero v f = inr (λ a l e. absurd (omega arith))
-found (suc size) v f = elim (cases_eq (f size) v) [
+value_or_none : (size v : ℕ) (f : ℕ → ℕ) → ((a : ℕ) × (a < size) × (f a ≡ v)) ⊎ ((a : ℕ) → a < size → f a ≢ v)
+value_or_none zero v f = inr (λ a l e. absurd (omega arith))
+value_or_none (suc size) v f = elim (cases_eq (f size) v) [
   | inl e ↦ inl (size, omega arith, e)
-  | inr other ↦ elim (found size v f) [
+  | inr other ↦ elim (value_or_none size v f) [
     | inl h ↦ let l = h.1 in inl (h.0, omega (arith, l), h.2)
     | inr none ↦ inr (λ a l e. elim (cases_eq a size) [
       | inl same ↦ other (ap f (sym same) ∙ e)
@@ -69,7 +69,7 @@ pub pigeonholes : (most size : ℕ) (f : ℕ → ℕ) → ((a : ℕ) → a < siz
 pigeonholes zero zero f below apart = omega arith
 pigeonholes zero (suc size) f below apart = let l = below 0 (omega arith) in absurd (omega (arith, l))
 pigeonholes (suc most) zero f below apart = omega arith
-pigeonholes (suc most) (suc size) f below apart = elim (found (suc size) most f) [
+pigeonholes (suc most) (suc size) f below apart = elim (value_or_none (suc size) most f) [
   | inr none ↦
       let l = pigeonholes most (suc size) f
       (λ a l. let b = below a l in let o = none a l in omega (arith, b, o)) apart in
@@ -125,8 +125,7 @@ pub bound : (m n d size : ℕ) (words : ℕ → ℕ → ℕ) → 1 ≤ d → d �
     → ((a b : ℕ) → a < size → b < size → a ≢ b → d ≤ distance n (words a) (words b)) → size ≤ m ^ (n - d + 1)
 bound m n d size words some few small apart =
     let r : ℕ = n - d + 1 in
-    let digits : (a : ℕ) → a < size → (i : ℕ) → i < r → words a i < m =
-    λ a l i b. small a i l (omega (arith, b, some, few)) in
+    let digits : (a : ℕ) → a < size → (i : ℕ) → i < r → words a i < m = grind arith in
     pigeonholes (m ^ r) size (λ a. polynomial_at r (words a) m) (λ a l. below_power r m (words a) (digits a l))
     (λ a b l k differ same.
     let far = apart a b l k differ in

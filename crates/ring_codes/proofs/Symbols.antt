@@ -90,17 +90,7 @@ pub are_chosen : {T : Type 0} (number : T → ℕ) (value : ℕ → ℕ → ℕ)
     → length chosen ≡ j → j ≡ k → ArePlaces j (length points) places
     → ((i : ℕ) (d : T) → i < j → get_or chosen i d ≡ get_or points (get_or places i 0) d)
     → AreChosen (entry number value m) m k points chosen places
-are_chosen number value m j k points chosen places count is right read =
-    let at : (i : ℕ) → i < k → entry number value m chosen i ≡ entry number value m points (get_or places i 0) =
-    λ i l. let within : i < j = omega (arith, l, is) in
-    entry_chosen number value m points chosen i (get_or places i 0) (λ d. read i d within) (omega (arith, within, count))
-    (right.within i within) in
-    record {
-      right = subst (λ k. ArePlaces k (length points) places) is right;
-      count = count ∙ is;
-      same = at;
-      fit = (fit_same m k _ _ at, fit_same m k _ _ (λ i l. sym (at i l)));
-    }
+are_chosen number value m j k points chosen places count is right read = grind (arith, entry_chosen, fit_same)
 
 -- where the places and their points are right, no error comes
 pub no_fault : (m k n : ℕ) (x : ℕ → ℕ) (places : List ℕ) (e : RestoreError) → ArePlaces k n places
@@ -139,7 +129,4 @@ slice_length forms from to ordered within =
 pub entry_slice : {T : Type 0} (number : T → ℕ) (value : ℕ → ℕ → ℕ) (m : ℕ) (forms : List T) (from to i : ℕ)
     → from ≤ to → to ≤ length forms → i < to - from
     → entry number value m (slice_range forms from to) i ≡ entry number value m forms (from + i)
-entry_slice number value m forms from to i ordered within l =
-    let left = length-drop from forms in
-    entry_front number value m (drop from forms) (to - from) i l (omega (arith, left, ordered, within))
-    ∙ entry_back number value m forms from i
+entry_slice number value m forms from to i ordered within l = grind (arith, length-drop, entry_front, entry_back)

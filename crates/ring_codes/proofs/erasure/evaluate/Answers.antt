@@ -1,5 +1,4 @@
-use Rattle.num_modular.specs.Polynomials.{polynomial_at}
-use Rattle.num_modular.specs.Callers.{ℕ, ◌+◌, ◌-◌, ◌%◌, length, ◌∙◌, ap, arith, entry, entry_read, ◌≡◌}
+use Rattle.num_modular.specs.Callers.{ℕ, ◌+◌, ◌-◌, ◌%◌, length, ◌∙◌, ap, arith, entry, entry_read}
 use Rattle.ring_codes.proofs.NewtonForms.{value_more, value_all}
 use Rattle.ring_codes.proofs.erasure.evaluate.Goals as goal
 
@@ -16,10 +15,4 @@ coefficients-preserved g c =
     }
 
 pub returns-clause-value : goal.returns-clause-value
-returns-clause-value g c =
-    let ring = g.R.Reducer in let m = ring.modulus c.args.r.now in let number = g.T.RingWord.number in
-    let cs = entry number ring.value m c.args.coefficients.now in let n = length c.args.coefficients.now in
-    let a = ring.value m (number c.args.point.now) in
-    let count : c.coefficients.k ≡ n = omega arith in
-    c.coefficients.invariant.same
-    ∙ ap (λ k. polynomial_at k (λ i. cs (n - k + i)) a % m) count ∙ ap (λ v. v % m) (value_all n a cs)
+returns-clause-value g c = grind (arith, value_all)

@@ -1,4 +1,4 @@
-use Rattle.num_modular.specs.Callers.{◌+◌, ◌-◌, length, arith, held_entry}
+use Rattle.num_modular.specs.Callers.{◌+◌, length, arith, held_entry}
 use Rattle.ring_codes.proofs.EncodedParts.{part_encoded}
 use Rattle.ring_codes.proofs.erasure.evaluate_each.Goals as goal
 
@@ -13,9 +13,7 @@ groups-preserved g c =
 
 pub returns-clause-encoding : goal.returns-clause-encoding
 returns-clause-encoding g c =
-    let ring = g.R.Reducer in let m = ring.modulus c.args.r.now in let number = g.T.RingWord.number in
-    let points = c.args.points.now in let values = c.groups.values in
-    let whole = part_encoded number ring.form ring.value m (length c.args.coefficients.now) _ points values
-    c.evaluate_side_by_side-2.new.values c.groups.from (length points) (length values - c.groups.from) (omega arith) (omega arith)
+    let whole = part_encoded _ _ _ _ _ _ _ _
+    _ _ _ _ (omega arith) (omega arith)
     (omega arith) (omega arith) c.groups.invariant.1 c.evaluate_side_by_side-2.ensures.checked c.evaluate_side_by_side-2.ensures.encoding in
-    record { symbol = λ i l. held_entry number ring.form ring.value m _ _ _ i whole l (omega arith) }
+    record { symbol = λ i l. held_entry _ _ _ _ _ _ _ i whole l (omega arith) }

@@ -1,5 +1,5 @@
 use Rattle.std.proofs.lemmas.Bool.{false≢true}
-use Rattle.num_modular.specs.Callers.{length, HasInverse, entry, same_coefficients, ◌∙◌, ap, sym, refl, subst, arith, ◌≤◌}
+use Rattle.num_modular.specs.Callers.{length, HasInverse, entry, same_coefficients, ◌∙◌, sym, refl, subst, arith, ◌≤◌}
 use Rattle.std.proofs.Common.{le_refl}
 use Rattle.num_modular.specs.Callers.{mod-eq_of_lt}
 use Rattle.ring_codes.proofs.NewtonForms.{fit_from_products, products_from_fit, interpolated}
@@ -8,47 +8,35 @@ use Rattle.ring_codes.proofs.erasure.interpolate.Goals as goal
 
 pub returns-then-not-invert_each-clause-fit : goal.returns-then-not-invert_each-clause-fit
 returns-then-not-invert_each-clause-fit g c =
-    let ring = g.R.Reducer in let m = ring.modulus c.args.r.now in let number = g.T.RingWord.number in
-    let positive = (g.met.R.Reducer.canonical c.args.r.now).positive in
-    let n = length c.args.coefficients.now in let x = entry number ring.value m c.args.points.now in (
+    let ring = g.R.Reducer in let m = ring.modulus c.args.r.now in
+    let positive = (g.met.R.Reducer.canonical c.args.r.now).positive in (
       λ t. absurd (false≢true t),
       λ fit. c.if-not-invert_each.ensures.each.1
           (λ i l. subst (HasInverse m) (sym (c.fill_weights.ensures.values i (omega arith)))
-          (products_from_fit m n x positive fit i (omega arith))),
+          (products_from_fit _ _ _ positive fit i (omega arith))),
     )
 
 pub returns-clause-fit : goal.returns-clause-fit
 returns-clause-fit g c =
-    let ring = g.R.Reducer in let m = ring.modulus c.args.r.now in let number = g.T.RingWord.number in
-    let n = length c.args.coefficients.now in let x = entry number ring.value m c.args.points.now in (
-      λ t. fit_from_products m n x
+    let ring = g.R.Reducer in let m = ring.modulus c.args.r.now in (
+      λ t. fit_from_products _ _ _
           (λ i l. subst (HasInverse m) (c.fill_weights.ensures.values i (omega arith))
           (c.if-not-invert_each.ensures.each.0 refl i (omega arith))),
       λ fit. refl,
     )
 
 pub returns-clause-values : goal.returns-clause-values
-returns-clause-values g c t =
-    let ring = g.R.Reducer in let m = ring.modulus c.args.r.now in let number = g.T.RingWord.number in
-    let n = length c.args.coefficients.now in let values = c.args.values.now in
-    record {
-      symbol = λ i l. interpolated m n _ _ _ _ i _ _ (entry number ring.value m c.args.points.now)
-          (omega arith) (omega arith) c.expand.ensures.same (c.divide_differences.ensures.values i (omega arith))
-          (ap (λ vs. entry number ring.value m vs i) c.copy_from_slice.ensures.after
-          ∙ entry_front number ring.value m values (length c.invert_each.new.scratch) i (omega arith)
-          (omega (arith, c.requires.values_within)));
-    }
+returns-clause-values g c t = grind (arith, interpolated, entry_front)
 
 pub returns-clause-only : goal.returns-clause-only
 returns-clause-only g c t other is i l =
     let ring = g.R.Reducer in let m = ring.modulus c.args.r.now in let number = g.T.RingWord.number in
     let n = length c.args.coefficients.now in let x = entry number ring.value m c.args.points.now in
-    let form = c.expand.new.form in
     let mine = returns-clause-values g c t in
     let fit = (returns-clause-fit g c).0 t in
-    let same = same_coefficients m n (entry number ring.value m form) other x fit
+    let same = same_coefficients m n _ other x fit
     (λ i l. record { same = sym (mine.symbol i l) ∙ is.symbol i l }) i l in
-    let below = entry_below number ring.form ring.value m form i c.expand.ensures.checked (omega arith) in
+    let below = entry_below number ring.form ring.value m _ i c.expand.ensures.checked (omega arith) in
     sym (mod-eq_of_lt below) ∙ same.same
 
 pub divide_differences-requires-clause-inverses_within :

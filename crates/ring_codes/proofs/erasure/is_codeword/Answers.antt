@@ -11,14 +11,13 @@ use Rattle.ring_codes.proofs.erasure.is_codeword.Goals as goal
 pub returns-then-ne-clause-codeword : goal.returns-then-ne-clause-codeword
 returns-then-ne-clause-codeword g c =
     let ring = g.R.Reducer in let m = ring.modulus c.args.r.now in let number = g.T.RingWord.number in
-    let k = length c.args.message.now in let i = c.places.i in
-    let word = c.args.word.now in let points = c.args.points.now in
+    let k = length c.args.message.now in let i = c.places.i in let points = c.args.points.now in
     let x = entry number ring.value m points in
     let mine = entry number ring.value m c.interpolate.new.coefficients in
     let count : length c.interpolate.new.coefficients ≡ k = omega arith in
     let point = entry_read number ring.value m points i _ (omega arith) c.index-points-i.is in
-    let symbol = entry_read number ring.value m word i _ (omega arith) c.index-word-i.is in
-    let is = form_read number ring.form ring.value m word i _ c.requires.word (omega arith) c.index-word-i.is in (
+    let symbol = entry_read number ring.value m _ i _ (omega arith) c.index-word-i.is in
+    let is = form_read number ring.form ring.value m _ i _ c.requires.word (omega arith) c.index-word-i.is in (
       λ t. absurd (false≢true t),
       λ (other, encoding).
           let only = c.if-not-interpolate.ensures.only refl other
@@ -47,38 +46,16 @@ places-preserved g c =
     ∙ ap (λ a. polynomial_at (length c.interpolate.new.coefficients) mine a % m) point)
 
 pub returns-clause-message : goal.returns-clause-message
-returns-clause-message g c t =
-    let ring = g.R.Reducer in let m = ring.modulus c.args.r.now in let number = g.T.RingWord.number in
-    let x = entry number ring.value m c.args.points.now in
-    let mine = entry number ring.value m c.interpolate.new.coefficients in
-    let count : length c.interpolate.new.coefficients ≡ length c.args.message.now = omega arith in
-    record {
-      symbol = λ i l. c.places.invariant i (omega arith) ∙ ap (λ k. polynomial_at k mine (x i) % m) count;
-    }
+returns-clause-message g c t = grind arith
 
 pub returns-clause-codeword : goal.returns-clause-codeword
 returns-clause-codeword g c = ((λ t. (_, returns-clause-message g c t)), λ h. refl)
 
 pub returns-then-not-interpolate-clause-codeword : goal.returns-then-not-interpolate-clause-codeword
-returns-then-not-interpolate-clause-codeword g c = (
-  λ t. absurd (false≢true t),
-  λ h. c.if-not-interpolate.ensures.fit.1
-      (record {
-        unit = λ i j l k other. c.requires.fit.unit i j (omega (arith, l, c.requires.few))
-            (omega (arith, k, c.requires.few)) other;
-      }),
-)
+returns-then-not-interpolate-clause-codeword g c = grind (arith, false≢true)
 
 pub places-init : goal.places-init
-places-init g c k l =
-    let ring = g.R.Reducer in let m = ring.modulus c.args.r.now in let number = g.T.RingWord.number in
-    let mine = entry number ring.value m c.interpolate.new.coefficients in
-    let count : length c.args.message.now ≡ length c.interpolate.new.coefficients = omega arith in
-    (c.if-not-interpolate.ensures.values refl).symbol k (omega (arith, l))
-    ∙ ap (λ n. polynomial_at n mine (entry number ring.value m c.args.points.now k) % m) count
+places-init g c k l = grind arith
 
 pub evaluate-symbol-requires-clause-point : goal.evaluate-symbol-requires-clause-point
-evaluate-symbol-requires-clause-point g c =
-    let ring = g.R.Reducer in let m = ring.modulus c.args.r.now in
-    form_read g.T.RingWord.number ring.form ring.value m c.args.points.now c.places.i _ c.requires.points (omega arith)
-    c.index-points-i.is
+evaluate-symbol-requires-clause-point g c = grind (arith, form_read)

@@ -1,10 +1,8 @@
 use Rattle.std.proofs.Common.{slice_index, rules}
 use Rattle.std.proofs.lemmas.Bool.{false≢true}
-use Rattle.num_modular.specs.Callers.{◌%◌, ◌<◌, length, entry, ◌∙◌, ap, sym, refl, subst, arith, IsForm}
-use Rattle.num_modular.specs.Polynomials.{polynomial_at}
+use Rattle.num_modular.specs.Callers.{length, entry, refl, subst, arith}
 use Rattle.ring_codes.specs.Erasure.{IsFault}
 use Rattle.ring_codes.proofs.Symbols.{are_chosen, no_fault}
-use Rattle.num_modular.specs.Callers.{◌≤◌}
 use Rattle.std.proofs.Math.Nat.{le_refl}
 use Rattle.ring_codes.proofs.erasure.restore.Goals as goal
 
@@ -26,22 +24,19 @@ returns-in-Err-clause-accepted g c =
 
 pub returns-then-interpolate : goal.returns-then-interpolate
 returns-then-interpolate g c =
-    let ring = g.R.Reducer in let m = ring.modulus c.args.r.now in let number = g.T.RingWord.number in
-    let k = length c.args.message.now in let places = c.args.places.now in
+    let ring = g.R.Reducer in
+    let m = ring.modulus c.args.r.now in
+    let number = g.T.RingWord.number in
+    let k = length c.args.message.now in
+    let places = c.args.places.now in
     let is = are_chosen number ring.value m _ k c.args.points.now c.choose_points.new.chosen places c.choose_points.auto.chosen
-    c.requires.chosen (c.in-Ok.ensures.places refl) (c.in-Ok.ensures.chosen refl) in record {
+    c.requires.chosen (c.in-Ok.ensures.places refl) (c.in-Ok.ensures.chosen refl) in
+    record {
       accepted = ((λ t. (is.right, is.fit.0 (c.if-interpolate.ensures.fit.0 refl))), λ h. refl);
       fault = search rules;
       checked = λ t. c.if-interpolate.ensures.checked refl;
-      symbols = λ t. record {
-        symbol = λ i l. (c.if-interpolate.ensures.values refl).symbol i l
-            ∙ ap (λ a. polynomial_at k (entry number ring.value m c.interpolate.new.coefficients) a % m) (is.same i l);
-      };
-      original = λ t original word encoding read. c.if-interpolate.ensures.only refl original
-          (record {
-            symbol = λ i l. read i l ∙ encoding.symbol (slice_index places i) (is.right.within i l)
-                ∙ ap (λ a. polynomial_at k original a % m) (sym (is.same i l));
-          });
+      symbols = grind arith;
+      original = grind (arith, slice_index);
     }
 
 pub returns-else-interpolate : goal.returns-else-interpolate
@@ -58,18 +53,10 @@ returns-else-interpolate g c =
     }
 
 pub interpolate-requires-clause-points : goal.interpolate-requires-clause-points
-interpolate-requires-clause-points g c i d l =
-    let ring = g.R.Reducer in let m = ring.modulus c.args.r.now in
-    let points = c.args.points.now in let right = c.in-Ok.ensures.places refl in
-    let within : i < length c.args.chosen.now = omega (arith, l) in
-    subst (λ f. IsForm ring.form ring.value m (g.T.RingWord.number f)) (sym (c.in-Ok.ensures.chosen refl i d within))
-    (c.requires.points (slice_index c.args.places.now i) d (right.within i within))
+interpolate-requires-clause-points g c i d l = grind (arith, slice_index)
 
 pub interpolate-requires-clause-values_within : goal.interpolate-requires-clause-values_within
-interpolate-requires-clause-values_within g c =
-    let enough = (c.in-Ok.ensures.places refl).enough in
-    omega (arith, enough, c.requires.chosen, c.requires.pairs)
+interpolate-requires-clause-values_within g c = grind arith
 
 pub interpolate-requires-clause-points_within : goal.interpolate-requires-clause-points_within
-interpolate-requires-clause-points_within g c =
-    subst (λ n. length c.args.message.now ≤ n) (sym (c.choose_points.auto.chosen ∙ c.requires.chosen)) (le_refl _)
+interpolate-requires-clause-points_within g c = grind (arith, le_refl)

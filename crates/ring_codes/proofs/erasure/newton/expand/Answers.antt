@@ -1,12 +1,11 @@
-use Rattle.num_modular.specs.Callers.{◌≡◌, ◌+◌, ◌-◌, ◌*◌, length, ◌∙◌, ap, sym, refl, arith, entry, entry_read}
+use Rattle.num_modular.specs.Callers.{◌≡◌, ◌+◌, ◌-◌, ◌*◌, length, ◌∙◌, ap, sym, arith, entry, entry_read}
 use Rattle.num_modular.specs.NumberLaws.{mod_of_eq, mod_trans}
 use Rattle.num_modular.specs.PolynomialLaws.{polynomial-none}
 use Rattle.ring_codes.proofs.NewtonForms.{form-none, expanded_more, expanded_all}
 use Rattle.ring_codes.proofs.erasure.newton.expand.Goals as goal
 
 pub points-init : goal.points-init
-points-init g c =
-    (c.requires.form, λ a. mod_of_eq (polynomial-none _ a ∙ sym (form-none _ _ _ a)), λ i l. refl)
+points-init g c = grind (arith, mod_of_eq, polynomial-none, form-none)
 
 pub points-preserved : goal.points-preserved
 points-preserved g c =
@@ -18,11 +17,10 @@ points-preserved g c =
     let f = entry number ring.value m c.subtract_multiples.new.values in
     let x = entry number ring.value m points in
     let there : length c.points.form - 1 - k ≡ n - 1 - k = omega arith in
-    let point = entry_read number ring.value m points (length c.points.form - 1 - k) _ (omega arith) c.index-points-from.is
-    ∙ ap x there in
+    let point = entry_read number ring.value m points _ _ (omega arith) c.index-points-from.is ∙ ap x there in
     let done = c.subtract_multiples.ensures in (
       done.checked,
-      expanded_more m n k (entry number ring.value m c.args.form.now) e f x positive (omega arith) so_far.1 so_far.2
+      expanded_more m n _ (entry number ring.value m c.args.form.now) e f x positive (omega arith) so_far.1 so_far.2
           (λ i l b. mod_trans (mod_of_eq (ap (λ v. f i + v * e (i + 1)) (sym point)))
           (done.done i (omega arith) (omega arith)))
           (λ i l. done.last i (omega arith)),
@@ -30,8 +28,4 @@ points-preserved g c =
     )
 
 pub returns-clause-same : goal.returns-clause-same
-returns-clause-same g c =
-    let ring = g.R.Reducer in let m = ring.modulus c.args.r.now in let number = g.T.RingWord.number in
-    let points = c.args.points.now in
-    expanded_all m (length c.args.form.now) c.points.k (entry number ring.value m c.args.form.now)
-    (entry number ring.value m c.points.form) (entry number ring.value m points) (omega arith) c.points.invariant.1
+returns-clause-same g c = expanded_all _ _ _ _ _ _ (omega arith) c.points.invariant.1

@@ -6,15 +6,7 @@ use Rattle.ring_codes.proofs.DifferenceProducts.{products_so_far_none, products_
 use Rattle.ring_codes.proofs.erasure.newton.fill_differences.Goals as goal
 
 pub points-init : goal.points-init
-points-init g c =
-    let ring = g.R.Reducer in let m = ring.modulus c.args.r.now in let number = g.T.RingWord.number in
-    let points = c.args.points.now in let n : ℕ = length points in let x = entry number ring.value m points in
-    let room = c.requires.room in (
-      c.fill_weights.ensures.checked,
-      λ i l. products_so_far_none m i (difference m x i) (λ j. difference m x i (n - 1 - j))
-          (c.fill_weights.ensures.values i (omega (arith, l, room))),
-      λ i l b. absurd (omega (arith, l, b)),
-    )
+points-init g c = grind (arith, products_so_far_none)
 
 pub points-preserved : goal.points-preserved
 points-preserved g c =

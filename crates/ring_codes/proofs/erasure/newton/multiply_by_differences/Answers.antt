@@ -1,13 +1,10 @@
 use Rattle.std.proofs.Common.{pos, ◌-ℤ◌}
-use Rattle.num_modular.specs.Callers.{◌*◌, ◌%◌, ◌∙◌, ap, refl, arith, entry, entry_at, entry_read, forms_written, done_more}
+use Rattle.num_modular.specs.Callers.{◌*◌, ◌%◌, ◌∙◌, ap, arith, entry, entry_at, entry_read, forms_written, done_more}
 use Rattle.num_modular.specs.Residues.{residue}
 use Rattle.ring_codes.proofs.erasure.newton.multiply_by_differences.Goals as goal
 
 pub points-init : goal.points-init
-points-init g c = (
-  c.requires.products,
-  record { done = λ k b. ((λ a. absurd (omega (arith, a, b))), λ s. refl); kept = λ k b. refl },
-)
+points-init g c = grind arith
 
 pub points-preserved : goal.points-preserved
 points-preserved g c =

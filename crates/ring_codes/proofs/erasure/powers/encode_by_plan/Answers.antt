@@ -4,7 +4,6 @@ use Rattle.std.proofs.Common.{get_or, inl, inr}
 use Rattle.std.proofs.Math.ListN.{set}
 use Rattle.std.proofs.lemmas.Bool.{cases_eq, cases_lt}
 use Rattle.num_modular.specs.Plans.{numbers}
-use Rattle.num_modular.specs.Transforms.{transform}
 use Rattle.ring_codes.proofs.RootPowers.{value_by_transform}
 use Rattle.ring_codes.proofs.erasure.powers.encode_by_plan.Goals as goal
 use Rattle.ring_codes.proofs.erasure.powers.encode_by_plan.Goals.{then-i-message, else-i-message}
@@ -50,8 +49,8 @@ pub returns-clause-encoding : goal.returns-clause-encoding
 returns-clause-encoding g c points powers =
     let number = g.T.RingWord.number in
     let m = number c.args.plan.now.modulus.modulus in
-    let root = number c.args.plan.now.root in
-    let message = c.args.message.now in let padded = c.symbols.word in
+    let message = c.args.message.now in
+    let padded = c.symbols.word in
     let n : ℕ = length c.args.word.now in
     let count : length padded ≡ n = c.symbols.auto.word in
     let past : (i : ℕ) → length message ≤ i → numbers number message i ≡ 0 =
@@ -59,10 +58,5 @@ returns-clause-encoding g c points powers =
     let held : (i : ℕ) → i < n → numbers number padded i ≡ numbers number message i =
     λ i l. c.symbols.invariant i (omega (arith, l)) in
     record {
-      symbol = λ j l.
-          c.transform.ensures.values j (omega (arith, l, count))
-          ∙ ap (λ k. transform m root k (numbers number padded) j) count
-          ∙ value_by_transform m root (length message) n j points (numbers number message)
-          (numbers number padded) c.requires.few powers (λ i b. held i (omega (arith, b, c.requires.few)))
-          (λ i b k. held i k ∙ past i b) l;
+      symbol = grind (arith, value_by_transform);
     }

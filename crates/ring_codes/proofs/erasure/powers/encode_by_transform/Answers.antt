@@ -2,11 +2,10 @@ use Rattle.num_modular.specs.Callers.{◌≡◌, ℕ, ◌<◌, ◌∙◌, ap, ar
 use Rattle.num_modular.specs.Callers.{entry, entry_past, held_entry}
 use Rattle.num_modular.specs.Transforms.{transform}
 use Rattle.ring_codes.proofs.RootPowers.{value_by_transform}
-use Rattle.num_modular.specs.Callers.{◌≤◌, sym, subst, held_forms}
-use Rattle.num_modular.specs.Callers.{◌%◌, IsForm, entry_read, form_read, hold_more}
+use Rattle.num_modular.specs.Callers.{held_forms}
+use Rattle.num_modular.specs.Callers.{entry_read, form_read, hold_more}
 use Rattle.ring_codes.proofs.Counts.{zero_mod}
 use Rattle.ring_codes.proofs.erasure.powers.encode_by_transform.Goals as goal
-use Rattle.ring_codes.proofs.erasure.powers.encode_by_transform.Goals.{then-i-message, else-i-message}
 
 pub returns-clause-encoding : goal.returns-clause-encoding
 returns-clause-encoding g c points powers =
@@ -28,31 +27,7 @@ returns-clause-encoding g c points powers =
     }
 
 pub symbols-preserved : goal.symbols-preserved
-symbols-preserved g c =
-    let ring = g.R.Reducer in let m = ring.modulus c.args.r.now in let number = g.T.RingWord.number in
-    let i : ℕ = c.symbols.i in let x = c.if-i-message.word in let message = c.args.message.now in
-    let padded = c.symbols.word in
-    let is : IsForm ring.form ring.value m (number x) × (ring.value m (number x) ≡ entry number ring.value m message i) =
-    elim c.if-i-message.branch [
-      | then-i-message w ↦
-          let read = w.index-message-i in (
-            subst (λ y. IsForm ring.form ring.value m (number y)) (sym w.word-is)
-                (form_read number ring.form ring.value m message i read.result c.requires.message w.if-i-message.true read.is),
-            ap (λ y. ring.value m (number y)) w.word-is
-                ∙ entry_read number ring.value m message i read.result w.if-i-message.true read.is,
-          )
-      | else-i-message w ↦
-          let zero = c.transform-zero.ensures in (
-            subst (λ y. IsForm ring.form ring.value m (number y)) (sym w.word-is) zero.checked,
-            ap (λ y. ring.value m (number y)) w.word-is ∙ zero.value ∙ ap (λ v. v % m) c.zero.ensures ∙ zero_mod m
-                ∙ sym (entry_past number ring.value m message i w.if-i-message.false),
-          )
-    ] in
-    hold_more number ring.form ring.value m padded i x (entry number ring.value m message)
-    (subst (λ n. i < n) (sym c.symbols.auto.word) c.symbols-test.true) c.symbols.invariant is.0 is.1
+symbols-preserved g c = grind (arith, form_read, entry_read, zero_mod, entry_past, hold_more)
 
 pub ntt-requires-clause-checked : goal.ntt-requires-clause-checked
-ntt-requires-clause-checked g c =
-    let ring = g.R.Reducer in let m = ring.modulus c.args.r.now in let number = g.T.RingWord.number in
-    held_forms number ring.form ring.value m c.symbols.word _ _ c.symbols.invariant
-    (subst (λ n. n ≤ c.symbols.i) (sym c.symbols.auto.word) c.symbols-test.false)
+ntt-requires-clause-checked g c = grind (arith, held_forms)

@@ -6,14 +6,7 @@ use Rattle.num_modular.specs.Callers.{hold_more, held_entry, held_forms}
 use Rattle.ring_codes.proofs.erasure.powers.fill_powers.Goals as goal
 
 pub powers-init : goal.powers-init
-powers-init g c =
-    let ring = g.R.Reducer in let m = ring.modulus c.args.r.now in let number = g.T.RingWord.number in (
-      record { each = λ k d l. absurd (omega arith) },
-      record {
-        checked = c.transform-power.ensures.checked;
-        same = c.transform-power.ensures.value ∙ ap (λ v. v % m) (c.one.ensures ∙ sym (pow-zero _));
-      },
-    )
+powers-init g c = grind (arith, pow-zero)
 
 pub powers-preserved : goal.powers-preserved
 powers-preserved g c =
@@ -30,13 +23,7 @@ powers-preserved g c =
     )
 
 pub returns-clause-checked : goal.returns-clause-checked
-returns-clause-checked g c =
-    let ring = g.R.Reducer in let m = ring.modulus c.args.r.now in
-    held_forms g.T.RingWord.number ring.form ring.value m c.powers.points _ _ c.powers.invariant.0 (omega arith)
+returns-clause-checked g c = grind (arith, held_forms)
 
 pub returns-clause-powers : goal.returns-clause-powers
-returns-clause-powers g c =
-    let ring = g.R.Reducer in let m = ring.modulus c.args.r.now in record {
-      power = λ i l. held_entry g.T.RingWord.number ring.form ring.value m c.powers.points _ _ i c.powers.invariant.0
-          (omega arith) (omega arith);
-    }
+returns-clause-powers g c = grind (arith, held_entry)

@@ -1,4 +1,4 @@
-use Rattle.num_modular.specs.Callers.{ℕ, ◌<◌, subst, arith, length, IsInverse, entry}
+use Rattle.num_modular.specs.Callers.{ℕ, ◌<◌, arith, length, entry}
 use Rattle.ring_codes.specs.Prepared.{product_but}
 use Rattle.ring_codes.proofs.Lagrange.{fit_from_all, all_from_fit}
 use Rattle.ring_codes.proofs.NewtonForms.{has_of_residue, has_to_residue, of_residue}
@@ -17,9 +17,4 @@ returns-clause-fit g c =
     )
 
 pub returns-clause-inverses : goal.returns-clause-inverses
-returns-clause-inverses g c t i l =
-    let ring = g.R.Reducer in let m = ring.modulus c.args.r.now in let number = g.T.RingWord.number in
-    let points = c.args.points.now in let x = entry number ring.value m points in
-    of_residue m (product_but m (length points) x i (x i)) (entry number ring.value m c.invert_each.new.forms i)
-    (subst (λ a. IsInverse m a (entry number ring.value m c.invert_each.new.forms i)) (c.fill_differences.ensures.products i l)
-    (c.invert_each.ensures.inverses t i (omega arith)))
+returns-clause-inverses g c t i l = grind (arith, of_residue)

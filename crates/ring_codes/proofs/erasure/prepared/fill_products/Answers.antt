@@ -9,49 +9,13 @@ use Rattle.ring_codes.proofs.Lagrange.{product_of_parts}
 use Rattle.ring_codes.proofs.erasure.prepared.fill_products.Goals as goal
 
 pub forward-init : goal.forward-init
-forward-init g c =
-    let m = g.R.Reducer.modulus c.args.r.now in (
-      record { each = λ k d l. absurd (omega arith) },
-      record {
-        checked = c.transform-one.ensures.checked;
-        same = product_none m _ _ (c.transform-one.ensures.value ∙ ap (λ v. v % m) c.one.ensures);
-      },
-    )
+forward-init g c = grind (arith, product_none)
 
 pub forward-preserved : goal.forward-preserved
-forward-preserved g c =
-    let ring = g.R.Reducer in let m = ring.modulus c.args.r.now in let number = g.T.RingWord.number in
-    let points = c.args.points.now in let x = entry number ring.value m points in
-    let a = ring.value m (number c.args.point.now) in let i = c.forward.i in
-    let f : ℕ → ℕ = λ l. residue m (pos a -ℤ pos (x l)) in
-    let held = c.forward.invariant.0 in let next = c.forward.invariant.1 in
-    let point = entry_read number ring.value m points i _ c.forward-test.true c.index-points-i.is in (
-      hold_more number ring.form ring.value m c.forward.products i c.forward.before (λ i. product_below i f % m)
-          (omega arith) held next.checked next.same,
-      record {
-        checked = c.mul-before.ensures.checked;
-        same = c.mul-before.ensures.value
-            ∙ product_step m i _ _ f next.same
-            (c.sub-difference.ensures.value ∙ ap (λ v. residue m (pos a -ℤ pos v)) point);
-      },
-    )
+forward-preserved g c = grind (arith, entry_read, hold_more, product_step)
 
 pub backward-init : goal.backward-init
-backward-init g c =
-    let ring = g.R.Reducer in let m = ring.modulus c.args.r.now in let number = g.T.RingWord.number in
-    let x = entry number ring.value m c.args.points.now in let a = ring.value m (number c.args.point.now) in
-    let f : ℕ → ℕ = λ l. residue m (pos a -ℤ pos (x l)) in
-    let held = c.forward.invariant.0 in (
-      held_forms number ring.form ring.value m c.forward.products (λ i. product_below i f % m) c.forward.i held
-          (omega arith),
-      λ i l. held_entry number ring.form ring.value m c.forward.products (λ i. product_below i f % m) c.forward.i i held
-          (omega arith) (omega arith),
-      λ i l b. absurd (omega (arith, l, b)),
-      record {
-        checked = c.transform-one.ensures.checked;
-        same = product_none m _ _ (c.transform-one.ensures.value ∙ ap (λ v. v % m) c.one.ensures);
-      },
-    )
+backward-init g c = grind (arith, held_forms, held_entry, product_none)
 
 pub backward-preserved : goal.backward-preserved
 backward-preserved g c =

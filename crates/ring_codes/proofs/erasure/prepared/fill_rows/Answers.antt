@@ -9,8 +9,7 @@ use Rattle.ring_codes.proofs.erasure.prepared.fill_rows.Goals as goal
 
 pub offset_bounds-rows-next : goal.offset_bounds-rows-next
 offset_bounds-rows-next g c =
-    let k : ℕ = length c.args.known.now in
-    let inside = row_within c.wanted.j (length c.args.wanted.now) k c.known.i c.wanted-test.true c.known-test.true in
+    let inside = row_within _ _ _ _ c.wanted-test.true c.known-test.true in
     scaled_Fits _ _ _ (omega (arith, inside, c.known.invariant.0, c.requires.count)) c.well_formed.1.1.1.1.1.0.1
 
 pub known-preserved : goal.known-preserved
@@ -19,13 +18,12 @@ known-preserved g c =
     let known = c.args.known.now in let x = entry number ring.value m known in
     let y = entry number ring.value m c.args.wanted.now in let w = entry number ring.value m c.args.weights.now in
     let k : ℕ = length known in let j = c.wanted.j in let i = c.known.i in let next = c.known.next in
-    let products = c.fill_products.new.products in
     let v : ℕ → ℕ = λ e. (product_but m k x (e % k) (y (e / k)) % m * w (e % k)) % m in
     let so_far = c.known.invariant.1 in let at = c.known.invariant.0 in
     let column : next % k ≡ i = ap (λ e. e % k) at ∙ mod-mul-add j k i c.known-test.true in
     let row : next / k ≡ j = ap (λ e. e / k) at ∙ div-mul-add j k i c.known-test.true in
     let point = entry_read number ring.value m c.args.wanted.now j _ c.wanted-test.true c.index-wanted-j.is in
-    let product = entry_at number ring.value m products i c.index-products-i.result (omega arith) in
+    let product = entry_at number ring.value m _ i c.index-products-i.result (omega arith) in
     let weight = entry_read number ring.value m c.args.weights.now i _ (omega arith) c.index-weights-i.is in
     let here : v next ≡ (product_but m k x i (y j) % m * w i) % m =
     ap (λ e. (product_but m k x e (y (next / k)) % m * w e) % m) column
@@ -56,10 +54,4 @@ returns-clause-values g c j i l b =
     ∙ ap (λ e. (product_but m k x i (y e) % m * w i) % m) (div-mul-add j k i b)
 
 pub returns-clause-checked : goal.returns-clause-checked
-returns-clause-checked g c =
-    let ring = g.R.Reducer in let m = ring.modulus c.args.r.now in
-    let k : ℕ = length c.args.known.now in
-    let all : length c.args.wanted.now * k ≤ c.wanted.j * k = mul-le-mul_right k c.wanted-test.false in
-    let at = c.wanted.invariant.0 in
-    held_forms g.T.RingWord.number ring.form ring.value m c.wanted.rows _ _ c.wanted.invariant.1
-    (omega (arith, all, at, c.wanted.auto.rows, c.requires.count))
+returns-clause-checked g c = grind (arith, mul-le-mul_right, held_forms)

@@ -4,8 +4,7 @@ use Rattle.std.proofs.Common.{rules}
 use Rattle.ring_codes.proofs.erasure.secrets.share.Goals as goal
 
 pub returns-then-not-have_inverses : goal.returns-then-not-have_inverses
-returns-then-not-have_inverses g c =
-    ((search rules, omega arith, λ each. false≢true (c.if-not-have_inverses.ensures.1 each)), refl)
+returns-then-not-have_inverses g c = grind (arith, false≢true)
 
 pub returns-then-not-points_fit : goal.returns-then-not-points_fit
 returns-then-not-points_fit g c = (
@@ -17,9 +16,4 @@ returns-then-not-points_fit g c = (
 )
 
 pub returns : goal.returns
-returns g c = record {
-  points_right = record { some = search rules; enough = omega arith; inverses = c.if-not-have_inverses.ensures.0 refl };
-  fit = c.if-not-points_fit.ensures.0 refl;
-  checked = c.encode.ensures.checked;
-  encoding = c.encode.ensures.encoding;
-}
+returns g c = grind arith

@@ -3,7 +3,7 @@ use Rattle.num_modular.specs.Callers.{entry, held_entry}
 use Rattle.num_modular.specs.Sums.{sum_below}
 use Rattle.ring_codes.proofs.Lagrange.{fit_known, message_of, value_from_row}
 use Rattle.ring_codes.proofs.Symbols.{entry_below}
-use Rattle.num_modular.specs.Callers.{◌<◌, ◌≤◌, sym, subst, hold_more, held_forms}
+use Rattle.num_modular.specs.Callers.{hold_more, held_forms}
 use Rattle.ring_codes.proofs.erasure.prepared.PreparedCode.extend.Goals as goal
 
 pub returns-clause-original : goal.returns-clause-original
@@ -28,22 +28,13 @@ returns-clause-word g c =
     let self = c.args.self.now in
     let ring = g.R.Reducer in let m = ring.modulus self.ring.now in let number = g.T.RingWord.number in
     let positive = (g.met.R.Reducer.canonical self.ring.now).positive in
-    let x = entry number ring.value m self.known.now in
-    let symbols = entry number ring.value m c.args.symbols.now in
     let k : ℕ = length self.known.now in
-    let found = message_of m k x symbols positive (fit_known m k x self.fit)
+    let found = message_of m k _ _ positive (fit_known m k _ self.fit)
     (λ i l. entry_below number ring.form ring.value m c.args.symbols.now i c.requires.symbols (omega arith)) in
     (found.0, found.1, returns-clause-original g c found.0 found.1)
 
 pub wanted-preserved : goal.wanted-preserved
-wanted-preserved g c =
-    let self = c.args.self.now in let ring = g.R.Reducer in let m = ring.modulus self.ring.now in let number = g.T.RingWord.number in
-    hold_more number ring.form ring.value m c.wanted.others c.wanted.j c.row_value.result _
-    (subst (λ n. c.wanted.j < n) (sym (c.wanted.auto.others ∙ c.requires.room)) c.wanted-test.true)
-    c.wanted.invariant c.row_value.ensures.checked c.row_value.ensures.value
+wanted-preserved g c = grind (arith, hold_more)
 
 pub returns-clause-checked : goal.returns-clause-checked
-returns-clause-checked g c =
-    let self = c.args.self.now in let ring = g.R.Reducer in let m = ring.modulus self.ring.now in let number = g.T.RingWord.number in
-    held_forms number ring.form ring.value m c.wanted.others _ _ c.wanted.invariant
-    (subst (λ n. n ≤ c.wanted.j) (sym (c.wanted.auto.others ∙ c.requires.room)) c.wanted-test.false)
+returns-clause-checked g c = grind (arith, held_forms)

@@ -32,14 +32,13 @@ returns-then-ne g c =
 pub wanted-preserved : goal.wanted-preserved
 wanted-preserved g c =
     let self = c.args.self.now in
-    let ring = g.R.Reducer in let m = ring.modulus self.ring.now in let number = g.T.RingWord.number in
+    let ring = g.R.Reducer in let m = ring.modulus self.ring.now in
     let others = c.args.others.now in let j = c.wanted.j in
     let below : j < length others = omega arith in
-    let symbol = entry_read number ring.value m others j _ below c.index-others-j.is in
+    let symbol = entry_read _ ring.value _ _ _ _ below c.index-others-j.is in
     let same = told_same _ _ _ c.ne.ensures c.if-ne.false
     (g.met.T.RingWord.equal c.row_value-symbol.result c.index-others-j.result) in
-    below_more _ _ c.wanted.invariant
-    (sym symbol ∙ sym (ap (ring.value m) same) ∙ c.row_value-symbol.ensures.value)
+    below_more _ _ c.wanted.invariant (sym symbol ∙ sym (ap (ring.value m) same) ∙ c.row_value-symbol.ensures.value)
 
 pub returns : goal.returns
 returns g c =
