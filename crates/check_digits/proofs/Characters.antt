@@ -1,5 +1,5 @@
 -- IBANs with one character changed.
-use Rattle.std.proofs.Common.{◌≡◌, ℕ, zero, suc, ◌+◌, ◌-◌, ◌*◌, ◌/◌, ◌%◌, ◌^◌, ◌<◌, ◌≤◌, ⊎_elim, Bool, true, false, nat_le}
+use Rattle.std.proofs.Common.{◌≡◌, ℕ, zero, suc, ◌+◌, ◌-◌, ◌*◌, ◌/◌, ◌%◌, ◌^◌, ◌<◌, ◌≤◌, ⊎_elim, Bool, false, nat_le}
 use Rattle.std.proofs.Common.{if◌then◌else◌, List, [], ◌∷◌, ◌++◌, length, get_or, set, take, drop, length-append, length-drop}
 use Rattle.std.proofs.Common.{sym, ap, ◌∙◌, refl, arith, pow-add}
 use Rattle.std.specs.List.{flat_map}
@@ -41,13 +41,11 @@ false_at c e h = false≢true (sym e ∙ le-leb c 57 h)
 
 pub digit_is : (c : ℕ) (b : Bool) → nat_le c 57 ≡ b → IsDigit c
     → (if b then (c - 48) ∷ [] else ((c - 55) / 10) ∷ ((c - 55) % 10) ∷ []) ≡ (c - 48) ∷ []
-digit_is c true e h = refl
-digit_is c false e h = absurd (false_at c e h.1)
+digit_is c b e h = grind (arith, false_at)
 
 pub letter_is : (c : ℕ) (b : Bool) → nat_le c 57 ≡ b → IsLetter c
     → (if b then (c - 48) ∷ [] else ((c - 55) / 10) ∷ ((c - 55) % 10) ∷ []) ≡ ((c - 55) / 10) ∷ ((c - 55) % 10) ∷ []
-letter_is c true e h = absurd (omega (arith, leb-true))
-letter_is c false e h = refl
+letter_is c b e h = grind (arith, leb-true)
 
 -- what two characters of one kind have in common, and that their numbers distinguish them
 record Alike (c d : ℕ) : Type 0 where

@@ -3,7 +3,7 @@ use Rattle.std.proofs.Common.{◌↔◌, ◌≡◌, ◌≢◌, ℕ, zero, suc, �
 use Rattle.std.proofs.Math.ListN.{get_or-append}
 use Rattle.std.proofs.Math.Seq.{get_or-append_seam}
 use Rattle.std.proofs.Common.{◌≤◌, List, [], ◌∷◌, ◌++◌, length, length-append, get_or, set, sym, ap, ◌∙◌, refl, arith}
-use Rattle.std.proofs.Common.{⊎_elim, length-set, get_or-set_same, get_or-set_other, ℤ, pos, negsuc}
+use Rattle.std.proofs.Common.{⊎_elim, length-set, get_or-set_same, get_or-set_other, ℤ}
 use Rattle.std.proofs.Math.Nat.{add-mod, add-mod-mod, mod-add-mod}
 use Rattle.std.proofs.Math.Nat.{zero-mod, mod-eq_of_lt, mod-lt}
 use Rattle.std.proofs.lemmas.Bool.{cases_lt}
@@ -137,8 +137,7 @@ one_symbol m S S' S'' w x s t (i, inverse) s_below t_below equal moved other =
     ∙ mod-eq_of_lt s_below
 
 pub residue_below : (m : ℕ) (z : ℤ) → 0 < m → residue m z < m
-residue_below m (pos n) positive = mod-lt n positive
-residue_below m (negsuc n) positive = omega arith
+residue_below m z positive = grind (arith, mod-lt)
 
 -- a number with an inverse, and its residue
 pub has_to_residue : (m a v : ℕ) → v ≡ a % m → HasInverse m a → HasInverse m v

@@ -69,10 +69,9 @@ pub exchange_told : (code : CheckCode) (word : List ℕ) (p : ℕ) → 0 < code.
     × ((residue code.modulus (pos (get_or code.weights p 0) -ℤ pos (get_or code.weights (suc p) 0))
     * residue code.modulus (pos (get_or word (suc p) 0) -ℤ pos (get_or word p 0))) % code.modulus ≡ 0))
 exchange_told code word p positive is within =
-    let m = code.modulus in
-    let told = exchanged_word code word p _ _ is within
-    (difference_and m (get_or code.weights p 0) (get_or code.weights (suc p) 0) positive)
-    (difference_and m (get_or word (suc p) 0) (get_or word p 0) positive) in
+    let told = exchanged_word code _ _ _ _ is within
+    (difference_and _ (get_or code.weights p 0) (get_or code.weights (suc p) 0) positive)
+    (difference_and _ _ _ positive) in
     ((λ w. (((told.0 w).0, (told.0 w).1), (told.0 w).2)), λ h. told.1 (h.0.0, h.0.1, h.1))
 
 -- the test of a changed word W, F being that its symbols fit, and v what the sum shows of the change

@@ -78,11 +78,10 @@ squares a most = eqb-true (damm_product a a) 0 (passes 10 (λ a. nat_eq (damm_pr
 pub damm_completed : (word : List ℕ) → All (λ d. d ≤ 9) word → IsCheckSymbol 10 IsDamm word (damm_check word)
 damm_completed word all =
     let c = damm_check word in
-    let most : c ≤ 9 = state_most damm_step 0 (λ j. get_or word j 0) (length word) damm_distinguishes.closed (omega arith)
-    (digit_at word all) in
+    let most : c ≤ 9 = state_most damm_step _ _ _ damm_distinguishes.closed (omega arith) (digit_at _ all) in
     record {
       below = omega (arith, most);
       accepted = search (arith, one_more, all_more, more_product, squares);
-      only = λ t l is. rows c t c most (omega (arith, l)) most
-          (sym (more_product word t) ∙ is.product ∙ sym (squares c most));
+      only = λ t l is. rows _ t _ most (omega (arith, l)) most
+          (sym (more_product _ t) ∙ is.product ∙ sym (squares _ most));
     }

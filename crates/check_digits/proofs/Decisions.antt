@@ -1,5 +1,5 @@
 -- Facts about the numbers below n that are tested for each of them.
-use Rattle.std.proofs.Common.{◌≡◌, ℕ, zero, suc, ◌<◌, ◌≤◌, Bool, true, false, ◌&&◌, ◌||◌, not, nat_eq, arith, ⊎_elim}
+use Rattle.std.proofs.Common.{◌≡◌, ℕ, zero, suc, ◌<◌, ◌≤◌, Bool, true, ◌&&◌, ◌||◌, not, nat_eq, arith, ⊎_elim}
 use Rattle.std.proofs.lemmas.Bool.{and_parts, eqb-true, eq-eqb, cases_lt, false≢true}
 
 -- whether each number below n passes a test
@@ -11,9 +11,7 @@ pub passes : (n : ℕ) (test : ℕ → Bool) → each_below n test ≡ true → 
 passes zero test h i l = absurd (omega (arith, l))
 passes (suc n) test h i l =
     let parts = and_parts (each_below n test) (test n) h in
-    ⊎_elim (λ (b : i < n). passes n test parts.0 i b)
-    (λ (b : n ≤ i). search arith)
-    (cases_lt i n)
+    ⊎_elim (λ (b : i < n). passes n test parts.0 i b) (λ (b : n ≤ i). search arith) (cases_lt _ n)
 
 -- whether a term of three digits is the same with the last two exchanged only where these are equal
 abbrev pub asymmetric : (ℕ → ℕ → ℕ → ℕ) → Bool
@@ -21,8 +19,7 @@ asymmetric u = each_below 10 (λ c. each_below 10 (λ a. each_below 10 (λ b.
     not (nat_eq (u c a b) (u c b a)) || nat_eq a b)))
 
 not_or : (p q : Bool) → (not p || q) ≡ true → p ≡ true → q ≡ true
-not_or true q h e = h
-not_or false q h e = absurd (false≢true e)
+not_or p q h e = grind (arith, false≢true)
 
 pub apart : (u : ℕ → ℕ → ℕ → ℕ) → asymmetric u ≡ true → (c a b : ℕ) → c ≤ 9 → a ≤ 9 → b ≤ 9
     → u c a b ≡ u c b a → a ≡ b

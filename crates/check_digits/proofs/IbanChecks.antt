@@ -14,9 +14,7 @@ split_number s t a b rest h k =
     let front : List ℕ = flat_map digits_of (rest ++ s ∷ t ∷ []) in
     let two : List ℕ = (a - 48) ∷ (b - 48) ∷ [] in
     let last : flat_map digits_of (a ∷ b ∷ []) ≡ two = search (arith, digit_is) in
-    let whole : iban_digits (s ∷ t ∷ a ∷ b ∷ rest) ≡ front ++ two =
-    ap (flat_map digits_of) (sym (append_assoc rest (s ∷ t ∷ []) (a ∷ b ∷ [])))
-    ∙ flat_map-append digits_of (rest ++ s ∷ t ∷ []) (a ∷ b ∷ []) ∙ ap (λ xs. front ++ xs) last in
+    let whole : iban_digits (s ∷ t ∷ a ∷ b ∷ rest) ≡ front ++ two = grind (arith, append_assoc, flat_map-append) in
     let end : written front * 100 + ((a - 48) * 10 + ((b - 48) * 1 + 0))
     ≡ 100 * written front + (10 * (a - 48) + (b - 48)) = omega arith in
     sym (written_is (iban_digits (s ∷ t ∷ a ∷ b ∷ rest))) ∙ ap written whole ∙ written_more front two ∙ end
@@ -43,8 +41,7 @@ check_digits_of (s ∷ t ∷ u ∷ c ∷ rest) v form is =
     let old : ℕ = 10 * (u - 48) + (c - 48) in
     let old_most : old ≤ 99 = omega arith in
     let k : ℕ = check_of v old in
-    let leaves : v ≡ (100 * n + old) % 97 =
-    is ∙ ap (λ x. x % 97) (split_number s t u c rest form.check.0 form.check.1) in
+    let leaves : v ≡ (100 * n + old) % 97 = grind (arith, split_number) in
     let right = right_check n v old k old_most leaves refl in
     let least : 2 ≤ k = omega arith in
     let most : k ≤ 98 = omega arith in

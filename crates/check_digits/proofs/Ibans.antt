@@ -6,7 +6,7 @@ use Rattle.std.proofs.lemmas.List.{get_or-drop}
 use Rattle.std.proofs.lemmas.Nat.{mul-mod_first}
 use Rattle.num_modular.specs.NumberLaws.{sum_below-congruent}
 use Rattle.num_modular.specs.Sums.{polynomial_highest_first}
-use Rattle.std.proofs.Common.{append-nil, length-drop, ◌≤◌, ◌⊎◌, ◌++◌, ◌/◌, take, subst, false, nat_le, if◌then◌else◌}
+use Rattle.std.proofs.Common.{append-nil, length-drop, ◌≤◌, ◌⊎◌, ◌++◌, ◌/◌, take, subst, nat_le, if◌then◌else◌}
 use Rattle.std.specs.List.{All, flat_map}
 use Rattle.std.proofs.lemmas.List.{ext_get_or, get_or-take, length-take-le, take_all, take_more}
 use Rattle.std.proofs.lemmas.Grind.{flat_map-append}
@@ -46,8 +46,7 @@ powers_behind m place xs count i h whole within =
 -- the digits of characters are digits
 digits_by : (b : Bool) (c : ℕ) → nat_le c 57 ≡ b → c ≤ 90
     → All (λ d. d ≤ 9) (if b then (c - 48) ∷ [] else ((c - 55) / 10) ∷ ((c - 55) % 10) ∷ [])
-digits_by true c e h = search (arith, leb-true)
-digits_by false c e h = search arith
+digits_by b c e h = grind (arith, leb-true)
 
 digits_small : (c : ℕ) → IsDigit c ⊎ IsLetter c → All (λ d. d ≤ 9) (digits_of c)
 digits_small c h = search (arith, digits_by)

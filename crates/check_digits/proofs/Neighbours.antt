@@ -1,5 +1,5 @@
 -- IBANs with two neighbouring characters exchanged.
-use Rattle.std.proofs.Common.{◌≡◌, ◌≢◌, ℕ, zero, suc, ◌+◌, ◌-◌, ◌*◌, ◌/◌, ◌%◌, ◌^◌, ◌<◌, ◌≤◌, ◌⊎◌, inl, inr, Bool, true, false}
+use Rattle.std.proofs.Common.{◌≡◌, ◌≢◌, ℕ, zero, suc, ◌+◌, ◌-◌, ◌*◌, ◌/◌, ◌%◌, ◌^◌, ◌<◌, ◌≤◌, ◌⊎◌, inl, inr, Bool, true}
 use Rattle.std.proofs.Common.{nat_eq, if◌then◌else◌, List, [], ◌∷◌, ◌++◌, length, get_or, set, take, drop, length-append}
 use Rattle.std.proofs.Common.{sym, ap, ◌∙◌, refl, arith, subst, length-set, get_or-set_same, get_or-set_other}
 use Rattle.std.specs.List.{flat_map}
@@ -41,19 +41,11 @@ elevenfold c d h k e = search (arith, cases_eq)
 -- two characters that leave the same in either order
 same_pair : (c d : ℕ) → IsDigit c ⊎ IsLetter c → IsDigit d ⊎ IsLetter d → c ≢ d
     → written (pair c d) % 97 ≡ written (pair d c) % 97 → AreElevenfold c d ⊎ AreElevenfold d c
-same_pair c d (inl h) (inl k) apart same =
-    absurd (apart (omega (arith, two_digits c d h k, two_digits d c k h, same, h, k)))
-same_pair c d (inr h) (inr k) apart same =
-    absurd (apart (omega (arith, two_letters c d h k, two_letters d c k h, same, h, k)))
-same_pair c d (inl h) (inr k) apart same =
-    inl (elevenfold c d h k (omega (arith, digit_and_letter c d h k, letter_and_digit d c k h, same, h, k)))
-same_pair c d (inr h) (inl k) apart same =
-    inr (elevenfold d c k h (omega (arith, letter_and_digit c d h k, digit_and_letter d c k h, same, h, k)))
+same_pair c d h2 h3 apart same =
+    grind (arith, two_digits, two_letters, elevenfold, digit_and_letter, letter_and_digit)
 
 pair_alike : (c d : ℕ) → AreElevenfold c d → written (pair c d) ≡ written (pair d c)
-pair_alike c d (inl h) = rw (h.0, h.1) refl
-pair_alike c d (inr (inl h)) = rw (h.0, h.1) refl
-pair_alike c d (inr (inr h)) = rw (h.0, h.1) refl
+pair_alike c d h2 = grind arith
 
 one_character : (c : ℕ) → flat_map digits_of (c ∷ []) ≡ digits_of c
 one_character c = append-nil (digits_of c)
@@ -147,15 +139,13 @@ less_one_unit : (k : ℕ) → k < 68 → HasInverse 97 (10 ^ suc k + 96)
 less_one_unit k l =
     let a : ℕ = less_one k in
     let x : ℕ = a ^ 95 % 97 in
-    let one : (a * x) % 97 ≡ 1 =
-    mul-mod_second a (a ^ 95) 97 ∙ eqb-true ((a * a ^ 95) % 97) 1 (passes 68 less_one_test less_one_passes k l) in
-    let is : Congruent 97 (10 ^ suc k + 96) a = mod_sym (mod_add (residue_of (10 ^ suc k)) (mod_refl 96)) in
-    (x, record { below = omega arith; one = (mod_mul is (mod_refl x)).same ∙ one })
+    let one : (a * x) % 97 ≡ 1 = mul-mod_second _ _ _ ∙ eqb-true _ _ (passes _ less_one_test less_one_passes _ l) in
+    let is : Congruent 97 (10 ^ suc k + 96) a = mod_sym (mod_add (residue_of _) (mod_refl _)) in
+    (x, record { below = omega arith; one = (mod_mul is (mod_refl _)).same ∙ one })
 
 -- a character has two digits at most
 few_digits : (b : Bool) (c : ℕ) → length (if b then (c - 48) ∷ [] else ((c - 55) / 10) ∷ ((c - 55) % 10) ∷ []) ≤ 2
-few_digits true c = omega arith
-few_digits false c = omega arith
+few_digits b c = grind arith
 
 digits_at_most : (xs : List ℕ) → length (flat_map digits_of xs) ≤ 2 * length xs
 digits_at_most [] = omega arith
@@ -169,13 +159,12 @@ ends_number mid c d h k = search (arith, flat_map-append, one_character, digit_i
 ends_differ : (m c d p : ℕ) → HasInverse 97 (p + 96) → c < 10 → d < 10
     → Congruent 97 (d * p + (m + c)) (c * p + (m + d)) → d ≡ c
 ends_differ m c d p unit c_small d_small same =
-    let less : (x k : ℕ) → Congruent 97 (x + 97 * k) x = λ x k. record { same = add-mul-mod_self_left x 97 k } in
+    let less : (x k : ℕ) → Congruent 97 (x + 97 * k) x = λ x k. record { same = add-mul-mod_self_left x _ k } in
     let whole : Congruent 97 (d * (p + 96) + m) (c * (p + 96) + m) =
     mod_trans (mod_sym (less (d * (p + 96) + m) c)) (search (arith, mod_trans, mod_of_eq, mod_add, mod_refl)) in
     let d_below : d < 97 = omega (arith, d_small) in
     let c_below : c < 97 = omega (arith, c_small) in
-    sym (mod-eq_of_lt d_below) ∙ (cancelled_factor 97 d c (p + 96) unit (mod_add_cancel m whole)).same ∙ mod-eq_of_lt
-    c_below
+    sym (mod-eq_of_lt d_below) ∙ (cancelled_factor _ _ _ _ unit (mod_add_cancel _ whole)).same ∙ mod-eq_of_lt c_below
 
 ends_exchanged : (mid : List ℕ) (c d : ℕ) → IsDigit c → IsDigit d → length mid ≤ 32
     → written (flat_map digits_of (d ∷ mid ++ c ∷ [])) % 97 ≡ written (flat_map digits_of (c ∷ mid ++ d ∷ [])) % 97 → c ≡ d
@@ -216,16 +205,11 @@ letter_no_digit c h k = omega (arith, h, k)
 -- among the first four characters each exchange is found
 first_found : (text : List ℕ) (i : ℕ) → IsIban text → IsIban (exchanged text i) → suc i < length text → i < 3
     → AreElevenfold (get_or text i 0) (get_or text (suc i) 0) ⊎ AreElevenfold (get_or text (suc i) 0) (get_or text i 0) → ⊥
-first_found text zero iban changed inside l h =
-    letters_found (get_or text 0 0) (get_or text 1 0) iban.form.country.0 iban.form.country.1 h
-first_found text (suc zero) iban changed inside l h = search (arith, length-set, letter_no_digit, get_or-set_same)
-first_found text (suc (suc zero)) iban changed inside l h =
-    digits_found (get_or text 2 0) (get_or text 3 0) iban.form.check.0 iban.form.check.1 h
-first_found text (suc (suc (suc i))) iban changed inside l h = absurd (omega (arith, l))
+first_found text i iban changed inside l h =
+    grind (arith, letters_found, length-set, letter_no_digit, get_or-set_same, digits_found)
 
 pair_in_either_order : (c d : ℕ) → AreElevenfold c d ⊎ AreElevenfold d c → written (pair c d) ≡ written (pair d c)
-pair_in_either_order c d (inl h) = pair_alike c d h
-pair_in_either_order c d (inr h) = sym (pair_alike d c h)
+pair_in_either_order c d h2 = grind (arith, pair_alike)
 
 -- the text with two neighbours that differ exchanged ..
 pub neighbours_told : FindsAllButElevenfold

@@ -151,22 +151,19 @@ more_product : (word : List ℕ) (s : ℕ) → All (λ d. d ≤ 9) word → s �
 more_product word s all most =
     let n = length word in
     let f : ℕ → ℕ = λ j. get_or (word ++ s ∷ []) (suc n - 1 - j) 0 in
-    let g : ℕ → ℕ = λ j. get_or word (n - 1 - j) 0 in
     let last : suc n - 1 - 0 ≡ n = omega arith in
     let first : verhoeff_step 0 0 0 (f 0) ≡ s = search (arith, image_none, get_or-append_seam, unit_before) in
-    product_by (word ++ s ∷ []) (suc n) (one_more word s)
-    ∙ state_later (verhoeff_step 0) (verhoeff_step 1) 0 f n later_step
+    product_by (word ++ s ∷ []) _ (one_more _ _)
+    ∙ state_later (verhoeff_step 0) (verhoeff_step 1) _ _ _ later_step
     ∙ ap (λ c. state_after (verhoeff_step 1) c (λ j. f (suc j)) n) first
-    ∙ state_same (verhoeff_step 1) s (λ j. f (suc j)) g n
+    ∙ state_same (verhoeff_step 1) _ _ _ _
     (λ j l. search (arith, get_or-append))
-    ∙ from_state 1 s n g most (digit_at word all n refl)
+    ∙ from_state _ _ _ _ most (digit_at _ all _ refl)
 
 pub verhoeff_completed : (word : List ℕ) → All (λ d. d ≤ 9) word
     → IsCheckSymbol 10 IsVerhoeff word (inverse_of (verhoeff_product 1 word))
 verhoeff_completed word all =
-    let p = verhoeff_product 1 word in
-    let p_most : p ≤ 9 = search (arith, state_most, verhoeff_distinguishes, digit_at) in
-    search (arith, inverse_small, one_more, all_more, more_product, inverse_cancels, right_cancels)
+    grind (arith, state_most, verhoeff_distinguishes, digit_at, inverse_small, one_more, all_more, more_product, inverse_cancels, right_cancels)
 
 -- the permutation is the identity after eight steps
 eightfold : (a : ℕ) → a ≤ 9 → image 8 a ≡ a

@@ -28,5 +28,4 @@ returns-clause-below c = search rules
 
 pub returns-clause-only : goal.returns-clause-only
 returns-clause-only c t below leaves =
-    one_completion c.args.self.now.modulus c.args.sum c.args.weight c.residue.result t c.requires
-    (returns-clause-below c) below (returns-clause-leaves c ∙ sym leaves)
+    one_completion _ _ _ _ t c.requires (returns-clause-below c) below (returns-clause-leaves c ∙ sym leaves)

@@ -28,9 +28,7 @@ returns-else-fits c t below w =
 
 pub returns-then-not-fits_but : goal.returns-then-not-fits_but
 returns-then-not-fits_but c t below w =
-    false≢true (sym c.if-not-fits_but.true
-    ∙ c.fits_but.ensures.1 (fits_elsewhere (code_of c.args.self.now) c.args.word.now c.args.place t w))
+    false≢true (sym c.if-not-fits_but.true ∙ c.fits_but.ensures.1 (fits_elsewhere (code_of c.args.self.now) _ _ t w))
 
 pub returns-then-word-self : goal.returns-then-word-self
-returns-then-word-self c t below w =
-    c.if-word-self.true (sym (length-set c.args.word.now c.args.place t) ∙ w.places)
+returns-then-word-self c t below w = c.if-word-self.true (sym (length-set _ _ t) ∙ w.places)

@@ -1,4 +1,4 @@
-use Rattle.std.proofs.Common.{◌≡◌, ℕ, ◌+◌, ◌*◌, ◌%◌, ◌<◌, pos, ◌-ℤ◌, get_or, set, sym, ◌∙◌, ap}
+use Rattle.std.proofs.Common.{◌≡◌, ℕ, ◌+◌, ◌%◌, ◌<◌, pos, ◌-ℤ◌, set, sym, ◌∙◌, ap}
 use Rattle.std.proofs.Math.Nat.{mod-mod}
 use Rattle.num_modular.specs.NumberLaws.{difference_and}
 use Rattle.num_modular.specs.Residues.{residue}
@@ -17,23 +17,19 @@ pub returns-clause-leaves : goal.returns-clause-leaves
 returns-clause-leaves c =
     let m = c.args.self.now.modulus in
     let ws = c.args.self.now.weights.now in
-    let w = get_or ws c.args.place 0 in
-    let x = get_or c.args.word.now c.args.place 0 in
     let S = weighted_sum ws c.args.word.now in
-    others_sum m S (weighted_sum ws (set c.args.word.now c.args.place c.complete.result)) w x c.complete.result
+    others_sum m S (weighted_sum ws (set c.args.word.now c.args.place c.complete.result)) _ _ c.complete.result
     c.subm-others.result (changed_symbol ws c.args.word.now c.args.place c.complete.result c.requires.within)
-    (others_less m c.subm-others.result c.sum.result c.mulm.result S (w * x) c.args.self.now.positive c.subm-others.ensures
+    (others_less m c.subm-others.result c.sum.result c.mulm.result S _ c.args.self.now.positive c.subm-others.ensures
     c.mulm.ensures c.sum.ensures) ∙ c.complete.ensures.leaves
 
 pub returns-clause-only : goal.returns-clause-only
 returns-clause-only c t below leaves =
     let m = c.args.self.now.modulus in
     let ws = c.args.self.now.weights.now in
-    let w = get_or ws c.args.place 0 in
-    let x = get_or c.args.word.now c.args.place 0 in
     let S = weighted_sum ws c.args.word.now in
     c.complete.ensures.only t below
-    (sym (others_sum m S (weighted_sum ws (set c.args.word.now c.args.place t)) w x t c.subm-others.result
+    (sym (others_sum m S (weighted_sum ws (set c.args.word.now c.args.place t)) _ _ t c.subm-others.result
     (changed_symbol ws c.args.word.now c.args.place t c.requires.within)
-    (others_less m c.subm-others.result c.sum.result c.mulm.result S (w * x) c.args.self.now.positive c.subm-others.ensures
+    (others_less m c.subm-others.result c.sum.result c.mulm.result S _ c.args.self.now.positive c.subm-others.ensures
     c.mulm.ensures c.sum.ensures)) ∙ leaves)

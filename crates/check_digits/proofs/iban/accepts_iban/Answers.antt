@@ -1,8 +1,8 @@
-use Rattle.std.proofs.Common.{◌≤◌, arith, take, subst}
+use Rattle.std.proofs.Common.{◌≤◌, arith, take}
 use Rattle.std.proofs.lemmas.List.{length-take-le}
 use Rattle.check_digits.specs.Codes.{code_of}
 use Rattle.check_digits.proofs.Ibans.{is_word}
-use Rattle.std.proofs.Common.{sym, refl}
+use Rattle.std.proofs.Common.{refl}
 use Rattle.std.proofs.Math.Nat.{le_trans, le_refl}
 use Rattle.check_digits.proofs.iban.accepts_iban.Goals as goal
 
@@ -15,25 +15,15 @@ returns c =
     c.iban_digits-count.ensures.digits (length-take-le n digits (omega arith)) form.characters in
     let low : 2 ≤ c.check_number-check.result = omega arith in
     let high : c.check_number-check.result ≤ 98 = omega arith in (
-      λ t. record {
-        form = form;
-        generated = (
-          subst (λ k. 2 ≤ k) c.check_number-check.ensures low,
-          subst (λ k. k ≤ 98) c.check_number-check.ensures high,
-        );
-        leaves = is.0 (c.accepts.ensures.0 t);
-      },
+      λ t. grind arith,
       λ iban. c.accepts.ensures.1 (is.1 iban.leaves),
     )
 
 pub slice_bounds-digits-end : goal.slice_bounds-digits-end
-slice_bounds-digits-end c =
-    le_trans c.iban_digits-count.ensures.count (subst (λ n. 68 ≤ n) (sym c.iban_digits-count.auto.digits) (le_refl 68))
+slice_bounds-digits-end c = grind (arith, le_trans, le_refl)
 
 pub slice_bounds-accepts-end : goal.slice_bounds-accepts-end
-slice_bounds-accepts-end c =
-    sym (length-take-le _ c.iban_digits-count.new.digits
-    (le_trans c.iban_digits-count.ensures.count (subst (λ n. 68 ≤ n) (sym c.iban_digits-count.auto.digits) (le_refl 68))))
+slice_bounds-accepts-end c = grind (arith, length-take-le, le_trans, le_refl)
 
 pub iban_code-requires : goal.iban_code-requires
 iban_code-requires c = c.iban_digits-count.ensures.count

@@ -5,8 +5,7 @@ use Rattle.check_digits.proofs.States.{all_front}
 use Rattle.check_digits.proofs.luhn.luhn_check_digit.Goals as goal
 
 pub returns-then-are_digits : goal.returns-then-are_digits
-returns-then-are_digits c =
-    luhn_completed c.args.word.now c.sum.result (c.are_digits.ensures.0 c.if-are_digits.true) c.sum.ensures
+returns-then-are_digits c = luhn_completed _ _ (c.are_digits.ensures.0 c.if-are_digits.true) c.sum.ensures
 
 pub returns-else-are_digits : goal.returns-else-are_digits
 returns-else-are_digits c t below is =

@@ -8,5 +8,4 @@ unfolding image
 returns-clause-value c = image_read c.args.place c.args.digit c.requires
 
 pub returns-clause-small : goal.returns-clause-small
-returns-clause-small c =
-    subst (λ n. n ≤ 9) (sym (returns-clause-value c)) (image_small c.args.place c.args.digit c.requires)
+returns-clause-small c = subst (λ n. n ≤ 9) (sym (returns-clause-value c)) (image_small _ _ c.requires)
