@@ -95,12 +95,7 @@ horner_more m w n i sum v xs l is_sum is_v =
 pub horner_all : (m part w n i sum v : ℕ) (xs : List ℕ) → i ≡ n
     → sum ≡ sum_below i (λ k. get_or xs (n - i + k) 0 * w ^ k) % m → v ≡ (part * sum) % m
     → v ≡ (part * sum_below n (λ k. get_or xs k 0 * w ^ k)) % m
-horner_all m part w n i sum v xs done is_sum is_v =
-    let all = sum_below-same i (λ k. get_or xs (n - i + k) 0 * w ^ k) (λ k. get_or xs k 0 * w ^ k)
-    (λ k l. let e : n - i + k ≡ k = omega arith in ap (λ c. get_or xs c 0 * w ^ k) e)
-    ∙ ap (λ c. sum_below c (λ k. get_or xs k 0 * w ^ k)) done in
-    is_v ∙ ap (λ s. (part * s) % m) (is_sum ∙ ap (λ v. v % m) all)
-    ∙ (mod_mul (mod_refl part) (residue_of (sum_below n (λ k. get_or xs k 0 * w ^ k)))).same
+horner_all m part w n i sum v xs done is_sum is_v = grind (arith, sum_below-same, mod_mul, mod_refl, residue_of)
 
 -- an entry by the sums
 pub entry_summed : (m part g n j w v : ℕ) (x : ℕ → ℕ) → w ≡ g ^ j % m

@@ -240,9 +240,7 @@ every_unit m a some nothing = search arith
 
 -- g^d - 1, computed below the modulus
 difference_same : (m a : ℕ) → 1 ≤ m → 0 < a → (a + (m - 1)) % m ≡ (a - 1) % m
-difference_same m a some l =
-    let e : a + (m - 1) ≡ a - 1 + m = omega arith in
-    ap (λ v. v % m) e ∙ add-mod_right (a - 1) m
+difference_same m a some l = grind (arith, add-mod_right)
 
 -- whether the differences with exponents from 1 to d - 1 have inverses, by their product
 pub first_power : (m g : ℕ) → g % m ≡ g ^ 1 % m
