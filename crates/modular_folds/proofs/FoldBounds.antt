@@ -46,10 +46,8 @@ pub small_square : (p c : ℕ) → c < 2 ^ (p / 2) → c * c + 2 * c < 2 ^ p
 small_square p c less =
     let square : suc c * suc c ≤ 2 ^ (p / 2) * 2 ^ (p / 2) =
     mul-le (suc c) (suc c) (2 ^ (p / 2)) (2 ^ (p / 2)) less less in
-    let whole : 2 ^ (p / 2 + p / 2) ≡ 2 ^ (p / 2) * 2 ^ (p / 2) = pow-add 2 (p / 2) (p / 2) in
     let halves : p / 2 + p / 2 ≤ p = omega arith in
-    let most = pow-le-pow_right {n = 2} (lit< tt) halves in
-    omega (arith, square, whole, most)
+    omega (arith, square, pow-add 2 (p / 2) (p / 2), pow-le-pow_right {n = 2} (lit< tt) halves)
 
 -- ---- folds in a straight line
 -- a number that is at most the last bound leaves the next one at most after a fold
@@ -83,7 +81,7 @@ pub bound_falls : (p c m mask most : ℕ) → mask + 1 ≡ 2 ^ p → m + c ≡ 2
     → most / 2 ^ p * c + mask < most
 bound_falls p c m mask most ones whole small high =
     let less =
-    falls (2 ^ p) c m (most / 2 ^ p) (most % 2 ^ p) most (shr_split most p) (mod-lt most (pow_pos p)) whole small high in
+    falls _ _ _ _ _ _ (shr_split most p) (mod-lt most (pow_pos p)) whole small high in
     omega (arith, less)
 
 -- a factor of two bits less than p is at most a fourth of 2^p
@@ -99,11 +97,8 @@ fourth_of p k c two fewer less =
 -- the first bound is below 2^(2p)
 pub first_bound : (p c mask w : ℕ) → mask + 1 ≡ 2 ^ p → c < 2 ^ p → 2 * p ≤ w → mask * c + mask < 2 ^ w
 first_bound p c mask w ones less room =
-    let square : 2 ^ (p + p) ≡ 2 ^ p * 2 ^ p = pow-add 2 p p in
     let wide = pow-le-pow_right {n = 2} (lit< tt) (let e : p + p ≤ w = omega arith in e) in
-    let most : mask * suc c ≤ mask * 2 ^ p = mul-le-mul_left mask less in
-    let whole = ap (λ n. n * 2 ^ p) ones in
-    omega (arith, square, wide, most, whole, pow_pos p)
+    omega (arith, pow-add 2 p p, wide, mul-le-mul_left mask less, ap (λ n. n * 2 ^ p) ones, pow_pos p)
 
 -- the residue of a number below 2m
 pub once_below : (m s : ℕ) → s < m → s ≡ s % m

@@ -22,13 +22,10 @@ within_enough : (k l p c v : ℕ) → c < 2 ^ p → v ≤ k → v ≤ l → fold
 within_enough zero l p c v b h i = grind (arith, pow_pos, within_none)
 within_enough (suc k) zero p c v b h i = grind (arith, pow_pos, within_none)
 within_enough (suc k) (suc l) p c v b h i =
-    ⊎_elim
-    (λ (low : v < 2 ^ p). within_none (suc k) p c v low ∙ sym (within_none (suc l) p c v low))
-    (λ (high : 2 ^ p ≤ v).
-    let less = fold_less p c v b high in
-    within_next k p c v high ∙ ap suc (within_enough k l p c (fold_of p c v) b (omega (arith, less))
-    (omega (arith, less))) ∙ sym (within_next l p c v high))
-    (cases_lt v (2 ^ p))
+    ⊎_elim (λ (low : v < 2 ^ p). within_none (suc k) p _ v low ∙ sym (within_none _ _ _ v low)) (λ (high : 2 ^ p ≤ v).
+    let less = fold_less _ _ _ b high in
+    within_next k p _ v high ∙ ap suc (within_enough _ _ _ _ (fold_of p c v) b (omega (arith, less))
+    (omega (arith, less))) ∙ sym (within_next _ _ _ v high)) (cases_lt v (2 ^ p))
 
 -- ---- the equations of the count
 pub folds-none : (p c v : ℕ) → v < 2 ^ p → folds p c v ≡ 0
@@ -56,30 +53,23 @@ few_by_one p v b product =
 -- by a small number, three
 few_by_small : (p c v : ℕ) → c < 2 ^ p → c * c + c ≤ 2 ^ p → v / 2 ^ p < 2 ^ p → folds p c v ≤ 3
 few_by_small p c v b small product =
-    let first = fold_of p c v in
-    let second = fold_of p c first in
-    let none = folds-none p c (fold_of p c second) (three_low p c v small product) in
-    after p c v 2 b (after p c first 1 b (after p c second 0 b (omega (arith, none))))
+    let none = folds-none _ c _ (three_low _ _ _ small product) in
+    after _ _ _ 2 b (after _ _ _ 1 b (after _ _ _ 0 b (omega (arith, none))))
 
 -- two below twice 2^p, and one more for each doubling
 few_from : (p c j v : ℕ) → 2 * c < 2 ^ p → v < 2 ^ p + 2 ^ j * 2 ^ p → folds p c v ≤ j + 2
 few_from p c zero v b l =
     let high : v / 2 ^ p < 2 = (div-lt_iff_lt-mul {x = v} {y = 2} (pow_pos p)).1 (omega arith) in
-    let first = fold_of p c v in
-    let near = next_fold p c 1 v (omega arith) in
-    let low = last_fold p c first (omega (arith, near)) in
-    let none = folds-none p c (fold_of p c first) low in
-    after p c v 1 (omega arith) (after p c first 0 (omega arith) (omega (arith, none)))
+    let low = last_fold p c (fold_of p c v) (omega (arith, next_fold p c 1 v (omega arith))) in
+    let none = folds-none p c (fold_of p c (fold_of p c v)) low in
+    after p c v 1 (omega arith) (after p c (fold_of p c v) 0 (omega arith) (omega (arith, none)))
 few_from p c (suc j) v b l =
-    ⊎_elim
-    (λ (low : v < 2 ^ p). omega (arith, folds-none p c v low))
-    (λ (high : 2 ^ p ≤ v).
+    ⊎_elim (λ (low : v < 2 ^ p). omega (arith, folds-none _ c _ low)) (λ (high : 2 ^ p ≤ v).
     let double : 2 ^ suc j * 2 ^ p ≡ 2 * (2 ^ j * 2 ^ p) = ap (λ a. a * 2 ^ p) (pow-suc 2 j) ∙ omega arith in
-    let half = fold_halves p c v (omega arith) high in
-    let rest = few_from p c j (fold_of p c v) b (omega (arith, half, double)) in
-    let more = after p c v (j + 2) (omega arith) rest in
-    omega (arith, more))
-    (cases_lt v (2 ^ p))
+    let half = fold_halves _ c _ (omega arith) high in
+    let rest = few_from _ _ j (fold_of p c v) b (omega (arith, half, double)) in
+    let more = after _ _ _ _ (omega arith) rest in
+    omega (arith, more)) (cases_lt v (2 ^ p))
 
 pub few_in : (p c v w : ℕ) → 2 * c < 2 ^ p → p ≤ w → v < 2 ^ w → folds p c v ≤ w - p + 2
 few_in p c v w b fits l = grind (arith, pow-add, few_from)

@@ -26,16 +26,12 @@ fold_less p c v below high = grind (arith, shr_split, le-div, pow_pos, mul-lt-mu
 
 -- what is above 2^p is more than halved, where c is less than half of it
 pub fold_halves : (p c v : ℕ) → 2 * c ≤ 2 ^ p → 2 ^ p ≤ v → 2 * fold_of p c v < v + 2 ^ p
-fold_halves p c v half high =
-    let split = shr_split v p in
-    let most : v / 2 ^ p * (2 * c) ≤ v / 2 ^ p * 2 ^ p = mul-le-mul_left (v / 2 ^ p) half in
-    omega (arith, split, most, mod-lt v (pow_pos p))
+fold_halves p c v half high = grind (arith, shr_split v p, mul-le-mul_left (v / 2 ^ p) half, mod-lt v (pow_pos p))
 
 -- a fold keeps the residue modulo 2^p - c
 pub fold_keeps : (p c m v : ℕ) → m + c ≡ 2 ^ p → fold_of p c v % m ≡ v % m
 fold_keeps p c m v is =
-    let split = shr_split v p in
-    let whole : fold_of p c v + v / 2 ^ p * m ≡ v = omega (arith, split, ap (λ n. v / 2 ^ p * n) is) in
+    let whole : fold_of p c v + v / 2 ^ p * m ≡ v = omega (arith, ap (λ n. v / 2 ^ p * n) is) in
     sym (add-mul-mod_self_right (fold_of p c v) (v / 2 ^ p) m) ∙ ap (λ n. n % m) whole
 
 -- so do two

@@ -1,5 +1,5 @@
 -- The last subtraction of m from a number below 2m, where the borrow of the difference is a mask.
-use Rattle.std.proofs.Common.{◌≡◌, ℕ, ◌+◌, ◌-◌, ◌*◌, ◌%◌, ◌^◌, ◌<◌, ◌≤◌, bit_and, ◌∙◌, ap, arith, ⊎_elim}
+use Rattle.std.proofs.Common.{◌≡◌, ℕ, ◌+◌, ◌-◌, ◌*◌, ◌%◌, ◌^◌, ◌<◌, ◌≤◌, bit_and, ◌∙◌, arith, ⊎_elim}
 use Rattle.std.proofs.Math.Nat.{mod-eq_of_lt}
 use Rattle.std.proofs.lemmas.Nat.{and_comm, and_mask}
 use Rattle.std.proofs.lemmas.Bool.{cases_lt}
@@ -9,12 +9,7 @@ use Rattle.modular_folds.proofs.FoldBounds.{once_below, once_above}
 borrowed : (v m low high : ℕ) → v < m → m < 2 ^ 32 → (v + (2 ^ 64 - m)) % 2 ^ 64 ≡ low + 2 ^ 32 * high
     → low < 2 ^ 32 → high < 2 ^ 32 → (low + bit_and high m) % 2 ^ 32 ≡ v
 borrowed v m low high less fits parts low_fits high_fits =
-    let ones : high ≡ 2 ^ 32 - 1 = omega arith in
-    let rest : low + m ≡ v + 2 ^ 32 = omega (arith, ones) in
-    let all : bit_and high m ≡ m = ap (λ n. bit_and n m) ones ∙ and_comm (2 ^ 32 - 1) m ∙ and_mask m 32
-    ∙ mod-eq_of_lt fits in
-    let sum = ap (λ n. (low + n) % 2 ^ 32) all in
-    omega (arith, sum, rest)
+    grind (arith, and_comm (2 ^ 32 - 1) m, and_mask m 32, mod-eq_of_lt fits)
 
 -- and else the difference
 not_borrowed : (v m low high : ℕ) → m ≤ v → v < 2 * m → m < 2 ^ 32 → (v + (2 ^ 64 - m)) % 2 ^ 64 ≡ low + 2 ^ 32 * high
@@ -25,8 +20,6 @@ not_borrowed v m low high more twice fits parts low_fits = grind arith
 pub masked_residue : (v m low high : ℕ) → v < 2 * m → m < 2 ^ 32 → (v + (2 ^ 64 - m)) % 2 ^ 64 ≡ low + 2 ^ 32 * high
     → low < 2 ^ 32 → high < 2 ^ 32 → (low + bit_and high m) % 2 ^ 32 ≡ v % m
 masked_residue v m low high twice fits parts low_fits high_fits =
-    ⊎_elim
-    (λ (less : v < m). borrowed v m low high less fits parts low_fits high_fits ∙ once_below m v less)
-    (λ (more : m ≤ v).
-    (once_above m v _ more twice (not_borrowed v m low high more twice fits parts low_fits)).0)
+    ⊎_elim (λ (less : v < m). borrowed _ _ _ _ less fits parts low_fits high_fits ∙ once_below _ _ less)
+    (λ (more : m ≤ v). (once_above m v _ more twice (not_borrowed v m low high more twice fits parts low_fits)).0)
     (cases_lt v m)

@@ -12,10 +12,9 @@ pub scaled_parts : (q s n : ℕ) {low high : ℕ} → 0 < s → n * s ≡ low + 
     → (low ≡ n % q * s) × (high ≡ n / q)
 scaled_parts q s n {low} {high} some words below =
     let split : high * (q * s) + low ≡ n * s = omega (arith, words) in
-    let high_is : high ≡ n / q = sym (div-mul-add high (q * s) low below) ∙ ap (λ v. v / (q * s)) split
+    let high_is : high ≡ n / q = sym (div-mul-add _ _ _ below) ∙ ap (λ v. v / (q * s)) split
     ∙ mul-div-mul_right n q some in
-    let scaled : (q * (n / q) + n % q) * s ≡ n * s = ap (λ k. k * s) (div-add-mod n q) in
-    (omega (arith, words, scaled, ap (λ h. q * s * h) high_is), high_is)
+    (omega (arith, words, ap (λ k. k * s) (div-add-mod n q), ap (λ h. q * s * h) high_is), high_is)
 
 -- the power of two that takes 2^p to the base
 pub power_whole : (w p base : ℕ) → p ≤ w → base ≡ 2 ^ w → 2 ^ p * 2 ^ (w - p) ≡ base

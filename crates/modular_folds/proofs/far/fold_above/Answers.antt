@@ -9,12 +9,7 @@ times-requires g c =
     let less = below_power c.args.p c.args.by (n c.args.m) (n c.args.c) (n c.power_above-mask.result.1)
     c.requires.folding.whole c.power_above-mask.ensures.below in
     let most = fold_at_most e (n c.power_above-mask.result.1) (n c.args.v) less in
-    omega (
-      arith,
-      most,
-      c.shift_right.ensures.fits,
-      ap (λ h. h * n c.power_above-mask.result.1) c.shift_right.ensures.value,
-    )
+    grind (arith, c.shift_right.ensures.fits, c.shift_right.ensures.value)
 
 pub plus-requires : goal.plus-requires
 plus-requires g c =
@@ -24,15 +19,7 @@ plus-requires g c =
     c.requires.folding.whole c.power_above-mask.ensures.below in
     let most = fold_at_most e (n c.power_above-mask.result.1) (n c.args.v) less in
     let low = masked e (n c.power_above-mask.result.0) (n c.args.v) c.power_above-mask.ensures.mask in
-    omega (
-      arith,
-      most,
-      low,
-      c.shift_right.ensures.fits,
-      c.masked.ensures,
-      c.times.ensures,
-      ap (λ h. h * n c.power_above-mask.result.1) c.shift_right.ensures.value,
-    )
+    grind (arith, c.shift_right.ensures.fits, c.masked.ensures, c.times.ensures, c.shift_right.ensures.value)
 
 pub returns : goal.returns
 returns g c =
@@ -40,13 +27,6 @@ returns g c =
     let e = c.args.p + c.args.by in
     let low = masked e (n c.power_above-mask.result.0) (n c.args.v) c.power_above-mask.ensures.mask in
     let sum : n c.plus.result ≡ n c.args.v / 2 ^ e * n c.power_above-mask.result.1 + n c.args.v % 2 ^ e =
-    omega (
-      arith,
-      low,
-      c.plus.ensures,
-      c.masked.ensures,
-      c.times.ensures,
-      ap (λ h. h * n c.power_above-mask.result.1) c.shift_right.ensures.value,
-    ) in
-    ap (λ k. k % n c.args.m) sum
-    ∙ far_fold_keeps e (n c.power_above-mask.result.1) (n c.args.m) (n c.args.v) c.power_above-mask.ensures.same
+    grind (arith, c.plus.ensures, c.masked.ensures, c.times.ensures, c.shift_right.ensures.value) in
+    ap (λ k. k % n c.args.m) sum ∙ far_fold_keeps e (n c.power_above-mask.result.1) (n c.args.m)
+    (n c.args.v) c.power_above-mask.ensures.same

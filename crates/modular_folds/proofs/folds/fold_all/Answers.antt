@@ -1,4 +1,4 @@
-use Rattle.std.proofs.Common.{◌≡◌, ℕ, ◌+◌, ◌∙◌, ◌/◌, ◌^◌, ◌<◌, refl, arith, sym}
+use Rattle.std.proofs.Common.{◌≡◌, ℕ, ◌+◌, ◌∙◌, ◌^◌, ◌<◌, arith, sym}
 use Rattle.modular_folds.proofs.FoldSteps.{ones, power_fits, bit_inside, some_bits}
 use Rattle.modular_folds.proofs.FoldBounds.{low_only, small_square}
 use Rattle.modular_folds.proofs.FoldCounts.{folds-none}
@@ -13,56 +13,34 @@ pub plus-mask-requires : goal.plus-mask-requires
 plus-mask-requires g c = omega (arith, power_fits c.requires)
 
 pub returns-then-not-is_below : goal.returns-then-not-is_below
-returns-then-not-is_below g c =
-    let n = g.V.RingWord.number in
-    let mask = ones _ _ c.one.ensures c.minus.ensures c.plus-mask.ensures c.requires.whole in
-    let low : n c.args.v < 2 ^ c.args.p = omega (arith, mask, not_below c.is_below.ensures.below c.if-not-is_below.true) in
-    record { below = low; same = refl; count = sym (folds-none c.args.p (n c.args.c) (n c.args.v) low) }
+returns-then-not-is_below g c = search (arith, ones, not_below, folds-none)
 
 pub fold_on-requires : goal.fold_on-requires
-fold_on-requires g c = record {
-  folding = c.requires;
-  fits = c.shift_right.ensures.fits;
-  mask = ones _ _ c.one.ensures c.minus.ensures c.plus-mask.ensures c.requires.whole;
-}
+fold_on-requires g c = search (arith, ones)
 
 pub fold_two-requires : goal.fold_two-requires
-fold_two-requires g c =
-    let n = g.V.RingWord.number in
-    let mask = ones _ _ c.one.ensures c.minus.ensures c.plus-mask.ensures c.requires.whole in
-    record {
-      some = some_bits c.requires;
-      inside = inside mask (c.is_below.ensures.below.0 c.if-not-is_below.false) c.is_below.ensures.other_fits;
-      mask = mask;
-      product = omega (arith, mask, not_below c.is_below-2.ensures.below c.if-is_below.false, c.shift_right.ensures.value);
-    }
+fold_two-requires g c = search (arith, ones, some_bits, inside, not_below)
 
 pub fold_three-requires : goal.fold_three-requires
 fold_three-requires g c =
-    let n = g.V.RingWord.number in
     let mask = ones _ _ c.one.ensures c.minus.ensures c.plus-mask.ensures c.requires.whole in
-    let less = low_only (c.args.p / 2) (n c.args.c)
-    (sym c.shift_right-2.ensures.value ∙ c.is_zero_word.ensures.zero.0 c.if-is_zero_word.true) in
+    let less = low_only _ _ (sym c.shift_right-2.ensures.value
+    ∙ c.is_zero_word.ensures.zero.0 c.if-is_zero_word.true) in
     record {
       inside = inside mask (c.is_below.ensures.below.0 c.if-not-is_below.false) c.is_below.ensures.other_fits;
       mask = mask;
-      small = omega (arith, small_square c.args.p (n c.args.c) less);
+      small = omega (arith, small_square _ _ less);
       product = omega (arith, mask, not_below c.is_below-2.ensures.below c.if-is_below.false, c.shift_right.ensures.value);
     }
 
 pub fold_on-requires-2 : goal.fold_on-requires-2
-fold_on-requires-2 g c = record {
-  folding = c.requires;
-  fits = c.shift_right.ensures.fits;
-  mask = ones _ _ c.one.ensures c.minus.ensures c.plus-mask.ensures c.requires.whole;
-}
+fold_on-requires-2 g c = search (arith, ones)
 
 pub returns-then-eq : goal.returns-then-eq
 returns-then-eq g c =
     let n = g.V.RingWord.number in
-    let mask = ones _ _ c.one.ensures c.minus.ensures c.plus-mask.ensures c.requires.whole in
     let one = (g.met.V.RingWord.equal c.args.c c.one-2.result).0 (sym c.eq.ensures ∙ c.if-eq.true) ∙ c.one-2.ensures in
-    let is : n c.plus-mask.result ≡ n c.args.m = omega (arith, mask, one, c.requires.whole) in
+    let is : n c.plus-mask.result ≡ n c.args.m = omega (arith, one, c.requires.whole) in
     record {
       below = c.fold_two.ensures.below;
       same = rw is at c.fold_two.ensures.same;

@@ -1,4 +1,4 @@
-use Rattle.std.proofs.Common.{◌≡◌, ◌+◌, ◌*◌, ◌/◌, ◌%◌, ◌^◌, ◌<◌, ◌≤◌, ◌∙◌, refl, arith}
+use Rattle.std.proofs.Common.{◌≡◌, ◌+◌, ◌*◌, ◌/◌, ◌%◌, ◌^◌, ◌<◌, ◌≤◌, ◌∙◌, arith}
 use Rattle.std.proofs.Math.Nat.{mul-le-mul_right}
 use Rattle.modular_folds.proofs.FoldSteps.{ones, power_fits, some_bits, fold_keeps}
 use Rattle.modular_folds.proofs.FoldBounds.{doubled_fits, first_bound, fold_bound, next_bound, bound_falls}
@@ -10,28 +10,13 @@ pub plus-mask-requires : goal.plus-mask-requires
 plus-mask-requires g c = omega (arith, power_fits c.requires.folding)
 
 pub plus-twice-requires : goal.plus-twice-requires
-plus-twice-requires g c =
-    let some = some_bits c.requires.folding in
-    let free = doubled_fits g.V.RingWord.width c.args.p (omega (arith, some, c.requires.room)) in
-    omega (arith, free, c.requires.folding.whole, c.requires.folding.some)
+plus-twice-requires g c = search (arith, some_bits, doubled_fits)
 
 pub times-requires : goal.times-requires
-times-requires g c =
-    let n = g.V.RingWord.number in
-    let first =
-    first_bound c.args.p (n c.args.c) (n c.plus-mask.result) g.V.RingWord.width
-    (ones _ _ c.one.ensures c.minus.ensures c.plus-mask.ensures c.requires.folding.whole) (omega (arith, c.requires.folding.whole, c.requires.folding.half))
-    c.requires.room in
-    omega (arith, first)
+times-requires g c = grind (arith, first_bound)
 
 pub plus-most-requires : goal.plus-most-requires
-plus-most-requires g c =
-    let n = g.V.RingWord.number in
-    let first =
-    first_bound c.args.p (n c.args.c) (n c.plus-mask.result) g.V.RingWord.width
-    (ones _ _ c.one.ensures c.minus.ensures c.plus-mask.ensures c.requires.folding.whole) (omega (arith, c.requires.folding.whole, c.requires.folding.half))
-    c.requires.room in
-    rw c.times.ensures first
+plus-most-requires g c = search (arith, first_bound, ones)
 
 -- what the next fold leaves at most is less than before
 less : (g : _) (c : After-shift_right g)
@@ -41,8 +26,8 @@ less g c =
     let n = g.V.RingWord.number in
     let high : 2 * n c.args.m ≤ n c.folds.most =
     omega (arith, not_below c.is_below.ensures.below c.folds-test.true, c.plus-twice.ensures) in
-    bound_falls c.args.p (n c.args.c) (n c.args.m) (n c.plus-mask.result) (n c.folds.most)
-    (ones _ _ c.one.ensures c.minus.ensures c.plus-mask.ensures c.requires.folding.whole) c.requires.folding.whole c.requires.small high
+    bound_falls _ _ _ _ _ (ones _ _ c.one.ensures c.minus.ensures c.plus-mask.ensures c.requires.folding.whole)
+    c.requires.folding.whole c.requires.small high
 
 pub times-requires-in-folds : goal.times-requires-in-folds
 times-requires-in-folds g c =
@@ -75,31 +60,15 @@ folds-preserved g c =
 
 -- the last fold
 last_below : (g : _) (c : After-fold_once g) → g.V.RingWord.number c.fold_once.result < 2 * g.V.RingWord.number c.args.m
-last_below g c =
-    let n = g.V.RingWord.number in
-    let end : n c.folds.most < 2 * n c.args.m =
-    omega (arith, c.is_below.ensures.below.0 c.folds-test.false, c.plus-twice.ensures) in
-    let most = fold_bound c.args.p (n c.args.c) (n c.folds.rest) (n c.plus-mask.result) (n c.folds.most)
-    (ones _ _ c.one.ensures c.minus.ensures c.plus-mask.ensures c.requires.folding.whole) c.folds.invariant.bound in
-    rw c.fold_once.ensures (omega (arith, end, most))
+last_below g c = search (arith, fold_bound, ones)
 
 last_same : (g : _) (c : After-fold_once g)
     → g.V.RingWord.number c.fold_once.result % g.V.RingWord.number c.args.m
     ≡ g.V.RingWord.number c.args.v % g.V.RingWord.number c.args.m
-last_same g c =
-    let n = g.V.RingWord.number in
-    rw c.fold_once.ensures
-    (fold_keeps c.args.p (n c.args.c) (n c.args.m) (n c.folds.rest) c.requires.folding.whole ∙ c.folds.invariant.same)
+last_same g c = search (arith, fold_keeps)
 
 pub returns : goal.returns
 returns g c = record { twice = last_below g c; same = last_same g c }
 
 pub folds-init : goal.folds-init
-folds-init g c =
-    let n = g.V.RingWord.number in
-    let mask = ones _ _ c.one.ensures c.minus.ensures c.plus-mask.ensures c.requires.folding.whole in
-    let high : n c.args.v / 2 ^ c.args.p ≤ n c.plus-mask.result = omega (arith, mask, c.requires.product) in
-    record {
-      same = refl;
-      bound = omega (arith, mul-le-mul_right (n c.args.c) high, c.times.ensures, c.plus-most.ensures);
-    }
+folds-init g c = search (arith, ones, mul-le-mul_right)

@@ -5,8 +5,8 @@ use Rattle.modular_folds.proofs.folds.fold_once.Goals as goal
 pub multiply_add-requires : goal.multiply_add-requires
 multiply_add-requires g c =
     let n = g.V.RingWord.number in
-    let most = fold_at_most c.args.p (n c.args.c) (n c.args.v) c.requires.less in
-    let low = masked c.args.p (n c.args.mask) (n c.args.v) c.requires.mask in
+    let most = fold_at_most _ _ (n c.args.v) c.requires.less in
+    let low = masked _ _ (n c.args.v) c.requires.mask in
     omega (
       arith,
       most,
@@ -17,13 +17,4 @@ multiply_add-requires g c =
     )
 
 pub returns : goal.returns
-returns g c =
-    let n = g.V.RingWord.number in
-    let low = masked c.args.p (n c.args.mask) (n c.args.v) c.requires.mask in
-    omega (
-      arith,
-      low,
-      c.multiply_add.ensures,
-      c.masked.ensures,
-      ap (λ h. h * n c.args.c) c.shift_right.ensures.value,
-    )
+returns g c = search (arith, masked)

@@ -16,13 +16,4 @@ pub fold-second-requires-clause-less : goal.fold-second-requires-clause-less
 fold-second-requires-clause-less g c = rw c.one-2.ensures (one_below _ c.requires.some)
 
 pub returns : goal.returns
-returns g c =
-    let n = g.V.RingWord.number in
-    let first = rw c.one.ensures at c.fold-first.ensures in let second = rw c.one-2.ensures at c.fold-second.ensures in
-    let below : n c.fold-second.result.0 < 2 ^ c.args.p =
-    rw second.value (rw first.value (two_low c.args.p (n c.args.v) c.requires.product)) in
-    record {
-      below = below;
-      same = two_folds_keep c.args.p 1 (n c.args.mask) (n c.args.v) c.requires.mask first.value second.value;
-      count = omega (arith, folds-none _ 1 _ below, first.count, second.count);
-    }
+returns g c = search (arith, two_low, two_folds_keep, folds-none)

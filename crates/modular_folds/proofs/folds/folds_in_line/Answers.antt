@@ -1,4 +1,4 @@
-use Rattle.std.proofs.Common.{◌-◌, ◌∙◌, arith, sym}
+use Rattle.std.proofs.Common.{◌∙◌, arith, sym}
 use Rattle.modular_folds.proofs.FoldSteps.{power_fits, two_bits}
 use Rattle.modular_folds.proofs.FoldBounds.{low_only, fourth}
 use Rattle.modular_folds.proofs.folds.folds_in_line.Goals as goal
@@ -12,7 +12,5 @@ overflow_sub-p g c = two_bits c.requires.folding
 
 pub returns-else-is_below-clause-small : goal.returns-else-is_below-clause-small
 returns-else-is_below-clause-small g c zero =
-    let n = g.V.RingWord.number in
-    let less = low_only (c.args.p - 2) (n c.args.c)
-    (sym c.shift_right-else-is_below.ensures.value ∙ c.is_zero_word.ensures.zero.0 zero) in
-    fourth c.args.p (n c.args.c) (two_bits c.requires.folding) less
+    let less = low_only _ _ (sym c.shift_right-else-is_below.ensures.value ∙ c.is_zero_word.ensures.zero.0 zero) in
+    fourth _ _ (two_bits c.requires.folding) less

@@ -4,5 +4,4 @@ use Rattle.modular_folds.proofs.folds.reduced_by_borrow.Goals as goal
 pub returns : goal.returns
 returns c =
     let words = c.split-rest.ensures in
-    masked_residue c.args.v c.args.m c.split-rest.result.0 c.split-rest.result.1 c.requires c.ranges.m.fits
-    words.value words.low_fits words.high_fits
+    masked_residue _ _ _ _ c.requires c.ranges.m.fits words.value words.low_fits words.high_fits

@@ -1,4 +1,4 @@
-use Rattle.std.proofs.Common.{◌∙◌, ◌%◌, ◌≤◌, ap, arith}
+use Rattle.std.proofs.Common.{◌≤◌, arith}
 use Rattle.modular_folds.proofs.FoldSteps.{ones, power_fits, fold_keeps}
 use Rattle.modular_folds.proofs.FoldBounds.{doubled_fits, up_to}
 use Rattle.modular_folds.proofs.folds.reduced_by_more.Goals as goal
@@ -17,7 +17,7 @@ reduced_last-requires g c =
     let n = g.V.RingWord.number in
     let mask = ones _ _ c.one.ensures c.minus.ensures c.plus-mask.ensures c.requires.folding.whole in
     let below = c.is_below.ensures.below.0 c.if-is_below.true in
-    let bound = up_to c.args.p (n c.args.c) (n c.args.v) (n c.plus-mask.result) (n c.args.most) mask c.requires.bound in
+    let bound = up_to _ (n c.args.c) _ _ _ mask c.requires.bound in
     omega (arith, below, bound, c.plus-twice.ensures, c.fold_once-first.ensures, c.most_after-most_of_one.ensures)
 
 pub reduced_last-requires-then-is_below-2 : goal.reduced_last-requires-then-is_below-2
@@ -25,37 +25,24 @@ reduced_last-requires-then-is_below-2 g c =
     let n = g.V.RingWord.number in
     let mask = ones _ _ c.one.ensures c.minus.ensures c.plus-mask.ensures c.requires.folding.whole in
     let below = c.is_below-else-is_below.ensures.below.0 c.if-is_below-2.true in
-    let once = up_to c.args.p (n c.args.c) (n c.args.v) (n c.plus-mask.result) (n c.args.most) mask c.requires.bound in
+    let once = up_to _ (n c.args.c) _ _ _ mask c.requires.bound in
     let bound : n c.fold_once-first.result ≤ n c.most_after-most_of_one.result =
     omega (arith, once, c.fold_once-first.ensures, c.most_after-most_of_one.ensures) in
-    let twice = up_to c.args.p (n c.args.c) (n c.fold_once-first.result) (n c.plus-mask.result)
-    (n c.most_after-most_of_one.result) mask bound in
+    let twice = up_to _ (n c.args.c) _ _ _ mask bound in
     omega (arith, below, twice, c.plus-twice.ensures, c.fold_once.ensures, c.most_after.ensures)
 
 pub fold_on-requires-clause-fits : goal.fold_on-requires-clause-fits
 fold_on-requires-clause-fits g c =
     let n = g.V.RingWord.number in
     let mask = ones _ _ c.one.ensures c.minus.ensures c.plus-mask.ensures c.requires.folding.whole in
-    let once = up_to c.args.p (n c.args.c) (n c.args.v) (n c.plus-mask.result) (n c.args.most) mask c.requires.bound in
+    let once = up_to _ (n c.args.c) _ _ _ mask c.requires.bound in
     omega (arith, once, c.fold_once-first.ensures, c.most_after-most_of_one.ensures, c.is_below.ensures.fits)
 
 pub returns-then-is_below : goal.returns-then-is_below
-returns-then-is_below g c =
-    let n = g.V.RingWord.number in
-    c.reduced_last.ensures.value ∙ ap (λ k. k % n c.args.m) c.fold_once-first.ensures
-    ∙ fold_keeps c.args.p (n c.args.c) (n c.args.m) (n c.args.v) c.requires.folding.whole
+returns-then-is_below g c = search (arith, fold_keeps)
 
 pub returns-then-is_below-2 : goal.returns-then-is_below-2
-returns-then-is_below-2 g c =
-    let n = g.V.RingWord.number in
-    c.reduced_last-then-is_below-2.ensures.value ∙ ap (λ k. k % n c.args.m) c.fold_once.ensures
-    ∙ fold_keeps c.args.p (n c.args.c) (n c.args.m) (n c.fold_once-first.result) c.requires.folding.whole
-    ∙ ap (λ k. k % n c.args.m) c.fold_once-first.ensures
-    ∙ fold_keeps c.args.p (n c.args.c) (n c.args.m) (n c.args.v) c.requires.folding.whole
+returns-then-is_below-2 g c = search (arith, fold_keeps)
 
 pub returns-else-is_below-2 : goal.returns-else-is_below-2
-returns-else-is_below-2 g c =
-    let n = g.V.RingWord.number in
-    c.reduced_last-else-is_below-2.ensures.value ∙ c.fold_on.ensures.same
-    ∙ ap (λ k. k % n c.args.m) c.fold_once-first.ensures
-    ∙ fold_keeps c.args.p (n c.args.c) (n c.args.m) (n c.args.v) c.requires.folding.whole
+returns-else-is_below-2 g c = search (arith, fold_keeps)

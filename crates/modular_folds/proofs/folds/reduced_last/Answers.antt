@@ -4,13 +4,11 @@ use Rattle.modular_folds.proofs.folds.reduced_last.Goals as goal
 
 pub returns-then-is_below : goal.returns-then-is_below
 returns-then-is_below g c =
-    let n = g.V.RingWord.number in
     let less = c.is_below.ensures.below.0 c.if-is_below.true in
-    record { value = once_below (n c.args.m) _ less; below = less }
+    record { value = once_below _ _ less; below = less }
 
 pub returns-else-is_below : goal.returns-else-is_below
 returns-else-is_below g c =
-    let n = g.V.RingWord.number in
     let more = not_below c.is_below.ensures.below c.if-is_below.false in
-    let once = once_above (n c.args.m) (n c.args.v) _ more c.requires c.minus.ensures in
+    let once = once_above _ _ _ more c.requires c.minus.ensures in
     record { value = once.0; below = once.1 }

@@ -1,4 +1,4 @@
-use Rattle.std.proofs.Common.{sym, ap, ◌∙◌, ◌≡◌, ◌+◌, ◌-◌, ◌*◌, ◌/◌, ◌%◌, ◌^◌, arith}
+use Rattle.std.proofs.Common.{sym, ◌∙◌, ◌≡◌, ◌*◌, arith}
 use Rattle.std.proofs.Math.Nat.{mul-mod_left}
 use Rattle.modular_folds.proofs.FoldSteps.{power_fits, some_bits}
 use Rattle.modular_folds.proofs.ProductFolds.{IsLastSum, sum_by_one, sum_by_small}
@@ -16,10 +16,7 @@ by_one g c one =
     c.fold_parts-low.ensures.low c.fold_parts-low.ensures.high c.bits.ensures c.shift_right.ensures.value
 
 pub sum_of_parts-requires : goal.sum_of_parts-requires
-sum_of_parts-requires g c =
-    let d = (goal.at.sum_of_parts-requires g c).After-shift_right in
-    let last = by_one g d (is_one g d) in
-    record { bound = omega (arith, c.requires.folding.whole); most = last.most; twice = last.twice }
+sum_of_parts-requires g c = search (arith, by_one, is_one)
 
 pub returns-then-eq : goal.returns-then-eq
 returns-then-eq g c =
@@ -27,26 +24,13 @@ returns-then-eq g c =
     c.sum_of_parts.ensures ∙ (by_one g d (is_one g d)).same
 
 pub fold_parts-rest-requires : goal.fold_parts-rest-requires
-fold_parts-rest-requires g c =
-    let n = g.T.RingWord.number in
-    let s = 2 ^ (g.T.RingWord.width - c.args.p) in
-    record {
-      some = some_bits c.requires.folding;
-      fits = c.requires.folding.fits;
-      less = omega (arith, c.requires.folding.whole);
-      top = ap (λ v. v % s) c.fold_parts-low.ensures.low
-          ∙ mul-mod_left ((n c.args.a * n c.args.b + n c.zero.result / s) % 2 ^ c.args.p) s;
-    }
+fold_parts-rest-requires g c = search (arith, some_bits, mul-mod_left)
 
 by_small : (g : _) (c : After-shift_right-2 g)
     → IsLastSum (g.T.RingWord.number c.args.m) (g.T.RingWord.number c.args.a * g.T.RingWord.number c.args.b)
     (g.T.RingWord.number c.shift_right-2.result)
     (g.T.RingWord.number c.fold_parts-rest.result.1 * g.T.RingWord.number c.args.c)
-by_small g c =
-    sum_by_small _ _ _ _ c.requires.folding c.requires.small c.requires.left c.requires.right c.zero.ensures
-    c.fold_parts-low.ensures.low c.fold_parts-low.ensures.high c.fold_parts-rest.ensures.low
-    c.fold_parts-rest.ensures.high
-    c.bits-2.ensures c.shift_right-2.ensures.value
+by_small g c = search (arith, sum_by_small)
 
 pub times-requires : goal.times-requires
 times-requires g c =
@@ -66,8 +50,4 @@ sum_of_parts-requires-2 g c =
     rw c.times.ensures (record { bound = omega (arith, c.requires.folding.whole); most = last.most; twice = last.twice })
 
 pub returns : goal.returns
-returns g c =
-    let last = by_small g (goal.at.returns g c).After-shift_right-2 in
-    c.sum_of_parts-2.ensures
-    ∙ ap (λ v. (g.T.RingWord.number c.shift_right-2.result + v) % g.T.RingWord.number c.args.m) c.times.ensures
-    ∙ last.same
+returns g c = search (arith, by_small)

@@ -6,4 +6,4 @@ pub returns-then-is_once : goal.returns-then-is_once
 returns-then-is_once g c =
     let n = g.T.RingWord.number in
     c.reduced_folded.ensures ∙ ap (λ k. k % n c.args.m) c.fold_word.ensures.value
-    ∙ fold_keeps c.args.p (n c.args.c) (n c.args.m) (n c.args.v) c.requires.whole
+    ∙ fold_keeps _ _ _ (n c.args.v) c.requires.whole

@@ -3,6 +3,5 @@ use Rattle.modular_folds.proofs.rings.FoldRingReducer.inv.Goals as goal
 
 pub returns : goal.returns
 returns g c =
-    let n = g.T.RingWord.number in
-    inverse_answered n (n c.args.f) c.inverse_by_euclid.result (g.met.M.FoldModulus.canonical c.args.self.now.kept)
-    (plain_inverse n _ (n c.args.f) c.inverse_by_euclid.result (rw c.modulus.ensures at c.inverse_by_euclid.ensures))
+    inverse_answered _ _ _ (g.met.M.FoldModulus.canonical c.args.self.now.kept)
+    (plain_inverse _ _ _ _ (rw c.modulus.ensures at c.inverse_by_euclid.ensures))

@@ -4,10 +4,7 @@ use Rattle.modular_folds.proofs.TrinomialSteps.{term_read}
 use Rattle.modular_folds.proofs.solinas.FoldRing+T+TrinomialModulus+T+F.fixed_modulus.Goals as goal
 
 pub word_of-requires : goal.word_of-requires
-word_of-requires g c =
-    let term = term_read c.k-2.result c.k-2.type_inv c.k-2.ensures in
-    let is = rw (c.p1-2.ensures, c.p2-2.ensures, term) at c.modulus_of.ensures in
-    omega (arith, g.met.T.PathWord.base_is, trinomial_fits c.requires, is)
+word_of-requires g c = search (arith, term_read, trinomial_fits)
 
 pub returns : goal.returns
 returns g c =
