@@ -33,9 +33,8 @@ bits_reversed_of_high zero p b below bit = omega (arith, bits_reversed-suc, bits
 bits_reversed_of_high (suc t) p b below bit =
     let k = two-pow-succ t in
     let kb = ap (λ v. b * v) k in
-    let q : p + b * 2 ^ suc t ≡ p + 2 * (b * 2 ^ t) = omega (arith, kb) in
-    let half : (p + b * 2 ^ suc t) / 2 ≡ p / 2 + b * 2 ^ t = omega (arith, q) in
-    let low : (p + b * 2 ^ suc t) % 2 ≡ p % 2 = omega (arith, q) in
+    let half : (p + b * 2 ^ suc t) / 2 ≡ p / 2 + b * 2 ^ t = omega arith in
+    let low : (p + b * 2 ^ suc t) % 2 ≡ p % 2 = omega arith in
     let ih = bits_reversed_of_high t (p / 2) b (omega (arith, k)) bit in
     let f = ap (λ v. bits_reversed (suc t) v) half in
     let g = ap (λ v. v * 2 ^ suc t) low in
@@ -47,10 +46,9 @@ pub bits_reversed_twice : (t p : ℕ) → p < 2 ^ t → bits_reversed t (bits_re
 bits_reversed_twice zero p below = let k : 2 ^ 0 ≡ 1 = refl in
     let e = bits_reversed-zero (bits_reversed 0 p) in omega (arith, e)
 bits_reversed_twice (suc t) p below =
-    let e = ap (λ v. bits_reversed (suc t) v) (bits_reversed-suc t p) in
     let h = bits_reversed_of_high t (bits_reversed t (p / 2)) (p % 2) (bits_reversed_below t (p / 2)) (omega arith) in
     let ih = bits_reversed_twice t (p / 2) (omega (arith, two-pow-succ t)) in
-    omega (arith, e, h, ih)
+    omega (arith, ap (λ v. bits_reversed (suc t) v) (bits_reversed-suc t p), h, ih)
 
 -- the bits of two parts are reversed apart, and the parts change their places
 pub bits_reversed_of_parts : (t u x y : ℕ) → x < 2 ^ t
@@ -64,18 +62,15 @@ bits_reversed_of_parts (suc t) u x y below =
     let ih = bits_reversed_of_parts t u (x / 2) y (omega (arith, k)) in
     let whole : suc t + u ≡ suc (t + u) = omega arith in
     let w = ap (λ v. bits_reversed v (x + 2 ^ suc t * y)) whole in
-    let f = ap (λ v. bits_reversed (t + u) v) half in
     let g = ap (λ v. v * 2 ^ (t + u)) low in
     let p = ap (λ v. x % 2 * v) (pow-add 2 t u) in
     let d = ap (λ v. v * 2 ^ u) (bits_reversed-suc t x) in
-    omega (arith, w, bits_reversed-suc (t + u) (x + 2 ^ suc t * y), f, g, ih, p, d)
+    omega (arith, w, bits_reversed-suc (t + u) (x + 2 ^ suc t * y), ap (λ v. bits_reversed (t + u) v) half, g, ih, p, d)
 
 -- the bits of 0
 pub bits_reversed_of_zero : (t : ℕ) → bits_reversed t 0 ≡ 0
 bits_reversed_of_zero zero = bits_reversed-zero 0
-bits_reversed_of_zero (suc t) = let e = bits_reversed-suc t 0 in
-    let h = bits_reversed_of_zero t in let z : 0 / 2 ≡ 0 = refl in
-    let a = ap (bits_reversed t) z in omega (arith, e, h, a)
+bits_reversed_of_zero (suc t) = grind (arith, bits_reversed-suc t 0, bits_reversed_of_zero t)
 
 -- how the reversed bits of p come from those of p - 1, where p ends in t zeros
 pub record NextReversed (b p t : ℕ) : Type 0 where
@@ -118,16 +113,12 @@ reversed_step (suc c) p n o s whole fits some l is_o is_s =
     let t : ℕ = count_trailing_zeros 64 p in
     let k = next_reversed 64 (suc c) _ some (omega arith) (omega arith) in
     let less = pow-le-pow_right {n = 2} (omega arith) {i = suc c - 1 - t} {j = c} (omega arith) in
-    let one : 1 * 2 ^ (suc c - 1 - t) ≡ 2 ^ (suc c - 1 - t) = omega arith in
-    let small : 2 ^ (suc c - 1 - t) < 18446744073709551616 = omega (arith, less) in
-    let below = bits_reversed_below (suc c) (p - 1) in
-    let exponent : suc c ≤ 63 = exponent_below_64 _ (omega arith) in
-    let most = pow-le-pow_right {n = 2} (omega arith) {i = suc c} {j = 63} exponent in
+    let most = pow-le-pow_right {n = 2} (omega arith) {i = suc c} {j = 63} (exponent_below_64 _ (omega arith)) in
     record {
       zeros = omega arith;
       twice = omega (arith, less);
       small = omega (arith, most);
-      below = omega (arith, below);
+      below = omega (arith, bits_reversed_below (suc c) (p - 1));
       enough = omega (arith, less);
       next = omega (arith, less);
     }
@@ -138,9 +129,6 @@ pub step_in_word : (o p b : ℕ) → b ≤ 63 → p < 2 ^ b → o ≡ bits_rever
     ((1 * 2 ^ (b - 1 - count_trailing_zeros 64 p)) % 18446744073709551616)
 step_in_word o p b few below is_o some =
     let most = pow-le-pow_right {n = 2} (omega arith) {i = b} {j = 63} few in
-    let q : 2 ^ 63 ≡ 9223372036854775808 = refl in
-    let r : 2 ^ 64 ≡ 18446744073709551616 = refl in
-    let one : 1 * 2 ^ b ≡ 2 ^ b = omega arith in
     let whole : (1 * 2 ^ b) % 18446744073709551616 ≡ 2 ^ b =
-    ap (λ v. v % 18446744073709551616) one ∙ mod-eq_of_lt (omega (arith, most, q)) in
-    reversed_step b p _ o _ whole (omega (arith, most, q, r, whole)) (omega arith) (omega (arith, whole)) is_o refl
+    ap (λ v. v % 18446744073709551616) (omega arith) ∙ mod-eq_of_lt (omega (arith, most)) in
+    reversed_step b p _ o _ whole (omega (arith, most, whole)) (omega arith) (omega (arith, whole)) is_o refl

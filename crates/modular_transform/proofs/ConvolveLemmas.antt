@@ -30,8 +30,7 @@ half_turn suits = half_turn_at suits.power_of_two.0 suits.power_of_two.1 suits
 pub mirrored_place : (n e : ℕ) → e < n → Mirrored n e (mirrored n e)
 mirrored_place n e l = elim (cases_eq e 0) [
   | inl z ↦
-      let k : mirrored n e ≡ 0 = ap (mirrored n) z ∙ mirrored_first n in
-      record { place = l; image = omega (arith, k); sum = inl (omega (arith, k)) }
+      grind (arith, mirrored_first n)
   | inr s ↦
       grind (arith, mirrored_other n e (omega arith) l)
 ]
@@ -51,14 +50,12 @@ convolved_entry {m} g n e part x y c positive suits l inverse is =
     mod_trans (residue_of _) (mod_trans (transform_of_products _ _ _ _ _ _ _ (half_turn suits) (mirrored_place n e l)
     (λ j k. mod_trans (mod_of_eq (is j k)) (mod_trans (residue_of _) (mod_mul (residue_of _) (residue_of _)))))
     (mod_mul (mod_refl _) (mod_sym (residue_of _)))) in
-    let small : (cyclic_product m n x y e) < m = mod_below _ _ positive in
-    (by_part (cyclic_product m n x y e) inverse whole).same ∙ mod-eq_of_lt small
+    (by_part (cyclic_product m n x y e) inverse whole).same ∙ mod-eq_of_lt (mod_below _ _ positive)
 
 -- a doubling of 1 more
 pub doubled_more : {m : ℕ} (v w t : ℕ) → Congruent m v (2 ^ t) → w ≡ (2 * v) % m → Congruent m w (2 ^ (t + 1))
 doubled_more v w t is e =
-    let s : t + 1 ≡ suc t = omega arith in
-    let d : 2 * 2 ^ t ≡ 2 ^ (t + 1) = let p = two-pow-succ t in let q = ap (λ k. 2 ^ k) s in omega (arith, p, q) in
+    let d : 2 * 2 ^ t ≡ 2 ^ (t + 1) = grind (arith, two-pow-succ t) in
     mod_trans (mod_of_eq e) (mod_trans (residue_of (2 * v)) (mod_trans (mod_mul (mod_refl 2) is) (mod_of_eq d)))
 
 -- congruent numbers have the same inverses
@@ -92,7 +89,6 @@ convolution_end number form value width m g n part xs ys xs1 ys1 xs2 xs3 canonic
           let x = entry number value m xs in
           let y = entry number value m ys in
           let c = entry number value m xs2 in
-          let li : i < n = omega arith in
           let product : (j : ℕ) → j < n → c j ≡ (transform m g n x j * transform m g n y j) % m = λ j h.
           let x1 =
           held_values _ _ _ j canonical is1 (omega arith) ∙ ap (λ v. transform m g v x j) l in
@@ -100,7 +96,7 @@ convolution_end number form value width m g n part xs ys xs1 ys1 xs2 xs3 canonic
           held_values _ _ _ j canonical is2 (omega arith) ∙ ap (λ v. (v * entry number value m ys1 j) % m) x1
           ∙ ap (λ v. (transform m g n x j * v) % m) y1 in
           let whole = ap (λ v. (transform m g v c (mirrored v i) * part) % m) l2
-          ∙ convolved_entry _ _ _ _ _ _ _ canonical.positive suits li inverse product in
+          ∙ convolved_entry _ _ _ _ _ _ _ canonical.positive suits (omega arith) inverse product in
           subst (λ v. Represents form m (number (get_or xs3 i d)) v) whole (is3.each i d in_range);
     }
 

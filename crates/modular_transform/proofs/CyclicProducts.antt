@@ -22,15 +22,14 @@ pub record HalfTurn (m g n : ℕ) : Type 0 where
 pub full_turn : {m : ℕ} (g n : ℕ) → HalfTurn m g n → 1 < n → Congruent m (g ^ n) 1
 full_turn g n turn l =
     let k = turn.known l in
-    let e : n ≡ 2 ^ k.0 * (2 * 1) = k.1 ∙ two-pow-succ k.0 ∙ omega arith in
-    mod_trans (mod_of_eq (ap (λ v. g ^ v) e ∙ pow-mul g (2 ^ k.0) (2 * 1))) (even_power_of_minus_one 1 k.2)
+    mod_trans (mod_of_eq (ap (λ v. g ^ v) (k.1 ∙ two-pow-succ k.0 ∙ omega arith) ∙ pow-mul g (2 ^ k.0) (2 * 1)))
+    (even_power_of_minus_one 1 k.2)
 
 -- powers of 1
 pub geometric_of_one : {m : ℕ} (n h : ℕ) → Congruent m h 1 → Congruent m (geometric n h) n
 geometric_of_one n h is =
-    let o : n * 1 ≡ n = omega arith in
     mod_trans (sum_below-congruent n (λ j. h ^ j) (λ j. 1) (λ j l. mod_trans (mod_pow j is) (mod_of_eq (one-pow j))))
-    (mod_of_eq (sum_below-of_constant n 1 ∙ o))
+    (mod_of_eq (sum_below-of_constant n 1 ∙ omega arith))
 
 -- g to some full turns
 power_of_full_turns : {m : ℕ} (g n q : ℕ) → HalfTurn m g n → 1 < n → Congruent m (g ^ (n * q)) 1
@@ -50,10 +49,9 @@ pub at_other_turns : {m : ℕ} (g n q r d : ℕ) → HalfTurn m g n → 1 < n �
     → Congruent m (geometric n (g ^ d)) 0
 at_other_turns {m} g n q r d turn l some below e =
     let k = turn.known l in
-    let o : 1 * g ^ r ≡ g ^ r = omega arith in
-    let same : Congruent m (g ^ d) (g ^ r) = mod_trans (mod_of_eq (ap (λ v. g ^ v) e ∙ pow-add g (n * q) r))
-    (mod_trans (mod_mul (power_of_full_turns g n q turn l) (mod_refl (g ^ r))) (mod_of_eq o)) in
-    let within : r < 2 ^ suc k.0 = let s = k.1 in omega arith in
+    let same : Congruent m (g ^ d) (g ^ r) =
+    grind (arith, pow-add g (n * q) r, mod_mul (power_of_full_turns g n q turn l) (mod_refl (g ^ r))) in
+    let within : r < 2 ^ suc k.0 = omega arith in
     mod_trans (sum_below-congruent n (λ j. (g ^ d) ^ j) (λ j. (g ^ r) ^ j) (λ j h. mod_pow j same))
     (mod_trans (mod_of_eq (ap (λ v. geometric v (g ^ r)) k.1)) (powers_vanish k.0 g r k.2 some within))
 
@@ -90,11 +88,6 @@ geometric_vanishes_between g n d turn l below no_0 no_1 no_2 =
       ]
     ]
 
--- .. and where it is neither
-geometric_vanishes_at_others : {m : ℕ} (g n e k a b : ℕ) → HalfTurn m g n → Mirrored n e k → a < n → b < n → a + b ≢ e → a + b ≢ e + n
-    → Congruent m (geometric n (g ^ (a + b + k))) 0
-geometric_vanishes_at_others {m} g n e k a b turn mirror la lb not_e not_en = grind (arith, geometric_vanishes_between)
-
 -- one product of two values, with the test of the cyclic product
 geometric_by_test : {m : ℕ} (g n e k a b c : ℕ) → HalfTurn m g n → Mirrored n e k → a < n → b < n
     → Congruent m (c * geometric n (g ^ (a + b + k))) (n * (cond (eqb (a + b) e || eqb (a + b) (e + n)) c 0))
@@ -103,12 +96,13 @@ geometric_by_test {m} g n e k a b c turn mirror la lb =
     let no : c * 0 ≡ n * 0 = omega arith in
     elim (eqb_tells (a + b) e) [
       | inl p ↦
-          rw p.0 (mod_trans (mod_mul (mod_refl c) (geometric_of_full_turns g n e k a b turn mirror la lb (inl p.1))) (mod_of_eq yes))
+          rw p.0 (mod_trans (mod_mul (mod_refl c) (geometric_of_full_turns g n e k a b turn mirror la lb (inl p.1)))
+          (mod_of_eq yes))
       | inr p ↦ elim (eqb_tells (a + b) (e + n)) [
-        | inl q ↦ rw (p.0, q.0)
-            (mod_trans (mod_mul (mod_refl c) (geometric_of_full_turns g n e k a b turn mirror la lb (inr q.1))) (mod_of_eq yes))
-        | inr q ↦ rw (p.0, q.0)
-            (mod_trans (mod_mul (mod_refl c) (geometric_vanishes_at_others g n e k a b turn mirror la lb p.1 q.1)) (mod_of_eq no))
+        | inl q ↦ rw (p.0, q.0) (mod_trans
+            (mod_mul (mod_refl c) (geometric_of_full_turns g n e k a b turn mirror la lb (inr q.1))) (mod_of_eq yes))
+        | inr q ↦ rw (p.0, q.0) (mod_trans (mod_mul (mod_refl c) (grind (arith, geometric_vanishes_between)))
+            (mod_of_eq no))
       ]
     ]
 

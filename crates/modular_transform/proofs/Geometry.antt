@@ -53,13 +53,12 @@ of_odd y d odd =
 of_even : (y d : ℕ) → d % 2 ≡ 0 → OddMultiple y (d / 2) → OddMultiple (suc y) d
 of_even y d even k =
     let e : d ≡ 2 * (d / 2) = omega arith in
-    let q = ap (λ v. v * (2 * k.half + 1)) (two-pow-succ y) in
-    let f = k.few in
     record {
       doublings = k.doublings;
       half = k.half;
       few = omega arith;
-      reached = ap (λ v. v * 2 ^ k.doublings) e ∙ omega (arith, k.reached, q);
+      reached = ap (λ v. v * 2 ^ k.doublings) e
+          ∙ omega (arith, k.reached, ap (λ v. v * (2 * k.half + 1)) (two-pow-succ y));
     }
 
 pub odd_multiple : (y d : ℕ) → 0 < d → d < 2 ^ suc y → OddMultiple y d

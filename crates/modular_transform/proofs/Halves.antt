@@ -18,9 +18,7 @@ sum_by_pairs h w k x =
 
 -- a power at a place h further
 power_further : (h w k i : ℕ) → w ^ ((h + i) * k) ≡ (w ^ h) ^ k * w ^ (i * k)
-power_further h w k i =
-    let e : (h + i) * k ≡ h * k + i * k = omega arith in
-    ap (λ n. w ^ n) e ∙ pow-add w (h * k) (i * k) ∙ ap (λ v. v * w ^ (i * k)) (pow-mul w h k)
+power_further h w k i = grind (arith, pow-add w (h * k) (i * k), pow-mul w h k)
 
 square_root : (w i r : ℕ) → (w * w) ^ (i * r) ≡ w ^ (i * (2 * r))
 square_root w i r = let e : 2 * (i * r) ≡ i * (2 * r) = omega arith in pow_of_square w (i * r) ∙ ap (λ n. w ^ n) e
@@ -29,12 +27,10 @@ even_pair : {m : ℕ} (w h r i x y u : ℕ) → IsMinusOne m (w ^ h) → Congrue
     → Congruent m (x * w ^ (i * (2 * r)) + y * w ^ ((h + i) * (2 * r))) (u * (w * w) ^ (i * r))
 even_pair {m} w h r i x y u half_turn is =
     let q = w ^ (i * (2 * r)) in
-    let o : 1 * q ≡ q = omega arith in
     let one : Congruent m (w ^ ((h + i) * (2 * r))) q = mod_trans (mod_of_eq (power_further h w (2 * r) i))
-    (mod_trans (mod_mul (even_power_of_minus_one r half_turn) (mod_refl q)) (mod_of_eq o)) in
-    let d : x * q + y * q ≡ (x + y) * q = omega arith in
+    (mod_trans (mod_mul (even_power_of_minus_one r half_turn) (mod_refl q)) (mod_of_eq (omega arith))) in
     mod_trans (mod_add (mod_refl (x * q)) (mod_mul (mod_refl y) one))
-    (mod_trans (mod_of_eq d) (mod_mul (mod_sym is) (mod_of_eq (sym (square_root w i r)))))
+    (mod_trans (mod_of_eq (omega arith)) (mod_mul (mod_sym is) (mod_of_eq (sym (square_root w i r)))))
 
 -- the entries at even places
 pub even_entries : {m : ℕ} (w h r : ℕ) (x u : ℕ → ℕ) → IsMinusOne m (w ^ h)
@@ -50,20 +46,17 @@ odd_pair {m} w h r i x y v half_turn is =
     let s = (w * w) ^ (i * r) in
     let q = w ^ (i * (2 * r + 1)) in
     let p = (w ^ h) ^ (2 * r + 1) in
-    let e : i * (2 * r + 1) ≡ i + i * (2 * r) = omega arith in
     let qs : q ≡ w ^ i * s =
-    ap (λ n. w ^ n) e ∙ pow-add w i (i * (2 * r)) ∙ ap (λ n. w ^ i * n) (sym (square_root _ _ _)) in
+    ap (λ n. w ^ n) (omega arith) ∙ pow-add w i (i * (2 * r)) ∙ ap (λ n. w ^ i * n) (sym (square_root _ _ _)) in
     let z : w ^ ((h + i) * (2 * r + 1)) ≡ p * q = power_further _ _ _ _ in
-    let yz = ap (λ n. y * n) z in
-    let yq = ap (λ n. y * n) qs in
     let xq = ap (λ n. x * n) qs in
     -- with y * q on both sides
-    let left : x * q + y * w ^ ((h + i) * (2 * r + 1)) + y * q ≡ x * q + y * q * (p + 1) = omega (arith, yz) in
-    let none : x * q + y * q * 0 ≡ x * w ^ i * s = omega (arith, xq) in
-    let right : (v + y * w ^ i) * s ≡ v * s + y * q = omega (arith, yq) in
+    let left : x * q + y * w ^ ((h + i) * (2 * r + 1)) + y * q ≡ x * q + y * q * (p + 1) =
+    omega (arith, ap (λ n. y * n) z) in
+    let right : (v + y * w ^ i) * s ≡ v * s + y * q = omega (arith, ap (λ n. y * n) qs) in
     mod_add_cancel _ (mod_trans (mod_of_eq left)
     (mod_trans (mod_add (mod_refl _) (mod_mul (mod_refl _) (odd_power_of_minus_one _ half_turn).and_one))
-    (mod_trans (mod_of_eq none) (mod_trans (mod_mul (mod_sym is) (mod_refl _)) (mod_of_eq right)))))
+    (mod_trans (mod_of_eq (omega (arith, xq))) (mod_trans (mod_mul (mod_sym is) (mod_refl _)) (mod_of_eq right)))))
 
 -- the entries at odd places
 pub odd_entries : {m : ℕ} (w h r : ℕ) (x v : ℕ → ℕ) → IsMinusOne m (w ^ h)

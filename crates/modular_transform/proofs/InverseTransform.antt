@@ -15,7 +15,7 @@ use Rattle.modular_word.proofs.Powers.{one-pow, pow-mul}
 use Rattle.modular_word.proofs.Sums.{sum_below-same, sum_below-congruent}
 use Rattle.modular_transform.specs.Orders.{mirrored}
 use Rattle.modular_transform.specs.Transforms.{Suits, transform}
-use Rattle.modular_transform.proofs.CyclicProducts.{Mirrored, transform_of_products, full_turn}
+use Rattle.modular_transform.proofs.CyclicProducts.{transform_of_products, full_turn}
 use Rattle.modular_transform.proofs.ConvolveLemmas.{half_turn, mirrored_place, by_part}
 use Rattle.modular_transform.proofs.PolynomialProducts.{sum_at_place}
 use Rattle.modular_transform.proofs.Reordering.{mirror_exchange, mirrored_first, mirrored_other}
@@ -32,9 +32,8 @@ inverse_suits {m} {g} {h} {n} inverse suits = record {
   half_turn = λ l.
       let k = n / 2 in
       let turn : Congruent m (g ^ k + 1) 0 = record { same = suits.half_turn l ∙ sym (zero-mod m) } in
-      let cancel = powers_cancel k inverse in
       let sum : Congruent m (h ^ k + 1) 0 =
-      grind (arith, mod_add (mod_sym cancel) (mod_refl (h ^ k)), mod_mul turn (mod_refl (h ^ k))) in
+      grind (arith, mod_add (mod_sym (powers_cancel k inverse)) (mod_refl (h ^ k)), mod_mul turn (mod_refl (h ^ k))) in
       sum.same ∙ zero-mod m;
 }
 
@@ -53,9 +52,9 @@ times_unit b v = elim (eqb_tells 0 b) [ inl p ↦ rw p.0 (omega arith) | inr p �
 -- the transform of them
 unit_transformed : (g n j : ℕ) → 0 < n → sum_below n (λ b. unit b * g ^ (b * j)) ≡ 1
 unit_transformed g n j some =
-    let none : 0 * j ≡ 0 = omega arith in
-    sum_below-same n (λ b. unit b * g ^ (b * j)) (λ b. cond (eqb 0 b) (g ^ (b * j)) 0) (λ b _. times_unit b (g ^ (b * j)))
-    ∙ sum_at_place n 0 (λ b. g ^ (b * j)) some ∙ ap (λ v. g ^ v) none ∙ pow-zero g
+    sum_below-same n (λ b. unit b * g ^ (b * j)) (λ b. cond (eqb 0 b) (g ^ (b * j)) 0)
+    (λ b _. times_unit b (g ^ (b * j))) ∙ sum_at_place n 0 (λ b. g ^ (b * j)) some ∙ ap (λ v. g ^ v) (omega arith)
+    ∙ pow-zero g
 
 -- one term of the cyclic product by them
 term_by_unit : (n e a b v : ℕ) → e < n → a < n → cond (eqb (a + b) e || eqb (a + b) (e + n)) (v * unit b) 0
@@ -65,20 +64,17 @@ term_by_unit n e a b v le la = grind arith
 product_by_unit : (n e : ℕ) (x : ℕ → ℕ) → e < n
     → sum_below n (λ a. sum_below n (λ b. cond (eqb (a + b) e || eqb (a + b) (e + n)) (x a * unit b) 0)) ≡ x e
 product_by_unit n e x l =
-    let some : 0 < n = omega (arith, l) in
     sum_below-same _ _ _ (λ a la. sum_below-same _ _ _ (λ b _. term_by_unit n e a b (x a) l la)
-    ∙ sum_at_place _ 0 _ some) ∙ sum_at_place n e x l
+    ∙ sum_at_place _ 0 _ (omega (arith, l))) ∙ sum_at_place n e x l
 
 -- the transform of the transform is n times the values, all but the first in the opposite order
 pub transformed_twice : {m : ℕ} (g n k : ℕ) (x : ℕ → ℕ) → Suits m g n → k < n
     → Congruent m (transform m g n (transform m g n x) k) (n * x (mirrored n k))
 transformed_twice {m} g n k x suits l =
-    let place = mirrored_place n k l in let e = mirrored n k in
-    let mirror : Mirrored n e k = grind (arith, place.image) in
-    mod_trans (residue_of _) (mod_trans (transform_of_products _ _ _ _ _ _ _ (half_turn suits) mirror
-    (λ j _. mod_trans (residue_of _) (mod_of_eq (let one = unit_transformed g n j (omega (arith, l)) in
-    let s = sum_below n (λ i. x i * g ^ (i * j)) in
-    let whole : s ≡ s * 1 = omega arith in whole ∙ ap (λ v. s * v) (sym one)))))
+    let place = mirrored_place n k l in mod_trans (residue_of _)
+    (mod_trans (transform_of_products _ _ _ _ _ _ _ (half_turn suits) (grind (arith, place.image))
+    (λ j _. mod_trans (residue_of _) (mod_of_eq (let s = sum_below n (λ i. x i * g ^ (i * j)) in
+    (omega arith) ∙ ap (λ v. s * v) (sym (unit_transformed g n j (omega (arith, l))))))))
     (mod_of_eq (ap (λ v. n * v) (product_by_unit _ _ _ place.image))))
 
 -- the powers of the inverse of a root are those of the root at the mirrored places
@@ -86,8 +82,7 @@ power_of_inverse : {m g h n : ℕ} (i : ℕ) → IsInverse m g h → Suits m g n
     → Congruent m (h ^ i) (g ^ mirrored n i)
 power_of_inverse {m} {g} {h} {n} i inverse suits l = elim (cases_eq i 0) [
   | inl z ↦
-      let image = ap (mirrored n) z ∙ mirrored_first n in
-      mod_of_eq (ap (λ v. h ^ v) z ∙ pow-zero h ∙ sym (ap (λ v. g ^ v) image ∙ pow-zero g))
+      grind (arith, pow-zero h, mirrored_first n, pow-zero g)
   | inr s ↦
       grind (
         arith,
@@ -132,12 +127,11 @@ pub power_suits : {m g : ℕ} (k n : ℕ) → IsPowerOfTwo n → Suits m g (n * 
 power_suits {m} {g} k n power suits = record {
   power_of_two = power;
   half_turn = λ l.
-      let e = even_length power.0 n power.1 l in
-      let w : n * k ≡ 2 * (k * (n / 2)) = ap (λ v. v * k) e ∙ omega arith in
-      let half : n * k / 2 ≡ k * (n / 2) = omega (arith, w) in
+      let w : n * k ≡ 2 * (k * (n / 2)) = ap (λ v. v * k) (even_length power.0 n power.1 l) ∙ omega arith in
       let more : 1 < n * k = omega (arith, w, pow_pos suits.power_of_two.0, suits.power_of_two.1) in
       let turn : Congruent m (g ^ (n * k / 2) + 1) 0 = record { same = suits.half_turn more ∙ sym (zero-mod m) } in
       let same : Congruent m ((g ^ k % m) ^ (n / 2)) (g ^ (n * k / 2)) =
-      mod_trans (mod_pow (n / 2) (residue_of (g ^ k))) (mod_of_eq (sym (ap (λ v. g ^ v) half ∙ pow-mul g k (n / 2)))) in
+      mod_trans (mod_pow (n / 2) (residue_of (g ^ k)))
+      (mod_of_eq (sym (ap (λ v. g ^ v) (omega (arith, w)) ∙ pow-mul g k (n / 2)))) in
       (mod_trans (mod_add same (mod_refl 1)) turn).same ∙ zero-mod m;
 }

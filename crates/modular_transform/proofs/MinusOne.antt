@@ -11,32 +11,25 @@ pub record IsMinusOne (m a : ℕ) : Type 0 where
   pub and_one : Congruent m (a + 1) 0
 
 pub pow_of_square : (a k : ℕ) → (a * a) ^ k ≡ a ^ (2 * k)
-pow_of_square a k =
-    let e : k + k ≡ 2 * k = omega arith in
-    mul-pow a a k ∙ sym (pow-add a k k) ∙ ap (λ n. a ^ n) e
+pow_of_square a k = grind (arith, mul-pow a a k, pow-add a k k)
 
 -- -1 times -1
 square_of_minus_one : {m a : ℕ} → IsMinusOne m a → Congruent m (a * a) 1
 square_of_minus_one {m} {a} h =
     let e : a * a + a ≡ a * (a + 1) = omega arith in
-    let z : a * 0 ≡ 0 = omega arith in
-    let o : 1 + a ≡ a + 1 = omega arith in
     mod_add_cancel _ (mod_trans (mod_of_eq e) (mod_trans (mod_mul (mod_refl _) h.and_one)
-    (mod_trans (mod_of_eq z) (mod_trans (mod_sym h.and_one) (mod_of_eq (sym o))))))
+    (mod_trans (mod_of_eq (omega arith)) (mod_trans (mod_sym h.and_one) (mod_of_eq (sym (omega arith)))))))
 
 pub even_power_of_minus_one : {m a : ℕ} (k : ℕ) → IsMinusOne m a → Congruent m (a ^ (2 * k)) 1
-even_power_of_minus_one {m} {a} k h =
-    mod_trans (mod_of_eq (sym (pow_of_square a k))) (mod_trans (mod_pow k (square_of_minus_one h))
-    (mod_of_eq (one-pow k)))
+even_power_of_minus_one {m} {a} k h = grind (arith, pow_of_square a k, mod_pow k (square_of_minus_one h), one-pow k)
 
 pub odd_power_of_minus_one : {m a : ℕ} (k : ℕ) → IsMinusOne m a → IsMinusOne m (a ^ (2 * k + 1))
 odd_power_of_minus_one {m} {a} k h =
-    let e : a ^ (2 * k + 1) ≡ a ^ (2 * k) * a = pow-add a (2 * k) 1 ∙ ap (λ v. a ^ (2 * k) * v) (pow-one _) in
-    let o : 1 * a + 1 ≡ a + 1 = omega arith in
     record {
       and_one =
-          mod_trans (mod_add (mod_trans (mod_of_eq e) (mod_mul (even_power_of_minus_one _ h) (mod_refl _)))
-          (mod_refl 1)) (mod_trans (mod_of_eq o) h.and_one);
+          mod_trans (mod_add (mod_trans (mod_of_eq (pow-add a (2 * k) 1 ∙ ap (λ v. a ^ (2 * k) * v) (pow-one _)))
+          (mod_mul (even_power_of_minus_one _ h) (mod_refl _))) (mod_refl 1))
+          (mod_trans (mod_of_eq (omega arith)) h.and_one);
     }
 
 pub same_minus_one : {m a b : ℕ} → a ≡ b → IsMinusOne m a → IsMinusOne m b

@@ -77,9 +77,8 @@ term_over_places n b i j v w room = elim (cases_lt (i + j) n) [
   | inl l ↦
       sum_at_place _ _ _ l ∙ (ap (λ k. k * (v * w)) (pow-add b i j)) ∙ omega arith
   | inr l ↦
-      let q : (v * b ^ i) * (w * b ^ j) ≡ v * w * (b ^ i * b ^ j) = omega arith in
-      let r : v * w * (b ^ i * b ^ j) ≡ 0 = ap (λ k. k * (b ^ i * b ^ j)) (room (omega arith)) ∙ omega arith in
-      sum_at_none _ _ _ (omega arith) ∙ sym (q ∙ r)
+      let r : v * w * (b ^ i * b ^ j) ≡ 0 = grind (arith, room (omega arith)) in
+      sum_at_none _ _ _ (omega arith) ∙ sym ((omega arith) ∙ r)
 ]
 
 factor_in : (s e c v : ℕ) → c * cond (eqb s e) v 0 ≡ cond (eqb s e) (c * v) 0
@@ -89,10 +88,7 @@ terms_times_power : (n b e : ℕ) (x y : ℕ → ℕ)
     → product_terms n x y e * b ^ e ≡ sum_below n (λ i. sum_below n (λ j. cond (eqb (i + j) e) (b ^ e * (x i * y j)) 0))
 unfolding product_terms
 terms_times_power n b e x y =
-    let t = λ (i j : ℕ). cond (eqb (i + j) e) (x i * y j) 0 in
-    let q : sum_below n (λ i. sum_below n (λ j. t i j)) * b ^ e ≡ b ^ e * sum_below n (λ i. sum_below n (λ j. t i j)) =
-    omega arith in
-    q ∙ sym (scaled _ _ _ _) ∙ sum_below-same _ _ _ (λ i l. sum_below-same _ _ _ (λ j k. factor_in _ _ _ _))
+    (omega arith) ∙ sym (scaled _ _ _ _) ∙ sum_below-same _ _ _ (λ i l. sum_below-same _ _ _ (λ j k. factor_in _ _ _ _))
 
 -- the entries are the coefficients of the product
 pub polynomial_product : {m : ℕ} (n b s t : ℕ) (x y : ℕ → ℕ) → ((i : ℕ) → i < n → x i ≤ s)

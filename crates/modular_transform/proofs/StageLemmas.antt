@@ -38,9 +38,8 @@ next_block : {m : ℕ} (g n t h : ℕ) (x y z : ℕ → ℕ) (p q r b k : ℕ) �
     → Congruent m (sum_below h (λ i. z (p * h + i) * (g ^ (2 ^ suc t)) ^ (i * r)))
     (sum_below n (λ i. x i * g ^ (i * (bits_reversed (suc t) p + 2 ^ suc t * r))))
 next_block {m} g n t h x y z p q r b k is bit is_k within l blocks halves =
-    let half : bits_reversed t (p / 2) ≡ bits_reversed t q = ap (bits_reversed t)
-    (let e : p / 2 ≡ q = omega arith in e) in
-    let low : p % 2 * 2 ^ t ≡ b * 2 ^ t = ap (λ v. v * 2 ^ t) (let e : p % 2 ≡ b = omega arith in e) in
+    let half : bits_reversed t (p / 2) ≡ bits_reversed t q = ap (bits_reversed t) ((omega arith)) in
+    let low : p % 2 * 2 ^ t ≡ b * 2 ^ t = ap (λ v. v * 2 ^ t) ((omega arith)) in
     let place : bits_reversed t q + 2 ^ t * k ≡ bits_reversed (suc t) p + 2 ^ suc t * r =
     ap (λ v. bits_reversed t q + 2 ^ t * v) is_k
     ∙ omega (arith, ap (λ v. v * r) (two-pow-succ t), bits_reversed-suc t p, half, low) in
@@ -59,18 +58,14 @@ stages_more {m} g n t h x y z half_turn blocks stage = record {
         | inl e ↦
             let is : p ≡ 2 * (p / 2) + 0 = omega arith in
             next_block g n t h x y z p (p / 2) r 0 (2 * r) is (omega arith) (omega arith) within l blocks
-            (even_entries (g ^ (2 ^ t)) h r u v half_turn
-            (λ i j.
-            let at : (p / 2) * (h + h) + i ≡ p * h + i = omega (arith, ap (λ v. v * h) is) in
-            subst (λ k. Congruent m (z k) (u i + u (h + i))) at (stage.pairs (p / 2) i within j).summed))
+            (even_entries (g ^ (2 ^ t)) h r u v half_turn (λ i j. subst (λ k. Congruent m (z k) (u i + u (h + i)))
+            (omega (arith, ap (λ v. v * h) is)) (stage.pairs (p / 2) i within j).summed))
         | inr o ↦
             let is : p ≡ 2 * (p / 2) + 1 = omega arith in
             next_block g n t h x y z p (p / 2) r 1 (2 * r + 1) is (omega arith) (omega arith) within l blocks
             (odd_entries (g ^ (2 ^ t)) h r u v half_turn
-            (λ i j.
-            let at : (p / 2) * (h + h) + (h + i) ≡ p * h + i = omega (arith, ap (λ v. v * h) is) in
-            subst (λ k. Congruent m (z k + u (h + i) * (g ^ (2 ^ t)) ^ i) (u i * (g ^ (2 ^ t)) ^ i)) at
-            (stage.pairs (p / 2) i within j).subtracted))
+            (λ i j. subst (λ k. Congruent m (z k + u (h + i) * (g ^ (2 ^ t)) ^ i) (u i * (g ^ (2 ^ t)) ^ i))
+            (omega (arith, ap (λ v. v * h) is)) (stage.pairs (p / 2) i within j).subtracted))
       ];
 }
 

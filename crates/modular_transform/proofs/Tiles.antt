@@ -1,5 +1,5 @@
 -- Places numbered tile by tile: number (tile * 8 + row) * 8 + column is place row * step + tile * 8 + column.
-use Rattle.std.proofs.Common.{◌≡◌, ℕ, ◌+◌, ◌-◌, ◌*◌, ◌%◌, ◌/◌, ◌^◌, ◌<◌, ◌≤◌, subst, sym, ◌∙◌, ap, refl, arith}
+use Rattle.std.proofs.Common.{◌≡◌, ℕ, ◌+◌, ◌-◌, ◌*◌, ◌%◌, ◌/◌, ◌^◌, ◌<◌, ◌≤◌, sym, ◌∙◌, ap, refl, arith}
 use Rattle.std.proofs.Math.Nat.{div-lt_iff_lt-mul, mod-lt}
 use Rattle.std.proofs.lemmas.Nat.{div-mul-add, mod-mul-add, div-add-mod', pow-add}
 use Rattle.modular_transform.specs.Orders.{bits_reversed}
@@ -53,20 +53,14 @@ place_reversed bits b step t is_bits is_step l =
     let row = t / 8 % 8 in
     let column = t % 8 in
     let high = tile + 2 ^ b * row in
-    let rows = ap (λ v. row * v) is_step in
-    let place : place_of step t ≡ column + 2 ^ 3 * high = omega (arith, rows) in
+    let place : place_of step t ≡ column + 2 ^ 3 * high = omega (arith, ap (λ v. row * v) is_step) in
     let number : bits ≡ 3 + (b + 3) = omega arith in
     let one = bits_reversed_of_parts 3 (b + 3) column high (omega (arith, e)) in
-    let two = bits_reversed_of_parts b 3 tile row (omega arith) in
     let third = ap (λ v. bits_reversed 3 column * v) (pow-add 2 b 3 ∙ ap (λ v. 2 ^ b * v) e ∙ sym is_step) in
     let to = place_of_parts step (bits_reversed b tile) (bits_reversed 3 column) (bits_reversed 3 row)
     (reversed_below_8 column) (reversed_below_8 row) in
     let all = ap (λ v. bits_reversed v (place_of step t)) number ∙ ap (bits_reversed (3 + (b + 3))) place ∙ one in
-    omega (arith, all, two, third, to)
-
-place_below : (step tile row column : ℕ) → tile * 8 + 8 ≤ step → row < 8 → column < 8
-    → row * step + tile * 8 + column < step * 8
-place_below step tile row column t r c = grind arith
+    omega (arith, all, bits_reversed_of_parts b 3 tile row (omega arith), third, to)
 
 -- the number of the place of a number
 number_again : (b step t : ℕ) → step ≡ 2 ^ b * 8 → t < 2 ^ b * 64 → number_of step (place_of step t) ≡ t
@@ -95,8 +89,7 @@ pub places_reversed : {T : Type 0} (bits b step i : ℕ) (old new : ℕ → T) �
     → (k : ℕ) → k < 2 ^ b * 64 → new k ≡ old (bits_reversed bits k)
 places_reversed bits b step i old new is_bits is_step all so_far k l =
     let some : 0 < step = omega arith in
-    let eight : k < 8 * step = omega (arith, is_step) in
-    let row : k / step < 8 = (div-lt_iff_lt-mul {k = step} {x = k} {y = 8} some).1 eight in
+    let row : k / step < 8 = (div-lt_iff_lt-mul {k = step} {x = k} {y = 8} some).1 (omega (arith, is_step)) in
     let below : (number_of step k) < 2 ^ b * 64 = omega (arith, is_step, row, mod-lt k some) in
     let place : place_of step (number_of step k) ≡ k =
     place_of_parts _ _ _ _ row (omega arith) ∙ omega (arith, div-add-mod' k step) in
@@ -124,7 +117,7 @@ pub spot : (b step tile other row column to_row to_column : ℕ) → step ≡ 2 
     → other ≡ bits_reversed b tile → to_row ≡ bits_reversed 3 column → to_column ≡ bits_reversed 3 row
     → Spot b step tile other row column to_row to_column
 spot b step tile other row column to_row to_column is_step lt lr lc is_other is_row is_column =
-    grind (arith, bits_reversed_below, reversed_below_8, reversed_parts, place_of_parts, place_below)
+    grind (arith, bits_reversed_below, reversed_below_8, reversed_parts, place_of_parts)
 
 -- the two places are swapped
 pub spot_swapped : {T : Type 0} (b step tile other row column to_row to_column : ℕ) (old new newer : ℕ → T)
@@ -136,13 +129,11 @@ pub spot_swapped : {T : Type 0} (b step tile other row column to_row to_column :
     → ReorderedSoFar (2 ^ b * 64) (tile * 64 + row * 8 + (column + 1)) (tiles_reversed b) (λ t. old (place_of step t))
     (λ t. newer (place_of step t))
 spot_swapped b step tile other row column to_row to_column old new newer here order swapped so_far =
-    let n = 2 ^ b * 64 in
     let s = tiles_reversed b in
     let t = tile * 64 + row * 8 + column in
-    let exchange = tiles_exchange b n refl in
+    let exchange = tiles_exchange b (2 ^ b * 64) refl in
     let at : Swapped new newer (place_of step t) (place_of step (s t)) =
-    subst (λ i. Swapped new newer i (place_of step (s t))) (sym here.first)
-    (subst (λ j. Swapped new newer (row * step + tile * 8 + column) j) (sym here.second) swapped) in
+    grind (arith, here.first, here.second) in
     reordered_at _ _ _ _ _ _ (omega arith) (reordered_swapped _ _ _ _ _ _ exchange here.number_below
     (omega (arith, order, here.number)) (exchanged_numbers _ _ _ _ _ _ here.step_is here.number_below
     (exchange.within t here.number_below) at) so_far)

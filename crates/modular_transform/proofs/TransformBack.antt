@@ -20,9 +20,8 @@ use Rattle.modular_transform.proofs.Reordering.{mirror_exchange}
 transform_scaled : (m g n part j : ℕ) (u : ℕ → ℕ)
     → Congruent m (transform m g n (λ i. part * u i) j) (part * transform m g n u j)
 transform_scaled m g n part j u =
-    let terms = sum_below-same _ _ _ (λ i _. omega arith) in
-    mod_trans (residue_of _) (mod_trans (mod_of_eq (terms ∙ sum_below-mul _ _ _))
-    (mod_mul (mod_refl _) (mod_sym (residue_of (sum_below n (λ i. u i * g ^ (i * j)))))))
+    mod_trans (residue_of _) (mod_trans (mod_of_eq ((sum_below-same _ _ _ (λ i _. omega arith))
+    ∙ sum_below-mul _ _ _)) (mod_mul (mod_refl _) (mod_sym (residue_of (sum_below n (λ i. u i * g ^ (i * j)))))))
 
 -- the transform back of a transform
 pub undone_at : (m g n part i : ℕ) (x old : ℕ → ℕ) → Suits m g n → IsInverse m n part → i < n
@@ -39,20 +38,18 @@ pub restored_at : (m g n part j : ℕ) (new old : ℕ → ℕ) → g < m → Sui
     → ((i : ℕ) → i < n → new i ≡ (transform m g n old (mirrored n i) * part) % m)
     → transform m g n new j ≡ old j % m
 restored_at m g n part j new old _ suits inverse l is =
-    let mirror = mirror_exchange n in let u = transform m g n old in
-    let twice = transform m g n (transform m g n u) in
+    let mirror = mirror_exchange n in let twice = transform m g n (transform m g n (transform m g n old)) in
     -- the values are 1/n^2 times the third transform, of which the transform is n^2 times the old values
     let values = λ (i : ℕ) (k : i < n). mod_trans (mod_of_eq (is i k))
     (mod_trans (residue_of _) (mod_trans (mod_mul (mod_sym (by_part _ inverse (transformed_twice _ _ _ _ suits k)))
     (mod_refl _)) (mod_of_eq (let e : twice i * part * part ≡ part * part * twice i = omega arith in e)))) in
     let last = by_part _ inverse (mod_trans (transformed_twice _ _ _ _ suits (mirror.within j l))
     (mod_of_eq (ap (λ p. n * old p) (mirror.twice j l)))) in
-    let before = by_part _ inverse (transformed_twice _ _ _ _ suits l) in
     sym (mod-mod (sum_below n (λ i. new i * g ^ (i * j))) m)
     ∙ (mod_trans (mod_of_eq (transform_congruent g n j new (λ i. part * part * twice i) values))
     (mod_trans (transform_scaled m g n (part * part) j twice) (mod_trans (mod_of_eq (let t = transform m g n twice j in
     let e : part * part * t ≡ t * part * part = omega arith in e))
-    (mod_trans (mod_mul before (mod_refl part)) last)))).same
+    (mod_trans (mod_mul (by_part _ inverse (transformed_twice _ _ _ _ suits l)) (mod_refl part)) last)))).same
 
 -- a list whose transform is given
 pub preimage : ℕ → ℕ → ℕ → ℕ → (ℕ → ℕ) → ℕ → ℕ
@@ -76,10 +73,9 @@ pub stepped_back : {T : Type 0} (number : T → ℕ) (form value : ℕ → ℕ �
 stepped_back number form value width m g part xs xs1 xs2 xs3 canonical l1 l2 l3 is1 is2 is3 = record {
   each = λ i d in_range.
       let n = length xs in
-      let x = entry number value m xs in
       let k = mirrored n i in
       let e : mirrored (length xs1) i ≡ k = ap (λ v. mirrored v i) l1 in
-      let v2 : entry number value m xs2 i ≡ transform m g n x k =
+      let v2 : entry number value m xs2 i ≡ transform m g n (entry number value m xs) k =
       reordered_value number value m i d _ _ _ is2 (omega (arith, in_range, l1, l3))
       (omega (arith, in_range, l2, l3)) (omega (arith, e, l1)) ∙ ap (entry number value m xs1) e
       ∙ held_values _ _ _ k canonical is1 (omega (arith, l1)) in

@@ -1,6 +1,6 @@
 -- The whole transform: its sizes, its root, its count, and its end.
 use Rattle.std.proofs.Common.{◌↔◌, ◌≡◌, ℕ, suc, zero, ◌+◌, ◌-◌, ◌*◌, ◌%◌, ◌/◌, ◌^◌, ◌<◌, ◌≤◌}
-use Rattle.std.proofs.Common.{List, length, get_or, All, sym, ◌∙◌, ap, refl, arith, subst}
+use Rattle.std.proofs.Common.{List, length, get_or, All, sym, ◌∙◌, ap, arith, subst}
 use Rattle.std.proofs.lemmas.Nat.{pow-add, pow_pos}
 use Rattle.std.proofs.Math.Nat.{two-pow-succ, zero-mod, mul-le-mul_right}
 use Rattle.std.specs.Int.{trailing_zeros, w64}
@@ -36,20 +36,17 @@ pub stage_sizes : (z t n half blocks : ℕ) → t < z → n ≡ 2 ^ z → half �
     → StageSizes z t n half blocks
 stage_sizes z t n half blocks l whole is_half is_blocks =
     let u = z - (t + 1) in
-    let s : z - t ≡ suc u = omega arith in
-    let now = ap (λ k. 2 ^ k) s ∙ two-pow-succ u in
+    let now = ap (λ k. 2 ^ k) (omega arith) ∙ two-pow-succ u in
     let next : 2 ^ u ≡ half = omega (arith, now) in
-    let a : z ≡ t + suc u = omega arith in
-    let w = whole ∙ ap (λ k. 2 ^ k) a ∙ pow-add 2 t (suc u) ∙ ap (λ v. v * 2 ^ suc u) (sym is_blocks)
+    let w = whole ∙ ap (λ k. 2 ^ k) (omega arith) ∙ pow-add 2 t (suc u) ∙ ap (λ v. v * 2 ^ suc u) (sym is_blocks)
     ∙ ap (λ v. blocks * v) (two-pow-succ u ∙ ap (λ v. v + v) next) in
     let t1 : t + 1 ≡ suc t = omega arith in
-    let m = ap (λ k. 2 ^ k) t1 ∙ two-pow-succ t in
     record {
       next = next;
       now = now ∙ ap (λ v. v + v) next;
       whole = sym w;
       some = let p = pow_pos t in omega arith;
-      more = omega (arith, m);
+      more = omega (arith, ap (λ k. 2 ^ k) t1 ∙ two-pow-succ t);
     }
 
 -- g to the half of n, by stages
@@ -57,19 +54,16 @@ pub stage_half_turn : {m : ℕ} (g z t n half blocks : ℕ) → StageSizes z t n
     → Suits m g n → IsMinusOne m ((g ^ (2 ^ t)) ^ half)
 stage_half_turn {m} g z t n half blocks sizes is_blocks some suits =
     let l : 1 < n = omega (arith, sizes.whole, mul-le-mul_right (half + half) sizes.some) in
-    let e : n / 2 ≡ blocks * half = omega (arith, sizes.whole) in
     let f : g ^ (n / 2) ≡ (g ^ (2 ^ t)) ^ half =
-    ap (λ v. g ^ v) (e ∙ ap (λ v. v * half) is_blocks) ∙ pow-mul g (2 ^ t) half in
+    grind (arith, pow-mul g (2 ^ t) half) in
     same_minus_one f (record { and_one = record { same = suits.half_turn l ∙ sym (zero-mod m) } })
 
 -- the root of the next stage
 pub root_more : {m : ℕ} (g t v w : ℕ) → Congruent m v (g ^ (2 ^ t)) → w ≡ (v * v) % m
     → Congruent m w (g ^ (2 ^ (t + 1)))
 root_more g t v w is e =
-    let s : suc t ≡ t + 1 = omega arith in
-    mod_trans (mod_of_eq e)
-    (mod_trans (residue_of (v * v)) (mod_trans (mod_mul is is)
-    (mod_of_eq (root_squared g t ∙ ap (λ k. g ^ (2 ^ k)) s))))
+    mod_trans (mod_of_eq e) (mod_trans (residue_of (v * v))
+    (mod_trans (mod_mul is is) (mod_of_eq (root_squared g t ∙ ap (λ k. g ^ (2 ^ k)) (omega arith)))))
 
 -- one stage of the loop
 pub blocks_more : {m : ℕ} (g z t n half blocks v : ℕ) (x y w : ℕ → ℕ) → StageSizes z t n half blocks → blocks ≡ 2 ^ t
@@ -101,9 +95,7 @@ pub two_sizes : (z t n half blocks : ℕ) → t < z → (z - t) % 2 ≡ 0 → n 
 two_sizes z t n half blocks l even whole is_half is_blocks =
     let one = stage_sizes _ _ _ _ _ l whole is_half is_blocks in
     let next = one.next in
-    let more = one.more in
-    let is : half / 2 ≡ 2 ^ (z - (t + 1)) / 2 = ap (λ v. v / 2) (sym next) in
-    let two = stage_sizes _ _ _ _ _ (omega arith) whole is (sym more) in
+    let two = stage_sizes _ _ _ _ _ (omega arith) whole (ap (λ v. v / 2) (sym next)) (sym one.more) in
     grind (arith, two.now, pow_pos (z - (t + 2)))
 
 -- the root of a pass to the quarter of its block
@@ -132,16 +124,14 @@ pub plain_order : {T : Type 0} (number : T → ℕ) (form value : ℕ → ℕ �
 plain_order number form value m g n z x forms new whole len len_new checked blocks reordered = record {
   each = λ i d l.
       let j = bits_reversed z i in
-      let li : i < 2 ^ z = omega arith in
       let lj : j < length forms = let b = bits_reversed_below z i in omega arith in
-      let is = reordered.each i d (omega arith) in
-      let f = get_or forms j d in
       let is_form = checked j d lj in
-      let e : value m (number f) ≡ entry number value m forms j = entry_at number value m forms j d lj in
-      let small : entry number value m forms j < m = subst (λ v. v < m) e is_form.below in
-      let t = stages_end g n z x (entry number value m forms) j blocks (bits_reversed_below z i) small in
-      subst (λ y. Represents form m (number y) (transform m g n x i)) (sym is)
-      (form_as is_form (e ∙ t ∙ ap (transform m g n x) (bits_reversed_twice z i li)));
+      let e : value m (number (get_or forms j d)) ≡ entry number value m forms j = entry_at number value m forms j d
+      lj in
+      let t = stages_end g n z x (entry number value m forms) j blocks (bits_reversed_below z i)
+      (subst (λ v. v < m) e is_form.below) in
+      subst (λ y. Represents form m (number y) (transform m g n x i)) (sym (reordered.each i d (omega arith)))
+      (form_as is_form (e ∙ t ∙ ap (transform m g n x) (bits_reversed_twice z i (omega arith))));
 }
 
 -- after the last stage
@@ -154,26 +144,20 @@ pub products_all : (z t n products : ℕ) → z ≤ t → t ≤ z → n ≡ 2 ^ 
 products_all zero t n products a b whole count = grind arith
 products_all (suc z) t n products a b whole count =
     let e : t ≡ suc z = omega arith in
-    let te = ap (λ v. v * (n / 2)) e in
     let o : suc z - t ≡ 0 = omega arith in
-    let p = ap (λ k. 2 ^ k) o in
-    let k : 2 ^ 0 ≡ 1 = refl in
     let h : n ≡ 2 * (n / 2) = omega (arith, two-pow-succ z) in
     let nz : n * suc z ≡ 2 * (suc z * (n / 2)) = ap (λ v. v * suc z) h ∙ omega arith in
     let some : 0 < n = let q = pow_pos (suc z) in omega arith in
-    omega (arith, te, p, count, nz)
+    omega (arith, ap (λ v. v * (n / 2)) e, ap (λ k. 2 ^ k) o, count, nz)
 
 -- what `root_fits` tests beyond one entry: that 1 added to the power is 0
 pub suits_tested : {m : ℕ} (g n z t v one o s : ℕ) → n ≡ 2 ^ z → 0 < z → t ≡ z - 1
     → Congruent m v (g ^ (2 ^ t)) → one ≡ 1
     → o ≡ one % m → s ≡ (v + o) % m → (s ≡ 0) ↔ Suits m g n
 suits_tested {m} g n z t v one o s whole some is_t power is_one is_o is_s =
-    let e : z ≡ suc t = omega arith in
-    let d = whole ∙ ap (λ k. 2 ^ k) e ∙ two-pow-succ t in
-    let h : n / 2 ≡ 2 ^ t = omega (arith, d) in
+    let d = whole ∙ ap (λ k. 2 ^ k) (omega arith) ∙ two-pow-succ t in
     let o1 : Congruent m o 1 = mod_trans (mod_of_eq is_o) (mod_trans (residue_of one) (mod_of_eq is_one)) in
-    let same : s ≡ (g ^ (n / 2) + 1) % m = is_s ∙ (mod_add power o1).same ∙ ap (λ k. (g ^ k + 1) % m) (sym h) in
-    let p = pow_pos t in (
+    let same : s ≡ (g ^ (n / 2) + 1) % m = grind (arith, (mod_add power o1).same) in (
       λ zero. record { power_of_two = (z, whole); half_turn = λ l. sym same ∙ zero },
-      λ suits. same ∙ suits.half_turn (omega (arith, d, p)),
+      λ suits. same ∙ suits.half_turn (omega (arith, d, pow_pos t)),
     )

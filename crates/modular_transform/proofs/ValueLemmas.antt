@@ -1,5 +1,5 @@
 -- A list of forms as the function from places to values: what is read and what is written.
-use Rattle.std.proofs.Common.{◌≡◌, ◌≢◌, ℕ, ◌+◌, ◌*◌, ◌%◌, ◌<◌, List, [], ◌∷◌, length, get_or, All, pos}
+use Rattle.std.proofs.Common.{◌≡◌, ℕ, ◌+◌, ◌*◌, ◌%◌, ◌<◌, List, [], ◌∷◌, length, get_or, All, pos}
 use Rattle.std.proofs.Common.{◌-ℤ◌, sym, ◌∙◌, arith, subst}
 use Rattle.std.proofs.Math.ListN.{set, length-set}
 use Rattle.std.proofs.Math.Nat.{add-mod_right}
@@ -39,12 +39,11 @@ pub pair_of : {m : ℕ} (a b power sum difference : ℕ) → a < m → b < m →
     → difference ≡ (residue m (pos a -ℤ pos b) * power) % m → IsPair m power a b sum difference
 pair_of {m} a b power sum difference la lb is_sum is_difference =
     let d = residue m (pos a -ℤ pos b) in
-    let spread : d * power + b * power ≡ (d + b) * power = omega arith in
     record {
       summed = mod_trans (mod_of_eq is_sum) (residue_of (a + b));
       subtracted =
           mod_trans (mod_add (mod_trans (mod_of_eq is_difference) (residue_of (d * power))) (mod_refl (b * power)))
-          (mod_trans (mod_of_eq spread) (mod_mul (residue_restored m a b la lb) (mod_refl power)));
+          (mod_trans (mod_of_eq (omega arith)) (mod_mul (residue_restored m a b la lb) (mod_refl power)));
     }
 
 -- what a pair writes
@@ -63,16 +62,15 @@ pair_written number form value width m forms low high a b sum product power cano
     let y = entry number value m (set (set forms high product) low sum) in
     let l : low < length forms = omega arith in
     let is_a : IsForm form value m (number a) =
-    subst (λ f. IsForm form value m (number f)) (sym read_a) (all low a l) in
+    grind (arith, all low a l) in
     let is_b : IsForm form value m (number b) =
-    subst (λ f. IsForm form value m (number f)) (sym read_b) (all high b within) in
-    let ls : low < length (set forms high product) = subst (λ n. low < n) (sym (length-set forms high product)) l in
+    grind (arith, all high b within) in
     let va : value m (number a) ≡ x low = entry_read number value m forms low a l read_a in
     let vb : value m (number b) ≡ x high = entry_read number value m forms high b within read_b in
-    let ne : high ≢ low = omega arith in
-    let at_low : y low ≡ value m (number sum) = entry_written number value m (set forms high product) low sum ls in
+    let at_low : y low ≡ value m (number sum) = entry_written number value m (set forms high product) low sum
+    (subst (λ n. low < n) (sym (length-set forms high product)) l) in
     let at_high : y high ≡ value m (number product) = entry_kept number value m (set forms high product) low high sum
-    ne ∙ entry_written number value m forms high product within in
+    (omega arith) ∙ entry_written number value m forms high product within in
     let done = pair_of (value m (number a)) (value m (number b)) power (y low) (y high) is_a.below is_b.below
     (at_low ∙ canonical.one_value _ _ is_sum) (at_high ∙ canonical.one_value _ _ is_product) in
     grind (arith, entry_kept)

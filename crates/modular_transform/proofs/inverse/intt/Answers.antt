@@ -14,11 +14,11 @@ returns-in-Some-clause-inverse g c =
 
 pub returns-in-Some-clause-values : goal.returns-in-Some-clause-values
 returns-in-Some-clause-values g c h j l =
-    let m = g.R.Reducer.modulus c.args.r.now in let number = g.T.RingWord.number in let value = g.R.Reducer.value in
     let inverse = inverse_along c.length_form-length.ensures.counted c.in-Some.ensures.value in
     restored_at _ _ _ _ _ _ _ c.requires.root.below c.requires.suits inverse l
     (λ i k. held_values _ _ _ _ (g.met.R.Reducer.canonical c.args.r.now) c.transform_back.ensures.entries
-    (omega arith)) ∙ mod-eq_of_lt (values_below number g.R.Reducer.form value m c.args.xs.now j c.requires.checked l)
+    (omega arith)) ∙ mod-eq_of_lt (values_below g.T.RingWord.number g.R.Reducer.form g.R.Reducer.value
+    (g.R.Reducer.modulus c.args.r.now) c.args.xs.now j c.requires.checked l)
 
 pub returns-in-Some-clause-undone : goal.returns-in-Some-clause-undone
 returns-in-Some-clause-undone g c h x are i l =

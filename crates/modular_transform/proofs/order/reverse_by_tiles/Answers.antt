@@ -1,4 +1,4 @@
-use Rattle.std.proofs.Common.{◌≡◌, ◌+◌, ◌-◌, ◌*◌, ◌/◌, ◌^◌, ◌<◌, length, get_or, subst, sym, ◌∙◌, ap, arith}
+use Rattle.std.proofs.Common.{◌+◌, ◌-◌, ◌*◌, ◌/◌, ◌^◌, ◌<◌, length, get_or, subst, sym, ◌∙◌, ap, arith}
 use Rattle.std.proofs.lemmas.List.Edits.{swapped_from_swap}
 use Rattle.modular_transform.specs.Orders.{bits_reversed}
 use Rattle.modular_transform.proofs.BitReversal.{bits_reversed_of_zero}
@@ -68,9 +68,8 @@ columns-preserved g c =
     let to_column = c.next_reversed-to_column.result in
     let step = length c.args.entries.now / 8 in
     let here = spot_at g (goal.at.columns-preserved g c).After-next_reversed-to_row in
-    let back : column + 1 - 1 ≡ column = omega arith in
     record {
-      last = c.next_reversed-to_row.ensures ∙ ap (bits_reversed 3) (sym back);
+      last = c.next_reversed-to_row.ensures ∙ ap (bits_reversed 3) (sym (omega arith));
       reordered = λ d. elim c.if-tile-other-2.branch [
         | then-tile-other-2 w ↦
             let order : tile * 64 + row * 8 + column < other * 64 + to_row * 8 + to_column =
@@ -94,9 +93,8 @@ columns-preserved g c =
 
 pub rows-preserved : goal.rows-preserved
 rows-preserved g c =
-    let back : c.rows.row + 1 - 1 ≡ c.rows.row = omega arith in
     record {
-      last = c.next_reversed-to_column.ensures ∙ ap (bits_reversed 3) (sym back);
+      last = c.next_reversed-to_column.ensures ∙ ap (bits_reversed 3) (sym (omega arith));
       reordered = λ d. reordered_at _ _ _ _ _ _ (omega arith) (c.columns.invariant.reordered d);
     }
 
@@ -105,25 +103,20 @@ tiles-preserved g c =
     let bits = c.args.bits in
     let tile = c.tiles.tile in
     let step = length c.args.entries.now / 8 in
-    let back : tile + 1 - 1 ≡ tile = omega arith in
     record {
-      last = c.next_reversed-other.ensures ∙ ap (bits_reversed (bits - 6)) (sym back);
+      last = c.next_reversed-other.ensures ∙ ap (bits_reversed (bits - 6)) (sym (omega arith));
       reordered = λ d. elim c.if-tile-other.branch [
         | then-tile-other+else-rows-test w ↦
-            subst
-            (λ es. ReorderedSoFar (2 ^ (bits - 6) * 64) ((tile + 1) * 64) (tiles_reversed (bits - 6))
+            subst (λ es. ReorderedSoFar (2 ^ (bits - 6) * 64) ((tile + 1) * 64) (tiles_reversed (bits - 6))
             (λ t. get_or c.args.entries.now (place_of step t) d) (λ t. get_or es (place_of step t) d))
-            (sym w.entries-is)
-            (reordered_at _ (tile * 64 + w.rows.row * 8) ((tile + 1) * 64) _ _ _ (omega arith)
+            (sym w.entries-is) (reordered_at _ (tile * 64 + w.rows.row * 8) ((tile + 1) * 64) _ _ _ (omega arith)
             (w.rows.invariant.reordered d))
         | else-tile-other w ↦
-            subst
-            (λ es. ReorderedSoFar (2 ^ (bits - 6) * 64) ((tile + 1) * 64) (tiles_reversed (bits - 6))
+            subst (λ es. ReorderedSoFar (2 ^ (bits - 6) * 64) ((tile + 1) * 64) (tiles_reversed (bits - 6))
             (λ t. get_or c.args.entries.now (place_of step t) d) (λ t. get_or es (place_of step t) d))
-            (sym w.entries-is)
-            (tile_passed (bits - 6) step tile c.next_reversed-other.result (λ k. get_or c.args.entries.now k d)
-            (λ k. get_or c.tiles.entries k d) c.next_reversed-other.ensures (omega arith)
-            (c.tiles.invariant.reordered d))
+            (sym w.entries-is) (tile_passed (bits - 6) step tile c.next_reversed-other.result
+            (λ k. get_or c.args.entries.now k d) (λ k. get_or c.tiles.entries k d) c.next_reversed-other.ensures
+            (omega arith) (c.tiles.invariant.reordered d))
       ];
     }
 

@@ -1,4 +1,4 @@
-use Rattle.std.proofs.Common.{◌≡◌, ◌+◌, ◌-◌, ◌<◌, ◌≤◌, length, get_or, subst, sym, ◌∙◌, ap, arith}
+use Rattle.std.proofs.Common.{◌+◌, ◌<◌, length, get_or, subst, sym, ◌∙◌, ap, arith}
 use Rattle.std.proofs.lemmas.List.Edits.{swapped_from_swap}
 use Rattle.std.specs.List.{swap}
 use Rattle.modular_transform.specs.Orders.{bits_reversed}
@@ -22,21 +22,18 @@ places-preserved g c =
     let exchange = bits_exchange _ _ c.requires.whole in
     let is = c.next_reversed-other.ensures in
     let l : i < n = omega arith in
-    let back : i + 1 - 1 ≡ i = omega arith in
     record {
-      other = is ∙ ap s (sym back);
+      other = is ∙ ap s (sym (omega arith));
       reordered = λ d. elim c.if-place-other.branch [
         | then-place-other w ↦
-            let order : i < s i = omega (arith, is) in
-            let within : s i < length c.places.entries = omega arith in
             let e = w.entries-is ∙ w.swap.ensures.after ∙ ap (λ j. swap c.places.entries i j) is in
-            reordered_swapped _ _ _ _ _ _ exchange l order
+            reordered_swapped _ _ _ _ _ _ exchange l (omega (arith, is))
             (exchanged_of_swapped _ _ _ _ _ (swapped_from_swap c.places.entries c.if-place-other.entries i (s i) d
-            (omega arith) within e)) (c.places.invariant.reordered d)
+            (omega arith) (omega arith) e)) (c.places.invariant.reordered d)
         | else-place-other w ↦
-            let order : s i ≤ i = omega (arith, is) in
             subst (λ es. ReorderedSoFar n (i + 1) s (λ k. get_or c.args.entries.now k d) (λ k. get_or es k d))
-            (sym w.entries-is) (reordered_passed _ _ _ _ _ exchange l order (c.places.invariant.reordered d))
+            (sym w.entries-is) (reordered_passed _ _ _ _ _ exchange l (omega (arith, is))
+            (c.places.invariant.reordered d))
       ];
     }
 

@@ -10,8 +10,7 @@ bases-init g c = grind (arith, c.transform-one.ensures.checked, c.transform-one.
 tried : (m x e one base power v k : ℕ) → 2 ≤ x → base ≡ (x - 1) % m → one ≡ 1 % m → v ≡ (base + one) % m → k ≡ e
     → power ≡ v ^ k % m → power ≡ x ^ e % m
 tried m x e one base power v k from is is_one sum exponent is_power =
-    let next : x - 1 + 1 ≡ x = omega (arith, from) in
-    power_of_rest m x e v power k (sum ∙ remainder_of_successor m (x - 1) base one is is_one ∙ ap (λ n. n % m) next) exponent is_power
+    search (arith, power_of_rest, remainder_of_successor)
 
 pub returns-then-root_fits : goal.returns-then-root_fits
 returns-then-root_fits g c =

@@ -5,8 +5,7 @@ use Rattle.modular_transform.proofs.stage.first_stage.Goals as goal
 
 pub columns-preserved : goal.columns-preserved
 columns-preserved g c =
-    let m = g.R.Reducer.modulus c.args.r.now in
-    let w = g.R.Reducer.value m (g.T.RingWord.number c.args.root.now) in
+    let w = g.R.Reducer.value (g.R.Reducer.modulus c.args.r.now) (g.T.RingWord.number c.args.root.now) in
     let before = c.columns.invariant in
     record {
       checked = c.pair.ensures.checked;

@@ -45,20 +45,13 @@ even_left t even two = omega (arith, even, two)
 half_left : (half : ℕ) {p : ℕ} → p ≡ half / 2 → half / 4 ≡ p / 2
 half_left half is = omega (arith, is)
 
-blocks_left : (t blocks : ℕ) → 2 ^ (t + 1 + 1) ≡ blocks * 2 * 2 → blocks * 4 ≡ 2 ^ (t + 2)
-blocks_left t blocks is = search arith
-
 blocks_fit : (t blocks : ℕ) {z n : ℕ} → 2 ^ (t + 1 + 1) ≡ blocks * 2 * 2 → n ≡ 2 ^ z → n < 2 ^ 64 → t + 2 ≤ z
     → Fits w64 (blocks * 4)
-blocks_fit t blocks {z} is whole below two =
-    let l = pow-le-pow_right {n = 2} (omega arith) {i = t + 1 + 1} {j = z} (omega (arith, two)) in
-    record { fits = omega (arith, is, whole, below, l) }
+blocks_fit t blocks {z} is whole below two = search (arith, pow-le-pow_right)
 
 products_fit : (t rest : ℕ) {z n all c : ℕ} → all + rest ≡ (t + 2) * (n / 2) + n + c → c ≡ z → z < 64 → t + 2 ≤ z
     → n < 2 ^ 64 → Fits w128 all
-products_fit t rest {z} {n} count is few two below =
-    let rows = mul-le (t + 2) (n / 2) 64 (2 ^ 64) (omega (arith, two, few)) (omega (arith, below)) in
-    record { fits = omega (arith, count, rows, few, is, below) }
+products_fit t rest {z} {n} count is few two below = search (arith, mul-le)
 
 -- what a pass over two of the stages that are left says of the sizes
 record Pass (z t n half blocks : ℕ) : Type 0 where
@@ -117,14 +110,12 @@ passes-init g c =
     let value = g.R.Reducer.value in
     let n = length c.args.xs.now in
     let z = trailing_zeros w64 n in
-    let below : n < 2 ^ 64 = c.well_formed.1.0.0 in
-    let whole = suited_length c.requires.suits below in
+    let whole = suited_length c.requires.suits c.well_formed.1.0.0 in
     let root = value m (number c.args.g.now) in
     let of = entry number value m in
     let x = of c.args.xs.now in
     let d = c.if-stages-eq1.done in
-    let zero : z - 0 ≡ z = omega arith in
-    let size : n ≡ 2 ^ (z - 0) = whole ∙ ap (λ k. 2 ^ k) (sym zero) in
+    let size : n ≡ 2 ^ (z - 0) = whole ∙ ap (λ k. 2 ^ k) (sym (omega arith)) in
     let start = subst (λ s. BlocksTransform m root n 0 s x x) size (stages_start root n x) in
     let All_forms = λ (forms : List _). All (λ f. IsForm g.R.Reducer.form value m (number f)) forms in
     let moved = λ (t : ℕ) (y : List _) (is_t : d ≡ t) (is_y : c.if-stages-eq1.xs ≡ y)
@@ -134,7 +125,6 @@ passes-init g c =
     elim c.if-stages-eq1.branch [
       | then-stages-eq1 w ↦
           let sizes = stage_sizes z 0 n (n / 2) 1 (omega arith) whole (ap (λ v. v / 2) size) refl in
-          let some = pow_pos (z - (0 + 1)) in
           let done : d ≡ 0 + 1 = w.done-is in
           let left = ap (λ k. 2 ^ (z - k)) done in
           record {
@@ -144,19 +134,18 @@ passes-init g c =
             half = omega (arith, w.half-is, left);
             blocks = omega (arith, w.blocks-is, ap (λ k. 2 ^ k) done, sizes.more);
             transforms = moved (0 + 1) w.first_stage.new.forms done w.xs-is (blocks_more root z 0 n (n / 2) 1 root x x
-                (of w.first_stage.new.forms) sizes refl (omega (arith, some)) c.requires.suits
+                (of w.first_stage.new.forms) sizes refl (omega (arith, pow_pos (z - (0 + 1)))) c.requires.suits
                 (mod_of_eq (sym (pow-one root))) start w.first_stage.ensures.stage);
             count = omega (arith, w.products-is, left, ap (λ k. k * (n / 2)) done, done);
           }
       | else-stages-eq1 w ↦
-          let done : d ≡ 0 = w.done-is in
           grind (
             arith,
             w.xs-is,
             c.requires.checked,
             w.half-is,
             w.blocks-is,
-            moved 0 c.args.xs.now done w.xs-is start,
+            moved 0 c.args.xs.now w.done-is w.xs-is start,
             w.products-is,
           )
     ]
@@ -165,32 +154,26 @@ pub first_stage-requires-clause-whole : goal.first_stage-requires-clause-whole
 first_stage-requires-clause-whole g c =
     let n = length c.args.xs.now in
     let z = trailing_zeros w64 n in
-    let below : n < 2 ^ 64 = c.well_formed.1.0.0 in
-    let whole = suited_length c.requires.suits below in
-    let zero : z - 0 ≡ z = omega arith in
-    let size : n ≡ 2 ^ (z - 0) = whole ∙ ap (λ k. 2 ^ k) (sym zero) in
+    let whole = suited_length c.requires.suits c.well_formed.1.0.0 in
+    let size : n ≡ 2 ^ (z - 0) = whole ∙ ap (λ k. 2 ^ k) (sym (omega arith)) in
     let one = (stage_sizes z 0 n (n / 2) 1 (omega arith) whole (ap (λ v. v / 2) size) refl).whole in
     omega (arith, one)
 
 pub passes-preserved : goal.passes-preserved
 passes-preserved g c =
-    let m = g.R.Reducer.modulus c.args.r.now in
-    let number = g.T.RingWord.number in
-    let value = g.R.Reducer.value in
-    let n = length c.args.xs.now in
-    let z = trailing_zeros w64 n in
+    let z = trailing_zeros w64 (length c.args.xs.now) in
     let t = c.passes.done in
     let before = c.passes.invariant in
     let pass = pass_of c.requires.suits c.well_formed.1.0.0 before.even c.passes-test.true before.half before.blocks in
     let at = λ (k : ℕ) (f : _) (l : k < z). mod_trans
-    (mod_of_eq (entry_at number value m c.roots.roots k f (omega (arith, l, pass.few))))
-    (c.roots.invariant.written k (omega (arith, l))) in
+    (mod_of_eq (entry_at g.T.RingWord.number g.R.Reducer.value (g.R.Reducer.modulus c.args.r.now) c.roots.roots k f
+    (omega (arith, l, pass.few)))) (c.roots.invariant.written k (omega (arith, l))) in
     record {
       checked = c.two_stages-products.ensures.checked;
       upto = pass.two;
       even = even_left t before.even pass.two;
       half = half_left c.passes.half pass.sizes.quarter;
-      blocks = blocks_left t c.passes.blocks pass.sizes.second.more;
+      blocks = search arith;
       transforms = two_more _ _ _ _ _ _ _ _ _ _ _ pass.sizes before.blocks c.requires.suits
           (at t c.index-roots-done.result c.passes-test.true)
           (at (t + 1) c.index-roots-done-in-passes.result pass.left.next) before.transforms
@@ -200,11 +183,10 @@ passes-preserved g c =
 
 pub returns-clause-entries : goal.returns-clause-entries
 returns-clause-entries g c =
-    let n = length c.args.xs.now in
     let before = c.passes.invariant in
-    let below : n < 2 ^ 64 = c.well_formed.1.0.0 in
-    plain_order _ _ _ _ _ _ _ _ _ _ (suited_length c.requires.suits below) (omega arith) (omega arith) before.checked
-    (blocks_all _ _ _ _ _ _ c.passes-test.false before.upto before.transforms) c.reverse_places.ensures
+    plain_order _ _ _ _ _ _ _ _ _ _ (suited_length c.requires.suits c.well_formed.1.0.0) (omega arith)
+    (omega arith) before.checked (blocks_all _ _ _ _ _ _ c.passes-test.false before.upto before.transforms)
+    c.reverse_places.ensures
 
 pub returns-clause-values : goal.returns-clause-values
 returns-clause-values g c j l =
@@ -218,10 +200,9 @@ pub returns-clause-count : goal.returns-clause-count
 returns-clause-count g c z is =
     let n = length c.args.xs.now in
     let below : n < 2 ^ 64 = c.well_formed.1.0.0 in
-    let e = trailing_zeros_of_power _ _ is below in
     let before = c.passes.invariant in
     products_all _ _ _ _ c.passes-test.false before.upto (suited_length c.requires.suits below) before.count
-    ∙ ap (λ k. n * k / 2 + n - 1 + k) e
+    ∙ ap (λ k. n * k / 2 + n - 1 + k) (trailing_zeros_of_power _ _ is below)
 
 pub two_stages-products-requires-clause-turn : goal.two_stages-products-requires-clause-turn
 two_stages-products-requires-clause-turn g c =
@@ -241,10 +222,8 @@ pub two_stages-products-requires-clause-whole : goal.two_stages-products-require
 two_stages-products-requires-clause-whole g c =
     let before = c.passes.invariant in
     let pass = pass_of c.requires.suits c.well_formed.1.0.0 before.even c.passes-test.true before.half before.blocks in
-    let same : length c.passes.xs ≡ length c.args.xs.now = c.passes.auto.xs ∙ c.if-stages-eq1.auto.xs in
-    let h = c.passes.half / 2 in
-    let fours : c.passes.blocks * (4 * h) ≡ c.passes.blocks * (h + h + (h + h)) = omega arith in
-    fours ∙ ap (λ v. c.passes.blocks * (v + v)) (sym pass.sizes.halved) ∙ pass.sizes.first.whole ∙ sym same
+    (omega arith) ∙ ap (λ v. c.passes.blocks * (v + v)) (sym pass.sizes.halved) ∙ pass.sizes.first.whole
+    ∙ sym (c.passes.auto.xs ∙ c.if-stages-eq1.auto.xs)
 
 pub overflow_mul-blocks : goal.overflow_mul-blocks
 overflow_mul-blocks g c =
@@ -260,8 +239,7 @@ overflow_add-products-in-passes g c =
 
 pub reverse_places-requires-clause-whole : goal.reverse_places-requires-clause-whole
 reverse_places-requires-clause-whole g c =
-    let below : length c.args.xs.now < 2 ^ 64 = c.well_formed.1.0.0 in
-    c.passes.auto.xs ∙ c.if-stages-eq1.auto.xs ∙ suited_length c.requires.suits below
+    c.passes.auto.xs ∙ c.if-stages-eq1.auto.xs ∙ suited_length c.requires.suits c.well_formed.1.0.0
 
 pub offset_bounds-roots-i : goal.offset_bounds-roots-i
 offset_bounds-roots-i g c =

@@ -1,4 +1,4 @@
-use Rattle.std.proofs.Common.{◌≡◌, ◌+◌, ◌-◌, ◌^◌, ◌<◌, sym, ◌∙◌, arith, subst}
+use Rattle.std.proofs.Common.{◌-◌, ◌^◌, sym, ◌∙◌, arith, subst}
 use Rattle.std.proofs.lemmas.Bool.{false≢true}
 use Rattle.modular_word.specs.Congruence.{Congruent}
 use Rattle.modular_word.proofs.Congruence.{mod_of_eq}
@@ -17,11 +17,10 @@ pub squares-preserved : goal.squares-preserved
 squares-preserved g c =
     let m = g.R.Reducer.modulus c.args.r.now in
     let root = g.R.Reducer.value m (g.T.RingWord.number c.args.g.now) in
-    let e : c.squares._done - 1 + 1 ≡ c.squares._done + 1 - 1 = omega arith in
     record {
       form = c.sqr-power.ensures.checked;
       power = subst (λ k. Congruent m (g.R.Reducer.value m (g.T.RingWord.number c.sqr-power.result))
-          (root ^ (2 ^ k))) e (root_more root (c.squares._done - 1) _ _ c.squares.invariant.power
+          (root ^ (2 ^ k))) (omega arith) (root_more root (c.squares._done - 1) _ _ c.squares.invariant.power
           ((g.met.R.Reducer.canonical c.args.r.now).one_value _ _ c.sqr-power.ensures.form));
     }
 
@@ -29,9 +28,8 @@ pub returns : goal.returns
 returns g c =
     let canonical = g.met.R.Reducer.canonical c.args.r.now in
     let n = c.args.n in
-    let below : n < 2 ^ 64 = omega arith in
     let whole = power_by_zeros _ ((power_of_two_tested n).0 (sym c.is_power_of_two.ensures
-    ∙ c.if-not-is_power_of_two.false)) below in
+    ∙ c.if-not-is_power_of_two.false)) (omega arith) in
     let some = exponent_above_zero _ _ whole (omega arith) in
     let tested = suits_tested _ _ _ _ _ _ _ _ whole some (omega (arith, some)) c.squares.invariant.power c.one.ensures
     (canonical.one_value _ _ c.transform-one.ensures.form) (canonical.one_value _ _ c.add.ensures.form) in

@@ -1,4 +1,4 @@
-use Rattle.std.proofs.Common.{◌+◌, ◌*◌, ◌<◌, length, arith}
+use Rattle.std.proofs.Common.{◌+◌, ◌*◌, arith}
 use Rattle.modular_transform.proofs.FourValues.{four_checked, four_written}
 use Rattle.modular_transform.proofs.two_stages.four.Goals as goal
 
@@ -11,14 +11,11 @@ returns-clause-checked g c =
 
 pub returns-clause-done : goal.returns-clause-done
 returns-clause-done g c =
-    let place = c.args.block * (4 * c.args.step) + c.args.index in
-    let some : 0 < c.args.step = omega (arith, c.requires.within) in
-    let within : place + 3 * c.args.step < length c.args.forms.now = omega (arith, c.requires.within) in
     four_written _ _ _ _ _ _ _ _ _ _ _ c.index-forms-place.result c.index-forms-second_place.result
     c.index-forms-third_place.result c.index-forms-fourth_place.result c.add-left.result c.add-right.result
     c.mul_difference-left_turned.result c.mul_difference-right_turned.result c.add.result c.mul_difference.result
-    c.add-2.result c.mul_difference-2.result (g.met.R.Reducer.canonical c.args.r.now) c.requires.checked some within
-    c.index-forms-place.is c.index-forms-second_place.is c.index-forms-third_place.is c.index-forms-fourth_place.is
-    c.add-left.ensures.form c.add-right.ensures.form c.mul_difference-left_turned.ensures.form
-    c.mul_difference-right_turned.ensures.form c.add.ensures.form c.mul_difference.ensures.form c.add-2.ensures.form
-    c.mul_difference-2.ensures.form
+    c.add-2.result c.mul_difference-2.result (g.met.R.Reducer.canonical c.args.r.now) c.requires.checked
+    (omega (arith, c.requires.within)) (omega (arith, c.requires.within)) c.index-forms-place.is
+    c.index-forms-second_place.is c.index-forms-third_place.is c.index-forms-fourth_place.is c.add-left.ensures.form
+    c.add-right.ensures.form c.mul_difference-left_turned.ensures.form c.mul_difference-right_turned.ensures.form
+    c.add.ensures.form c.mul_difference.ensures.form c.add-2.ensures.form c.mul_difference-2.ensures.form

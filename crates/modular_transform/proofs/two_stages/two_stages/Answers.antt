@@ -55,32 +55,28 @@ four-requires-clause-powers g c =
     (omega (arith, c.columns-test.true, le_antisymm c.fill.auto.i-end c.fill-test.false))).powers
 
 pub overflow_add-products-in-columns : goal.overflow_add-products-in-columns
-overflow_add-products-in-columns g c =
-    fours_count_fits c.strips.start c.columns.invariant.count c.columns-test.true c.each_block-test.true
-    (width_fits c.min-width.ensures c.strips.invariant.within) c.requires.whole c.well_formed.1.0.0
+overflow_add-products-in-columns g c = search (arith, fours_count_fits, width_fits)
 
 pub columns-preserved : goal.columns-preserved
 columns-preserved g c =
     let m = g.R.Reducer.modulus c.args.r.now in
     let number = g.T.RingWord.number in
     let value = g.R.Reducer.value in
-    let w = value m (number c.args.root.now) in
-    let v = value m (number c.args.square.now) in
     let h = c.args.step in
     let p = c.each_block.block in
     let start = c.strips.start in
     let k = c.columns.k in
     let i = start + k in
     let of = entry number value m in
-    let x = of c.each_block.forms in
     let y = of c.columns.forms in
     let z = of c.four.new.forms in
     let is = c.fill.invariant.filled k c.index-firsts-k.result c.index-seconds-k.result c.index-boths-k.result
     (omega (arith, le_antisymm c.fill.auto.i-end c.fill-test.false)) in
-    let one : FoursDone m w v h p (p + 1) i (i + 1) y z =
+    let one : FoursDone m (value m (number c.args.root.now)) (value m (number c.args.square.now)) h p (p + 1) i
+    (i + 1) y z =
     one_done h p i y z (omega arith) (done_by is.first is.second is.both c.four.ensures.done) in
-    let joined = columns_joined {h = h} {c = start} {d = i} {e = i + 1} x y z (le-add_right start k) (omega arith)
-    (omega arith) c.columns.invariant.done one in
+    let joined = columns_joined {h = h} {c = start} {d = i} {e = i + 1} (of c.each_block.forms) y z
+    (le-add_right start k) (omega arith) (omega arith) c.columns.invariant.done one in
     grind (arith, c.four.ensures.checked, add_assoc start k 1, c.columns.invariant.count)
 
 pub each_block-preserved : goal.each_block-preserved
@@ -88,31 +84,27 @@ each_block-preserved g c =
     let m = g.R.Reducer.modulus c.args.r.now in
     let number = g.T.RingWord.number in
     let value = g.R.Reducer.value in
-    let w = value m (number c.args.root.now) in
-    let v = value m (number c.args.square.now) in
     let h = c.args.step in
     let p = c.each_block.block in
     let start = c.strips.start in
     let width = c.min-width.result in
-    let least = c.min-width.ensures in
     let of = entry number value m in
-    let x = of c.strips.forms in
     let y = of c.each_block.forms in
     let z = of c.columns.forms in
     let all : c.columns.k ≡ width = le_antisymm c.columns.auto.k-end c.columns-test.false in
-    let here = subst (λ k. FoursDone m w v h p (p + 1) start (start + k) y z)
-    all c.columns.invariant.done in
+    let here = subst (λ k. FoursDone m (value m (number c.args.root.now)) (value m (number c.args.square.now)) h p
+    (p + 1) start (start + k) y z) all c.columns.invariant.done in
     record {
       checked = c.columns.invariant.checked;
-      done = blocks_joined {h = h} {a = 0} {b = p} {d = start + width} {e = p + 1} x y z (omega arith) (omega arith)
-          (width_fits least c.strips.invariant.within) c.each_block.invariant.done here;
+      done = blocks_joined {h = h} {a = 0} {b = p} {d = start + width} {e = p + 1} (of c.strips.forms) y z
+          (omega arith) (omega arith) (width_fits c.min-width.ensures c.strips.invariant.within)
+          c.each_block.invariant.done here;
       count = fours_done (start * (4 * c.args.blocks + 3) + 3 * width) p c.columns.invariant.count all;
     }
 
 pub strips-preserved : goal.strips-preserved
 strips-preserved g c =
     let m = g.R.Reducer.modulus c.args.r.now in
-    let form = g.R.Reducer.form in
     let number = g.T.RingWord.number in
     let value = g.R.Reducer.value in
     let w = value m (number c.args.root.now) in
@@ -121,22 +113,18 @@ strips-preserved g c =
     let start = c.strips.start in
     let width = c.min-width.result in
     let of = entry number value m in
-    let x = of c.args.forms.now in
     let y = of c.strips.forms in
     let z = of c.each_block.forms in
     let before = c.strips.invariant in
-    let all : c.fill.i ≡ width = le_antisymm c.fill.auto.i-end c.fill-test.false in
     let blocks : c.each_block.block ≡ c.args.blocks = le_antisymm c.each_block.auto.block-end c.each_block-test.false in
-    let strip = subst (λ b. FoursDone m w v h 0 b start (start + width) y z)
-    blocks c.each_block.invariant.done in
+    let strip = subst (λ b. FoursDone m w v h 0 b start (start + width) y z) blocks c.each_block.invariant.done in
     let within = width_fits c.min-width.ensures before.within in
     record {
       checked = c.each_block.invariant.checked;
-      column = subst (λ i. IsColumn form value m w v h (start + i) (number c.fill.column.first)
-          (number c.fill.column.second) (number c.fill.column.both)) all c.fill.invariant.column;
+      column = grind (arith, c.fill.invariant.column);
       within = within;
-      done = columns_joined {h = h} {c = 0} {d = start} {e = start + width} x y z (omega arith) (le-add_right start width)
-          within before.done strip;
+      done = columns_joined {h = h} {c = 0} {d = start} {e = start + width} (of c.args.forms.now) y z (omega arith)
+          (le-add_right start width) within before.done strip;
       count = strip_counted start width c.each_block.invariant.count blocks;
     }
 
@@ -145,11 +133,7 @@ returns-clause-stages g c =
     let m = g.R.Reducer.modulus c.args.r.now in
     let number = g.T.RingWord.number in
     let value = g.R.Reducer.value in
-    let w = value m (number c.args.root.now) in
-    let v = value m (number c.args.square.now) in
-    let h = c.args.step in
-    let x = entry number value m c.args.forms.now in
-    let y = entry number value m c.strips.forms in
-    let e = le_antisymm c.strips.invariant.within c.strips-test.false in
     two_stages_done _ _ _ _ _ _ _ _ c.requires.whole (λ k l. values_below _ _ _ _ _ _ c.requires.checked l)
-    (subst (λ d. FoursDone m w v h 0 c.args.blocks 0 d x y) e c.strips.invariant.done)
+    (subst (λ d. FoursDone m (value m (number c.args.root.now)) (value m (number c.args.square.now)) c.args.step 0
+    c.args.blocks 0 d (entry number value m c.args.forms.now) (entry number value m c.strips.forms))
+    (le_antisymm c.strips.invariant.within c.strips-test.false) c.strips.invariant.done)
