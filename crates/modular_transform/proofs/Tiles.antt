@@ -20,15 +20,6 @@ number_of step k = (k % step) / 8 * 64 + k / step * 8 + (k % step) % 8
 abbrev pub tiles_reversed : ℕ → ℕ → ℕ
 tiles_reversed b t = bits_reversed b (t / 64) * 64 + bits_reversed 3 (t % 8) * 8 + bits_reversed 3 (t / 8 % 8)
 
--- the parts of a number
-record Parts (t tile row column : ℕ) : Type 0 where
-  pub tile_is : t / 64 ≡ tile
-  pub row_is : t / 8 % 8 ≡ row
-  pub column_is : t % 8 ≡ column
-
-parts : (tile row column : ℕ) → row < 8 → column < 8 → Parts (tile * 64 + row * 8 + column) tile row column
-parts tile row column r c = record { tile_is = omega arith; row_is = omega arith; column_is = omega arith }
-
 pub place_of_parts : (step tile row column : ℕ) → row < 8 → column < 8
     → place_of step (tile * 64 + row * 8 + column) ≡ row * step + tile * 8 + column
 place_of_parts step tile row column r c = grind arith

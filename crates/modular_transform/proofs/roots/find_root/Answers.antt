@@ -7,9 +7,9 @@ pub bases-init : goal.bases-init
 bases-init g c = grind (arith, c.transform-one.ensures.checked, c.transform-one.ensures.value, c.one.ensures)
 
 -- the root by x, the number that is tried
-tried : (m x e one base power v k : ℕ) → 2 ≤ x → base ≡ (x - 1) % m → one ≡ 1 % m → v ≡ (base + one) % m → k ≡ e
+power_of_tried_base : (m x e one base power v k : ℕ) → 2 ≤ x → base ≡ (x - 1) % m → one ≡ 1 % m → v ≡ (base + one) % m → k ≡ e
     → power ≡ v ^ k % m → power ≡ x ^ e % m
-tried m x e one base power v k from is is_one sum exponent is_power =
+power_of_tried_base m x e one base power v k from is is_one sum exponent is_power =
     search (arith, power_of_rest, remainder_of_successor)
 
 pub returns-then-root_fits : goal.returns-then-root_fits
@@ -19,7 +19,7 @@ returns-then-root_fits g c =
     let n = c.args.n in
     let from : 2 ≤ x = omega arith in
     let is_one = c.transform-one.ensures.value ∙ ap (λ v. v % m) c.one.ensures in
-    let root = tried _ _ _ _ _ _ _ _ from c.bases.invariant.base is_one c.add-base.ensures.value
+    let root = power_of_tried_base _ _ _ _ _ _ _ _ from c.bases.invariant.base is_one c.add-base.ensures.value
     c.exponent-exponent.ensures c.pow-g.ensures.value in
     let suits = c.root_fits.ensures.0 c.if-root_fits.true in
     grind (arith, c.pow-g.ensures.checked, c.bases.invariant.tried)
@@ -32,6 +32,6 @@ bases-preserved g c =
     let from : 2 ≤ x = omega arith in
     let is_one = c.transform-one.ensures.value ∙ ap (λ v. v % m) c.one.ensures in
     let same : x - 1 + 1 ≡ x + 1 - 1 = omega (arith, from) in
-    let root = tried m x ((m - 1) / n) _ _ _ _ _ from c.bases.invariant.base is_one c.add-base.ensures.value
+    let root = power_of_tried_base m x ((m - 1) / n) _ _ _ _ _ from c.bases.invariant.base is_one c.add-base.ensures.value
     c.exponent-exponent.ensures c.pow-g.ensures.value in
     grind (arith, c.add-base.ensures.checked, c.add-base.ensures.value, remainder_of_successor, cases_eq, false≢true)
