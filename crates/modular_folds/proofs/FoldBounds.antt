@@ -72,16 +72,16 @@ two_up_to p c v mask most {first} {second} {most_of_one} {most_of_two} ones boun
     rw (two, is_two) (up_to p c first mask most_of_one ones once)
 
 -- by at most a fourth of b, the bound falls while it is at least twice b - c
-falls : (b c m q r s : ℕ) → q * b + r ≡ s → r < b → m + c ≡ b → 4 * c ≤ b → 2 * m ≤ s → q * c + b ≤ s
-falls b c m zero r s is low whole small high = absurd (omega arith)
-falls b c m (suc zero) r s is low whole small high = omega arith
-falls b c m (suc (suc k)) r s is low whole small high = omega (arith, mul-le-mul_left k (let e : c ≤ b = omega arith in e))
+folded_bound_below : (b c m q r s : ℕ) → q * b + r ≡ s → r < b → m + c ≡ b → 4 * c ≤ b → 2 * m ≤ s → q * c + b ≤ s
+folded_bound_below b c m zero r s is low whole small high = absurd (omega arith)
+folded_bound_below b c m (suc zero) r s is low whole small high = omega arith
+folded_bound_below b c m (suc (suc k)) r s is low whole small high = omega (arith, mul-le-mul_left k (let e : c ≤ b = omega arith in e))
 
 pub bound_falls : (p c m mask most : ℕ) → mask + 1 ≡ 2 ^ p → m + c ≡ 2 ^ p → 4 * c ≤ 2 ^ p → 2 * m ≤ most
     → most / 2 ^ p * c + mask < most
 bound_falls p c m mask most ones whole small high =
     let less =
-    falls _ _ _ _ _ _ (shr_split most p) (mod-lt most (pow_pos p)) whole small high in
+    folded_bound_below _ _ _ _ _ _ (shr_split most p) (mod-lt most (pow_pos p)) whole small high in
     omega (arith, less)
 
 -- a factor of two bits less than p is at most a fourth of 2^p

@@ -41,20 +41,20 @@ folds-next p c v b h =
 
 -- ---- the bounds
 -- one fold more
-after : (p c v n : ℕ) → c < 2 ^ p → folds p c (fold_of p c v) ≤ n → folds p c v ≤ suc n
-after p c v n b few = grind (arith, folds-none, folds-next)
+folds-at_most_suc : (p c v n : ℕ) → c < 2 ^ p → folds p c (fold_of p c v) ≤ n → folds p c v ≤ suc n
+folds-at_most_suc p c v n b few = grind (arith, folds-none, folds-next)
 
 -- by 1, two folds do for a product of two numbers below 2^p
 few_by_one : (p v : ℕ) → 1 < 2 ^ p → v / 2 ^ p < 2 ^ p → folds p 1 v ≤ 2
 few_by_one p v b product =
     let none = folds-none p 1 (fold_of p 1 (fold_of p 1 v)) (two_low p v product) in
-    after p 1 v 1 b (after p 1 (fold_of p 1 v) 0 b (omega (arith, none)))
+    folds-at_most_suc p 1 v 1 b (folds-at_most_suc p 1 (fold_of p 1 v) 0 b (omega (arith, none)))
 
 -- by a small number, three
 few_by_small : (p c v : ℕ) → c < 2 ^ p → c * c + c ≤ 2 ^ p → v / 2 ^ p < 2 ^ p → folds p c v ≤ 3
 few_by_small p c v b small product =
     let none = folds-none _ c _ (three_low _ _ _ small product) in
-    after _ _ _ 2 b (after _ _ _ 1 b (after _ _ _ 0 b (omega (arith, none))))
+    folds-at_most_suc _ _ _ 2 b (folds-at_most_suc _ _ _ 1 b (folds-at_most_suc _ _ _ 0 b (omega (arith, none))))
 
 -- two below twice 2^p, and one more for each doubling
 few_from : (p c j v : ℕ) → 2 * c < 2 ^ p → v < 2 ^ p + 2 ^ j * 2 ^ p → folds p c v ≤ j + 2
@@ -62,13 +62,13 @@ few_from p c zero v b l =
     let high : v / 2 ^ p < 2 = (div-lt_iff_lt-mul {x = v} {y = 2} (pow_pos p)).1 (omega arith) in
     let low = last_fold p c (fold_of p c v) (omega (arith, next_fold p c 1 v (omega arith))) in
     let none = folds-none p c (fold_of p c (fold_of p c v)) low in
-    after p c v 1 (omega arith) (after p c (fold_of p c v) 0 (omega arith) (omega (arith, none)))
+    folds-at_most_suc p c v 1 (omega arith) (folds-at_most_suc p c (fold_of p c v) 0 (omega arith) (omega (arith, none)))
 few_from p c (suc j) v b l =
     ⊎_elim (λ (low : v < 2 ^ p). omega (arith, folds-none _ c _ low)) (λ (high : 2 ^ p ≤ v).
     let double : 2 ^ suc j * 2 ^ p ≡ 2 * (2 ^ j * 2 ^ p) = ap (λ a. a * 2 ^ p) (pow-suc 2 j) ∙ omega arith in
     let half = fold_halves _ c _ (omega arith) high in
     let rest = few_from _ _ j (fold_of p c v) b (omega (arith, half, double)) in
-    let more = after _ _ _ _ (omega arith) rest in
+    let more = folds-at_most_suc _ _ _ _ (omega arith) rest in
     omega (arith, more)) (cases_lt v (2 ^ p))
 
 pub few_in : (p c v w : ℕ) → 2 * c < 2 ^ p → p ≤ w → v < 2 ^ w → folds p c v ≤ w - p + 2

@@ -21,9 +21,9 @@ pub power_whole : (w p base : ℕ) → p ≤ w → base ≡ 2 ^ w → 2 ^ p * 2 
 power_whole w p base fits is = grind (arith, pow-add)
 
 -- the parts at the bit p of k, which is n, the lower one taken back from the top of a word of w bits
-parts : (w p n k : ℕ) {low high : ℕ} → k ≡ n → low ≡ k % 2 ^ p * 2 ^ (w - p) → high ≡ k / 2 ^ p
+parts_from_word_top : (w p n k : ℕ) {low high : ℕ} → k ≡ n → low ≡ k % 2 ^ p * 2 ^ (w - p) → high ≡ k / 2 ^ p
     → (low / 2 ^ (w - p) ≡ n % 2 ^ p) × (high ≡ n / 2 ^ p)
-parts w p n k same low_is high_is = grind (arith, mul-div_left, pow_pos)
+parts_from_word_top w p n k same low_is high_is = grind (arith, mul-div_left, pow_pos)
 
 -- the upper part of a product of two numbers below m is below it
 pub product_high : (p m a b : ℕ) → a < m → b < m → m ≤ 2 ^ p → a * b / 2 ^ p < m
@@ -44,7 +44,7 @@ module _ (w p c m : ℕ) (is : IsFolding w p c m) where
   sum_by_one {a} {b} {none} {low} {high} {bits} {back} one left right zeros low_is high_is width shift =
       let v = a * b in
       let gone = ap (λ z. z / 2 ^ (w - p)) zeros ∙ zero-div (2 ^ (w - p)) in
-      let first = parts w p v (v + none / 2 ^ (w - p)) (omega (arith, gone)) low_is high_is in
+      let first = parts_from_word_top w p v (v + none / 2 ^ (w - p)) (omega (arith, gone)) low_is high_is in
       let back_is : back ≡ v % 2 ^ p = shift ∙ ap (λ n. low / 2 ^ (n - p)) width ∙ first.0 in
       let rest = mod-lt v (pow_pos p) in
       let sum : v / 2 ^ p * 1 + v % 2 ^ p ≡ high + back = omega (arith, first.1, back_is) in
@@ -59,11 +59,11 @@ module _ (w p c m : ℕ) (is : IsFolding w p c m) where
       {back} small left right zeros low_is high_is next_is over_is width shift =
       let v = a * b in
       let gone = ap (λ z. z / 2 ^ (w - p)) zeros ∙ zero-div (2 ^ (w - p)) in
-      let first = parts w p v (v + none / 2 ^ (w - p)) (omega (arith, gone)) low_is high_is in
+      let first = parts_from_word_top w p v (v + none / 2 ^ (w - p)) (omega (arith, gone)) low_is high_is in
       let less = product_high p m a b left right (omega (arith, is.whole)) in
       let fold = fold_of p c v in
       let folded : high * c + low / 2 ^ (w - p) ≡ fold = omega (arith, ap (λ h. h * c) first.1, first.0) in
-      let second = parts w p fold (high * c + low / 2 ^ (w - p)) folded next_is over_is in
+      let second = parts_from_word_top w p fold (high * c + low / 2 ^ (w - p)) folded next_is over_is in
       let back_is : back ≡ fold % 2 ^ p = shift ∙ ap (λ n. next / 2 ^ (n - p)) width ∙ second.0 in
       let rest = mod-lt fold (pow_pos p) in
       let most : fold / 2 ^ p ≤ c = first_fold p c v (omega (arith, less, is.whole)) in

@@ -6,8 +6,8 @@ use Rattle.modular_folds.proofs.WordTests.{not_below}
 use Rattle.modular_folds.proofs.folds.fold_all.Goals as goal
 
 -- a word above the mask has more than p bits
-inside : {w p mask v : ℕ} → mask + 1 ≡ 2 ^ p → mask < v → v < 2 ^ w → p < w
-inside {w} {p} {mask} {v} is above fits = bit_inside w p v (omega (arith, is, above)) fits
+bit_below_width : {w p mask v : ℕ} → mask + 1 ≡ 2 ^ p → mask < v → v < 2 ^ w → p < w
+bit_below_width {w} {p} {mask} {v} is above fits = bit_inside w p v (omega (arith, is, above)) fits
 
 pub plus-mask-requires : goal.plus-mask-requires
 plus-mask-requires g c = omega (arith, power_fits c.requires)
@@ -19,7 +19,7 @@ pub fold_on-requires : goal.fold_on-requires
 fold_on-requires g c = search (arith, ones)
 
 pub fold_two-requires : goal.fold_two-requires
-fold_two-requires g c = search (arith, ones, some_bits, inside, not_below)
+fold_two-requires g c = search (arith, ones, some_bits, bit_below_width, not_below)
 
 pub fold_three-requires : goal.fold_three-requires
 fold_three-requires g c =
@@ -27,7 +27,7 @@ fold_three-requires g c =
     let less = low_only _ _ (sym c.shift_right-2.ensures.value
     ∙ c.is_zero_word.ensures.zero.0 c.if-is_zero_word.true) in
     record {
-      inside = inside mask (c.is_below.ensures.below.0 c.if-not-is_below.false) c.is_below.ensures.other_fits;
+      inside = bit_below_width mask (c.is_below.ensures.below.0 c.if-not-is_below.false) c.is_below.ensures.other_fits;
       mask = mask;
       small = omega (arith, small_square _ _ less);
       product = omega (arith, mask, not_below c.is_below-2.ensures.below c.if-is_below.false, c.shift_right.ensures.value);
