@@ -75,7 +75,8 @@ two_up_to p c v mask most {first} {second} {most_of_one} {most_of_two} ones boun
 folded_bound_below : (b c m q r s : ℕ) → q * b + r ≡ s → r < b → m + c ≡ b → 4 * c ≤ b → 2 * m ≤ s → q * c + b ≤ s
 folded_bound_below b c m zero r s is low whole small high = absurd (omega arith)
 folded_bound_below b c m (suc zero) r s is low whole small high = omega arith
-folded_bound_below b c m (suc (suc k)) r s is low whole small high = omega (arith, mul-le-mul_left k (let e : c ≤ b = omega arith in e))
+folded_bound_below b c m (suc (suc k)) r s is low whole small high =
+    omega (arith, mul-le-mul_left k (let e : c ≤ b = omega arith in e))
 
 pub bound_falls : (p c m mask most : ℕ) → mask + 1 ≡ 2 ^ p → m + c ≡ 2 ^ p → 4 * c ≤ 2 ^ p → 2 * m ≤ most
     → most / 2 ^ p * c + mask < most
