@@ -20,10 +20,7 @@ joined_horner_step a b d p q x s t e f g = let h = ap (λ k. a * k) f in omega (
 pub polynomial_joined : Horner → (n k : ℕ) (c : ℕ → ℕ) (x : ℕ) → polynomial_highest_first (n + k) c x
     ≡ polynomial_highest_first n c x * x ^ k + polynomial_highest_first k (λ i. c (n + i)) x
 unfolding sum_below
-polynomial_joined horner n zero c x =
-    let one = ap (λ p. polynomial_highest_first n c x * p) (pow-zero x) in
-    let whole = ap (λ k. polynomial_highest_first k c x) (let e : n + 0 ≡ n = omega arith in e) in
-    omega (arith, one, whole)
+polynomial_joined horner n zero c x = grind (arith, pow-zero)
 polynomial_joined horner n (suc k) c x =
     let before = polynomial_joined horner n k c x in
     let one_more = ap (λ k. polynomial_highest_first k c x) (let e : n + suc k ≡ n + k + 1 = omega arith in e) in
@@ -46,7 +43,8 @@ pub polynomial_behind_zeros : Horner → (d : ℕ) (cs : List ℕ) (x : ℕ)
     ≡ polynomial_highest_first (length cs) (slice_index cs) x
 polynomial_behind_zeros horner d cs x =
     let zeros : List ℕ = replicate d 0 in
-    let n = length zeros in let k = length cs in
+    let n = length zeros in
+    let k = length cs in
     let length_is : n ≡ d = length-replicate d 0 in
     let whole : length (zeros ++ cs) ≡ d + k = length-append zeros cs ∙ ap (λ n. n + k) length_is in
     let none : polynomial_highest_first n (λ i. get_or zeros i 0) x ≡ 0 =
@@ -56,10 +54,7 @@ polynomial_behind_zeros horner d cs x =
     let z = ap (λ v. v * x ^ (n - 1 - i)) (get_or-replicate d i 0 0 (omega (arith, l, length_is))) in
     omega (arith, z))
     ∙ sum_below-zero (λ i. get_or zeros i 0 * x ^ (n - 1 - i)) in
-    ap (λ l. polynomial_highest_first l (λ i. get_or (zeros ++ cs) i 0) x) (sym whole)
-    ∙ polynomial_of_joined horner zeros cs x
-    ∙ ap (λ v. v * x ^ k + polynomial_highest_first k (λ i. get_or cs i 0) x) none
-    ∙ (let v : ℕ = polynomial_highest_first k (λ i. get_or cs i 0) x in let e : 0 * x ^ k + v ≡ v = omega arith in e)
+    grind (arith, polynomial_of_joined)
 
 -- without a coefficient, and with one
 pub no_coefficient : (c : ℕ → ℕ) (x : ℕ) → polynomial_highest_first 0 c x ≡ 0

@@ -90,9 +90,7 @@ at_most_product : (f : ℕ → ℕ) (w n m : ℕ) → ((v : ℕ) → v < w → c
 at_most_product f zero n m each = let e = below_zero f n in omega (arith, e)
 at_most_product f (suc w) n m each =
     let before = at_most_product f w n m (λ v h. each v (omega arith)) in
-    let here = each w (omega arith) in
-    let e = below_suc f w n in
-    omega (arith, before, here, e)
+    grind (arith, below_suc)
 
 pub pigeonhole : (f : ℕ → ℕ) (w n m : ℕ) → ((i : ℕ) → i < n → f i < w) → ((v : ℕ) → v < w → count f v n ≤ m) → n ≤ w * m
 pigeonhole f w n m within each =

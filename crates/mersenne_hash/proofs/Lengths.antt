@@ -1,6 +1,6 @@
 -- Texts behind a symbol 1, with zeros in front up to one length: they tell where the text begins.
 use Rattle.std.proofs.Common.{◌≡◌, ℕ, suc, ◌+◌, ◌%◌, ◌<◌, List, ◌∷◌, ◌++◌, length, get_or, All}
-use Rattle.std.proofs.Common.{replicate, arith, ap, sym, ◌∙◌, inl, inr}
+use Rattle.std.proofs.Common.{replicate, arith, ap, sym, ◌∙◌}
 use Rattle.std.proofs.lemmas.Bool.{cases_eq, cases_lt}
 use Rattle.std.proofs.Math.ListN.{get_or-append}
 use Rattle.std.proofs.Math.Nat.{mod-eq_of_lt}
@@ -25,11 +25,7 @@ mark_not_before : (p d e : ℕ) (s t : List ℕ) → 1 < p → d + length s ≡ 
 mark_not_before p d e s t above same_length same l =
     let one : get_or (marked d s) d 0 ≡ 1 =
     ap (λ k. get_or (marked d s) k 0) (let z : d ≡ d + 0 = omega arith in z) ∙ at_mark d s 0 in
-    let none : get_or (marked e t) d 0 ≡ 0 = before_mark e t d l in
-    let e : 1 ≡ 0 =
-    sym (mod-eq_of_lt above) ∙ ap (λ v. v % p) (sym one) ∙ same d (omega arith) ∙ ap (λ v. v % p) none
-    ∙ mod-eq_of_lt (let z : 0 < p = omega (arith, above) in z) in
-    omega (arith, e)
+    grind (arith, at_mark, before_mark, mod-eq_of_lt)
 
 -- so the texts are equal
 pub same_texts : (p n d e : ℕ) (s t : List ℕ) → 1 < p → n ≡ d + suc (length s) → n ≡ e + suc (length t)
@@ -39,13 +35,7 @@ same_texts p n d e s t above s_whole t_whole s_below t_below same =
     let lengths : d + length s ≡ e + length t = omega (arith, s_whole, t_whole) in
     let not_before = mark_not_before p d e s t above lengths (λ i l. same i (omega (arith, l, s_whole))) in
     let not_behind = mark_not_before p e d t s above (sym lengths) (λ i l. sym (same i (omega (arith, l, t_whole)))) in
-    let places : d ≡ e = elim (cases_eq d e) [
-      | inl is ↦ is
-      | inr other ↦ elim (cases_lt d e) [
-        | inl l ↦ absurd (not_before l)
-        | inr l ↦ absurd (not_behind (omega (arith, l, other)))
-      ]
-    ] in
+    let places : d ≡ e = grind (arith, cases_eq, cases_lt) in
     let counts : length s ≡ length t = omega (arith, lengths, places) in
     ext_get_or 0 s t counts
     (λ i l.

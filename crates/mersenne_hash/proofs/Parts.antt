@@ -35,16 +35,13 @@ part_is horner p from to text x whole start power product value ordered within w
     let b : ℕ = polynomial_highest_first k (λ i. c (from + i)) x in
     let split : polynomial_highest_first to c x ≡ a * x ^ k + b =
     ap (λ n. polynomial_highest_first n c x) (let e : to ≡ from + k = omega (arith, ordered) in e)
-    ∙ polynomial_joined horner from k c x in
+    ∙ polynomial_joined horner _ _ _ _ in
     let product_of : Congruent p product (a * x ^ k) =
-    mod_trans (mod_trans (mod_of_eq product_is) (residue_of (start * power)))
-    (mod_mul (mod_trans (mod_of_eq start_is) (residue_of a)) (mod_trans (mod_of_eq power_is) (residue_of (x ^ k)))) in
+    mod_trans (mod_trans (mod_of_eq product_is) (residue_of _))
+    (mod_mul (mod_trans (mod_of_eq start_is) (residue_of _)) (mod_trans (mod_of_eq power_is) (residue_of _))) in
     let sum_of : Congruent p (value + product) whole = record { same = sum } in
-    let whole_of : Congruent p whole (b + a * x ^ k) =
-    mod_trans (mod_trans (mod_of_eq whole_is) (residue_of (polynomial_highest_first to c x)))
-    (mod_of_eq (let e : polynomial_highest_first to c x ≡ b + a * x ^ k = omega (arith, split) in e)) in
+    let whole_of : Congruent p whole (b + a * x ^ k) = grind (arith, mod_trans, mod_of_eq, residue_of) in
     let value_of : Congruent p value b =
-    mod_add_cancel (a * x ^ k)
-    (mod_trans (mod_add (mod_refl value) (mod_sym product_of)) (mod_trans sum_of whole_of)) in
-    sym (mod-eq_of_lt below) ∙ value_of.same
-    ∙ ap (λ v. v % p) (sym (part_polynomial from to text x ordered within))
+    mod_add_cancel _
+    (mod_trans (mod_add (mod_refl _) (mod_sym product_of)) (mod_trans sum_of whole_of)) in
+    sym (mod-eq_of_lt below) ∙ value_of.same ∙ ap (λ v. v % p) (sym (part_polynomial _ _ _ _ ordered within))

@@ -1,5 +1,5 @@
 -- Patterns of one length that stand one after the other.
-use Rattle.std.proofs.Common.{◌≡◌, ℕ, ◌+◌, ◌*◌, ◌<◌, ◌≤◌, List, length, arith, sym, subst, Option, Some, None, MatchOption}
+use Rattle.std.proofs.Common.{◌≡◌, ℕ, ◌+◌, ◌*◌, ◌<◌, ◌≤◌, List, length, arith, Option, MatchOption}
 use Rattle.std.specs.Option.{unwrap_or}
 use Rattle.std.proofs.Math.Nat.{mul-le-mul_left}
 use Rattle.mersenne_hash.specs.Patterns.{pattern_of}
@@ -18,5 +18,4 @@ pattern_length symbols n count k whole l = part_length symbols n (k * n) (patter
 -- the number that was found, or the count
 pub number_or_count : (found : Option ℕ) (n : ℕ) (Q P : ℕ → Type 0) (r : ℕ) → MatchOption found (P n) (λ k. Q k × P k)
     → r ≡ unwrap_or found n → P r
-number_or_count None n Q P r h e = subst P (sym e) h
-number_or_count (Some k) n Q P r h e = subst P (sym e) h.1
+number_or_count found n Q P r h e = grind arith

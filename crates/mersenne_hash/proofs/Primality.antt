@@ -68,9 +68,7 @@ product_divided : (d q : ℕ) → (d * q) % q ≡ 0
 product_divided d q = mod-eq-zero_of_dvd q (dvd-mul_left q d)
 
 greater_one : (n d q : ℕ) → d < n → d * q ≡ n → 1 < n → 1 < q
-greater_one n d zero l whole h = absurd (omega (arith, l, whole, h))
-greater_one n d (suc zero) l whole h = absurd (omega (arith, l, whole, h))
-greater_one n d (suc (suc q)) l whole h = omega arith
+greater_one n d q l whole h = grind arith
 
 -- a number without a prime divisor below k, whose square is above it
 pub no_small : (n k : ℕ) → 1 < n → n < k * k
