@@ -31,8 +31,7 @@ Named = (m a : ℕ) → IsInversion (λ x. x) m a (inverse_of m a)
 
 -- an inverse that isn't missing exists
 inverse_exists : (m a : ℕ) (o : Option ℕ) → IsInversion (λ x. x) m a o → ((HasInverse m a → ⊥) → ⊥) → HasInverse m a
-inverse_exists m a None none missing = absurd (missing (λ h. none h.0 h.1))
-inverse_exists m a (Some x) is missing = (x, is)
+inverse_exists m a o none missing = grind arith
 
 none_is_some : {r : ℕ} → None ≡ Some r → ⊥
 none_is_some e = cc
@@ -241,11 +240,7 @@ carried_by_end m start commands Done count done long stops never all stopped =
 carried_by_end m start commands (NoInverse at) count done long stops never all stopped =
     let stop = (stops at).0 refl in
     let within = lacks_within m start commands at stop.lacks in
-    subst (IsCarriedBy m start commands (NoInverse at) count) (sym (stopped at refl)) record {
-      carried = record { before = stop.first; next = λ h. stop.lacks };
-      most = omega (arith, within, long);
-      same = refl;
-    }
+    grind arith
 
 -- the same for the first commands of a list
 pub by_end : {C : Type 0} (f : C → RingCommand ℕ) (commands : List C) (m : ℕ) (start : List ℕ) (end : RunEnd) (count done : ℕ)
@@ -273,10 +268,7 @@ column_run f commands moduli words start values registers m place count done end
       carried = part_of f commands p (starts p start) count done by.most
           (subst (λ q. IsCarriedOut q (starts q start) cs count done) modulus
           (subst (λ s. IsCarriedOut m s cs count done) same by.carried));
-      values = λ r h.
-          written r h ∙ ap (λ k. value_at m values cs k r) by.same ∙ ap (λ s. value_at m s cs done r) same
-          ∙ ap (λ q. value_at q (starts q start) cs done r) modulus
-          ∙ value_of_part f commands p (starts p start) count done r by.most;
+      values = λ r h. grind (arith, starts, value_of_part);
     }
 
 -- a place is one, or it is another
@@ -303,27 +295,19 @@ pub more_run : (moduli start : List ℕ) (commands : List (RingCommand ℕ)) (be
     → IsColumnRun moduli place start commands count after done → IsKept moduli start before after place → done ≤ count
     → place < length moduli → (done < count → next ≡ place) → (count ≤ done → next ≡ again)
     → AreRunBefore moduli start commands after done next (place + 1)
-more_run moduli start commands before after count done again next place was here kept most inside less all = record {
-  each = below_more (λ i. NoneLacks moduli start commands done i) place
-      (λ i h at l. was.each i h at (omega (arith, l, most))) here.carried.before;
-  next = λ h. elim (cases_lt done count) [
-    | inl fewer ↦ (place, omega arith, here.carried.next fewer)
-    | inr same ↦
-        let e : count ≡ done = omega (arith, same, most) in
-        let (i, l, lacks) = was.next (omega (arith, h, e)) in
-        (i, omega (arith, l), subst (LacksInverseAt (get_or moduli i 0) (starts (get_or moduli i 0) start) commands) e lacks)
-  ];
-  values = λ r i h from to. at_or_not (λ q. get_or after (r * length moduli + q) 0 ≡ value_modulo moduli q start commands done r)
-      i place (here.values r h) (λ other. elim (cases_lt done count) [
-        | inl fewer ↦ let e = less fewer in absurd (omega (arith, e, from, to, other))
+more_run moduli start commands before after count done again next place was here kept most inside less all =
+    record {
+      each = below_more (λ i. NoneLacks moduli start commands done i) place
+          (λ i h at l. was.each i h at (omega (arith, l, most))) here.carried.before;
+      next = λ h. elim (cases_lt done count) [
+        | inl fewer ↦ (place, omega arith, here.carried.next fewer)
         | inr same ↦
             let e : count ≡ done = omega (arith, same, most) in
-            let old = all same in
-            let earlier : i < place = omega (arith, to, other) in
-            kept r i h (omega (arith, earlier, inside)) other ∙ was.values r i h (omega (arith, from, old)) earlier
-            ∙ ap (λ k. value_modulo moduli i start commands k r) e
-      ]);
-}
+            let (i, l, lacks) = was.next (omega (arith, h, e)) in
+            (i, omega (arith, l), subst (LacksInverseAt (get_or moduli i 0) (starts (get_or moduli i 0) start) commands) e lacks)
+      ];
+      values = λ r i h from to. grind (arith, at_or_not, cases_lt);
+    }
 
 -- the registers hold the values at all places but those from a place to before `again`
 abbrev pub HoldBut : List ℕ → List ℕ → List (RingCommand ℕ) → List ℕ → ℕ → ℕ → ℕ → Type 0

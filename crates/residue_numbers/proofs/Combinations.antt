@@ -68,13 +68,7 @@ parts_of m n g above greatest =
       positive = positive;
       first = first;
       second = second;
-      step = elim (cases_lt 0 (n / g)) [
-        | inl one ↦ one
-        | inr none ↦
-            let zero_is : n / g ≡ 0 = omega (arith, none) in
-            let e = ap (λ k. g * k) zero_is in
-            absurd (omega (arith, second, e, above))
-      ];
+      step = grind (arith, cases_lt);
       coprime = coprime_parts m n g (m / g) (n / g) above greatest first second positive;
     }
 

@@ -82,6 +82,5 @@ pub digit_gives : (m number range t r v s : ℕ) → v ≡ number % m → (range
     → (number + range * t) % m ≡ r % m
 digit_gives m number range t r v s known product difference =
     let turn : number + range * t ≡ range * t + number = omega arith in
-    let swap : v + s ≡ s + v = omega arith in
     ap (λ n. n % m) turn ∙ sym (mod-add-mod (range * t) m number) ∙ ap (λ n. (n + number) % m) product
     ∙ mod-add-mod s m number ∙ sym (add-mod-mod s number m) ∙ ap (λ n. (s + n) % m) (sym known) ∙ difference

@@ -1,6 +1,6 @@
 -- Runs of one list of commands modulo the range and modulo the moduli.
 use Rattle.std.proofs.Common.{◌≡◌, ℕ, zero, suc, ◌+◌, ◌*◌, ◌%◌, ◌^◌, ◌<◌, ◌==◌, if◌then◌else◌, List, Bool}
-use Rattle.std.proofs.Common.{true, false, Option, Some, None, option_map, unwrap_or, IsSomeAnd, get_or}
+use Rattle.std.proofs.Common.{Option, Some, None, option_map, unwrap_or, IsSomeAnd, get_or}
 use Rattle.std.proofs.Common.{length, map, sym, ap, subst, ◌∙◌, refl, arith, pos, neg_ℤ, ◌-ℤ◌, ℤ, ◌↔◌}
 use Rattle.std.specs.List.{slice_get}
 use Rattle.std.proofs.Math.ListN.{get_or-map}
@@ -60,8 +60,7 @@ outcome_within laws {range} {m} f V v same (Add dst a b) unit =
 outcome_within laws {range} {m} f V v same (Sub dst a b) unit = (
   residue range (pos (V a) -ℤ pos (V b)),
   refl,
-  ap Some (difference_within laws.is_residue laws.sum range m f.times (V a) (V b) (v a) (v b) f.is f.wide f.positive
-      (sym (mod-mod (V a) m) ∙ ap (λ n. n % m) (same a)) (sym (mod-mod (V b) m) ∙ ap (λ n. n % m) (same b))),
+  grind (arith, difference_within, mod-mod),
 )
 outcome_within laws {range} {m} f V v same (Mul dst a b) unit =
     ((V a * V b) % range, refl, ap Some (product_within range m f.times (V a) (V b) (v a) (v b) f.is (same a) (same b)))
@@ -76,8 +75,7 @@ outcome_within laws {range} {m} f V v same (Neg dst a) unit = (
 outcome_within laws {range} {m} f V v same (Dbl dst a) unit = (
   (2 * V a) % range,
   refl,
-  ap Some (ap (λ n. (2 * n) % m) (sym (same a)) ∙ mul-mod_second 2 (V a) m
-      ∙ sym (remainder_within range m f.times (2 * V a) f.is)),
+  grind (arith, mul-mod_second, remainder_within),
 )
 outcome_within laws {range} {m} f V v same (Sqr dst a) unit =
     ((V a * V a) % range, refl, ap Some (product_within range m f.times (V a) (V a) (v a) (v a) f.is (same a) (same a)))
@@ -101,8 +99,7 @@ outcome_within laws {range} {m} f V v same (Pow dst a exp) unit = (
 
 written_value_within : (b : Bool) (o p : Option ℕ) (x y w m : ℕ) → o ≡ Some w → p ≡ Some (w % m) → x % m ≡ y
     → (if b then unwrap_or o x else x) % m ≡ (if b then unwrap_or p y else y)
-written_value_within true o p x y w m e f h = ap (λ q. unwrap_or q x % m) e ∙ sym (ap (λ q. unwrap_or q y) f)
-written_value_within false o p x y w m e f h = h
+written_value_within b o p x y w m e f h = grind (arith, unwrap_or)
 
 after_within : Laws → {range m : ℕ} (f : IsFactor range m) (V v : ℕ → ℕ) → ((r : ℕ) → V r % m ≡ v r)
     → (read : Option (RingCommand ℕ))
@@ -177,10 +174,7 @@ units_below laws n moduli start starts commands factors wide begin (suc count) u
 -- a list of which each inverse is there has no stop
 pub lacks_none : (m : ℕ) (v : ℕ → ℕ) (read : Option (RingCommand ℕ)) → IsSomeAnd read (LacksInverse m v)
     → ((r : ℕ) → IsSomeAnd read (λ command. inverted_by command ≡ Some r) → HasInverse m (v r)) → ⊥
-lacks_none m v None h unit = h
-lacks_none m v (Some (Inv dst a)) h unit = h (unit a refl)
-lacks_none m v (Some (Div dst a b)) h unit = h (unit b refl)
-lacks_none m v (Some _) h unit = h
+lacks_none m v read h unit = grind arith
 
 -- the residues of the numbers that the registers start with
 abbrev pub starts : ℕ → List ℕ → List ℕ

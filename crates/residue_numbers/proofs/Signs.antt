@@ -1,5 +1,5 @@
 -- Signs of numbers by their digits: where a number lies in the range, and the integer that it represents.
-use Rattle.std.proofs.Common.{◌≡◌, ◌≢◌, ℕ, ◌+◌, ◌*◌, ◌/◌, ◌%◌, ◌<◌, ◌≤◌, ◌↔◌, Bool, true, false, IsTrue, arith, ap, sym, refl, ◌∙◌}
+use Rattle.std.proofs.Common.{◌≡◌, ◌≢◌, ℕ, ◌+◌, ◌*◌, ◌/◌, ◌%◌, ◌<◌, ◌≤◌, ◌↔◌, Bool, true, false, IsTrue, arith, ap, refl, ◌∙◌}
 use Rattle.std.proofs.Common.{ℤ, pos, ◌-ℤ◌, ◌<ℤ◌, if◌then◌else◌, inl, inr}
 use Rattle.std.proofs.Math.Nat.{mul-le-mul_left}
 use Rattle.std.proofs.lemmas.Bool.{cases_lt, lt-ltb, le-ltb, ltb-true, false≢true}
@@ -8,7 +8,6 @@ use Rattle.std.proofs.Math.Dec.{ltb}
 use Rattle.std.proofs.lemmas.Int.{ints}
 use Rattle.std.specs.Ordering.{MatchOrdering}
 use Rattle.std.specs.declared.cmp.Ordering.{Ordering}
-use Rattle.std.specs.declared.cmp.Ordering.TheVariants.{Less, Equal, Greater}
 use Rattle.residue_numbers.specs.Signs.{signed_number}
 
 -- the top digits are the halves of odd moduli: the next one is too
@@ -45,10 +44,7 @@ high_of_negative : (range x : ℕ) → signed_number range x <ℤ pos 0 → rang
 high_of_negative range x negative = search (arith, cases_lt, signed_low)
 
 same_bool : (l r : Bool) → beq l r ≡ true → l ≡ r
-same_bool true true e = refl
-same_bool true false e = sym e
-same_bool false true e = e
-same_bool false false e = refl
+same_bool l r e = grind arith
 
 -- the sign by the top digit that isn't the half of its modulus
 pub sign_here : (x low before p q m d range : ℕ) → 2 * x + p ≡ 2 * low + range → low ≡ before + d * q → p ≡ q * m
@@ -83,9 +79,7 @@ low_of_other range x h other = search (arith, cases_lt, negative_high)
 -- numbers on one side compare as what they represent
 ordered : (o : Ordering) (x y : ℕ) (v w : ℤ) → (x < y → v <ℤ w) → (x ≡ y → v ≡ w) → (y < x → w <ℤ v)
     → MatchOrdering o (x < y) (x ≡ y) (y < x) → MatchOrdering o (v <ℤ w) (v ≡ w) (w <ℤ v)
-ordered Less x y v w less equal greater h = less h
-ordered Equal x y v w less equal greater h = equal h
-ordered Greater x y v w less equal greater h = greater h
+ordered o x y v w less equal greater h = grind arith
 
 ordered_with : (o : Ordering) (range d x y : ℕ) → signed_number range x ≡ pos x -ℤ pos d → signed_number range y ≡ pos y -ℤ pos d
     → MatchOrdering o (x < y) (x ≡ y) (y < x)
@@ -100,6 +94,5 @@ pub ordered_alike : (l r : Bool) (o : Ordering) (range x y : ℕ) → x < range 
     → MatchOrdering o (x < y) (x ≡ y) (y < x)
     → MatchOrdering o (signed_number range x <ℤ signed_number range y) (signed_number range x ≡ signed_number range y)
     (signed_number range y <ℤ signed_number range x)
-ordered_alike true r o range x y h k left right alike = search (arith, ordered_with, signed_high, high_of_negative, same_bool)
-ordered_alike false r o range x y h k left right alike =
-    search (arith, ordered_with, signed_low, low_of_other, false≢true, same_bool)
+ordered_alike l r o range x y h k left right alike =
+    search (arith, ordered_with, signed_high, high_of_negative, same_bool, signed_low, low_of_other, false≢true)

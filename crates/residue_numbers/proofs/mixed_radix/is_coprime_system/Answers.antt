@@ -1,5 +1,5 @@
 use Rattle.std.proofs.Common.{arith}
-use Rattle.std.proofs.Common.{◌≡◌, ℕ, ◌<◌, List, slice_index, get_or, sym, ◌∙◌, below_more, true, false, Option, Some, None}
+use Rattle.std.proofs.Common.{◌≡◌, ℕ, ◌<◌, List, slice_index, get_or, ◌∙◌, below_more, true, false, Option}
 use Rattle.std.proofs.Common.{is_some, MatchOption, ap, not}
 use Rattle.std.proofs.lemmas.Bool.{false≢true}
 use Rattle.num_modular.specs.Divisors.{Coprime}
@@ -12,13 +12,11 @@ use Rattle.residue_numbers.proofs.mixed_radix.is_coprime_system.Goals as goal
 -- what the test of an option tells
 none_is : (m w : ℕ) (o : Option ℕ) → MatchOption o (0 < m → HasInverse m w → ⊥) (λ x. (0 < m) × IsInverse m w x)
     → is_some o ≡ false → 0 < m → HasInverse m w → ⊥
-none_is m w None h e = h
-none_is m w (Some x) h e = absurd (false≢true (sym e))
+none_is m w o h e = grind (arith, false≢true)
 
 some_is : (m w : ℕ) (o : Option ℕ) → MatchOption o (0 < m → HasInverse m w → ⊥) (λ x. (0 < m) × IsInverse m w x)
     → is_some o ≡ true → (x : ℕ) × (0 < m) × IsInverse m w x
-some_is m w None h e = absurd (false≢true e)
-some_is m w (Some x) h e = (x, h.0, h.1)
+some_is m w o h e = grind (arith, false≢true)
 
 pub returns-then-is_none : goal.returns-then-is_none
 returns-then-is_none c = search (arith, false≢true, none_is, unit_at)

@@ -31,14 +31,7 @@ again-preserved g c start entries with =
 
 pub returns-clause-run : goal.returns-clause-run
 returns-clause-run g c start entries with =
-    let laws : Laws = record {
-      is_residue = c.residue_laws.ensures.residue;
-      sum = c.residue_laws.ensures.difference;
-      powers = c.remainder_laws.ensures.powers;
-      found = c.inverse_laws.ensures.found;
-      coprime = c.inverse_laws.ensures.coprime;
-      has_residue = c.inverse_laws.ensures.has_residue;
-    } in
+    let laws : Laws = grind arith in
     let all : c.moduli.place ≡ length c.args.self.now.moduli.now = omega arith in
     all_run laws c.inverse_laws.ensures.named _ start _ c.moduli.registers _ _ _ _ c.args.self.now.coprime.positive
     (subst (AreRunBefore _ start _ c.moduli.registers _ _) all (c.moduli.invariant.run start entries with))

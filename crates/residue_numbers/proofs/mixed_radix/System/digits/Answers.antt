@@ -31,9 +31,7 @@ moduli-preserved c =
     let number = mixed_below place ms ds in
     let positive : 0 < m = self.coprime.positive place inside in
     let is = self.inverted place inside in
-    let product : (range * t) % m ≡ s % m =
-    ap (λ k. (range * k) % m) c.mulm.ensures
-    ∙ c.linear_congruence_laws.ensures.solved m range s (get_or self.inverses.now place 0) is in
+    let product : (range * t) % m ≡ s % m = grind arith in
     let difference : (s + v) % m ≡ r % m =
     ap (λ k. (k + v) % m) c.subm-difference.ensures ∙ c.residue_laws.ensures.difference m r v positive in
     let right = digit_gives m number range t r v s c.number_modulo-known.ensures product difference in
