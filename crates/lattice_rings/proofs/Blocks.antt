@@ -192,23 +192,22 @@ pub product_transformed : (q g s last : ℕ) (x y p u v r : ℕ → ℕ) → 0 <
     → AreProducts q g (suc s) 1 (2 ^ s) last u v r → AreValues q g s last p r
 product_transformed q g s last x y p u v r some size suits product first second products =
     let n = 2 ^ s in
-    let w = λ (k : ℕ). g ^ bits_reversed s k % q in
-    let twiddles = powers_are_twiddles q g s suits in
+    let twiddles = powers_are_twiddles _ _ _ suits in
     let z = product_modulo q (n * last) (constant g (suc s) 1) x y in
     let is : (e : ℕ) → e < 256 → z e ≡ p e = λ e l.
     ap (λ k. product_modulo q k (constant g (suc s) 1) x y e) size
-    ∙ negacyclic 256 e g (suc s) n w x y some (pow_pos s) twiddles
-    ∙ added_to q (coefficient 256 x y e) (coefficient 256 x y (e + 256)) (p e) (product.below e l) (product.each e l) in
+    ∙ negacyclic _ e _ _ _ _ _ _ some (pow_pos _) twiddles
+    ∙ added_to _ (coefficient 256 x y e) (coefficient 256 x y (e + 256)) (p e) (product.below e l) (product.each e l) in
     let room : (1 + 1) * (n / 2) ≤ n = omega arith in
-    let are = values_of q g s last z (λ i. r i % q)
-    (remainders_of_product g (suc s) 1 n last n w x y u v r (s, refl) room twiddles
-    (remainders_of q g s last x u first) (remainders_of q g s last y v second) products) in
+    let are = values_of _ _ _ _ z _
+    (remainders_of_product _ _ _ _ _ _ _ _ _ _ _ _ (s, refl) room twiddles
+    (remainders_of _ _ _ _ _ _ first) (remainders_of _ _ _ _ _ _ second) products) in
     record {
       each = λ j i lj li.
           let value = products.each j i lj li in
-          value ∙ sym (mod-mod _ q) ∙ ap (λ a. a % q) (sym value) ∙ are.each j i lj li
-          ∙ value_same q n (g ^ (2 * bits_reversed s j + 1)) (λ k. z (k * last + i)) (λ k. p (k * last + i))
+          value ∙ sym (mod-mod _ _) ∙ ap (λ a. a % q) (sym value) ∙ are.each j i lj li
+          ∙ value_same _ _ (g ^ (2 * bits_reversed s j + 1)) _ _
           (λ k lk.
-          let most : (k + 1) * last ≤ n * last = mul-le-mul_right last (let a : k + 1 ≤ n = omega arith in a) in
+          let most : (k + 1) * last ≤ n * last = mul-le-mul_right _ (let a : k + 1 ≤ n = omega arith in a) in
           is (k * last + i) (omega (arith, most, size, li)));
     }

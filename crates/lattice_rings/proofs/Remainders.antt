@@ -82,9 +82,6 @@ products_more i a b c x y p within square before is_a is_b =
             (mod_mul (mod_mul (mod_of_eq v) (mod_refl (get_or y f 0))) square)).same)
         | inr n ↦ other p e f (2 * k) a b (omega arith) (omega arith) ∙ before.constant k (omega arith)
       ];
-      linear = λ k l. elim (cases_eq k i) [
-        | inl s ↦ search (arith, set, mod_add, mod_mul, mod_of_eq, mod_refl)
-        | inr n ↦ other p e f (2 * k + 1) a b (omega arith) (omega arith) ∙ before.linear k (omega arith)
-      ];
+      linear = λ k l. grind (arith, cases_eq, set, mod_add, mod_mul, mod_of_eq, mod_refl, other) steps 700000;
       kept = λ k l. other p e f k a b (omega arith) (omega arith) ∙ before.kept k (omega arith);
     }

@@ -17,8 +17,7 @@ ring c = search arith
 -- the list is that of each polynomial whose transform was given
 entries : (c : goal.After-join) (x : ℕ → ℕ) → AreValues 8380417 1753 8 1 x (slice_index c.args.w.now)
     → (i : ℕ) → i < 256 → slice_index c.join.new.xs i ≡ x i % 8380417
-entries c x are i l =
-    joined 1 x c.args.w.now c.join.new.xs (ring c) are (c.join.ensures.joined x) i (omega arith)
+entries c x are i l = joined _ x _ _ (ring c) are (c.join.ensures.joined x) i (omega arith)
 
 pub returns-clause-unique : goal.returns-clause-unique
 returns-clause-unique c = λ x is. entries c x (values_of_transform x (slice_index c.args.w.now) is)
