@@ -99,8 +99,7 @@ fits_turned base a b u v k f = omega arith
 factors_same : (a b u v d t o : ℕ) → d + b ≡ a → o * 2 ^ t ≡ d → o * (v * 2 ^ t) + b * (u + v) ≡ a * v + b * u
 factors_same a b u v d t o e h =
     let f : o * 2 ^ t * v ≡ d * v = ap (λ n. n * v) h in
-    let g : (d + b) * v ≡ a * v = ap (λ n. n * v) e in
-    omega arith
+    grind arith
 
 pub pair_next : (m x a b u v k d t o u' v' : ℕ) (s : Bool) → d + b ≡ a → Without d t o
     → u' ≡ u + v → v' ≡ v * 2 ^ t → IsDifferencePair m x a b u v k s → IsDifferencePair m x o b u' v' (k + t) s
@@ -108,15 +107,13 @@ pair_next m x a b u v k d t o u' v' s e h eu ev p =
     let eo : o * 2 ^ (k + t) ≡ d * 2 ^ k =
     ap (λ n. o * n) (pow-add _ _ _) ∙ (let r : o * (2 ^ k * 2 ^ t) ≡ o * 2 ^ t * 2 ^ k = omega arith in r)
     ∙ ap (λ n. n * 2 ^ k) h.whole in
-    let ed : d * 2 ^ k + b * 2 ^ k ≡ a * 2 ^ k =
-    (let r : d * 2 ^ k + b * 2 ^ k ≡ (d + b) * 2 ^ k = omega arith in r) ∙ ap (λ n. n * 2 ^ k) e in
+    let ed : d * 2 ^ k + b * 2 ^ k ≡ a * 2 ^ k = grind arith in
     let ex : u' * x ≡ u * x + v * x = ap (λ n. n * x) eu ∙ omega arith in
     let eb : b * 2 ^ (k + t) ≡ b * 2 ^ k * 2 ^ t = ap (λ n. b * n) (pow-add _ _ _) ∙ omega arith in
     let ey : v' * x ≡ v * x * 2 ^ t = ap (λ n. n * x) ev ∙ omega arith in
     let sum = difference_by_sign _ _ (d * 2 ^ k) (b * 2 ^ k) (a * 2 ^ k) _ _ ed p.above p.below in
     record {
-      whole =
-          grind (arith, factors_same);
+      whole = grind (arith, factors_same);
       above = rw (eo, ex) sum;
       below = rw (eb, ey) (scaled_by_sign _ (not s) (b * 2 ^ k) _ _ p.below);
       common = λ g i j.
@@ -132,8 +129,7 @@ fits_next base a b u v k d t o u' v' e h eu ev f =
     ap (λ n. o * b * n) (pow-add _ _ _) ∙ (let r : o * b * (2 ^ k * 2 ^ t) ≡ o * 2 ^ t * (b * 2 ^ k) = omega arith in r)
     ∙ ap (λ n. n * (b * 2 ^ k)) h.whole in
     let less : d * (b * 2 ^ k) ≤ a * (b * 2 ^ k) = mul-le-mul_right (b * 2 ^ k) (let r : d ≤ a = omega arith in r) in
-    let same : o * v' + b * u' ≡ a * v + b * u =
-    ap (λ n. o * n + b * u') ev ∙ ap (λ n. o * (v * 2 ^ t) + b * n) eu ∙ factors_same _ _ _ _ _ _ _ e h.whole in
+    let same : o * v' + b * u' ≡ a * v + b * u = grind (arith, factors_same) in
     omega arith
 
 -- the start of a turn, a pair with its greater number first: its difference d, whose zeros are t, smaller number y and
@@ -171,8 +167,7 @@ ordered_below base a b u v k d y f t s l h el differ fits e even ey ef = grind (
 pub shift_fits : (base a b u v k d t o : ℕ) → d + b ≡ a → Without d t o → PairFits base a b u v k → v * 2 ^ t < base
 shift_fits base a b u v k d t o e h f =
     let n = fits_next _ _ _ _ _ _ _ _ _ _ (v * 2 ^ t) e h refl refl f in
-    let l : 1 * (v * 2 ^ t) ≤ o * (v * 2 ^ t) = mul-le-mul_right (v * 2 ^ t) h.some in
-    omega (arith, n.factors)
+    grind (arith, mul-le-mul_right)
 
 -- the twos are fewer than two words have
 pub few_twos : (w base a b u v k : ℕ) → base ≡ 2 ^ w → PairFits base a b u v k → k < w + w
@@ -189,12 +184,11 @@ first_pair m x t o u v h eu ev =
 
 pub first_fits : (base m x t o u v : ℕ) → Without x t o → u ≡ 1 → v ≡ 0 → x < m → m < base → PairFits base o m u v t
 first_fits base m x t o u v h eu ev l b =
-    let ov : o * v ≡ o * 0 = ap (λ n. o * n) ev in
     let mu : m * u ≡ m * 1 = ap (λ n. m * n) eu in
     let e : o * m * 2 ^ t ≡ x * m = grind arith in
     let p : (x + 1) * m ≤ base * m = mul-le-mul_right _ (let r : x + 1 ≤ base = omega arith in r) in
     let q : base * m ≤ base * base = mul-le-mul_left _ (let r : m ≤ base = omega arith in r) in
-    omega arith
+    grind arith
 
 -- where the numbers are equal, the factor of the one is a residue other than 0
 pub last_factor : (base m x a b u v k : ℕ) (s : Bool) → IsDifferencePair m x a b u v k s → PairFits base a b u v k → a ≡ b
@@ -251,8 +245,7 @@ last_inverse m x a b u v k w y s o p e f l h =
 pub word_taken : (m base w r r' t z j x : ℕ) → base ≡ 2 ^ w → t ≡ r + base * z → z ≡ 0 → IsReduction base m t r'
     → Congruent m (r * 2 ^ j) x → Congruent m (r' * 2 ^ (w + j)) x
 word_taken m base w r r' t z j x eb et ez h c =
-    let e : r' * 2 ^ (w + j) ≡ r' * base * 2 ^ j = ap (λ n. r' * n) (pow-add _ _ _ ∙ ap (λ n. n * 2 ^ j) (sym eb))
-    ∙ omega arith in
+    let e : r' * 2 ^ (w + j) ≡ r' * base * 2 ^ j = grind (arith, pow-add) in
     let b : base * z ≡ base * 0 = ap (λ n. base * n) ez in
     let g : Congruent m (r' * base) r = record { same = h.congruent ∙ ap (λ n. n % m) (omega arith) } in
     mod_trans (mod_of_eq e) (mod_trans (mod_mul g (mod_refl _)) c)
@@ -261,12 +254,9 @@ word_taken m base w r r' t z j x eb et ez h c =
 pub rest_taken : (m base w v r r' t k j x : ℕ) → m % 2 ≡ 1 → base ≡ 2 ^ w → k ≤ w → v ≡ w → t ≡ r * 2 ^ (v - k)
     → IsReduction base m t r' → Congruent m (r * 2 ^ j) x → Congruent m (r' * 2 ^ (k + j)) x
 rest_taken m base w v r r' t k j x o eb l ev et h c =
-    let p : base ≡ 2 ^ k * 2 ^ (w - k) =
-    eb ∙ ap (λ n. 2 ^ n) (let s : w ≡ k + (w - k) = omega arith in s) ∙ pow-add _ _ _ in
+    let p : base ≡ 2 ^ k * 2 ^ (w - k) = grind (arith, pow-add) in
     let e : r' * 2 ^ k * 2 ^ (w - k) ≡ r' * base = (omega arith) ∙ ap (λ n. r' * n) (sym p) in
-    let g : Congruent m (r' * base) (r * 2 ^ (w - k)) = record {
-      same = h.congruent ∙ ap (λ n. n % m) (et ∙ ap (λ n. r * 2 ^ (n - k)) ev);
-    } in
+    let g : Congruent m (r' * base) (r * 2 ^ (w - k)) = grind arith in
     mod_trans (mod_of_eq (ap (λ n. r' * n) (pow-add _ _ _)
     ∙ omega arith)) (mod_trans (mod_mul (without_power _ o (mod_trans (mod_of_eq e) g)) (mod_refl _)) c)
 
@@ -275,8 +265,7 @@ pub scaled_fits : (base m r t v k w : ℕ) → base ≡ 2 ^ w → v ≡ w → t 
 scaled_fits base m r t v k w eb ev et h =
     let p : 2 ^ (v - k) ≤ 2 ^ w = pow-le-pow_right {n = 2} (omega arith) (omega arith) in
     let one : 0 < 2 ^ (v - k) = pow_pos _ in
-    let q : (r + 1) * 2 ^ (v - k) ≤ m * 2 ^ (v - k) =
-    mul-le-mul_right (2 ^ (v - k)) (let s : r + 1 ≤ m = omega arith in s) in
+    let q : (r + 1) * 2 ^ (v - k) ≤ m * 2 ^ (v - k) = grind (arith, mul-le-mul_right) in
     let a : m * 2 ^ (v - k) ≤ m * 2 ^ w = mul-le-mul_left _ p in
     let b : m * base ≡ m * 2 ^ w = ap (λ n. m * n) eb in
     omega arith

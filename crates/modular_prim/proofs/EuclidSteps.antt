@@ -78,8 +78,7 @@ euclid_step a m last_r r last_t t next q rest odd s hr eq erest enext =
       last_below = omega (arith, s.whole, s.positive);
       positive = omega (arith, s.positive);
       last = s.current;
-      current =
-          grind (arith, Leaves, leaves_twice, leaves_next);
+      current = grind (arith, Leaves, leaves_twice, leaves_next);
       common = λ g h. s.common g (IsGcd-from_mod last_r r g (let P : ℕ → Type 0 = λ n. IsGcd r n g in subst P left h));
     }
 

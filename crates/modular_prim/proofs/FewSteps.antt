@@ -7,9 +7,6 @@ use Rattle.std.proofs.Math.Nat.{mul-le-mul_left, pow-le-pow_right}
 pub zero_or_positive : (a : ℕ) → (a ≡ 0) ⊎ (0 < a)
 zero_or_positive a = grind arith
 
-pub two_pow_suc : (r : ℕ) → 2 ^ suc r ≡ 2 * 2 ^ r
-two_pow_suc r = omega arith
-
 pub rest_twice : (u v : ℕ) → 0 < v → v ≤ u → 2 * (u % v) ≤ u
 rest_twice u v p l = grind (arith, mod_below, le-div, mul-le-mul_left)
 

@@ -28,8 +28,7 @@ start_odd form made m x n {power} {product} {rest} h ep er en odd =
       y_below = h;
       power_is = ep;
       product_is = er;
-      left =
-          digit.step_odd m 1 x n x (x * x % m) rest (x ^ n % m) (sym (ap (λ v. v % m) (one-mul _)
+      left = digit.step_odd m 1 x n x (x * x % m) rest (x ^ n % m) (sym (ap (λ v. v % m) (one-mul _)
           ∙ mod-eq_of_lt h)) refl en odd
           (ap (λ v. v % m) (one-mul _));
     }
@@ -44,8 +43,7 @@ start_even form made m x n {power} {product} {rest} h ep er en even =
       y_below = mod-lt _ (let some : 0 < m = omega arith in some);
       power_is = ep;
       product_is = er;
-      left =
-          digit.step_even m (1 % m) x n (x * x % m) rest (x ^ n % m) refl en even
+      left = digit.step_even m (1 % m) x n (x * x % m) rest (x ^ n % m) refl en even
           (mul-mod_first _ _ _ ∙ ap (λ v. v % m) (one-mul _));
     }
 
@@ -65,8 +63,7 @@ step_odd form made m {target} {power} {product} {rest} {power'} {product'} {rest
       y_below = mod-lt (x * w.y) some;
       power_is = p;
       product_is = times x w.y p w.product_is;
-      left =
-          digit.step_odd m w.y x rest (x * w.y % m) (x * x % m) rest' target (ap (λ v. v % m) (mul_comm x w.y)) refl en odd
+      left = digit.step_odd m w.y x rest (x * w.y % m) (x * x % m) rest' target (ap (λ v. v % m) (mul_comm x w.y)) refl en odd
           w.left;
     }
 

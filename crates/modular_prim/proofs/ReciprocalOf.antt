@@ -35,8 +35,7 @@ greatest_is B x top =
 pub reciprocal_of_less : (B d v x h : ℕ) → d < B → B ≤ 2 * d → x + 1 ≡ B → h < B → (h + d) % B ≡ x
     → v ≡ ((x + B * h) / d) % B → IsReciprocal B d v
 reciprocal_of_less B d v x h hd hn top hh eh ev =
-    let whole : (x - d + d) % B ≡ x = ap (λ n. n % B) (let s : x - d + d ≡ x = omega arith in s)
-    ∙ mod-eq_of_lt (omega arith) in
+    let whole : (x - d + d) % B ≡ x = grind (arith, mod-eq_of_lt) in
     let less : h ≡ x - d = mod_cancel _ _ _ _ hh (omega arith) (eh ∙ sym whole) in
     let scaled : B * (h + d) ≡ B * x = ap (λ n. B * n) (let s : h + d ≡ x = omega arith in s) in
     let greatest : x + B * h + d * B + 1 ≡ B * B = omega (arith, greatest_is _ _ top) in

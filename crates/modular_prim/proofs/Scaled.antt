@@ -37,9 +37,8 @@ pub scaled_product_of : (m s d x y a b r : ℕ) → 0 < m → d ≡ m * 2 ^ s �
     → b ≡ y * 2 ^ s → r ≡ (a / 2 ^ s * b) % d
     → r ≡ x * y % m * 2 ^ s
 scaled_product_of m s d x y a b r h ed ea eb er =
-    let un : a / 2 ^ s ≡ x = ap (λ v. v / 2 ^ s) ea ∙ shl-shr _ _ in
     let p : x * (y * 2 ^ s) ≡ x * y * 2 ^ s = omega arith in
-    grind (arith, scaled_remainder, pow_pos)
+    grind (arith, scaled_remainder, pow_pos, shl-shr)
 
 -- a remainder by a multiple of m has the residue of its number, and so has its sum with a
 pub sum_of_rest : (m p a b r : ℕ) → r ≡ b % (m * p) → (a + r) % m ≡ (a + b) % m

@@ -1,5 +1,5 @@
 -- The double where it is below m, and the double less m where it isn't.
-use Rattle.std.proofs.Common.{◌≡◌, ◌+◌, ◌-◌, ◌*◌, ◌%◌, ◌<◌, ◌≤◌, arith, sym, ap, ◌∙◌, inl, inr}
+use Rattle.std.proofs.Common.{◌≡◌, ◌+◌, ◌-◌, ◌*◌, ◌%◌, ◌<◌, ◌≤◌, arith, ap, ◌∙◌, inl, inr}
 use Rattle.std.proofs.Math.Nat.{mod-eq_of_lt, add-mod_right}
 use Rattle.std.proofs.lemmas.Bool.{cases_lt}
 use Rattle.modular_prim.proofs.ResidueSteps.{lifted, settled, once}
@@ -32,12 +32,7 @@ past g c more =
     omega (arith, sum)
 
 pub returns-then-is_below-clause-value : goal.returns-then-is_below-clause-value
-returns-then-is_below-clause-value g c =
-    let n = g.T.RingWord.number in
-    let a = n c.args.a in
-    let fits : a + a < g.T.PathWord.base = omega (arith, c.is_below.ensures.fits) in
-    let double : 2 * a < n c.args.m = omega arith in
-    c.wrapping_add-twice.ensures.value ∙ mod-eq_of_lt fits ∙ (omega arith) ∙ sym (mod-eq_of_lt double)
+returns-then-is_below-clause-value g c = grind (arith, mod-eq_of_lt)
 
 pub returns-else-is_below : goal.returns-else-is_below
 returns-else-is_below g c =

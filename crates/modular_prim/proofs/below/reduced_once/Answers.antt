@@ -1,6 +1,6 @@
 use Rattle.std.proofs.Common.{◌≤◌, arith, sym}
 use Rattle.std.proofs.Math.Nat.{mod-eq_of_lt}
-use Rattle.modular_prim.proofs.ResidueSteps.{wrapped_difference, IsWrapped}
+use Rattle.modular_prim.proofs.ResidueSteps.{IsWrapped}
 use Rattle.modular_prim.proofs.below.reduced_once.Goals as goal
 use Rattle.modular_prim.proofs.below.reduced_once.Goals.{After-wrapping_sub-less}
 
@@ -8,9 +8,7 @@ use Rattle.modular_prim.proofs.below.reduced_once.Goals.{After-wrapping_sub-less
 taken : (g : _) (c : After-wrapping_sub-less g)
     → IsWrapped (g.T.RingWord.number c.args.m) (g.T.RingWord.number c.args.x)
     (g.T.RingWord.number c.wrapping_sub-less.result)
-taken g c =
-    wrapped_difference _ _ _ _
-    c.is_below.ensures.fits c.wrapping_sub-less.ensures.fits c.requires c.wrapping_sub-less.ensures.value
+taken g c = grind arith
 
 pub returns-else-is_below : goal.returns-else-is_below
 returns-else-is_below g c =

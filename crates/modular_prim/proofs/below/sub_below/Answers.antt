@@ -14,5 +14,4 @@ returns-then-is_below-clause-value g c =
     let result : n c.wrapping_add.result ≡ n c.args.m - gap =
     c.wrapping_add.ensures.value ∙ ap (λ v. v % base) (omega (arith, is, less, c.requires.right))
     ∙ add-mod_right (n c.args.m - gap) _ ∙ mod-eq_of_lt (omega (arith, c.is_below.ensures.fits)) in
-    difference_below (n c.args.m) (n c.args.a) (n c.args.b) gap (n c.wrapping_add.result) c.requires.right less
-    (omega (arith, less)) (omega (arith, result, less, c.requires.right))
+    grind (arith, difference_below)

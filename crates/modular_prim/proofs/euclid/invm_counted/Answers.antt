@@ -1,35 +1,19 @@
-use Rattle.std.proofs.Common.{◌≡◌, ◌<◌, ◌≤◌, ◌%◌, sym, refl, arith}
+use Rattle.std.proofs.Common.{◌≡◌, ◌<◌, ◌≤◌, ◌%◌, refl, arith}
 use Rattle.std.proofs.Math.Nat.{mod-eq_of_lt}
 use Rattle.modular_prim.proofs.DivisionCounts.{counts_below, counts_above, counts_next, counts_end, inverse_divisions-few}
 use Rattle.modular_prim.proofs.EuclidSteps.{euclid_start, next_fits, next_step}
 use Rattle.modular_prim.proofs.EuclidSteps.{euclid_found, euclid_found_negative, euclid_none}
 use Rattle.modular_prim.proofs.euclid.invm_counted.Goals as goal
-use Rattle.modular_prim.proofs.euclid.invm_counted.Goals.{then-not-is_below, else-not-is_below, then-is_below, else-is_below}
+use Rattle.modular_prim.proofs.euclid.invm_counted.Goals.{then-is_below, else-is_below}
 
 pub euclid-init : goal.euclid-init
 euclid-init g c =
     let n = g.T.RingWord.number in
-    let start : n c.if-not-is_below.r ≡ n c.args.a % n c.args.m =
-    elim c.if-not-is_below.branch [
-      | then-not-is_below w ↦ rw w.r-is w.remainder-r.ensures.value
-      | else-not-is_below w ↦
-          let below : n c.args.a < n c.args.m = grind arith in
-          rw w.r-is (sym (mod-eq_of_lt below))
-    ] in
+    let start : n c.if-not-is_below.r ≡ n c.args.a % n c.args.m = grind (arith, mod-eq_of_lt) in
     record {
-      steps =
-          euclid_start _ _ _ _ _ c.requires start c.zero-last_t.ensures c.one-t.ensures;
-      counts =
-          elim c.if-not-is_below.branch [
-            | then-not-is_below w ↦
-                counts_above _ _ _ c.if-not-is_below.count (grind arith) start w.count-is
-            | else-not-is_below w ↦
-                counts_below _ _ _ c.if-not-is_below.count (grind arith) start w.count-is
-          ];
-      most =
-          inverse_divisions-few _ _ _ (omega (arith, g.met.T.RingWord.width_from))
-          c.requires (omega (arith, c.is_below.ensures.other_fits, g.met.T.PathWord.base_is))
-          (omega (arith, c.is_below.ensures.fits, g.met.T.PathWord.base_is));
+      steps = euclid_start _ _ _ _ _ c.requires start c.zero-last_t.ensures c.one-t.ensures;
+      counts = grind (arith, counts_above, counts_below);
+      most = grind (arith, inverse_divisions-few);
     }
 
 pub step-rest-requires-clause-fits : goal.step-rest-requires-clause-fits
@@ -48,10 +32,7 @@ step-rest-requires-in-euclid-clause-fits g c =
     omega (arith, next_fits halfway some, c.is_below.ensures.other_fits)
 
 pub overflow_add-count-in-euclid : goal.overflow_add-count-in-euclid
-overflow_add-count-in-euclid g c =
-    let positive : 0 < g.T.RingWord.number c.euclid.r = grind arith in
-    let next = counts_next c.euclid.invariant.counts positive c.step-rest.ensures.rest in
-    omega (arith, next, g.met.T.RingWord.width_to)
+overflow_add-count-in-euclid g c = grind arith
 
 pub euclid-preserved : goal.euclid-preserved
 euclid-preserved g c =

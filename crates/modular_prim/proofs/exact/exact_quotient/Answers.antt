@@ -1,5 +1,4 @@
-use Rattle.std.proofs.Common.{◌≡◌, ◌≢◌, ◌+◌, ◌*◌, ◌/◌, ◌%◌, sym, ap, ◌∙◌, arith}
-use Rattle.std.proofs.lemmas.Nat.{mod-mul-add}
+use Rattle.std.proofs.Common.{◌≡◌, ◌*◌, ◌/◌, ap, arith}
 use Rattle.modular_prim.proofs.exact.exact_quotient.Goals as goal
 
 pub returns-then-is_zero_word : goal.returns-then-is_zero_word
@@ -11,9 +10,4 @@ returns-then-is_zero_word g c =
     omega (arith, c.remainder.ensures.value)
 
 pub returns-else-is_zero_word : goal.returns-else-is_zero_word
-returns-else-is_zero_word g c =
-    let n = g.T.RingWord.number in
-    let some : n c.remainder.result ≢ 0 = grind arith in
-    λ k e.
-    let whole : k * n c.args.d + 0 ≡ n c.args.n = omega arith in
-    some (c.remainder.ensures.value ∙ sym (ap (λ v. v % n c.args.d) whole) ∙ mod-mul-add k _ _ (omega (arith, c.requires)))
+returns-else-is_zero_word g c = grind arith

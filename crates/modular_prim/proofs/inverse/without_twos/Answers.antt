@@ -1,4 +1,4 @@
-use Rattle.std.proofs.Common.{◌-◌, ◌*◌, ◌^◌, sym, subst, arith}
+use Rattle.std.proofs.Common.{◌-◌, ◌*◌, ◌^◌, subst, arith}
 use Rattle.modular_word.specs.Congruence.{Congruent}
 use Rattle.modular_prim.proofs.DifferenceSteps.{word_taken, rest_taken, scaled_fits}
 use Rattle.modular_prim.proofs.inverse.without_twos.Goals as goal
@@ -9,12 +9,7 @@ words-preserved g c =
     let next =
     word_taken _ _ _ _ _ _ _ (c.args.twos - c.words.left) _
     g.met.T.PathWord.base_is c.merge.ensures.value c.zero.ensures c.redc-rest.ensures c.words.invariant.value in
-    record {
-      below = c.redc-rest.ensures.below;
-      within = omega arith;
-      value = subst (λ v. Congruent (n c.args.m) (n c.redc-rest.result * 2 ^ v) (n c.args.w))
-          (sym (omega (arith, c.bits.ensures, c.bits-left.ensures))) next;
-    }
+    grind arith
 
 pub redc-requires-clause-below : goal.redc-requires-clause-below
 redc-requires-clause-below g c =

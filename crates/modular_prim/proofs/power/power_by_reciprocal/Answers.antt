@@ -1,4 +1,4 @@
-use Rattle.std.proofs.Common.{ℕ, ◌≡◌, ◌*◌, ◌/◌, ◌%◌, ◌^◌, ◌<◌, ◌≤◌, sym, ap, ◌∙◌, subst, arith}
+use Rattle.std.proofs.Common.{ℕ, ◌≡◌, ◌*◌, ◌/◌, ◌%◌, ◌^◌, ◌<◌, ap, ◌∙◌, arith}
 use Rattle.std.proofs.lemmas.Nat.{shl-shr}
 use Rattle.modular_prim.proofs.Scaled.{IsNormalized, scaled_to_top, scaled_below, scaled_product_of}
 use Rattle.modular_prim.proofs.PowerSteps.{start_odd, start_even, step_odd, step_even, power_at_end}
@@ -15,27 +15,16 @@ normalized g c =
     h) c.leading_zeros-shift.ensures.fits c.leading_zeros-shift.ensures.value
 
 pub shift_left-divisor-requires-clause-fits : goal.shift_left-divisor-requires-clause-fits
-shift_left-divisor-requires-clause-fits g c =
-    (normalized g (goal.at.shift_left-divisor-requires-clause-fits g c).After-leading_zeros-shift).fits
+shift_left-divisor-requires-clause-fits g c = grind (arith, normalized)
 
 pub shift_left-product-requires-clause-fits : goal.shift_left-product-requires-clause-fits
-shift_left-product-requires-clause-fits g c =
-    let n = g.T.RingWord.number in
-    let s = c.leading_zeros-shift.result in
-    let top = normalized g (goal.at.shift_left-product-requires-clause-fits g c).After-leading_zeros-shift in
-    let less : n c.reduced.result * 2 ^ s < n c.args.m * 2 ^ s =
-    scaled_below (n c.reduced.result) (n c.args.m) s c.reduced.ensures.below in
-    omega (arith, top.fits)
+shift_left-product-requires-clause-fits g c = grind arith
 
 pub invert_word-reciprocal-requires : goal.invert_word-reciprocal-requires
-invert_word-reciprocal-requires g c =
-    subst (λ v. g.T.PathWord.base ≤ 2 * v) (sym c.shift_left-divisor.ensures)
-    (normalized g (goal.at.invert_word-reciprocal-requires g c).After-leading_zeros-shift).top
+invert_word-reciprocal-requires g c = grind (arith, normalized)
 
 pub scaled_product-power-requires-clause-below : goal.scaled_product-power-requires-clause-below
-scaled_product-power-requires-clause-below g c =
-    let w = c.digits.invariant in
-    omega (arith, w.power_is, scaled_below w.x _ c.leading_zeros-shift.result w.x_below, c.shift_left-divisor.ensures)
+scaled_product-power-requires-clause-below g c = grind (arith, scaled_below)
 
 pub scaled_product-product-requires-clause-below : goal.scaled_product-product-requires-clause-below
 scaled_product-product-requires-clause-below g c =

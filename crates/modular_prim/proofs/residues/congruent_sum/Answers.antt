@@ -1,4 +1,4 @@
-use Rattle.std.proofs.Common.{◌≡◌, ◌+◌, ◌*◌, ◌%◌, ◌^◌, ◌<◌, ap, sym, ◌∙◌, arith}
+use Rattle.std.proofs.Common.{◌≡◌, ◌+◌, ◌*◌, ◌%◌, ◌^◌, ◌<◌, ap, ◌∙◌, arith}
 use Rattle.modular_prim.proofs.Scaled.{IsNormalized, scaled_to_top, sum_of_rest, sum_less_multiple}
 use Rattle.modular_prim.proofs.residues.congruent_sum.Goals as goal
 use Rattle.modular_prim.proofs.residues.congruent_sum.Goals.{After-leading_zeros, After-reduced_once-rest}
@@ -18,13 +18,10 @@ rest : (g : _) (c : After-reduced_once-rest g)
 rest g c = c.reduced_once-rest.ensures.value ∙ ap (λ v. g.T.RingWord.number c.args.b % v) c.shift_left-multiple.ensures
 
 pub shift_left-multiple-requires-clause-fits : goal.shift_left-multiple-requires-clause-fits
-shift_left-multiple-requires-clause-fits g c =
-    (normalized g (goal.at.shift_left-multiple-requires-clause-fits g c).After-leading_zeros).fits
+shift_left-multiple-requires-clause-fits g c = grind (arith, normalized)
 
 pub reduced_once-rest-requires : goal.reduced_once-rest-requires
-reduced_once-rest-requires g c =
-    let top = normalized g (goal.at.reduced_once-rest-requires g c).After-leading_zeros in
-    omega (arith, top.top, c.shift_left-multiple.ensures, c.is_below.ensures.other_fits)
+reduced_once-rest-requires g c = grind (arith, normalized)
 
 pub returns-then-over : goal.returns-then-over
 returns-then-over g c =
@@ -36,9 +33,4 @@ returns-then-over g c =
     (rest g (goal.at.returns-then-over g c).After-reduced_once-rest) whole
 
 pub returns-else-over : goal.returns-else-over
-returns-else-over g c =
-    let n = g.T.RingWord.number in
-    let p = 2 ^ c.leading_zeros.result in
-    ap (λ v. v % n c.args.m) (sym (c.overflowing_add-sum.ensures.exact c.if-over.false))
-    ∙ sum_of_rest (n c.args.m) p (n c.args.a) (n c.args.b) (n c.reduced_once-rest.result)
-    (rest g (goal.at.returns-else-over g c).After-reduced_once-rest)
+returns-else-over g c = grind (arith, sum_of_rest, rest)
