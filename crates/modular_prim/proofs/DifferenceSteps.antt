@@ -129,8 +129,7 @@ fits_next base a b u v k d t o u' v' e h eu ev f =
     ap (λ n. o * b * n) (pow-add _ _ _) ∙ (let r : o * b * (2 ^ k * 2 ^ t) ≡ o * 2 ^ t * (b * 2 ^ k) = omega arith in r)
     ∙ ap (λ n. n * (b * 2 ^ k)) h.whole in
     let less : d * (b * 2 ^ k) ≤ a * (b * 2 ^ k) = mul-le-mul_right (b * 2 ^ k) (let r : d ≤ a = omega arith in r) in
-    let same : o * v' + b * u' ≡ a * v + b * u = grind (arith, factors_same) in
-    omega arith
+    grind (arith, factors_same)
 
 -- the start of a turn, a pair with its greater number first: its difference d, whose zeros are t, smaller number y and
 -- this one's factor f
@@ -184,11 +183,8 @@ first_pair m x t o u v h eu ev =
 
 pub first_fits : (base m x t o u v : ℕ) → Without x t o → u ≡ 1 → v ≡ 0 → x < m → m < base → PairFits base o m u v t
 first_fits base m x t o u v h eu ev l b =
-    let mu : m * u ≡ m * 1 = ap (λ n. m * n) eu in
     let e : o * m * 2 ^ t ≡ x * m = grind arith in
-    let p : (x + 1) * m ≤ base * m = mul-le-mul_right _ (let r : x + 1 ≤ base = omega arith in r) in
-    let q : base * m ≤ base * base = mul-le-mul_left _ (let r : m ≤ base = omega arith in r) in
-    grind arith
+    grind (arith, mul-le-mul_right, mul-le-mul_left)
 
 -- where the numbers are equal, the factor of the one is a residue other than 0
 pub last_factor : (base m x a b u v k : ℕ) (s : Bool) → IsDifferencePair m x a b u v k s → PairFits base a b u v k → a ≡ b
@@ -246,9 +242,7 @@ pub word_taken : (m base w r r' t z j x : ℕ) → base ≡ 2 ^ w → t ≡ r + 
     → Congruent m (r * 2 ^ j) x → Congruent m (r' * 2 ^ (w + j)) x
 word_taken m base w r r' t z j x eb et ez h c =
     let e : r' * 2 ^ (w + j) ≡ r' * base * 2 ^ j = grind (arith, pow-add) in
-    let b : base * z ≡ base * 0 = ap (λ n. base * n) ez in
-    let g : Congruent m (r' * base) r = record { same = h.congruent ∙ ap (λ n. n % m) (omega arith) } in
-    mod_trans (mod_of_eq e) (mod_trans (mod_mul g (mod_refl _)) c)
+    grind (arith, pow-add, mod_trans, mod_of_eq, mod_mul, mod_refl)
 
 -- the last one, of a number times what is left up to a word
 pub rest_taken : (m base w v r r' t k j x : ℕ) → m % 2 ≡ 1 → base ≡ 2 ^ w → k ≤ w → v ≡ w → t ≡ r * 2 ^ (v - k)
@@ -264,11 +258,7 @@ rest_taken m base w v r r' t k j x o eb l ev et h c =
 pub scaled_fits : (base m r t v k w : ℕ) → base ≡ 2 ^ w → v ≡ w → t ≡ r * 2 ^ (v - k) → r < m → t < base * m
 scaled_fits base m r t v k w eb ev et h =
     let p : 2 ^ (v - k) ≤ 2 ^ w = pow-le-pow_right {n = 2} (omega arith) (omega arith) in
-    let one : 0 < 2 ^ (v - k) = pow_pos _ in
-    let q : (r + 1) * 2 ^ (v - k) ≤ m * 2 ^ (v - k) = grind (arith, mul-le-mul_right) in
-    let a : m * 2 ^ (v - k) ≤ m * 2 ^ w = mul-le-mul_left _ p in
-    let b : m * base ≡ m * 2 ^ w = ap (λ n. m * n) eb in
-    omega arith
+    grind (arith, pow-le-pow_right, pow_pos, mul-le-mul_right, mul-le-mul_left)
 
 -- ---- the number itself
 -- a number has the inverse of its residue

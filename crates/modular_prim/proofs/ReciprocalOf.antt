@@ -38,6 +38,5 @@ reciprocal_of_less B d v x h hd hn top hh eh ev =
     let whole : (x - d + d) % B ≡ x = grind (arith, mod-eq_of_lt) in
     let less : h ≡ x - d = mod_cancel _ _ _ _ hh (omega arith) (eh ∙ sym whole) in
     let scaled : B * (h + d) ≡ B * x = ap (λ n. B * n) (let s : h + d ≡ x = omega arith in s) in
-    let greatest : x + B * h + d * B + 1 ≡ B * B = omega (arith, greatest_is _ _ top) in
     let same : v ≡ ((x + B * h + d * B) / d) % B = grind (arith, add-mod_right, add-mul-div_left) in
-    grind (arith, reciprocal_of)
+    grind (arith, reciprocal_of, greatest_is)

@@ -1,4 +1,4 @@
-use Rattle.std.proofs.Common.{◌-◌, ◌*◌, ◌^◌, ◌∙◌, ap, arith}
+use Rattle.std.proofs.Common.{◌-◌, ◌^◌, arith}
 use Rattle.modular_prim.proofs.DigitSteps.{part_times, part_below, one_of}
 use Rattle.modular_prim.proofs.digits.part_of_base.Goals as goal
 
@@ -13,5 +13,4 @@ pub returns : goal.returns
 returns g c =
     let whole = part_times {by = c.args.by} {k = c.bits.result - c.args.by} (omega (arith, g.met.T.RingWord.width_from))
     g.met.T.PathWord.base_is (omega (arith, c.bits.ensures)) in
-    let one = one_of (2 ^ (c.bits.result - c.args.by)) c.one.ensures in
-    ap (λ v. 2 ^ c.args.by * v) (c.shift_left.ensures ∙ one) ∙ whole
+    grind (arith, part_times, one_of)

@@ -5,9 +5,8 @@ use Rattle.modular_prim.proofs.inverse.without_twos.Goals as goal
 
 pub words-preserved : goal.words-preserved
 words-preserved g c =
-    let n = g.T.RingWord.number in
     let next =
-    word_taken _ _ _ _ _ _ _ (c.args.twos - c.words.left) _
+    word_taken _ _ _ _ _ _ _ _ _
     g.met.T.PathWord.base_is c.merge.ensures.value c.zero.ensures c.redc-rest.ensures c.words.invariant.value in
     grind arith
 

@@ -29,8 +29,7 @@ returns-then-over g c =
     let p = 2 ^ c.leading_zeros.result in
     let whole : n c.minus.result + n c.args.m * p ≡ n c.args.a + n c.reduced_once-rest.result =
     omega (arith, c.minus.ensures.value, c.minus-gap.ensures.value, c.shift_left-multiple.ensures) in
-    sum_less_multiple (n c.args.m) p (n c.args.a) (n c.args.b) (n c.reduced_once-rest.result) (n c.minus.result)
-    (rest g (goal.at.returns-then-over g c).After-reduced_once-rest) whole
+    sum_less_multiple _ p _ _ _ _ (rest g (goal.at.returns-then-over g c).After-reduced_once-rest) whole
 
 pub returns-else-over : goal.returns-else-over
 returns-else-over g c = grind (arith, sum_of_rest, rest)
