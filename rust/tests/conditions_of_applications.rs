@@ -69,7 +69,8 @@ fn words_of_codes() {
         Corrector::new(&of_97, &POINTS, 2, &mut [0; 4], &mut [0; 4]).unwrap().with_checks(&mut [0; 7]));
     panic_with!("the word must have n symbols: 3 and 4"; code.correct(&mut [12, 19, 26], &[], &mut [0; 25]));
     panic_with!("there must be at least 2·n + 7·(n - k) + 3 places of scratch: 24 and 25";
-        code.correct(&mut [12, 19, 26, 33], &[], &mut [0; 24]));
+        code.correct(&mut [12, 19, 26, 33], &[], &mut [0; 24]),
+        code.correct_counted(&mut [12, 19, 26, 33], &[], &mut [0; 24]));
     panic_in_debug_with!("the symbols must be checked forms"; code.correct(&mut [12, 19, 26, 97], &[], &mut [0; 25]),
         code.is_codeword(&[12, 19, 26, 97], &mut [0; 6]));
     panic_with!("the word must have n symbols: 3 and 4"; code.is_codeword(&[12, 19, 26], &mut [0; 6]));

@@ -1,8 +1,10 @@
-//! The numbers of products that `Corrector` takes, counted by a reducer, are at most those that its docs say.
+//! The numbers of products that `Corrector` takes, counted by a reducer, are those that `correct_counted` returns, and at most
+//! those that its docs say.
 
 mod words;
 
 use num_modular::applications::ring_codes::erasure::{CorrectError, Corrector};
+use num_modular::ring::find_root;
 use num_modular::{Reducer, Vanilla};
 use std::cell::Cell;
 use words::{value, Random};
@@ -59,21 +61,35 @@ impl Reducer<u64> for Counted {
     }
 }
 
-/// At most so many products for n points, t = n - k, c lost symbols and e wrong ones; besides those of the syndromes.
+/// At most so many products modulo a prime for n points, t = n - k, c lost symbols and e wrong ones; besides those of the
+/// syndromes.
 fn most(n: usize, t: usize, c: usize, e: usize) -> usize {
     let (rest, q) = (t - c, c + e);
     2 * rest * (rest + c) + n * (e + 1) + q * (t + 4 * q + 9) + 6 * rest
 }
 
+/// A transform of n = 2^z symbols, and n divisions by n.
+fn of_transform(n: usize) -> usize {
+    let z = n.trailing_zeros() as usize;
+    n * z / 2 + 2 * n - 1 + z
+}
+
 #[test]
 fn products() {
     let mut random = Random(88172645463325252);
-    for (m, longest) in [(101, 100), (257, 255), (65537, 255)] {
-        for _ in 0..60 {
-            let n = 1 + random.below(longest) as usize;
-            let t = 1 + random.below((n as u64).min(40)) as usize;
+    for (m, longest) in [(101, 100), (257, 255), (65537, 255), (1001, 7), (17 * 257, 16)] {
+        let prime = m % 7 != 0 && m % 17 != 0;
+        for round in 0..60 {
             let ring = <Counted as Reducer<u64>>::new(&m);
-            let points: Vec<u64> = (0..n as u64).collect();
+            let n = 1 + random.below(longest) as usize;
+            let n = if round % 2 == 0 { n } else { (n + 1).next_power_of_two() / 2 };
+            let root = if round % 2 == 0 { None } else { find_root(&ring, n) };
+            let points: Vec<u64> = match root {
+                None => (0..n as u64).collect(),
+                Some(g) => std::iter::successors(Some(1), |x| Some(x * g % m)).take(n).collect(),
+            };
+            ring.products.set(0);
+            let t = 1 + random.below((n as u64).min(40)) as usize;
             let message: Vec<u64> = (t..n).map(|_| random.below(m)).collect();
             let sent: Vec<u64> = points.iter().map(|x| value(m, &message, *x)).collect();
             let (mut weights, mut room, mut checks) = (vec![0; n], vec![0; n], vec![0; n * t]);
@@ -86,25 +102,33 @@ fn products() {
             let mut spoilt = sent.clone();
             places.iter().take(c + wrong).for_each(|place| spoilt[*place] = (spoilt[*place] + 1 + random.below(m - 1)) % m);
             let mut scratch = vec![0; 2 * n + 7 * t + 3];
-            let mut count = |code: &Corrector<u64, Counted>, of_syndromes: usize| {
+            let mut count = |code: &Corrector<u64, Counted>, of_syndromes: usize, of_tests: usize| {
                 let mut word = spoilt.clone();
-                let found = code.correct(&mut word, &places[..c], &mut scratch);
+                let (found, products) = code.correct_counted(&mut word, &places[..c], &mut scratch);
+                let taken = (ring.products.take() - of_tests) as u128;
+                assert_eq!(products, taken, "modulo {m}: n {n}, t {t}, c {c}, {found:?}");
                 let most = of_syndromes
                     + match found {
                         Ok(0) if c == 0 => 0,
+                        _ if !prime => usize::MAX - of_syndromes,
                         Ok(e) => most(n, t, c, e),
                         Err(CorrectError::TooManyErrors) => n + most(n, t, c, (t - c) / 2),
                         Err(error) => panic!("{error:?}"),
                     };
-                let products = ring.products.take();
-                assert!(products <= most, "{products} above {most}: n {n}, t {t}, c {c}, {found:?}");
+                assert!(products <= most as u128, "{products} above {most}: n {n}, t {t}, c {c}, {found:?}");
                 assert_eq!(code.is_codeword(&spoilt, &mut scratch), c + wrong == 0);
-                assert!(ring.products.take() <= of_syndromes);
+                assert_eq!(ring.products.take(), of_syndromes + of_tests);
             };
-            count(&code, n * (t + 1));
+            count(&code, n * (t + 1), 0);
             let code = code.with_checks(&mut checks);
             assert!(ring.products.take() <= n * t);
-            count(&code, n * t);
+            count(&code, n * t, 0);
+            if let Some(g) = root {
+                let code = code.with_root(g).unwrap();
+                ring.products.set(0);
+                // `intt` and `ntt` test whether the root fits
+                count(&code, of_transform(n), 2 * n.trailing_zeros().saturating_sub(1) as usize);
+            }
         }
     }
 }

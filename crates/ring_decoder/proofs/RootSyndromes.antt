@@ -1,7 +1,7 @@
 -- Syndromes at the powers of a root: the last coefficients of the polynomial through all symbols (Reed and Solomon,
 -- "Polynomial codes over certain finite fields", 1960; Blahut, "Transform techniques for error control codes", IBM Journal
 -- of Research and Development 23, 1979).
-use Rattle.std.proofs.Common.{◌≡◌, ◌≢◌, ℕ, zero, suc, ◌+◌, ◌-◌, ◌*◌, ◌/◌, ◌%◌, ◌^◌, ◌<◌, ◌≤◌, ap, sym, ◌∙◌, arith, refl, inl, inr}
+use Rattle.std.proofs.Common.{◌≡◌, ◌≢◌, ℕ, zero, suc, ◌+◌, ◌-◌, ◌*◌, ◌/◌, ◌%◌, ◌^◌, ◌<◌, ◌≤◌, pos, ◌-ℤ◌, ap, sym, subst, ◌∙◌, arith, refl, inl, inr}
 use Rattle.std.proofs.Math.Logic.{∥∥₁_elim}
 use Rattle.std.proofs.Math.Nat.{zero-mod, pow-zero, pow-suc}
 use Rattle.std.specs.Int.{IsPowerOfTwo}
@@ -9,13 +9,19 @@ use lib.Pow.{pow-lt}
 use mathlib.Core.HLevel.{Σ_prop_path}
 use native.Mathlib.Nat.{ℕ_set}
 use Rattle.std.proofs.lemmas.Bool.{cases_lt}
-use Rattle.std.proofs.lemmas.Nat.{pow-add}
+use Rattle.std.proofs.lemmas.Nat.{pow-add, pow_pos}
 use Rattle.num_modular.specs.Congruence.{Congruent}
+use Rattle.num_modular.specs.Inverses.{HasInverse}
 use Rattle.num_modular.specs.NumberLaws.{mod_of_eq, mod_refl, residue_of, mod_sym, mod_trans, mod_add, mod_mul, mod_pow}
 use Rattle.num_modular.specs.NumberLaws.{mod_add_cancel, sum_below-congruent, pow-mul, one-pow}
 use Rattle.num_modular.specs.Polynomials.{polynomial_at, HaveUnitDifferences}
+use Rattle.num_modular.specs.ProductLaws.{has_both}
+use Rattle.num_modular.specs.Residues.{residue}
 use Rattle.num_modular.specs.Sums.{sum_below}
 use Rattle.num_modular.specs.Transforms.{Suits, transform}
+use Rattle.ring_codes.proofs.Congruences.{has_one, mod_of_combination, mod_of_difference, mod_of_residue}
+use Rattle.ring_codes.proofs.NearestWords.{unit_alike}
+use Rattle.ring_codes.proofs.NewtonForms.{has_of_residue}
 use Rattle.ring_codes.proofs.RootPowers.{word_of_coefficients}
 use Rattle.ring_codes.specs.Erasure.{IsEncoding}
 use Rattle.ring_codes.specs.Powers.{ArePowers}
@@ -39,6 +45,31 @@ suits_known m g n known = record {
   power_of_two = ∥∥₁_elim known (one_power n) (λ suits. suits.power_of_two);
   half_turn = λ more. ∥∥₁_elim known (λ p q. ℕ_set _ _ p q) (λ suits. suits.half_turn more);
 }
+
+powers_of_two : (m z : ℕ) → 0 < m → HasInverse m 2 → HasInverse m (2 ^ z)
+powers_of_two m zero positive two = has_of_residue m (2 ^ 0) (1 % m) refl (has_one m positive)
+powers_of_two m (suc y) positive two =
+    subst (HasInverse m) (sym (pow-suc 2 y)) ((has_both m (2 ^ y) 2).1 (powers_of_two m y positive two, two))
+
+-- where g suits n, and the differences of its powers have inverses, as that of 1 and -1, so has n
+pub length_unit : (m g n : ℕ) (x : ℕ → ℕ) → 0 < m → Suits m g n → ArePowers m g n x → HaveUnitDifferences m n x
+    → HasInverse m n
+length_unit m g n x positive suits powers fit = elim (cases_lt 1 n) [
+  | inl more ↦
+      let h : ℕ = n / 2 in
+      let u : ℕ = residue m (pos (x 0) -ℤ pos (x h)) in
+      let turn : Congruent m (g ^ h + 1) 0 = record { same = suits.half_turn more ∙ sym (zero-mod m) } in
+      let at_u : Congruent m (u + x h) (x 0) = mod_of_difference (x h) positive refl in
+      let first : Congruent m (x 0) (g ^ 0) = mod_of_residue (powers.power 0 (omega (arith, more))) in
+      let middle : Congruent m (x h) (g ^ h) = mod_of_residue (powers.power h (omega (arith, more))) in
+      let two : Congruent m u 2 =
+      mod_of_combination (mod_add at_u (mod_add first (mod_add (mod_sym turn) (mod_sym middle)))) (omega (arith, pow-zero g)) in
+      subst (HasInverse m) (sym suits.power_of_two.1) (powers_of_two m suits.power_of_two.0 positive
+      (unit_alike m u 2 two (fit.unit 0 h (omega (arith, more)) (omega (arith, more)) (omega (arith, more)))))
+  | inr one ↦
+      let some = pow_pos suits.power_of_two.0 in let whole = suits.power_of_two.1 in
+      has_of_residue m n (1 % m) (let e : 1 ≡ n = omega (arith, one, some, whole) in ap (λ v. v % m) e) (has_one m positive)
+]
 
 -- where g suits n, its power n is 1
 root_turn : (m g n z : ℕ) → Suits m g n → n ≡ 2 ^ z → 1 < n → Congruent m (g ^ n) 1

@@ -3,4 +3,5 @@ pub mod ErrorPatterns
 pub mod LocatorSteps
 pub mod Locators
 pub mod PowerSums
+pub mod Products
 pub mod Syndromes

@@ -8,6 +8,7 @@ ghost use Rattle.num_modular.specs.Forms.{IsForm};
 ghost use Rattle.num_modular.specs.Inverses.{HasInverse};
 ghost use Rattle.num_modular.specs.Polynomials.{HaveUnitDifferences};
 ghost use Rattle.ring_decoder.specs.Corrector.{without};
+ghost use Rattle.ring_decoder.specs.Products.{solve_products};
 ghost use Rattle.ring_decoder.specs.ErrorPatterns.{zeros, spread, AreChosen, Covers, IsNearPattern, IsSolution, listed_weight};
 ghost use Rattle.ring_decoder.specs.PowerSums.{ArePowerSums};
 
@@ -98,7 +99,7 @@ fn multiply_each<T: RingWord, R: Reducer<T>>(r: &R, xs: &[T], ys: &[T], products
     }
 }
 
-// Writes the errors at the chosen points, if there are any with all the syndromes.
+// Writes the errors at the chosen points, if there are any with all the syndromes. The number of products is added.
 fn solve_chosen<T: RingWord, R: Reducer<T>>(
     r: &R,
     points: &[T],
@@ -106,6 +107,7 @@ fn solve_chosen<T: RingWord, R: Reducer<T>>(
     syndromes: &[T],
     scratch: &mut [T],
     errors: &mut [T],
+    products: &mut u128,
 ) -> bool
     requires points { All (λ f. IsForm R.form R.value (R.modulus r.now) (T.number f)) points.now }
     requires weights { All (λ f. IsForm R.form R.value (R.modulus r.now) (T.number f)) weights.now }
@@ -127,15 +129,18 @@ fn solve_chosen<T: RingWord, R: Reducer<T>>(
         ArePowerSums m (length syndromes.now) (length points.now) (entry T.number R.value m points.now)
         (λ i. entry T.number R.value m weights.now i * e i) (entry T.number R.value m syndromes.now) →
         IsTrue result × ((i : ℕ) → i < length points.now → entry T.number R.value m errors.new i ≡ e i % m) }
+    ensures counted { products.new ≤ products.old + solve_products (length points.now) (length syndromes.now) }
 {
     let (product, rest) = scratch.split_at_mut(points.len() + 1);
     let (terms, rest) = rest.split_at_mut(points.len());
     let (spare, _) = rest.split_at_mut(points.len());
+    let q = points.len() as u128;
+    *products = products.saturating_add(q.saturating_mul(7 * q + 13) / 2);
     if !solve_errors(r, points, weights, syndromes, product, terms, spare, errors) {
         return false;
     }
     multiply_each(r, weights, errors, terms);
-    are_power_sums(r, points, terms, syndromes)
+    are_power_sums(r, points, terms, syndromes, products)
 }
 
 // 1 where the error at a place that isn't lost isn't 0, otherwise 0.
@@ -167,7 +172,7 @@ fn count_wrong<T: RingWord, R: Reducer<T>>(r: &R, lost: &[usize], errors: &[T]) 
 }
 
 // Writes the errors at all places, 0 where a value isn't 0, if there are any with all the syndromes that are few enough:
-// returns how many are at places that aren't lost.
+// returns how many are at places that aren't lost. The number of products is added.
 pub fn solve<T: RingWord, R: Reducer<T>>(
     r: &R,
     points: &[T],
@@ -177,6 +182,7 @@ pub fn solve<T: RingWord, R: Reducer<T>>(
     values: &[T],
     scratch: &mut [T],
     errors: &mut [T],
+    products: &mut u128,
 ) -> Option<usize>
     requires points { All (λ f. IsForm R.form R.value (R.modulus r.now) (T.number f)) points.now }
     requires weights { All (λ f. IsForm R.form R.value (R.modulus r.now) (T.number f)) weights.now }
@@ -191,12 +197,13 @@ pub fn solve<T: RingWord, R: Reducer<T>>(
     requires lost { length lost.now ≤ length syndromes.now }
     requires scratch { 6 * length syndromes.now + 1 ≤ length scratch.old }
     requires room { length errors.old ≡ length points.now }
-    ensures { let m = R.modulus r.now in let n = length points.now in let t = length syndromes.now in
+    ensures solved { let m = R.modulus r.now in let n = length points.now in let t = length syndromes.now in
         let x = entry T.number R.value m points.now in let v = entry T.number R.value m weights.now in
         let s = entry T.number R.value m syndromes.now in MatchOption result
         ((e : ℕ → ℕ) → IsNearPattern m t n x v lost.now s e → Covers m t n (entry T.number R.value m values.now) e → ⊥)
         (λ wrong. All (λ f. IsForm R.form R.value m (T.number f)) errors.new
         × IsSolution m t n x v lost.now s (entry T.number R.value m errors.new) wrong) }
+    ensures counted { let t = length syndromes.now in products.new ≤ products.old + solve_products t t }
 {
     let q = count_zeros(r, values);
     if q > syndromes.len() {
@@ -207,7 +214,15 @@ pub fn solve<T: RingWord, R: Reducer<T>>(
     let (chosen_errors, rest) = rest.split_at_mut(q);
     gather(r, values, points, chosen);
     gather(r, values, weights, chosen_weights);
-    if !solve_chosen(r, chosen, chosen_weights, syndromes, rest, chosen_errors) {
+    if !solve_chosen(
+        r,
+        chosen,
+        chosen_weights,
+        syndromes,
+        rest,
+        chosen_errors,
+        products,
+    ) {
         return None;
     }
     scatter(r, values, chosen_errors, errors);

@@ -11,6 +11,7 @@ ghost use Rattle.ring_codes.specs.Powers.{ArePowers};
 ghost use Rattle.ring_decoder.specs.Corrector.{AreLost};
 ghost use Rattle.ring_decoder.specs.ErrorPatterns.{IsPatternFault, IsSolution};
 ghost use Rattle.ring_decoder.specs.PowerSums.{ArePowerSums};
+ghost use Rattle.ring_decoder.specs.Products.{error_products, syndrome_products};
 ghost use Rattle.ring_decoder.specs.Syndromes.{AreChecks, AreWeights};
 
 use super::checks::fill_checked_syndromes;
@@ -21,7 +22,8 @@ use super::syndromes::fill_syndromes;
 use num_modular::{Reducer, RingWord};
 use ring_codes::erasure::CorrectError;
 
-// Writes the syndromes of a word: by a transform or by the table of checks, where there is a root or a table.
+// Writes the syndromes of a word: by a transform or by the table of checks, where there is a root or a table. Returns the
+// number of products.
 pub fn write_syndromes<T: RingWord, R: Reducer<T>>(
     r: &R,
     points: &[T],
@@ -31,7 +33,7 @@ pub fn write_syndromes<T: RingWord, R: Reducer<T>>(
     word: &[T],
     terms: &mut [T],
     syndromes: &mut [T],
-)
+) -> u128
     requires points { All (λ f. IsForm R.form R.value (R.modulus r.now) (T.number f)) points.now }
     requires weights { All (λ f. IsForm R.form R.value (R.modulus r.now) (T.number f)) weights.now }
     requires checks { All (λ f. IsForm R.form R.value (R.modulus r.now) (T.number f)) checks.now }
@@ -56,23 +58,30 @@ pub fn write_syndromes<T: RingWord, R: Reducer<T>>(
         (entry T.number R.value m points.now)
         (λ i. entry T.number R.value m weights.now i * entry T.number R.value m word.now i)
         (entry T.number R.value m syndromes.new) }
+    ensures counted { result
+        ≡ syndrome_products root (length checks.now) (length points.now) (length syndromes.old) }
 {
+    let n = points.len() as u128;
     match root {
         Some(g) => {
             if fill_syndromes_by_transform(r, &g, word, terms, syndromes) {
-                return;
+                let z = points.len().trailing_zeros() as u128;
+                return n * z / 2 + 2 * n - 1 + z;
             }
         }
         None => {}
     }
     if checks.is_empty() {
-        fill_syndromes(r, points, weights, word, terms, syndromes)
+        fill_syndromes(r, points, weights, word, terms, syndromes);
+        n * (syndromes.len() as u128 + 1)
     } else {
-        fill_checked_syndromes(r, checks, word, syndromes)
+        fill_checked_syndromes(r, checks, word, syndromes);
+        n * syndromes.len() as u128
     }
 }
 
-// Writes the few errors that have the syndromes, and returns how many of them are at places that aren't lost.
+// Writes the few errors that have the syndromes, and returns how many of them are at places that aren't lost. The number of
+// products is added.
 pub fn find_errors<T: RingWord, R: Reducer<T>>(
     r: &R,
     points: &[T],
@@ -82,6 +91,7 @@ pub fn find_errors<T: RingWord, R: Reducer<T>>(
     scratch: &mut [T],
     values: &mut [T],
     errors: &mut [T],
+    products: &mut u128,
 ) -> Result<usize, CorrectError<T>>
     requires points { All (λ f. IsForm R.form R.value (R.modulus r.now) (T.number f)) points.now }
     requires weights { All (λ f. IsForm R.form R.value (R.modulus r.now) (T.number f)) weights.now }
@@ -97,21 +107,28 @@ pub fn find_errors<T: RingWord, R: Reducer<T>>(
     requires scratch { 6 * length syndromes.now + 3 ≤ length scratch.old }
     requires values { length values.old ≡ length points.now }
     requires room { length errors.old ≡ length points.now }
-    ensures { let m = R.modulus r.now in let n = length points.now in let t = length syndromes.now in
+    ensures found { let m = R.modulus r.now in let n = length points.now in let t = length syndromes.now in
         let x = entry T.number R.value m points.now in let v = entry T.number R.value m weights.now in
         let s = entry T.number R.value m syndromes.now in MatchResult result
         (λ wrong. All (λ f. IsForm R.form R.value m (T.number f)) errors.new
         × IsSolution m t n x v lost.now s (entry T.number R.value m errors.new) wrong)
         (λ e. IsPatternFault T.number m t n x v lost.now s e) }
+    ensures counted { products.new ≤ products.old
+        + error_products (length points.now) (length syndromes.now) (length lost.now) }
 {
-    match locate(r, points, lost, syndromes, scratch, values) {
+    match locate(r, points, lost, syndromes, scratch, values, products) {
         None => Err(CorrectError::TooManyErrors),
-        Some(witness) => match solve(r, points, weights, lost, syndromes, values, scratch, errors) {
+        Some(witness) => match solve(
+            r, points, weights, lost, syndromes, values, scratch, errors, products,
+        ) {
             Some(wrong) => Ok(wrong),
-            None => match find_nonunit(r, &witness, values) {
-                Some(a) => Err(CorrectError::NoInverse(a)),
-                None => Err(CorrectError::TooManyErrors),
-            },
+            None => {
+                *products = products.saturating_add(points.len() as u128);
+                match find_nonunit(r, &witness, values) {
+                    Some(a) => Err(CorrectError::NoInverse(a)),
+                    None => Err(CorrectError::TooManyErrors),
+                }
+            }
         },
     }
 }

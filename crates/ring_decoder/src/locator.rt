@@ -32,7 +32,7 @@ fn apply<T: RingWord, R: Reducer<T>>(
     dot_product(r, &polynomial[..count], &numbers[from..from + count])
 }
 
-// Replaces the first coefficients of a polynomial f by those of a·f - b·X^q·g.
+// Replaces the first coefficients of a polynomial f by those of a·f - b·X^q·g: by q products less than two for each.
 #[tactic(auto, using(num_modular::specs::Callers::form_read))]
 fn combine<T: RingWord, R: Reducer<T>>(
     r: &R,
@@ -90,7 +90,8 @@ fn extend_witness<T: RingWord, R: Reducer<T>>(r: &R, witness: T, met: &T) -> T
 }
 
 // Takes one moment more into account: returns the order of the recurrence, whether the two polynomials have changed places,
-// the pivot and the witness; `None` where the order would be more than half the number of moments.
+// the pivot and the witness; `None` where the order would be more than half the number of moments. The number of products
+// is added.
 fn advance<T: RingWord, R: Reducer<T>>(
     r: &R,
     moments: &[T],
@@ -100,6 +101,7 @@ fn advance<T: RingWord, R: Reducer<T>>(
     degree: usize,
     pivot: T,
     witness: T,
+    products: &mut u128,
 ) -> Option<(usize, bool, T, T)>
     requires moments { All (λ f. IsForm R.form R.value (R.modulus r.now) (T.number f)) moments.now }
     requires inside { i < length moments.now }
@@ -116,12 +118,15 @@ fn advance<T: RingWord, R: Reducer<T>>(
         (λ f. HoldsSearch T.number R.form R.value m (length moments.now) (i + 1) f.0 f.2 f.3
         (entry T.number R.value m (if f.1 then other.new else locator.new))
         (entry T.number R.value m (if f.1 then locator.new else other.new)) t) }
+    ensures counted { products.new ≤ products.old + 3 * (length moments.now / 2 + 1) }
 {
     let from = i - degree;
     let discrepancy = apply(r, locator, degree + 1, moments, from);
+    *products = products.saturating_add(degree as u128 + 1);
     if from < degree {
         let q = degree - 1 - from;
         combine(r, &pivot, locator, degree + 1, &discrepancy, q, other);
+        *products = products.saturating_add(2 * (degree as u128 + 1) - q as u128);
         return Some((degree, false, pivot, witness));
     }
     if r.is_zero(&discrepancy) {
@@ -133,6 +138,7 @@ fn advance<T: RingWord, R: Reducer<T>>(
     let q = from + 1 - degree;
     combine(r, &discrepancy, other, from + 2, &pivot, q, locator);
     let next = extend_witness(r, witness, &discrepancy);
+    *products = products.saturating_add(2 * (from as u128 + 2) - q as u128 + 1);
     Some((from + 1, true, discrepancy, next))
 }
 
@@ -161,6 +167,7 @@ fn step<T: RingWord, R: Reducer<T>>(
     first: &mut [T],
     second: &mut [T],
     state: (usize, bool, T, T),
+    products: &mut u128,
 ) -> Option<(usize, bool, T, T)>
     requires moments { All (λ f. IsForm R.form R.value (R.modulus r.now) (T.number f)) moments.now }
     requires inside { i < length moments.now }
@@ -179,14 +186,19 @@ fn step<T: RingWord, R: Reducer<T>>(
         (λ f. HoldsSearch T.number R.form R.value m (length moments.now) (i + 1) f.0 f.2 f.3
         (entry T.number R.value m (if f.1 then first.new else second.new))
         (entry T.number R.value m (if f.1 then second.new else first.new)) t) }
+    ensures counted { products.new ≤ products.old + 3 * (length moments.now / 2 + 1) }
 {
     if state.1 {
-        match advance(r, moments, i, first, second, state.0, state.2, state.3) {
+        match advance(
+            r, moments, i, first, second, state.0, state.2, state.3, products,
+        ) {
             None => None,
             Some(next) => Some((next.0, !next.1, next.2, next.3)),
         }
     } else {
-        advance(r, moments, i, second, first, state.0, state.2, state.3)
+        advance(
+            r, moments, i, second, first, state.0, state.2, state.3, products,
+        )
     }
 }
 
@@ -202,6 +214,7 @@ fn step<T: RingWord, R: Reducer<T>>(
 /// u·(x - X).
 ///
 /// `None` only if of all weights that have these moments more than N/2 aren't 0. What the lists hold before is ignored.
+/// The number of products is added to `products`: at most 3·N·(N/2 + 1).
 ///
 /// Source: the algorithm of Berlekamp and Massey ("Shift-register synthesis and BCH decoding"); without division, as
 /// Burton, "Inversionless decoding of binary BCH codes".
@@ -215,6 +228,7 @@ pub fn find_locator<T: RingWord, R: Reducer<T>>(
     moments: &[T],
     first: &mut [T],
     second: &mut [T],
+    products: &mut u128,
 ) -> Option<(usize, bool, T)>
     requires moments { All (λ f. IsForm R.form R.value (R.modulus r.now) (T.number f)) moments.now }
     requires first_places { length first.old ≡ length moments.now / 2 + 1 }
@@ -231,6 +245,7 @@ pub fn find_locator<T: RingWord, R: Reducer<T>>(
     ensures one { let m = R.modulus r.now in IfSome result (λ f. (u x : ℕ) → 2 ≤ length moments.now →
         IsGeometric m (length moments.now) u x (entry T.number R.value m moments.now) →
         IsLinear m u x f.0 (entry T.number R.value m (if f.1 then first.new else second.new))) }
+    ensures counted { products.new ≤ products.old + 3 * length moments.now * (length moments.now / 2 + 1) }
 {
     let one = r.transform(T::one());
     let zero = r.transform(T::zero());
@@ -238,7 +253,7 @@ pub fn find_locator<T: RingWord, R: Reducer<T>>(
     set_constant(r, &zero, second);
     let mut state = (0, true, one, one);
     'moments: for i in 0..moments.len() {
-        match step(r, moments, i, first, second, state) {
+        match step(r, moments, i, first, second, state, products) {
             None => return None,
             Some(next) => state = next,
         }

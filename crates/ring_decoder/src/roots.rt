@@ -3,6 +3,7 @@
 ghost use Rattle.std.specs.Prelude.{◌≡◌, ℕ, ◌+◌, ◌-◌, ◌*◌, ◌%◌, ◌<◌, ◌≤◌, ◌↔◌, IsTrue, All, length};
 ghost use Rattle.num_modular.specs.Entries.{entry};
 ghost use Rattle.num_modular.specs.Forms.{IsForm};
+ghost use Rattle.num_modular.specs.Inverses.{HasInverse};
 ghost use Rattle.num_modular.specs.Polynomials.{HaveUnitDifferences};
 ghost use Rattle.num_modular.specs.Transforms.{Suits};
 ghost use Rattle.ring_codes.specs.Powers.{ArePowers};
@@ -40,7 +41,7 @@ pub fn are_powers<T: RingWord, R: Reducer<T>>(r: &R, g: &T, points: &[T]) -> boo
 /// Writes the syndromes of a word at the powers of a root, those that `fill_syndromes` writes, and returns true: by one
 /// transform. False exactly where the number of the points has no inverse.
 ///
-/// They are the last coefficients of the polynomial through all symbols. The contents of `coefficients` are ignored, and
+/// For n symbols it takes the products of `ntt_counted` and n more, or none where it returns false. They are the last coefficients of the polynomial through all symbols. The contents of `coefficients` are ignored, and
 /// unspecified afterwards; those of `syndromes` too after false.
 ///
 /// Source: Blahut, "Transform techniques for error control codes".
@@ -62,6 +63,7 @@ pub fn fill_syndromes_by_transform<T: RingWord, R: Reducer<T>>(
     requires suits { let m = R.modulus r.now in Suits m (R.value m (T.number g.now)) (length word.now) }
     requires room { length coefficients.old ≡ length word.now }
     requires few { length syndromes.old ≤ length word.now }
+    ensures inverse { IsTrue result ↔ HasInverse (R.modulus r.now) (length word.now) }
     ensures checked { IsTrue result → All (λ f. IsForm R.form R.value (R.modulus r.now) (T.number f)) syndromes.new }
     ensures sums { let m = R.modulus r.now in IsTrue result → (x v : ℕ → ℕ) →
         ArePowers m (R.value m (T.number g.now)) (length word.now) x →

@@ -8,6 +8,7 @@ ghost use Rattle.num_modular.specs.Polynomials.{HaveUnitDifferences, polynomial_
 ghost use Rattle.ring_codes.specs.Erasure.{IsWithoutInverse};
 ghost use Rattle.ring_decoder.specs.Corrector.{AreLost};
 ghost use Rattle.ring_decoder.specs.ErrorPatterns.{IsNearPattern, IsLocated, AreLocatorValues};
+ghost use Rattle.ring_decoder.specs.Products.{locate_products};
 
 use super::locator::find_locator;
 use super::places::{clear_lost, copy_points};
@@ -15,7 +16,7 @@ use super::syndromes::fill_moments;
 use num_modular::{Reducer, RingWord};
 use ring_codes::erasure::evaluate_each;
 
-// Writes the locator's values at the points; ones, where its degree is 0.
+// Writes the locator's values at the points; ones, where its degree is 0. Returns the number of products.
 #[tactic(auto, using(num_modular::specs::Callers::held_entry))]
 fn fill_values<T: RingWord, R: Reducer<T>>(
     r: &R,
@@ -23,7 +24,7 @@ fn fill_values<T: RingWord, R: Reducer<T>>(
     locator: &[T],
     degree: usize,
     values: &mut [T],
-)
+) -> u128
     requires points { All (λ f. IsForm R.form R.value (R.modulus r.now) (T.number f)) points.now }
     requires locator { All (λ f. IsForm R.form R.value (R.modulus r.now) (T.number f)) locator.now }
     requires degree { degree < length locator.now }
@@ -31,14 +32,17 @@ fn fill_values<T: RingWord, R: Reducer<T>>(
     ensures checked { All (λ f. IsForm R.form R.value (R.modulus r.now) (T.number f)) values.new }
     ensures values { let m = R.modulus r.now in AreLocatorValues m degree (length points.now)
         (entry T.number R.value m points.now) (entry T.number R.value m locator.now) (entry T.number R.value m values.new) }
+    ensures counted { result ≤ length points.now * (degree + 1) }
 {
     if degree == 0 {
         let one = r.transform(T::one());
         'ones: for i in 0..points.len() {
             values[i] = one;
         }
+        0
     } else {
         evaluate_each(r, &locator[..degree + 1], points, values);
+        (points.len() as u128).saturating_mul(degree as u128 + 1)
     }
 }
 
@@ -51,7 +55,7 @@ fn fill_values_of<T: RingWord, R: Reducer<T>>(
     in_first: bool,
     degree: usize,
     values: &mut [T],
-)
+) -> u128
     requires points { All (λ f. IsForm R.form R.value (R.modulus r.now) (T.number f)) points.now }
     requires first { All (λ f. IsForm R.form R.value (R.modulus r.now) (T.number f)) first.now }
     requires second { All (λ f. IsForm R.form R.value (R.modulus r.now) (T.number f)) second.now }
@@ -62,16 +66,18 @@ fn fill_values_of<T: RingWord, R: Reducer<T>>(
     ensures values { let m = R.modulus r.now in AreLocatorValues m degree (length points.now)
         (entry T.number R.value m points.now)
         (entry T.number R.value m (if in_first then first.now else second.now)) (entry T.number R.value m values.new) }
+    ensures counted { result ≤ length points.now * (degree + 1) }
 {
     if in_first {
-        fill_values(r, points, first, degree, values);
+        fill_values(r, points, first, degree, values)
     } else {
-        fill_values(r, points, second, degree, values);
+        fill_values(r, points, second, degree, values)
     }
 }
 
 // Writes the locator's values at all points, and 0 at the lost places: the word may have to change only where a value is 0.
-// Returns a number that has an inverse only where all pivots have. `None` where no word is near.
+// Returns a number that has an inverse only where all pivots have. `None` where no word is near. The number of products is
+// added.
 pub fn locate<T: RingWord, R: Reducer<T>>(
     r: &R,
     points: &[T],
@@ -79,6 +85,7 @@ pub fn locate<T: RingWord, R: Reducer<T>>(
     syndromes: &[T],
     scratch: &mut [T],
     values: &mut [T],
+    products: &mut u128,
 ) -> Option<T>
     requires points { All (λ f. IsForm R.form R.value (R.modulus r.now) (T.number f)) points.now }
     requires syndromes { All (λ f. IsForm R.form R.value (R.modulus r.now) (T.number f)) syndromes.now }
@@ -97,6 +104,8 @@ pub fn locate<T: RingWord, R: Reducer<T>>(
         (v : ℕ → ℕ) → ((i : ℕ) → i < n → HasInverse m (v i)) → MatchOption result
         ((errors : ℕ → ℕ) → IsNearPattern m t n x v lost.now s errors → ⊥)
         (λ a. IsLocated m t n x v lost.now s (entry T.number R.value m values.new) (R.value m (T.number a))) }
+    ensures counted { products.new ≤ products.old
+        + locate_products (length points.now) (length syndromes.now - length lost.now) (length lost.now) }
 {
     let count = syndromes.len() - lost.len();
     let (located, rest) = scratch.split_at_mut(lost.len());
@@ -106,10 +115,14 @@ pub fn locate<T: RingWord, R: Reducer<T>>(
     let (second, _) = rest.split_at_mut(count / 2 + 1);
     copy_points(r, points, lost, located);
     fill_moments(r, located, syndromes, product, moments);
-    match find_locator(r, moments, first, second) {
+    let c = lost.len() as u128;
+    *products = products.saturating_add(c.saturating_mul(c + 3) / 2);
+    *products = products.saturating_add((count as u128).saturating_mul(c + 1));
+    match find_locator(r, moments, first, second, products) {
         None => None,
         Some(found) => {
-            fill_values_of(r, points, first, second, found.1, found.0, values);
+            let of_values = fill_values_of(r, points, first, second, found.1, found.0, values);
+            *products = products.saturating_add(of_values);
             clear_lost(r, lost, values);
             Some(found.2)
         }
@@ -117,6 +130,7 @@ pub fn locate<T: RingWord, R: Reducer<T>>(
 }
 
 // A number without an inverse, of the witness and the values that aren't 0, or a product of some; `None` where each has one.
+// It takes a product for each value.
 pub fn find_nonunit<T: RingWord, R: Reducer<T>>(r: &R, witness: &T, values: &[T]) -> Option<T>
     requires witness { IsForm R.form R.value (R.modulus r.now) (T.number witness.now) }
     requires values { All (λ f. IsForm R.form R.value (R.modulus r.now) (T.number f)) values.now }

@@ -67,7 +67,8 @@ pub fn fill_power_sums<T: RingWord, R: Reducer<T>>(
 
 /// Whether the sums are the power sums of the points, whose weights are the terms.
 ///
-/// The terms are replaced by other checked forms. It takes at most a product for each point and each sum.
+/// The terms are replaced by other checked forms. The number of products is added to `products`: one for each point and
+/// each sum, up to the first that differs.
 ///
 /// # Preconditions
 ///
@@ -78,6 +79,7 @@ pub fn are_power_sums<T: RingWord, R: Reducer<T>>(
     points: &[T],
     terms: &mut [T],
     sums: &[T],
+    products: &mut u128,
 ) -> bool
     requires points { All (λ f. IsForm R.form R.value (R.modulus r.now) (T.number f)) points.now }
     requires terms { All (λ f. IsForm R.form R.value (R.modulus r.now) (T.number f)) terms.old }
@@ -86,9 +88,11 @@ pub fn are_power_sums<T: RingWord, R: Reducer<T>>(
     ensures sums { let m = R.modulus r.now in IsTrue result ↔ ArePowerSums m (length sums.now) (length points.now)
         (entry T.number R.value m points.now) (entry T.number R.value m terms.old) (entry T.number R.value m sums.now) }
     ensures terms { All (λ f. IsForm R.form R.value (R.modulus r.now) (T.number f)) terms.new }
+    ensures counted { products.new ≤ products.old + length sums.now * length points.now }
 {
     'sums: for h in 0..sums.len() {
         let sum = next_sum(r, points, terms);
+        *products = products.saturating_add(points.len() as u128);
         if sum != sums[h] {
             return false;
         }
@@ -164,7 +168,7 @@ fn multiply_front<T: RingWord, R: Reducer<T>>(
 
 /// Writes the coefficients, the constant first, of the product of X - x for the points x.
 ///
-/// The contents of `coefficients` are ignored. It takes about q²/2 products for q points.
+/// The contents of `coefficients` are ignored. It takes q·(q + 3)/2 products for q points.
 ///
 /// # Preconditions
 ///
@@ -210,7 +214,7 @@ pub fn sum_from<T: RingWord, R: Reducer<T>>(
 ///
 /// If the syndromes are power sums, so are the moments, with each weight multiplied by its point's differences from the c
 /// lost points: thus the weight of a lost point becomes 0. The contents of `product` are ignored; afterwards it holds the
-/// coefficients of the product of X - x for the lost points x. It takes about c²/2 + N·(c + 1) products for N moments.
+/// coefficients of the product of X - x for the lost points x. It takes c·(c + 3)/2 + N·(c + 1) products for N moments.
 ///
 /// Source: Forney, "On decoding BCH codes".
 ///

@@ -26,6 +26,31 @@ fn corrected<R: Reducer<u64>>(
     }
 }
 
+// The number of products that the correction of such a word takes: without and with a table of checks.
+fn products_for<R: Reducer<u64>>(r: &R, word: &[u64; 7]) -> Option<[u128; 2]> {
+    let points = forms_of(r, &[0, 1, 2, 3, 4, 5, 6]);
+    let mut word = forms_of(r, word);
+    let mut same = word;
+    let mut weights = [0; 7];
+    let mut checks = [0; 28];
+    let mut scratch = [0; 50];
+    let mut products = [0; 7];
+    match Corrector::new(r, &points, 3, &mut weights, &mut products) {
+        None => None,
+        Some(code) => {
+            let plain = code.correct_counted(&mut word, &[], &mut scratch);
+            let by_checks = code
+                .with_checks(&mut checks)
+                .correct_counted(&mut same, &[], &mut scratch);
+            if by_checks.0 == plain.0 {
+                Some([plain.1, by_checks.1])
+            } else {
+                None
+            }
+        }
+    }
+}
+
 // Whether a word at the points 0 to 6 is of the code of messages of three symbols.
 fn is_word<R: Reducer<u64>>(r: &R, word: &[u64; 7]) -> Option<bool> {
     let points = forms_of(r, &[0, 1, 2, 3, 4, 5, 6]);
@@ -130,6 +155,9 @@ fn assert_rows<R: Reducer<u64>>(rt: &impl Abort, r: &R) {
     check!(rt, 8; holds(r, TWICE));
     check!(rt, 9; is_word(r, WORD) == Some(true));
     check!(rt, 10; is_word(r, TWO_ERRORS.word) == Some(false));
+    check!(rt, 13; products_for(r, WORD) == Some([35, 28]));
+    check!(rt, 14; products_for(r, TWO_ERRORS.word) == Some([123, 116]));
+    check!(rt, 15; products_for(r, THREE_ERRORS.word) == Some([95, 88]));
 }
 
 // Modulo composite numbers: two symbols are wrong, one of them by a multiple of a factor.

@@ -28,8 +28,8 @@ solve_chosen-requires-clause-units g c i l =
     ∙ ap (λ k. zeros k z) c.requires.each_value in
     chosen_units m n z v w weights c.requires.units i (omega (arith, l, count))
 
-pub returns-then-not-solve_chosen : goal.returns-then-not-solve_chosen
-returns-then-not-solve_chosen g c e near covers =
+pub returns-then-not-solve_chosen-clause-solved : goal.returns-then-not-solve_chosen-clause-solved
+returns-then-not-solve_chosen-clause-solved g c e near covers =
     let ring = g.R.Reducer in let m = ring.modulus c.args.r.now in let number = g.T.RingWord.number in
     let z = entry number ring.value m c.args.values.now in let x = entry number ring.value m c.args.points.now in
     let v = entry number ring.value m c.args.weights.now in let n : ℕ = length c.args.points.now in
@@ -44,8 +44,8 @@ returns-then-not-solve_chosen g c e near covers =
     absurd (false≢true (c.if-not-solve_chosen.ensures.only (picked n z e).0
     (covered_sums m t n q z x v e p w s count points weights covers near.sums)).0)
 
-pub returns-then-wrong-syndromes : goal.returns-then-wrong-syndromes
-returns-then-wrong-syndromes g c e near covers =
+pub returns-then-wrong-syndromes-clause-solved : goal.returns-then-wrong-syndromes-clause-solved
+returns-then-wrong-syndromes-clause-solved g c e near covers =
     let ring = g.R.Reducer in let m = ring.modulus c.args.r.now in let number = g.T.RingWord.number in
     let z = entry number ring.value m c.args.values.now in let x = entry number ring.value m c.args.points.now in
     let v = entry number ring.value m c.args.weights.now in let n : ℕ = length c.args.points.now in
@@ -66,8 +66,8 @@ returns-then-wrong-syndromes g c e near covers =
     let more = c.if-wrong-syndromes.true in let few = near.few in
     absurd (omega (arith, more, wrong, weight, few))
 
-pub returns-else-wrong-syndromes : goal.returns-else-wrong-syndromes
-returns-else-wrong-syndromes g c =
+pub returns-else-wrong-syndromes-clause-solved : goal.returns-else-wrong-syndromes-clause-solved
+returns-else-wrong-syndromes-clause-solved g c =
     let ring = g.R.Reducer in let m = ring.modulus c.args.r.now in let number = g.T.RingWord.number in
     let z = entry number ring.value m c.args.values.now in let x = entry number ring.value m c.args.points.now in
     let v = entry number ring.value m c.args.weights.now in let n : ℕ = length c.args.points.now in

@@ -1,10 +1,13 @@
 use Rattle.std.proofs.lemmas.Bool.{eqb-false}
-use Rattle.num_modular.specs.Callers.{ℕ, ◌*◌, ◌<◌, ◌∙◌, sym, subst, arith, length, entry}
+use Rattle.std.proofs.lemmas.Nat.{pow_pos}
+use Rattle.std.proofs.Common.{rules, Some}
+use Rattle.num_modular.specs.Callers.{◌≡◌, ℕ, ◌*◌, ◌<◌, ◌∙◌, sym, subst, arith, length, entry}
+use Rattle.num_modular.specs.Inverses.{HasInverse}
 use Rattle.num_modular.specs.Polynomials.{HaveUnitDifferences}
 use Rattle.num_modular.specs.Transforms.{Suits}
 use Rattle.ring_codes.specs.Powers.{ArePowers}
 use Rattle.ring_decoder.proofs.CorrectedWords.{fit_of_weights}
-use Rattle.ring_decoder.proofs.RootSyndromes.{suits_known}
+use Rattle.ring_decoder.proofs.RootSyndromes.{suits_known, length_unit}
 use Rattle.ring_decoder.specs.PowerSums.{ArePowerSums}
 use Rattle.ring_decoder.specs.Syndromes.{AreChecks, AreWeights}
 use Rattle.ring_decoder.proofs.decoding.write_syndromes.Goals as goal
@@ -45,3 +48,32 @@ returns-else-is_empty-clause-sums g c =
     (c.fill_checked_syndromes.ensures.sums x v
     (subst (λ t. AreChecks m t (length c.args.word.now) x v checks) (sym kept)
     (subst (λ n. AreChecks m (length c.args.syndromes.now) n x v checks) (sym same) (c.requires.table some)))))
+
+pub returns-then-is_empty-clause-counted : goal.returns-then-is_empty-clause-counted
+returns-then-is_empty-clause-counted g c =
+    let ring = g.R.Reducer in let m = ring.modulus c.args.r.now in let number = g.T.RingWord.number in
+    let positive = (g.met.R.Reducer.canonical c.args.r.now).positive in
+    let n : ℕ = length c.args.points.now in let x = entry number ring.value m c.args.points.now in
+    let units : (a : _) → c.args.root ≡ Some a → HasInverse m (length c.args.word.now) =
+    λ a is. subst (HasInverse m) (sym c.requires.each_symbol) (length_unit m (ring.value m (number a)) n x positive
+    (suits_known m _ n (c.requires.suits a is)) (c.requires.powers a is)
+    (fit_of_weights m n x (entry number ring.value m c.args.weights.now) c.requires.weights_of)) in
+    search (rules, arith, units)
+
+pub returns-else-is_empty-clause-counted : goal.returns-else-is_empty-clause-counted
+returns-else-is_empty-clause-counted g c =
+    let ring = g.R.Reducer in let m = ring.modulus c.args.r.now in let number = g.T.RingWord.number in
+    let positive = (g.met.R.Reducer.canonical c.args.r.now).positive in
+    let n : ℕ = length c.args.points.now in let x = entry number ring.value m c.args.points.now in
+    let units : (a : _) → c.args.root ≡ Some a → HasInverse m (length c.args.word.now) =
+    λ a is. subst (HasInverse m) (sym c.requires.each_symbol) (length_unit m (ring.value m (number a)) n x positive
+    (suits_known m _ n (c.requires.suits a is)) (c.requires.powers a is)
+    (fit_of_weights m n x (entry number ring.value m c.args.weights.now) c.requires.weights_of)) in
+    search (rules, arith, units)
+
+pub overflow_sub-result : goal.overflow_sub-result
+overflow_sub-result g c =
+    let ring = g.R.Reducer in let m = ring.modulus c.args.r.now in
+    let suits = suits_known m (ring.value m (g.T.RingWord.number c.in-Some.g)) (length c.args.points.now)
+    (c.requires.suits _ c.in-Some.is) in
+    omega (arith, suits.power_of_two.1, pow_pos suits.power_of_two.0)

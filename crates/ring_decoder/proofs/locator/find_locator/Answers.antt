@@ -17,10 +17,13 @@ moments-init g c =
         search = search_start m _ _ _ _ _ _ positive (c.set_constant.ensures.constant ∙ one) c.set_constant.ensures.others
             (all_none _ (c.set_constant-2.ensures.constant ∙ none) c.set_constant-2.ensures.others) one one;
       },
+      omega arith,
     )
 
 pub moments-preserved : goal.moments-preserved
-moments-preserved g c = (c.in-Some.ensures.checked_first, c.in-Some.ensures.checked_second, c.in-Some.ensures.advanced)
+moments-preserved g c =
+    let more = c.in-Some.ensures.counted in let before = c.moments.invariant.3 in
+    (c.in-Some.ensures.checked_first, c.in-Some.ensures.checked_second, c.in-Some.ensures.advanced, omega (arith, more, before))
 
 pub returns-clause-located : goal.returns-clause-located
 returns-clause-located g c =

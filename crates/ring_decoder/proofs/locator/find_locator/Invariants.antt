@@ -1,5 +1,5 @@
 use Rattle.std.proofs.Common.{cond}
-use Rattle.num_modular.specs.Callers.{All, IsForm, length, entry}
+use Rattle.num_modular.specs.Callers.{◌+◌, ◌*◌, ◌/◌, ◌≤◌, All, IsForm, length, entry}
 use Rattle.ring_decoder.specs.LocatorSteps.{HoldsSearch}
 use Rattle.ring_decoder.proofs.locator.find_locator.Given as goal
 
@@ -12,3 +12,4 @@ invariant-moments g l =
     × HoldsSearch number ring.form ring.value m (length l.fn.moments) l.i l.state.0 l.state.2 l.state.3
     (entry number ring.value m (cond l.state.1 l.first l.second)) (entry number ring.value m (cond l.state.1 l.second l.first))
     (entry number ring.value m l.fn.moments)
+    × (l.products ≤ l.fn.products + 3 * l.i * (length l.fn.moments / 2 + 1))

@@ -42,7 +42,7 @@ returns-in-Some-clause-located g c v units =
     (λ w is. subst (λ k. ArePowerSums m k n x
     (λ i. w i * product_of_differences m (length c.copy_points.new.located) z (x i)) q)
     (sym c.fill_moments.auto.moments) (c.fill_moments.ensures.moments n x w is)))
-    rest c.in-Some.ensures.located c.fill_values_of.ensures.values c.clear_lost.ensures.cleared
+    rest c.in-Some.ensures.located c.fill_values_of-of_values.ensures.values c.clear_lost.ensures.cleared
     c.in-Some.ensures.unit c.in-Some.ensures.one
 
 pub fill_moments-requires-clause-lost : goal.fill_moments-requires-clause-lost
@@ -54,17 +54,17 @@ fill_moments-requires-clause-syndromes g c = c.requires.syndromes
 pub find_locator-requires-clause-moments : goal.find_locator-requires-clause-moments
 find_locator-requires-clause-moments g c = c.fill_moments.ensures.checked
 
-pub fill_values_of-requires-clause-points : goal.fill_values_of-requires-clause-points
-fill_values_of-requires-clause-points g c = c.requires.points
+pub fill_values_of-of_values-requires-clause-points : goal.fill_values_of-of_values-requires-clause-points
+fill_values_of-of_values-requires-clause-points g c = c.requires.points
 
-pub fill_values_of-requires-clause-first : goal.fill_values_of-requires-clause-first
-fill_values_of-requires-clause-first g c = c.find_locator.ensures.checked_first
+pub fill_values_of-of_values-requires-clause-first : goal.fill_values_of-of_values-requires-clause-first
+fill_values_of-of_values-requires-clause-first g c = c.find_locator.ensures.checked_first
 
-pub fill_values_of-requires-clause-second : goal.fill_values_of-requires-clause-second
-fill_values_of-requires-clause-second g c = c.find_locator.ensures.checked_second
+pub fill_values_of-of_values-requires-clause-second : goal.fill_values_of-of_values-requires-clause-second
+fill_values_of-of_values-requires-clause-second g c = c.find_locator.ensures.checked_second
 
 pub clear_lost-requires-clause-values : goal.clear_lost-requires-clause-values
-clear_lost-requires-clause-values g c = c.fill_values_of.ensures.checked
+clear_lost-requires-clause-values g c = c.fill_values_of-of_values.ensures.checked
 
 pub returns-in-Some-clause-checked : goal.returns-in-Some-clause-checked
 returns-in-Some-clause-checked g c = c.clear_lost.ensures.checked

@@ -13,6 +13,7 @@ sums-init g c =
       c.requires.terms,
       λ i l. terms_first m _ _,
       λ j l. absurd (omega arith),
+      omega arith,
     )
 
 pub returns-then-ne-clause-sums : goal.returns-then-ne-clause-sums
@@ -47,6 +48,7 @@ sums-preserved g c =
       below_more _ _ so_far.2
           (sym symbol ∙ sym (ap (ring.value m) same)
           ∙ sum_of_terms m n h _ x w _ so_far.1 c.next_sum-sum.ensures.value),
+      (let more = c.saturating_add.ensures in let before = so_far.3 in omega (arith, more, before)),
     )
 
 pub returns-clause-sums : goal.returns-clause-sums

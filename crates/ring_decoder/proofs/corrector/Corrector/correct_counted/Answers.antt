@@ -1,0 +1,149 @@
+use Rattle.num_modular.specs.Callers.{◌≡◌, ◌*◌, ◌-◌, ℕ, ◌∙◌, ap, sym, subst, refl, arith, length, entry}
+use Rattle.ring_codes.proofs.Symbols.{entry_below}
+use Rattle.ring_decoder.proofs.CorrectedWords.{all_zero, not_one, codeword_by_zeros, fit_of_weights, right_already, right_word, fault_of_word}
+use Rattle.ring_decoder.proofs.DualCode.{weight_unit}
+use Rattle.ring_decoder.specs.Corrector.{AreLost}
+use Rattle.ring_decoder.specs.ErrorPatterns.{IsPatternFault, IsSolution, zeros}
+use Rattle.ring_decoder.specs.PowerSums.{ArePowerSums}
+use Rattle.ring_decoder.proofs.corrector.Corrector.correct_counted.Goals as goal
+
+pub returns-then-count_zeros-syndromes-clause-corrected : goal.returns-then-count_zeros-syndromes-clause-corrected
+returns-then-count_zeros-syndromes-clause-corrected g c =
+    let self = c.args.self.now in let ring = g.R.Reducer in let m = ring.modulus self.ring.now in
+    let number = g.T.RingWord.number in let positive = (g.met.R.Reducer.canonical self.ring.now).positive in
+    let x = entry number ring.value m self.points.now in let v = entry number ring.value m self.weights.now in
+    let y = entry number ring.value m c.args.word.now in let n : ℕ = length self.points.now in let k = self.k in
+    let s = entry number ring.value m c.write_syndromes-products.new.syndromes in let lost = c.args.lost.now in
+    let places : AreLost k n lost = c.in-Ok.ensures m x in
+    let room = c.requires.room in
+    let long : length c.write_syndromes-products.new.syndromes ≡ n - k =
+    c.write_syndromes-products.auto.syndromes ∙ c.split_at_mut-syndromes.ensures.front_len in
+    let right = right_already m k n x v lost y s positive places self.inverses
+    (λ i l. entry_below number ring.form ring.value m c.args.word.now i c.requires.word (omega (arith, l, room)))
+    (subst (λ t. ArePowerSums m t n x (λ i. v i * y i) s) c.split_at_mut-syndromes.ensures.front_len
+    c.write_syndromes-products.ensures.sums)
+    (λ h l. all_zero _ _ (sym c.count_zeros.ensures ∙ c.if-count_zeros-syndromes.true) h (omega (arith, l, long))) in
+    record {
+      places = places;
+      checked = c.requires.word;
+      codeword = right.codeword;
+      count = right.count;
+      few = right.few;
+      only = right.only;
+    }
+
+pub find_errors-requires-clause-fit : goal.find_errors-requires-clause-fit
+find_errors-requires-clause-fit g c =
+    let self = c.args.self.now in let ring = g.R.Reducer in let m = ring.modulus self.ring.now in
+    let number = g.T.RingWord.number in
+    fit_of_weights m (length self.points.now) (entry number ring.value m self.points.now)
+    (entry number ring.value m self.weights.now) self.inverses
+
+pub find_errors-requires-clause-units : goal.find_errors-requires-clause-units
+find_errors-requires-clause-units g c i l =
+    let self = c.args.self.now in let ring = g.R.Reducer in let m = ring.modulus self.ring.now in
+    weight_unit m (length self.points.now) i (entry g.T.RingWord.number ring.value m self.points.now)
+    (entry g.T.RingWord.number ring.value m self.weights.now) self.inverses l
+
+pub find_errors-requires-clause-places : goal.find_errors-requires-clause-places
+find_errors-requires-clause-places g c =
+    let self = c.args.self.now in let ring = g.R.Reducer in let m = ring.modulus self.ring.now in
+    let n : ℕ = length self.points.now in let lost = c.args.lost.now in
+    let places : AreLost self.k n lost = c.in-Ok.ensures m (entry g.T.RingWord.number ring.value m self.points.now) in
+    let long : length c.write_syndromes-products.new.syndromes ≡ n - self.k =
+    c.write_syndromes-products.auto.syndromes ∙ c.split_at_mut-syndromes.ensures.front_len in
+    let few = self.few in
+    let same : self.k ≡ n - length c.write_syndromes-products.new.syndromes = omega (arith, long, few) in
+    subst (λ k. AreLost k n lost) same places
+
+pub returns-in-Err-find_errors-clause-corrected : goal.returns-in-Err-find_errors-clause-corrected
+returns-in-Err-find_errors-clause-corrected g c =
+    let self = c.args.self.now in let ring = g.R.Reducer in let m = ring.modulus self.ring.now in
+    let number = g.T.RingWord.number in let positive = (g.met.R.Reducer.canonical self.ring.now).positive in
+    let x = entry number ring.value m self.points.now in let v = entry number ring.value m self.weights.now in
+    let y = entry number ring.value m c.args.word.now in let n : ℕ = length self.points.now in let k = self.k in
+    let s = entry number ring.value m c.write_syndromes-products.new.syndromes in let lost = c.args.lost.now in
+    let places : AreLost k n lost = c.in-Ok.ensures m x in
+    let long : length c.write_syndromes-products.new.syndromes ≡ n - k =
+    c.write_syndromes-products.auto.syndromes ∙ c.split_at_mut-syndromes.ensures.front_len in (
+      refl,
+      fault_of_word number m k n x v lost y s positive places self.inverses
+          (subst (λ t. ArePowerSums m t n x (λ i. v i * y i) s) c.split_at_mut-syndromes.ensures.front_len
+          c.write_syndromes-products.ensures.sums)
+          c.in-Err-find_errors.error
+          (subst (λ t. IsPatternFault number m t n x v lost s c.in-Err-find_errors.error) long c.in-Err-find_errors.ensures.found),
+    )
+
+pub returns-in-Ok-find_errors-clause-corrected : goal.returns-in-Ok-find_errors-clause-corrected
+returns-in-Ok-find_errors-clause-corrected g c =
+    let self = c.args.self.now in let ring = g.R.Reducer in let m = ring.modulus self.ring.now in
+    let number = g.T.RingWord.number in let positive = (g.met.R.Reducer.canonical self.ring.now).positive in
+    let x = entry number ring.value m self.points.now in let v = entry number ring.value m self.weights.now in
+    let y = entry number ring.value m c.args.word.now in let n : ℕ = length self.points.now in let k = self.k in
+    let s = entry number ring.value m c.write_syndromes-products.new.syndromes in let lost = c.args.lost.now in
+    let e = entry number ring.value m c.find_errors.new.errors in let w = entry number ring.value m c.subtract.new.word in
+    let places : AreLost k n lost = c.in-Ok.ensures m x in
+    let room = c.requires.room in let kept = c.subtract.auto.word in
+    let long : length c.write_syndromes-products.new.syndromes ≡ n - k =
+    c.write_syndromes-products.auto.syndromes ∙ c.split_at_mut-syndromes.ensures.front_len in
+    let each : length c.find_errors.new.errors ≡ n =
+    c.find_errors.auto.errors ∙ c.split_at_mut-errors.ensures.front_len in
+    let found = c.in-Ok-find_errors.ensures.found in
+    let right = right_word m k n c.in-Ok-find_errors.wrong x v lost y s e w positive places self.inverses
+    (λ i l. entry_below number ring.form ring.value m c.args.word.now i c.requires.word (omega (arith, l, room)))
+    (λ i l. entry_below number ring.form ring.value m c.subtract.new.word i c.subtract.ensures.checked
+    (omega (arith, l, kept, room)))
+    (subst (λ t. ArePowerSums m t n x (λ i. v i * y i) s) c.split_at_mut-syndromes.ensures.front_len
+    c.write_syndromes-products.ensures.sums)
+    (subst (λ t. IsSolution m t n x v lost s e c.in-Ok-find_errors.wrong) long found.1)
+    (λ i l. c.subtract.ensures.difference i (omega (arith, l, each))) in
+    record {
+      places = places;
+      checked = c.subtract.ensures.checked;
+      codeword = right.codeword;
+      count = right.count;
+      few = right.few;
+      only = right.only;
+    }
+
+pub find_errors-requires-clause-modulus : goal.find_errors-requires-clause-modulus
+find_errors-requires-clause-modulus g c =
+    let ring = g.R.Reducer in let m = ring.modulus c.args.self.now.ring.now in let number = g.T.RingWord.number in
+    let syndromes = c.write_syndromes-products.new.syndromes in
+    not_one m (length syndromes) (entry number ring.value m syndromes)
+    (λ i l. entry_below number ring.form ring.value m syndromes i c.write_syndromes-products.ensures.checked l)
+    (λ all. c.if-count_zeros-syndromes.false (c.count_zeros.ensures ∙ all))
+
+pub returns-in-Err-find_errors-clause-codeword : goal.returns-in-Err-find_errors-clause-codeword
+returns-in-Err-find_errors-clause-codeword g c is =
+    let self = c.args.self.now in let ring = g.R.Reducer in let m = ring.modulus self.ring.now in
+    let number = g.T.RingWord.number in let positive = (g.met.R.Reducer.canonical self.ring.now).positive in
+    let forms = c.write_syndromes-products.new.syndromes in let s = entry number ring.value m forms in
+    let room = c.requires.room in let n : ℕ = length self.points.now in let k = self.k in
+    let long : length forms ≡ n - k =
+    c.write_syndromes-products.auto.syndromes ∙ c.split_at_mut-syndromes.ensures.front_len in
+    let zero = (codeword_by_zeros m k n (entry number ring.value m self.points.now) (entry number ring.value m self.weights.now)
+    (entry number ring.value m c.args.word.now) s positive self.few self.inverses
+    (λ i l. entry_below number ring.form ring.value m c.args.word.now i c.requires.word (omega (arith, l, room)))
+    (λ h l. entry_below number ring.form ring.value m forms h c.write_syndromes-products.ensures.checked (omega (arith, l, long)))
+    (subst (λ t. ArePowerSums m t n (entry number ring.value m self.points.now)
+    (λ i. entry number ring.value m self.weights.now i * entry number ring.value m c.args.word.now i) s)
+    c.split_at_mut-syndromes.ensures.front_len c.write_syndromes-products.ensures.sums)).1 is in
+    absurd (c.if-count_zeros-syndromes.false (c.count_zeros.ensures ∙ ap (λ t. zeros t s) long ∙ zero ∙ sym long))
+
+pub returns-in-Ok-find_errors-clause-codeword : goal.returns-in-Ok-find_errors-clause-codeword
+returns-in-Ok-find_errors-clause-codeword g c is =
+    let self = c.args.self.now in let ring = g.R.Reducer in let m = ring.modulus self.ring.now in
+    let number = g.T.RingWord.number in let positive = (g.met.R.Reducer.canonical self.ring.now).positive in
+    let forms = c.write_syndromes-products.new.syndromes in let s = entry number ring.value m forms in
+    let room = c.requires.room in let n : ℕ = length self.points.now in let k = self.k in
+    let long : length forms ≡ n - k =
+    c.write_syndromes-products.auto.syndromes ∙ c.split_at_mut-syndromes.ensures.front_len in
+    let zero = (codeword_by_zeros m k n (entry number ring.value m self.points.now) (entry number ring.value m self.weights.now)
+    (entry number ring.value m c.args.word.now) s positive self.few self.inverses
+    (λ i l. entry_below number ring.form ring.value m c.args.word.now i c.requires.word (omega (arith, l, room)))
+    (λ h l. entry_below number ring.form ring.value m forms h c.write_syndromes-products.ensures.checked (omega (arith, l, long)))
+    (subst (λ t. ArePowerSums m t n (entry number ring.value m self.points.now)
+    (λ i. entry number ring.value m self.weights.now i * entry number ring.value m c.args.word.now i) s)
+    c.split_at_mut-syndromes.ensures.front_len c.write_syndromes-products.ensures.sums)).1 is in
+    absurd (c.if-count_zeros-syndromes.false (c.count_zeros.ensures ∙ ap (λ t. zeros t s) long ∙ zero ∙ sym long))
