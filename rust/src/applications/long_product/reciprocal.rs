@@ -31,14 +31,29 @@ pub(crate) fn remainder(by: &PreMulInv2by1<u64>, t: u128) -> u64 {
     rest >> shift
 }
 
-// The remainder of a double word; one that is below m is its own. Condition: it is below 2^127.
+// The residue of a word; one that is below m is its own.
+#[inline]
+fn residue_of_word(by: &PreMulInv2by1<u64>, x: u64) -> u64 {
+    if x < by.modulus() {
+        return x;
+    }
+    remainder(by, x as u128)
+}
+
+/// The remainder of any double word: the upper word is reduced first.
+#[inline]
+pub(crate) fn remainder_by_words(by: &PreMulInv2by1<u64>, t: u128) -> u64 {
+    let top = residue_of_word(by, (t / 18446744073709551616) as u64);
+    remainder(by, top as u128 * 18446744073709551616 + t % 18446744073709551616)
+}
+
+// The same; a double word below m is its own remainder.
 #[inline]
 fn remainder_of_double(by: &PreMulInv2by1<u64>, t: u128) -> u64 {
     if t < by.modulus() as u128 {
         return t as u64;
     }
-    let top = remainder(by, t / 18446744073709551616);
-    remainder(by, top as u128 * 18446744073709551616 + t % 18446744073709551616)
+    remainder_by_words(by, t)
 }
 
 /// The remainder of low + high·2^64, from the top.

@@ -58,7 +58,7 @@ fn multiply_each<T: RingWord, R: Reducer<T>>(r: &R, xs: &[T], ys: &[T], products
     }
 }
 
-// Writes the errors at the chosen points, if there are any with all the syndromes.
+// Writes the errors at the chosen points, if there are any with all the syndromes. The number of products is added.
 fn solve_chosen<T: RingWord, R: Reducer<T>>(
     r: &R,
     points: &[T],
@@ -66,15 +66,18 @@ fn solve_chosen<T: RingWord, R: Reducer<T>>(
     syndromes: &[T],
     scratch: &mut [T],
     errors: &mut [T],
+    products: &mut u128,
 ) -> bool {
     let (product, rest) = scratch.split_at_mut(points.len() + 1);
     let (terms, rest) = rest.split_at_mut(points.len());
     let (spare, _) = rest.split_at_mut(points.len());
+    let q = points.len() as u128;
+    *products = products.saturating_add(q.saturating_mul(7 * q + 13) / 2);
     if !solve_errors(r, points, weights, syndromes, product, terms, spare, errors) {
         return false;
     }
     multiply_each(r, weights, errors, terms);
-    are_power_sums(r, points, terms, syndromes)
+    are_power_sums(r, points, terms, syndromes, products)
 }
 
 // 1 where the error at a place that isn't lost isn't 0, otherwise 0.
@@ -98,7 +101,7 @@ fn count_wrong<T: RingWord, R: Reducer<T>>(r: &R, lost: &[usize], errors: &[T]) 
 }
 
 // Writes the errors at all places, 0 where a value isn't 0, if there are any with all the syndromes that are few enough:
-// returns how many are at places that aren't lost.
+// returns how many are at places that aren't lost. The number of products is added.
 pub fn solve<T: RingWord, R: Reducer<T>>(
     r: &R,
     points: &[T],
@@ -108,6 +111,7 @@ pub fn solve<T: RingWord, R: Reducer<T>>(
     values: &[T],
     scratch: &mut [T],
     errors: &mut [T],
+    products: &mut u128,
 ) -> Option<usize> {
     let q = count_zeros(r, values);
     if q > syndromes.len() {
@@ -118,7 +122,7 @@ pub fn solve<T: RingWord, R: Reducer<T>>(
     let (chosen_errors, rest) = rest.split_at_mut(q);
     gather(r, values, points, chosen);
     gather(r, values, weights, chosen_weights);
-    if !solve_chosen(r, chosen, chosen_weights, syndromes, rest, chosen_errors) {
+    if !solve_chosen(r, chosen, chosen_weights, syndromes, rest, chosen_errors, products) {
         return None;
     }
     scatter(r, values, chosen_errors, errors);

@@ -268,9 +268,8 @@ impl<'a, T: RingWord, R: Reducer<T>> Corrector<'a, T, R> {
     /// `TooFewSymbols`, fewer than k others are left; `PlaceOutOfRange`, a place isn't below n; `PlaceTwice`, a place
     /// occurs twice; the first cause.
     ///
-    /// The contents of `scratch` are ignored, and unspecified afterwards. With t = n - k it takes n·(t + 1) products, n·t with
-    /// a table of checks; and where a symbol is lost or wrong, with N = t - c and q = c + e, modulo a prime at most
-    /// 2·N·(N + c) + n·(e + 1) + q·(t + 4·q + 9) + 6·N more, and one inversion.
+    /// The contents of `scratch` are ignored, and unspecified afterwards. [`correct_counted`](Corrector::correct_counted) says
+    /// how many products it takes.
     ///
     /// Source: Massey, "Shift-register synthesis and BCH decoding"; Forney, "On decoding BCH codes"; over rings Reeds and
     /// Sloane, "Shift-register synthesis (modulo m)".
@@ -311,7 +310,51 @@ impl<'a, T: RingWord, R: Reducer<T>> Corrector<'a, T, R> {
     /// assert_eq!(code.correct(&mut word, &[0], &mut scratch), Err(CorrectError::TooManyErrors));
     /// ```
     #[track_caller]
+    #[inline]
     pub fn correct(&self, word: &mut [T], lost: &[usize], scratch: &mut [T]) -> Result<usize, CorrectError<T>> {
+        self.correct_counted(word, lost, scratch).0
+    }
+
+    /// [`correct`](Corrector::correct), and the number of products.
+    ///
+    /// A call of the reducer for a product or a square counts, and so does each term of a dot product; what an inversion, a
+    /// conversion or a test of a condition takes doesn't. With t = n - k, a word of the code takes n·(t + 1) products, n·t with
+    /// a table of checks, and n·z/2 + 2·n - 1 + z with a root, where n = 2^z. Any other word, of which c symbols are lost,
+    /// takes at most c·(c + 3)/2 + N·(c + 1) + (3·N + n)·(N/2 + 1) + t·(9·t + 13)/2 + n more, where N = t - c, and two
+    /// inversions. Modulo a prime, e wrong symbols besides take at most 2·N·(N + c) + n·(e + 1) + q·(t + 4·q + 9) + 6·N more
+    /// and one inversion, where q = c + e. Where the lost places are wrong the number is 0; none is above 2^128 - 1.
+    ///
+    /// # Errors
+    ///
+    /// Those of [`correct`](Corrector::correct).
+    ///
+    /// # Panics
+    ///
+    /// Panics unless
+    ///
+    /// - the word has n symbols
+    /// - there are at least 2·n + 7·(n - k) + 3 places of scratch
+    ///
+    /// A debug build also panics unless the symbols are checked forms.
+    ///
+    /// A release build doesn't test this: where it doesn't hold, the call panics or its result is unspecified.
+    ///
+    /// # Examples
+    ///
+    /// ```
+    /// use num_modular::applications::ring_codes::erasure::Corrector;
+    /// use num_modular::{Reducer, Vanilla};
+    ///
+    /// let ring = Vanilla::<u8>::new(&97);
+    /// let (mut weights, mut scratch) = ([0; 4], [0; 25]);
+    /// let code = Corrector::new(&ring, &[1, 2, 3, 4], 2, &mut weights, &mut scratch[..4]).unwrap();
+    /// let mut word = [12, 19, 26, 33];
+    /// assert_eq!(code.correct_counted(&mut word, &[], &mut scratch), (Ok(0), 4 * (2 + 1)));
+    /// word[2] = 50;
+    /// assert_eq!(code.correct_counted(&mut word, &[], &mut scratch), (Ok(1), 45));
+    /// ```
+    #[track_caller]
+    pub fn correct_counted(&self, word: &mut [T], lost: &[usize], scratch: &mut [T]) -> (Result<usize, CorrectError<T>>, u128) {
         debug_assert!(word.iter().all(|x| self.ring.check(x)), "the symbols must be checked forms");
         assert!(word.len() == self.points.len(), "the word must have n symbols: {} and {}", word.len(), self.points.len());
         assert!(
@@ -321,21 +364,22 @@ impl<'a, T: RingWord, R: Reducer<T>> Corrector<'a, T, R> {
             2 * self.points.len() + 7 * (self.points.len() - self.k) + 3
         );
         match check_lost(self.k, self.points.len(), lost) {
-            Err(error) => return Err(CorrectError::Restore(error)),
+            Err(error) => return (Err(CorrectError::Restore(error)), 0),
             Ok(()) => {}
         }
         let (values, rest) = scratch.split_at_mut(self.points.len());
         let (errors, rest) = rest.split_at_mut(self.points.len());
         let (syndromes, rest) = rest.split_at_mut(self.points.len() - self.k);
-        write_syndromes(self.ring, self.points, self.weights, self.checks, self.root, word, values, syndromes);
+        let mut products =
+            write_syndromes(self.ring, self.points, self.weights, self.checks, self.root, word, values, syndromes);
         if count_zeros(self.ring, syndromes) == syndromes.len() {
-            return Ok(0);
+            return (Ok(0), products);
         }
-        match find_errors(self.ring, self.points, self.weights, lost, syndromes, rest, values, errors) {
-            Err(error) => Err(error),
+        match find_errors(self.ring, self.points, self.weights, lost, syndromes, rest, values, errors, &mut products) {
+            Err(error) => (Err(error), products),
             Ok(wrong) => {
                 subtract(self.ring, errors, word);
-                Ok(wrong)
+                (Ok(wrong), products)
             }
         }
     }

@@ -9,7 +9,8 @@ use super::syndromes::fill_syndromes;
 use crate::applications::ring_codes::erasure::CorrectError;
 use crate::{Reducer, RingWord};
 
-// Writes the syndromes of a word: by a transform or by the table of checks, where there is a root or a table.
+// Writes the syndromes of a word: by a transform or by the table of checks, where there is a root or a table. Returns the
+// number of products.
 pub fn write_syndromes<T: RingWord, R: Reducer<T>>(
     r: &R,
     points: &[T],
@@ -19,23 +20,28 @@ pub fn write_syndromes<T: RingWord, R: Reducer<T>>(
     word: &[T],
     terms: &mut [T],
     syndromes: &mut [T],
-) {
+) -> u128 {
+    let n = points.len() as u128;
     match root {
         Some(g) => {
             if fill_syndromes_by_transform(r, &g, word, terms, syndromes) {
-                return;
+                let z = points.len().trailing_zeros() as u128;
+                return n * z / 2 + 2 * n - 1 + z;
             }
         }
         None => {}
     }
     if checks.is_empty() {
-        fill_syndromes(r, points, weights, word, terms, syndromes)
+        fill_syndromes(r, points, weights, word, terms, syndromes);
+        n * (syndromes.len() as u128 + 1)
     } else {
-        fill_checked_syndromes(r, checks, word, syndromes)
+        fill_checked_syndromes(r, checks, word, syndromes);
+        n * syndromes.len() as u128
     }
 }
 
-// Writes the few errors that have the syndromes, and returns how many of them are at places that aren't lost.
+// Writes the few errors that have the syndromes, and returns how many of them are at places that aren't lost. The number of
+// products is added.
 pub fn find_errors<T: RingWord, R: Reducer<T>>(
     r: &R,
     points: &[T],
@@ -45,15 +51,19 @@ pub fn find_errors<T: RingWord, R: Reducer<T>>(
     scratch: &mut [T],
     values: &mut [T],
     errors: &mut [T],
+    products: &mut u128,
 ) -> Result<usize, CorrectError<T>> {
-    match locate(r, points, lost, syndromes, scratch, values) {
+    match locate(r, points, lost, syndromes, scratch, values, products) {
         None => Err(CorrectError::TooManyErrors),
-        Some(witness) => match solve(r, points, weights, lost, syndromes, values, scratch, errors) {
+        Some(witness) => match solve(r, points, weights, lost, syndromes, values, scratch, errors, products) {
             Some(wrong) => Ok(wrong),
-            None => match find_nonunit(r, &witness, values) {
-                Some(a) => Err(CorrectError::NoInverse(a)),
-                None => Err(CorrectError::TooManyErrors),
-            },
+            None => {
+                *products = products.saturating_add(points.len() as u128);
+                match find_nonunit(r, &witness, values) {
+                    Some(a) => Err(CorrectError::NoInverse(a)),
+                    None => Err(CorrectError::TooManyErrors),
+                }
+            }
         },
     }
 }

@@ -27,7 +27,7 @@ fn quotient_sum<T: RingWord, R: Reducer<T>>(r: &R, coefficients: &[T], point: &T
 /// errors. It returns false exactly where the points don't fit or a weight has no inverse.
 ///
 /// The contents of `product`, `divisors` and `scratch` are ignored, and unspecified afterwards; those of `errors` are
-/// ignored, and unspecified after false. It takes about 3.5·q² products and one inversion.
+/// ignored, and unspecified after false. It takes q·(7·q + 11)/2 products and one inversion.
 ///
 /// Source: Forney, "On decoding BCH codes"; here by the quotients of the product of X - x by each X - x, the rows of the
 /// inverse of Vandermonde's matrix (Knuth, The Art of Computer Programming, volume 1, section 1.2.3, exercise 40).

@@ -10,7 +10,7 @@ fn apply<T: RingWord, R: Reducer<T>>(r: &R, polynomial: &[T], count: usize, numb
     dot_product(r, &polynomial[..count], &numbers[from..from + count])
 }
 
-// Replaces the first coefficients of a polynomial f by those of a·f - b·X^q·g.
+// Replaces the first coefficients of a polynomial f by those of a·f - b·X^q·g: by q products less than two for each.
 fn combine<T: RingWord, R: Reducer<T>>(r: &R, a: &T, polynomial: &mut [T], count: usize, b: &T, q: usize, other: &[T]) {
     for i in 0..q {
         let scaled = r.mul(a, &polynomial[i]);
@@ -36,7 +36,8 @@ fn extend_witness<T: RingWord, R: Reducer<T>>(r: &R, witness: T, met: &T) -> T {
 }
 
 // Takes one moment more into account: returns the order of the recurrence, whether the two polynomials have changed places,
-// the pivot and the witness; `None` where the order would be more than half the number of moments.
+// the pivot and the witness; `None` where the order would be more than half the number of moments. The number of products
+// is added.
 fn advance<T: RingWord, R: Reducer<T>>(
     r: &R,
     moments: &[T],
@@ -46,12 +47,15 @@ fn advance<T: RingWord, R: Reducer<T>>(
     degree: usize,
     pivot: T,
     witness: T,
+    products: &mut u128,
 ) -> Option<(usize, bool, T, T)> {
     let from = i - degree;
     let discrepancy = apply(r, locator, degree + 1, moments, from);
+    *products = products.saturating_add(degree as u128 + 1);
     if from < degree {
         let q = degree - 1 - from;
         combine(r, &pivot, locator, degree + 1, &discrepancy, q, other);
+        *products = products.saturating_add(2 * (degree as u128 + 1) - q as u128);
         return Some((degree, false, pivot, witness));
     }
     if r.is_zero(&discrepancy) {
@@ -63,6 +67,7 @@ fn advance<T: RingWord, R: Reducer<T>>(
     let q = from + 1 - degree;
     combine(r, &discrepancy, other, from + 2, &pivot, q, locator);
     let next = extend_witness(r, witness, &discrepancy);
+    *products = products.saturating_add(2 * (from as u128 + 2) - q as u128 + 1);
     Some((from + 1, true, discrepancy, next))
 }
 
@@ -84,14 +89,15 @@ fn step<T: RingWord, R: Reducer<T>>(
     first: &mut [T],
     second: &mut [T],
     state: (usize, bool, T, T),
+    products: &mut u128,
 ) -> Option<(usize, bool, T, T)> {
     if state.1 {
-        match advance(r, moments, i, first, second, state.0, state.2, state.3) {
+        match advance(r, moments, i, first, second, state.0, state.2, state.3, products) {
             None => None,
             Some(next) => Some((next.0, !next.1, next.2, next.3)),
         }
     } else {
-        advance(r, moments, i, second, first, state.0, state.2, state.3)
+        advance(r, moments, i, second, first, state.0, state.2, state.3, products)
     }
 }
 
@@ -107,6 +113,7 @@ fn step<T: RingWord, R: Reducer<T>>(
 /// u·(x - X).
 ///
 /// `None` only if of all weights that have these moments more than N/2 aren't 0. What the lists hold before is ignored.
+/// The number of products is added to `products`: at most 3·N·(N/2 + 1).
 ///
 /// Source: the algorithm of Berlekamp and Massey ("Shift-register synthesis and BCH decoding"); without division, as
 /// Burton, "Inversionless decoding of binary BCH codes".
@@ -122,6 +129,7 @@ pub fn find_locator<T: RingWord, R: Reducer<T>>(
     moments: &[T],
     first: &mut [T],
     second: &mut [T],
+    products: &mut u128,
 ) -> Option<(usize, bool, T)> {
     let one = r.transform(T::one());
     let zero = r.transform(T::zero());
@@ -129,7 +137,7 @@ pub fn find_locator<T: RingWord, R: Reducer<T>>(
     set_constant(r, &zero, second);
     let mut state = (0, true, one, one);
     for i in 0..moments.len() {
-        match step(r, moments, i, first, second, state) {
+        match step(r, moments, i, first, second, state, products) {
             None => return None,
             Some(next) => state = next,
         }

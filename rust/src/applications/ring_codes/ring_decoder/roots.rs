@@ -29,7 +29,7 @@ pub fn are_powers<T: RingWord, R: Reducer<T>>(r: &R, g: &T, points: &[T]) -> boo
 /// Writes the syndromes of a word at the powers of a root, those that `fill_syndromes` writes, and returns true: by one
 /// transform. False exactly where the number of the points has no inverse.
 ///
-/// They are the last coefficients of the polynomial through all symbols. The contents of `coefficients` are ignored, and
+/// For n symbols it takes the products of `ntt_counted` and n more, or none where it returns false. They are the last coefficients of the polynomial through all symbols. The contents of `coefficients` are ignored, and
 /// unspecified afterwards; those of `syndromes` too after false.
 ///
 /// Source: Blahut, "Transform techniques for error control codes".

@@ -7,15 +7,17 @@ use super::syndromes::fill_moments;
 use crate::applications::ring_codes::erasure::evaluate_each;
 use crate::{Reducer, RingWord};
 
-// Writes the locator's values at the points; ones, where its degree is 0.
-fn fill_values<T: RingWord, R: Reducer<T>>(r: &R, points: &[T], locator: &[T], degree: usize, values: &mut [T]) {
+// Writes the locator's values at the points; ones, where its degree is 0. Returns the number of products.
+fn fill_values<T: RingWord, R: Reducer<T>>(r: &R, points: &[T], locator: &[T], degree: usize, values: &mut [T]) -> u128 {
     if degree == 0 {
         let one = r.transform(T::one());
         for i in 0..points.len() {
             values[i] = one;
         }
+        0
     } else {
         evaluate_each(r, &locator[..degree + 1], points, values);
+        (points.len() as u128).saturating_mul(degree as u128 + 1)
     }
 }
 
@@ -29,16 +31,17 @@ fn fill_values_of<T: RingWord, R: Reducer<T>>(
     in_first: bool,
     degree: usize,
     values: &mut [T],
-) {
+) -> u128 {
     if in_first {
-        fill_values(r, points, first, degree, values);
+        fill_values(r, points, first, degree, values)
     } else {
-        fill_values(r, points, second, degree, values);
+        fill_values(r, points, second, degree, values)
     }
 }
 
 // Writes the locator's values at all points, and 0 at the lost places: the word may have to change only where a value is 0.
-// Returns a number that has an inverse only where all pivots have. `None` where no word is near.
+// Returns a number that has an inverse only where all pivots have. `None` where no word is near. The number of products is
+// added.
 pub fn locate<T: RingWord, R: Reducer<T>>(
     r: &R,
     points: &[T],
@@ -46,6 +49,7 @@ pub fn locate<T: RingWord, R: Reducer<T>>(
     syndromes: &[T],
     scratch: &mut [T],
     values: &mut [T],
+    products: &mut u128,
 ) -> Option<T> {
     let count = syndromes.len() - lost.len();
     let (located, rest) = scratch.split_at_mut(lost.len());
@@ -55,10 +59,14 @@ pub fn locate<T: RingWord, R: Reducer<T>>(
     let (second, _) = rest.split_at_mut(count / 2 + 1);
     copy_points(r, points, lost, located);
     fill_moments(r, located, syndromes, product, moments);
-    match find_locator(r, moments, first, second) {
+    let c = lost.len() as u128;
+    *products = products.saturating_add(c.saturating_mul(c + 3) / 2);
+    *products = products.saturating_add((count as u128).saturating_mul(c + 1));
+    match find_locator(r, moments, first, second, products) {
         None => None,
         Some(found) => {
-            fill_values_of(r, points, first, second, found.1, found.0, values);
+            let of_values = fill_values_of(r, points, first, second, found.1, found.0, values);
+            *products = products.saturating_add(of_values);
             clear_lost(r, lost, values);
             Some(found.2)
         }
@@ -66,6 +74,7 @@ pub fn locate<T: RingWord, R: Reducer<T>>(
 }
 
 // A number without an inverse, of the witness and the values that aren't 0, or a product of some; `None` where each has one.
+// It takes a product for each value.
 #[must_use]
 pub fn find_nonunit<T: RingWord, R: Reducer<T>>(r: &R, witness: &T, values: &[T]) -> Option<T> {
     let mut product = *witness;

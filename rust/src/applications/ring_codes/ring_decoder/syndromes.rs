@@ -34,7 +34,8 @@ pub fn fill_power_sums<T: RingWord, R: Reducer<T>>(r: &R, points: &[T], terms: &
 
 /// Whether the sums are the power sums of the points, whose weights are the terms.
 ///
-/// The terms are replaced by other checked forms. It takes at most a product for each point and each sum.
+/// The terms are replaced by other checked forms. The number of products is added to `products`: one for each point and
+/// each sum, up to the first that differs.
 ///
 /// # Preconditions
 ///
@@ -43,9 +44,16 @@ pub fn fill_power_sums<T: RingWord, R: Reducer<T>>(r: &R, points: &[T], terms: &
 ///
 /// No build tests this: where it doesn't hold, the call panics or its result is unspecified.
 #[inline]
-pub fn are_power_sums<T: RingWord, R: Reducer<T>>(r: &R, points: &[T], terms: &mut [T], sums: &[T]) -> bool {
+pub fn are_power_sums<T: RingWord, R: Reducer<T>>(
+    r: &R,
+    points: &[T],
+    terms: &mut [T],
+    sums: &[T],
+    products: &mut u128,
+) -> bool {
     for h in 0..sums.len() {
         let sum = next_sum(r, points, terms);
+        *products = products.saturating_add(points.len() as u128);
         if sum != sums[h] {
             return false;
         }
@@ -95,7 +103,7 @@ fn multiply_front<T: RingWord, R: Reducer<T>>(r: &R, point: &T, coefficients: &m
 
 /// Writes the coefficients, the constant first, of the product of X - x for the points x.
 ///
-/// The contents of `coefficients` are ignored. It takes about q²/2 products for q points.
+/// The contents of `coefficients` are ignored. It takes q·(q + 3)/2 products for q points.
 ///
 /// # Preconditions
 ///
@@ -125,7 +133,7 @@ pub fn sum_from<T: RingWord, R: Reducer<T>>(r: &R, coefficients: &[T], numbers: 
 ///
 /// If the syndromes are power sums, so are the moments, with each weight multiplied by its point's differences from the c
 /// lost points: thus the weight of a lost point becomes 0. The contents of `product` are ignored; afterwards it holds the
-/// coefficients of the product of X - x for the lost points x. It takes about c²/2 + N·(c + 1) products for N moments.
+/// coefficients of the product of X - x for the lost points x. It takes c·(c + 3)/2 + N·(c + 1) products for N moments.
 ///
 /// Source: Forney, "On decoding BCH codes".
 ///
