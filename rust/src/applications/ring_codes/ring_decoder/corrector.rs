@@ -315,7 +315,7 @@ impl<'a, T: RingWord, R: Reducer<T>> Corrector<'a, T, R> {
         self.correct_counted(word, lost, scratch).0
     }
 
-    /// [`correct`](Corrector::correct), and the number of products.
+    /// Corrects a word as `correct` does, and returns the number of products besides.
     ///
     /// A call of the reducer for a product or a square counts, and so does each term of a dot product; what an inversion, a
     /// conversion or a test of a condition takes doesn't. With t = n - k, a word of the code takes n·(t + 1) products, n·t with
