@@ -5,9 +5,10 @@
                                    commit, the date and the compiler
     bench/speed.py show [PART..]   prints the tables of these parts, or of all, as Markdown
     bench/speed.py goals           compares the goals of bench/thresholds.txt with the results; the status is 1 if one is missed
-    bench/speed.py page [--check]  writes the table of the goals into docs/speed.md; with --check, the status is 1 if it differs
+    bench/speed.py page [--check]  writes the tables of the goals and of corrections into docs/speed.md; with --check, the status
+                                   is 1 if they differ
 
-The parts are crate, peers, plans, crossings, calls, random, secrets and widths. What is shown is of the processor that
+The parts are crate, peers, codes, plans, crossings, calls, random, secrets and widths. What is shown is of the processor that
 bench/thresholds.txt names.
 """
 import datetime
@@ -23,7 +24,7 @@ from pathlib import Path
 HERE = Path(__file__).resolve().parent
 RESULTS, THRESHOLDS, PAGE = HERE / "results", HERE / "thresholds.txt", HERE.parent / "docs/speed.md"
 BEGIN, END = "<!-- written by bench/speed.py page -->", "<!-- end of what bench/speed.py page writes -->"
-PARTS = ("crate", "peers", "plans", "crossings", "calls", "random", "secrets", "widths")
+PARTS = ("crate", "peers", "codes", "plans", "crossings", "calls", "random", "secrets", "widths")
 ABOVE = 1.05
 KINDS = (("words", r"u\d+ modulo .*"), ("Vanilla", r"Vanilla.*"), ("PreMulInv2by1", r"PreMul.*"), ("Montgomery", r"Montgomery.*"),
          ("OddMontgomery", r"OddMontgomery.*"), ("Mersenne", r"FixedMersenne.*"), ("Solinas", r"FixedTrinomial.*"), ("Proth", r"FixedProth.*"),
@@ -196,18 +197,44 @@ def measured_on():
 
 
 def text_of_goals():
-    yield "| Work | Ratio | Goal | |\n|---|---:|---:|---|\n"
+    yield "| Work | Ratio | Goal |\n|---|---:|---:|\n"
     for what, least, most, limit in compared():
         places = 3 if round(most, 2) <= limit < most else 2
         before = "" if least == f"{most:.2f} to " else least
-        yield f"| {what} | {before}{most:.{places}f} | {limit:g} | {'met' if most <= limit else '**missed**'} |\n"
+        ratio = f"{before}{most:.{places}f}"
+        yield f"| {what} | {ratio if most <= limit else f'**{ratio}**'} | {limit:g} |\n"
+
+
+# The tables of corrections: what is in each line's name before the number of wrong symbols, the row, and the column.
+CORRECTIONS = (
+    ("libfec_corrections", "", "255, 8, libfec", "with checks/libfec"),
+    ("corrections", r"(16|32|64) bits.*, ", r"255, \1, FLINT", "with checks/FLINT"),
+    ("long_corrections", r"(16|32|64) bits.*, ", r"4096, \1, FLINT", "by transform/FLINT"),
+)
+CORRECTED = """`Corrector::correct` with a table of checks, or of 4096 symbols by a transform; an eighth of them are check symbols:"""
+
+
+def text_of_corrections():
+    """The ratios of `Corrector::correct`, by the code and the number of wrong symbols."""
+    tables = {it["key"]: it for it in run_of("codes")["tables"]}
+    rows = defaultdict(dict)
+    for key, before, row, head in CORRECTIONS:
+        place = tables[key]["heads"].index(head) if key in tables else None
+        for line in tables[key]["lines"] if key in tables else ():
+            found = re.fullmatch(f"{before}(\\d+) wrong", line["name"])
+            if found:
+                rows[found.expand(row)][found[found.lastindex]] = line["numbers"][place]
+    wrong = [*next(iter(rows.values()))]
+    yield f"| Symbols, bits, peer; wrong: | {' | '.join(wrong)} |\n|---|{'---:|' * len(wrong)}\n"
+    for row, ratios in rows.items():
+        yield f"| {row} | {' | '.join(f'{ratios[it]:.2g}' for it in wrong)} |\n"
 
 
 def page(*words):
     """Writes the table into the page; with --check, whether it stands there."""
     text = PAGE.read_text(encoding="utf-8")
     before, rest = text.split(f"{BEGIN}\n")
-    new = f"{before}{BEGIN}\n\n{measured_on()}\n\n{''.join(text_of_goals())}\n{END}{rest.split(END)[1]}"
+    new = f"{before}{BEGIN}\n\n{measured_on()}\n\n{''.join(text_of_goals())}\n{CORRECTED}\n\n{''.join(text_of_corrections())}\n{END}{rest.split(END)[1]}"
     if words == ("--check",):
         print("docs/speed.md has what was measured" if new == text else "docs/speed.md doesn't have what was measured: run bench/speed.py page")
         return int(new != text)

@@ -3,9 +3,9 @@
 //! whole lists, searches, products of long numbers, and times and counted steps against sizes. Before anything is measured
 //! the answers are compared; where they differ it says so and ends with status 1.
 //!
-//! It prints JSON. With `--peers`, which the feature `peers` brings, it measures single calls, lists and erasure codes beside
-//! FLINT, and libfec where it is, in place of all that; with `--plans` the transforms by a plan and what uses them, beside NTL,
-//! FLINT and GMP. It starts itself with `--times`, for the further processes that measure the short lines.
+//! It prints JSON. With `--peers`, which the feature `peers` brings, it measures single calls and lists beside FLINT in place of
+//! all that; with `--codes` erasure codes beside FLINT, and libfec where it is; with `--plans` the transforms by a plan and what
+//! uses them, beside NTL, FLINT and GMP. It starts itself with `--times`, for the further processes that measure the short lines.
 
 #[cfg(feature = "peers")]
 mod codes;
@@ -139,9 +139,18 @@ fn beside_crate() -> Option<Report> {
 
 #[cfg(feature = "peers")]
 fn beside_peers() -> Option<Report> {
-    (peers::agree() && erasure::agree()).then(|| Report {
+    peers::agree().then(|| Report {
         beside: format!("FLINT {}", peers::version()),
-        tables: [peers::measured(), word_lists::measured(), erasure::measured(), codes::measured()]
+        tables: vec![peers::measured(), word_lists::measured()],
+        growth: Vec::new(),
+    })
+}
+
+#[cfg(feature = "peers")]
+fn codes_beside_peers() -> Option<Report> {
+    erasure::agree().then(|| Report {
+        beside: format!("FLINT {}", peers::version()),
+        tables: [erasure::measured(), codes::measured()]
             .into_iter()
             .chain([codes::prepared_rows()])
             .chain(corrections::measured())
@@ -172,6 +181,11 @@ fn beside_peers() -> Option<Report> {
 }
 
 #[cfg(not(feature = "peers"))]
+fn codes_beside_peers() -> Option<Report> {
+    beside_peers()
+}
+
+#[cfg(not(feature = "peers"))]
 fn plans_beside_peers() -> Option<Report> {
     beside_peers()
 }
@@ -184,6 +198,7 @@ fn main() -> ExitCode {
             return ExitCode::SUCCESS;
         }
         Some("--peers") => beside_peers(),
+        Some("--codes") => codes_beside_peers(),
         Some("--plans") => plans_beside_peers(),
         _ => beside_crate(),
     };
