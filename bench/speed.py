@@ -211,7 +211,7 @@ CORRECTIONS = (
     ("corrections", r"(16|32|64) bits.*, ", r"255, \1, FLINT", "with checks/FLINT"),
     ("long_corrections", r"(16|32|64) bits.*, ", r"4096, \1, FLINT", "by transform/FLINT"),
 )
-CORRECTED = """`Corrector::correct` with a table of checks, or of 4096 symbols by a transform; an eighth of them are check symbols:"""
+CORRECTED = """`Corrector::correct` with a table of checks, or of 4096 symbols by a transform:"""
 
 
 def text_of_corrections():
