@@ -95,6 +95,10 @@ impl PathWord for u8 {
         first + second
     }
 
+    fn double_shift_right(double: u16, by: u32) -> u16 {
+        double >> by
+    }
+
     fn double_overflowing_add(first: u16, second: u16) -> (u16, bool) {
         first.overflowing_add(second)
     }
@@ -192,6 +196,10 @@ impl PathWord for u16 {
         first + second
     }
 
+    fn double_shift_right(double: u32, by: u32) -> u32 {
+        double >> by
+    }
+
     fn double_overflowing_add(first: u32, second: u32) -> (u32, bool) {
         first.overflowing_add(second)
     }
@@ -285,6 +293,10 @@ impl PathWord for u32 {
 
     fn double_plus(first: u64, second: u64) -> u64 {
         first + second
+    }
+
+    fn double_shift_right(double: u64, by: u32) -> u64 {
+        double >> by
     }
 
     fn double_overflowing_add(first: u64, second: u64) -> (u64, bool) {
@@ -384,6 +396,10 @@ impl PathWord for u64 {
         first + second
     }
 
+    fn double_shift_right(double: u128, by: u32) -> u128 {
+        double >> by
+    }
+
     fn double_overflowing_add(first: u128, second: u128) -> (u128, bool) {
         first.overflowing_add(second)
     }
@@ -480,6 +496,10 @@ impl PathWord for usize {
 
     fn double_plus(first: u128, second: u128) -> u128 {
         first + second
+    }
+
+    fn double_shift_right(double: u128, by: u32) -> u128 {
+        double >> by
     }
 
     fn double_overflowing_add(first: u128, second: u128) -> (u128, bool) {

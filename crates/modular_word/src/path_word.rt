@@ -178,6 +178,16 @@ pub trait PathWord: RingWord {
         requires { double_number first + double_number second < base * base }
         ensures { double_number result ≡ double_number first + double_number second };
 
+    /// The double word divided by a power of two, rounded down.
+    ///
+    /// # Preconditions
+    ///
+    /// - `by` is below twice the width
+    // rust: #[must_use]
+    fn double_shift_right(double: Self::Double, by: u32) -> Self::Double
+        requires { by < 2 * Self.width }
+        ensures { double_number result ≡ double_number double / 2 ^ by };
+
     /// The sum of two double words modulo the square of the base, and whether it overflows: the carry.
     fn double_overflowing_add(first: Self::Double, second: Self::Double) -> (Self::Double, bool)
         ensures carried { IsTrue result.1 →
