@@ -1,9 +1,8 @@
 -- Sums of products of scaled forms, and their reduction.
-use Rattle.std.proofs.Common.{◌≡◌, ℕ, ◌+◌, ◌*◌, ◌/◌, ◌%◌, ◌^◌, ◌<◌, ◌≤◌, sym, ap, ap₂, ◌∙◌, subst, arith}
-use Rattle.std.proofs.Math.Nat.{add-mul-div_left, add-mul-div_right, add-mul-mod_self_left, div-add-mod, div-le_self}
-use Rattle.std.proofs.Math.Nat.{mul-div_cancel_left, mul-le-mul_left, mul-le-mul_right}
-use Rattle.std.proofs.Math.Pow.{pow_mono}
-use Rattle.std.proofs.lemmas.Nat.{pow-add, pow_pos}
+use Rattle.std.proofs.Common.{◌≡◌, ℕ, ◌+◌, ◌*◌, ◌/◌, ◌%◌, ◌^◌, ◌<◌, sym, ap, ap₂, ◌∙◌, subst, arith}
+use Rattle.std.proofs.Math.Nat.{add-mul-div_left, add-mul-mod_self_left, div-add-mod}
+use Rattle.std.proofs.Math.Nat.{mul-div_cancel_left}
+use Rattle.std.proofs.lemmas.Nat.{pow-add}
 use Rattle.modular_prim.proofs.DigitSteps.{remainder_is}
 use Rattle.modular_word.specs.Congruence.{Congruent}
 use Rattle.modular_word.specs.Division.{IsDivision}
@@ -18,30 +17,6 @@ use Rattle.modular_barrett.proofs.ScaledLemmas.{IsScaledForm, Stands, divisor_is
 -- the base is a multiple of each power of two below it
 pub base_parts : {w b : ℕ} (s k : ℕ) → b ≡ 2 ^ w → s + k ≡ w → b ≡ 2 ^ s * 2 ^ k
 base_parts {w} {b} s k base parts = base ∙ ap (λ n. 2 ^ n) (sym parts) ∙ pow-add 2 s k
-
--- a double word divided by 2^s, by its words
-pub shifted_is : {w b : ℕ} (s k low high above below : ℕ) → b ≡ 2 ^ w → s + k ≡ w → above ≡ high * 2 ^ k
-    → below ≡ low / 2 ^ s → above + below ≡ (low + b * high) / 2 ^ s
-shifted_is {w} {b} s k low high above below base parts is low_is =
-    let spread : b * high ≡ high * 2 ^ k * 2 ^ s = ap (λ n. n * high) (base_parts s k base parts) ∙ omega arith in
-    let quotient = add-mul-div_right low (high * 2 ^ k) (pow_pos s) in
-    let sum : above + below ≡ low / 2 ^ s + high * 2 ^ k = omega (arith, is, low_is) in
-    sum ∙ sym quotient ∙ ap (λ n. (low + n) / 2 ^ s) (sym spread)
-
-two_at_most : (s : ℕ) → 0 < s → 2 ≤ 2 ^ s
-two_at_most s some = let l : 2 ^ 1 ≤ 2 ^ s = pow_mono some in omega (arith, l)
-
--- which fits a double word
-pub shifted_fits : {w b : ℕ} (s k low high above below : ℕ) → b ≡ 2 ^ w → s + k ≡ w → 0 < s → above ≡ high * 2 ^ k
-    → below ≡ low / 2 ^ s → high < b → low < b → above + below < b * b
-shifted_fits {w} {b} s k low high above below base parts some is low_is high_fits low_fits =
-    let p : 2 ≤ 2 ^ s = two_at_most s some in
-    let half : 2 * 2 ^ k ≤ b = let l = mul-le-mul_right (2 ^ k) p in omega (arith, base_parts s k base parts, l) in
-    let most : (high + 1) * 2 ^ k ≤ b * 2 ^ k = mul-le-mul_right (2 ^ k) (omega arith) in
-    let wide : b * (2 * 2 ^ k) ≤ b * b = mul-le-mul_left b half in
-    let two : b * 2 ≤ b * b = let q = pow_pos k in mul-le-mul_left b (omega (arith, half, q)) in
-    let small = div-le_self low (2 ^ s) in
-    omega (arith, is, low_is, most, wide, two, small)
 
 -- a word with carries above it, whose remainder is taken first
 pub carries_reduced : {first r : ℕ} (d b high c : ℕ) → first ≡ c % d → r ≡ (high + b * first) % d

@@ -11,18 +11,6 @@ use modular_word::path_word::PathWord;
 // rattle: line
 use modular_word::ring_word::RingWord;
 
-// The double word divided by a power of two, rounded down. Condition: `by` is below the width.
-fn shifted<T: PathWord>(low: T, high: T, by: u32) -> T::Double
-    requires { by < T.width }
-    ensures { T.double_number result ≡ (T.number low + T.base * T.number high) / 2 ^ by }
-{
-    if by == 0 {
-        return T::merge(low, high);
-    }
-    let above = high.shift_left_wide(T::bits() - by);
-    T::double_plus(above, T::merge(low.shift_right(by), T::zero()))
-}
-
 // The remainder of a word with carries above it.
 fn upper<T: PlainWord>(divider: &Normalized2by1Divisor<T>, word: T, carries: T) -> T
     ensures { let d = ⟦<Normalized2by1Divisor<T> as StoredDivisor>⟧.divisor divider.now in
@@ -55,5 +43,5 @@ pub(crate) fn reduced_products<T: PlainWord>(
     let (sum, carries) = carried_sum(xs, ys, from, to);
     let (low, high) = T::split(sum);
     let rest = upper(divider, high, carries);
-    divider.div_rem_2by1(shifted(low, rest, shift)).1
+    divider.div_rem_2by1(T::double_shift_right(T::merge(low, rest), shift)).1
 }

@@ -1,21 +1,17 @@
-use Rattle.std.proofs.Common.{◌≡◌, ℕ, ◌+◌, ◌*◌, ◌<◌, length, map, slice_index, ◌∙◌, ap, ap₂, arith}
+use Rattle.std.proofs.Common.{◌≡◌, ℕ, ◌+◌, ◌*◌, map, slice_index, ◌∙◌, ap, arith}
 use Rattle.modular_word.specs.Sums.{sum_below}
-use Rattle.modular_reduced.specs.EntryLaws.{entry_read}
-use Rattle.modular_reduced.proofs.CarriedSums.{product_added, product_carried}
-use Rattle.modular_reduced.proofs.list_products.carried_sum.Goals as goal
-use Rattle.modular_reduced.proofs.list_products.carried_sum.Goals.{then-carry, else-carry}
+use Rattle.modular_reduced.proofs.CarriedSums.{product_read, product_added, product_carried}
+use Rattle.modular_reduced.proofs.list_products.sum_by_carries.Goals as goal
+use Rattle.modular_reduced.proofs.list_products.sum_by_carries.Goals.{then-carry, else-carry}
 
 pub products-preserved : goal.products-preserved
 products-preserved g c =
     let number = g.T.RingWord.number in let b = g.T.PathWord.base in let wide = g.T.PathWord.double_number in
     let before = c.products.invariant in let i = c.products.i in
-    let x = slice_index (map number c.args.xs.now) in let y = slice_index (map number c.args.ys.now) in
-    let f = λ (i : ℕ). x i * y i in
-    let within : i < length c.args.xs.now = omega (arith, c.requires.within) in
-    let within_ys : i < length c.args.ys.now = omega (arith, c.requires.within, c.requires.equal) in
-    let x_is = entry_read number (λ m v. v) 0 c.args.xs.now i c.index-xs-i.result within c.index-xs-i.is in
-    let y_is = entry_read number (λ m v. v) 0 c.args.ys.now i c.index-ys-i.result within_ys c.index-ys-i.is in
-    let is : wide c.product.result ≡ f i = c.product.ensures.value ∙ ap₂ (λ v w. v * w) x_is y_is in
+    let f = λ (i : ℕ). slice_index (map number c.args.xs.now) i * slice_index (map number c.args.ys.now) i in
+    let is = product_read number c.args.xs.now c.args.ys.now i c.index-xs-i.result c.index-ys-i.result
+    (wide c.product.result) (omega (arith, c.requires.within)) c.requires.equal c.index-xs-i.is c.index-ys-i.is
+    c.product.ensures.value in
     let added = c.double_overflowing_add-low in
     elim c.if-carry.branch [
       | then-carry w ↦

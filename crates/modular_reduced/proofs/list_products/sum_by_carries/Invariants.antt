@@ -1,6 +1,6 @@
 use Rattle.std.proofs.Common.{◌≡◌, ℕ, ◌+◌, ◌*◌, ◌≤◌, map, slice_index}
 use Rattle.modular_word.specs.Sums.{sum_below}
-use Rattle.modular_reduced.proofs.list_products.carried_sum.Given as goal
+use Rattle.modular_reduced.proofs.list_products.sum_by_carries.Given as goal
 
 -- the products before index i are added, each with one carry at most
 abbrev pub invariant-products : goal.invariant-products
