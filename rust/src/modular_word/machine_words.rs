@@ -108,6 +108,11 @@ impl PathWord for u8 {
     }
 
     #[inline]
+    fn double_shift_right(double: u16, by: u32) -> u16 {
+        double >> by
+    }
+
+    #[inline]
     fn double_overflowing_add(first: u16, second: u16) -> (u16, bool) {
         first.overflowing_add(second)
     }
@@ -215,6 +220,11 @@ impl PathWord for u16 {
     #[inline]
     fn double_plus(first: u32, second: u32) -> u32 {
         first + second
+    }
+
+    #[inline]
+    fn double_shift_right(double: u32, by: u32) -> u32 {
+        double >> by
     }
 
     #[inline]
@@ -326,6 +336,11 @@ impl PathWord for u32 {
     }
 
     #[inline]
+    fn double_shift_right(double: u64, by: u32) -> u64 {
+        double >> by
+    }
+
+    #[inline]
     fn double_overflowing_add(first: u64, second: u64) -> (u64, bool) {
         first.overflowing_add(second)
     }
@@ -429,6 +444,11 @@ impl PathWord for u64 {
     #[inline]
     fn double_plus(first: u128, second: u128) -> u128 {
         first + second
+    }
+
+    #[inline]
+    fn double_shift_right(double: u128, by: u32) -> u128 {
+        double >> by
     }
 
     #[inline]
@@ -536,6 +556,11 @@ impl PathWord for usize {
     #[inline]
     fn double_plus(first: u128, second: u128) -> u128 {
         first + second
+    }
+
+    #[inline]
+    fn double_shift_right(double: u128, by: u32) -> u128 {
+        double >> by
     }
 
     #[inline]

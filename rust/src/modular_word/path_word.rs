@@ -134,6 +134,16 @@ pub trait PathWord: Sized + RingWord {
     /// No build tests this: where it doesn't hold, the call panics or its result is unspecified.
     fn double_plus(first: Self::Double, second: Self::Double) -> Self::Double;
 
+    /// The double word divided by a power of two, rounded down.
+    ///
+    /// # Preconditions
+    ///
+    /// - `by` is below twice the width
+    ///
+    /// No build tests this: where it doesn't hold, the call panics or its result is unspecified.
+    #[must_use]
+    fn double_shift_right(double: Self::Double, by: u32) -> Self::Double;
+
     /// The sum of two double words modulo the square of the base, and whether it overflows: the carry.
     fn double_overflowing_add(first: Self::Double, second: Self::Double) -> (Self::Double, bool);
 }
