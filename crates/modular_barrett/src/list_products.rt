@@ -1,12 +1,13 @@
 //! Sums of products of two lists of scaled forms, which are reduced once for many products.
 
-ghost use Rattle.std.specs.Prelude.{◌≡◌, ℕ, ◌+◌, ◌*◌, ◌/◌, ◌%◌, ◌^◌, ◌<◌, ◌≤◌, length, map, slice_index};
+ghost use Rattle.std.specs.Prelude.{◌≡◌, ℕ, ◌+◌, ◌*◌, ◌%◌, ◌^◌, ◌<◌, ◌≤◌, length, map, slice_index};
 ghost use Rattle.modular_word.specs.Sums.{sum_below};
 
 // rust: use crate::additions::Divide2by1;
 use crate::normalized::{Normalized2by1Divisor, StoredDivisor};
 use modular_prim::plain_word::PlainWord;
 use modular_reduced::list_products::carried_sum;
+// rattle: line
 use modular_word::path_word::PathWord;
 // rattle: line
 use modular_word::ring_word::RingWord;

@@ -5,7 +5,6 @@ use crate::additions::Divide2by1;
 use crate::modular_barrett::normalized::Normalized2by1Divisor;
 use crate::modular_prim::plain_word::PlainWord;
 use crate::modular_reduced::list_products::carried_sum;
-use crate::modular_word::path_word::PathWord;
 
 // The remainder of a word with carries above it.
 #[inline]
