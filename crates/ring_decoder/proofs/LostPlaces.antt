@@ -10,7 +10,9 @@ use Rattle.num_modular.specs.NumberLaws.{sum_below-zero, sum_below-suc, sum_belo
 use Rattle.num_modular.specs.Sums.{sum_below}
 use Rattle.ring_codes.proofs.Distances.{counted, counted_same, counted_other}
 use Rattle.ring_codes.specs.Erasure.{distance}
-use Rattle.ring_decoder.specs.Corrector.{without, listed_distance}
+use Rattle.ring_codes.specs.declared.erasure.RestoreError.{RestoreError}
+use Rattle.ring_codes.specs.declared.erasure.RestoreError.TheVariants.{TooFewSymbols, PlaceOutOfRange, PlaceTwice, PointsDontFit}
+use Rattle.ring_decoder.specs.Corrector.{AreLost, AreLostAtFault, without, listed_distance}
 
 -- a place is among the lost ones
 abbrev pub is_lost : List ℕ → ℕ → Bool
@@ -156,3 +158,12 @@ distance_sum (suc n) a b c =
     let u = sum_below-suc n (λ i. counted (a i) (c i)) in
     let i = distance_sum n a b c in let o = counted_sum (a n) (b n) (c n) in
     omega (arith, s, t, u, i, o)
+
+-- places at fault aren't right
+pub not_lost : (m k n : ℕ) (x : ℕ → ℕ) (lost : List ℕ) (e : RestoreError) → AreLostAtFault m k n x lost e → AreLost k n lost
+    → ⊥
+not_lost m k n x lost TooFewSymbols fault is = let enough = is.enough in omega (arith, fault, enough)
+not_lost m k n x lost PlaceOutOfRange fault is =
+    let l = is.places.within fault.1.0 fault.1.1 in let out = fault.1.4 in omega (arith, l, out)
+not_lost m k n x lost PlaceTwice fault is = is.places.distinct fault.1.0 fault.1.1 fault.1.2 fault.1.3 fault.1.6
+not_lost m k n x lost PointsDontFit fault is = fault

@@ -9,10 +9,14 @@ abbrev pub syndrome_products : {T : Type 0} → Option T → ℕ → ℕ → ℕ
 syndrome_products (Some g) checks n t = n * trailing_zeros w64 n / 2 + 2 * n - 1 + trailing_zeros w64 n
 syndrome_products None checks n t = if checks == 0 then n * (t + 1) else n * t
 
--- the most for a locator of N moments and its values at n points: c·(c + 3)/2 for the product of X - x over the lost points
--- x, c + 1 for each moment, and then for each of at most N/2 + 1 coefficients three for each moment and one for each point
+-- for N moments: c·(c + 3)/2 for the product of X - x over the lost points x, and c + 1 for each moment
+abbrev pub moment_products : ℕ → ℕ → ℕ
+moment_products N c = c * (c + 3) / 2 + N * (c + 1)
+
+-- the most for a locator of N moments and its values at n points: after the moments, three products for each moment and one
+-- for each point, for each of at most N/2 + 1 coefficients
 abbrev pub locate_products : ℕ → ℕ → ℕ → ℕ
-locate_products n N c = c * (c + 3) / 2 + N * (c + 1) + (3 * N + n) * (N / 2 + 1)
+locate_products n N c = moment_products N c + (3 * N + n) * (N / 2 + 1)
 
 -- the most for errors at q places (Forney's formula, q·(7·q + 13)/2) and the test that they have the t syndromes
 abbrev pub solve_products : ℕ → ℕ → ℕ

@@ -130,6 +130,7 @@ fn solve_chosen<T: RingWord, R: Reducer<T>>(
         (λ i. entry T.number R.value m weights.now i * e i) (entry T.number R.value m syndromes.now) →
         IsTrue result × ((i : ℕ) → i < length points.now → entry T.number R.value m errors.new i ≡ e i % m) }
     ensures counted { products.new ≤ products.old + solve_products (length points.now) (length syndromes.now) }
+    ensures grown { products.old ≤ products.new }
 {
     let (product, rest) = scratch.split_at_mut(points.len() + 1);
     let (terms, rest) = rest.split_at_mut(points.len());
@@ -204,6 +205,7 @@ pub fn solve<T: RingWord, R: Reducer<T>>(
         (λ wrong. All (λ f. IsForm R.form R.value m (T.number f)) errors.new
         × IsSolution m t n x v lost.now s (entry T.number R.value m errors.new) wrong) }
     ensures counted { let t = length syndromes.now in products.new ≤ products.old + solve_products t t }
+    ensures grown { products.old ≤ products.new }
 {
     let q = count_zeros(r, values);
     if q > syndromes.len() {

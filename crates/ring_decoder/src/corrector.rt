@@ -1,6 +1,6 @@
 //! Correction of a word in place, in the Cargo crate in `ring_codes::erasure`: wrong symbols and lost ones.
 
-ghost use Rattle.std.specs.Prelude.{◌≡◌, ◌≢◌, ℕ, ◌+◌, ◌-◌, ◌*◌, ◌<◌, ◌≤◌, ◌↔◌, IsTrue, All, MatchOption, MatchResult, length};
+ghost use Rattle.std.specs.Prelude.{◌≡◌, ◌≢◌, ℕ, ◌+◌, ◌-◌, ◌*◌, ◌^◌, ◌<◌, ◌≤◌, ◌↔◌, IsTrue, All, MatchOption, MatchResult, length};
 ghost use Rattle.std.specs.Option.{ForSome};
 ghost use Rattle.num_modular.specs.Entries.{entry};
 ghost use Rattle.num_modular.specs.Forms.{IsForm};
@@ -8,8 +8,8 @@ ghost use Rattle.num_modular.specs.Polynomials.{HaveUnitDifferences};
 ghost use Rattle.num_modular.specs.Transforms.{Suits};
 ghost use Rattle.ring_codes.specs.Erasure.{IsErasureCodeword};
 ghost use Rattle.ring_codes.specs.Powers.{ArePowers};
-ghost use Rattle.ring_decoder.specs.Corrector.{AreCorrectorLists, IsCorrectedWord, IsCorrectorFault};
-ghost use Rattle.ring_decoder.specs.Products.{error_products, syndrome_products};
+ghost use Rattle.ring_decoder.specs.Corrector.{AreCorrectorLists, AreLost, IsCorrectedWord, IsCorrectorFault};
+ghost use Rattle.ring_decoder.specs.Products.{error_products, moment_products, syndrome_products};
 ghost use Rattle.ring_decoder.specs.Syndromes.{AreChecks, AreWeights};
 
 use super::checks::fill_checks;
@@ -428,9 +428,11 @@ impl<'a, T: RingWord, R: Reducer<T>> Corrector<'a, T, R> {
     /// A call of the reducer for a product or a square counts, and so does each term of a dot product; what an inversion, a
     /// conversion or a test of a condition takes doesn't. With t = n - k, a word of the code takes n·(t + 1) products, n·t with
     /// a table of checks, and n·z/2 + 2·n - 1 + z with a root, where n = 2^z. Any other word, of which c symbols are lost,
-    /// takes at most c·(c + 3)/2 + N·(c + 1) + (3·N + n)·(N/2 + 1) + t·(9·t + 13)/2 + n more, where N = t - c, and two
-    /// inversions. Modulo a prime, e wrong symbols besides take at most 2·N·(N + c) + n·(e + 1) + q·(t + 4·q + 9) + 6·N more
-    /// and one inversion, where q = c + e. Where the lost places are wrong the number is 0; none is above 2^128 - 1.
+    /// takes at least M = c·(c + 3)/2 + N·(c + 1) more, where N = t - c, and at most
+    /// M + (3·N + n)·(N/2 + 1) + t·(9·t + 13)/2 + n, and two inversions. Modulo a prime, e wrong symbols besides take at most
+    /// 2·N·(N + c) + n·(e + 1) + q·(t + 4·q + 9) + 6·N more and one inversion, where q = c + e. Where the lost places are wrong
+    /// the number is 0; none is above 2^128 - 1. These bounds are proved, but for the one modulo a prime; that the number is
+    /// exactly that of the reducer's calls is tested.
     ///
     /// # Errors
     ///
@@ -475,6 +477,12 @@ impl<'a, T: RingWord, R: Reducer<T>> Corrector<'a, T, R> {
             (entries self.now.points.now) lost.now (entries word.old) e) }
         ensures counted { let n = length self.now.points.now in let t = n - self.now.k in
             result.1 ≤ syndrome_products self.now.root (length self.now.checks.now) n t + error_products n t (length lost.now) }
+        ensures least { let m = R.modulus self.now.ring.now in let entries = entry T.number R.value m in
+            let n = length self.now.points.now in let t = n - self.now.k in let c = length lost.now in
+            AreLost self.now.k n lost.now →
+            (IsErasureCodeword m self.now.k n (entries self.now.points.now) (entries word.old) → ⊥) →
+            result.1 < 2 ^ 128 - 1 →
+            syndrome_products self.now.root (length self.now.checks.now) n t + moment_products (t - c) c ≤ result.1 }
         ensures codeword { let m = R.modulus self.now.ring.now in let entries = entry T.number R.value m in
             let n = length self.now.points.now in let t = n - self.now.k in
             IsErasureCodeword m self.now.k n (entries self.now.points.now) (entries word.old) → MatchResult result.0

@@ -1,6 +1,6 @@
 //! The two steps of a correction: the syndromes of a word, and the few errors that have them.
 
-ghost use Rattle.std.specs.Prelude.{◌≡◌, ◌≢◌, ℕ, ◌+◌, ◌-◌, ◌*◌, ◌<◌, ◌≤◌, All, MatchResult, length};
+ghost use Rattle.std.specs.Prelude.{◌≡◌, ◌≢◌, ℕ, ◌+◌, ◌-◌, ◌*◌, ◌^◌, ◌<◌, ◌≤◌, All, MatchResult, length};
 ghost use Rattle.std.specs.Option.{ForSome};
 ghost use Rattle.num_modular.specs.Entries.{entry};
 ghost use Rattle.num_modular.specs.Forms.{IsForm};
@@ -11,7 +11,7 @@ ghost use Rattle.ring_codes.specs.Powers.{ArePowers};
 ghost use Rattle.ring_decoder.specs.Corrector.{AreLost};
 ghost use Rattle.ring_decoder.specs.ErrorPatterns.{IsPatternFault, IsSolution};
 ghost use Rattle.ring_decoder.specs.PowerSums.{ArePowerSums};
-ghost use Rattle.ring_decoder.specs.Products.{error_products, syndrome_products};
+ghost use Rattle.ring_decoder.specs.Products.{error_products, moment_products, syndrome_products};
 ghost use Rattle.ring_decoder.specs.Syndromes.{AreChecks, AreWeights};
 
 use super::checks::fill_checked_syndromes;
@@ -115,6 +115,8 @@ pub fn find_errors<T: RingWord, R: Reducer<T>>(
         (λ e. IsPatternFault T.number m t n x v lost.now s e) }
     ensures counted { products.new ≤ products.old
         + error_products (length points.now) (length syndromes.now) (length lost.now) }
+    ensures least { products.new < 2 ^ 128 - 1 → products.old
+        + moment_products (length syndromes.now - length lost.now) (length lost.now) ≤ products.new }
 {
     match locate(r, points, lost, syndromes, scratch, values, products) {
         None => Err(CorrectError::TooManyErrors),

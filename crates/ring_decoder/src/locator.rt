@@ -119,6 +119,7 @@ fn advance<T: RingWord, R: Reducer<T>>(
         (entry T.number R.value m (if f.1 then other.new else locator.new))
         (entry T.number R.value m (if f.1 then locator.new else other.new)) t) }
     ensures counted { products.new ≤ products.old + 3 * (length moments.now / 2 + 1) }
+    ensures grown { products.old ≤ products.new }
 {
     let from = i - degree;
     let discrepancy = apply(r, locator, degree + 1, moments, from);
@@ -187,6 +188,7 @@ fn step<T: RingWord, R: Reducer<T>>(
         (entry T.number R.value m (if f.1 then first.new else second.new))
         (entry T.number R.value m (if f.1 then second.new else first.new)) t) }
     ensures counted { products.new ≤ products.old + 3 * (length moments.now / 2 + 1) }
+    ensures grown { products.old ≤ products.new }
 {
     if state.1 {
         match advance(
@@ -246,6 +248,7 @@ pub fn find_locator<T: RingWord, R: Reducer<T>>(
         IsGeometric m (length moments.now) u x (entry T.number R.value m moments.now) →
         IsLinear m u x f.0 (entry T.number R.value m (if f.1 then first.new else second.new))) }
     ensures counted { products.new ≤ products.old + 3 * length moments.now * (length moments.now / 2 + 1) }
+    ensures grown { products.old ≤ products.new }
 {
     let one = r.transform(T::one());
     let zero = r.transform(T::zero());

@@ -1,6 +1,7 @@
 //! The search for the places of wrong symbols.
 
-ghost use Rattle.std.specs.Prelude.{◌≡◌, ◌≢◌, ℕ, ◌+◌, ◌-◌, ◌*◌, ◌%◌, ◌<◌, ◌≤◌, All, IfSome, MatchOption, length, slice_index, if◌then◌else◌};
+ghost use Rattle.std.specs.Prelude.{◌≡◌, ◌≢◌, ℕ, ◌+◌, ◌-◌, ◌*◌, ◌%◌, ◌^◌, ◌<◌, ◌≤◌, All, IfSome, MatchOption, length};
+ghost use Rattle.std.specs.Prelude.{slice_index, if◌then◌else◌};
 ghost use Rattle.num_modular.specs.Entries.{entry};
 ghost use Rattle.num_modular.specs.Forms.{IsForm};
 ghost use Rattle.num_modular.specs.Inverses.{HasInverse};
@@ -8,7 +9,7 @@ ghost use Rattle.num_modular.specs.Polynomials.{HaveUnitDifferences, polynomial_
 ghost use Rattle.ring_codes.specs.Erasure.{IsWithoutInverse};
 ghost use Rattle.ring_decoder.specs.Corrector.{AreLost};
 ghost use Rattle.ring_decoder.specs.ErrorPatterns.{IsNearPattern, IsLocated, AreLocatorValues};
-ghost use Rattle.ring_decoder.specs.Products.{locate_products};
+ghost use Rattle.ring_decoder.specs.Products.{locate_products, moment_products};
 
 use super::locator::find_locator;
 use super::places::{clear_lost, copy_points};
@@ -106,6 +107,8 @@ pub fn locate<T: RingWord, R: Reducer<T>>(
         (λ a. IsLocated m t n x v lost.now s (entry T.number R.value m values.new) (R.value m (T.number a))) }
     ensures counted { products.new ≤ products.old
         + locate_products (length points.now) (length syndromes.now - length lost.now) (length lost.now) }
+    ensures least { products.new < 2 ^ 128 - 1 → products.old
+        + moment_products (length syndromes.now - length lost.now) (length lost.now) ≤ products.new }
 {
     let count = syndromes.len() - lost.len();
     let (located, rest) = scratch.split_at_mut(lost.len());

@@ -89,6 +89,7 @@ pub fn are_power_sums<T: RingWord, R: Reducer<T>>(
         (entry T.number R.value m points.now) (entry T.number R.value m terms.old) (entry T.number R.value m sums.now) }
     ensures terms { All (λ f. IsForm R.form R.value (R.modulus r.now) (T.number f)) terms.new }
     ensures counted { products.new ≤ products.old + length sums.now * length points.now }
+    ensures grown { products.old ≤ products.new }
 {
     'sums: for h in 0..sums.len() {
         let sum = next_sum(r, points, terms);

@@ -18,12 +18,18 @@ moments-init g c =
             (all_none _ (c.set_constant-2.ensures.constant ∙ none) c.set_constant-2.ensures.others) one one;
       },
       omega arith,
+      omega arith,
     )
 
 pub moments-preserved : goal.moments-preserved
 moments-preserved g c =
-    let more = c.in-Some.ensures.counted in let before = c.moments.invariant.3 in
-    (c.in-Some.ensures.checked_first, c.in-Some.ensures.checked_second, c.in-Some.ensures.advanced, omega (arith, more, before))
+    let so_far = c.moments.invariant in let made = c.in-Some.ensures in (
+      made.checked_first,
+      made.checked_second,
+      made.advanced,
+      omega (arith, made.counted, so_far.3),
+      omega (arith, made.grown, so_far.4),
+    )
 
 pub returns-clause-located : goal.returns-clause-located
 returns-clause-located g c =

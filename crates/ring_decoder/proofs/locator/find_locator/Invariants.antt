@@ -13,3 +13,4 @@ invariant-moments g l =
     (entry number ring.value m (cond l.state.1 l.first l.second)) (entry number ring.value m (cond l.state.1 l.second l.first))
     (entry number ring.value m l.fn.moments)
     × (l.products ≤ l.fn.products + 3 * l.i * (length l.fn.moments / 2 + 1))
+    × (l.fn.products ≤ l.products)

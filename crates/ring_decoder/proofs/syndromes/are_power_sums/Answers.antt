@@ -14,6 +14,7 @@ sums-init g c =
       λ i l. terms_first m _ _,
       λ j l. absurd (omega arith),
       omega arith,
+      omega arith,
     )
 
 pub returns-then-ne-clause-sums : goal.returns-then-ne-clause-sums
@@ -48,7 +49,8 @@ sums-preserved g c =
       below_more _ _ so_far.2
           (sym symbol ∙ sym (ap (ring.value m) same)
           ∙ sum_of_terms m n h _ x w _ so_far.1 c.next_sum-sum.ensures.value),
-      (let more = c.saturating_add.ensures in let before = so_far.3 in omega (arith, more, before)),
+      omega (arith, c.saturating_add.ensures, so_far.3),
+      grind (arith, c.saturating_add.ensures, so_far.4),
     )
 
 pub returns-clause-sums : goal.returns-clause-sums

@@ -14,3 +14,4 @@ invariant-sums g l =
     × ((i : ℕ) → i < n → Congruent m (entry number ring.value m l.terms i) (w i * x i ^ l.h))
     × ((j : ℕ) → j < l.h → entry number ring.value m l.fn.sums j ≡ sum_below n (λ i. w i * x i ^ j) % m)
     × (l.products ≤ l.fn.products + l.h * n)
+    × (l.fn.products ≤ l.products)

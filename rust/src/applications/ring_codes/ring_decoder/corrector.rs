@@ -320,9 +320,11 @@ impl<'a, T: RingWord, R: Reducer<T>> Corrector<'a, T, R> {
     /// A call of the reducer for a product or a square counts, and so does each term of a dot product; what an inversion, a
     /// conversion or a test of a condition takes doesn't. With t = n - k, a word of the code takes n·(t + 1) products, n·t with
     /// a table of checks, and n·z/2 + 2·n - 1 + z with a root, where n = 2^z. Any other word, of which c symbols are lost,
-    /// takes at most c·(c + 3)/2 + N·(c + 1) + (3·N + n)·(N/2 + 1) + t·(9·t + 13)/2 + n more, where N = t - c, and two
-    /// inversions. Modulo a prime, e wrong symbols besides take at most 2·N·(N + c) + n·(e + 1) + q·(t + 4·q + 9) + 6·N more
-    /// and one inversion, where q = c + e. Where the lost places are wrong the number is 0; none is above 2^128 - 1.
+    /// takes at least M = c·(c + 3)/2 + N·(c + 1) more, where N = t - c, and at most
+    /// M + (3·N + n)·(N/2 + 1) + t·(9·t + 13)/2 + n, and two inversions. Modulo a prime, e wrong symbols besides take at most
+    /// 2·N·(N + c) + n·(e + 1) + q·(t + 4·q + 9) + 6·N more and one inversion, where q = c + e. Where the lost places are wrong
+    /// the number is 0; none is above 2^128 - 1. These bounds are proved, but for the one modulo a prime; that the number is
+    /// exactly that of the reducer's calls is tested.
     ///
     /// # Errors
     ///

@@ -1,11 +1,14 @@
 use Rattle.num_modular.specs.Callers.{◌≡◌, ◌*◌, ◌-◌, ℕ, ◌∙◌, ap, sym, subst, refl, arith, length, entry}
 use Rattle.ring_codes.proofs.Symbols.{entry_below}
+use Rattle.ring_codes.specs.Erasure.{IsErasureCodeword}
 use Rattle.ring_decoder.proofs.CorrectedWords.{all_zero, not_one, codeword_by_zeros, fit_of_weights, right_already, right_word, fault_of_word}
 use Rattle.ring_decoder.proofs.DualCode.{weight_unit}
+use Rattle.ring_decoder.proofs.LostPlaces.{not_lost}
 use Rattle.ring_decoder.specs.Corrector.{AreLost}
 use Rattle.ring_decoder.specs.ErrorPatterns.{IsPatternFault, IsSolution, zeros}
 use Rattle.ring_decoder.specs.PowerSums.{ArePowerSums}
 use Rattle.ring_decoder.proofs.corrector.Corrector.correct_counted.Goals as goal
+use Rattle.ring_decoder.proofs.corrector.Corrector.correct_counted.Goals.{After-count_zeros}
 
 pub returns-then-count_zeros-syndromes-clause-corrected : goal.returns-then-count_zeros-syndromes-clause-corrected
 returns-then-count_zeros-syndromes-clause-corrected g c =
@@ -114,36 +117,44 @@ find_errors-requires-clause-modulus g c =
     (λ i l. entry_below number ring.form ring.value m syndromes i c.write_syndromes-products.ensures.checked l)
     (λ all. c.if-count_zeros-syndromes.false (c.count_zeros.ensures ∙ all))
 
-pub returns-in-Err-find_errors-clause-codeword : goal.returns-in-Err-find_errors-clause-codeword
-returns-in-Err-find_errors-clause-codeword g c is =
+-- the word is of the code exactly where all its syndromes are 0
+zeros_tell : (g : _) (c : After-count_zeros g)
+    → let ring = g.R.Reducer in let number = g.T.RingWord.number in let self = c.args.self.now in
+    let entries = entry number ring.value (ring.modulus self.ring.now) in
+    let IsWord = IsErasureCodeword (ring.modulus self.ring.now) self.k (length self.points.now) (entries self.points.now)
+    (entries c.args.word.now) in let all = c.count_zeros.result ≡ length c.write_syndromes-products.new.syndromes in
+    (all → IsWord) × (IsWord → all)
+zeros_tell g c =
     let self = c.args.self.now in let ring = g.R.Reducer in let m = ring.modulus self.ring.now in
     let number = g.T.RingWord.number in let positive = (g.met.R.Reducer.canonical self.ring.now).positive in
+    let x = entry number ring.value m self.points.now in let v = entry number ring.value m self.weights.now in
+    let y = entry number ring.value m c.args.word.now in let n : ℕ = length self.points.now in let k = self.k in
     let forms = c.write_syndromes-products.new.syndromes in let s = entry number ring.value m forms in
-    let room = c.requires.room in let n : ℕ = length self.points.now in let k = self.k in
-    let long : length forms ≡ n - k =
-    c.write_syndromes-products.auto.syndromes ∙ c.split_at_mut-syndromes.ensures.front_len in
-    let zero = (codeword_by_zeros m k n (entry number ring.value m self.points.now) (entry number ring.value m self.weights.now)
-    (entry number ring.value m c.args.word.now) s positive self.few self.inverses
+    let room = c.requires.room in let front = c.split_at_mut-syndromes.ensures.front_len in
+    let long : length forms ≡ n - k = c.write_syndromes-products.auto.syndromes ∙ front in
+    let told = codeword_by_zeros m k n x v y s positive self.few self.inverses
     (λ i l. entry_below number ring.form ring.value m c.args.word.now i c.requires.word (omega (arith, l, room)))
     (λ h l. entry_below number ring.form ring.value m forms h c.write_syndromes-products.ensures.checked (omega (arith, l, long)))
-    (subst (λ t. ArePowerSums m t n (entry number ring.value m self.points.now)
-    (λ i. entry number ring.value m self.weights.now i * entry number ring.value m c.args.word.now i) s)
-    c.split_at_mut-syndromes.ensures.front_len c.write_syndromes-products.ensures.sums)).1 is in
-    absurd (c.if-count_zeros-syndromes.false (c.count_zeros.ensures ∙ ap (λ t. zeros t s) long ∙ zero ∙ sym long))
+    (subst (λ t. ArePowerSums m t n x (λ i. v i * y i) s) front c.write_syndromes-products.ensures.sums) in (
+      λ all. told.0 (ap (λ t. zeros t s) (sym long) ∙ sym c.count_zeros.ensures ∙ all ∙ long),
+      λ is. c.count_zeros.ensures ∙ ap (λ t. zeros t s) long ∙ told.1 is ∙ sym long,
+    )
+
+pub returns-in-Err-clause-least : goal.returns-in-Err-clause-least
+returns-in-Err-clause-least g c places =
+    absurd (not_lost 0 _ _ (λ i. 0) _ c.in-Err.error (c.in-Err.ensures 0 (λ i. 0)) places)
+
+pub returns-then-count_zeros-syndromes-clause-least : goal.returns-then-count_zeros-syndromes-clause-least
+returns-then-count_zeros-syndromes-clause-least g c places other =
+    let at = (goal.at.returns-then-count_zeros-syndromes-clause-least g c).After-count_zeros in
+    absurd (other ((zeros_tell g at).0 c.if-count_zeros-syndromes.true))
+
+pub returns-in-Err-find_errors-clause-codeword : goal.returns-in-Err-find_errors-clause-codeword
+returns-in-Err-find_errors-clause-codeword g c is =
+    let at = (goal.at.returns-in-Err-find_errors-clause-codeword g c).After-count_zeros in
+    absurd (c.if-count_zeros-syndromes.false ((zeros_tell g at).1 is))
 
 pub returns-in-Ok-find_errors-clause-codeword : goal.returns-in-Ok-find_errors-clause-codeword
 returns-in-Ok-find_errors-clause-codeword g c is =
-    let self = c.args.self.now in let ring = g.R.Reducer in let m = ring.modulus self.ring.now in
-    let number = g.T.RingWord.number in let positive = (g.met.R.Reducer.canonical self.ring.now).positive in
-    let forms = c.write_syndromes-products.new.syndromes in let s = entry number ring.value m forms in
-    let room = c.requires.room in let n : ℕ = length self.points.now in let k = self.k in
-    let long : length forms ≡ n - k =
-    c.write_syndromes-products.auto.syndromes ∙ c.split_at_mut-syndromes.ensures.front_len in
-    let zero = (codeword_by_zeros m k n (entry number ring.value m self.points.now) (entry number ring.value m self.weights.now)
-    (entry number ring.value m c.args.word.now) s positive self.few self.inverses
-    (λ i l. entry_below number ring.form ring.value m c.args.word.now i c.requires.word (omega (arith, l, room)))
-    (λ h l. entry_below number ring.form ring.value m forms h c.write_syndromes-products.ensures.checked (omega (arith, l, long)))
-    (subst (λ t. ArePowerSums m t n (entry number ring.value m self.points.now)
-    (λ i. entry number ring.value m self.weights.now i * entry number ring.value m c.args.word.now i) s)
-    c.split_at_mut-syndromes.ensures.front_len c.write_syndromes-products.ensures.sums)).1 is in
-    absurd (c.if-count_zeros-syndromes.false (c.count_zeros.ensures ∙ ap (λ t. zeros t s) long ∙ zero ∙ sym long))
+    let at = (goal.at.returns-in-Ok-find_errors-clause-codeword g c).After-count_zeros in
+    absurd (c.if-count_zeros-syndromes.false ((zeros_tell g at).1 is))
