@@ -38,17 +38,7 @@ stands_for w m d x r positive ed e = grind (arith, mod-lt, scaled_remainder, som
 pub form_below : (w m d f : ℕ) → d ≡ m * scale w m → IsScaledForm w m f → f < d
 form_below w m d f ed form = grind (arith, mul-lt-mul_of_pos_right, some_scale)
 
--- so it fits a word, and is a multiple of the scale
-pub form_fits : {w m d s b : ℕ} (f : ℕ) → IsScaling w m d s → b ≡ 2 ^ w → IsScaledForm w m f → f < b
-form_fits {w} {m} {d} {s} f is base form =
-    let below = form_below w m d f (divisor_is is) form in omega (arith, below, is.fits, base)
-
-pub form_multiple : {w m d s : ℕ} (f : ℕ) → IsScaling w m d s → IsScaledForm w m f → f ≡ 2 ^ s * (f / 2 ^ s)
-form_multiple {w} {m} {d} {s} f is form =
-    let same : f ≡ f / 2 ^ s * 2 ^ s = subst (λ k. f ≡ f / 2 ^ k * 2 ^ k) (sym is.zeros) form.same in
-    omega (arith, same)
-
--- a value is below the divisor
+-- and so is a value
 pub value_below : {w m d s v : ℕ} → IsScaling w m d s → v < m → v < d
 value_below {w} {m} {d} {s} is below = grind (arith, mul-le-mul_left, pow_pos)
 

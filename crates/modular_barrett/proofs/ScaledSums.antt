@@ -1,14 +1,14 @@
 -- Sums of products of scaled forms, and their reduction.
-use Rattle.std.proofs.Common.{◌≡◌, ℕ, ◌+◌, ◌-◌, ◌*◌, ◌/◌, ◌%◌, ◌^◌, ◌<◌, ◌≤◌, sym, ap, ap₂, ◌∙◌, subst, arith}
+use Rattle.std.proofs.Common.{◌≡◌, ℕ, ◌+◌, ◌*◌, ◌/◌, ◌%◌, ◌^◌, ◌<◌, sym, ap, ap₂, ◌∙◌, subst, arith}
 use Rattle.std.proofs.Math.Nat.{add-mul-div_left, add-mul-mod_self_left, div-add-mod}
-use Rattle.std.proofs.Math.Nat.{le-div_iff_mul-le, mul-div_cancel_left, mul-div-le, mul-le-mul_right}
-use Rattle.std.proofs.lemmas.Nat.{mul-lt, pow-add}
+use Rattle.std.proofs.Math.Nat.{mul-div_cancel_left}
+use Rattle.std.proofs.lemmas.Nat.{pow-add}
 use Rattle.modular_prim.proofs.DigitSteps.{remainder_is}
 use Rattle.modular_word.specs.Congruence.{Congruent}
 use Rattle.modular_word.specs.Division.{IsDivision}
 use Rattle.modular_word.specs.Sums.{sum_below}
-use Rattle.modular_word.proofs.Congruence.{factor_cancel, mod_of_eq, mod_refl, mod_trans, mod_add, mod_mul, residue_of}
-use Rattle.modular_word.proofs.Sums.{sum_below-same, sum_below-mul, sum_below-joined, sum_below-bounded}
+use Rattle.modular_word.proofs.Congruence.{mod_of_eq, mod_refl, mod_trans, mod_add, mod_mul, residue_of}
+use Rattle.modular_word.proofs.Sums.{sum_below-same, sum_below-mul, sum_below-joined}
 use Rattle.modular_reduced.proofs.FormLemmas.{Answered, answered, form_of_value}
 use Rattle.modular_barrett.specs.Scaling.{scale, scaled_form, scaled_value, IsScaling}
 use Rattle.modular_barrett.specs.ScaledForms.{scaled_canonical}
@@ -18,44 +18,12 @@ use Rattle.modular_barrett.proofs.ScaledLemmas.{IsScaledForm, Stands, divisor_is
 pub base_parts : {w b : ℕ} (s k : ℕ) → b ≡ 2 ^ w → s + k ≡ w → b ≡ 2 ^ s * 2 ^ k
 base_parts {w} {b} s k base parts = base ∙ ap (λ n. 2 ^ n) (sym parts) ∙ pow-add 2 s k
 
--- two words, of which the upper one's remainder is taken first
-pub upper_reduced : {first r : ℕ} (d b low high : ℕ) → first ≡ high % d → r ≡ (low + b * first) % d
-    → r ≡ (low + b * high) % d
-upper_reduced {first} {r} d b low high first_is is =
-    is ∙ (mod_add (mod_refl low) (mod_mul (mod_refl b) (mod_trans (mod_of_eq first_is) (residue_of high)))).same
-
--- the sum of products whose second factors are divided by p
-pub divided_sum : {p s : ℕ} (from to v : ℕ) (x y z : ℕ → ℕ) → 0 < p → from ≤ to → ((i : ℕ) → i < to → y i ≡ p * z i)
-    → sum_below to (λ i. x i * y i) ≡ sum_below from (λ i. x i * y i) + p * (p * v)
-    → s + sum_below from (λ i. x i * z i) ≡ sum_below to (λ i. x i * z i) → s ≡ p * v
-divided_sum {p} {s} from to v x y z some order scaled whole sum =
-    let each : (n : ℕ) → n ≤ to → sum_below n (λ i. x i * y i) ≡ p * sum_below n (λ i. x i * z i) =
-    λ n l. sum_below-same n (λ i. x i * y i) (λ i. p * (x i * z i))
-    (λ i k. ap (λ v. x i * v) (scaled i (omega (arith, k, l))) ∙ omega arith)
-    ∙ sum_below-mul n p (λ i. x i * z i) in
-    let last = each to (omega arith) in let first = each from order in
-    let shares : p * (s + sum_below from (λ i. x i * z i)) ≡ p * (p * v + sum_below from (λ i. x i * z i)) =
-    ap (λ n. p * n) sum ∙ omega (arith, last, first, whole) in
-    let same = factor_cancel p (s + sum_below from (λ i. x i * z i)) _ some shares in
-    omega (arith, same)
-
--- which fits a double word, if there are no more than p
-pub divided_fits : {b p : ℕ} (from to : ℕ) (x z : ℕ → ℕ) → from ≤ to → to ≤ from + p → 0 < p
-    → 0 < b * b
-    → ((i : ℕ) → i < to → x i < b) → ((i : ℕ) → i < to → p * z i < b)
-    → sum_below to (λ i. x i * z i) < sum_below from (λ i. x i * z i) + b * b
-divided_fits {b} {p} from to x z order few some positive x_below z_below =
-    let n = to - from in let q = (b * b - 1) / p in let f = λ (i : ℕ). x i * z i in
-    let joined = ap (λ k. sum_below k f) (let e : to ≡ from + n = omega (arith, order) in e) ∙ sum_below-joined from n f in
-    let each : (i : ℕ) → i < n → f (from + i) ≤ q =
-    λ i l.
-    let product = mul-lt (x (from + i)) (p * z (from + i)) b b (x_below (from + i) (omega (arith, l)))
-    (z_below (from + i) (omega (arith, l))) in
-    (le-div_iff_mul-le some).1 (omega (arith, product)) in
-    let sum = sum_below-bounded n q (λ i. f (from + i)) each in
-    let count : n * q ≤ p * q = mul-le-mul_right q (omega (arith, few)) in
-    let most = mul-div-le (b * b - 1) p in
-    omega (arith, joined, sum, count, most, positive)
+-- a word with carries above it, whose remainder is taken first
+pub carries_reduced : {first r : ℕ} (d b high c : ℕ) → first ≡ c % d → r ≡ (high + b * first) % d
+    → r ≡ (high + b * c) % d
+carries_reduced {first} {r} d b high c first_is is =
+    let carries : Congruent d first c = mod_trans (mod_of_eq first_is) (residue_of c) in
+    is ∙ (mod_add (mod_refl high) (mod_mul (mod_refl b) carries)).same
 
 -- a sum in three words that is a multiple of p^2, reduced but for the lowest word and divided by p
 pub sum_reduced : {b d s p rest r q : ℕ} (low high c e v : ℕ) → 0 < p → b ≡ p * e → s ≡ low + b * high

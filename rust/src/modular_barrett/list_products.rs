@@ -6,29 +6,15 @@ use crate::modular_barrett::normalized::Normalized2by1Divisor;
 use crate::modular_prim::plain_word::PlainWord;
 use crate::modular_reduced::list_products::carried_sum;
 
-// The remainder of a double word.
+// The remainder of a word with carries above it.
 #[inline]
-fn remainder<T: PlainWord>(divider: &Normalized2by1Divisor<T>, word: T::Double) -> T {
-    let (low, high) = T::split(word);
-    let rest = divider.div_rem_1by1(high).1;
-    divider.div_rem_2by1(T::merge(low, rest)).1
-}
-
-// The sum of the products of the entries from index `from` to `to` - 1, where those of the second list are divided by
-// 2^shift first. Condition: it fits a double word.
-fn shifted_sum<T: PlainWord>(shift: u32, xs: &[T], ys: &[T], from: usize, to: usize) -> T::Double {
-    let mut sum = T::merge(T::zero(), T::zero());
-    // `to`, in words that let compilers leave out the tests of each index.
-    let end = to.min(xs.len()).min(ys.len());
-    for i in from..end {
-        sum = T::double_plus(sum, xs[i].product(ys[i].shift_right(shift)));
-    }
-    sum
+fn upper<T: PlainWord>(divider: &Normalized2by1Divisor<T>, word: T, carries: T) -> T {
+    let rest = divider.div_rem_1by1(carries).1;
+    divider.div_rem_2by1(T::merge(word, rest)).1
 }
 
 // Of the sum of the products of the entries from index `from` to `to` - 1, divided by 2^shift: the remainder. Each entry
-// is a multiple of 2^shift, so the sum is a multiple of 2^(2·shift). If shift is 12 or more, 4096 products that are divided
-// by it one by one fit a double word, so no carry is counted.
+// is a multiple of 2^shift, so the sum is a multiple of 2^(2·shift).
 pub(crate) fn reduced_products<T: PlainWord>(
     divider: &Normalized2by1Divisor<T>,
     shift: u32,
@@ -37,11 +23,8 @@ pub(crate) fn reduced_products<T: PlainWord>(
     from: usize,
     to: usize,
 ) -> T {
-    if shift >= 12 && to - from <= 4096 {
-        return remainder(divider, shifted_sum(shift, xs, ys, from, to));
-    }
     let (sum, carries) = carried_sum(xs, ys, from, to);
     let (low, high) = T::split(sum);
-    let rest = remainder(divider, T::merge(high, carries));
+    let rest = upper(divider, high, carries);
     divider.div_rem_2by1(T::double_shift_right(T::merge(low, rest), shift)).1
 }

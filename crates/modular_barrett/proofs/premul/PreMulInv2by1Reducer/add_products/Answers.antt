@@ -4,7 +4,7 @@ use Rattle.modular_reduced.proofs.FormLemmas.{form_as, form_of_value}
 use Rattle.modular_reduced.proofs.ListProducts.{number_checked, products_of_numbers}
 use Rattle.modular_barrett.specs.Scaling.{scaled_form, scaled_value}
 use Rattle.modular_barrett.specs.ScaledForms.{scaled_canonical}
-use Rattle.modular_barrett.proofs.ScaledLemmas.{divisor_is, form_below, form_fits, form_multiple}
+use Rattle.modular_barrett.proofs.ScaledLemmas.{divisor_is, form_below}
 use Rattle.modular_barrett.proofs.ScaledSums.{scaled_products, block_of, block_stands, block_added}
 use Rattle.modular_barrett.proofs.premul.PreMulInv2by1Reducer.add_products.Goals as goal
 use Rattle.modular_barrett.proofs.premul.PreMulInv2by1Reducer.add_products.Goals.{After-reduced_products-reduced}
@@ -42,23 +42,6 @@ block_is g c =
     c.reduced_products-reduced.ensures (sum_below k (λ i. term g c (from + i)))
     (block_of (2 ^ c.args.self.now.shift) from k (term g c) _ _ (whole g c from c.each_block.invariant.within)
     (whole g c (from + k) (omega (arith, c.min.ensures))))
-
-pub reduced_products-reduced-requires-clause-below_xs : goal.reduced_products-reduced-requires-clause-below_xs
-reduced_products-reduced-requires-clause-below_xs g c i l =
-    form_fits _ c.args.self.now.scaling g.met.T.PathWord.base_is
-    (number_checked g.T.RingWord.number (scaled_form _) (scaled_value _) _ c.args.xs.now i c.requires.checked_xs l)
-
-pub reduced_products-reduced-requires-clause-below_ys : goal.reduced_products-reduced-requires-clause-below_ys
-reduced_products-reduced-requires-clause-below_ys g c i l =
-    form_fits _ c.args.self.now.scaling g.met.T.PathWord.base_is
-    (number_checked g.T.RingWord.number (scaled_form _) (scaled_value _) _ c.args.ys.now i c.requires.checked_ys
-    (omega (arith, l, c.requires.equal)))
-
-pub reduced_products-reduced-requires-clause-scaled : goal.reduced_products-reduced-requires-clause-scaled
-reduced_products-reduced-requires-clause-scaled g c i l =
-    form_multiple _ c.args.self.now.scaling
-    (number_checked g.T.RingWord.number (scaled_form _) (scaled_value _) _ c.args.ys.now i c.requires.checked_ys
-    (omega (arith, l, c.requires.equal)))
 
 pub add_below-total-requires-clause-right : goal.add_below-total-requires-clause-right
 add_below-total-requires-clause-right g c =
