@@ -20,11 +20,10 @@ pub rest_is_low_word : (b m p q c low high : ℕ) → 2 * m ≤ b → q * m ≤ 
     → low + q * m ≡ p
 rest_is_low_word b m p q c low high room most below is sum fits =
     let rest : ℕ = p - q * m in
-    let s : rest + q * m ≡ p = omega (arith, most) in
-    let small : rest < b = omega (arith, s, below, room) in
+    let small : rest < b = omega (arith, below, room) in
     let whole : q * (c + m) ≡ q * b = ap (λ v. q * v) is in
-    let e : rest + q * b ≡ low + high * b = omega (arith, s, whole, sum) in
+    let e : rest + q * b ≡ low + high * b = omega (arith, whole, sum) in
     let same : rest ≡ low =
     sym (add-mul-mod_self_right rest q b ∙ mod-eq_of_lt small) ∙ ap (λ v. v % b) e
     ∙ add-mul-mod_self_right low high b ∙ mod-eq_of_lt fits in
-    omega (arith, same, s)
+    omega (arith, same)

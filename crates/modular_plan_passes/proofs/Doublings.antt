@@ -1,6 +1,6 @@
 -- A table made by doublings: the entries at the places of one bit, and the others from two each.
 use Rattle.std.proofs.Common.{◌≡◌, ℕ, suc, ◌+◌, ◌-◌, ◌*◌, ◌/◌, ◌%◌, ◌^◌, ◌<◌, ◌≤◌, List, get_or, length}
-use Rattle.std.proofs.Common.{inl, inr, refl, sym, ◌∙◌, ap, arith, subst, get_or-set_same, get_or-set_other}
+use Rattle.std.proofs.Common.{refl, sym, ◌∙◌, ap, arith, subst, get_or-set_same, get_or-set_other}
 use Rattle.std.proofs.Math.ListN.{set}
 use Rattle.std.proofs.Math.Nat.{two-pow-succ, pow-zero, mod-eq_of_lt, pow-le-pow_right}
 use Rattle.std.proofs.Math.Pow.{pow-lt}
@@ -22,30 +22,23 @@ record AreApart (s t x : ℕ) : Type 0 where
 
 are_apart : (s t x u : ℕ) → s ≡ t + suc u → x < 2 ^ t → AreApart s t x
 are_apart s t x u is below =
-    let p = pow_pos t in
     let of = λ (y a : ℕ) (l : a < 2 ^ t) (n : ℕ) (e : n ≡ a + 2 ^ t * y).
     ap (λ v. bits_reversed s v) e ∙ ap (λ v. bits_reversed v (a + 2 ^ t * y)) is
     ∙ bits_reversed_of_parts t (suc u) a y l in
     let one : 1 / 2 ≡ 0 = refl in
     let bit : 1 % 2 ≡ 1 = refl in
-    let none = bits_reversed_of_zero (suc u) in
-    let high = bits_reversed-suc u 1 in
     let rest = ap (bits_reversed u) one ∙ bits_reversed_of_zero u in
-    let top = ap (λ v. v * 2 ^ u) bit in
     let zeros = ap (λ v. v * 2 ^ suc u) (bits_reversed_of_zero t) in
-    let single = of 1 0 (omega (arith, p)) (2 ^ t) (omega arith) in
-    let alone = of 0 x below x (omega arith) in
+    let single = of 1 0 (omega (arith, pow_pos t)) (2 ^ t) (omega arith) in
     let whole = of 1 x below (2 ^ t + x) (omega arith) in
     let left : s - 1 - t ≡ u = omega (arith, is) in
-    let turned = ap (λ v. 2 ^ v) left in
     record {
-      low = omega (arith, single, zeros, high, rest, top, turned);
-      both = omega (arith, single, alone, whole, zeros, none);
+      low = omega (arith, single, zeros, bits_reversed-suc u 1, rest, ap (λ v. v * 2 ^ u) bit, ap (λ v. 2 ^ v) left);
+      both = omega (arith, single, of 0 x below x (omega arith), whole, zeros, bits_reversed_of_zero (suc u));
     }
 
 pub reversed_of_one_bit : (s t : ℕ) → t < s → bits_reversed s (2 ^ t) ≡ 2 ^ (s - 1 - t)
-reversed_of_one_bit s t below = let p = pow_pos t in
-    (are_apart s t 0 (s - 1 - t) (omega (arith, below)) (omega (arith, p))).low
+reversed_of_one_bit s t below = (are_apart s t 0 (s - 1 - t) (omega (arith, below)) (pow_pos t)).low
 
 pub reversed_of_sum : (s t x : ℕ) → t < s → x < 2 ^ t
     → bits_reversed s (2 ^ t + x) ≡ bits_reversed s x + bits_reversed s (2 ^ t)
@@ -57,26 +50,18 @@ pub record IsMade {F : Type 0} (value quotient : F → ℕ) (base m g bits : ℕ
   pub power : numbers value table k ≡ g ^ bits_reversed bits k % m
 
 -- after a write: the place itself ..
-pub made_now : {F : Type 0} (value quotient : F → ℕ) (base m g bits : ℕ) (table : List F) (i : ℕ) (x : F)
+pub made_now : {F : Type 0} {value quotient : F → ℕ} {base m g bits : ℕ} (table : List F) {i : ℕ} (x : F)
     → i < length table → IsFactor base m (value x) (quotient x) → value x ≡ g ^ bits_reversed bits i % m
     → IsMade value quotient base m g bits (set table i x) i
-made_now value quotient base m g bits table i x within factor power = record {
-  factor = λ d. subst (λ y. IsFactor base m (value y) (quotient y)) (sym (get_or-set_same table i x d within)) factor;
-  power = number_written value table i x within ∙ power;
-}
+made_now {F} {value} {quotient} {base} {m} {g} {bits} table {i} x within factor power =
+    grind (arith, get_or-set_same, number_written)
 
 -- .. and one that was made before
-pub made_before : {F : Type 0} (value quotient : F → ℕ) (base m g bits : ℕ) (table : List F) (i : ℕ) (x : F) (k : ℕ)
+pub made_before : {F : Type 0} {value quotient : F → ℕ} {base m g bits : ℕ} {table : List F} {i k : ℕ} (x : F)
     → IsMade value quotient base m g bits (set table i x) i → IsMade value quotient base m g bits table k
     → IsMade value quotient base m g bits (set table i x) k
-made_before value quotient base m g bits table i x k now before = elim (cases_eq k i) [
-  | inl e ↦ subst (IsMade value quotient base m g bits (set table i x)) (sym e) now
-  | inr ne ↦ record {
-    factor = λ d. subst (λ y. IsFactor base m (value y) (quotient y)) (sym (get_or-set_other table i k x d ne))
-        (before.factor d);
-    power = number_not_written value table i k x ne ∙ before.power;
-  }
-]
+made_before {F} {value} {quotient} {base} {m} {g} {bits} {table} {i} {k} x now before =
+    grind (arith, cases_eq, get_or-set_other, number_not_written)
 
 -- a factor is one by its numbers
 pub same_factor : {base m v q w r : ℕ} → IsFactor base m v q → w ≡ v → r ≡ q → IsFactor base m w r
@@ -92,8 +77,7 @@ holds_from_previous P i before now k l = grind arith
 -- the first place
 pub first_power : (m one power value g bits : ℕ) → one ≡ 1 → power ≡ one % m → value ≡ power
     → value ≡ g ^ bits_reversed bits 0 % m
-first_power m one power value g bits is_one is e =
-    e ∙ is ∙ ap (λ v. v % m) (is_one ∙ sym (pow-zero g) ∙ ap (λ v. g ^ v) (sym (bits_reversed_of_zero bits)))
+first_power m one power value g bits is_one is e = grind (arith, pow-zero g, bits_reversed_of_zero bits)
 
 -- half of the place p of one bit
 pub record IsHalved (s i p : ℕ) : Type 0 where
@@ -104,28 +88,20 @@ pub record IsHalved (s i p : ℕ) : Type 0 where
 pub half_place : (s i p : ℕ) → i < s → p ≡ 2 ^ (s - i) → IsHalved s i p
 half_place s i p below is =
     let t : ℕ = s - (i + 1) in
-    let up : s - i ≡ suc t = omega (arith, below) in
-    let e = ap (λ v. 2 ^ v) up in
-    let two = two-pow-succ t in
-    let next : p / 2 ≡ 2 ^ t = omega (arith, is, e, two) in
-    let less = pow-lt {i = t} {j = s} (omega (arith, below)) in
-    let left : s - 1 - t ≡ i = omega (arith, below) in
-    record {
-      next = next;
-      within = omega (arith, next, less);
-      reversed = ap (bits_reversed s) next ∙ reversed_of_one_bit s t (omega (arith, below)) ∙ ap (λ v. 2 ^ v) left;
-    }
+    let two : 2 ^ (s - i) ≡ 2 * 2 ^ t = grind (arith, two-pow-succ t) in
+    grind (arith, pow-lt {i = t} {j = s} (omega (arith, below)), reversed_of_one_bit s t (omega (arith, below)))
 
 -- a place of one bit, and as many beyond it
 pub two_within : (s t p n : ℕ) → t < s → p ≡ 2 ^ t → n ≡ 2 ^ s → 2 * p ≤ n
 two_within s t p n below is whole =
-    let two = two-pow-succ t in
     let most = pow-le-pow_right {n = 2} (omega arith) {i = suc t} {j = s} (omega (arith, below)) in
-    omega (arith, is, whole, two, most)
+    omega (arith, is, whole, two-pow-succ t, most)
+
+pub one_within : (s t p n : ℕ) → t < s → p ≡ 2 ^ t → n ≡ 2 ^ s → p < n
+one_within s t p n below is whole = omega (arith, two_within s t p n below is whole, pow_pos t)
 
 pub twice_place : (t p : ℕ) → p ≡ 2 ^ t → p * 2 ≡ 2 ^ (t + 1)
-twice_place t p is = let two = two-pow-succ t in let up : t + 1 ≡ suc t = omega arith in
-    let e = ap (λ v. 2 ^ v) up in omega (arith, is, two, e)
+twice_place t p is = grind (arith, two-pow-succ t)
 
 pub root_itself : (m g : ℕ) → g < m → g ≡ g ^ (2 ^ 0) % m
 root_itself m g below = sym (ap (λ v. v % m) (pow-one g) ∙ mod-eq_of_lt below)
@@ -133,11 +109,7 @@ root_itself m g below = sym (ap (λ v. v % m) (pow-one g) ∙ mod-eq_of_lt below
 pub square_next : (m g i power value next : ℕ) → power ≡ g ^ (2 ^ i) % m → value ≡ power → next ≡ (power * value) % m
     → next ≡ g ^ (2 ^ (i + 1)) % m
 square_next m g i power value next is same e =
-    let two = two-pow-succ i in
-    let up : i + 1 ≡ suc i = omega arith in
-    let twice : 2 ^ (i + 1) ≡ 2 ^ i + 2 ^ i = ap (λ v. 2 ^ v) up ∙ omega (arith, two) in
-    e ∙ ap (λ v. (power * v) % m) same ∙ ap (λ v. (v * v) % m) is ∙ sym (mul-mod (g ^ (2 ^ i)) (g ^ (2 ^ i)) m)
-    ∙ ap (λ v. v % m) (sym (pow-add g (2 ^ i) (2 ^ i)) ∙ ap (λ v. g ^ v) (sym twice))
+    grind (arith, two-pow-succ i, mul-mod (g ^ (2 ^ i)) (g ^ (2 ^ i)) m, pow-add g (2 ^ i) (2 ^ i))
 
 pub product_of_two : (m g s t x v w result : ℕ) → t < s → x < 2 ^ t → v ≡ g ^ bits_reversed s x % m
     → w ≡ g ^ bits_reversed s (2 ^ t) % m → result ≡ (v * w) % m → result ≡ g ^ bits_reversed s (2 ^ t + x) % m

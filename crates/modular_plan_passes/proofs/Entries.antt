@@ -85,6 +85,5 @@ pub never_beyond : {T : Type 0} {A : Type 0} (number : T → ℕ) (bound : ℕ) 
     → All (λ x. number x < bound) start → i < length words → i < length start → x ≡ get_or words i x
     → numbers number words i ≡ numbers number start i → bound ≤ number x → A
 never_beyond number bound words start i x all within start_within is kept far =
-    let same = number_read number words i x within is in
     let below = bounded number bound start i x all start_within in
-    absurd (omega (arith, same, below, kept, far))
+    absurd (omega (arith, number_read number words i x within is, below, kept, far))

@@ -14,13 +14,10 @@ use Rattle.modular_reduced.proofs.FixedFactors.{IsNear}
 -- the quotient of scaled numbers is the quotient
 pub scaled_quotient : (b m w s q r : ℕ) → 0 < s → IsDivision (b * (w * s)) (m * s) q r → q ≡ w * b / m
 scaled_quotient b m w s q r some h =
-    let whole : b * (w * s) ≡ q * (m * s) + r = h.whole in
-    let left : (q * m) * s ≤ (w * b) * s = omega (arith, whole) in
-    let at_most : q * m ≤ w * b = le_of_mul-le-mul_right left some in
+    let at_most : q * m ≤ w * b = le_of_mul-le-mul_right (omega arith) some in
     let rest : (w * b - q * m) + q * m ≡ w * b = omega (arith, at_most) in
     let scaled : ((w * b - q * m) + q * m) * s ≡ (w * b) * s = ap (λ v. v * s) rest in
-    let small : (w * b - q * m) * s < m * s = omega (arith, scaled, whole, h.below) in
-    let less : w * b - q * m < m = lt_of_mul-lt-mul_right s small in
+    let less : w * b - q * m < m = lt_of_mul-lt-mul_right s (omega (arith, scaled, h.below)) in
     let e : q * m + (w * b - q * m) ≡ w * b = omega (arith, rest) in
     sym (ap (λ v. v / m) (sym e) ∙ div-mul-add q m (w * b - q * m) less)
 
@@ -36,10 +33,7 @@ pub left_over : (b m product whole p t r : ℕ) → 0 < b → 2 * m ≤ b → Is
     → t ≡ (whole * m) % b → r < b → (r + t) % b ≡ p
     → IsProduct m product r
 left_over b m product whole p t r some room near_it is_p is_t fits e =
-    let at_most = near_it.at_most in
-    let close = near_it.close in
     let rest : ℕ = product - whole * m in
-    let s : rest + whole * m ≡ product = omega arith in
     let small : rest < b = omega arith in
     let t_fits : t % b ≡ t = ap (λ v. v % b) is_t ∙ mod-eq_of_lt (mod-lt (whole * m) some) ∙ sym is_t in
     let again : (rest + t) % b ≡ p =
@@ -62,27 +56,21 @@ any_times_below b d x y fits less = omega (arith, mul-lt x y b d fits less)
 -- the rest of scaled numbers is the rest, scaled
 pub scaled_rest : (m x y s q r : ℕ) → 0 < s → IsDivision (x * s * y) (m * s) q r → r / s ≡ (x * y) % m
 scaled_rest m x y s q r some h =
-    let whole : x * s * y ≡ q * (m * s) + r = h.whole in
-    let left : (q * m) * s ≤ (x * y) * s = omega (arith, whole) in
+    let left : (q * m) * s ≤ (x * y) * s = omega arith in
     let at_most : q * m ≤ x * y = le_of_mul-le-mul_right left some in
     let k : ℕ = x * y - q * m in
     let rest : k + q * m ≡ x * y = omega (arith, at_most) in
     let scaled : (k + q * m) * s ≡ (x * y) * s = ap (λ v. v * s) rest in
-    let is : k * s ≡ r = omega (arith, scaled, whole) in
-    let less : k < m = lt_of_mul-lt-mul_right s (let l : k * s < m * s = omega (arith, is, h.below) in l) in
-    let rest_is : r / s ≡ k = (let e : r ≡ k * s + 0 = omega (arith, is) in ap (λ v. v / s) e) ∙ div-mul-add k s 0 some in
+    let less : k < m = lt_of_mul-lt-mul_right s (let l : k * s < m * s = omega (arith, h.below) in l) in
+    let rest_is : r / s ≡ k = (let e : r ≡ k * s + 0 = omega arith in ap (λ v. v / s) e) ∙ div-mul-add k s 0 some in
     rest_is ∙ sym (ap (λ v. v % m) (sym rest) ∙ add-mul-mod_self_right k q m ∙ mod-eq_of_lt less)
 
 -- what the quotient of a factor leaves
 pub left_by_quotient : (b m w q p r : ℕ) → 0 < m → m ≤ b → IsFactor b m w q → p ≡ (q * m) % b → (r + p) % b ≡ 0 → r < b
     → r ≡ (w * b) % m
 left_by_quotient b m w q p r some room is is_p none fits =
-    let small : (w * b) % m < m = mod-lt (w * b) some in
-    let d : m * (w * b / m) + (w * b) % m ≡ w * b = div-add-mod (w * b) m in
-    let product : m * q ≡ m * (w * b / m) = ap (λ v. m * v) is.quotient in
-    let whole : (w * b) % m + q * m ≡ 0 + w * b = omega (arith, d, product) in
+    let whole : (w * b) % m + q * m ≡ 0 + w * b = omega (arith, div-add-mod (w * b) m, ap (λ v. m * v) is.quotient) in
     let all : Congruent b ((w * b) % m + p) 0 =
     mod_trans (mod_add (mod_refl ((w * b) % m)) (mod_trans (mod_of_eq is_p) (residue_of (q * m))))
     (mod_trans (mod_of_eq whole) (record { same = add-mul-mod_self_right 0 w b })) in
-    let zero_is : 0 % b ≡ 0 = mod-eq_of_lt (let k : 0 < b = omega (arith, some, room) in k) in
-    mod_cancel b r ((w * b) % m) p fits (omega (arith, small, room)) (none ∙ sym zero_is ∙ sym all.same)
+    mod_cancel b r ((w * b) % m) p fits (omega (arith, mod-lt (w * b) some, room)) (grind (arith, all.same))

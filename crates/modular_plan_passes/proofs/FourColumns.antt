@@ -1,8 +1,7 @@
 -- Four entries at once: what is read and number_written of them, and the columns of four quarters.
-use Rattle.std.proofs.Common.{◌≡◌, ◌≢◌, ℕ, ◌+◌, ◌-◌, ◌*◌, ◌<◌, ◌≤◌, List, ◌++◌, All, get_or, length, inl, inr}
-use Rattle.std.proofs.Common.{sym, ◌∙◌, ap, arith, subst}
+use Rattle.std.proofs.Common.{◌≡◌, ◌≢◌, ℕ, ◌+◌, ◌-◌, ◌*◌, ◌<◌, ◌≤◌, List, ◌++◌, All, get_or, length}
+use Rattle.std.proofs.Common.{sym, ◌∙◌, arith, subst}
 use Rattle.std.proofs.Math.ListN.{set}
-use Rattle.std.proofs.lemmas.Bool.{cases_lt}
 use Rattle.modular_plan_passes.specs.Factors.{IsFactor}
 use Rattle.modular_plan_passes.specs.Plans.{numbers}
 use Rattle.modular_plan_passes.specs.Splits.{AreAt, AreFourBelow, AreNeighbours, AreQuarters, ColumnsDone}
@@ -10,7 +9,7 @@ use Rattle.modular_plan_passes.specs.Splits.{FourDoneWithin, HalvesDone}
 use Rattle.modular_plan_passes.specs.Steps.{IsFourSplit, FourDone, BlockOfFours, StageOfFours}
 use Rattle.modular_plan_passes.proofs.Doublings.{same_factor}
 use Rattle.modular_plan_passes.proofs.Entries.{number_written, number_not_written, number_read, all_below, bounded_at}
-use Rattle.modular_plan_passes.proofs.Fours.{four_along, stage_of_fours_more}
+use Rattle.modular_plan_passes.proofs.Fours.{four_along, of_halves, stage_of_fours_more}
 use Rattle.modular_plan_passes.proofs.ListParts.{number_in_front, number_behind}
 
 -- four writes of what comes of the numbers that were read
@@ -96,38 +95,24 @@ block_of_halves number R first q f l h t l' h' lf ll lh ll' lh' done =
     let x = halves_of number first q f l h t lf ll lh in
     let y = halves_of number first q f l' h' t lf ll' lh' in
     record {
-      fours = λ i k.
-          four_along R (sym (x.low i (omega (arith, k)))) (sym (x.low (q + i) (omega (arith, k))))
-          (sym (x.high i (omega (arith, k)))) (sym (x.high (q + i) (omega (arith, k))))
-          (sym (y.low i (omega (arith, k)))) (sym (y.low (q + i) (omega (arith, k))))
-          (sym (y.high i (omega (arith, k)))) (sym (y.high (q + i) (omega (arith, k)))) (done.columns i k);
+      fours = λ i k. grind (arith, done.columns i k, x.low, x.high, y.low, y.high);
       others = λ i k less. absurd (omega arith);
       before = λ k less. y.before k less ∙ sym (x.before k less);
       after = λ k beyond.
           let j : ℕ = k - (first + (q + q + (q + q))) in
-          let e : k ≡ first + (q + q + (q + q + j)) = omega arith in
-          ap (numbers number (f ++ (l' ++ (h' ++ t)))) e ∙ y.after j ∙ sym (x.after j)
-          ∙ sym (ap (numbers number (f ++ (l ++ (h ++ t)))) e);
+          grind (arith, x.after j, y.after j);
     }
 
 -- the entries of a block that are below a bound
 pub fours_below : {R : ℕ → ℕ → ℕ → ℕ → ℕ → ℕ → ℕ → ℕ → Type 0} {bound first q : ℕ} (k : ℕ) {x y : ℕ → ℕ}
     → BlockOfFours (FourDoneWithin bound R) first q q x y → first ≤ k → k < first + (q + q + (q + q)) → y k < bound
-fours_below {R} {bound} {first} {q} k {x} {y} done least l = elim (cases_lt k (first + q)) [
-  | inl l0 ↦ subst (λ v. y v < bound) (let e : first + (k - first) ≡ k = omega arith in e)
-      (done.fours (k - first) (omega arith)).below.first
-  | inr l0 ↦ elim (cases_lt k (first + (q + q))) [
-    | inl l1 ↦ subst (λ v. y v < bound) (let e : first + (q + (k - (first + q))) ≡ k = omega arith in e)
-        (done.fours (k - (first + q)) (omega arith)).below.second
-    | inr l1 ↦ elim (cases_lt k (first + (q + q + q))) [
-      | inl l2 ↦ subst (λ v. y v < bound) (let e : first + (q + q + (k - (first + (q + q)))) ≡ k = omega arith in e)
-          (done.fours (k - (first + (q + q))) (omega arith)).below.third
-      | inr l2 ↦ subst (λ v. y v < bound)
-          (let e : first + (q + q + (q + (k - (first + (q + q + q))))) ≡ k = omega arith in e)
-          (done.fours (k - (first + (q + q + q))) (omega arith)).below.fourth
-    ]
-  ]
-]
+fours_below {R} {bound} {first} {q} k {x} {y} done least l =
+    subst (λ v. y v < bound) (let e : first + (k - first) ≡ k = omega arith in e)
+    (of_halves (λ v. y (first + v) < bound) (q + q) (k - first) (omega arith)
+    (λ j lj. of_halves (λ v. y (first + v) < bound) q j lj (λ i li. (done.fours i li).below.first)
+    (λ i li. (done.fours i li).below.second))
+    (λ j lj. of_halves (λ v. y (first + (q + q + v)) < bound) q j lj (λ i li. (done.fours i li).below.third)
+    (λ i li. (done.fours i li).below.fourth)))
 
 -- .. and with them all entries
 pub block_below : {X : Type 0} (number : X → ℕ) {bound first q : ℕ} (old new : List X)
@@ -135,13 +120,7 @@ pub block_below : {X : Type 0} (number : X → ℕ) {bound first q : ℕ} (old n
     → BlockOfFours (FourDoneWithin bound R) first q q (numbers number old) (numbers number new) → All (λ x. number x < bound) new
 block_below number {bound} {first} {q} old new {R} same all done =
     all_below number bound (length old) new same
-    (λ k l. elim (cases_lt k first) [
-      | inl before ↦ subst (λ v. v < bound) (sym (done.before k before)) (bounded_at number bound old k all l)
-      | inr least ↦ elim (cases_lt k (first + (q + q + (q + q)))) [
-        | inl inside ↦ fours_below k done least inside
-        | inr after ↦ subst (λ v. v < bound) (sym (done.after k after)) (bounded_at number bound old k all l)
-      ]
-    ])
+    (λ k l. grind (arith, bounded_at number bound old k all l, done.before k, done.after k, fours_below k done))
 
 -- the next four neighbours, which are unchanged as yet
 pub neighbours_given : {X : Type 0} (number : X → ℕ) {bound : ℕ} (p : ℕ) (old new : List X) → All (λ x. number x < bound) old

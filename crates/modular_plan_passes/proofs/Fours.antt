@@ -1,5 +1,5 @@
 -- Two stages at once: four entries make blocks, and blocks make stages.
-use Rattle.std.proofs.Common.{◌≡◌, ℕ, ◌+◌, ◌*◌, ◌<◌, List, length, refl, arith, subst}
+use Rattle.std.proofs.Common.{◌≡◌, ℕ, ◌+◌, ◌-◌, ◌*◌, ◌<◌, List, length, refl, arith, subst}
 use Rattle.std.proofs.Math.ListN.{set, length-set}
 use Rattle.modular_plan_passes.specs.Plans.{numbers}
 use Rattle.modular_plan_passes.specs.Splits.{FourDoneWithin}
@@ -63,3 +63,8 @@ pub first_stage : (R : ℕ → ℕ → ℕ → ℕ → ℕ → ℕ → ℕ → �
     → first ≡ 0 → blocks ≡ 1 → w 0 ≡ 1 → v ≡ w 1 → BlockOfFours (R 1 1 v) 0 q q x y
     → StageOfFours (λ p. R (w (first + p)) (w (2 * (first + p))) (w (2 * (first + p) + 1))) q blocks x y
 first_stage R q v first blocks w x y no_first one_block begins second block = grind arith
+
+-- what holds of the places of both halves holds of all
+pub of_halves : (P : ℕ → Type 0) (half e : ℕ) → e < half + half → ((i : ℕ) → i < half → P i)
+    → ((i : ℕ) → i < half → P (half + i)) → P e
+of_halves P half e l low high = grind (arith, low e, high (e - half))

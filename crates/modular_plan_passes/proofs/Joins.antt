@@ -1,7 +1,6 @@
 -- A stage of a join takes the remainders of one level of the tree to those of the level above it, times 2.
-use Rattle.std.proofs.Common.{◌≡◌, ℕ, suc, ◌+◌, ◌-◌, ◌*◌, ◌/◌, ◌%◌, ◌^◌, ◌<◌, ◌≤◌, inl, inr, sym, ◌∙◌, ap, arith, subst}
+use Rattle.std.proofs.Common.{◌≡◌, ℕ, suc, ◌+◌, ◌-◌, ◌*◌, ◌/◌, ◌%◌, ◌^◌, ◌<◌, ◌≤◌, sym, ◌∙◌, ap, arith}
 use Rattle.std.proofs.Math.Nat.{two-pow-succ, pow-zero, mul-le-mul_left}
-use Rattle.std.proofs.lemmas.Bool.{cases_lt}
 use Rattle.modular_word.specs.Congruence.{Congruent}
 use Rattle.modular_word.specs.Sums.{sum_below}
 use Rattle.modular_word.proofs.Congruence.{mod_of_eq, mod_refl, mod_sym, mod_trans, mod_add}
@@ -10,6 +9,7 @@ use Rattle.modular_word.proofs.Sums.{sum_below-zero, sum_below-suc, sum_below-sa
 use Rattle.modular_plan_passes.specs.Joins.{IsPairJoin}
 use Rattle.modular_plan_passes.specs.Plans.{constant, AreTwiddles, AreRemainders}
 use Rattle.modular_plan_passes.specs.Steps.{StageDone, IsLevel}
+use Rattle.modular_plan_passes.proofs.Fours.{of_halves}
 use Rattle.modular_plan_passes.proofs.TreeLevels.{IsTreeLevel, CanJoin, one_block}
 use Rattle.modular_plan_passes.proofs.Levels.{coefficient_at, constants_of_halves, level_sum, moved_to}
 
@@ -63,14 +63,6 @@ joined_pair {m} {g} {z} {entries} {w = w} q count half s i x twiddles below is_y
       mod_trans (joined_high a d even odd (w q) are.inverse _ _ _ first second are.even_is are.opposite are.unit
           pair.subtracted) (mod_of_eq (sym (scaled_sum count s (half + half) (half + i) c x))),
     )
-
--- what holds of the places of both halves holds of all
-pub of_halves : (P : ℕ → Type 0) (half e : ℕ) → e < half + half → ((i : ℕ) → i < half → P i)
-    → ((i : ℕ) → i < half → P (half + i)) → P e
-of_halves P half e l low high = elim (cases_lt e half) [
-  | inl less ↦ low e less
-  | inr more ↦ subst P (let k : half + (e - half) ≡ e = omega arith in k) (high (e - half) (omega arith))
-]
 
 pub level_above_of : {m g z entries : ℕ} (b count half s : ℕ) (x y after w : ℕ → ℕ) → (b + 1) * count ≤ entries
     → AreTwiddles m g z entries w → IsLevel m g z b (count * 2) half (λ k. s * x k) y

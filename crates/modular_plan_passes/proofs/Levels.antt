@@ -1,7 +1,7 @@
 -- A stage of a split takes the remainders of one level of the tree to those of the next.
 use Rattle.std.proofs.Common.{◌≡◌, ℕ, suc, zero, ◌+◌, ◌-◌, ◌*◌, ◌/◌, ◌%◌, ◌^◌, ◌<◌}
-use Rattle.std.proofs.Common.{◌≤◌, refl, sym, ◌∙◌, ap, arith, subst}
-use Rattle.std.proofs.Math.Nat.{two-pow-succ, pow-zero, zero-mod, mul-le-mul_left}
+use Rattle.std.proofs.Common.{◌≤◌, sym, ◌∙◌, ap, arith}
+use Rattle.std.proofs.Math.Nat.{pow-zero, zero-mod, mul-le-mul_left}
 use Rattle.std.proofs.lemmas.Nat.{pow-add, pow_pos}
 use Rattle.modular_word.specs.Congruence.{Congruent}
 use Rattle.modular_word.specs.Sums.{sum_below}
@@ -82,22 +82,21 @@ pub record AreConstants (m c even odd w : ℕ) : Type 0 where
 
 pub constants_of_halves : {m : ℕ} (g z count p : ℕ) (w : ℕ → ℕ) → AreTwiddles m g z count w → p < count
     → AreConstants m (constant g z p) (constant g z (2 * p)) (constant g z (2 * p + 1)) (w p)
-constants_of_halves {m} g zero count p w twiddles below =
-    let none : 2 ^ 0 / 2 ≡ 0 = refl in absurd (omega (arith, twiddles.half, none, below))
+constants_of_halves {m} g zero count p w twiddles below = absurd (omega arith)
 constants_of_halves {m} g (suc u) count p w twiddles below =
     let r = bits_reversed u p in
     let t = g ^ r in
     let h = g ^ (2 ^ u) in
-    let two = two-pow-succ u in
-    let within : p < 2 ^ u = omega (arith, twiddles.half, two, below) in
-    let half : 2 ^ suc u / 2 ≡ 2 ^ u = omega (arith, two) in
+    let within : p < 2 ^ u = omega (arith, twiddles.half, below) in
+    let half : 2 ^ suc u / 2 ≡ 2 ^ u = omega arith in
     let here : suc u - 1 ≡ u = omega arith in
     let are = are_reversed u p within in
     let entry : Congruent m (w p) t = mod_trans (mod_of_eq (twiddles.entry p below
     ∙ ap (λ v. g ^ bits_reversed v p % m) here)) (residue_of t) in
     let minus : IsMinusOne m h = record {
       and_one = record {
-        same = ap (λ k. (g ^ k + 1) % m) (sym half) ∙ twiddles.suits.half_turn (omega (arith, two, pow_pos u)) ∙ sym (zero-mod m);
+        same = ap (λ k. (g ^ k + 1) % m) (sym half) ∙ twiddles.suits.half_turn (omega (arith, pow_pos u))
+            ∙ sym (zero-mod m);
       };
     } in
     let square : Congruent m (h * h) 1 =
@@ -127,7 +126,7 @@ coefficient_at g z count size x q i = sum_below count (λ k. x (k * size + i) * 
 
 -- what is at a place of a list is at a place of another name
 pub moved_to : {m p q p' q' : ℕ} (y s : ℕ → ℕ) → p ≡ p' → q ≡ q' → Congruent m (y p) (s q) → Congruent m (y p') (s q')
-moved_to {m} {q = q} {p' = p'} y s e f h = subst (λ v. Congruent m (y p') (s v)) f (subst (λ v. Congruent m (y v) (s q)) e h)
+moved_to {m} {q = q} {p' = p'} y s e f h = grind arith
 
 -- a pair of the next level
 pub level_pair : {m g z entries y v sum difference : ℕ} {w : ℕ → ℕ} (q count half i : ℕ) (x : ℕ → ℕ)

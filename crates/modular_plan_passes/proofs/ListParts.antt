@@ -16,24 +16,19 @@ number_behind number xs ys n i e = grind (arith, map-append, length-map, get_or-
 
 -- what holds for all words holds for those in front, and for those after them
 pub all_in_front : {T : Type 0} (P : T → Type 0) (xs ys : List T) → All P (xs ++ ys) → All P xs
-all_in_front P xs ys all k d l =
-    let len = length-append xs ys in
-    subst P (get_or-append xs ys d k l) (all k d (omega (arith, len, l)))
+all_in_front P xs ys all k d l = grind (arith, get_or-append, length-append)
 
 pub all_behind : {T : Type 0} (P : T → Type 0) (xs ys : List T) → All P (xs ++ ys) → All P ys
-all_behind P xs ys all k d l =
-    let len = length-append xs ys in
-    subst P (get_or-append-add xs ys k d) (all (length xs + k) d (omega (arith, len, l)))
+all_behind P xs ys all k d l = grind (arith, get_or-append-add, length-append)
 
 -- what holds for the words of two parts holds for all
 pub all_of_both : {T : Type 0} (P : T → Type 0) (xs ys : List T) → All P xs → All P ys → All P (xs ++ ys)
 all_of_both P xs ys front back k d l =
-    let len = length-append xs ys in
     elim (cases_lt k (length xs)) [
       | inl less ↦ subst P (sym (get_or-append xs ys d k less)) (front k d less)
       | inr least ↦
           let i : ℕ = k - length xs in
           let is : length xs + i ≡ k = omega (arith, least) in
           subst (λ v. P (get_or (xs ++ ys) v d)) is
-          (subst P (sym (get_or-append-add xs ys i d)) (back i d (omega (arith, len, l, is))))
+          (subst P (sym (get_or-append-add xs ys i d)) (back i d (omega (arith, length-append xs ys, l, is))))
     ]

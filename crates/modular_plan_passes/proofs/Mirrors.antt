@@ -1,6 +1,6 @@
 -- The entry of a table whose product with another is -1: the one are_mirrored in its power of two.
 use Rattle.std.proofs.Common.{◌≡◌, ℕ, suc, zero, ◌+◌, ◌-◌, ◌*◌, ◌/◌, ◌%◌, ◌^◌, ◌<◌, ◌≤◌, refl, sym, ◌∙◌, ap, arith}
-use Rattle.std.proofs.Math.Nat.{two-pow-succ, pow-zero, mod-eq_of_lt, zero-mod, add-mul-mod_self_right}
+use Rattle.std.proofs.Math.Nat.{two-pow-succ, pow-zero, mod-eq_of_lt, zero-mod}
 use Rattle.std.proofs.lemmas.Nat.{pow-add, pow_pos}
 use Rattle.modular_word.specs.Congruence.{Congruent}
 use Rattle.modular_word.proofs.Congruence.{mod_of_eq, mod_refl, mod_trans, mod_add, mod_mul, residue_of}
@@ -20,19 +20,14 @@ are_mirrored zero k q r least most mirror below = let p = pow_pos k in
 are_mirrored (suc u) zero q r least most mirror below =
     grind (arith, two-pow-succ, pow_pos, bits_reversed-suc, bits_reversed_of_zero)
 are_mirrored (suc u) (suc k) q r least most mirror below =
-    let two = two-pow-succ u in
-    let half = two-pow-succ k in
-    let parity : r % 2 ≡ 1 - q % 2 = omega (arith, mirror, half) in
-    let rest = are_mirrored u k (q / 2) (r / 2) (omega (arith, least, half)) (omega (arith, most, half))
-    (omega (arith, mirror, half, parity)) (omega (arith, below, two)) in
-    let within = rest.within in
-    let total = rest.total in
+    let rest = are_mirrored u k (q / 2) (r / 2) (omega (arith, least)) (omega (arith, most))
+    (omega (arith, mirror)) (omega (arith, below)) in
     let eq = bits_reversed-suc u q in
     let er = bits_reversed-suc u r in
     let bits : q % 2 * 2 ^ u + r % 2 * 2 ^ u ≡ 2 ^ u =
     (let s : q % 2 * 2 ^ u + r % 2 * 2 ^ u ≡ (q % 2 + r % 2) * 2 ^ u = omega arith in s)
-    ∙ ap (λ v. v * 2 ^ u) (let o : q % 2 + r % 2 ≡ 1 = omega (arith, parity) in o) ∙ omega arith in
-    record { within = omega (arith, within, two); total = omega (arith, total, eq, er, bits, two) }
+    ∙ ap (λ v. v * 2 ^ u) (let o : q % 2 + r % 2 ≡ 1 = omega arith in o) ∙ omega arith in
+    record { within = omega (arith, rest.within); total = omega (arith, rest.total, eq, er, bits) }
 
 -- the are_mirrored entry lies in the table, and is minus the inverse
 pub record IsMirror (m count place : ℕ) (w : ℕ → ℕ) (r : ℕ) : Type 0 where
@@ -43,21 +38,16 @@ pub mirror_of_twiddles : {m : ℕ} (g z count k q r : ℕ) (w : ℕ → ℕ) →
     → q < 2 * 2 ^ k → q + r + 1 ≡ 3 * 2 ^ k → IsMirror m count q w r
 mirror_of_twiddles {m} g zero count k q r w twiddles below least most mirror = omega arith
 mirror_of_twiddles {m} g (suc u) count k q r w twiddles below least most mirror =
-    let half = twiddles.half in
-    let two = two-pow-succ u in
-    let some = pow_pos u in
-    let count_is : count ≡ 2 ^ u = omega (arith, half, two) in
-    let are = are_mirrored u k q r least most mirror (omega (arith, below, count_is)) in
-    let inside = are.within in
-    let r_below : r < count = omega (arith, inside, count_is) in
-    let is_half : 2 ^ suc u / 2 ≡ 2 ^ u = omega (arith, two) in
+    let are = are_mirrored u k q r least most mirror (omega (arith, below)) in
+    let r_below : r < count = omega (arith, are.within) in
+    let is_half : 2 ^ suc u / 2 ≡ 2 ^ u = omega arith in
     let e : suc u - 1 ≡ u = omega arith in
     let entry = λ (p : ℕ) (l : p < count). mod_trans (mod_of_eq (twiddles.entry p l))
     (mod_trans (residue_of (g ^ bits_reversed (suc u - 1) p)) (mod_of_eq (ap (λ v. g ^ bits_reversed v p) e))) in
     let product : g ^ bits_reversed u q * g ^ bits_reversed u r ≡ g ^ (2 ^ suc u / 2)
     = sym (pow-add g (bits_reversed u q) (bits_reversed u r)) ∙ ap (λ v. g ^ v) (are.total ∙ sym is_half) in
     let turn : Congruent m (g ^ (2 ^ suc u / 2) + 1) 0 =
-    record { same = twiddles.suits.half_turn (omega (arith, two, some)) ∙ sym (zero-mod m) } in
+    record { same = twiddles.suits.half_turn (omega (arith, pow_pos u)) ∙ sym (zero-mod m) } in
     record {
       within = r_below;
       inverse = record {
@@ -74,7 +64,6 @@ first_of_twiddles {m} g z count v w twiddles some is =
     let r = ap (λ e. g ^ e) (bits_reversed_of_zero (z - 1)) ∙ pow-zero g in
     let one : Congruent m (w 0) 1 = mod_trans (mod_of_eq (twiddles.entry 0 some))
     (mod_trans (residue_of (g ^ bits_reversed (z - 1) 0)) (mod_of_eq r)) in
-    let gone : Congruent m (0 + 1 * m) 0 = record { same = add-mul-mod_self_right 0 1 m } in
     grind arith
 
 -- the place are_mirrored in its power of two, as words have it

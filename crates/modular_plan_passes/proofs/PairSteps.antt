@@ -1,5 +1,5 @@
 -- Pairs make blocks, and blocks make stages.
-use Rattle.std.proofs.Common.{◌≡◌, ℕ, ◌+◌, ◌*◌, ◌%◌, ◌<◌, List, length, inl, inr, refl, sym, ◌∙◌, ap, arith, subst}
+use Rattle.std.proofs.Common.{◌≡◌, ℕ, ◌+◌, ◌*◌, ◌%◌, ◌<◌, List, length, inl, inr, refl, ◌∙◌, ap, arith, subst}
 use Rattle.std.proofs.Math.ListN.{set, length-set}
 use Rattle.std.proofs.Math.Nat.{add-mul-mod_self_right}
 use Rattle.std.proofs.lemmas.Bool.{cases_eq}
@@ -69,15 +69,8 @@ pub block_more : (R : ℕ → ℕ → ℕ → ℕ → Type 0) (first half i : �
     → BlockDone R first half (i + 1) x after
 block_more R first half i x y after within before step = record {
   pairs = λ k l. elim (cases_eq k i) [
-    | inl e ↦
-        let low_kept = before.kept (first + i) (λ n s. omega arith) (λ n s. omega arith) in
-        let high_kept = before.kept (first + (half + i)) (λ n s. omega arith) (λ n s. omega arith) in
-        subst (λ n. R (x (first + n)) (x (first + (half + n))) (after (first + n)) (after (first + (half + n)))) (sym e)
-        (pair_moved R low_kept high_kept refl refl step.pair)
-    | inr ne ↦
-        pair_moved R refl refl (sym (step.kept (first + k) (omega arith) (omega arith)))
-        (sym (step.kept (first + (half + k)) (omega arith) (omega arith)))
-        (before.pairs k (omega arith))
+    | inl e ↦ grind arith
+    | inr ne ↦ grind (arith, pair_moved, before.pairs k (omega arith))
   ];
   kept = λ k n1 n2. step.kept k (n1 i (omega arith)) (n2 i (omega arith))
       ∙ before.kept k (λ n s. n1 n (omega arith)) (λ n s. n2 n (omega arith));

@@ -1,14 +1,12 @@
 -- Blocks whose indexes have the same highest bit: their factors, read from the ends of parts of a table, and the stage of
 -- one run of blocks after another.
 use Rattle.std.proofs.Common.{◌≡◌, ℕ, suc, ◌+◌, ◌-◌, ◌*◌, ◌^◌, ◌<◌, ◌≤◌, List, ◌++◌, get_or, length, inl, inr}
-use Rattle.std.proofs.Common.{sym, ◌∙◌, ap, arith, subst, length-append}
-use Rattle.std.proofs.Math.Nat.{two-pow-succ}
+use Rattle.std.proofs.Common.{sym, ◌∙◌, ap, arith, length-append}
 use Rattle.std.proofs.lemmas.Bool.{cases_lt}
 use Rattle.modular_plan_passes.specs.Plans.{numbers, AreTwiddles}
 use Rattle.modular_plan_passes.specs.Joins.{AreMinusInverses}
 use Rattle.modular_plan_passes.specs.Steps.{StageOfFours}
 use Rattle.modular_plan_passes.proofs.Entries.{number_read}
-use Rattle.modular_plan_passes.proofs.Fours.{four_along}
 use Rattle.modular_plan_passes.proofs.Mirrors.{mirror_of_twiddles}
 use Rattle.modular_plan_passes.proofs.ListParts.{number_in_front, number_behind}
 
@@ -34,22 +32,19 @@ pub read_at_end : {F : Type 0} (value : F → ℕ) (table part front back : List
     → part ≡ front ++ back → length front ≡ n → i < length back → x ≡ get_or back i x
     → value x ≡ numbers value table (n + i)
 read_at_end value table part front back n i x of is front_length within read =
-    let len = ap (λ t. length t) is ∙ length-append front back in
-    number_read value back i x within read ∙ sym (number_behind value front back n i front_length)
-    ∙ ap (λ t. numbers value t (n + i)) (sym is) ∙ of.same (n + i) (omega (arith, len, front_length, within))
+    grind (arith, length-append, number_behind, number_read)
 
 -- the entries at the mirrored indexes of a block and of its halves
 pub mirrored_inverses : {m : ℕ} (g z count k place other : ℕ) (w : ℕ → ℕ) → AreTwiddles m g z count w → 2 * place + 1 < count
     → 2 ^ k ≤ place → place < 2 * 2 ^ k → place + other + 1 ≡ 3 * 2 ^ k
     → AreMinusInverses m (w place) (w (2 * place)) (w (2 * place + 1)) (w other) (w (2 * other + 1)) (w (2 * other))
 mirrored_inverses {m} g z count k place other w twiddles within least most sum =
-    let two = two-pow-succ k in
     record {
       own = (mirror_of_twiddles g z count k place other w twiddles (omega (arith, within)) least most sum).inverse;
       low = (mirror_of_twiddles g z count (suc k) (2 * place) (2 * other + 1) w twiddles (omega (arith, within))
-          (omega (arith, two, least)) (omega (arith, two, most)) (omega (arith, two, sum))).inverse;
+          (omega (arith, least)) (omega (arith, most)) (omega (arith, sum))).inverse;
       high = (mirror_of_twiddles g z count (suc k) (2 * place + 1) (2 * other) w twiddles within
-          (omega (arith, two, least)) (omega (arith, two, most)) (omega (arith, two, sum))).inverse;
+          (omega (arith, least)) (omega (arith, most)) (omega (arith, sum))).inverse;
     }
 
 -- .. as words that were read have them
@@ -66,36 +61,14 @@ pub stages_appended : {X : Type 0} (number : X → ℕ) (S : ℕ → ℕ → ℕ
 stages_appended number S first n more a b a' b' la la' front back =
     let x = numbers number (a ++ b) in
     let y = numbers number (a' ++ b') in
-    let old_front : (k : ℕ) → k < 4 * n → numbers number a k ≡ x k = λ k l. sym (number_in_front number a b k (omega (arith, la, l))) in
-    let new_front : (k : ℕ) → k < 4 * n → numbers number a' k ≡ y k = λ k l. sym (number_in_front number a' b' k (omega (arith, la', l))) in
     let old_back : (k : ℕ) → numbers number b k ≡ x (4 * n + k) = λ k. sym (number_behind number a b (4 * n) k la) in
     let new_back : (k : ℕ) → numbers number b' k ≡ y (4 * n + k) = λ k. sym (number_behind number a' b' (4 * n) k la') in
     record {
       fours = λ p i l one. elim (cases_lt p n) [
-        | inl less ↦
-            four_along (S (first + p))
-            (old_front (p * 4 + i) (omega arith)) (old_front (p * 4 + (1 + i)) (omega arith))
-            (old_front (p * 4 + (2 + i)) (omega arith)) (old_front (p * 4 + (2 + (1 + i))) (omega arith))
-            (new_front (p * 4 + i) (omega arith)) (new_front (p * 4 + (1 + i)) (omega arith))
-            (new_front (p * 4 + (2 + i)) (omega arith)) (new_front (p * 4 + (2 + (1 + i))) (omega arith))
-            (front.fours p i less one)
+        | inl less ↦ grind (arith, number_in_front, front.fours p i less one)
         | inr least ↦
             let e : ℕ = p - n in
-            let is : n + e ≡ p = omega (arith, least) in
-            let place : 4 * n + e * 4 ≡ p * 4 = omega (arith, is) in
-            let at : (j : ℕ) → 4 * n + (e * 4 + j) ≡ p * 4 + j = λ j. omega (arith, place) in
-            let old : (j : ℕ) → numbers number b (e * 4 + j) ≡ x (p * 4 + j) = λ j. old_back (e * 4 + j) ∙ ap x (at j) in
-            let new : (j : ℕ) → numbers number b' (e * 4 + j) ≡ y (p * 4 + j) = λ j. new_back (e * 4 + j) ∙ ap y (at j) in
-            subst (λ v. S v (x (p * 4 + i)) (x (p * 4 + (1 + i))) (x (p * 4 + (2 + i))) (x (p * 4 + (2 + (1 + i))))
-            (y (p * 4 + i)) (y (p * 4 + (1 + i))) (y (p * 4 + (2 + i))) (y (p * 4 + (2 + (1 + i)))))
-            (let same : first + n + e ≡ first + p = omega (arith, is) in same)
-            (four_along (S (first + n + e))
-            (old i) (old (1 + i)) (old (2 + i)) (old (2 + (1 + i)))
-            (new i) (new (1 + i)) (new (2 + i)) (new (2 + (1 + i)))
-            (back.fours e i (omega (arith, is, l)) one))
+            grind (arith, back.fours e i (omega (arith, l)) one)
       ];
-      kept = λ k l.
-          let e : ℕ = k - 4 * n in
-          let is : 4 * n + e ≡ k = omega (arith, l) in
-          ap y (sym is) ∙ sym (new_back e) ∙ back.kept e (omega (arith, is, l)) ∙ old_back e ∙ ap x is;
+      kept = λ k l. grind (arith, old_back (k - 4 * n), new_back (k - 4 * n), back.kept (k - 4 * n));
     }

@@ -12,9 +12,7 @@ pow2_injective zero (suc b) e = let two = two-pow-succ b in let p = pow_pos b in
 pow2_injective (suc a) zero e = let two = two-pow-succ a in let p = pow_pos a in
     let one : 2 ^ 0 ≡ 1 = refl in absurd (omega (arith, e, two, p, one))
 pow2_injective (suc a) (suc b) e =
-    let f = two-pow-succ a in
-    let h = two-pow-succ b in
-    ap (λ n. suc n) (pow2_injective a b (omega (arith, e, f, h)))
+    ap (λ n. suc n) (pow2_injective a b (omega (arith, e, two-pow-succ a, two-pow-succ b)))
 
 -- half of a power of two that is even
 half_of : (z n : ℕ) → 2 * n ≡ 2 ^ z → IsPowerOfTwo n
@@ -27,7 +25,6 @@ half_power {n} p = half_of p.0 n p.1
 -- the exponent of the length of a table
 pub exponent : (z n bits : ℕ) → 2 ^ z ≡ 2 * n → n ≡ 2 ^ bits → (bits ≡ z - 1) × (n ≡ 2 ^ z / 2)
 exponent z n bits e whole =
-    let two = two-pow-succ bits in
-    let same : 2 ^ z ≡ 2 ^ suc bits = omega (arith, e, whole, two) in
+    let same : 2 ^ z ≡ 2 ^ suc bits = omega (arith, e, whole) in
     let z_is : z ≡ suc bits = pow2_injective z (suc bits) same in
     (omega arith, omega (arith, e))

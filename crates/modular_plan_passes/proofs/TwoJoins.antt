@@ -6,8 +6,9 @@ use Rattle.modular_word.specs.Congruence.{Congruent}
 use Rattle.modular_plan_passes.specs.Joins.{IsFourJoin}
 use Rattle.modular_plan_passes.specs.Plans.{AreTwiddles, AreRemainders}
 use Rattle.modular_plan_passes.specs.Steps.{StageOfFours, IsLevel}
+use Rattle.modular_plan_passes.proofs.Fours.{of_halves}
 use Rattle.modular_plan_passes.proofs.JoinedPairs.{joined_pair_along}
-use Rattle.modular_plan_passes.proofs.Joins.{joined_pair, level_lowest, of_halves}
+use Rattle.modular_plan_passes.proofs.Joins.{joined_pair, level_lowest}
 use Rattle.modular_plan_passes.proofs.Levels.{coefficient_at, moved_to}
 use Rattle.modular_plan_passes.proofs.TreeLevels.{IsTreeLevel, CanJoinTwo, can_join_two}
 

@@ -1,6 +1,6 @@
 -- Two stages take the remainders of one level of the tree to those two levels below.
-use Rattle.std.proofs.Common.{◌≡◌, ℕ, suc, zero, ◌+◌, ◌*◌, ◌/◌, ◌^◌, ◌<◌, ◌≤◌, refl, sym, ◌∙◌, ap, arith, subst}
-use Rattle.std.proofs.Math.Nat.{two-pow-succ, mul-le-mul_left, mod-eq_of_lt}
+use Rattle.std.proofs.Common.{◌≡◌, ℕ, suc, zero, ◌+◌, ◌*◌, ◌/◌, ◌^◌, ◌<◌, ◌≤◌, sym, ◌∙◌, ap, arith, subst}
+use Rattle.std.proofs.Math.Nat.{mul-le-mul_left, mod-eq_of_lt}
 use Rattle.std.specs.Int.{IsPowerOfTwo}
 use Rattle.modular_word.specs.Congruence.{Congruent}
 use Rattle.modular_plan_passes.specs.Plans.{AreTwiddles, AreRemainders}
@@ -61,11 +61,9 @@ pub record WholeFours (n b entries : ℕ) : Type 0 where
   pub places : 2 * (b * (n / 4) + n / 4) ≤ entries
 
 fours_of_power : (e n b entries : ℕ) → n ≡ 2 ^ e → 4 ≤ n → (b + 1) * (n / 2) ≤ entries → WholeFours n b entries
-fours_of_power zero n b entries is large room = let one : 2 ^ 0 ≡ 1 = refl in absurd (omega (arith, is, one, large))
-fours_of_power (suc zero) n b entries is large room =
-    let two : 2 ^ 1 ≡ 2 = refl in absurd (omega (arith, is, two, large))
+fours_of_power zero n b entries is large room = grind arith
+fours_of_power (suc zero) n b entries is large room = grind arith
 fours_of_power (suc (suc e)) n b entries is large room =
-    let four : n ≡ 4 * 2 ^ e = omega (arith, is, two-pow-succ (suc e), two-pow-succ e) in
     let twice : n / 2 ≡ n / 4 * 2 = omega arith in
     let last : (b + 1) * (n / 4 * 2) ≤ entries = rw twice at room in
     let less = mul-le-mul_left (b + 1) (let l : n / 4 / 2 ≤ n / 4 * 2 = omega arith in l) in

@@ -14,11 +14,10 @@ fours-init g c = search (arith, stage_of_fours_none, front_of, all_in_front)
 
 pub returns-then-is_beyond : goal.returns-then-is_beyond
 returns-then-is_beyond g c =
-    let room = g.met.M.JoinSteps.room c.args.m.now in
     let far = c.if-is_beyond.ensures refl in
     never_beyond g.T.RingWord.number (4 * g.M.JoinSteps.modulus c.args.m.now) c.fours.xs c.args.xs.now (c.fours.p * 4)
     c.index-xs-place.result c.requires.pass.entries (omega arith) (omega arith) c.index-xs-place.is
-    (c.fours.invariant.kept (c.fours.p * 4) (omega arith)) (omega (arith, far, room))
+    (c.fours.invariant.kept (c.fours.p * 4) (omega arith)) (omega (arith, far, g.met.M.JoinSteps.room c.args.m.now))
 
 pub invariant_of-step : goal.invariant_of-step
 invariant_of-step g c = search (arith, all_behind, factor_read)

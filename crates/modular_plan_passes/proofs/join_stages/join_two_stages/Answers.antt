@@ -7,13 +7,11 @@ use Rattle.modular_plan_passes.proofs.join_stages.join_two_stages.Goals as goal
 pub quarters-requires : goal.quarters-requires
 quarters-requires g c =
     let q = c.args.q in
-    let bound = g.met.M.JoinSteps.bound_fits c.args.m.now in
-    let limit = g.met.M.JoinSteps.room c.args.m.now in
     let room = mul-le-mul_right (q + q + (q + q)) (let l : c.four_quarters.p + 1 ≤ c.args.blocks = omega arith in l) in
     record {
       entries = c.four_quarters.invariant.entries;
       within = omega (arith, room);
-      fits = omega (arith, bound, limit);
+      fits = omega (arith, g.met.M.JoinSteps.bound_fits c.args.m.now, g.met.M.JoinSteps.room c.args.m.now);
     }
 
 pub four_quarters-preserved : goal.four_quarters-preserved

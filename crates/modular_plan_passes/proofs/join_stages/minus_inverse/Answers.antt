@@ -21,12 +21,11 @@ returns-then-place-eq0 g c = record {
 pub returns-then-other-table : goal.returns-then-other-table
 returns-then-other-table g c = record {
   inverse = (let n = g.T.RingWord.number in
-      let m = g.M.JoinSteps.modulus c.args.m.now in
       let w = numbers g.F.PlanEntry.value c.args.table.now in
       let is = c.factor.ensures.value ∙ number_read g.F.PlanEntry.value c.args.table.now c.mirrored-other.result
       c.index-table-other.result c.if-other-table.true c.index-table-other.is in
       let at = c.mirrored-other.ensures in
-      λ root z twiddles. subst (λ v. IsMinusInverse m (w c.args.place) v) (sym is)
+      λ root z twiddles. subst (λ v. IsMinusInverse (g.M.JoinSteps.modulus c.args.m.now) (w c.args.place) v) (sym is)
       (mirror_of_twiddles root z (length c.args.table.now) at.0 c.args.place c.mirrored-other.result w twiddles
       c.requires.within at.1 at.2 at.3).inverse);
   factor = factor_read g.F.PlanEntry.value g.F.PlanEntry.quotient _ _ _ c.requires.factors.each
@@ -41,7 +40,6 @@ returns-else-other-table g c = record {
       λ root z twiddles.
       let inside = (mirror_of_twiddles root z (length c.args.table.now) at.0 c.args.place c.mirrored-other.result w twiddles
       c.requires.within at.1 at.2 at.3).within in
-      let outside = c.if-other-table.false in
-      absurd (omega (arith, inside, outside)));
+      absurd (omega (arith, inside, c.if-other-table.false)));
   factor = c.requires.factors.minus_factor;
 }

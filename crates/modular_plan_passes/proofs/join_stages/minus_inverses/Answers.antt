@@ -44,14 +44,11 @@ returns-then-place-eq0 g c = record {
 pub returns-then-other-table : goal.returns-then-other-table
 returns-then-other-table g c = record {
   inverses = (let n = g.T.RingWord.number in
-      let m = g.M.JoinSteps.modulus c.args.m.now in
       let table = c.args.table.now in
       let w = numbers g.F.PlanEntry.value table in
-      let place = c.args.place in
       let other = c.mirrored-other.result in
       let at = c.mirrored-other.ensures in
       let inside = c.if-other-table.true in
-      let within = c.requires.within in
       let own = c.factor-then-other-table.ensures.value ∙ number_read g.F.PlanEntry.value table other
       c.index-table-other.result (omega (arith, inside)) c.index-table-other.is in
       let low = c.factor-then-other-table-2.ensures.value ∙ number_read g.F.PlanEntry.value table (2 * other + 1)
@@ -59,20 +56,18 @@ returns-then-other-table g c = record {
       let high = c.factor-then-other-table-3.ensures.value ∙ number_read g.F.PlanEntry.value table (2 * other)
       c.index-table-other-then-other-table-2.result (omega (arith, inside)) c.index-table-other-then-other-table-2.is in
       λ root z twiddles. inverses_of own low high
-      (mirrored_inverses root z (length table) at.0 place other w twiddles within at.1 at.2 at.3));
+      (mirrored_inverses root z (length table) at.0 c.args.place other w twiddles c.requires.within at.1 at.2 at.3));
   factors = (let other = c.mirrored-other.result in
-      let inside = c.if-other-table.true in
-      let each = c.requires.factors.each in
       let own = c.factor-then-other-table.ensures in
       let low = c.factor-then-other-table-2.ensures in
       let high = c.factor-then-other-table-3.ensures in
       record {
-        whole = factor_read g.F.PlanEntry.value g.F.PlanEntry.quotient _ other _ each
-            (omega (arith, inside)) c.index-table-other.is own.value own.quotient;
-        low = factor_read g.F.PlanEntry.value g.F.PlanEntry.quotient _ (2 * other + 1) _ each
-            (omega (arith, inside)) c.index-table-other-then-other-table.is low.value low.quotient;
-        high = factor_read g.F.PlanEntry.value g.F.PlanEntry.quotient _ (2 * other) _ each
-            (omega (arith, inside)) c.index-table-other-then-other-table-2.is high.value high.quotient;
+        whole = factor_read g.F.PlanEntry.value g.F.PlanEntry.quotient _ other _ c.requires.factors.each
+            (omega (arith, c.if-other-table.true)) c.index-table-other.is own.value own.quotient;
+        low = factor_read g.F.PlanEntry.value g.F.PlanEntry.quotient _ (2 * other + 1) _ c.requires.factors.each
+            (omega (arith, c.if-other-table.true)) c.index-table-other-then-other-table.is low.value low.quotient;
+        high = factor_read g.F.PlanEntry.value g.F.PlanEntry.quotient _ (2 * other) _ c.requires.factors.each
+            (omega (arith, c.if-other-table.true)) c.index-table-other-then-other-table-2.is high.value high.quotient;
       });
 }
 

@@ -9,14 +9,12 @@ use Rattle.modular_plan_passes.proofs.split_stages.split_pass.Goals as goal
 pub returns-then-is_one : goal.returns-then-is_one
 returns-then-is_one g c =
     let value = g.F.PlanEntry.value in
-    let table = c.args.table.now in
-    let zero = number_read value table 0 c.index-table-0.result (omega arith) c.index-table-0.is in
-    let one = number_read value table 1 c.index-table-1.result (omega arith) c.index-table-1.is in
+    let zero = number_read value c.args.table.now 0 _ (omega arith) c.index-table-0.is in
+    let one = number_read value c.args.table.now 1 _ (omega arith) c.index-table-1.is in
     let begins = sym zero ∙ sym c.factor.ensures.value ∙ c.is_one.ensures.0 c.if-is_one.true in
     record {
       entries = block_below g.T.RingWord.number _ _ c.quarters.auto.xs c.requires.ready.entries c.quarters.ensures;
-      done = first_stage (IsFourSplit (g.M.SplitSteps.modulus c.args.m.now)) c.args.q
-          (g.T.RingWord.number c.factor-v.result.value) c.args.first c.args.blocks (numbers value table) _ _
-          c.if-first-eq0.true c.if-blocks-eq1.true begins (c.factor-v.ensures.value ∙ one)
+      done = first_stage (IsFourSplit _) _ _ _ _ (numbers value c.args.table.now) _ _ c.if-first-eq0.true
+          c.if-blocks-eq1.true begins (c.factor-v.ensures.value ∙ one)
           (block_mapped (λ a b c d e f g h is. is.done) c.quarters.ensures);
     }

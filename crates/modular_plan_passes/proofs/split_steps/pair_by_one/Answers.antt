@@ -5,9 +5,8 @@ pub returns-clause-pair : goal.returns-clause-pair
 returns-clause-pair g c =
     let n = g.T.RingWord.number in
     let step = c.sum_and_difference in
-    let twice = c.twice-twice.ensures in
     pair_along 1 (n c.args.x) (n c.args.y) (n c.reduced.result) (n c.reduced-2.result) (n step.result.0)
     (n step.result.1)
-    (reduced_by 2 (n c.args.x) _ _ c.reduced.ensures.value twice)
-    (reduced_by 2 (n c.args.y) _ _ c.reduced-2.ensures.value twice)
-    (pair_by_one 2 _ _ _ _ _ twice step.ensures.sum step.ensures.difference)
+    (reduced_by 2 (n c.args.x) _ _ c.reduced.ensures.value c.twice-twice.ensures)
+    (reduced_by 2 (n c.args.y) _ _ c.reduced-2.ensures.value c.twice-twice.ensures)
+    (pair_by_one 2 _ _ _ _ _ c.twice-twice.ensures step.ensures.sum step.ensures.difference)

@@ -9,8 +9,8 @@ use Rattle.modular_plan_passes.specs.Plans.{numbers}
 use Rattle.modular_plan_passes.proofs.Entries.{number_at}
 use Rattle.modular_plan_passes.proofs.Tables.{half_power}
 use Rattle.modular_plan_passes.proofs.Doublings.{IsMade, made_now, made_before, same_factor, holds_below_next, holds_from_previous}
-use Rattle.modular_plan_passes.proofs.Doublings.{first_power, half_place, two_within, twice_place, root_itself, square_next}
-use Rattle.modular_plan_passes.proofs.Doublings.{product_of_two, twiddles_of_made}
+use Rattle.modular_plan_passes.proofs.Doublings.{first_power, half_place, one_within, two_within, twice_place, root_itself}
+use Rattle.modular_plan_passes.proofs.Doublings.{square_next, product_of_two, twiddles_of_made}
 use Rattle.modular_plan_passes.proofs.Shorter.{first_entries}
 use Rattle.modular_plan_passes.proofs.table.fill_table.Goals as goal
 use borrow.Author.Rules.{scaled_Fits}
@@ -48,98 +48,70 @@ one_after a b l = omega (arith, l)
 
 pub squares-init : goal.squares-init
 squares-init g c =
-    let n = g.T.RingWord.number in
-    let m = n c.args.m.now.modulus in
     let table = c.args.table.now in
     let x = c.entry.result in
     let len = length-set table 0 x in
     let power = half_power c.requires.suits.power_of_two in
-    let within : 0 < length table = first_within c.requires.suits.power_of_two in
     let whole = power_by_zeros (length (set table 0 x)) (subst IsPowerOfTwo (sym len) power) (omega (arith, len)) in
-    let bits = trailing_zeros w64 (length (set table 0 x)) in
-    let same : bits ≡ bits - 0 = omega arith in
     record {
       whole = whole;
-      place = whole ∙ ap (λ v. 2 ^ v) same;
-      power = root_itself m (n c.args.g) c.requires.below;
-      first = made_now g.F.PlanEntry.value g.F.PlanEntry.quotient g.T.PathWord.base m (n c.args.g) bits table 0 x within
+      place = whole ∙ ap (λ v. 2 ^ v) (omega arith);
+      power = root_itself _ _ c.requires.below;
+      first = made_now table x (first_within c.requires.suits.power_of_two)
           (same_factor c.factor.ensures.factor c.entry.ensures.value c.entry.ensures.quotient)
-          (first_power m (n c.one.result) _ _ (n c.args.g) bits c.one.ensures c.residue.ensures
-          (c.entry.ensures.value ∙ c.factor.ensures.value));
+          (first_power _ _ _ _ _ _ c.one.ensures c.residue.ensures (c.entry.ensures.value ∙ c.factor.ensures.value));
       single = λ t l h. absurd (omega arith);
     }
 
 pub offset_bounds-table-place : goal.offset_bounds-table-place
 offset_bounds-table-place g c =
-    let whole = c.squares.invariant.whole in
-    let half = half_place _ c.squares._bit c.squares.place c.squares-test.true c.squares.invariant.place in
-    let inside = half.within in
+    let inside = (half_place _ c.squares._bit c.squares.place c.squares-test.true c.squares.invariant.place).within in
     let len = length-set c.args.table.now 0 c.entry.result in
-    let within : c.squares.place / 2 < length c.args.table.now = omega (arith, whole, inside, len) in
-    scaled_Fits _ _ _ within c.well_formed.1.1.0.1
+    scaled_Fits _ _ _ (omega (arith, c.squares.invariant.whole, inside, len)) c.well_formed.1.1.0.1
 
 pub bounds-table-place : goal.bounds-table-place
 bounds-table-place g c =
-    let whole = c.squares.invariant.whole in
     let within = (half_place _ c.squares._bit c.squares.place c.squares-test.true c.squares.invariant.place).within in
-    omega (arith, whole, within)
+    omega (arith, c.squares.invariant.whole, within)
 
 pub squares-preserved : goal.squares-preserved
 squares-preserved g c =
-    let n = g.T.RingWord.number in
-    let m = n c.args.m.now.modulus in
-    let root = n c.args.g in
+    let m = g.T.RingWord.number c.args.m.now.modulus in
+    let root = g.T.RingWord.number c.args.g in
     let before = c.squares.invariant in
     let bits = trailing_zeros w64 (length (set c.args.table.now 0 c.entry.result)) in
     let i = c.squares._bit in
-    let t : ℕ = bits - (i + 1) in
-    let table = c.squares.table in
     let p : ℕ = c.squares.place / 2 in
-    let x = c.entry-in-squares.result in
-    let made = IsMade g.F.PlanEntry.value g.F.PlanEntry.quotient g.T.PathWord.base m root bits (set table p x) in
+    let made = IsMade g.F.PlanEntry.value g.F.PlanEntry.quotient g.T.PathWord.base m root bits
+    (set c.squares.table p c.entry-in-squares.result) in
     let half = half_place bits i c.squares.place c.squares-test.true before.place in
-    let inside = half.within in
-    let whole = before.whole in
-    let within : p < length table = omega (arith, whole, inside) in
-    let now : made p = made_now g.F.PlanEntry.value g.F.PlanEntry.quotient g.T.PathWord.base m root bits table p x within
+    let now : made p = made_now c.squares.table _ (omega (arith, before.whole, half.within))
     (same_factor c.factor-factor.ensures.factor c.entry-in-squares.ensures.value c.entry-in-squares.ensures.quotient)
     (c.entry-in-squares.ensures.value ∙ c.factor-factor.ensures.value ∙ before.power
     ∙ ap (λ v. root ^ v % m) (sym half.reversed)) in
-    let kept = λ (k : ℕ). made_before g.F.PlanEntry.value g.F.PlanEntry.quotient g.T.PathWord.base m root bits table p x k now in
     record {
-      whole = length-set table p x ∙ whole;
+      whole = length-set c.squares.table p _ ∙ before.whole;
       place = half.next;
       power = square_next m root i _ _ _ before.power c.factor-factor.ensures.value c.product-power.ensures;
-      first = kept 0 before.first;
-      single = λ k l h. holds_from_previous (λ k. k < bits → made (2 ^ k)) t
-          (λ k l h. kept (2 ^ k) (before.single k (omega arith) h))
-          (λ h. subst made half.next now) k l h;
+      first = made_before _ now before.first;
+      single = λ k l h. holds_from_previous (λ k. k < bits → made (2 ^ k)) (bits - (i + 1))
+          (λ k l h. made_before _ now (before.single k (omega arith) h)) (λ h. subst made half.next now) k l h;
     }
 
 pub offset_bounds-table-count : goal.offset_bounds-table-count
 offset_bounds-table-count g c =
     let before = c.doublings.invariant in
-    let is = before.count in
-    let some = pow_pos c.doublings._bit in
-    let room = two_within _ c.doublings._bit c.doublings.count _ c.doublings-test.true is before.whole in
-    let len = length-set c.args.table.now 0 c.entry.result in
-    let within : c.doublings.count < length c.args.table.now = omega (arith, is, some, room, len) in
-    scaled_Fits _ _ _ within c.well_formed.1.1.0.1
+    let within = one_within _ c.doublings._bit _ _ c.doublings-test.true before.count before.whole in
+    scaled_Fits _ _ _ (omega (arith, within, length-set c.args.table.now 0 c.entry.result)) c.well_formed.1.1.0.1
 
 pub bounds-table-count : goal.bounds-table-count
 bounds-table-count g c =
-    let before = c.doublings.invariant in
-    let is = before.count in
-    let some = pow_pos c.doublings._bit in
-    let room = two_within _ c.doublings._bit c.doublings.count _ c.doublings-test.true is before.whole in
-    omega (arith, is, some, room)
+    one_within _ c.doublings._bit _ _ c.doublings-test.true c.doublings.invariant.count c.doublings.invariant.whole
 
 pub others-init : goal.others-init
 others-init g c =
-    let n = g.T.RingWord.number in
     let before = c.doublings.invariant in
-    let made = IsMade g.F.PlanEntry.value g.F.PlanEntry.quotient g.T.PathWord.base (n c.args.m.now.modulus) (n c.args.g)
-    (trailing_zeros w64 (length (set c.args.table.now 0 c.entry.result))) c.doublings.table in
+    let made = IsMade g.F.PlanEntry.value g.F.PlanEntry.quotient g.T.PathWord.base _ _ _ c.doublings.table in
     record {
       room = two_within _ c.doublings._bit c.doublings.count _ c.doublings-test.true before.count before.whole;
       single = before.single;
@@ -149,77 +121,60 @@ others-init g c =
 
 pub others-preserved : goal.others-preserved
 others-preserved g c =
-    let n = g.T.RingWord.number in
-    let m = n c.args.m.now.modulus in
-    let root = n c.args.g in
+    let m = g.T.RingWord.number c.args.m.now.modulus in
+    let root = g.T.RingWord.number c.args.g in
     let outer = c.doublings.invariant in
     let before = c.others.invariant in
     let bits = trailing_zeros w64 (length (set c.args.table.now 0 c.entry.result)) in
     let t = c.doublings._bit in
     let count = c.doublings.count in
-    let is = outer.count in
     let other = c.others.other in
-    let table = c.others.table in
-    let x = c.entry-in-others.result in
-    let room = before.room in
     let test = c.others-test.true in
-    let within : count + other < length table = sum_within room test in
-    let count_within : count < length c.doublings.table = omega (arith, room) in
-    let other_within : other < length table = within_double room test in
-    let made = IsMade g.F.PlanEntry.value g.F.PlanEntry.quotient g.T.PathWord.base m root bits (set table (count + other) x) in
+    let made = IsMade g.F.PlanEntry.value g.F.PlanEntry.quotient g.T.PathWord.base m root bits
+    (set c.others.table (count + other) c.entry-in-others.result) in
     let first = c.factor-in-others.ensures.value
-    ∙ number_at g.F.PlanEntry.value table other c.index-table-other.result other_within
+    ∙ number_at g.F.PlanEntry.value c.others.table other c.index-table-other.result (within_double before.room test)
     ∙ (before.first other (below_sum test)).power in
     let second = c.factor-factor-in-doublings.ensures.value
-    ∙ number_at g.F.PlanEntry.value c.doublings.table count c.index-table-count.result count_within
-    ∙ ap (λ v. numbers g.F.PlanEntry.value c.doublings.table v) is
+    ∙ number_at g.F.PlanEntry.value c.doublings.table count c.index-table-count.result
+    (one_within _ t _ _ c.doublings-test.true outer.count outer.whole)
+    ∙ ap (λ v. numbers g.F.PlanEntry.value c.doublings.table v) outer.count
     ∙ (outer.single t c.doublings-test.true).power in
-    let power = product_of_two m root bits t other _ _ _ c.doublings-test.true (below_same test is) first second
-    c.product-power-in-others.ensures in
-    let place : 2 ^ t + other ≡ count + other = ap (λ v. v + other) (sym is) in
-    let now : made (count + other) = made_now g.F.PlanEntry.value g.F.PlanEntry.quotient g.T.PathWord.base m root bits table
-    (count + other) x within
+    let power = product_of_two m root bits t other _ _ _ c.doublings-test.true (below_same test outer.count) first
+    second c.product-power-in-others.ensures in
+    let now : made (count + other) = made_now c.others.table _ (sum_within before.room test)
     (same_factor c.factor-in-others-2.ensures.factor c.entry-in-others.ensures.value c.entry-in-others.ensures.quotient)
     (c.entry-in-others.ensures.value ∙ c.factor-in-others-2.ensures.value ∙ power
-    ∙ ap (λ v. root ^ bits_reversed bits v % m) place) in
-    let kept = λ (k : ℕ). made_before g.F.PlanEntry.value g.F.PlanEntry.quotient g.T.PathWord.base m root bits table
-    (count + other) x k now in
-    let len = length-set table (count + other) x in
+    ∙ ap (λ v. root ^ bits_reversed bits (v + other) % m) (sym outer.count)) in
     record {
-      room = room_kept count room len;
-      single = λ k h. kept (2 ^ k) (before.single k h);
-      first = λ k l. holds_below_next made (count + other) (λ k l. kept k (before.first k l)) now k (one_after count other l);
+      room = room_kept count before.room (length-set c.others.table (count + other) _);
+      single = λ k h. made_before _ now (before.single k h);
+      first = λ k l. holds_below_next made (count + other) (λ k l. made_before _ now (before.first k l)) now k
+          (one_after count other l);
     }
 
 pub doublings-preserved : goal.doublings-preserved
-doublings-preserved g c =
-    let before = c.doublings.invariant in
-    let whole = before.whole in
-    record {
-      whole = omega (arith, whole);
-      count = twice_place c.doublings._bit c.doublings.count before.count;
-      single = c.others.invariant.single;
-      first = λ k l. c.others.invariant.first k (omega arith);
-    }
+doublings-preserved g c = record {
+  whole = omega (arith, c.doublings.invariant.whole);
+  count = twice_place c.doublings._bit c.doublings.count c.doublings.invariant.count;
+  single = c.others.invariant.single;
+  first = λ k l. c.others.invariant.first k (omega arith);
+}
 
 pub returns : goal.returns
 returns g c =
-    let n = g.T.RingWord.number in
     let last = c.doublings.invariant in
-    let whole = last.whole in
-    let count = last.count in
-    let bits = trailing_zeros w64 (length (set c.args.table.now 0 c.entry.result)) in
-    let all : c.doublings._bit ≡ bits = omega arith in
+    let all : c.doublings._bit ≡ trailing_zeros w64 (length (set c.args.table.now 0 c.entry.result)) = omega arith in
     let e = ap (λ v. 2 ^ v) all in
     let len = length-set c.args.table.now 0 c.entry.result in
-    let twiddles_of = λ (z : ℕ). twiddles_of_made g.F.PlanEntry.value g.F.PlanEntry.quotient g.T.PathWord.base
-    (n c.args.m.now.modulus) (n c.args.g) (length c.args.table.now) bits z c.doublings.table c.requires.suits in
-    let each : length c.args.table.now ≡ 2 ^ bits = omega (arith, whole, len) in
+    let whole : length c.args.table.now ≡ length c.doublings.table = omega (arith, len) in
+    let twiddles = λ (z : ℕ) (is : 2 ^ z ≡ 2 * length c.args.table.now).
+    twiddles_of_made _ _ _ _ _ _ _ z c.doublings.table c.requires.suits is (whole ∙ last.whole)
+    (λ k l. last.first k (omega (arith, last.whole, last.count, e, whole))) in
     record {
-      factors = λ k d l. (last.first k (omega (arith, whole, count, e))).factor d;
-      twiddles = λ z is. twiddles_of z is each (λ k l. last.first k (omega (arith, whole, count, e, len)));
-      first = λ y d is. first_entries y d (twiddles_of (y + d) is each
-          (λ k l. last.first k (omega (arith, whole, count, e, len))));
+      factors = λ k d l. (last.first k (omega (arith, last.whole, last.count, e))).factor d;
+      twiddles = twiddles;
+      first = λ y d is. first_entries y d (twiddles (y + d) is);
     }
 
 pub factor-requires-in-others-2 : goal.factor-requires-in-others-2

@@ -10,27 +10,20 @@ pub returns-clause-four : goal.returns-clause-four
 returns-clause-four g c =
     let n = g.T.RingWord.number in
     let s = n c.args.s.now.value in
-    let x = n c.args.x in
-    let y = n c.args.y in
     let bound = n c.twice-twice.result in
     let none = multiple_is_none 2 bound c.twice-twice.ensures in
-    let sum = n c.plus.result in
-    let difference = n c.plus-2.result in
-    let high = c.pair-g in
-    let is_difference = c.plus-2.ensures in
-    let is_rest = c.minus.ensures.value in
-    let apart : difference + y ≡ x + bound = omega (arith, is_difference, is_rest) in
-    let low = joined_pair_up_to 1 x y sum difference _ _
-    (reduced_by_multiple _ _ bound none c.reduced-e.ensures.value)
+    let apart : n c.plus-2.result + n c.args.y ≡ n c.args.x + bound =
+    omega (arith, c.plus-2.ensures, c.minus.ensures.value) in
+    let low = joined_pair_up_to 1 _ _ _ _ _ _ (reduced_by_multiple _ _ bound none c.reduced-e.ensures.value)
     (reduced_by_multiple _ _ bound none c.reduced-f.ensures.value)
-    (joined_by_one x y bound sum difference none c.plus.ensures apart) in
+    (joined_by_one _ _ bound _ _ none c.plus.ensures apart) in
     λ v is_v. record {
       e = n c.reduced-e.result * s;
       f = n c.reduced-f.result * s;
-      g = n high.result.0 * s;
-      h = n high.result.1 * s;
-      low = joined_pair_scaled 1 x y _ _ s low;
-      high = joined_pair_scaled v _ _ _ _ s (high.ensures.pair v is_v);
+      g = n c.pair-g.result.0 * s;
+      h = n c.pair-g.result.1 * s;
+      low = joined_pair_scaled 1 _ _ _ _ s low;
+      high = joined_pair_scaled v _ _ _ _ s (c.pair-g.ensures.pair v is_v);
       first = c.scaled_pair-a.ensures.pair;
       second = c.scaled_pair-b.ensures.pair;
     }

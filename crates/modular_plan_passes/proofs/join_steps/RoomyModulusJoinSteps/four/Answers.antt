@@ -15,30 +15,19 @@ gather-a-requires g c = search (arith, multiple_is_none)
 
 pub returns : goal.returns
 returns g c = record {
-  below = (let below = c.reduced-2.ensures.below in
-      let fourfold = c.fourfold-fourfold.ensures in
-      record {
-        first = omega (arith, below, fourfold);
-        second = omega arith;
-        third = omega arith;
-        fourth = omega arith;
-      });
+  below = omega (arith, c.reduced-2.ensures.below, c.fourfold-fourfold.ensures);
   four = (let n = g.T.RingWord.number in
-      let low = c.gather-e in
-      let high = c.gather-g in
-      let fourfold = n c.fourfold-fourfold.result in
-      let eightfold = n c.eightfold-eightfold.result in
-      let once = reduced_by_multiple _ _ eightfold (multiple_is_none 8 eightfold c.eightfold-eightfold.ensures)
+      let once = reduced_by_multiple _ _ _ (multiple_is_none 8 _ c.eightfold-eightfold.ensures)
       c.reduced.ensures.value in
-      let again = reduced_by_multiple _ _ fourfold (multiple_is_none 4 fourfold c.fourfold-fourfold.ensures)
+      let again = reduced_by_multiple _ _ _ (multiple_is_none 4 _ c.fourfold-fourfold.ensures)
       c.reduced-2.ensures.value in
       λ w u v inverses. record {
-        e = n low.result.0;
-        f = n low.result.1;
-        g = n high.result.0;
-        h = n high.result.1;
-        low = low.ensures.pair u inverses.low;
-        high = high.ensures.pair v inverses.high;
+        e = n c.gather-e.result.0;
+        f = n c.gather-e.result.1;
+        g = n c.gather-g.result.0;
+        h = n c.gather-g.result.1;
+        low = c.gather-e.ensures.pair u inverses.low;
+        high = c.gather-g.ensures.pair v inverses.high;
         first = joined_pair_reduced w _ _ _ _ _ (mod_trans again once) (c.gather-a.ensures.pair w inverses.own);
         second = c.gather-b.ensures.pair w inverses.own;
       });

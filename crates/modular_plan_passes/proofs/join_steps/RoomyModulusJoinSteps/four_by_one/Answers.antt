@@ -16,23 +16,17 @@ pub returns-clause-four : goal.returns-clause-four
 returns-clause-four g c =
     let n = g.T.RingWord.number in
     let s = n c.args.s.now.value in
-    let x = n c.args.x in
-    let y = n c.args.y in
     let bound = n c.fourfold-fourfold.result in
-    let e = n c.plus-e.result in
-    let f = n c.plus-f.result in
-    let high = c.gather-g in
-    let is_f = c.plus-f.ensures in
-    let is_rest = c.minus.ensures.value in
-    let apart : f + y ≡ x + bound = omega (arith, is_f, is_rest) in
+    let none = multiple_is_none 4 bound c.fourfold-fourfold.ensures in
+    let apart : n c.plus-f.result + n c.args.y ≡ n c.args.x + bound =
+    omega (arith, c.plus-f.ensures, c.minus.ensures.value) in
     λ v is_v. record {
-      e = e * s;
-      f = f * s;
-      g = n high.result.0 * s;
-      h = n high.result.1 * s;
-      low = joined_pair_scaled 1 x y e f s
-          (joined_by_one x y bound e f (multiple_is_none 4 bound c.fourfold-fourfold.ensures) c.plus-e.ensures apart);
-      high = joined_pair_scaled v _ _ _ _ s (high.ensures.pair v is_v);
+      e = n c.plus-e.result * s;
+      f = n c.plus-f.result * s;
+      g = n c.gather-g.result.0 * s;
+      h = n c.gather-g.result.1 * s;
+      low = joined_pair_scaled 1 _ _ _ _ s (joined_by_one _ _ bound _ _ none c.plus-e.ensures apart);
+      high = joined_pair_scaled v _ _ _ _ s (c.gather-g.ensures.pair v is_v);
       first = c.scaled_pair-a.ensures.pair;
       second = c.scaled_pair-b.ensures.pair;
     }

@@ -9,5 +9,4 @@ returns-else-is_zero_word g c =
     g.met.T.PathWord.base_is (omega (arith, g.met.T.RingWord.width_from)) c.part_of_base-greatest.ensures in
     let other : n c.args.m ≡ 0 → ⊥ = λ z. let t = c.is_zero_word.ensures.zero.1 z in cc (t, c.if-is_zero_word.false) in
     let some : 1 ≤ n c.args.m = omega arith in
-    let test = c.is_below.ensures.below in
-    grind (arith, part, some, test)
+    grind (arith, part, some, c.is_below.ensures.below)

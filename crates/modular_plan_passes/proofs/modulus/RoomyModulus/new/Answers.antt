@@ -4,11 +4,10 @@ use Rattle.modular_plan_passes.proofs.modulus.RoomyModulus.new.Goals as goal
 
 pub invariant_of-result : goal.invariant_of-result
 invariant_of-result g c =
-    let n = g.T.RingWord.number in
-    let m = n c.args.planned.now.modulus in
-    let part = part_of_power 4 g.T.RingWord.width g.T.PathWord.base (n c.part_of_base-greatest.result)
+    let m = g.T.RingWord.number c.args.planned.now.modulus in
+    let part = part_of_power 4 g.T.RingWord.width g.T.PathWord.base (g.T.RingWord.number c.part_of_base-greatest.result)
     g.met.T.PathWord.base_is (omega (arith, g.met.T.RingWord.width_from)) c.part_of_base-greatest.ensures in
-    let most : m ≤ n c.part_of_base-greatest.result = grind arith in
+    let most : m ≤ g.T.RingWord.number c.part_of_base-greatest.result = grind arith in
     record {
       room = omega (arith, part, most);
       is_factor = c.factor-unit.ensures.factor;
