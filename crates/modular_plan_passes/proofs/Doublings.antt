@@ -1,6 +1,6 @@
 -- A table made by doublings: the entries at the places of one bit, and the others from two each.
 use Rattle.std.proofs.Common.{◌≡◌, ℕ, suc, ◌+◌, ◌-◌, ◌*◌, ◌/◌, ◌%◌, ◌^◌, ◌<◌, ◌≤◌, List, get_or, length}
-use Rattle.std.proofs.Common.{refl, sym, ◌∙◌, ap, arith, subst, get_or-set_same, get_or-set_other}
+use Rattle.std.proofs.Common.{sym, ◌∙◌, ap, arith, subst, get_or-set_same, get_or-set_other}
 use Rattle.std.proofs.Math.ListN.{set}
 use Rattle.std.proofs.Math.Nat.{two-pow-succ, pow-zero, mod-eq_of_lt, pow-le-pow_right}
 use Rattle.std.proofs.Math.Pow.{pow-lt}
@@ -22,20 +22,14 @@ record AreApart (s t x : ℕ) : Type 0 where
 
 are_apart : (s t x u : ℕ) → s ≡ t + suc u → x < 2 ^ t → AreApart s t x
 are_apart s t x u is below =
-    let of = λ (y a : ℕ) (l : a < 2 ^ t) (n : ℕ) (e : n ≡ a + 2 ^ t * y).
-    ap (λ v. bits_reversed s v) e ∙ ap (λ v. bits_reversed v (a + 2 ^ t * y)) is
-    ∙ bits_reversed_of_parts t (suc u) a y l in
-    let one : 1 / 2 ≡ 0 = refl in
-    let bit : 1 % 2 ≡ 1 = refl in
-    let rest = ap (bits_reversed u) one ∙ bits_reversed_of_zero u in
-    let zeros = ap (λ v. v * 2 ^ suc u) (bits_reversed_of_zero t) in
-    let single = of 1 0 (omega (arith, pow_pos t)) (2 ^ t) (omega arith) in
-    let whole = of 1 x below (2 ^ t + x) (omega arith) in
-    let left : s - 1 - t ≡ u = omega (arith, is) in
-    record {
-      low = omega (arith, single, zeros, bits_reversed-suc u 1, rest, ap (λ v. v * 2 ^ u) bit, ap (λ v. 2 ^ v) left);
-      both = omega (arith, single, of 0 x below x (omega arith), whole, zeros, bits_reversed_of_zero (suc u));
-    }
+    grind (
+      arith,
+      bits_reversed_of_parts t (suc u) 0 1 (pow_pos t),
+      bits_reversed_of_parts t (suc u) x 0 below,
+      bits_reversed_of_parts t (suc u) x 1 below,
+      bits_reversed_of_zero,
+      bits_reversed-suc u 1,
+    )
 
 pub reversed_of_one_bit : (s t : ℕ) → t < s → bits_reversed s (2 ^ t) ≡ 2 ^ (s - 1 - t)
 reversed_of_one_bit s t below = (are_apart s t 0 (s - 1 - t) (omega (arith, below)) (pow_pos t)).low

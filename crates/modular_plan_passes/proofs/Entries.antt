@@ -1,5 +1,5 @@
 -- A list of words as the function from places to numbers: what is read and what is number_written.
-use Rattle.std.proofs.Common.{◌≡◌, ◌≢◌, ℕ, ◌+◌, ◌%◌, ◌<◌, ◌≤◌, List, [], ◌∷◌, All, map, get_or, length}
+use Rattle.std.proofs.Common.{◌≡◌, ◌≢◌, ℕ, ◌+◌, ◌%◌, ◌<◌, ◌≤◌, List, [], ◌∷◌, All, get_or, length}
 use Rattle.std.proofs.Common.{sym, ◌∙◌, ap, arith, subst, get_or-set_same, get_or-set_other}
 use Rattle.std.proofs.Math.Nat.{mod-lt}
 use Rattle.std.proofs.Math.ListN.{set, length-set}
@@ -20,14 +20,12 @@ number_read number words i x below is = ap number is ∙ number_at number words 
 pub number_written : {T : Type 0} (number : T → ℕ) (words : List T) (i : ℕ) (x : T) → i < length words
     → numbers number (set words i x) i ≡ number x
 number_written number words i x below =
-    let l : i < length (set words i x) = subst (λ n. i < n) (sym (length-set words i x)) below in
-    sym (number_at number (set words i x) i x l) ∙ ap number (get_or-set_same words i x x below)
+    grind (arith, number_at number (set words i x) i x, length-set words i x, get_or-set_same words i x x below)
 
 -- .. and every other
 pub number_not_written : {T : Type 0} (number : T → ℕ) (words : List T) (i j : ℕ) (x : T) → j ≢ i
     → numbers number (set words i x) j ≡ numbers number words j
-number_not_written number words i j x ne =
-    ap (λ vs. get_or vs j 0) (map-set number words i x) ∙ get_or-set_other (map number words) i j (number x) 0 ne
+number_not_written number words i j x ne = grind (arith, map-set, get_or-set_other)
 
 -- a bound of all words
 pub bounded : {T : Type 0} (number : T → ℕ) (bound : ℕ) (words : List T) (i : ℕ) (d : T)
@@ -64,14 +62,12 @@ entry_done number words i x target = entry_written number words i x (λ k v. v �
 pub entry_kept : {T : Type 0} (number : T → ℕ) (words : List T) (i : ℕ) (x : T) (old : ℕ → ℕ)
     → ((k : ℕ) → i ≤ k → numbers number words k ≡ old k)
     → (k : ℕ) → i + 1 ≤ k → numbers number (set words i x) k ≡ old k
-entry_kept number words i x old before k l = let ne : k ≢ i = omega arith in
-    number_not_written number words i k x ne ∙ before k (omega arith)
+entry_kept number words i x old before k l = grind (arith, number_not_written)
 
 -- .. of their numbers
 pub all_below : {T : Type 0} (number : T → ℕ) (bound n : ℕ) (words : List T) → length words ≡ n
     → ((k : ℕ) → k < n → numbers number words k < bound) → All (λ x. number x < bound) words
-all_below number bound n words len each i d below =
-    subst (λ v. v < bound) (sym (number_at number words i d below)) (each i (omega arith))
+all_below number bound n words len each i d below = grind (arith, number_at number words i d below, each i)
 
 -- all words below m, by their residues
 pub all_residues : {T : Type 0} (number : T → ℕ) (m n : ℕ) (words : List T) (old : ℕ → ℕ) → 0 < m → length words ≡ n

@@ -15,11 +15,10 @@ use Rattle.modular_reduced.proofs.FixedFactors.{IsNear}
 pub scaled_quotient : (b m w s q r : ℕ) → 0 < s → IsDivision (b * (w * s)) (m * s) q r → q ≡ w * b / m
 scaled_quotient b m w s q r some h =
     let at_most : q * m ≤ w * b = le_of_mul-le-mul_right (omega arith) some in
-    let rest : (w * b - q * m) + q * m ≡ w * b = omega (arith, at_most) in
-    let scaled : ((w * b - q * m) + q * m) * s ≡ (w * b) * s = ap (λ v. v * s) rest in
+    let rest : q * m + (w * b - q * m) ≡ w * b = omega (arith, at_most) in
+    let scaled : (q * m + (w * b - q * m)) * s ≡ (w * b) * s = ap (λ v. v * s) rest in
     let less : w * b - q * m < m = lt_of_mul-lt-mul_right s (omega (arith, scaled, h.below)) in
-    let e : q * m + (w * b - q * m) ≡ w * b = omega (arith, rest) in
-    sym (ap (λ v. v / m) (sym e) ∙ div-mul-add q m (w * b - q * m) less)
+    sym (ap (λ v. v / m) (sym rest) ∙ div-mul-add q m (w * b - q * m) less)
 
 -- the word that is left
 pub record IsProduct (m product r : ℕ) : Type 0 where
@@ -35,9 +34,8 @@ pub left_over : (b m product whole p t r : ℕ) → 0 < b → 2 * m ≤ b → Is
 left_over b m product whole p t r some room near_it is_p is_t fits e =
     let rest : ℕ = product - whole * m in
     let small : rest < b = omega arith in
-    let t_fits : t % b ≡ t = ap (λ v. v % b) is_t ∙ mod-eq_of_lt (mod-lt (whole * m) some) ∙ sym is_t in
-    let again : (rest + t) % b ≡ p =
-    grind (arith, add-mod) in
+    let t_fits : t % b ≡ t = grind (arith, mod-lt, mod-eq_of_lt) in
+    let again : (rest + t) % b ≡ p = grind (arith, add-mod) in
     let same : r ≡ rest = mod_cancel b r rest t fits small (e ∙ sym again) in
     grind (arith, left_less)
 
@@ -62,8 +60,7 @@ scaled_rest m x y s q r some h =
     let rest : k + q * m ≡ x * y = omega (arith, at_most) in
     let scaled : (k + q * m) * s ≡ (x * y) * s = ap (λ v. v * s) rest in
     let less : k < m = lt_of_mul-lt-mul_right s (let l : k * s < m * s = omega (arith, h.below) in l) in
-    let rest_is : r / s ≡ k = (let e : r ≡ k * s + 0 = omega arith in ap (λ v. v / s) e) ∙ div-mul-add k s 0 some in
-    rest_is ∙ sym (ap (λ v. v % m) (sym rest) ∙ add-mul-mod_self_right k q m ∙ mod-eq_of_lt less)
+    grind (arith, div-mul-add k s 0 some, add-mul-mod_self_right k q m, mod-eq_of_lt less)
 
 -- what the quotient of a factor leaves
 pub left_by_quotient : (b m w q p r : ℕ) → 0 < m → m ≤ b → IsFactor b m w q → p ≡ (q * m) % b → (r + p) % b ≡ 0 → r < b

@@ -63,8 +63,7 @@ column_more R i {a} {b} {c} {d} {a'} {b'} {c'} {d'} {e} {f} {g} {h} before step 
 -- all columns
 pub columns_all : {R : ℕ → ℕ → ℕ → ℕ → ℕ → ℕ → ℕ → ℕ → Type 0} {i n : ℕ} {a b c d a' b' c' d' : ℕ → ℕ}
     → ColumnsDone R i a b c d a' b' c' d' → i ≡ n → ColumnsDone R n a b c d a' b' c' d'
-columns_all {R} {i} {n} {a} {b} {c} {d} {a'} {b'} {c'} {d'} done e =
-    subst (λ k. ColumnsDone R k a b c d a' b' c' d') e done
+columns_all {R} {i} {n} {a} {b} {c} {d} {a'} {b'} {c'} {d'} done e = grind arith
 
 -- the quarters make two halves
 pub halves_done : {X : Type 0} (number : X → ℕ) (R : ℕ → ℕ → ℕ → ℕ → ℕ → ℕ → ℕ → ℕ → Type 0) (q : ℕ)
@@ -132,8 +131,7 @@ neighbours_given number {bound} p old new all kept same within = grind (arith, b
 pub factor_read : {F : Type 0} (value quotient : F → ℕ) {base m w r : ℕ} (table : List F) (i : ℕ) (x : F)
     → All (λ f. IsFactor base m (value f) (quotient f)) table → i < length table → x ≡ get_or table i x
     → w ≡ value x → r ≡ quotient x → IsFactor base m w r
-factor_read value quotient {base} {m} {w} {r} table i x all within is e f =
-    same_factor (subst (λ y. IsFactor base m (value y) (quotient y)) (sym is) (all i x within)) e f
+factor_read value quotient {base} {m} {w} {r} table i x all within is e f = grind (arith, same_factor)
 
 -- one more block of a stage, by the factors that were read from the table w
 pub stage_with : (m q p first : ℕ) (w : ℕ → ℕ) {e u v : ℕ} {x y z : ℕ → ℕ} → e ≡ w (first + p) → u ≡ w (2 * (first + p))

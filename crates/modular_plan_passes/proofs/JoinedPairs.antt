@@ -9,14 +9,13 @@ pub joined_pair_of : {m : ℕ} (w v a b rest bound product sum : ℕ) → Congru
     → Congruent m product ((b + rest) * v) → IsMinusInverse m w v → IsPairJoin m w a b sum product
 joined_pair_of {m} w v a b rest bound product sum none is_rest is_sum is_product inverse =
     let spread : (b + rest) * v * w + b + rest ≡ (b + rest) * (w * v + 1) = omega arith in
-    let nothing : (b + rest) * 0 ≡ 0 = omega arith in
-    let all : Congruent m (product * w + b + rest) 0 =
+    let all : Congruent m (product * w + b + rest) ((b + rest) * 0) =
     mod_trans (mod_add (mod_add (mod_mul is_product (mod_refl w)) (mod_refl b)) (mod_refl rest))
-    (mod_trans (mod_of_eq spread) (mod_trans (mod_mul (mod_refl (b + rest)) inverse.product) (mod_of_eq nothing))) in
-    let whole : a + rest ≡ bound = omega (arith, is_rest) in
+    (mod_trans (mod_of_eq spread) (mod_mul (mod_refl (b + rest)) inverse.product)) in
+    let whole : Congruent m (a + rest) 0 = grind arith in
     record {
       summed = mod_of_eq is_sum;
-      subtracted = mod_add_cancel rest (mod_trans all (mod_sym (mod_trans (mod_of_eq whole) none)));
+      subtracted = mod_add_cancel rest (mod_trans all (mod_trans (mod_of_eq (omega arith)) (mod_sym whole)));
     }
 
 -- a pair whose sum is reduced
@@ -33,12 +32,7 @@ joined_pair_along {m} w a b x y sum product first second pair = grind (arith, mo
 pub joined_by_one : {m : ℕ} (a b bound sum difference : ℕ) → Congruent m bound 0 → sum ≡ a + b
     → difference + b ≡ a + bound → IsPairJoin m 1 a b sum difference
 joined_by_one {m} a b bound sum difference none is_sum is_difference =
-    let whole : difference * 1 + b ≡ a + bound = omega (arith, is_difference) in
-    let rest : a + 0 ≡ a = omega arith in
-    record {
-      summed = mod_of_eq is_sum;
-      subtracted = mod_trans (mod_of_eq whole) (mod_trans (mod_add (mod_refl a) none) (mod_of_eq rest));
-    }
+    grind (arith, mod_of_eq, mod_add (mod_refl a) none)
 
 -- a pair whose two results are reduced
 pub joined_pair_up_to : {m : ℕ} (w a b sum quotient sum' quotient' : ℕ) → Congruent m sum' sum
@@ -50,9 +44,4 @@ joined_pair_up_to {m} w a b sum quotient sum' quotient' first second pair =
 pub joined_pair_scaled : {m : ℕ} (w a b sum quotient s : ℕ) → IsPairJoin m w a b sum quotient
     → IsPairJoin m w (a * s) (b * s) (sum * s) (quotient * s)
 joined_pair_scaled {m} w a b sum quotient s pair =
-    let both : (a + b) * s ≡ a * s + b * s = omega arith in
-    let parts : quotient * s * w + b * s ≡ (quotient * w + b) * s = omega arith in
-    record {
-      summed = mod_trans (mod_mul pair.summed (mod_refl s)) (mod_of_eq both);
-      subtracted = mod_trans (mod_of_eq parts) (mod_mul pair.subtracted (mod_refl s));
-    }
+    grind (arith, mod_mul pair.summed (mod_refl s), mod_mul pair.subtracted (mod_refl s))

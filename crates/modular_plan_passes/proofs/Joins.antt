@@ -104,10 +104,8 @@ pub level_top : {m : ℕ} (g z : ℕ) {b size blocks above below last count leng
 level_top {m} g z {b} {size} {blocks} {above} {below} {count = count} x {y} tree full some level i l =
     let one : blocks ≡ 1 = one_block tree full some in
     let f = λ (k : ℕ). 2 ^ below * x (k * size + i) * constant g z (b * blocks + 0) ^ k in
-    let first : f 0 ≡ 2 ^ below * x i * 1 =
-    ap (λ v. 2 ^ below * x v * constant g z (b * blocks + 0) ^ 0) (omega arith) ∙ ap (λ v. 2 ^ below * x i * v) (pow-zero _) in
-    let sum = ap (λ n. sum_below n f) one ∙ sum_below-suc 0 f in
-    let power : 2 ^ below ≡ count = (let e : 2 ^ below ≡ 1 * 2 ^ below = omega arith in e) ∙ ap (λ v. v * 2 ^ below) (sym one)
-    ∙ tree.counted in
+    let first : f 0 ≡ 2 ^ below * x i = grind (arith, pow-zero) in
+    let sum : sum_below blocks f ≡ f 0 = grind (arith, sum_below-suc 0 f, sum_below-zero f) in
+    let power : 2 ^ below ≡ count = grind (arith, tree.counted) in
     mod_trans (mod_of_eq (ap y (let e : i ≡ 0 * size + i = omega arith in e))) (mod_trans (level.each 0 i (omega (arith, one))
-    (omega (arith, full, l))) (mod_of_eq (omega (arith, sum, sum_below-zero f, first, ap (λ v. v * x i) power))))
+    (omega (arith, full, l))) (mod_of_eq (omega (arith, sum, first, ap (λ v. v * x i) power))))

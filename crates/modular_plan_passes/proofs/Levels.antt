@@ -20,17 +20,12 @@ use Rattle.modular_plan_passes.proofs.TreeLevels.{IsTreeLevel, HasStage}
 sum_doubled : (n : ℕ) (f : ℕ → ℕ) → sum_below (n * 2) f ≡ sum_below n (λ i. f (2 * i) + f (2 * i + 1))
 sum_doubled zero f = sum_below-zero f ∙ sym (sum_below-zero (λ i. f (2 * i) + f (2 * i + 1)))
 sum_doubled (suc n) f =
-    let two : suc n * 2 ≡ suc (suc (n * 2)) = omega arith in
-    let even : f (n * 2) ≡ f (2 * n) = ap f (omega arith) in
-    let odd : f (suc (n * 2)) ≡ f (2 * n + 1) = ap f (omega arith) in
-    ap (λ k. sum_below k f) two ∙ omega (
+    grind (
       arith,
       sum_below-suc (suc (n * 2)) f,
       sum_below-suc (n * 2) f,
       sum_below-suc n (λ i. f (2 * i) + f (2 * i + 1)),
       sum_doubled n f,
-      even,
-      odd,
     )
 
 -- the terms 2 * k and 2 * k + 1 of the sum by a root v of c

@@ -1,5 +1,5 @@
 -- The entry of a table whose product with another is -1: the one are_mirrored in its power of two.
-use Rattle.std.proofs.Common.{◌≡◌, ℕ, suc, zero, ◌+◌, ◌-◌, ◌*◌, ◌/◌, ◌%◌, ◌^◌, ◌<◌, ◌≤◌, refl, sym, ◌∙◌, ap, arith}
+use Rattle.std.proofs.Common.{◌≡◌, ℕ, suc, zero, ◌+◌, ◌-◌, ◌*◌, ◌/◌, ◌%◌, ◌^◌, ◌<◌, ◌≤◌, sym, ◌∙◌, ap, arith}
 use Rattle.std.proofs.Math.Nat.{two-pow-succ, pow-zero, mod-eq_of_lt, zero-mod}
 use Rattle.std.proofs.lemmas.Nat.{pow-add, pow_pos}
 use Rattle.modular_word.specs.Congruence.{Congruent}
@@ -15,19 +15,14 @@ record AreMirrored (u q r : ℕ) : Type 0 where
   total : bits_reversed u q + bits_reversed u r ≡ 2 ^ u
 
 are_mirrored : (u k q r : ℕ) → 2 ^ k ≤ q → q < 2 * 2 ^ k → q + r + 1 ≡ 3 * 2 ^ k → q < 2 ^ u → AreMirrored u q r
-are_mirrored zero k q r least most mirror below = let p = pow_pos k in
-    let one : 2 ^ 0 ≡ 1 = refl in absurd (omega (arith, p, least, below, one))
+are_mirrored zero k q r least most mirror below = omega (arith, pow_pos k)
 are_mirrored (suc u) zero q r least most mirror below =
     grind (arith, two-pow-succ, pow_pos, bits_reversed-suc, bits_reversed_of_zero)
 are_mirrored (suc u) (suc k) q r least most mirror below =
     let rest = are_mirrored u k (q / 2) (r / 2) (omega (arith, least)) (omega (arith, most))
     (omega (arith, mirror)) (omega (arith, below)) in
-    let eq = bits_reversed-suc u q in
-    let er = bits_reversed-suc u r in
-    let bits : q % 2 * 2 ^ u + r % 2 * 2 ^ u ≡ 2 ^ u =
-    (let s : q % 2 * 2 ^ u + r % 2 * 2 ^ u ≡ (q % 2 + r % 2) * 2 ^ u = omega arith in s)
-    ∙ ap (λ v. v * 2 ^ u) (let o : q % 2 + r % 2 ≡ 1 = omega arith in o) ∙ omega arith in
-    record { within = omega (arith, rest.within); total = omega (arith, rest.total, eq, er, bits) }
+    let one : q % 2 + r % 2 ≡ 1 = omega arith in
+    omega (arith, rest, bits_reversed-suc u q, bits_reversed-suc u r, ap (λ v. v * 2 ^ u) one)
 
 -- the are_mirrored entry lies in the table, and is minus the inverse
 pub record IsMirror (m count place : ℕ) (w : ℕ → ℕ) (r : ℕ) : Type 0 where
@@ -40,12 +35,10 @@ mirror_of_twiddles {m} g zero count k q r w twiddles below least most mirror = o
 mirror_of_twiddles {m} g (suc u) count k q r w twiddles below least most mirror =
     let are = are_mirrored u k q r least most mirror (omega (arith, below)) in
     let r_below : r < count = omega (arith, are.within) in
-    let is_half : 2 ^ suc u / 2 ≡ 2 ^ u = omega arith in
-    let e : suc u - 1 ≡ u = omega arith in
     let entry = λ (p : ℕ) (l : p < count). mod_trans (mod_of_eq (twiddles.entry p l))
-    (mod_trans (residue_of (g ^ bits_reversed (suc u - 1) p)) (mod_of_eq (ap (λ v. g ^ bits_reversed v p) e))) in
-    let product : g ^ bits_reversed u q * g ^ bits_reversed u r ≡ g ^ (2 ^ suc u / 2)
-    = sym (pow-add g (bits_reversed u q) (bits_reversed u r)) ∙ ap (λ v. g ^ v) (are.total ∙ sym is_half) in
+    (residue_of (g ^ bits_reversed (suc u - 1) p)) in
+    let product : g ^ bits_reversed (suc u - 1) q * g ^ bits_reversed (suc u - 1) r ≡ g ^ (2 ^ suc u / 2) =
+    grind (arith, pow-add g (bits_reversed u q) (bits_reversed u r), are.total) in
     let turn : Congruent m (g ^ (2 ^ suc u / 2) + 1) 0 =
     record { same = twiddles.suits.half_turn (omega (arith, pow_pos u)) ∙ sym (zero-mod m) } in
     record {

@@ -1,5 +1,5 @@
 -- Pairs make blocks, and blocks make stages.
-use Rattle.std.proofs.Common.{◌≡◌, ℕ, ◌+◌, ◌*◌, ◌%◌, ◌<◌, List, length, inl, inr, refl, ◌∙◌, ap, arith, subst}
+use Rattle.std.proofs.Common.{◌≡◌, ℕ, ◌+◌, ◌*◌, ◌%◌, ◌<◌, List, length, inl, inr, refl, ◌∙◌, arith, subst}
 use Rattle.std.proofs.Math.ListN.{set, length-set}
 use Rattle.std.proofs.Math.Nat.{add-mul-mod_self_right}
 use Rattle.std.proofs.lemmas.Bool.{cases_eq}
@@ -25,16 +25,11 @@ pair_of {m} w a b t rest sum difference is_t is_rest is_sum is_difference =
 -- .. by 1, where a bound of b is a multiple of m
 pub pair_by_one : {m : ℕ} (k a b bound sum difference : ℕ) → bound ≡ k * m → sum ≡ a + b → difference + b ≡ a + bound
     → IsPairSplit m 1 a b sum difference
-pair_by_one {m} k a b bound sum difference is_bound is_sum is_difference = record {
-  summed = mod_of_eq (omega arith);
-  subtracted = mod_trans (mod_of_eq (let e : difference + b * 1 ≡ a + k * m = omega arith in e))
-      (record { same = add-mul-mod_self_right a k m });
-}
+pair_by_one {m} k a b bound sum difference is_bound is_sum is_difference = grind (arith, add-mul-mod_self_right a k m)
 
 -- a word reduced by a multiple of m
 pub reduced_by : {m : ℕ} (k x bound r : ℕ) → r ≡ x % bound → bound ≡ k * m → Congruent m r x
-reduced_by {m} k x bound r is is_bound =
-    record { same = ap (λ v. v % m) (is ∙ ap (λ v. x % v) is_bound) ∙ mod_of_multiple_left m k x }
+reduced_by {m} k x bound r is is_bound = record { same = grind (arith, mod_of_multiple_left m k x) }
 
 -- a pair that was reduced before
 pub pair_along : {m : ℕ} (w a b x y sum difference : ℕ) → Congruent m x a → Congruent m y b

@@ -1,7 +1,7 @@
 -- Blocks whose indexes have the same highest bit: their factors, read from the ends of parts of a table, and the stage of
 -- one run of blocks after another.
 use Rattle.std.proofs.Common.{◌≡◌, ℕ, suc, ◌+◌, ◌-◌, ◌*◌, ◌^◌, ◌<◌, ◌≤◌, List, ◌++◌, get_or, length, inl, inr}
-use Rattle.std.proofs.Common.{sym, ◌∙◌, ap, arith, length-append}
+use Rattle.std.proofs.Common.{arith, length-append}
 use Rattle.std.proofs.lemmas.Bool.{cases_lt}
 use Rattle.modular_plan_passes.specs.Plans.{numbers, AreTwiddles}
 use Rattle.modular_plan_passes.specs.Joins.{AreMinusInverses}
@@ -21,17 +21,13 @@ front_of value table front back is = grind (arith, number_in_front)
 -- the front of a front
 pub shorter_front : {F : Type 0} (value : F → ℕ) (table part front back : List F) → IsFrontOf value table part
     → part ≡ front ++ back → IsFrontOf value table front
-shorter_front value table part front back of is =
-    let len = ap (λ t. length t) is ∙ length-append front back in
-    record {
-      same = λ k l. (front_of value part front back is).same k l ∙ of.same k (omega (arith, len, l));
-    }
+shorter_front value table part front back of is = grind (arith, length-append front back, number_in_front)
 
 -- what is read of the end of a front
-pub read_at_end : {F : Type 0} (value : F → ℕ) (table part front back : List F) (n i : ℕ) (x : F) → IsFrontOf value table part
-    → part ≡ front ++ back → length front ≡ n → i < length back → x ≡ get_or back i x
-    → value x ≡ numbers value table (n + i)
-read_at_end value table part front back n i x of is front_length within read =
+pub read_at_end : {F : Type 0} {value : F → ℕ} {table part : List F} (front back : List F) (i place : ℕ) (x : F)
+    → IsFrontOf value table part → part ≡ front ++ back → length front + i ≡ place → i < length back
+    → x ≡ get_or back i x → value x ≡ numbers value table place
+read_at_end {F} {value} {table} {part} front back i place x of is at within read =
     grind (arith, length-append, number_behind, number_read)
 
 -- the entries at the mirrored indexes of a block and of its halves
@@ -59,16 +55,12 @@ pub stages_appended : {X : Type 0} (number : X → ℕ) (S : ℕ → ℕ → ℕ
     → StageOfFours (λ p. S (first + n + p)) 1 more (numbers number b) (numbers number b')
     → StageOfFours (λ p. S (first + p)) 1 (n + more) (numbers number (a ++ b)) (numbers number (a' ++ b'))
 stages_appended number S first n more a b a' b' la la' front back =
-    let x = numbers number (a ++ b) in
-    let y = numbers number (a' ++ b') in
-    let old_back : (k : ℕ) → numbers number b k ≡ x (4 * n + k) = λ k. sym (number_behind number a b (4 * n) k la) in
-    let new_back : (k : ℕ) → numbers number b' k ≡ y (4 * n + k) = λ k. sym (number_behind number a' b' (4 * n) k la') in
+    let old_back = λ (k : ℕ). number_behind number a b (4 * n) k la in
+    let new_back = λ (k : ℕ). number_behind number a' b' (4 * n) k la' in
     record {
       fours = λ p i l one. elim (cases_lt p n) [
         | inl less ↦ grind (arith, number_in_front, front.fours p i less one)
-        | inr least ↦
-            let e : ℕ = p - n in
-            grind (arith, back.fours e i (omega (arith, l)) one)
+        | inr least ↦ grind (arith, back.fours (p - n) i (omega (arith, l)) one, old_back, new_back)
       ];
       kept = λ k l. grind (arith, old_back (k - 4 * n), new_back (k - 4 * n), back.kept (k - 4 * n));
     }

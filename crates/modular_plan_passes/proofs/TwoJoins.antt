@@ -76,10 +76,10 @@ pub first_fours : (b last length entries : ℕ) → last ≡ 1 → 0 < length / 
     → (b + 1) * (length / last / 2) ≤ entries → FirstFours b last length entries
 first_fours b last length entries is some power room =
     let count : length / last ≡ length = ap (λ v. length / v) is ∙ omega arith in
-    let once : length * 1 ≡ length = omega arith in
     record {
       above = power.0;
-      can = can_join_two (lowest_level (omega arith) (power.0, sym count ∙ power.1) once) (omega (arith, some));
+      can = can_join_two (lowest_level (omega arith) (power.0, sym count ∙ power.1) (omega arith))
+          (omega (arith, some));
       count = count;
       room = rw count at room;
     }

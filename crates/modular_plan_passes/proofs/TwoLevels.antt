@@ -1,5 +1,5 @@
 -- Two stages take the remainders of one level of the tree to those two levels below.
-use Rattle.std.proofs.Common.{◌≡◌, ℕ, suc, zero, ◌+◌, ◌*◌, ◌/◌, ◌^◌, ◌<◌, ◌≤◌, sym, ◌∙◌, ap, arith, subst}
+use Rattle.std.proofs.Common.{◌≡◌, ℕ, suc, zero, ◌+◌, ◌*◌, ◌/◌, ◌^◌, ◌<◌, ◌≤◌, sym, ◌∙◌, ap, arith}
 use Rattle.std.proofs.Math.Nat.{mul-le-mul_left, mod-eq_of_lt}
 use Rattle.std.specs.Int.{IsPowerOfTwo}
 use Rattle.modular_word.specs.Congruence.{Congruent}
@@ -89,8 +89,8 @@ pub remainders_of_split_fours : {m : ℕ} (g z b n last entries : ℕ) (w x y af
     → ((i : ℕ) → i < n → after i < m) → AreRemainders m g z b (n / last) last x after
 remainders_of_split_fours {m} g z b n last entries w x y after is fours twiddles before stage below =
     let level = level_fours b (n / 4) 1 x y after w fours.last_room twiddles before stage in
-    let all : n ≡ n / last = sym (ap (λ v. n / v) is ∙ omega arith) in
+    let all : n / last ≡ n = ap (λ v. n / v) is ∙ omega arith in
     let whole : n / 4 * 2 * 2 ≡ n = omega (arith, fours.whole) in
-    subst (λ v. AreRemainders m g z b (n / last) v x after) (sym is)
-    (subst (λ v. AreRemainders m g z b v 1 x after) all
-    (remainders_of g z b n 1 n x after after (omega arith) (rw whole at level) (λ i l. sym (mod-eq_of_lt (below i l)))))
+    let are = remainders_of g z b n 1 n x after after (omega arith) (rw whole at level)
+    (λ i l. sym (mod-eq_of_lt (below i l))) in
+    grind (arith, are, all)

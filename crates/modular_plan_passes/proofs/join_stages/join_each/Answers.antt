@@ -10,15 +10,13 @@ fours-init g c = search (arith, stage_of_fours_none)
 
 pub returns-then-is_beyond : goal.returns-then-is_beyond
 returns-then-is_beyond g c =
-    let far = c.if-is_beyond.ensures refl in
-    never_beyond g.T.RingWord.number (4 * g.M.JoinSteps.modulus c.args.m.now) c.fours.xs c.args.xs.now (c.fours.p * 4)
-    c.index-xs-place.result c.requires.pass.entries (omega arith) (omega arith) c.index-xs-place.is
-    (c.fours.invariant.kept (c.fours.p * 4) (omega arith)) (omega (arith, far, g.met.M.JoinSteps.room c.args.m.now))
+    never_beyond g.T.RingWord.number _ c.fours.xs c.args.xs.now (c.fours.p * 4) _ c.requires.pass.entries (omega arith)
+    (omega arith) c.index-xs-place.is (c.fours.invariant.kept (c.fours.p * 4) (omega arith))
+    (omega (arith, c.if-is_beyond.ensures refl, g.met.M.JoinSteps.room c.args.m.now))
 
 pub neighbours-requires : goal.neighbours-requires
 neighbours-requires g c =
-    neighbours_given g.T.RingWord.number c.fours.p c.args.xs.now c.fours.xs c.requires.pass.entries c.fours.invariant.kept
-    (omega arith) (omega arith)
+    neighbours_given _ c.fours.p _ _ c.requires.pass.entries c.fours.invariant.kept (omega arith) (omega arith)
 
 pub fours-preserved : goal.fours-preserved
 fours-preserved g c =

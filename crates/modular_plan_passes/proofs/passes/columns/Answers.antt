@@ -22,6 +22,6 @@ columns-preserved g c =
 
 pub returns-then-is_beyond : goal.returns-then-is_beyond
 returns-then-is_beyond g c =
-    never_beyond g.T.RingWord.number (g.S.FourStep.bound c.args.step.now) c.columns.first c.args.first.now c.columns.i
-    c.index-first-i.result c.requires.first (omega arith) (omega arith) c.index-first-i.is
-    (c.columns.invariant.kept c.columns.i (omega arith)).0 (omega (arith, c.if-is_beyond.ensures refl, c.requires.fits))
+    never_beyond g.T.RingWord.number _ c.columns.first c.args.first.now c.columns.i _ c.requires.first (omega arith)
+    (omega arith) c.index-first-i.is (c.columns.invariant.kept c.columns.i (omega arith)).0
+    (omega (arith, c.if-is_beyond.ensures refl, c.requires.fits))

@@ -7,9 +7,9 @@ use Rattle.modular_plan_passes.proofs.split_stages.split_fours.Goals as goal
 
 pub returns-then-is_beyond : goal.returns-then-is_beyond
 returns-then-is_beyond g c =
-    never_beyond g.T.RingWord.number (g.M.Bounded.limit c.args.m.now) c.fours.xs c.args.xs.now (c.fours.p * 4)
-    c.index-xs-place.result c.requires.entries (omega arith) (omega arith) c.index-xs-place.is
-    (c.fours.invariant.done.kept (c.fours.p * 4) (omega arith)) (c.if-is_beyond.ensures refl)
+    never_beyond g.T.RingWord.number _ c.fours.xs c.args.xs.now (c.fours.p * 4) _ c.requires.entries (omega arith)
+    (omega arith) c.index-xs-place.is (c.fours.invariant.done.kept (c.fours.p * 4) (omega arith))
+    (c.if-is_beyond.ensures refl)
 
 pub invariant_of-step : goal.invariant_of-step
 invariant_of-step g c = record {
@@ -18,8 +18,7 @@ invariant_of-step g c = record {
 
 pub neighbours-requires : goal.neighbours-requires
 neighbours-requires g c =
-    neighbours_given g.T.RingWord.number c.fours.p c.args.xs.now c.fours.xs c.requires.entries c.fours.invariant.done.kept
-    (omega arith) (omega arith)
+    neighbours_given _ c.fours.p _ _ c.requires.entries c.fours.invariant.done.kept (omega arith) (omega arith)
 
 pub fours-preserved : goal.fours-preserved
 fours-preserved g c =

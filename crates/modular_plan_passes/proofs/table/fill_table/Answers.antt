@@ -19,32 +19,11 @@ use borrow.Author.Rules.{scaled_Fits}
 first_within : {n : ℕ} → IsPowerOfTwo (2 * n) → 0 < n
 first_within power =
     let half = half_power power in
-    let some = pow_pos half.0 in
-    let is = half.1 in
-    omega (arith, some, is)
+    omega (arith, pow_pos half.0, half.1)
 
 -- a residue is below the modulus
 residue_below : (a : ℕ) {r m : ℕ} → r ≡ a % m → 1 ≤ m → r < m
 residue_below a {r} {m} is some = let below = mod-lt a (let k : 0 < m = omega (arith, some) in k) in omega (arith, is, below)
-
--- places of the second half of the entries that are written
-within_double : {count k n : ℕ} → 2 * count ≤ n → k < count → k < n
-within_double room l = omega (arith, room, l)
-
-sum_within : {count k n : ℕ} → 2 * count ≤ n → k < count → count + k < n
-sum_within room l = omega (arith, room, l)
-
-below_sum : {k count : ℕ} → k < count → k < count + k
-below_sum l = omega (arith, l)
-
-below_same : {k a b : ℕ} → k < a → a ≡ b → k < b
-below_same l is = omega (arith, l, is)
-
-room_kept : (count : ℕ) {n m : ℕ} → 2 * count ≤ n → m ≡ n → 2 * count ≤ m
-room_kept count room len = omega (arith, room, len)
-
-one_after : (a b : ℕ) {k : ℕ} → k < a + (b + 1) → k < a + b + 1
-one_after a b l = omega (arith, l)
 
 pub squares-init : goal.squares-init
 squares-init g c =
@@ -133,24 +112,24 @@ others-preserved g c =
     let made = IsMade g.F.PlanEntry.value g.F.PlanEntry.quotient g.T.PathWord.base m root bits
     (set c.others.table (count + other) c.entry-in-others.result) in
     let first = c.factor-in-others.ensures.value
-    ∙ number_at g.F.PlanEntry.value c.others.table other c.index-table-other.result (within_double before.room test)
-    ∙ (before.first other (below_sum test)).power in
+    ∙ number_at g.F.PlanEntry.value c.others.table other c.index-table-other.result (omega (arith, before.room, test))
+    ∙ (before.first other (omega (arith, test))).power in
     let second = c.factor-factor-in-doublings.ensures.value
     ∙ number_at g.F.PlanEntry.value c.doublings.table count c.index-table-count.result
     (one_within _ t _ _ c.doublings-test.true outer.count outer.whole)
     ∙ ap (λ v. numbers g.F.PlanEntry.value c.doublings.table v) outer.count
     ∙ (outer.single t c.doublings-test.true).power in
-    let power = product_of_two m root bits t other _ _ _ c.doublings-test.true (below_same test outer.count) first
+    let power = product_of_two m root bits t other _ _ _ c.doublings-test.true (omega (arith, test, outer.count)) first
     second c.product-power-in-others.ensures in
-    let now : made (count + other) = made_now c.others.table _ (sum_within before.room test)
+    let now : made (count + other) = made_now c.others.table _ (omega (arith, before.room, test))
     (same_factor c.factor-in-others-2.ensures.factor c.entry-in-others.ensures.value c.entry-in-others.ensures.quotient)
     (c.entry-in-others.ensures.value ∙ c.factor-in-others-2.ensures.value ∙ power
     ∙ ap (λ v. root ^ bits_reversed bits (v + other) % m) (sym outer.count)) in
     record {
-      room = room_kept count before.room (length-set c.others.table (count + other) _);
+      room = omega (arith, before.room, length-set c.others.table (count + other) c.entry-in-others.result);
       single = λ k h. made_before _ now (before.single k h);
       first = λ k l. holds_below_next made (count + other) (λ k l. made_before _ now (before.first k l)) now k
-          (one_after count other l);
+          (omega (arith, l));
     }
 
 pub doublings-preserved : goal.doublings-preserved
