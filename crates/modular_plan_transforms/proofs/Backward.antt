@@ -1,8 +1,8 @@
 -- The transform back: the entries of a list, in bit-reversed order, are the remainders of the list whose transform it is.
-use Rattle.std.proofs.Common.{◌≡◌, ℕ, ◌+◌, ◌*◌, ◌%◌, ◌^◌, ◌<◌, List, length, sym, ap, ◌∙◌, arith}
+use Rattle.std.proofs.Common.{◌≡◌, ℕ, ◌+◌, ◌*◌, ◌%◌, ◌^◌, ◌<◌, List, length, ap, ◌∙◌, arith}
 use Rattle.modular_word.specs.Congruence.{Congruent}
 use Rattle.modular_word.specs.Inverses.{IsInverse}
-use Rattle.modular_word.proofs.Congruence.{mod_mul, mod_refl}
+use Rattle.modular_word.proofs.Congruence.{mod_mul, mod_of_eq, mod_refl, mod_trans}
 use Rattle.modular_word.proofs.Powers.{pow-mul}
 use Rattle.modular_word.proofs.Sums.{sum_below-same}
 use Rattle.modular_transform.specs.Orders.{bits_reversed, IsReordered}
@@ -19,13 +19,8 @@ remainders_reversed m g n bits x y whole are = record {
   each = λ j i l first.
       let r = bits_reversed bits j in
       let place : j * 1 + i ≡ j = omega (arith, first) in
-      let block : 0 * n + j ≡ j = omega arith in
       let terms = sum_below-same n (λ k. x k * g ^ (k * r)) (λ k. x (k * 1 + i) * constant g bits (0 * n + j) ^ k)
-      (λ k _. let same : k * 1 + i ≡ k = omega (arith, first) in
-      let turn : k * r ≡ r * k = omega arith in
-      let power : g ^ (k * r) ≡ constant g bits (0 * n + j) ^ k
-      = ap (λ v. g ^ v) turn ∙ pow-mul g r k ∙ ap (λ v. constant g bits v ^ k) (sym block) in
-      ap (λ v. x v * g ^ (k * r)) (sym same) ∙ ap (λ v. x (k * 1 + i) * v) power) in
+      (λ k _. grind (arith, pow-mul g r k)) in
       ap y place ∙ are j l ∙ ap (λ v. v % m) terms;
 }
 
@@ -41,7 +36,5 @@ remainders_of_transform number m g n bits x old new whole len len_new reordered 
 -- a number of blocks times an entry, times the inverse of the number
 pub inverse_unscales : (m n part v : ℕ) → IsInverse m n part → (n * v * part) % m ≡ v % m
 inverse_unscales m n part v inverse =
-    let moved : n * v * part ≡ n * part * v = omega arith in
-    let one : 1 * v ≡ v = omega arith in
     let unit : Congruent m (n * part) 1 = record { same = inverse.one } in
-    ap (λ w. w % m) moved ∙ (mod_mul unit (mod_refl v)).same ∙ ap (λ w. w % m) one
+    (mod_trans (mod_of_eq (omega arith)) (mod_trans (mod_mul unit (mod_refl v)) (mod_of_eq (omega arith)))).same

@@ -36,6 +36,5 @@ pub block_of : (b count j n : ℕ) → j < count → (b + 1) * count ≤ 2 * n �
 block_of b count j n below room =
     let parts : b * count ≡ 2 * (b / 2 * count) + b % 2 * count =
     ap (λ v. v * count) (let e : b ≡ 2 * (b / 2) + b % 2 = omega arith in e) ∙ omega arith in
-    let spread : (b + 1) * count ≡ b * count + count = omega arith in
-    let rest : b % 2 * count ≤ 1 * count = mul-le-mul_right count (let e : b % 2 ≤ 1 = omega arith in e) in
-    record { is = omega (arith, parts); within = omega (arith, parts, spread, room, below); rest = omega (arith, rest) }
+    let rest : b % 2 * count ≤ 1 * count = mul-le-mul_right count (omega arith) in
+    record { is = omega (arith, parts); within = omega (arith, parts, room, below); rest = omega (arith, rest) }

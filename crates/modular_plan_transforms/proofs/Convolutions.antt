@@ -1,6 +1,6 @@
 -- The products of the blocks, joined, are the product modulo X^n - c.
 use Rattle.std.proofs.Common.{◌≡◌, ◌≢◌, ℕ, suc, zero, ◌+◌, ◌-◌, ◌*◌, ◌/◌, ◌%◌, ◌^◌, ◌<◌, ◌≤◌}
-use Rattle.std.proofs.Common.{refl, sym, ◌∙◌, ap, arith, subst, eqb, cond, ◌||◌}
+use Rattle.std.proofs.Common.{refl, sym, ◌∙◌, ap, arith, eqb, cond, ◌||◌}
 use Rattle.std.proofs.Math.Nat.{two-pow-succ, pow-zero, mul-le-mul_left}
 use Rattle.std.specs.Int.{IsPowerOfTwo}
 use Rattle.modular_word.specs.Congruence.{Congruent}
@@ -59,16 +59,12 @@ pub remainders_of_loose_product : {m : ℕ} (g z b count last entries : ℕ) (w 
 remainders_of_loose_product {m} g z b count last entries w x y u v p power room twiddles first second products = record {
   each = λ j i lj li.
       let c = constant g z (b * count + j) in
-      let value = products.each j i lj li in
       let column = column_of_product count last c (constant g z b) i x y
       (λ k. u (j * last + k)) (λ k. v (j * last + k)) li
-      (subst (λ n. Congruent m (constant g z (b * n + j) ^ n) (constant g z b)) (sym power.1)
-      (power_of_constant g z b power.0 j entries w twiddles (rw power.1 at room) (rw power.1 at lj)))
-      (λ a la. mod_trans (mod_sym (residue_of (u (j * last + a))))
-      (mod_trans (mod_of_eq (first.each j a lj la)) (residue_of (sum_below count (λ k. x (k * last + a) * c ^ k)))))
-      (λ a la.
-      mod_trans (mod_of_eq (second.each j a lj la)) (residue_of (sum_below count (λ l. y (l * last + a) * c ^ l)))) in
-      ap (λ n. n % m) value ∙ column.same;
+      (rw power.1 (power_of_constant g z b power.0 j entries w twiddles (rw power.1 at room) (rw power.1 at lj)))
+      (λ a la. record { same = first.each j a lj la })
+      (λ a la. mod_trans (mod_of_eq (second.each j a lj la)) (residue_of _)) in
+      ap (λ n. n % m) (products.each j i lj li) ∙ column.same;
 }
 
 -- .. of remainders with remainders
@@ -91,9 +87,7 @@ blocks_of {n} {entries} {b} {last} blocks = grind (arith, half_room)
 -- an inverse of the number of blocks takes it away
 scaled_back : {m : ℕ} (count part v : ℕ) → Congruent m (count * part) 1 → (count * (v % m) * part) % m ≡ v % m
 scaled_back {m} count part v one =
-    let turn : count * (v % m) * part ≡ count * part * (v % m) = omega arith in
-    let o : 1 * v ≡ v = omega arith in
-    (mod_trans (mod_of_eq turn) (mod_trans (mod_mul one (residue_of v)) (mod_of_eq o))).same
+    (mod_trans (mod_of_eq (omega arith)) (mod_trans (mod_mul one (residue_of v)) (mod_of_eq (omega arith)))).same
 
 -- the entries that are joined are the product
 pub joined_product : {m : ℕ} (g z b last entries count size part : ℕ) (w x y u v p out : ℕ → ℕ) → IsPowerOfTwo count
@@ -106,13 +100,9 @@ pub joined_product : {m : ℕ} (g z b last entries count size part : ℕ) (w x y
     → (e : ℕ) → e < size → out e ≡ product_modulo m size (constant g z b) x y e
 joined_product {m} g z b last entries count size part w x y u v p out power whole room twiddles one first
     second products joined e below =
-    let c = constant g z b in
-    let are = remainders_of_loose_product g z b count last entries w x y u v p power
-    (half_room b count entries room) twiddles first second products in
-    joined (product_modulo m (count * last) c x y) are e below
-    ∙ scaled_back count part
-    (coefficient (count * last) x y e + c * coefficient (count * last) x y (e + count * last)) one
-    ∙ ap (λ n. product_modulo m n c x y e) whole
+    joined _ (remainders_of_loose_product g z b count last entries w x y u v p power
+    (half_room b count entries room) twiddles first second products) e below
+    ∙ scaled_back count part _ one ∙ ap (λ n. product_modulo m n (constant g z b) x y e) whole
 
 -- a test of two places is two tests
 both_tests : (n s e v : ℕ) → 0 < n → cond (eqb s e || eqb s (e + n)) v 0 ≡ cond (eqb s e) v 0 + cond (eqb s (e + n)) v 0
@@ -125,13 +115,9 @@ product_is_cyclic m n e g z x y some =
     let one : constant g z 0 ≡ 1 = ap (λ k. g ^ k) (bits_reversed_of_zero z) ∙ pow-zero g in
     let f = λ (i j : ℕ). cond (eqb (i + j) e) (x i * y j) 0 in
     let h = λ (i j : ℕ). cond (eqb (i + j) (e + n)) (x i * y j) 0 in
-    let row = λ (t : ℕ → ℕ → ℕ) (i : ℕ). sum_below n (λ j. t i j) in
-    let sums = sum_below-same n (λ i. sum_below n (λ j. cond (eqb (i + j) e || eqb (i + j) (e + n)) (x i * y j) 0))
-    (λ i. row f i + row h i)
-    (λ i l. sum_below-same n (λ j. cond (eqb (i + j) e || eqb (i + j) (e + n)) (x i * y j) 0) (λ j. f i j + h i j)
-    (λ j k. both_tests n (i + j) e (x i * y j) some)
-    ∙ sum_below-add n (λ j. f i j) (λ j. h i j))
-    ∙ sum_below-add n (row f) (row h) in
+    let sums = sum_below-same n _ _ (λ i l. sum_below-same n _ _ (λ j k. both_tests n (i + j) e (x i * y j) some)
+    ∙ sum_below-add n (f i) (h i))
+    ∙ sum_below-add n (λ i. sum_below n (f i)) (λ i. sum_below n (h i)) in
     grind arith
 
 -- the constant of block 1 is -1

@@ -17,18 +17,16 @@ pub sizes_left : {size blocks above below last count length : ℕ} (entries b : 
     → IsTreeLevel size blocks above below last count length → (b + 1) * (count / 2) ≤ entries
     → SizesLeft size blocks below count length entries b
 sizes_left {size} {blocks} {above} {below} {last} {count} {length} entries b tree room =
-    let some : 1 ≤ size = let least = mul-le-mul_right last (pow_pos below) in omega (arith, least, tree.sized, tree.some) in
+    let some : 1 ≤ size = omega (arith, mul-le-mul_right last (pow_pos below), tree.sized, tree.some) in
     let is : length / size ≡ blocks = ap (λ v. v / size) (sym (blocks_fill tree)) ∙ mul-div_cancel blocks some in
-    let more = mul-le-mul_left blocks (pow_pos below) in
-    let few : length / size / 2 ≤ count / 2 = omega (arith, is, more, tree.counted) in
-    let less = mul-le-mul_left (b + 1) few in
+    let few : length / size / 2 ≤ count / 2 = omega (arith, is, mul-le-mul_left blocks (pow_pos below), tree.counted) in
     record {
       blocks_are = is;
       given = record {
         some = some;
         count = (above, is ∙ tree.blocks_are);
         whole = ap (λ v. v * size) is ∙ blocks_fill tree;
-        within = omega (arith, less, room);
+        within = omega (arith, mul-le-mul_left (b + 1) few, room);
       };
       scale = ap (λ v. 2 ^ below * v) is ∙ omega (arith, tree.counted);
     }

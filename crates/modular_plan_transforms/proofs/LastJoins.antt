@@ -1,6 +1,6 @@
 -- The last pass of a join by a table that begins with 1, each entry times a number.
 use Rattle.std.proofs.Common.{◌≡◌, ℕ, ◌+◌, ◌*◌, ◌/◌, ◌%◌, ◌^◌, ◌<◌, ◌≤◌, List, map, length}
-use Rattle.std.proofs.Common.{refl, sym, ◌∙◌, ap, arith, subst}
+use Rattle.std.proofs.Common.{refl, sym, ◌∙◌, ap, arith}
 use Rattle.std.proofs.Math.Nat.{zero-mul}
 use Rattle.std.proofs.Math.ListN.{length-map}
 use Rattle.std.proofs.lemmas.List.{get_or_past}
@@ -19,12 +19,11 @@ use Rattle.modular_plan_passes.proofs.TwoJoins.{level_joined_two, lowest_level}
 
 -- after a list
 pub numbers_past : {T : Type 0} (number : T → ℕ) (words : List T) (k : ℕ) → length words ≤ k → numbers number words k ≡ 0
-numbers_past number words k le =
-    get_or_past (map number words) k 0 (subst (λ v. v ≤ k) (sym (length-map words number)) le)
+numbers_past number words k le = get_or_past (map number words) k 0 (rw (length-map words number) le)
 
 -- a scale that is taken out
 pub scale_taken_out : (a s n x : ℕ) → s * a ≡ n → a * (s * x) ≡ n * x
-scale_taken_out a s n x is = (let e : a * (s * x) ≡ s * a * x = omega arith in e) ∙ ap (λ v. v * x) is
+scale_taken_out a s n x is = omega (arith, ap (λ v. v * x) is)
 
 -- remainders of the list once
 pub remainders_once : {m : ℕ} (g z b count last : ℕ) (x y : ℕ → ℕ) → AreRemainders m g z b count last x y
@@ -42,8 +41,7 @@ remainders_scaled {m} g z b count last s x y are = record {
       let one : Congruent m (y (j * last + i)) (sum_below count f) = record { same = are.each j i lj li } in
       let all = sum_below-same count (λ k. (x (k * last + i) * s) * c ^ k) (λ k. s * f k) (λ k l. omega arith)
       ∙ sum_below-mul count s f in
-      let turn : sum_below count f * s ≡ s * sum_below count f = omega arith in
-      (mod_mul one (mod_refl s)).same ∙ ap (λ v. v % m) (turn ∙ sym all);
+      (mod_mul one (mod_refl s)).same ∙ ap (λ v. v % m) (omega (arith, all));
 }
 
 -- the entries of the table
@@ -61,7 +59,7 @@ last_joined {m} g z b last count length entries s w x y after some no_b four pow
     past i l =
     let fill : 4 * last ≡ length = ap (λ v. v * last) (sym four) ∙ whole in
     let can = can_join_two (lowest_level some power whole) (omega (arith, four)) in
-    let no_first : b * (count / 4) ≡ 0 = ap (λ v. v * (count / 4)) no_b ∙ zero-mul (count / 4) in
+    let no_first : b * (count / 4) ≡ 0 = rw no_b (zero-mul (count / 4)) in
     let level = level_joined_two g z (λ k. x k * s) can room twiddles (level_lowest g z b count last (λ k. x k * s)
     (λ k. y k * s) (remainders_scaled g z b count last s x y are))
     (first_stage (IsFourJoin m) last (w 1) (b * (count / 4)) (count / 4) w (λ k. y k * s) after no_first
@@ -72,4 +70,4 @@ last_joined {m} g z b last count length entries s w x y after some no_b four pow
       after = λ k h. past k (omega (arith, fill, h));
     })) in
     mod_trans (level_top g z (λ k. x k * s) can.next (omega (arith, fill)) (omega (arith, l)) level i l)
-    (mod_of_eq (let e : count * (x i * s) ≡ count * x i * s = omega arith in e))
+    (mod_of_eq (omega arith))

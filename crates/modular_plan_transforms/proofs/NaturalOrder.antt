@@ -1,10 +1,10 @@
 -- Lists in another order; the remainders modulo X - c, put in natural order, are the transform.
 use Rattle.std.proofs.Common.{◌≡◌, ℕ, suc, zero, ◌+◌, ◌-◌, ◌*◌, ◌/◌, ◌%◌, ◌^◌, ◌<◌}
-use Rattle.std.proofs.Common.{◌≤◌, List, [], ◌∷◌, All, get_or, length, inl, inr, refl, sym, ◌∙◌, ap, arith, subst}
-use Rattle.std.proofs.Math.Nat.{two-pow-succ, pow-le-pow_right, mul-div_cancel_left, pow-suc, pow-zero}
+use Rattle.std.proofs.Common.{◌≤◌, List, [], ◌∷◌, All, get_or, length, inl, inr, refl, sym, ◌∙◌, ap, arith}
+use Rattle.std.proofs.Math.Nat.{two-pow-succ, pow-le-pow_right, mul-div_cancel_left}
 use Rattle.std.proofs.lemmas.Bool.{cases_lt}
 use Rattle.std.proofs.lemmas.Nat.{pow-add, pow_pos}
-use Rattle.modular_word.proofs.Powers.{pow-mul}
+use Rattle.modular_word.proofs.Powers.{pow-mul, pow-one}
 use Rattle.modular_word.proofs.Sums.{sum_below-same}
 use Rattle.modular_transform.specs.Orders.{bits_reversed, IsReordered}
 use Rattle.modular_transform.specs.Transforms.{transform}
@@ -30,32 +30,20 @@ number_reordered number old (x ∷ xs) k j l lo e =
 -- a number below 2^t with its bits reversed among w = t + d
 reversed_among_more : (d t w p : ℕ) → w ≡ t + d → p < 2 ^ t → bits_reversed w p ≡ bits_reversed t p * 2 ^ d
 reversed_among_more d zero w p e below =
-    let one : 2 ^ 0 ≡ 1 = refl in
-    let none : p ≡ 0 = omega (arith, below, one) in
-    let left : bits_reversed w p ≡ 0 = ap (λ n. bits_reversed w n) none ∙ bits_reversed_of_zero w in
-    let right : bits_reversed 0 p ≡ 0 = ap (λ n. bits_reversed 0 n) none ∙ bits_reversed_of_zero 0 in
-    let nothing : 0 * 2 ^ d ≡ 0 = omega arith in
-    left ∙ sym nothing ∙ ap (λ n. n * 2 ^ d) (sym right)
+    let none : p ≡ 0 = omega arith in
+    rw none (rw (bits_reversed_of_zero w) (rw (bits_reversed_of_zero 0) (omega arith)))
 reversed_among_more d (suc t) w p e below =
     let two = two-pow-succ t in
-    let half : p / 2 < 2 ^ t = omega (arith, below, two) in
     let is_next : w ≡ suc (t + d) = omega (arith, e) in
-    let rest = reversed_among_more d t (t + d) (p / 2) refl half in
-    let r = bits_reversed t (p / 2) in
-    let b = p % 2 in
-    let product : r * 2 ^ d + b * (2 ^ t * 2 ^ d) ≡ (r + b * 2 ^ t) * 2 ^ d = omega arith in
-    ap (λ n. bits_reversed n p) is_next ∙ bits_reversed-suc (t + d) p ∙ ap (λ n. n + b * 2 ^ (t + d)) rest
-    ∙ ap (λ n. r * 2 ^ d + b * n) (pow-add 2 t d) ∙ product
-    ∙ ap (λ n. n * 2 ^ d) (sym (bits_reversed-suc t p))
+    rw is_next (rw (bits_reversed-suc (t + d) p) (rw (bits_reversed-suc t p) (rw (pow-add 2 t d)
+    (rw (reversed_among_more d t (t + d) (p / 2) refl (omega (arith, below, two))) (omega arith)))))
 
 -- a table for 2^z entries is long enough for 2^bits
 pub no_more_bits : (bits z n count : ℕ) → n ≡ 2 ^ bits → count ≡ 2 ^ z / 2 → n / 2 ≤ count → bits ≤ z
 no_more_bits bits z n count whole half within = elim (cases_lt z bits) [
   | inl more ↦
-      let two = two-pow-succ z in
-      let some = pow_pos z in
       let least : 2 ^ suc z ≤ 2 ^ bits = pow-le-pow_right (omega arith) (omega (arith, more)) in
-      absurd (omega (arith, whole, half, within, two, some, least))
+      absurd (omega (arith, whole, half, within, two-pow-succ z, pow_pos z, least))
   | inr enough ↦ enough
 ]
 
@@ -65,11 +53,9 @@ constant_power : (g d z n bits j k : ℕ) → z ≡ bits + d → j < 2 ^ bits
 constant_power g d z n bits j k is_more below =
     let p = bits_reversed bits j in
     let first : 0 * n + p ≡ p = omega arith in
-    let among = reversed_among_more d bits z p is_more (bits_reversed_below bits j) in
-    let turn : bits_reversed z (0 * n + p) ≡ j * 2 ^ d
-    = ap (λ v. bits_reversed z v) first ∙ among ∙ ap (λ v. v * 2 ^ d) (bits_reversed_twice bits j below) in
-    let same : j * 2 ^ d * k ≡ 2 ^ d * (k * j) = omega arith in
-    ap (λ v. (g ^ v) ^ k) turn ∙ sym (pow-mul g (j * 2 ^ d) k) ∙ ap (λ v. g ^ v) same ∙ pow-mul g (2 ^ d) (k * j)
+    let turn : bits_reversed z (0 * n + p) ≡ j * 2 ^ d = ap (λ v. bits_reversed z v) first
+    ∙ rw (bits_reversed_twice bits j below) at (reversed_among_more d bits z p is_more (bits_reversed_below bits j)) in
+    ap (λ v. (g ^ v) ^ k) turn ∙ sym (pow-mul g (j * 2 ^ d) k) ∙ ap (λ v. g ^ v) (omega arith) ∙ pow-mul g (2 ^ d) (k * j)
 
 -- remainders modulo X - c by a table for 2^d times as many entries are the transform, at the index with reversed bits
 pub transform_at_reversed : (m g d z n bits : ℕ) (x y : ℕ → ℕ) → z ≡ bits + d → n ≡ 2 ^ bits
@@ -78,15 +64,10 @@ pub transform_at_reversed : (m g d z n bits : ℕ) (x y : ℕ → ℕ) → z ≡
 transform_at_reversed m g d z n bits x y is_more whole remainders j below =
     let p = bits_reversed bits j in
     let inside : j < 2 ^ bits = omega (arith, whole, below) in
-    let reversed = bits_reversed_below bits j in
-    let p_below : p < n = omega (arith, whole, reversed) in
     let place : p ≡ p * 1 + 0 = omega arith in
     let terms = sum_below-same n (λ k. x (k * 1 + 0) * constant g z (0 * n + p) ^ k)
-    (λ k. x k * (g ^ (2 ^ d)) ^ (k * j))
-    (λ k l. let e : k * 1 + 0 ≡ k = omega arith in
-    ap (λ v. x v * constant g z (0 * n + p) ^ k) e
-    ∙ ap (λ v. x k * v) (constant_power g d z n bits j k is_more inside)) in
-    ap y place ∙ remainders.each p 0 p_below (omega arith) ∙ ap (λ v. v % m) terms
+    (λ k. x k * (g ^ (2 ^ d)) ^ (k * j)) (λ k l. grind (arith, constant_power g d z n bits j k is_more inside)) in
+    ap y place ∙ remainders.each p 0 (omega (arith, whole, bits_reversed_below bits j)) (omega arith) ∙ ap (λ v. v % m) terms
 
 -- the list of remainders modulo X - c, with its places' bits reversed, is the transform
 pub in_natural_order : {T : Type 0} (number : T → ℕ) (m g z n count bits : ℕ) (x : ℕ → ℕ) (split new : List T)
@@ -99,29 +80,22 @@ in_natural_order number m g z n count bits x split new whole half within len len
     let d = z - bits in
     let more = no_more_bits bits z n count whole half within in
     let is_more : z ≡ bits + d = omega (arith, more) in
-    let reversed = bits_reversed_below bits j in
-    let at = number_reordered number split new j p (omega (arith, len_new, below)) (omega (arith, len, whole, reversed))
-    (λ e. reordered.each j e (omega (arith, len, below))) in
-    let root : 2 ^ z / n ≡ 2 ^ d = ap (λ v. 2 ^ v / n) is_more ∙ ap (λ v. v / n) (pow-add 2 bits d)
-    ∙ ap (λ v. 2 ^ bits * 2 ^ d / v) whole
-    ∙ mul-div_cancel_left (2 ^ d) (pow_pos bits) in
-    at ∙ transform_at_reversed m g d z n bits x (numbers number split) is_more whole remainders j below
-    ∙ ap (λ v. transform m (g ^ v) n x j) (sym root)
+    let at = number_reordered number split new j p (omega (arith, len_new, below))
+    (omega (arith, len, whole, bits_reversed_below bits j)) (λ e. reordered.each j e (omega (arith, len, below))) in
+    let root : 2 ^ z / n ≡ 2 ^ d = grind (arith, pow-add 2 bits d, mul-div_cancel_left (2 ^ d) (pow_pos bits)) in
+    at ∙ rw root (transform_at_reversed m g d z n bits x (numbers number split) is_more whole remainders j below)
 
 -- entry j of the remainders modulo X - c is entry j of the transform in bit-reversed order
 pub transform_reversed : (m g d bits n j : ℕ) (x y : ℕ → ℕ) → n ≡ 2 ^ bits → AreRemainders m g (bits + d) 0 n 1 x y
     → j < n → y j ≡ transform m (g ^ (2 ^ d)) n x (bits_reversed bits j)
 transform_reversed m g d bits n j x y whole are below =
-    let r = bits_reversed_below bits j in
     ap y (sym (bits_reversed_twice bits j (omega (arith, whole, below))))
-    ∙ transform_at_reversed m g d (bits + d) n bits x y refl whole are (bits_reversed bits j) (omega (arith, whole, r))
+    ∙ transform_at_reversed m g d _ n bits x y refl whole are _ (omega (arith, whole, bits_reversed_below bits j))
 
 -- the same by a table for as many entries
 pub transform_reversed_whole : (m g bits n j : ℕ) (x y : ℕ → ℕ) → n ≡ 2 ^ bits → AreRemainders m g bits 0 n 1 x y
     → j < n → y j ≡ transform m g n x (bits_reversed bits j)
 transform_reversed_whole m g bits n j x y whole are below =
     let more : bits + 0 ≡ bits = omega arith in
-    let times : 1 * g ≡ g = omega arith in
-    let one : g ^ (2 ^ 0) ≡ g = pow-suc g 0 ∙ ap (λ v. v * g) (pow-zero g) ∙ times in
-    transform_reversed m g 0 bits n j x y whole (subst (λ z. AreRemainders m g z 0 n 1 x y) (sym more) are) below
-    ∙ ap (λ v. transform m v n x (bits_reversed bits j)) one
+    transform_reversed m g 0 bits n j x y whole (rw more are) below
+    ∙ ap (λ v. transform m v n x (bits_reversed bits j)) (pow-one g)

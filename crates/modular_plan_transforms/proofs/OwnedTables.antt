@@ -1,10 +1,9 @@
 -- The table of a plan that owns it: its fields say of the entries what a plan over them says.
-use Rattle.std.proofs.Common.{◌≡◌, ℕ, ◌+◌, ◌-◌, ◌*◌, ◌/◌, ◌%◌, ◌^◌, ◌<◌, List, length, arith, sym, ap, subst, ◌∙◌}
+use Rattle.std.proofs.Common.{◌≡◌, ℕ, ◌+◌, ◌-◌, ◌*◌, ◌/◌, ◌%◌, ◌^◌, ◌<◌, List, length, arith, sym}
 use Rattle.std.specs.Int.{trailing_zeros, w64}
 use Rattle.modular_plan_passes.specs.Factors.{AllFactors}
 use Rattle.modular_plan_passes.proofs.Tables.{exponent, half_power}
 use Rattle.modular_transform.proofs.PowersOfTwo.{power_by_zeros}
-use Rattle.modular_transform.specs.Orders.{bits_reversed}
 use Rattle.modular_transform.specs.Transforms.{Suits}
 use Rattle.modular_plan_transforms.proofs.PlanTables.{ArePowers, table_of}
 use Rattle.modular_plan_transforms.proofs.PlanFields.{twice_power_of_two}
@@ -27,17 +26,12 @@ pub record IsLent {F : Type 0} (b m g : ℕ) (value quotient : F → ℕ) (entri
 pub lent_by_kept : {F : Type 0} {b m g : ℕ} {value quotient : F → ℕ} {entries : List F}
     → IsKept b m g value quotient entries → IsLent b m g value quotient entries
 lent_by_kept {b = b} {m} {g} {value} {quotient} {entries} is =
-    let count = length entries in
-    let bits = trailing_zeros w64 count in
-    let halved : count ≡ 2 * count / 2 = omega arith in
-    let suits : Suits m g (2 * count) = record {
-      power_of_two = (bits + 1, twice_power_of_two bits count is.power_of_two);
-      half_turn = λ _. subst (λ k. (g ^ k + 1) % m ≡ 0) halved is.half_turn;
+    let halved : 2 * length entries / 2 ≡ length entries = omega arith in
+    let suits : Suits m g (2 * length entries) = record {
+      power_of_two = (_, twice_power_of_two _ _ is.power_of_two);
+      half_turn = λ _. rw halved is.half_turn;
     } in
-    record {
-      suits = suits;
-      holds = table_of b m g bits value quotient entries is.power_of_two suits is.factors is.powers;
-    }
+    record { suits = suits; holds = table_of b m g _ value quotient entries is.power_of_two suits is.factors is.powers }
 
 -- by a plan over them
 pub kept_by_plan : {F : Type 0} (b m g bits : ℕ) (value quotient : F → ℕ) (entries : List F) → length entries < 2 ^ 64
@@ -46,12 +40,11 @@ pub kept_by_plan : {F : Type 0} (b m g bits : ℕ) (value quotient : F → ℕ) 
 kept_by_plan b m g bits value quotient entries few odd below half turn factors powers =
     let count = length entries in
     let power = power_by_zeros count (half_power (bits, half)) few in
-    let same = (exponent bits count (trailing_zeros w64 count) (sym half) power).0 in
     record {
       odd = odd;
       below = below;
       power_of_two = power;
       half_turn = turn;
       factors = factors;
-      powers = λ k l. powers k l ∙ ap (λ v. g ^ bits_reversed v k % m) (sym same);
+      powers = λ k l. rw (exponent bits count (trailing_zeros w64 count) (sym half) power).0 (powers k l);
     }

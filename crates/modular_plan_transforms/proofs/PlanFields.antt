@@ -1,11 +1,10 @@
 -- A plan as one value: what its fields say of its table, a root that is tested by its half turn, and shorter plans.
 use Rattle.std.proofs.Common.{◌≡◌, ℕ, suc, zero, ◌+◌, ◌-◌, ◌*◌, ◌/◌, ◌%◌, ◌^◌, ◌<◌, ◌≤◌, ◌↔◌, List, All, length, get_or, map, take}
-use Rattle.std.proofs.Common.{refl, sym, ap, ◌∙◌, arith, subst, inl, inr}
-use Rattle.std.proofs.Math.Nat.{two-pow-succ, div_self, mod-lt, mod-eq_of_lt, mod_self, mul_assoc, mul-div_cancel_left}
+use Rattle.std.proofs.Common.{refl, sym, ap, ◌∙◌, arith, subst}
+use Rattle.std.proofs.Math.Nat.{two-pow-succ, div_self, mod-lt, mod-eq_of_lt, mod-mod, mod_self, mul_assoc, mul-div_cancel_left}
 use Rattle.std.proofs.Math.Numerals.{add-one}
-use Rattle.std.proofs.lemmas.Bool.{cases_lt}
 use Rattle.std.proofs.lemmas.List.{take-map, get_or-take, length-take-le}
-use Rattle.std.proofs.lemmas.Nat.{pow-add, pow_pos}
+use Rattle.std.proofs.lemmas.Nat.{pow-add, pow_pos, mul-mod_first, mul-mod_second}
 use Rattle.std.specs.Int.{IsPowerOfTwo}
 use Rattle.modular_word.proofs.Congruence.{mod_of_eq, mod_trans, mod_sym, mod_mul, mod_add, mod_refl, residue_of}
 use Rattle.modular_word.proofs.Divisors.{divides, mod_divides}
@@ -36,16 +35,10 @@ transform_by_root_itself m g bits n x j whole = grind (arith, div_self, pow_pos,
 
 -- twice a power of two
 pub twice_power_of_two : (z n : ℕ) → n ≡ 2 ^ z → 2 * n ≡ 2 ^ (z + 1)
-twice_power_of_two z n e =
-    let two = two-pow-succ z in
-    let next = ap (λ v. 2 ^ v) (add-one z) in
-    omega (arith, e, two, next)
+twice_power_of_two z n e = omega (arith, e, two-pow-succ z, ap (λ v. 2 ^ v) (add-one z))
 
 pub square_of_power : (m g t p q : ℕ) → p ≡ g ^ (2 ^ t) % m → q ≡ (p * p) % m → q ≡ g ^ (2 ^ (t + 1)) % m
-square_of_power m g t p q is square =
-    let value : Congruent m p (g ^ (2 ^ t)) = mod_trans (mod_of_eq is) (residue_of (g ^ (2 ^ t))) in
-    let more = root_squared g t ∙ ap (λ v. g ^ (2 ^ v)) (sym (add-one t)) in
-    square ∙ (mod_trans (mod_mul value value) (mod_of_eq more)).same
+square_of_power m g t p q is square = grind (arith, root_squared g t, mul-mod_first, mul-mod_second)
 
 pub below_modulus : (m p v : ℕ) → 0 < m → p ≡ v % m → p < m
 below_modulus m p v some e = subst (λ n. n < m) (sym e) (mod-lt v some)
@@ -54,36 +47,24 @@ below_modulus m p v some e = subst (λ n. n < m) (sym e) (mod-lt v some)
 pub suits_by_turn : (m g n p : ℕ) → 0 < m → IsPowerOfTwo n → p ≡ g ^ n % m → (p + 1 ≡ m) ↔ Suits m g (2 * n)
 suits_by_turn m g n p some power is =
     let halved : 2 * n / 2 ≡ n = omega arith in
-    let same : (p + 1) % m ≡ (g ^ n + 1) % m = (mod_add (mod_trans (mod_of_eq is) (residue_of (g ^ n)))
-    (mod_refl 1)).same in
-    let below = below_modulus m p (g ^ n) some is in
-    let least = pow_pos power.0 in
-    let whole = power.1 in (
+    let same : (p + 1) % m ≡ (g ^ n + 1) % m = (mod_add (record { same = ap (λ v. v % m) is ∙ mod-mod (g ^ n) m }) (mod_refl 1)).same in
+    let least = pow_pos power.0 in (
       λ (e : p + 1 ≡ m). record {
         power_of_two = (power.0 + 1, twice_power_of_two power.0 n power.1);
-        half_turn = λ l. ap (λ k. (g ^ k + 1) % m) halved ∙ sym same ∙ ap (λ v. v % m) e ∙ mod_self m;
+        half_turn = λ l. grind (arith, halved, same, mod_self);
       },
-      λ (suits : Suits m g (2 * n)).
-          let zero : (p + 1) % m ≡ 0 = same ∙ ap (λ k. (g ^ k + 1) % m) (sym halved)
-          ∙ suits.half_turn (omega (arith, whole, least)) in
-          elim (cases_lt (p + 1) m) [
-            | inl l ↦ let all = mod-eq_of_lt l in absurd (omega (arith, zero, all))
-            | inr l ↦ omega (arith, below, l)
-          ],
+      λ (suits : Suits m g (2 * n)). grind (arith, mod-eq_of_lt, below_modulus m p (g ^ n) some is,
+      rw halved at (suits.half_turn (omega (arith, power.1, least)))),
     )
 
 -- half of the inverse of 2^t
 pub half_inverse : (m t p q : ℕ) → IsInverse m (2 ^ t) p → q < m → 2 * q % m ≡ p → IsInverse m (2 ^ (t + 1)) q
 half_inverse m t p q inverse below twice =
-    let next = ap (λ v. 2 ^ v) (add-one t) in
-    let two = two-pow-succ t in
-    let power : 2 ^ (t + 1) ≡ 2 ^ t + 2 ^ t = omega (arith, next, two) in
-    let moved : (2 ^ t + 2 ^ t) * q ≡ 2 ^ t * (2 * q) = omega arith in
     let same : Congruent m (2 * q) p = mod_trans (mod_sym (residue_of (2 * q))) (mod_of_eq twice) in
     record {
       below = below;
-      one = (mod_trans (mod_of_eq (ap (λ v. v * q) power ∙ moved)) (mod_mul (mod_refl (2 ^ t)) same)).same ∙
-          inverse.one;
+      one = (mod_trans (mod_of_eq (rw (sym (twice_power_of_two t (2 ^ t) refl)) (omega arith)))
+          (mod_mul (mod_refl (2 ^ t)) same)).same ∙ inverse.one;
     }
 
 -- what a shorter plan needs: how often its length is in the length of this one
@@ -102,12 +83,10 @@ twice_half (suc y) n is some = let two = two-pow-succ y in omega (arith, is, two
 -- modulo an twice_half number, a power of two above 1 has no inverse
 pub no_inverse_modulo_even : (m n k : ℕ) → 0 < m → m % 2 ≡ 0 → n ≡ 2 ^ k → 2 ≤ n → HasInverse m n → ⊥
 no_inverse_modulo_even m n k some halves is more h =
-    let half = twice_half k n is more in
-    let twice : n * h.0 ≡ 2 * (n / 2 * h.0) = ap (λ v. v * h.0) (sym half) ∙ mul_assoc 2 (n / 2) h.0 in
+    let twice : n * h.0 ≡ 2 * (n / 2 * h.0) = ap (λ v. v * h.0) (sym (twice_half k n is more)) ∙ mul_assoc 2 (n / 2) h.0 in
     let product = mod_divides 2 (n * h.0) m halves (divides 2 (n * h.0) (n / 2 * h.0) twice) in
     let one : 1 % m ≡ 1 = mod-eq_of_lt (omega (arith, some, halves)) in
-    let odd : 1 % 2 ≡ 0 = ap (λ v. v % 2) (sym one) ∙ ap (λ v. v % 2) (sym h.1.one) ∙ product in
-    omega (arith, odd)
+    omega (arith, product, h.1.one, one)
 
 pub is_shorter : (bits n count y : ℕ) → n ≡ 2 ^ y → 2 ≤ n → n ≤ 2 ^ bits → 2 * count ≡ 2 ^ bits
     → IsShorter bits n count y (bits - y)
@@ -119,9 +98,7 @@ is_shorter bits n count y is some most whole =
     let d = bits - y in
     let more : bits ≡ y + d = omega (arith, no_more) in
     let power : 2 ^ bits ≡ n * 2 ^ d = ap (λ v. 2 ^ v) more ∙ pow-add 2 y d ∙ ap (λ v. v * 2 ^ d) (sym is) in
-    let moved : 2 * (n / 2) * 2 ^ d ≡ 2 * (n / 2 * 2 ^ d) = omega arith in
-    let all : 2 * (n / 2) * 2 ^ d ≡ n * 2 ^ d = ap (λ v. v * 2 ^ d) twice in
-    let parts : count ≡ n / 2 * 2 ^ d = omega (arith, whole, power, moved, all) in
+    let parts : count ≡ n / 2 * 2 ^ d = omega (arith, whole, power, ap (λ v. v * 2 ^ d) twice) in
     record {
       bits_is = more;
       half = twice;
@@ -145,5 +122,4 @@ pub shorter_twiddles : {m g count : ℕ} {w : ℕ → ℕ} (bits h y d : ℕ) �
     → AreTwiddles m g bits count w
     → AreTwiddles m h y (2 ^ y / 2) w
 shorter_twiddles {m} {g} {count} {w} bits h y d more is twiddles =
-    subst (λ r. AreTwiddles m r y (2 ^ y / 2) w) (sym is)
-    (first_entries y d (subst (λ b. AreTwiddles m g b count w) more twiddles))
+    rw is (first_entries y d (rw more at twiddles))

@@ -1,5 +1,5 @@
 -- A table is that of g where its entries are factors and the powers of g in bit-reversed order.
-use Rattle.std.proofs.Common.{◌≡◌, ℕ, suc, ◌+◌, ◌-◌, ◌*◌, ◌/◌, ◌%◌, ◌^◌, ◌<◌, ◌≤◌, ◌↔◌, List, length, ap, subst, sym, ◌∙◌, arith}
+use Rattle.std.proofs.Common.{◌≡◌, ℕ, suc, ◌+◌, ◌-◌, ◌*◌, ◌/◌, ◌%◌, ◌^◌, ◌<◌, ◌↔◌, List, length, ap, subst, sym, ◌∙◌, arith}
 use Rattle.std.proofs.Math.Nat.{two-pow-succ, pow-zero, lt-div-mul-add, div-mul-le_self}
 use Rattle.std.proofs.lemmas.Nat.{mul-mod_first, pow-add, div-mul-add}
 use Rattle.modular_word.proofs.Congruence.{same_rest, factor_cancel}
@@ -27,27 +27,21 @@ factor_by_sum b m w q low top rest low_sum high small product wrapped rest_fits 
     let spread : b * (top + k) ≡ b * top + b * k = omega arith in
     let none : low_sum ≡ 0 = same_rest b low_sum 0 high (top + k) low_fits some (omega (arith, sum, product, parts, spread)) in (
       λ are.
-          let e : b * high ≡ w * b = ap (λ v. b * v) are.2 ∙ omega arith in
           record {
             below = are.0;
-            quotient = sym (div-mul-add q m rest are.1) ∙ ap (λ v. v / m) (omega (arith, sum, none, e));
+            quotient = sym (div-mul-add q m rest are.1) ∙ ap (λ v. v / m) (omega (arith, sum, none, ap (λ v. b * v) are.2));
           },
       λ is.
-          let below = is.below in
-          let more : 0 < m = omega (arith, below) in
-          let least : w * b / m * m ≤ w * b = div-mul-le_self (w * b) m in
-          let most : w * b < w * b / m * m + m = lt-div-mul-add more in
+          let most : w * b < w * b / m * m + m = lt-div-mul-add (omega (arith, is.below)) in
           let whole = ap (λ v. v * m) is.quotient in
           let left : ℕ = w * b - q * m in
-          let all : w * b ≡ q * m + left = omega (arith, least, whole) in
+          let all : w * b ≡ q * m + left = omega (arith, div-mul-le_self (w * b) m, whole) in
           let few : left < m = omega (arith, all, most, whole) in
-          let turn : w * b ≡ b * w = omega arith in
-          let add_left : b * (w + k) ≡ b * w + b * k = omega arith in
           let same : left ≡ rest = same_rest b left rest (top + k) w (omega (arith, few, small)) rest_fits
-          (omega (arith, all, product, parts, spread, turn)) in (
-            below,
+          (omega (arith, all, product, parts, spread)) in (
+            is.below,
             subst (λ v. v < m) same few,
-            factor_cancel b high w some (omega (arith, sum, none, all, same, turn)),
+            factor_cancel b high w some (omega (arith, sum, none, all, same)),
           ),
     )
 
@@ -66,9 +60,8 @@ table_of b m g bits value quotient table whole suits factors powers = grind (ari
 pub powers_of : {F : Type 0} (b m g bits : ℕ) (value quotient : F → ℕ) (table : List F) → length table ≡ 2 ^ bits
     → IsTable b m g value quotient table → ArePowers m g bits value table
 powers_of b m g bits value quotient table whole is k l =
-    let two = two-pow-succ bits in
     let less : suc bits - 1 ≡ bits = omega arith in
-    (is.twiddles (suc bits) (omega (arith, two, whole))).entry k l ∙ ap (λ v. g ^ bits_reversed v k % m) less
+    rw less at ((is.twiddles (suc bits) (omega (arith, two-pow-succ bits, whole))).entry k l)
 
 -- a table of so many factors that is that of g, for twice as many entries
 pub made_table : {F : Type 0} {b m g count : ℕ} {value quotient : F → ℕ} {table : List F} → length table ≡ count

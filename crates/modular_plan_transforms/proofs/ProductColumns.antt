@@ -1,7 +1,7 @@
 -- The remainders of a product are the products of the remainders.
 use Rattle.std.proofs.Common.{◌≡◌, ◌≢◌, ℕ, suc, zero, ◌+◌, ◌-◌, ◌*◌, ◌/◌, ◌^◌, ◌<◌, Bool}
 use Rattle.std.proofs.Common.{true, false, inl, inr, sym, ◌∙◌, ap, arith, eqb, cond}
-use Rattle.std.proofs.Math.Nat.{pow-zero}
+use Rattle.std.proofs.Math.Nat.{pow-zero, mul_comm}
 use Rattle.std.proofs.lemmas.Bool.{cases_eq, cases_lt}
 use Rattle.std.proofs.lemmas.Nat.{pow-add, div-mul-add}
 use Rattle.modular_word.specs.Congruence.{Congruent}
@@ -20,14 +20,8 @@ sum_only zero z f l others = absurd (omega arith)
 sum_only (suc n) z f l others =
     let d = sum_below-suc n f in
     elim (cases_eq z n) [
-      | inl is ↦
-          let none = sum_below-of_zeros n f (λ i t. others i (omega arith) (omega arith)) in
-          let e = ap f is in
-          omega (arith, d, none, e)
-      | inr ne ↦
-          let i = sum_only n z f (omega arith) (λ i t. others i (omega arith)) in
-          let none = others n (omega arith) (omega arith) in
-          omega (arith, d, i, none)
+      | inl is ↦ grind (arith, d, sum_below-of_zeros)
+      | inr ne ↦ grind (arith, d, sum_only n z f)
     ]
 
 -- a sum by blocks
@@ -45,17 +39,9 @@ two_by_blocks : (count last : ℕ) (f : ℕ → ℕ → ℕ) → sum_below (coun
     ≡ sum_below last
     (λ a. sum_below last (λ d. sum_below count (λ k. sum_below count (λ l. f (k * last + a) (l * last + d)))))
 two_by_blocks count last f =
-    let row = λ (i : ℕ). sum_below count (λ l. sum_below last (λ d. f i (l * last + d))) in
-    let inner =
-    λ (a : ℕ). sum_below last (λ d. sum_below count (λ k. sum_below count (λ l. f (k * last + a) (l * last + d)))) in
-    sum_below-same (count * last) (λ i. sum_below (count * last) (λ j. f i j)) row
-    (λ i l. by_blocks count last (λ j. f i j))
-    ∙ by_blocks count last row
-    ∙ sum_below-exchanged count last (λ k a. row (k * last + a))
-    ∙ sum_below-same last (λ a. sum_below count (λ k. row (k * last + a))) inner
-    (λ a t. sum_below-same count (λ k. row (k * last + a))
-    (λ k. sum_below last (λ d. sum_below count (λ l. f (k * last + a) (l * last + d))))
-    (λ k t. sum_below-exchanged count last (λ l d. f (k * last + a) (l * last + d)))
+    sum_below-same _ _ _ (λ i l. by_blocks count last (f i)) ∙ by_blocks count last _
+    ∙ sum_below-exchanged count last _
+    ∙ sum_below-same _ _ _ (λ a t. sum_below-same _ _ _ (λ k t. sum_below-exchanged count last _)
     ∙ sum_below-exchanged count last (λ k d. sum_below count (λ l. f (k * last + a) (l * last + d))))
 
 -- quotient and remainder are unique
@@ -96,10 +82,7 @@ term_of_two last i s t n place f li lt ls is = elim (cases_lt t last) [
       let at : place ≡ (s + 1) * last + r = omega (arith, is) in
       let none = at_other t i (f s) (omega arith) in
       let one = term_at last i (s + 1) r n place f li (omega arith) ls at in
-      let same : cond (eqb r i) (f (s + 1)) 0 ≡ cond (eqb t (i + last)) (f (s + 1)) 0 = elim (cases_eq r i) [
-        | inl e ↦ at_place r i (f (s + 1)) e ∙ sym (at_place t (i + last) (f (s + 1)) (omega arith))
-        | inr ne ↦ at_other r i (f (s + 1)) ne ∙ sym (at_other t (i + last) (f (s + 1)) (omega arith))
-      ] in
+      let same : cond (eqb r i) (f (s + 1)) 0 ≡ cond (eqb t (i + last)) (f (s + 1)) 0 = grind arith in
       omega (arith, none, one, same)
 ]
 
@@ -112,13 +95,8 @@ scaled_coefficient : (n s c : ℕ) (x y : ℕ → ℕ)
     → coefficient n x y s * c ≡ sum_below n (λ i. sum_below n (λ j. cond (eqb (i + j) s) (x i * y j * c) 0))
 scaled_coefficient n s c x y =
     let t = λ (i j : ℕ). cond (eqb (i + j) s) (x i * y j) 0 in
-    let q : sum_below n (λ i. sum_below n (λ j. t i j)) * c ≡ c * sum_below n (λ i. sum_below n (λ j. t i j)) =
-    omega arith in
-    q ∙ sym (scaled n n c t)
-    ∙ sum_below-same n (λ i. sum_below n (λ j. c * t i j))
-    (λ i. sum_below n (λ j. cond (eqb (i + j) s) (x i * y j * c) 0))
-    (λ i l. sum_below-same n (λ j. c * t i j) (λ j. cond (eqb (i + j) s) (x i * y j * c) 0)
-    (λ j h. factor_in (i + j) s c (x i * y j)))
+    mul_comm _ c ∙ sym (scaled n n c t)
+    ∙ sum_below-same _ _ _ (λ i l. sum_below-same _ _ _ (λ j h. factor_in (i + j) s c (x i * y j)))
 
 -- four sums, term by term
 same_four : (count last : ℕ) (f h : ℕ → ℕ → ℕ → ℕ → ℕ)
@@ -133,14 +111,8 @@ sum_of_four : (count last : ℕ) (f h : ℕ → ℕ → ℕ → ℕ → ℕ)
     + sum_below last (λ a. sum_below last (λ d. sum_below count (λ k. sum_below count (λ l. h a d k l))))
 sum_of_four count last f h =
     let two = λ (t : ℕ → ℕ → ℕ → ℕ → ℕ) (a d : ℕ). sum_below count (λ k. sum_below count (λ l. t a d k l)) in
-    sum_below-same last (λ a. sum_below last (λ d. sum_below count (λ k. sum_below count (λ l. f a d k l + h a d k l))))
-    (λ a. sum_below last (λ d. two f a d) + sum_below last (λ d. two h a d))
-    (λ a la. sum_below-same last (λ d. sum_below count (λ k. sum_below count (λ l. f a d k l + h a d k l)))
-    (λ d. two f a d + two h a d)
-    (λ d ld. sum_below-same count (λ k. sum_below count (λ l. f a d k l + h a d k l))
-    (λ k. sum_below count (λ l. f a d k l) + sum_below count (λ l. h a d k l))
-    (λ k lk. sum_below-add count (λ l. f a d k l) (λ l. h a d k l))
-    ∙ sum_below-add count (λ k. sum_below count (λ l. f a d k l)) (λ k. sum_below count (λ l. h a d k l)))
+    sum_below-same _ _ _ (λ a la. sum_below-same _ _ _ (λ d ld. sum_below-same _ _ _
+    (λ k lk. sum_below-add count (f a d k) (h a d k)) ∙ sum_below-add count _ _)
     ∙ sum_below-add last (λ d. two f a d) (λ d. two h a d))
     ∙ sum_below-add last (λ a. sum_below last (λ d. two f a d)) (λ a. sum_below last (λ d. two h a d))
 
@@ -148,17 +120,14 @@ sum_of_four count last f h =
 tested_sums : (b : Bool) (count c : ℕ) (f h : ℕ → ℕ) → c * cond b (sum_below count f * sum_below count h) 0
     ≡ sum_below count (λ k. sum_below count (λ l. cond b (f k * h l * c) 0))
 tested_sums true count c f h =
-    let t = sum_below-times_sum count count f h in
-    ap (λ v. c * v) t ∙ sym (scaled count count c (λ k l. f k * h l))
-    ∙ sum_below-same count (λ k. sum_below count (λ l. c * (f k * h l))) (λ k. sum_below count (λ l. f k * h l * c))
-    (λ k t. sum_below-same count (λ l. c * (f k * h l)) (λ l. f k * h l * c) (λ l s. omega arith))
+    ap (λ v. c * v) (sum_below-times_sum count count f h) ∙ sym (scaled count count c (λ k l. f k * h l))
+    ∙ sum_below-same _ _ _ (λ k t. sum_below-same _ _ _ (λ l s. mul_comm c (f k * h l)))
 tested_sums false count c f h = grind (arith, sum_below-of_zeros)
 
--- two powers of c in one
-one_power : (c k l v w : ℕ) → v * c ^ k * (w * c ^ l) ≡ v * w * c ^ (k + l)
-one_power c k l v w =
-    let e : v * c ^ k * (w * c ^ l) ≡ v * w * (c ^ k * c ^ l) = omega arith in
-    e ∙ ap (λ p. v * w * p) (sym (pow-add c k l))
+-- three powers of c in one
+two_powers : (c k l e v w : ℕ) → v * c ^ k * (w * c ^ l) * c ^ e ≡ v * w * c ^ (k + l + e)
+two_powers c k l e v w =
+    rw (pow-add c (k + l) e) (rw (pow-add c k l) (omega arith))
 
 -- a coefficient of the product of two remainders
 coefficient_of_remainders : (count last c s e : ℕ) (x y : ℕ → ℕ)
@@ -169,21 +138,11 @@ coefficient_of_remainders : (count last c s e : ℕ) (x y : ℕ → ℕ)
 coefficient_of_remainders count last c s e x y =
     let u = λ (a : ℕ). sum_below count (λ k. x (k * last + a) * c ^ k) in
     let v = λ (d : ℕ). sum_below count (λ l. y (l * last + d) * c ^ l) in
-    let t = λ (a d k l : ℕ). cond (eqb (a + d) s) (x (k * last + a) * c ^ k * (y (l * last + d) * c ^ l) * c ^ e) 0 in
-    let o = λ (a d k l : ℕ). cond (eqb (a + d) s) (x (k * last + a) * y (l * last + d) * c ^ (k + l + e)) 0 in
     sym (scaled last last (c ^ e) (λ a d. cond (eqb (a + d) s) (u a * v d) 0))
-    ∙ sum_below-same last (λ a. sum_below last (λ d. c ^ e * cond (eqb (a + d) s) (u a * v d) 0))
-    (λ a. sum_below last (λ d. sum_below count (λ k. sum_below count (λ l. o a d k l))))
-    (λ a la. sum_below-same last (λ d. c ^ e * cond (eqb (a + d) s) (u a * v d) 0)
-    (λ d. sum_below count (λ k. sum_below count (λ l. o a d k l)))
+    ∙ sum_below-same _ _ _ (λ a la. sum_below-same _ _ _
     (λ d ld. tested_sums (eqb (a + d) s) count (c ^ e) (λ k. x (k * last + a) * c ^ k) (λ l. y (l * last + d) * c ^ l)
-    ∙ sum_below-same count (λ k. sum_below count (λ l. t a d k l)) (λ k. sum_below count (λ l. o a d k l))
-    (λ k lk. sum_below-same count (λ l. t a d k l) (λ l. o a d k l)
-    (λ l ll. ap (λ n. cond (eqb (a + d) s) n 0)
-    (ap (λ n. n * c ^ e) (one_power c k l (x (k * last + a)) (y (l * last + d)))
-    ∙ (let r : x (k * last + a) * y (l * last + d) * c ^ (k + l) * c ^ e
-    ≡ x (k * last + a) * y (l * last + d) * (c ^ (k + l) * c ^ e) = omega arith in r)
-    ∙ ap (λ n. x (k * last + a) * y (l * last + d) * n) (sym (pow-add c (k + l) e)))))))
+    ∙ sum_below-same _ _ _ (λ k lk. sum_below-same _ _ _ (λ l ll. ap (λ n. cond (eqb (a + d) s) n 0)
+    (two_powers c k l e (x (k * last + a)) (y (l * last + d)))))))
 
 -- the coefficients of a product in the product_in_column i, by the powers of c
 product_in_column : (count last c i : ℕ) (x y : ℕ → ℕ) → i < last
@@ -205,10 +164,7 @@ product_in_column count last c i x y li =
     sum_below last (λ a. sum_below last (λ d. sum_below count (λ k. sum_below count (λ l. t a d k l)))) in
     let left : sum_below (count + count) (λ k. coefficient n x y (k * last + i) * c ^ k)
     ≡ four (λ a d k l. inner (k * last + a) (l * last + d)) =
-    sum_below-same (count + count) (λ k. coefficient n x y (k * last + i) * c ^ k)
-    (λ k. sum_below n (λ i'. sum_below n (λ j. f i' j k)))
-    (λ k l. scaled_coefficient n (k * last + i) (c ^ k) x y)
-    ∙ moved (count + count) n f ∙ two_by_blocks count last inner in
+    sum_below-same _ _ _ (λ k l. scaled_coefficient n (k * last + i) (c ^ k) x y) ∙ moved (count + count) n f ∙ two_by_blocks count last inner in
     let middle : four (λ a d k l. inner (k * last + a) (l * last + d)) ≡ four (λ a d k l. low a d k l + high a d k l) =
     same_four count last (λ a d k l. inner (k * last + a) (l * last + d)) (λ a d k l. low a d k l + high a d k l)
     (λ a d k l la ld lk ll.
@@ -217,13 +173,9 @@ product_in_column count last c i x y li =
     term_of_two last i (k + l) (a + d) (count + count) (k * last + a + (l * last + d))
     (λ e. x (k * last + a) * y (l * last + d) * c ^ e) li (omega arith) (omega arith) place
     ∙ ap (λ e. cond (eqb (a + d) i) (x (k * last + a) * y (l * last + d) * c ^ e) 0 + high a d k l) (sym zero_more)) in
-    let q0 = coefficient_of_remainders count last c i 0 x y in
-    let q1 = coefficient_of_remainders count last c (i + last) 1 x y in
-    let p0 : c ^ 0 ≡ 1 = pow-zero c in
-    let p1 : c ^ 1 ≡ c = pow-one c in
-    let r0 = ap (λ p. p * coefficient last u v i) p0 in
-    let r1 = ap (λ p. p * coefficient last u v (i + last)) p1 in
-    left ∙ middle ∙ sum_of_four count last low high ∙ omega (arith, q0, q1, r0, r1)
+    let q0 = rw (pow-zero c) at (coefficient_of_remainders count last c i 0 x y) in
+    let q1 = rw (pow-one c) at (coefficient_of_remainders count last c (i + last) 1 x y) in
+    left ∙ middle ∙ sum_of_four count last low high ∙ omega (arith, q0, q1)
 
 -- what is congruent where a test holds
 tested_congruent : {m a e : ℕ} (b : Bool) → Congruent m a e → Congruent m (cond b a 0) (cond b e 0)
@@ -263,14 +215,9 @@ column_of_product {m} count last c d i x y u v li power first second =
     let n = count * last in
     let p = λ (k : ℕ). coefficient n x y (k * last + i) * c ^ k in
     let q = λ (k : ℕ). p (count + k) in
-    let r = λ (k : ℕ). product_modulo m n d x y (k * last + i) * c ^ k in
     let whole : Congruent m (product_modulo m last c u v i) (sum_below (count + count) p) =
-    mod_trans (residue_of (coefficient last u v i + c * coefficient last u v (i + last)))
-    (mod_trans (mod_add (coefficient-congruent last i u v _ _ first second)
+    mod_trans (residue_of _) (mod_trans (mod_add (coefficient-congruent last i u v _ _ first second)
     (mod_mul (mod_refl c) (coefficient-congruent last (i + last) u v _ _ first second)))
     (mod_of_eq (sym (product_in_column count last c i x y li)))) in
-    let halves : sum_below (count + count) p ≡ sum_below count (λ k. p k + q k) =
-    sum_below-joined count count p ∙ sym (sum_below-add count p q) in
-    let terms : Congruent m (sum_below count (λ k. p k + q k)) (sum_below count r) =
-    sum_below-congruent count (λ k. p k + q k) r (λ k l. mod_sym (term_folded count last c d i k x y power)) in
-    mod_trans whole (mod_trans (mod_of_eq halves) terms)
+    mod_trans whole (mod_trans (mod_of_eq (sum_below-joined count count p ∙ sym (sum_below-add count p q)))
+    (sum_below-congruent count _ _ (λ k l. mod_sym (term_folded count last c d i k x y power))))

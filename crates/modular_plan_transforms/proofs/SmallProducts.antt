@@ -1,20 +1,19 @@
 -- Products of polynomials of one and of two coefficients, in place.
-use Rattle.std.proofs.Common.{◌≡◌, ℕ, ◌+◌, ◌-◌, ◌*◌, ◌%◌, ◌<◌, ◌≤◌, inl, inr, sym, ◌∙◌, ap, arith, subst}
+use Rattle.std.proofs.Common.{◌≡◌, ℕ, ◌+◌, ◌-◌, ◌*◌, ◌%◌, ◌<◌, ◌≤◌, inl, inr, sym, ◌∙◌, ap, arith}
 use Rattle.std.proofs.lemmas.Bool.{cases_eq}
-use Rattle.std.proofs.Math.Nat.{add-mul-mod_self_right}
 use Rattle.modular_word.specs.Congruence.{Congruent}
 use Rattle.modular_word.specs.Sums.{sum_below}
 use Rattle.modular_word.proofs.Congruence.{mod_of_eq, mod_refl, mod_sym, mod_trans, mod_add, mod_mul, mod_add_cancel}
 use Rattle.modular_word.proofs.Congruence.{residue_of}
 use Rattle.modular_plan_passes.specs.Plans.{constant}
 use Rattle.modular_plan_passes.specs.Steps.{PairDone}
+use Rattle.modular_plan_passes.proofs.Bounds.{multiple_is_none}
 use Rattle.modular_plan_transforms.specs.Products.{product_modulo, AreProducts}
 
 -- one coefficient
 pub product_of_one : (m c : ℕ) (x y : ℕ → ℕ) → product_modulo m 1 c x y 0 ≡ (x 0 * y 0) % m
 unfolding sum_below
-product_of_one m c x y =
-    ap (λ v. v % m) (let e : (0 + (0 + x 0 * y 0)) + c * (0 + (0 + 0)) ≡ x 0 * y 0 = omega arith in e)
+product_of_one m c x y = grind arith
 
 -- two coefficients
 pub product_of_two_low : (m c : ℕ) (x y : ℕ → ℕ) → product_modulo m 2 c x y 0 ≡ (x 0 * y 0 + c * (x 1 * y 1)) % m
@@ -40,15 +39,11 @@ pub product_by_odd : {m : ℕ} (x w c product rest : ℕ) → w < m → ((v : �
 product_by_odd {m} x w c product rest below odd is whole =
     let v : ℕ = m - w in
     let e : v + w ≡ m = omega arith in
-    let both : x * (v + w) ≡ x * m = ap (λ k. x * k) e in
     let none : Congruent m (x * v + product) 0 =
     mod_trans (mod_add (mod_refl (x * v)) (mod_trans (mod_of_eq is) (residue_of (x * w))))
-    (mod_trans (mod_of_eq (let k : x * v + x * w ≡ 0 + x * m = omega (arith, both) in k))
-    (record { same = add-mul-mod_self_right 0 x m })) in
-    let gone : Congruent m (rest + product) 0 =
-    mod_trans (mod_of_eq (let k : rest + product ≡ 0 + 1 * m = omega (arith, whole) in k))
-    (record { same = add-mul-mod_self_right 0 1 m }) in
-    mod_trans (mod_add_cancel product (mod_trans gone (mod_sym none))) (mod_mul (mod_refl x) (odd v e))
+    (multiple_is_none x (x * v + x * w) (omega (arith, ap (λ k. x * k) e))) in
+    mod_trans (mod_add_cancel product (mod_trans (multiple_is_none 1 (rest + product) (omega (arith, whole))) (mod_sym none)))
+    (mod_mul (mod_refl x) (odd v e))
 
 -- the block that was multiplied
 block_multiplied : {m : ℕ} (j turned c : ℕ) (x y before after : ℕ → ℕ) → Congruent m turned (before (2 * j + 1) * c)
@@ -60,24 +55,16 @@ block_multiplied {m} j turned c x y before after is kept step i below =
     let second : 2 * j + 1 ≡ j * 2 + 1 = omega arith in
     let u : before (2 * j) ≡ x (j * 2 + 0) = kept (2 * j) (omega arith) ∙ ap x first in
     let v : before (2 * j + 1) ≡ x (j * 2 + 1) = kept (2 * j + 1) (omega arith) ∙ ap x second in
-    let turn : x (j * 2 + 1) * c * y (j * 2 + 1) ≡ c * (x (j * 2 + 1) * y (j * 2 + 1)) = omega arith in
     let w : Congruent m (before (2 * j) * y (2 * j) + turned * y (2 * j + 1))
     (x (j * 2 + 0) * y (j * 2 + 0) + c * (x (j * 2 + 1) * y (j * 2 + 1))) =
     mod_add (mod_mul (mod_of_eq u) (mod_of_eq (ap y first)))
     (mod_trans (mod_mul (mod_trans is (mod_mul (mod_of_eq v) (mod_refl c))) (mod_of_eq (ap y second)))
-    (mod_of_eq turn)) in
-    let z : Congruent m (before (2 * j) * y (2 * j + 1) + before (2 * j + 1) * y (2 * j))
-    (x (j * 2 + 0) * y (j * 2 + 1) + x (j * 2 + 1) * y (j * 2 + 0)) =
-    mod_add (mod_mul (mod_of_eq u) (mod_of_eq (ap y second))) (mod_mul (mod_of_eq v) (mod_of_eq (ap y first))) in
+    (mod_of_eq (omega arith))) in
     elim (cases_eq i 0) [
-      | inl e ↦
-          subst (λ n. after (j * 2 + n) ≡ product_modulo m 2 c (λ k. x (j * 2 + k)) (λ k. y (j * 2 + k)) n) (sym e)
-          (ap after (sym first) ∙ step.pair.0 ∙ w.same
-          ∙ sym (product_of_two_low m c (λ k. x (j * 2 + k)) (λ k. y (j * 2 + k))))
+      | inl e ↦ grind (arith, product_of_two_low m c (λ k. x (j * 2 + k)) (λ k. y (j * 2 + k)), w.same, step.pair.0)
       | inr ne ↦
-          subst (λ n. after (j * 2 + n) ≡ product_modulo m 2 c (λ k. x (j * 2 + k)) (λ k. y (j * 2 + k)) n)
-          (let e : 1 ≡ i = omega arith in e)
-          (ap after (sym second) ∙ step.pair.1 ∙ z.same
+          rw (let e : i ≡ 1 = omega arith in e) (ap after (sym second) ∙ step.pair.1
+          ∙ (mod_add (mod_mul (mod_of_eq u) (mod_of_eq (ap y second))) (mod_mul (mod_of_eq v) (mod_of_eq (ap y first)))).same
           ∙ sym (product_of_two_high m c (λ k. x (j * 2 + k)) (λ k. y (j * 2 + k))))
     ]
 
@@ -90,9 +77,7 @@ pub pairs_more : {m : ℕ} (j turned : ℕ) (c x y before after : ℕ → ℕ) �
     → (k i : ℕ) → k < j + 1 → i < 2
     → after (k * 2 + i) ≡ product_modulo m 2 (c k) (λ e. x (k * 2 + e)) (λ e. y (k * 2 + e)) i
 pairs_more {m} j turned c x y before after is kept step done k i lk li = elim (cases_eq k j) [
-  | inl e ↦
-      subst (λ n. after (n * 2 + i) ≡ product_modulo m 2 (c n) (λ e. x (n * 2 + e)) (λ e. y (n * 2 + e)) i) (sym e)
-      (block_multiplied j turned (c j) x y before after is kept step i li)
+  | inl e ↦ rw e (block_multiplied j turned (c j) x y before after is kept step i li)
   | inr ne ↦ step.kept (k * 2 + i) (omega arith) (omega arith) ∙ done k i (omega arith) li
 ]
 
@@ -100,13 +85,9 @@ pairs_more {m} j turned c x y before after is kept step done k i lk li = elim (c
 pub are_products_of_one : {m : ℕ} (g z b count last : ℕ) (x y p : ℕ → ℕ) → last ≡ 1
     → ((i : ℕ) → i < count → p i ≡ (x i * y i) % m) → AreProducts m g z b count last x y p
 are_products_of_one {m} g z b count last x y p one is =
-    subst (λ n. AreProducts m g z b count n x y p) (sym one)
-    (record {
+    rw one (record {
       each = λ j i lj li.
-          let none : 0 ≡ i = omega arith in
           let place : j * 1 + 0 ≡ j = omega arith in
-          subst (λ n. p (j * 1 + n)
-          ≡ product_modulo m 1 (constant g z (b * count + j)) (λ k. x (j * 1 + k)) (λ k. y (j * 1 + k)) n) none
-          (ap p place ∙ is j lj ∙ ap (λ n. (x n * y n) % m) (sym place)
+          rw (let none : i ≡ 0 = omega arith in none) (ap p place ∙ is j lj ∙ ap (λ n. (x n * y n) % m) (sym place)
           ∙ sym (product_of_one m (constant g z (b * count + j)) (λ k. x (j * 1 + k)) (λ k. y (j * 1 + k))));
     })

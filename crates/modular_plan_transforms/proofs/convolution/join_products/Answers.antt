@@ -9,7 +9,6 @@ use Rattle.modular_plan_transforms.proofs.Convolutions.{blocks_of}
 use Rattle.modular_plan_transforms.proofs.SmallProducts.{are_products_of_one}
 use Rattle.modular_plan_transforms.proofs.Reductions.{remainders_times, over_base, made_up_for}
 use Rattle.modular_plan_transforms.proofs.convolution.join_products.Goals as goal
-use Rattle.modular_plan_transforms.proofs.convolution.join_products.Goals.{else-last-eq1-via-else-last-eq1}
 
 pub join_scaled-requires : goal.join_scaled-requires
 join_scaled-requires g c =
