@@ -53,8 +53,12 @@ suits_by_turn m g n p some power is =
         power_of_two = (power.0 + 1, twice_power_of_two power.0 n power.1);
         half_turn = λ l. grind (arith, halved, same, mod_self);
       },
-      λ (suits : Suits m g (2 * n)). grind (arith, mod-eq_of_lt, below_modulus m p (g ^ n) some is,
-      rw halved at (suits.half_turn (omega (arith, power.1, least)))),
+      λ (suits : Suits m g (2 * n)). grind (
+        arith,
+        mod-eq_of_lt,
+        below_modulus m p (g ^ n) some is,
+        rw halved at (suits.half_turn (omega (arith, power.1, least))),
+      ),
     )
 
 -- half of the inverse of 2^t

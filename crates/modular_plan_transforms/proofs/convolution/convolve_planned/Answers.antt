@@ -1,4 +1,4 @@
-use Rattle.std.proofs.Common.{◌<◌, length, ◌∙◌, arith}
+use Rattle.std.proofs.Common.{length, ◌∙◌, arith}
 use Rattle.modular_plan_transforms.proofs.Convolutions.{product_is_cyclic}
 use Rattle.modular_plan_transforms.proofs.convolution.convolve_planned.Goals as goal
 
@@ -11,7 +11,6 @@ returns g c =
       below = are.below;
       product = λ h root z e twiddles below.
           are.product h root z e twiddles below
-          ∙ product_is_cyclic (g.T.RingWord.number c.args.m.now.modulus) (length c.args.xs.now) e root z _ _
-          (let k : 0 < length c.args.xs.now = omega (arith, below) in k);
+          ∙ product_is_cyclic _ (length c.args.xs.now) e root z _ _ (omega (arith, below));
       remainders = are.remainders;
     }

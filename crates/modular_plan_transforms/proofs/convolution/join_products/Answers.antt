@@ -1,10 +1,9 @@
-use Rattle.std.proofs.Common.{◌≡◌, ℕ, ◌+◌, ◌*◌, ◌/◌, ◌%◌, ◌<◌, length, refl, sym, ap, ◌∙◌, arith, subst}
+use Rattle.std.proofs.Common.{◌≡◌, ℕ, ◌+◌, ◌*◌, ◌/◌, ◌%◌, ◌<◌, length, refl, ap, ◌∙◌, arith}
 use Rattle.modular_word.specs.Congruence.{Congruent}
 use Rattle.modular_word.proofs.Congruence.{mod_of_eq, mod_refl, mod_sym, mod_trans, mod_mul, residue_of}
 use Rattle.modular_word.proofs.ReductionSteps.{base_inverse}
-use Rattle.modular_plan_passes.specs.Plans.{numbers, AreRemainders}
+use Rattle.modular_plan_passes.specs.Plans.{numbers}
 use Rattle.modular_plan_passes.proofs.Entries.{all_wider}
-use Rattle.modular_plan_transforms.specs.PlanConditions.{AreBlocks}
 use Rattle.modular_plan_transforms.proofs.Convolutions.{blocks_of}
 use Rattle.modular_plan_transforms.proofs.SmallProducts.{are_products_of_one}
 use Rattle.modular_plan_transforms.proofs.Reductions.{remainders_times, over_base, made_up_for}
@@ -12,23 +11,21 @@ use Rattle.modular_plan_transforms.proofs.convolution.join_products.Goals as goa
 
 pub join_scaled-requires : goal.join_scaled-requires
 join_scaled-requires g c =
-    let n = g.T.RingWord.number in
-    let same : length c.args.xs.now ≡ length c.reduce_products.new.xs = omega arith in
+    let same : length c.reduce_products.new.xs ≡ length c.args.xs.now = omega arith in
     record {
-      entries = all_wider n c.reduce_products.new.xs (omega arith) c.reduce_products.ensures.below;
+      entries = all_wider g.T.RingWord.number c.reduce_products.new.xs (omega arith) c.reduce_products.ensures.below;
       factors = c.requires.factors;
-      blocks = subst (λ k. AreBlocks k (length c.args.table.now) c.args.b c.args.last) same (blocks_of c.requires.blocks);
+      blocks = rw same (blocks_of c.requires.blocks);
       factor = c.factor-scaled.ensures.factor;
     }
 
 pub join_scaled-requires-else-last-eq1 : goal.join_scaled-requires-else-last-eq1
 join_scaled-requires-else-last-eq1 g c =
-    let n = g.T.RingWord.number in
-    let same : length c.args.xs.now ≡ length c.multiply.new.xs = omega arith in
+    let same : length c.multiply.new.xs ≡ length c.args.xs.now = omega arith in
     record {
-      entries = all_wider n c.multiply.new.xs (omega arith) c.multiply.ensures.below;
+      entries = all_wider g.T.RingWord.number c.multiply.new.xs (omega arith) c.multiply.ensures.below;
       factors = c.requires.factors;
-      blocks = subst (λ k. AreBlocks k (length c.args.table.now) c.args.b c.args.last) same (blocks_of c.requires.blocks);
+      blocks = rw same (blocks_of c.requires.blocks);
       factor = c.requires.factor;
     }
 
@@ -51,12 +48,9 @@ returns-then-is_odd g c =
     let unit : Congruent m (base * t) 1 = record {
       same = base_inverse base m i (omega (arith, c.args.m.now.some, c.args.m.now.room)) c.neginv.ensures;
     } in
-    let whole = c.requires.blocks.whole in
-    let single : count * last ≡ count * 1 = ap (λ v. count * v) one in
-    let same : length c.reduce_products.new.xs / last ≡ count = ap (λ v. v / last) (omega arith) in
-    let scaled : Congruent m (n c.factor-scaled.result.value) (n c.args.w.now.value * base) =
-    mod_trans (mod_of_eq (c.factor-scaled.ensures.value ∙ c.times_base.ensures))
-    (residue_of (n c.args.w.now.value * base)) in
+    let single : count ≡ length xs = omega (arith, ap (λ v. count * v) one, c.requires.blocks.whole) in
+    let same : length c.reduce_products.new.xs ≡ length xs = omega arith in
+    let scaled = mod_trans (mod_of_eq (c.factor-scaled.ensures.value ∙ c.times_base.ensures)) (residue_of _) in
     record {
       below = c.join_scaled.ensures.below;
       joined = λ root z twiddles. (
@@ -67,10 +61,9 @@ returns-then-is_odd g c =
             mod_trans (over_base base t (new k) (old k * others k) unit (c.reduce_products.ensures.products k l))
             (mod_mul (mod_refl t) (mod_sym (mod_trans (residue_of (p k)) (residue_of (old k * others k))))) in
             let all = remainders_times root z b count last t x (λ k. p k % m) new are
-            (λ j k lj lk. entry (j * last + k) (let place = ap (λ v. j * v) one in omega (arith, place, single, whole, lj, lk, one))) in
-            c.join_scaled.ensures.joined root z (λ k. t * x k) twiddles
-            (subst (λ k. AreRemainders m root z b k last (λ k. t * x k) (λ k. new k % m)) (sym same) all) e (omega arith)
-            ∙ ap (λ k. (k * (t * x e) * n c.factor-scaled.result.value) % m) same
+            (λ j k lj lk. entry (j * last + k) (omega (arith, ap (λ v. j * v) one, single, lj, lk, one))) in
+            c.join_scaled.ensures.joined root z (λ k. t * x k) twiddles (rw same all) e (omega arith)
+            ∙ ap (λ k. (k / last * (t * x e) * n c.factor-scaled.result.value) % m) same
             ∙ made_up_for base t count (x e) (n c.args.w.now.value) (n c.factor-scaled.result.value) unit scaled,
       );
     }
@@ -79,20 +72,14 @@ pub returns-else-last-eq1 : goal.returns-else-last-eq1
 returns-else-last-eq1 g c =
     let n = g.T.RingWord.number in
     let m = n c.args.m.now.modulus in
-    let xs = c.args.xs.now in
-    let last = c.args.last in
-    let b = c.args.b in
-    let count = length xs / last in
-    let p = numbers n c.multiply.new.xs in
-    let same : length c.multiply.new.xs / last ≡ count = ap (λ v. v / last) (omega arith) in
+    let same : length c.multiply.new.xs ≡ length c.args.xs.now = omega arith in
     record {
       below = c.join_scaled-else-last-eq1.ensures.below;
       joined = λ root z twiddles. (
-        p,
+        numbers n c.multiply.new.xs,
         c.multiply.ensures.products root z twiddles,
         λ x are e below.
-            c.join_scaled-else-last-eq1.ensures.joined root z x twiddles
-            (subst (λ k. AreRemainders m root z b k last x (λ k. p k % m)) (sym same) are) e (omega arith)
-            ∙ ap (λ k. (k * x e * n c.args.w.now.value) % m) same,
+            c.join_scaled-else-last-eq1.ensures.joined root z x twiddles (rw same are) e (omega arith)
+            ∙ ap (λ k. (k / c.args.last * x e * n c.args.w.now.value) % m) same,
       );
     }

@@ -1,4 +1,4 @@
-use Rattle.std.proofs.Common.{Bool, true, false, not, ◌≡◌, ◌*◌, ◌%◌, ◌^◌, ◌<◌, length, ap, sym, ◌∙◌, arith, refl, below_more}
+use Rattle.std.proofs.Common.{Bool, true, false, not, ◌≡◌, ◌<◌, length, ap, sym, ◌∙◌, arith, refl, below_more}
 use Rattle.std.proofs.lemmas.Bool.{false≢true}
 use Rattle.modular_plan_passes.specs.Plans.{numbers}
 use Rattle.modular_plan_passes.proofs.Entries.{number_read}
@@ -18,17 +18,14 @@ powers-smaller g c = falls _ _ c.powers-test.true
 -- where the power that is tried stands
 at_place : (g : _) (c : After-next_reversed-place g) → c.next_reversed-place.result < length c.args.table.now
 at_place g c =
-    let b = bits_reversed_below c.args.bits c.powers.exponent in
-    let is = c.next_reversed-place.ensures in
-    let whole = c.requires.whole in
-    omega (arith, b, is, whole)
+    omega (arith, bits_reversed_below c.args.bits c.powers.exponent, c.next_reversed-place.ensures, c.requires.whole)
 
 pub bounds-table-place : goal.bounds-table-place
 bounds-table-place g c = at_place g (goal.at.bounds-table-place g c).After-next_reversed-place
 
 pub offset_bounds-table-place : goal.offset_bounds-table-place
 offset_bounds-table-place g c =
-    let l = at_place g (goal.at.offset_bounds-table-place g c).After-next_reversed-place in omega (arith, l)
+    omega (arith, at_place g (goal.at.offset_bounds-table-place g c).After-next_reversed-place)
 
 unequal_not : (b : Bool) → not b ≡ false → b ≡ true
 unequal_not true e = refl
@@ -38,32 +35,26 @@ pub returns-then-ne : goal.returns-then-ne
 returns-then-ne g c = (
   λ t. absurd (false≢true t),
   λ all.
-      let n = g.T.RingWord.number in
       let place = c.next_reversed-place.result in
       let within = at_place g (goal.at.returns-then-ne g c).After-next_reversed-place in
       let back = ap (bits_reversed c.args.bits) c.next_reversed-place.ensures
-      ∙ bits_reversed_twice c.args.bits c.powers.exponent (let l = c.powers-test.true in let w = c.requires.whole in
-      omega (arith, l, w)) in
-      let power = ap (λ k. n c.args.g ^ k % n c.args.m.now.modulus) back in
-      let value = c.factor.ensures.value ∙ number_read g.F.PlanEntry.value c.args.table.now place _ within c.index-table-place.is in
+      ∙ bits_reversed_twice c.args.bits c.powers.exponent (omega (arith, c.powers-test.true, c.requires.whole)) in
+      let value = c.factor.ensures.value ∙ number_read g.F.PlanEntry.value _ place _ within c.index-table-place.is in
       let same = (g.met.T.RingWord.equal c.factor.result.value c.powers.power).1
-      (value ∙ all place within ∙ power ∙ sym c.powers.invariant.power) in
+      (value ∙ (rw back at (all place within)) ∙ sym c.powers.invariant.power) in
       absurd (false≢true (sym (c.ne.ensures ∙ ap not same) ∙ c.if-ne.true)),
 )
 
 pub powers-preserved : goal.powers-preserved
 powers-preserved g c =
-    let n = g.T.RingWord.number in
     let within = at_place g (goal.at.powers-preserved g c).After-next_reversed-place in
-    let value = c.factor.ensures.value
-    ∙ number_read g.F.PlanEntry.value c.args.table.now c.next_reversed-place.result _ within c.index-table-place.is in
+    let value = c.factor.ensures.value ∙ number_read g.F.PlanEntry.value _ _ _ within c.index-table-place.is in
     let here = ap (numbers g.F.PlanEntry.value c.args.table.now) (sym c.next_reversed-place.ensures) in
     let same = (g.met.T.RingWord.equal c.factor.result.value c.powers.power).0
     (unequal_not _ (sym c.ne.ensures ∙ c.if-ne.false)) in
     record {
-      power = power_next _ (n c.args.g) c.powers.exponent _ _ c.powers.invariant.power
-          (c.product-power.ensures
-          ∙ ap (λ v. (n c.powers.power * v) % n c.args.m.now.modulus) c.factor-root.ensures.value);
+      power = power_next _ (g.T.RingWord.number c.args.g) c.powers.exponent _ _ c.powers.invariant.power
+          (rw c.factor-root.ensures.value at c.product-power.ensures);
       place = c.next_reversed-place.ensures ∙ ap (bits_reversed c.args.bits) (omega arith);
       passed = below_more _ _ c.powers.invariant.passed (here ∙ sym value ∙ same ∙ c.powers.invariant.power);
     }

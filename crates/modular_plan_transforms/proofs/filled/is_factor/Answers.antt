@@ -1,4 +1,4 @@
-use Rattle.std.proofs.Common.{◌≡◌, ◌+◌, ◌*◌, ◌<◌, ◌↔◌, ap, arith, sym, ◌∙◌}
+use Rattle.std.proofs.Common.{◌≡◌, ◌*◌, ◌<◌, ◌↔◌, ap, arith, sym, ◌∙◌}
 use Rattle.std.proofs.lemmas.Bool.{false≢true}
 use Rattle.modular_plan_passes.specs.Factors.{IsFactor}
 use Rattle.modular_plan_transforms.proofs.PlanTables.{factor_by_sum}
@@ -11,22 +11,12 @@ tested : (g : _) (c : After-split-high g) → let n = g.T.RingWord.number in
     × (n c.split-high.result.1 ≡ n c.args.w.now.value))
     ↔ IsFactor g.T.PathWord.base (n c.args.m) (n c.args.w.now.value) (n c.args.w.now.quotient)
 tested g c =
-    let n = g.T.RingWord.number in
     let b = g.T.PathWord.base in
-    let q = n c.args.w.now.quotient in
-    let m = n c.args.m in
-    let rest = n c.wrapping_sub-rest.result in
-    let none : b * n c.zero-2.result ≡ b * 0 = ap (λ z. b * z) c.zero-2.ensures in
+    let none = ap (λ z. b * z) c.zero-2.ensures in
     let value = c.product-whole.ensures.value in
-    let merged = c.merge.ensures.value in
-    let added = c.double_plus.ensures in
-    let parts = c.split-high.ensures.value in
-    factor_by_sum b m (n c.args.w.now.value) q (n c.split-low.result.0) (n c.split-low.result.1) rest
-    (n c.split-high.result.0) (n c.split-high.result.1)
-    c.product-whole.ensures.other_fits (sym value ∙ c.split-low.ensures.value)
+    factor_by_sum _ _ _ _ _ _ _ _ _ c.product-whole.ensures.other_fits (sym value ∙ c.split-low.ensures.value)
     (c.wrapping_sub-rest.ensures.value ∙ c.zero.ensures) c.wrapping_sub-rest.ensures.fits
-    (let s : q * m + rest ≡ n c.split-high.result.0 + b * n c.split-high.result.1
-    = omega (arith, none, value, merged, added, parts) in s)
+    (omega (arith, none, value, c.merge.ensures.value, c.double_plus.ensures, c.split-high.ensures.value))
     c.split-high.ensures.low_fits
 
 pub returns-then-not-is_below-2 : goal.returns-then-not-is_below-2

@@ -15,24 +15,14 @@ pub are_powers-powers-requires-clause-whole : goal.are_powers-powers-requires-cl
 are_powers-powers-requires-clause-whole g c = whole g (goal.at.are_powers-powers-requires-clause-whole g c).Start
 
 pub returns-then-powers : goal.returns-then-powers
-returns-then-powers g c =
-    let n = g.T.RingWord.number in
-    let m = n c.args.m.now.modulus in
-    let table = c.args.table.now in
-    let bits = trailing_zeros w64 (length table) in (
-      λ t. table_of g.T.PathWord.base m (n c.args.g) bits g.F.PlanEntry.value g.F.PlanEntry.quotient table
-          (whole g (goal.at.returns-then-powers g c).Start) c.requires.suits (c.are_factors.ensures.0 t)
-          (c.are_powers-powers.ensures.0 c.if-powers.true),
-      λ is. c.are_factors.ensures.1 is.factors,
-    )
+returns-then-powers g c = (
+  λ t. table_of _ _ _ _ _ _ _ (whole g (goal.at.returns-then-powers g c).Start) c.requires.suits
+      (c.are_factors.ensures.0 t) (c.are_powers-powers.ensures.0 c.if-powers.true),
+  λ is. c.are_factors.ensures.1 is.factors,
+)
 
 pub returns-else-powers : goal.returns-else-powers
-returns-else-powers g c =
-    let n = g.T.RingWord.number in
-    let m = n c.args.m.now.modulus in
-    let table = c.args.table.now in
-    let bits = trailing_zeros w64 (length table) in (
-      λ t. absurd (false≢true (sym c.if-powers.false ∙ t)),
-      λ is. c.are_powers-powers.ensures.1 (powers_of g.T.PathWord.base m (n c.args.g) bits g.F.PlanEntry.value
-          g.F.PlanEntry.quotient table (whole g (goal.at.returns-else-powers g c).Start) is),
-    )
+returns-else-powers g c = (
+  λ t. absurd (false≢true (sym c.if-powers.false ∙ t)),
+  λ is. c.are_powers-powers.ensures.1 (powers_of _ _ _ _ _ _ _ (whole g (goal.at.returns-else-powers g c).Start) is),
+)

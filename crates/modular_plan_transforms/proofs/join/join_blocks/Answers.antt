@@ -19,8 +19,7 @@ stages-init g c = record {
 pub overflow_mul-b : goal.overflow_mul-b
 overflow_mul-b g c =
     let can = can_join_two c.stages.invariant.tree c.if-blocks-gt2.true in
-    let enough = two_rooms _ _ _ _ can.few c.requires.blocks.within in
-    omega (arith, enough)
+    omega (arith, two_rooms _ _ _ _ can.few c.requires.blocks.within)
 
 pub join_known-requires : goal.join_known-requires
 join_known-requires g c =
@@ -39,18 +38,17 @@ join_known-requires g c =
     }
 
 pub overflow_mul-size : goal.overflow_mul-size
-overflow_mul-size g c = let fit = (can_join_two c.stages.invariant.tree c.if-blocks-gt2.true).fits in omega (arith, fit)
+overflow_mul-size g c = omega (arith, (can_join_two c.stages.invariant.tree c.if-blocks-gt2.true).fits)
 
 pub stages-preserved-then-blocks-gt2 : goal.stages-preserved-then-blocks-gt2
 stages-preserved-then-blocks-gt2 g c =
     let before = c.stages.invariant in
-    let some = before.some in
     let can = can_join_two before.tree c.if-blocks-gt2.true in
     record {
       above = before.above - 2;
       below = suc (suc before.below);
       tree = can.next;
-      some = omega (arith, some);
+      some = omega (arith, before.some);
       entries = c.join_known.ensures.entries;
       level = λ r z x twiddles are. level_joined_two r z x can c.requires.blocks.within twiddles
           (before.level r z x twiddles are) (c.join_known.ensures.done r z twiddles);
@@ -58,9 +56,8 @@ stages-preserved-then-blocks-gt2 g c =
 
 pub overflow_mul-b-else-blocks-gt2 : goal.overflow_mul-b-else-blocks-gt2
 overflow_mul-b-else-blocks-gt2 g c =
-    let can = can_join c.stages.invariant.tree (let less = c.stages-test.true in omega arith) in
-    let enough = table_room _ _ _ _ can.few c.requires.blocks.within in
-    omega (arith, enough)
+    let can = can_join c.stages.invariant.tree (omega (arith, c.stages-test.true)) in
+    omega (arith, table_room _ _ _ _ can.few c.requires.blocks.within)
 
 pub join_stage-requires : goal.join_stage-requires
 join_stage-requires g c =
@@ -76,18 +73,17 @@ join_stage-requires g c =
 
 pub overflow_mul-size-else-blocks-gt2 : goal.overflow_mul-size-else-blocks-gt2
 overflow_mul-size-else-blocks-gt2 g c =
-    let fit = (can_join c.stages.invariant.tree (let less = c.stages-test.true in omega arith)).fits in omega (arith, fit)
+    omega (arith, (can_join c.stages.invariant.tree (omega (arith, c.stages-test.true))).fits)
 
 pub stages-preserved : goal.stages-preserved
 stages-preserved g c =
     let before = c.stages.invariant in
-    let some = before.some in
     let can = can_join before.tree (let less = c.stages-test.true in omega arith) in
     record {
       above = before.above - 1;
       below = suc before.below;
       tree = can.next;
-      some = omega (arith, some);
+      some = omega (arith, before.some);
       entries = c.join_stage.ensures.entries;
       level = λ r z x twiddles are. level_joined r z x can c.requires.blocks.within twiddles
           (before.level r z x twiddles are) (c.join_stage.ensures.done r z twiddles);
@@ -96,9 +92,8 @@ stages-preserved g c =
 pub returns : goal.returns
 returns g c =
     let before = c.stages.invariant in
-    let full = c.stages-test.false in
     record {
-      joined = λ r z x twiddles are i l. level_top r z x before.tree (omega arith) (omega (arith, l))
+      joined = λ r z x twiddles are i l. level_top r z x before.tree (omega (arith, c.stages-test.false)) (omega (arith, l))
           (before.level r z x twiddles are) i l;
       entries = before.entries;
     }

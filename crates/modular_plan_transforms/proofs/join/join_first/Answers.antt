@@ -1,5 +1,4 @@
-use Rattle.std.proofs.Common.{◌/◌, length, sym, ◌∙◌, arith}
-use Rattle.modular_plan_passes.specs.Plans.{numbers}
+use Rattle.std.proofs.Common.{length, sym, ◌∙◌, arith}
 use Rattle.modular_plan_passes.proofs.TwoLevels.{two_rooms}
 use Rattle.modular_plan_transforms.proofs.JoinedPasses.{sizes_left}
 use Rattle.modular_plan_transforms.proofs.LastJoins.{remainders_once}
@@ -9,9 +8,8 @@ use Rattle.modular_plan_transforms.proofs.join.join_first.Goals as goal
 pub join_fours-requires : goal.join_fours-requires
 join_fours-requires g c =
     let one = c.if-last-eq1.true in
-    let some = c.if-fours-gt0.true in
     let first = first_fours c.args.b c.args.last (length c.args.xs.now) (length c.args.table.now) (omega (arith, one))
-    (omega (arith, some)) c.requires.blocks.count c.requires.blocks.within in
+    (omega (arith, c.if-fours-gt0.true)) c.requires.blocks.count c.requires.blocks.within in
     record {
       pass = record {
         entries = c.requires.entries;
@@ -27,9 +25,8 @@ join_fours-requires g c =
 pub returns-then-fours-gt0 : goal.returns-then-fours-gt0
 returns-then-fours-gt0 g c =
     let one = c.if-last-eq1.true in
-    let some = c.if-fours-gt0.true in
     let first = first_fours c.args.b c.args.last (length c.args.xs.now) (length c.args.table.now) (omega (arith, one))
-    (omega (arith, some)) c.requires.blocks.count c.requires.blocks.within in
+    (omega (arith, c.if-fours-gt0.true)) c.requires.blocks.count c.requires.blocks.within in
     let left = sizes_left (length c.args.table.now) c.args.b first.can.next first.room in
     record {
       scale = 4;
@@ -41,18 +38,12 @@ returns-then-fours-gt0 g c =
     }
 
 pub returns-else-last-eq1 : goal.returns-else-last-eq1
-returns-else-last-eq1 g c =
-    let n = g.T.RingWord.number in
-    let b = c.args.b in
-    let last = c.args.last in
-    let before = c.args.xs.now in
-    let count = length before / last in
-    record {
-      scale = 1;
-      entries = c.lower_each.ensures.below;
-      blocks = c.requires.blocks;
-      times = omega arith;
-      joined = λ r z x twiddles are.
-          remainders_once r z b count last x _ (remainders_reduced r z b count last (length before) x (numbers n before)
-          (numbers n c.lower_each.new.xs) c.requires.blocks.whole c.lower_each.ensures.congruent are);
-    }
+returns-else-last-eq1 g c = record {
+  scale = 1;
+  entries = c.lower_each.ensures.below;
+  blocks = c.requires.blocks;
+  times = omega arith;
+  joined = λ r z x twiddles are.
+      remainders_once r z _ _ _ x _ (remainders_reduced r z c.args.b _ c.args.last _ x _ _ c.requires.blocks.whole
+      c.lower_each.ensures.congruent are);
+}

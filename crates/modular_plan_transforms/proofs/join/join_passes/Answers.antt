@@ -18,14 +18,13 @@ passes-init g c = record {
 
 pub overflow_mul-b : goal.overflow_mul-b
 overflow_mul-b g c =
-    let can = can_join_two c.passes.invariant.tree (let more = c.passes-test.true in omega (arith, more)) in
-    let enough = two_rooms _ _ _ _ can.few c.requires.blocks.within in
-    omega (arith, enough)
+    let can = can_join_two c.passes.invariant.tree (omega (arith, c.passes-test.true)) in
+    omega (arith, two_rooms _ _ _ _ can.few c.requires.blocks.within)
 
 pub join_known-requires : goal.join_known-requires
 join_known-requires g c =
     let before = c.passes.invariant in
-    let can = can_join_two before.tree (let more = c.passes-test.true in omega (arith, more)) in
+    let can = can_join_two before.tree (omega (arith, c.passes-test.true)) in
     record {
       pass = record {
         entries = before.entries;
@@ -39,18 +38,18 @@ join_known-requires g c =
     }
 
 pub overflow_mul-size : goal.overflow_mul-size
-overflow_mul-size g c = let fit = (can_join_two c.passes.invariant.tree (let more = c.passes-test.true in omega (arith, more))).fits in omega (arith, fit)
+overflow_mul-size g c =
+    omega (arith, (can_join_two c.passes.invariant.tree (omega (arith, c.passes-test.true))).fits)
 
 pub passes-preserved : goal.passes-preserved
 passes-preserved g c =
     let before = c.passes.invariant in
-    let some = before.some in
-    let can = can_join_two before.tree (let more = c.passes-test.true in omega (arith, more)) in
+    let can = can_join_two before.tree (omega (arith, c.passes-test.true)) in
     record {
       above = before.above - 2;
       below = suc (suc before.below);
       tree = can.next;
-      some = omega (arith, some);
+      some = omega (arith, before.some);
       entries = c.join_known.ensures.entries;
       level = λ r z x twiddles are. level_joined_two r z x can c.requires.blocks.within twiddles
           (before.level r z x twiddles are) (c.join_known.ensures.done r z twiddles);

@@ -24,8 +24,7 @@ minus-requires g c = (high_words (both g (goal.at.minus-requires g c).After-spli
 pub plus-requires : goal.plus-requires
 plus-requires g c =
     let below = (high_words (both g (goal.at.plus-requires g c).After-split-multiple)).below in
-    let m = c.args.m.now in
-    omega (arith, below, c.minus.ensures.value, m.some, m.room)
+    omega (arith, below, c.minus.ensures.value, c.args.m.now.some, c.args.m.now.room)
 
 pub returns-clause-below : goal.returns-clause-below
 returns-clause-below g c =

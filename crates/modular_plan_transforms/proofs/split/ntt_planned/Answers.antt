@@ -1,7 +1,7 @@
-use Rattle.std.proofs.Common.{◌≡◌, ◌/◌, ◌<◌, length, refl, arith, subst, sym, ◌∙◌}
-use Rattle.std.specs.Int.{trailing_zeros, w64, IsPowerOfTwo}
+use Rattle.std.proofs.Common.{◌≡◌, ◌/◌, ◌<◌, length, refl, arith, sym, ◌∙◌}
+use Rattle.std.specs.Int.{trailing_zeros, w64}
 use Rattle.modular_transform.proofs.PowersOfTwo.{power_by_zeros}
-use Rattle.modular_plan_passes.specs.Plans.{numbers, AreRemainders}
+use Rattle.modular_plan_passes.specs.Plans.{numbers}
 use Rattle.modular_plan_transforms.proofs.NaturalOrder.{in_natural_order, all_reordered}
 use Rattle.modular_plan_transforms.proofs.split.ntt_planned.Goals as goal
 
@@ -11,16 +11,13 @@ returns g c =
     let m = n c.args.m.now.modulus in
     let split = c.split.new.xs in
     let length_is : length split ≡ length c.args.xs.now = omega arith in
-    let whole = power_by_zeros (length split) (subst IsPowerOfTwo (omega arith) c.requires.count) (omega arith) in
+    let whole = power_by_zeros (length split) (rw length_is c.requires.count) (omega arith) in
     let one : length c.args.xs.now / 1 ≡ length c.args.xs.now = omega arith in
     record {
-      below = all_reordered (λ x. n x < m) (trailing_zeros w64 (length split)) (length split) split
-          c.reverse_places.new.entries whole refl (omega arith) c.reverse_places.ensures c.split.ensures.below;
+      below = all_reordered (λ x. n x < m) _ _ split _ whole refl (omega arith) c.reverse_places.ensures
+          c.split.ensures.below;
       values = λ root z j twiddles below.
-          let remainders = subst (λ v. AreRemainders m root z 0 v 1 (numbers n c.args.xs.now) (numbers n split)) one
-          (c.split.ensures.remainders root z twiddles) in
           in_natural_order n m root z (length c.args.xs.now) (length c.args.table.now) (trailing_zeros w64 (length split))
-          (numbers n c.args.xs.now) split
-          c.reverse_places.new.entries (sym length_is ∙ whole) twiddles.half c.requires.within length_is
-          (omega arith) c.reverse_places.ensures remainders j below;
+          (numbers n c.args.xs.now) split _ (sym length_is ∙ whole) twiddles.half c.requires.within length_is
+          (omega arith) c.reverse_places.ensures (rw one at (c.split.ensures.remainders root z twiddles)) j below;
     }

@@ -26,8 +26,7 @@ stages-init g c =
 pub overflow_mul-b : goal.overflow_mul-b
 overflow_mul-b g c =
     let has = has_two_stages c.stages.invariant.tree (omega arith) in
-    let enough = two_rooms _ _ _ _ has.few c.requires.blocks.within in
-    omega (arith, enough)
+    omega (arith, two_rooms _ _ _ _ has.few c.requires.blocks.within)
 
 pub split_pass-requires : goal.split_pass-requires
 split_pass-requires g c =
@@ -45,7 +44,7 @@ split_pass-requires g c =
     }
 
 pub overflow_mul-blocks : goal.overflow_mul-blocks
-overflow_mul-blocks g c = let fit = (has_two_stages c.stages.invariant.tree (omega arith)).fits in omega (arith, fit)
+overflow_mul-blocks g c = omega (arith, (has_two_stages c.stages.invariant.tree (omega arith)).fits)
 
 pub stages-preserved-then-left-eq0 : goal.stages-preserved-then-left-eq0
 stages-preserved-then-left-eq0 g c =
@@ -63,8 +62,7 @@ stages-preserved-then-left-eq0 g c =
 pub overflow_mul-b-else-left-eq0 : goal.overflow_mul-b-else-left-eq0
 overflow_mul-b-else-left-eq0 g c =
     let has = has_stage c.stages.invariant.tree (omega arith) in
-    let enough = table_room _ _ _ _ has.few c.requires.blocks.within in
-    omega (arith, enough)
+    omega (arith, table_room _ _ _ _ has.few c.requires.blocks.within)
 
 pub split_stage-requires : goal.split_stage-requires
 split_stage-requires g c =
@@ -79,7 +77,7 @@ split_stage-requires g c =
     }
 
 pub overflow_mul-blocks-else-left-eq0 : goal.overflow_mul-blocks-else-left-eq0
-overflow_mul-blocks-else-left-eq0 g c = let fit = (has_stage c.stages.invariant.tree (omega arith)).fits in omega (arith, fit)
+overflow_mul-blocks-else-left-eq0 g c = omega (arith, (has_stage c.stages.invariant.tree (omega arith)).fits)
 
 pub stages-preserved : goal.stages-preserved
 stages-preserved g c =

@@ -1,4 +1,4 @@
-use Rattle.std.proofs.Common.{◌≡◌, ◌/◌, length, arith}
+use Rattle.std.proofs.Common.{◌≡◌, length, arith}
 use Rattle.modular_plan_passes.proofs.Entries.{bounded_at}
 use Rattle.modular_plan_passes.proofs.Levels.{remainders_of}
 use Rattle.modular_plan_passes.proofs.TwoLevels.{whole_fours, remainders_of_split_fours}
@@ -6,8 +6,7 @@ use Rattle.modular_plan_transforms.proofs.split.split_by.Goals as goal
 
 pub split_blocks-requires : goal.split_blocks-requires
 split_blocks-requires g c =
-    let fours = whole_fours (length c.args.xs.now) c.args.last c.args.b (length c.args.table.now) c.if-last-eq1.true
-    c.if-xs-ge4.true c.requires.blocks.count c.requires.blocks.within in
+    let fours = whole_fours _ _ _ _ c.if-last-eq1.true c.if-xs-ge4.true c.requires.blocks.count c.requires.blocks.within in
     record {
       entries = c.requires.entries;
       factors = c.requires.factors;
@@ -16,37 +15,30 @@ split_blocks-requires g c =
 
 pub split_fours-requires : goal.split_fours-requires
 split_fours-requires g c =
-    let fours = whole_fours (length c.args.xs.now) c.args.last c.args.b (length c.args.table.now) c.if-last-eq1.true
-    c.if-xs-ge4.true c.requires.blocks.count c.requires.blocks.within in
-    let whole = fours.whole in
+    let fours = whole_fours _ _ _ _ c.if-last-eq1.true c.if-xs-ge4.true c.requires.blocks.count c.requires.blocks.within in
     record {
       entries = c.split_blocks.ensures.entries;
       factors = c.requires.factors;
-      whole = omega (arith, whole);
+      whole = omega (arith, fours.whole);
       within = fours.places;
       some = omega arith;
     }
 
 pub returns-then-xs-ge4 : goal.returns-then-xs-ge4
 returns-then-xs-ge4 g c =
-    let n = g.T.RingWord.number in
-    let m = g.M.SplitSteps.modulus c.args.m.now in
     let length_is : length c.split_fours.new.xs ≡ length c.args.xs.now = omega arith in
-    let fours = whole_fours (length c.args.xs.now) c.args.last c.args.b (length c.args.table.now) c.if-last-eq1.true
-    c.if-xs-ge4.true c.requires.blocks.count c.requires.blocks.within in
+    let fours = whole_fours _ _ _ _ c.if-last-eq1.true c.if-xs-ge4.true c.requires.blocks.count c.requires.blocks.within in
     record {
       below = c.split_fours.ensures.entries;
       remainders = λ r z twiddles.
-          remainders_of_split_fours r z c.args.b (length c.args.xs.now) c.args.last (length c.args.table.now) _ _ _ _
-          c.if-last-eq1.true fours twiddles (c.split_blocks.ensures.level r z twiddles) c.split_fours.ensures.done
-          (λ i l. bounded_at n m c.split_fours.new.xs i c.split_fours.ensures.entries (omega arith));
+          remainders_of_split_fours r z _ _ _ _ _ _ _ _ c.if-last-eq1.true fours twiddles (c.split_blocks.ensures.level r z twiddles) c.split_fours.ensures.done
+          (λ i l. bounded_at _ _ _ i c.split_fours.ensures.entries (omega arith));
     }
 
 pub returns-else-last-eq1 : goal.returns-else-last-eq1
 returns-else-last-eq1 g c = record {
   below = c.reduce_each.ensures.below;
   remainders = λ r z twiddles.
-      remainders_of r z c.args.b (length c.args.xs.now / c.args.last) c.args.last (length c.args.xs.now) _ _ _
-      c.requires.blocks.whole (c.split_blocks-else-last-eq1.ensures.level r z twiddles)
+      remainders_of r z _ _ _ _ _ _ _ c.requires.blocks.whole (c.split_blocks-else-last-eq1.ensures.level r z twiddles)
       (λ i l. c.reduce_each.ensures.residues i (omega arith));
 }

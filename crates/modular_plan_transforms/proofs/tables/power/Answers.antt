@@ -5,9 +5,7 @@ use Rattle.modular_transform.proofs.PowersOfTwo.{power_by_zeros}
 use Rattle.modular_plan_transforms.proofs.tables.power.Goals as goal
 
 pub squares-init : goal.squares-init
-squares-init g c =
-    let m = g.T.RingWord.number c.args.m.now.modulus in
-    sym (mod-eq_of_lt c.requires.below) ∙ ap (λ v. v % m) (sym (pow-one (g.T.RingWord.number c.args.g)))
+squares-init g c = rw (pow-one (g.T.RingWord.number c.args.g)) (sym (mod-eq_of_lt c.requires.below))
 
 pub returns : goal.returns
 returns g c =

@@ -1,5 +1,5 @@
-use Rattle.std.proofs.Common.{subst, sym}
-use Rattle.modular_plan_transforms.proofs.OwnedTables.{IsKept, IsLent, lent_by_kept}
+use Rattle.std.proofs.Common.{sym}
+use Rattle.modular_plan_transforms.proofs.OwnedTables.{IsKept, lent_by_kept}
 use Rattle.modular_plan_transforms.proofs.owned.OwnedPlan.plan.Goals as goal
 
 pub over-requires : goal.over-requires
@@ -16,8 +16,7 @@ over-requires g c =
       factors = owned.factors;
       powers = owned.powers;
     } in
-    let is = subst (IsLent g.T.PathWord.base m (n owned.root) g.F.PlanEntry.value g.F.PlanEntry.quotient)
-    (sym c.as_slice.ensures) (lent_by_kept kept) in
+    let is = rw (sym c.as_slice.ensures) at (lent_by_kept kept) in
     record {
       odd = owned.odd;
       below = owned.root_below;

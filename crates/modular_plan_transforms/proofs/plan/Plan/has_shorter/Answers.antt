@@ -1,6 +1,5 @@
-use Rattle.std.proofs.Common.{ℕ, ◌-◌, ◌/◌, ◌<◌, ◌∙◌, IsTrue, nat_lt, length, arith, sym}
+use Rattle.std.proofs.Common.{ℕ, ◌-◌, ◌<◌, ◌∙◌, IsTrue, nat_lt, arith, sym}
 use Rattle.std.proofs.lemmas.Bool.Decides.{nat_tests}
-use Rattle.std.specs.Int.{IsPowerOfTwo}
 use Rattle.modular_transform.proofs.PowersOfTwo.{power_of_two_tested, beyond_one}
 use Rattle.modular_plan_transforms.proofs.PlanFields.{twice_half}
 use Rattle.modular_plan_transforms.proofs.plan.Plan.has_shorter.Goals as goal
@@ -14,13 +13,10 @@ test_of b q h = grind (arith, nat_tests)
 pub returns : goal.returns
 returns g c =
     let n = c.args.n in
-    let count = length c.args.self.now.table.now in
     let half = c.args.self.now.half in
-    let power : IsPowerOfTwo n
-    = (power_of_two_tested n).0 (sym c.is_power_of_two.ensures ∙ c.if-not-is_power_of_two.false) in
+    let power = (power_of_two_tested n).0 (sym c.is_power_of_two.ensures ∙ c.if-not-is_power_of_two.false) in
     let some = beyond_one n power c.if-n-eq1.false in
     let twice = twice_half power.0 n power.1 (omega (arith, some)) in (
-      λ h. let l = less_of (n / 2 - 1) count h in
-          (power, omega (arith, some), omega (arith, l, twice, half)),
-      λ given. let most = given.2 in test_of (n / 2 - 1) count (omega (arith, most, twice, half, some)),
+      λ h. (power, omega (arith, some), omega (arith, less_of _ _ h, twice, half)),
+      λ given. test_of _ _ (omega (arith, given.2, twice, half, some)),
     )

@@ -5,8 +5,6 @@ use Rattle.modular_plan_transforms.proofs.plan.Plan.join.Goals as goal
 
 pub returns-clause-joined : goal.returns-clause-joined
 returns-clause-joined g c x are i below =
-    let n = g.T.RingWord.number in
     let plan = c.args.self.now in
-    c.join_scaled.ensures.joined (n plan.root) plan.bits x (twiddles_of plan.half plan.half_turn plan.powers) are i below
-    ∙ inverse_unscales (n plan.modulus.modulus) (length c.args.xs.now / c.args.last) (n c.part-part.result.value) (x i)
-    c.part-part.ensures.inverse
+    c.join_scaled.ensures.joined _ plan.bits x (twiddles_of plan.half plan.half_turn plan.powers) are i below
+    ∙ inverse_unscales _ (length c.args.xs.now / c.args.last) _ (x i) c.part-part.ensures.inverse

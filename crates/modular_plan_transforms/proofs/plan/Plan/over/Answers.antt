@@ -13,7 +13,7 @@ pub invariant_of-result : goal.invariant_of-result
 invariant_of-result g c =
     let n = length c.args.table.now in
     let all = whole n (omega arith) c.requires.suits.power_of_two in
-    let made = c.requires.holds.twiddles (trailing_zeros w64 n + 1) (sym all) in
+    let made = c.requires.holds.twiddles _ (sym all) in
     record {
       odd = c.requires.odd;
       root_below = c.requires.below;

@@ -1,4 +1,4 @@
-use Rattle.std.proofs.Common.{◌≡◌, ◌+◌, ◌-◌, ◌*◌, ◌/◌, ◌%◌, ◌^◌, ◌<◌, length, take, arith, sym, ap, ◌∙◌, subst}
+use Rattle.std.proofs.Common.{◌≡◌, ◌-◌, ◌*◌, ◌/◌, ◌^◌, ◌<◌, length, take, arith, sym, ap, ◌∙◌}
 use Rattle.std.proofs.lemmas.List.{length-take-le}
 use Rattle.std.specs.Int.{trailing_zeros, w64}
 use Rattle.modular_plan_passes.specs.Factors.{IsFactor}
@@ -9,47 +9,38 @@ use Rattle.modular_plan_transforms.proofs.plan.Plan.shorter.Goals as goal
 
 pub power-requires-clause-power_of_two : goal.power-requires-clause-power_of_two
 power-requires-clause-power_of_two g c =
-    let plan = c.args.self.now in
-    let y = trailing_zeros w64 c.args.n in
     let is = power_by_zeros c.args.n c.requires.power (omega arith) in
-    let are = is_shorter plan.bits c.args.n (length plan.table.now) y is c.requires.some c.requires.within plan.half in
-    (plan.bits - y, are.quotient)
+    (_, (is_shorter _ _ _ _ is c.requires.some c.requires.within c.args.self.now.half).quotient)
 
 pub invariant_of-result : goal.invariant_of-result
 invariant_of-result g c =
     let n = g.T.RingWord.number in
     let plan = c.args.self.now in
     let m = n plan.modulus.modulus in
-    let s = plan.modulus.some in
     let y = trailing_zeros w64 c.args.n in
-    let count = length plan.table.now in
     let is = power_by_zeros c.args.n c.requires.power (omega arith) in
-    let are = is_shorter plan.bits c.args.n count y is c.requires.some c.requires.within plan.half in
-    let root = c.power.ensures ∙ ap (λ k. n plan.root ^ k % m) are.quotient in
-    let made = shorter_twiddles plan.bits (n c.power.result) y (plan.bits - y) are.bits_is root
-    (twiddles_of plan.half plan.half_turn plan.powers) in
+    let are = is_shorter _ _ _ y is c.requires.some c.requires.within plan.half in
+    let made = shorter_twiddles plan.bits (n c.power.result) y (plan.bits - y) are.bits_is
+    (rw are.quotient at c.power.ensures) (twiddles_of plan.half plan.half_turn plan.powers) in
     let half = c.args.n / 2 in
     let size = length-take-le half plan.table.now are.within in
     let whole : 2 * (2 ^ y / 2) ≡ 2 ^ y = ap (λ k. 2 * k) are.first ∙ are.half ∙ is in
     let same : 2 ^ y / 2 ≡ length (take half plan.table.now) = are.first ∙ sym size in
     record {
       odd = plan.odd;
-      root_below = below_modulus m (n c.power.result) _ (omega (arith, s)) c.power.ensures;
+      root_below = below_modulus m (n c.power.result) _ (omega (arith, plan.modulus.some)) c.power.ensures;
       half = ap (λ k. 2 * k) (sym same) ∙ whole;
-      half_turn = subst (λ k. (n c.power.result ^ k + 1) % m ≡ 0) same (turn_of whole made);
+      half_turn = rw (sym same) (turn_of whole made);
       factors = all_taken (λ f. IsFactor g.T.PathWord.base m (g.F.PlanEntry.value f) (g.F.PlanEntry.quotient f))
           half plan.table.now are.within plan.factors;
       powers = λ k l.
           let below : k < half = omega (arith, l, size) in
           number_taken g.F.PlanEntry.value half k plan.table.now below
-          ∙ made.entry k (subst (λ v. k < v) (sym are.first) below);
+          ∙ made.entry k (omega (arith, are.first, below));
     }
 
 pub returns-clause-root : goal.returns-clause-root
 returns-clause-root g c =
-    let n = g.T.RingWord.number in
-    let plan = c.args.self.now in
-    let y = trailing_zeros w64 c.args.n in
     let is = power_by_zeros c.args.n c.requires.power (omega arith) in
-    let are = is_shorter plan.bits c.args.n (length plan.table.now) y is c.requires.some c.requires.within plan.half in
-    c.power.ensures ∙ ap (λ k. n plan.root ^ k % n plan.modulus.modulus) (are.quotient ∙ sym are.root)
+    let are = is_shorter _ _ _ _ is c.requires.some c.requires.within c.args.self.now.half in
+    rw (are.quotient ∙ sym are.root) at c.power.ensures
