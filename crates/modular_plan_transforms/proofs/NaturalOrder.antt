@@ -55,7 +55,8 @@ constant_power g d z n bits j k is_more below =
     let first : 0 * n + p ≡ p = omega arith in
     let turn : bits_reversed z (0 * n + p) ≡ j * 2 ^ d = ap (λ v. bits_reversed z v) first
     ∙ rw (bits_reversed_twice bits j below) at (reversed_among_more d bits z p is_more (bits_reversed_below bits j)) in
-    ap (λ v. (g ^ v) ^ k) turn ∙ sym (pow-mul g (j * 2 ^ d) k) ∙ ap (λ v. g ^ v) (omega arith) ∙ pow-mul g (2 ^ d) (k * j)
+    ap (λ v. (g ^ v) ^ k) turn ∙ sym (pow-mul g (j * 2 ^ d) k) ∙ ap (λ v. g ^ v) (omega arith)
+    ∙ pow-mul g (2 ^ d) (k * j)
 
 -- remainders modulo X - c by a table for 2^d times as many entries are the transform, at the index with reversed bits
 pub transform_at_reversed : (m g d z n bits : ℕ) (x y : ℕ → ℕ) → z ≡ bits + d → n ≡ 2 ^ bits
@@ -67,7 +68,8 @@ transform_at_reversed m g d z n bits x y is_more whole remainders j below =
     let place : p ≡ p * 1 + 0 = omega arith in
     let terms = sum_below-same n (λ k. x (k * 1 + 0) * constant g z (0 * n + p) ^ k)
     (λ k. x k * (g ^ (2 ^ d)) ^ (k * j)) (λ k l. grind (arith, constant_power g d z n bits j k is_more inside)) in
-    ap y place ∙ remainders.each p 0 (omega (arith, whole, bits_reversed_below bits j)) (omega arith) ∙ ap (λ v. v % m) terms
+    ap y place ∙ remainders.each p 0 (omega (arith, whole, bits_reversed_below bits j)) (omega arith)
+    ∙ ap (λ v. v % m) terms
 
 -- the list of remainders modulo X - c, with its places' bits reversed, is the transform
 pub in_natural_order : {T : Type 0} (number : T → ℕ) (m g z n count bits : ℕ) (x : ℕ → ℕ) (split new : List T)

@@ -1,7 +1,8 @@
 -- A plan as one value: what its fields say of its table, a root that is tested by its half turn, and shorter plans.
 use Rattle.std.proofs.Common.{◌≡◌, ℕ, suc, zero, ◌+◌, ◌-◌, ◌*◌, ◌/◌, ◌%◌, ◌^◌, ◌<◌, ◌≤◌, ◌↔◌, List, All, length, get_or, map, take}
 use Rattle.std.proofs.Common.{refl, sym, ap, ◌∙◌, arith, subst}
-use Rattle.std.proofs.Math.Nat.{two-pow-succ, div_self, mod-lt, mod-eq_of_lt, mod-mod, mod_self, mul_assoc, mul-div_cancel_left}
+use Rattle.std.proofs.Math.Nat.{two-pow-succ, div_self, mod-lt, mod-eq_of_lt, mod-mod, mod_self}
+use Rattle.std.proofs.Math.Nat.{mul_assoc, mul-div_cancel_left}
 use Rattle.std.proofs.Math.Numerals.{add-one}
 use Rattle.std.proofs.lemmas.List.{take-map, get_or-take, length-take-le}
 use Rattle.std.proofs.lemmas.Nat.{pow-add, pow_pos, mul-mod_first, mul-mod_second}
@@ -47,7 +48,8 @@ below_modulus m p v some e = subst (λ n. n < m) (sym e) (mod-lt v some)
 pub suits_by_turn : (m g n p : ℕ) → 0 < m → IsPowerOfTwo n → p ≡ g ^ n % m → (p + 1 ≡ m) ↔ Suits m g (2 * n)
 suits_by_turn m g n p some power is =
     let halved : 2 * n / 2 ≡ n = omega arith in
-    let same : (p + 1) % m ≡ (g ^ n + 1) % m = (mod_add (record { same = ap (λ v. v % m) is ∙ mod-mod (g ^ n) m }) (mod_refl 1)).same in
+    let same : (p + 1) % m ≡ (g ^ n + 1) % m =
+    (mod_add (record { same = ap (λ v. v % m) is ∙ mod-mod (g ^ n) m }) (mod_refl 1)).same in
     let least = pow_pos power.0 in (
       λ (e : p + 1 ≡ m). record {
         power_of_two = (power.0 + 1, twice_power_of_two power.0 n power.1);
@@ -87,7 +89,8 @@ twice_half (suc y) n is some = let two = two-pow-succ y in omega (arith, is, two
 -- modulo an twice_half number, a power of two above 1 has no inverse
 pub no_inverse_modulo_even : (m n k : ℕ) → 0 < m → m % 2 ≡ 0 → n ≡ 2 ^ k → 2 ≤ n → HasInverse m n → ⊥
 no_inverse_modulo_even m n k some halves is more h =
-    let twice : n * h.0 ≡ 2 * (n / 2 * h.0) = ap (λ v. v * h.0) (sym (twice_half k n is more)) ∙ mul_assoc 2 (n / 2) h.0 in
+    let twice : n * h.0 ≡ 2 * (n / 2 * h.0) =
+    ap (λ v. v * h.0) (sym (twice_half k n is more)) ∙ mul_assoc 2 (n / 2) h.0 in
     let product = mod_divides 2 (n * h.0) m halves (divides 2 (n * h.0) (n / 2 * h.0) twice) in
     let one : 1 % m ≡ 1 = mod-eq_of_lt (omega (arith, some, halves)) in
     omega (arith, product, h.1.one, one)

@@ -1,5 +1,6 @@
 -- A table is that of g where its entries are factors and the powers of g in bit-reversed order.
-use Rattle.std.proofs.Common.{◌≡◌, ℕ, suc, ◌+◌, ◌-◌, ◌*◌, ◌/◌, ◌%◌, ◌^◌, ◌<◌, ◌↔◌, List, length, ap, subst, sym, ◌∙◌, arith}
+use Rattle.std.proofs.Common.{◌≡◌, ℕ, suc, ◌+◌, ◌-◌, ◌*◌, ◌/◌, ◌%◌, ◌^◌, ◌<◌, ◌↔◌}
+use Rattle.std.proofs.Common.{List, length, ap, subst, sym, ◌∙◌, arith}
 use Rattle.std.proofs.Math.Nat.{two-pow-succ, pow-zero, lt-div-mul-add, div-mul-le_self}
 use Rattle.std.proofs.lemmas.Nat.{mul-mod_first, pow-add, div-mul-add}
 use Rattle.modular_word.proofs.Congruence.{same_rest, factor_cancel}
@@ -29,7 +30,8 @@ factor_by_sum b m w q low top rest low_sum high small product wrapped rest_fits 
       λ are.
           record {
             below = are.0;
-            quotient = sym (div-mul-add q m rest are.1) ∙ ap (λ v. v / m) (omega (arith, sum, none, ap (λ v. b * v) are.2));
+            quotient = sym (div-mul-add q m rest are.1)
+                ∙ ap (λ v. v / m) (omega (arith, sum, none, ap (λ v. b * v) are.2));
           },
       λ is.
           let most : w * b < w * b / m * m + m = lt-div-mul-add (omega (arith, is.below)) in

@@ -164,7 +164,8 @@ product_in_column count last c i x y li =
     sum_below last (λ a. sum_below last (λ d. sum_below count (λ k. sum_below count (λ l. t a d k l)))) in
     let left : sum_below (count + count) (λ k. coefficient n x y (k * last + i) * c ^ k)
     ≡ four (λ a d k l. inner (k * last + a) (l * last + d)) =
-    sum_below-same _ _ _ (λ k l. scaled_coefficient n (k * last + i) (c ^ k) x y) ∙ moved (count + count) n f ∙ two_by_blocks count last inner in
+    sum_below-same _ _ _ (λ k l. scaled_coefficient n (k * last + i) (c ^ k) x y)
+    ∙ moved (count + count) n f ∙ two_by_blocks count last inner in
     let middle : four (λ a d k l. inner (k * last + a) (l * last + d)) ≡ four (λ a d k l. low a d k l + high a d k l) =
     same_four count last (λ a d k l. inner (k * last + a) (l * last + d)) (λ a d k l. low a d k l + high a d k l)
     (λ a d k l la ld lk ll.

@@ -38,7 +38,8 @@ is_reducing {b} {m} {i} t q low high p0 multiple inverse parts below low_fits is
     let same : Congruent b p0 low =
     mod_trans (mod_sym (record { same = add-mul-mod_self_left p0 b multiple }))
     (mod_trans (mod_of_eq (sym multiple_parts))
-    (mod_trans (mod_mul (mod_trans (mod_of_eq is) (residue_of (low * i))) (mod_refl m)) (mod_trans (mod_of_eq (omega arith))
+    (mod_trans (mod_mul (mod_trans (mod_of_eq is) (residue_of (low * i))) (mod_refl m))
+    (mod_trans (mod_of_eq (omega arith))
     (mod_trans (mod_mul (mod_refl low) (record { same = inverse.one })) (mod_of_eq (omega arith)))))) in
     let e = equal_below p0_fits low_fits same in
     record { parts = parts; multiple_parts = omega (arith, multiple_parts, e); below = below; fits = fits }

@@ -42,7 +42,8 @@ product_by_odd {m} x w c product rest below odd is whole =
     let none : Congruent m (x * v + product) 0 =
     mod_trans (mod_add (mod_refl (x * v)) (mod_trans (mod_of_eq is) (residue_of (x * w))))
     (multiple_is_none x (x * v + x * w) (omega (arith, ap (λ k. x * k) e))) in
-    mod_trans (mod_add_cancel product (mod_trans (multiple_is_none 1 (rest + product) (omega (arith, whole))) (mod_sym none)))
+    mod_trans (mod_add_cancel product (mod_trans (multiple_is_none 1 (rest + product) (omega (arith, whole)))
+    (mod_sym none)))
     (mod_mul (mod_refl x) (odd v e))
 
 -- the block that was multiplied
@@ -64,7 +65,8 @@ block_multiplied {m} j turned c x y before after is kept step i below =
       | inl e ↦ grind (arith, product_of_two_low m c (λ k. x (j * 2 + k)) (λ k. y (j * 2 + k)), w.same, step.pair.0)
       | inr ne ↦
           rw (let e : i ≡ 1 = omega arith in e) (ap after (sym second) ∙ step.pair.1
-          ∙ (mod_add (mod_mul (mod_of_eq u) (mod_of_eq (ap y second))) (mod_mul (mod_of_eq v) (mod_of_eq (ap y first)))).same
+          ∙ (mod_add (mod_mul (mod_of_eq u) (mod_of_eq (ap y second)))
+          (mod_mul (mod_of_eq v) (mod_of_eq (ap y first)))).same
           ∙ sym (product_of_two_high m c (λ k. x (j * 2 + k)) (λ k. y (j * 2 + k))))
     ]
 

@@ -93,7 +93,8 @@ pub returns : goal.returns
 returns g c =
     let before = c.stages.invariant in
     record {
-      joined = λ r z x twiddles are i l. level_top r z x before.tree (omega (arith, c.stages-test.false)) (omega (arith, l))
+      joined = λ r z x twiddles are i l. level_top r z x before.tree (omega (arith, c.stages-test.false))
+          (omega (arith, l))
           (before.level r z x twiddles are) i l;
       entries = before.entries;
     }

@@ -8,7 +8,8 @@ use Rattle.modular_plan_transforms.proofs.join.lower_each.Goals as goal
 pub lowered-requires : goal.lowered-requires
 lowered-requires g c =
     let n = g.T.RingWord.number in
-    let same = number_read n c.entries.xs _ _ (omega arith) c.index-xs-i.is ∙ c.entries.invariant.kept c.entries.i (omega arith) in
+    let same = number_read n c.entries.xs _ _ (omega arith) c.index-xs-i.is
+    ∙ c.entries.invariant.kept c.entries.i (omega arith) in
     rw same (bounded n _ c.args.xs.now c.entries.i c.index-xs-i.result c.requires (omega arith))
 
 pub entries-preserved : goal.entries-preserved
@@ -17,7 +18,8 @@ entries-preserved g c =
     let i = c.entries.i in
     let same = number_read n _ i _ (omega arith) c.index-xs-i.is ∙ c.entries.invariant.kept i (omega arith) in
     record {
-      below = entry_written n _ i _ (λ k v. v < g.M.JoinSteps.bound c.args.m.now) (omega arith) c.entries.invariant.below
+      below = entry_written n _ i _ (λ k v. v < g.M.JoinSteps.bound c.args.m.now) (omega arith)
+          c.entries.invariant.below
           c.lowered.ensures.below;
       done = entry_written n _ i _ (λ k v. Congruent (g.M.JoinSteps.modulus c.args.m.now) v (numbers n c.args.xs.now k))
           (omega arith) c.entries.invariant.done (mod_trans c.lowered.ensures.congruent (mod_of_eq same));

@@ -19,5 +19,6 @@ pub returns-then-is_beyond : goal.returns-then-is_beyond
 returns-then-is_beyond g c =
     let room = g.met.M.JoinSteps.room c.args.m.now in
     let far = c.if-is_beyond.ensures refl in
-    never_beyond _ (4 * g.M.JoinSteps.modulus c.args.m.now) _ _ c.entries.i _ c.requires.entries (omega arith) (omega arith)
+    never_beyond _ (4 * g.M.JoinSteps.modulus c.args.m.now) _ _ c.entries.i _ c.requires.entries (omega arith)
+    (omega arith)
     c.index-xs-i.is (c.entries.invariant.kept c.entries.i (omega arith)) (omega (arith, far, room))

@@ -5,7 +5,8 @@ use Rattle.modular_plan_transforms.proofs.products.multiply_each.Goals as goal
 pub multiply-requires : goal.multiply-requires
 multiply-requires g c =
     let n = g.T.RingWord.number in
-    let same = number_read n c.entries.xs _ _ (omega arith) c.index-xs-i.is ∙ c.entries.invariant.kept c.entries.i (omega arith) in
+    let same = number_read n c.entries.xs _ _ (omega arith) c.index-xs-i.is
+    ∙ c.entries.invariant.kept c.entries.i (omega arith) in
     rw same (bounded n _ c.args.xs.now c.entries.i c.index-xs-i.result c.requires.below (omega arith))
 
 pub entries-preserved : goal.entries-preserved

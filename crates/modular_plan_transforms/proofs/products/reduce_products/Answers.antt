@@ -15,7 +15,8 @@ entries-preserved g c =
       below = entry_written n _ i _ (λ k v. v < 2 * m) (omega arith) c.entries.invariant.below
           c.reduced_product.ensures.below;
       done = entry_written n _ i _
-          (λ k v. Congruent m (v * g.T.PathWord.base) (numbers n c.args.xs.now k * numbers n c.args.ys.now k)) (omega arith)
+          (λ k v. Congruent m (v * g.T.PathWord.base) (numbers n c.args.xs.now k * numbers n c.args.ys.now k))
+          (omega arith)
           c.entries.invariant.done (rw second at (rw first at c.reduced_product.ensures.congruent));
       kept = entry_kept _ _ _ _ _ c.entries.invariant.kept;
     }

@@ -29,7 +29,8 @@ product-turned-requires g c =
 pub returns-then-rest-eq0 : goal.returns-then-rest-eq0
 returns-then-rest-eq0 g c = record {
   most = (let n = g.T.RingWord.number in
-      omega (arith, mod-lt (n c.args.x * n c.factor-w.result.value) (let k : 0 < n c.args.m.now.modulus = omega (arith, c.args.m.now.some) in k), c.product-turned.ensures));
+      let some : 0 < n c.args.m.now.modulus = omega (arith, c.args.m.now.some) in
+      omega (arith, mod-lt (n c.args.x * n c.factor-w.result.value) some, c.product-turned.ensures));
   product = (let n = g.T.RingWord.number in
       let block = block_of _ _ _ _ c.requires.block c.requires.within in
       let p : ℕ = c.args.b / 2 * c.args.count + (c.args.b % 2 * c.args.count + c.args.j) / 2 in
@@ -48,7 +49,8 @@ returns-else-rest-eq0 g c = record {
       let is = c.factor-w.ensures.value ∙ number_read g.F.PlanEntry.value _ p _ block.within c.index-table-b.is in
       let below = rw (sym c.index-table-b.is) at (c.requires.factors _ c.index-table-b.result block.within).below in
       let at : c.args.b * c.args.count + c.args.j ≡ 2 * p + 1 = omega (arith, block.is, c.if-rest-eq0.false) in
-      λ root z twiddles. rw at (product_by_odd (n c.args.x) (n c.factor-w.result.value) (constant root z (2 * p + 1)) _ _
+      λ root z twiddles. rw at (product_by_odd (n c.args.x) (n c.factor-w.result.value)
+      (constant root z (2 * p + 1)) _ _
       (rw c.factor-w.ensures.value below) (λ v h. odd_constant p v twiddles block.within (ap (λ k. v + k) (sym is) ∙ h))
       c.product-turned.ensures c.minus.ensures.value));
   most = omega (arith, c.minus.ensures.value);

@@ -5,7 +5,8 @@ use Rattle.modular_plan_transforms.proofs.split.reduce_each.Goals as goal
 pub residue-requires : goal.residue-requires
 residue-requires g c =
     let n = g.T.RingWord.number in
-    let same = number_read n c.entries.xs _ _ (omega arith) c.index-xs-i.is ∙ c.entries.invariant.kept c.entries.i (omega arith) in
+    let same = number_read n c.entries.xs _ _ (omega arith) c.index-xs-i.is
+    ∙ c.entries.invariant.kept c.entries.i (omega arith) in
     rw same (bounded n _ c.args.xs.now c.entries.i c.index-xs-i.result c.requires (omega arith))
 
 pub entries-preserved : goal.entries-preserved
@@ -17,6 +18,7 @@ entries-preserved g c = record {
 pub returns : goal.returns
 returns g c = record {
   residues = λ k l. c.entries.invariant.done k (omega arith);
-  below = all_residues _ _ (length c.args.xs.now) _ _ (let s = g.met.M.SplitSteps.some c.args.m.now in omega (arith, s)) (omega arith)
+  below = all_residues _ _ (length c.args.xs.now) _ _
+      (let s = g.met.M.SplitSteps.some c.args.m.now in omega (arith, s)) (omega arith)
       (λ k l. c.entries.invariant.done k (omega arith));
 }

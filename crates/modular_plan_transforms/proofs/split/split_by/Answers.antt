@@ -6,7 +6,8 @@ use Rattle.modular_plan_transforms.proofs.split.split_by.Goals as goal
 
 pub split_blocks-requires : goal.split_blocks-requires
 split_blocks-requires g c =
-    let fours = whole_fours _ _ _ _ c.if-last-eq1.true c.if-xs-ge4.true c.requires.blocks.count c.requires.blocks.within in
+    let fours = whole_fours _ _ _ _ c.if-last-eq1.true c.if-xs-ge4.true c.requires.blocks.count
+    c.requires.blocks.within in
     record {
       entries = c.requires.entries;
       factors = c.requires.factors;
@@ -15,7 +16,8 @@ split_blocks-requires g c =
 
 pub split_fours-requires : goal.split_fours-requires
 split_fours-requires g c =
-    let fours = whole_fours _ _ _ _ c.if-last-eq1.true c.if-xs-ge4.true c.requires.blocks.count c.requires.blocks.within in
+    let fours = whole_fours _ _ _ _ c.if-last-eq1.true c.if-xs-ge4.true c.requires.blocks.count
+    c.requires.blocks.within in
     record {
       entries = c.split_blocks.ensures.entries;
       factors = c.requires.factors;
@@ -27,11 +29,13 @@ split_fours-requires g c =
 pub returns-then-xs-ge4 : goal.returns-then-xs-ge4
 returns-then-xs-ge4 g c =
     let length_is : length c.split_fours.new.xs ≡ length c.args.xs.now = omega arith in
-    let fours = whole_fours _ _ _ _ c.if-last-eq1.true c.if-xs-ge4.true c.requires.blocks.count c.requires.blocks.within in
+    let fours = whole_fours _ _ _ _ c.if-last-eq1.true c.if-xs-ge4.true c.requires.blocks.count
+    c.requires.blocks.within in
     record {
       below = c.split_fours.ensures.entries;
       remainders = λ r z twiddles.
-          remainders_of_split_fours r z _ _ _ _ _ _ _ _ c.if-last-eq1.true fours twiddles (c.split_blocks.ensures.level r z twiddles) c.split_fours.ensures.done
+          remainders_of_split_fours r z _ _ _ _ _ _ _ _ c.if-last-eq1.true fours twiddles
+          (c.split_blocks.ensures.level r z twiddles) c.split_fours.ensures.done
           (λ i l. bounded_at _ _ _ i c.split_fours.ensures.entries (omega arith));
     }
 

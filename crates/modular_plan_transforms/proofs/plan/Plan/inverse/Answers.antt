@@ -38,7 +38,8 @@ returns-clause-undone g c x are i below =
     let m = n plan.modulus.modulus in
     let mid = c.reverse_places.new.entries in
     let same : length mid ≡ length c.args.xs.now = omega arith in
-    let remainders = remainders_of_transform n m (n plan.root) _ plan.bits x c.args.xs.now mid c.requires.whole refl same
+    let remainders = remainders_of_transform n m (n plan.root) _ plan.bits x c.args.xs.now mid c.requires.whole
+    refl same
     c.reverse_places.ensures are in
     let all : length mid / 1 ≡ length c.args.xs.now = div-one (length mid) ∙ same in
     c.join_scaled.ensures.joined (n plan.root) plan.bits x (twiddles_of plan.half plan.half_turn plan.powers)
@@ -53,7 +54,8 @@ returns-clause-values g c j below =
     let size = length c.args.xs.now in
     let part = n c.part-part.result.value in
     let y = numbers n c.args.xs.now in
-    let suits : Suits m (n plan.root) size = rw c.requires.whole (twiddles_of plan.half plan.half_turn plan.powers).suits in
+    let suits : Suits m (n plan.root) size = rw c.requires.whole
+    (twiddles_of plan.half plan.half_turn plan.powers).suits in
     let more : 1 < size = omega (arith, plan.half, c.requires.whole, below) in
     let x = preimage m (n plan.root) size part y in
     let back = λ (j : ℕ) (l : j < size).
