@@ -68,18 +68,13 @@ returns-then-is_odd g c =
       );
     }
 
-pub returns-else-last-eq1 : goal.returns-else-last-eq1
-returns-else-last-eq1 g c =
+pub returns-else-last-eq1-clause-joined : goal.returns-else-last-eq1-clause-joined
+returns-else-last-eq1-clause-joined g c root z twiddles =
     let n = g.T.RingWord.number in
-    let m = n c.args.m.now.modulus in
-    let same : length c.multiply.new.xs ≡ length c.args.xs.now = omega arith in
-    record {
-      below = c.join_scaled-else-last-eq1.ensures.below;
-      joined = λ root z twiddles. (
-        numbers n c.multiply.new.xs,
-        c.multiply.ensures.products root z twiddles,
-        λ x are e below.
-            c.join_scaled-else-last-eq1.ensures.joined root z x twiddles (rw same are) e (omega arith)
-            ∙ ap (λ k. (k / c.args.last * x e * n c.args.w.now.value) % m) same,
-      );
-    }
+    let same : length c.multiply.new.xs ≡ length c.args.xs.now = omega arith in (
+      numbers n c.multiply.new.xs,
+      c.multiply.ensures.products root z twiddles,
+      λ x are e below.
+          c.join_scaled-else-last-eq1.ensures.joined root z x twiddles (rw same are) e (omega arith)
+          ∙ ap (λ k. (k / c.args.last * x e * n c.args.w.now.value) % n c.args.m.now.modulus) same,
+    )

@@ -89,12 +89,7 @@ stages-preserved g c =
           (before.level r z x twiddles are) (c.join_stage.ensures.done r z twiddles);
     }
 
-pub returns : goal.returns
-returns g c =
+pub returns-clause-joined : goal.returns-clause-joined
+returns-clause-joined g c r z x twiddles are i l =
     let before = c.stages.invariant in
-    record {
-      joined = λ r z x twiddles are i l. level_top r z x before.tree (omega (arith, c.stages-test.false))
-          (omega (arith, l))
-          (before.level r z x twiddles are) i l;
-      entries = before.entries;
-    }
+    level_top r z x before.tree (omega (arith, c.stages-test.false)) (omega (arith, l)) (before.level r z x twiddles are) i l

@@ -15,10 +15,7 @@ entries-preserved g c = record {
   kept = entry_kept _ _ _ _ _ c.entries.invariant.kept;
 }
 
-pub returns : goal.returns
-returns g c = record {
-  residues = λ k l. c.entries.invariant.done k (omega arith);
-  below = all_residues _ _ (length c.args.xs.now) _ _
-      (let s = g.met.M.JoinSteps.some c.args.m.now in omega (arith, s)) (omega arith)
-      (λ k l. c.entries.invariant.done k (omega arith));
-}
+pub returns-clause-below : goal.returns-clause-below
+returns-clause-below g c =
+    let s = g.met.M.JoinSteps.some c.args.m.now in
+    all_residues _ _ (length c.args.xs.now) _ _ (omega (arith, s)) (omega arith) (λ k l. c.entries.invariant.done k (omega arith))

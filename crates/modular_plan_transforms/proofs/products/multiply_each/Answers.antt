@@ -15,12 +15,9 @@ entries-preserved g c = record {
   kept = entry_kept _ _ _ _ _ c.entries.invariant.kept;
 }
 
-pub returns : goal.returns
-returns g c = record {
-  products = λ k l. c.entries.invariant.done k (omega arith);
-  below = all_residues _ _ (length c.args.xs.now) _ _ (let s = c.args.m.now.some in omega arith) (omega arith)
-      (λ k l. c.entries.invariant.done k (omega arith));
-}
+pub returns-clause-below : goal.returns-clause-below
+returns-clause-below g c =
+    all_residues _ _ (length c.args.xs.now) _ _ (omega (arith, c.args.m.now.some)) (omega arith) (λ k l. c.entries.invariant.done k (omega arith))
 
 pub returns-then-is_beyond : goal.returns-then-is_beyond
 returns-then-is_beyond g c =

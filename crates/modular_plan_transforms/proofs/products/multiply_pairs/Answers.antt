@@ -21,9 +21,6 @@ each_block-preserved g c =
       kept = λ k l. step.kept k (omega arith) (omega arith) ∙ before.kept k (omega arith);
     }
 
-pub returns : goal.returns
-returns g c = record {
-  products = (λ root z twiddles.
-      record { each = λ j i lj li. c.each_block.invariant.done root z twiddles j i (omega arith) li });
-  below = c.each_block.invariant.below;
-}
+pub returns-clause-products : goal.returns-clause-products
+returns-clause-products g c root z twiddles =
+    record { each = λ j i lj li. c.each_block.invariant.done root z twiddles j i (omega arith) li }

@@ -21,8 +21,6 @@ entries-preserved g c =
       kept = entry_kept _ _ _ _ _ c.entries.invariant.kept;
     }
 
-pub returns : goal.returns
-returns g c = record {
-  products = (λ k l. c.entries.invariant.done k (omega arith));
-  below = all_below _ _ (length c.args.xs.now) _ (omega arith) (λ k l. c.entries.invariant.below k (omega arith));
-}
+pub returns-clause-below : goal.returns-clause-below
+returns-clause-below g c =
+    all_below _ _ (length c.args.xs.now) _ (omega arith) (λ k l. c.entries.invariant.below k (omega arith))

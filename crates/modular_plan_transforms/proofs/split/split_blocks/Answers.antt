@@ -92,10 +92,6 @@ stages-preserved g c =
           c.split_stage.ensures.done;
     }
 
-pub returns : goal.returns
-returns g c =
-    let before = c.stages.invariant in
-    record {
-      entries = before.entries;
-      level = λ r z twiddles. level_end r z before.tree (omega arith) (before.level r z twiddles);
-    }
+pub returns-clause-level : goal.returns-clause-level
+returns-clause-level g c r z twiddles =
+    let before = c.stages.invariant in level_end r z before.tree (omega arith) (before.level r z twiddles)

@@ -26,23 +26,16 @@ split_fours-requires g c =
       some = omega arith;
     }
 
-pub returns-then-xs-ge4 : goal.returns-then-xs-ge4
-returns-then-xs-ge4 g c =
+pub returns-then-xs-ge4-clause-remainders : goal.returns-then-xs-ge4-clause-remainders
+returns-then-xs-ge4-clause-remainders g c r z twiddles =
     let length_is : length c.split_fours.new.xs ≡ length c.args.xs.now = omega arith in
     let fours = whole_fours _ _ _ _ c.if-last-eq1.true c.if-xs-ge4.true c.requires.blocks.count
     c.requires.blocks.within in
-    record {
-      below = c.split_fours.ensures.entries;
-      remainders = λ r z twiddles.
-          remainders_of_split_fours r z _ _ _ _ _ _ _ _ c.if-last-eq1.true fours twiddles
-          (c.split_blocks.ensures.level r z twiddles) c.split_fours.ensures.done
-          (λ i l. bounded_at _ _ _ i c.split_fours.ensures.entries (omega arith));
-    }
+    remainders_of_split_fours r z _ _ _ _ _ _ _ _ c.if-last-eq1.true fours twiddles
+    (c.split_blocks.ensures.level r z twiddles) c.split_fours.ensures.done
+    (λ i l. bounded_at _ _ _ i c.split_fours.ensures.entries (omega arith))
 
-pub returns-else-last-eq1 : goal.returns-else-last-eq1
-returns-else-last-eq1 g c = record {
-  below = c.reduce_each.ensures.below;
-  remainders = λ r z twiddles.
-      remainders_of r z _ _ _ _ _ _ _ c.requires.blocks.whole (c.split_blocks-else-last-eq1.ensures.level r z twiddles)
-      (λ i l. c.reduce_each.ensures.residues i (omega arith));
-}
+pub returns-else-last-eq1-clause-remainders : goal.returns-else-last-eq1-clause-remainders
+returns-else-last-eq1-clause-remainders g c r z twiddles =
+    remainders_of r z _ _ _ _ _ _ _ c.requires.blocks.whole (c.split_blocks-else-last-eq1.ensures.level r z twiddles)
+    (λ i l. c.reduce_each.ensures.residues i (omega arith))

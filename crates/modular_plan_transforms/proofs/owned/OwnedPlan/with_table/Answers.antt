@@ -19,11 +19,4 @@ invariant_of-result g c =
     let lent = rw (c.in_ok-plan.ensures.3 ∙ c.as_slice.ensures) at here in
     let is : IsKept base (n c.modulus-modulus.result.modulus) (n c.root-root.result) value quotient entries =
     rw c.modulus-modulus.ensures (rw c.root-root.ensures lent) in
-    record {
-      odd = is.odd;
-      root_below = is.below;
-      power_of_two = is.power_of_two;
-      half_turn = is.half_turn;
-      factors = is.factors;
-      powers = is.powers;
-    }
+    search arith
