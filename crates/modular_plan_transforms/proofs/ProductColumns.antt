@@ -125,8 +125,8 @@ tested_sums true count c f h =
 tested_sums false count c f h = grind (arith, sum_below-of_zeros)
 
 -- three powers of c in one
-two_powers : (c k l e v w : ℕ) → v * c ^ k * (w * c ^ l) * c ^ e ≡ v * w * c ^ (k + l + e)
-two_powers c k l e v w =
+one_power : (c k l e v w : ℕ) → v * c ^ k * (w * c ^ l) * c ^ e ≡ v * w * c ^ (k + l + e)
+one_power c k l e v w =
     rw (pow-add c (k + l) e) (rw (pow-add c k l) (omega arith))
 
 -- a coefficient of the product of two remainders
@@ -142,7 +142,7 @@ coefficient_of_remainders count last c s e x y =
     ∙ sum_below-same _ _ _ (λ a la. sum_below-same _ _ _
     (λ d ld. tested_sums (eqb (a + d) s) count (c ^ e) (λ k. x (k * last + a) * c ^ k) (λ l. y (l * last + d) * c ^ l)
     ∙ sum_below-same _ _ _ (λ k lk. sum_below-same _ _ _ (λ l ll. ap (λ n. cond (eqb (a + d) s) n 0)
-    (two_powers c k l e (x (k * last + a)) (y (l * last + d)))))))
+    (one_power c k l e (x (k * last + a)) (y (l * last + d)))))))
 
 -- the coefficients of a product in the product_in_column i, by the powers of c
 product_in_column : (count last c i : ℕ) (x y : ℕ → ℕ) → i < last

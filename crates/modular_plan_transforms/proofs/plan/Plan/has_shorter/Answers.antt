@@ -1,4 +1,4 @@
-use Rattle.std.proofs.Common.{ℕ, ◌-◌, ◌<◌, ◌∙◌, IsTrue, nat_lt, arith, sym}
+use Rattle.std.proofs.Common.{ℕ, ◌<◌, ◌∙◌, IsTrue, nat_lt, arith, sym}
 use Rattle.std.proofs.lemmas.Bool.Decides.{nat_tests}
 use Rattle.modular_transform.proofs.PowersOfTwo.{power_of_two_tested, beyond_one}
 use Rattle.modular_plan_transforms.proofs.PlanFields.{twice_half}
