@@ -1,7 +1,7 @@
 -- The count of the half system, one number after the other.
 use Rattle.std.proofs.Common.{◌≡◌, ℕ, suc, ◌+◌, ◌-◌, ◌*◌, ◌/◌, ◌%◌, ◌<◌, ◌≤◌, ◌≢◌, Bool, true}
 use Rattle.std.proofs.Common.{false, not, cond, ltb, ℤ, pos, negsuc, ◌*ℤ◌, nat_abs}
-use Rattle.std.proofs.Common.{Option, Some, None, is_some, zero, IsTrue, ◌↔◌, sym, ◌∙◌, ap, refl, arith}
+use Rattle.std.proofs.Common.{Option, Some, None, is_some, zero, IsTrue, ◌↔◌, refl, arith}
 use Rattle.std.proofs.Math.Bool.{beq}
 use Rattle.std.proofs.lemmas.Bool.{cases_lt, false≢true}
 use Rattle.std.proofs.lemmas.Bool.Decides.{nat_tests}
@@ -33,10 +33,7 @@ above_is z n x true is = grind (arith, nat_tests)
 above_is z n x false is = search (arith, cases_lt, false≢true, nat_tests)
 
 next_parity : (s t : ℕ) (odd b : Bool) → s % 2 ≡ cond odd 1 0 → t ≡ cond b 1 0 → (s + t) % 2 ≡ cond (not (beq odd b)) 1 0
-next_parity s t true true e f = omega arith
-next_parity s t true false e f = omega arith
-next_parity s t false true e f = omega arith
-next_parity s t false false e f = omega arith
+next_parity s t odd b e f = grind (arith, nat_tests)
 
 -- the next number y, by the numbers that the loop computes: half of n, the residue s of z and that of s * y
 pub record Next (z : ℤ) (n x one y half s r : ℕ) : Type 0 where
@@ -48,29 +45,12 @@ pub record Next (z : ℤ) (n x one y half s r : ℕ) : Type 0 where
   pub residue_is : s ≡ residue n z
   pub product : r ≡ (s * y) % n
 
-next_is : {z : ℤ} {n x one y half s r : ℕ} → Next z n x one y half s r → y ≡ suc x
-next_is t = let e = t.follows in let f = t.one_is in omega arith
-
-next_within : {z : ℤ} {n x one y half s r : ℕ} → Next z n x one y half s r → y ≤ (n - 1) / 2
-next_within t = let o = t.odd_modulus in let h = t.half_is in let b = t.before in let e = next_is t in omega arith
-
-next_residue : {z : ℤ} {n x one y half s r : ℕ} → Next z n x one y half s r → r ≡ residue n (z *ℤ pos y)
-next_residue {z = z} {n = n} {y = y} t = search (arith, residue-multiple)
-
-sum_next : {z : ℤ} {n x one y half s r : ℕ} → Next z n x one y half s r
-    → sum_to (above z n) y ≡ sum_to (above z n) x + above z n y
-sum_next {z = z} {n = n} {x = x} {y = y} t =
-    let e = next_is t in
-    search (arith, sum_to-suc)
-
 pub counted_next : {z : ℤ} {n x one y half s r : ℕ} {odd b : Bool} → Next z n x one y half s r
     → CountedTo z n x odd → IsTrue b ↔ (half < r) → CountedTo z n y (not (beq odd b))
-counted_next {z = z} {n = n} {x = x} {y = y} {odd = odd} {b = b} t c is = record {
-  within = next_within t;
-  parity =
-      let f = next_residue t in
-      search (arith, sum_next, next_parity, above_is);
-}
+counted_next {z = z} {n = n} {x = x} {y = y} {r = r} {odd = odd} {b = b} t c is =
+    let e : y ≡ suc x = omega arith in
+    let f : r ≡ residue n (z *ℤ pos y) = search (arith, residue-multiple) in
+    record { within = omega arith; parity = search (arith, sum_to-suc, next_parity, above_is) }
 
 -- the symbol at the end of the count
 pub counted_all : (z : ℤ) (n x half : ℕ) (odd : Bool) → CountedTo z n x odd → n % 2 ≡ 1 → half ≡ n / 2 → half ≤ x
@@ -91,13 +71,11 @@ nat_abs-signed false a = refl
 pub no_inverse : {A : Type 0} (number : A → ℕ) (m a : ℕ) (minus : Bool) (found : Option A) → 0 < m
     → IsInversion number m a found
     → is_some found ≡ false → gcd (nat_abs (signed minus (pos a))) m ≢ 1
-no_inverse number m a minus None p none e =
-    λ g. let h = (HasInverse-gcd a m p).1 (sym (ap (λ v. gcd v m) (nat_abs-signed minus a)) ∙ g) in none h.0 h.1
+no_inverse number m a minus None p none e = grind (arith, HasInverse-gcd, nat_abs-signed)
 no_inverse number m a minus (Some x) p i e = absurd (cc)
 
 pub with_inverse : {A : Type 0} (number : A → ℕ) (m a : ℕ) (minus : Bool) (found : Option A) → 0 < m
     → IsInversion number m a found
     → is_some found ≡ true → gcd (nat_abs (signed minus (pos a))) m ≡ 1
 with_inverse number m a minus None p none e = absurd (cc)
-with_inverse number m a minus (Some x) p i e =
-    ap (λ v. gcd v m) (nat_abs-signed minus a) ∙ (HasInverse-gcd a m p).0 (number x, i)
+with_inverse number m a minus (Some x) p i e = grind (arith, HasInverse-gcd, nat_abs-signed)

@@ -1,7 +1,7 @@
 -- Euler's criterion: over an odd prime n the power with exponent (n - 1) / 2 is congruent to the Jacobi symbol. The
 -- products a * x of the half system are its numbers in another order, up to as many signs as the count says.
 use Rattle.std.proofs.Common.{◌≡◌, ℕ, zero, suc, ◌+◌, ◌-◌, ◌*◌, ◌%◌, ◌/◌, ◌^◌, ◌<◌, cond, eqb, ℤ, pos}
-use Rattle.std.proofs.Common.{negsuc, Option, Some, None, sym, ◌∙◌, ap, arith, ⊎_elim, inl, ◌⊎◌, subst}
+use Rattle.std.proofs.Common.{negsuc, Option, Some, None, sym, ◌∙◌, ap, arith, ⊎_elim, inl, ◌⊎◌}
 use Rattle.std.proofs.lemmas.Bool.Decides.{nat_tests}
 use Rattle.std.proofs.lemmas.Bool.{cases_lt, cases_eq}
 use Rattle.std.proofs.lemmas.Nat.{mod_below, mul-mod_first, mul-mod_second, pow-add}
@@ -16,7 +16,7 @@ use Rattle.modular_word.proofs.Sums.{sum_to-zero, sum_to-suc}
 use Rattle.modular_symbols.specs.Jacobi.{half_system_count, jacobi}
 use Rattle.modular_symbols.specs.Legendre.{classed_power}
 use Rattle.modular_symbols.specs.Primes.{IsPrime}
-use Rattle.modular_symbols.proofs.HalfSystem.{above, above_high, above_low, distance, distance_high, distance_low}
+use Rattle.modular_symbols.proofs.HalfSystem.{above, distance}
 use Rattle.modular_symbols.proofs.HalfSystem.{half_system_count-sum, half_system_permuted, equal_remainders}
 use Rattle.modular_symbols.proofs.JacobiLaws.{jacobi-residue, jacobi-coprime, jacobi-shared, sign-even, sign-odd}
 use Rattle.modular_symbols.proofs.RangeProducts.{product_to, product_to-zero, product_to-suc}
@@ -57,8 +57,8 @@ minus_rest n r h =
     ∙ mod-eq_of_lt h
 
 signed_distance : (n v : ℕ) → 0 < n → v % n ≡ ((n - 1) ^ above n v * distance n v) % n
-signed_distance n v p =
-    grind (arith, distance, above_high, pow-one, distance_high, minus_rest, above_low, pow-zero, one-mul, distance_low, mod-eq_of_lt, cases_lt)
+unfolding above distance
+signed_distance n v p = grind (arith, nat_tests, pow-one, minus_rest, pow-zero, mod-eq_of_lt)
 
 -- ---- the product over the half system
 signed_product : (n a k : ℕ) → 0 < n
@@ -82,12 +82,9 @@ pub below_coprime : (n x : ℕ) → IsPrime n → 0 < x → x < n → Coprime x 
 below_coprime n x u p l = search (arith, divisor_below, cases_lt)
 
 factorial_coprime : (n k : ℕ) → IsPrime n → k < n → Coprime (product_to (λ x. x) k) n
-factorial_coprime n zero u l =
-    subst (λ v. Coprime v n) (sym (product_to-zero (λ x. x))) (below_coprime n 1 u (omega arith) u.above_one)
+factorial_coprime n zero u l = grind (arith, product_to-zero, below_coprime)
 factorial_coprime n (suc k) u l =
-    subst (λ v. Coprime v n) (sym (product_to-suc (λ x. x) _))
-    (Coprime-product (product_to (λ x. x) _) (suc k) _ (omega arith)
-    (factorial_coprime n k u (omega arith)) (below_coprime _ (suc k) u (omega arith) l))
+    grind (arith, product_to-suc, Coprime-product, below_coprime, factorial_coprime n k u (omega arith))
 
 -- a coprime factor cancels
 pub cancel_below : (n c u v : ℕ) → Coprime c n → u < n → v < n → (c * u) % n ≡ (c * v) % n → u ≡ v
@@ -122,23 +119,14 @@ abbrev class_of : ℕ → ℕ → Option ℤ
 class_of n p =
     cond (eqb p 0) (Some (pos 0)) (cond (eqb p 1) (Some (pos 1)) (cond (eqb p (n - 1)) (Some (negsuc 0)) None))
 
-class_of-zero : (n p : ℕ) → p ≡ 0 → class_of n p ≡ Some (pos 0)
-class_of-zero n p e = grind (arith, nat_tests)
-
-class_of-one : (n p : ℕ) → p ≡ 1 → class_of n p ≡ Some (pos 1)
-class_of-one n p e = grind (arith, nat_tests)
-
-class_of-last : (n p : ℕ) → 2 < n → p ≡ n - 1 → class_of n p ≡ Some (negsuc 0)
-class_of-last n p h e = grind (arith, nat_tests)
-
 -- over an odd prime the class of the power is the symbol
 pub classed_power-jacobi : (a : ℤ) (n : ℕ) → n % 2 ≡ 1 → IsPrime n → classed_power a n ≡ Some (jacobi a n)
 classed_power-jacobi a n o u =
     let r : ℕ = residue n a in
     let j = jacobi-residue a n (omega arith) in
     ⊎_elim
-    (λ (e : r ≡ 0). search (arith, class_of-zero, zero_power, zero-mod, jacobi-shared, mod_self))
+    (λ (e : r ≡ 0). search (arith, nat_tests, zero_power, zero-mod, jacobi-shared, mod_self))
     (λ (z : r ≡ 0 → ⊥).
     let c = below_coprime n r u (omega arith) (residue_below n a (omega arith)) in
-    search (arith, power_by_count, jacobi-coprime, class_of-one, sign-even, class_of-last, sign-odd, powers_of_last))
+    search (arith, nat_tests, power_by_count, jacobi-coprime, sign-even, sign-odd, powers_of_last))
     (cases_eq r 0)

@@ -14,37 +14,12 @@ use Rattle.modular_symbols.specs.Jacobi.{half_system_count}
 use Rattle.modular_symbols.proofs.ResidueProducts.{residue-multiple}
 
 -- 1 where the remainder of v by n lies above the half system, else 0
-pub above : ℕ → ℕ → ℕ
+unfoldable pub above : ℕ → ℕ → ℕ
 above n v = cond (ltb ((n - 1) / 2) (v % n)) 1 0
 
 -- how far v is from the nearest multiple of n
-pub distance : ℕ → ℕ → ℕ
+unfoldable pub distance : ℕ → ℕ → ℕ
 distance n v = cond (ltb ((n - 1) / 2) (v % n)) (n - v % n) (v % n)
-
-pub above_high : (n v : ℕ) → (n - 1) / 2 < v % n → above n v ≡ 1
-unfolding above
-above_high n v h = grind (arith, nat_tests)
-
-pub above_low : (n v : ℕ) → v % n ≤ (n - 1) / 2 → above n v ≡ 0
-unfolding above
-above_low n v h = grind (arith, nat_tests)
-
-pub distance_high : (n v : ℕ) → (n - 1) / 2 < v % n → distance n v ≡ n - v % n
-unfolding distance
-distance_high n v h = grind (arith, nat_tests)
-
-pub distance_low : (n v : ℕ) → v % n ≤ (n - 1) / 2 → distance n v ≡ v % n
-unfolding distance
-distance_low n v h = grind (arith, nat_tests)
-
--- the remainder alone decides
-pub above-same : (n v w : ℕ) → v % n ≡ w % n → above n v ≡ above n w
-unfolding above
-above-same n v w e = ap (λ r. cond (ltb ((n - 1) / 2) r) 1 0) e
-
-pub above-small : (n v : ℕ) → v < n → above n v ≡ cond (ltb ((n - 1) / 2) v) 1 0
-unfolding above
-above-small n v l = ap (λ r. cond (ltb ((n - 1) / 2) r) 1 0) (mod-eq_of_lt l)
 
 -- the count as a sum
 pub half_system_count-sum : (a n : ℕ) → half_system_count (pos a) n ≡ sum_to (λ x. above n (a * x)) ((n - 1) / 2)
@@ -67,11 +42,6 @@ opposite_remainders n v w p e z =
     let d = divides_rest _ _ (v % n + w % n) (mul-mod_right _ (v / n + w / n)) (ap (λ u. u % n) (omega arith) ∙ e) in
     only_multiple _ (v % n + w % n) d (omega arith) (omega arith)
 
--- where n is odd, one of two opposite remainders lies above the half system
-one_above : (n v w : ℕ) → n % 2 ≡ 1 → v % n + w % n ≡ n → above n v + above n w ≡ 1
-unfolding above
-one_above n v w o e = grind (arith, nat_tests)
-
 opposite_product : (n a v : ℕ) → 0 < n → (a * v) % n ≢ 0 → (a * (n - v % n)) % n + (a * v) % n ≡ n
 opposite_product n a v p z =
     let r : (a * (v % n)) % n ≡ (a * v) % n = mul-mod_second a v n in
@@ -84,8 +54,8 @@ opposite_product n a v p z =
 -- a * v lies above as a times the distance of v does, and the other way where v itself lies above
 above-product : (n a v : ℕ) → n % 2 ≡ 1 → (a * v) % n ≢ 0
     → above n (a * v) % 2 ≡ (above n (a * distance n v) + above n v) % 2
-above-product n a v o z =
-    grind (arith, distance_high, above_high, one_above, opposite_product, distance_low, above_low, above-same, mul-mod_second, cases_lt)
+unfolding above distance
+above-product n a v o z = grind (arith, nat_tests, opposite_product, mul-mod_second)
 
 -- ---- a factor coprime to n permutes the half system, up to signs
 -- n divides no product of such a factor and a number below n
@@ -107,28 +77,22 @@ opposite_never n b x z c p l e =
     let s : b * (x + z) ≡ n * (b * x / n + b * z / n + 1) = omega arith in
     not_divided _ _ _ c (omega arith) l (ap (λ v. v % n) s ∙ mul-mod_right _ _)
 
-distance_positive : (n v : ℕ) → 0 < n → v % n ≢ 0 → 0 < distance n v
-unfolding distance
-distance_positive n v p z = grind (arith, nat_tests)
-
-distance_within : (n v : ℕ) → n % 2 ≡ 1 → distance n v ≤ (n - 1) / 2
-unfolding distance
-distance_within n v o = grind (arith, nat_tests)
-
-equal_distances : (n v w : ℕ) → 0 < n → distance n v ≡ distance n w → (v % n ≡ w % n) ⊎ (v % n + w % n ≡ n)
-unfolding distance
-equal_distances n v w p e = grind (arith, nat_tests)
-
 distances_apart : (n b x z : ℕ) → n % 2 ≡ 1 → Coprime b n → 0 < x → x ≤ (n - 1) / 2 → 0 < z → z ≤ (n - 1) / 2
     → distance n (b * x) ≡ distance n (b * z) → x ≡ z
+unfolding distance
 distances_apart n b x z o c p q u v e =
     ⊎_elim
     (λ (s : (b * x) % n ≡ (b * z) % n). search (arith, equal_remainders, cases_lt))
     (λ (s : (b * x) % n + (b * z) % n ≡ n). absurd (opposite_never _ _ _ _ c p (omega arith) s))
-    (equal_distances _ _ _ (omega arith) e)
+    (grind (arith, nat_tests))
 
 pub half_system_permuted : (n b : ℕ) → n % 2 ≡ 1 → Coprime b n → Permutes (λ x. distance n (b * x)) ((n - 1) / 2)
-half_system_permuted n b o c = search (arith, distance_positive, not_divided, distance_within, distances_apart)
+unfolding distance
+half_system_permuted n b o c = record {
+  positive = λ x p l. grind (arith, nat_tests, not_divided n b x c p (omega arith));
+  within = λ x p l. grind (arith, nat_tests);
+  apart = λ x z. distances_apart n b x z o c;
+}
 
 -- ---- the count of a product
 -- has the parity of the sum of the counts

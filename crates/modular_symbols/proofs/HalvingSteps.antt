@@ -1,15 +1,11 @@
 -- What the loop that halves and swaps keeps.
-use Rattle.std.proofs.Common.{◌≡◌, ℕ, ◌*◌, ◌%◌, ◌^◌, ◌<◌, Bool, ℤ, pos, arith}
+use Rattle.std.proofs.Common.{◌≡◌, ℕ, ◌*◌, ◌%◌, ◌^◌, Bool, ℤ, pos, arith}
 use Rattle.std.proofs.Math.Bool.{beq, not}
-use Rattle.std.proofs.lemmas.Nat.{mod_below}
 use Rattle.modular_symbols.specs.Jacobi.{jacobi}
 use Rattle.modular_symbols.specs.Kronecker.{signed}
 use Rattle.modular_symbols.proofs.JacobiLaws.{jacobi-residue}
 use Rattle.modular_symbols.proofs.TurnedSymbols.{Keeps, kept_turned}
 use Rattle.modular_symbols.proofs.TwoPart.{Halved}
-
-pub mod_of_odd_part_below : (x s a y : ℕ) → Halved x s a → y % a < x
-mod_of_odd_part_below x s a y h = search (arith, mod_below)
 
 pub kept_swapped : (w : ℤ) (x y s a r : ℕ) (t u : Bool) → Keeps w x y t → Halved x s a
     → jacobi (pos (a * 2 ^ s)) y ≡ signed u (jacobi (pos y) a) → r ≡ y % a → Keeps w r a (not (beq t u))

@@ -3,10 +3,10 @@ use Rattle.std.proofs.Common.{◌≡◌, ℕ, Bool, true, false, zero, suc, ◌+
 use Rattle.std.proofs.Common.{◌<◌, cond, eqb, ltb, ◌&&◌, ◌||◌, ℤ, pos, negsuc, ◌*ℤ◌, neg_ℤ}
 use Rattle.std.proofs.Common.{nat_abs, sym, ◌∙◌, ap, arith, ⊎_elim, inl, inr, ◌≢◌, ◌⊎◌, ◌↔◌}
 use Rattle.std.proofs.lemmas.Bool.Decides.{nat_tests}
-use Rattle.std.proofs.lemmas.Bool.{cases_eq, cond-true, cond-false, eq-eqb, ne_eqb}
+use Rattle.std.proofs.lemmas.Bool.{cases_eq}
 use Rattle.std.proofs.lemmas.Int.{ints}
 use Rattle.std.proofs.lemmas.Nat.{mul-mod}
-use Rattle.std.proofs.Math.Nat.{zero-mod, mod_self}
+use Rattle.std.proofs.Math.Nat.{zero-mod, mod_self, mod-eq_of_lt}
 use Rattle.modular_word.specs.Divisors.{Coprime, gcd}
 use Rattle.modular_word.specs.Residues.{residue}
 use Rattle.modular_word.specs.Sums.{sum_to}
@@ -15,7 +15,7 @@ use Rattle.modular_word.proofs.Divisors.{Coprime-left, Coprime-right, Coprime-pr
 use Rattle.modular_word.proofs.Divisors.{Coprime-mod, Coprime-from_mod, gcd-from_Coprime, Coprime-from_gcd}
 use Rattle.modular_word.proofs.Sums.{sum_to-same, sum_to-zero}
 use Rattle.modular_symbols.specs.Jacobi.{half_system_count, sign, jacobi}
-use Rattle.modular_symbols.proofs.HalfSystem.{above, above-small, half_system_count-sum}
+use Rattle.modular_symbols.proofs.HalfSystem.{above, half_system_count-sum}
 use Rattle.modular_symbols.proofs.HalfSystem.{half_system_count-residue, half_system_count-product}
 use Rattle.modular_symbols.proofs.Lattice.{counts_reciprocal}
 use Rattle.modular_symbols.proofs.ResidueProducts.{residue_opposite, residue-product}
@@ -70,8 +70,7 @@ Coprime-residue (pos a) n p c = Coprime-mod a n c
 Coprime-residue (negsuc a) n p c =
     record {
       only_one = λ d g h.
-          c.only_one d (divides_rest d _ (suc a) g
-          (divides_through d _ ((residue n (negsuc a)) + suc a) h (residue_opposite _ _ p))) h;
+          c.only_one d (divides_rest d _ (suc a) g (divides_through d _ _ h (residue_opposite n a p))) h;
     }
 
 Coprime-from_residue : (a : ℤ) (n : ℕ) → 0 < n → Coprime (residue n a) n → Coprime (nat_abs a) n
@@ -101,12 +100,10 @@ jacobi-natural_product a b n o =
     let w = Coprime-product _ _ _ p c k in
     search (arith, jacobi-coprime, sign-sum, half_system_count-product))
     (λ (z : Coprime b n → ⊥).
-    jacobi-shared (pos (a * b)) _ p (λ w. z (Coprime-right _ _ _ w))
-    ∙ sym (ap (λ v. jacobi (pos a) n *ℤ v) (jacobi-shared (pos b) _ p z) ∙ times_zero (jacobi (pos a) n)))
+    search (arith, jacobi-shared, Coprime-right, times_zero))
     (coprime_or_not _ _ p))
     (λ (z : Coprime a n → ⊥).
-    jacobi-shared (pos (a * b)) _ p (λ w. z (Coprime-left _ _ _ w))
-    ∙ sym (ap (λ v. v *ℤ jacobi (pos b) n) (jacobi-shared (pos a) _ p z) ∙ zero_times (jacobi (pos b) n)))
+    search (arith, jacobi-shared, Coprime-left, zero_times))
     (coprime_or_not _ _ p)
 
 pub jacobi-product : (a b : ℤ) (n : ℕ) → n % 2 ≡ 1 → jacobi (a *ℤ b) n ≡ jacobi a n *ℤ jacobi b n
@@ -118,34 +115,26 @@ jacobi-product a b n o =
     ∙ sym (ap (λ v. jacobi a n *ℤ v) (jacobi-residue _ _ p))
 
 -- ---- the symbol of 2
-doubles_step : (h k s : ℕ) → s ≡ k - h / 2 → s + cond (ltb h (2 * suc k)) 1 0 ≡ suc k - h / 2
-doubles_step h k s e = grind (arith, nat_tests)
-
 -- how many of 1, .., k have a double above h
 doubles_above : (h k : ℕ) → sum_to (λ x. cond (ltb h (2 * x)) 1 0) k ≡ k - h / 2
 unfolding sum_to
 doubles_above h zero = omega arith
-doubles_above h (suc k) = doubles_step h k (sum_to (λ x. cond (ltb h (2 * x)) 1 0) k) (doubles_above h k)
+doubles_above h (suc k) = grind (arith, nat_tests, doubles_above h k)
 
 half_system_count-two : (n : ℕ) → n % 2 ≡ 1 → half_system_count (pos 2) n ≡ (n - 1) / 2 - (n - 1) / 2 / 2
+unfolding above
 half_system_count-two n o =
-    half_system_count-sum _ _ ∙ sum_to-same (λ x. above _ (2 * x)) (λ x. cond (ltb ((n - 1) / 2) (2 * x)) 1 0) _
-    (λ x p q. above-small _ (2 * x) (omega arith)) ∙ doubles_above _ _
+    half_system_count-sum _ _ ∙ sum_to-same (λ x. above n (2 * x)) (λ x. cond (ltb ((n - 1) / 2) (2 * x)) 1 0) _
+    (λ x p q. search (arith, mod-eq_of_lt)) ∙ doubles_above _ _
 
 Coprime-two : (n : ℕ) → n % 2 ≡ 1 → Coprime 2 n
 Coprime-two n o = search (arith, divisor_below, cases_eq)
 
-even_doubles : (n : ℕ) → (n % 8 ≡ 1) ⊎ (n % 8 ≡ 7) → ((n - 1) / 2 - (n - 1) / 2 / 2) % 2 ≡ 0
-even_doubles n h = grind arith
-
-odd_doubles : (n : ℕ) → n % 2 ≡ 1 → n % 8 ≢ 1 → n % 8 ≢ 7 → ((n - 1) / 2 - (n - 1) / 2 / 2) % 2 ≡ 1
-odd_doubles n o h k = omega arith
-
 pub jacobi-two_kept : (n : ℕ) → n % 2 ≡ 1 → (n % 8 ≡ 1) ⊎ (n % 8 ≡ 7) → jacobi (pos 2) n ≡ pos 1
-jacobi-two_kept n o h = search (arith, jacobi-coprime, Coprime-two, sign-even, half_system_count-two, even_doubles)
+jacobi-two_kept n o h = grind (arith, jacobi-coprime, Coprime-two, sign-even, half_system_count-two)
 
 pub jacobi-two_turned : (n : ℕ) → n % 2 ≡ 1 → n % 8 ≢ 1 → n % 8 ≢ 7 → jacobi (pos 2) n ≡ negsuc 0
-jacobi-two_turned n o h k = search (arith, jacobi-coprime, Coprime-two, sign-odd, half_system_count-two, odd_doubles)
+jacobi-two_turned n o h k = search (arith, jacobi-coprime, Coprime-two, sign-odd, half_system_count-two)
 
 pub jacobi-two : (n : ℕ) → n % 2 ≡ 1 → jacobi (pos 2) n ≡ cond (eqb (n % 8) 1 || eqb (n % 8) 7) (pos 1) (negsuc 0)
 jacobi-two n o = let k = jacobi-two_kept n o in let t = jacobi-two_turned n o in grind (arith, nat_tests, k, t)
@@ -155,26 +144,15 @@ pub product_parity : (i j : ℕ) → (i * j) % 2 ≡ (i % 2) * (j % 2)
 product_parity i j = search (arith, zero-mod, mul-mod, even_or_odd)
 
 -- the number of pairs is odd exactly where both numbers are 3 modulo 4
-odd_pairs : (m n : ℕ) → m % 4 ≡ 3 → n % 4 ≡ 3 → ((n - 1) / 2 * ((m - 1) / 2)) % 2 ≡ 1
-odd_pairs m n p q = search (arith, product_parity)
-
-even_pairs : (m n : ℕ) → (m % 4 ≡ 1) ⊎ (n % 4 ≡ 1) → ((n - 1) / 2 * ((m - 1) / 2)) % 2 ≡ 0
-even_pairs m n h = search (arith, product_parity)
-
 pub pairs-parity : (m n : ℕ) → m % 2 ≡ 1 → n % 2 ≡ 1
     → ((n - 1) / 2 * ((m - 1) / 2)) % 2 ≡ cond (eqb (m % 4) 3 && eqb (n % 4) 3) 1 0
-pairs-parity m n k o = search (arith, odd_pairs, nat_tests, even_pairs, cases_eq)
-
-jacobi-both : (m n : ℕ) → m % 2 ≡ 1 → n % 2 ≡ 1 → Coprime m n
-    → sign ((n - 1) / 2 * ((m - 1) / 2)) ≡ jacobi (pos m) n *ℤ jacobi (pos n) m
-jacobi-both m n k o c = search (arith, jacobi-coprime, sign-sum, counts_reciprocal)
+pairs-parity m n k o = grind (arith, nat_tests, product_parity ((n - 1) / 2) ((m - 1) / 2))
 
 -- the product of the two symbols is -1 exactly where both numbers are 3 modulo 4
 pub jacobi-reciprocal : (m n : ℕ) → m % 2 ≡ 1 → n % 2 ≡ 1 → Coprime m n
     → jacobi (pos m) n *ℤ jacobi (pos n) m ≡ cond (eqb (m % 4) 3 && eqb (n % 4) 3) (negsuc 0) (pos 1)
 jacobi-reciprocal m n k o c =
-    sym (jacobi-both _ _ k o c)
-    ∙ sign-parity ((n - 1) / 2 * ((m - 1) / 2)) (eqb (m % 4) 3 && eqb (n % 4) 3) (pairs-parity _ _ k o)
+    search (arith, sign-parity ((n - 1) / 2 * ((m - 1) / 2)), pairs-parity, jacobi-coprime, sign-sum, counts_reciprocal)
 
 -- ---- the symbol of 0
 pub jacobi-zero_one : jacobi (pos 0) 1 ≡ pos 1
@@ -188,18 +166,12 @@ jacobi-zero n l =
 pub sign-values : (i : ℕ) → (sign i ≡ pos 1) ⊎ (sign i ≡ negsuc 0)
 sign-values i = search (arith, sign-even, sign-odd, even_or_odd)
 
-values_from : (a : ℤ) (n : ℕ) (z : ℤ) → jacobi a n ≡ z → (z ≡ pos 1) ⊎ (z ≡ negsuc 0)
-    → (jacobi a n ≡ pos 1) ⊎ ((jacobi a n ≡ negsuc 0) ⊎ (jacobi a n ≡ pos 0))
-values_from a n z e h = ⊎_elim (λ (f : z ≡ pos 1). inl (e ∙ f)) (λ (f : z ≡ negsuc 0). inr (inl (e ∙ f))) h
-
 pub jacobi-values : (a : ℤ) (n : ℕ) → (jacobi a n ≡ pos 1) ⊎ ((jacobi a n ≡ negsuc 0) ⊎ (jacobi a n ≡ pos 0))
 unfolding jacobi
-jacobi-values a n = search (arith, values_from, cond-true, eq-eqb, sign-values, cond-false, ne_eqb, cases_eq)
-
-sign-nonzero : (i : ℕ) → sign i ≡ pos 0 → ⊥
-sign-nonzero i e = search (arith, sign-values)
+jacobi-values a n = grind (arith, nat_tests, sign-values (half_system_count a n))
 
 -- the symbol is 0 exactly where there is a common divisor above 1
 pub jacobi-zero_exactly : (a : ℤ) (n : ℕ) → 0 < n → (jacobi a n ≡ pos 0) ↔ (1 < gcd (nat_abs a) n)
 jacobi-zero_exactly a n p =
-    grind (arith, gcd_is_positive, sign-nonzero, jacobi-coprime, Coprime-from_gcd, cases_eq, jacobi-shared, gcd-from_Coprime)
+    let one = gcd-from_Coprime (nat_abs a) n p in
+    grind (arith, gcd_is_positive, sign-values, jacobi-coprime, Coprime-from_gcd, cases_eq, jacobi-shared)

@@ -1,6 +1,6 @@
 -- The Kronecker symbol by the parts of the two numbers: their signs, the power of two, the odd part.
-use Rattle.std.proofs.Common.{◌≡◌, ◌≢◌, ℕ, zero, suc, ◌+◌, ◌/◌, ◌%◌, ◌^◌, ◌<◌, ◌≤◌, Bool, true}
-use Rattle.std.proofs.Common.{false, IsTrue, if◌then◌else◌, ◌==◌, eqb, ◌&&◌, ◌||◌, ◌↔◌, ℤ, pos}
+use Rattle.std.proofs.Common.{if◌then◌else◌, ◌≡◌, ◌≢◌, ℕ, zero, suc, ◌+◌, ◌/◌, ◌%◌, ◌^◌, ◌<◌, ◌≤◌, Bool, true}
+use Rattle.std.proofs.Common.{false, IsTrue, ◌==◌, eqb, ◌&&◌, ◌||◌, ◌↔◌, ℤ, pos}
 use Rattle.std.proofs.Common.{negsuc, ◌*ℤ◌, nat_abs, int_lt, sym, ◌∙◌, ap, refl, arith}
 use Rattle.std.specs.Int.{int_pow}
 use Rattle.std.proofs.lemmas.Bool.Decides.{nat_tests}
@@ -54,9 +54,6 @@ sign_times : (b : Bool) (z : ℤ) → signed b (pos 1) *ℤ z ≡ signed b z
 sign_times true z = minus_one_times z
 sign_times false z = one_times z
 
-above_zero : (n : ℕ) → 0 < n → eqb n 0 ≡ false
-above_zero n p = grind (arith, nat_tests)
-
 some_twos : (n s : ℕ) → n % 2 ≢ 1 → SplitAt n s → 0 < s
 some_twos n zero f split = absurd (f (ap (λ v. v % 2) (sym (div-one n)) ∙ split.odd))
 some_twos n (suc s) f split = omega arith
@@ -76,19 +73,17 @@ pub above-both_even : (minus : Bool) (a n w : ℕ) → a % 2 ≢ 1 → n % 2 ≢
 above-both_even minus a n w e f p l =
     let z = signed minus (pos a) in
     let s : ℕ = count_trailing_zeros w n in
-    above-form z n s (split_at w n p l)
-    ∙ ap (λ t. int_pow t s *ℤ jacobi z (n / 2 ^ s)) (over_two-even minus a (omega arith))
-    ∙ ap (λ t. t *ℤ jacobi z (n / 2 ^ s)) (zero_power s (some_twos n s f (split_at w n p l)))
-    ∙ zero_times (jacobi z (n / 2 ^ s))
+    let split = split_at w n p l in
+    let form = above-form z n s split in
+    search (arith, over_two-even, zero_power, some_twos, zero_times)
 
 pub above-twos : (minus : Bool) (a n s : ℕ) → a % 2 ≡ 1 → SplitAt n s
     → kronecker_above (signed minus (pos a)) n
     ≡ signed ((s % 2 == 1) && leaves_3_or_5 a) (jacobi (signed minus (pos a)) (n / 2 ^ s))
 above-twos minus a n s o split =
     let z = signed minus (pos a) in
-    above-form z n s split ∙ ap (λ t. int_pow t s *ℤ jacobi z (n / 2 ^ s)) (over_two-odd minus a o)
-    ∙ ap (λ t. t *ℤ jacobi z (n / 2 ^ s)) (power_of_sign (leaves_3_or_5 a) s)
-    ∙ sign_times ((s % 2 == 1) && leaves_3_or_5 a) (jacobi z (n / 2 ^ s))
+    let form = above-form (signed minus (pos a)) n s split in
+    search (arith, over_two-odd, power_of_sign, sign_times)
 
 pub times_two : (s a : ℕ) (b : Bool) → s % 2 ≡ 1 → b ≡ leaves_3_or_5 a → b ≡ (s % 2 == 1) && leaves_3_or_5 a
 times_two s a b e f = f ∙ sym (ap (λ r. eqb r 1 && leaves_3_or_5 a) e)
@@ -109,4 +104,4 @@ kronecker-over_zero a_minus n_minus a n e = search (arith, nat_abs-signed)
 pub kronecker-over : (a_minus n_minus : Bool) (a n : ℕ) → (IsTrue a_minus → 0 < a) → (IsTrue n_minus → 0 < n) → 0 < n
     → kronecker (signed a_minus (pos a)) (signed n_minus (pos n))
     ≡ signed (a_minus && n_minus) (kronecker_above (signed a_minus (pos a)) n)
-kronecker-over a_minus n_minus a n h k p = search (arith, nat_abs-signed, above_zero, negative_is)
+kronecker-over a_minus n_minus a n h k p = search (arith, nat_abs-signed, nat_tests, negative_is)

@@ -12,37 +12,29 @@ use Rattle.modular_word.proofs.Divisors.{divides}
 use Rattle.modular_word.proofs.Sums.{sum_to-same, sum_to-add, sum_to-ones, sum_to-nothing}
 use Rattle.modular_word.proofs.Sums.{sum_to-only, sum_to-swap, sum_to-scale, sum_to-reversed}
 use Rattle.modular_symbols.specs.Jacobi.{half_system_count}
-use Rattle.modular_symbols.proofs.HalfSystem.{above, above_high, above_low, half_system_count-sum, not_divided}
+use Rattle.modular_symbols.proofs.HalfSystem.{above, half_system_count-sum, not_divided}
 
 -- ---- sums over pairs
 -- the sum of f x y over x from 1 to h and y from 1 to k
-pairs : (ℕ → ℕ → ℕ) → ℕ → ℕ → ℕ
+abbrev pairs : (ℕ → ℕ → ℕ) → ℕ → ℕ → ℕ
 pairs f h k = sum_to (λ x. sum_to (λ y. f x y) k) h
 
 pairs-same : (f g : ℕ → ℕ → ℕ) (h k : ℕ) → ((x y : ℕ) → 0 < x → x ≤ h → 0 < y → y ≤ k → f x y ≡ g x y)
     → pairs f h k ≡ pairs g h k
-unfolding pairs
 pairs-same f g h k e = search (arith, sum_to-same)
 
 pairs-add : (f g : ℕ → ℕ → ℕ) (h k : ℕ) → pairs (λ x y. f x y + g x y) h k ≡ pairs f h k + pairs g h k
-unfolding pairs
 pairs-add f g h k =
     sum_to-same (λ x. sum_to (λ y. f x y + g x y) k) (λ x. sum_to (λ y. f x y) k + sum_to (λ y. g x y) k) _
     (λ x p q. sum_to-add (λ y. f x y) (λ y. g x y) _)
     ∙ sum_to-add (λ x. sum_to (λ y. f x y) k) (λ x. sum_to (λ y. g x y) k) _
 
-pairs-turned : (f : ℕ → ℕ → ℕ) (h k : ℕ) → pairs (λ y x. f x y) k h ≡ pairs f h k
-unfolding pairs
-pairs-turned f h k = sum_to-swap (λ y x. f x y) k h
-
 pairs-ones : (h k : ℕ) → pairs (λ x y. 1) h k ≡ h * k
-unfolding pairs
 pairs-ones h k =
     sum_to-same (λ x. sum_to (λ y. 1) k) (λ x. 1 * k) _ (λ x p q. sum_to-ones _ ∙ omega arith)
     ∙ sum_to-scale (λ x. 1) _ _ ∙ ap (λ v. v * k) (sum_to-ones _)
 
 pairs-reflected : (f : ℕ → ℕ → ℕ) (h k : ℕ) → pairs (λ x y. f (suc h - x) (suc k - y)) h k ≡ pairs f h k
-unfolding pairs
 pairs-reflected f h k =
     sum_to-same (λ x. sum_to (λ y. f (suc h - x) (suc k - y)) k) (λ x. sum_to (λ y. f (suc h - x) y) k) _
     (λ x p q. sum_to-reversed (λ y. f (suc h - x) y) _) ∙ sum_to-reversed (λ x. sum_to (λ y. f x y) k) _
@@ -56,10 +48,6 @@ just_below n u v = cond (ltb u v && ltb (2 * v) (2 * u + n)) 1 0
 far_below : ℕ → ℕ → ℕ → ℕ
 far_below n u v = cond (leb (2 * u + n) (2 * v)) 1 0
 
-just_below-is : (n u v : ℕ) → u < v → 2 * v < 2 * u + n → just_below n u v ≡ 1
-unfolding just_below
-just_below-is n u v p q = grind (arith, nat_tests)
-
 just_below-not : (n u v : ℕ) → (u < v → 2 * v < 2 * u + n → ⊥) → just_below n u v ≡ 0
 unfolding just_below
 just_below-not n u v p = grind (arith, nat_tests)
@@ -70,10 +58,6 @@ one_region : (m n u v : ℕ) → 0 < n → 0 < m → u ≢ v
 unfolding just_below far_below
 one_region m n u v p q z = grind (arith, nat_tests)
 
--- the pairs lie off the line m * x = n * y
-off_line : (m n x y : ℕ) → Coprime m n → 0 < x → x < n → m * x ≢ n * y
-off_line m n x y c p l e = not_divided n m x c p l (divides n (m * x) y e)
-
 -- ---- the pairs just below
 -- for one x only the y after the quotient of m * x by n can lie there
 row_other : (m n x y : ℕ) → 0 < n → y ≢ suc (m * x / n) → just_below n (m * x) (n * y) ≡ 0
@@ -81,7 +65,8 @@ row_other m n x y p z = search (arith, just_below-not, mul-le-mul_left, mod_belo
 
 -- it does where the remainder of m * x lies above the half system
 row_one : (m n x : ℕ) → n % 2 ≡ 1 → (n - 1) / 2 < (m * x) % n → just_below n (m * x) (n * suc (m * x / n)) ≡ 1
-row_one m n x o h = search (arith, mod_below, just_below-is)
+unfolding just_below
+row_one m n x o h = grind (arith, mod_below, nat_tests)
 
 row_none : (m n x : ℕ) → n % 2 ≡ 1 → (m * x) % n ≤ (n - 1) / 2 → just_below n (m * x) (n * suc (m * x / n)) ≡ 0
 row_none m n x o h = just_below-not n (m * x) (n * suc (m * x / n)) (λ l k. omega arith)
@@ -97,6 +82,7 @@ row_within m n x o k p h =
 
 row_is_above : (m n x : ℕ) → n % 2 ≡ 1 → m % 2 ≡ 1 → x ≤ (n - 1) / 2
     → sum_to (λ y. just_below n (m * x) (n * y)) ((m - 1) / 2) ≡ above n (m * x)
+unfolding above
 row_is_above m n x o k p =
     let others : (y : ℕ) → y ≢ suc (m * x / n) → just_below n (m * x) (n * y) ≡ 0 =
     λ y z. row_other _ _ _ y (omega arith) z in
@@ -104,7 +90,7 @@ row_is_above m n x o k p =
     (λ (l : (n - 1) / 2 < (m * x) % n).
     sum_to-only (λ y. just_below n (m * x) (n * y)) ((m - 1) / 2) (suc (m * x / n)) (omega arith)
     (row_within _ _ _ o k p l) (λ y u v z. others y z)
-    ∙ row_one _ _ _ o l ∙ sym (above_high _ _ l))
+    ∙ row_one _ _ _ o l ∙ grind (arith, nat_tests))
     (λ (l : (m * x) % n ≤ (n - 1) / 2).
     sum_to-same (λ y. just_below n (m * x) (n * y)) (λ y. 0) ((m - 1) / 2)
     (λ y u v.
@@ -112,13 +98,12 @@ row_is_above m n x o k p =
     (λ (e : y ≡ suc (m * x / n)). ap (λ w. just_below n (m * x) (n * w)) e ∙ row_none _ _ _ o l)
     (λ (z : y ≡ suc (m * x / n) → ⊥). others y z)
     (cases_eq y (suc (m * x / n))))
-    ∙ sum_to-nothing ((m - 1) / 2) ∙ sym (above_low _ _ l))
+    ∙ sum_to-nothing ((m - 1) / 2) ∙ grind (arith, nat_tests))
     (cases_lt ((n - 1) / 2) ((m * x) % n))
 
 -- so the pairs just below are as many as the count of m over n
 just_below-count : (m n : ℕ) → n % 2 ≡ 1 → m % 2 ≡ 1
     → pairs (λ x y. just_below n (m * x) (n * y)) ((n - 1) / 2) ((m - 1) / 2) ≡ half_system_count (pos m) n
-unfolding pairs
 just_below-count m n o k = search (arith, sum_to-same, just_below, row_is_above, half_system_count-sum)
 
 -- ---- the pairs far below
@@ -149,13 +134,15 @@ counts_reciprocal m n o k c =
     let d : ℕ → ℕ → ℕ = λ x y. just_below m (n * y) (m * x) in
     let e : ℕ → ℕ → ℕ = λ x y. far_below m (n * y) (m * x) in
     let all = pairs-same (λ x y. a x y + b x y + d x y + e x y) (λ x y. 1) h l
-    (λ x y p q u v. one_region m n (m * x) (n * y) (omega arith) (omega arith) (off_line m n x y c p (omega arith))) in
+    (λ x y p q u v.
+    one_region m n (m * x) (n * y) (omega arith) (omega arith)
+    (λ e. not_divided n m x c p (omega arith) (divides n (m * x) y e))) in
     let three = pairs-add (λ x y. a x y + b x y + d x y) e h l in
     let two = pairs-add (λ x y. a x y + b x y) d h l in
     let one = pairs-add a b h l in
     let ones = pairs-ones h l in
     let lower = just_below-count m n o k in
-    let upper = sym (pairs-turned d h l) ∙ just_below-count n m k o in
+    let upper = sym (sum_to-swap (λ y x. d x y) l h) ∙ just_below-count n m k o in
     let mirror = sym (pairs-reflected a h l) ∙ pairs-same (λ x y. a (suc h - x) (suc l - y)) e h l
     (λ x y p q u v. far_below-reflected m n x y o k q v) in
     omega arith

@@ -28,9 +28,6 @@ half_power : (a p : ℕ) → p % 2 ≡ 1 → IsPrime p → a % p ≢ 0
     → (a ^ ((p - 1) / 2) % p ≡ 1) ⊎ (a ^ ((p - 1) / 2) % p ≡ p - 1)
 half_power a p o u z = search (arith, power_by_count, prime_to, powers_of_last)
 
-even_prime : (p : ℕ) → IsPrime p → p % 2 ≢ 1 → p ≡ 2
-even_prime p u z = search (arith, cases_eq)
-
 -- Fermat's theorem
 pub fermat : (a p : ℕ) → IsPrime p → a % p ≢ 0 → a ^ (p - 1) % p ≡ 1
 fermat a p u z =
@@ -38,7 +35,7 @@ fermat a p u z =
     (λ (o : p % 2 ≡ 1).
     let e : p - 1 ≡ ((p - 1) / 2) + ((p - 1) / 2) = omega arith in
     search (arith, pow-add, square_of_half, half_power))
-    (λ (n : p % 2 ≡ 1 → ⊥). search (arith, even_prime, pow-one)) (cases_eq _ _)
+    (λ (n : p % 2 ≡ 1 → ⊥). let two : p ≡ 2 = search (arith, cases_eq) in search (arith, pow-one)) (cases_eq _ _)
 
 -- over an odd prime the symbols are there
 pub class_is_some : (a z : ℤ) → IsOddPrime z → IsSome (checked_legendre_of a z)

@@ -2,7 +2,6 @@
 use Rattle.std.proofs.Common.{◌≡◌, ℕ, suc, ◌+◌, ◌-◌, ◌*◌, ◌%◌, ◌/◌, ◌<◌, ℤ, pos, negsuc, ◌*ℤ◌}
 use Rattle.std.proofs.Common.{List, [], ◌∷◌, fold, sym, ◌∙◌, ap, arith, ⊎_elim, refl}
 use Rattle.std.proofs.lemmas.Nat.{mod_below}
-use Rattle.std.proofs.lemmas.Option.{same_Some}
 use Rattle.std.proofs.Math.Nat.{mod-eq_of_lt, mod-add-mod, add-mul-mod_self_left}
 use Rattle.std.specs.List.{AllZip}
 use Rattle.modular_word.specs.Divisors.{Coprime}
@@ -42,19 +41,14 @@ odd_product : (m n : ℕ) → m % 2 ≡ 1 → n % 2 ≡ 1 → (m * n) % 2 ≡ 1
 odd_product m n o p = product_parity m n ∙ ap (λ v. v * (n % 2)) o ∙ omega arith
 
 -- by reciprocity for each of m, n and m * n, and by the product in the upper argument over b
-parity_of_sum : (x y p x1 y1 p1 x2 y2 p2 : ℕ) → (x + y) % 2 ≡ p % 2 → (x1 + y1) % 2 ≡ p1 % 2
-    → (x2 + y2) % 2 ≡ p2 % 2 → y % 2 ≡ (y1 + y2) % 2 → p % 2 ≡ (p1 + p2) % 2 → x % 2 ≡ (x1 + x2) % 2
-parity_of_sum x y p x1 y1 p1 x2 y2 p2 e e1 e2 f g = omega arith
-
 count_over_product : (b m n : ℕ) → b % 2 ≡ 1 → m % 2 ≡ 1 → n % 2 ≡ 1 → Coprime b m → Coprime b n → Coprime b (m * n)
     → half_system_count (pos b) (m * n) % 2 ≡ (half_system_count (pos b) m + half_system_count (pos b) n) % 2
 count_over_product b m n q o p c d w =
-    let k : ℕ = (b - 1) / 2 in
-    parity_of_sum (half_system_count (pos b) (m * n)) (half_system_count (pos (m * n)) b) ((m * n - 1) / 2 * k)
-    (half_system_count (pos b) m) (half_system_count (pos m) b) ((m - 1) / 2 * k)
-    (half_system_count (pos b) n) (half_system_count (pos n) b) ((n - 1) / 2 * k)
-    (counts_reciprocal _ _ (odd_product _ _ o p) q w) (counts_reciprocal _ _ o q c) (counts_reciprocal _ _ p q d)
-    (half_system_count-product _ _ _ q (Coprime-swap _ _ w) (Coprime-swap _ _ d)) (pairs_of_product _ _ _ o p)
+    let whole = counts_reciprocal b (m * n) (odd_product m n o p) q w in
+    let first = counts_reciprocal b m o q c in
+    let second = counts_reciprocal b n p q d in
+    let upper = half_system_count-product m n b q (Coprime-swap _ _ w) (Coprime-swap _ _ d) in
+    omega (arith, pairs_of_product m n ((b - 1) / 2) o p)
 
 odd_over_product : (b m n : ℕ) → b % 2 ≡ 1 → m % 2 ≡ 1 → n % 2 ≡ 1
     → jacobi (pos b) (m * n) ≡ jacobi (pos b) m *ℤ jacobi (pos b) n
@@ -66,14 +60,10 @@ odd_over_product b m n q o p =
     let w = Coprime-swap _ _ (Coprime-product _ _ _ (omega arith) (Coprime-swap _ _ c) (Coprime-swap _ _ d)) in
     search (arith, jacobi-coprime, sign-sum, count_over_product))
     (λ (z : Coprime b n → ⊥).
-    jacobi-shared (pos b) _ (omega (arith, (odd_product _ _ o p)))
-    (λ w. z (Coprime-swap _ _ (Coprime-right _ _ _ (Coprime-swap _ _ w))))
-    ∙ sym (ap (λ v. jacobi (pos b) m *ℤ v) (jacobi-shared (pos b) _ (omega arith) z) ∙ times_zero (jacobi (pos b) m)))
+    search (arith, odd_product, jacobi-shared, Coprime-swap, Coprime-right, times_zero))
     (coprime_or_not _ _ (omega arith)))
     (λ (z : Coprime b m → ⊥).
-    jacobi-shared (pos b) _ (omega (arith, (odd_product _ _ o p)))
-    (λ w. z (Coprime-swap _ _ (Coprime-left _ _ _ (Coprime-swap _ _ w))))
-    ∙ sym (ap (λ v. v *ℤ jacobi (pos b) n) (jacobi-shared (pos b) _ (omega arith) z) ∙ zero_times (jacobi (pos b) n)))
+    search (arith, odd_product, jacobi-shared, Coprime-swap, Coprime-left, zero_times))
     (coprime_or_not _ _ (omega arith))
 
 -- ---- over a product of odd numbers, for every a
@@ -115,9 +105,6 @@ jacobi-factors a m n o p =
     same_residues _ _ _ t h.2 ∙ odd_over_product _ _ _ h.1 o p ∙ sym (search (arith, same_residues))
 
 -- ---- over a product of odd primes
-legendre-jacobi : (a : ℤ) (p : ℕ) (s : ℤ) → IsLegendre a p s → jacobi a p ≡ s
-legendre-jacobi a p s h = same_Some (jacobi a p) s (sym (class_over_prime a (pos p) h.0) ∙ h.1)
-
 primes_after : (a : ℤ) (primes : List ℕ) (symbols : List ℤ) (n : ℕ) (z : ℤ) → n % 2 ≡ 1 → jacobi a n ≡ z
     → AllZip (IsLegendre a) primes symbols
     → jacobi a (fold (λ k p. k * p) n primes) ≡ fold (λ y s. y *ℤ s) z symbols
@@ -126,14 +113,13 @@ primes_after a [] (s ∷ ss) n z o e h = absurd h
 primes_after a (p ∷ ps) [] n z o e h = absurd h
 primes_after a (p ∷ ps) (s ∷ ss) n z o e h =
     primes_after a ps ss (n * p) (z *ℤ s) (odd_product _ p o h.0.0.0)
-    (jacobi-factors _ _ p o h.0.0.0 ∙ ap (λ v. v *ℤ jacobi a p) e ∙ ap (λ v. z *ℤ v) (legendre-jacobi _ p s h.0)) h.1
-
-jacobi-one : (a : ℤ) → jacobi a 1 ≡ pos 1
-jacobi-one a = search (arith, residue_below, jacobi-residue, jacobi-zero_one)
+    (search (arith, jacobi-factors, class_over_prime a (pos p) h.0.0)) h.1
 
 pub jacobi-primes : (a : ℤ) (primes : List ℕ) (symbols : List ℤ) → AllZip (IsLegendre a) primes symbols
     → jacobi a (product primes) ≡ symbol_product symbols
-jacobi-primes a primes symbols h = primes_after a primes symbols 1 (pos 1) (omega arith) (jacobi-one a) h
+jacobi-primes a primes symbols h =
+    primes_after a primes symbols 1 (pos 1) (omega arith)
+    (search (arith, residue_below, jacobi-residue, jacobi-zero_one)) h
 
 -- the laws of the symbol
 pub ruleset symbol_laws =

@@ -1,6 +1,6 @@
 -- Products over a range: f 1 * f 2 * .. * f h.
 use Rattle.std.proofs.Common.{◌≡◌, ℕ, zero, suc, ◌*◌, ◌^◌, ◌<◌, ◌≤◌, sym, ◌∙◌, ap, refl, arith, ⊎_elim, ◌≢◌}
-use Rattle.std.proofs.Math.Nat.{pow-zero, pow-suc, one-mul, mul-one}
+use Rattle.std.proofs.Math.Nat.{pow-zero, pow-suc, mul-one}
 use Rattle.std.proofs.lemmas.Nat.{pow-add}
 use Rattle.modular_word.specs.Sums.{sum_to, Permutes}
 use Rattle.modular_word.proofs.Powers.{pow-one}
@@ -44,8 +44,7 @@ product_to-constant a (suc h) = ap (λ v. v * a) (product_to-constant a h) ∙ s
 pub product_to-power : (g : ℕ) (f : ℕ → ℕ) (h : ℕ) → product_to (λ x. g ^ f x) h ≡ g ^ sum_to f h
 unfolding product_to sum_to
 product_to-power g f zero = sym (pow-zero g)
-product_to-power g f (suc h) =
-    ap (λ v. v * g ^ f (suc h)) (product_to-power g f h) ∙ sym (pow-add g (sum_to f h) (f (suc h)))
+product_to-power g f (suc h) = grind (arith, pow-add, product_to-power g f h)
 
 -- the order of two products is free
 product_to-swap : (f : ℕ → ℕ → ℕ) (h k : ℕ)
@@ -65,20 +64,19 @@ product_to-only f (suc h) z p q e =
     ⊎_elim
     (λ (l : z ≤ h). search (arith, mul-one, product_to-only f h z p l (λ x u v w. e x u (omega arith) w)))
     (λ (l : z ≡ suc h).
-    let i = product_to-same _ (λ x. 1) _ (λ x u v. e x u (omega arith) (omega arith)) in
-    ap (λ v. v * f (suc h)) (i ∙ product_to-ones _) ∙ one-mul (f (suc h)) ∙ sym (ap f l))
+    let i = product_to-same f (λ x. 1) h (λ x u v. e x u (omega arith) (omega arith)) in
+    grind (arith, product_to-ones))
     (last_or_before _ _ q)
 
 -- the factor at f x, among all
 product_of_hits_at_index : (f g : ℕ → ℕ) (h x : ℕ) → Permutes f h → 0 < x → x ≤ h → product_to (λ y. g y ^ hit (f x) y) h ≡ g (f x)
 product_of_hits_at_index f g h x m p q =
     product_to-only (λ y. g y ^ hit (f x) y) _ (f x) (m.positive x p q) (m.within x p q)
-    (λ y u v w. ap (λ n. g y ^ n) (hit-other (f x) y (λ e. w (sym e))) ∙ pow-zero (g y))
-    ∙ ap (λ n. g (f x) ^ n) (hit-same (f x) (f x) refl) ∙ pow-one (g (f x))
+    (λ y u v w. search (arith, hit-other, pow-zero)) ∙ search (arith, hit-same, pow-one)
 
 product_of_hits_at_value : (f g : ℕ → ℕ) (h y : ℕ) → Permutes f h → 0 < y → y ≤ h → product_to (λ x. g y ^ hit (f x) y) h ≡ g y
 product_of_hits_at_value f g h y m p q =
-    product_to-power (g y) (λ x. hit (f x) y) h ∙ ap (λ n. g y ^ n) (hits_one f h y m p q) ∙ pow-one (g y)
+    product_to-power (g y) (λ x. hit (f x) y) h ∙ search (arith, hits_one, pow-one)
 
 -- a permutation leaves a product as it is
 pub product_to-permuted : (f g : ℕ → ℕ) (h : ℕ) → Permutes f h → product_to (λ x. g (f x)) h ≡ product_to g h

@@ -3,7 +3,7 @@
 -- so that their product is a^((p - 1)/2); and it is -1, by the pairs of product 1 (Wilson's theorem).
 -- Dirichlet's proof: Hardy and Wright, "An Introduction to the Theory of Numbers", sections 6.5 and 6.6.
 use Rattle.std.proofs.Common.{◌≡◌, ◌≢◌, ℕ, zero, suc, ◌+◌, ◌-◌, ◌*◌, ◌/◌, ◌%◌, ◌^◌, ◌<◌, ◌≤◌, cond, eqb, ltb}
-use Rattle.std.proofs.Common.{ℤ, pos, negsuc, ◌*ℤ◌, Some, None, sym, ◌∙◌, ap, arith, ⊎_elim, inl, inr, ◌⊎◌}
+use Rattle.std.proofs.Common.{ℤ, pos, sym, ◌∙◌, ap, arith, ⊎_elim, inl, inr, ◌⊎◌}
 use Rattle.std.proofs.lemmas.Bool.Decides.{nat_tests}
 use Rattle.std.proofs.lemmas.Bool.{cases_eq}
 use Rattle.std.proofs.lemmas.Nat.{mod_below, mul-mod_second}
@@ -15,7 +15,7 @@ use Rattle.modular_word.proofs.Congruence.{same_product, same_without}
 use Rattle.modular_word.proofs.Divisors.{coprime_cancel}
 use Rattle.modular_word.proofs.Powers.{pow-one}
 use Rattle.modular_word.proofs.Sums.{sum_to-same, sum_to-add, sum_to-ones, sum_to-permuted, last_or_before}
-use Rattle.modular_symbols.specs.Jacobi.{half_system_count, sign, jacobi}
+use Rattle.modular_symbols.specs.Jacobi.{half_system_count, jacobi}
 use Rattle.modular_symbols.specs.Primes.{IsPrime}
 use Rattle.modular_symbols.proofs.Euler.{below_coprime, cancel_below, square_of_last, classed_power-jacobi}
 use Rattle.modular_symbols.proofs.JacobiLaws.{jacobi-residue, jacobi-product, jacobi-coprime, sign-values}
@@ -77,21 +77,15 @@ fixed s x = cond (eqb x (s x)) x 1
 abbrev pair : (ℕ → ℕ) → ℕ → ℕ
 pair s x = cond (ltb x (s x)) (x * s x) 1
 
-one_of_three : (x y : ℕ) → x ≡ cond (ltb x y) x 1 * cond (ltb y x) x 1 * cond (eqb x y) x 1
-one_of_three x y = grind (arith, nat_tests)
-
-factors_of_pair : (x y z : ℕ) → z ≡ x → cond (ltb x y) x 1 * cond (ltb z y) y 1 ≡ cond (ltb x y) (x * y) 1
-factors_of_pair x y z e = grind (arith, nat_tests)
-
 product_in_pairs : (s : ℕ → ℕ) (h : ℕ) → Permutes s h → ((x : ℕ) → 0 < x → x ≤ h → s (s x) ≡ x)
     → product_to (λ x. x) h ≡ product_to (pair s) h * product_to (fixed s) h
 product_in_pairs s h m twice =
-    product_to-same (λ x. x) (λ x. lower s x * higher s x * fixed s x) h (λ x p q. one_of_three x (s x))
+    product_to-same (λ x. x) (λ x. lower s x * higher s x * fixed s x) h (λ x p q. grind (arith, nat_tests))
     ∙ product_to-times (λ x. lower s x * higher s x) (fixed s) h ∙ ap (λ v. v * product_to (fixed s) h)
     (product_to-times (lower s) (higher s) h
     ∙ ap (λ v. product_to (lower s) h * v) (sym (product_to-permuted s (higher s) h m))
     ∙ sym (product_to-times (lower s) (λ x. higher s (s x)) h)
-    ∙ product_to-same (λ x. lower s x * higher s (s x)) (pair s) h (λ x p q. factors_of_pair x (s x) (s (s x)) (twice x p q)))
+    ∙ product_to-same (λ x. lower s x * higher s (s x)) (pair s) h (λ x p q. grind (arith, nat_tests, twice x p q)))
 
 -- congruent factors, congruent products
 product_to-congruent : (n : ℕ) (f g : ℕ → ℕ) (h : ℕ) → ((x : ℕ) → 0 < x → x ≤ h → f x % n ≡ g x % n)
@@ -107,9 +101,6 @@ leads s x = cond (ltb x (s x)) 1 0
 abbrev trails : (ℕ → ℕ) → ℕ → ℕ
 trails s x = cond (ltb (s x) x) 1 0
 
-leads_or_trails : (x y : ℕ) → x ≢ y → cond (ltb x y) 1 0 + cond (ltb y x) 1 0 ≡ 1
-leads_or_trails x y z = grind (arith, nat_tests)
-
 half_lead : (s : ℕ → ℕ) (h : ℕ) → Permutes s h → ((x : ℕ) → 0 < x → x ≤ h → s (s x) ≡ x)
     → ((x : ℕ) → 0 < x → x ≤ h → x ≢ s x) → sum_to (leads s) h + sum_to (leads s) h ≡ h
 half_lead s h m twice apart =
@@ -117,14 +108,8 @@ half_lead s h m twice apart =
     sum_to-same (leads s) (λ x. trails s (s x)) _ (λ x p q. ap (λ v. cond (ltb v (s x)) 1 0) (sym (twice x p q)))
     ∙ sum_to-permuted _ (trails s) _ m in
     ap (λ v. sum_to (leads s) h + v) same ∙ sym (sum_to-add (leads s) (trails s) _)
-    ∙ sum_to-same (λ x. leads s x + trails s x) (λ x. 1) _ (λ x p q. leads_or_trails _ (s x) (apart x p q))
+    ∙ sum_to-same (λ x. leads s x + trails s x) (λ x. 1) _ (λ x p q. grind (arith, nat_tests, apart x p q))
     ∙ sum_to-ones _
-
-pair_power : (n a x y : ℕ) → (x * y) % n ≡ a % n → cond (ltb x y) (x * y) 1 % n ≡ a ^ cond (ltb x y) 1 0 % n
-pair_power n a x y e = search (arith, pow-one, pow-zero, nat_tests)
-
-fixed_one : (x y : ℕ) → x ≢ y → cond (eqb x y) x 1 ≡ 1
-fixed_one x y z = grind (arith, nat_tests)
 
 product_of_pairs : (p a : ℕ) → p % 2 ≡ 1 → IsPrime p → a % p ≢ 0
     → ((x : ℕ) → 0 < x → x ≤ p - 1 → x ≢ partner p a x)
@@ -137,10 +122,10 @@ product_of_pairs p a o u z apart =
     ap (λ v. v % p)
     (product_in_pairs s h m twice
     ∙ ap (λ v. product_to (pair s) h * v)
-    (product_to-same (fixed s) (λ x. 1) h (λ x q l. fixed_one x (s x) (apart x q l)) ∙ product_to-ones h)
+    (product_to-same (fixed s) (λ x. 1) h (λ x q l. grind (arith, nat_tests, apart x q l)) ∙ product_to-ones h)
     ∙ mul-one (product_to (pair s) h))
     ∙ product_to-congruent p (pair s) (λ x. a ^ leads s x) h
-    (λ x q l. pair_power p a x (s x) (partner_product p a x u q (omega arith)))
+    (λ x q l. search (arith, pow-one, pow-zero, nat_tests, partner_product p a x u q (omega arith)))
     ∙ ap (λ v. v % p) (product_to-power a (leads s) h ∙ ap (λ k. a ^ k) (omega (arith, half_lead)))
 
 -- ---- Wilson's theorem: the pairs of product 1, where 1 and p - 1 alone are paired with themselves
@@ -159,15 +144,6 @@ root_of_one p (suc y) u q l e z =
     search (arith, coprime_cancel, below_coprime, zero-mod, below_not_divided))
     (cases_eq y _)
 
-pair_one : (n x y : ℕ) → (x * y) % n ≡ 1 % n → cond (ltb x y) (x * y) 1 % n ≡ 1 % n
-pair_one n x y e = grind (arith, nat_tests)
-
-fixed_cases : (x y : ℕ) → (x ≡ y → x ≡ 1) → cond (eqb x y) x 1 ≡ 1
-fixed_cases x y h = grind (arith, nat_tests)
-
-fixed_at : (x y : ℕ) → x ≡ y → cond (eqb x y) x 1 ≡ x
-fixed_at x y e = grind (arith, nat_tests)
-
 last_is_fixed : (p : ℕ) → IsPrime p → p - 1 ≡ partner p 1 (p - 1)
 last_is_fixed p u =
     let l : p - 1 < p = omega arith in
@@ -184,12 +160,14 @@ wilson p u =
     let twice : (x : ℕ) → 0 < x → x ≤ h → s (s x) ≡ x = grind (arith, partner_of_partner) in
     let last : product_to (fixed s) h ≡ p - 1 =
     product_to-only (fixed s) _ _ (omega arith) (omega arith)
-    (λ x q l n. fixed_cases x (s x) (λ e.
-    root_of_one _ x u q (omega arith)
-    (ap (λ v. (x * v) % p) e ∙ partner_product _ _ x u q (omega arith) ∙ one) n))
-    ∙ fixed_at _ (s h) (last_is_fixed _ u) in
+    (λ x q l n.
+    let r : x ≡ s x → x ≡ 1 = λ e.
+    root_of_one _ x u q (omega arith) (ap (λ v. (x * v) % p) e ∙ partner_product _ _ x u q (omega arith) ∙ one) n in
+    grind (arith, nat_tests))
+    ∙ grind (arith, nat_tests, last_is_fixed p u) in
     let pairs : product_to (pair s) h % p ≡ 1 % p =
-    product_to-congruent _ (pair s) (λ x. 1) _ (λ x q l. pair_one _ x (s x) (partner_product _ _ x u q (omega arith)))
+    product_to-congruent _ (pair s) (λ x. 1) _
+    (λ x q l. grind (arith, nat_tests, partner_product p 1 x u q (omega arith)))
     ∙ ap (λ v. v % p) (product_to-ones _) in
     ap (λ v. v % p) (product_in_pairs _ _ (partners_permute p 1 u (λ e. omega arith)) twice)
     ∙ same_product _ (product_to (pair s) _) _ (product_to (fixed s) _) _ pairs (ap (λ v. v % p) last)
@@ -212,15 +190,8 @@ root_or_none p r (suc k) =
     (root_or_none p r k)
 
 -- ---- the theorem
-class_is_one : (n q : ℕ)
-    → cond (eqb q 0) (Some (pos 0)) (cond (eqb q 1) (Some (pos 1)) (cond (eqb q (n - 1)) (Some (negsuc 0)) None))
-    ≡ Some (pos 1)
-    → q ≡ 1
-class_is_one n q e = grind (arith, nat_tests)
-
 half_power_is_one : (a : ℤ) (p : ℕ) → p % 2 ≡ 1 → IsPrime p → jacobi a p ≡ pos 1 → residue p a ^ ((p - 1) / 2) % p ≡ 1
-half_power_is_one a p o u e =
-    class_is_one p (residue p a ^ ((p - 1) / 2) % p) (classed_power-jacobi a p o u ∙ ap Some e)
+half_power_is_one a p o u e = grind (arith, nat_tests, classed_power-jacobi a p o u)
 
 not_zero_power : (p r : ℕ) → 1 < p → p % 2 ≡ 1 → r ^ ((p - 1) / 2) % p ≡ 1 → r ≢ 0
 not_zero_power p r l o e z =
@@ -244,14 +215,11 @@ root_from_symbol a p o u e =
     search (arith, wilson))
     (root_or_none p r (p - 1))
 
-one_square : (z : ℤ) → (z ≡ pos 1) ⊎ (z ≡ negsuc 0) → z *ℤ z ≡ pos 1
-one_square z h = ⊎_elim (λ (e : z ≡ pos 1). ap (λ v. v *ℤ v) e) (λ (e : z ≡ negsuc 0). ap (λ v. v *ℤ v) e) h
-
 -- and a square has the symbol 1
 pub symbol_of_root : (a : ℤ) (p x : ℕ) → p % 2 ≡ 1 → IsPrime p → x % p ≢ 0
     → (x * x) % p ≡ residue p a → jacobi a p ≡ pos 1
 symbol_of_root a p x o u z e =
     let q : 0 < p = omega arith in
     jacobi-residue _ _ q ∙ ap (λ v. jacobi (pos v) p) (sym e) ∙ sym (jacobi-residue (pos (x * x)) _ q)
-    ∙ jacobi-product (pos x) (pos x) _ o ∙ ap (λ v. v *ℤ v) (jacobi-coprime (pos x) _ q (prime_to _ _ u z))
-    ∙ one_square (sign (half_system_count (pos x) p)) (sign-values (half_system_count (pos x) p))
+    ∙ jacobi-product (pos x) (pos x) _ o
+    ∙ grind (arith, jacobi-coprime (pos x) _ q (prime_to _ _ u z), sign-values (half_system_count (pos x) p))

@@ -69,8 +69,7 @@ power_within (suc k) a n p l b =
     (λ (e : a % 2 ≡ 0).
     let i = power_within k (a / 2) n (omega arith) (omega arith) (omega arith) in
     let s = ap (λ v. 2 ^ v) (within_halved k a n p e) in
-    let h : a ≡ 2 * (a / 2) = omega arith in
-    let t = ap (λ v. v * n) h in
+    let t : a * n ≡ 2 * (a / 2) * n = ap (λ v. v * n) (omega arith) in
     omega arith)
     (λ (o : a % 2 ≡ 1).
     let s = ap (λ v. 2 ^ v) (within_swapped k a n o) in
@@ -80,8 +79,7 @@ power_within (suc k) a n p l b =
     (λ (z : 0 < n % a).
     let m = mod_below n a p in
     let i = power_within k (n % a) a z m (omega arith) in
-    let u : 2 * (n % a) ≤ n = rest_twice n a p (omega arith) in
-    let t = mul-le-mul_left a u in
+    let t = mul-le-mul_left a (rest_twice n a p (omega arith)) in
     omega arith)
     (zero_or_positive (n % a)))
     (even_or_odd a)

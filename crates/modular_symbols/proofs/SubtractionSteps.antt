@@ -1,6 +1,6 @@
 -- What the loop of differences keeps.
-use Rattle.std.proofs.Common.{◌≡◌, ◌≢◌, ℕ, ◌+◌, ◌-◌, ◌*◌, ◌/◌, ◌%◌, ◌^◌, ◌<◌, Bool, true, false}
-use Rattle.std.proofs.Common.{eqb, if◌then◌else◌, ℤ, pos, sym, ◌∙◌, ap, arith, subst, refl}
+use Rattle.std.proofs.Common.{if◌then◌else◌, ◌≡◌, ◌≢◌, ℕ, ◌+◌, ◌-◌, ◌*◌, ◌/◌, ◌%◌, ◌^◌, ◌<◌, Bool, true, false}
+use Rattle.std.proofs.Common.{eqb, ℤ, pos, sym, ◌∙◌, ap, arith, subst, refl}
 use Rattle.std.proofs.Math.Nat.{add-mod_left, add-mod_right, mod-eq_of_lt, mod_self, zero-mod}
 use Rattle.std.specs.Int.Count.{count_trailing_zeros}
 use Rattle.modular_word.proofs.Congruence.{mod_cancel}
@@ -9,12 +9,11 @@ use Rattle.modular_symbols.specs.Kronecker.{signed}
 use Rattle.modular_symbols.proofs.JacobiLaws.{jacobi-residue}
 use Rattle.modular_symbols.proofs.TurnBits.{is_odd, odd-sum}
 use Rattle.modular_symbols.proofs.TurnedSymbols.{Keeps, kept_last, signed-other, turned_twice}
-use Rattle.modular_symbols.proofs.TwoPart.{SplitAt, split_at, fewer_zeros, split_opposite, Halved, halved_split}
+use Rattle.modular_symbols.proofs.TwoPart.{SplitAt, fewer_zeros, split_opposite, Halved, halved_split, Halved-of_shift}
 
 -- numbers that leave the same remainder have the same symbol
 jacobi-congruent : (x r n : ℕ) → 0 < n → x % n ≡ r % n → jacobi (pos x) n ≡ jacobi (pos r) n
-jacobi-congruent x r n p e =
-    jacobi-residue (pos x) n p ∙ ap (λ v. jacobi (pos v) n) e ∙ sym (jacobi-residue (pos r) n p)
+jacobi-congruent x r n p e = grind (arith, jacobi-residue)
 
 -- ---- the trailing zeros of the wrapped difference
 -- v is the difference of a and n modulo the base, 2 ^ w
@@ -34,10 +33,8 @@ pub halved_above : (w b v a n d s o : ℕ) → Wraps w b v a n → a ≢ n → d
     → s ≡ count_trailing_zeros w v → o ≡ d / 2 ^ s
     → Halved d s o
 halved_above w b v a n d s o r z e f g =
-    let same : v ≡ d = mod_cancel _ _ _ _ r.fits (omega arith) (r.sum ∙ sym (ap (λ k. k % b) e ∙ mod-eq_of_lt r.a_fits)) in
-    halved_split d s o
-    (subst (λ k. SplitAt d k) (sym (f
-    ∙ ap (λ k. count_trailing_zeros w k) same)) (split_at w d (omega arith) (omega (arith, r.base_is)))) g
+    let same : v ≡ d = search (arith, mod_cancel, mod-eq_of_lt) in
+    Halved-of_shift w d s o (omega arith) (omega (arith, r.base_is)) (search arith) g
 
 -- the second number is the greater one
 pub halved_below : (w b v a n d s o : ℕ) → Wraps w b v a n → a ≢ n → d + a ≡ n
@@ -63,9 +60,8 @@ jacobi-difference : (z : ℤ) (x q m y d s o : ℕ) → z ≡ signed (is_odd (x 
     → TurnsBy s y (is_odd q)
     → Halved d s o → y % 2 ≡ 1 → d + y ≡ m → z ≡ signed (is_odd (x / 2 + q)) (jacobi (pos o) y)
 jacobi-difference z x q m y d s o e t h k f =
-    turned_twice _ (jacobi (pos m) y) (jacobi (pos o) y) (is_odd _) (is_odd _) e
-    (jacobi-odd_part _ _ _ _ _ (is_odd _) t h (omega arith) (ap (λ v. v % y) (sym f) ∙ add-mod_right _ _))
-    ∙ sym (ap (λ v. signed v (jacobi (pos o) y)) (odd-sum _ _))
+    let odd_part = jacobi-odd_part m d y s o (is_odd q) t h (omega arith) (search (arith, add-mod_right)) in
+    search (arith, turned_twice, odd-sum)
 
 -- the symbol of the greater one over the smaller one
 pub jacobi-above : (l : Bool) (x q a n y d s o : ℕ) → l ≡ false → y ≡ n
@@ -91,11 +87,8 @@ pub turns_added : (x z : ℤ) (t u k : ℕ) → x ≡ signed (is_odd u) z → k 
 turns_added x z t u k e f = search (arith, odd-sum, signed-other)
 
 -- ---- two equal numbers
-kept_equal : (w : ℤ) (x y : ℕ) (t : Bool) → Keeps w x y t → x ≡ y → Keeps w 0 y t
-kept_equal w x y t k e = search (arith, jacobi-congruent, zero-mod, mod_self)
-
 pub kept_equal_last : (w s : ℤ) (x y t b : ℕ) → Keeps w x y (is_odd t) → x ≡ y → b % 2 ≡ t % 2
     → (y ≡ 1 → s ≡ signed (is_odd b) (pos 1)) → (y ≢ 1 → s ≡ pos 0) → s ≡ w
 kept_equal_last w s x y t b k e f one more =
-    kept_last _ _ _ _ (is_odd _) (kept_equal _ _ _ (is_odd _) k e) refl
-    (λ h. one h ∙ ap (λ v. signed (eqb v 1) (pos 1)) f) more
+    let zero : Keeps w 0 y (is_odd t) = search (arith, jacobi-congruent, zero-mod, mod_self) in
+    kept_last _ _ _ _ (is_odd _) zero refl (λ h. one h ∙ ap (λ v. signed (eqb v 1) (pos 1)) f) more

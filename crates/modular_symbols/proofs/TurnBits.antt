@@ -50,12 +50,9 @@ pub odd-both : (m n k l : ℕ) → m % 2 ≡ 1 → n % 2 ≡ 1 → k ≡ m % 2 ^
     → is_odd (bit_and k l / 2) ≡ both_leave_3 m n
 odd-both m n k l o p e f =
     ap is_odd (and_shr k l 1) ∙ odd-and (k / 2) (l / 2)
-    ∙ ap (λ v. v && is_odd (l / 2)) (second_bit m k o e) ∙ ap (λ v. eqb (m % 4) 3 && v) (second_bit n l p f)
-
-third_bit : (n l : ℕ) → n % 2 ≡ 1 → l ≡ n % 2 ^ 32 → is_odd ((l + 2) % 2 ^ 32 / 4) ≡ leaves_3_or_5 n
-third_bit n l o e = grind (arith, nat_tests)
+    ∙ search (arith, second_bit)
 
 -- the third bit of the low part and 2, where the lowest of s is set
 pub odd_twos : (s n l : ℕ) → n % 2 ≡ 1 → l ≡ n % 2 ^ 32
     → is_odd (bit_and s ((l + 2) % 2 ^ 32 / 4)) ≡ is_odd s && leaves_3_or_5 n
-odd_twos s n l o e = odd-and s ((l + 2) % 2 ^ 32 / 4) ∙ ap (λ v. is_odd s && v) (third_bit n l o e)
+odd_twos s n l o e = odd-and s ((l + 2) % 2 ^ 32 / 4) ∙ ap (λ v. is_odd s && v) (grind (arith, nat_tests))

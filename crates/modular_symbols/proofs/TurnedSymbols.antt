@@ -2,7 +2,6 @@
 use Rattle.std.proofs.Common.{◌≡◌, ◌≢◌, ℕ, zero, suc, ◌+◌, ◌*◌, ◌%◌, ◌^◌, Bool, true, false, cond}
 use Rattle.std.proofs.Common.{eqb, ◌&&◌, ℤ, pos, ◌*ℤ◌, sym, ◌∙◌, ap, refl, arith, ⊎_elim, ◌⊎◌}
 use Rattle.std.proofs.lemmas.Bool.Decides.{nat_tests}
-use Rattle.std.proofs.lemmas.Bool.{cases_eq, eq-eqb, ne_eqb}
 use Rattle.std.proofs.Math.IntN.{neg_ℤ-neg_ℤ}
 use Rattle.std.proofs.Math.Bool.{beq, not}
 use Rattle.std.proofs.Math.Nat.{pow-suc, mul-one}
@@ -11,37 +10,26 @@ use Rattle.modular_symbols.specs.Jacobi.{jacobi, sign}
 use Rattle.modular_symbols.specs.Kronecker.{signed}
 use Rattle.modular_symbols.proofs.JacobiLaws.{jacobi-coprime, jacobi-shared, coprime_or_not, sign-even, sign-odd}
 use Rattle.modular_symbols.proofs.JacobiLaws.{even_or_odd, pairs-parity, one_times, minus_one_times, jacobi-product}
-use Rattle.modular_symbols.proofs.JacobiLaws.{jacobi-two_kept, jacobi-two_turned, jacobi-zero_one, jacobi-zero}
+use Rattle.modular_symbols.proofs.JacobiLaws.{jacobi-two, jacobi-zero_one, jacobi-zero}
 use Rattle.modular_symbols.proofs.KroneckerSteps.{leaves_3_or_5}
 use Rattle.modular_symbols.proofs.Lattice.{counts_reciprocal}
 
 -- ---- signs
-signed-twice : (t : Bool) (z : ℤ) → signed t (signed t z) ≡ z
-signed-twice true z = neg_ℤ-neg_ℤ z
-signed-twice false z = refl
-
 -- two turns
 pub signed-other : (s t : Bool) (z : ℤ) → signed (not (beq s t)) z ≡ signed s (signed t z)
-signed-other true true z = sym (neg_ℤ-neg_ℤ z)
-signed-other true false z = refl
-signed-other false true z = refl
-signed-other false false z = refl
+signed-other s t z = grind (arith, neg_ℤ-neg_ℤ)
 
 signed-zero : (t : Bool) → signed t (pos 0) ≡ pos 0
-signed-zero true = refl
-signed-zero false = refl
+signed-zero t = grind arith
 
 -- ---- a power of two above
-odd_modulo_8 : (n : ℕ) → n % 2 ≡ 1 → ((n % 8 ≡ 3) ⊎ (n % 8 ≡ 5)) ⊎ ((n % 8 ≡ 1) ⊎ (n % 8 ≡ 7))
-odd_modulo_8 n o = search (arith, cases_eq)
-
 jacobi-twice : (k n : ℕ) → n % 2 ≡ 1 → jacobi (pos (2 * k)) n ≡ signed (leaves_3_or_5 n) (jacobi (pos k) n)
 jacobi-twice k n o =
     let product : jacobi (pos (2 * k)) n ≡ jacobi (pos 2) n *ℤ (jacobi (pos k) n) = jacobi-product (pos 2) (pos k) _ o in
-    search (arith, nat_tests, jacobi-two_turned, minus_one_times, jacobi-two_kept, one_times, odd_modulo_8)
+    grind (arith, nat_tests, jacobi-two n o, minus_one_times, one_times)
 
 one_more_two : (s : ℕ) (t : Bool) (z : ℤ) → signed t (signed (eqb (s % 2) 1 && t) z) ≡ signed (eqb (suc s % 2) 1 && t) z
-one_more_two s t z = search (arith, ne_eqb, eq-eqb, signed-twice, even_or_odd)
+one_more_two s t z = grind (arith, nat_tests, neg_ℤ-neg_ℤ)
 
 -- a factor 2 ^ s negates the symbol where s is odd and n is 3 or 5 modulo 8
 jacobi-twos : (a s n : ℕ) → n % 2 ≡ 1
@@ -66,17 +54,13 @@ sign-turned i j false e = search (arith, sign-even, sign-odd, even_or_odd)
 abbrev pub both_leave_3 : ℕ → ℕ → Bool
 both_leave_3 m n = eqb (m % 4) 3 && eqb (n % 4) 3
 
--- the symbol is negated where both are 3 modulo 4
-jacobi-swapped : (m n : ℕ) → m % 2 ≡ 1 → n % 2 ≡ 1 → jacobi (pos m) n ≡ signed (both_leave_3 m n) (jacobi (pos n) m)
-jacobi-swapped m n k o =
+-- the symbol is negated where both are 3 modulo 4, by a test of one's own
+pub jacobi_swapped_by : (b : Bool) (m n : ℕ) → m % 2 ≡ 1 → n % 2 ≡ 1 → b ≡ both_leave_3 m n
+    → jacobi (pos m) n ≡ signed b (jacobi (pos n) m)
+jacobi_swapped_by b m n k o e =
     ⊎_elim
     (λ (c : Coprime m n). search (arith, jacobi-coprime, sign-turned, counts_reciprocal, pairs-parity))
     (λ (z : Coprime m n → ⊥). search (arith, jacobi-shared, signed-zero)) (coprime_or_not _ _ (omega arith))
-
--- the same by a test of one's own
-pub jacobi_swapped_by : (b : Bool) (m n : ℕ) → m % 2 ≡ 1 → n % 2 ≡ 1 → b ≡ both_leave_3 m n
-    → jacobi (pos m) n ≡ signed b (jacobi (pos n) m)
-jacobi_swapped_by b m n k o e = jacobi-swapped m n k o ∙ sym (ap (λ v. signed v (jacobi (pos n) m)) e)
 
 -- two turns, one after the other
 pub turned_twice : (x y z : ℤ) (t u : Bool) → x ≡ signed t y → y ≡ signed u z → x ≡ signed (not (beq t u)) z
@@ -97,14 +81,7 @@ pub kept_turned : (w : ℤ) (x y r s : ℕ) (t u : Bool) → Keeps w x y t → s
 kept_turned w x y r s t u k o e = search (arith, signed-other)
 
 -- at the end
-kept_one : (w : ℤ) (x y : ℕ) (t : Bool) → Keeps w x y t → x ≡ 0 → y ≡ 1 → signed t (pos 1) ≡ w
-kept_one w x y t k e f =
-    sym (ap (λ z. signed t z) (ap (λ v. jacobi (pos v) y) e ∙ ap (λ v. jacobi (pos 0) v) f ∙ jacobi-zero_one)) ∙ k.value
 
-kept_none : (w : ℤ) (x y : ℕ) (t : Bool) → Keeps w x y t → x ≡ 0 → y ≢ 1 → pos 0 ≡ w
-kept_none w x y t k e f = search (arith, jacobi-zero, signed-zero)
-
--- so the last symbol is the symbol
 pub kept_last : (w s : ℤ) (x y : ℕ) (t : Bool) → Keeps w x y t → x ≡ 0 → (y ≡ 1 → s ≡ signed t (pos 1))
     → (y ≢ 1 → s ≡ pos 0) → s ≡ w
-kept_last w s x y t k e one more = search (arith, kept_one, kept_none, cases_eq)
+kept_last w s x y t k e one more = grind (arith, jacobi-zero, jacobi-zero_one, signed-zero)

@@ -25,35 +25,23 @@ exponent-below : (s : ℕ) → s < 2 ^ s
 exponent-below zero = pow_pos 0
 exponent-below (suc s) = let l = exponent-below s in omega (arith, pow-suc 2 s)
 
-twos_up_to-hit : (n k : ℕ) → n % 2 ^ suc k ≡ 0 → twos_up_to n (suc k) ≡ suc k
-unfolding twos_up_to
-twos_up_to-hit n k e = grind (arith, nat_tests)
-
-twos_up_to-miss : (n k : ℕ) → n % 2 ^ suc k ≢ 0 → twos_up_to n (suc k) ≡ twos_up_to n k
-unfolding twos_up_to
-twos_up_to-miss n k e = grind (arith, nat_tests)
-
-twos_up_to-none : (n : ℕ) → twos_up_to n 0 ≡ 0
-unfolding twos_up_to
-twos_up_to-none n = refl
-
 -- no greater power divides
 no_more : (n s k : ℕ) → s < k → SplitAt n s → n % 2 ^ k ≢ 0
 no_more n s k l split e =
     let p : 2 ^ k ≡ 2 ^ suc s * 2 ^ (k - suc s) =
     ap (λ v. 2 ^ v) (let f : k ≡ suc s + (k - suc s) = omega arith in f) ∙ pow-add _ (suc s) (k - suc s) in
     let d : n % 2 ^ suc s ≡ 0 = search (arith, divides_through, divides) in
-    let q : ℕ = n / 2 ^ suc s in
-    let u : 2 ^ suc s * q ≡ 2 ^ s * 2 * q = ap (λ v. v * q) (pow-suc _ _) in
-    let w : 2 ^ s * (n / 2 ^ s) ≡ 2 ^ s * (2 * q) = omega (arith, split.whole) in
+    let u = ap (λ v. v * (n / 2 ^ suc s)) (pow-suc 2 s) in
+    let w : 2 ^ s * (n / 2 ^ s) ≡ 2 ^ s * (2 * (n / 2 ^ suc s)) = omega (arith, split.whole) in
     search (arith, factor_cancel, pow_pos)
 
 twos_from : (n s k : ℕ) → s ≤ k → SplitAt n s → twos_up_to n k ≡ s
-twos_from n s zero l split = let z = twos_up_to-none n in omega arith
+unfolding twos_up_to
+twos_from n s zero l split = omega arith
 twos_from n s (suc k) l split =
     ⊎_elim
-    (λ (b : s ≤ k). twos_up_to-miss _ _ (no_more _ _ (suc k) (omega arith) split) ∙ twos_from n s k b split)
-    (λ (e : s ≡ suc k). search (arith, divides, twos_up_to-hit)) (last_or_before _ _ l)
+    (λ (b : s ≤ k). grind (arith, nat_tests, no_more n s (suc k) (omega arith) split, twos_from n s k b split))
+    (λ (e : s ≡ suc k). search (arith, divides, nat_tests)) (last_or_before _ _ l)
 
 -- it is the exponent of 2
 pub twos-is : (n s : ℕ) → SplitAt n s → twos n ≡ s
@@ -85,10 +73,8 @@ pub split_opposite : (w v d : ℕ) → 0 < v → 0 < d → v + d ≡ 2 ^ w → S
 split_opposite w v d p q e =
     let s : ℕ = count_trailing_zeros w v in
     let split : SplitAt v s = split_at _ _ p (omega arith) in
-    let most : s ≤ w = trailing_le _ _ in
     let u : ℕ = v / 2 ^ s in
-    let one : 1 * 2 ^ s ≤ u * 2 ^ s = mul-le-mul_right _ (let b : 1 ≤ u = omega arith in b) in
-    let below : s ≢ w = λ f. let g = ap (λ k. 2 ^ k) f in omega arith in
+    let below : s < w = fewer_zeros _ _ p (omega arith) in
     let m : ℕ = 2 ^ (w - suc s) in
     let power : 2 ^ w ≡ 2 ^ s * (2 * m) =
     ap (λ k. 2 ^ k) (let f : w ≡ suc s + (w - suc s) = omega arith in f) ∙ pow-add _ (suc s) (w - suc s)

@@ -24,13 +24,11 @@ half_system-preserved g c = counted_next record {
 pub returns-then-odd : goal.returns-then-odd
 returns-then-odd g c =
     let coprime = with_inverse _ _ _ _ _ (omega (arith, c.requires)) c.invm.ensures c.if-is_none.ensures in
-    sym (counted_all (signed c.args.a_minus (pos (g.T.RingWord.number c.args.a))) _ _
-    _ c.half_system.odd c.half_system.invariant c.requires c.half-half.ensures.value (grind arith) coprime
+    sym (counted_all _ _ _ _ _ c.half_system.invariant c.requires c.half-half.ensures.value (grind arith) coprime
     ∙ ap (λ v. cond v (negsuc 0) (pos 1)) c.if-odd.true)
 
 pub returns-else-odd : goal.returns-else-odd
 returns-else-odd g c =
     let coprime = with_inverse _ _ _ _ _ (omega (arith, c.requires)) c.invm.ensures c.if-is_none.ensures in
-    sym (counted_all (signed c.args.a_minus (pos (g.T.RingWord.number c.args.a))) _ _
-    _ c.half_system.odd c.half_system.invariant c.requires c.half-half.ensures.value (grind arith) coprime
+    sym (counted_all _ _ _ _ _ c.half_system.invariant c.requires c.half-half.ensures.value (grind arith) coprime
     ∙ ap (λ v. cond v (negsuc 0) (pos 1)) c.if-odd.false)

@@ -12,25 +12,11 @@ use Rattle.modular_symbols.proofs.halving.halve_and_swap.Goals as goal
 use Rattle.modular_symbols.proofs.halving.halve_and_swap.Goals.{After-rest-above}
 
 pub swaps-init : goal.swaps-init
-swaps-init g c =
-    record {
-      symbol = kept_start _ _ c.requires.odd;
-      counts = counts_start _ _ _;
-    }
-
-pub is_turned-turned-requires-clause-a_odd : goal.is_turned-turned-requires-clause-a_odd
-is_turned-turned-requires-clause-a_odd g c = c.odd_part-odd.ensures.odd
-
-pub is_turned-turned-requires-clause-n_odd : goal.is_turned-turned-requires-clause-n_odd
-is_turned-turned-requires-clause-n_odd g c = c.swaps.invariant.symbol.odd
+swaps-init g c = record { symbol = kept_start _ _ c.requires.odd; counts = counts_start _ _ _ }
 
 pub odd_part-odd-requires : goal.odd_part-odd-requires
 odd_part-odd-requires g c =
-    let some : g.T.RingWord.number c.swaps.above ≢ 0 = grind (arith, false≢true) in
-    omega (arith, some)
-
-pub rest-above-requires : goal.rest-above-requires
-rest-above-requires g c = omega arith
+    grind (arith, false≢true)
 
 pub swaps-smaller : goal.swaps-smaller
 swaps-smaller g c =
@@ -47,22 +33,17 @@ swaps-preserved g c =
       symbol =
           kept_swapped (jacobi (pos (n c.args.a)) (n c.args.n)) _ _ _ _ _ c.swaps.turned _
           c.swaps.invariant.symbol h c.is_turned-turned.ensures c.rest-above.ensures.rest;
-      counts =
-          counts_turn _ _ _ _ _ _ _ _ _ c.swaps.count
-          c.swaps.invariant.counts h c.rest-above.ensures.rest g.met.T.PathWord.base_is c.rest-above.ensures.fits;
+      counts = search (arith, counts_turn, g.met.T.PathWord.base_is);
     }
 
 -- the steps so far are few
 few : (g : _) (c : After-rest-above g) → c.swaps.count + (c.odd_part-odd.result.1 + 1) ≤ 2 * g.T.RingWord.width
 few g c =
-    let n = g.T.RingWord.number in
-    let h = halved_by (n c.swaps.above) c.odd_part-odd.result.1 (n c.odd_part-odd.result.0) c.odd_part-odd.ensures.odd
-    c.odd_part-odd.ensures.whole in
+    let h = halved_by _ _ _ c.odd_part-odd.ensures.odd c.odd_part-odd.ensures.whole in
     let after =
-    counts_turn g.T.RingWord.width g.T.PathWord.base (n c.args.a) (n c.args.n) (n c.swaps.above) (n c.swaps.below)
-    c.odd_part-odd.result.1 (n c.odd_part-odd.result.0) (n c.rest-above.result) c.swaps.count
-    c.swaps.invariant.counts h c.rest-above.ensures.rest g.met.T.PathWord.base_is c.rest-above.ensures.fits in
-    search (arith, counts_few)
+    counts_turn _ _ _ _ _ _ _ _ _ _ c.swaps.invariant.counts h
+    c.rest-above.ensures.rest g.met.T.PathWord.base_is c.rest-above.ensures.fits in
+    counts_few _ _ _ _ _ _ after c.requires.below
 
 pub overflow_add-count : goal.overflow_add-count
 overflow_add-count g c =

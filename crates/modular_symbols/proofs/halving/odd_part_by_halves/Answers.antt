@@ -6,11 +6,7 @@ use Rattle.std.proofs.lemmas.Bool.{cases_lt}
 use Rattle.modular_symbols.proofs.halving.odd_part_by_halves.Goals as goal
 
 pub halves-init : goal.halves-init
-halves-init g c =
-    record {
-      some = c.requires;
-      whole = mul-one _;
-    }
+halves-init g c = record { some = c.requires; whole = mul-one _ }
 
 pub halves-preserved : goal.halves-preserved
 halves-preserved g c =

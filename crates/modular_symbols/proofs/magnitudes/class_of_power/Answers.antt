@@ -1,9 +1,10 @@
 -- The class of each power, in the order of the tests.
 use Rattle.std.proofs.Common.{◌≡◌, ◌≢◌, pos, sym, ◌∙◌, arith}
 use Rattle.std.proofs.lemmas.Bool.{false≢true}
+use Rattle.std.proofs.lemmas.Bool.Decides.{nat_tests}
 use Rattle.modular_symbols.specs.Kronecker.{signed}
 use Rattle.modular_symbols.specs.Legendre.{checked_legendre_of}
-use Rattle.modular_symbols.proofs.LegendreClass.{class_by, class_is, class_by-zero, class_by-one, class_by-last, class_other}
+use Rattle.modular_symbols.proofs.LegendreClass.{class_by, class_is}
 use Rattle.modular_symbols.proofs.magnitudes.class_of_power.Goals as goal
 use Rattle.modular_symbols.proofs.magnitudes.class_of_power.Goals.{After-powm-power, After-eq-else-eq}
 
@@ -17,15 +18,15 @@ class g c = search (arith, false≢true, class_is)
 pub returns-then-is_zero_word-2 : goal.returns-then-is_zero_word-2
 returns-then-is_zero_word-2 g c =
     let zero = c.is_zero_word-else-is_zero_word.ensures.zero.0 c.if-is_zero_word-2.true in
-    sym (class g (goal.at.returns-then-is_zero_word-2 g c).After-powm-power
-    ∙ class_by-zero (g.T.RingWord.number c.minus-last.result) _ zero)
+    let by = class g (goal.at.returns-then-is_zero_word-2 g c).After-powm-power in
+    grind (arith, nat_tests)
 
 pub returns-then-eq : goal.returns-then-eq
 returns-then-eq g c =
     let one = (g.met.T.RingWord.equal c.powm-power.result c.one-else-is_zero_word-2.result).0
     (sym c.eq.ensures ∙ c.if-eq.true) ∙ c.one-else-is_zero_word-2.ensures in
-    sym (class g (goal.at.returns-then-eq g c).After-powm-power
-    ∙ class_by-one (g.T.RingWord.number c.minus-last.result) _ one)
+    let by = class g (goal.at.returns-then-eq g c).After-powm-power in
+    grind (arith, nat_tests)
 
 -- a power that is neither 0 nor 1
 not_zero : (g : _) (c : After-eq-else-eq g) → g.T.RingWord.number c.powm-power.result ≢ 0
@@ -39,8 +40,8 @@ returns-then-eq-2 g c =
     let d = (goal.at.returns-then-eq-2 g c).After-eq-else-eq in
     let is_last = (g.met.T.RingWord.equal c.powm-power.result c.minus-last.result).0
     (sym c.eq-else-eq.ensures ∙ c.if-eq-2.true) in
-    sym (class g (goal.at.returns-then-eq-2 g c).After-powm-power
-    ∙ class_by-last (g.T.RingWord.number c.minus-last.result) _ (not_zero g d) (not_one g d) is_last)
+    let by = class g (goal.at.returns-then-eq-2 g c).After-powm-power in
+    grind (arith, nat_tests, not_zero g d, not_one g d)
 
 pub returns-else-eq-2 : goal.returns-else-eq-2
 returns-else-eq-2 g c =
@@ -49,5 +50,5 @@ returns-else-eq-2 g c =
     let not_last : n c.powm-power.result ≢ n c.minus-last.result = λ e.
     let t = (g.met.T.RingWord.equal c.powm-power.result c.minus-last.result).1 e in
     false≢true (sym c.if-eq-2.false ∙ c.eq-else-eq.ensures ∙ t) in
-    sym (class g (goal.at.returns-else-eq-2 g c).After-powm-power
-    ∙ class_other (n c.minus-last.result) _ (not_zero g d) (not_one g d) not_last)
+    let by = class g (goal.at.returns-else-eq-2 g c).After-powm-power in
+    grind (arith, nat_tests, not_zero g d, not_one g d)

@@ -1,5 +1,5 @@
 -- The two cases, by which number is the greater.
-use Rattle.std.proofs.Common.{◌≡◌, ◌+◌, ◌/◌, ◌%◌, pos, ap, ◌∙◌, arith}
+use Rattle.std.proofs.Common.{◌≡◌, ◌+◌, ◌/◌, pos, ap, ◌∙◌, arith}
 use Rattle.modular_symbols.specs.Jacobi.{jacobi}
 use Rattle.modular_symbols.specs.Kronecker.{signed}
 use Rattle.modular_symbols.proofs.SubtractionSteps.{Wraps, wrapped_zeros, halved_above, halved_below}
@@ -29,11 +29,7 @@ halves g c =
     ]
 
 pub turn_by_twos-requires : goal.turn_by_twos-requires
-turn_by_twos-requires g c =
-    elim c.if-less.branch [
-      | then-less w ↦ ap (λ v. g.T.RingWord.number v.1 % 2) w.difference-is ∙ c.requires.a_odd
-      | else-less w ↦ ap (λ v. g.T.RingWord.number v.1 % 2) w.difference-is ∙ c.requires.n_odd
-    ]
+turn_by_twos-requires g c = search (arith, then-less, else-less)
 
 pub shift_right-requires : goal.shift_right-requires
 shift_right-requires g c =
@@ -43,11 +39,7 @@ shift_right-requires g c =
     wrapped_zeros _ _ _ _ _ _ wraps c.requires.differ c.trailing_zeros-zeros.ensures.value
 
 pub returns-clause-below_odd : goal.returns-clause-below_odd
-returns-clause-below_odd g c =
-    elim c.if-less.branch [
-      | then-less w ↦ ap (λ v. g.T.RingWord.number v.1 % 2) w.difference-is ∙ c.requires.a_odd
-      | else-less w ↦ ap (λ v. g.T.RingWord.number v.1 % 2) w.difference-is ∙ c.requires.n_odd
-    ]
+returns-clause-below_odd g c = search (arith, then-less, else-less)
 
 pub returns-clause-above_odd : goal.returns-clause-above_odd
 returns-clause-above_odd g c = (halves g c).odd
@@ -72,19 +64,9 @@ turn g c =
 pub returns-clause-symbol : goal.returns-clause-symbol
 returns-clause-symbol g c =
     let n = g.T.RingWord.number in
-    turns_added (jacobi (pos (n c.args.a)) (n c.args.n))
-    (jacobi (pos (n c.shift_right.result)) (n c.if-less.difference.1))
-    (c.args.swaps / 2 + c.args.twos) (c.turn_by_swap.result / 2 + c.turn_by_twos.result) _ (turn g c)
-    (xor-parities _ _ _ _)
+    turns_added _ _ (c.args.swaps / 2 + c.args.twos) _ _ (turn g c) (xor-parities _ _ _ _)
 
 pub returns-clause-less : goal.returns-clause-less
 returns-clause-less g c =
-    let n = g.T.RingWord.number in
-    elim c.if-less.branch [
-      | then-less w ↦
-          let sum = ap (λ v. n v.0 + n c.args.a) w.difference-is ∙ w.minus.ensures.value in
-          omega (arith, ((halves g c).within), sum, ap (λ v. n v.1) w.difference-is, c.requires.a_odd)
-      | else-less w ↦
-          let sum = ap (λ v. n v.0 + n c.args.n) w.difference-is ∙ w.minus-else-less.ensures.value in
-          omega (arith, ((halves g c).within), sum, ap (λ v. n v.1) w.difference-is, c.requires.n_odd)
-    ]
+    let within = (halves g c).within in
+    grind (arith, then-less, else-less)
