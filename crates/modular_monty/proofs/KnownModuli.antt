@@ -27,7 +27,7 @@ wrapped_narrow_square w v m narrow some fits =
     ap (λ n. n % q) (mod-eq_of_lt (omega arith) ∙ less) ∙ not_mod rest (2 * v) (omega arith) in
     let same : q - 1 - (m - 1) ≡ (0 + (q - m)) % q = grind (arith, mod-eq_of_lt) in
     ap (λ n. n % m) (low ∙ same) ∙ wrapped_square q m some room
-    ∙ ap (λ n. n % m) (ap (λ n. 2 ^ n) (let d : 2 * v ≡ v + v = omega arith in d) ∙ pow-add 2 v v)
+    ∙ ap (λ n. n % m) (ap (λ n. 2 ^ n) (omega arith) ∙ pow-add 2 v v)
 
 module _ (w b m : ℕ) (base : b ≡ 2 ^ w) (wide : 8 ≤ w) (odd : m % 2 ≡ 1) (fits : m < b) where
   some : 0 < b

@@ -73,9 +73,9 @@ module _ {w b m i square : ℕ} (r : IsOddRing w b m i square) where
       let j = (m * i + 1) / b in
       let e : (f * j % m * b) % m ≡ f % m =
       mul-mod_first (f * j) b m
-      ∙ ap (λ n. n % m) (let s : f * j * b ≡ f * (b * j) = omega arith in s)
+      ∙ ap (λ n. n % m) (omega arith)
       ∙ same_product m f f (b * j) 1 refl (base_inverse b m i (omega (arith, r.fits)) r.inverse)
-      ∙ ap (λ n. n % m) (let s : f * 1 ≡ f = omega arith in s) in
+      ∙ ap (λ n. n % m) (omega arith) in
       form_of_value (montgomery_canonical r)
       (value_stands h refl (record { below = mod-lt (f * j) (positive r); congruent = e }))
 
@@ -87,7 +87,7 @@ module _ {w b m i square : ℕ} (r : IsOddRing w b m i square) where
       let x = montgomery_value w m g in
       made (v + x)
       (eh ∙ same_sum m f (v * b) g (x * b) (same_form isf) (same_form isg)
-      ∙ ap (λ n. n % m) (let e : v * b + x * b ≡ (v + x) * b = omega arith in e))
+      ∙ ap (λ n. n % m) (omega arith))
 
   -- the double of a form is the form of the double
   pub double_made : {f h : ℕ} → Checked w m f → h ≡ (2 * f) % m → Made w m h ((2 * montgomery_value w m f) % m)
@@ -95,7 +95,7 @@ module _ {w b m i square : ℕ} (r : IsOddRing w b m i square) where
       let v = montgomery_value w m f in
       made (2 * v)
       (eh ∙ same_product m 2 2 f (v * b) refl (same_form is)
-      ∙ ap (λ n. n % m) (let e : 2 * (v * b) ≡ 2 * v * b = omega arith in e))
+      ∙ ap (λ n. n % m) (omega arith))
 
   -- the reduction of a product of two forms is the form of the product
   pub product_made : {f g t h : ℕ} → Checked w m f → Checked w m g → t ≡ f * g → IsReduction b m t h
@@ -105,7 +105,7 @@ module _ {w b m i square : ℕ} (r : IsOddRing w b m i square) where
       let x = montgomery_value w m g in
       reduced_made (v * x)
       (ap (λ n. n % m) et ∙ same_product m f (v * b) g (x * b) (same_form isf) (same_form isg)
-      ∙ ap (λ n. n % m) (let e : v * b * (x * b) ≡ v * x * b * b = omega arith in e)) is
+      ∙ ap (λ n. n % m) (omega arith)) is
 
   -- a word as a double word
   pub extended_below : {t f z : ℕ} → f < m → t ≡ f + b * z → z ≡ 0 → (t ≡ f) × (t < b * m)
@@ -121,7 +121,7 @@ module _ {w b m i square : ℕ} (r : IsOddRing w b m i square) where
       let u_is : x ≡ u = value_of_form r (value_stands below (extended_below below et eo).0 is) in
       made (v * x)
       (eh ∙ same_product m f (v * b) u x (same_form isf) (ap (λ n. n % m) (sym u_is))
-      ∙ ap (λ n. n % m) (let e : v * b * x ≡ v * x * b = omega arith in e))
+      ∙ ap (λ n. n % m) (omega arith))
 
   -- what reduces a form times the base and a sum of products of forms is the form of the sum
   pub products_made : {f h : ℕ} (n : ℕ) (x y : ℕ → ℕ) → Checked w m f → ((i : ℕ) → i < n → Checked w m (x i))
@@ -135,7 +135,7 @@ module _ {w b m i square : ℕ} (r : IsOddRing w b m i square) where
       let same : (g : ℕ) → Checked w m g → Congruent m g (v g * b) = λ g isg. record { same = same_form isg } in
       let each : (i : ℕ) → i < n → Congruent m (x i * y i) (b * b * (v (x i) * v (y i))) =
       λ i l. mod_trans (mod_mul (same (x i) (isx i l)) (same (y i) (isy i l)))
-      (mod_of_eq (let e : v (x i) * b * (v (y i) * b) ≡ b * b * (v (x i) * v (y i)) = omega arith in e)) in
+      (mod_of_eq (omega arith)) in
       let sum : Congruent m (sum_below n (λ i. x i * y i)) (b * b * products) =
       mod_trans (sum_below-congruent n (λ i. x i * y i) (λ i. b * b * (v (x i) * v (y i))) each)
       (mod_of_eq (sum_below-mul n (b * b) (λ i. v (x i) * v (y i)))) in
@@ -157,7 +157,7 @@ module _ {w b m i square : ℕ} (r : IsOddRing w b m i square) where
       same_sum m h h (x * b) g refl (sym (same_form isg)) ∙ ap (λ n. (n + g) % m) eh
       ∙ difference_and m f g some ∙ same_form isf
       ∙ same_product m v (d + x) b b (sym (difference_and m v x some)) refl
-      ∙ ap (λ n. n % m) (let e : (d + x) * b ≡ d * b + x * b = omega arith in e) in
+      ∙ ap (λ n. n % m) (omega arith) in
       subst (Made w m h) (mod-eq_of_lt (difference_below m v x some))
       (made d (sym (mod-eq_of_lt hh) ∙ same_without m h (d * b) (x * b) some sum))
 
@@ -177,13 +177,13 @@ module _ {w b m i square : ℕ} (r : IsOddRing w b m i square) where
       reduced_made n
       (ap (λ o. o % m) et
       ∙ same_product m n n square (b * b) refl (same_residue (b * b) m r.is_square)
-      ∙ ap (λ o. o % m) (let e : n * (b * b) ≡ n * b * b = omega arith in e)) is
+      ∙ ap (λ o. o % m) (omega arith)) is
 
   -- 0 is the form of 0
   pub zero_made : {n : ℕ} → n ≡ 0 → Made w m n (n % m)
   zero_made {n} e =
       made n
-      (e ∙ sym (mod-eq_of_lt (positive r)) ∙ ap (λ v. v % m) (let z : 0 ≡ 0 * b = omega arith in z)
+      (e ∙ sym (mod-eq_of_lt (positive r)) ∙ ap (λ v. v % m) (omega arith)
       ∙ ap (λ v. (v * b) % m) (sym e))
 
   pub zero_value : montgomery_value w m 0 ≡ 0

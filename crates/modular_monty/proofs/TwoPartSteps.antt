@@ -160,13 +160,13 @@ module _ {w b m s k i square : ℕ} (r : IsTwoPartRing w b m s k i square) where
       grind (arith, same_product, add-mul-mod_self_left) in
       let turns : (k * steps + d) % q ≡ 0 % q =
       same_sum _ _ _ _ _ (same_product q k k steps (d * i) refl (odd.same_residue (d * i) q es)) refl
-      ∙ ap (λ n. n % q) (let e : k * (d * i) + d ≡ d * (k * i + 1) = omega arith in e)
+      ∙ ap (λ n. n % q) (omega arith)
       ∙ same_product q d d (k * i + 1) 0 refl (negated_inverse r)
-      ∙ ap (λ n. n % q) (let e : d * 0 ≡ 0 = omega arith in e) in
+      ∙ ap (λ n. n % q) (omega arith) in
       let low : v % q ≡ f % q =
       ap (λ n. n % q) ev ∙ same_sum q u (d + f) (k * steps) (k * steps) (low_word (d + f) (sym ed)) refl
-      ∙ ap (λ n. n % q) (let e : d + f + k * steps ≡ f + (k * steps + d) = omega arith in e)
-      ∙ same_sum q f f (k * steps + d) 0 refl turns ∙ ap (λ n. n % q) (let e : f + 0 ≡ f = omega arith in e) in
+      ∙ ap (λ n. n % q) (omega arith)
+      ∙ same_sum q f f (k * steps + d) 0 refl turns ∙ ap (λ n. n % q) (omega arith) in
       let whole : f / q * q + f % q ≡ f = let e : q * (f / q) + f % q ≡ f = div-add-mod f q in omega arith in
       value_answered (two_part_canonical r) (record {
         below = omega (arith, ev, turns_below (d * i) of.below es);
@@ -181,8 +181,8 @@ module _ {w b m s k i square : ℕ} (r : IsTwoPartRing w b m s k i square) where
       let u = montgomery_value w k (f / 2 ^ s) in
       let d = u + (b - f) in
       let ed : (d + f) % b ≡ u =
-      ap (λ n. n % b) (let e : d + f ≡ u + b = omega (arith, r.fits) in e) ∙ add-mod_right u b
-      ∙ mod-eq_of_lt (let l : u < b = omega (arith, of.below, r.odd.fits) in l) in
+      ap (λ n. n % b) (omega (arith, r.fits)) ∙ add-mod_right u b
+      ∙ mod-eq_of_lt (omega (arith, of.below, r.odd.fits)) in
       form_of_value (two_part_canonical r)
       (value_made d refl (record { below = of.below; same = of.same }) ed refl refl).form
 

@@ -50,7 +50,7 @@ no_high B t low (suc high) less parts = omega arith
 -- by such a base, a number is congruent to its product with the base
 pub unit_product : (B m f : ℕ) → B % m ≡ 1 % m → (f * B) % m ≡ f % m
 unit_product B m f unit =
-    same_product m f f B 1 refl unit ∙ ap (λ n. n % m) (let s : f * 1 ≡ f = omega arith in s)
+    same_product m f f B 1 refl unit ∙ ap (λ n. n % m) (omega arith)
 
 -- so a number below m, which has the high word 0, is the reduction of itself
 pub unit_reduction : (B m t low high : ℕ) → B % m ≡ 1 % m → t < m → m < B → t ≡ low + B * high → IsReduction B m t low

@@ -10,10 +10,7 @@ high : (g : _) (c : After-split-high g)
     → (g.T.PathWord.double_number c.args.t + g.T.PathWord.double_number c.args.multiple) / g.T.PathWord.base
     ≡ g.T.RingWord.number c.split-high.result.1
 high g c =
-    let n = g.T.RingWord.number in
-    let is = c.split-high.ensures in
-    high_is g.T.PathWord.base _ (n c.split-high.result.0) (n c.split-high.result.1)
-    (sym c.double_plus.ensures ∙ is.value) is.low_fits
+    high_is _ _ _ _ (sym c.double_plus.ensures ∙ c.split-high.ensures.value) c.split-high.ensures.low_fits
 
 pub reduced_by_sign-requires-clause-below : goal.reduced_by_sign-requires-clause-below
 reduced_by_sign-requires-clause-below g c =

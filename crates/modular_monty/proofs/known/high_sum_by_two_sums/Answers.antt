@@ -11,10 +11,8 @@ use Rattle.modular_monty.proofs.known.high_sum_by_two_sums.Goals.{After-merge, A
 complement : (g : _) (c : After-merge g)
     → g.T.RingWord.number c.wrapping_sub-complement.result + g.T.RingWord.number c.args.m ≡ g.T.PathWord.base
 complement g c =
-    let n = g.T.RingWord.number in
-    complement_of g.T.PathWord.base (n c.args.m) (g.T.PathWord.double_number c.args.t)
-    (n c.wrapping_sub-complement.result) (n c.zero.result) c.requires.first c.requires.fits
-    c.wrapping_sub-complement.ensures.fits c.zero.ensures c.wrapping_sub-complement.ensures.value
+    complement_of _ _ _ _ _ c.requires.first c.requires.fits c.wrapping_sub-complement.ensures.fits
+    c.zero.ensures c.wrapping_sub-complement.ensures.value
 
 pub double_plus-more-requires : goal.double_plus-more-requires
 double_plus-more-requires g c =
@@ -36,16 +34,9 @@ added g c = omega (arith, c.double_plus-more.ensures, c.merge.ensures.value, c.z
 pub returns-then-is_above : goal.returns-then-is_above
 returns-then-is_above g c =
     let at = (goal.at.returns-then-is_above g c).After-split-rest in
-    let n = g.T.RingWord.number in
-    let W = g.T.PathWord.double_number in
-    let B = g.T.PathWord.base in
     let rest = c.split-rest.ensures in
-    above_modulus (n c.args.m) _ (n c.split-rest.result.1)
-    (high_sum_below B (n c.args.m) (W c.args.t) (W c.args.multiple) c.requires.cleared c.requires.first
-    c.requires.second)
-    (double_carried B (n c.args.m) _ (n c.wrapping_sub-complement.result) (W c.args.t) (W c.args.multiple)
-    (W c.double_plus-more.result) (W c.double_overflowing_add-less.result.0) (n c.split-rest.result.0)
-    (n c.split-rest.result.1) (multiple_of B (W c.args.t + W c.args.multiple) c.requires.cleared)
+    above_modulus _ _ _ (high_sum_below _ _ _ _ c.requires.cleared c.requires.first c.requires.second)
+    (double_carried _ _ _ _ _ _ _ _ _ _ (multiple_of _ _ c.requires.cleared)
     (complement g (goal.at.returns-then-is_above g c).After-merge) (added g at)
     (c.double_overflowing_add-less.ensures.carried c.if-is_above.true) rest.value rest.low_fits)
 
@@ -59,9 +50,7 @@ returns-else-is_above g c =
     let high = c.split-high.ensures in
     let sum = c.double_overflowing_add-sum in
     let less =
-    double_exact B (n c.args.m) _ (n c.wrapping_sub-complement.result) (W c.args.t) (W c.args.multiple)
-    (W c.double_plus-more.result) (W c.double_overflowing_add-less.result.0) (n c.split-rest.result.0)
-    (n c.split-rest.result.1) (multiple_of B (W c.args.t + W c.args.multiple) c.requires.cleared)
+    double_exact _ _ _ _ _ _ _ _ _ _ (multiple_of B (W c.args.t + W c.args.multiple) c.requires.cleared)
     (complement g (goal.at.returns-else-is_above g c).After-merge) (added g at)
     (c.double_overflowing_add-less.ensures.exact c.if-is_above.false) rest.value rest.low_fits in
     let below : (W c.args.t + W c.args.multiple) / B < n c.args.m = omega (arith, less, rest.high_fits) in

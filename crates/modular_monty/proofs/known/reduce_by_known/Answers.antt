@@ -1,5 +1,5 @@
 -- The sum of t and the multiple, by the base, modulo m.
-use Rattle.std.proofs.Common.{◌≡◌, ℕ, ◌+◌, ◌/◌, ◌%◌, ap, ◌∙◌}
+use Rattle.std.proofs.Common.{◌≡◌, ℕ, ◌+◌, ◌/◌, ◌%◌, arith}
 use Rattle.modular_word.proofs.ReductionSteps.{reduces}
 use Rattle.modular_word.specs.Reduction.{IsReduction}
 use Rattle.modular_monty.proofs.known.reduce_by_known.Goals as goal
@@ -12,11 +12,7 @@ reduced : (g : _) (c : After-bits g) (r : ℕ)
     % g.T.RingWord.number c.args.m
     → IsReduction g.T.PathWord.base (g.T.RingWord.number c.args.m) (g.T.PathWord.double_number c.args.t) r
 reduced g c r is =
-    let n = g.T.RingWord.number in
-    let B = g.T.PathWord.base in
-    let t = g.T.PathWord.double_number c.args.t in
-    reduces B (n c.args.m) t (n c.args.x) r c.requires.below c.requires.low
-    (is ∙ ap (λ v. ((t + v) / B) % n c.args.m) c.requires.multiple)
+    reduces _ _ _ (g.T.RingWord.number c.args.x) _ c.requires.below c.requires.low (search (arith, is))
 
 pub returns-then-has_top_bit : goal.returns-then-has_top_bit
 returns-then-has_top_bit g c =

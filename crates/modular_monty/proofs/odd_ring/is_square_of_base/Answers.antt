@@ -26,12 +26,9 @@ returns-then-not-is_below g c = (
 
 pub returns-then-is_one : goal.returns-then-is_one
 returns-then-is_one g c =
-    let d = (goal.at.returns-then-is_one g c).After-redc-unit in
-    let m = g.T.RingWord.number c.args.m in
-    let unit : g.T.RingWord.number c.redc-unit.result ≡ 1 = c.is_one.ensures.0 c.if-is_one.true in (
-      λ _. square_of_unit (some g d) c.requires.inverse (below g d) (first g d) c.redc-base.ensures
-          (second g d) c.redc-unit.ensures
-          (ap (λ v. v % m) unit),
+    let d = (goal.at.returns-then-is_one g c).After-redc-unit in (
+      λ _. square_of_unit (some g d) c.requires.inverse (below g d) (first g d) c.redc-base.ensures (second g d)
+          c.redc-unit.ensures (ap (λ v. v % g.T.RingWord.number c.args.m) (c.is_one.ensures.0 c.if-is_one.true)),
       λ _. c.if-is_one.true,
     )
 

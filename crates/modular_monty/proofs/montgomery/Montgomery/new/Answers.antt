@@ -1,5 +1,5 @@
 -- What is kept of m: its odd part, an odd number, and the exponent of the power of two.
-use Rattle.std.proofs.Common.{◌*◌, ◌^◌, ap, ◌∙◌}
+use Rattle.std.proofs.Common.{◌*◌, ◌^◌, ap, ◌∙◌, arith}
 use Rattle.modular_monty.proofs.Twos.{IsParted, parted_of, two_part_ring}
 use Rattle.modular_monty.proofs.montgomery.Montgomery.new.Goals as goal
 use Rattle.modular_monty.proofs.montgomery.Montgomery.new.Goals.{After-shift_right}
@@ -17,11 +17,8 @@ new-requires g c = (parted g (goal.at.new-requires g c).After-shift_right).odd
 
 pub invariant_of-result : goal.invariant_of-result
 invariant_of-result g c =
-    let twos = c.trailing_zeros-twos.ensures in
-    record {
-      ring = two_part_ring c.new.result.kept.ring (parted g (goal.at.invariant_of-result g c).After-shift_right)
-          twos.fits twos.value c.new.ensures;
-    }
+    let parts = parted g (goal.at.invariant_of-result g c).After-shift_right in
+    search (arith, two_part_ring)
 
 pub returns : goal.returns
 returns g c =

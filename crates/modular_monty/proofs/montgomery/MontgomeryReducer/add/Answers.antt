@@ -1,4 +1,4 @@
-use Rattle.std.proofs.Common.{◌+◌, ◌%◌}
+use Rattle.std.proofs.Common.{◌+◌, ◌%◌, arith}
 use Rattle.modular_word.proofs.Congruence.{same_sum}
 use Rattle.modular_monty.proofs.MontgomerySteps.{sum_made, form_below}
 use Rattle.modular_monty.proofs.TwoPartSteps.{operation_made, odd_checked, odd_answered}
@@ -6,12 +6,7 @@ use Rattle.modular_monty.proofs.montgomery.MontgomeryReducer.add.Goals as goal
 
 pub add_below-requires : goal.add_below-requires
 add_below-requires g c =
-    let r = c.args.self.now.ring in
-    let none = c.if-self-eq0.true in
-    record {
-      left = form_below r.odd (odd_checked r none c.requires.left);
-      right = form_below r.odd (odd_checked r none c.requires.right);
-    }
+    let r = c.args.self.now.ring in search (arith, form_below r.odd, odd_checked r c.if-self-eq0.true)
 
 pub returns-then-self-eq0 : goal.returns-then-self-eq0
 returns-then-self-eq0 g c =

@@ -8,16 +8,8 @@ use Rattle.modular_monty.specs.TwoParts.{two_part_value}
 use Rattle.modular_monty.proofs.TwoPartSteps.{odd_checked, odd_answered}
 use Rattle.modular_monty.proofs.montgomery.MontgomeryReducer.add_products.Goals as goal
 
-pub add_products-requires-clause-sum : goal.add_products-requires-clause-sum
-add_products-requires-clause-sum g c = odd_checked c.args.self.now.ring c.if-self-eq0.true c.requires.sum
-
-pub add_products-requires-clause-checked_xs : goal.add_products-requires-clause-checked_xs
-add_products-requires-clause-checked_xs g c =
-    λ i d l. odd_checked c.args.self.now.ring c.if-self-eq0.true (c.requires.checked_xs i d l)
-
-pub add_products-requires-clause-checked_ys : goal.add_products-requires-clause-checked_ys
-add_products-requires-clause-checked_ys g c =
-    λ i d l. odd_checked c.args.self.now.ring c.if-self-eq0.true (c.requires.checked_ys i d l)
+pub add_products-requires : goal.add_products-requires
+add_products-requires g c = search (arith, odd_checked c.args.self.now.ring c.if-self-eq0.true)
 
 pub returns-then-self-eq0 : goal.returns-then-self-eq0
 returns-then-self-eq0 g c =

@@ -1,16 +1,10 @@
-use Rattle.std.proofs.Common.{◌*◌, ◌%◌}
+use Rattle.std.proofs.Common.{◌*◌, ◌%◌, arith}
 use Rattle.modular_word.proofs.Congruence.{same_product}
 use Rattle.modular_monty.proofs.TwoPartSteps.{operation_made, odd_checked, odd_answered}
 use Rattle.modular_monty.proofs.montgomery.MontgomeryReducer.mul.Goals as goal
 
 pub mul-requires : goal.mul-requires
-mul-requires g c =
-    let r = c.args.self.now.ring in
-    let none = c.if-self-eq0.true in
-    record {
-      left = odd_checked r none c.requires.left;
-      right = odd_checked r none c.requires.right;
-    }
+mul-requires g c = search (arith, odd_checked c.args.self.now.ring c.if-self-eq0.true)
 
 pub returns-then-self-eq0 : goal.returns-then-self-eq0
 returns-then-self-eq0 g c =

@@ -1,16 +1,10 @@
-use Rattle.std.proofs.Common.{sym, pos, ◌-ℤ◌}
+use Rattle.std.proofs.Common.{sym, pos, ◌-ℤ◌, arith}
 use Rattle.modular_word.specs.Residues.{residue}
 use Rattle.modular_monty.proofs.TwoPartSteps.{difference_made, low_word, odd_checked, odd_answered}
 use Rattle.modular_monty.proofs.montgomery.MontgomeryReducer.sub.Goals as goal
 
 pub sub-requires : goal.sub-requires
-sub-requires g c =
-    let r = c.args.self.now.ring in
-    let none = c.if-self-eq0.true in
-    record {
-      left = odd_checked r none c.requires.left;
-      right = odd_checked r none c.requires.right;
-    }
+sub-requires g c = search (arith, odd_checked c.args.self.now.ring c.if-self-eq0.true)
 
 pub returns-then-self-eq0 : goal.returns-then-self-eq0
 returns-then-self-eq0 g c =
