@@ -83,29 +83,19 @@ module _ {w b m i square : ℕ} (r : IsOddRing w b m i square) where
   pub sum_made : {f g h : ℕ} → Checked w m f → Checked w m g → h ≡ (f + g) % m
       → Made w m h ((montgomery_value w m f + montgomery_value w m g) % m)
   sum_made {f} {g} isf isg eh =
-      let v = montgomery_value w m f in
-      let x = montgomery_value w m g in
-      made (v + x)
-      (eh ∙ same_sum m f (v * b) g (x * b) (same_form isf) (same_form isg)
-      ∙ ap (λ n. n % m) (omega arith))
+      made _ (eh ∙ same_sum _ _ _ _ _ (same_form isf) (same_form isg) ∙ ap (λ n. n % m) (omega arith))
 
   -- the double of a form is the form of the double
   pub double_made : {f h : ℕ} → Checked w m f → h ≡ (2 * f) % m → Made w m h ((2 * montgomery_value w m f) % m)
   double_made {f} is eh =
-      let v = montgomery_value w m f in
-      made (2 * v)
-      (eh ∙ same_product m 2 2 f (v * b) refl (same_form is)
-      ∙ ap (λ n. n % m) (omega arith))
+      made _ (eh ∙ same_product _ 2 2 _ _ refl (same_form is) ∙ ap (λ n. n % m) (omega arith))
 
   -- the reduction of a product of two forms is the form of the product
   pub product_made : {f g t h : ℕ} → Checked w m f → Checked w m g → t ≡ f * g → IsReduction b m t h
       → Made w m h ((montgomery_value w m f * montgomery_value w m g) % m)
   product_made {f} {g} isf isg et is =
-      let v = montgomery_value w m f in
-      let x = montgomery_value w m g in
-      reduced_made (v * x)
-      (ap (λ n. n % m) et ∙ same_product m f (v * b) g (x * b) (same_form isf) (same_form isg)
-      ∙ ap (λ n. n % m) (omega arith)) is
+      reduced_made _
+      (ap (λ n. n % m) et ∙ same_product _ _ _ _ _ (same_form isf) (same_form isg) ∙ ap (λ n. n % m) (omega arith)) is
 
   -- a word as a double word
   pub extended_below : {t f z : ℕ} → f < m → t ≡ f + b * z → z ≡ 0 → (t ≡ f) × (t < b * m)
@@ -115,13 +105,10 @@ module _ {w b m i square : ℕ} (r : IsOddRing w b m i square) where
   pub scaled_made : {f g t o u h : ℕ} → Checked w m f → Checked w m g → t ≡ g + b * o → o ≡ 0 → IsReduction b m t u
       → h ≡ (f * u) % m → Made w m h ((montgomery_value w m f * montgomery_value w m g) % m)
   scaled_made {f} {g} {t} {o} {u} isf isg et eo is eh =
-      let v = montgomery_value w m f in
-      let x = montgomery_value w m g in
       let below = form_below isg in
-      let u_is : x ≡ u = value_of_form r (value_stands below (extended_below below et eo).0 is) in
-      made (v * x)
-      (eh ∙ same_product m f (v * b) u x (same_form isf) (ap (λ n. n % m) (sym u_is))
-      ∙ ap (λ n. n % m) (omega arith))
+      let u_is = value_of_form r (value_stands below (extended_below below et eo).0 is) in
+      made _
+      (eh ∙ same_product _ _ _ _ _ (same_form isf) (ap (λ n. n % m) (sym u_is)) ∙ ap (λ n. n % m) (omega arith))
 
   -- what reduces a form times the base and a sum of products of forms is the form of the sum
   pub products_made : {f h : ℕ} (n : ℕ) (x y : ℕ → ℕ) → Checked w m f → ((i : ℕ) → i < n → Checked w m (x i))
@@ -175,16 +162,11 @@ module _ {w b m i square : ℕ} (r : IsOddRing w b m i square) where
   pub transform_made : (n : ℕ) {t h : ℕ} → t ≡ n * square → IsReduction b m t h → Made w m h (n % m)
   transform_made n et is =
       reduced_made n
-      (ap (λ o. o % m) et
-      ∙ same_product m n n square (b * b) refl (same_residue (b * b) m r.is_square)
-      ∙ ap (λ o. o % m) (omega arith)) is
+      (ap (λ o. o % m) et ∙ same_product m n n _ _ refl (same_residue _ m r.is_square) ∙ ap (λ o. o % m) (omega arith)) is
 
   -- 0 is the form of 0
   pub zero_made : {n : ℕ} → n ≡ 0 → Made w m n (n % m)
-  zero_made {n} e =
-      made n
-      (e ∙ sym (mod-eq_of_lt (positive r)) ∙ ap (λ v. v % m) (omega arith)
-      ∙ ap (λ v. (v * b) % m) (sym e))
+  zero_made {n} e = made n (grind (arith, mod-eq_of_lt, positive))
 
   pub zero_value : montgomery_value w m 0 ≡ 0
   zero_value = (zero_made refl).value ∙ mod-eq_of_lt (positive r)

@@ -42,7 +42,7 @@ module _ {b m i square t r s u : ℕ} (some : 0 < b) (inverse : IsNegatedInverse
   pub square_of_unit : u % m ≡ 1 % m → square ≡ (b * b) % m
   square_of_unit e =
       let one : 1 * b ≡ b = omega arith in
-      let base : r % m ≡ b % m = sym again ∙ same_product m u 1 b b e refl ∙ ap (λ n. n % m) one in
+      let base = sym again ∙ same_product m u 1 b b e refl ∙ ap (λ n. n % m) one in
       sym times_base ∙ same_product m r b b b base refl
 
   -- modulo 1 there is only one residue

@@ -46,8 +46,8 @@ module _ {w b m s k i square : ℕ} (r : IsTwoPartRing w b m s k i square) where
   by_parts x y e =
       let q = 2 ^ s in
       let whole : x % (k * q) ≡ y % (k * q) = ap (λ n. x % n) r.whole ∙ e ∙ ap (λ n. y % n) (sym r.whole) in (
-        sym (mod_of_multiple k q x) ∙ ap (λ n. n % k) whole ∙ mod_of_multiple k q y,
-        sym (mod_of_multiple_left q k x) ∙ ap (λ n. n % q) whole ∙ mod_of_multiple_left q k y,
+        search (arith, mod_of_multiple k q),
+        search (arith, mod_of_multiple_left q k),
       )
 
   -- two parts that represent x give the form of x modulo m
@@ -93,12 +93,9 @@ module _ {w b m s k i square : ℕ} (r : IsTwoPartRing w b m s k i square) where
       → odd.Stands w k u (op (montgomery_value w k y) (montgomery_value w k z) % k)
       → t ≡ op f g % b → h ≡ u * 2 ^ s + t % 2 ^ s → Made w m h (op (two_part_value w m f) (two_part_value w m g) % m)
   operation_made op same {f} {g} {y} {z} {u} {t} isf isg ey ez eu et eh =
-      let v = two_part_value w m f in
-      let x = two_part_value w m g in
-      made (op v x) t eu
-      (same k (montgomery_value w k y) v (montgomery_value w k z) x (odd.same_residue v k (high_value isf ey))
-      (odd.same_residue x k (high_value isg ez)))
-      (low_word (op f g) et ∙ same (2 ^ s) f v g x (parts isf).low (parts isg).low) eh
+      made _ t eu
+      (same _ _ _ _ _ (odd.same_residue _ k (high_value isf ey)) (odd.same_residue _ k (high_value isg ez)))
+      (low_word (op f g) et ∙ same _ _ _ _ _ (parts isf).low (parts isg).low) eh
 
   -- the product of two forms, by what reduces the high part of one
   pub scaled_made : {f g y z a o u x t h : ℕ} → Checked w m f → Checked w m g → y ≡ f / 2 ^ s → z ≡ g / 2 ^ s

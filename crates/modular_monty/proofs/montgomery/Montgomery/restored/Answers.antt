@@ -19,12 +19,10 @@ kept g c = ap (λ s. g.T.RingWord.number s.modulus) c.over.ensures ∙ ap g.T.Ri
 
 pub invariant_of-result : goal.invariant_of-result
 invariant_of-result g c =
-    let twos = c.trailing_zeros-twos.ensures in
     let at = goal.at.invariant_of-result g c in
-    record {
-      ring =
-          two_part_ring c.over.result.kept.ring (parted g at.After-shift_right) twos.fits twos.value (kept g at.After-over);
-    }
+    let parts = parted g at.After-shift_right in
+    let same = kept g at.After-over in
+    search (rules, two_part_ring)
 
 pub returns : goal.returns
 returns g c =

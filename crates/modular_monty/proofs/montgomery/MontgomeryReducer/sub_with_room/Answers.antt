@@ -5,13 +5,9 @@ use Rattle.modular_monty.proofs.montgomery.MontgomeryReducer.sub_with_room.Goals
 
 pub sub_with_room-requires : goal.sub_with_room-requires
 sub_with_room-requires g c =
-    let r = c.args.self.now.ring in
     let none = c.if-self-eq0.true in
-    record {
-      left = odd_checked r none c.requires.left;
-      right = odd_checked r none c.requires.right;
-      room = omega (arith, c.requires.room, ap (λ n. g.T.RingWord.number c.args.self.now.odd.kept.modulus * 2 ^ n) none);
-    }
+    let whole = ap (λ n. g.T.RingWord.number c.args.self.now.odd.kept.modulus * 2 ^ n) none in
+    search (arith, odd_checked c.args.self.now.ring none)
 
 pub returns-then-self-eq0 : goal.returns-then-self-eq0
 returns-then-self-eq0 g c =

@@ -23,16 +23,13 @@ each_block-init g c =
 
 pub reduced_products-reduced-requires-clause-below_xs : goal.reduced_products-reduced-requires-clause-below_xs
 reduced_products-reduced-requires-clause-below_xs g c =
-    let w = g.T.RingWord.width in
     λ i l. form_below (g.met.M.OddModulus.is_odd_ring c.args.self.now.kept)
-    (number_checked g.T.RingWord.number (montgomery_form w) (montgomery_value w) _ c.args.xs.now i c.requires.checked_xs l)
+    (number_checked _ _ _ _ c.args.xs.now i c.requires.checked_xs l)
 
 pub reduced_products-reduced-requires-clause-below_ys : goal.reduced_products-reduced-requires-clause-below_ys
 reduced_products-reduced-requires-clause-below_ys g c =
-    let w = g.T.RingWord.width in
     λ i l. form_below (g.met.M.OddModulus.is_odd_ring c.args.self.now.kept)
-    (number_checked g.T.RingWord.number (montgomery_form w) (montgomery_value w) _ c.args.ys.now i c.requires.checked_ys
-    (omega (arith, l, c.requires.equal)))
+    (number_checked _ _ _ _ c.args.ys.now i c.requires.checked_ys (omega (arith, l, c.requires.equal)))
 
 pub each_block-preserved : goal.each_block-preserved
 each_block-preserved g c =
