@@ -42,8 +42,7 @@ module _ {w b m i square : ℕ} (r : IsOddRing w b m i square) where
   -- the form of x modulo m
   pub made : (x : ℕ) {f : ℕ} → f ≡ (x * b) % m → Made w m f (x % m)
   made x e =
-      answered (montgomery_canonical r)
-      (record {
+      answered (montgomery_canonical r) (record {
         below = mod-lt x (positive r);
         same = e ∙ sym (mul-mod_first x b m) ∙ ap (λ n. (x % m * n) % m) r.base;
       })
@@ -72,8 +71,7 @@ module _ {w b m i square : ℕ} (r : IsOddRing w b m i square) where
   below_is_form f h =
       let j = (m * i + 1) / b in
       let e : (f * j % m * b) % m ≡ f % m =
-      mul-mod_first (f * j) b m
-      ∙ ap (λ n. n % m) (omega arith)
+      mul-mod_first (f * j) b m ∙ ap (λ n. n % m) (omega arith)
       ∙ same_product m f f (b * j) 1 refl (base_inverse b m i (omega (arith, r.fits)) r.inverse)
       ∙ ap (λ n. n % m) (omega arith) in
       form_of_value (montgomery_canonical r)
@@ -107,8 +105,7 @@ module _ {w b m i square : ℕ} (r : IsOddRing w b m i square) where
   scaled_made {f} {g} {t} {o} {u} isf isg et eo is eh =
       let below = form_below isg in
       let u_is = value_of_form r (value_stands below (extended_below below et eo).0 is) in
-      made _
-      (eh ∙ same_product _ _ _ _ _ (same_form isf) (ap (λ n. n % m) (sym u_is)) ∙ ap (λ n. n % m) (omega arith))
+      made _ (eh ∙ same_product _ _ _ _ _ (same_form isf) (ap (λ n. n % m) (sym u_is)) ∙ ap (λ n. n % m) (omega arith))
 
   -- what reduces a form times the base and a sum of products of forms is the form of the sum
   pub products_made : {f h : ℕ} (n : ℕ) (x y : ℕ → ℕ) → Checked w m f → ((i : ℕ) → i < n → Checked w m (x i))
@@ -121,14 +118,12 @@ module _ {w b m i square : ℕ} (r : IsOddRing w b m i square) where
       let products = sum_below n (λ i. v (x i) * v (y i)) in
       let same : (g : ℕ) → Checked w m g → Congruent m g (v g * b) = λ g isg. record { same = same_form isg } in
       let each : (i : ℕ) → i < n → Congruent m (x i * y i) (b * b * (v (x i) * v (y i))) =
-      λ i l. mod_trans (mod_mul (same (x i) (isx i l)) (same (y i) (isy i l)))
-      (mod_of_eq (omega arith)) in
+      λ i l. mod_trans (mod_mul (same (x i) (isx i l)) (same (y i) (isy i l))) (mod_of_eq (omega arith)) in
       let sum : Congruent m (sum_below n (λ i. x i * y i)) (b * b * products) =
       mod_trans (sum_below-congruent n (λ i. x i * y i) (λ i. b * b * (v (x i) * v (y i))) each)
       (mod_of_eq (sum_below-mul n (b * b) (λ i. v (x i) * v (y i)))) in
       let whole : v f * b * b + b * b * products ≡ (v f + products) * b * b = omega arith in
-      reduced_made (v f + products)
-      (mod_trans (mod_add (mod_mul (same f isf) (mod_refl b)) sum) (mod_of_eq whole)).same
+      reduced_made (v f + products) (mod_trans (mod_add (mod_mul (same f isf) (mod_refl b)) sum) (mod_of_eq whole)).same
       (record { below = below; congruent = is.same })
 
   -- the difference of two forms is the form of the difference
@@ -142,8 +137,7 @@ module _ {w b m i square : ℕ} (r : IsOddRing w b m i square) where
       let hh : h < m = omega (arith, eh, difference_below m f g some) in
       let sum : (h + x * b) % m ≡ (d * b + x * b) % m =
       same_sum m h h (x * b) g refl (sym (same_form isg)) ∙ ap (λ n. (n + g) % m) eh
-      ∙ difference_and m f g some ∙ same_form isf
-      ∙ same_product m v (d + x) b b (sym (difference_and m v x some)) refl
+      ∙ difference_and m f g some ∙ same_form isf ∙ same_product m v (d + x) b b (sym (difference_and m v x some)) refl
       ∙ ap (λ n. n % m) (omega arith) in
       subst (Made w m h) (mod-eq_of_lt (difference_below m v x some))
       (made d (sym (mod-eq_of_lt hh) ∙ same_without m h (d * b) (x * b) some sum))

@@ -9,10 +9,8 @@ pub inverse_of_negated : (b d n i : ℕ) → 1 < b → IsNegatedInverse b d n �
 inverse_of_negated b d n i h is e =
     let z : 0 % b ≡ 0 = mod-eq_of_lt (omega arith) in
     let both : (d * i + d * n) % b ≡ (1 + d * n) % b =
-    ap (λ v. v % b) (omega arith)
-    ∙ same_product b d d (i + n) 0 refl (e ∙ sym z) ∙ ap (λ v. v % b) (omega arith)
-    ∙ sym (next_is_multiple b (d * n) (omega arith) is.product)
-    ∙ ap (λ v. v % b) (omega arith) in
+    ap (λ v. v % b) (omega arith) ∙ same_product b d d (i + n) 0 refl (e ∙ sym z) ∙ ap (λ v. v % b) (omega arith)
+    ∙ sym (next_is_multiple b (d * n) (omega arith) is.product) ∙ ap (λ v. v % b) (omega arith) in
     same_without b (d * i) 1 (d * n) (omega arith) both ∙ mod-eq_of_lt h
 
 -- a remainder that 1 more brings to 0 is the greatest

@@ -93,8 +93,7 @@ module _ {w b m s k i square : ℕ} (r : IsTwoPartRing w b m s k i square) where
       → odd.Stands w k u (op (montgomery_value w k y) (montgomery_value w k z) % k)
       → t ≡ op f g % b → h ≡ u * 2 ^ s + t % 2 ^ s → Made w m h (op (two_part_value w m f) (two_part_value w m g) % m)
   operation_made op same {f} {g} {y} {z} {u} {t} isf isg ey ez eu et eh =
-      made _ t eu
-      (same _ _ _ _ _ (odd.same_residue _ k (high_value isf ey)) (odd.same_residue _ k (high_value isg ez)))
+      made _ t eu (same _ _ _ _ _ (odd.same_residue _ k (high_value isf ey)) (odd.same_residue _ k (high_value isg ez)))
       (low_word (op f g) et ∙ same _ _ _ _ _ (parts isf).low (parts isg).low) eh
 
   -- the product of two forms, by what reduces the high part of one
@@ -157,13 +156,11 @@ module _ {w b m s k i square : ℕ} (r : IsTwoPartRing w b m s k i square) where
       grind (arith, same_product, add-mul-mod_self_left) in
       let turns : (k * steps + d) % q ≡ 0 % q =
       same_sum _ _ _ _ _ (same_product q k k steps (d * i) refl (odd.same_residue (d * i) q es)) refl
-      ∙ ap (λ n. n % q) (omega arith)
-      ∙ same_product q d d (k * i + 1) 0 refl (negated_inverse r)
+      ∙ ap (λ n. n % q) (omega arith) ∙ same_product q d d (k * i + 1) 0 refl (negated_inverse r)
       ∙ ap (λ n. n % q) (omega arith) in
       let low : v % q ≡ f % q =
       ap (λ n. n % q) ev ∙ same_sum q u (d + f) (k * steps) (k * steps) (low_word (d + f) (sym ed)) refl
-      ∙ ap (λ n. n % q) (omega arith)
-      ∙ same_sum q f f (k * steps + d) 0 refl turns ∙ ap (λ n. n % q) (omega arith) in
+      ∙ ap (λ n. n % q) (omega arith) ∙ same_sum q f f (k * steps + d) 0 refl turns ∙ ap (λ n. n % q) (omega arith) in
       let whole : f / q * q + f % q ≡ f = let e : q * (f / q) + f % q ≡ f = div-add-mod f q in omega arith in
       value_answered (two_part_canonical r) (record {
         below = omega (arith, ev, turns_below (d * i) of.below es);

@@ -39,8 +39,7 @@ returns-else-is_one g c =
     let no : g.T.RingWord.number c.redc-unit.result ≡ 1 → ⊥ =
     λ e. false≢true (sym c.if-is_one.false ∙ c.is_one.ensures.1 e) in (
       λ one. square_modulo_one (some g d) c.requires.inverse (below g d) (first g d) c.redc-base.ensures
-          (second g d) c.redc-unit.ensures
-          (is.0 one),
+          (second g d) c.redc-unit.ensures (is.0 one),
       λ e. is.1 (modulus_is_one (some g d) c.requires.inverse (below g d) (first g d) c.redc-base.ensures
           (second g d) c.redc-unit.ensures no e),
     )
