@@ -49,8 +49,7 @@ second_bit n l o e = grind (arith, nat_tests)
 pub odd-both : (m n k l : ℕ) → m % 2 ≡ 1 → n % 2 ≡ 1 → k ≡ m % 2 ^ 32 → l ≡ n % 2 ^ 32
     → is_odd (bit_and k l / 2) ≡ both_leave_3 m n
 odd-both m n k l o p e f =
-    ap is_odd (and_shr k l 1) ∙ odd-and (k / 2) (l / 2)
-    ∙ search (arith, second_bit)
+    ap is_odd (and_shr k l 1) ∙ odd-and (k / 2) (l / 2) ∙ search (arith, second_bit)
 
 -- the third bit of the low part and 2, where the lowest of s is set
 pub odd_twos : (s n l : ℕ) → n % 2 ≡ 1 → l ≡ n % 2 ^ 32

@@ -13,8 +13,7 @@ returns-then-eq g c =
     let n = g.T.RingWord.number in
     let one = (g.met.T.RingWord.equal c.args.a c.one.result).0 (sym c.eq.ensures ∙ c.if-eq.true) ∙ c.one.ensures in
     sym (kronecker-over_zero c.args.a_minus c.args.n_minus (n c.args.a) (n c.args.n)
-    (c.is_zero_word.ensures.zero.0 c.if-is_zero_word.true)
-    ∙ cond-true _ _ _ (eq-eqb (n c.args.a) 1 one))
+    (c.is_zero_word.ensures.zero.0 c.if-is_zero_word.true) ∙ cond-true _ _ _ (eq-eqb (n c.args.a) 1 one))
 
 pub returns-else-eq : goal.returns-else-eq
 returns-else-eq g c =
@@ -23,8 +22,7 @@ returns-else-eq g c =
     let t = (g.met.T.RingWord.equal c.args.a c.one.result).1 (e ∙ sym c.one.ensures) in
     false≢true (sym c.if-eq.false ∙ c.eq.ensures ∙ t) in
     sym (kronecker-over_zero c.args.a_minus c.args.n_minus (n c.args.a) (n c.args.n)
-    (c.is_zero_word.ensures.zero.0 c.if-is_zero_word.true)
-    ∙ cond-false _ _ _ (ne_eqb (n c.args.a) 1 other))
+    (c.is_zero_word.ensures.zero.0 c.if-is_zero_word.true) ∙ cond-false _ _ _ (ne_eqb (n c.args.a) 1 other))
 
 pub returns-after-a_minus : goal.returns-after-a_minus
 returns-after-a_minus g c =
@@ -40,5 +38,4 @@ returns-after-a_minus g c =
     to_z-of_z w8 _ (search rules) ∙ c.turned_symbol.ensures.value ∙ ap (λ v. signed c.if-a_minus.turned_symbol v)
     (to_z-of_z w8 _ (search rules) ∙ c.symbol_above.ensures.value)
     ∙ ap (λ b. signed b (kronecker_above z (n c.args.n))) turned
-    ∙ sym (kronecker-over _ _ _ _ c.requires.a_sign c.requires.n_sign
-    (omega arith))
+    ∙ sym (kronecker-over _ _ _ _ c.requires.a_sign c.requires.n_sign (omega arith))

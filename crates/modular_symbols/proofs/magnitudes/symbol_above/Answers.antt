@@ -50,8 +50,7 @@ returns-after-twos-eq1-clause-value g c =
       | else-twos-eq1 w ↦ times_four s (n c.args.a) _ w.if-twos-eq1.false w.turned_symbol-is
     ] in
     to_z-of_z w8 _ (search rules) ∙ c.turned_symbol.ensures.value ∙ ap (λ v. signed c.if-twos-eq1.turned_symbol v)
-    (to_z-of_z w8 _ (search rules) ∙ c.jacobi_symbol-symbol.ensures
-    ∙ ap (λ k. jacobi z k) c.shift_right.ensures.value)
+    (to_z-of_z w8 _ (search rules) ∙ c.jacobi_symbol-symbol.ensures ∙ ap (λ k. jacobi z k) c.shift_right.ensures.value)
     ∙ ap (λ b. signed b (jacobi z (n c.args.n / 2 ^ s))) turned ∙ sym (above-twos _ _ _ s odd split)
 
 pub returns-else-is_odd-2-clause-value : goal.returns-else-is_odd-2-clause-value
