@@ -129,9 +129,6 @@ product_of_pairs p a o u z apart =
     ∙ ap (λ v. v % p) (product_to-power a (leads s) h ∙ ap (λ k. a ^ k) (omega (arith, half_lead)))
 
 -- ---- Wilson's theorem: the pairs of product 1, where 1 and p - 1 alone are paired with themselves
-square_less_one : (y : ℕ) → suc y * suc y ≡ y * (y + 2) + 1
-square_less_one y = omega arith
-
 root_of_one : (p x : ℕ) → IsPrime p → 0 < x → x < p → (x * x) % p ≡ 1 → x ≢ p - 1 → x ≡ 1
 root_of_one p zero u q l e z = absurd (omega arith)
 root_of_one p (suc y) u q l e z =
@@ -139,7 +136,7 @@ root_of_one p (suc y) u q l e z =
     (λ (n : y ≡ 0). omega arith)
     (λ (n : y ≡ 0 → ⊥).
     let gone : (y * (y + 2)) % p ≡ 0 % p =
-    same_without _ (y * (y + 2)) _ _ (omega arith) (sym (ap (λ v. v % p) (square_less_one y)) ∙ e
+    same_without _ (y * (y + 2)) _ 1 (omega arith) (ap (λ v. v % p) (omega arith) ∙ e
     ∙ sym (mod-eq_of_lt u.above_one)) in
     search (arith, coprime_cancel, below_coprime, zero-mod, below_not_divided))
     (cases_eq y _)

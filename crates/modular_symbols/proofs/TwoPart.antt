@@ -29,7 +29,7 @@ exponent-below (suc s) = let l = exponent-below s in omega (arith, pow-suc 2 s)
 no_more : (n s k : ℕ) → s < k → SplitAt n s → n % 2 ^ k ≢ 0
 no_more n s k l split e =
     let p : 2 ^ k ≡ 2 ^ suc s * 2 ^ (k - suc s) =
-    ap (λ v. 2 ^ v) (let f : k ≡ suc s + (k - suc s) = omega arith in f) ∙ pow-add _ (suc s) (k - suc s) in
+    ap (λ v. 2 ^ v) (omega arith) ∙ pow-add _ (suc s) (k - suc s) in
     let d : n % 2 ^ suc s ≡ 0 = search (arith, divides_through, divides) in
     let u = ap (λ v. v * (n / 2 ^ suc s)) (pow-suc 2 s) in
     let w : 2 ^ s * (n / 2 ^ s) ≡ 2 ^ s * (2 * (n / 2 ^ suc s)) = omega (arith, split.whole) in
@@ -77,8 +77,7 @@ split_opposite w v d p q e =
     let below : s < w = fewer_zeros _ _ p (omega arith) in
     let m : ℕ = 2 ^ (w - suc s) in
     let power : 2 ^ w ≡ 2 ^ s * (2 * m) =
-    ap (λ k. 2 ^ k) (let f : w ≡ suc s + (w - suc s) = omega arith in f) ∙ pow-add _ (suc s) (w - suc s)
-    ∙ ap (λ k. k * m) (pow-suc _ _) ∙ omega arith in
+    ap (λ k. 2 ^ k) (omega arith) ∙ pow-add _ (suc s) (w - suc s) ∙ ap (λ k. k * m) (pow-suc _ _) ∙ omega arith in
     let rest : d ≡ 2 ^ s * (d / 2 ^ s) = multiple_of _ _
     (divides_rest _ _ _ (divides (2 ^ s) v u (omega arith)) (divides _ _ _ (e ∙ power))) in
     let sum : u + d / 2 ^ s ≡ 2 * m = factor_cancel (2 ^ s) (u + d / 2 ^ s) (2 * m) (pow_pos s) (omega arith) in
