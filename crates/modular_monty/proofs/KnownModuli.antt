@@ -36,8 +36,7 @@ module _ (w b m : ℕ) (base : b ≡ 2 ^ w) (wide : 8 ≤ w) (odd : m % 2 ≡ 1)
   -- a number whose sum with p is congruent to 2
   from_two : (p : ℕ) → p < b → (2 + (b - p) + p) % b ≡ 2
   from_two p h =
-      let s : 2 + (b - p) + p ≡ 2 + b * 1 = omega arith in
-      ap (λ v. v % b) s ∙ add-mul-mod_self_left 2 b 1 ∙ mod-eq_of_lt (base_above_two w b base wide)
+      ap (λ v. v % b) (omega arith) ∙ add-mul-mod_self_left 2 b 1 ∙ mod-eq_of_lt (base_above_two w b base wide)
 
   -- each of Newton's steps adds a bit at least
   inverse_to : (c : ℕ) → (i : ℕ) × (i < b) × InverseTo w m i (c + 3)
@@ -69,8 +68,7 @@ module _ (w b m : ℕ) (base : b ≡ 2 ^ w) (wide : 8 ≤ w) (odd : m % 2 ≡ 1)
       let v = (b - i) % b in
       let unit : (m * i) % b ≡ 1 % b =
       ap (λ n. (m * i) % n) base ∙ known.2.inverse w (omega arith) (omega arith) ∙ ap (λ n. 1 % n) (sym base) in
-      let whole : b - i + i ≡ b = omega (arith, known.1) in
-      let zero_b : (v + i) % b ≡ 0 = mod-add-mod (b - i) b i ∙ ap (λ n. n % b) whole ∙ mod_self b in
+      let zero_b : (v + i) % b ≡ 0 = mod-add-mod (b - i) b i ∙ ap (λ n. n % b) (omega (arith, known.1)) ∙ mod_self b in
       let product : (m * v) % b ≡ b - 1 = lift_end w b m i (w + 3) v base wide known.2 (omega arith) zero_b in
       let is = negated_is i v unit (mod-lt (b - i) some) product in
       grind arith

@@ -156,7 +156,8 @@ module _ {w b m i square : ℕ} (r : IsOddRing w b m i square) where
   pub transform_made : (n : ℕ) {t h : ℕ} → t ≡ n * square → IsReduction b m t h → Made w m h (n % m)
   transform_made n et is =
       reduced_made n
-      (ap (λ o. o % m) et ∙ same_product m n n _ _ refl (same_residue _ m r.is_square) ∙ ap (λ o. o % m) (omega arith)) is
+      (ap (λ o. o % m) et ∙ same_product m n n _ _ refl (same_residue _ m r.is_square)
+      ∙ ap (λ o. o % m) (omega arith)) is
 
   -- 0 is the form of 0
   pub zero_made : {n : ℕ} → n ≡ 0 → Made w m n (n % m)

@@ -1,5 +1,5 @@
 -- The inverse of a number modulo the base, from its negated inverse.
-use Rattle.std.proofs.Common.{◌≡◌, ◌↔◌, ◌⊎◌, ℕ, ◌+◌, ◌-◌, ◌*◌, ◌%◌, ◌<◌, ◌≤◌, inl, inr, sym, ap, ◌∙◌, arith, refl}
+use Rattle.std.proofs.Common.{◌≡◌, ◌↔◌, ◌⊎◌, ℕ, ◌+◌, ◌-◌, ◌*◌, ◌%◌, ◌<◌, ◌≤◌, sym, ap, ◌∙◌, arith, refl}
 use Rattle.std.proofs.Math.Nat.{mod-eq_of_lt}
 use Rattle.modular_word.specs.Reduction.{IsNegatedInverse}
 use Rattle.modular_word.proofs.Congruence.{same_product, same_without, next_is_multiple}
@@ -15,8 +15,7 @@ inverse_of_negated b d n i h is e =
 
 -- a remainder that 1 more brings to 0 is the greatest
 greatest_remainder : (b p : ℕ) → p < b → (p + 1) % b ≡ 0 → (p + 1 < b) ⊎ (b ≤ p + 1) → p ≡ b - 1
-greatest_remainder b p below none (inl less) = grind (arith, mod-eq_of_lt)
-greatest_remainder b p below none (inr more) = omega arith
+greatest_remainder b p below none cases = grind (arith, mod-eq_of_lt)
 
 -- the remainder p of a product and 1 have the remainder 0 exactly where p is the greatest remainder
 pub negated_inverse_tested : (b m i p one s : ℕ) → p ≡ (m * i) % b → p < b → one ≡ 1 → s ≡ (p + one) % b

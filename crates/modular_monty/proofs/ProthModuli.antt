@@ -1,5 +1,5 @@
 -- The moduli k * 2^n + 1.
-use Rattle.std.proofs.Common.{subst, suc, ◌≡◌, ℕ, ◌+◌, ◌-◌, ◌*◌, ◌%◌, ◌^◌, ap, ◌∙◌, arith}
+use Rattle.std.proofs.Common.{subst, ◌≡◌, ℕ, ◌+◌, ◌-◌, ◌*◌, ◌%◌, ◌^◌, ap, ◌∙◌, arith}
 use Rattle.std.proofs.Math.Nat.{pow-suc, add-mul-mod_self_left}
 use Rattle.modular_monty.specs.Montgomery.{IsOddRing}
 use Rattle.modular_monty.specs.Proth.{IsProth, IsProthRange, proth_modulus}
@@ -8,8 +8,7 @@ use Rattle.modular_monty.specs.Proth.{IsProth, IsProthRange, proth_modulus}
 pub proth_odd : {w greatest n k m : ℕ} → IsProth w greatest n k m → m % 2 ≡ 1
 proth_odd {w} {greatest} {n} {k} {m} is =
     let half = 2 ^ (n - 1) in
-    let next : n ≡ suc (n - 1) = omega (arith, is.range.n_positive) in
-    let even : 2 ^ n ≡ half * 2 = ap (λ v. 2 ^ v) next ∙ pow-suc 2 (n - 1) in
+    let even : 2 ^ n ≡ half * 2 = ap (λ v. 2 ^ v) (omega (arith, is.range.n_positive)) ∙ pow-suc 2 (n - 1) in
     let whole : m ≡ 1 + 2 * (k * half) = is.same ∙ ap (λ v. k * v + 1) even ∙ omega arith in
     ap (λ v. v % 2) whole ∙ add-mul-mod_self_left 1 2 (k * half)
 

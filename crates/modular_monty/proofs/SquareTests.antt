@@ -35,8 +35,7 @@ module _ {b m i square t r s u : ℕ} (some : 0 < b) (inverse : IsNegatedInverse
   unit_of_square : square ≡ (b * b) % m → u ≡ 1 % m
   unit_of_square e =
       let base : r % m ≡ b % m = cancels r b (times_base ∙ e) in
-      let one : 1 * b ≡ b = omega arith in
-      sym (mod-eq_of_lt twice.below) ∙ cancels u 1 (again ∙ base ∙ ap (λ n. n % m) (sym one))
+      sym (mod-eq_of_lt twice.below) ∙ cancels u 1 (again ∙ base ∙ ap (λ n. n % m) (omega arith))
 
   -- and what they make 1 of is that square
   pub square_of_unit : u % m ≡ 1 % m → square ≡ (b * b) % m

@@ -1,5 +1,5 @@
 -- Reductions of small numbers, and bases that are 1 modulo m.
-use Rattle.std.proofs.Common.{◌≡◌, ℕ, suc, zero, ◌+◌, ◌*◌, ◌%◌, ◌<◌, sym, ap, ◌∙◌, arith, refl, subst}
+use Rattle.std.proofs.Common.{◌≡◌, ℕ, suc, zero, ◌+◌, ◌*◌, ◌%◌, ◌<◌, ap, ◌∙◌, arith, refl}
 use Rattle.std.proofs.Math.Nat.{mod-eq_of_lt, mul-le-mul_left, mul-le-mul_right, add-mul-mod_self_left, add-mul-mod_self_right}
 use Rattle.std.proofs.Math.Nat.{lt_of_mul-lt-mul_right}
 use Rattle.std.proofs.lemmas.Nat.{div-mul-add}
@@ -55,6 +55,6 @@ unit_product B m f unit =
 -- so a number below m, which has the high word 0, is the reduction of itself
 pub unit_reduction : (B m t low high : ℕ) → B % m ≡ 1 % m → t < m → m < B → t ≡ low + B * high → IsReduction B m t low
 unit_reduction B m t low high unit less fits parts =
-    let none : high ≡ 0 = no_high B t low high (omega (arith, less, fits)) parts in
+    let none = no_high B t low high (omega (arith, less, fits)) parts in
     let same : low ≡ t = omega (arith, parts, ap (λ n. B * n) none) in
-    subst (λ n. IsReduction B m t n) (sym same) (record { below = less; congruent = unit_product B m t unit })
+    rw same (record { below = less; congruent = unit_product B m t unit })
