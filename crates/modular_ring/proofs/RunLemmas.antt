@@ -17,6 +17,7 @@ use Rattle.modular_ring.specs.declared.ring.RingCommand.TheVariants.{Load, Add, 
 use Rattle.modular_ring.specs.declared.ring.RunEnd.TheVariants.{Done, NoInverse}
 use Rattle.modular_ring.specs.Ring.{HoldValues, IsFormOf, destination_of, outcome, value_after}
 use Rattle.modular_ring.specs.Ring.{value_at, LacksInverse, LacksInverseAt, IsStop, values_of, IsFit, whole}
+use Rattle.modular_ring.specs.RunSteps.{CarriesOn}
 
 -- what is read of register a has the value v a
 pub value_of : {T : Type 0} {number : T → ℕ} {form value : ℕ → ℕ → ℕ} {width m : ℕ}
@@ -204,3 +205,16 @@ never_stops {m} {start} {commands} passed at stop = passed at (some_within comma
 pub read_map : {C D : Type 0} (f : C → D) (xs : List C) (i : ℕ) (x : C) → slice_get xs i ≡ Some x
     → slice_get (map f xs) i ≡ Some (f x)
 read_map f xs i x e = slice_get-map f xs i ∙ ap (option_map f) e
+
+-- commands carried out, and then more
+pub carries_both : {T : Type 0} {number : T → ℕ} {form value : ℕ → ℕ → ℕ} {m : ℕ} {commands : List (RingCommand ℕ)}
+    {before between after : List T} {from mid to k n : ℕ} {x y : T}
+    → CarriesOn number form value m commands before between from mid k x
+    → CarriesOn number form value m commands between after mid to n y
+    → CarriesOn number form value m commands before after from to n y
+carries_both first second = record {
+  count = second.count ∙ first.count;
+  checked = second.checked;
+  holds = second.holds;
+  reached = λ start reached. second.reached start (first.reached start reached);
+}

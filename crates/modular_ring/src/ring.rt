@@ -7,7 +7,7 @@ ghost use Rattle.modular_reduced.specs.Forms.{IsForm};
 ghost use Rattle.modular_ring.specs.Ring.{whole, destination_of, outcome, value_at, IsStop};
 ghost use Rattle.modular_ring.specs.Ring.{value_after, LacksInverse, carried_out, IsFit, values_of, HoldValues};
 ghost use Rattle.modular_ring.specs.Ring.{IsFormOf, LacksInverseAt};
-ghost use Rattle.modular_ring.specs.RunSteps.{IsHeldAt, Combines, IsReached};
+ghost use Rattle.modular_ring.specs.RunSteps.{IsHeldAt, Combines, IsReached, CarriesOn};
 ghost use Rattle.modular_ring.specs.declared.ring.RingCommand.{RingCommand};
 
 use modular_reduced::reducer::Reducer;
@@ -449,13 +449,9 @@ fn carry_out_at<T: RingWord, R: Reducer<T>, C: AsCommand<T>>(
     requires fit { All (λ c. IsFit (length regs.old) (C.command c)) commands.now }
     requires holds { IsHeldAt regs.old last.old.register last.old.form }
     requires within { at.old < length commands.now }
-    ensures count { length regs.new ≡ length regs.old }
-    ensures checked { All (λ f. IsForm R.form R.value (R.modulus r.now) (T.number f)) regs.new }
-    ensures holds { IsHeldAt regs.new last.new.register last.new.form }
-    ensures reached { let m = R.modulus r.now in
-        let wholes = map (λ c. whole T.number (C.command c)) commands.now in
-        (start : List ℕ) → IsReached T.number R.form m start wholes regs.old at.old →
-        IsReached T.number R.form m start wholes regs.new at.new }
+    ensures carried { let wholes = map (λ c. whole T.number (C.command c)) commands.now in
+        CarriesOn T.number R.form R.value (R.modulus r.now) wholes regs.old regs.new at.old at.new last.new.register
+        last.new.form }
     ensures lacks { let m = R.modulus r.now in
         let wholes = map (λ c. whole T.number (C.command c)) commands.now in
         (start : List ℕ) → IsReached T.number R.form m start wholes regs.old at.old →
@@ -482,13 +478,9 @@ fn carry_out_two<T: RingWord, R: Reducer<T>, C: AsCommand<T>>(
     requires fit { All (λ c. IsFit (length regs.old) (C.command c)) commands.now }
     requires holds { IsHeldAt regs.old last.old.register last.old.form }
     requires within { at.old + 2 ≤ length commands.now }
-    ensures count { length regs.new ≡ length regs.old }
-    ensures checked { All (λ f. IsForm R.form R.value (R.modulus r.now) (T.number f)) regs.new }
-    ensures holds { IsHeldAt regs.new last.new.register last.new.form }
-    ensures reached { let m = R.modulus r.now in
-        let wholes = map (λ c. whole T.number (C.command c)) commands.now in
-        (start : List ℕ) → IsReached T.number R.form m start wholes regs.old at.old →
-        IsReached T.number R.form m start wholes regs.new at.new }
+    ensures carried { let wholes = map (λ c. whole T.number (C.command c)) commands.now in
+        CarriesOn T.number R.form R.value (R.modulus r.now) wholes regs.old regs.new at.old at.new last.new.register
+        last.new.form }
     ensures lacks { let m = R.modulus r.now in
         let wholes = map (λ c. whole T.number (C.command c)) commands.now in
         (start : List ℕ) → IsReached T.number R.form m start wholes regs.old at.old →
@@ -511,13 +503,9 @@ fn carry_out_four<T: RingWord, R: Reducer<T>, C: AsCommand<T>>(
     requires fit { All (λ c. IsFit (length regs.old) (C.command c)) commands.now }
     requires holds { IsHeldAt regs.old last.old.register last.old.form }
     requires within { at.old + 4 ≤ length commands.now }
-    ensures count { length regs.new ≡ length regs.old }
-    ensures checked { All (λ f. IsForm R.form R.value (R.modulus r.now) (T.number f)) regs.new }
-    ensures holds { IsHeldAt regs.new last.new.register last.new.form }
-    ensures reached { let m = R.modulus r.now in
-        let wholes = map (λ c. whole T.number (C.command c)) commands.now in
-        (start : List ℕ) → IsReached T.number R.form m start wholes regs.old at.old →
-        IsReached T.number R.form m start wholes regs.new at.new }
+    ensures carried { let wholes = map (λ c. whole T.number (C.command c)) commands.now in
+        CarriesOn T.number R.form R.value (R.modulus r.now) wholes regs.old regs.new at.old at.new last.new.register
+        last.new.form }
     ensures lacks { let m = R.modulus r.now in
         let wholes = map (λ c. whole T.number (C.command c)) commands.now in
         (start : List ℕ) → IsReached T.number R.form m start wholes regs.old at.old →
@@ -540,13 +528,9 @@ fn carry_out_all<T: RingWord, R: Reducer<T>, C: AsCommand<T>>(
     requires fit { All (λ c. IsFit (length regs.old) (C.command c)) commands.now }
     requires holds { IsHeldAt regs.old last.old.register last.old.form }
     requires within { at.old ≤ length commands.now }
-    ensures count { length regs.new ≡ length regs.old }
-    ensures checked { All (λ f. IsForm R.form R.value (R.modulus r.now) (T.number f)) regs.new }
-    ensures holds { IsHeldAt regs.new last.new.register last.new.form }
-    ensures reached { let m = R.modulus r.now in
-        let wholes = map (λ c. whole T.number (C.command c)) commands.now in
-        (start : List ℕ) → IsReached T.number R.form m start wholes regs.old at.old →
-        IsReached T.number R.form m start wholes regs.new at.new }
+    ensures carried { let wholes = map (λ c. whole T.number (C.command c)) commands.now in
+        CarriesOn T.number R.form R.value (R.modulus r.now) wholes regs.old regs.new at.old at.new last.new.register
+        last.new.form }
     ensures lacks { let m = R.modulus r.now in
         let wholes = map (λ c. whole T.number (C.command c)) commands.now in
         (start : List ℕ) → IsReached T.number R.form m start wholes regs.old at.old →

@@ -14,17 +14,9 @@ over_wholes number command_of c = whole number (command_of c)
 true_not_false : {b : Bool} → IsTrue b → IsFalse b → ⊥
 true_not_false holds fails = cc
 
-pub returns-then-done-clause-checked : goal.returns-then-done-clause-checked
-returns-then-done-clause-checked g c =
-    let number = g.T.RingWord.number in
-    let m = g.R.Reducer.modulus c.args.r.now in
-    let before = start_holds number g.R.Reducer.form g.R.Reducer.value m c.args.regs.now c.requires.checked in
-    held_checked number c.carry_out-done.new.regs _ (g.met.R.Reducer.canonical c.args.r.now)
-    (c.carry_out-done.ensures.values c.if-done.true _ before)
-
-pub returns-then-done-clause-reached : goal.returns-then-done-clause-reached
-returns-then-done-clause-reached g c start reached =
-    let number = g.T.RingWord.number in
+pub returns-then-done-clause-carried : goal.returns-then-done-clause-carried
+returns-then-done-clause-carried g c =
+    let number = g.T.RingWord.number in let form = g.R.Reducer.form in
     let m = g.R.Reducer.modulus c.args.r.now in
     let read_as = over_wholes number g.C.AsCommand.command in
     let wholes = map read_as c.args.commands.now in
@@ -35,11 +27,17 @@ returns-then-done-clause-reached g c start reached =
     read_map read_as c.args.commands.now at command read in
     let told = c.if-done.true in
     record {
-      held = after_command number g.R.Reducer.form m start wholes at c.carry_out-done.new.regs (read_as command) is
-          ((rw c.command.ensures at c.carry_out-done.ensures.values) told (value_at m start wholes at) reached.held);
-      passed = below_more (λ j. LacksInverseAt m start wholes j → ⊥) at reached.passed (λ lacks. absurd (true_not_false told
-          (((rw c.command.ensures at c.carry_out-done.ensures.missing) (value_at m start wholes at) reached.held).1
-          (lacks_of m start wholes at (read_as command) is lacks))));
+      count = c.carry_out-done.ensures.count;
+      checked = held_checked number c.carry_out-done.new.regs _ (g.met.R.Reducer.canonical c.args.r.now)
+          (c.carry_out-done.ensures.values told _ (start_holds number form g.R.Reducer.value m c.args.regs.now c.requires.checked));
+      holds = c.carry_out-done.ensures.holds;
+      reached = λ start reached. record {
+        held = after_command number form m start wholes at c.carry_out-done.new.regs (read_as command) is
+            ((rw c.command.ensures at c.carry_out-done.ensures.values) told (value_at m start wholes at) reached.held);
+        passed = below_more (λ j. LacksInverseAt m start wholes j → ⊥) at reached.passed (λ lacks. absurd (true_not_false told
+            (((rw c.command.ensures at c.carry_out-done.ensures.missing) (value_at m start wholes at) reached.held).1
+            (lacks_of m start wholes at (read_as command) is lacks))));
+      };
     }
 
 pub returns-else-done-clause-lacks : goal.returns-else-done-clause-lacks

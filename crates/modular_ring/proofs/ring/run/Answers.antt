@@ -34,17 +34,17 @@ returns-then-not-carry_out_all g c =
     let start = values_of number g.R.Reducer.value m c.args.regs.now in
     let wholes = map (over_wholes number g.C.AsCommand.command) c.args.commands.now in
     let before = begun number form g.R.Reducer.value m c.args.regs.now wholes c.requires.checked in
-    let reached = c.carry_out_all.ensures.reached start before in
+    let reached = c.carry_out_all.ensures.carried.reached start before in
     let stop : IsStop m start wholes c.carry_out_all.new.at = record {
       lacks = c.carry_out_all.ensures.lacks start before c.if-not-carry_out_all.true;
       first = reached.passed;
     } in
-    let count = c.carry_out_all.ensures.count in
+    let count = c.carry_out_all.ensures.carried.count in
     record {
       stops = stops_at stop;
       done = not_done stop;
       values = reached.held;
-      checked = c.carry_out_all.ensures.checked;
+      checked = c.carry_out_all.ensures.carried.checked;
       residues = λ n h. held_values number c.carry_out_all.new.regs _ n canonical reached.held (omega (arith, h, count));
       read = λ n other h. canonical.one_value _ _ (reached.held.each n other (omega (arith, h, count)));
     }
@@ -63,18 +63,18 @@ returns g c =
     let read_as = over_wholes number g.C.AsCommand.command in
     let wholes = map read_as c.args.commands.now in
     let before = begun number form g.R.Reducer.value m c.args.regs.now wholes c.requires.checked in
-    let reached = c.carry_out_all.ensures.reached start before in
+    let reached = c.carry_out_all.ensures.carried.reached start before in
     let all : c.carry_out_all.new.at ≡ length wholes =
     omega (arith, length-map c.args.commands.now read_as, c.carry_out_all.ensures.moved c.if-not-carry_out_all.false) in
     let held : HoldValues number form m c.carry_out_all.new.regs (value_at m start wholes (length wholes)) =
     subst (λ n. HoldValues number form m c.carry_out_all.new.regs (value_at m start wholes n)) all reached.held in
     let never = never_stops (λ j h lacks. reached.passed j (omega (arith, h, all)) lacks) in
-    let count = c.carry_out_all.ensures.count in
+    let count = c.carry_out_all.ensures.carried.count in
     record {
       stops = λ at. (λ e. absurd (done_not_stopped at e), λ stop. absurd (never at stop));
       done = (λ e. never, λ h. refl);
       values = held;
-      checked = c.carry_out_all.ensures.checked;
+      checked = c.carry_out_all.ensures.carried.checked;
       residues = λ n h. held_values number c.carry_out_all.new.regs _ n canonical held (omega (arith, h, count));
       read = λ n other h. canonical.one_value _ _ (held.each n other (omega (arith, h, count)));
     }
