@@ -6,7 +6,7 @@ use std::fmt::Debug;
 
 fn is_right<T: RingWord + Debug, R: Reducer<T>>(m: u64, words: fn(u64) -> T) {
     let ring = R::new(&words(m));
-    for length in [1, 2, 255, 256, 4095, 4096, 4097, 8193, 70_000] {
+    for length in [1, 2, 127, 128, 129, 255, 256, 4095, 4096, 4097, 8193, 70_000] {
         let xs = vec![ring.transform(words(m - 1)); length];
         assert_eq!(dot_product(&ring, &xs, &xs), ring.transform(words(length as u64 % m)), "{length} modulo {m}");
     }
