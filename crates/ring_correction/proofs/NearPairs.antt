@@ -4,16 +4,16 @@ use Rattle.std.proofs.Common.{◌≡◌, ℕ, zero, suc, ◌+◌, ◌-◌, ◌*�
 use Rattle.std.proofs.Common.{ap, sym, ◌∙◌, arith, inl, inr, subst, refl, mod-eq_of_lt}
 use Rattle.std.proofs.Math.Nat.{mod-mod, zero-mod}
 use Rattle.std.proofs.lemmas.Bool.{cases_eq, cases_lt}
-use Rattle.std.proofs.Common.{List, [], ◌∷◌, length, take, get_or, set, All, get_or-set_same, get_or-set_other, length-take-le}
+use Rattle.std.proofs.Common.{List, length, take, get_or, set, All, get_or-set_same, get_or-set_other, length-take-le}
 use Rattle.num_modular.specs.Callers.{same_coefficients, entry, entry_at, entry_read, form_read, held_entry, hold_more, IsForm, HoldBelow}
 use Rattle.num_modular.specs.Congruence.{Congruent}
 use Rattle.num_modular.specs.Inverses.{IsInverse, HasInverse}
-use Rattle.num_modular.specs.NumberLaws.{mod_mul, mod_of_eq, mod_refl, mod_sym, mod_trans, mod_add}
+use Rattle.num_modular.specs.NumberLaws.{mod_of_eq, mod_refl, mod_sym, mod_trans, mod_add}
 use Rattle.num_modular.specs.NumberLaws.{sum_below-same, sum_below-more, sum_below-joined}
 use Rattle.num_modular.specs.Polynomials.{polynomial_at, HaveUnitDifferences}
 use Rattle.num_modular.specs.PolynomialLaws.{polynomial-none, polynomial-first, polynomial-congruent}
 use Rattle.num_modular.specs.SumLaws.{tail}
-use Rattle.ring_codes.proofs.Distances.{same_messages, Selection, selected, counted, counted_same, counted_other, counted_most, rising_fit}
+use Rattle.ring_codes.proofs.Distances.{same_messages, selected, counted, counted_same, counted_other, counted_most, rising_fit}
 use Rattle.ring_codes.proofs.Distances.{extended, at_end, before_end, extended_each, extended_rising}
 use Rattle.ring_codes.proofs.Shifts.{shifted-values}
 use Rattle.ring_codes.proofs.NearestWords.{combined, unit_alike, no_value}
@@ -22,7 +22,7 @@ use Rattle.ring_codes.proofs.Counts.{fit_front}
 use Rattle.ring_codes.proofs.Symbols.{entry_front, fit_same, same_forms}
 use Rattle.ring_codes.specs.Erasure.{IsEncoding, distance}
 use Rattle.ring_codes.specs.Shifts.{shifted}
-use Rattle.ring_correction.specs.KeyEquations.{Solves, Leads, IsKeyPair, IsQuotient, AreQuotients}
+use Rattle.ring_correction.specs.KeyEquations.{Solves, IsKeyPair, IsQuotient, AreQuotients}
 use Rattle.ring_codes.proofs.Congruences.{mod_of_combination, mod_times, mod_of_residue, mod_of_inverse}
 
 -- the coefficients of the product of two polynomials, the first with k coefficients
@@ -55,68 +55,12 @@ product_value (suc k) d (suc n) X f e some room past =
     let split = ap (λ v. v * polynomial_at d e X) (polynomial-first k f X) in
     omega (arith, both, first, i, whole, split)
 
-product_none : (m k d l : ℕ) (f e : ℕ → ℕ) → ((j : ℕ) → Congruent m (e j) 0) → Congruent m (product k f e l) 0
+product_none : (m k l : ℕ) (f e : ℕ → ℕ) → ((j : ℕ) → Congruent m (e j) 0) → Congruent m (product k f e l) 0
 unfolding product shifted
-product_none m zero d l f e none = mod_refl 0
-product_none m (suc k) d zero f e none =
-    let z : 0 + f 0 * 0 ≡ 0 = omega arith in
-    mod_trans (mod_add (mod_refl 0) (mod_mul (mod_refl (f 0)) (none 0))) (mod_of_eq z)
-product_none m (suc k) d (suc l) f e none =
-    let z : 0 + f 0 * 0 ≡ 0 = omega arith in
-    mod_trans (mod_add (product_none m k d l (λ j. f (suc j)) e none) (mod_mul (mod_refl (f 0)) (none (suc l))))
-    (mod_of_eq z)
-
--- points at selected places fit
-selected_fit : (m n k : ℕ) (x a b : ℕ → ℕ) (s : Selection n k a b) → HaveUnitDifferences m n x
-    → HaveUnitDifferences m k (λ i. x (s.place i))
-selected_fit m n k x a b s fit = rising_fit m n k x s.place s.within s.rising fit
-
--- the numerator is the product of a near message and the locator
-near_numerator : (m k c d n : ℕ) (x y p e sent : ℕ → ℕ) → 1 ≤ d → d + k ≡ c + 1 → HaveUnitDifferences m n x
-    → ((l : ℕ) → d ≤ l → e l ≡ 0) → Solves m c d n x y p e
-    → distance n y (λ j. polynomial_at k sent (x j) % m) + c ≤ n
-    → (l : ℕ) → l < c → Congruent m (p l) (product k sent e l)
-near_numerator m k c d n x y p e sent some lengths fit past solves near =
-    let s = selected n c y (λ j. polynomial_at k sent (x j) % m) near in
-    same_coefficients m c p (product k sent e) (λ i. x (s.place i))
-    (selected_fit m n c x y (λ j. polynomial_at k sent (x j) % m) s fit)
-    (λ i l.
-    let value = product_value k d c (x (s.place i)) sent e some (omega arith) past in
-    mod_of_combination (mod_add (solves (s.place i) (s.within i l))
-    (mod_times (polynomial_at d e (x (s.place i))) (mod_of_residue (s.same i l)))) (omega (arith, value)))
-
--- .. so its values are
-pub near_value : (m k c d n : ℕ) (x y p e sent : ℕ → ℕ) → 1 ≤ d → d + k ≡ c + 1 → HaveUnitDifferences m n x
-    → ((l : ℕ) → d ≤ l → e l ≡ 0) → Solves m c d n x y p e
-    → distance n y (λ j. polynomial_at k sent (x j) % m) + c ≤ n
-    → (X : ℕ) → Congruent m (polynomial_at c p X) (polynomial_at k sent X * polynomial_at d e X)
-near_value m k c d n x y p e sent some lengths fit past solves near X =
-    mod_trans (polynomial-congruent c p (product k sent e) X X
-    (near_numerator m k c d n x y p e sent some lengths fit past solves near) (mod_refl X))
-    (mod_of_eq (product_value k d c X sent e some (omega arith) past))
-
-no_lead : (m k c d u : ℕ) (p e : ℕ → ℕ) → d + k ≡ c + 1 → u < 2 * c → ((l : ℕ) → l < c → Congruent m (p l) 0)
-    → ((l : ℕ) → l < d → Congruent m (e l) 0) → Leads m k u p e → HasInverse m 0
-no_lead m k c d u p e lengths room none_p none_e leads = elim leads.unit [
-  | inl (l, at, unit) ↦ unit_alike m (p l) 0 (none_p l (omega arith)) unit
-  | inr (l, at, unit) ↦ unit_alike m (e l) 0 (none_e l (omega arith)) unit
-]
-
--- the locator of a pair isn't 0 at so many points where a near message exists
-pub enough_units : (m k c d n u : ℕ) (x y p e sent : ℕ → ℕ) → 1 ≤ d → d + k ≡ c + 1 → c ≤ n → u < 2 * c
-    → HaveUnitDifferences m n x → ((l : ℕ) → d ≤ l → e l ≡ 0) → IsKeyPair m k c d n u x y p e
-    → distance n y (λ j. polynomial_at k sent (x j) % m) + c ≤ n
-    → distance n (λ j. polynomial_at d e (x j) % m) (λ j. 0) < k → HasInverse m 0
-enough_units m k c d n u x y p e sent some lengths few room fit past pair near zeros =
-    let s = selected n d (λ j. polynomial_at d e (x j) % m) (λ j. 0) (omega (arith, zeros)) in
-    let none_at = same_coefficients m d e (λ i. 0) (λ i. x (s.place i))
-    (selected_fit m n d x (λ j. polynomial_at d e (x j) % m) (λ j. 0) s fit)
-    (λ i l. record { same = s.same i l ∙ sym (ap (λ v. v % m) (no_value d (x (s.place i))) ∙ zero-mod m) }) in
-    let none : (l : ℕ) → Congruent m (e l) 0 =
-    λ l. elim (cases_lt l d) [ inl b ↦ none_at l b | inr b ↦ mod_of_eq (past l b) ] in
-    no_lead m k c d u p e lengths room
-    (λ l b. mod_trans (near_numerator m k c d n x y p e sent some lengths fit past pair.solves near l b)
-    (product_none m k d l sent e none)) (λ l b. none l) pair.leads
+product_none m zero l f e none = mod_refl 0
+product_none m (suc k) zero f e none = mod_of_combination (mod_times (f 0) (none 0)) (omega arith)
+product_none m (suc k) (suc l) f e none =
+    mod_of_combination (mod_add (product_none m k l (λ j. f (suc j)) e none) (mod_times (f 0) (none (suc l)))) (omega arith)
 
 -- the quotient by a number with an inverse is the other factor
 quotient_is : (m n e q w : ℕ) → IsQuotient m n e q → Congruent m n (w * e) → Congruent m q w
@@ -125,20 +69,49 @@ quotient_is m n e q w is product =
     mod_of_combination (mod_add (mod_times q (mod_sym one)) (mod_add (mod_times is.unit.0 (mod_trans is.product product))
     (mod_times w one))) (omega arith)
 
--- the quotients are the values of a near message
-pub near_quotients : (m k c d n u : ℕ) (x y p e sent chosen values : ℕ → ℕ) → 1 ≤ d → d + k ≡ c + 1
-    → HaveUnitDifferences m n x → ((l : ℕ) → d ≤ l → e l ≡ 0) → IsKeyPair m k c d n u x y p e
-    → distance n y (λ j. polynomial_at k sent (x j) % m) + c ≤ n
-    → AreQuotients m n k x (polynomial_at c p) (polynomial_at d e) chosen values
-    → ((i : ℕ) → i < k → values i < m) → IsEncoding m k k chosen sent values
-near_quotients m k c d n u x y p e sent chosen values some lengths fit past pair near are below = record {
-  symbol = λ i l.
-      let X : ℕ = x (are.place i) in
-      let same = quotient_is m _ _ (values i) (polynomial_at k sent X) (are.quotient i l)
-      (near_value m k c d n x y p e sent some lengths fit past pair.solves near X) in
-      sym (mod-eq_of_lt (below i l)) ∙ same.same
-      ∙ ap (λ v. polynomial_at k sent v % m) (sym (are.chosen_there i l));
-}
+-- a pair, and a message whose word is near
+module _ (m k c d n : ℕ) (x y p e sent : ℕ → ℕ) (some : 1 ≤ d) (lengths : d + k ≡ c + 1) (fit : HaveUnitDifferences m n x)
+    (past : (l : ℕ) → d ≤ l → e l ≡ 0) (near : distance n y (λ j. polynomial_at k sent (x j) % m) + c ≤ n) where
+  -- the numerator is the product of the message and the locator
+  near_numerator : Solves m c d n x y p e → (l : ℕ) → l < c → Congruent m (p l) (product k sent e l)
+  near_numerator solves =
+      let s = selected n c y (λ j. polynomial_at k sent (x j) % m) near in
+      same_coefficients m c p (product k sent e) (λ i. x (s.place i)) (rising_fit m n c x s.place s.within s.rising fit) (λ i l.
+      let value = product_value k d c (x (s.place i)) sent e some (omega arith) past in
+      mod_of_combination (mod_add (solves (s.place i) (s.within i l))
+      (mod_times (polynomial_at d e (x (s.place i))) (mod_of_residue (s.same i l)))) (omega (arith, value)))
+
+  -- .. so its values are
+  near_value : Solves m c d n x y p e → (X : ℕ) → Congruent m (polynomial_at c p X) (polynomial_at k sent X * polynomial_at d e X)
+  near_value solves X = mod_trans (polynomial-congruent c p (product k sent e) X X (near_numerator solves) (mod_refl X))
+      (mod_of_eq (product_value k d c X sent e some (omega arith) past))
+
+  -- the locator isn't 0 at so many points
+  pub enough_units : (u : ℕ) → u < 2 * c → IsKeyPair m k c d n u x y p e
+      → distance n (λ j. polynomial_at d e (x j) % m) (λ j. 0) < k → HasInverse m 0
+  enough_units u room pair zeros =
+      let s = selected n d (λ j. polynomial_at d e (x j) % m) (λ j. 0) (omega (arith, zeros, near)) in
+      let none_at = same_coefficients m d e (λ i. 0) (λ i. x (s.place i)) (rising_fit m n d x s.place s.within s.rising fit)
+      (λ i l. record { same = s.same i l ∙ sym (ap (λ v. v % m) (no_value d (x (s.place i))) ∙ zero-mod m) }) in
+      let none : (l : ℕ) → Congruent m (e l) 0 =
+      λ l. elim (cases_lt l d) [ inl b ↦ none_at l b | inr b ↦ mod_of_eq (past l b) ] in
+      elim pair.leads.unit [
+        | inl (l, at, unit) ↦
+            unit_alike m (p l) 0 (mod_trans (near_numerator pair.solves l (omega arith)) (product_none m k l sent e none)) unit
+        | inr (l, at, unit) ↦ unit_alike m (e l) 0 (none l) unit
+      ]
+
+  -- the quotients are the values of the message
+  pub near_quotients : (u : ℕ) (chosen values : ℕ → ℕ) → IsKeyPair m k c d n u x y p e
+      → AreQuotients m n k x (polynomial_at c p) (polynomial_at d e) chosen values
+      → ((i : ℕ) → i < k → values i < m) → IsEncoding m k k chosen sent values
+  near_quotients u chosen values pair are below = record {
+    symbol = λ i l.
+        let X : ℕ = x (are.place i) in
+        sym (mod-eq_of_lt (below i l))
+        ∙ (quotient_is m _ _ (values i) (polynomial_at k sent X) (are.quotient i l) (near_value pair.solves X)).same
+        ∙ ap (λ v. polynomial_at k sent v % m) (sym (are.chosen_there i l));
+  }
 
 -- the chosen points fit
 pub chosen_fit : (m n k : ℕ) (x p e chosen values : ℕ → ℕ) → HaveUnitDifferences m n x
@@ -147,13 +120,7 @@ chosen_fit m n k x p e chosen values fit are =
     fit_same m k (λ i. x (are.place i)) chosen (λ i l. sym (are.chosen_there i l))
     (rising_fit m n k x are.place are.within are.rising fit)
 
--- fewer places, and words that are the same there
-pub distance_front : (k n : ℕ) (a b : ℕ → ℕ) → k ≤ n → distance k a b ≤ distance n a b
-distance_front k n a b l =
-    let whole : k + (n - k) ≡ n = omega arith in
-    let parts = sum_below-joined k (n - k) (λ i. counted (a i) (b i)) in
-    omega (arith, parts, ap (λ j. distance j a b) whole)
-
+-- words that are the same at the places
 pub distance_same : (n : ℕ) (a b d : ℕ → ℕ) → ((i : ℕ) → i < n → b i ≡ d i) → distance n a b ≡ distance n a d
 distance_same n a b d same =
     sum_below-same n (λ i. counted (a i) (b i)) (λ i. counted (a i) (d i)) (λ i l. ap (counted (a i)) (same i l))
@@ -171,117 +138,94 @@ distance_taken number value m count k X Y sent within each =
     let alike = sum_below-same count (λ i. counted (ys i) (word xs i)) (λ i. counted (y i) (word x i))
     (λ i l. ap (λ v. counted v (word xs i)) (entry_front number value m Y count i l (omega (arith, within, each)))
     ∙ ap (λ a. counted (y i) (polynomial_at k sent a % m)) (entry_front number value m X count i l within)) in
-    let front = distance_front count (length X) y (word x) within in
-    subst (λ n. distance n ys (word xs) ≤ distance (length X) y (word x)) (sym (length-take-le count X within))
-    (omega (arith, alike, front))
+    let whole : count + (length X - count) ≡ length X = omega arith in
+    let parts = sum_below-joined count (length X - count) (λ i. counted (y i) (word x i)) in
+    rw (length-take-le count X within) (omega (arith, alike, parts, ap (λ j. distance j y (word x)) whole))
 
 -- .. and these points fit where all do
 pub fit_taken : {T : Type 0} (number : T → ℕ) (value : ℕ → ℕ → ℕ) (m count : ℕ) (X : List T) → count ≤ length X
     → HaveUnitDifferences m (length X) (entry number value m X)
     → HaveUnitDifferences m (length (take count X)) (entry number value m (take count X))
-fit_taken number value m count X within fit =
-    let x = entry number value m X in let xs = entry number value m (take count X) in
-    subst (λ n. HaveUnitDifferences m n xs) (sym (length-take-le count X within))
-    (fit_same m count x xs (λ i l. sym (entry_front number value m X count i l within))
-    (fit_front m (length X) count x within fit))
+fit_taken number value m count X within fit = rw (length-take-le count X within) (fit_same m count (entry number value m X) _
+    (λ i l. sym (entry_front number value m X count i l within)) (fit_front m (length X) count _ within fit))
 
--- the chosen points and the quotients so far, as forms in two lists
-pub record Found {T : Type 0} (number : T → ℕ) (form value : ℕ → ℕ → ℕ) (m n k : ℕ) (x numerator locator : ℕ → ℕ)
-    (chosen values : List T) : Type 0 where
-  pub place : ℕ → ℕ
-  pub within : (i : ℕ) → i < k → place i < n
-  pub rising : (i j : ℕ) → i < j → j < k → place i < place j
-  pub chosen_there : HoldBelow number form value m chosen (λ i. x (place i)) k
-  pub quotient : (i : ℕ) (d : T) → i < k → IsForm form value m (number (get_or values i d))
-      × IsQuotient m (numerator (x (place i))) (locator (x (place i))) (value m (number (get_or values i d)))
+module _ {T : Type 0} (number : T → ℕ) (form value : ℕ → ℕ → ℕ) (m : ℕ) where
+  -- the chosen points and the quotients so far, as forms in two lists
+  pub record Found (n k : ℕ) (x numerator locator : ℕ → ℕ) (chosen values : List T) : Type 0 where
+    pub place : ℕ → ℕ
+    pub within : (i : ℕ) → i < k → place i < n
+    pub rising : (i j : ℕ) → i < j → j < k → place i < place j
+    pub chosen_there : HoldBelow number form value m chosen (λ i. x (place i)) k
+    pub quotient : (i : ℕ) (d : T) → i < k → IsForm form value m (number (get_or values i d))
+        × IsQuotient m (numerator (x (place i))) (locator (x (place i))) (value m (number (get_or values i d)))
 
-pub found_none : {T : Type 0} (number : T → ℕ) (form value : ℕ → ℕ → ℕ) (m : ℕ) (x p e : ℕ → ℕ) (chosen values : List T)
-    → Found number form value m 0 0 x p e chosen values
-found_none number form value m x p e chosen values = record {
-  place = λ i. i;
-  within = λ i l. absurd (omega arith);
-  rising = λ i j l b. absurd (omega arith);
-  chosen_there = record { each = λ k d l. absurd (omega arith) };
-  quotient = λ i d l. absurd (omega arith);
-}
+  pub found_none : (x p e : ℕ → ℕ) (chosen values : List T) → Found 0 0 x p e chosen values
+  found_none x p e chosen values = record {
+    place = λ i. i;
+    within = λ i l. absurd (omega arith);
+    rising = λ i j l b. absurd (omega arith);
+    chosen_there = record { each = λ k d l. absurd (omega arith) };
+    quotient = λ i d l. absurd (omega arith);
+  }
 
--- a point more without a quotient
-pub found_kept : {T : Type 0} (number : T → ℕ) (form value : ℕ → ℕ → ℕ) (m n k : ℕ) (x p e : ℕ → ℕ)
-    (chosen values : List T) → Found number form value m n k x p e chosen values
-    → Found number form value m (n + 1) k x p e chosen values
-found_kept number form value m n k x p e chosen values found = record {
-  place = found.place;
-  within = λ i l. let w = found.within i l in omega (arith, w);
-  rising = found.rising;
-  chosen_there = found.chosen_there;
-  quotient = found.quotient;
-}
+  -- a point more without a quotient
+  pub found_kept : {n k : ℕ} {x p e : ℕ → ℕ} {chosen values : List T} → Found n k x p e chosen values
+      → Found (n + 1) k x p e chosen values
+  found_kept found = record {
+    place = found.place;
+    within = λ i l. let w = found.within i l in omega (arith, w);
+    rising = found.rising;
+    chosen_there = found.chosen_there;
+    quotient = found.quotient;
+  }
 
--- a point more with a quotient
-pub found_more : {T : Type 0} (number : T → ℕ) (form value : ℕ → ℕ → ℕ) (m n k : ℕ) (p e : ℕ → ℕ)
-    (points chosen values : List T) (a f q : T) → k < length chosen → k < length values
-    → Found number form value m n k (entry number value m points) p e chosen values
-    → All (λ f. IsForm form value m (number f)) points → n < length points → a ≡ get_or points n a → f ≡ get_or points n f
-    → IsForm form value m (number q) × IsQuotient m (p (value m (number a))) (e (value m (number a))) (value m (number q))
-    → Found number form value m (n + 1) (k + 1) (entry number value m points) p e (set chosen k f) (set values k q)
-found_more number form value m n k p e points chosen values a f q room room_values found all within at_a at_f quotient =
-    let x = entry number value m points in let at = entry_read number value m points n a within at_a in record {
-      place = extended k n found.place;
-      within = extended_each k n found.place (λ i p. p < n + 1) (λ i l. let w = found.within i l in omega (arith, w)) (omega arith);
-      rising = extended_rising k n found.place found.within found.rising;
-      chosen_there = hold_more number form value m chosen k f (λ i. x (extended k n found.place i)) room
-          (record { each = λ i d l. rw (before_end k n found.place i (omega arith)) (found.chosen_there.each i d l) })
-          (form_read number form value m points n f all within at_f)
-          (entry_read number value m points n f within at_f ∙ ap x (sym (at_end k n found.place k refl)));
-      quotient = λ i d l. extended_each k n found.place
-          (λ i t. IsForm form value m (number (get_or (set values k q) i d))
-          × IsQuotient m (p (x t)) (e (x t)) (value m (number (get_or (set values k q) i d))))
-          (λ i l. rw (get_or-set_other values k i q d (omega arith)) (found.quotient i d l))
-          (rw (get_or-set_same values k q d room_values, ← at) quotient) i l;
-    }
+  -- a point more with a quotient
+  pub found_more : (n k : ℕ) (p e : ℕ → ℕ) (points chosen values : List T) (a f q : T) → k < length chosen
+      → k < length values → Found n k (entry number value m points) p e chosen values
+      → All (λ f. IsForm form value m (number f)) points → n < length points → a ≡ get_or points n a → f ≡ get_or points n f
+      → IsForm form value m (number q) × IsQuotient m (p (value m (number a))) (e (value m (number a))) (value m (number q))
+      → Found (n + 1) (k + 1) (entry number value m points) p e (set chosen k f) (set values k q)
+  found_more n k p e points chosen values a f q room room_values found all within at_a at_f quotient =
+      let x = entry number value m points in let at = entry_read number value m points n a within at_a in record {
+        place = extended k n found.place;
+        within = extended_each k n found.place (λ i p. p < n + 1) (λ i l. let w = found.within i l in omega (arith, w)) (omega arith);
+        rising = extended_rising k n found.place found.within found.rising;
+        chosen_there = hold_more number form value m chosen k f (λ i. x (extended k n found.place i)) room
+            (record { each = λ i d l. rw (before_end k n found.place i (omega arith)) (found.chosen_there.each i d l) })
+            (form_read number form value m points n f all within at_f)
+            (entry_read number value m points n f within at_f ∙ ap x (sym (at_end k n found.place k refl)));
+        quotient = λ i d l. extended_each k n found.place
+            (λ i t. IsForm form value m (number (get_or (set values k q) i d))
+            × IsQuotient m (p (x t)) (e (x t)) (value m (number (get_or (set values k q) i d))))
+            (λ i l. rw (get_or-set_other values k i q d (omega arith)) (found.quotient i d l))
+            (rw (get_or-set_same values k q d room_values, ← at) quotient) i l;
+      }
 
--- .. of all of them
-pub found_forms : {T : Type 0} (number : T → ℕ) (form value : ℕ → ℕ → ℕ) (m n k : ℕ) (x p e : ℕ → ℕ)
-    (chosen values : List T) → length values ≤ k → Found number form value m n k x p e chosen values
-    → All (λ f. IsForm form value m (number f)) values
-found_forms number form value m n k x p e chosen values room found i d l = (found.quotient i d (omega (arith, l, room))).0
+  -- .. of all of them
+  pub found_forms : {n k : ℕ} {x p e : ℕ → ℕ} {chosen values : List T} → length values ≤ k
+      → Found n k x p e chosen values → All (λ f. IsForm form value m (number f)) values
+  found_forms room found i d l = (found.quotient i d (omega (arith, l, room))).0
 
-pub found_quotients : {T : Type 0} (number : T → ℕ) (form value : ℕ → ℕ → ℕ) (m n k s : ℕ) (x p e : ℕ → ℕ)
-    (chosen values : List T) → k ≡ length chosen → k ≡ length values → n ≤ s
-    → Found number form value m n k x p e chosen values
-    → AreQuotients m s k x p e (entry number value m chosen) (entry number value m values)
-found_quotients number form value m n k s x p e [] values is_k same few found = record {
-  place = found.place;
-  within = λ i l. absurd (omega arith);
-  rising = λ i j l b. absurd (omega arith);
-  chosen_there = λ i l. absurd (omega arith);
-  quotient = λ i l. absurd (omega arith);
-}
-found_quotients number form value m n k s x p e (c ∷ cs) values is_k same few found = record {
-  place = found.place;
-  within = λ i l. let w = found.within i l in omega (arith, w, few);
-  rising = found.rising;
-  chosen_there = λ i l. held_entry number form value m (c ∷ cs) (λ i. x (found.place i)) k i found.chosen_there l
-      (omega (arith, l, is_k));
-  quotient = λ i l. subst (IsQuotient m (p (x (found.place i))) (e (x (found.place i))))
-      (entry_at number value m values i c (omega (arith, l, same))) (found.quotient i c l).1;
-}
-
-pub found_all : {T : Type 0} (number : T → ℕ) (form value : ℕ → ℕ → ℕ) (m n k j s : ℕ) (x p e : ℕ → ℕ)
-    (chosen values : List T) → k ≡ j → k ≡ length chosen → k ≡ length values → n ≤ s
-    → Found number form value m n k x p e chosen values
-    → AreQuotients m s j x p e (entry number value m chosen) (entry number value m values)
-found_all number form value m n k j s x p e chosen values is_j is_k same few found =
-    subst (λ k. AreQuotients m s k x p e (entry number value m chosen) (entry number value m values)) is_j
-    (found_quotients number form value m n k s x p e chosen values is_k same few found)
+  pub found_all : (n k j s : ℕ) (x p e : ℕ → ℕ) (chosen values : List T) (a : T) → k ≡ j → k ≡ length chosen
+      → k ≡ length values → n ≤ s → Found n k x p e chosen values
+      → AreQuotients m s j x p e (entry number value m chosen) (entry number value m values)
+  found_all n k j s x p e chosen values a is_j is_k same few found = record {
+    place = found.place;
+    within = λ i l. let w = found.within i (omega arith) in omega (arith, w);
+    rising = λ i i' l b. found.rising i i' l (omega arith);
+    chosen_there = λ i l. held_entry number form value m chosen (λ i. x (found.place i)) k i found.chosen_there (omega arith)
+        (omega arith);
+    quotient = λ i l. subst (IsQuotient m (p (x (found.place i))) (e (x (found.place i))))
+        (entry_at number value m values i a (omega arith)) (found.quotient i a (omega arith)).1;
+  }
 
 -- one point more where a value is 0, or isn't
-pub zeros_kept : (n k : ℕ) (a b : ℕ → ℕ) → distance n a b ≤ k → a n ≡ b n → distance (n + 1) a b ≤ k
-zeros_kept n k a b few same =
+pub zeros_kept : {k : ℕ} (n : ℕ) (a b : ℕ → ℕ) → distance n a b ≤ k → a n ≡ b n → distance (n + 1) a b ≤ k
+zeros_kept n a b few same =
     omega (arith, few, sum_below-more (λ i. counted (a i) (b i)) n, counted_same (a n) (b n) same)
 
-pub zeros_more : (n k : ℕ) (a b : ℕ → ℕ) → distance n a b ≤ k → distance (n + 1) a b ≤ k + 1
-zeros_more n k a b few = omega (arith, few, sum_below-more (λ i. counted (a i) (b i)) n, counted_most (a n) (b n))
+pub zeros_more : {k : ℕ} (n : ℕ) (a b : ℕ → ℕ) → distance n a b ≤ k → distance (n + 1) a b ≤ k + 1
+zeros_more n a b few = omega (arith, few, sum_below-more (λ i. counted (a i) (b i)) n, counted_most (a n) (b n))
 
 -- forms differ exactly where their values do
 pub counted_forms : (form value : ℕ → ℕ → ℕ) (m f g v w : ℕ) → IsForm form value m f → IsForm form value m g
@@ -313,8 +257,7 @@ pub near_there : (m k n s r : ℕ) (X x place y sent other : ℕ → ℕ) → s 
 near_there m k n s r X x place y sent other count is within at near =
     let same = distance_same r y (λ j. other (place j)) (λ j. polynomial_at k sent (x j) % m)
     (λ i l. is.symbol (place i) (within i l) ∙ ap (λ a. polynomial_at k sent a % m) (sym (at i l))) in
-    subst (λ s. 2 * distance s y (λ j. polynomial_at k sent (x j) % m) ≤ s - k) (sym count)
-    (omega (arith, same, near))
+    rw count (omega (arith, same, near))
 
 -- messages that are congruent have one word
 pub recoded : {m k n : ℕ} {X mine sent word : ℕ → ℕ} → IsEncoding m k n X sent word

@@ -1,10 +1,11 @@
 -- Pairs of polynomials as one list each: the coefficients of the numerator, and after them those of the locator.
 use Rattle.std.proofs.Common.{◌≡◌, ◌≢◌, ℕ, ◌+◌, ◌-◌, ◌*◌, ◌%◌, ◌<◌, ◌≤◌, List, ◌++◌, length, take, drop}
-use Rattle.std.proofs.Common.{ap, ◌∙◌, arith, inl, inr, take_all, take_at, drop_at, length-drop, length-take-le}
+use Rattle.std.proofs.Common.{◌∙◌, arith, inl, inr, take_all, take_at, drop_at, length-drop, length-take-le}
 use Rattle.std.proofs.lemmas.Bool.{cases_lt}
 use Rattle.num_modular.specs.Callers.{entry, entry_past}
 use Rattle.num_modular.specs.Congruence.{Congruent}
-use Rattle.ring_correction.proofs.KeyPairs.{first_pairs}
+use Rattle.ring_codes.proofs.Congruences.{has_one}
+use Rattle.num_modular.specs.NumberLaws.{mod_of_eq}
 use Rattle.ring_codes.proofs.Symbols.{entry_front, entry_back}
 use Rattle.ring_correction.specs.KeyEquations.{IsKeyPair, AreKeyPairs}
 
@@ -33,12 +34,24 @@ pub unit_pairs : {T : Type 0} (number : T → ℕ) (value : ℕ → ℕ → ℕ)
     (entry number value m (take c s)) (entry number value m (drop c s))
 unit_pairs number value m k c d x y f s positive some wide within_f within_s f_one f_zero s_one s_zero =
     let same : c + 0 ≡ c = omega arith in
-    first_pairs m k c d x y _ _ _ _ positive some (entry_front number value m f c 0 wide within_f ∙ f_one)
-    (λ l b. front_zero number value m f c l within_f (λ before. f_zero l (omega arith)))
-    (λ l. entry_back number value m f c l ∙ f_zero (c + l) (omega arith))
-    (λ l. front_zero number value m s c l within_s (λ before. s_zero l (omega arith)))
-    (entry_back number value m s c 0 ∙ ap (entry number value m s) same ∙ s_one)
-    (λ l b. entry_back number value m s c l ∙ s_zero (c + l) (omega arith))
+    record {
+      first = λ b. record {
+        solves = λ j l. absurd (omega arith);
+        leads = record {
+          numerator_behind = λ l b. mod_of_eq (front_zero number value m f c l within_f (λ before. f_zero l (omega arith)));
+          locator_behind = λ l b. mod_of_eq (entry_back number value m f c l ∙ f_zero (c + l) (omega arith));
+          unit = inl (0, omega arith, rw (entry_front number value m f c 0 wide within_f, f_one) (has_one m positive));
+        };
+      };
+      second = λ b. record {
+        solves = λ j l. absurd (omega arith);
+        leads = record {
+          numerator_behind = λ l b. mod_of_eq (front_zero number value m s c l within_s (λ before. s_zero l (omega arith)));
+          locator_behind = λ l b. mod_of_eq (entry_back number value m s c l ∙ s_zero (c + l) (omega arith));
+          unit = inr (0, omega arith, rw (entry_back number value m s c 0, same, s_one) (has_one m positive));
+        };
+      };
+    }
 
 -- a pair whose parts were replaced
 pub joined_pair : {T : Type 0} (number : T → ℕ) (value : ℕ → ℕ → ℕ) (m k c d i u : ℕ) (x y : ℕ → ℕ) (p q : List T)

@@ -1,6 +1,6 @@
-use Rattle.num_modular.specs.Callers.{◌∙◌, refl, sym, arith}
+use Rattle.num_modular.specs.Callers.{ℕ, ◌+◌, ◌*◌, ◌∙◌, refl, sym, arith}
 use Rattle.std.proofs.Common.{rules}
-use Rattle.ring_correction.proofs.KeyPairs.{neither, second_alone, first_alone, first_pivot, second_pivot}
+use Rattle.ring_correction.proofs.KeyPairs.{kept_pair, raised_pair}
 use Rattle.ring_correction.proofs.key_equation.advance.Goals as goal
 
 pub returns-then-is_zero-2 : goal.returns-then-is_zero-2
@@ -8,11 +8,12 @@ returns-then-is_zero-2 g c = record {
   checked_first = search rules;
   checked_second = search rules;
   weights = omega arith;
-  pairs = λ d k i x y whole lengths at_x at_y.
-      neither _ k _ d i _ _ _ _ x y _ _ _ _
-      (c.is_zero.ensures.0 c.if-is_zero.true) (c.is_zero-then-is_zero.ensures.0 c.if-is_zero-2.true)
-      (c.discrepancy-first_discrepancy.ensures.value d (x i) (y i) whole at_x at_y)
-      (c.discrepancy-second_discrepancy.ensures.value d (x i) (y i) (sym c.requires.equal ∙ whole) at_x at_y);
+  pairs = λ d k i x y whole lengths at_x at_y pairs. record {
+    first = λ l. kept_pair (c.is_zero.ensures.0 c.if-is_zero.true)
+        (c.discrepancy-first_discrepancy.ensures.value d (x i) (y i) whole at_x at_y) (pairs.first l);
+    second = λ l. kept_pair (c.is_zero-then-is_zero.ensures.0 c.if-is_zero-2.true)
+        (c.discrepancy-second_discrepancy.ensures.value d (x i) (y i) (sym c.requires.equal ∙ whole) at_x at_y) (pairs.second l);
+  };
 }
 
 pub returns-then-is_zero : goal.returns-then-is_zero
@@ -20,10 +21,12 @@ returns-then-is_zero g c = record {
   checked_first = search rules;
   checked_second = search rules;
   weights = omega arith;
-  pairs = λ d k i x y whole lengths at_x at_y.
-      second_alone _ k _ d i _ _ _ x y _ _ _ _ _ _ (c.is_zero.ensures.0 c.if-is_zero.true)
-      (c.discrepancy-first_discrepancy.ensures.value d (x i) (y i) whole at_x at_y)
-      (λ u room. c.raise.ensures.pair d k i u x y (sym c.requires.equal ∙ whole) lengths room at_x);
+  pairs = λ d k i x y whole lengths at_x at_y pairs. record {
+    first = λ l. kept_pair (c.is_zero.ensures.0 c.if-is_zero.true)
+        (c.discrepancy-first_discrepancy.ensures.value d (x i) (y i) whole at_x at_y) (pairs.first l);
+    second = λ l. let u : ℕ = 2 * c.args.weights.1 + 1 in raised_pair u _ (omega arith) l (λ room.
+        c.raise.ensures.pair d k i u x y (sym c.requires.equal ∙ whole) lengths room at_x (pairs.second (omega arith)));
+  };
 }
 
 pub returns-then-is_zero-3 : goal.returns-then-is_zero-3
@@ -31,10 +34,12 @@ returns-then-is_zero-3 g c = record {
   checked_first = search rules;
   checked_second = search rules;
   weights = omega arith;
-  pairs = λ d k i x y whole lengths at_x at_y.
-      first_alone _ k _ d i _ _ _ x y _ _ _ _ _ _ (c.is_zero-2.ensures.0 c.if-is_zero-3.true)
-      (c.discrepancy-second_discrepancy.ensures.value d (x i) (y i) (sym c.requires.equal ∙ whole) at_x at_y)
-      (λ u room. c.raise-then-is_zero-3.ensures.pair d k i u x y whole lengths room at_x);
+  pairs = λ d k i x y whole lengths at_x at_y pairs. record {
+    first = λ l. let u : ℕ = 2 * c.args.weights.0 in raised_pair u _ (omega arith) l (λ room.
+        c.raise-then-is_zero-3.ensures.pair d k i u x y whole lengths room at_x (pairs.first (omega arith)));
+    second = λ l. kept_pair (c.is_zero-2.ensures.0 c.if-is_zero-3.true)
+        (c.discrepancy-second_discrepancy.ensures.value d (x i) (y i) (sym c.requires.equal ∙ whole) at_x at_y) (pairs.second l);
+  };
 }
 
 pub returns-in-Ok : goal.returns-in-Ok
@@ -42,13 +47,13 @@ returns-in-Ok g c = record {
   checked_first = c.in-Ok.ensures.checked_pivot refl;
   checked_second = c.in-Ok.ensures.checked_other refl;
   weights = omega arith;
-  pairs = λ d k i x y whole lengths at_x at_y.
-      let back = sym c.requires.equal ∙ whole in
-      first_pivot _ k _ d i _ _ x y _ _ _ _ _ _ _ _ (omega arith)
-      (λ u room. c.in-Ok.ensures.pivot refl d k i u x y back lengths room at_x)
-      (λ u v room less. c.in-Ok.ensures.other refl d k i u v x y back lengths room less
-      (c.discrepancy-first_discrepancy.ensures.value d (x i) (y i) whole at_x at_y)
-      (c.discrepancy-second_discrepancy.ensures.value d (x i) (y i) back at_x at_y));
+  pairs = λ d k i x y whole lengths at_x at_y pairs. let back = sym c.requires.equal ∙ whole in record {
+    first = λ l. let u : ℕ = 2 * c.args.weights.0 in raised_pair u _ (omega arith) l (λ room.
+        c.in-Ok.ensures.pivot refl d k i u x y back lengths room at_x (pairs.first (omega arith)));
+    second = λ l. c.in-Ok.ensures.other refl d k i _ _ x y back lengths l (omega arith)
+        (c.discrepancy-first_discrepancy.ensures.value d (x i) (y i) whole at_x at_y)
+        (c.discrepancy-second_discrepancy.ensures.value d (x i) (y i) back at_x at_y) (pairs.first (omega arith)) (pairs.second l);
+  };
 }
 
 pub returns-in-Ok-reduce : goal.returns-in-Ok-reduce
@@ -56,10 +61,11 @@ returns-in-Ok-reduce g c = record {
   checked_first = c.in-Ok-reduce.ensures.checked_other refl;
   checked_second = c.in-Ok-reduce.ensures.checked_pivot refl;
   weights = omega arith;
-  pairs = λ d k i x y whole lengths at_x at_y.
-      second_pivot _ k _ d i _ _ x y _ _ _ _ _ _ _ _ (omega arith)
-      (λ u room. c.in-Ok-reduce.ensures.pivot refl d k i u x y whole lengths room at_x)
-      (λ u v room less. c.in-Ok-reduce.ensures.other refl d k i u v x y whole lengths room less
-      (c.discrepancy-second_discrepancy.ensures.value d (x i) (y i) (sym c.requires.equal ∙ whole) at_x at_y)
-      (c.discrepancy-first_discrepancy.ensures.value d (x i) (y i) whole at_x at_y));
+  pairs = λ d k i x y whole lengths at_x at_y pairs. record {
+    first = λ l. c.in-Ok-reduce.ensures.other refl d k i _ _ x y whole lengths l (omega arith)
+        (c.discrepancy-second_discrepancy.ensures.value d (x i) (y i) (sym c.requires.equal ∙ whole) at_x at_y)
+        (c.discrepancy-first_discrepancy.ensures.value d (x i) (y i) whole at_x at_y) (pairs.second (omega arith)) (pairs.first l);
+    second = λ l. let u : ℕ = 2 * c.args.weights.1 + 1 in raised_pair u _ (omega arith) l (λ room.
+        c.in-Ok-reduce.ensures.pivot refl d k i u x y whole lengths room at_x (pairs.second (omega arith)));
+  };
 }

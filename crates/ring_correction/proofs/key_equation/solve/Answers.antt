@@ -2,7 +2,6 @@ use Rattle.std.proofs.Common.{take, drop}
 use Rattle.num_modular.specs.Callers.{◌≡◌, ◌-◌, ◌<◌, ◌∙◌, sym, arith, subst, length}
 use Rattle.num_modular.specs.Callers.{entry, entry_read}
 use Rattle.ring_correction.specs.KeyEquations.{AreKeyPairs}
-use Rattle.ring_correction.proofs.KeyPairs.{weights_first}
 use Rattle.ring_correction.proofs.Pairs.{unit_pairs}
 use Rattle.ring_correction.proofs.key_equation.solve.Goals as goal
 
@@ -45,7 +44,7 @@ symbols-init g c =
     let wide : 0 < c.args.split = omega (arith, c.requires.some, c.requires.lengths) in (
       c.set_unit.ensures.checked,
       c.set_unit-2.ensures.checked,
-      weights_first _ c.requires.positive,
+      omega (arith, c.requires.positive),
       unit_pairs number ring.value m c.args.k c.args.split _ _ _ c.set_unit.new.coefficients c.set_unit-2.new.coefficients positive
           c.requires.positive wide (omega (arith, long, c.requires.some)) (omega (arith, long_too, c.requires.equal, c.requires.some))
           c.set_unit.ensures.one c.set_unit.ensures.others c.set_unit-2.ensures.one c.set_unit-2.ensures.others,

@@ -15,19 +15,15 @@ returns-in-Ok-true-clause-message g c d u y sent whole some lengths few room pai
     let split = c.args.split in let list = c.args.pair.now in let left = length-drop split list in
     let is_c : length (take split list) ≡ split = length-take-le split list c.requires.split in
     let is_d : length (drop split list) ≡ d = omega (arith, left, whole) in
-    let p = entry number ring.value m (take split list) in
-    let e = entry number ring.value m (drop split list) in
-    let chosen = entry number ring.value m c.divide.new.chosen in
-    let values = entry number ring.value m c.divide.new.values in
     let forms = c.in-Ok-true.ensures.checked_values c.in-Ok-true.field-0-test in
     let whole = c.divide.auto.values ∙ c.split_at_mut-values.ensures.front_len in
     let are = rw (rest_whole list split, is_c, is_d, c.split_at_mut-chosen.ensures.front_len)
     at (c.in-Ok-true.ensures.quotients c.in-Ok-true.field-0-test) in
-    let fit = c.interpolate.ensures.fit.1 (chosen_fit m n k x _ _ chosen values c.requires.fit are) in (
+    let fit = c.interpolate.ensures.fit.1 (chosen_fit m n k x _ _ _ _ c.requires.fit are) in (
       fit,
       c.interpolate.ensures.only fit sent
-          (near_quotients m k split d n u x y p e sent chosen values some lengths c.requires.fit
-          (λ l b. entry_past number ring.value m (drop split list) l (omega (arith, b, is_d))) pair near are
+          (near_quotients m k split d n x y _ _ sent some lengths c.requires.fit
+          (λ l b. entry_past number ring.value m (drop split list) l (omega (arith, b, is_d))) near u _ _ pair are
           (λ i l. entry_below number ring.form ring.value m c.divide.new.values i forms (omega (arith, l, whole)))),
     )
 
@@ -39,9 +35,7 @@ returns-in-Ok-false-clause-message g c d u y sent whole some lengths few room pa
     let split = c.args.split in let list = c.args.pair.now in let left = length-drop split list in
     let is_c : length (take split list) ≡ split = length-take-le split list c.requires.split in
     let is_d : length (drop split list) ≡ d = omega (arith, left, whole) in
-    let p = entry number ring.value m (take split list) in
-    let e = entry number ring.value m (drop split list) in
     let zeros = c.in-Ok-false.ensures.zeros (λ t. false≢true (sym c.in-Ok-false.field-0-test ∙ t)) in
     let fewer = rw (rest_whole list split, is_d, c.split_at_mut-chosen.ensures.front_len) at zeros.1 in
-    absurd (zeros.0 (enough_units m k split d n u x y p e sent some lengths few room c.requires.fit
-    (λ l b. entry_past number ring.value m (drop split list) l (omega (arith, b, is_d))) pair near fewer))
+    absurd (zeros.0 (enough_units m k split d n x y _ _ sent some lengths c.requires.fit
+    (λ l b. entry_past number ring.value m (drop split list) l (omega (arith, b, is_d))) near u room pair fewer))

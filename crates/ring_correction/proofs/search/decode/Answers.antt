@@ -4,7 +4,7 @@ use Rattle.num_modular.specs.Callers.{◌/◌}
 use Rattle.ring_correction.proofs.KeyPairs.{ok_then}
 use Rattle.std.proofs.Common.{take, length-take-le}
 use Rattle.num_modular.specs.Callers.{◌≡◌}
-use Rattle.ring_correction.proofs.NearPairs.{distance_taken, half_of}
+use Rattle.ring_correction.proofs.NearPairs.{distance_taken}
 use Rattle.ring_correction.proofs.search.decode.Goals as goal
 
 pub returns-in-Ok-clause-message : goal.returns-in-Ok-clause-message
@@ -13,7 +13,7 @@ returns-in-Ok-clause-message g c =
     let s = length c.args.points.now in let k = length c.args.message.now in let half : ℕ = (s - k) / 2 in
     let d : ℕ = half + 1 in let count : ℕ = k + 2 * half in
     let y = entry number ring.value m (take count c.args.symbols.now) in
-    let parts = half_of (s - k) in let low = parts.0 in let high = parts.1 in
+    let low : 2 * half ≤ s - k = omega arith in let high : s - k ≤ 2 * half + 1 = omega arith in
     let weights = c.in-Ok.ensures.weights in
     let few = c.requires.few in
     let within : count ≤ s = omega (arith, few, low) in
