@@ -1,9 +1,9 @@
 -- Polynomials with given roots, and the values of their derivatives there.
 use Rattle.std.proofs.Common.{◌≡◌, ◌≢◌, ℕ, zero, suc, ◌+◌, ◌-◌, ◌*◌, ◌%◌, ◌^◌, ◌<◌, ◌≤◌, pos, ◌-ℤ◌, ap, sym, ◌∙◌, arith}
-use Rattle.std.proofs.Common.{refl, inl, inr, cond, eqb}
+use Rattle.std.proofs.Common.{refl, inl, inr, cond, eqb, ltb}
 use Rattle.std.proofs.Math.Nat.{zero-mod}
 use Rattle.std.proofs.lemmas.Bool.{cases_eq}
-use Rattle.std.proofs.lemmas.Bool.Decides.{eqb_tells}
+use Rattle.std.proofs.lemmas.Bool.Decides.{eqb_tells, nat_tests}
 use Rattle.num_modular.specs.Congruence.{Congruent}
 use Rattle.num_modular.specs.NumberLaws.{mod_of_eq, mod_sym, mod_add, sum_below-suc}
 use Rattle.num_modular.specs.Polynomials.{polynomial_at}
@@ -65,30 +65,41 @@ derivative_of_times_root d r X h none =
     let turned : a ≡ X * s = omega (arith, more, gone, front) in
     omega (arith, parts, split, inner, turned)
 
--- the coefficients of f times the product of X - z for the c points z
-pub rooted : ℕ → ℕ → (ℕ → ℕ) → (ℕ → ℕ) → ℕ → ℕ
-rooted m zero z f = f
-rooted m (suc c) z f = times_root ((m - 1) * z c) (rooted m c z f)
+-- the first k coefficients, followed by zeros
+front : ℕ → (ℕ → ℕ) → ℕ → ℕ
+front k f i = cond (ltb i k) (f i) 0
 
-pub rooted_behind : (m k c : ℕ) (z f : ℕ → ℕ) → ((i : ℕ) → k ≤ i → f i ≡ 0)
-    → (i : ℕ) → k + c ≤ i → rooted m c z f i ≡ 0
+front_past : (k i : ℕ) (f : ℕ → ℕ) → k ≤ i → front k f i ≡ 0
+unfolding front
+front_past k i f l = grind (arith, nat_tests)
+
+front_value : (k X : ℕ) (f : ℕ → ℕ) → polynomial_at k (front k f) X ≡ polynomial_at k f X
+unfolding front
+front_value k X f = polynomial-same k (λ i. cond (ltb i k) (f i) 0) f X (λ i l. grind (arith, nat_tests))
+
+-- the coefficients of f, which has k, times the product of X - z for the c points z
+pub rooted : ℕ → ℕ → ℕ → (ℕ → ℕ) → (ℕ → ℕ) → ℕ → ℕ
+rooted m k zero z f = front k f
+rooted m k (suc c) z f = times_root ((m - 1) * z c) (rooted m k c z f)
+
+pub rooted_behind : (m k c : ℕ) (z f : ℕ → ℕ) → (i : ℕ) → k + c ≤ i → rooted m k c z f i ≡ 0
 unfolding rooted
-rooted_behind m k zero z f none i l = none i (omega (arith, l))
-rooted_behind m k (suc c) z f none i l =
-    times_root_behind (k + c) ((m - 1) * z c) i (rooted m c z f) (rooted_behind m k c z f none) (omega (arith, l))
+rooted_behind m k zero z f i l = front_past k i f (omega (arith, l))
+rooted_behind m k (suc c) z f i l =
+    times_root_behind (k + c) ((m - 1) * z c) i (rooted m k c z f) (rooted_behind m k c z f) (omega (arith, l))
 
-pub rooted_value : (m k c X : ℕ) (z f : ℕ → ℕ) → 0 < m → ((i : ℕ) → k ≤ i → f i ≡ 0)
-    → Congruent m (polynomial_at (k + c) (rooted m c z f) X) (polynomial_at k f X * locator_at m c z X)
+pub rooted_value : (m k c X : ℕ) (z f : ℕ → ℕ) → 0 < m
+    → Congruent m (polynomial_at (k + c) (rooted m k c z f) X) (polynomial_at k f X * locator_at m c z X)
 unfolding rooted product_below
-rooted_value m k zero X z f positive none =
+rooted_value m k zero X z f positive =
     let same : k + 0 ≡ k = omega arith in
-    let p = ap (λ n. polynomial_at n f X) same in mod_of_eq (omega (arith, p))
-rooted_value m k (suc c) X z f positive none =
-    let r : ℕ = (m - 1) * z c in let h = rooted m c z f in
+    mod_of_eq (omega (arith, ap (λ n. polynomial_at n (front k f) X) same, front_value k X f))
+rooted_value m k (suc c) X z f positive =
+    let r : ℕ = (m - 1) * z c in let h = rooted m k c z f in
     let next : k + suc c ≡ suc (k + c) = omega arith in
     let size = ap (λ n. polynomial_at n (times_root r h) X) next in
-    let value = times_root_value (k + c) r X h (rooted_behind m k c z f none (k + c) (omega arith)) in
-    mod_of_combination (mod_add (mod_times (X + r) (rooted_value m k c X z f positive none))
+    let value = times_root_value (k + c) r X h (rooted_behind m k c z f (k + c) (omega arith)) in
+    mod_of_combination (mod_add (mod_times (X + r) (rooted_value m k c X z f positive))
     (mod_times (polynomial_at k f X * locator_at m c z X) (mod_sym (difference_alike m X (z c) positive))))
     (omega (arith, size, value))
 
@@ -116,22 +127,20 @@ other_weight m c l z other =
     ap (λ v. product_below c g * v) last
 
 -- at a root z l the derivative of f times the product of X - z is f times the root's weight
-pub derivative_at_root : (m k c l : ℕ) (z f : ℕ → ℕ) → 0 < m → ((i : ℕ) → k ≤ i → f i ≡ 0) → l < c
-    → Congruent m (polynomial_at (k + c) (derivative (rooted m c z f)) (z l))
-    (polynomial_at k f (z l) * root_weight m c z l)
+pub derivative_at_root : (m k c l : ℕ) (z f : ℕ → ℕ) → 0 < m → l < c
+    → Congruent m (polynomial_at (k + c) (derivative (rooted m k c z f)) (z l)) (polynomial_at k f (z l) * root_weight m c z l)
 unfolding rooted
-derivative_at_root m k zero l z f positive none within = absurd (omega arith)
-derivative_at_root m k (suc c) l z f positive none within =
-    let X : ℕ = z l in let r : ℕ = (m - 1) * z c in let h = rooted m c z f in
+derivative_at_root m k zero l z f positive within = absurd (omega arith)
+derivative_at_root m k (suc c) l z f positive within =
+    let X : ℕ = z l in let r : ℕ = (m - 1) * z c in let h = rooted m k c z f in
     let F : ℕ = polynomial_at k f X in let D : ℕ = polynomial_at (k + c) (derivative h) X in
     let next : k + suc c ≡ suc (k + c) = omega arith in
     let size = ap (λ n. polynomial_at n (derivative (times_root r h)) X) next in
     let top = sum_below-suc (k + c) (λ i. derivative (times_root r h) i * X ^ i) in
-    let none_more = times_root_behind (k + c) r (suc (k + c)) h (rooted_behind m k c z f none) (omega arith) in
+    let none_more = times_root_behind (k + c) r (suc (k + c)) h (rooted_behind m k c z f) (omega arith) in
     let gone = ap (λ w. suc (k + c) * w * X ^ (k + c)) none_more in
-    let whole = derivative_of_times_root (k + c) r X h (rooted_behind m k c z f none (k + c) (omega arith)) in
-    let value = rooted_value m k c X z f positive none in
-    let near = difference_alike m X (z c) positive in
+    let whole = derivative_of_times_root (k + c) r X h (rooted_behind m k c z f (k + c) (omega arith)) in
+    let value = rooted_value m k c X z f positive in
     elim (cases_eq l c) [
       | inl e ↦
           let zero_there : Congruent m (X + r) 0 = record {
@@ -141,9 +150,8 @@ derivative_at_root m k (suc c) l z f positive none within =
           mod_of_combination (mod_add value (mod_times D zero_there)) (omega (arith, size, top, gone, whole, w))
       | inr other ↦
           let root = product-none c l (λ j. residue m (pos X -ℤ pos (z j))) (omega arith) (no_difference m X) in
-          let away = ap (λ v. F * v) root in
-          let before = derivative_at_root m k c l z f positive none (omega arith) in
           let w = ap (λ v. F * v) (other_weight m c l z other) in
-          mod_of_combination (mod_add value (mod_add (mod_times (X + r) before)
-          (mod_times (F * root_weight m c z l) (mod_sym near)))) (omega (arith, size, top, gone, whole, w, away))
+          mod_of_combination (mod_add value (mod_add (mod_times (X + r) (derivative_at_root m k c l z f positive (omega arith)))
+          (mod_times (F * root_weight m c z l) (mod_sym (difference_alike m X (z c) positive)))))
+          (omega (arith, size, top, gone, whole, w, ap (λ v. F * v) root))
     ]

@@ -1,7 +1,5 @@
 use Rattle.num_modular.specs.Callers.{◌≡◌, ◌<◌, ◌+◌, ◌-◌, ◌*◌, ◌%◌, ◌∙◌, ℕ, ap, sym, subst, arith, length, entry, HasInverse, IsInverse}
 use Rattle.std.proofs.Common.{slice_index}
-use Rattle.ring_codes.specs.Erasure.{IsEncoding}
-use Rattle.ring_codes.specs.Powers.{ArePowers}
 use Rattle.ring_codes.proofs.RootPowers.{powers_fit}
 use Rattle.ring_codes.proofs.Symbols.{entry_front}
 use Rattle.ring_erasures.proofs.RestoredWords.{locator_alike, lost_values_unit, factors_are, factors_alike}
@@ -14,8 +12,7 @@ returns-clause-factors g c points powers =
     let a = ring.value m (number c.args.g.now) in let n : ℕ = length c.args.factors.now in let lost = c.args.lost.now in
     let erased = c.requires.erased in
     let list = c.fill_powers.new.points in let x = entry number ring.value m list in
-    let powers_x : ArePowers m a n x =
-    subst (λ s. ArePowers m a s x) c.split_at_mut-list.ensures.front_len c.fill_powers.ensures.powers in
+    let powers_x = rw c.split_at_mut-list.ensures.front_len at c.fill_powers.ensures.powers in
     let fit = powers_fit m a n x c.requires.odd c.requires.suits powers_x in
     let same_list : length list ≡ n = c.fill_powers.auto.points ∙ c.split_at_mut-list.ensures.front_len in
     let count : length c.gather.new.numbers ≡ length lost = c.gather.auto.numbers ∙ c.split_at_mut-chosen.ensures.front_len in
@@ -24,8 +21,7 @@ returns-clause-factors g c points powers =
     let locator = locator_alike m _ n _ (length lost) _ (λ l. x (slice_index lost l)) e
     c.split_at_mut-coefficients.ensures.front_len count c.gather.ensures.same c.expand_locator.ensures.roots in
     let first = entry number ring.value m c.encode_by_transform.new.word in
-    let encoding : IsEncoding m n n x e first =
-    subst (λ s. IsEncoding m s n x e first) long (c.encode_by_transform.ensures.encoding x powers_x) in
+    let encoding = rw long at (c.encode_by_transform.ensures.encoding x powers_x) in
     let whole = c.differentiate.new.coefficients in let derivative = c.split_at_mut-derivative.result.0.now in
     let d = entry number ring.value m derivative in
     let kept : length whole ≡ n = c.differentiate.auto.coefficients ∙ long in
@@ -35,16 +31,14 @@ returns-clause-factors g c points powers =
     ∙ entry_front number ring.value m whole (length whole - 1) i (omega (arith, b, kept)) (omega arith)
     ∙ c.differentiate.ensures.derivative i (omega (arith, b, long)) in
     let v = entry number ring.value m c.encode_by_transform-2.new.word in
-    let values : IsEncoding m (n - 1) n x d v =
-    subst (λ s. IsEncoding m s n x d v) short (subst (λ s. IsEncoding m (length derivative) s x d v) same_list
-    (c.encode_by_transform-2.ensures.encoding x (subst (λ s. ArePowers m a s x) (sym same_list) powers_x))) in
+    let values = rw (short, same_list) at (c.encode_by_transform-2.ensures.encoding x (rw same_list powers_x)) in
     let chosen = c.gather-2.new.numbers in let again : length chosen ≡ length lost = c.gather-2.auto.numbers ∙ count in
     let all = c.invert_each-all.ensures.each.1 (λ i b. let l : i < length lost = omega (arith, b, again) in
     subst (HasInverse m) (sym (c.gather-2.ensures.same i l))
-    (lost_values_unit m n i x e d v lost positive fit erased locator each values l).1) in
+    (lost_values_unit m n x e d v lost positive fit erased locator each values i l).1) in
     let inverses = entry number ring.value m c.invert_each-all.new.forms in
     factors_alike m 1 n x points _ lost erased (λ i b. powers_x.power i b ∙ sym (powers.power i b))
-    (factors_are m n x e d v inverses first _ lost positive fit erased locator encoding each values
+    (factors_are m n x e d v lost positive fit erased locator each values inverses first _ encoding
     (λ l b. subst (λ w. IsInverse m w (inverses l)) (c.gather-2.ensures.same l b)
     (c.invert_each-all.ensures.inverses all l (omega (arith, b, again))))
     c.scatter.ensures.there c.scatter.ensures.kept)

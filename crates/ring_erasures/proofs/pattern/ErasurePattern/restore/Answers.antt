@@ -2,11 +2,8 @@ use Rattle.std.proofs.lemmas.Bool.{false≢true}
 use Rattle.num_modular.specs.Callers.{◌≡◌, ◌+◌, ◌-◌, ◌∙◌, ℕ, ap, sym, subst, refl, arith, length, entry, All, IsForm}
 use Rattle.std.proofs.lemmas.List.Elements.{All-take}
 use Rattle.num_modular.specs.Transforms.{Suits}
-use Rattle.ring_codes.specs.Erasure.{IsEncoding}
-use Rattle.ring_codes.specs.Powers.{ArePowers}
 use Rattle.ring_codes.proofs.RootPowers.{powers_fit}
 use Rattle.ring_codes.proofs.Symbols.{entry_below, entry_front}
-use Rattle.ring_erasures.specs.Erasures.{AreKeptProducts}
 use Rattle.ring_erasures.proofs.KnownRoots.{suits_known}
 use Rattle.ring_erasures.proofs.RestoredWords.{restorable_by_test, restored_word}
 use Rattle.ring_erasures.proofs.pattern.ErasurePattern.restore.Goals as goal
@@ -21,17 +18,11 @@ pub returns-then-not-is_codeword_by_transform-clause-restorable : goal.returns-t
 returns-then-not-is_codeword_by_transform-clause-restorable g c points powers =
     let self = c.args.self.now in let ring = g.R.Reducer in let m = ring.modulus self.ring.now in
     let number = g.T.RingWord.number in let positive = (g.met.R.Reducer.canonical self.ring.now).positive in
-    let n : ℕ = length self.factors.now in let word = c.args.word.now in let room = c.requires.room in
-    let front = c.split_at_mut-products.ensures.front_len in
-    let y = entry number ring.value m word in let u = entry number ring.value m self.factors.now in
-    let products = entry number ring.value m c.multiply_kept.new.products in let lost = self.lost.now in
-    let a = ring.value m (number self.root) in
-    let tells = restorable_by_test m a self.k n (length c.multiply_kept.new.products)
-    (length c.split_at_mut-coefficients.result.0.now) y u products lost c.is_codeword_by_transform.result positive self.odd
-    (suits_known m a n self.suits) self.erased self.inverses (c.multiply_kept.auto.products ∙ front)
-    c.split_at_mut-coefficients.ensures.front_len
-    (subst (λ s. AreKeptProducts m s lost y u products) front c.multiply_kept.ensures.products)
-    (λ i b. entry_below number ring.form ring.value m word i c.requires.word (omega (arith, b, room)))
+    let front = c.split_at_mut-products.ensures.front_len in let room = c.requires.room in
+    let tells = restorable_by_test m _ self.k (length self.factors.now) _ _ _ _ _ self.lost.now _ positive self.odd
+    (suits_known m _ _ self.suits) self.erased self.inverses (c.multiply_kept.auto.products ∙ front)
+    c.split_at_mut-coefficients.ensures.front_len (rw front at c.multiply_kept.ensures.products)
+    (λ i b. entry_below number ring.form ring.value m c.args.word.now i c.requires.word (omega (arith, b, room)))
     c.is_codeword_by_transform.ensures.codeword points powers in (
       λ t. absurd (false≢true t),
       λ restorable. sym c.if-not-is_codeword_by_transform.true ∙ tells.1 restorable,
@@ -70,17 +61,11 @@ pub returns-clause-restorable : goal.returns-clause-restorable
 returns-clause-restorable g c points powers =
     let self = c.args.self.now in let ring = g.R.Reducer in let m = ring.modulus self.ring.now in
     let number = g.T.RingWord.number in let positive = (g.met.R.Reducer.canonical self.ring.now).positive in
-    let n : ℕ = length self.factors.now in let word = c.args.word.now in let room = c.requires.room in
-    let front = c.split_at_mut-products.ensures.front_len in
-    let y = entry number ring.value m word in let u = entry number ring.value m self.factors.now in
-    let products = entry number ring.value m c.multiply_kept.new.products in let lost = self.lost.now in
-    let a = ring.value m (number self.root) in
-    let tells = restorable_by_test m a self.k n (length c.multiply_kept.new.products)
-    (length c.split_at_mut-coefficients.result.0.now) y u products lost c.is_codeword_by_transform.result positive self.odd
-    (suits_known m a n self.suits) self.erased self.inverses (c.multiply_kept.auto.products ∙ front)
-    c.split_at_mut-coefficients.ensures.front_len
-    (subst (λ s. AreKeptProducts m s lost y u products) front c.multiply_kept.ensures.products)
-    (λ i b. entry_below number ring.form ring.value m word i c.requires.word (omega (arith, b, room)))
+    let front = c.split_at_mut-products.ensures.front_len in let room = c.requires.room in
+    let tells = restorable_by_test m _ self.k (length self.factors.now) _ _ _ _ _ self.lost.now _ positive self.odd
+    (suits_known m _ _ self.suits) self.erased self.inverses (c.multiply_kept.auto.products ∙ front)
+    c.split_at_mut-coefficients.ensures.front_len (rw front at c.multiply_kept.ensures.products)
+    (λ i b. entry_below number ring.form ring.value m c.args.word.now i c.requires.word (omega (arith, b, room)))
     c.is_codeword_by_transform.ensures.codeword points powers in
     (λ t. tells.0 c.if-not-is_codeword_by_transform.false, λ restorable. refl)
 
@@ -89,29 +74,20 @@ returns-clause-only g c points other powers codeword agree i l =
     let self = c.args.self.now in let ring = g.R.Reducer in let m = ring.modulus self.ring.now in
     let number = g.T.RingWord.number in let positive = (g.met.R.Reducer.canonical self.ring.now).positive in
     let n : ℕ = length self.factors.now in let a = ring.value m (number self.root) in let lost = self.lost.now in
-    let products = c.multiply_kept.new.products in
     let front = c.split_at_mut-products.ensures.front_len in
-    let count : length products ≡ n = c.multiply_kept.auto.products ∙ front in
-    let are = subst (λ s. AreKeptProducts m s lost (entry number ring.value m c.args.word.now)
-    (entry number ring.value m self.factors.now) (entry number ring.value m products)) front c.multiply_kept.ensures.products in
-    let size = c.split_at_mut-coefficients.ensures.front_len in
-    let p = entry number ring.value m c.is_codeword_by_transform.new.message in
-    let at_products = subst (λ s. ArePowers m a s points) (sym count) powers in
-    let encoding = subst (λ s. IsEncoding m s n points p (entry number ring.value m products)) size
-    (subst (λ s. IsEncoding m (length c.split_at_mut-coefficients.result.0.now) s points p (entry number ring.value m products))
-    count (c.is_codeword_by_transform.ensures.message c.if-not-is_codeword_by_transform.false points at_products)) in
+    let count : length c.multiply_kept.new.products ≡ n = c.multiply_kept.auto.products ∙ front in
+    let are = rw front at c.multiply_kept.ensures.products in let size = c.split_at_mut-coefficients.ensures.front_len in
+    let encoding = rw (size, count) at
+    (c.is_codeword_by_transform.ensures.message c.if-not-is_codeword_by_transform.false points (rw count powers)) in
     let whole = c.differentiate.new.coefficients in let derivative = c.split_at_mut-derivative.result.0.now in
     let d = entry number ring.value m derivative in
     let long = c.is_codeword_by_transform.auto.message ∙ size in
     let kept : length whole ≡ self.k + length lost = c.differentiate.auto.coefficients ∙ long in
     let short = c.split_at_mut-derivative.ensures.front_len ∙ ap (λ s. s - 1) kept in
-    let v = entry number ring.value m c.encode_by_transform.new.word in
-    let values = subst (λ s. IsEncoding m s n points d v) short
-    (subst (λ s. IsEncoding m (length derivative) s points d v) count
-    (c.encode_by_transform.ensures.encoding points at_products)) in
-    restored_word m self.k n points codeword.0 _ _ p d v _ _ lost positive
+    let values = rw (short, count) at (c.encode_by_transform.ensures.encoding points (rw count powers)) in
+    restored_word m self.k n points _ _ _ lost positive
     (powers_fit m a n points self.odd (suits_known m a n self.suits) powers) self.erased (self.inverses points powers) are
-    (λ i b left. agree i b left ∙ codeword.1.symbol i b) encoding
+    codeword.0 _ d _ _ (λ i b left. agree i b left ∙ codeword.1.symbol i b) encoding
     (λ i b. ap (λ forms. entry number ring.value m forms i) c.split_at_mut-derivative.ensures.front
     ∙ entry_front number ring.value m whole (length whole - 1) i (omega (arith, b, kept)) (omega arith)
     ∙ c.differentiate.ensures.derivative i (omega (arith, b, long)))
