@@ -32,17 +32,16 @@ shifted-whole m (suc n) X f last =
 
 -- a coefficient of the product by X - a, where it and the one before it are 0
 raised_none : (m a c l : ℕ) (f g : ℕ → ℕ) → ((j : ℕ) → j < c → Congruent m (g j + a * f j) (shifted f j))
-    → ((j : ℕ) → c ≤ j → g j ≡ 0) → Congruent m (f l) 0 → ((j : ℕ) → suc j ≡ l → Congruent m (f j) 0)
-    → Congruent m (g l) 0
+    → ((j : ℕ) → c ≤ j → g j ≡ 0) → ((j : ℕ) → l ≤ suc j → Congruent m (f j) 0) → Congruent m (g l) 0
 unfolding shifted
-raised_none m a c l f g each past here before = elim (cases_lt l c) [
-  | inl b ↦ mod_trans (left_alone m (g l) a (f l) (shifted f l) (each l b) here) (none_before l before)
+raised_none m a c l f g each past none = elim (cases_lt l c) [
+  | inl b ↦ mod_trans (left_alone m (g l) a (f l) (shifted f l) (each l b) (none l (omega arith))) (none_before l none)
   | inr b ↦ mod_of_eq (past l b)
 ]
   where
-    none_before : (l : ℕ) → ((j : ℕ) → suc j ≡ l → Congruent m (f j) 0) → Congruent m (shifted f l) 0
-    none_before zero before = mod_of_eq refl
-    none_before (suc j) before = before j refl
+    none_before : (l : ℕ) → ((j : ℕ) → l ≤ suc j → Congruent m (f j) 0) → Congruent m (shifted f l) 0
+    none_before zero none = mod_of_eq refl
+    none_before (suc j) none = none j (omega arith)
 
 -- its first coefficient that isn't 0 by order
 raised_unit : (m a l : ℕ) (f g : ℕ → ℕ) → Congruent m (g (suc l) + a * f (suc l)) (shifted f (suc l))
@@ -66,18 +65,21 @@ raised m k c d i u a x y n e f g lengths room point each_n each_e past_n past_e 
     (shifted-whole m d X e (λ l s. behind_e l (omega arith))) in
     record {
       solves = λ j l. elim (cases_eq j i) [
-        | inl s ↦ rw (ap x s ∙ point) (mod_of_combination (mod_add (value_n a) (mod_times (y j) (mod_sym (value_e a)))) (omega arith))
+        | inl s ↦ rw (ap x s ∙ point)
+            (mod_of_combination (mod_add (value_n a) (mod_times (y j) (mod_sym (value_e a)))) (omega arith))
         | inr other ↦
             let is = pair.solves j (omega arith) in
             mod_of_combination (mod_add (value_n (x j)) (mod_add (mod_times (y j) (mod_sym (value_e (x j))))
             (mod_add (mod_times a (mod_sym is)) (mod_times (x j) is)))) (omega arith)
       ];
       leads = record {
-        numerator_behind = λ l b. raised_none m a c l n f each_n past_n (behind_n l (omega arith)) (λ j s. behind_n j (omega arith));
-        locator_behind = λ l b. raised_none m a d l e g each_e past_e (behind_e l (omega arith)) (λ j s. behind_e j (omega arith));
+        numerator_behind = λ l b. raised_none m a c l n f each_n past_n (λ j s. behind_n j (omega arith));
+        locator_behind = λ l b. raised_none m a d l e g each_e past_e (λ j s. behind_e j (omega arith));
         unit = elim pair.leads.unit [
-          | inl (l, at, unit) ↦ inl (suc l, omega arith, raised_unit m a l n f (each_n _ (omega arith)) (behind_n _ (omega arith)) unit)
-          | inr (l, at, unit) ↦ inr (suc l, omega arith, raised_unit m a l e g (each_e _ (omega arith)) (behind_e _ (omega arith)) unit)
+          | inl (l, at, unit) ↦
+              inl (_, omega arith, raised_unit m a l n f (each_n _ (omega arith)) (behind_n _ (omega arith)) unit)
+          | inr (l, at, unit) ↦
+              inr (_, omega arith, raised_unit m a l e g (each_e _ (omega arith)) (behind_e _ (omega arith)) unit)
         ];
       };
     }
@@ -91,7 +93,8 @@ eliminated_none m p q c l h n f each past none here = elim (cases_lt l c) [
 
 eliminated_unit : {m p a b c : ℕ} (q : ℕ) → Congruent m (a + q * b) (p * c) → Congruent m b 0 → HasInverse m p
     → HasInverse m c → HasInverse m a
-eliminated_unit {m} q is none unit own = unit_alike m _ _ (mod_sym (left_alone m _ _ _ _ is none)) ((has_both m _ _).1 (unit, own))
+eliminated_unit {m} q is none unit own =
+    unit_alike m _ _ (mod_sym (left_alone m _ _ _ _ is none)) ((has_both m _ _).1 (unit, own))
 
 -- p times a pair less q times the pivot, p and q being the discrepancies of the pivot and of the pair
 pub eliminated : (m k c d i u v p q : ℕ) (x y h g n e f t : ℕ → ℕ) → d + k ≡ c + 1 → v < 2 * c → u < v
@@ -120,10 +123,13 @@ eliminated m k c d i u v p q x y h g n e f t lengths room less inverse each_n ea
       leads = record {
         numerator_behind = λ l b. eliminated_none m p q c l h n f each_n past_n (behind_h l (omega arith))
             (own.leads.numerator_behind l b);
-        locator_behind = λ l b. eliminated_none m p q d l g e t each_e past_e (behind_g l (omega arith)) (own.leads.locator_behind l b);
+        locator_behind = λ l b. eliminated_none m p q d l g e t each_e past_e (behind_g l (omega arith))
+            (own.leads.locator_behind l b);
         unit = elim own.leads.unit [
-          | inl (l, at, unit) ↦ inl (l, at, eliminated_unit q (each_n l (omega arith)) (behind_h l (omega arith)) inverse unit)
-          | inr (l, at, unit) ↦ inr (l, at, eliminated_unit q (each_e l (omega arith)) (behind_g l (omega arith)) inverse unit)
+          | inl (l, at, unit) ↦
+              inl (l, at, eliminated_unit q (each_n l (omega arith)) (behind_h l (omega arith)) inverse unit)
+          | inr (l, at, unit) ↦
+              inr (l, at, eliminated_unit q (each_e l (omega arith)) (behind_g l (omega arith)) inverse unit)
         ];
       };
     }

@@ -98,8 +98,7 @@ returns-then-errors-places g c =
     let message : (sent other : ℕ → ℕ) → IsEncoding m k (length points) (entries points) sent other → IsNear k places y other
     → (i : ℕ) → i < k → entries c.find_message.new.message i ≡ sent i % m =
     λ sent other is near. found.only sent (near_located y at is near) in
-    let encoding = subst (λ k. IsEncoding m k (length points) (entries points) (entries c.find_message.new.message)
-    (entries c.fill_word.new.word)) same c.fill_word.ensures.encoding in record {
+    let encoding = rw same at c.fill_word.ensures.encoding in record {
       fit = fit_places at found.fit;
       checked = search rules;
       forms = search rules;
@@ -122,9 +121,7 @@ returns-else-errors-places g c = (
       let entries = entry g.T.RingWord.number g.R.Reducer.value (g.R.Reducer.modulus c.args.r.now) in
       let y = entries c.args.symbols.now in let places = c.args.places.now in
       let message = c.in-Ok-find_message.ensures.only codeword.0 (near_located y c.in-Ok.ensures codeword.1 near) in
-      let encoding = subst (λ k. IsEncoding (g.R.Reducer.modulus c.args.r.now) k (length c.args.points.now)
-      (entries c.args.points.now) (entries c.find_message.new.message) (entries c.fill_word.new.word))
-      c.find_message.auto.message c.fill_word.ensures.encoding in
+      let encoding = rw c.find_message.auto.message at c.fill_word.ensures.encoding in
       let word = same_word encoding codeword.1 message in
       let count = c.count_errors-errors.ensures ∙ distance_same (length places) y
       (λ j. entries c.fill_word.new.word (slice_index places j)) (λ j. other (slice_index places j))
@@ -140,9 +137,7 @@ fill_word-requires-clause-kept g c =
     let mine = entries c.find_message.new.message in let pairs = at.pairs in
     let count = c.find_message.auto.word ∙ c.split_at_mut-found.ensures.front_len in
     let copied = c.copy_from_slice.ensures.after ∙ take_at c.find_message.new.word _ (length places) count in
-    subst (λ k. IsEncoding m k (length places) (λ i. entries c.args.points.now (slice_index places i)) mine
-    (entries c.copy_from_slice.new.self)) (sym c.find_message.auto.message)
-    (record {
+    rw c.find_message.auto.message (record {
       symbol = λ i l. ap (λ list. entries list i) copied ∙ found.encoding.symbol i (omega (arith, l, pairs))
           ∙ ap (λ a. polynomial_at (length c.args.message.now) mine a % m) (at.same i l);
     })

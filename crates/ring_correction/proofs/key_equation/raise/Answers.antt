@@ -13,7 +13,7 @@ returns-clause-pair g c d k i u x y whole lengths room at pair =
     let is_d : length back ≡ d = omega (arith, c.split_at_mut-numerator.ensures.back_len, whole) in
     let parts = rw (← c.split_at_mut-numerator.ensures.front, ← c.split_at_mut-numerator.ensures.back) at pair in
     let long_c = c.multiply_by_root.auto.coefficients in let long_d = c.multiply_by_root-2.auto.coefficients in
-    joined_pair number ring.value m k split d (i + 1) (u + 2) x y c.multiply_by_root.new.coefficients
+    joined_pair number ring.value m split k d (i + 1) (u + 2) x y c.multiply_by_root.new.coefficients
     c.multiply_by_root-2.new.coefficients (long_c ∙ is_c)
     (raised m k split d i u _ x y _ _ _ _ lengths room at
     (λ l b. c.multiply_by_root.ensures.product l (omega (arith, b, is_c)))

@@ -15,8 +15,8 @@ returns-in-Some-clause-other g c t d k i u v x y whole lengths room less is_p is
     let in_made : split ≤ length made = omega (arith, same, whole) in
     let in_pivot : split ≤ length c.args.pivot.now = omega (arith, equal, whole) in
     eliminated m k split d i u v _ _ x y _ _ _ _ _ _ lengths room less (_, c.in-Some.ensures.value)
-    (front_difference number ring.value m _ _ made c.args.pivot.now other split in_made in_pivot c.requires.within c.eliminate.ensures.difference)
-    (back_difference number ring.value m _ _ made c.args.pivot.now other split d whole c.eliminate.ensures.difference)
-    (front_past number ring.value m made split in_made)
-    (back_past number ring.value m made split d (same ∙ whole))
+    (front_difference number ring.value m split _ _ made c.args.pivot.now other in_made in_pivot c.requires.within
+    c.eliminate.ensures.difference)
+    (back_difference number ring.value m split _ _ made c.args.pivot.now other d whole c.eliminate.ensures.difference)
+    (front_past number ring.value m split made in_made) (back_past number ring.value m split made d (same ∙ whole))
     is_p is_q pivot own

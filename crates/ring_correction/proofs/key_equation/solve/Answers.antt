@@ -1,7 +1,5 @@
-use Rattle.std.proofs.Common.{take, drop}
-use Rattle.num_modular.specs.Callers.{◌≡◌, ◌-◌, ◌<◌, ◌∙◌, sym, arith, subst, length}
-use Rattle.num_modular.specs.Callers.{entry, entry_read}
-use Rattle.ring_correction.specs.KeyEquations.{AreKeyPairs}
+use Rattle.num_modular.specs.Callers.{◌≡◌, ◌-◌, ◌<◌, ◌∙◌, sym, arith, length}
+use Rattle.num_modular.specs.Callers.{entry_read}
 use Rattle.ring_correction.proofs.Pairs.{unit_pairs}
 use Rattle.ring_correction.proofs.key_equation.solve.Goals as goal
 
@@ -22,19 +20,9 @@ symbols-preserved g c =
 
 pub returns-clause-pairs : goal.returns-clause-pairs
 returns-clause-pairs g c d whole =
-    let ring = g.R.Reducer in let m = ring.modulus c.args.r.now in let number = g.T.RingWord.number in
-    let x = entry number ring.value m c.args.points.now in
-    let y = entry number ring.value m c.args.symbols.now in
-    let split = c.args.split in
-    let fn = entry number ring.value m (take split c.symbols.first) in
-    let fl = entry number ring.value m (drop split c.symbols.first) in
-    let sn = entry number ring.value m (take split c.symbols.second) in
-    let sl = entry number ring.value m (drop split c.symbols.second) in
     let all : c.symbols.i ≡ length c.args.points.now = omega arith in
-    let is_d : length c.args.first.now - split ≡ d = omega (arith, whole) in
-    subst (λ d. AreKeyPairs m c.args.k split d (length c.args.points.now) c.symbols.weights.0 c.symbols.weights.1 x y fn fl sn sl) is_d
-    (subst (λ i. AreKeyPairs m c.args.k split (length c.args.first.now - split) i c.symbols.weights.0 c.symbols.weights.1 x y fn fl sn sl) all
-    c.symbols.invariant.3)
+    let is_d : length c.args.first.now - c.args.split ≡ d = omega (arith, whole) in
+    rw (is_d, all) at c.symbols.invariant.3
 
 pub symbols-init : goal.symbols-init
 symbols-init g c =
@@ -45,7 +33,7 @@ symbols-init g c =
       c.set_unit.ensures.checked,
       c.set_unit-2.ensures.checked,
       omega (arith, c.requires.positive),
-      unit_pairs number ring.value m c.args.k c.args.split _ _ _ c.set_unit.new.coefficients c.set_unit-2.new.coefficients positive
+      unit_pairs number ring.value m c.args.split c.args.k _ _ _ c.set_unit.new.coefficients c.set_unit-2.new.coefficients positive
           c.requires.positive wide (omega (arith, long, c.requires.some)) (omega (arith, long_too, c.requires.equal, c.requires.some))
           c.set_unit.ensures.one c.set_unit.ensures.others c.set_unit-2.ensures.one c.set_unit-2.ensures.others,
     )
