@@ -128,7 +128,8 @@ other_weight m c l z other =
 
 -- at a root z l the derivative of f times the product of X - z is f times the root's weight
 pub derivative_at_root : (m k c l : ℕ) (z f : ℕ → ℕ) → 0 < m → l < c
-    → Congruent m (polynomial_at (k + c) (derivative (rooted m k c z f)) (z l)) (polynomial_at k f (z l) * root_weight m c z l)
+    → Congruent m (polynomial_at (k + c) (derivative (rooted m k c z f)) (z l))
+    (polynomial_at k f (z l) * root_weight m c z l)
 unfolding rooted
 derivative_at_root m k zero l z f positive within = absurd (omega arith)
 derivative_at_root m k (suc c) l z f positive within =
@@ -151,7 +152,8 @@ derivative_at_root m k (suc c) l z f positive within =
       | inr other ↦
           let root = product-none c l (λ j. residue m (pos X -ℤ pos (z j))) (omega arith) (no_difference m X) in
           let w = ap (λ v. F * v) (other_weight m c l z other) in
-          mod_of_combination (mod_add value (mod_add (mod_times (X + r) (derivative_at_root m k c l z f positive (omega arith)))
+          let before = derivative_at_root m k c l z f positive (omega arith) in
+          mod_of_combination (mod_add value (mod_add (mod_times (X + r) before)
           (mod_times (F * root_weight m c z l) (mod_sym (difference_alike m X (z c) positive)))))
           (omega (arith, size, top, gone, whole, w, ap (λ v. F * v) root))
     ]

@@ -29,18 +29,11 @@ lost_or_kept lost i = found_below (length lost) i (slice_index lost)
 pub lost_points_fit : (m k n : ℕ) (x : ℕ → ℕ) (lost : List ℕ) → AreErased k n lost → HaveUnitDifferences m n x
     → HaveUnitDifferences m (length lost) (λ l. x (slice_index lost l))
 lost_points_fit m k n x lost erased fit = record {
-  unit = λ i j a b other. fit.unit (slice_index lost i) (slice_index lost j) (erased.places.within i a)
-      (erased.places.within j b) (elim (cases_eq (slice_index lost i) (slice_index lost j)) [
-        | inl e ↦ absurd (apart i j a b other e)
-        | inr o ↦ o
-      ]);
+  unit = λ i j a b other. fit.unit _ _ (erased.places.within i a) (erased.places.within j b) (elim (cases_lt i j) [
+    | inl before ↦ erased.places.distinct i j before b
+    | inr behind ↦ λ e. erased.places.distinct j i (omega arith) a (sym e)
+  ]);
 }
-  where
-    apart : (i j : ℕ) → i < length lost → j < length lost → i ≢ j → slice_index lost i ≢ slice_index lost j
-    apart i j a b other e = elim (cases_lt i j) [
-      | inl before ↦ erased.places.distinct i j before b e
-      | inr behind ↦ erased.places.distinct j i (omega arith) a (sym e)
-    ]
 
 -- from the values old to the values new: v i stands at lost place number i for the first c of them, and no other is changed
 pub record IsScattered (c : ℕ) (lost : List ℕ) (v old new : ℕ → ℕ) : Type 0 where

@@ -1,21 +1,20 @@
 -- The polynomial with given roots: its coefficients root by root, its values, and division by it.
-use Rattle.std.proofs.Common.{◌≡◌, ℕ, zero, suc, ◌+◌, ◌-◌, ◌*◌, ◌%◌, ◌^◌, ◌<◌, ◌≤◌, pos, ◌-ℤ◌, ap, sym, ◌∙◌, arith}
+use Rattle.std.proofs.Common.{◌≡◌, ℕ, zero, suc, ◌+◌, ◌-◌, ◌*◌, ◌%◌, ◌^◌, ◌<◌, ◌≤◌, pos, ◌-ℤ◌, ap, sym, arith}
 use Rattle.std.proofs.Common.{refl, inl, inr, cond, eqb, List, length, slice_index}
-use Rattle.std.proofs.Math.Nat.{mod-lt, mod-mod}
 use Rattle.std.proofs.lemmas.Bool.{cases_lt}
 use Rattle.std.proofs.lemmas.Bool.Decides.{eqb_tells}
 use Rattle.num_modular.specs.Congruence.{Congruent}
-use Rattle.num_modular.specs.Inverses.{IsInverse, HasInverse}
-use Rattle.num_modular.specs.NumberLaws.{mod_of_eq, mod_sym, mod_trans, mod_add, mod_refl, sum_below-suc}
+use Rattle.num_modular.specs.Inverses.{HasInverse}
+use Rattle.num_modular.specs.NumberLaws.{mod_of_eq, mod_sym, mod_trans, mod_add, mod_refl, residue_of, sum_below-suc}
 use Rattle.num_modular.specs.Polynomials.{polynomial_at, HaveUnitDifferences}
 use Rattle.num_modular.specs.PolynomialLaws.{polynomial-none, polynomial-first, polynomial-congruent}
 use Rattle.num_modular.specs.ProductLaws.{product-zero, product-more, has_product}
 use Rattle.num_modular.specs.Products.{product_below}
 use Rattle.num_modular.specs.Residues.{residue}
 use Rattle.ring_codes.specs.Shifts.{shifted}
-use Rattle.ring_codes.proofs.Congruences.{mod_of_combination, mod_times, mod_of_difference, mod_of_inverse}
-use Rattle.ring_codes.proofs.Shifts.{shifted_next, shifted-values}
-use Rattle.ring_codes.proofs.NearestWords.{combined, no_value}
+use Rattle.ring_codes.proofs.Congruences.{mod_of_combination, mod_times, mod_of_difference, mod_of_inverse, has_one}
+use Rattle.ring_codes.proofs.Shifts.{shifted-values}
+use Rattle.ring_codes.proofs.NearestWords.{combined, no_value, unit_alike}
 use Rattle.ring_erasures.specs.Erasures.{IsKept, AreErased, locator_at, IsLocator, root_weight}
 
 -- without roots
@@ -57,41 +56,31 @@ locator_more m (suc n) c x z e f positive is top same each a =
 pub product_behind : (m c x : ℕ) (e f : ℕ → ℕ) → ((i : ℕ) → c < i → Congruent m (e i) 0)
     → ((i : ℕ) → i < c + 2 → Congruent m (f i + x * e i) (shifted e i)) → ((i : ℕ) → c + 2 ≤ i → f i ≡ e i)
     → (i : ℕ) → Congruent m (f i + x * e i) (shifted e i)
+unfolding shifted
 product_behind m c x e f behind each kept zero = each zero (omega arith)
 product_behind m c x e f behind each kept (suc i) = elim (cases_lt (suc i) (c + 2)) [
   | inl b ↦ each (suc i) b
-  | inr b ↦
-      let next : i + 1 ≡ suc i = omega arith in
-      let moved = ap (shifted e) (sym next) ∙ shifted_next e i in
-      let same = kept (suc i) b in
-      mod_of_combination (mod_add (mod_times (1 + x) (behind (suc i) (omega (arith, b)))) (mod_sym (behind i (omega (arith, b)))))
-      (omega (arith, moved, same))
+  | inr b ↦ mod_of_combination (mod_add (mod_times (1 + x) (behind (suc i) (omega (arith, b))))
+      (mod_sym (behind i (omega (arith, b))))) (omega (arith, kept (suc i) b))
 ]
 
 -- and those behind are still 0
 pub locator_behind : (m c x : ℕ) (e f : ℕ → ℕ) → ((i : ℕ) → c < i → Congruent m (e i) 0)
     → ((i : ℕ) → Congruent m (f i + x * e i) (shifted e i)) → (i : ℕ) → c + 1 < i → Congruent m (f i) 0
+unfolding shifted
 locator_behind m c x e f behind each zero l = absurd (omega (arith, l))
 locator_behind m c x e f behind each (suc i) l =
-    let next : i + 1 ≡ suc i = omega arith in
-    let moved = ap (shifted e) (sym next) ∙ shifted_next e i in
     mod_of_combination (mod_add (each (suc i)) (mod_add (behind i (omega (arith, l)))
-    (mod_times x (mod_sym (behind (suc i) (omega (arith, l))))))) (omega (arith, moved))
+    (mod_times x (mod_sym (behind (suc i) (omega (arith, l))))))) (omega arith)
 
 -- the derivative has an inverse at each root, where the roots fit
 pub weight_unit : (m c l : ℕ) (z : ℕ → ℕ) → 0 < m → HaveUnitDifferences m c z → l < c → HasInverse m (root_weight m c z l)
 weight_unit m c l z positive fit within =
     has_product m c (λ j. cond (eqb j l) 1 (residue m (pos (z l) -ℤ pos (z j)))) positive (λ j b.
     elim (eqb_tells j l) [
-      | inl p ↦ rw p.0 (1 % m, one)
+      | inl p ↦ rw p.0 (unit_alike m (1 % m) 1 (residue_of 1) (has_one m positive))
       | inr p ↦ rw p.0 (fit.unit l j within b (λ e. p.1 (sym e)))
     ])
-  where
-    one : IsInverse m 1 (1 % m)
-    one = record {
-      below = mod-lt 1 positive;
-      one = let e : 1 * (1 % m) ≡ 1 % m = omega arith in ap (λ v. v % m) e ∙ mod-mod 1 m;
-    }
 
 -- and the locator where no symbol is lost
 pub locator_unit : (m k n i : ℕ) (x : ℕ → ℕ) (lost : List ℕ) → 0 < m → AreErased k n lost → HaveUnitDifferences m n x
@@ -99,6 +88,10 @@ pub locator_unit : (m k n i : ℕ) (x : ℕ → ℕ) (lost : List ℕ) → 0 < m
 locator_unit m k n i x lost positive erased fit within kept =
     has_product m (length lost) (λ l. residue m (pos (x i) -ℤ pos (x (slice_index lost l)))) positive (λ l b.
     fit.unit i (slice_index lost l) within (erased.places.within l b) (λ e. kept l b (sym e)))
+
+-- the value of a constant
+pub constant_value : (p : ℕ → ℕ) (X : ℕ) → polynomial_at 1 p X ≡ p 0
+constant_value p X = omega (arith, polynomial-first 0 p X, ap (λ v. X * v) (polynomial-none (λ i. p (suc i)) X))
 
 -- the coefficients of v + X·h
 ahead : ℕ → (ℕ → ℕ) → ℕ → ℕ
@@ -114,18 +107,8 @@ pub divided : (n a : ℕ) (p : ℕ → ℕ) → (q : ℕ → ℕ) × ((X : ℕ) 
     ≡ polynomial_at (suc n) p a + X * polynomial_at n q X)
 divided zero a p = (
   p,
-  λ X.
-      let here = polynomial-first 0 p X in let there = polynomial-first 0 p a in
-      let none = polynomial-none (λ i. p (suc i)) X in let none_there = polynomial-none (λ i. p (suc i)) a in
-      let empty = polynomial-none p X in omega (
-        arith,
-        here,
-        there,
-        ap (λ v. X * v) none,
-        ap (λ v. a * v) none_there,
-        ap (λ v. X * v) empty,
-        ap (λ v. a * v) empty,
-      ),
+  λ X. let none = polynomial-none p X in
+      omega (arith, constant_value p X, constant_value p a, ap (λ v. X * v) none, ap (λ v. a * v) none),
 )
 divided (suc n) a p =
     let rest = divided n a (λ i. p (suc i)) in

@@ -1,13 +1,14 @@
 -- Words restored by the product of their polynomial and the locator: at a root its derivative is the symbol times the
 -- locator's derivative (Didier, "Efficient erasure decoding of Reed-Solomon codes", 2009).
 use Rattle.std.proofs.Common.{◌≡◌, ℕ, suc, ◌+◌, ◌-◌, ◌*◌, ◌%◌, ◌^◌, ◌<◌, ◌≤◌, ◌↔◌, pos, ◌-ℤ◌, ap, sym, ◌∙◌, arith}
-use Rattle.std.proofs.Common.{Bool, IsTrue, add-one, refl, inl, inr, subst, cond, eqb, List, length, slice_index, mod-eq_of_lt}
+use Rattle.std.proofs.Common.{Bool, IsTrue, add-one, refl, inl, inr, subst, cond, eqb}
+use Rattle.std.proofs.Common.{List, length, slice_index, mod-eq_of_lt}
 use Rattle.num_modular.specs.Callers.{same_coefficients}
 use Rattle.num_modular.specs.Congruence.{Congruent}
 use Rattle.num_modular.specs.Inverses.{IsInverse, HasInverse}
 use Rattle.num_modular.specs.NumberLaws.{mod_of_eq, mod_sym, mod_trans, mod_add, mod_mul, mod_refl}
 use Rattle.num_modular.specs.Polynomials.{polynomial_at, HaveUnitDifferences}
-use Rattle.num_modular.specs.PolynomialLaws.{polynomial-first, polynomial-none, polynomial-congruent}
+use Rattle.num_modular.specs.PolynomialLaws.{polynomial-congruent}
 use Rattle.num_modular.specs.ProductLaws.{product-same}
 use Rattle.num_modular.specs.Residues.{residue}
 use Rattle.num_modular.specs.SumLaws.{tail}
@@ -23,7 +24,7 @@ use Rattle.ring_erasures.specs.Erasures.{IsKept, AreErased, locator_at, IsLocato
 use Rattle.ring_erasures.specs.Erasures.{AgreeAtKept, AreKeptProducts}
 use Rattle.ring_erasures.proofs.Derivatives.{derivative, rooted, rooted_behind, rooted_value, derivative_at_root}
 use Rattle.ring_erasures.proofs.ErasedPlaces.{lost_or_kept, lost_points_fit}
-use Rattle.ring_erasures.proofs.Locators.{weight_unit, locator_unit, divided_by_roots}
+use Rattle.ring_erasures.proofs.Locators.{weight_unit, locator_unit, divided_by_roots, constant_value}
 
 -- zeros behind change no value
 longer_value : (n s X : ℕ) (p : ℕ → ℕ) → n ≤ s → ((i : ℕ) → n ≤ i → p i ≡ 0) → polynomial_at s p X ≡ polynomial_at n p X
@@ -49,20 +50,21 @@ module _ (m k n : ℕ) (x : ℕ → ℕ) (lost : List ℕ) (positive : 0 < m) (f
       let c : ℕ = length lost in let z = at_lost x lost in let P = rooted m k c z f in
       let none = rooted_behind m k c z f in
       let same = same_coefficients m s p P x (fit_front m n s x short fit) (λ j b.
-      mod_trans (is j (omega (arith, b, short))) (mod_sym (mod_trans (mod_of_eq (longer_value (k + c) s (x j) P long none))
-      (rooted_value m k c (x j) z f positive)))) in
+      mod_of_combination (mod_add (is j (omega (arith, b, short))) (mod_sym (rooted_value m k c (x j) z f positive)))
+      (omega (arith, longer_value (k + c) s (x j) P long none))) in
       let past : (i : ℕ) → k + c - 1 ≤ i → derivative P i ≡ 0 =
       λ i b. let gone = ap (λ v. suc i * v) (none (suc i) (omega (arith, b))) in omega (arith, gone) in
       let whole = longer_value (k + c - 1) (k + c) (z l) (derivative P) (omega arith) past in
       let cut = longer_value (k + c - 1) (s - 1) (z l) (derivative P) (omega (arith, long)) past in
       let alike = polynomial-congruent (s - 1) d (derivative P) (z l) (z l) (λ i b.
-      mod_trans (mod_of_residue (each i (omega (arith, b)))) (rw add-one (mod_times (suc i) (same (suc i) (omega (arith, b))))))
-      (mod_refl (z l)) in
+      let one = same (suc i) (omega (arith, b)) in
+      mod_trans (mod_of_residue (each i (omega (arith, b)))) (rw add-one (mod_times (suc i) one))) (mod_refl (z l)) in
       mod_of_combination (mod_add alike (derivative_at_root m k c l z f positive within)) (omega (arith, whole, cut))
 
 -- symbols y, factors u of the points, and the products of the symbols that are left
-module _ (m k n : ℕ) (x y u products : ℕ → ℕ) (lost : List ℕ) (positive : 0 < m) (fit : HaveUnitDifferences m n x)
-    (erased : AreErased k n lost) (factors : AreFactors m n x lost u) (are : AreKeptProducts m n lost y u products) where
+module _ (m k n : ℕ) (x y u products : ℕ → ℕ) (lost : List ℕ) (positive : 0 < m)
+    (fit : HaveUnitDifferences m n x) (erased : AreErased k n lost) (factors : AreFactors m n x lost u)
+    (are : AreKeptProducts m n lost y u products) where
   -- if the symbols that are left are those of f, the products are the values of f times the locator
   products_of_word : (f : ℕ → ℕ) (j : ℕ) → AgreeAtKept n lost y (λ i. polynomial_at k f (x i) % m) → j < n
       → Congruent m (products j) (polynomial_at k f (x j) * locator_at m (length lost) (at_lost x lost) (x j))
@@ -80,7 +82,8 @@ module _ (m k n : ℕ) (x y u products : ℕ → ℕ) (lost : List ℕ) (positiv
   word_of_products : (p : ℕ → ℕ) → ((i : ℕ) → i < n → y i < m) → IsEncoding m (k + length lost) n x p products
       → (f : ℕ → ℕ) × AgreeAtKept n lost y (λ i. polynomial_at k f (x i) % m)
   word_of_products p below encoding =
-      let by = divided_by_roots m k (length lost) (at_lost x lost) p positive (lost_points_fit m k n x lost erased fit) (λ l b.
+      let fit_there = lost_points_fit m k n x lost erased fit in
+      let by = divided_by_roots m k (length lost) (at_lost x lost) p positive fit_there (λ l b.
       mod_trans (mod_sym (mod_of_residue (encoding.symbol (slice_index lost l) (erased.places.within l b))))
       (mod_of_eq (are.zeros l b))) in (
         by.0,
@@ -91,8 +94,8 @@ module _ (m k n : ℕ) (x y u products : ℕ → ℕ) (lost : List ℕ) (positiv
             (mod_add (mod_of_residue (encoding.symbol i b)) (mod_add (by.1 (x i))
             (mod_times (y i) (mod_sym (mod_of_residue (factors.kept i b kept)))))) in
             let same : Congruent m (y i) F =
-            mod_of_combination (mod_add (mod_times unit.0 product) (mod_add (mod_times (y i) (mod_sym one)) (mod_times F one)))
-            (omega arith) in
+            mod_of_combination (mod_add (mod_times unit.0 product)
+            (mod_add (mod_times (y i) (mod_sym one)) (mod_times F one))) (omega arith) in
             sym (mod-eq_of_lt (below i b)) ∙ same.same,
       )
 
@@ -106,8 +109,9 @@ module _ (m k n : ℕ) (x y u products : ℕ → ℕ) (lost : List ℕ) (positiv
   restored_word f p d v w symbols encoding each values kept written i b = elim (lost_or_kept lost i) [
     | inl (l, less, at) ↦
         let a : ℕ = slice_index lost l in let F : ℕ = polynomial_at k f (x a) in
-        let root = computed_derivative m k n x lost positive fit erased (k + length lost) l f p d (omega arith) erased.enough
-        (λ j b. mod_trans (mod_sym (mod_of_residue (encoding.symbol j b))) (products_of_word f j symbols b)) each less in
+        let root = computed_derivative m k n x lost positive fit erased (k + length lost) l f p d (omega arith)
+        erased.enough (λ j b. mod_trans (mod_sym (mod_of_residue (encoding.symbol j b))) (products_of_word f j symbols b))
+        each less in
         let one = mod_of_inverse (factors.erased l less) in
         let same : Congruent m (v a * u a) F =
         mod_of_combination (mod_add (mod_times (u a) (mod_of_residue (values.symbol a (erased.places.within l less))))
@@ -142,14 +146,14 @@ module _ (m n : ℕ) (x e d v : ℕ → ℕ) (lost : List ℕ) (positive : 0 < m
       (root_weight m (length lost) (at_lost x lost) l) × HasInverse m (v (slice_index lost l))
   lost_values_unit l within =
       let c : ℕ = length lost in let z = at_lost x lost in
-      let one : (X : ℕ) → polynomial_at 1 (λ i. 1) X ≡ 1 = λ X.
-      omega (arith, polynomial-first 0 (λ i. 1) X, ap (λ v. X * v) (polynomial-none (λ i. 1) X)) in
-      let root = computed_derivative m 1 n x lost positive fit erased n l (λ i. 1) e d erased.enough (omega arith) (λ j b.
-      mod_of_combination (is (x j)) (omega (arith, ap (λ v. v * locator_at m c z (x j)) (one (x j))))) each within in
+      let one = constant_value (λ i. 1) in
+      let root = computed_derivative m 1 n x lost positive fit erased n l (λ i. 1) e d erased.enough (omega arith)
+      (λ j b. mod_of_combination (is (x j)) (omega (arith, ap (λ v. v * locator_at m c z (x j)) (one (x j))))) each within in
       let here : Congruent m (v (slice_index lost l)) (root_weight m c z l) =
-      mod_of_combination (mod_add (mod_of_residue (values.symbol (slice_index lost l) (erased.places.within l within))) root)
+      mod_of_combination (mod_add (mod_of_residue (values.symbol _ (erased.places.within l within))) root)
       (omega (arith, ap (λ v. v * root_weight m c z l) (one (z l)))) in
-      (here, unit_alike m _ _ (mod_sym here) (weight_unit m c l z positive (lost_points_fit m 1 n x lost erased fit) within))
+      let unit = weight_unit m c l z positive (lost_points_fit m 1 n x lost erased fit) within in
+      (here, unit_alike m _ _ (mod_sym here) unit)
 
   -- so the locator's values, with the inverses u of those at the lost places, are the factors
   pub factors_are : (u first factors : ℕ → ℕ) → IsEncoding m n n x e first
@@ -189,7 +193,7 @@ locator_alike m s n b c y z e long count same is a =
     (λ j l. rw (same j l) refl) in
     mod_of_combination (is a) (omega (arith, size, number, alike))
 
--- a test of the products tells whether a word of the code has the symbols that are left, whatever their number is called
+-- a test of the products tells whether a word of the code has the symbols that are left
 pub restorable_by_test : (m a k n s t : ℕ) (y u products : ℕ → ℕ) (lost : List ℕ) (b : Bool) → 0 < m → m % 2 ≡ 1 → Suits m a n
     → AreErased k n lost → ((x : ℕ → ℕ) → ArePowers m a n x → AreFactors m n x lost u) → s ≡ n → t ≡ k + length lost
     → AreKeptProducts m n lost y u products → ((i : ℕ) → i < n → y i < m)

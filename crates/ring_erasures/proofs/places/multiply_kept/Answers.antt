@@ -1,8 +1,7 @@
-use Rattle.num_modular.specs.Callers.{◌*◌, ◌%◌, ◌∙◌, ap, subst, sym, arith, length}
+use Rattle.num_modular.specs.Callers.{◌*◌, ◌%◌, ◌∙◌, ap, arith}
 use Rattle.num_modular.specs.Callers.{entry, entry_read, forms_written, hold_more, held_forms, held_entry}
 use Rattle.std.proofs.Common.{slice_index}
 use Rattle.std.proofs.Math.Nat.{zero-mod}
-use Rattle.ring_codes.specs.Erasure.{ArePlaces}
 use Rattle.ring_codes.proofs.Symbols.{entry_below}
 use Rattle.ring_erasures.proofs.ErasedPlaces.{scattered_none, scattered_more}
 use Rattle.ring_erasures.proofs.places.multiply_kept.Goals as goal
@@ -16,9 +15,7 @@ symbols-preserved g c =
     let right = entry_read number ring.value m factors i _ (omega (arith, below, kept, c.requires.each_factor)) c.index-factors-i.is in
     hold_more number ring.form ring.value m products i c.mul.result
     (λ i. (entry number ring.value m word i * entry number ring.value m factors i) % m) (omega (arith, below, kept)) c.symbols.invariant
-    c.mul.ensures.checked
-    (c.mul.ensures.value ∙ ap (λ v. (v * ring.value m (number c.index-factors-i.result)) % m) left
-    ∙ ap (λ v. (entry number ring.value m word i * v) % m) right)
+    c.mul.ensures.checked (rw (← left, ← right) c.mul.ensures.value)
 
 pub places-init : goal.places-init
 places-init g c =
@@ -34,7 +31,7 @@ places-preserved g c =
     let so_far = c.places.invariant in let zero = c.transform-zero in (
       forms_written number ring.form ring.value m products (slice_index lost l) zero.result zero.ensures.checked so_far.0,
       scattered_more number ring.value m l lost _ _ products zero.result
-          (subst (λ n. ArePlaces (length lost) n lost) (sym (c.places.auto.products ∙ c.symbols.auto.products)) c.requires.places) c.places-test.true so_far.1
+          (rw (c.places.auto.products ∙ c.symbols.auto.products) c.requires.places) c.places-test.true so_far.1
           (zero.ensures.value ∙ ap (λ v. v % m) c.zero.ensures ∙ zero-mod m),
     )
 

@@ -1,7 +1,6 @@
-use Rattle.num_modular.specs.Callers.{◌<◌, subst, sym, arith, length}
+use Rattle.num_modular.specs.Callers.{◌<◌, arith, length}
 use Rattle.num_modular.specs.Callers.{entry, entry_read, form_read, forms_written}
 use Rattle.std.proofs.Common.{slice_index}
-use Rattle.ring_codes.specs.Erasure.{ArePlaces}
 use Rattle.ring_erasures.proofs.ErasedPlaces.{scattered_none, scattered_more}
 use Rattle.ring_erasures.proofs.places.scatter.Goals as goal
 
@@ -19,8 +18,7 @@ places-preserved g c =
       forms_written number ring.form ring.value m list (slice_index lost l) x
           (form_read number ring.form ring.value m numbers l x c.requires.numbers within is) so_far.0,
       scattered_more number ring.value m l lost (entry number ring.value m numbers) _ list x
-          (subst (λ n. ArePlaces (length lost) n lost) (sym c.places.auto.list) c.requires.places) below so_far.1
-          (entry_read number ring.value m numbers l x within is),
+          (rw c.places.auto.list c.requires.places) below so_far.1 (entry_read number ring.value m numbers l x within is),
     )
 
 pub returns-clause-there : goal.returns-clause-there

@@ -1,7 +1,6 @@
-use Rattle.num_modular.specs.Callers.{◌*◌, ◌%◌, ◌∙◌, ap, subst, sym, arith, length}
-use Rattle.num_modular.specs.Callers.{entry, entry_read, forms_written}
+use Rattle.num_modular.specs.Callers.{arith}
+use Rattle.num_modular.specs.Callers.{entry_read, forms_written}
 use Rattle.std.proofs.Common.{slice_index}
-use Rattle.ring_codes.specs.Erasure.{ArePlaces}
 use Rattle.ring_erasures.proofs.ErasedPlaces.{scattered_none, scattered_more}
 use Rattle.ring_erasures.proofs.places.write_products.Goals as goal
 
@@ -19,9 +18,7 @@ places-preserved g c =
     let right = entry_read number ring.value m factors p _ (omega (arith, there, c.requires.each_factor)) c.index-factors-place.is in (
       forms_written number ring.form ring.value m word p c.mul.result c.mul.ensures.checked so_far.0,
       scattered_more number ring.value m l lost _ _ word c.mul.result
-          (subst (λ n. ArePlaces (length lost) n lost) (sym c.places.auto.word) c.requires.places) below so_far.1
-          (c.mul.ensures.value ∙ ap (λ v. (v * ring.value m (number c.index-factors-place.result)) % m) left
-          ∙ ap (λ v. (entry number ring.value m values p * v) % m) right),
+          (rw c.places.auto.word c.requires.places) below so_far.1 (rw (← left, ← right) c.mul.ensures.value),
     )
 
 pub returns-clause-there : goal.returns-clause-there

@@ -1,8 +1,6 @@
 use Rattle.std.proofs.lemmas.Bool.{false≢true}
-use Rattle.num_modular.specs.Callers.{◌%◌, ◌∙◌, ap, sym, subst, arith, entry}
+use Rattle.num_modular.specs.Callers.{◌%◌, ◌∙◌, ap, sym, subst, arith}
 use Rattle.num_modular.specs.Transforms.{Suits}
-use Rattle.ring_codes.specs.Powers.{ArePowers}
-use Rattle.ring_erasures.specs.Erasures.{AreErased, AreFactors}
 use Rattle.ring_erasures.proofs.pattern.ErasurePattern.new.Goals as goal
 use Rattle.ring_erasures.proofs.pattern.ErasurePattern.new.Goals.{then-not-is_odd-via-then-not-is_odd, then-not-is_odd-via-else-not-is_odd+then-not-root_fits}
 
@@ -21,21 +19,17 @@ returns-then-not-is_odd g c =
 pub fill_factors-requires-clause-erased : goal.fill_factors-requires-clause-erased
 fill_factors-requires-clause-erased g c =
     let erased = c.in-Ok.ensures 0 0 in let enough = erased.enough in let some = c.requires.some in
-    subst (λ n. AreErased 1 n c.args.lost.now) (sym c.check_places.auto.marks)
-    (record { enough = omega (arith, enough, some); places = erased.places })
+    rw c.check_places.auto.marks (record { enough = omega (arith, enough, some); places = erased.places })
 
 pub invariant_of-result : goal.invariant_of-result
 invariant_of-result g c =
-    let ring = g.R.Reducer in let m = ring.modulus c.args.ring.now in let number = g.T.RingWord.number in
-    let a = ring.value m (number c.args.root.now) in
-    let long = c.fill_factors.auto.factors in let erased = c.in-Ok.ensures 0 0 in
+    let long = c.fill_factors.auto.factors in
     record {
       root_form = c.requires.root;
       factor_forms = c.fill_factors.ensures.checked;
       some = c.requires.some;
       odd = sym (ap (λ n. n % 2) c.modulus.ensures) ∙ c.is_odd.ensures.odd.0 c.if-not-is_odd.false;
-      suits = ∣ subst (Suits m a) (sym long) (c.root_fits.ensures.0 c.if-not-root_fits.false) ∣₁;
-      erased = subst (λ n. AreErased c.args.k n c.args.lost.now) (sym (long ∙ c.check_places.auto.marks)) erased;
-      inverses = λ points powers. subst (λ s. AreFactors m s points c.args.lost.now (entry number ring.value m c.fill_factors.new.factors))
-          (sym long) (c.fill_factors.ensures.factors points (subst (λ s. ArePowers m a s points) long powers));
+      suits = ∣ rw long (c.root_fits.ensures.0 c.if-not-root_fits.false) ∣₁;
+      erased = rw (long ∙ c.check_places.auto.marks) (c.in-Ok.ensures 0 0);
+      inverses = λ points powers. rw long (c.fill_factors.ensures.factors points (rw long at powers));
     }

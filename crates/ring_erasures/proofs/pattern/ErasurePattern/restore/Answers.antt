@@ -1,7 +1,6 @@
 use Rattle.std.proofs.lemmas.Bool.{false≢true}
-use Rattle.num_modular.specs.Callers.{◌≡◌, ◌+◌, ◌-◌, ◌∙◌, ℕ, ap, sym, subst, refl, arith, length, entry, All, IsForm}
+use Rattle.num_modular.specs.Callers.{◌≡◌, ◌+◌, ◌-◌, ◌∙◌, ℕ, ap, sym, refl, arith, length, entry, IsForm}
 use Rattle.std.proofs.lemmas.List.Elements.{All-take}
-use Rattle.num_modular.specs.Transforms.{Suits}
 use Rattle.ring_codes.proofs.RootPowers.{powers_fit}
 use Rattle.ring_codes.proofs.Symbols.{entry_below, entry_front}
 use Rattle.ring_erasures.proofs.KnownRoots.{suits_known}
@@ -10,9 +9,7 @@ use Rattle.ring_erasures.proofs.pattern.ErasurePattern.restore.Goals as goal
 
 pub is_codeword_by_transform-requires-clause-suits : goal.is_codeword_by_transform-requires-clause-suits
 is_codeword_by_transform-requires-clause-suits g c =
-    let self = c.args.self.now in let m = g.R.Reducer.modulus self.ring.now in
-    subst (Suits m _) (sym (c.multiply_kept.auto.products ∙ c.split_at_mut-products.ensures.front_len))
-    (suits_known m _ (length self.factors.now) self.suits)
+    rw (c.multiply_kept.auto.products ∙ c.split_at_mut-products.ensures.front_len) (suits_known _ _ _ c.args.self.now.suits)
 
 pub returns-then-not-is_codeword_by_transform-clause-restorable : goal.returns-then-not-is_codeword_by_transform-clause-restorable
 returns-then-not-is_codeword_by_transform-clause-restorable g c points powers =
@@ -35,27 +32,27 @@ returns-then-not-is_codeword_by_transform-clause-only g c points other powers co
 
 pub differentiate-requires-clause-some : goal.differentiate-requires-clause-some
 differentiate-requires-clause-some g c =
-    let some = c.args.self.now.some in let front = c.split_at_mut-coefficients.ensures.front_len in
-    let kept = c.is_codeword_by_transform.auto.message in omega (arith, some, front, kept)
+    omega (arith, c.args.self.now.some, c.split_at_mut-coefficients.ensures.front_len, c.is_codeword_by_transform.auto.message)
 
 pub overflow_sub-coefficients : goal.overflow_sub-coefficients
 overflow_sub-coefficients g c =
-    let some = c.args.self.now.some in let front = c.split_at_mut-coefficients.ensures.front_len in
-    let kept = c.is_codeword_by_transform.auto.message in let after = c.differentiate.auto.coefficients in
-    omega (arith, some, front, kept, after)
+    omega (
+      arith,
+      c.args.self.now.some,
+      c.split_at_mut-coefficients.ensures.front_len,
+      c.is_codeword_by_transform.auto.message,
+      c.differentiate.auto.coefficients,
+    )
 
 pub encode_by_transform-requires-clause-message : goal.encode_by_transform-requires-clause-message
 encode_by_transform-requires-clause-message g c =
     let ring = g.R.Reducer in let m = ring.modulus c.args.self.now.ring.now in
     let P = λ (f : _). IsForm ring.form ring.value m (g.T.RingWord.number f) in
-    subst (All P) (sym c.split_at_mut-derivative.ensures.front)
-    (All-take P (length c.differentiate.new.coefficients - 1) c.differentiate.new.coefficients c.differentiate.ensures.checked)
+    rw c.split_at_mut-derivative.ensures.front (All-take P _ c.differentiate.new.coefficients c.differentiate.ensures.checked)
 
 pub encode_by_transform-requires-clause-suits : goal.encode_by_transform-requires-clause-suits
 encode_by_transform-requires-clause-suits g c =
-    let self = c.args.self.now in let m = g.R.Reducer.modulus self.ring.now in
-    subst (Suits m _) (sym (c.multiply_kept.auto.products ∙ c.split_at_mut-products.ensures.front_len))
-    (suits_known m _ (length self.factors.now) self.suits)
+    rw (c.multiply_kept.auto.products ∙ c.split_at_mut-products.ensures.front_len) (suits_known _ _ _ c.args.self.now.suits)
 
 pub returns-clause-restorable : goal.returns-clause-restorable
 returns-clause-restorable g c points powers =
@@ -74,9 +71,9 @@ returns-clause-only g c points other powers codeword agree i l =
     let self = c.args.self.now in let ring = g.R.Reducer in let m = ring.modulus self.ring.now in
     let number = g.T.RingWord.number in let positive = (g.met.R.Reducer.canonical self.ring.now).positive in
     let n : ℕ = length self.factors.now in let a = ring.value m (number self.root) in let lost = self.lost.now in
-    let front = c.split_at_mut-products.ensures.front_len in
+    let front = c.split_at_mut-products.ensures.front_len in let size = c.split_at_mut-coefficients.ensures.front_len in
     let count : length c.multiply_kept.new.products ≡ n = c.multiply_kept.auto.products ∙ front in
-    let are = rw front at c.multiply_kept.ensures.products in let size = c.split_at_mut-coefficients.ensures.front_len in
+    let are = rw front at c.multiply_kept.ensures.products in
     let encoding = rw (size, count) at
     (c.is_codeword_by_transform.ensures.message c.if-not-is_codeword_by_transform.false points (rw count powers)) in
     let whole = c.differentiate.new.coefficients in let derivative = c.split_at_mut-derivative.result.0.now in
