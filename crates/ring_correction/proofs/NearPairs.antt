@@ -13,8 +13,8 @@ use Rattle.num_modular.specs.NumberLaws.{sum_below-same, sum_below-more, sum_bel
 use Rattle.num_modular.specs.Polynomials.{polynomial_at, HaveUnitDifferences}
 use Rattle.num_modular.specs.PolynomialLaws.{polynomial-none, polynomial-first, polynomial-congruent}
 use Rattle.num_modular.specs.SumLaws.{tail}
-use Rattle.ring_codes.proofs.Distances.{same_messages, selected, counted, counted_same, counted_other, counted_most, rising_fit}
-use Rattle.ring_codes.proofs.Distances.{extended, at_end, before_end, extended_each, extended_rising}
+use Rattle.ring_codes.proofs.Distances.{same_messages, selected, counted, counted_same, counted_other, counted_most}
+use Rattle.ring_codes.proofs.Distances.{extended, at_end, before_end, extended_each, extended_rising, rising_fit}
 use Rattle.ring_codes.proofs.Shifts.{shifted-values}
 use Rattle.ring_codes.proofs.NearestWords.{combined, unit_alike, no_value}
 use Rattle.ring_codes.proofs.NewtonForms.{has_of_residue}
@@ -60,7 +60,8 @@ unfolding product shifted
 product_none m zero l f e none = mod_refl 0
 product_none m (suc k) zero f e none = mod_of_combination (mod_times (f 0) (none 0)) (omega arith)
 product_none m (suc k) (suc l) f e none =
-    mod_of_combination (mod_add (product_none m k l (λ j. f (suc j)) e none) (mod_times (f 0) (none (suc l)))) (omega arith)
+    let before = product_none m k l (λ j. f (suc j)) e none in
+    mod_of_combination (mod_add before (mod_times (f 0) (none (suc l)))) (omega arith)
 
 -- the quotient by a number with an inverse is the other factor
 quotient_is : (m n e q w : ℕ) → IsQuotient m n e q → Congruent m n (w * e) → Congruent m q w
@@ -70,19 +71,21 @@ quotient_is m n e q w is product =
     (mod_times w one))) (omega arith)
 
 -- a pair, and a message whose word is near
-module _ (m k c d n : ℕ) (x y p e sent : ℕ → ℕ) (some : 1 ≤ d) (lengths : d + k ≡ c + 1) (fit : HaveUnitDifferences m n x)
-    (past : (l : ℕ) → d ≤ l → e l ≡ 0) (near : distance n y (λ j. polynomial_at k sent (x j) % m) + c ≤ n) where
+module _ (m k c d n : ℕ) (x y p e sent : ℕ → ℕ) (some : 1 ≤ d) (lengths : d + k ≡ c + 1)
+    (fit : HaveUnitDifferences m n x) (past : (l : ℕ) → d ≤ l → e l ≡ 0) (near : distance n y (λ j. polynomial_at k sent (x j) % m) + c ≤ n) where
   -- the numerator is the product of the message and the locator
   near_numerator : Solves m c d n x y p e → (l : ℕ) → l < c → Congruent m (p l) (product k sent e l)
   near_numerator solves =
       let s = selected n c y (λ j. polynomial_at k sent (x j) % m) near in
-      same_coefficients m c p (product k sent e) (λ i. x (s.place i)) (rising_fit m n c x s.place s.within s.rising fit) (λ i l.
+      let fit = rising_fit m n c x s.place s.within s.rising fit in
+      same_coefficients m c p (product k sent e) (λ i. x (s.place i)) fit (λ i l.
       let value = product_value k d c (x (s.place i)) sent e some (omega arith) past in
       mod_of_combination (mod_add (solves (s.place i) (s.within i l))
       (mod_times (polynomial_at d e (x (s.place i))) (mod_of_residue (s.same i l)))) (omega (arith, value)))
 
   -- .. so its values are
-  near_value : Solves m c d n x y p e → (X : ℕ) → Congruent m (polynomial_at c p X) (polynomial_at k sent X * polynomial_at d e X)
+  near_value : Solves m c d n x y p e → (X : ℕ)
+      → Congruent m (polynomial_at c p X) (polynomial_at k sent X * polynomial_at d e X)
   near_value solves X = mod_trans (polynomial-congruent c p (product k sent e) X X (near_numerator solves) (mod_refl X))
       (mod_of_eq (product_value k d c X sent e some (omega arith) past))
 
@@ -91,13 +94,15 @@ module _ (m k c d n : ℕ) (x y p e sent : ℕ → ℕ) (some : 1 ≤ d) (length
       → distance n (λ j. polynomial_at d e (x j) % m) (λ j. 0) < k → HasInverse m 0
   enough_units u room pair zeros =
       let s = selected n d (λ j. polynomial_at d e (x j) % m) (λ j. 0) (omega (arith, zeros, near)) in
-      let none_at = same_coefficients m d e (λ i. 0) (λ i. x (s.place i)) (rising_fit m n d x s.place s.within s.rising fit)
-      (λ i l. record { same = s.same i l ∙ sym (ap (λ v. v % m) (no_value d (x (s.place i))) ∙ zero-mod m) }) in
+      let fit = rising_fit m n d x s.place s.within s.rising fit in
+      let none_at = same_coefficients m d e (λ i. 0) (λ i. x (s.place i)) fit (λ i l.
+      record { same = s.same i l ∙ sym (ap (λ v. v % m) (no_value d (x (s.place i))) ∙ zero-mod m) }) in
       let none : (l : ℕ) → Congruent m (e l) 0 =
       λ l. elim (cases_lt l d) [ inl b ↦ none_at l b | inr b ↦ mod_of_eq (past l b) ] in
       elim pair.leads.unit [
         | inl (l, at, unit) ↦
-            unit_alike m (p l) 0 (mod_trans (near_numerator pair.solves l (omega arith)) (product_none m k l sent e none)) unit
+            let none_p = mod_trans (near_numerator pair.solves l (omega arith)) (product_none m k l sent e none) in
+            unit_alike m (p l) 0 none_p unit
         | inr (l, at, unit) ↦ unit_alike m (e l) 0 (none l) unit
       ]
 
@@ -146,8 +151,9 @@ distance_taken number value m count k X Y sent within each =
 pub fit_taken : {T : Type 0} (number : T → ℕ) (value : ℕ → ℕ → ℕ) (m count : ℕ) (X : List T) → count ≤ length X
     → HaveUnitDifferences m (length X) (entry number value m X)
     → HaveUnitDifferences m (length (take count X)) (entry number value m (take count X))
-fit_taken number value m count X within fit = rw (length-take-le count X within) (fit_same m count (entry number value m X) _
-    (λ i l. sym (entry_front number value m X count i l within)) (fit_front m (length X) count _ within fit))
+fit_taken number value m count X within fit =
+    rw (length-take-le count X within) (fit_same m count (entry number value m X) _ (λ i l.
+    sym (entry_front number value m X count i l within)) (fit_front m (length X) count _ within fit))
 
 module _ {T : Type 0} (number : T → ℕ) (form value : ℕ → ℕ → ℕ) (m : ℕ) where
   -- the chosen points and the quotients so far, as forms in two lists
@@ -182,13 +188,15 @@ module _ {T : Type 0} (number : T → ℕ) (form value : ℕ → ℕ → ℕ) (m
   -- a point more with a quotient
   pub found_more : (n k : ℕ) (p e : ℕ → ℕ) (points chosen values : List T) (a f q : T) → k < length chosen
       → k < length values → Found n k (entry number value m points) p e chosen values
-      → All (λ f. IsForm form value m (number f)) points → n < length points → a ≡ get_or points n a → f ≡ get_or points n f
-      → IsForm form value m (number q) × IsQuotient m (p (value m (number a))) (e (value m (number a))) (value m (number q))
+      → All (λ f. IsForm form value m (number f)) points → n < length points → a ≡ get_or points n a
+      → f ≡ get_or points n f → IsForm form value m (number q)
+      × IsQuotient m (p (value m (number a))) (e (value m (number a))) (value m (number q))
       → Found (n + 1) (k + 1) (entry number value m points) p e (set chosen k f) (set values k q)
   found_more n k p e points chosen values a f q room room_values found all within at_a at_f quotient =
       let x = entry number value m points in let at = entry_read number value m points n a within at_a in record {
         place = extended k n found.place;
-        within = extended_each k n found.place (λ i p. p < n + 1) (λ i l. let w = found.within i l in omega (arith, w)) (omega arith);
+        within = extended_each k n found.place (λ i p. p < n + 1)
+            (λ i l. let w = found.within i l in omega (arith, w)) (omega arith);
         rising = extended_rising k n found.place found.within found.rising;
         chosen_there = hold_more number form value m chosen k f (λ i. x (extended k n found.place i)) room
             (record { each = λ i d l. rw (before_end k n found.place i (omega arith)) (found.chosen_there.each i d l) })
@@ -213,8 +221,8 @@ module _ {T : Type 0} (number : T → ℕ) (form value : ℕ → ℕ → ℕ) (m
     place = found.place;
     within = λ i l. let w = found.within i (omega arith) in omega (arith, w);
     rising = λ i i' l b. found.rising i i' l (omega arith);
-    chosen_there = λ i l. held_entry number form value m chosen (λ i. x (found.place i)) k i found.chosen_there (omega arith)
-        (omega arith);
+    chosen_there = λ i l. held_entry number form value m chosen (λ i. x (found.place i)) k i found.chosen_there
+        (omega arith) (omega arith);
     quotient = λ i l. subst (IsQuotient m (p (x (found.place i))) (e (x (found.place i))))
         (entry_at number value m values i a (omega arith)) (found.quotient i a (omega arith)).1;
   }

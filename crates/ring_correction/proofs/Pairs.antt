@@ -35,14 +35,14 @@ module _ {T : Type 0} (number : T → ℕ) (value : ℕ → ℕ → ℕ) (m c : 
       → entry number value m s c ≡ 1 % m → ((i : ℕ) → i ≢ c → entry number value m s i ≡ 0)
       → AreKeyPairs m k c d 0 0 (k - 1) x y (numerator f) (locator f) (numerator s) (locator s)
   unit_pairs k d x y f s positive some wide within_f within_s f_one f_zero s_one s_zero =
-      let same : c + 0 ≡ c = omega arith in
+      let same : c + 0 ≡ c = omega arith in let one = has_one m positive in
       record {
         first = λ b. record {
           solves = λ j l. absurd (omega arith);
           leads = record {
             numerator_behind = λ l b. mod_of_eq (front_zero f l within_f (λ before. f_zero l (omega arith)));
             locator_behind = λ l b. mod_of_eq (entry_back number value m f c l ∙ f_zero (c + l) (omega arith));
-            unit = inl (0, omega arith, rw (entry_front number value m f c 0 wide within_f, f_one) (has_one m positive));
+            unit = inl (0, omega arith, rw (entry_front number value m f c 0 wide within_f, f_one) one);
           };
         };
         second = λ b. record {
@@ -50,7 +50,7 @@ module _ {T : Type 0} (number : T → ℕ) (value : ℕ → ℕ → ℕ) (m c : 
           leads = record {
             numerator_behind = λ l b. mod_of_eq (front_zero s l within_s (λ before. s_zero l (omega arith)));
             locator_behind = λ l b. mod_of_eq (entry_back number value m s c l ∙ s_zero (c + l) (omega arith));
-            unit = inr (0, omega arith, rw (entry_back number value m s c 0, same, s_one) (has_one m positive));
+            unit = inr (0, omega arith, rw (entry_back number value m s c 0, same, s_one) one);
           };
         };
       }

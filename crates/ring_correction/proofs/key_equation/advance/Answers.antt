@@ -12,7 +12,8 @@ returns-then-is_zero-2 g c = record {
     first = λ l. kept_pair (c.is_zero.ensures.0 c.if-is_zero.true)
         (c.discrepancy-first_discrepancy.ensures.value d (x i) (y i) whole at_x at_y) (pairs.first l);
     second = λ l. kept_pair (c.is_zero-then-is_zero.ensures.0 c.if-is_zero-2.true)
-        (c.discrepancy-second_discrepancy.ensures.value d (x i) (y i) (sym c.requires.equal ∙ whole) at_x at_y) (pairs.second l);
+        (c.discrepancy-second_discrepancy.ensures.value d (x i) (y i) (sym c.requires.equal ∙ whole) at_x at_y)
+        (pairs.second l);
   };
 }
 
@@ -38,7 +39,8 @@ returns-then-is_zero-3 g c = record {
     first = λ l. let u : ℕ = 2 * c.args.weights.0 in raised_pair u _ (omega arith) l (λ room.
         c.raise-then-is_zero-3.ensures.pair d k i u x y whole lengths room at_x (pairs.first (omega arith)));
     second = λ l. kept_pair (c.is_zero-2.ensures.0 c.if-is_zero-3.true)
-        (c.discrepancy-second_discrepancy.ensures.value d (x i) (y i) (sym c.requires.equal ∙ whole) at_x at_y) (pairs.second l);
+        (c.discrepancy-second_discrepancy.ensures.value d (x i) (y i) (sym c.requires.equal ∙ whole) at_x at_y)
+        (pairs.second l);
   };
 }
 
@@ -52,7 +54,8 @@ returns-in-Ok g c = record {
         c.in-Ok.ensures.pivot refl d k i u x y back lengths room at_x (pairs.first (omega arith)));
     second = λ l. c.in-Ok.ensures.other refl d k i _ _ x y back lengths l (omega arith)
         (c.discrepancy-first_discrepancy.ensures.value d (x i) (y i) whole at_x at_y)
-        (c.discrepancy-second_discrepancy.ensures.value d (x i) (y i) back at_x at_y) (pairs.first (omega arith)) (pairs.second l);
+        (c.discrepancy-second_discrepancy.ensures.value d (x i) (y i) back at_x at_y)
+        (pairs.first (omega arith)) (pairs.second l);
   };
 }
 
@@ -64,7 +67,8 @@ returns-in-Ok-reduce g c = record {
   pairs = λ d k i x y whole lengths at_x at_y pairs. record {
     first = λ l. c.in-Ok-reduce.ensures.other refl d k i _ _ x y whole lengths l (omega arith)
         (c.discrepancy-second_discrepancy.ensures.value d (x i) (y i) (sym c.requires.equal ∙ whole) at_x at_y)
-        (c.discrepancy-first_discrepancy.ensures.value d (x i) (y i) whole at_x at_y) (pairs.second (omega arith)) (pairs.first l);
+        (c.discrepancy-first_discrepancy.ensures.value d (x i) (y i) whole at_x at_y)
+        (pairs.second (omega arith)) (pairs.first l);
     second = λ l. let u : ℕ = 2 * c.args.weights.1 + 1 in raised_pair u _ (omega arith) l (λ room.
         c.in-Ok-reduce.ensures.pivot refl d k i u x y whole lengths room at_x (pairs.second (omega arith)));
   };

@@ -33,7 +33,7 @@ symbols-init g c =
       c.set_unit.ensures.checked,
       c.set_unit-2.ensures.checked,
       omega (arith, c.requires.positive),
-      unit_pairs number ring.value m c.args.split c.args.k _ _ _ c.set_unit.new.coefficients c.set_unit-2.new.coefficients positive
+      unit_pairs number ring.value m c.args.split c.args.k _ _ _ _ _ positive
           c.requires.positive wide (omega (arith, long, c.requires.some)) (omega (arith, long_too, c.requires.equal, c.requires.some))
           c.set_unit.ensures.one c.set_unit.ensures.others c.set_unit-2.ensures.one c.set_unit-2.ensures.others,
     )

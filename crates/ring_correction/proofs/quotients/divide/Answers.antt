@@ -11,8 +11,8 @@ use Rattle.ring_correction.proofs.quotients.divide.Goals as goal
 pub points-init : goal.points-init
 points-init g c =
     let ring = g.R.Reducer in let m = ring.modulus c.args.r.now in let number = g.T.RingWord.number in
-    let none = none_counted (λ j. polynomial_at (length c.args.locator.now) (entry number ring.value m c.args.locator.now)
-    (entry number ring.value m c.args.points.now j) % m) (λ j. 0) in (
+    let e = entry number ring.value m c.args.locator.now in let x = entry number ring.value m c.args.points.now in
+    let none = none_counted (λ j. polynomial_at (length c.args.locator.now) e (x j) % m) (λ j. 0) in (
       c.requires.some,
       omega arith,
       λ l. absurd (omega arith),
@@ -44,7 +44,7 @@ points-preserved g c =
       omega (arith, few),
       λ l. c.points.invariant.2 (omega arith),
       zeros_more _ _ _ zeros,
-      found_more number ring.form ring.value m c.points.i c.points.found _ _ c.args.points.now c.points.chosen c.points.values
+      found_more number ring.form ring.value m c.points.i c.points.found _ _ c.args.points.now _ _
           _ _ c.in-Ok-Some.value (omega (arith, below)) (omega (arith, below, c.requires.equal)) found c.requires.points
           (omega arith) c.index-points-i.is c.index-points-i-in-Ok-Some.is
           (rw c.in-Ok-Some.field-0-is at c.in-Ok-Some.ensures.quotient),
@@ -57,16 +57,16 @@ returns-then-found-chosen g c =
     let same = length-set c.points.chosen c.points.found c.index-points-i-in-Ok-Some.result in
     let same_values = length-set c.points.values c.points.found c.in-Ok-Some.value in
     let last = c.if-found-chosen.true in let equal = c.requires.equal in
-    let more = found_more number ring.form ring.value m c.points.i c.points.found _ _ c.args.points.now c.points.chosen c.points.values
+    let more = found_more number ring.form ring.value m c.points.i c.points.found _ _ c.args.points.now _ _
     _ _ c.in-Ok-Some.value (omega (arith, below)) (omega (arith, below, equal)) found c.requires.points
     (omega arith) c.index-points-i.is c.index-points-i-in-Ok-Some.is
     (rw c.in-Ok-Some.field-0-is at c.in-Ok-Some.ensures.quotient) in
     record {
       inverse = search rules;
-      checked_chosen = λ t. held_forms number ring.form ring.value m _ _ k more.chosen_there (omega (arith, last, same));
-      checked_values = λ t. found_forms number ring.form ring.value m (omega (arith, last, same, same_values, equal)) more;
+      checked_chosen = λ t. held_forms number ring.form ring.value m _ _ k more.chosen_there (omega (arith, same, last));
+      checked_values = λ t. found_forms number ring.form ring.value m (omega (arith, same_values, equal, last)) more;
       quotients = λ t. found_all number ring.form ring.value m (c.points.i + 1) k _ (length c.args.points.now) _ _ _ _ _
-          c.in-Ok-Some.value (omega (arith, last, same)) last (omega (arith, last, same, same_values, equal)) (omega arith) more;
+          c.in-Ok-Some.value (omega (arith, same, last)) last (omega (arith, same_values, equal, last)) (omega arith) more;
       zeros = λ other. absurd (other refl);
     }
 
