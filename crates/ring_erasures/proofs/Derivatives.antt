@@ -30,21 +30,16 @@ times_root_behind : (d r i : ℕ) (h : ℕ → ℕ) → ((i : ℕ) → d ≤ i �
 unfolding times_root shifted
 times_root_behind d r zero h none l = absurd (omega (arith, l))
 times_root_behind d r (suc i) h none l =
-    let p = none i (omega (arith, l)) in
-    let q = ap (λ w. r * w) (none (suc i) (omega (arith, l))) in
-    omega (arith, p, q)
+    omega (arith, none i (omega (arith, l)), ap (λ w. r * w) (none (suc i) (omega (arith, l))))
 
 times_root_value : (d r X : ℕ) (h : ℕ → ℕ) → h d ≡ 0
     → polynomial_at (suc d) (times_root r h) X ≡ (X + r) * polynomial_at d h X
 unfolding times_root
 times_root_value d r X h none =
     let parts = combined (suc d) (shifted h) h r X in
-    let first = shifted-values d X h in
-    let more = sum_below-suc d (λ i. h i * X ^ i) in
-    let gone = ap (λ w. w * X ^ d) none in
-    let same : polynomial_at (suc d) h X ≡ polynomial_at d h X = omega (arith, more, gone) in
-    let rest = ap (λ w. r * w) same in
-    omega (arith, parts, first, rest)
+    let same : polynomial_at (suc d) h X ≡ polynomial_at d h X =
+    omega (arith, sum_below-suc d (λ i. h i * X ^ i), ap (λ w. w * X ^ d) none) in
+    omega (arith, parts, shifted-values d X h, ap (λ w. r * w) same)
 
 -- (X + r)·h has the derivative h + (X + r)·h'
 derivative_of_times_root : (d r X : ℕ) (h : ℕ → ℕ) → h d ≡ 0
@@ -60,9 +55,7 @@ derivative_of_times_root d r X h none =
     let split = combined d (λ i. i * h i + 1 * h i) (derivative h) r X in
     let inner = combined d (λ i. i * h i) h 1 X in
     let more = sum_below-suc d (λ i. i * h i * X ^ i) in
-    let gone = ap (λ w. d * w * X ^ d) none in
-    let front = polynomial-first d (λ i. i * h i) X in
-    let turned : a ≡ X * s = omega (arith, more, gone, front) in
+    let turned : a ≡ X * s = omega (arith, more, ap (λ w. d * w * X ^ d) none, polynomial-first d (λ i. i * h i) X) in
     omega (arith, parts, split, inner, turned)
 
 -- the first k coefficients, followed by zeros

@@ -22,11 +22,10 @@ pub locator_none : (m n : ℕ) (z e : ℕ → ℕ) → 0 < n → Congruent m (e 
     → IsLocator m n 0 z e
 locator_none m zero z e some one behind a = absurd (omega arith)
 locator_none m (suc n) z e some one behind a =
-    let first = polynomial-first n e a in
     let rest = polynomial-congruent n (λ i. e (suc i)) (λ i. 0) a a (λ i l. behind (suc i) (omega arith)) (mod_refl a) in
-    let none = no_value n a in
     let empty = product-zero (λ j. residue m (pos a -ℤ pos (z j))) in
-    mod_of_combination (mod_add one (mod_times a rest)) (omega (arith, first, ap (λ v. a * v) none, empty))
+    mod_of_combination (mod_add one (mod_times a rest))
+    (omega (arith, polynomial-first n e a, ap (λ v. a * v) (no_value n a), empty))
 
 -- with one root more, where the highest coefficient is 0
 pub locator_more : (m n c x : ℕ) (z e f : ℕ → ℕ) → 0 < m → IsLocator m n c z e → Congruent m (e (n - 1)) 0 → x ≡ z c

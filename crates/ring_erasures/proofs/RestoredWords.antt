@@ -110,8 +110,8 @@ module _ (m k n : ℕ) (x y u products : ℕ → ℕ) (lost : List ℕ) (positiv
     | inl (l, less, at) ↦
         let a : ℕ = slice_index lost l in let F : ℕ = polynomial_at k f (x a) in
         let root = computed_derivative m k n x lost positive fit erased (k + length lost) l f p d (omega arith)
-        erased.enough (λ j b. mod_trans (mod_sym (mod_of_residue (encoding.symbol j b))) (products_of_word f j symbols b))
-        each less in
+        erased.enough (λ j b.
+        mod_trans (mod_sym (mod_of_residue (encoding.symbol j b))) (products_of_word f j symbols b)) each less in
         let one = mod_of_inverse (factors.erased l less) in
         let same : Congruent m (v a * u a) F =
         mod_of_combination (mod_add (mod_times (u a) (mod_of_residue (values.symbol a (erased.places.within l less))))
@@ -148,7 +148,8 @@ module _ (m n : ℕ) (x e d v : ℕ → ℕ) (lost : List ℕ) (positive : 0 < m
       let c : ℕ = length lost in let z = at_lost x lost in
       let one = constant_value (λ i. 1) in
       let root = computed_derivative m 1 n x lost positive fit erased n l (λ i. 1) e d erased.enough (omega arith)
-      (λ j b. mod_of_combination (is (x j)) (omega (arith, ap (λ v. v * locator_at m c z (x j)) (one (x j))))) each within in
+      (λ j b. mod_of_combination (is (x j)) (omega (arith, ap (λ v. v * locator_at m c z (x j)) (one (x j)))))
+      each within in
       let here : Congruent m (v (slice_index lost l)) (root_weight m c z l) =
       mod_of_combination (mod_add (mod_of_residue (values.symbol _ (erased.places.within l within))) root)
       (omega (arith, ap (λ v. v * root_weight m c z l) (one (z l)))) in

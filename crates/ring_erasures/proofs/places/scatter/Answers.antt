@@ -18,7 +18,8 @@ places-preserved g c =
       forms_written number ring.form ring.value m list (slice_index lost l) x
           (form_read number ring.form ring.value m numbers l x c.requires.numbers within is) so_far.0,
       scattered_more number ring.value m l lost (entry number ring.value m numbers) _ list x
-          (rw c.places.auto.list c.requires.places) below so_far.1 (entry_read number ring.value m numbers l x within is),
+          (rw c.places.auto.list c.requires.places) below so_far.1
+          (entry_read number ring.value m numbers l x within is),
     )
 
 pub returns-clause-there : goal.returns-clause-there

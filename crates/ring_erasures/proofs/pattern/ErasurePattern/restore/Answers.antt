@@ -9,7 +9,8 @@ use Rattle.ring_erasures.proofs.pattern.ErasurePattern.restore.Goals as goal
 
 pub is_codeword_by_transform-requires-clause-suits : goal.is_codeword_by_transform-requires-clause-suits
 is_codeword_by_transform-requires-clause-suits g c =
-    rw (c.multiply_kept.auto.products ∙ c.split_at_mut-products.ensures.front_len) (suits_known _ _ _ c.args.self.now.suits)
+    rw (c.multiply_kept.auto.products ∙ c.split_at_mut-products.ensures.front_len)
+    (suits_known _ _ _ c.args.self.now.suits)
 
 pub returns-then-not-is_codeword_by_transform-clause-restorable : goal.returns-then-not-is_codeword_by_transform-clause-restorable
 returns-then-not-is_codeword_by_transform-clause-restorable g c points powers =
@@ -32,7 +33,12 @@ returns-then-not-is_codeword_by_transform-clause-only g c points other powers co
 
 pub differentiate-requires-clause-some : goal.differentiate-requires-clause-some
 differentiate-requires-clause-some g c =
-    omega (arith, c.args.self.now.some, c.split_at_mut-coefficients.ensures.front_len, c.is_codeword_by_transform.auto.message)
+    omega (
+      arith,
+      c.args.self.now.some,
+      c.split_at_mut-coefficients.ensures.front_len,
+      c.is_codeword_by_transform.auto.message,
+    )
 
 pub overflow_sub-coefficients : goal.overflow_sub-coefficients
 overflow_sub-coefficients g c =
@@ -48,11 +54,12 @@ pub encode_by_transform-requires-clause-message : goal.encode_by_transform-requi
 encode_by_transform-requires-clause-message g c =
     let ring = g.R.Reducer in let m = ring.modulus c.args.self.now.ring.now in
     let P = λ (f : _). IsForm ring.form ring.value m (g.T.RingWord.number f) in
-    rw c.split_at_mut-derivative.ensures.front (All-take P _ c.differentiate.new.coefficients c.differentiate.ensures.checked)
+    rw c.split_at_mut-derivative.ensures.front (All-take P _ _ c.differentiate.ensures.checked)
 
 pub encode_by_transform-requires-clause-suits : goal.encode_by_transform-requires-clause-suits
 encode_by_transform-requires-clause-suits g c =
-    rw (c.multiply_kept.auto.products ∙ c.split_at_mut-products.ensures.front_len) (suits_known _ _ _ c.args.self.now.suits)
+    rw (c.multiply_kept.auto.products ∙ c.split_at_mut-products.ensures.front_len)
+    (suits_known _ _ _ c.args.self.now.suits)
 
 pub returns-clause-restorable : goal.returns-clause-restorable
 returns-clause-restorable g c points powers =
