@@ -42,18 +42,15 @@ product_value : (k d n X : ℕ) (f e : ℕ → ℕ) → 1 ≤ d → k + d ≤ n 
     → polynomial_at n (product k f e) X ≡ polynomial_at k f X * polynomial_at d e X
 unfolding product
 product_value zero d n X f e some room past =
-    let z = no_value n X in
-    let k = ap (λ v. v * polynomial_at d e X) (polynomial-none f X) in
-    omega (arith, z, k)
+    omega (arith, no_value n X, ap (λ v. v * polynomial_at d e X) (polynomial-none f X))
 product_value (suc k) d zero X f e some room past = absurd (omega arith)
 product_value (suc k) d (suc n) X f e some room past =
     let p : ℕ → ℕ = product k (λ j. f (suc j)) e in
     let both = combined (suc n) (shifted p) e (f 0) X in
-    let first = shifted-values n X p in
     let i = ap (λ v. X * v) (product_value k d n X (λ j. f (suc j)) e some (omega arith) past) in
     let whole = ap (λ v. f 0 * v) (padded d (suc n) X e (omega arith) past) in
     let split = ap (λ v. v * polynomial_at d e X) (polynomial-first k f X) in
-    omega (arith, both, first, i, whole, split)
+    omega (arith, both, shifted-values n X p, i, whole, split)
 
 product_none : (m k l : ℕ) (f e : ℕ → ℕ) → ((j : ℕ) → Congruent m (e j) 0) → Congruent m (product k f e l) 0
 unfolding product shifted
@@ -72,7 +69,8 @@ quotient_is m n e q w is product =
 
 -- a pair, and a message whose word is near
 module _ (m k c d n : ℕ) (x y p e sent : ℕ → ℕ) (some : 1 ≤ d) (lengths : d + k ≡ c + 1)
-    (fit : HaveUnitDifferences m n x) (past : (l : ℕ) → d ≤ l → e l ≡ 0) (near : distance n y (λ j. polynomial_at k sent (x j) % m) + c ≤ n) where
+    (fit : HaveUnitDifferences m n x) (past : (l : ℕ) → d ≤ l → e l ≡ 0)
+    (near : distance n y (λ j. polynomial_at k sent (x j) % m) + c ≤ n) where
   -- the numerator is the product of the message and the locator
   near_numerator : Solves m c d n x y p e → (l : ℕ) → l < c → Congruent m (p l) (product k sent e l)
   near_numerator solves =

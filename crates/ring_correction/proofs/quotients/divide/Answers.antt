@@ -63,10 +63,12 @@ returns-then-found-chosen g c =
     (rw c.in-Ok-Some.field-0-is at c.in-Ok-Some.ensures.quotient) in
     record {
       inverse = search rules;
-      checked_chosen = λ t. held_forms number ring.form ring.value m _ _ k more.chosen_there (omega (arith, same, last));
+      checked_chosen = λ t.
+          held_forms number ring.form ring.value m _ _ k more.chosen_there (omega (arith, same, last));
       checked_values = λ t. found_forms number ring.form ring.value m (omega (arith, same_values, equal, last)) more;
       quotients = λ t. found_all number ring.form ring.value m (c.points.i + 1) k _ (length c.args.points.now) _ _ _ _ _
-          c.in-Ok-Some.value (omega (arith, same, last)) last (omega (arith, same_values, equal, last)) (omega arith) more;
+          c.in-Ok-Some.value (omega (arith, same, last)) last (omega (arith, same_values, equal, last))
+          (omega arith) more;
       zeros = λ other. absurd (other refl);
     }
 
