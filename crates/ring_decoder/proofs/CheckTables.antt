@@ -30,8 +30,7 @@ check_later m n (suc k) i next value above point x v later column at before ther
     let of_row : (next - n) / n ≡ k = ap (λ e. e / n) left ∙ div-mul-add k n i column in
     let a : above ≡ (v i * x i ^ k) % m =
     before ∙ ap (λ e. (v e * x e ^ ((next - n) / n)) % m) of_column ∙ ap (λ e. (v i * x i ^ e) % m) of_row in
-    let power = ap (λ e. v i * e) (pow-suc (x i) k) in
-    let order : v i * x i ^ k * x i ≡ v i * x i ^ suc k = omega (arith, power) in
+    let order : v i * x i ^ k * x i ≡ v i * x i ^ suc k = omega (arith, ap (λ e. v i * e) (pow-suc (x i) k)) in
     is ∙ (mod_trans (mod_mul (mod_trans (mod_of_eq a) (residue_of (v i * x i ^ k))) (mod_of_eq there)) (mod_of_eq order)).same
 
 -- a dot product with a row is the syndrome

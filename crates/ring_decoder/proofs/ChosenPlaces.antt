@@ -40,7 +40,7 @@ zeros-suc n z e = sum_below-suc n (λ i. one_at_zero (z i)) ∙ ap (λ v. zeros 
 
 pub zeros-same : (n : ℕ) (z : ℕ → ℕ) → z n ≢ 0 → zeros (suc n) z ≡ zeros n z
 zeros-same n z o =
-    let s = sum_below-suc n (λ i. one_at_zero (z i)) in let c = counted_nonzero (z n) o in omega (arith, s, c)
+    omega (arith, sum_below-suc n (λ i. one_at_zero (z i)), counted_nonzero (z n) o)
 
 pub zeros_more : (n : ℕ) (z : ℕ → ℕ) → z n ≡ 0 → zeros (n + 1) z ≡ zeros n z + 1
 zeros_more n z e = let s : n + 1 ≡ suc n = omega arith in ap (λ k. zeros k z) s ∙ zeros-suc n z e
@@ -49,12 +49,12 @@ pub zeros_kept : (n : ℕ) (z : ℕ → ℕ) → z n ≢ 0 → zeros (n + 1) z �
 zeros_kept n z o = let s : n + 1 ≡ suc n = omega arith in ap (λ k. zeros k z) s ∙ zeros-same n z o
 
 pub zeros_few : (n : ℕ) (z : ℕ → ℕ) → zeros n z ≤ n
-zeros_few zero z = let s = zeros-none z in omega (arith, s)
+zeros_few zero z = omega (arith, zeros-none z)
 zeros_few (suc n) z =
     let i = zeros_few n z in
     elim (cases_eq (z n) 0) [
-      | inl e ↦ let s = zeros-suc n z e in omega (arith, i, s)
-      | inr o ↦ let s = zeros-same n z o in omega (arith, i, s)
+      | inl e ↦ omega (arith, i, zeros-suc n z e)
+      | inr o ↦ omega (arith, i, zeros-same n z o)
     ]
 
 -- a 0 counts for each later place
@@ -63,39 +63,38 @@ zeros_before i zero z l e = absurd (omega arith)
 zeros_before i (suc n) z l e = elim (cases_eq i n) [
   | inl same ↦
       let here : z n ≡ 0 = ap z (sym same) ∙ e in
-      let s = zeros-suc n z here in let t = ap (λ k. zeros k z) same in omega (arith, s, t)
+      omega (arith, zeros-suc n z here, ap (λ k. zeros k z) same)
   | inr other ↦
       let b = zeros_before i n z (omega arith) e in
       elim (cases_eq (z n) 0) [
-        | inl here ↦ let s = zeros-suc n z here in omega (arith, b, s)
-        | inr o ↦ let s = zeros-same n z o in omega (arith, b, s)
+        | inl here ↦ omega (arith, b, zeros-suc n z here)
+        | inr o ↦ omega (arith, b, zeros-same n z o)
       ]
 ]
 
 pub zeros_others : (n : ℕ) (z : ℕ → ℕ) → zeros n z + distance n z (λ i. 0) ≡ n
 zeros_others zero z =
-    let s = zeros-none z in let t = sum_below-zero (λ i. counted (z i) 0) in omega (arith, s, t)
+    omega (arith, zeros-none z, sum_below-zero (λ i. counted (z i) 0))
 zeros_others (suc n) z =
     let i = zeros_others n z in
     let t = sum_below-suc n (λ i. counted (z i) 0) in
     elim (cases_eq (z n) 0) [
-      | inl e ↦ let s = zeros-suc n z e in let u = counted_same (z n) 0 e in omega (arith, i, s, t, u)
-      | inr o ↦ let s = zeros-same n z o in let u = counted_other (z n) 0 o in omega (arith, i, s, t, u)
+      | inl e ↦ omega (arith, i, zeros-suc n z e, t, counted_same (z n) 0 e)
+      | inr o ↦ omega (arith, i, zeros-same n z o, t, counted_other (z n) 0 o)
     ]
 
 -- the place of a 0 by its number
 pub ranked : (n k : ℕ) (z : ℕ → ℕ) → k < zeros n z → (i : ℕ) × (i < n) × (z i ≡ 0) × (zeros i z ≡ k)
-ranked zero k z l = let s = zeros-none z in absurd (omega (arith, l, s))
+ranked zero k z l = absurd (omega (arith, l, zeros-none z))
 ranked (suc n) k z l = elim (cases_eq (z n) 0) [
   | inl e ↦
       let s = zeros-suc n z e in
       elim (cases_eq (zeros n z) k) [
         | inl same ↦ (n, omega arith, e, same)
-        | inr other ↦ let r = ranked n k z (omega (arith, l, s, other)) in let b = r.1 in (r.0, omega (arith, b), r.2, r.3)
+        | inr other ↦ let r = ranked n k z (omega (arith, l, s, other)) in (r.0, omega (arith, r.1), r.2, r.3)
       ]
   | inr o ↦
-      let s = zeros-same n z o in
-      let r = ranked n k z (omega (arith, l, s)) in let b = r.1 in (r.0, omega (arith, b), r.2, r.3)
+      let r = ranked n k z (omega (arith, l, zeros-same n z o)) in (r.0, omega (arith, r.1), r.2, r.3)
 ]
 
 fewer : {n : ℕ} {z f g : ℕ → ℕ} → AreChosen (suc n) z f g → AreChosen n z f g
@@ -160,15 +159,12 @@ chosen_sum (suc n) z f g c =
     let t = sum_below-suc n (λ i. cond (eqb (z i) 0) (f i) 0) in
     elim (cases_eq (z n) 0) [
       | inl e ↦
-          let k : zeros (suc n) z ≡ suc (zeros n z) = let s = zeros-suc n z e in omega (arith, s) in
-          let s = ap (λ k. sum_below k g) k ∙ sum_below-suc (zeros n z) g in
+          let k : zeros (suc n) z ≡ suc (zeros n z) = omega (arith, zeros-suc n z e) in
           let last = c.at n (omega arith) e in
           let one = chosen_zero (z n) (f n) 0 e in
-          omega (arith, i, t, s, last, one)
+          omega (arith, i, t, ap (λ k. sum_below k g) k ∙ sum_below-suc (zeros n z) g, last, one)
       | inr o ↦
-          let s = ap (λ k. sum_below k g) (zeros-same n z o) in
-          let none = chosen_nonzero (z n) (f n) 0 o in
-          omega (arith, i, t, s, none)
+          omega (arith, i, t, ap (λ k. sum_below k g) (zeros-same n z o), chosen_nonzero (z n) (f n) 0 o)
     ]
 
 -- power sums of the chosen points are those of all, where the other weights are 0
@@ -218,8 +214,7 @@ chosen_more n z f g h c last same = record {
   at = λ i l here. elim (cases_eq i n) [
     | inl e ↦ ap h (ap (λ k. zeros k z) e) ∙ last ∙ ap f (sym e)
     | inr other ↦
-        let b = zeros_before i n z (omega arith) here in
-        same (zeros i z) (omega (arith, b)) ∙ c.at i (omega arith) here
+        same (zeros i z) (omega (arith, zeros_before i n z (omega arith) here)) ∙ c.at i (omega arith) here
   ];
 }
 

@@ -26,15 +26,15 @@ use Rattle.ring_decoder.specs.Syndromes.{AreWeights}
 -- words that differ at fewer places
 fewer_differences : (n : ℕ) (a b c d : ℕ → ℕ) → ((i : ℕ) → i < n → c i ≡ d i → a i ≡ b i)
     → distance n a b ≤ distance n c d
-fewer_differences zero a b c d less = let s = sum_below-zero (λ i. counted (a i) (b i)) in omega (arith, s)
+fewer_differences zero a b c d less = omega (arith, sum_below-zero (λ i. counted (a i) (b i)))
 fewer_differences (suc n) a b c d less =
     let s = sum_below-suc n (λ i. counted (a i) (b i)) in
     let t = sum_below-suc n (λ i. counted (c i) (d i)) in
     let i = fewer_differences n a b c d (λ i l. less i (omega arith)) in
     elim (cases_eq (c n) (d n)) [
-      | inl e ↦ let u = counted_same (a n) (b n) (less n (omega arith) e) in omega (arith, s, t, i, u)
+      | inl e ↦ omega (arith, s, t, i, counted_same (a n) (b n) (less n (omega arith) e))
       | inr o ↦
-          let u = counted_other (c n) (d n) o in let v = counted_below (a n) (b n) in omega (arith, s, t, i, u, v)
+          omega (arith, s, t, i, counted_other (c n) (d n) o, counted_below (a n) (b n))
     ]
 
 -- words that differ at no place
@@ -47,17 +47,16 @@ same_at (suc n) i a b none l =
         | inl last ↦ ap a last ∙ e ∙ ap b (sym last)
         | inr before ↦ same_at n i a b (omega (arith, s, none)) (omega arith)
       ]
-      | inr o ↦ let u = counted_other (a n) (b n) o in absurd (omega (arith, s, none, u))
+      | inr o ↦ absurd (omega (arith, s, none, counted_other (a n) (b n) o))
     ]
 
 -- numbers that are all 0, and numbers below m that aren't
 pub all_zero : (n : ℕ) (z : ℕ → ℕ) → zeros n z ≡ n → (i : ℕ) → i < n → z i ≡ 0
-all_zero n z all i l = let others = zeros_others n z in same_at n i z (λ i. 0) (omega (arith, others, all)) l
+all_zero n z all i l = same_at n i z (λ i. 0) (omega (arith, zeros_others n z, all)) l
 
 pub not_one : (m n : ℕ) (z : ℕ → ℕ) → ((i : ℕ) → i < n → z i < m) → zeros n z ≢ n → m ≢ 1
 not_one m n z below some one =
-    let none = no_distance n z (λ i. 0) (λ i l. let less = below i l in omega (arith, less, one)) in
-    let others = zeros_others n z in some (omega (arith, none, others))
+    some (omega (arith, no_distance n z (λ i. 0) (λ i l. omega (arith, below i l, one)), zeros_others n z))
 
 pub fit_of_weights : (m n : ℕ) (x v : ℕ → ℕ) → AreWeights m n x v → HaveUnitDifferences m n x
 fit_of_weights m n x v weights = fit_from_all m n x (λ i l. (v i, weights i l))
@@ -68,12 +67,12 @@ pub near_same : (m k n : ℕ) (x : ℕ → ℕ) (lost : List ℕ) (y u w : ℕ �
     → (i : ℕ) → i < n → u i ≡ w i
 near_same m k n x lost y u w places fit is_u is_w near_u near_w i l =
     let sum = distance_sum n (without lost y) (without lost u) (without lost w) in
-    let hidden = few_hidden n lost u w in let enough = places.enough in
+    let enough = places.enough in
     elim (cases_lt 0 (distance n u w)) [
       | inr same ↦ same_at n i u w same l
       | inl differ ↦
           let far = words_apart m k n x u w (omega (arith, enough)) fit is_u is_w differ in
-          absurd (omega (arith, far, sum, hidden, enough, near_u, near_w))
+          absurd (omega (arith, far, sum, few_hidden n lost u w, enough, near_u, near_w))
     ]
 
 -- power sums of two lists of weights and of their sums
@@ -136,9 +135,9 @@ pub right_already : (m k n : ℕ) (x v : ℕ → ℕ) (lost : List ℕ) (y s : �
     → ((i : ℕ) → i < n → y i < m) → ArePowerSums m (n - k) n x (λ i. v i * y i) s → ((h : ℕ) → h < n - k → s h ≡ 0)
     → IsRightWord m k n x lost y y 0
 right_already m k n x v lost y s positive places weights below sums none =
-    let enough = places.enough in let fit = fit_of_weights m n x v weights in
+    let fit = fit_of_weights m n x v weights in
     let same = no_distance n (without lost y) (without lost y) (λ i l. refl) in
-    let is = codeword_by_syndromes m k n x v y positive (omega (arith, enough)) fit weights below
+    let is = codeword_by_syndromes m k n x v y positive (omega (arith, places.enough)) fit weights below
     (record { sum = λ h l. mod_trans (mod_of_eq (sym (none h l))) (sums.sum h l) }) in
     let few : 2 * 0 ≤ n - k - length lost = omega arith in
     record {
@@ -160,7 +159,7 @@ codeword_by_zeros m k n x v y s positive few weights below small sums =
           let none = codeword_without_syndromes m k n x v y positive few fit weights is in
           let each : (h : ℕ) → h < t → s h ≡ 0 =
           λ h l. sym (mod-eq_of_lt (small h l)) ∙ zero_of m (s h) (mod_trans (sums.sum h l) (mod_sym (none.sum h l))) in
-          let same = no_distance t s (λ i. 0) each in let others = zeros_others t s in omega (arith, same, others),
+          omega (arith, no_distance t s (λ i. 0) each, zeros_others t s),
     )
 
 -- a word less errors that have its syndromes
@@ -169,8 +168,8 @@ pub right_word : (m k n wrong : ℕ) (x v : ℕ → ℕ) (lost : List ℕ) (y s 
     → ArePowerSums m (n - k) n x (λ i. v i * y i) s → IsSolution m (n - k) n x v lost s e wrong
     → ((i : ℕ) → i < n → Congruent m (w i + e i) (y i)) → IsRightWord m k n x lost y w wrong
 right_word m k n wrong x v lost y s e w positive places weights below_y below_w sums solution each =
-    let enough = places.enough in let fit = fit_of_weights m n x v weights in
-    let is = codeword_by_syndromes m k n x v w positive (omega (arith, enough)) fit weights below_w
+    let fit = fit_of_weights m n x v weights in
+    let is = codeword_by_syndromes m k n x v w positive (omega (arith, places.enough)) fit weights below_w
     (record {
       sum = λ h l.
           let p : ℕ = sum_below n (λ i. v i * e i * x i ^ h) in
@@ -222,5 +221,5 @@ fault_of_word number m k n x v lost y s positive places weights sums (NoInverse 
   fault.0,
   λ u is near.
       let p = pattern_of m k n x v lost y s u positive places weights sums is near in
-      let two = fault.1 p.0 p.1 in let fewer = p.2 in omega (arith, two, fewer),
+      omega (arith, fault.1 p.0 p.1, p.2),
 )

@@ -30,7 +30,7 @@ power_value : (n e X : ℕ) → e < n → polynomial_at n (extended e 1 (λ i. 0
 power_value n e X l =
     let p : ℕ → ℕ = extended e 1 (λ i. 0) in
     let alone = single n e (λ i. p i * X ^ i) l
-    (λ i b other. let z = ap (λ v. v * X ^ i) (before_end e 1 (λ i. 0) i other) in omega (arith, z)) in
+    (λ i b other. omega (arith, ap (λ v. v * X ^ i) (before_end e 1 (λ i. 0) i other))) in
     let one = ap (λ v. v * X ^ e) (at_end e 1 (λ i. 0) e (let s : e ≡ e = omega arith in s)) in
     omega (arith, alone, one)
 
@@ -47,7 +47,7 @@ powers_sum m d e x v positive fit weights small =
     λ l b.
     let P : ℕ = product_but m n x l (x l) in
     let alone = single n l (λ i. u i * product_but m n x i (x l)) b
-    (λ i c other. let z = ap (λ w. u i * w) (none_at m n i l x c b (λ e. other (sym e))) in omega (arith, z)) in
+    (λ i c other. omega (arith, ap (λ w. u i * w) (none_at m n i l x c b (λ e. other (sym e))))) in
     let one : Congruent m (P * v l) 1 = record { same = (weights l b).one } in
     let order : u l * P ≡ P * v l * x l ^ e = omega arith in
     let times_one : 1 * x l ^ e ≡ x l ^ e = omega arith in
@@ -218,11 +218,10 @@ pub weight_unit : (m n i : ℕ) (x v : ℕ → ℕ) → AreWeights m n x v → i
 weight_unit m n i x v weights l =
     let inverse = weights i l in
     let P : ℕ = product_but m n x i (x i) in
-    let order : v i * (P % m) ≡ P % m * v i = omega arith in
-    let small = inverse.below in (
+    let order : v i * (P % m) ≡ P % m * v i = omega arith in (
       P % m,
       record {
-        below = mod-lt P (omega (arith, small));
+        below = mod-lt P (omega (arith, inverse.below));
         one = ap (λ w. w % m) order ∙ mul-mod_first P (v i) m ∙ inverse.one;
       },
     )

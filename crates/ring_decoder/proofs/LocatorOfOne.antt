@@ -14,24 +14,19 @@ use Rattle.ring_decoder.specs.LocatorSteps.{IsSearchOfOne}
 
 one_term : (s t : ℕ → ℕ) → applied 1 s t 0 ≡ s 0 * t 0
 one_term s t =
-    let a = sum_below-zero (λ l. s l * t (0 + l)) in
-    let b = sum_below-suc 0 (λ l. s l * t (0 + l)) in
-    omega (arith, a, b)
+    omega (arith, sum_below-zero (λ l. s l * t (0 + l)), sum_below-suc 0 (λ l. s l * t (0 + l)))
 
 two_terms : (h : ℕ) (s t : ℕ → ℕ) → applied 2 s t h ≡ s 0 * t h + s 1 * t (h + 1)
 two_terms h s t =
-    let a = sum_below-zero (λ l. s l * t (h + l)) in
-    let b = sum_below-suc 0 (λ l. s l * t (h + l)) in
     let c = sum_below-suc 1 (λ l. s l * t (h + l)) in
     let e = ap (λ k. s 0 * t k) (let r : h + 0 ≡ h = omega arith in r) in
-    omega (arith, a, b, c, e)
+    omega (arith, sum_below-zero (λ l. s l * t (h + l)), sum_below-suc 0 (λ l. s l * t (h + l)), c, e)
 
 -- the first discrepancy is u
 first_is : (m N u x : ℕ) (s t : ℕ → ℕ) → 0 < N → IsGeometric m N u x t → Congruent m (s 0) 1
     → Congruent m (applied 1 s t 0) u
 first_is m N u x s t some geometric one =
-    let p = ap (λ v. u * v) (pow-zero x) in
-    let e : 1 * (u * x ^ 0) ≡ u = omega (arith, p) in
+    let e : 1 * (u * x ^ 0) ≡ u = omega (arith, ap (λ v. u * v) (pow-zero x)) in
     mod_trans (mod_of_eq (one_term s t)) (mod_trans (mod_mul one (geometric.each 0 some)) (mod_of_eq e))
 
 next_is : (m N u x h : ℕ) (s t : ℕ → ℕ) → h + 1 < N → IsGeometric m N u x t

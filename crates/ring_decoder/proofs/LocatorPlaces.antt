@@ -29,10 +29,9 @@ one_value : (c h w X : ℕ) (s : ℕ → ℕ)
     → sum_below c (λ l. s l * (w * X ^ (h + l))) ≡ w * polynomial_at c s X * X ^ h
 one_value c h w X s =
     let turned : (l : ℕ) → s l * (w * X ^ (h + l)) ≡ (w * X ^ h) * (s l * X ^ l) =
-    λ l. let e = ap (λ v. s l * (w * v)) (pow-add X h l) in omega (arith, e) in
+    λ l. omega (arith, ap (λ v. s l * (w * v)) (pow-add X h l)) in
     let same = sum_below-same c (λ l. s l * (w * X ^ (h + l))) (λ l. (w * X ^ h) * (s l * X ^ l)) (λ l b. turned l) in
-    let out = sum_below-mul c (w * X ^ h) (λ l. s l * X ^ l) in
-    omega (arith, same, out)
+    omega (arith, same, sum_below-mul c (w * X ^ h) (λ l. s l * X ^ l))
 
 -- a polynomial that is applied to power sums gives those of the weights times its values
 pub applied_sums : (m N n c h : ℕ) (x w s t : ℕ → ℕ) → ArePowerSums m N n x w t → h + c ≤ N

@@ -88,7 +88,7 @@ both_alike m a b F G E is at_g at_e =
 pub search_kept : (m N i L p w h : ℕ) (s b t : ℕ → ℕ) → i < N → h + L ≡ i → L ≤ h
     → Congruent m (applied (L + 1) s t h) 0 → IsSearch m N i L p w s b t → IsSearch m N (i + 1) L p w s b t
 search_kept m N i L p w h s b t inside at half none found = record {
-  within = let e = found.within in omega (arith, e);
+  within = omega (arith, found.within);
   short = found.short;
   behind = found.behind;
   recurrence = record {
@@ -141,7 +141,7 @@ pub search_corrected : (m N i L p w d h q : ℕ) (s b t f : ℕ → ℕ) → i <
     → ((k : ℕ) → L + 1 ≤ k → f k ≡ s k)
     → IsSearch m N i L p w s b t → IsSearch m N (i + 1) L p w f b t
 search_corrected m N i L p w d h q s b t f inside at room is low high kept found = record {
-  within = let e = found.within in omega (arith, e);
+  within = omega (arith, found.within);
   short = found.short;
   behind = λ l k. mod_trans (mod_of_eq (kept l (omega (arith, k)))) (found.behind l k);
   recurrence = record { sum = λ k l. corrected_sum m N i L p w d h q k s b t f at room is low high found l };
@@ -200,8 +200,7 @@ minus_one (suc (suc m)) positive =
 negative_unit : (m a b : ℕ) → 0 < m → Congruent m (a + b) 0 → HasInverse m b → HasInverse m a
 negative_unit m a b positive none unit =
     let minus : HasInverse m (m - 1) = minus_one m positive in
-    let t = turned_sign m b positive in
-    let s : (m - 1) * b + b ≡ m * b = omega (arith, t) in
+    let s : (m - 1) * b + b ≡ m * b = omega (arith, turned_sign m b positive) in
     let zero_too : Congruent m ((m - 1) * b + b) 0 = mod_trans (mod_of_eq s) (multiple_none m b) in
     unit_alike m ((m - 1) * b) a (mod_add_cancel b (mod_trans zero_too (mod_sym none)))
     ((has_both m (m - 1) b).1 (minus, unit))
@@ -248,7 +247,7 @@ pub search_none : (m N i L p w h : ℕ) (s b t : ℕ → ℕ) → 0 < m → i < 
     → applied (L + 1) s t h % m ≢ 0 → IsSearch m N i L p w s b t → NeedManyWeights m N t
 search_none m N i L p w h s b t positive inside at long other found =
     let bound = massey_bound m N L i h s t positive inside at found.recurrence other in
-    record { each = λ n x w are. let e = bound.each n x w are in omega (arith, e, long) }
+    record { each = λ n x w are. omega (arith, bound.each n x w are, long) }
 
 -- a witness that stays, since its product with another number is 0, has no inverse
 pub witness_kept : (m w d p : ℕ) → d < m → d ≢ 0 → p ≡ (w * d) % m → p ≡ 0 → HasInverse m w → ⊥

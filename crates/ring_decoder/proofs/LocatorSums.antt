@@ -25,17 +25,15 @@ residue_none m a h = h.same ∙ zero-mod m
 
 counted_most : (a b : ℕ) → counted a b ≤ 1
 counted_most a b = elim (cases_eq a b) [
-  | inl e ↦ let z = counted_same a b e in omega (arith, z)
-  | inr o ↦ let z = counted_other a b o in omega (arith, z)
+  | inl e ↦ omega (arith, counted_same a b e)
+  | inr o ↦ omega (arith, counted_other a b o)
 ]
 
 -- weights that are 0 wherever others are
 pub lighter : (m n : ℕ) (u v : ℕ → ℕ) → ((j : ℕ) → j < n → Congruent m (u j) 0 → Congruent m (v j) 0)
     → hamming_weight m n v ≤ hamming_weight m n u
 lighter m zero u v keep =
-    let s = sum_below-zero (λ i. counted (u i % m) 0) in
-    let t = sum_below-zero (λ i. counted (v i % m) 0) in
-    omega (arith, s, t)
+    omega (arith, sum_below-zero (λ i. counted (u i % m) 0), sum_below-zero (λ i. counted (v i % m) 0))
 lighter m (suc n) u v keep =
     let i = lighter m n u v (λ j l. keep j (omega arith)) in
     let s = sum_below-suc n (λ i. counted (u i % m) 0) in
@@ -45,26 +43,20 @@ lighter m (suc n) u v keep =
           let z = counted_same (v n % m) 0 (residue_none m (v n) (keep n (omega arith) (none_of m (u n) none))) in
           omega (arith, i, s, t, z)
       | inr other ↦
-          let o = counted_other (u n % m) 0 other in
-          let f = counted_most (v n % m) 0 in
-          omega (arith, i, s, t, o, f)
+          omega (arith, i, s, t, counted_other (u n % m) 0 other, counted_most (v n % m) 0)
     ]
 
 -- the weights times X + a
 next_sum : (n a h : ℕ) (x u : ℕ → ℕ)
     → power_sum n x (λ j. u j * (x j + a)) h ≡ power_sum n x u (suc h) + a * power_sum n x u h
 next_sum zero a h x u =
-    let s = sum_below-zero (λ j. u j * (x j + a) * x j ^ h) in
-    let p = sum_below-zero (λ j. u j * x j ^ suc h) in
     let q = ap (λ v. a * v) (sum_below-zero (λ j. u j * x j ^ h)) in
-    omega (arith, s, p, q)
+    omega (arith, sum_below-zero (λ j. u j * (x j + a) * x j ^ h), sum_below-zero (λ j. u j * x j ^ suc h), q)
 next_sum (suc n) a h x u =
-    let i = next_sum n a h x u in
-    let s = sum_below-suc n (λ j. u j * (x j + a) * x j ^ h) in
     let p = sum_below-suc n (λ j. u j * x j ^ suc h) in
     let q = ap (λ v. a * v) (sum_below-suc n (λ j. u j * x j ^ h)) in
     let e : u n * x n ^ suc h ≡ u n * (x n ^ h * x n) = ap (λ k. u n * k) (pow-suc (x n) h) in
-    omega (arith, i, s, p, q, e)
+    omega (arith, next_sum n a h x u, sum_below-suc n (λ j. u j * (x j + a) * x j ^ h), p, q, e)
 
 -- the last weight is 0
 without_last : (m n h : ℕ) (x u : ℕ → ℕ) → Congruent m (u n) 0
@@ -85,9 +77,7 @@ rest_light m n k x u other few =
     let l = lighter m n u (rest m n x u)
     (λ j b none. let z : 0 * (x j + (m - 1) * x n) ≡ 0 = omega arith in
     mod_trans (mod_mul none (mod_refl (x j + (m - 1) * x n))) (mod_of_eq z)) in
-    let s = sum_below-suc n (λ i. counted (u i % m) 0) in
-    let o = counted_other (u n % m) 0 other in
-    omega (arith, l, s, o, few)
+    omega (arith, l, sum_below-suc n (λ i. counted (u i % m) 0), counted_other (u n % m) 0 other, few)
 
 rest_sum : (m n h : ℕ) (x u : ℕ → ℕ) → 0 < m
     → Congruent m (power_sum n x (rest m n x u) h) (power_sum (suc n) x u (suc h) + (m - 1) * x n * power_sum (suc n) x u h)
@@ -110,13 +100,11 @@ without_none : (m n k : ℕ) (x u : ℕ → ℕ) → u n % m ≡ 0 → ((h : ℕ
 without_none m n k x u z none h l = mod_trans (mod_sym (without_last m n h x u (none_of m (u n) z))) (none h l)
 
 fewer : (m n : ℕ) (u : ℕ → ℕ) → hamming_weight m n u ≤ hamming_weight m (suc n) u
-fewer m n u = let s = sum_below-suc n (λ i. counted (u i % m) 0) in omega (arith, s)
+fewer m n u = omega (arith, sum_below-suc n (λ i. counted (u i % m) 0))
 
 some_weight : (m n : ℕ) (u : ℕ → ℕ) → u n % m ≢ 0 → 1 ≤ hamming_weight m (suc n) u
 some_weight m n u other =
-    let s = sum_below-suc n (λ i. counted (u i % m) 0) in
-    let o = counted_other (u n % m) 0 other in
-    omega (arith, s, o)
+    omega (arith, sum_below-suc n (λ i. counted (u i % m) 0), counted_other (u n % m) 0 other)
 
 vanish_with_last : (m n k : ℕ) (x u : ℕ → ℕ) → 0 < m → hamming_weight m (suc n) u ≤ k
     → ((h : ℕ) → h < k → Congruent m (power_sum (suc n) x u h) 0) → u n % m ≢ 0
@@ -124,7 +112,7 @@ vanish_with_last : (m n k : ℕ) (x u : ℕ → ℕ) → 0 < m → hamming_weigh
     → Congruent m (power_sum n x v j) 0)
     → Congruent m (power_sum (suc n) x u k) 0
 vanish_with_last m n zero x u positive few none other fewer_vanish =
-    let w = some_weight m n u other in absurd (omega (arith, w, few))
+    absurd (omega (arith, some_weight m n u other, few))
 vanish_with_last m n (suc k) x u positive few none other fewer_vanish =
     left_alone m _ ((m - 1) * x n) (power_sum (suc n) x u k) 0
     (mod_trans (mod_sym (rest_sum m n k x u positive))
@@ -138,9 +126,8 @@ pub sums_vanish : (m n k : ℕ) (x u : ℕ → ℕ) → 0 < m → hamming_weight
 sums_vanish m zero k x u positive few none = mod_of_eq (sum_below-zero (λ j. u j * x j ^ k))
 sums_vanish m (suc n) k x u positive few none = elim (cases_eq (u n % m) 0) [
   | inl z ↦
-      let f = fewer m n u in
       mod_trans (without_last m n k x u (none_of m (u n) z))
-      (sums_vanish m n k x u positive (omega (arith, f, few)) (without_none m n k x u z none))
+      (sums_vanish m n k x u positive (omega (arith, fewer m n u, few)) (without_none m n k x u z none))
   | inr other ↦ vanish_with_last m n k x u positive few none other (λ j v light zeros. sums_vanish m n j x v positive light zeros)
 ]
 
@@ -185,7 +172,7 @@ none_with_last : (m n k : ℕ) (x u : ℕ → ℕ) → 0 < m → HaveUnitDiffere
     → (i : ℕ) → i < n → Congruent m (v i) 0)
     → (j : ℕ) → j < suc n → Congruent m (u j) 0
 none_with_last m n zero x u positive fit few none other fewer_none j l =
-    let w = some_weight m n u other in absurd (omega (arith, w, few))
+    absurd (omega (arith, some_weight m n u other, few))
 none_with_last m n (suc k) x u positive fit few none other fewer_none j l =
     let before : (i : ℕ) → i < n → Congruent m (u i) 0 =
     λ i b. rest_unit m n i x u positive fit b

@@ -38,7 +38,7 @@ lost_at (p ∷ ps) i e = elim (eqb_tells p i) [
   | inl q ↦ (0, omega arith, q.1)
   | inr q ↦
       let r = lost_at ps i (sym (ap (λ b. b || list_any (λ r. eqb r i) ps) q.0) ∙ e) in
-      let l = r.1 in (suc r.0, omega (arith, l), r.2)
+      (suc r.0, omega (arith, r.1), r.2)
 ]
 
 pub is_lost_at : (lost : List ℕ) (l : ℕ) → l < length lost → is_lost lost (slice_index lost l) ≡ true
@@ -90,15 +90,14 @@ without_below m lost y i l = elim (lost_or_listed lost i) [
 
 -- sums of terms that are greater at one place alone
 below_place : (n p : ℕ) (f g : ℕ → ℕ) → ((i : ℕ) → i < n → i ≢ p → f i ≤ g i) → n ≤ p → sum_below n f ≤ sum_below n g
-below_place zero p f g less l = let s = sum_below-zero f in omega (arith, s)
+below_place zero p f g less l = omega (arith, sum_below-zero f)
 below_place (suc n) p f g less l =
-    let s = sum_below-suc n f in let t = sum_below-suc n g in
     let i = below_place n p f g (λ i b. less i (omega arith)) (omega arith) in
-    let o = less n (omega arith) (omega arith) in omega (arith, s, t, i, o)
+    omega (arith, sum_below-suc n f, sum_below-suc n g, i, less n (omega arith) (omega arith))
 
 pub one_place : (n p : ℕ) (f g : ℕ → ℕ) → ((i : ℕ) → i < n → i ≢ p → f i ≤ g i) → f p ≤ 1
     → sum_below n f ≤ sum_below n g + 1
-one_place zero p f g less one = let s = sum_below-zero f in omega (arith, s)
+one_place zero p f g less one = omega (arith, sum_below-zero f)
 one_place (suc n) p f g less one =
     let s = sum_below-suc n f in let t = sum_below-suc n g in
     elim (cases_eq n p) [
@@ -106,14 +105,13 @@ one_place (suc n) p f g less one =
           let i = below_place n p f g (λ i b. less i (omega arith)) (omega arith) in
           let o : f n ≤ 1 = subst (λ k. f k ≤ 1) (sym e) one in omega (arith, s, t, i, o)
       | inr other ↦
-          let i = one_place n p f g (λ i b. less i (omega arith)) one in
-          let o = less n (omega arith) other in omega (arith, s, t, i, o)
+          omega (arith, s, t, one_place n p f g (λ i b. less i (omega arith)) one, less n (omega arith) other)
     ]
 
 pub counted_below : (x y : ℕ) → counted x y ≤ 1
 counted_below x y = elim (cases_eq x y) [
-  | inl e ↦ let z = counted_same x y e in omega (arith, z)
-  | inr o ↦ let z = counted_other x y o in omega (arith, z)
+  | inl e ↦ omega (arith, counted_same x y e)
+  | inr o ↦ omega (arith, counted_other x y o)
 ]
 
 -- lost symbols hide as many differences at most
@@ -144,26 +142,25 @@ counted_sum x y z =
     let one = counted_below y z in
     elim (cases_eq x y) [
       | inl e ↦ elim (cases_eq x z) [
-        | inl f ↦ let s = counted_same y z (sym e ∙ f) in omega (arith, s)
-        | inr g ↦ let s = counted_other x z g in omega (arith, s, one)
+        | inl f ↦ omega (arith, counted_same y z (sym e ∙ f))
+        | inr g ↦ omega (arith, counted_other x z g, one)
       ]
-      | inr o ↦ let s = counted_other x y o in omega (arith, s, one)
+      | inr o ↦ omega (arith, counted_other x y o, one)
     ]
 
 pub distance_sum : (n : ℕ) (a b c : ℕ → ℕ) → distance n b c ≤ distance n a b + distance n a c
-distance_sum zero a b c = let s = sum_below-zero (λ i. counted (b i) (c i)) in omega (arith, s)
+distance_sum zero a b c = omega (arith, sum_below-zero (λ i. counted (b i) (c i)))
 distance_sum (suc n) a b c =
-    let s = sum_below-suc n (λ i. counted (b i) (c i)) in
     let t = sum_below-suc n (λ i. counted (a i) (b i)) in
     let u = sum_below-suc n (λ i. counted (a i) (c i)) in
-    let i = distance_sum n a b c in let o = counted_sum (a n) (b n) (c n) in
-    omega (arith, s, t, u, i, o)
+    let i = distance_sum n a b c in
+    omega (arith, sum_below-suc n (λ i. counted (b i) (c i)), t, u, i, counted_sum (a n) (b n) (c n))
 
 -- places at fault aren't right
 pub not_lost : (m k n : ℕ) (x : ℕ → ℕ) (lost : List ℕ) (e : RestoreError) → AreLostAtFault m k n x lost e → AreLost k n lost
     → ⊥
-not_lost m k n x lost TooFewSymbols fault is = let enough = is.enough in omega (arith, fault, enough)
+not_lost m k n x lost TooFewSymbols fault is = omega (arith, fault, is.enough)
 not_lost m k n x lost PlaceOutOfRange fault is =
-    let l = is.places.within fault.1.0 fault.1.1 in let out = fault.1.4 in omega (arith, l, out)
+    omega (arith, is.places.within fault.1.0 fault.1.1, fault.1.4)
 not_lost m k n x lost PlaceTwice fault is = is.places.distinct fault.1.0 fault.1.1 fault.1.2 fault.1.3 fault.1.6
 not_lost m k n x lost PointsDontFit fault is = fault

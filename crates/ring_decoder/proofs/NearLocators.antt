@@ -50,16 +50,16 @@ times_none m a b none =
 -- weights of which more are 0
 pub weight_at_most : (m n : ℕ) (a b : ℕ → ℕ) → ((i : ℕ) → i < n → b i % m ≡ 0 → a i % m ≡ 0)
     → hamming_weight m n a ≤ hamming_weight m n b
-weight_at_most m zero a b less = let s = sum_below-zero (λ i. counted (a i % m) 0) in omega (arith, s)
+weight_at_most m zero a b less = omega (arith, sum_below-zero (λ i. counted (a i % m) 0))
 weight_at_most m (suc n) a b less =
     let s = sum_below-suc n (λ i. counted (a i % m) 0) in
     let t = sum_below-suc n (λ i. counted (b i % m) 0) in
     let i = weight_at_most m n a b (λ i l. less i (omega arith)) in
     elim (cases_eq (b n % m) 0) [
       | inl e ↦
-          let u = counted_same (a n % m) 0 (less n (omega arith) e) in omega (arith, s, t, i, u)
+          omega (arith, s, t, i, counted_same (a n % m) 0 (less n (omega arith) e))
       | inr o ↦
-          let u = counted_other (b n % m) 0 o in let v = counted_below (a n % m) 0 in omega (arith, s, t, i, u, v)
+          omega (arith, s, t, i, counted_other (b n % m) 0 o, counted_below (a n % m) 0)
     ]
 
 -- no weight
@@ -72,7 +72,7 @@ zero_weight m (suc n) i a few l =
         | inl same ↦ ap (λ k. a k % m) same ∙ e
         | inr other ↦ zero_weight m n i a (omega (arith, s, few)) (omega arith)
       ]
-      | inr o ↦ let u = counted_other (a n % m) 0 o in absurd (omega (arith, s, few, u))
+      | inr o ↦ absurd (omega (arith, s, few, counted_other (a n % m) 0 o))
     ]
 
 -- one weight
@@ -89,8 +89,7 @@ one_weight m (suc n) i j a few k there l other =
         ]
       ]
       | inr o ↦
-          let u = counted_other (a n % m) 0 o in
-          let none : hamming_weight m n a ≤ 0 = omega (arith, s, few, u) in
+          let none : hamming_weight m n a ≤ 0 = omega (arith, s, few, counted_other (a n % m) 0 o) in
           elim (cases_eq j n) [
             | inl last ↦ zero_weight m n i a none (omega arith)
             | inr early ↦ absurd (there (zero_weight m n j a none (omega arith)))
@@ -130,18 +129,17 @@ moment_weight m c x v z d i = v i * d i * product_of_differences m c z (x i)
 lost_factor : {m t n c : ℕ} {x v z : ℕ → ℕ} {lost : List ℕ} {s q : ℕ → ℕ} → AreSought m t n c x v z lost s q
     → (i : ℕ) → is_lost lost i ≡ true → product_of_differences m c z (x i) ≡ 0
 lost_factor {m} {t} {n} {c} {x} {v} {z} {lost} sought i is =
-    let l = lost_at lost i is in let b = l.1 in let k = sought.count in
+    let l = lost_at lost i is in let b = l.1 in
     let same : z l.0 ≡ x i = sought.there l.0 b ∙ ap x l.2 in
-    product-none c l.0 (λ l. residue m (pos (x i) -ℤ pos (z l))) (omega (arith, b, k))
+    product-none c l.0 (λ l. residue m (pos (x i) -ℤ pos (z l))) (omega (arith, b, sought.count))
     (ap (λ a. residue m (pos (x i) -ℤ pos a)) same ∙ no_difference m (x i))
 
 listed_factor : {m t n c : ℕ} {x v z : ℕ → ℕ} {lost : List ℕ} {s q : ℕ → ℕ} → AreSought m t n c x v z lost s q
     → (i : ℕ) → i < n → is_lost lost i ≡ false → HasInverse m (product_of_differences m c z (x i))
 listed_factor {m} {t} {n} {c} {x} {v} {z} {lost} sought i b listed =
-    let two = sought.two in
-    has_product m c (λ l. residue m (pos (x i) -ℤ pos (z l))) (omega (arith, two))
+    has_product m c (λ l. residue m (pos (x i) -ℤ pos (z l))) (omega (arith, sought.two))
     (λ l d.
-    let k = sought.count in let e : l < length lost = omega (arith, d, k) in
+    let e : l < length lost = omega (arith, d, sought.count) in
     subst (λ a. HasInverse m (residue m (pos (x i) -ℤ pos a))) (sym (sought.there l e))
     (sought.fit.unit i (slice_index lost l) b (sought.places.places.within l e)
     (λ same. false≢true (sym listed ∙ ap (is_lost lost) same ∙ is_lost_at lost l e))))
@@ -181,8 +179,7 @@ pub none_near : (m t n c : ℕ) (x v z : ℕ → ℕ) (lost : List ℕ) (s q : �
     → NeedManyWeights m (t - c) q → (d : ℕ → ℕ) → IsNearPattern m t n x v lost s d → ⊥
 none_near m t n c x v z lost s q sought many d near =
     let far = many.each n x (moment_weight m c x v z d) (sought.sums (λ i. v i * d i) near.sums) in
-    let few = fewer_weights sought d in let least = near.few in let k = sought.count in
-    absurd (omega (arith, far, few, least, k))
+    absurd (omega (arith, far, fewer_weights sought d, near.few, sought.count))
 
 -- the values: f before those at lost places are cleared, g afterwards
 pub record AreCleared (m L n : ℕ) (x p f g : ℕ → ℕ) (lost : List ℕ) : Type 0 where
@@ -192,14 +189,12 @@ pub record AreCleared (m L n : ℕ) (x p f g : ℕ → ℕ) (lost : List ℕ) : 
 cleared_zeros : {m L n : ℕ} {x p f g : ℕ → ℕ} {lost : List ℕ} → AreCleared m L n x p f g lost
     → zeros n g ≤ zeros n f + length lost
 cleared_zeros {m} {L} {n} {x} {p} {f} {g} {lost} clear =
-    let a = zeros_others n g in let b = zeros_others n f in
-    let hidden = few_hidden n lost f (λ i. 0) in
     let same = distance_alike n g (λ i. 0) (without lost f) (without lost (λ i. 0)) (λ i l. clear.cleared i)
     (λ i l. elim (lost_or_listed lost i) [
       | inl is ↦ sym (without_lost lost (λ i. 0) i is)
       | inr listed ↦ sym (without_listed lost (λ i. 0) i listed)
     ]) in
-    omega (arith, a, b, hidden, same)
+    omega (arith, zeros_others n g, zeros_others n f, few_hidden n lost f (λ i. 0), same)
 
 -- a value that isn't 0 isn't at a lost place, so it was there before
 kept_value : {m L n : ℕ} {x p f g : ℕ → ℕ} {lost : List ℕ} → AreCleared m L n x p f g lost
@@ -211,37 +206,34 @@ kept_value {m} {L} {n} {x} {p} {f} {g} {lost} clear i other = elim (lost_or_list
 
 all_none : (n : ℕ) → sum_below n (λ i. 0) ≡ 0
 all_none zero = sum_below-zero (λ i. 0)
-all_none (suc n) = let s = sum_below-suc n (λ i. 0) in let i = all_none n in omega (arith, s, i)
+all_none (suc n) = let i = all_none n in omega (arith, sum_below-suc n (λ i. 0), i)
 
 -- no zeros, or one
 no_zeros : (n : ℕ) (f : ℕ → ℕ) → ((i : ℕ) → i < n → f i ≢ 0) → zeros n f ≤ 0
-no_zeros zero f none = let s = sum_below-zero (λ i. cond (eqb (f i) 0) 1 0) in omega (arith, s)
+no_zeros zero f none = omega (arith, sum_below-zero (λ i. cond (eqb (f i) 0) 1 0))
 no_zeros (suc n) f none =
     let s = sum_below-suc n (λ i. cond (eqb (f i) 0) 1 0) in
-    let i = no_zeros n f (λ i l. none i (omega arith)) in
-    let u = counted_nonzero (f n) (none n (omega arith)) in omega (arith, s, i, u)
+    omega (arith, s, no_zeros n f (λ i l. none i (omega arith)), counted_nonzero (f n) (none n (omega arith)))
 
 zero_at_most : (v : ℕ) → cond (eqb v 0) 1 0 ≤ 1
 zero_at_most v = elim (cases_eq v 0) [
-  | inl e ↦ let z = counted_zero v e in omega (arith, z)
-  | inr o ↦ let z = counted_nonzero v o in omega (arith, z)
+  | inl e ↦ omega (arith, counted_zero v e)
+  | inr o ↦ omega (arith, counted_nonzero v o)
 ]
 
 one_zero : (n j : ℕ) (f : ℕ → ℕ) → ((i : ℕ) → i < n → i ≢ j → f i ≢ 0) → zeros n f ≤ 1
 one_zero n j f none =
     let o = one_place n j (λ i. cond (eqb (f i) 0) 1 0) (λ i. 0)
-    (λ i l other. let z = counted_nonzero (f i) (none i l other) in omega (arith, z)) (zero_at_most (f j)) in
-    let z = all_none n in omega (arith, o, z)
+    (λ i l other. omega (arith, counted_nonzero (f i) (none i l other))) (zero_at_most (f j)) in
+    omega (arith, o, all_none n)
 
 constant_value : (s : ℕ → ℕ) (X : ℕ) → polynomial_at 1 s X ≡ s 0
 constant_value s X =
-    let a = polynomial-first 0 s X in
-    let b = ap (λ v. X * v) (polynomial-none (λ i. s (suc i)) X) in omega (arith, a, b)
+    omega (arith, polynomial-first 0 s X, ap (λ v. X * v) (polynomial-none (λ i. s (suc i)) X))
 
 linear_value : (s : ℕ → ℕ) (X : ℕ) → polynomial_at 2 s X ≡ s 0 + X * s 1
 linear_value s X =
-    let a = polynomial-first 1 s X in
-    let b = ap (λ v. X * v) (constant_value (λ i. s (suc i)) X) in omega (arith, a, b)
+    omega (arith, polynomial-first 1 s X, ap (λ v. X * v) (constant_value (λ i. s (suc i)) X))
 
 one_not_zero : (m : ℕ) → 2 ≤ m → 1 % m ≢ 0
 one_not_zero m two e = let one : 1 % m ≡ 1 = mod-eq_of_lt two in omega (arith, one, e)
@@ -253,11 +245,9 @@ found_zeros {m} {L = zero} {n} {x} {p} {f} {g} {lost} two fit clear unit =
     no_zeros n f (λ i l e. one_not_zero m two (sym (clear.values.none refl i l) ∙ e))
 found_zeros {m} {L = suc d} {n} {x} {p} {f} {g} {lost} two fit clear unit =
     let L : ℕ = suc d in
-    let few = few_zeros m L n x p two fit unit in
-    let others = zeros_others n f in
     let same = distance_alike n f (λ i. 0) (λ i. polynomial_at (L + 1) p (x i) % m) (λ i. 0)
     (clear.values.some (omega arith)) (λ i l. refl) in
-    omega (arith, few, others, same)
+    omega (arith, few_zeros m L n x p two fit unit, zeros_others n f, same)
 
 -- a value before clearing that has an inverse cancels
 value_cancels : {m L n : ℕ} {x p f g : ℕ → ℕ} {lost : List ℕ} → AreCleared m L n x p f g lost → HasInverse m (p L)
@@ -276,14 +266,12 @@ covers_units : {m t n c L : ℕ} {x v z : ℕ → ℕ} {lost : List ℕ} {s q p 
 covers_units {m} {t} {n} {c} {L} {x} {v} {z} {lost} {s} {q} {p} {f} {g} sought locator clear unit values d near =
     let two = sought.two in let w = moment_weight m c x v z d in
     let sums = sought.sums (λ i. v i * d i) near.sums in
-    let least = locator.least.each n x w sums in
-    let fewer = fewer_weights sought d in let few = near.few in let k = sought.count in
-    let short = locator.short in let enough = sought.places.enough in let within = sought.few in
+    let few = near.few in let k = sought.count in
     let vanish = weights_vanish m (t - c) L n x w p q (omega (arith, two)) sought.fit sums locator.recurrence
-    (omega (arith, least, fewer, few, k)) in
-    let found = found_zeros two sought.fit clear unit in let more = cleared_zeros clear in
+    (omega (arith, locator.least.each n x w sums, fewer_weights sought d, few, k)) in
+    let found = found_zeros two sought.fit clear unit in
     record {
-      few = omega (arith, found, more, short, k, enough, within);
+      few = omega (arith, found, cleared_zeros clear, locator.short, k, sought.places.enough, sought.few);
       none = λ i l other.
           let kept = kept_value clear i other in
           error_none sought d i l kept.0
@@ -297,13 +285,11 @@ covers_none : {m t n c L : ℕ} {x v z : ℕ → ℕ} {lost : List ℕ} {s q p f
 covers_none {m} {t} {n} {c} {L} {x} {v} {z} {lost} {s} {q} {p} {f} {g} sought locator clear d near right =
     let two = sought.two in let w = moment_weight m c x v z d in
     let least = locator.least.each n x w (sought.sums (λ i. v i * d i) near.sums) in
-    let fewer = fewer_weights sought d in
     let none = no_distance n (λ i. without lost d i % m) (λ i. 0) right in
-    let degree : L ≡ 0 = omega (arith, least, fewer, none) in
+    let degree : L ≡ 0 = omega (arith, least, fewer_weights sought d, none) in
     let found = no_zeros n f (λ i l e. one_not_zero m two (sym (clear.values.none degree i l) ∙ e)) in
-    let more = cleared_zeros clear in let enough = sought.places.enough in let within = sought.few in
     record {
-      few = omega (arith, found, more, enough, within);
+      few = omega (arith, found, cleared_zeros clear, sought.places.enough, sought.few);
       none = λ i l other.
           let kept = kept_value clear i other in
           none_of m (d i) (ap (λ a. a % m) (sym (without_listed lost d i kept.0)) ∙ right i l);
@@ -342,8 +328,8 @@ linear_none m u a X p is =
 -- numbers of which the difference has an inverse
 apart_none : (m u a b : ℕ) → HasInverse m (residue m (pos a -ℤ pos b)) → Congruent m (u * a) (u * b) → Congruent m u 0
 apart_none m u a b unit same =
-    let r : ℕ = residue m (pos a -ℤ pos b) in let below = unit.1.below in
-    let is : Congruent m (r + b) a = record { same = difference_and m a b (omega (arith, below)) } in
+    let r : ℕ = residue m (pos a -ℤ pos b) in
+    let is : Congruent m (r + b) a = record { same = difference_and m a b (omega (arith, unit.1.below)) } in
     let e : u * r + u * b ≡ u * (r + b) = omega arith in
     let z : u * b ≡ 0 + u * b = omega arith in
     cancelled m u r unit
@@ -373,7 +359,6 @@ covers_one : {m t n c L : ℕ} {x v z : ℕ → ℕ} {lost : List ℕ} {s q p f 
     → (j : ℕ) → j < n → without lost d j % m ≢ 0 → Covers m t n g d
 covers_one {m} {t} {n} {c} {L} {x} {v} {z} {lost} {s} {q} {p} {f} {g} sought clear one d near single j l there =
     let w = moment_weight m c x v z d in let few = near.few in let k = sought.count in
-    let more = cleared_zeros clear in let enough = sought.places.enough in let within = sought.few in
     let right : (i : ℕ) → i < n → i ≢ j → without lost d i % m ≡ 0 =
     λ i b other. one_weight m n i j (without lost d) single l there b other in
     let some : 0 < listed_weight m n lost d = elim (cases_lt 0 (listed_weight m n lost d)) [
@@ -395,7 +380,7 @@ covers_one {m} {t} {n} {c} {L} {x} {v} {z} {lost} {s} {q} {p} {f} {g} sought cle
     (subst (λ L. IsLinear m (w j) (x j) L p) is.degree is) in
     let found = one_zero n j f values.1 in
     record {
-      few = omega (arith, found, more, two, k, enough, within);
+      few = omega (arith, found, cleared_zeros clear, two, k, sought.places.enough, sought.few);
       none = λ i b other.
           let kept = kept_value clear i other in
           none_of m (d i) (ap (λ a. a % m) (sym (without_listed lost d i kept.0))

@@ -29,22 +29,19 @@ next_coefficient : (q l a : ℕ) (f : ℕ → ℕ) → l < q
     → f l + a * from_coefficient q f a (suc l) ≡ from_coefficient q f a l
 next_coefficient q l a f b =
     let count : q + 1 - l ≡ suc (q + 1 - suc l) = omega arith in
-    let first = polynomial-first (q + 1 - suc l) (λ i. f (l + i)) a in
     let here = ap f (let e : l + 0 ≡ l = omega arith in e) in
     let rest = ap (λ v. a * v) (polynomial-same (q + 1 - suc l) (λ i. f (l + suc i)) (λ i. f (suc l + i)) a
     (λ i d. ap f (let e : l + suc i ≡ suc l + i = omega arith in e))) in
     let whole = ap (λ n. polynomial_at n (λ i. f (l + i)) a) count in
-    omega (arith, first, here, rest, whole)
+    omega (arith, polynomial-first (q + 1 - suc l) (λ i. f (l + i)) a, here, rest, whole)
 
 last_coefficient : (q a : ℕ) (f : ℕ → ℕ) → from_coefficient q f a q ≡ f q
 last_coefficient q a f =
     let count : q + 1 - q ≡ suc 0 = omega arith in
-    let p = sum_below-suc 0 (λ i. f (q + i) * a ^ i) in
     let z = sum_below-zero (λ i. f (q + i) * a ^ i) in
-    let one = ap (λ v. f (q + 0) * v) (pow-zero a) in
     let at = ap f (let e : q + 0 ≡ q = omega arith in e) in
     let whole = ap (λ n. polynomial_at n (λ i. f (q + i)) a) count in
-    omega (arith, p, z, one, at, whole)
+    omega (arith, sum_below-suc 0 (λ i. f (q + i) * a ^ i), z, ap (λ v. f (q + 0) * v) (pow-zero a), at, whole)
 
 all_coefficients : (q a : ℕ) (f : ℕ → ℕ) → from_coefficient q f a 0 ≡ polynomial_at (suc q) f a
 all_coefficients q a f =

@@ -38,10 +38,8 @@ moved m d e F G count same p = record {
 
 constant_value : (X : ℕ) (f : ℕ → ℕ) → polynomial_at (suc 0) f X ≡ f 0
 constant_value X f =
-    let p = sum_below-suc 0 (λ i. f i * X ^ i) in
-    let z = sum_below-zero (λ i. f i * X ^ i) in
     let e = ap (λ v. f 0 * v) (pow-zero X) in
-    omega (arith, p, z, e)
+    omega (arith, sum_below-suc 0 (λ i. f i * X ^ i), sum_below-zero (λ i. f i * X ^ i), e)
 
 monic_one : (m : ℕ) → IsMonic m 0 (λ X. 1)
 monic_one m =
@@ -62,25 +60,20 @@ times_root_behind : (d r i : ℕ) (h : ℕ → ℕ) → ((i : ℕ) → d < i →
 unfolding times_root shifted
 times_root_behind d r zero h none l = absurd (omega arith)
 times_root_behind d r (suc i) h none l =
-    let p = none i (omega arith) in
-    let q = ap (λ v. r * v) (none (suc i) (omega arith)) in
-    omega (arith, p, q)
+    omega (arith, none i (omega arith), ap (λ v. r * v) (none (suc i) (omega arith)))
 
 times_root_highest : (d r : ℕ) (h : ℕ → ℕ) → h d ≡ 1 → h (suc d) ≡ 0 → times_root r h (suc d) ≡ 1
 unfolding times_root shifted
-times_root_highest d r h one none = let q = ap (λ v. r * v) none in omega (arith, one, q)
+times_root_highest d r h one none = omega (arith, one, ap (λ v. r * v) none)
 
 times_root_value : (d r X : ℕ) (h : ℕ → ℕ) → h (suc d) ≡ 0
     → polynomial_at (suc (suc d)) (times_root r h) X ≡ polynomial_at (suc d) h X * (X + r)
 unfolding times_root
 times_root_value d r X h none =
-    let parts = combined (suc (suc d)) (shifted h) h r X in
-    let first = shifted-values (suc d) X h in
     let more = sum_below-suc (suc d) (λ i. h i * X ^ i) in
     let gone = ap (λ v. v * X ^ suc d) none in
     let same : polynomial_at (suc (suc d)) h X ≡ polynomial_at (suc d) h X = omega (arith, more, gone) in
-    let rest = ap (λ v. r * v) same in
-    omega (arith, parts, first, rest)
+    omega (arith, combined (suc (suc d)) (shifted h) h r X, shifted-values (suc d) X h, ap (λ v. r * v) same)
 
 -- times X - a
 times_difference : (m d a : ℕ) (F : ℕ → ℕ) → 0 < m → IsMonic m d F
@@ -131,7 +124,7 @@ combination m d (suc n) v F each =
     let before = combination m d n v F (λ i l. each i (omega arith)) in
     let last = each n (omega arith) in (
       (λ i. before.0 i + v n * last.coefficient i),
-      (let p = before.1 in let q = ap (λ w. v n * w) last.highest in let s = sum_below-suc n v in omega (arith, p, q, s)),
+      (omega (arith, before.1, ap (λ w. v n * w) last.highest, sum_below-suc n v)),
       λ X. mod_trans (mod_of_eq (combined (suc d) before.0 last.coefficient (v n) X))
           (mod_trans (mod_add (before.2 X) (mod_mul (mod_refl (v n)) (last.value X)))
           (mod_of_eq (sym (sum_below-suc n (λ i. v i * F i X))))),
@@ -155,7 +148,7 @@ roots_more m i a x f g positive roots behind is each =
     let next : i + 1 ≡ suc i = omega arith in
     record {
       highest =
-          let z : g (suc i) ≡ g (suc i) + a * f (suc i) = (let e = ap (λ v. a * v) none in omega (arith, e)) in
+          let z : g (suc i) ≡ g (suc i) + a * f (suc i) = (omega (arith, ap (λ v. a * v) none)) in
           mod_trans (mod_of_eq (ap g next ∙ z)) (mod_trans (each (suc i) (omega arith)) roots.highest);
       value = λ X.
           let F : ℕ = polynomial_at (i + 1) f X in
@@ -163,8 +156,8 @@ roots_more m i a x f g positive roots behind is each =
           let u : ℕ = residue m (pos X -ℤ pos a) in
           let two : i + 1 + 1 ≡ suc (suc i) = omega arith in
           let front : polynomial_at (suc (suc i)) f X ≡ F =
-          (let s = sum_below-suc (suc i) (λ j. f j * X ^ j) in let z = ap (λ v. v * X ^ suc i) none in
-          let e = ap (λ n. polynomial_at n f X) next in omega (arith, s, z, e)) in
+          (let s = sum_below-suc (suc i) (λ j. f j * X ^ j) in
+          omega (arith, s, ap (λ v. v * X ^ suc i) none, ap (λ n. polynomial_at n f X) next)) in
           let values : Congruent m (G + a * F) (X * F) =
           mod_trans (mod_of_eq (ap (λ v. v + a * F) (ap (λ n. polynomial_at n g X) two)
           ∙ ap (λ v. polynomial_at (suc (suc i)) g X + a * v) (sym front)

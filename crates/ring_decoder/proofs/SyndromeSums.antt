@@ -17,7 +17,7 @@ pub moment : (m N n d h : ℕ) (x w t p : ℕ → ℕ) → ArePowerSums m N n x 
 moment m N n d h x w t p are within =
     let f : ℕ → ℕ → ℕ = λ l i. w i * x i ^ h * (p l * x i ^ l) in
     let each : (l i : ℕ) → p l * (w i * x i ^ (h + l)) ≡ f l i =
-    λ l i. let e = ap (λ v. p l * (w i * v)) (pow-add (x i) h l) in omega (arith, e) in
+    λ l i. omega (arith, ap (λ v. p l * (w i * v)) (pow-add (x i) h l)) in
     let row : (l : ℕ) → p l * sum_below n (λ i. w i * x i ^ (h + l)) ≡ sum_below n (λ i. f l i) =
     λ l. sym (sum_below-mul n (p l) (λ i. w i * x i ^ (h + l)))
     ∙ sum_below-same n (λ i. p l * (w i * x i ^ (h + l))) (λ i. f l i) (λ i b. each l i) in
@@ -65,20 +65,17 @@ weight_alone m q j x w t p are below none =
     let z : w i * x i ^ 0 * 0 ≡ 0 = omega arith in
     mod_trans (mod_mul (mod_refl (w i * x i ^ 0)) (none i l other)) (mod_of_eq z)) in
     let one : f j ≡ w j * polynomial_at q p (x j) =
-    (let e = ap (λ v. w j * v * polynomial_at q p (x j)) (pow-zero (x j)) in omega (arith, e)) in
+    (omega (arith, ap (λ v. w j * v * polynomial_at q p (x j)) (pow-zero (x j)))) in
     mod_trans (mod_of_eq front) (mod_trans whole (mod_trans alone (mod_of_eq one)))
 
 -- a sum from its last term on
 pub sum_reversed : (n : ℕ) (f : ℕ → ℕ) → sum_below n (λ i. f (n - 1 - i)) ≡ sum_below n f
 sum_reversed zero f = sum_below-zero (λ i. f (0 - 1 - i)) ∙ sym (sum_below-zero f)
 sum_reversed (suc n) f =
-    let first = sum_below-first n (λ i. f (suc n - 1 - i)) in
     let here = ap f (let e : suc n - 1 - 0 ≡ n = omega arith in e) in
     let rest = sum_below-same n (λ i. f (suc n - 1 - suc i)) (λ i. f (n - 1 - i))
     (λ i l. ap f (let e : suc n - 1 - suc i ≡ n - 1 - i = omega arith in e)) in
-    let back = sum_reversed n f in
-    let more = sum_below-suc n f in
-    omega (arith, first, here, rest, back, more)
+    omega (arith, sum_below-first n (λ i. f (suc n - 1 - i)), here, rest, sum_reversed n f, sum_below-suc n f)
 
 -- power sums with congruent weights
 pub sums_alike : (m N n : ℕ) (x v w t : ℕ → ℕ) → ((i : ℕ) → i < n → Congruent m (v i) (w i))
@@ -97,7 +94,7 @@ sum_step m i a b f so_far term =
 
 -- the terms of a power sum: at the start, and from one sum to the next
 pub terms_first : (m a x : ℕ) → Congruent m a (a * x ^ 0)
-terms_first m a x = mod_of_eq (let e = ap (λ v. a * v) (pow-zero x) in omega (arith, e))
+terms_first m a x = mod_of_eq (omega (arith, ap (λ v. a * v) (pow-zero x)))
 
 pub terms_next : (m h new old a x : ℕ) → new ≡ (old * x) % m → Congruent m old (a * x ^ h)
     → Congruent m new (a * x ^ (h + 1))

@@ -11,7 +11,6 @@ errors-preserved g c =
     let ring = g.R.Reducer in let m = ring.modulus c.args.r.now in let number = g.T.RingWord.number in
     let errors = c.args.errors.now in let lost = c.args.lost.now in let i = c.errors.i in
     let e = entry number ring.value m errors in let so_far = c.errors.invariant in
-    let few = c.is_wrong-wrong.ensures.few in let before = so_far.1 in
     let x = c.index-errors-i.result in
     let at = entry_read number ring.value m errors i x c.errors-test.true c.index-errors-i.is in
     let form = form_read number ring.form ring.value m errors i x c.requires.errors c.errors-test.true c.index-errors-i.is in (
@@ -19,5 +18,5 @@ errors-preserved g c =
           (c.is_wrong-wrong.ensures.counted
           ∙ ap (λ v. counted v 0) (without_same lost (λ _. ring.value m (number x)) e i at
           ∙ sym (without_below m lost e i (subst (λ v. v < m) at form.below)))),
-      omega (arith, few, before),
+      omega (arith, c.is_wrong-wrong.ensures.few, so_far.1),
     )

@@ -22,11 +22,11 @@ values-preserved g c =
       | then-is_zero w ↦
           let here = sym at ∙ c.is_zero.ensures.0 w.if-is_zero.true in
           let is = w.next-is in let x = w.index-numbers-i.result in
-          let pairs = c.requires.pairs in let test = c.values-test.true in
-          let there : i < length numbers = omega (arith, pairs, test) in
+          let test = c.values-test.true in
+          let there : i < length numbers = omega (arith, c.requires.pairs, test) in
           let before = zeros_before i (length values) z test here in
-          let count = so_far.0 in let kept = c.values.auto.chosen in let room = c.requires.room in
-          let within : next < length chosen = omega (arith, count, before, kept, room) in
+          let count = so_far.0 in let room = c.requires.room in
+          let within : next < length chosen = omega (arith, count, before, c.values.auto.chosen, room) in
           let new = w.chosen-is ∙ w.put.ensures in
           let form = form_read number ring.form ring.value m numbers i x c.requires.numbers there w.index-numbers-i.is in (
             is ∙ ap (λ k. k + 1) count ∙ sym (zeros_more i z here),

@@ -16,11 +16,10 @@ bounds-chosen-next g c =
     let values = c.args.values.now in let i = c.values.i in let z = entry number ring.value m values in
     let at = entry_read number ring.value m values i _ c.values-test.true c.index-values-i.is in
     let before = zeros_before i (length values) z c.values-test.true (sym at ∙ c.is_zero.ensures.0 c.if-is_zero.true) in
-    let is = c.values.invariant.0 in let count = c.requires.count in
-    omega (arith, is, before, count)
+    omega (arith, c.values.invariant.0, before, c.requires.count)
 
 pub offset_bounds-chosen-next : goal.offset_bounds-chosen-next
-offset_bounds-chosen-next g c = let l = bounds-chosen-next g c in omega (arith, l)
+offset_bounds-chosen-next g c = omega (arith, bounds-chosen-next g c)
 
 pub values-preserved : goal.values-preserved
 values-preserved g c =
@@ -30,15 +29,14 @@ values-preserved g c =
     let e = entry number ring.value m chosen in
     let at = entry_read number ring.value m values i _ c.values-test.true c.index-values-i.is in
     let so_far = c.values.invariant in let few = so_far.1 in
-    let test = c.values-test.true in let kept = c.values.auto.errors in let room = c.requires.room in
-    let within : i < length errors = omega (arith, test, kept, room) in
+    let test = c.values-test.true in
+    let within : i < length errors = omega (arith, test, c.values.auto.errors, c.requires.room) in
     elim c.if-is_zero.branch [
       | then-is_zero w ↦
           let here = sym at ∙ c.is_zero.ensures.0 w.if-is_zero.true in
           let is = w.next-is in let x = w.index-chosen-next.result in
           let before = zeros_before i (length values) z test here in
-          let number_so_far = so_far.0 in let count = c.requires.count in
-          let there : next < length chosen = omega (arith, number_so_far, before, count) in (
+          let there : next < length chosen = omega (arith, so_far.0, before, c.requires.count) in (
             is ∙ ap (λ k. k + 1) so_far.0 ∙ sym (zeros_more i z here),
             omega (arith, few, is),
             subst (λ xs. HoldBelow number ring.form ring.value m xs (spread z e) (i + 1)) (sym w.errors-is)

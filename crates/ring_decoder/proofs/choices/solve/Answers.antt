@@ -63,8 +63,7 @@ returns-then-wrong-syndromes-clause-solved g c e near covers =
     (λ i l. c.scatter.ensures.errors i (omega (arith, l, each))) in
     let wrong = c.count_wrong-wrong.ensures
     ∙ ap (λ k. listed_weight m k lost f) (c.scatter.auto.errors ∙ c.requires.room) in
-    let more = c.if-wrong-syndromes.true in let few = near.few in
-    absurd (omega (arith, more, wrong, weight, few))
+    absurd (omega (arith, c.if-wrong-syndromes.true, wrong, weight, near.few))
 
 pub returns-else-wrong-syndromes-clause-solved : goal.returns-else-wrong-syndromes-clause-solved
 returns-else-wrong-syndromes-clause-solved g c =
@@ -80,14 +79,13 @@ returns-else-wrong-syndromes-clause-solved g c =
     let count : q ≡ zeros n z =
     c.gather.auto.chosen ∙ c.split_at_mut-chosen.ensures.front_len ∙ c.count_zeros-q.ensures ∙ ap (λ k. zeros k z) each in
     let wrong = c.count_wrong-wrong.ensures
-    ∙ ap (λ k. listed_weight m k lost f) (c.scatter.auto.errors ∙ c.requires.room) in
-    let less = c.if-wrong-syndromes.false in (
+    ∙ ap (λ k. listed_weight m k lost f) (c.scatter.auto.errors ∙ c.requires.room) in (
       c.scatter.ensures.checked,
       record {
         pattern = record {
           sums = solved_sums m t n q z x v f p w d s count points weights
               (λ i l. c.scatter.ensures.errors i (omega (arith, l, each))) (c.if-not-solve_chosen.ensures.sums refl);
-          few = omega (arith, less, wrong);
+          few = omega (arith, c.if-wrong-syndromes.false, wrong);
         };
         count = wrong;
       },

@@ -16,12 +16,12 @@ returns-clause-only g c d sums =
     let ring = g.R.Reducer in let m = ring.modulus c.args.r.now in let number = g.T.RingWord.number in
     let points = c.args.points.now in let syndromes = c.args.syndromes.now in let n : ℕ = length points in
     let x = entry number ring.value m points in let s = entry number ring.value m syndromes in
-    let w = entry number ring.value m c.args.weights.now in let p = c.requires.pairs in
+    let w = entry number ring.value m c.args.weights.now in
     let e = entry number ring.value m c.solve_errors.new.errors in
     let same : (i : ℕ) → i < n → e i ≡ d i % m =
     c.if-not-solve_errors.ensures.errors refl d (fewer_sums m (length syndromes) n n x (λ i. w i * d i) s c.requires.few sums) in (
       c.are_power_sums.ensures.sums.1
           (sums_of_products m (length syndromes) n x w e d (entry number ring.value m c.multiply_each.new.products) s
-          (λ i l. c.multiply_each.ensures.products i (omega (arith, p, l))) same sums),
+          (λ i l. c.multiply_each.ensures.products i (omega (arith, c.requires.pairs, l))) same sums),
       same,
     )

@@ -20,8 +20,7 @@ places-preserved g c =
     let errors = c.args.errors.now in let word = c.places.word in let i = c.places.i in
     let e = entry number ring.value m errors in let old = entry number ring.value m c.args.word.now in
     let so_far = c.places.invariant in let test = c.places-test.true in
-    let kept = c.places.auto.word in let room = c.requires.room in
-    let within : i < length word = omega (arith, test, kept, room) in
+    let within : i < length word = omega (arith, test, c.places.auto.word, c.requires.room) in
     let x = c.sub-symbol.result in
     let at = entry_at number ring.value m word i c.index-word-i.result within ∙ so_far.1.kept i (omega arith) in
     let error = entry_read number ring.value m errors i _ test c.index-errors-i.is in (

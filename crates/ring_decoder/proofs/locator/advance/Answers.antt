@@ -49,16 +49,16 @@ pub returns-clause-advanced : goal.returns-clause-advanced
 returns-clause-advanced g c =
     let ring = g.R.Reducer in let m = ring.modulus c.args.r.now in let number = g.T.RingWord.number in
     let positive = (g.met.R.Reducer.canonical c.args.r.now).positive in
-    let found = c.requires.search.search in let within = found.within in
+    let found = c.requires.search.search in
     let i = c.args.i in let L = c.args.degree in let h : ℕ = i - L in let q : ℕ = h + 1 - L in
-    let half = c.if-from-degree.false in let short = c.if-from-moments.false in
+    let half = c.if-from-degree.false in
     let d = ring.value m (number c.apply-discrepancy.result) in
     let v = ring.value m (number c.extend_witness-next.result) in
     record {
       pivot_checked = c.apply-discrepancy.ensures.checked;
       witness_checked = c.extend_witness-next.ensures.checked;
       search = search_longer m _ i L _ _ d v h q _ _ _ _ positive c.requires.inside
-          (omega (arith, within)) (omega (arith, half)) half (omega (arith, short))
+          (omega (arith, found.within)) (omega (arith, half)) half (omega (arith, c.if-from-moments.false))
           (mod_sym (mod_trans (mod_of_eq c.apply-discrepancy.ensures.value) (residue_of _)))
           (λ e. false≢true (sym c.if-is_zero.false
           ∙ c.is_zero.ensures.1 (sym (mod-eq_of_lt c.apply-discrepancy.ensures.checked.below) ∙ e)))

@@ -10,8 +10,7 @@ returns-else-degree-eq0-clause-values g c =
     let ring = g.R.Reducer in let m = ring.modulus c.args.r.now in let number = g.T.RingWord.number in
     let other = c.if-degree-eq0.false in let locator = c.args.locator.now in let d = c.args.degree in
     let x = entry number ring.value m c.args.points.now in
-    let inside = c.requires.degree in
-    let room : d + 1 ≤ length locator = omega (arith, inside) in
+    let room : d + 1 ≤ length locator = omega (arith, c.requires.degree) in
     let front : ℕ → ℕ = entry number ring.value m (take (d + 1) locator) in
     record {
       none = λ e. absurd (other e);

@@ -55,8 +55,7 @@ find_errors-requires-clause-places g c =
     let places : AreLost self.k n lost = c.in-Ok.ensures m (entry g.T.RingWord.number ring.value m self.points.now) in
     let long : length c.write_syndromes-products.new.syndromes ≡ n - self.k =
     c.write_syndromes-products.auto.syndromes ∙ c.split_at_mut-syndromes.ensures.front_len in
-    let few = self.few in
-    let same : self.k ≡ n - length c.write_syndromes-products.new.syndromes = omega (arith, long, few) in
+    let same : self.k ≡ n - length c.write_syndromes-products.new.syndromes = omega (arith, long, self.few) in
     subst (λ k. AreLost k n lost) same places
 
 pub returns-in-Err-find_errors-clause-corrected : goal.returns-in-Err-find_errors-clause-corrected
@@ -86,7 +85,7 @@ returns-in-Ok-find_errors-clause-corrected g c =
     let s = entry number ring.value m c.write_syndromes-products.new.syndromes in let lost = c.args.lost.now in
     let e = entry number ring.value m c.find_errors.new.errors in let w = entry number ring.value m c.subtract.new.word in
     let places : AreLost k n lost = c.in-Ok.ensures m x in
-    let room = c.requires.room in let kept = c.subtract.auto.word in
+    let room = c.requires.room in
     let long : length c.write_syndromes-products.new.syndromes ≡ n - k =
     c.write_syndromes-products.auto.syndromes ∙ c.split_at_mut-syndromes.ensures.front_len in
     let each : length c.find_errors.new.errors ≡ n =
@@ -95,7 +94,7 @@ returns-in-Ok-find_errors-clause-corrected g c =
     let right = right_word m k n c.in-Ok-find_errors.wrong x v lost y s e w positive places self.inverses
     (λ i l. entry_below number ring.form ring.value m c.args.word.now i c.requires.word (omega (arith, l, room)))
     (λ i l. entry_below number ring.form ring.value m c.subtract.new.word i c.subtract.ensures.checked
-    (omega (arith, l, kept, room)))
+    (omega (arith, l, c.subtract.auto.word, room)))
     (subst (λ t. ArePowerSums m t n x (λ i. v i * y i) s) c.split_at_mut-syndromes.ensures.front_len
     c.write_syndromes-products.ensures.sums)
     (subst (λ t. IsSolution m t n x v lost s e c.in-Ok-find_errors.wrong) long found.1)
