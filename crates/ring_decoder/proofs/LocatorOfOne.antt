@@ -1,16 +1,17 @@
 -- The steps of the search for a locator, where the numbers are u·x^h, the power sums of one point: at the end it is
 -- u·(x - X), also where u·x is 0.
-use Rattle.std.proofs.Common.{◌≡◌, ◌≢◌, ℕ, suc, ◌+◌, ◌*◌, ◌%◌, ◌^◌, ◌<◌, ◌≤◌, ap, ◌∙◌, arith, refl, inl, inr, subst}
+use Rattle.std.proofs.Common.{◌≡◌, ◌≢◌, ℕ, ◌+◌, ◌*◌, ◌%◌, ◌^◌, ◌<◌, ◌≤◌, ap, ◌∙◌, arith, refl, inl, inr, subst}
 use Rattle.std.proofs.Math.Nat.{pow-zero, pow-suc}
 use Rattle.std.proofs.lemmas.Bool.{cases_lt}
 use Rattle.num_modular.specs.Congruence.{Congruent}
-use Rattle.num_modular.specs.NumberLaws.{mod_of_eq, mod_refl, mod_sym, mod_trans, mod_add, mod_mul, mod_add_cancel}
+use Rattle.num_modular.specs.NumberLaws.{mod_sym, mod_trans, mod_add}
 use Rattle.num_modular.specs.NumberLaws.{sum_below-zero, sum_below-suc}
-use Rattle.ring_codes.proofs.Congruences.{left_alone}
 use Rattle.ring_decoder.proofs.LocatorPlaces.{applied}
 use Rattle.ring_decoder.proofs.LocatorSums.{residue_none}
 use Rattle.ring_decoder.specs.Locators.{IsGeometric, IsLinear}
 use Rattle.ring_decoder.specs.LocatorSteps.{IsSearchOfOne}
+use Rattle.ring_codes.proofs.Congruences.{mod_of_combination, mod_times}
+use Rattle.std.proofs.Common.{add-one}
 
 one_term : (s t : ℕ → ℕ) → applied 1 s t 0 ≡ s 0 * t 0
 one_term s t =
@@ -26,18 +27,14 @@ two_terms h s t =
 first_is : (m N u x : ℕ) (s t : ℕ → ℕ) → 0 < N → IsGeometric m N u x t → Congruent m (s 0) 1
     → Congruent m (applied 1 s t 0) u
 first_is m N u x s t some geometric one =
-    let e : 1 * (u * x ^ 0) ≡ u = omega (arith, ap (λ v. u * v) (pow-zero x)) in
-    mod_trans (mod_of_eq (one_term s t)) (mod_trans (mod_mul one (geometric.each 0 some)) (mod_of_eq e))
+    mod_of_combination (mod_add (mod_times (t 0) one) (geometric.each 0 some))
+    (omega (arith, one_term s t, ap (λ v. u * v) (pow-zero x)))
 
 next_is : (m N u x h : ℕ) (s t : ℕ → ℕ) → h + 1 < N → IsGeometric m N u x t
     → Congruent m (applied 2 s t h) (s 0 * (u * x ^ h) + s 1 * (u * x ^ h * x))
 next_is m N u x h s t some geometric =
-    let n : h + 1 ≡ suc h = omega arith in
-    let p = ap (λ v. u * v) (ap (λ k. x ^ k) n ∙ pow-suc x h) in
-    let e : u * x ^ (h + 1) ≡ u * x ^ h * x = omega (arith, p) in
-    mod_trans (mod_of_eq (two_terms h s t))
-    (mod_add (mod_mul (mod_refl (s 0)) (geometric.each h (omega (arith, some))))
-    (mod_mul (mod_refl (s 1)) (mod_trans (geometric.each (h + 1) some) (mod_of_eq e))))
+    mod_of_combination (mod_add (mod_times (s 0) (geometric.each h (omega (arith, some)))) (mod_times (s 1) (geometric.each (h + 1) some)))
+    (omega (arith, two_terms h s t, ap (λ v. s 1 * (u * v)) (ap (λ k. x ^ k) (add-one h) ∙ pow-suc x h)))
 
 applied_at : (m c k h j d : ℕ) (s t : ℕ → ℕ) → c ≡ k → h ≡ j → Congruent m (applied c s t h) d → Congruent m (applied k s t j) d
 applied_at m c k h j d s t at_c at_h is =
@@ -63,23 +60,14 @@ kept_one m N i L p u x h s b t inside at half none geometric one = record {
 constant_one : (m c d b p s e u x : ℕ) → Congruent m (c + d * b) (p * s) → Congruent m b 1 → Congruent m s 0
     → Congruent m (e + 1) 0 → Congruent m d (e * (u * x)) → Congruent m c (u * x)
 constant_one m c d b p s e u x is one none minus at_d =
-    let y : d ≡ d * 1 = omega arith in
-    let z : p * 0 ≡ 0 = omega arith in
-    let w : u * x + e * (u * x) ≡ (e + 1) * (u * x) = omega arith in
-    let v : 0 * (u * x) ≡ 0 = omega arith in
-    mod_add_cancel d
-    (mod_trans (mod_add (mod_refl c) (mod_trans (mod_of_eq y) (mod_mul (mod_refl d) (mod_sym one))))
-    (mod_trans is (mod_trans (mod_mul (mod_refl p) none) (mod_trans (mod_of_eq z)
-    (mod_sym (mod_trans (mod_add (mod_refl (u * x)) at_d) (mod_trans (mod_of_eq w)
-    (mod_trans (mod_mul minus (mod_refl (u * x))) (mod_of_eq v)))))))))
+    mod_of_combination (mod_add is (mod_add (mod_times d (mod_sym one)) (mod_add (mod_times p none)
+    (mod_add (mod_sym at_d) (mod_times (u * x) (mod_sym minus)))))) (omega arith)
 
 leading_one : (m c d b p e u : ℕ) → Congruent m (c + d * b) (p * e) → Congruent m b 0 → Congruent m p u
     → Congruent m (e + 1) 0 → Congruent m (c + u) 0
 leading_one m c d b p e u is none at_p minus =
-    let w : u * e + u ≡ u * (e + 1) = omega arith in
-    let z : u * 0 ≡ 0 = omega arith in
-    let alone = mod_trans (left_alone m c d b (p * e) is none) (mod_mul at_p (mod_refl e)) in
-    mod_trans (mod_add alone (mod_refl u)) (mod_trans (mod_of_eq w) (mod_trans (mod_mul (mod_refl u) minus) (mod_of_eq z)))
+    mod_of_combination (mod_add is (mod_add (mod_times d (mod_sym none)) (mod_add (mod_times e at_p) (mod_times u minus))))
+    (omega arith)
 
 corrected_first : (m N i L p d u x h q : ℕ) (s b t f : ℕ → ℕ) → i < N → h + L ≡ i → h + q + 1 ≡ L → i ≡ 1
     → Congruent m (applied (L + 1) s t h) d
@@ -91,10 +79,8 @@ corrected_first m N i L p d u x h q s b t f inside at room first is high behind 
     let is_q : q ≡ 0 = omega (arith, is_L, room) in
     let here = applied_at m (L + 1) 2 h 0 d s t (omega (arith, is_L)) (omega (arith, is_L, room)) is in
     let at_d : Congruent m d (s 1 * (u * x)) =
-    let p = ap (λ v. s 1 * (u * v * x)) (pow-zero x) in
-    let e : 0 * (u * x ^ 0) + s 1 * (u * x ^ 0 * x) ≡ s 1 * (u * x) = omega (arith, p) in
-    mod_trans (mod_sym here) (mod_trans (next_is m N u x 0 s t (omega (arith, inside, first)) geometric)
-    (mod_trans (mod_add (mod_mul before.1 (mod_refl (u * x ^ 0))) (mod_refl (s 1 * (u * x ^ 0 * x)))) (mod_of_eq e))) in
+    mod_of_combination (mod_add (mod_sym here) (mod_add (next_is m N u x 0 s t (omega (arith, inside, first)) geometric)
+    (mod_times (u * x ^ 0) before.1))) (omega (arith, ap (λ v. s 1 * (u * v * x)) (pow-zero x))) in
     let q_zero : q + 0 ≡ 0 = omega (arith, is_q) in
     let q_one : q + 1 ≡ 1 = omega (arith, is_q) in
     record {
@@ -124,18 +110,12 @@ corrected_one m N i L p d u x h q s b t f inside at room is high behind geometri
 no_discrepancy : (m s e u x y : ℕ) → Congruent m s (u * x) → Congruent m (e + u) 0
     → Congruent m (s * (u * y) + e * (u * y * x)) 0
 no_discrepancy m s e u x y constant leading =
-    let a : u * x * (u * y) + e * (u * y * x) ≡ (e + u) * (u * y * x) = omega arith in
-    let z : 0 * (u * y * x) ≡ 0 = omega arith in
-    mod_trans (mod_add (mod_mul constant (mod_refl (u * y))) (mod_refl (e * (u * y * x))))
-    (mod_trans (mod_of_eq a) (mod_trans (mod_mul leading (mod_refl (u * y * x))) (mod_of_eq z)))
+    mod_of_combination (mod_add (mod_times (u * y) constant) (mod_times (u * y * x) leading)) (omega arith)
 
 minus_first : (m c d b p s : ℕ) → Congruent m (c + p * s) (d * b) → Congruent m b 0 → Congruent m p 1 → Congruent m s 1
     → Congruent m (c + 1) 0
 minus_first m c d b p s is none one first =
-    let e : 1 ≡ 1 * 1 = omega arith in
-    let z : d * 0 ≡ 0 = omega arith in
-    mod_trans (mod_add (mod_refl c) (mod_trans (mod_of_eq e) (mod_mul (mod_sym one) (mod_sym first))))
-    (mod_trans is (mod_trans (mod_mul (mod_refl d) none) (mod_of_eq z)))
+    mod_of_combination (mod_add is (mod_add (mod_times d none) (mod_add (mod_times s (mod_sym one)) (mod_sym first)))) (omega arith)
 
 -- the order grows
 pub longer_one : (m N i L p d u x h q : ℕ) (s b t f : ℕ → ℕ) → i < N → h + L ≡ i → q + L ≡ h + 1 → L ≤ h
@@ -149,10 +129,9 @@ longer_one m N i L p d u x h q s b t f inside at room half is other low high beh
       let start = one.at_start (omega (arith, e)) in let is_L = start.0 in
       let is_h : h ≡ 0 = omega (arith, e, at) in
       let is_q : q + 0 ≡ 1 = omega (arith, is_L, is_h, room) in
-      let z : d * 0 ≡ 0 = omega arith in
       let there = applied_at m (L + 1) 1 h 0 d s t (omega (arith, is_L)) is_h is in (
         omega (arith, is_h),
-        mod_trans (low 0 (omega (arith, is_q))) (mod_trans (mod_mul (mod_refl d) (behind 0 (omega (arith, is_L)))) (mod_of_eq z)),
+        mod_of_combination (mod_add (low 0 (omega (arith, is_q))) (mod_times d (behind 0 (omega (arith, is_L))))) (omega arith),
         minus_first m (f 1) d (b 1) p (s 0)
             (subst (λ k. Congruent m (f k + p * s 0) (d * b k)) is_q (high 0 (omega (arith, is_q))))
             (behind 1 (omega (arith, is_L))) start.2 start.1,

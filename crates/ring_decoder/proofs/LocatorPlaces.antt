@@ -2,12 +2,11 @@
 use Rattle.std.proofs.Common.{◌≡◌, ◌≢◌, ℕ, ◌+◌, ◌-◌, ◌*◌, ◌%◌, ◌^◌, ◌<◌, ◌≤◌, ap, sym, ◌∙◌, arith, inl, inr}
 use Rattle.std.proofs.Math.Nat.{zero-mod}
 use Rattle.std.proofs.lemmas.Bool.{cases_lt}
-use Rattle.std.proofs.lemmas.Nat.{pow-add}
 use Rattle.num_modular.specs.Callers.{same_coefficients}
 use Rattle.num_modular.specs.Congruence.{Congruent}
 use Rattle.num_modular.specs.Inverses.{HasInverse}
-use Rattle.num_modular.specs.NumberLaws.{mod_of_eq, mod_refl, mod_sym, mod_trans, mod_mul}
-use Rattle.num_modular.specs.NumberLaws.{sum_below-mul, sum_below-same, sum_below-congruent, sum_below-exchanged}
+use Rattle.num_modular.specs.NumberLaws.{mod_of_eq, mod_sym, mod_trans}
+use Rattle.num_modular.specs.NumberLaws.{sum_below-same}
 use Rattle.num_modular.specs.Polynomials.{polynomial_at, HaveUnitDifferences}
 use Rattle.num_modular.specs.Sums.{sum_below}
 use Rattle.ring_codes.proofs.Distances.{selected}
@@ -16,6 +15,8 @@ use Rattle.ring_codes.proofs.Distances.{rising_fit}
 use Rattle.ring_decoder.proofs.LocatorSums.{power_sum, lighter, sums_vanish, weights_none}
 use Rattle.ring_decoder.specs.Locators.{IsRecurrence, NeedWeights}
 use Rattle.ring_decoder.specs.PowerSums.{ArePowerSums, hamming_weight}
+use Rattle.ring_codes.proofs.Congruences.{mod_of_combination, mod_times}
+use Rattle.ring_decoder.proofs.SyndromeSums.{moment}
 
 -- a polynomial with c coefficients, applied to the numbers t from h on
 abbrev pub applied : ℕ → (ℕ → ℕ) → (ℕ → ℕ) → ℕ → ℕ
@@ -25,31 +26,18 @@ applied c s t h = sum_below c (λ l. s l * t (h + l))
 abbrev pub valued : ℕ → (ℕ → ℕ) → (ℕ → ℕ) → (ℕ → ℕ) → ℕ → ℕ
 valued c s x w j = w j * polynomial_at c s (x j)
 
-one_value : (c h w X : ℕ) (s : ℕ → ℕ)
-    → sum_below c (λ l. s l * (w * X ^ (h + l))) ≡ w * polynomial_at c s X * X ^ h
-one_value c h w X s =
-    let turned : (l : ℕ) → s l * (w * X ^ (h + l)) ≡ (w * X ^ h) * (s l * X ^ l) =
-    λ l. omega (arith, ap (λ v. s l * (w * v)) (pow-add X h l)) in
-    let same = sum_below-same c (λ l. s l * (w * X ^ (h + l))) (λ l. (w * X ^ h) * (s l * X ^ l)) (λ l b. turned l) in
-    omega (arith, same, sum_below-mul c (w * X ^ h) (λ l. s l * X ^ l))
-
 -- a polynomial that is applied to power sums gives those of the weights times its values
 pub applied_sums : (m N n c h : ℕ) (x w s t : ℕ → ℕ) → ArePowerSums m N n x w t → h + c ≤ N
     → Congruent m (applied c s t h) (power_sum n x (valued c s x w) h)
 applied_sums m N n c h x w s t are room =
-    let expanded = sum_below-congruent c (λ l. s l * t (h + l)) (λ l. sum_below n (λ j. s l * (w j * x j ^ (h + l))))
-    (λ l b. mod_trans (mod_mul (mod_refl (s l)) (are.sum (h + l) (omega arith)))
-    (mod_of_eq (sym (sum_below-mul n (s l) (λ j. w j * x j ^ (h + l)))))) in
-    let turned = sum_below-exchanged c n (λ l j. s l * (w j * x j ^ (h + l))) in
-    let each = sum_below-same n (λ j. sum_below c (λ l. s l * (w j * x j ^ (h + l))))
-    (λ j. w j * polynomial_at c s (x j) * x j ^ h) (λ j b. one_value c h (w j) (x j) s) in
-    mod_trans expanded (mod_of_eq (turned ∙ each))
+    mod_trans (moment m N n c h x w t s are room)
+    (mod_of_eq (sum_below-same n (λ i. w i * x i ^ h * polynomial_at c s (x i)) (λ j. valued c s x w j * x j ^ h)
+    (λ j b. omega arith)))
 
 valued_light : (m n c : ℕ) (x w s : ℕ → ℕ) → hamming_weight m n (valued c s x w) ≤ hamming_weight m n w
 valued_light m n c x w s =
     lighter m n w (valued c s x w)
-    (λ j b none. let z : 0 * polynomial_at c s (x j) ≡ 0 = omega arith in
-    mod_trans (mod_mul none (mod_refl (polynomial_at c s (x j)))) (mod_of_eq z))
+    (λ j b none. mod_of_combination (mod_times (polynomial_at c s (x j)) none) (omega arith))
 
 values_none : (m N n L i : ℕ) (x w s t : ℕ → ℕ) → i ≤ N → ArePowerSums m N n x w t → IsRecurrence m i L s t
     → (h : ℕ) → h + L < i → Congruent m (power_sum n x (valued (L + 1) s x w) h) 0

@@ -2,48 +2,39 @@
 -- order grows.
 use Rattle.std.proofs.Common.{Bool, true, false, cond, not, List}
 use Rattle.std.proofs.Common.{◌≡◌, ◌≢◌, ℕ, zero, suc, ◌+◌, ◌-◌, ◌*◌, ◌%◌, ◌<◌, ◌≤◌, ap, sym, ◌∙◌, arith, refl, inl, inr, subst, mod-eq_of_lt}
-use Rattle.std.proofs.Math.Nat.{add-mul-mod_self_left}
 use Rattle.std.proofs.lemmas.Bool.{cases_eq}
 use Rattle.num_modular.specs.Callers.{has_both}
 use Rattle.num_modular.specs.Congruence.{Congruent}
 use Rattle.num_modular.specs.Inverses.{HasInverse}
-use Rattle.num_modular.specs.NumberLaws.{mod_of_eq, mod_refl, residue_of, mod_sym, mod_trans, mod_add, mod_mul, mod_add_cancel}
+use Rattle.num_modular.specs.NumberLaws.{mod_of_eq, mod_refl, residue_of, mod_sym, mod_trans, mod_add, mod_mul}
 use Rattle.num_modular.specs.NumberLaws.{sum_below-zero, sum_below-suc, sum_below-mul, sum_below-congruent}
-use Rattle.num_modular.specs.SystemLaws.{modulo_one}
-use Rattle.ring_codes.proofs.Congruences.{left_alone, left_alone_other, has_one}
-use Rattle.ring_codes.proofs.NearestWords.{turned_sign, unit_alike}
+use Rattle.ring_codes.proofs.Congruences.{left_alone, has_one}
+use Rattle.ring_codes.proofs.NearestWords.{unit_alike}
 use Rattle.ring_decoder.proofs.LocatorOfOne.{kept_one, corrected_one, longer_one}
 use Rattle.ring_decoder.proofs.LocatorPlaces.{applied, massey_bound}
 use Rattle.ring_decoder.proofs.LocatorSums.{factor_none, none_of, residue_none}
 use Rattle.ring_decoder.specs.Locators.{IsRecurrence, IsLocator, NeedManyWeights}
 use Rattle.ring_decoder.specs.LocatorSteps.{IsSearch}
+use Rattle.ring_codes.proofs.Congruences.{mod_of_combination, mod_of_inverse, mod_of_modulus, mod_times}
+use Rattle.num_modular.specs.NumberLaws.{sum_below-joined}
+use Rattle.std.proofs.Common.{mod-lt}
+use Rattle.ring_decoder.proofs.SyndromeSums.{sum_none}
 
 -- coefficients of 0 behind the first c
-padded_more : (m c d h : ℕ) (f t : ℕ → ℕ) → ((l : ℕ) → c ≤ l → Congruent m (f l) 0)
-    → Congruent m (applied (c + d) f t h) (applied c f t h)
-padded_more m c zero h f t none =
-    let e : c + 0 ≡ c = omega arith in
-    mod_of_eq (ap (λ k. applied k f t h) e)
-padded_more m c (suc d) h f t none =
-    let e : c + suc d ≡ suc (c + d) = omega arith in
-    let s = sum_below-suc (c + d) (λ l. f l * t (h + l)) in
-    let whole : applied (suc (c + d)) f t h ≡ applied (c + d) f t h + t (h + (c + d)) * f (c + d) = omega (arith, s) in
-    mod_trans (mod_of_eq (ap (λ k. applied k f t h) e ∙ whole))
-    (mod_trans (left_alone_other m _ (t (h + (c + d))) (f (c + d)) (none (c + d) (omega arith))) (padded_more m c d h f t none))
-
 padded : (m c n h : ℕ) (f t : ℕ → ℕ) → c ≤ n → ((l : ℕ) → c ≤ l → Congruent m (f l) 0)
     → Congruent m (applied n f t h) (applied c f t h)
 padded m c n h f t within none =
-    let e : n ≡ c + (n - c) = omega arith in
-    mod_trans (mod_of_eq (ap (λ k. applied k f t h) e)) (padded_more m c (n - c) h f t none)
+    let whole : n ≡ c + (n - c) = omega arith in
+    mod_of_combination (sum_none m (n - c) (λ l. f (c + l) * t (h + (c + l)))
+    (λ l b. mod_of_combination (mod_times (t (h + (c + l))) (none (c + l) (omega arith))) (omega arith)))
+    (omega (arith, ap (λ k. applied k f t h) whole, sum_below-joined c (n - c) (λ l. f l * t (h + l))))
 
 -- coefficients f with f l congruent to a·e l
 multiple_sum : (m a q h : ℕ) (e f t : ℕ → ℕ) → ((k : ℕ) → k < q → Congruent m (f k) (a * e k))
     → Congruent m (applied q f t h) (a * applied q e t h)
 multiple_sum m a q h e f t low =
     mod_trans (sum_below-congruent q (λ l. f l * t (h + l)) (λ l. a * (e l * t (h + l)))
-    (λ l b. let r : a * e l * t (h + l) ≡ a * (e l * t (h + l)) = omega arith in
-    mod_trans (mod_mul (low l b) (mod_refl (t (h + l)))) (mod_of_eq r)))
+    (λ l b. mod_of_combination (mod_times (t (h + l)) (low l b)) (omega arith)))
     (mod_of_eq (sum_below-mul q a (λ l. e l * t (h + l))))
 
 -- f = a·e - b·X^q·g, applied to numbers
@@ -51,38 +42,26 @@ combined_more : (m a b q c h : ℕ) (e f g t : ℕ → ℕ) → ((k : ℕ) → k
     → ((l : ℕ) → l < c → Congruent m (f (q + l) + b * g l) (a * e (q + l)))
     → Congruent m (applied (q + c) f t h + b * applied c g t (h + q)) (a * applied (q + c) e t h)
 combined_more m a b q zero h e f g t low high =
-    let z = ap (λ v. b * v) (sum_below-zero (λ l. g l * t (h + q + l))) in
     let n : q + 0 ≡ q = omega arith in
-    let left : applied (q + 0) f t h + b * applied 0 g t (h + q) ≡ applied (q + 0) f t h = omega (arith, z) in
-    subst (λ k. Congruent m (applied (q + 0) f t h + b * applied 0 g t (h + q)) (a * applied k e t h)) (sym n)
-    (mod_trans (mod_of_eq (left ∙ ap (λ k. applied k f t h) n)) (multiple_sum m a q h e f t low))
+    mod_of_combination (multiple_sum m a q h e f t low) (omega (arith, ap (λ k. applied k f t h) n,
+    ap (λ k. a * applied k e t h) n, ap (λ v. b * v) (sum_below-zero (λ l. g l * t (h + q + l)))))
 combined_more m a b q (suc c) h e f g t low high =
     let n : q + suc c ≡ suc (q + c) = omega arith in
-    let before = combined_more m a b q c h e f g t low (λ l k. high l (omega arith)) in
-    let T : ℕ = t (h + (q + c)) in
-    let at : t (h + q + c) ≡ T = ap t (let r : h + q + c ≡ h + (q + c) = omega arith in r) in
-    let at_g = ap (λ v. b * (g c * v)) at in
-    let sf = sum_below-suc (q + c) (λ l. f l * t (h + l)) in
+    let at : h + q + c ≡ h + (q + c) = omega arith in
+    let sf = ap (λ k. applied k f t h) n ∙ sum_below-suc (q + c) (λ l. f l * t (h + l)) in
     let sg = ap (λ v. b * v) (sum_below-suc c (λ l. g l * t (h + q + l))) in
-    let se = ap (λ v. a * v) (sum_below-suc (q + c) (λ l. e l * t (h + l))) in
-    let left : applied (suc (q + c)) f t h + b * applied (suc c) g t (h + q)
-    ≡ (applied (q + c) f t h + b * applied c g t (h + q)) + (f (q + c) + b * g c) * T = omega (arith, sf, sg, at_g) in
-    let right : a * applied (q + c) e t h + a * e (q + c) * T ≡ a * applied (suc (q + c)) e t h = omega (arith, se) in
-    subst (λ k. Congruent m (applied k f t h + b * applied (suc c) g t (h + q)) (a * applied k e t h)) (sym n)
-    (mod_trans (mod_of_eq left) (mod_trans (mod_add before (mod_mul (high c (omega arith)) (mod_refl T))) (mod_of_eq right)))
+    let se = ap (λ k. a * applied k e t h) n ∙ ap (λ v. a * v) (sum_below-suc (q + c) (λ l. e l * t (h + l))) in
+    mod_of_combination (mod_add (combined_more m a b q c h e f g t low (λ l k. high l (omega arith)))
+    (mod_times (t (h + (q + c))) (high c (omega arith)))) (omega (arith, sf, sg, se, ap (λ k. b * (g c * t k)) at))
 
 -- .. where the other two give nothing, and where they give the same product
 both_none : (m a b F G E : ℕ) → Congruent m (F + b * G) (a * E) → Congruent m G 0 → Congruent m E 0 → Congruent m F 0
 both_none m a b F G E is none_g none_e =
-    let z : a * 0 ≡ 0 = omega arith in
-    left_alone m F b G 0 (mod_trans is (mod_trans (mod_mul (mod_refl a) none_e) (mod_of_eq z))) none_g
+    mod_of_combination (mod_add is (mod_add (mod_times b (mod_sym none_g)) (mod_times a none_e))) (omega arith)
 
 both_alike : (m a b F G E : ℕ) → Congruent m (F + b * G) (a * E) → Congruent m G a → Congruent m E b → Congruent m F 0
 both_alike m a b F G E is at_g at_e =
-    let e : a * b ≡ 0 + b * a = omega arith in
-    mod_add_cancel (b * a)
-    (mod_trans (mod_add (mod_refl F) (mod_mul (mod_refl b) (mod_sym at_g)))
-    (mod_trans is (mod_trans (mod_mul (mod_refl a) at_e) (mod_of_eq e))))
+    mod_of_combination (mod_add is (mod_add (mod_times b (mod_sym at_g)) (mod_times a at_e))) (omega arith)
 
 -- the discrepancy is 0
 pub search_kept : (m N i L p w h : ℕ) (s b t : ℕ → ℕ) → i < N → h + L ≡ i → L ≤ h
@@ -181,29 +160,17 @@ longer_sum m N i L p w d h q k s b t f at room half is low high found l =
           (mod_trans same (found.recurrence_before k (omega (arith, l, at, other))))
     ]
 
-multiple_none : (m b : ℕ) → Congruent m (m * b) 0
-multiple_none m b =
-    let e : m * b ≡ 0 + m * b = omega arith in
-    mod_trans (mod_of_eq e) (record { same = add-mul-mod_self_left 0 m b })
-
--- (m - 1)² = 1 + m·(m - 2), and 1 where m is 1
-minus_one : (m : ℕ) → 0 < m → HasInverse m (m - 1)
-minus_one zero positive = absurd (omega arith)
-minus_one (suc zero) positive = (0, record { below = omega arith; one = modulo_one (0 * 0) ∙ sym (modulo_one 1) })
-minus_one (suc (suc m)) positive =
-    let back : suc (suc m) - 1 ≡ suc m = omega arith in
-    let square : suc m * suc m ≡ 1 + suc (suc m) * m = omega arith in
-    subst (HasInverse (suc (suc m))) (sym back)
-    (suc m, record { below = omega arith; one = ap (λ v. v % suc (suc m)) square ∙ add-mul-mod_self_left 1 (suc (suc m)) m })
-
 -- what is 0 with a number that has an inverse has one
 negative_unit : (m a b : ℕ) → 0 < m → Congruent m (a + b) 0 → HasInverse m b → HasInverse m a
-negative_unit m a b positive none unit =
-    let minus : HasInverse m (m - 1) = minus_one m positive in
-    let s : (m - 1) * b + b ≡ m * b = omega (arith, turned_sign m b positive) in
-    let zero_too : Congruent m ((m - 1) * b + b) 0 = mod_trans (mod_of_eq s) (multiple_none m b) in
-    unit_alike m ((m - 1) * b) a (mod_add_cancel b (mod_trans zero_too (mod_sym none)))
-    ((has_both m (m - 1) b).1 (minus, unit))
+negative_unit zero a b positive none unit = absurd (omega arith)
+negative_unit (suc k) a b positive none (x, inverse) = (
+  k * x % suc k,
+  record {
+    below = mod-lt (k * x) positive;
+    one = (mod_of_combination (mod_add (mod_times a (residue_of (k * x))) (mod_add (mod_times (k * x) none)
+        (mod_add (mod_sym (mod_of_modulus (x * b))) (mod_of_inverse inverse)))) (omega arith)).same;
+  },
+)
 
 -- the order grows
 pub search_longer : (m N i L p w d v h q : ℕ) (s b t f : ℕ → ℕ) → 0 < m → i < N → h + L ≡ i → q + L ≡ h + 1 → L ≤ h

@@ -1,17 +1,21 @@
 -- Power sums of few weights: where as many sums are 0 as weights aren't, all sums and all weights are 0.
-use Rattle.std.proofs.Common.{◌≡◌, ◌≢◌, ℕ, zero, suc, ◌+◌, ◌-◌, ◌*◌, ◌%◌, ◌^◌, ◌<◌, ◌≤◌, ap, sym, ◌∙◌, arith, refl, inl, inr, subst}
+use Rattle.std.proofs.Common.{◌≡◌, ◌≢◌, ℕ, zero, suc, ◌+◌, ◌-◌, ◌*◌, ◌%◌, ◌^◌, ◌<◌, ◌≤◌, ap, sym, ◌∙◌, arith, inl, inr, subst}
 use Rattle.std.proofs.Math.Nat.{zero-mod, pow-zero, pow-suc}
 use Rattle.std.proofs.lemmas.Bool.{cases_eq}
 use Rattle.num_modular.specs.Congruence.{Congruent}
 use Rattle.num_modular.specs.Inverses.{HasInverse}
-use Rattle.num_modular.specs.NumberLaws.{mod_of_eq, mod_refl, mod_sym, mod_trans, mod_mul}
-use Rattle.num_modular.specs.NumberLaws.{sum_below-zero, sum_below-suc, sum_below-congruent, sum_below-of_zeros}
+use Rattle.num_modular.specs.NumberLaws.{mod_of_eq, mod_sym, mod_trans, mod_add}
+use Rattle.num_modular.specs.NumberLaws.{sum_below-zero, sum_below-suc}
 use Rattle.num_modular.specs.Polynomials.{HaveUnitDifferences}
 use Rattle.num_modular.specs.Sums.{sum_below}
-use Rattle.ring_codes.proofs.Distances.{counted, counted_same, counted_other}
+use Rattle.ring_codes.proofs.Distances.{counted, counted_other}
 use Rattle.ring_codes.proofs.Congruences.{left_alone, left_alone_other}
 use Rattle.ring_codes.proofs.NearestWords.{at_root, difference_alike, unit_alike}
 use Rattle.ring_decoder.specs.PowerSums.{hamming_weight}
+use Rattle.ring_codes.proofs.Congruences.{mod_of_combination, mod_of_inverse, mod_times}
+use Rattle.ring_decoder.proofs.LostPlaces.{fewer_differences}
+use Rattle.ring_decoder.proofs.SyndromeSums.{single_congruent}
+use Rattle.num_modular.specs.NumberLaws.{sum_below-same, sum_below-add, sum_below-mul}
 
 -- the sum of the weights times the powers of the points
 abbrev pub power_sum : ℕ → (ℕ → ℕ) → (ℕ → ℕ) → ℕ → ℕ
@@ -23,48 +27,27 @@ none_of m a e = record { same = e ∙ sym (zero-mod m) }
 pub residue_none : (m a : ℕ) → Congruent m a 0 → a % m ≡ 0
 residue_none m a h = h.same ∙ zero-mod m
 
-counted_most : (a b : ℕ) → counted a b ≤ 1
-counted_most a b = elim (cases_eq a b) [
-  | inl e ↦ omega (arith, counted_same a b e)
-  | inr o ↦ omega (arith, counted_other a b o)
-]
-
 -- weights that are 0 wherever others are
 pub lighter : (m n : ℕ) (u v : ℕ → ℕ) → ((j : ℕ) → j < n → Congruent m (u j) 0 → Congruent m (v j) 0)
     → hamming_weight m n v ≤ hamming_weight m n u
-lighter m zero u v keep =
-    omega (arith, sum_below-zero (λ i. counted (u i % m) 0), sum_below-zero (λ i. counted (v i % m) 0))
-lighter m (suc n) u v keep =
-    let i = lighter m n u v (λ j l. keep j (omega arith)) in
-    let s = sum_below-suc n (λ i. counted (u i % m) 0) in
-    let t = sum_below-suc n (λ i. counted (v i % m) 0) in
-    elim (cases_eq (u n % m) 0) [
-      | inl none ↦
-          let z = counted_same (v n % m) 0 (residue_none m (v n) (keep n (omega arith) (none_of m (u n) none))) in
-          omega (arith, i, s, t, z)
-      | inr other ↦
-          omega (arith, i, s, t, counted_other (u n % m) 0 other, counted_most (v n % m) 0)
-    ]
+lighter m n u v keep =
+    fewer_differences n (λ i. v i % m) (λ i. 0) (λ i. u i % m) (λ i. 0)
+    (λ j l none. residue_none m (v j) (keep j l (none_of m (u j) none)))
 
 -- the weights times X + a
 next_sum : (n a h : ℕ) (x u : ℕ → ℕ)
     → power_sum n x (λ j. u j * (x j + a)) h ≡ power_sum n x u (suc h) + a * power_sum n x u h
-next_sum zero a h x u =
-    let q = ap (λ v. a * v) (sum_below-zero (λ j. u j * x j ^ h)) in
-    omega (arith, sum_below-zero (λ j. u j * (x j + a) * x j ^ h), sum_below-zero (λ j. u j * x j ^ suc h), q)
-next_sum (suc n) a h x u =
-    let p = sum_below-suc n (λ j. u j * x j ^ suc h) in
-    let q = ap (λ v. a * v) (sum_below-suc n (λ j. u j * x j ^ h)) in
-    let e : u n * x n ^ suc h ≡ u n * (x n ^ h * x n) = ap (λ k. u n * k) (pow-suc (x n) h) in
-    omega (arith, next_sum n a h x u, sum_below-suc n (λ j. u j * (x j + a) * x j ^ h), p, q, e)
+next_sum n a h x u =
+    sum_below-same n (λ j. u j * (x j + a) * x j ^ h) (λ j. u j * x j ^ suc h + a * (u j * x j ^ h))
+    (λ j l. omega (arith, ap (λ v. u j * v) (pow-suc (x j) h)))
+    ∙ sum_below-add n (λ j. u j * x j ^ suc h) (λ j. a * (u j * x j ^ h))
+    ∙ ap (λ v. power_sum n x u (suc h) + v) (sum_below-mul n a (λ j. u j * x j ^ h))
 
 -- the last weight is 0
 without_last : (m n h : ℕ) (x u : ℕ → ℕ) → Congruent m (u n) 0
     → Congruent m (power_sum (suc n) x u h) (power_sum n x u h)
 without_last m n h x u none =
-    let s = sum_below-suc n (λ j. u j * x j ^ h) in
-    let whole : power_sum (suc n) x u h ≡ power_sum n x u h + x n ^ h * u n = omega (arith, s) in
-    mod_trans (mod_of_eq whole) (left_alone_other m _ (x n ^ h) (u n) none)
+    mod_of_combination (mod_times (x n ^ h) none) (omega (arith, sum_below-suc n (λ j. u j * x j ^ h)))
 
 -- the weights times X - x n, for the last point x n
 rest : ℕ → ℕ → (ℕ → ℕ) → (ℕ → ℕ) → ℕ → ℕ
@@ -75,18 +58,15 @@ rest_light : (m n k : ℕ) (x u : ℕ → ℕ) → u n % m ≢ 0 → hamming_wei
 unfolding rest
 rest_light m n k x u other few =
     let l = lighter m n u (rest m n x u)
-    (λ j b none. let z : 0 * (x j + (m - 1) * x n) ≡ 0 = omega arith in
-    mod_trans (mod_mul none (mod_refl (x j + (m - 1) * x n))) (mod_of_eq z)) in
+    (λ j b none. mod_of_combination (mod_times (x j + (m - 1) * x n) none) (omega arith)) in
     omega (arith, l, sum_below-suc n (λ i. counted (u i % m) 0), counted_other (u n % m) 0 other, few)
 
 rest_sum : (m n h : ℕ) (x u : ℕ → ℕ) → 0 < m
     → Congruent m (power_sum n x (rest m n x u) h) (power_sum (suc n) x u (suc h) + (m - 1) * x n * power_sum (suc n) x u h)
 unfolding rest
 rest_sum m n h x u positive =
-    let root : Congruent m (x n + (m - 1) * x n) 0 = none_of m _ (at_root m (x n) positive) in
-    let z : u n * 0 ≡ 0 = omega arith in
     mod_trans (mod_sym (without_last m n h x (λ j. u j * (x j + (m - 1) * x n))
-    (mod_trans (mod_mul (mod_refl (u n)) root) (mod_of_eq z))))
+    (mod_of_combination (mod_times (u n) (none_of m _ (at_root m (x n) positive))) (omega arith))))
     (mod_of_eq (next_sum (suc n) ((m - 1) * x n) h x u))
 
 rest_none : (m n h : ℕ) (x u : ℕ → ℕ) → 0 < m → Congruent m (power_sum (suc n) x u (suc h)) 0
@@ -137,13 +117,7 @@ fit_before m n x fit = record { unit = λ i j a b other. fit.unit i j (omega ari
 -- a factor with an inverse is left out
 pub factor_none : (m a c : ℕ) → HasInverse m c → Congruent m (a * c) 0 → Congruent m a 0
 factor_none m a c unit none =
-    let y : ℕ = unit.0 in
-    let one : Congruent m (c * y) 1 = record { same = unit.1.one } in
-    let e : a ≡ a * 1 = omega arith in
-    let f : a * (c * y) ≡ a * c * y = omega arith in
-    let z : 0 * y ≡ 0 = omega arith in
-    mod_trans (mod_of_eq e) (mod_trans (mod_mul (mod_refl a) (mod_sym one)) (mod_trans (mod_of_eq f)
-    (mod_trans (mod_mul none (mod_refl y)) (mod_of_eq z))))
+    mod_of_combination (mod_add (mod_times unit.0 none) (mod_times a (mod_sym (mod_of_inverse unit.1)))) (omega arith)
 
 rest_unit : (m n i : ℕ) (x u : ℕ → ℕ) → 0 < m → HaveUnitDifferences m (suc n) x → i < n
     → Congruent m (rest m n x u i) 0 → Congruent m (u i) 0
@@ -157,14 +131,9 @@ rest_unit m n i x u positive fit l none =
 last_none : (m n : ℕ) (x u : ℕ → ℕ) → ((i : ℕ) → i < n → Congruent m (u i) 0)
     → Congruent m (power_sum (suc n) x u 0) 0 → Congruent m (u n) 0
 last_none m n x u before none =
-    let s = sum_below-suc n (λ j. u j * x j ^ 0) in
-    let p = ap (λ v. u n * v) (pow-zero (x n)) in
-    let others : Congruent m (power_sum n x u 0) 0 =
-    mod_trans (sum_below-congruent n (λ j. u j * x j ^ 0) (λ j. 0)
-    (λ j l. let z : 0 * x j ^ 0 ≡ 0 = omega arith in mod_trans (mod_mul (before j l) (mod_refl (x j ^ 0))) (mod_of_eq z)))
-    (mod_of_eq (sum_below-of_zeros n (λ j. 0) (λ j l. refl))) in
-    let whole : power_sum (suc n) x u 0 ≡ u n + 1 * power_sum n x u 0 = omega (arith, s, p) in
-    left_alone m (u n) 1 (power_sum n x u 0) 0 (mod_trans (mod_of_eq (sym whole)) none) others
+    let alone = single_congruent m (suc n) n (λ j. u j * x j ^ 0) (omega arith)
+    (λ j l other. mod_of_combination (mod_times (x j ^ 0) (before j (omega arith))) (omega arith)) in
+    mod_of_combination (mod_add (mod_sym alone) none) (omega (arith, ap (λ v. u n * v) (pow-zero (x n))))
 
 none_with_last : (m n k : ℕ) (x u : ℕ → ℕ) → 0 < m → HaveUnitDifferences m (suc n) x → hamming_weight m (suc n) u ≤ k
     → ((h : ℕ) → h < k → Congruent m (power_sum (suc n) x u h) 0) → u n % m ≢ 0

@@ -8,7 +8,8 @@ use Rattle.std.proofs.lemmas.List.Folds.{list_any_more, list_any_at}
 use Rattle.std.specs.List.{list_any}
 use Rattle.num_modular.specs.NumberLaws.{sum_below-zero, sum_below-suc, sum_below-same}
 use Rattle.num_modular.specs.Sums.{sum_below}
-use Rattle.ring_codes.proofs.Distances.{counted, counted_same, counted_other}
+use Rattle.ring_codes.proofs.Distances.{counted, counted_same, counted_other, counted_most}
+use Rattle.std.proofs.Math.Bool.{or-true, or-false}
 use Rattle.ring_codes.specs.Erasure.{distance}
 use Rattle.ring_codes.specs.declared.erasure.RestoreError.{RestoreError}
 use Rattle.ring_codes.specs.declared.erasure.RestoreError.TheVariants.{TooFewSymbols, PlaceOutOfRange, PlaceTwice, PointsDontFit}
@@ -52,21 +53,12 @@ without_other p i ps y other = elim (eqb_tells p i) [
   | inr q ↦ ap (λ b. cond (b || list_any (λ r. eqb r i) ps) 0 (y i)) q.0
 ]
 
-or_true : (b : Bool) → (b || true) ≡ true
-or_true true = refl
-or_true false = refl
-
-or_false : (b : Bool) → (b || false) ≡ b
-or_false true = refl
-or_false false = refl
-
 pub without_more : (lost : List ℕ) (k i : ℕ) (y : ℕ → ℕ) → k < length lost → i ≡ slice_index lost k
     → without (take (k + 1) lost) y i ≡ 0
 without_more lost k i y below e =
-    let more = list_any_more (λ p. eqb p i) lost k 0 below in
-    let here = eq-eqb (slice_index lost k) i (sym e) in
     without_lost (take (k + 1) lost) y i
-    (more ∙ ap (λ b. list_any (λ p. eqb p i) (take k lost) || b) here ∙ or_true (list_any (λ p. eqb p i) (take k lost)))
+    (list_any_more (λ p. eqb p i) lost k 0 below
+    ∙ ap (λ b. list_any (λ p. eqb p i) (take k lost) || b) (eq-eqb (slice_index lost k) i (sym e)) ∙ or-true _)
 
 pub without_kept : (lost : List ℕ) (k i : ℕ) (y : ℕ → ℕ) → k < length lost → i ≢ slice_index lost k
     → without (take (k + 1) lost) y i ≡ without (take k lost) y i
@@ -75,18 +67,33 @@ without_kept lost k i y below other =
     elim (eqb_tells (slice_index lost k) i) [
       | inl q ↦ absurd (other (sym q.1))
       | inr q ↦ ap (λ b. cond b 0 (y i))
-          (more ∙ ap (λ b. list_any (λ p. eqb p i) (take k lost) || b) q.0 ∙ or_false (list_any (λ p. eqb p i) (take k lost)))
+          (more ∙ ap (λ b. list_any (λ p. eqb p i) (take k lost) || b) q.0 ∙ or-false _)
     ]
-
--- words without the same symbols
-pub without_same : (lost : List ℕ) (y z : ℕ → ℕ) (i : ℕ) → y i ≡ z i → without lost y i ≡ without lost z i
-without_same lost y z i e = ap (λ v. cond (list_any (λ p. eqb p i) lost) 0 v) e
 
 pub without_below : (m : ℕ) (lost : List ℕ) (y : ℕ → ℕ) (i : ℕ) → y i < m → without lost y i % m ≡ without lost y i
 without_below m lost y i l = elim (lost_or_listed lost i) [
   | inl gone ↦ ap (λ v. v % m) (without_lost lost y i gone) ∙ zero-mod m ∙ sym (without_lost lost y i gone)
   | inr listed ↦ ap (λ v. v % m) (without_listed lost y i listed) ∙ mod-eq_of_lt l ∙ sym (without_listed lost y i listed)
 ]
+
+-- words that are the same where no symbol is lost, and numbers that are 0 modulo m there
+pub without_alike : (lost : List ℕ) (y z : ℕ → ℕ) (i : ℕ) → (is_lost lost i ≡ false → y i ≡ z i)
+    → without lost y i ≡ without lost z i
+without_alike lost y z i same = elim (lost_or_listed lost i) [
+  | inl gone ↦ without_lost lost y i gone ∙ sym (without_lost lost z i gone)
+  | inr listed ↦ without_listed lost y i listed ∙ same listed ∙ sym (without_listed lost z i listed)
+]
+
+pub without_none : (m : ℕ) (lost : List ℕ) (d : ℕ → ℕ) (i : ℕ) → (is_lost lost i ≡ false → d i % m ≡ 0)
+    → without lost d i % m ≡ 0
+without_none m lost d i none = elim (lost_or_listed lost i) [
+  | inl gone ↦ ap (λ a. a % m) (without_lost lost d i gone) ∙ zero-mod m
+  | inr listed ↦ ap (λ a. a % m) (without_listed lost d i listed) ∙ none listed
+]
+
+pub listed_none : (m : ℕ) (lost : List ℕ) (d : ℕ → ℕ) (i : ℕ) → is_lost lost i ≡ false → without lost d i % m ≡ 0
+    → d i % m ≡ 0
+listed_none m lost d i listed none = ap (λ a. a % m) (sym (without_listed lost d i listed)) ∙ none
 
 -- sums of terms that are greater at one place alone
 below_place : (n p : ℕ) (f g : ℕ → ℕ) → ((i : ℕ) → i < n → i ≢ p → f i ≤ g i) → n ≤ p → sum_below n f ≤ sum_below n g
@@ -108,12 +115,6 @@ one_place (suc n) p f g less one =
           omega (arith, s, t, one_place n p f g (λ i b. less i (omega arith)) one, less n (omega arith) other)
     ]
 
-pub counted_below : (x y : ℕ) → counted x y ≤ 1
-counted_below x y = elim (cases_eq x y) [
-  | inl e ↦ omega (arith, counted_same x y e)
-  | inr o ↦ omega (arith, counted_other x y o)
-]
-
 -- lost symbols hide as many differences at most
 pub few_hidden : (n : ℕ) (lost : List ℕ) (a b : ℕ → ℕ) → distance n a b ≤ listed_distance n lost a b + length lost
 few_hidden n [] a b = let e : listed_distance n [] a b ≡ distance n a b = refl in omega (arith, e)
@@ -125,7 +126,7 @@ few_hidden n (p ∷ ps) a b =
     let e : counted (without (p ∷ ps) a i) (without (p ∷ ps) b i) ≡ counted (without ps a i) (without ps b i) =
     ap (λ v. counted v (without (p ∷ ps) b i)) (without_other p i ps a other)
     ∙ ap (λ v. counted (without ps a i) v) (without_other p i ps b other) in omega (arith, e))
-    (counted_below (without ps a p) (without ps b p)) in
+    (counted_most (without ps a p) (without ps b p)) in
     let more : length (p ∷ ps) ≡ suc (length ps) = refl in
     omega (arith, i, o, more)
 
@@ -136,17 +137,35 @@ distance_alike n a b c d first second =
     sum_below-same n (λ i. counted (a i) (b i)) (λ i. counted (c i) (d i))
     (λ i l. ap (λ v. counted v (b i)) (first i l) ∙ ap (λ v. counted (c i) v) (second i l))
 
+-- words that differ at fewer places
+pub fewer_differences : (n : ℕ) (a b c d : ℕ → ℕ) → ((i : ℕ) → i < n → c i ≡ d i → a i ≡ b i)
+    → distance n a b ≤ distance n c d
+fewer_differences zero a b c d less = omega (arith, sum_below-zero (λ i. counted (a i) (b i)))
+fewer_differences (suc n) a b c d less =
+    let s = sum_below-suc n (λ i. counted (a i) (b i)) in
+    let t = sum_below-suc n (λ i. counted (c i) (d i)) in
+    let i = fewer_differences n a b c d (λ i l. less i (omega arith)) in
+    elim (cases_eq (c n) (d n)) [
+      | inl e ↦ omega (arith, s, t, i, counted_same (a n) (b n) (less n (omega arith) e))
+      | inr o ↦ omega (arith, s, t, i, counted_other (c n) (d n) o, counted_most (a n) (b n))
+    ]
+
+-- words that differ at no place
+pub same_at : (n i : ℕ) (a b : ℕ → ℕ) → distance n a b ≤ 0 → i < n → a i ≡ b i
+same_at zero i a b none l = absurd (omega arith)
+same_at (suc n) i a b none l =
+    let s = sum_below-suc n (λ i. counted (a i) (b i)) in
+    elim (cases_eq (a n) (b n)) [
+      | inl e ↦ elim (cases_eq i n) [
+        | inl last ↦ ap a last ∙ e ∙ ap b (sym last)
+        | inr before ↦ same_at n i a b (omega (arith, s, none)) (omega arith)
+      ]
+      | inr o ↦ absurd (omega (arith, s, none, counted_other (a n) (b n) o))
+    ]
+
 -- a sum of two distances
 counted_sum : (x y z : ℕ) → counted y z ≤ counted x y + counted x z
-counted_sum x y z =
-    let one = counted_below y z in
-    elim (cases_eq x y) [
-      | inl e ↦ elim (cases_eq x z) [
-        | inl f ↦ omega (arith, counted_same y z (sym e ∙ f))
-        | inr g ↦ omega (arith, counted_other x z g, one)
-      ]
-      | inr o ↦ omega (arith, counted_other x y o, one)
-    ]
+counted_sum x y z = grind (arith, cases_eq x y, cases_eq x z, counted_same, counted_other, counted_most y z)
 
 pub distance_sum : (n : ℕ) (a b c : ℕ → ℕ) → distance n b c ≤ distance n a b + distance n a c
 distance_sum zero a b c = omega (arith, sum_below-zero (λ i. counted (b i) (c i)))

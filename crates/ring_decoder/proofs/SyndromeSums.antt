@@ -4,69 +4,58 @@ use Rattle.std.proofs.Math.Nat.{pow-zero, pow-suc}
 use Rattle.std.proofs.lemmas.Bool.{cases_eq}
 use Rattle.std.proofs.lemmas.Nat.{pow-add}
 use Rattle.num_modular.specs.Congruence.{Congruent}
-use Rattle.num_modular.specs.NumberLaws.{mod_of_eq, mod_refl, residue_of, mod_trans, mod_add, mod_mul}
+use Rattle.num_modular.specs.NumberLaws.{mod_of_eq, mod_refl, mod_trans, mod_add, mod_mul}
 use Rattle.num_modular.specs.NumberLaws.{sum_below-zero, sum_below-suc, sum_below-first, sum_below-same, sum_below-congruent}
 use Rattle.num_modular.specs.NumberLaws.{sum_below-mul, sum_below-exchanged, sum_below-of_zeros, sum_below-more}
 use Rattle.num_modular.specs.Polynomials.{polynomial_at}
 use Rattle.num_modular.specs.Sums.{sum_below}
 use Rattle.ring_decoder.specs.PowerSums.{ArePowerSums}
+use Rattle.ring_codes.proofs.Congruences.{mod_of_combination, mod_of_residue, mod_times}
+use Rattle.std.proofs.Common.{refl, add-one}
 
 -- the coefficients p, each times a power sum from number h on, add up to the sum of the weights times x^h·p(x)
 pub moment : (m N n d h : ℕ) (x w t p : ℕ → ℕ) → ArePowerSums m N n x w t → h + d ≤ N
     → Congruent m (sum_below d (λ l. p l * t (h + l))) (sum_below n (λ i. w i * x i ^ h * polynomial_at d p (x i)))
 moment m N n d h x w t p are within =
     let f : ℕ → ℕ → ℕ = λ l i. w i * x i ^ h * (p l * x i ^ l) in
-    let each : (l i : ℕ) → p l * (w i * x i ^ (h + l)) ≡ f l i =
-    λ l i. omega (arith, ap (λ v. p l * (w i * v)) (pow-add (x i) h l)) in
     let row : (l : ℕ) → p l * sum_below n (λ i. w i * x i ^ (h + l)) ≡ sum_below n (λ i. f l i) =
     λ l. sym (sum_below-mul n (p l) (λ i. w i * x i ^ (h + l)))
-    ∙ sum_below-same n (λ i. p l * (w i * x i ^ (h + l))) (λ i. f l i) (λ i b. each l i) in
-    let sums : Congruent m (sum_below d (λ l. p l * t (h + l))) (sum_below d (λ l. sum_below n (λ i. f l i))) =
-    sum_below-congruent d (λ l. p l * t (h + l)) (λ l. sum_below n (λ i. f l i))
-    (λ l b. mod_trans (mod_mul (mod_refl (p l)) (are.sum (h + l) (omega arith))) (mod_of_eq (row l))) in
-    mod_trans sums (mod_of_eq (sum_below-exchanged d n f
+    ∙ sum_below-same n (λ i. p l * (w i * x i ^ (h + l))) (λ i. f l i)
+    (λ i b. omega (arith, ap (λ v. p l * (w i * v)) (pow-add (x i) h l))) in
+    mod_trans (sum_below-congruent d (λ l. p l * t (h + l)) (λ l. sum_below n (λ i. f l i))
+    (λ l b. mod_trans (mod_times (p l) (are.sum (h + l) (omega arith))) (mod_of_eq (row l))))
+    (mod_of_eq (sum_below-exchanged d n f
     ∙ sum_below-same n (λ i. sum_below d (λ l. f l i)) (λ i. w i * x i ^ h * polynomial_at d p (x i))
     (λ i b. sum_below-mul d (w i * x i ^ h) (λ l. p l * x i ^ l))))
+
+-- terms that are 0 modulo m
+pub sum_none : (m n : ℕ) (f : ℕ → ℕ) → ((i : ℕ) → i < n → Congruent m (f i) 0) → Congruent m (sum_below n f) 0
+sum_none m n f none =
+    mod_trans (sum_below-congruent n f (λ i. 0) none) (mod_of_eq (sum_below-of_zeros n (λ i. 0) (λ i l. refl)))
 
 -- one term alone counts, where the others are congruent to 0
 pub single_congruent : (m n k : ℕ) (f : ℕ → ℕ) → k < n → ((i : ℕ) → i < n → i ≢ k → Congruent m (f i) 0)
     → Congruent m (sum_below n f) (f k)
 single_congruent m zero k f l none = absurd (omega arith)
-single_congruent m (suc n) k f l none =
-    let d = sum_below-suc n f in
-    elim (cases_eq k n) [
-      | inl e ↦
-          let zeros : Congruent m (sum_below n f) (sum_below n (λ i. 0)) =
-          sum_below-congruent n f (λ i. 0) (λ i t. none i (omega arith) (omega arith)) in
-          let z : sum_below n (λ i. 0) ≡ 0 = sum_below-of_zeros n (λ i. 0) (λ i t. omega arith) in
-          let s : 0 + f n ≡ f k = omega (arith, ap f e) in
-          mod_trans (mod_of_eq d)
-          (mod_trans (mod_add (mod_trans zeros (mod_of_eq z)) (mod_refl (f n))) (mod_of_eq s))
-      | inr other ↦
-          let i = single_congruent m n k f (omega arith) (λ i t. none i (omega arith)) in
-          let s : f k + 0 ≡ f k = omega arith in
-          mod_trans (mod_of_eq d) (mod_trans (mod_add i (none n (omega arith) (omega arith))) (mod_of_eq s))
-    ]
+single_congruent m (suc n) k f l none = elim (cases_eq k n) [
+  | inl e ↦ mod_of_combination (sum_none m n f (λ i t. none i (omega arith) (omega arith)))
+      (omega (arith, sum_below-suc n f, ap f e))
+  | inr other ↦
+      mod_of_combination (mod_add (single_congruent m n k f (omega arith) (λ i t. none i (omega arith)))
+      (none n (omega arith) (omega arith))) (omega (arith, sum_below-suc n f))
+]
 
 -- a polynomial that is 0 at all points but number j leaves the weight of that one
 pub weight_alone : (m q j : ℕ) (x w t p : ℕ → ℕ) → ArePowerSums m q q x w t → j < q
     → ((i : ℕ) → i < q → i ≢ j → Congruent m (polynomial_at q p (x i)) 0)
     → Congruent m (sum_below q (λ l. p l * t l)) (w j * polynomial_at q p (x j))
 weight_alone m q j x w t p are below none =
-    let shift : (l : ℕ) → 0 + l ≡ l = λ l. omega arith in
-    let front : sum_below q (λ l. p l * t l) ≡ sum_below q (λ l. p l * t (0 + l)) =
-    sum_below-same q (λ l. p l * t l) (λ l. p l * t (0 + l)) (λ l b. ap (λ k. p l * t k) (sym (shift l))) in
-    let f : ℕ → ℕ = λ i. w i * x i ^ 0 * polynomial_at q p (x i) in
-    let whole : Congruent m (sum_below q (λ l. p l * t (0 + l))) (sum_below q f) =
-    moment m q q q 0 x w t p are (omega arith) in
-    let alone : Congruent m (sum_below q f) (f j) =
-    single_congruent m q j f below
-    (λ i l other.
-    let z : w i * x i ^ 0 * 0 ≡ 0 = omega arith in
-    mod_trans (mod_mul (mod_refl (w i * x i ^ 0)) (none i l other)) (mod_of_eq z)) in
-    let one : f j ≡ w j * polynomial_at q p (x j) =
-    (omega (arith, ap (λ v. w j * v * polynomial_at q p (x j)) (pow-zero (x j)))) in
-    mod_trans (mod_of_eq front) (mod_trans whole (mod_trans alone (mod_of_eq one)))
+    let shift : (l : ℕ) → l ≡ 0 + l = λ l. omega arith in
+    mod_trans (mod_of_eq (sum_below-same q (λ l. p l * t l) (λ l. p l * t (0 + l)) (λ l b. ap (λ k. p l * t k) (shift l))))
+    (mod_trans (moment m q q q 0 x w t p are (omega arith))
+    (mod_of_combination (single_congruent m q j (λ i. w i * x i ^ 0 * polynomial_at q p (x i)) below
+    (λ i l other. mod_of_combination (mod_times (w i * x i ^ 0) (none i l other)) (omega arith)))
+    (omega (arith, ap (λ v. w j * v * polynomial_at q p (x j)) (pow-zero (x j))))))
 
 -- a sum from its last term on
 pub sum_reversed : (n : ℕ) (f : ℕ → ℕ) → sum_below n (λ i. f (n - 1 - i)) ≡ sum_below n f
@@ -89,8 +78,7 @@ sums_alike m N n x v w t same are = record {
 pub sum_step : (m i a b : ℕ) (f : ℕ → ℕ) → a ≡ sum_below i f % m → Congruent m b (f i)
     → (a + b) % m ≡ sum_below (i + 1) f % m
 sum_step m i a b f so_far term =
-    (mod_trans (mod_add (mod_trans (mod_of_eq so_far) (residue_of (sum_below i f))) term)
-    (mod_of_eq (sym (sum_below-more f i)))).same
+    (mod_trans (mod_add (mod_of_residue so_far) term) (mod_of_eq (sym (sum_below-more f i)))).same
 
 -- the terms of a power sum: at the start, and from one sum to the next
 pub terms_first : (m a x : ℕ) → Congruent m a (a * x ^ 0)
@@ -99,10 +87,8 @@ terms_first m a x = mod_of_eq (omega (arith, ap (λ v. a * v) (pow-zero x)))
 pub terms_next : (m h new old a x : ℕ) → new ≡ (old * x) % m → Congruent m old (a * x ^ h)
     → Congruent m new (a * x ^ (h + 1))
 terms_next m h new old a x is before =
-    let next : x ^ (h + 1) ≡ x ^ h * x = (let s : h + 1 ≡ suc h = omega arith in ap (λ k. x ^ k) s ∙ pow-suc x h) in
-    let order : a * x ^ h * x ≡ a * (x ^ h * x) = omega arith in
-    mod_trans (mod_of_eq is) (mod_trans (residue_of (old * x)) (mod_trans (mod_mul before (mod_refl x))
-    (mod_of_eq (order ∙ ap (λ v. a * v) (sym next)))))
+    mod_of_combination (mod_add (mod_of_residue is) (mod_times x before))
+    (omega (arith, ap (λ v. a * v) (ap (λ k. x ^ k) (add-one h) ∙ pow-suc x h)))
 
 pub sum_of_terms : (m n h sum : ℕ) (x w terms : ℕ → ℕ) → ((i : ℕ) → i < n → Congruent m (terms i) (w i * x i ^ h))
     → sum ≡ sum_below n terms % m → sum ≡ sum_below n (λ i. w i * x i ^ h) % m

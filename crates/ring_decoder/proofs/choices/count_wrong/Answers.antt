@@ -2,7 +2,7 @@ use Rattle.num_modular.specs.Callers.{◌<◌, ◌%◌, ◌∙◌, ap, sym, subs
 use Rattle.num_modular.specs.Callers.{entry, entry_read, form_read}
 use Rattle.ring_codes.proofs.Distances.{counted}
 use Rattle.ring_codes.proofs.Distances.{one_counted}
-use Rattle.ring_decoder.proofs.LostPlaces.{without_same, without_below}
+use Rattle.ring_decoder.proofs.LostPlaces.{without_alike, without_below}
 use Rattle.ring_decoder.specs.Corrector.{without}
 use Rattle.ring_decoder.proofs.choices.count_wrong.Goals as goal
 
@@ -16,7 +16,7 @@ errors-preserved g c =
     let form = form_read number ring.form ring.value m errors i x c.requires.errors c.errors-test.true c.index-errors-i.is in (
       one_counted i _ _ (λ i. without lost e i % m) (λ i. 0) so_far.0
           (c.is_wrong-wrong.ensures.counted
-          ∙ ap (λ v. counted v 0) (without_same lost (λ _. ring.value m (number x)) e i at
+          ∙ ap (λ v. counted v 0) (without_alike lost (λ _. ring.value m (number x)) e i (λ _. at)
           ∙ sym (without_below m lost e i (subst (λ v. v < m) at form.below)))),
       omega (arith, c.is_wrong-wrong.ensures.few, so_far.1),
     )
