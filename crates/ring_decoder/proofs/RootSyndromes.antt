@@ -12,8 +12,8 @@ use Rattle.std.proofs.lemmas.Bool.{cases_lt}
 use Rattle.std.proofs.lemmas.Nat.{pow-add, pow_pos}
 use Rattle.num_modular.specs.Congruence.{Congruent}
 use Rattle.num_modular.specs.Inverses.{HasInverse}
-use Rattle.num_modular.specs.NumberLaws.{mod_of_eq, mod_refl, residue_of, mod_sym, mod_trans, mod_add, mod_mul, mod_pow}
-use Rattle.num_modular.specs.NumberLaws.{mod_add_cancel, sum_below-congruent, pow-mul, one-pow}
+use Rattle.num_modular.specs.NumberLaws.{mod_of_eq, mod_refl, residue_of, mod_sym, mod_trans, mod_add, mod_pow}
+use Rattle.num_modular.specs.NumberLaws.{sum_below-congruent, pow-mul, one-pow}
 use Rattle.num_modular.specs.Polynomials.{polynomial_at, HaveUnitDifferences}
 use Rattle.num_modular.specs.ProductLaws.{has_both}
 use Rattle.num_modular.specs.Residues.{residue}
@@ -29,6 +29,8 @@ use Rattle.ring_decoder.proofs.DualCode.{powers_vanish, top_power}
 use Rattle.ring_decoder.proofs.SyndromeSums.{moment, single_congruent}
 use Rattle.ring_decoder.specs.PowerSums.{ArePowerSums}
 use Rattle.ring_decoder.specs.Syndromes.{AreWeights}
+use Rattle.ring_codes.proofs.Congruences.{mod_times}
+use Rattle.num_modular.specs.NumberLaws.{mod_sym}
 
 -- n is one power of two, so what a ghost field says of a root holds
 one_power : (n : ℕ) (u v : IsPowerOfTwo n) → u ≡ v
@@ -79,14 +81,9 @@ root_turn m g n (suc y) suits whole more =
     let h : ℕ = 2 ^ y in
     let half : n / 2 ≡ h = omega (arith, whole, s) in
     let double : n ≡ h + h = omega (arith, whole, s) in
-    let a : ℕ = g ^ h in
-    let turn : Congruent m (a + 1) 0 =
+    let turn : Congruent m (g ^ h + 1) 0 =
     record { same = ap (λ v. (g ^ v + 1) % m) (sym half) ∙ suits.half_turn more ∙ sym (zero-mod m) } in
-    let square : a * a + (a + 1) ≡ (a + 1) * a + 1 = omega arith in
-    let z : 0 * a + 1 ≡ 1 + 0 = omega arith in
-    mod_trans (mod_of_eq (ap (λ v. g ^ v) double ∙ pow-add g h h))
-    (mod_add_cancel (a + 1) (mod_trans (mod_of_eq square) (mod_trans (mod_add (mod_mul turn (mod_refl a)) (mod_refl 1))
-    (mod_trans (mod_of_eq z) (mod_add (mod_refl 1) (mod_sym turn))))))
+    mod_of_combination (mod_add (mod_times (g ^ h) turn) (mod_sym turn)) (omega (arith, ap (λ v. g ^ v) double ∙ pow-add g h h))
 
 -- and so is that of each of its powers
 pub point_turn : (m g n i : ℕ) (x : ℕ → ℕ) → Suits m g n → ArePowers m g n x → i < n → Congruent m (x i ^ n) 1
@@ -113,32 +110,23 @@ syndrome_of_coefficient m d h x v c w positive row fit weights turn encoding =
     let early : (e : ℕ) → e < d → Congruent m (t e) 0 =
     λ e l. mod_sym (powers_vanish m d e x v positive fit weights l) in
     let late : (e : ℕ) → e < d → Congruent m (t (e + n)) 0 =
-    λ e l. mod_trans (sum_below-congruent n (λ i. v i * x i ^ (e + n)) (λ i. v i * x i ^ e) (λ i b.
-    let p = ap (λ a. v i * a) (pow-add (x i) e n) in
-    let o : v i * (x i ^ e * x i ^ n) ≡ v i * x i ^ e * x i ^ n = omega arith in
-    let z : v i * x i ^ e * 1 ≡ v i * x i ^ e = omega arith in
-    mod_trans (mod_of_eq (p ∙ o)) (mod_trans (mod_mul (mod_refl (v i * x i ^ e)) (turn i b)) (mod_of_eq z)))) (early e l) in
+    λ e l. mod_trans (sum_below-congruent n (λ i. v i * x i ^ (e + n)) (λ i. v i * x i ^ e)
+    (λ i b. mod_of_combination (mod_times (v i * x i ^ e) (turn i b)) (omega (arith, ap (λ a. v i * a) (pow-add (x i) e n)))))
+    (early e l) in
     let others : (l : ℕ) → l < n → l ≢ d - h → Congruent m (c l * t (h + l)) 0 =
-    λ l b other.
-    let z : c l * 0 ≡ 0 = omega arith in
-    mod_trans (mod_mul (mod_refl (c l)) (elim (cases_lt (h + l) d) [
+    λ l b other. mod_of_combination (mod_times (c l) (elim (cases_lt (h + l) d) [
       | inl less ↦ early (h + l) less
       | inr more ↦
           let e : ℕ = h + l - n in
           let at : h + l ≡ e + n = omega (arith, more, other, row, b) in
           mod_trans (mod_of_eq (ap t at)) (late e (omega (arith, at, row, b)))
-    ])) (mod_of_eq z) in
+    ])) (omega arith) in
     let alone = single_congruent m n (d - h) (λ l. c l * t (h + l)) (omega arith) others in
     let at : h + (d - h) ≡ d = omega (arith, row) in
-    let one : Congruent m (t (h + (d - h))) 1 = mod_trans (mod_of_eq (ap t at)) (mod_sym (top_power m d x v positive fit weights)) in
-    let times : c (d - h) ≡ c (d - h) * 1 = omega arith in
-    mod_trans (mod_of_eq times) (mod_trans (mod_mul (mod_refl (c (d - h))) (mod_sym one))
-    (mod_trans (mod_sym alone) (mod_trans whole
-    (sum_below-congruent n (λ i. v i * x i ^ h * polynomial_at n c (x i)) (λ i. v i * w i * x i ^ h) (λ i b.
-    let P : ℕ = polynomial_at n c (x i) in
-    let order : v i * x i ^ h * P ≡ v i * P * x i ^ h = omega arith in
-    let symbol : Congruent m P (w i) = mod_trans (mod_sym (residue_of P)) (mod_of_eq (sym (encoding.symbol i b))) in
-    mod_trans (mod_of_eq order) (mod_mul (mod_mul (mod_refl (v i)) symbol) (mod_refl (x i ^ h))))))))
+    mod_trans (mod_of_combination (mod_add (mod_sym alone) (mod_add whole (mod_times (c (d - h)) (top_power m d x v positive fit weights))))
+    (omega (arith, ap (λ k. c (d - h) * t k) at)))
+    (sum_below-congruent n (λ i. v i * x i ^ h * polynomial_at n c (x i)) (λ i. v i * w i * x i ^ h)
+    (λ i b. mod_of_combination (mod_times (v i * x i ^ h) (mod_sym (mod_of_residue (encoding.symbol i b)))) (omega arith)))
 
 -- the syndromes, from the coefficients that a transform back gives
 pub syndromes_by_transform : (m g n t : ℕ) (x v c w s : ℕ → ℕ) → 0 < m → t ≤ n → Suits m g n → ArePowers m g n x

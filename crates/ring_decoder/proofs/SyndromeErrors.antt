@@ -1,13 +1,12 @@
 -- The errors at given points: by the quotients of the product of X - x by each X - x.
 use Rattle.std.proofs.Common.{◌≡◌, ◌≢◌, ℕ, zero, suc, ◌+◌, ◌-◌, ◌*◌, ◌%◌, ◌^◌, ◌<◌, pos, ◌-ℤ◌, ap, sym, ◌∙◌, arith}
 use Rattle.std.proofs.Common.{inl, inr, refl, ◌↔◌}
-use Rattle.std.proofs.Math.Nat.{pow-zero}
 use Rattle.std.proofs.lemmas.Bool.{cases_eq}
 use Rattle.num_modular.specs.Callers.{same_coefficients, has_both}
 use Rattle.num_modular.specs.Congruence.{Congruent}
 use Rattle.num_modular.specs.Inverses.{IsInverse, HasInverse}
 use Rattle.num_modular.specs.NumberLaws.{mod_of_eq, mod_refl, residue_of, mod_sym, mod_trans, mod_add, mod_mul}
-use Rattle.num_modular.specs.NumberLaws.{sum_below-zero, sum_below-suc, sum_below-same, sum_below-mul}
+use Rattle.num_modular.specs.NumberLaws.{sum_below-same, sum_below-mul}
 use Rattle.num_modular.specs.Polynomials.{polynomial_at, HaveUnitDifferences}
 use Rattle.num_modular.specs.PolynomialLaws.{polynomial-first, polynomial-same}
 use Rattle.num_modular.specs.Residues.{residue}
@@ -19,6 +18,11 @@ use Rattle.ring_decoder.specs.PowerSums.{ArePowerSums}
 use Rattle.ring_decoder.specs.Syndromes.{HasRoots}
 use Rattle.ring_decoder.proofs.SyndromeRoots.{product_monic}
 use Rattle.ring_decoder.proofs.SyndromeSums.{weight_alone, sum_reversed}
+use Rattle.ring_codes.proofs.Congruences.{mod_of_combination, mod_of_inverse, mod_of_residue, mod_times}
+use Rattle.ring_decoder.proofs.LocatorSums.{factor_none}
+use Rattle.std.proofs.Math.Nat.{zero-add, add-zero}
+use Rattle.std.proofs.Common.{add-one}
+use Rattle.ring_decoder.proofs.SyndromeRoots.{constant_value}
 
 -- what Horner's rule at a finds from coefficient l on of a polynomial of degree q; from 1 on these are the coefficients
 -- of its quotient by X - a
@@ -38,16 +42,13 @@ next_coefficient q l a f b =
 last_coefficient : (q a : ℕ) (f : ℕ → ℕ) → from_coefficient q f a q ≡ f q
 last_coefficient q a f =
     let count : q + 1 - q ≡ suc 0 = omega arith in
-    let z = sum_below-zero (λ i. f (q + i) * a ^ i) in
-    let at = ap f (let e : q + 0 ≡ q = omega arith in e) in
-    let whole = ap (λ n. polynomial_at n (λ i. f (q + i)) a) count in
-    omega (arith, sum_below-suc 0 (λ i. f (q + i) * a ^ i), z, ap (λ v. f (q + 0) * v) (pow-zero a), at, whole)
+    ap (λ n. polynomial_at n (λ i. f (q + i)) a) count ∙ constant_value a (λ i. f (q + i)) ∙ ap f (add-zero q)
 
 all_coefficients : (q a : ℕ) (f : ℕ → ℕ) → from_coefficient q f a 0 ≡ polynomial_at (suc q) f a
 all_coefficients q a f =
     let count : q + 1 - 0 ≡ suc q = omega arith in
     ap (λ n. polynomial_at n (λ i. f (0 + i)) a) count
-    ∙ polynomial-same (suc q) (λ i. f (0 + i)) f a (λ i l. ap f (let e : 0 + i ≡ i = omega arith in e))
+    ∙ polynomial-same (suc q) (λ i. f (0 + i)) f a (λ i l. ap f (zero-add i))
 
 -- the quotient by X - x j of the product of X - x is 0 at the other points
 quotient_none : (m q j i : ℕ) (x f : ℕ → ℕ) → 0 < m → HaveUnitDifferences m q x → HasRoots m q x f → j < q → i < q → i ≢ j
@@ -57,23 +58,15 @@ quotient_none m q j i x f positive fit roots below within other =
     let s : ℕ → ℕ = from_coefficient q f a in
     let Q : ℕ = polynomial_at q (λ l. s (suc l)) (x i) in
     let u : ℕ = residue m (pos (x i) -ℤ pos a) in
-    let next : q + 1 ≡ suc q = omega arith in
     let root : (k : ℕ) → k < q → Congruent m (polynomial_at (suc q) f (x k)) 0 =
-    λ k b. mod_trans (mod_of_eq (ap (λ n. polynomial_at n f (x k)) (sym next)))
+    λ k b. mod_trans (mod_of_eq (ap (λ n. polynomial_at n f (x k)) (sym (add-one q))))
     (mod_trans (roots.value (x k))
     (mod_of_eq (product-none q k (λ l. residue m (pos (x k) -ℤ pos (x l))) b (no_difference m (x k))))) in
     let divided : Congruent m (polynomial_at (suc q) f (x i)) (s 0 + u * Q) =
     one_expanded m q a (x i) f s positive (λ l b. mod_of_eq (next_coefficient q l a f b)) (sym (last_coefficient q a f)) in
     let remainder : Congruent m (s 0) 0 = mod_trans (mod_of_eq (all_coefficients q a f)) (root j below) in
-    let product : Congruent m (0 + u * Q) 0 =
-    mod_trans (mod_add (mod_sym remainder) (mod_refl (u * Q))) (mod_trans (mod_sym divided) (root i within)) in
-    let unit = fit.unit i j within below other in
-    let one : Congruent m (u * unit.0) 1 = record { same = unit.1.one } in
-    let e : Q ≡ Q * 1 = omega arith in
-    let g : Q * (u * unit.0) ≡ (0 + u * Q) * unit.0 = omega arith in
-    let z : 0 * unit.0 ≡ 0 = omega arith in
-    mod_trans (mod_of_eq e) (mod_trans (mod_mul (mod_refl Q) (mod_sym one))
-    (mod_trans (mod_of_eq g) (mod_trans (mod_mul product (mod_refl unit.0)) (mod_of_eq z))))
+    factor_none m Q u (fit.unit i j within below other)
+    (mod_of_combination (mod_add (mod_sym remainder) (mod_add (mod_sym divided) (root i within))) (omega arith))
 
 times : (n p : ℕ) (f : ℕ → ℕ) (X : ℕ) → polynomial_at n (λ l. p * f l) X ≡ p * polynomial_at n f X
 times n p f X =
@@ -91,23 +84,15 @@ same_at_point m d j x f g fit below none_f none_g one_f one_g =
     let n : ℕ = suc d in
     let F : ℕ = polynomial_at n f (x j) in
     let G : ℕ = polynomial_at n g (x j) in
-    let zero : (p h : ℕ) → Congruent m h 0 → Congruent m (p * h) 0 =
-    λ p h none. let z : p * 0 ≡ 0 = omega arith in mod_trans (mod_mul (mod_refl p) none) (mod_of_eq z) in
     let at : (i : ℕ) → i < n → Congruent m (polynomial_at n (λ l. G * f l) (x i)) (polynomial_at n (λ l. F * g l) (x i)) =
-    λ i l. mod_trans (mod_of_eq (times n G f (x i))) (mod_trans
-    (elim (cases_eq i j) [
-      | inl e ↦
-          let swap : G * F ≡ F * G = omega arith in
-          mod_of_eq (ap (λ k. G * polynomial_at n f (x k)) e ∙ swap
-          ∙ ap (λ k. F * polynomial_at n g (x k)) (sym e))
-      | inr other ↦ mod_trans (zero G (polynomial_at n f (x i)) (none_f i l other))
-          (mod_sym (zero F (polynomial_at n g (x i)) (none_g i l other)))
-    ]) (mod_of_eq (sym (times n F g (x i))))) in
+    λ i l. elim (cases_eq i j) [
+      | inl e ↦ mod_of_eq (omega (arith, times n G f (x i), times n F g (x i),
+          ap (λ k. G * polynomial_at n f (x k)) e, ap (λ k. F * polynomial_at n g (x k)) e))
+      | inr other ↦ mod_of_combination (mod_add (mod_times G (none_f i l other)) (mod_times F (mod_sym (none_g i l other))))
+          (omega (arith, times n G f (x i), times n F g (x i)))
+    ] in
     let last = same_coefficients m n (λ l. G * f l) (λ l. F * g l) x fit at d (omega arith) in
-    let e : F ≡ F * 1 = omega arith in
-    let h : G * 1 ≡ G = omega arith in
-    mod_trans (mod_of_eq e) (mod_trans (mod_mul (mod_refl F) (mod_sym one_g))
-    (mod_trans (mod_sym last) (mod_trans (mod_mul (mod_refl G) one_f) (mod_of_eq h))))
+    mod_of_combination (mod_add (mod_sym last) (mod_add (mod_times F (mod_sym one_g)) (mod_times G one_f))) (omega arith)
 
 -- the quotient's value at its own point is the product of the differences from the others
 quotient_own : (m q j : ℕ) (x f : ℕ → ℕ) → 0 < m → HaveUnitDifferences m q x → HasRoots m q x f → j < q
@@ -150,17 +135,12 @@ pub error_found : (m q j sum divisor inverse error : ℕ) (x f w e s : ℕ → �
     → error ≡ (sum * inverse) % m → error ≡ e j % m
 error_found m q j sum divisor inverse error x f w e s positive fit roots below are is_sum is_divisor inverts is =
     let P : ℕ = product_but m q x j (x j) in
-    let one : Congruent m (divisor * inverse) 1 = record { same = inverts.one } in
-    let divisor_is : Congruent m (P * w j) divisor =
-    mod_sym (mod_trans (mod_of_eq is_divisor) (mod_trans (residue_of (P % m * w j)) (mod_mul (residue_of P) (mod_refl (w j))))) in
+    let divisor_is : Congruent m divisor (P * w j) =
+    mod_trans (mod_of_residue is_divisor) (mod_mul (residue_of P) (mod_refl (w j))) in
     let sum_is : Congruent m sum (w j * e j * P) =
-    mod_trans (mod_of_eq is_sum) (mod_trans (residue_of _)
-    (quotient_sum_is m q j x f (λ j. w j * e j) s positive fit roots below are)) in
-    let order : w j * e j * P * inverse ≡ e j * (P * w j * inverse) = omega arith in
-    let times_one : e j * 1 ≡ e j = omega arith in
-    is ∙ (mod_trans (mod_mul sum_is (mod_refl inverse)) (mod_trans (mod_of_eq order)
-    (mod_trans (mod_mul (mod_refl (e j)) (mod_trans (mod_mul divisor_is (mod_refl inverse)) one))
-    (mod_of_eq times_one)))).same
+    mod_trans (mod_of_residue is_sum) (quotient_sum_is m q j x f (λ j. w j * e j) s positive fit roots below are) in
+    is ∙ (mod_of_combination (mod_add (mod_times inverse sum_is) (mod_add (mod_times (e j * inverse) (mod_sym divisor_is))
+    (mod_times (e j) (mod_of_inverse inverts)))) (omega arith)).same
 
 -- the divisors have inverses exactly where the points fit and the weights have inverses
 pub divisors_tell : (m q : ℕ) (x w d : ℕ → ℕ) → 0 < m

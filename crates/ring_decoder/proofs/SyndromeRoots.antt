@@ -4,9 +4,8 @@ use Rattle.std.proofs.Common.{refl}
 use Rattle.std.proofs.Math.Nat.{pow-zero}
 use Rattle.num_modular.specs.Congruence.{Congruent}
 use Rattle.num_modular.specs.NumberLaws.{mod_of_eq, mod_refl, mod_sym, mod_trans, mod_add, mod_mul}
-use Rattle.num_modular.specs.NumberLaws.{mod_add_cancel, difference_and, sum_below-suc, sum_below-zero, sum_below-congruent}
+use Rattle.num_modular.specs.NumberLaws.{sum_below-suc, sum_below-zero, sum_below-congruent}
 use Rattle.num_modular.specs.Polynomials.{polynomial_at}
-use Rattle.num_modular.specs.PolynomialLaws.{polynomial-congruent}
 use Rattle.num_modular.specs.ProductLaws.{product-zero, product-more}
 use Rattle.num_modular.specs.Products.{product_below}
 use Rattle.num_modular.specs.Residues.{residue}
@@ -14,11 +13,12 @@ use Rattle.num_modular.specs.Sums.{sum_below}
 use Rattle.ring_codes.specs.Shifts.{shifted}
 use Rattle.ring_codes.specs.Prepared.{product_but}
 use Rattle.ring_codes.proofs.Shifts.{shifted-values}
-use Rattle.ring_codes.proofs.NearestWords.{combined, difference_alike, no_value}
+use Rattle.ring_codes.proofs.NearestWords.{combined, difference_alike, no_value, with_multiple}
 use Rattle.ring_codes.proofs.Distances.{extended, at_end, before_end}
 use Rattle.ring_decoder.specs.PowerSums.{ArePowerSums}
 use Rattle.ring_decoder.specs.Syndromes.{product_of_differences, HasRoots}
 use Rattle.ring_decoder.proofs.SyndromeSums.{moment}
+use Rattle.ring_codes.proofs.Congruences.{mod_of_combination, mod_of_difference, mod_times}
 
 -- a function with the values of a polynomial of degree d modulo m, whose highest coefficient is 1
 pub record IsMonic (m d : ℕ) (F : ℕ → ℕ) : Type 0 where
@@ -36,10 +36,9 @@ moved m d e F G count same p = record {
       (mod_trans (p.value X) (mod_of_eq (same X)));
 }
 
-constant_value : (X : ℕ) (f : ℕ → ℕ) → polynomial_at (suc 0) f X ≡ f 0
+pub constant_value : (X : ℕ) (f : ℕ → ℕ) → polynomial_at (suc 0) f X ≡ f 0
 constant_value X f =
-    let e = ap (λ v. f 0 * v) (pow-zero X) in
-    omega (arith, sum_below-suc 0 (λ i. f i * X ^ i), sum_below-zero (λ i. f i * X ^ i), e)
+    omega (arith, sum_below-suc 0 (λ i. f i * X ^ i), sum_below-zero (λ i. f i * X ^ i), ap (λ v. f 0 * v) (pow-zero X))
 
 monic_one : (m : ℕ) → IsMonic m 0 (λ X. 1)
 monic_one m =
@@ -148,28 +147,21 @@ roots_more m i a x f g positive roots behind is each =
     let next : i + 1 ≡ suc i = omega arith in
     record {
       highest =
-          let z : g (suc i) ≡ g (suc i) + a * f (suc i) = (omega (arith, ap (λ v. a * v) none)) in
-          mod_trans (mod_of_eq (ap g next ∙ z)) (mod_trans (each (suc i) (omega arith)) roots.highest);
+          mod_trans (mod_of_eq (omega (arith, ap g next, ap (λ v. a * v) none)))
+          (mod_trans (each (suc i) (omega arith)) roots.highest);
       value = λ X.
           let F : ℕ = polynomial_at (i + 1) f X in
-          let G : ℕ = polynomial_at (i + 1 + 1) g X in
           let u : ℕ = residue m (pos X -ℤ pos a) in
-          let two : i + 1 + 1 ≡ suc (suc i) = omega arith in
-          let front : polynomial_at (suc (suc i)) f X ≡ F =
-          (let s = sum_below-suc (suc i) (λ j. f j * X ^ j) in
-          omega (arith, s, ap (λ v. v * X ^ suc i) none, ap (λ n. polynomial_at n f X) next)) in
-          let values : Congruent m (G + a * F) (X * F) =
-          mod_trans (mod_of_eq (ap (λ v. v + a * F) (ap (λ n. polynomial_at n g X) two)
-          ∙ ap (λ v. polynomial_at (suc (suc i)) g X + a * v) (sym front)
-          ∙ sym (combined (suc (suc i)) g f a X)))
-          (mod_trans (polynomial-congruent (suc (suc i)) (λ j. g j + a * f j) (shifted f) X X
-          (λ j l. each j (omega (arith, l))) (mod_refl X))
-          (mod_of_eq (shifted-values (suc i) X f ∙ ap (λ n. X * polynomial_at n f X) (sym next)))) in
-          let at : Congruent m (u + a) X = record { same = difference_and m X a positive } in
-          let apart : (u + a) * F ≡ F * u + a * F = omega arith in
-          let times : Congruent m G (F * u) =
-          mod_add_cancel (a * F) (mod_trans values
-          (mod_trans (mod_mul (mod_sym at) (mod_refl F)) (mod_of_eq apart))) in
+          let n : ℕ = suc (suc i) in
+          let two : i + 1 + 1 ≡ n = omega arith in
+          let front : polynomial_at n f X ≡ F =
+          omega (arith, sum_below-suc (suc i) (λ j. f j * X ^ j), ap (λ v. v * X ^ suc i) none, ap (λ n. polynomial_at n f X) next) in
+          let values = with_multiple m n a X g f (shifted f) (λ j l. each j (omega (arith, l))) in
+          let at : Congruent m (u + a) X = mod_of_difference a positive refl in
+          let times : Congruent m (polynomial_at (i + 1 + 1) g X) (F * u) =
+          mod_of_combination (mod_add values (mod_times F (mod_sym at)))
+          (omega (arith, ap (λ n. polynomial_at n g X) two, ap (λ v. a * v) front, shifted-values (suc i) X f,
+          ap (λ n. X * polynomial_at n f X) next)) in
           let point : u ≡ residue m (pos X -ℤ pos (x i)) = ap (λ v. residue m (pos X -ℤ pos v)) is in
           mod_trans times (mod_trans (mod_mul (roots.value X) (mod_of_eq point))
           (mod_of_eq (sym (product-more (λ l. residue m (pos X -ℤ pos (x l))) i))));
@@ -181,8 +173,6 @@ pub moments_of : (m M c n : ℕ) (z g x w t s : ℕ → ℕ) → HasRoots m c z 
     → ArePowerSums m M n x (λ i. w i * product_of_differences m c z (x i)) s
 moments_of m M c n z g x w t s roots are each = record {
   sum = λ h l. mod_trans (each h l) (mod_trans (moment m (M + c) n (c + 1) h x w t g are (omega arith))
-      (sum_below-congruent n _ _ (λ i b.
-      let P : ℕ = product_of_differences m c z (x i) in
-      let e : w i * x i ^ h * P ≡ w i * P * x i ^ h = omega arith in
-      mod_trans (mod_mul (mod_refl (w i * x i ^ h)) (roots.value (x i))) (mod_of_eq e))));
+      (sum_below-congruent n _ _
+      (λ i b. mod_of_combination (mod_times (w i * x i ^ h) (roots.value (x i))) (omega arith))));
 }
