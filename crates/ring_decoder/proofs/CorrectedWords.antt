@@ -1,54 +1,28 @@
 -- Words, and the errors that explain their syndromes.
-use Rattle.std.proofs.Common.{◌≡◌, ◌≢◌, ℕ, zero, suc, ◌+◌, ◌-◌, ◌*◌, ◌%◌, ◌^◌, ◌<◌, ◌≤◌, pos, ◌-ℤ◌}
-use Rattle.std.proofs.Common.{List, length, ap, sym, ◌∙◌, arith, refl, inl, inr, mod-eq_of_lt}
-use Rattle.std.proofs.Math.Nat.{zero-mod}
-use Rattle.std.proofs.lemmas.Bool.{cases_eq, cases_lt}
+use Rattle.std.proofs.Common.{◌≡◌, ◌≢◌, ℕ, ◌+◌, ◌-◌, ◌*◌, ◌%◌, ◌^◌, ◌<◌, ◌≤◌, pos, ◌-ℤ◌}
+use Rattle.std.proofs.Common.{List, length, sym, ◌∙◌, arith, refl, inl, inr, mod-eq_of_lt}
+use Rattle.std.proofs.lemmas.Bool.{cases_lt}
 use Rattle.num_modular.specs.Congruence.{Congruent}
-use Rattle.num_modular.specs.NumberLaws.{mod_of_eq, mod_refl, mod_sym, mod_trans, mod_add, mod_mul, mod_add_cancel, difference_and}
-use Rattle.num_modular.specs.NumberLaws.{sum_below-zero, sum_below-suc, sum_below-congruent, sum_below-add}
+use Rattle.num_modular.specs.NumberLaws.{mod_of_eq, mod_sym, mod_trans, mod_add, difference_and}
+use Rattle.num_modular.specs.NumberLaws.{sum_below-congruent, sum_below-add}
 use Rattle.num_modular.specs.Polynomials.{HaveUnitDifferences}
 use Rattle.num_modular.specs.Residues.{residue}
 use Rattle.num_modular.specs.Sums.{sum_below}
-use Rattle.ring_codes.proofs.Distances.{counted, counted_same, counted_other, no_distance, words_apart}
+use Rattle.ring_codes.proofs.Distances.{counted, no_distance, words_apart}
 use Rattle.ring_codes.proofs.Lagrange.{fit_from_all}
 use Rattle.ring_codes.specs.Erasure.{IsErasureCodeword, distance}
 use Rattle.ring_codes.specs.declared.erasure.errors.CorrectError.{CorrectError}
 use Rattle.ring_codes.specs.declared.erasure.errors.CorrectError.TheVariants.{Restore, TooManyErrors, NoInverse}
 use Rattle.ring_decoder.proofs.ChosenPlaces.{zeros_others}
 use Rattle.ring_decoder.proofs.DualCode.{codeword_without_syndromes, codeword_by_syndromes}
-use Rattle.ring_decoder.proofs.LostPlaces.{lost_or_listed, without_lost, without_listed, counted_below, few_hidden, distance_sum}
-use Rattle.ring_decoder.proofs.NearLocators.{none_of, zero_of}
+use Rattle.ring_decoder.proofs.LostPlaces.{without_listed, few_hidden, distance_sum}
 use Rattle.ring_decoder.specs.Corrector.{without, listed_distance, AreLost, IsNearWord, IsCorrectorFault}
 use Rattle.ring_decoder.specs.ErrorPatterns.{zeros, listed_weight, IsNearPattern, IsSolution, IsPatternFault}
 use Rattle.ring_decoder.specs.PowerSums.{ArePowerSums}
 use Rattle.ring_decoder.specs.Syndromes.{AreWeights}
-
--- words that differ at fewer places
-fewer_differences : (n : ℕ) (a b c d : ℕ → ℕ) → ((i : ℕ) → i < n → c i ≡ d i → a i ≡ b i)
-    → distance n a b ≤ distance n c d
-fewer_differences zero a b c d less = omega (arith, sum_below-zero (λ i. counted (a i) (b i)))
-fewer_differences (suc n) a b c d less =
-    let s = sum_below-suc n (λ i. counted (a i) (b i)) in
-    let t = sum_below-suc n (λ i. counted (c i) (d i)) in
-    let i = fewer_differences n a b c d (λ i l. less i (omega arith)) in
-    elim (cases_eq (c n) (d n)) [
-      | inl e ↦ omega (arith, s, t, i, counted_same (a n) (b n) (less n (omega arith) e))
-      | inr o ↦
-          omega (arith, s, t, i, counted_other (c n) (d n) o, counted_below (a n) (b n))
-    ]
-
--- words that differ at no place
-same_at : (n i : ℕ) (a b : ℕ → ℕ) → distance n a b ≤ 0 → i < n → a i ≡ b i
-same_at zero i a b none l = absurd (omega arith)
-same_at (suc n) i a b none l =
-    let s = sum_below-suc n (λ i. counted (a i) (b i)) in
-    elim (cases_eq (a n) (b n)) [
-      | inl e ↦ elim (cases_eq i n) [
-        | inl last ↦ ap a last ∙ e ∙ ap b (sym last)
-        | inr before ↦ same_at n i a b (omega (arith, s, none)) (omega arith)
-      ]
-      | inr o ↦ absurd (omega (arith, s, none, counted_other (a n) (b n) o))
-    ]
+use Rattle.ring_codes.proofs.Congruences.{mod_of_combination, mod_times}
+use Rattle.ring_decoder.proofs.LocatorSums.{none_of, residue_none}
+use Rattle.ring_decoder.proofs.LostPlaces.{fewer_differences, same_at, listed_none, without_none, without_alike}
 
 -- numbers that are all 0, and numbers below m that aren't
 pub all_zero : (n : ℕ) (z : ℕ → ℕ) → zeros n z ≡ n → (i : ℕ) → i < n → z i ≡ 0
@@ -66,13 +40,18 @@ pub near_same : (m k n : ℕ) (x : ℕ → ℕ) (lost : List ℕ) (y u w : ℕ �
     → IsErasureCodeword m k n x u → IsErasureCodeword m k n x w → IsNearWord k n lost y u → IsNearWord k n lost y w
     → (i : ℕ) → i < n → u i ≡ w i
 near_same m k n x lost y u w places fit is_u is_w near_u near_w i l =
-    let sum = distance_sum n (without lost y) (without lost u) (without lost w) in
     let enough = places.enough in
     elim (cases_lt 0 (distance n u w)) [
       | inr same ↦ same_at n i u w same l
-      | inl differ ↦
-          let far = words_apart m k n x u w (omega (arith, enough)) fit is_u is_w differ in
-          absurd (omega (arith, far, sum, few_hidden n lost u w, enough, near_u, near_w))
+      | inl differ ↦ absurd (omega (
+        arith,
+        words_apart m k n x u w (omega (arith, enough)) fit is_u is_w differ,
+        distance_sum n (without lost y) (without lost u) (without lost w),
+        few_hidden n lost u w,
+        enough,
+        near_u,
+        near_w,
+      ))
     ]
 
 -- power sums of two lists of weights and of their sums
@@ -82,9 +61,16 @@ sums_added : (m n h : ℕ) (x v a b c : ℕ → ℕ) → ((i : ℕ) → i < n �
 sums_added m n h x v a b c each =
     mod_trans (mod_of_eq (sym (sum_below-add n (λ i. v i * a i * x i ^ h) (λ i. v i * b i * x i ^ h))))
     (sum_below-congruent n (λ i. v i * a i * x i ^ h + v i * b i * x i ^ h) (λ i. v i * c i * x i ^ h)
-    (λ i l.
-    let e : v i * a i * x i ^ h + v i * b i * x i ^ h ≡ v i * (a i + b i) * x i ^ h = omega arith in
-    mod_trans (mod_of_eq e) (mod_mul (mod_mul (mod_refl (v i)) (each i l)) (mod_refl (x i ^ h)))))
+    (λ i l. mod_of_combination (mod_times (v i * x i ^ h) (each i l)) (omega arith)))
+
+-- the difference of two words is 0 where they are the same
+fewer_wrong : (m n : ℕ) (lost : List ℕ) (y d u : ℕ → ℕ) → ((i : ℕ) → i < n → Congruent m (d i + u i) (y i))
+    → listed_weight m n lost d ≤ listed_distance n lost y u
+fewer_wrong m n lost y d u each =
+    fewer_differences n (λ i. without lost d i % m) (λ i. 0) (without lost y) (without lost u)
+    (λ i l same. without_none m lost d i (λ listed.
+    let equal : y i ≡ u i = sym (without_listed lost y i listed) ∙ same ∙ without_listed lost u i listed in
+    residue_none m (d i) (mod_of_combination (each i l) (omega (arith, equal)))))
 
 -- a word of the code that is near, less the word: errors with the word's syndromes, no more of them
 pub pattern_of : (m k n : ℕ) (x v : ℕ → ℕ) (lost : List ℕ) (y s u : ℕ → ℕ) → 0 < m → AreLost k n lost → AreWeights m n x v
@@ -92,27 +78,15 @@ pub pattern_of : (m k n : ℕ) (x v : ℕ → ℕ) (lost : List ℕ) (y s u : �
     → (d : ℕ → ℕ) × IsNearPattern m (n - k) n x v lost s d × (listed_weight m n lost d ≤ listed_distance n lost y u)
 pattern_of m k n x v lost y s u positive places weights sums is near =
     let d : ℕ → ℕ = λ i. residue m (pos (y i) -ℤ pos (u i)) in
-    let each : (i : ℕ) → Congruent m (d i + u i) (y i) = λ i. record { same = difference_and m (y i) (u i) positive } in
+    let each : (i : ℕ) → i < n → Congruent m (d i + u i) (y i) = λ i l. record { same = difference_and m (y i) (u i) positive } in
     let enough = places.enough in
     let none = codeword_without_syndromes m k n x v u positive (omega (arith, enough)) (fit_of_weights m n x v weights) weights is in
-    let fewer : listed_weight m n lost d ≤ listed_distance n lost y u =
-    fewer_differences n (λ i. without lost d i % m) (λ i. 0) (without lost y) (without lost u)
-    (λ i l same. elim (lost_or_listed lost i) [
-      | inl gone ↦ ap (λ a. a % m) (without_lost lost d i gone) ∙ zero-mod m
-      | inr listed ↦
-          let equal : y i ≡ u i = sym (without_listed lost y i listed) ∙ same ∙ without_listed lost u i listed in
-          let z : u i ≡ 0 + u i = omega arith in
-          ap (λ a. a % m) (without_listed lost d i listed)
-          ∙ zero_of m (d i) (mod_add_cancel (u i) (mod_trans (each i) (mod_of_eq (equal ∙ z))))
-    ]) in (
+    let fewer = fewer_wrong m n lost y d u each in (
       d,
       record {
         sums = record {
-          sum = λ h l.
-              let zero_right : sum_below n (λ i. v i * d i * x i ^ h) + 0 ≡ sum_below n (λ i. v i * d i * x i ^ h) = omega arith in
-              mod_trans (sums.sum h l)
-              (mod_trans (mod_sym (sums_added m n h x v d u y (λ i b. each i)))
-              (mod_trans (mod_add (mod_refl (sum_below n (λ i. v i * d i * x i ^ h))) (mod_sym (none.sum h l))) (mod_of_eq zero_right)));
+          sum = λ h l. mod_of_combination (mod_add (sums.sum h l) (mod_add (mod_sym (sums_added m n h x v d u y each))
+              (mod_sym (none.sum h l)))) (omega arith);
         };
         few = omega (arith, fewer, near);
       },
@@ -135,15 +109,14 @@ pub right_already : (m k n : ℕ) (x v : ℕ → ℕ) (lost : List ℕ) (y s : �
     → ((i : ℕ) → i < n → y i < m) → ArePowerSums m (n - k) n x (λ i. v i * y i) s → ((h : ℕ) → h < n - k → s h ≡ 0)
     → IsRightWord m k n x lost y y 0
 right_already m k n x v lost y s positive places weights below sums none =
-    let fit = fit_of_weights m n x v weights in
+    let enough = places.enough in let fit = fit_of_weights m n x v weights in
     let same = no_distance n (without lost y) (without lost y) (λ i l. refl) in
-    let is = codeword_by_syndromes m k n x v y positive (omega (arith, places.enough)) fit weights below
+    let is = codeword_by_syndromes m k n x v y positive (omega (arith, enough)) fit weights below
     (record { sum = λ h l. mod_trans (mod_of_eq (sym (none h l))) (sums.sum h l) }) in
-    let few : 2 * 0 ≤ n - k - length lost = omega arith in
     record {
       codeword = is;
       count = sym same;
-      few = few;
+      few = omega arith;
       only = λ u is_u near i l. near_same m k n x lost y y u places fit is is_u (omega (arith, same)) near i l;
     }
 
@@ -158,7 +131,7 @@ codeword_by_zeros m k n x v y s positive few weights below small sums =
       λ is.
           let none = codeword_without_syndromes m k n x v y positive few fit weights is in
           let each : (h : ℕ) → h < t → s h ≡ 0 =
-          λ h l. sym (mod-eq_of_lt (small h l)) ∙ zero_of m (s h) (mod_trans (sums.sum h l) (mod_sym (none.sum h l))) in
+          λ h l. sym (mod-eq_of_lt (small h l)) ∙ residue_none m (s h) (mod_trans (sums.sum h l) (mod_sym (none.sum h l))) in
           omega (arith, no_distance t s (λ i. 0) each, zeros_others t s),
     )
 
@@ -168,36 +141,17 @@ pub right_word : (m k n wrong : ℕ) (x v : ℕ → ℕ) (lost : List ℕ) (y s 
     → ArePowerSums m (n - k) n x (λ i. v i * y i) s → IsSolution m (n - k) n x v lost s e wrong
     → ((i : ℕ) → i < n → Congruent m (w i + e i) (y i)) → IsRightWord m k n x lost y w wrong
 right_word m k n wrong x v lost y s e w positive places weights below_y below_w sums solution each =
-    let fit = fit_of_weights m n x v weights in
-    let is = codeword_by_syndromes m k n x v w positive (omega (arith, places.enough)) fit weights below_w
+    let enough = places.enough in let fit = fit_of_weights m n x v weights in
+    let is = codeword_by_syndromes m k n x v w positive (omega (arith, enough)) fit weights below_w
     (record {
-      sum = λ h l.
-          let p : ℕ = sum_below n (λ i. v i * e i * x i ^ h) in
-          let z : p ≡ 0 + p = omega arith in
-          mod_sym (mod_add_cancel p
-          (mod_trans (sums_added m n h x v w e y each)
-          (mod_trans (mod_sym (sums.sum h l)) (mod_trans (solution.pattern.sums.sum h l) (mod_of_eq z)))));
+      sum = λ h l. mod_of_combination (mod_add (mod_sym (sums_added m n h x v w e y each))
+          (mod_add (sums.sum h l) (mod_sym (solution.pattern.sums.sum h l)))) (omega arith);
     }) in
-    let less = fewer_differences n (λ i. without lost e i % m) (λ i. 0) (without lost y) (without lost w)
-    (λ i l same. elim (lost_or_listed lost i) [
-      | inl gone ↦ ap (λ a. a % m) (without_lost lost e i gone) ∙ zero-mod m
-      | inr listed ↦
-          let equal : y i ≡ w i = sym (without_listed lost y i listed) ∙ same ∙ without_listed lost w i listed in
-          let z : e i + w i ≡ w i + e i = omega arith in let o : w i ≡ 0 + w i = omega arith in
-          ap (λ a. a % m) (without_listed lost e i listed)
-          ∙ zero_of m (e i) (mod_add_cancel (w i) (mod_trans (mod_of_eq z) (mod_trans (each i l) (mod_of_eq (equal ∙ o)))))
-    ]) in
+    let less = fewer_wrong m n lost y e w (λ i l. mod_of_combination (each i l) (omega arith)) in
     let more = fewer_differences n (without lost y) (without lost w) (λ i. without lost e i % m) (λ i. 0)
-    (λ i l same. elim (lost_or_listed lost i) [
-      | inl gone ↦ without_lost lost y i gone ∙ sym (without_lost lost w i gone)
-      | inr listed ↦
-          let none : Congruent m (e i) 0 = none_of m (e i) (ap (λ a. a % m) (sym (without_listed lost e i listed)) ∙ same) in
-          let z : w i + 0 ≡ w i = omega arith in
-          without_listed lost y i listed
-          ∙ same_below m (y i) (w i) (below_y i l) (below_w i l)
-          (mod_trans (mod_sym (each i l)) (mod_trans (mod_add (mod_refl (w i)) none) (mod_of_eq z)))
-          ∙ sym (without_listed lost w i listed)
-    ]) in
+    (λ i l same. without_alike lost y w i (λ listed.
+    same_below m (y i) (w i) (below_y i l) (below_w i l)
+    (mod_of_combination (mod_add (mod_sym (each i l)) (none_of m (e i) (listed_none m lost e i listed same))) (omega arith)))) in
     let count = solution.count in let few = solution.pattern.few in
     let counted : wrong ≡ listed_distance n lost y w = omega (arith, count, less, more) in
     record {

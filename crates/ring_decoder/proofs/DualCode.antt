@@ -112,8 +112,13 @@ sums_subtracted m N n x v y z of_y of_z = record {
 few_behind : (k q n : ℕ) (a b : ℕ → ℕ) → k + q ≡ n → ((i : ℕ) → i < k → a i ≡ b i) → distance n a b ≤ q
 few_behind k q n a b whole same =
     let f : ℕ → ℕ = λ i. counted (a i) (b i) in
-    omega (arith, ap (λ j. sum_below j f) whole, sum_below-joined k q f, no_distance k a b same,
-    sum_below-bounded q 1 (λ i. f (k + i)) (λ i l. counted_most (a (k + i)) (b (k + i))))
+    omega (
+      arith,
+      ap (λ j. sum_below j f) whole,
+      sum_below-joined k q f,
+      no_distance k a b same,
+      sum_below-bounded q 1 (λ i. f (k + i)) (λ i l. counted_most (a (k + i)) (b (k + i))),
+    )
 
 -- each weight has an inverse
 pub weight_unit : (m n i : ℕ) (x v : ℕ → ℕ) → AreWeights m n x v → i < n → HasInverse m (v i)

@@ -43,8 +43,12 @@ combined_more : (m a b q c h : ℕ) (e f g t : ℕ → ℕ) → ((k : ℕ) → k
     → Congruent m (applied (q + c) f t h + b * applied c g t (h + q)) (a * applied (q + c) e t h)
 combined_more m a b q zero h e f g t low high =
     let n : q + 0 ≡ q = omega arith in
-    mod_of_combination (multiple_sum m a q h e f t low) (omega (arith, ap (λ k. applied k f t h) n,
-    ap (λ k. a * applied k e t h) n, ap (λ v. b * v) (sum_below-zero (λ l. g l * t (h + q + l)))))
+    mod_of_combination (multiple_sum m a q h e f t low) (omega (
+      arith,
+      ap (λ k. applied k f t h) n,
+      ap (λ k. a * applied k e t h) n,
+      ap (λ v. b * v) (sum_below-zero (λ l. g l * t (h + q + l))),
+    ))
 combined_more m a b q (suc c) h e f g t low high =
     let n : q + suc c ≡ suc (q + c) = omega arith in
     let at : h + q + c ≡ h + (q + c) = omega arith in

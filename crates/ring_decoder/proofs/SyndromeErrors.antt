@@ -86,8 +86,13 @@ same_at_point m d j x f g fit below none_f none_g one_f one_g =
     let G : ℕ = polynomial_at n g (x j) in
     let at : (i : ℕ) → i < n → Congruent m (polynomial_at n (λ l. G * f l) (x i)) (polynomial_at n (λ l. F * g l) (x i)) =
     λ i l. elim (cases_eq i j) [
-      | inl e ↦ mod_of_eq (omega (arith, times n G f (x i), times n F g (x i),
-          ap (λ k. G * polynomial_at n f (x k)) e, ap (λ k. F * polynomial_at n g (x k)) e))
+      | inl e ↦ mod_of_eq (omega (
+        arith,
+        times n G f (x i),
+        times n F g (x i),
+        ap (λ k. G * polynomial_at n f (x k)) e,
+        ap (λ k. F * polynomial_at n g (x k)) e,
+      ))
       | inr other ↦ mod_of_combination (mod_add (mod_times G (none_f i l other)) (mod_times F (mod_sym (none_g i l other))))
           (omega (arith, times n G f (x i), times n F g (x i)))
     ] in

@@ -160,8 +160,13 @@ roots_more m i a x f g positive roots behind is each =
           let at : Congruent m (u + a) X = mod_of_difference a positive refl in
           let times : Congruent m (polynomial_at (i + 1 + 1) g X) (F * u) =
           mod_of_combination (mod_add values (mod_times F (mod_sym at)))
-          (omega (arith, ap (λ n. polynomial_at n g X) two, ap (λ v. a * v) front, shifted-values (suc i) X f,
-          ap (λ n. X * polynomial_at n f X) next)) in
+          (omega (
+            arith,
+            ap (λ n. polynomial_at n g X) two,
+            ap (λ v. a * v) front,
+            shifted-values (suc i) X f,
+            ap (λ n. X * polynomial_at n f X) next,
+          )) in
           let point : u ≡ residue m (pos X -ℤ pos (x i)) = ap (λ v. residue m (pos X -ℤ pos v)) is in
           mod_trans times (mod_trans (mod_mul (roots.value X) (mod_of_eq point))
           (mod_of_eq (sym (product-more (λ l. residue m (pos X -ℤ pos (x l))) i))));

@@ -1,49 +1,48 @@
 use Rattle.num_modular.specs.Callers.{◌≡◌, ◌*◌, ◌-◌, ℕ, ◌∙◌, sym, subst, length, entry}
-use Rattle.ring_decoder.proofs.NearLocators.{sought_from, located_by, none_near_by}
+use Rattle.num_modular.specs.Inverses.{HasInverse}
+use Rattle.std.proofs.Common.{◌<◌, arith}
+use Rattle.ring_decoder.proofs.NearLocators.{AreSought, located_by, none_near_by}
 use Rattle.ring_decoder.specs.PowerSums.{ArePowerSums}
 use Rattle.ring_decoder.specs.Syndromes.{product_of_differences}
 use Rattle.ring_decoder.proofs.search.locate.Goals as goal
+use Rattle.ring_decoder.proofs.search.locate.Goals.{After-fill_moments}
+
+-- what the locator is found from
+sought : (g : _) (c : After-fill_moments g) (v : ℕ → ℕ) → ((i : ℕ) → i < length c.args.points.now → HasInverse (g.R.Reducer.modulus c.args.r.now) (v i))
+    → let ring = g.R.Reducer in let m = ring.modulus c.args.r.now in let entries = entry g.T.RingWord.number ring.value m in
+    AreSought m (length c.args.syndromes.now) (length c.args.points.now) (length c.copy_points.new.located)
+    (length c.fill_moments.new.moments) (entries c.args.points.now) v (entries c.copy_points.new.located) c.args.lost.now
+    (entries c.args.syndromes.now) (entries c.fill_moments.new.moments)
+sought g c v units =
+    let ring = g.R.Reducer in let m = ring.modulus c.args.r.now in let number = g.T.RingWord.number in
+    let positive = (g.met.R.Reducer.canonical c.args.r.now).positive in let other = c.requires.modulus in
+    let n : ℕ = length c.args.points.now in let x = entry number ring.value m c.args.points.now in
+    let z = entry number ring.value m c.copy_points.new.located in
+    let q = entry number ring.value m c.fill_moments.new.moments in
+    record {
+      two = omega (arith, positive, other);
+      few = c.requires.few;
+      places = c.requires.places;
+      count = c.copy_points.auto.located ∙ c.split_at_mut-located.ensures.front_len;
+      rest = c.fill_moments.auto.moments ∙ c.split_at_mut-moments.ensures.front_len;
+      fit = c.requires.fit;
+      units = units;
+      there = c.copy_points.ensures.same;
+      sums = λ w is. subst (λ k. ArePowerSums m k n x
+          (λ i. w i * product_of_differences m (length c.copy_points.new.located) z (x i)) q)
+          (sym c.fill_moments.auto.moments) (c.fill_moments.ensures.moments n x w is);
+    }
 
 pub returns-in-None-clause-located : goal.returns-in-None-clause-located
 returns-in-None-clause-located g c v units errors near =
-    let ring = g.R.Reducer in let m = ring.modulus c.args.r.now in let number = g.T.RingWord.number in
-    let positive = (g.met.R.Reducer.canonical c.args.r.now).positive in
-    let n : ℕ = length c.args.points.now in let t : ℕ = length c.args.syndromes.now in let lost = c.args.lost.now in
-    let x = entry number ring.value m c.args.points.now in
-    let z = entry number ring.value m c.copy_points.new.located in
-    let q = entry number ring.value m c.fill_moments.new.moments in
-    let count : length c.copy_points.new.located ≡ length lost =
-    c.copy_points.auto.located ∙ c.split_at_mut-located.ensures.front_len in
-    let rest : length c.fill_moments.new.moments ≡ t - length lost =
-    c.fill_moments.auto.moments ∙ c.split_at_mut-moments.ensures.front_len in
-    none_near_by
-    (sought_from positive c.requires.modulus c.requires.few c.requires.places count rest c.requires.fit units
-    c.copy_points.ensures.same
-    (λ w is. subst (λ k. ArePowerSums m k n x
-    (λ i. w i * product_of_differences m (length c.copy_points.new.located) z (x i)) q)
-    (sym c.fill_moments.auto.moments) (c.fill_moments.ensures.moments n x w is)))
-    rest c.in-None.ensures.located errors near
+    let at = (goal.at.returns-in-None-clause-located g c).After-fill_moments in
+    none_near_by (sought g at v units) c.in-None.ensures.located errors near
 
 pub returns-in-Some-clause-located : goal.returns-in-Some-clause-located
 returns-in-Some-clause-located g c v units =
-    let ring = g.R.Reducer in let m = ring.modulus c.args.r.now in let number = g.T.RingWord.number in
-    let positive = (g.met.R.Reducer.canonical c.args.r.now).positive in
-    let n : ℕ = length c.args.points.now in let t : ℕ = length c.args.syndromes.now in let lost = c.args.lost.now in
-    let x = entry number ring.value m c.args.points.now in
-    let z = entry number ring.value m c.copy_points.new.located in
-    let q = entry number ring.value m c.fill_moments.new.moments in
-    let count : length c.copy_points.new.located ≡ length lost =
-    c.copy_points.auto.located ∙ c.split_at_mut-located.ensures.front_len in
-    let rest : length c.fill_moments.new.moments ≡ t - length lost =
-    c.fill_moments.auto.moments ∙ c.split_at_mut-moments.ensures.front_len in
-    located_by
-    (sought_from positive c.requires.modulus c.requires.few c.requires.places count rest c.requires.fit units
-    c.copy_points.ensures.same
-    (λ w is. subst (λ k. ArePowerSums m k n x
-    (λ i. w i * product_of_differences m (length c.copy_points.new.located) z (x i)) q)
-    (sym c.fill_moments.auto.moments) (c.fill_moments.ensures.moments n x w is)))
-    rest c.in-Some.ensures.located c.fill_values_of-of_values.ensures.values c.clear_lost.ensures.cleared
-    c.in-Some.ensures.unit c.in-Some.ensures.one
+    let at = (goal.at.returns-in-Some-clause-located g c).After-fill_moments in
+    located_by (sought g at v units) c.in-Some.ensures.located c.fill_values_of-of_values.ensures.values
+    c.clear_lost.ensures.cleared c.in-Some.ensures.unit c.in-Some.ensures.one
 
 pub fill_moments-requires-clause-lost : goal.fill_moments-requires-clause-lost
 fill_moments-requires-clause-lost g c = c.copy_points.ensures.checked

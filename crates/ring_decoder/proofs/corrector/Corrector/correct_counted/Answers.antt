@@ -37,16 +37,11 @@ returns-then-count_zeros-syndromes-clause-corrected g c =
 
 pub find_errors-requires-clause-fit : goal.find_errors-requires-clause-fit
 find_errors-requires-clause-fit g c =
-    let self = c.args.self.now in let ring = g.R.Reducer in let m = ring.modulus self.ring.now in
-    let number = g.T.RingWord.number in
-    fit_of_weights m (length self.points.now) (entry number ring.value m self.points.now)
-    (entry number ring.value m self.weights.now) self.inverses
+    fit_of_weights _ _ _ _ c.args.self.now.inverses
 
 pub find_errors-requires-clause-units : goal.find_errors-requires-clause-units
 find_errors-requires-clause-units g c i l =
-    let self = c.args.self.now in let ring = g.R.Reducer in let m = ring.modulus self.ring.now in
-    weight_unit m (length self.points.now) i (entry g.T.RingWord.number ring.value m self.points.now)
-    (entry g.T.RingWord.number ring.value m self.weights.now) self.inverses l
+    weight_unit _ _ i _ _ c.args.self.now.inverses l
 
 pub find_errors-requires-clause-places : goal.find_errors-requires-clause-places
 find_errors-requires-clause-places g c =
