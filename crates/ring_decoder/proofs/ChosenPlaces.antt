@@ -1,11 +1,11 @@
 -- The places at which a list of numbers is 0, in their order.
-use Rattle.std.proofs.Common.{◌≡◌, ◌≢◌, ℕ, zero, suc, ◌+◌, ◌*◌, ◌^◌, ◌<◌, ◌≤◌, cond, eqb, pos, ◌-ℤ◌}
-use Rattle.std.proofs.Common.{ap, sym, ◌∙◌, arith, inl, inr, subst}
+use Rattle.std.proofs.Common.{◌≡◌, ◌≢◌, ℕ, zero, suc, ◌+◌, ◌*◌, ◌^◌, ◌<◌, cond, eqb, pos, ◌-ℤ◌, ap, sym, ◌∙◌, arith}
+use Rattle.std.proofs.Common.{inl, inr, subst, add-one, refl}
 use Rattle.std.proofs.lemmas.Bool.{cases_eq}
 use Rattle.std.proofs.lemmas.Bool.Decides.{eqb_tells}
 use Rattle.num_modular.specs.Congruence.{Congruent}
 use Rattle.num_modular.specs.Inverses.{HasInverse}
-use Rattle.num_modular.specs.NumberLaws.{mod_of_eq, mod_refl, mod_sym, mod_trans, mod_mul, sum_below-zero, sum_below-suc}
+use Rattle.num_modular.specs.NumberLaws.{mod_of_eq, mod_sym, mod_trans, sum_below-zero, sum_below-suc}
 use Rattle.num_modular.specs.NumberLaws.{sum_below-congruent}
 use Rattle.num_modular.specs.Polynomials.{HaveUnitDifferences}
 use Rattle.num_modular.specs.Residues.{residue}
@@ -14,16 +14,11 @@ use Rattle.ring_codes.proofs.Distances.{counted, counted_same, counted_other, ex
 use Rattle.ring_codes.specs.Erasure.{distance}
 use Rattle.ring_decoder.specs.ErrorPatterns.{zeros, spread, AreChosen}
 use Rattle.ring_decoder.specs.PowerSums.{ArePowerSums}
+use Rattle.ring_codes.proofs.Congruences.{mod_of_combination, mod_times}
 
 -- 1 at 0, otherwise 0
 abbrev one_at_zero : ℕ → ℕ
 one_at_zero v = cond (eqb v 0) 1 0
-
-pub counted_zero : (v : ℕ) → v ≡ 0 → one_at_zero v ≡ 1
-counted_zero v e = elim (eqb_tells v 0) [ inl p ↦ ap (λ b. cond b 1 0) p.0 | inr p ↦ absurd (p.1 e) ]
-
-pub counted_nonzero : (v : ℕ) → v ≢ 0 → one_at_zero v ≡ 0
-counted_nonzero v o = elim (eqb_tells v 0) [ inl p ↦ absurd (o p.1) | inr p ↦ ap (λ b. cond b 1 0) p.0 ]
 
 -- a choice by a number that is 0, or isn't
 pub chosen_zero : (v a b : ℕ) → v ≡ 0 → cond (eqb v 0) a b ≡ a
@@ -36,26 +31,16 @@ pub zeros-none : (z : ℕ → ℕ) → zeros 0 z ≡ 0
 zeros-none z = sum_below-zero (λ i. one_at_zero (z i))
 
 pub zeros-suc : (n : ℕ) (z : ℕ → ℕ) → z n ≡ 0 → zeros (suc n) z ≡ zeros n z + 1
-zeros-suc n z e = sum_below-suc n (λ i. one_at_zero (z i)) ∙ ap (λ v. zeros n z + v) (counted_zero (z n) e)
+zeros-suc n z e = sum_below-suc n (λ i. one_at_zero (z i)) ∙ ap (λ v. zeros n z + v) (chosen_zero (z n) 1 0 e)
 
 pub zeros-same : (n : ℕ) (z : ℕ → ℕ) → z n ≢ 0 → zeros (suc n) z ≡ zeros n z
-zeros-same n z o =
-    omega (arith, sum_below-suc n (λ i. one_at_zero (z i)), counted_nonzero (z n) o)
+zeros-same n z o = omega (arith, sum_below-suc n (λ i. one_at_zero (z i)), chosen_nonzero (z n) 1 0 o)
 
 pub zeros_more : (n : ℕ) (z : ℕ → ℕ) → z n ≡ 0 → zeros (n + 1) z ≡ zeros n z + 1
-zeros_more n z e = let s : n + 1 ≡ suc n = omega arith in ap (λ k. zeros k z) s ∙ zeros-suc n z e
+zeros_more n z e = ap (λ k. zeros k z) (add-one n) ∙ zeros-suc n z e
 
 pub zeros_kept : (n : ℕ) (z : ℕ → ℕ) → z n ≢ 0 → zeros (n + 1) z ≡ zeros n z
-zeros_kept n z o = let s : n + 1 ≡ suc n = omega arith in ap (λ k. zeros k z) s ∙ zeros-same n z o
-
-pub zeros_few : (n : ℕ) (z : ℕ → ℕ) → zeros n z ≤ n
-zeros_few zero z = omega (arith, zeros-none z)
-zeros_few (suc n) z =
-    let i = zeros_few n z in
-    elim (cases_eq (z n) 0) [
-      | inl e ↦ omega (arith, i, zeros-suc n z e)
-      | inr o ↦ omega (arith, i, zeros-same n z o)
-    ]
+zeros_kept n z o = ap (λ k. zeros k z) (add-one n) ∙ zeros-same n z o
 
 -- a 0 counts for each later place
 pub zeros_before : (i n : ℕ) (z : ℕ → ℕ) → i < n → z i ≡ 0 → zeros i z < zeros n z
@@ -100,32 +85,35 @@ ranked (suc n) k z l = elim (cases_eq (z n) 0) [
 fewer : {n : ℕ} {z f g : ℕ → ℕ} → AreChosen (suc n) z f g → AreChosen n z f g
 fewer c = record { at = λ i l e. c.at i (omega arith) e }
 
+-- one place more, that is chosen, or isn't
+pub chosen_more : (n : ℕ) (z f g h : ℕ → ℕ) → AreChosen n z f g → h (zeros n z) ≡ f n
+    → ((k : ℕ) → k ≢ zeros n z → h k ≡ g k) → AreChosen (n + 1) z f h
+chosen_more n z f g h c last same = record {
+  at = λ i l here. elim (cases_eq i n) [
+    | inl e ↦ ap h (ap (λ k. zeros k z) e) ∙ last ∙ ap f (sym e)
+    | inr other ↦
+        same (zeros i z) (omega (arith, zeros_before i n z (omega arith) here)) ∙ c.at i (omega arith) here
+  ];
+}
+
+pub chosen_kept : (n : ℕ) (z f g : ℕ → ℕ) → AreChosen n z f g → z n ≢ 0 → AreChosen (n + 1) z f g
+chosen_kept n z f g c other = record {
+  at = λ i l here. elim (cases_eq i n) [
+    | inl e ↦ absurd (other (ap z (sym e) ∙ here))
+    | inr before ↦ c.at i (omega arith) here
+  ];
+}
+
 -- a list of the chosen numbers
 pub picked : (n : ℕ) (z f : ℕ → ℕ) → (g : ℕ → ℕ) × AreChosen n z f g
 picked zero z f = (f, record { at = λ i l e. absurd (omega arith) })
 picked (suc n) z f =
     let p = picked n z f in
+    let more : ℕ → ℕ = extended (zeros n z) (f n) p.0 in
     elim (cases_eq (z n) 0) [
-      | inl e ↦ (
-        extended (zeros n z) (f n) p.0,
-        record {
-          at = λ i l here. elim (cases_eq i n) [
-            | inl same ↦ at_end (zeros n z) (f n) p.0 (zeros i z) (ap (λ k. zeros k z) same) ∙ ap f (sym same)
-            | inr other ↦
-                let b = zeros_before i n z (omega arith) here in
-                before_end (zeros n z) (f n) p.0 (zeros i z) (omega (arith, b)) ∙ p.1.at i (omega arith) here
-          ];
-        },
-      )
-      | inr o ↦ (
-        p.0,
-        record {
-          at = λ i l here. elim (cases_eq i n) [
-            | inl same ↦ absurd (o (ap z (sym same) ∙ here))
-            | inr other ↦ p.1.at i (omega arith) here
-          ];
-        },
-      )
+      | inl e ↦ (more, subst (λ k. AreChosen k z f more) (add-one n)
+          (chosen_more n z f p.0 more p.1 (at_end (zeros n z) (f n) p.0 (zeros n z) refl) (before_end (zeros n z) (f n) p.0)))
+      | inr o ↦ (p.0, subst (λ k. AreChosen k z f p.0) (add-one n) (chosen_kept n z f p.0 p.1 o))
     ]
 
 -- the chosen numbers by their number
@@ -183,10 +171,8 @@ chosen_powers m n h z x v e p w d points weights errors none =
     (sum_below-congruent n (λ i. cond (eqb (z i) 0) (f i) 0) f
     (λ i l. elim (cases_eq (z i) 0) [
       | inl here ↦ mod_of_eq (chosen_zero (z i) (f i) 0 here)
-      | inr other ↦
-          let zero_left : v i * 0 * x i ^ h ≡ 0 = omega arith in
-          mod_trans (mod_of_eq (chosen_nonzero (z i) (f i) 0 other))
-          (mod_sym (mod_trans (mod_mul (mod_mul (mod_refl (v i)) (none i l other)) (mod_refl (x i ^ h))) (mod_of_eq zero_left)))
+      | inr other ↦ mod_of_combination (mod_times (v i * x i ^ h) (mod_sym (none i l other)))
+          (omega (arith, chosen_nonzero (z i) (f i) 0 other))
     ]))
 
 -- .. from the chosen points to all
@@ -205,25 +191,6 @@ pub few_powers : (m t n : ℕ) (z x v e p w d s : ℕ → ℕ) → AreChosen n z
     → ArePowerSums m t n x (λ i. v i * e i) s → ArePowerSums m t (zeros n z) p (λ k. w k * d k) s
 few_powers m t n z x v e p w d s points weights errors none sums = record {
   sum = λ h l. mod_trans (sums.sum h l) (mod_sym (chosen_powers m n h z x v e p w d points weights errors none));
-}
-
--- one place more, that is chosen, or isn't
-pub chosen_more : (n : ℕ) (z f g h : ℕ → ℕ) → AreChosen n z f g → h (zeros n z) ≡ f n
-    → ((k : ℕ) → k ≢ zeros n z → h k ≡ g k) → AreChosen (n + 1) z f h
-chosen_more n z f g h c last same = record {
-  at = λ i l here. elim (cases_eq i n) [
-    | inl e ↦ ap h (ap (λ k. zeros k z) e) ∙ last ∙ ap f (sym e)
-    | inr other ↦
-        same (zeros i z) (omega (arith, zeros_before i n z (omega arith) here)) ∙ c.at i (omega arith) here
-  ];
-}
-
-pub chosen_kept : (n : ℕ) (z f g : ℕ → ℕ) → AreChosen n z f g → z n ≢ 0 → AreChosen (n + 1) z f g
-chosen_kept n z f g c other = record {
-  at = λ i l here. elim (cases_eq i n) [
-    | inl e ↦ absurd (other (ap z (sym e) ∙ here))
-    | inr before ↦ c.at i (omega arith) here
-  ];
 }
 
 pub chosen_none : (z f g : ℕ → ℕ) → AreChosen 0 z f g

@@ -1,32 +1,27 @@
 -- The dual of a Reed-Solomon code: the weighted power sums of a word of the code are 0, and no other word's are
 -- (MacWilliams and Sloane, The Theory of Error-Correcting Codes, 1977, chapters 10 and 12).
-use Rattle.std.proofs.Common.{◌≡◌, ℕ, zero, suc, ◌+◌, ◌-◌, ◌*◌, ◌%◌, ◌^◌, ◌<◌, ◌≤◌, ap, sym, ◌∙◌, arith}
-use Rattle.std.proofs.Common.{refl, mod-eq_of_lt}
-use Rattle.num_modular.specs.Callers.{same_coefficients}
+use Rattle.std.proofs.Common.{◌≡◌, ℕ, zero, suc, ◌+◌, ◌-◌, ◌*◌, ◌%◌, ◌^◌, ◌<◌, ◌≤◌, ap, sym, ◌∙◌, arith, refl}
+use Rattle.std.proofs.Common.{mod-eq_of_lt}
+use Rattle.num_modular.specs.Callers.{same_coefficients, has_both}
 use Rattle.num_modular.specs.Congruence.{Congruent}
 use Rattle.num_modular.specs.Inverses.{HasInverse}
-use Rattle.num_modular.specs.NumberLaws.{mod_of_eq, residue_of, mod_sym, mod_trans, mod_add}
-use Rattle.num_modular.specs.NumberLaws.{mod_add_cancel, sum_below-same, sum_below-congruent, sum_below-of_zeros}
-use Rattle.num_modular.specs.NumberLaws.{sum_below-add, sum_below-mul, sum_below-joined}
+use Rattle.num_modular.specs.NumberLaws.{mod_of_eq, residue_of, mod_sym, mod_trans, mod_add, mod_add_cancel}
+use Rattle.num_modular.specs.NumberLaws.{sum_below-same, sum_below-congruent, sum_below-of_zeros, sum_below-add}
+use Rattle.num_modular.specs.NumberLaws.{sum_below-mul, sum_below-joined, sum_below-bounded}
 use Rattle.num_modular.specs.Polynomials.{polynomial_at, HaveUnitDifferences}
 use Rattle.num_modular.specs.SumLaws.{single}
 use Rattle.num_modular.specs.Sums.{sum_below}
-use Rattle.ring_codes.specs.Erasure.{IsErasureCodeword}
+use Rattle.ring_codes.specs.Erasure.{IsErasureCodeword, distance}
 use Rattle.ring_codes.specs.Prepared.{product_but}
 use Rattle.ring_codes.proofs.Counts.{fit_front}
-use Rattle.ring_codes.proofs.Distances.{extended, at_end, before_end}
+use Rattle.ring_codes.proofs.Distances.{extended, at_end, before_end, counted, counted_most, no_distance}
 use Rattle.ring_codes.proofs.Lagrange.{none_at, message_of}
-use Rattle.ring_codes.proofs.NearestWords.{at_root}
+use Rattle.ring_codes.proofs.NearestWords.{at_root, unit_alike}
 use Rattle.ring_decoder.specs.PowerSums.{ArePowerSums}
 use Rattle.ring_decoder.specs.Syndromes.{AreWeights}
 use Rattle.ring_decoder.proofs.SyndromeSums.{moment}
 use Rattle.ring_decoder.proofs.SyndromeRoots.{product_monic, combination}
 use Rattle.ring_codes.proofs.Congruences.{mod_of_combination, mod_of_inverse, mod_of_residue, mod_times, has_one}
-use Rattle.num_modular.specs.Callers.{has_both}
-use Rattle.num_modular.specs.NumberLaws.{sum_below-bounded}
-use Rattle.ring_codes.proofs.Distances.{counted, counted_most, no_distance}
-use Rattle.ring_codes.proofs.NearestWords.{unit_alike}
-use Rattle.ring_codes.specs.Erasure.{distance}
 use Rattle.ring_decoder.proofs.LocatorSums.{factor_none, none_of, residue_none, weights_none}
 
 -- the polynomial X^e

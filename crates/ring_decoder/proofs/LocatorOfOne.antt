@@ -1,17 +1,15 @@
 -- The steps of the search for a locator, where the numbers are u·x^h, the power sums of one point: at the end it is
 -- u·(x - X), also where u·x is 0.
-use Rattle.std.proofs.Common.{◌≡◌, ◌≢◌, ℕ, ◌+◌, ◌*◌, ◌%◌, ◌^◌, ◌<◌, ◌≤◌, ap, ◌∙◌, arith, refl, inl, inr, subst}
+use Rattle.std.proofs.Common.{◌≡◌, ◌≢◌, ℕ, ◌+◌, ◌*◌, ◌%◌, ◌^◌, ◌<◌, ◌≤◌, ap, ◌∙◌, arith, refl, inl, inr, subst, add-one}
 use Rattle.std.proofs.Math.Nat.{pow-zero, pow-suc}
 use Rattle.std.proofs.lemmas.Bool.{cases_lt}
 use Rattle.num_modular.specs.Congruence.{Congruent}
-use Rattle.num_modular.specs.NumberLaws.{mod_sym, mod_trans, mod_add}
-use Rattle.num_modular.specs.NumberLaws.{sum_below-zero, sum_below-suc}
+use Rattle.num_modular.specs.NumberLaws.{mod_sym, mod_trans, mod_add, sum_below-zero, sum_below-suc}
 use Rattle.ring_decoder.proofs.LocatorPlaces.{applied}
 use Rattle.ring_decoder.proofs.LocatorSums.{residue_none}
 use Rattle.ring_decoder.specs.Locators.{IsGeometric, IsLinear}
 use Rattle.ring_decoder.specs.LocatorSteps.{IsSearchOfOne}
 use Rattle.ring_codes.proofs.Congruences.{mod_of_combination, mod_times}
-use Rattle.std.proofs.Common.{add-one}
 
 one_term : (s t : ℕ → ℕ) → applied 1 s t 0 ≡ s 0 * t 0
 one_term s t =

@@ -5,13 +5,11 @@ use Rattle.std.proofs.lemmas.Bool.{cases_lt}
 use Rattle.num_modular.specs.Callers.{same_coefficients}
 use Rattle.num_modular.specs.Congruence.{Congruent}
 use Rattle.num_modular.specs.Inverses.{HasInverse}
-use Rattle.num_modular.specs.NumberLaws.{mod_of_eq, mod_sym, mod_trans}
-use Rattle.num_modular.specs.NumberLaws.{sum_below-same}
+use Rattle.num_modular.specs.NumberLaws.{mod_of_eq, mod_sym, mod_trans, sum_below-same}
 use Rattle.num_modular.specs.Polynomials.{polynomial_at, HaveUnitDifferences}
 use Rattle.num_modular.specs.Sums.{sum_below}
-use Rattle.ring_codes.proofs.Distances.{selected}
+use Rattle.ring_codes.proofs.Distances.{selected, rising_fit}
 use Rattle.ring_codes.proofs.NearestWords.{no_value, unit_not_zero}
-use Rattle.ring_codes.proofs.Distances.{rising_fit}
 use Rattle.ring_decoder.proofs.LocatorSums.{power_sum, lighter, sums_vanish, weights_none}
 use Rattle.ring_decoder.specs.Locators.{IsRecurrence, NeedWeights}
 use Rattle.ring_decoder.specs.PowerSums.{ArePowerSums, hamming_weight}

@@ -1,21 +1,20 @@
 -- Power sums of few weights: where as many sums are 0 as weights aren't, all sums and all weights are 0.
-use Rattle.std.proofs.Common.{◌≡◌, ◌≢◌, ℕ, zero, suc, ◌+◌, ◌-◌, ◌*◌, ◌%◌, ◌^◌, ◌<◌, ◌≤◌, ap, sym, ◌∙◌, arith, inl, inr, subst}
+use Rattle.std.proofs.Common.{◌≡◌, ◌≢◌, ℕ, zero, suc, ◌+◌, ◌-◌, ◌*◌, ◌%◌, ◌^◌, ◌<◌, ◌≤◌, ap, sym, ◌∙◌, arith, inl, inr}
+use Rattle.std.proofs.Common.{subst}
 use Rattle.std.proofs.Math.Nat.{zero-mod, pow-zero, pow-suc}
 use Rattle.std.proofs.lemmas.Bool.{cases_eq}
 use Rattle.num_modular.specs.Congruence.{Congruent}
 use Rattle.num_modular.specs.Inverses.{HasInverse}
-use Rattle.num_modular.specs.NumberLaws.{mod_of_eq, mod_sym, mod_trans, mod_add}
-use Rattle.num_modular.specs.NumberLaws.{sum_below-zero, sum_below-suc}
+use Rattle.num_modular.specs.NumberLaws.{mod_of_eq, mod_sym, mod_trans, mod_add, sum_below-zero, sum_below-suc}
+use Rattle.num_modular.specs.NumberLaws.{sum_below-same, sum_below-add, sum_below-mul}
 use Rattle.num_modular.specs.Polynomials.{HaveUnitDifferences}
 use Rattle.num_modular.specs.Sums.{sum_below}
 use Rattle.ring_codes.proofs.Distances.{counted, counted_other}
-use Rattle.ring_codes.proofs.Congruences.{left_alone, left_alone_other}
+use Rattle.ring_codes.proofs.Congruences.{left_alone, left_alone_other, mod_of_combination, mod_of_inverse, mod_times}
 use Rattle.ring_codes.proofs.NearestWords.{at_root, difference_alike, unit_alike}
 use Rattle.ring_decoder.specs.PowerSums.{hamming_weight}
-use Rattle.ring_codes.proofs.Congruences.{mod_of_combination, mod_of_inverse, mod_times}
 use Rattle.ring_decoder.proofs.LostPlaces.{fewer_differences}
 use Rattle.ring_decoder.proofs.SyndromeSums.{single_congruent}
-use Rattle.num_modular.specs.NumberLaws.{sum_below-same, sum_below-add, sum_below-mul}
 
 -- the sum of the weights times the powers of the points
 abbrev pub power_sum : ℕ → (ℕ → ℕ) → (ℕ → ℕ) → ℕ → ℕ

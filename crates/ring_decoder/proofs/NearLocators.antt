@@ -1,11 +1,11 @@
 -- What the locator says of errors that are few: its values are 0 at each place where an error isn't.
 use Rattle.std.proofs.Common.{◌≡◌, ◌≢◌, ℕ, zero, suc, ◌+◌, ◌-◌, ◌*◌, ◌%◌, ◌^◌, ◌<◌, ◌≤◌, ◌⊎◌, cond, eqb, pos, ◌-ℤ◌}
-use Rattle.std.proofs.Common.{List, length, slice_index, true, false, ap, sym, ◌∙◌, arith, refl, inl, inr, subst, mod-eq_of_lt}
+use Rattle.std.proofs.Common.{List, length, slice_index, true, false, ap, sym, ◌∙◌, arith, refl, inl, inr, subst}
+use Rattle.std.proofs.Common.{mod-eq_of_lt}
 use Rattle.std.proofs.lemmas.Bool.{cases_eq, cases_lt, false≢true}
 use Rattle.num_modular.specs.Congruence.{Congruent}
 use Rattle.num_modular.specs.Inverses.{HasInverse}
-use Rattle.num_modular.specs.NumberLaws.{mod_of_eq, mod_sym, mod_trans, mod_add}
-use Rattle.num_modular.specs.NumberLaws.{sum_below-suc}
+use Rattle.num_modular.specs.NumberLaws.{mod_of_eq, mod_sym, mod_trans, mod_add, sum_below-suc, sum_below-of_zeros}
 use Rattle.num_modular.specs.Polynomials.{polynomial_at, HaveUnitDifferences}
 use Rattle.num_modular.specs.PolynomialLaws.{polynomial-first}
 use Rattle.num_modular.specs.ProductLaws.{has_product}
@@ -16,7 +16,8 @@ use Rattle.ring_codes.proofs.NewtonForms.{no_difference, product-none, has_of_re
 use Rattle.ring_decoder.proofs.ChosenPlaces.{zeros_others, chosen_zero, chosen_nonzero}
 use Rattle.ring_decoder.proofs.LocatorPlaces.{weights_vanish, few_zeros}
 use Rattle.ring_decoder.proofs.LostPlaces.{is_lost, lost_or_listed, without_lost, without_listed, lost_at, is_lost_at}
-use Rattle.ring_decoder.proofs.LostPlaces.{one_place, few_hidden, distance_alike}
+use Rattle.ring_decoder.proofs.LostPlaces.{one_place, few_hidden, distance_alike, fewer_differences, same_at}
+use Rattle.ring_decoder.proofs.LostPlaces.{listed_none, without_none}
 use Rattle.ring_decoder.specs.Corrector.{without, AreLost}
 use Rattle.ring_decoder.specs.ErrorPatterns.{listed_weight, IsNearPattern, zeros, Covers, AreLocatorValues, IsLocated}
 use Rattle.ring_decoder.specs.Locators.{IsLocator, NeedManyWeights, IsGeometric, IsLinear}
@@ -24,10 +25,8 @@ use Rattle.ring_decoder.specs.PowerSums.{ArePowerSums, hamming_weight}
 use Rattle.ring_decoder.specs.Syndromes.{product_of_differences}
 use Rattle.ring_codes.proofs.Congruences.{mod_of_combination, mod_of_difference, mod_times}
 use Rattle.ring_decoder.proofs.LocatorSums.{factor_none, none_of, residue_none}
-use Rattle.ring_decoder.proofs.LostPlaces.{fewer_differences, same_at, listed_none, without_none}
 use Rattle.ring_decoder.proofs.SyndromeRoots.{constant_value}
 use Rattle.ring_decoder.proofs.SyndromeSums.{single_congruent}
-use Rattle.num_modular.specs.NumberLaws.{sum_below-of_zeros}
 
 times_none : (m a b : ℕ) → Congruent m a 0 → Congruent m (a * b) 0
 times_none m a b none = mod_of_combination (mod_times b none) (omega arith)

@@ -1,7 +1,8 @@
 -- Syndromes at the powers of a root: the last coefficients of the polynomial through all symbols (Reed and Solomon,
 -- "Polynomial codes over certain finite fields", 1960; Blahut, "Transform techniques for error control codes", IBM Journal
 -- of Research and Development 23, 1979).
-use Rattle.std.proofs.Common.{◌≡◌, ◌≢◌, ℕ, zero, suc, ◌+◌, ◌-◌, ◌*◌, ◌/◌, ◌%◌, ◌^◌, ◌<◌, ◌≤◌, pos, ◌-ℤ◌, ap, sym, subst, ◌∙◌, arith, refl, inl, inr}
+use Rattle.std.proofs.Common.{◌≡◌, ◌≢◌, ℕ, zero, suc, ◌+◌, ◌-◌, ◌*◌, ◌/◌, ◌%◌, ◌^◌, ◌<◌, ◌≤◌, pos, ◌-ℤ◌, ap, sym, subst}
+use Rattle.std.proofs.Common.{◌∙◌, arith, refl, inl, inr}
 use Rattle.std.proofs.Math.Logic.{∥∥₁_elim}
 use Rattle.std.proofs.Math.Nat.{zero-mod, pow-zero, pow-suc}
 use Rattle.std.specs.Int.{IsPowerOfTwo}
@@ -19,7 +20,7 @@ use Rattle.num_modular.specs.ProductLaws.{has_both}
 use Rattle.num_modular.specs.Residues.{residue}
 use Rattle.num_modular.specs.Sums.{sum_below}
 use Rattle.num_modular.specs.Transforms.{Suits, transform}
-use Rattle.ring_codes.proofs.Congruences.{has_one, mod_of_combination, mod_of_difference, mod_of_residue}
+use Rattle.ring_codes.proofs.Congruences.{has_one, mod_of_combination, mod_of_difference, mod_of_residue, mod_times}
 use Rattle.ring_codes.proofs.NearestWords.{unit_alike}
 use Rattle.ring_codes.proofs.NewtonForms.{has_of_residue}
 use Rattle.ring_codes.proofs.RootPowers.{word_of_coefficients}
@@ -29,8 +30,6 @@ use Rattle.ring_decoder.proofs.DualCode.{powers_vanish, top_power}
 use Rattle.ring_decoder.proofs.SyndromeSums.{moment, single_congruent}
 use Rattle.ring_decoder.specs.PowerSums.{ArePowerSums}
 use Rattle.ring_decoder.specs.Syndromes.{AreWeights}
-use Rattle.ring_codes.proofs.Congruences.{mod_times}
-use Rattle.num_modular.specs.NumberLaws.{mod_sym}
 
 -- n is one power of two, so what a ghost field says of a root holds
 one_power : (n : ℕ) (u v : IsPowerOfTwo n) → u ≡ v

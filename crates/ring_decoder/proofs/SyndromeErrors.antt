@@ -1,6 +1,6 @@
 -- The errors at given points: by the quotients of the product of X - x by each X - x.
-use Rattle.std.proofs.Common.{◌≡◌, ◌≢◌, ℕ, zero, suc, ◌+◌, ◌-◌, ◌*◌, ◌%◌, ◌^◌, ◌<◌, pos, ◌-ℤ◌, ap, sym, ◌∙◌, arith}
-use Rattle.std.proofs.Common.{inl, inr, refl, ◌↔◌}
+use Rattle.std.proofs.Common.{◌≡◌, ◌≢◌, ℕ, zero, suc, ◌+◌, ◌-◌, ◌*◌, ◌%◌, ◌^◌, ◌<◌, pos, ◌-ℤ◌, ap, sym, ◌∙◌, arith, inl}
+use Rattle.std.proofs.Common.{inr, refl, ◌↔◌, add-one}
 use Rattle.std.proofs.lemmas.Bool.{cases_eq}
 use Rattle.num_modular.specs.Callers.{same_coefficients, has_both}
 use Rattle.num_modular.specs.Congruence.{Congruent}
@@ -16,13 +16,11 @@ use Rattle.ring_codes.proofs.Lagrange.{none_at, all_from_fit, fit_from_all}
 use Rattle.ring_codes.proofs.NewtonForms.{one_expanded, no_difference, product-none, has_of_residue, has_to_residue}
 use Rattle.ring_decoder.specs.PowerSums.{ArePowerSums}
 use Rattle.ring_decoder.specs.Syndromes.{HasRoots}
-use Rattle.ring_decoder.proofs.SyndromeRoots.{product_monic}
+use Rattle.ring_decoder.proofs.SyndromeRoots.{product_monic, constant_value}
 use Rattle.ring_decoder.proofs.SyndromeSums.{weight_alone, sum_reversed}
 use Rattle.ring_codes.proofs.Congruences.{mod_of_combination, mod_of_inverse, mod_of_residue, mod_times}
 use Rattle.ring_decoder.proofs.LocatorSums.{factor_none}
 use Rattle.std.proofs.Math.Nat.{zero-add, add-zero}
-use Rattle.std.proofs.Common.{add-one}
-use Rattle.ring_decoder.proofs.SyndromeRoots.{constant_value}
 
 -- what Horner's rule at a finds from coefficient l on of a polynomial of degree q; from 1 on these are the coefficients
 -- of its quotient by X - a

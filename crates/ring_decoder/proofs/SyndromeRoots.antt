@@ -1,10 +1,9 @@
 -- Polynomials with given roots and the highest coefficient 1.
-use Rattle.std.proofs.Common.{◌≡◌, ℕ, zero, suc, ◌+◌, ◌-◌, ◌*◌, ◌^◌, ◌<◌, ◌≤◌, pos, ◌-ℤ◌, ap, sym, ◌∙◌, arith}
-use Rattle.std.proofs.Common.{refl}
+use Rattle.std.proofs.Common.{◌≡◌, ℕ, zero, suc, ◌+◌, ◌-◌, ◌*◌, ◌^◌, ◌<◌, ◌≤◌, pos, ◌-ℤ◌, ap, sym, ◌∙◌, arith, refl}
 use Rattle.std.proofs.Math.Nat.{pow-zero}
 use Rattle.num_modular.specs.Congruence.{Congruent}
-use Rattle.num_modular.specs.NumberLaws.{mod_of_eq, mod_refl, mod_sym, mod_trans, mod_add, mod_mul}
-use Rattle.num_modular.specs.NumberLaws.{sum_below-suc, sum_below-zero, sum_below-congruent}
+use Rattle.num_modular.specs.NumberLaws.{mod_of_eq, mod_refl, mod_sym, mod_trans, mod_add, mod_mul, sum_below-suc}
+use Rattle.num_modular.specs.NumberLaws.{sum_below-zero, sum_below-congruent}
 use Rattle.num_modular.specs.Polynomials.{polynomial_at}
 use Rattle.num_modular.specs.ProductLaws.{product-zero, product-more}
 use Rattle.num_modular.specs.Products.{product_below}

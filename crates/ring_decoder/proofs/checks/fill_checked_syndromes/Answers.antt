@@ -1,5 +1,4 @@
-use Rattle.num_modular.specs.Callers.{arith, length}
-use Rattle.num_modular.specs.Callers.{entry, hold_more, held_forms, held_entry}
+use Rattle.num_modular.specs.Callers.{arith, length, entry, hold_more, held_forms, held_entry}
 use Rattle.num_modular.specs.NumberLaws.{mod_of_eq, mod_trans, residue_of}
 use Rattle.ring_decoder.proofs.CheckTables.{checked_sum}
 use Rattle.ring_decoder.proofs.checks.fill_checked_syndromes.Goals as goal

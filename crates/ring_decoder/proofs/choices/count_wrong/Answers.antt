@@ -1,7 +1,5 @@
-use Rattle.num_modular.specs.Callers.{◌<◌, ◌%◌, ◌∙◌, ap, sym, subst, arith}
-use Rattle.num_modular.specs.Callers.{entry, entry_read, form_read}
-use Rattle.ring_codes.proofs.Distances.{counted}
-use Rattle.ring_codes.proofs.Distances.{one_counted}
+use Rattle.num_modular.specs.Callers.{◌<◌, ◌%◌, ◌∙◌, ap, sym, subst, arith, entry, entry_read, form_read}
+use Rattle.ring_codes.proofs.Distances.{counted, one_counted}
 use Rattle.ring_decoder.proofs.LostPlaces.{without_alike, without_below}
 use Rattle.ring_decoder.specs.Corrector.{without}
 use Rattle.ring_decoder.proofs.choices.count_wrong.Goals as goal

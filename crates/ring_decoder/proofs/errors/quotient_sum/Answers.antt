@@ -1,6 +1,5 @@
-use Rattle.num_modular.specs.Callers.{form_read}
-use Rattle.num_modular.specs.Callers.{◌<◌, ◌≡◌, ℕ, ◌+◌, ◌-◌, ◌*◌, ◌%◌, ◌∙◌, ap, sym, arith}
-use Rattle.num_modular.specs.Callers.{entry, entry_read}
+use Rattle.num_modular.specs.Callers.{form_read, ◌<◌, ◌≡◌, ℕ, ◌+◌, ◌-◌, ◌*◌, ◌%◌, ◌∙◌, ap, sym, arith, entry}
+use Rattle.num_modular.specs.Callers.{entry_read}
 use Rattle.num_modular.specs.NumberLaws.{mod_of_eq, mod_trans, mod_mul, residue_of, sum_below-zero}
 use Rattle.num_modular.specs.Polynomials.{polynomial_at}
 use Rattle.num_modular.specs.Sums.{sum_below}

@@ -2,8 +2,7 @@ use Rattle.std.proofs.Common.{slice_range, take, length-take-le}
 use Rattle.num_modular.specs.Callers.{ℕ, ◌+◌, ◌-◌, ◌*◌, ◌%◌, ◌≡◌, ◌≤◌, ◌∙◌, ap, arith, entry}
 use Rattle.num_modular.specs.NumberLaws.{sum_below-same}
 use Rattle.num_modular.specs.Sums.{sum_below}
-use Rattle.ring_codes.proofs.Symbols.{entry_slice}
-use Rattle.ring_codes.proofs.Symbols.{entry_front}
+use Rattle.ring_codes.proofs.Symbols.{entry_slice, entry_front}
 use Rattle.ring_decoder.proofs.locator.apply.Goals as goal
 
 pub returns-clause-value : goal.returns-clause-value

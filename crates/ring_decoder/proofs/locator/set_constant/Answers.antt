@@ -1,6 +1,5 @@
 use Rattle.std.proofs.lemmas.Bool.{cases_lt}
-use Rattle.num_modular.specs.Callers.{◌∙◌, arith, inl, inr, length}
-use Rattle.num_modular.specs.Callers.{entry_past, entry_kept, held_entry}
+use Rattle.num_modular.specs.Callers.{◌∙◌, arith, inl, inr, length, entry_past, entry_kept, held_entry}
 use Rattle.ring_decoder.proofs.locator.set_constant.Goals as goal
 
 pub returns-clause-others : goal.returns-clause-others

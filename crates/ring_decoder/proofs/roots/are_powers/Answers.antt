@@ -2,8 +2,7 @@ use Rattle.std.proofs.Common.{◌^◌, add-one, below_more}
 use Rattle.std.proofs.Math.Nat.{pow-zero, pow-suc}
 use Rattle.std.proofs.lemmas.Bool.{false≢true}
 use Rattle.std.proofs.lemmas.Nat.{mul-mod_first}
-use Rattle.num_modular.specs.Callers.{◌*◌, ◌%◌, ◌<◌, ◌∙◌, ap, sym, refl, arith, length}
-use Rattle.num_modular.specs.Callers.{entry_read, form_read}
+use Rattle.num_modular.specs.Callers.{◌*◌, ◌%◌, ◌<◌, ◌∙◌, ap, sym, refl, arith, length, entry_read, form_read}
 use Rattle.ring_codes.proofs.Symbols.{same_forms, told_same, told_other}
 use Rattle.ring_decoder.proofs.roots.are_powers.Goals as goal
 

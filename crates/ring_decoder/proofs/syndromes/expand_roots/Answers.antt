@@ -1,6 +1,5 @@
-use Rattle.num_modular.specs.Callers.{◌≤◌, ◌≢◌, ◌∙◌, ◌%◌, ap, arith, length}
-use Rattle.num_modular.specs.Callers.{entry_read, entry_past, entry_kept, entry_written, held_entry}
-use Rattle.num_modular.specs.Callers.{held_forms, forms_written}
+use Rattle.num_modular.specs.Callers.{◌≤◌, ◌≢◌, ◌∙◌, ◌%◌, ap, arith, length, entry_read, entry_past, entry_kept}
+use Rattle.num_modular.specs.Callers.{entry_written, held_entry, held_forms, forms_written}
 use Rattle.num_modular.specs.NumberLaws.{mod_of_eq, mod_trans, residue_of}
 use Rattle.std.proofs.Common.{inl, inr}
 use Rattle.std.proofs.lemmas.Bool.{cases_lt}

@@ -1,6 +1,5 @@
 use Rattle.std.proofs.Common.{◌^◌}
-use Rattle.num_modular.specs.Callers.{◌*◌, ◌%◌, arith, length}
-use Rattle.num_modular.specs.Callers.{entry, hold_more}
+use Rattle.num_modular.specs.Callers.{◌*◌, ◌%◌, arith, length, entry, hold_more}
 use Rattle.num_modular.specs.Sums.{sum_below}
 use Rattle.ring_decoder.proofs.SyndromeSums.{terms_next, sum_of_terms}
 use Rattle.ring_decoder.proofs.syndromes.fill_power_sums.Goals as goal

@@ -1,6 +1,4 @@
-use Rattle.num_modular.specs.Callers.{form_read}
-use Rattle.num_modular.specs.Callers.{◌*◌, ◌%◌, arith}
-use Rattle.num_modular.specs.Callers.{entry, entry_read, hold_more, held_forms, held_entry}
+use Rattle.num_modular.specs.Callers.{form_read, ◌*◌, ◌%◌, arith, entry, entry_read, hold_more, held_forms, held_entry}
 use Rattle.num_modular.specs.NumberLaws.{mod_of_eq, mod_trans, residue_of}
 use Rattle.ring_decoder.proofs.SyndromeSums.{sums_alike, product_of_equal}
 use Rattle.ring_decoder.proofs.syndromes.fill_syndromes.Goals as goal
