@@ -1,65 +1,54 @@
-use Rattle.num_modular.specs.Callers.{◌≡◌, ℕ, ◌∙◌, ap, sym, subst, refl, arith, length, entry}
+use Rattle.num_modular.specs.Callers.{◌≡◌, ◌∙◌, ap, sym, subst, refl, arith, length, entry}
 use Rattle.num_modular.specs.Polynomials.{HaveUnitDifferences}
 use Rattle.std.proofs.lemmas.Bool.{false≢true}
 use Rattle.ring_decoder.proofs.ChosenPlaces.{picked, chosen_fit, chosen_units}
 use Rattle.ring_decoder.proofs.SolvedErrors.{solved_sums, covered_sums, covered_weight}
 use Rattle.ring_decoder.specs.ErrorPatterns.{zeros, AreChosen, listed_weight}
 use Rattle.ring_decoder.proofs.choices.solve.Goals as goal
+use Rattle.ring_decoder.proofs.choices.solve.Goals.{After-gather-2}
+
+-- how many numbers are chosen, the chosen points, and the chosen weights
+chosen : (g : _) (c : After-gather-2 g)
+    → let entries = entry g.T.RingWord.number g.R.Reducer.value (g.R.Reducer.modulus c.args.r.now) in
+    let z = entries c.args.values.now in let n = length c.args.points.now in
+    (length c.gather.new.chosen ≡ zeros n z) × AreChosen n z (entries c.args.points.now) (entries c.gather.new.chosen)
+    × AreChosen n z (entries c.args.weights.now) (entries c.gather-2.new.chosen)
+chosen g c =
+    let entries = entry g.T.RingWord.number g.R.Reducer.value (g.R.Reducer.modulus c.args.r.now) in
+    let z = entries c.args.values.now in let each = c.requires.each_value in (
+      c.gather.auto.chosen ∙ c.split_at_mut-chosen.ensures.front_len ∙ c.count_zeros-q.ensures ∙ ap (λ k. zeros k z) each,
+      subst (λ k. AreChosen k z (entries c.args.points.now) (entries c.gather.new.chosen)) each c.gather.ensures.chosen,
+      subst (λ k. AreChosen k z (entries c.args.weights.now) (entries c.gather-2.new.chosen)) each c.gather-2.ensures.chosen,
+    )
 
 pub solve_chosen-requires-clause-fit : goal.solve_chosen-requires-clause-fit
 solve_chosen-requires-clause-fit g c =
-    let ring = g.R.Reducer in let m = ring.modulus c.args.r.now in let number = g.T.RingWord.number in
-    let z = entry number ring.value m c.args.values.now in let x = entry number ring.value m c.args.points.now in
-    let p = entry number ring.value m c.gather.new.chosen in let n : ℕ = length c.args.points.now in
-    let points = subst (λ k. AreChosen k z x p) c.requires.each_value c.gather.ensures.chosen in
-    let count : length c.gather.new.chosen ≡ zeros n z =
-    c.gather.auto.chosen ∙ c.split_at_mut-chosen.ensures.front_len ∙ c.count_zeros-q.ensures
-    ∙ ap (λ k. zeros k z) c.requires.each_value in
-    subst (λ k. HaveUnitDifferences m k p) (sym count) (chosen_fit m n z x p points c.requires.fit)
+    let m = g.R.Reducer.modulus c.args.r.now in
+    let known = chosen g (goal.at.solve_chosen-requires-clause-fit g c).After-gather-2 in
+    subst (λ k. HaveUnitDifferences m k (entry g.T.RingWord.number g.R.Reducer.value m c.gather.new.chosen)) (sym known.0)
+    (chosen_fit m _ _ _ _ known.1 c.requires.fit)
 
 pub solve_chosen-requires-clause-units : goal.solve_chosen-requires-clause-units
 solve_chosen-requires-clause-units g c i l =
-    let ring = g.R.Reducer in let m = ring.modulus c.args.r.now in let number = g.T.RingWord.number in
-    let z = entry number ring.value m c.args.values.now in let v = entry number ring.value m c.args.weights.now in
-    let w = entry number ring.value m c.gather-2.new.chosen in let n : ℕ = length c.args.points.now in
-    let weights = subst (λ k. AreChosen k z v w) c.requires.each_value c.gather-2.ensures.chosen in
-    let count : length c.gather.new.chosen ≡ zeros n z =
-    c.gather.auto.chosen ∙ c.split_at_mut-chosen.ensures.front_len ∙ c.count_zeros-q.ensures
-    ∙ ap (λ k. zeros k z) c.requires.each_value in
-    chosen_units m n z v w weights c.requires.units i (omega (arith, l, count))
+    let known = chosen g (goal.at.solve_chosen-requires-clause-units g c).After-gather-2 in
+    chosen_units _ _ _ _ _ known.2 c.requires.units i (omega (arith, l, known.0))
 
 pub returns-then-not-solve_chosen-clause-solved : goal.returns-then-not-solve_chosen-clause-solved
 returns-then-not-solve_chosen-clause-solved g c e near covers =
-    let ring = g.R.Reducer in let m = ring.modulus c.args.r.now in let number = g.T.RingWord.number in
-    let z = entry number ring.value m c.args.values.now in let x = entry number ring.value m c.args.points.now in
-    let v = entry number ring.value m c.args.weights.now in let n : ℕ = length c.args.points.now in
-    let p = entry number ring.value m c.gather.new.chosen in let w = entry number ring.value m c.gather-2.new.chosen in
-    let s = entry number ring.value m c.args.syndromes.now in let t : ℕ = length c.args.syndromes.now in
-    let q : ℕ = length c.gather.new.chosen in
-    let points = subst (λ k. AreChosen k z x p) c.requires.each_value c.gather.ensures.chosen in
-    let weights = subst (λ k. AreChosen k z v w) c.requires.each_value c.gather-2.ensures.chosen in
-    let count : q ≡ zeros n z =
-    c.gather.auto.chosen ∙ c.split_at_mut-chosen.ensures.front_len ∙ c.count_zeros-q.ensures
-    ∙ ap (λ k. zeros k z) c.requires.each_value in
-    absurd (false≢true (c.if-not-solve_chosen.ensures.only (picked n z e).0
-    (covered_sums m t n q z x v e p w s count points weights covers near.sums)).0)
+    let known = chosen g (goal.at.returns-then-not-solve_chosen-clause-solved g c).After-gather-2 in
+    let z = entry g.T.RingWord.number g.R.Reducer.value (g.R.Reducer.modulus c.args.r.now) c.args.values.now in
+    absurd (false≢true (c.if-not-solve_chosen.ensures.only (picked (length c.args.points.now) z e).0
+    (covered_sums _ _ _ _ z _ _ e _ _ _ known.0 known.1 known.2 covers near.sums)).0)
 
 pub returns-then-wrong-syndromes-clause-solved : goal.returns-then-wrong-syndromes-clause-solved
 returns-then-wrong-syndromes-clause-solved g c e near covers =
-    let ring = g.R.Reducer in let m = ring.modulus c.args.r.now in let number = g.T.RingWord.number in
-    let z = entry number ring.value m c.args.values.now in let x = entry number ring.value m c.args.points.now in
-    let v = entry number ring.value m c.args.weights.now in let n : ℕ = length c.args.points.now in
-    let p = entry number ring.value m c.gather.new.chosen in let w = entry number ring.value m c.gather-2.new.chosen in
-    let s = entry number ring.value m c.args.syndromes.now in let t : ℕ = length c.args.syndromes.now in
-    let d = entry number ring.value m c.solve_chosen.new.errors in let f = entry number ring.value m c.scatter.new.errors in
-    let lost = c.args.lost.now in let q : ℕ = length c.gather.new.chosen in let each = c.requires.each_value in
-    let points = subst (λ k. AreChosen k z x p) each c.gather.ensures.chosen in
-    let weights = subst (λ k. AreChosen k z v w) each c.gather-2.ensures.chosen in
-    let count : q ≡ zeros n z =
-    c.gather.auto.chosen ∙ c.split_at_mut-chosen.ensures.front_len ∙ c.count_zeros-q.ensures ∙ ap (λ k. zeros k z) each in
-    let only = c.if-not-solve_chosen.ensures.only (picked n z e).0
-    (covered_sums m t n q z x v e p w s count points weights covers near.sums) in
-    let weight = covered_weight m t n q lost z e d f count covers only.1
+    let known = chosen g (goal.at.returns-then-wrong-syndromes-clause-solved g c).After-gather-2 in
+    let m = g.R.Reducer.modulus c.args.r.now in let entries = entry g.T.RingWord.number g.R.Reducer.value m in
+    let z = entries c.args.values.now in let f = entries c.scatter.new.errors in
+    let lost = c.args.lost.now in let each = c.requires.each_value in
+    let only = c.if-not-solve_chosen.ensures.only (picked (length c.args.points.now) z e).0
+    (covered_sums _ _ _ _ z _ _ e _ _ _ known.0 known.1 known.2 covers near.sums) in
+    let weight = covered_weight m _ _ _ lost z e (entries c.solve_chosen.new.errors) f known.0 covers only.1
     (λ i l. c.scatter.ensures.errors i (omega (arith, l, each))) in
     let wrong = c.count_wrong-wrong.ensures
     ∙ ap (λ k. listed_weight m k lost f) (c.scatter.auto.errors ∙ c.requires.room) in
@@ -67,23 +56,15 @@ returns-then-wrong-syndromes-clause-solved g c e near covers =
 
 pub returns-else-wrong-syndromes-clause-solved : goal.returns-else-wrong-syndromes-clause-solved
 returns-else-wrong-syndromes-clause-solved g c =
-    let ring = g.R.Reducer in let m = ring.modulus c.args.r.now in let number = g.T.RingWord.number in
-    let z = entry number ring.value m c.args.values.now in let x = entry number ring.value m c.args.points.now in
-    let v = entry number ring.value m c.args.weights.now in let n : ℕ = length c.args.points.now in
-    let p = entry number ring.value m c.gather.new.chosen in let w = entry number ring.value m c.gather-2.new.chosen in
-    let s = entry number ring.value m c.args.syndromes.now in let t : ℕ = length c.args.syndromes.now in
-    let d = entry number ring.value m c.solve_chosen.new.errors in let f = entry number ring.value m c.scatter.new.errors in
-    let lost = c.args.lost.now in let q : ℕ = length c.gather.new.chosen in let each = c.requires.each_value in
-    let points = subst (λ k. AreChosen k z x p) each c.gather.ensures.chosen in
-    let weights = subst (λ k. AreChosen k z v w) each c.gather-2.ensures.chosen in
-    let count : q ≡ zeros n z =
-    c.gather.auto.chosen ∙ c.split_at_mut-chosen.ensures.front_len ∙ c.count_zeros-q.ensures ∙ ap (λ k. zeros k z) each in
+    let known = chosen g (goal.at.returns-else-wrong-syndromes-clause-solved g c).After-gather-2 in
+    let m = g.R.Reducer.modulus c.args.r.now in let entries = entry g.T.RingWord.number g.R.Reducer.value m in
+    let z = entries c.args.values.now in let f = entries c.scatter.new.errors in let each = c.requires.each_value in
     let wrong = c.count_wrong-wrong.ensures
-    ∙ ap (λ k. listed_weight m k lost f) (c.scatter.auto.errors ∙ c.requires.room) in (
+    ∙ ap (λ k. listed_weight m k c.args.lost.now f) (c.scatter.auto.errors ∙ c.requires.room) in (
       c.scatter.ensures.checked,
       record {
         pattern = record {
-          sums = solved_sums m t n q z x v f p w d s count points weights
+          sums = solved_sums m _ _ _ z _ _ f _ _ (entries c.solve_chosen.new.errors) _ known.0 known.1 known.2
               (λ i l. c.scatter.ensures.errors i (omega (arith, l, each))) (c.if-not-solve_chosen.ensures.sums refl);
           few = omega (arith, c.if-wrong-syndromes.false, wrong);
         };
