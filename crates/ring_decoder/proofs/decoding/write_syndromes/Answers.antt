@@ -11,6 +11,7 @@ use Rattle.ring_decoder.proofs.RootSyndromes.{suits_known, length_unit}
 use Rattle.ring_decoder.specs.PowerSums.{ArePowerSums}
 use Rattle.ring_decoder.specs.Syndromes.{AreChecks, AreWeights}
 use Rattle.ring_decoder.proofs.decoding.write_syndromes.Goals as goal
+use Rattle.ring_decoder.proofs.decoding.write_syndromes.Goals.{Start}
 
 pub fill_syndromes_by_transform-requires-clause-suits : goal.fill_syndromes_by_transform-requires-clause-suits
 fill_syndromes_by_transform-requires-clause-suits g c =
@@ -49,27 +50,22 @@ returns-else-is_empty-clause-sums g c =
     (subst (λ t. AreChecks m t (length c.args.word.now) x v checks) (sym kept)
     (subst (λ n. AreChecks m (length c.args.syndromes.now) n x v checks) (sym same) (c.requires.table some)))))
 
+-- where there is a root, the number of the symbols has an inverse
+units : (g : _) (c : Start g) (a : _) → c.args.root ≡ Some a
+    → HasInverse (g.R.Reducer.modulus c.args.r.now) (length c.args.word.now)
+units g c a is =
+    let ring = g.R.Reducer in let m = ring.modulus c.args.r.now in
+    let positive = (g.met.R.Reducer.canonical c.args.r.now).positive in
+    subst (HasInverse m) (sym c.requires.each_symbol) (length_unit m (ring.value m (g.T.RingWord.number a)) _ _ positive
+    (suits_known m _ _ (c.requires.suits a is)) (c.requires.powers a is) (fit_of_weights m _ _ _ c.requires.weights_of))
+
 pub returns-then-is_empty-clause-counted : goal.returns-then-is_empty-clause-counted
 returns-then-is_empty-clause-counted g c =
-    let ring = g.R.Reducer in let m = ring.modulus c.args.r.now in let number = g.T.RingWord.number in
-    let positive = (g.met.R.Reducer.canonical c.args.r.now).positive in
-    let n : ℕ = length c.args.points.now in let x = entry number ring.value m c.args.points.now in
-    let units : (a : _) → c.args.root ≡ Some a → HasInverse m (length c.args.word.now) =
-    λ a is. subst (HasInverse m) (sym c.requires.each_symbol) (length_unit m (ring.value m (number a)) n x positive
-    (suits_known m _ n (c.requires.suits a is)) (c.requires.powers a is)
-    (fit_of_weights m n x (entry number ring.value m c.args.weights.now) c.requires.weights_of)) in
-    search (rules, arith, units)
+    search (rules, arith, units g (goal.at.returns-then-is_empty-clause-counted g c).Start)
 
 pub returns-else-is_empty-clause-counted : goal.returns-else-is_empty-clause-counted
 returns-else-is_empty-clause-counted g c =
-    let ring = g.R.Reducer in let m = ring.modulus c.args.r.now in let number = g.T.RingWord.number in
-    let positive = (g.met.R.Reducer.canonical c.args.r.now).positive in
-    let n : ℕ = length c.args.points.now in let x = entry number ring.value m c.args.points.now in
-    let units : (a : _) → c.args.root ≡ Some a → HasInverse m (length c.args.word.now) =
-    λ a is. subst (HasInverse m) (sym c.requires.each_symbol) (length_unit m (ring.value m (number a)) n x positive
-    (suits_known m _ n (c.requires.suits a is)) (c.requires.powers a is)
-    (fit_of_weights m n x (entry number ring.value m c.args.weights.now) c.requires.weights_of)) in
-    search (rules, arith, units)
+    search (rules, arith, units g (goal.at.returns-else-is_empty-clause-counted g c).Start)
 
 pub overflow_sub-result : goal.overflow_sub-result
 overflow_sub-result g c =

@@ -1,4 +1,4 @@
-use Rattle.num_modular.specs.Callers.{◌≡◌, ◌*◌, ◌-◌, ℕ, ◌∙◌, sym, subst, length, entry}
+use Rattle.num_modular.specs.Callers.{◌*◌, ◌-◌, ℕ, ◌∙◌, sym, subst, length, entry}
 use Rattle.num_modular.specs.Inverses.{HasInverse}
 use Rattle.std.proofs.Common.{◌<◌, arith}
 use Rattle.ring_decoder.proofs.NearLocators.{AreSought, located_by, none_near_by}
@@ -43,33 +43,3 @@ returns-in-Some-clause-located g c v units =
     let at = (goal.at.returns-in-Some-clause-located g c).After-fill_moments in
     located_by (sought g at v units) c.in-Some.ensures.located c.fill_values_of-of_values.ensures.values
     c.clear_lost.ensures.cleared c.in-Some.ensures.unit c.in-Some.ensures.one
-
-pub fill_moments-requires-clause-lost : goal.fill_moments-requires-clause-lost
-fill_moments-requires-clause-lost g c = c.copy_points.ensures.checked
-
-pub fill_moments-requires-clause-syndromes : goal.fill_moments-requires-clause-syndromes
-fill_moments-requires-clause-syndromes g c = c.requires.syndromes
-
-pub find_locator-requires-clause-moments : goal.find_locator-requires-clause-moments
-find_locator-requires-clause-moments g c = c.fill_moments.ensures.checked
-
-pub fill_values_of-of_values-requires-clause-points : goal.fill_values_of-of_values-requires-clause-points
-fill_values_of-of_values-requires-clause-points g c = c.requires.points
-
-pub fill_values_of-of_values-requires-clause-first : goal.fill_values_of-of_values-requires-clause-first
-fill_values_of-of_values-requires-clause-first g c = c.find_locator.ensures.checked_first
-
-pub fill_values_of-of_values-requires-clause-second : goal.fill_values_of-of_values-requires-clause-second
-fill_values_of-of_values-requires-clause-second g c = c.find_locator.ensures.checked_second
-
-pub clear_lost-requires-clause-values : goal.clear_lost-requires-clause-values
-clear_lost-requires-clause-values g c = c.fill_values_of-of_values.ensures.checked
-
-pub returns-in-Some-clause-checked : goal.returns-in-Some-clause-checked
-returns-in-Some-clause-checked g c = c.clear_lost.ensures.checked
-
-pub returns-in-Some-clause-witness : goal.returns-in-Some-clause-witness
-returns-in-Some-clause-witness g c = c.in-Some.ensures.witness
-
-pub returns-in-Some-clause-nonzero : goal.returns-in-Some-clause-nonzero
-returns-in-Some-clause-nonzero g c = c.in-Some.ensures.nonzero c.requires.modulus
