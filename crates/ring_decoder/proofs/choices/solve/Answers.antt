@@ -71,21 +71,3 @@ returns-else-wrong-syndromes-clause-solved g c =
         count = wrong;
       },
     )
-
-pub solve_chosen-requires-clause-points : goal.solve_chosen-requires-clause-points
-solve_chosen-requires-clause-points g c = c.gather.ensures.checked
-
-pub solve_chosen-requires-clause-weights : goal.solve_chosen-requires-clause-weights
-solve_chosen-requires-clause-weights g c = c.gather-2.ensures.checked
-
-pub solve_chosen-requires-clause-syndromes : goal.solve_chosen-requires-clause-syndromes
-solve_chosen-requires-clause-syndromes g c = c.requires.syndromes
-
-pub scatter-requires-clause-values : goal.scatter-requires-clause-values
-scatter-requires-clause-values g c = c.requires.values
-
-pub scatter-requires-clause-chosen : goal.scatter-requires-clause-chosen
-scatter-requires-clause-chosen g c = c.if-not-solve_chosen.ensures.checked refl
-
-pub count_wrong-wrong-requires : goal.count_wrong-wrong-requires
-count_wrong-wrong-requires g c = record { errors = c.scatter.ensures.checked }
