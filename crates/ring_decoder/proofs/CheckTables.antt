@@ -3,10 +3,11 @@ use Rattle.std.proofs.Common.{◌≡◌, ◌≢◌, ℕ, zero, suc, ◌+◌, ◌
 use Rattle.std.proofs.Math.Nat.{pow-suc}
 use Rattle.std.proofs.lemmas.Nat.{mod-mul-add, div-mul-add}
 use Rattle.num_modular.specs.Congruence.{Congruent}
-use Rattle.num_modular.specs.NumberLaws.{mod_of_eq, mod_refl, residue_of, mod_trans, mod_mul, sum_below-congruent}
+use Rattle.num_modular.specs.NumberLaws.{mod_of_eq, mod_mul, sum_below-congruent}
 use Rattle.num_modular.specs.Sums.{sum_below}
 use Rattle.ring_decoder.proofs.SyndromeSums.{terms_first}
 use Rattle.ring_decoder.specs.Syndromes.{AreChecks}
+use Rattle.ring_codes.proofs.Congruences.{mod_of_combination, mod_of_residue, mod_times}
 
 -- in the first row a check is the weight
 pub check_first : (m h value a x : ℕ) → h ≡ 0 → value ≡ a → a < m → value ≡ (a * x ^ h) % m
@@ -30,14 +31,11 @@ check_later m n (suc k) i next value above point x v later column at before ther
     let of_row : (next - n) / n ≡ k = ap (λ e. e / n) left ∙ div-mul-add k n i column in
     let a : above ≡ (v i * x i ^ k) % m =
     before ∙ ap (λ e. (v e * x e ^ ((next - n) / n)) % m) of_column ∙ ap (λ e. (v i * x i ^ e) % m) of_row in
-    let order : v i * x i ^ k * x i ≡ v i * x i ^ suc k = omega (arith, ap (λ e. v i * e) (pow-suc (x i) k)) in
-    is ∙ (mod_trans (mod_mul (mod_trans (mod_of_eq a) (residue_of (v i * x i ^ k))) (mod_of_eq there)) (mod_of_eq order)).same
+    is ∙ (mod_of_combination (mod_mul (mod_of_residue a) (mod_of_eq there)) (omega (arith, ap (λ e. v i * e) (pow-suc (x i) k)))).same
 
 -- a dot product with a row is the syndrome
 pub checked_sum : (m t n h : ℕ) (x v y checks : ℕ → ℕ) → AreChecks m t n x v checks → h < t
     → Congruent m (sum_below n (λ i. y i * checks (h * n + i))) (sum_below n (λ i. v i * y i * x i ^ h))
 checked_sum m t n h x v y checks table row =
     sum_below-congruent n (λ i. y i * checks (h * n + i)) (λ i. v i * y i * x i ^ h)
-    (λ i l.
-    let order : y i * (v i * x i ^ h) ≡ v i * y i * x i ^ h = omega arith in
-    mod_trans (mod_mul (mod_refl (y i)) (table.check h i row l)) (mod_of_eq order))
+    (λ i l. mod_of_combination (mod_times (y i) (table.check h i row l)) (omega arith))

@@ -111,8 +111,11 @@ picked (suc n) z f =
     let p = picked n z f in
     let more : ℕ → ℕ = extended (zeros n z) (f n) p.0 in
     elim (cases_eq (z n) 0) [
-      | inl e ↦ (more, subst (λ k. AreChosen k z f more) (add-one n)
-          (chosen_more n z f p.0 more p.1 (at_end (zeros n z) (f n) p.0 (zeros n z) refl) (before_end (zeros n z) (f n) p.0)))
+      | inl e ↦ (
+        more,
+        subst (λ k. AreChosen k z f more) (add-one n)
+            (chosen_more n z f p.0 more p.1 (at_end (zeros n z) (f n) p.0 (zeros n z) refl) (before_end (zeros n z) (f n) p.0)),
+      )
       | inr o ↦ (p.0, subst (λ k. AreChosen k z f p.0) (add-one n) (chosen_kept n z f p.0 p.1 o))
     ]
 
@@ -148,9 +151,8 @@ chosen_sum (suc n) z f g c =
     elim (cases_eq (z n) 0) [
       | inl e ↦
           let k : zeros (suc n) z ≡ suc (zeros n z) = omega (arith, zeros-suc n z e) in
-          let last = c.at n (omega arith) e in
           let one = chosen_zero (z n) (f n) 0 e in
-          omega (arith, i, t, ap (λ k. sum_below k g) k ∙ sum_below-suc (zeros n z) g, last, one)
+          omega (arith, i, t, ap (λ k. sum_below k g) k ∙ sum_below-suc (zeros n z) g, c.at n (omega arith) e, one)
       | inr o ↦
           omega (arith, i, t, ap (λ k. sum_below k g) (zeros-same n z o), chosen_nonzero (z n) (f n) 0 o)
     ]

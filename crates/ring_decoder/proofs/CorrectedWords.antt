@@ -109,9 +109,9 @@ pub right_already : (m k n : ℕ) (x v : ℕ → ℕ) (lost : List ℕ) (y s : �
     → ((i : ℕ) → i < n → y i < m) → ArePowerSums m (n - k) n x (λ i. v i * y i) s → ((h : ℕ) → h < n - k → s h ≡ 0)
     → IsRightWord m k n x lost y y 0
 right_already m k n x v lost y s positive places weights below sums none =
-    let enough = places.enough in let fit = fit_of_weights m n x v weights in
+    let fit = fit_of_weights m n x v weights in
     let same = no_distance n (without lost y) (without lost y) (λ i l. refl) in
-    let is = codeword_by_syndromes m k n x v y positive (omega (arith, enough)) fit weights below
+    let is = codeword_by_syndromes m k n x v y positive (omega (arith, places.enough)) fit weights below
     (record { sum = λ h l. mod_trans (mod_of_eq (sym (none h l))) (sums.sum h l) }) in
     record {
       codeword = is;
@@ -141,8 +141,8 @@ pub right_word : (m k n wrong : ℕ) (x v : ℕ → ℕ) (lost : List ℕ) (y s 
     → ArePowerSums m (n - k) n x (λ i. v i * y i) s → IsSolution m (n - k) n x v lost s e wrong
     → ((i : ℕ) → i < n → Congruent m (w i + e i) (y i)) → IsRightWord m k n x lost y w wrong
 right_word m k n wrong x v lost y s e w positive places weights below_y below_w sums solution each =
-    let enough = places.enough in let fit = fit_of_weights m n x v weights in
-    let is = codeword_by_syndromes m k n x v w positive (omega (arith, enough)) fit weights below_w
+    let fit = fit_of_weights m n x v weights in
+    let is = codeword_by_syndromes m k n x v w positive (omega (arith, places.enough)) fit weights below_w
     (record {
       sum = λ h l. mod_of_combination (mod_add (mod_sym (sums_added m n h x v w e y each))
           (mod_add (sums.sum h l) (mod_sym (solution.pattern.sums.sum h l)))) (omega arith);

@@ -231,8 +231,8 @@ linear_none m u a X p is =
 -- numbers of which the difference has an inverse
 apart_none : (m u a b : ℕ) → HasInverse m (residue m (pos a -ℤ pos b)) → Congruent m (u * a) (u * b) → Congruent m u 0
 apart_none m u a b unit same =
-    let r : ℕ = residue m (pos a -ℤ pos b) in let below = unit.1.below in
-    let is : Congruent m (r + b) a = mod_of_difference b (omega (arith, below)) refl in
+    let r : ℕ = residue m (pos a -ℤ pos b) in
+    let is : Congruent m (r + b) a = mod_of_difference b (omega (arith, unit.1.below)) refl in
     factor_none m u r unit (mod_of_combination (mod_add (mod_times u is) same) (omega arith))
 
 linear_values : {m n : ℕ} {x p f g : ℕ → ℕ} {lost : List ℕ} → AreCleared m 1 n x p f g lost → HaveUnitDifferences m n x

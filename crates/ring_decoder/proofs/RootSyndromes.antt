@@ -13,7 +13,7 @@ use Rattle.std.proofs.lemmas.Bool.{cases_lt}
 use Rattle.std.proofs.lemmas.Nat.{pow-add, pow_pos}
 use Rattle.num_modular.specs.Congruence.{Congruent}
 use Rattle.num_modular.specs.Inverses.{HasInverse}
-use Rattle.num_modular.specs.NumberLaws.{mod_of_eq, mod_refl, residue_of, mod_sym, mod_trans, mod_add, mod_pow}
+use Rattle.num_modular.specs.NumberLaws.{mod_of_eq, mod_refl, mod_sym, mod_trans, mod_add, mod_pow}
 use Rattle.num_modular.specs.NumberLaws.{sum_below-congruent, pow-mul, one-pow}
 use Rattle.num_modular.specs.Polynomials.{polynomial_at, HaveUnitDifferences}
 use Rattle.num_modular.specs.ProductLaws.{has_both}
@@ -87,10 +87,9 @@ root_turn m g n (suc y) suits whole more =
 -- and so is that of each of its powers
 pub point_turn : (m g n i : ℕ) (x : ℕ → ℕ) → Suits m g n → ArePowers m g n x → i < n → Congruent m (x i ^ n) 1
 point_turn m g n i x suits powers l =
-    let point : Congruent m (x i) (g ^ i) = mod_trans (mod_of_eq (powers.power i l)) (residue_of (g ^ i)) in
     let swap : (g ^ i) ^ n ≡ (g ^ n) ^ i =
     (let e : i * n ≡ n * i = omega arith in sym (pow-mul g i n) ∙ ap (λ v. g ^ v) e ∙ pow-mul g n i) in
-    mod_trans (mod_pow n point) (mod_trans (mod_of_eq swap)
+    mod_trans (mod_pow n (mod_of_residue (powers.power i l))) (mod_trans (mod_of_eq swap)
     (elim (cases_lt 1 n) [
       | inl more ↦ mod_trans (mod_pow i (root_turn m g n suits.power_of_two.0 suits suits.power_of_two.1 more))
           (mod_of_eq (one-pow i))

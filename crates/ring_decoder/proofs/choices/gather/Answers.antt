@@ -25,8 +25,8 @@ values-preserved g c =
           let test = c.values-test.true in
           let there : i < length numbers = omega (arith, c.requires.pairs, test) in
           let before = zeros_before i (length values) z test here in
-          let count = so_far.0 in let room = c.requires.room in
-          let within : next < length chosen = omega (arith, count, before, c.values.auto.chosen, room) in
+          let count = so_far.0 in
+          let within : next < length chosen = omega (arith, count, before, c.values.auto.chosen, c.requires.room) in
           let new = w.chosen-is ∙ w.put.ensures in
           let form = form_read number ring.form ring.value m numbers i x c.requires.numbers there w.index-numbers-i.is in (
             is ∙ ap (λ k. k + 1) count ∙ sym (zeros_more i z here),

@@ -20,6 +20,6 @@ returns-in-None-find_nonunit-clause-found g c errors near =
     let ring = g.R.Reducer in let m = ring.modulus c.args.r.now in let number = g.T.RingWord.number in
     let v = entry number ring.value m c.args.weights.now in
     let located = c.in-Some.ensures.located v c.requires.units in
-    let units = c.in-None-find_nonunit.ensures in let same = c.locate.auto.values in let room = c.requires.values in
+    let units = c.in-None-find_nonunit.ensures in let room = c.requires.values in
     c.in-None-solve.ensures.solved errors near
-    (located.units units.0 (λ i l other. units.1 i (omega (arith, l, same, room)) other) errors near)
+    (located.units units.0 (λ i l other. units.1 i (omega (arith, l, c.locate.auto.values, room)) other) errors near)

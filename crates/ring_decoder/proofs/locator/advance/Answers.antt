@@ -26,12 +26,12 @@ returns-then-from-degree-clause-advanced g c =
 pub returns-then-is_zero-clause-advanced : goal.returns-then-is_zero-clause-advanced
 returns-then-is_zero-clause-advanced g c =
     let ring = g.R.Reducer in let m = ring.modulus c.args.r.now in
-    let found = c.requires.search.search in let within = found.within in
+    let found = c.requires.search.search in
     let i = c.args.i in let L = c.args.degree in let h : ℕ = i - L in
     record {
       pivot_checked = c.requires.search.pivot_checked;
       witness_checked = c.requires.search.witness_checked;
-      search = search_kept m _ i L _ _ h _ _ _ c.requires.inside (omega (arith, within)) c.if-from-degree.false
+      search = search_kept m _ i L _ _ h _ _ _ c.requires.inside (omega (arith, found.within)) c.if-from-degree.false
           (none_of m _ (sym c.apply-discrepancy.ensures.value ∙ c.is_zero.ensures.0 c.if-is_zero.true)) found;
     }
 
@@ -39,10 +39,10 @@ pub returns-then-from-moments-clause-advanced : goal.returns-then-from-moments-c
 returns-then-from-moments-clause-advanced g c =
     let ring = g.R.Reducer in let m = ring.modulus c.args.r.now in
     let positive = (g.met.R.Reducer.canonical c.args.r.now).positive in
-    let found = c.requires.search.search in let within = found.within in
+    let found = c.requires.search.search in
     let i = c.args.i in let L = c.args.degree in let h : ℕ = i - L in
     let long = c.if-from-moments.true in
-    search_none m _ i L _ _ h _ _ _ positive c.requires.inside (omega (arith, within)) (omega (arith, long))
+    search_none m _ i L _ _ h _ _ _ positive c.requires.inside (omega (arith, found.within)) (omega (arith, long))
     (λ e. false≢true (sym c.if-is_zero.false ∙ c.is_zero.ensures.1 (c.apply-discrepancy.ensures.value ∙ e))) found
 
 pub returns-clause-advanced : goal.returns-clause-advanced

@@ -8,8 +8,7 @@ pub syndromes-preserved : goal.syndromes-preserved
 syndromes-preserved g c =
     let ring = g.R.Reducer in let m = ring.modulus c.args.r.now in let number = g.T.RingWord.number in
     let found = c.intt.new.xs in let place : ℕ = length found - 1 - c.syndromes.h in
-    let count = c.intt.auto.xs ∙ ap length c.copy_from_slice.ensures.after in
-    let below : place < length found = omega (arith, count) in
+    let below : place < length found = omega (arith, c.intt.auto.xs ∙ ap length c.copy_from_slice.ensures.after) in
     hold_more number ring.form ring.value m c.syndromes.syndromes c.syndromes.h _
     (λ h. entry number ring.value m found (length found - 1 - h)) (omega arith) c.syndromes.invariant
     (form_read number ring.form ring.value m found place _ c.intt.ensures.checked below c.index-coefficients-coefficients.is)

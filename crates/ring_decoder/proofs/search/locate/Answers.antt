@@ -15,12 +15,11 @@ sought : (g : _) (c : After-fill_moments g) (v : ℕ → ℕ) → ((i : ℕ) →
     (entries c.args.syndromes.now) (entries c.fill_moments.new.moments)
 sought g c v units =
     let ring = g.R.Reducer in let m = ring.modulus c.args.r.now in let number = g.T.RingWord.number in
-    let positive = (g.met.R.Reducer.canonical c.args.r.now).positive in let other = c.requires.modulus in
     let n : ℕ = length c.args.points.now in let x = entry number ring.value m c.args.points.now in
     let z = entry number ring.value m c.copy_points.new.located in
     let q = entry number ring.value m c.fill_moments.new.moments in
     record {
-      two = omega (arith, positive, other);
+      two = omega (arith, (g.met.R.Reducer.canonical c.args.r.now).positive, c.requires.modulus);
       few = c.requires.few;
       places = c.requires.places;
       count = c.copy_points.auto.located ∙ c.split_at_mut-located.ensures.front_len;

@@ -105,10 +105,9 @@ returns-in-Ok-find_errors-clause-corrected g c =
 
 pub find_errors-requires-clause-modulus : goal.find_errors-requires-clause-modulus
 find_errors-requires-clause-modulus g c =
-    let ring = g.R.Reducer in let m = ring.modulus c.args.self.now.ring.now in let number = g.T.RingWord.number in
-    let syndromes = c.write_syndromes-products.new.syndromes in
-    not_one m (length syndromes) (entry number ring.value m syndromes)
-    (λ i l. entry_below number ring.form ring.value m syndromes i c.write_syndromes-products.ensures.checked l)
+    let ring = g.R.Reducer in
+    not_one _ _ _ (λ i l. entry_below g.T.RingWord.number ring.form ring.value (ring.modulus c.args.self.now.ring.now)
+    c.write_syndromes-products.new.syndromes i c.write_syndromes-products.ensures.checked l)
     (λ all. c.if-count_zeros-syndromes.false (c.count_zeros.ensures ∙ all))
 
 -- the word is of the code exactly where all its syndromes are 0
