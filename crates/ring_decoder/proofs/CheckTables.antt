@@ -31,7 +31,8 @@ check_later m n (suc k) i next value above point x v later column at before ther
     let of_row : (next - n) / n ≡ k = ap (λ e. e / n) left ∙ div-mul-add k n i column in
     let a : above ≡ (v i * x i ^ k) % m =
     before ∙ ap (λ e. (v e * x e ^ ((next - n) / n)) % m) of_column ∙ ap (λ e. (v i * x i ^ e) % m) of_row in
-    is ∙ (mod_of_combination (mod_mul (mod_of_residue a) (mod_of_eq there)) (omega (arith, ap (λ e. v i * e) (pow-suc (x i) k)))).same
+    is ∙ (mod_of_combination (mod_mul (mod_of_residue a) (mod_of_eq there))
+    (omega (arith, ap (λ e. v i * e) (pow-suc (x i) k)))).same
 
 -- a dot product with a row is the syndrome
 pub checked_sum : (m t n h : ℕ) (x v y checks : ℕ → ℕ) → AreChecks m t n x v checks → h < t

@@ -114,7 +114,8 @@ picked (suc n) z f =
       | inl e ↦ (
         more,
         subst (λ k. AreChosen k z f more) (add-one n)
-            (chosen_more n z f p.0 more p.1 (at_end (zeros n z) (f n) p.0 (zeros n z) refl) (before_end (zeros n z) (f n) p.0)),
+            (chosen_more n z f p.0 more p.1 (at_end (zeros n z) (f n) p.0 (zeros n z) refl)
+            (before_end (zeros n z) (f n) p.0)),
       )
       | inr o ↦ (p.0, subst (λ k. AreChosen k z f p.0) (add-one n) (chosen_kept n z f p.0 p.1 o))
     ]

@@ -78,7 +78,8 @@ pub pattern_of : (m k n : ℕ) (x v : ℕ → ℕ) (lost : List ℕ) (y s u : �
     → (d : ℕ → ℕ) × IsNearPattern m (n - k) n x v lost s d × (listed_weight m n lost d ≤ listed_distance n lost y u)
 pattern_of m k n x v lost y s u positive places weights sums is near =
     let d : ℕ → ℕ = λ i. residue m (pos (y i) -ℤ pos (u i)) in
-    let each : (i : ℕ) → i < n → Congruent m (d i + u i) (y i) = λ i l. record { same = difference_and m (y i) (u i) positive } in
+    let each : (i : ℕ) → i < n → Congruent m (d i + u i) (y i) =
+    λ i l. record { same = difference_and m (y i) (u i) positive } in
     let enough = places.enough in
     let none = codeword_without_syndromes m k n x v u positive (omega (arith, enough)) (fit_of_weights m n x v weights) weights is in
     let fewer = fewer_wrong m n lost y d u each in (
@@ -131,7 +132,8 @@ codeword_by_zeros m k n x v y s positive few weights below small sums =
       λ is.
           let none = codeword_without_syndromes m k n x v y positive few fit weights is in
           let each : (h : ℕ) → h < t → s h ≡ 0 =
-          λ h l. sym (mod-eq_of_lt (small h l)) ∙ residue_none m (s h) (mod_trans (sums.sum h l) (mod_sym (none.sum h l))) in
+          λ h l. sym (mod-eq_of_lt (small h l))
+          ∙ residue_none m (s h) (mod_trans (sums.sum h l) (mod_sym (none.sum h l))) in
           omega (arith, no_distance t s (λ i. 0) each, zeros_others t s),
     )
 
@@ -151,7 +153,8 @@ right_word m k n wrong x v lost y s e w positive places weights below_y below_w 
     let more = fewer_differences n (without lost y) (without lost w) (λ i. without lost e i % m) (λ i. 0)
     (λ i l same. without_alike lost y w i (λ listed.
     same_below m (y i) (w i) (below_y i l) (below_w i l)
-    (mod_of_combination (mod_add (mod_sym (each i l)) (none_of m (e i) (listed_none m lost e i listed same))) (omega arith)))) in
+    (mod_of_combination (mod_add (mod_sym (each i l)) (none_of m (e i) (listed_none m lost e i listed same)))
+    (omega arith)))) in
     let count = solution.count in let few = solution.pattern.few in
     let counted : wrong ≡ listed_distance n lost y w = omega (arith, count, less, more) in
     record {

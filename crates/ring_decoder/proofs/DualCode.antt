@@ -74,9 +74,11 @@ pub codeword_without_syndromes : (m k n : ℕ) (x v y : ℕ → ℕ) → 0 < m �
 codeword_without_syndromes m k n x v y positive few fit weights (c, encoding) = record {
   sum = λ h l.
       mod_trans (mod_of_eq (sym (sum_below-of_zeros k (λ l. c l * 0) (λ i b. omega arith))))
-      (mod_trans (moment m (n - 1) n k h x v (λ h. 0) c (weights_vanish_below m n x v positive fit weights) (omega arith))
+      (mod_trans (moment m (n - 1) n k h x v (λ h. 0) c (weights_vanish_below m n x v positive fit weights)
+      (omega arith))
       (sum_below-congruent n _ _
-      (λ i b. mod_of_combination (mod_times (v i * x i ^ h) (mod_sym (mod_of_residue (encoding.symbol i b)))) (omega arith))));
+      (λ i b. mod_of_combination (mod_times (v i * x i ^ h) (mod_sym (mod_of_residue (encoding.symbol i b))))
+      (omega arith))));
 }
 
 -- numbers that differ by 0 are congruent
@@ -138,14 +140,16 @@ codeword_by_syndromes m k n x v y positive few fit weights below none =
     (codeword_without_syndromes m k n x v z positive few fit weights (c, record { symbol = λ i l. refl })) in
     let first : (i : ℕ) → i < k → w i % m ≡ 0 =
     λ i l. residue_none m (w i)
-    (mod_of_combination (mod_times (v i) (no_difference_of m (y i) (z i) positive (found.1.symbol i l))) (omega arith)) in
+    (mod_of_combination (mod_times (v i) (no_difference_of m (y i) (z i) positive (found.1.symbol i l)))
+    (omega arith)) in
     let each = weights_none m n q x w positive fit (few_behind k q n (λ i. w i % m) (λ i. 0) (omega arith) first)
     (λ h l. mod_sym (sums.sum h l)) in
     let swap : (i : ℕ) → rest i * v i ≡ w i = λ i. omega arith in (
       c,
       record {
         symbol = λ i l.
-            let zero = factor_none m (rest i) (v i) (weight_unit m n i x v weights l) (mod_trans (mod_of_eq (swap i)) (each i l)) in
+            let zero = factor_none m (rest i) (v i) (weight_unit m n i x v weights l)
+            (mod_trans (mod_of_eq (swap i)) (each i l)) in
             sym (mod-eq_of_lt (below i l)) ∙ (congruent_from_difference m (y i) (z i) positive zero).same
             ∙ (residue_of (polynomial_at k c (x i))).same;
       },

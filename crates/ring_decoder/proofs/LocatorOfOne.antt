@@ -31,7 +31,8 @@ first_is m N u x s t some geometric one =
 next_is : (m N u x h : ℕ) (s t : ℕ → ℕ) → h + 1 < N → IsGeometric m N u x t
     → Congruent m (applied 2 s t h) (s 0 * (u * x ^ h) + s 1 * (u * x ^ h * x))
 next_is m N u x h s t some geometric =
-    mod_of_combination (mod_add (mod_times (s 0) (geometric.each h (omega (arith, some)))) (mod_times (s 1) (geometric.each (h + 1) some)))
+    mod_of_combination (mod_add (mod_times (s 0) (geometric.each h (omega (arith, some))))
+    (mod_times (s 1) (geometric.each (h + 1) some)))
     (omega (arith, two_terms h s t, ap (λ v. s 1 * (u * v)) (ap (λ k. x ^ k) (add-one h) ∙ pow-suc x h)))
 
 applied_at : (m c k h j d : ℕ) (s t : ℕ → ℕ) → c ≡ k → h ≡ j → Congruent m (applied c s t h) d → Congruent m (applied k s t j) d
@@ -64,7 +65,8 @@ constant_one m c d b p s e u x is one none minus at_d =
 leading_one : (m c d b p e u : ℕ) → Congruent m (c + d * b) (p * e) → Congruent m b 0 → Congruent m p u
     → Congruent m (e + 1) 0 → Congruent m (c + u) 0
 leading_one m c d b p e u is none at_p minus =
-    mod_of_combination (mod_add is (mod_add (mod_times d (mod_sym none)) (mod_add (mod_times e at_p) (mod_times u minus))))
+    mod_of_combination (mod_add is
+    (mod_add (mod_times d (mod_sym none)) (mod_add (mod_times e at_p) (mod_times u minus))))
     (omega arith)
 
 corrected_first : (m N i L p d u x h q : ℕ) (s b t f : ℕ → ℕ) → i < N → h + L ≡ i → h + q + 1 ≡ L → i ≡ 1
@@ -113,7 +115,8 @@ no_discrepancy m s e u x y constant leading =
 minus_first : (m c d b p s : ℕ) → Congruent m (c + p * s) (d * b) → Congruent m b 0 → Congruent m p 1 → Congruent m s 1
     → Congruent m (c + 1) 0
 minus_first m c d b p s is none one first =
-    mod_of_combination (mod_add is (mod_add (mod_times d none) (mod_add (mod_times s (mod_sym one)) (mod_sym first)))) (omega arith)
+    mod_of_combination (mod_add is (mod_add (mod_times d none) (mod_add (mod_times s (mod_sym one)) (mod_sym first))))
+    (omega arith)
 
 -- the order grows
 pub longer_one : (m N i L p d u x h q : ℕ) (s b t f : ℕ → ℕ) → i < N → h + L ≡ i → q + L ≡ h + 1 → L ≤ h
@@ -129,7 +132,8 @@ longer_one m N i L p d u x h q s b t f inside at room half is other low high beh
       let is_q : q + 0 ≡ 1 = omega (arith, is_L, is_h, room) in
       let there = applied_at m (L + 1) 1 h 0 d s t (omega (arith, is_L)) is_h is in (
         omega (arith, is_h),
-        mod_of_combination (mod_add (low 0 (omega (arith, is_q))) (mod_times d (behind 0 (omega (arith, is_L))))) (omega arith),
+        mod_of_combination (mod_add (low 0 (omega (arith, is_q))) (mod_times d (behind 0 (omega (arith, is_L)))))
+            (omega arith),
         minus_first m (f 1) d (b 1) p (s 0)
             (subst (λ k. Congruent m (f k + p * s 0) (d * b k)) is_q (high 0 (omega (arith, is_q))))
             (behind 1 (omega (arith, is_L))) start.2 start.1,

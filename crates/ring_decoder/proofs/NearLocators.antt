@@ -123,7 +123,8 @@ cleared_zeros {m} {L} {n} {x} {p} {f} {g} {lost} clear =
       | inl is ↦ sym (without_lost lost (λ i. 0) i is)
       | inr listed ↦ sym (without_listed lost (λ i. 0) i listed)
     ] in
-    let same = distance_alike n g (λ i. 0) (without lost f) (without lost (λ i. 0)) (λ i l. clear.cleared i) (λ i l. none i) in
+    let same = distance_alike n g (λ i. 0) (without lost f) (without lost (λ i. 0)) (λ i l. clear.cleared i)
+    (λ i l. none i) in
     omega (arith, zeros_others n g, zeros_others n f, few_hidden n lost f (λ i. 0), same)
 
 -- a value that isn't 0 isn't at a lost place, so it was there before
@@ -171,10 +172,12 @@ value_cancels : {m L n : ℕ} {x p f g : ℕ → ℕ} {lost : List ℕ} → AreC
 value_cancels {m} {L = zero} {n} {x} {p} {f} {g} {lost} clear unit w i l value none =
     factor_none m w (p 0) unit (mod_trans (mod_of_eq (ap (λ v. w * v) (sym (constant_value (x i) p)))) none)
 value_cancels {m} {L = suc d} {n} {x} {p} {f} {g} {lost} clear unit w i l value none =
-    factor_none m w (polynomial_at (suc d + 1) p (x i)) (has_of_residue m _ (f i) (clear.values.some (omega arith) i l) value) none
+    factor_none m w (polynomial_at (suc d + 1) p (x i))
+    (has_of_residue m _ (f i) (clear.values.some (omega arith) i l) value) none
 
 -- where all numbers met have inverses
-covers_units : {m t n c N L : ℕ} {x v z : ℕ → ℕ} {lost : List ℕ} {s q p f g : ℕ → ℕ} → AreSought m t n c N x v z lost s q
+covers_units : {m t n c N L : ℕ} {x v z : ℕ → ℕ} {lost : List ℕ} {s q p f g : ℕ → ℕ}
+    → AreSought m t n c N x v z lost s q
     → IsLocator m N L p q → AreCleared m L n x p f g lost → HasInverse m (p L)
     → ((i : ℕ) → i < n → g i ≢ 0 → HasInverse m (g i))
     → (d : ℕ → ℕ) → IsNearPattern m t n x v lost s d → Covers m t n g d
@@ -240,7 +243,8 @@ linear_values : {m n : ℕ} {x p f g : ℕ → ℕ} {lost : List ℕ} → AreCle
     → (f j ≡ 0) × ((i : ℕ) → i < n → i ≢ j → f i ≢ 0)
 linear_values {m} {n} {x} {p} {f} {g} {lost} clear fit u j there l is =
     let value : (i : ℕ) → i < n → f i ≡ polynomial_at 2 p (x i) % m = clear.values.some (omega arith) in (
-      value j l ∙ residue_none m (polynomial_at 2 p (x j)) (mod_of_combination (linear_none m u (x j) (x j) p is) (omega arith)),
+      value j l ∙ residue_none m (polynomial_at 2 p (x j))
+          (mod_of_combination (linear_none m u (x j) (x j) p is) (omega arith)),
       λ i b other e.
           let none : Congruent m (polynomial_at 2 p (x i)) 0 = none_of m (polynomial_at 2 p (x i)) (sym (value i b) ∙ e) in
           there (residue_none m u (apart_none m u (x i) (x j) (fit.unit i j b l other)
@@ -276,7 +280,8 @@ covers_one {m} {t} {n} {c} {N} {L} {x} {v} {z} {lost} {s} {q} {p} {f} {g} sought
     }
 
 -- the locator's values cover the errors
-pub located_by : {m t n c N L a : ℕ} {x v z : ℕ → ℕ} {lost : List ℕ} {s q p f g : ℕ → ℕ} → AreSought m t n c N x v z lost s q
+pub located_by : {m t n c N L a : ℕ} {x v z : ℕ → ℕ} {lost : List ℕ} {s q p f g : ℕ → ℕ}
+    → AreSought m t n c N x v z lost s q
     → IsLocator m N L p q → AreLocatorValues m L n x p f → ((i : ℕ) → g i ≡ without lost f i)
     → (HasInverse m a → HasInverse m (p L))
     → ((u b : ℕ) → 2 ≤ N → IsGeometric m N u b q → IsLinear m u b L p)

@@ -82,7 +82,8 @@ root_turn m g n (suc y) suits whole more =
     let double : n ≡ h + h = omega (arith, whole, s) in
     let turn : Congruent m (g ^ h + 1) 0 =
     record { same = ap (λ v. (g ^ v + 1) % m) (sym half) ∙ suits.half_turn more ∙ sym (zero-mod m) } in
-    mod_of_combination (mod_add (mod_times (g ^ h) turn) (mod_sym turn)) (omega (arith, ap (λ v. g ^ v) double ∙ pow-add g h h))
+    mod_of_combination (mod_add (mod_times (g ^ h) turn) (mod_sym turn))
+    (omega (arith, ap (λ v. g ^ v) double ∙ pow-add g h h))
 
 -- and so is that of each of its powers
 pub point_turn : (m g n i : ℕ) (x : ℕ → ℕ) → Suits m g n → ArePowers m g n x → i < n → Congruent m (x i ^ n) 1
@@ -109,7 +110,8 @@ syndrome_of_coefficient m d h x v c w positive row fit weights turn encoding =
     λ e l. mod_sym (powers_vanish m d e x v positive fit weights l) in
     let late : (e : ℕ) → e < d → Congruent m (t (e + n)) 0 =
     λ e l. mod_trans (sum_below-congruent n (λ i. v i * x i ^ (e + n)) (λ i. v i * x i ^ e)
-    (λ i b. mod_of_combination (mod_times (v i * x i ^ e) (turn i b)) (omega (arith, ap (λ a. v i * a) (pow-add (x i) e n)))))
+    (λ i b. mod_of_combination (mod_times (v i * x i ^ e) (turn i b))
+    (omega (arith, ap (λ a. v i * a) (pow-add (x i) e n)))))
     (early e l) in
     let others : (l : ℕ) → l < n → l ≢ d - h → Congruent m (c l * t (h + l)) 0 =
     λ l b other. mod_of_combination (mod_times (c l) (elim (cases_lt (h + l) d) [
@@ -121,10 +123,12 @@ syndrome_of_coefficient m d h x v c w positive row fit weights turn encoding =
     ])) (omega arith) in
     let alone = single_congruent m n (d - h) (λ l. c l * t (h + l)) (omega arith) others in
     let at : h + (d - h) ≡ d = omega (arith, row) in
-    mod_trans (mod_of_combination (mod_add (mod_sym alone) (mod_add whole (mod_times (c (d - h)) (top_power m d x v positive fit weights))))
+    mod_trans (mod_of_combination (mod_add (mod_sym alone)
+    (mod_add whole (mod_times (c (d - h)) (top_power m d x v positive fit weights))))
     (omega (arith, ap (λ k. c (d - h) * t k) at)))
     (sum_below-congruent n (λ i. v i * x i ^ h * polynomial_at n c (x i)) (λ i. v i * w i * x i ^ h)
-    (λ i b. mod_of_combination (mod_times (v i * x i ^ h) (mod_sym (mod_of_residue (encoding.symbol i b)))) (omega arith)))
+    (λ i b. mod_of_combination (mod_times (v i * x i ^ h) (mod_sym (mod_of_residue (encoding.symbol i b))))
+    (omega arith)))
 
 -- the syndromes, from the coefficients that a transform back gives
 pub syndromes_by_transform : (m g n t : ℕ) (x v c w s : ℕ → ℕ) → 0 < m → t ≤ n → Suits m g n → ArePowers m g n x

@@ -91,11 +91,13 @@ same_at_point m d j x f g fit below none_f none_g one_f one_g =
         ap (λ k. G * polynomial_at n f (x k)) e,
         ap (λ k. F * polynomial_at n g (x k)) e,
       ))
-      | inr other ↦ mod_of_combination (mod_add (mod_times G (none_f i l other)) (mod_times F (mod_sym (none_g i l other))))
+      | inr other ↦ mod_of_combination
+          (mod_add (mod_times G (none_f i l other)) (mod_times F (mod_sym (none_g i l other))))
           (omega (arith, times n G f (x i), times n F g (x i)))
     ] in
     let last = same_coefficients m n (λ l. G * f l) (λ l. F * g l) x fit at d (omega arith) in
-    mod_of_combination (mod_add (mod_sym last) (mod_add (mod_times F (mod_sym one_g)) (mod_times G one_f))) (omega arith)
+    mod_of_combination (mod_add (mod_sym last) (mod_add (mod_times F (mod_sym one_g)) (mod_times G one_f)))
+    (omega arith)
 
 -- the quotient's value at its own point is the product of the differences from the others
 quotient_own : (m q j : ℕ) (x f : ℕ → ℕ) → 0 < m → HaveUnitDifferences m q x → HasRoots m q x f → j < q
@@ -142,7 +144,8 @@ error_found m q j sum divisor inverse error x f w e s positive fit roots below a
     mod_trans (mod_of_residue is_divisor) (mod_mul (residue_of P) (mod_refl (w j))) in
     let sum_is : Congruent m sum (w j * e j * P) =
     mod_trans (mod_of_residue is_sum) (quotient_sum_is m q j x f (λ j. w j * e j) s positive fit roots below are) in
-    is ∙ (mod_of_combination (mod_add (mod_times inverse sum_is) (mod_add (mod_times (e j * inverse) (mod_sym divisor_is))
+    is ∙ (mod_of_combination (mod_add (mod_times inverse sum_is)
+    (mod_add (mod_times (e j * inverse) (mod_sym divisor_is))
     (mod_times (e j) (mod_of_inverse inverts)))) (omega arith)).same
 
 -- the divisors have inverses exactly where the points fit and the weights have inverses

@@ -154,7 +154,12 @@ roots_more m i a x f g positive roots behind is each =
           let n : ℕ = suc (suc i) in
           let two : i + 1 + 1 ≡ n = omega arith in
           let front : polynomial_at n f X ≡ F =
-          omega (arith, sum_below-suc (suc i) (λ j. f j * X ^ j), ap (λ v. v * X ^ suc i) none, ap (λ n. polynomial_at n f X) next) in
+          omega (
+            arith,
+            sum_below-suc (suc i) (λ j. f j * X ^ j),
+            ap (λ v. v * X ^ suc i) none,
+            ap (λ n. polynomial_at n f X) next,
+          ) in
           let values = with_multiple m n a X g f (shifted f) (λ j l. each j (omega (arith, l))) in
           let at : Congruent m (u + a) X = mod_of_difference a positive refl in
           let times : Congruent m (polynomial_at (i + 1 + 1) g X) (F * u) =

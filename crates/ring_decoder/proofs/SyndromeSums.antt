@@ -51,7 +51,8 @@ pub weight_alone : (m q j : ℕ) (x w t p : ℕ → ℕ) → ArePowerSums m q q 
     → Congruent m (sum_below q (λ l. p l * t l)) (w j * polynomial_at q p (x j))
 weight_alone m q j x w t p are below none =
     let shift : (l : ℕ) → l ≡ 0 + l = λ l. omega arith in
-    mod_trans (mod_of_eq (sum_below-same q (λ l. p l * t l) (λ l. p l * t (0 + l)) (λ l b. ap (λ k. p l * t k) (shift l))))
+    mod_trans (mod_of_eq (sum_below-same q (λ l. p l * t l) (λ l. p l * t (0 + l))
+    (λ l b. ap (λ k. p l * t k) (shift l))))
     (mod_trans (moment m q q q 0 x w t p are (omega arith))
     (mod_of_combination (single_congruent m q j (λ i. w i * x i ^ 0 * polynomial_at q p (x i)) below
     (λ i l other. mod_of_combination (mod_times (w i * x i ^ 0) (none i l other)) (omega arith)))

@@ -8,10 +8,13 @@ use Rattle.ring_decoder.proofs.search.locate.Goals as goal
 use Rattle.ring_decoder.proofs.search.locate.Goals.{After-fill_moments}
 
 -- what the locator is found from
-sought : (g : _) (c : After-fill_moments g) (v : ℕ → ℕ) → ((i : ℕ) → i < length c.args.points.now → HasInverse (g.R.Reducer.modulus c.args.r.now) (v i))
-    → let ring = g.R.Reducer in let m = ring.modulus c.args.r.now in let entries = entry g.T.RingWord.number ring.value m in
+sought : (g : _) (c : After-fill_moments g) (v : ℕ → ℕ)
+    → ((i : ℕ) → i < length c.args.points.now → HasInverse (g.R.Reducer.modulus c.args.r.now) (v i))
+    → let ring = g.R.Reducer in let m = ring.modulus c.args.r.now in
+    let entries = entry g.T.RingWord.number ring.value m in
     AreSought m (length c.args.syndromes.now) (length c.args.points.now) (length c.copy_points.new.located)
-    (length c.fill_moments.new.moments) (entries c.args.points.now) v (entries c.copy_points.new.located) c.args.lost.now
+    (length c.fill_moments.new.moments) (entries c.args.points.now) v
+    (entries c.copy_points.new.located) c.args.lost.now
     (entries c.args.syndromes.now) (entries c.fill_moments.new.moments)
 sought g c v units =
     let ring = g.R.Reducer in let m = ring.modulus c.args.r.now in let number = g.T.RingWord.number in
