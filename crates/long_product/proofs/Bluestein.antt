@@ -1,6 +1,6 @@
 -- Bluestein's method: an entry of a transform is a coefficient of a product of polynomials, times a power.
 use Rattle.std.proofs.Common.{◌≡◌, ℕ, zero, suc, ◌+◌, ◌-◌, ◌*◌, ◌%◌, ◌^◌, ◌<◌, List, length, get_or, reverse}
-use Rattle.std.proofs.Common.{sym, ◌∙◌, ap, arith, get_or-set_same, get_or-set_other}
+use Rattle.std.proofs.Common.{sym, ◌∙◌, ap, arith, add-one, get_or-set_same, get_or-set_other}
 use Rattle.std.proofs.Math.ListN.{set}
 use Rattle.std.proofs.lemmas.Bool.{cases_eq}
 use Rattle.std.proofs.lemmas.List.{get_or-reverse, length-reverse}
@@ -43,19 +43,16 @@ below_more m out k v within before here i l = search (arith, cases_eq, set, get_
 
 -- the powers of g, and of g to binomial coefficients, one after the other
 pub step_none : (m g : ℕ) → 1 % m ≡ g ^ 0 % m
-step_none m g = ap (λ v. v % m) (sym (pow-zero g))
+step_none m g = search (arith, pow-zero)
 
 pub step_more : (m g k step v : ℕ) → step ≡ g ^ k % m → v ≡ (g * step) % m → v ≡ g ^ (k + 1) % m
 step_more m g k step v is_step is_v =
-    let e : k + 1 ≡ suc k = omega arith in
-    let swapped : g * step ≡ step * g = omega arith in
-    is_v ∙ ap (λ v. v % m) swapped ∙ ap (λ s. (s * g) % m) is_step
+    is_v ∙ ap (λ v. v % m) (omega arith) ∙ ap (λ s. (s * g) % m) is_step
     ∙ (mod_mul (residue_of (g ^ k)) (mod_refl g)).same
-    ∙ ap (λ v. v % m) (sym (ap (λ i. g ^ i) e ∙ pow-suc g k))
+    ∙ ap (λ v. v % m) (sym (ap (λ i. g ^ i) (omega arith) ∙ pow-suc g k))
 
 pub power_none : (m first g : ℕ) → first % m ≡ (first * g ^ choose_two 0) % m
-power_none m first g =
-    ap (λ v. v % m) (sym (ap (λ v. first * v) (ap (λ k. g ^ k) choose_none ∙ pow-zero g) ∙ omega arith))
+power_none m first g = search (arith, choose_none, pow-zero)
 
 pub power_more : (m first g k power step v : ℕ) → power ≡ (first * g ^ choose_two k) % m → step ≡ g ^ k % m
     → v ≡ (power * step) % m → v ≡ (first * g ^ choose_two (k + 1)) % m
@@ -68,7 +65,7 @@ power_more m first g k power step v is_power is_step is_v =
 
 -- Horner's rule, from the last coefficient on
 pub horner_none : (m : ℕ) (f : ℕ → ℕ) → 0 ≡ sum_below 0 f % m
-horner_none m f = sym (ap (λ v. v % m) (sum_below-zero f) ∙ zero-mod m)
+horner_none m f = search (arith, sum_below-zero, zero-mod)
 
 pub horner_more : (m w n i sum v : ℕ) (xs : List ℕ) → i < n
     → sum ≡ sum_below i (λ k. get_or xs (n - i + k) 0 * w ^ k) % m
@@ -77,7 +74,6 @@ pub horner_more : (m w n i sum v : ℕ) (xs : List ℕ) → i < n
 horner_more m w n i sum v xs l is_sum is_v =
     let f = λ (k : ℕ). get_or xs (n - i + k) 0 * w ^ k in
     let g = λ (k : ℕ). get_or xs (n - (i + 1) + k) 0 * w ^ k in
-    let e : i + 1 ≡ suc i = omega arith in
     let o : n - (i + 1) + 0 ≡ n - 1 - i = omega arith in
     let first : g 0 ≡ get_or xs (n - 1 - i) 0 =
     ap (λ v. get_or xs (n - (i + 1) + 0) 0 * v) (pow-zero w) ∙ ap (λ k. get_or xs k 0 * 1) o ∙ omega arith in
@@ -86,11 +82,10 @@ horner_more m w n i sum v xs l is_sum is_v =
     let e : n - (i + 1) + suc k ≡ n - i + k = omega arith in
     ap (λ c. get_or xs c 0 * w ^ suc k) e ∙ ap (λ v. get_or xs (n - i + k) 0 * v) (pow-suc w k) ∙ omega arith)
     ∙ sum_below-mul i w f in
-    let s = ap (λ k. sum_below k g) e ∙ sum_below-first i g in
-    let whole : sum_below i f * w + get_or xs (n - 1 - i) 0 ≡ sum_below (i + 1) g = omega (arith, s, first, rest) in
+    let s = ap (λ k. sum_below k g) (add-one i) ∙ sum_below-first i g in
     is_v ∙ ap (λ s. (s * w + get_or xs (n - 1 - i) 0) % m) is_sum
     ∙ (mod_add (mod_mul (residue_of (sum_below i f)) (mod_refl w)) (mod_refl (get_or xs (n - 1 - i) 0))).same
-    ∙ ap (λ v. v % m) whole
+    ∙ ap (λ v. v % m) (omega (arith, s, first, rest))
 
 pub horner_all : (m part w n i sum v : ℕ) (xs : List ℕ) → i ≡ n
     → sum ≡ sum_below i (λ k. get_or xs (n - i + k) 0 * w ^ k) % m → v ≡ (part * sum) % m
@@ -103,9 +98,8 @@ pub entry_summed : (m part g n j w v : ℕ) (x : ℕ → ℕ) → w ≡ g ^ j % 
 entry_summed m part g n j w v x is_w is_v =
     is_v ∙ (mod_mul (mod_refl part) (sum_below-congruent n (λ i. x i * w ^ i) (λ i. x i * g ^ (i * j))
     (λ i l.
-    let e : j * i ≡ i * j = omega arith in
     mod_mul (mod_refl (x i)) (mod_trans (mod_pow i (mod_trans (mod_of_eq is_w) (residue_of (g ^ j))))
-    (mod_of_eq (sym (pow-mul g j i) ∙ ap (λ k. g ^ k) e)))))).same
+    (mod_of_eq (sym (pow-mul g j i) ∙ ap (λ k. g ^ k) (omega arith))))))).same
 
 choose_sum : (i j : ℕ) → choose_two (i + j) ≡ choose_two i + choose_two j + i * j
 choose_sum i zero = search (arith, choose_none)
@@ -136,11 +130,10 @@ term_by_weights m part g h i j x a b w one is_a is_b is_w =
     let u = g ^ (i * j) in
     let powers : g ^ choose_two (i + j) ≡ g ^ s * g ^ t * u =
     ap (λ k. g ^ k) (choose_sum i j) ∙ pow-add g (s + t) (i * j) ∙ ap (λ v. v * u) (pow-add g s t) in
-    let o : part * (x * u) * (1 * 1) ≡ part * (x * u) = omega arith in
     mod_trans (mod_mul (mod_mul is_a (mod_trans is_b (mod_of_eq (ap (λ v. part * v) powers)))) is_w)
     (mod_trans (mod_of_eq (factors_regrouped x part u (h ^ s) (g ^ s) (h ^ t) (g ^ t)))
     (mod_trans (mod_mul (mod_refl (part * (x * u))) (mod_mul (powers_cancel g h s one) (powers_cancel g h t one)))
-    (mod_of_eq o)))
+    (mod_of_eq (omega arith))))
 
 -- all terms
 sum_by_weights : (m part g h n j w : ℕ) (x a b : ℕ → ℕ) → Congruent m (g * h) 1
@@ -162,8 +155,7 @@ reversed_product : (n j : ℕ) (us bs : List ℕ) → length us ≡ n → j < n
     ≡ sum_below n (λ i. get_or us i 0 * get_or bs (i + j) 0)
 reversed_product n j us bs l within =
     let f = λ (p : ℕ). get_or (reverse us) p 0 * get_or bs (n - 1 + j - p) 0 in
-    let r = length-reverse us in
-    sym (no_back (reverse us) bs (n - 1 + j) n (omega arith) (λ k. omega (arith, r)))
+    sym (no_back (reverse us) bs (n - 1 + j) n (omega arith) (λ k. omega (arith, length-reverse us)))
     ∙ sum_reversed n f
     ∙ sum_below-same n (λ i. f (n - 1 - i)) (λ i. get_or us i 0 * get_or bs (i + j) 0)
     (λ i k. search (arith, get_or-reverse))

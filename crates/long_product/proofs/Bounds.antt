@@ -1,6 +1,5 @@
 -- Bounds of sums of products: of coefficients, and of what is reduced.
-use Rattle.std.proofs.Common.{◌≡◌, ℕ, ◌+◌, ◌-◌, ◌*◌, ◌/◌, ◌<◌, ◌≤◌, ◌↔◌, All, List, length, get_or}
-use Rattle.std.proofs.Common.{arith, subst, inl, inr}
+use Rattle.std.proofs.Common.{◌≡◌, ℕ, ◌+◌, ◌-◌, ◌*◌, ◌/◌, ◌<◌, ◌≤◌, ◌↔◌, All, List, length, get_or, arith, inl, inr}
 use Rattle.std.proofs.Math.Nat.{mul-le-mul, mul-le-mul_right, mul-div-le, lt-mul-div-succ}
 use Rattle.std.proofs.lemmas.Bool.{cases_lt}
 use Rattle.std.proofs.lemmas.List.{get_or_past}
@@ -50,11 +49,9 @@ sum_by_left xs ys s t e few other =
     elim (cases_lt (length xs) (e + 1)) [
       | inl l ↦
           let whole = no_back xs ys e (length xs) (omega arith) (λ k. omega arith) in
-          subst (λ v. v ≤ length xs * (s * t)) whole (sum_below-bounded (length xs) (s * t) f (λ i k. term i))
+          omega (arith, whole, sum_below-bounded (length xs) (s * t) f (λ i k. term i))
       | inr l ↦
-          let b = sum_below-bounded (e + 1) (s * t) f (λ i k. term i) in
-          let m = mul-le-mul_right (s * t) l in
-          omega (arith, b, m)
+          omega (arith, sum_below-bounded (e + 1) (s * t) f (λ i k. term i), mul-le-mul_right (s * t) l)
     ]
 
 pub sum_by_right : (xs ys : List ℕ) (s t e : ℕ) → All (λ x. x ≤ s) xs → All (λ y. y ≤ t) ys
@@ -67,9 +64,7 @@ sum_by_right xs ys s t e few other =
           let whole : e + 1 - length ys + length ys ≡ e + 1 = omega arith in
           search (arith, bounded_after, get_or_past)
       | inr l ↦
-          let b = sum_below-bounded (e + 1) (s * t) f (λ i k. term i) in
-          let m = mul-le-mul_right (s * t) l in
-          omega (arith, b, m)
+          omega (arith, sum_below-bounded (e + 1) (s * t) f (λ i k. term i), mul-le-mul_right (s * t) l)
     ]
 
 -- a product has no more places than both factors have coefficients

@@ -1,10 +1,9 @@
 -- Coefficients of products modulo m: their terms, and the words of the sums.
-use Rattle.std.proofs.Common.{◌≡◌, ℕ, suc, ◌+◌, ◌-◌, ◌*◌, ◌/◌, ◌%◌, ◌<◌, ◌≤◌, List, length, get_or, sym, ◌∙◌, ap, arith}
+use Rattle.std.proofs.Common.{◌≡◌, ℕ, ◌+◌, ◌-◌, ◌*◌, ◌/◌, ◌%◌, ◌<◌, ◌≤◌, List, length, get_or, ◌∙◌, ap, arith, add-one}
 use Rattle.std.proofs.Math.Nat.{mul-le-mul}
 use Rattle.std.proofs.lemmas.List.{get_or_past}
 use Rattle.num_modular.specs.Sums.{sum_below}
-use Rattle.num_modular.specs.NumberLaws.{sum_below-suc, sum_below-of_zeros}
-use Rattle.num_modular.specs.NumberLaws.{residue_of, mod_add, mod_mul, mod_refl}
+use Rattle.num_modular.specs.NumberLaws.{sum_below-suc, sum_below-of_zeros, residue_of, mod_add, mod_mul, mod_refl}
 use Rattle.num_modular.specs.SumLaws.{tail}
 
 -- the high words are reduced first
@@ -12,18 +11,14 @@ remainder_by_upper_word : (m low high top : ℕ) → top ≡ (high + low / 18446
     → (top * 18446744073709551616 + low % 18446744073709551616) % m ≡ (low + high * 18446744073709551616) % m
 remainder_by_upper_word m low high top is =
     let b : ℕ = 18446744073709551616 in
-    let whole : (high + low / b) * b + low % b ≡ low + high * b = omega arith in
     ap (λ t. (t * b + low % b) % m) is
     ∙ (mod_add (mod_mul (residue_of (high + low / b)) (mod_refl b)) (mod_refl (low % b))).same
-    ∙ ap (λ v. v % m) whole
+    ∙ ap (λ v. v % m) (omega arith)
 
 -- two words are reduced one by one ..
 pub by_words : (m t top r : ℕ) → top ≡ t / 18446744073709551616 % m
     → r ≡ (top * 18446744073709551616 + t % 18446744073709551616) % m → r ≡ t % m
-by_words m t top r top_is is =
-    let none : 0 + t / 18446744073709551616 ≡ t / 18446744073709551616 = omega arith in
-    let same : t + 0 * 18446744073709551616 ≡ t = omega arith in
-    is ∙ remainder_by_upper_word m t 0 top (top_is ∙ ap (λ v. v % m) (sym none)) ∙ ap (λ v. v % m) same
+by_words m t top r top_is is = grind (arith, remainder_by_upper_word m t 0 top)
 
 -- .. and a sum of words, by its upper ones
 pub by_upper_words : (m low high upper r : ℕ) → upper ≡ (high + low / 18446744073709551616) % m
@@ -41,7 +36,6 @@ pub no_back : (xs ys : List ℕ) (e n : ℕ) → n ≤ e + 1 → (n < e + 1 → 
     → sum_below n (λ i. get_or xs i 0 * get_or ys (e - i) 0)
     ≡ sum_below (e + 1) (λ i. get_or xs i 0 * get_or ys (e - i) 0)
 no_back xs ys e n few past =
-    let f = λ (i : ℕ). get_or xs i 0 * get_or ys (e - i) 0 in
     let whole : n + (e + 1 - n) ≡ e + 1 = omega arith in
     search (arith, tail, get_or_past)
 
@@ -51,9 +45,7 @@ pub more_terms : (low high i x y : ℕ) (f : ℕ → ℕ) → f i ≡ x * y
     → low + x * y % 18446744073709551616 + (high + x * y / 18446744073709551616) * 18446744073709551616
     ≡ sum_below (i + 1) f
 more_terms low high i x y f is before =
-    let e : i + 1 ≡ suc i = omega arith in
-    let s = ap (λ n. sum_below n f) e ∙ sum_below-suc i f in
-    omega (arith, s, is, before)
+    omega (arith, ap (λ n. sum_below n f) (add-one i), sum_below-suc i f, is, before)
 
 -- a product of words, and its high word
 pub words_fit : (x y : ℕ) → x < 18446744073709551616 → y < 18446744073709551616
@@ -83,8 +75,7 @@ reduced_factors m a s t p q f g is_f is_g =
 
 -- .. and a product whose first factor is reduced
 pub reduced_product : (m p q f r : ℕ) → f ≡ p % m → r ≡ f * q % m → r ≡ p * q % m
-reduced_product m p q f r is_f is =
-    is ∙ ap (λ v. v * q % m) is_f ∙ (mod_mul (residue_of p) (mod_refl q)).same
+reduced_product m p q f r is_f is = is ∙ ap (λ v. v * q % m) is_f ∙ (mod_mul (residue_of p) (mod_refl q)).same
 
 pub same_remainder : (m a b : ℕ) → a ≡ b → a % m ≡ b % m
 same_remainder m a b is = ap (λ v. v % m) is

@@ -23,12 +23,11 @@ value_not_chosen s e v none = search (arith, eqb_tells)
 row : (n s i : ℕ) (x y : ℕ → ℕ) → ((j : ℕ) → n ≤ j → y j ≡ 0) → i ≤ s
     → sum_below n (λ j. cond (eqb (i + j) s) (x i * y j) 0) ≡ x i * y (s - i)
 row n s i x y few within =
-    let at : i + (s - i) ≡ s = omega arith in
     elim (cases_lt (s - i) n) [
       | inl l ↦
           single n (s - i) (λ j. cond (eqb (i + j) s) (x i * y j) 0) l
           (λ j k other. value_not_chosen (i + j) s (x i * y j) (λ e. absurd (other (omega arith))))
-          ∙ chosen_value (i + (s - i)) s (x i * y (s - i)) at
+          ∙ chosen_value (i + (s - i)) s (x i * y (s - i)) (omega arith)
       | inr l ↦ search (arith, sum_below-of_zeros, value_not_chosen)
     ]
 
@@ -40,15 +39,13 @@ coefficient_sum n s x y few_x few_y =
     let g = λ (i : ℕ). x i * y (s - i) in
     elim (cases_lt (s + 1) n) [
       | inl l ↦
-          let whole : n ≡ s + 1 + (n - (s + 1)) = omega arith in
-          ap (λ k. sum_below k f) whole
+          ap (λ k. sum_below k f) (omega arith)
           ∙ tail (s + 1) (n - (s + 1)) f (λ i a b. sum_below-of_zeros n (λ j. cond (eqb (i + j) s) (x i * y j) 0)
           (λ j k. value_not_chosen (i + j) s (x i * y j) (λ e. absurd (omega arith))))
           ∙ sum_below-same (s + 1) f g (λ i k. row n s i x y few_y (omega arith))
       | inr l ↦
-          let whole : s + 1 ≡ n + (s + 1 - n) = omega arith in
           sum_below-same n f g (λ i k. row n s i x y few_y (omega arith))
-          ∙ sym (ap (λ k. sum_below k g) whole
+          ∙ sym (ap (λ k. sum_below k g) (omega arith)
           ∙ tail n (s + 1 - n) g (λ i a b. ap (λ v. v * y (s - i)) (few_x i a) ∙ omega arith))
     ]
 
@@ -62,12 +59,11 @@ product_modulo_one_is_cyclic m n e x y some =
     let f = λ (i j : ℕ). cond (eqb (i + j) e) (x i * y j) 0 in
     let h = λ (i j : ℕ). cond (eqb (i + j) (e + n)) (x i * y j) 0 in
     let row = λ (t : ℕ → ℕ → ℕ) (i : ℕ). sum_below n (λ j. t i j) in
-    let o : 1 * coefficient n x y (e + n) ≡ coefficient n x y (e + n) = omega arith in
     let sums = sum_below-same n (λ i. sum_below n (λ j. cond (eqb (i + j) e || eqb (i + j) (e + n)) (x i * y j) 0))
     (λ i. row f i + row h i)
     (λ i l. search (arith, sum_below-same, both_tests, sum_below-add))
     ∙ sum_below-add n (row f) (row h) in
-    ap (λ v. (coefficient n x y e + v) % m) o ∙ ap (λ v. v % m) (sym sums)
+    ap (λ v. (coefficient n x y e + v) % m) (omega arith) ∙ ap (λ v. v % m) (sym sums)
 
 -- an entry of the product modulo X^n - c ..
 pub folded_modulo : (m c n e : ℕ) (xs ys : List ℕ) → length xs ≡ n → length ys ≡ n

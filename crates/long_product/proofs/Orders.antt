@@ -1,14 +1,13 @@
 -- A root of order n modulo m has n different powers, none of them 0, so that n is below m.
-use Rattle.std.proofs.Common.{◌≡◌, ◌≢◌, ℕ, zero, suc, ◌+◌, ◌-◌, ◌*◌, ◌%◌, ◌^◌, ◌<◌, ◌≤◌, inl, inr}
-use Rattle.std.proofs.Common.{sym, ◌∙◌, ap, arith, cond, eqb}
+use Rattle.std.proofs.Common.{◌*◌}
+use Rattle.std.proofs.Common.{◌≡◌, ◌≢◌, ℕ, zero, suc, ◌+◌, ◌-◌, ◌%◌, ◌^◌, ◌<◌, ◌≤◌, sym, ◌∙◌, ap, arith, cond, eqb}
 use Rattle.std.proofs.Math.Nat.{mod-lt, mod-eq_of_lt, zero-mod}
-use Rattle.std.proofs.lemmas.Bool.{cases_lt}
 use Rattle.std.proofs.lemmas.Bool.Decides.{eqb_tells}
 use Rattle.std.proofs.lemmas.Nat.{pow-add}
 use Rattle.num_modular.specs.Congruence.{Congruent}
-use Rattle.num_modular.specs.NumberLaws.{mod_of_eq, mod_refl, mod_sym, mod_trans, mod_mul, mod_add_cancel}
+use Rattle.num_modular.specs.NumberLaws.{mod_of_eq, mod_refl, mod_trans, mod_mul, mod_sym}
 use Rattle.long_product.specs.AnyLength.{IsRootOfOrder}
-use Rattle.long_product.proofs.RootsOfOrder.{zero_is_one_where_power_vanishes, unit_cancels}
+use Rattle.long_product.proofs.RootsOfOrder.{kept_by_power_vanishes}
 
 -- different numbers below a bound are at most as many
 few_below : (most size : ℕ) (f : ℕ → ℕ) → ((i : ℕ) → i < size → f i < most)
@@ -27,29 +26,16 @@ few_below (suc most) (suc size) f below apart =
 power_none : {m : ℕ} (g n i : ℕ) → g ^ n % m ≡ 1 % m → i ≤ n → Congruent m (g ^ i) 0 → Congruent m 0 1
 power_none {m} g n i whole few none =
     let k : ℕ = n - i in
-    let e : n ≡ k + i = omega arith in
-    let p : g ^ n ≡ g ^ k * g ^ i = ap (λ j. g ^ j) e ∙ pow-add g k i in
-    let z : g ^ k * 0 ≡ 0 = omega arith in
-    mod_trans (mod_of_eq (sym z)) (mod_trans (mod_mul (mod_refl (g ^ k)) (mod_sym none))
+    let p : g ^ n ≡ g ^ k * g ^ i = ap (λ j. g ^ j) (omega arith) ∙ pow-add g k i in
+    mod_trans (mod_of_eq (sym (omega arith))) (mod_trans (mod_mul (mod_refl (g ^ k)) (mod_sym none))
     (mod_trans (mod_of_eq (sym p)) (record { same = whole })))
 
 -- .. and where two of them are congruent
 power_twice : {m g n : ℕ} (i d : ℕ) → IsRootOfOrder m g n → 0 < d → i + d < n → Congruent m (g ^ (i + d)) (g ^ i)
     → Congruent m 0 1
 power_twice {m} {g} {n} i d root some few same =
-    let a = g ^ d in
-    let s = g ^ i in
-    let unit = root.no_shorter d some (omega arith) in
-    elim (cases_lt 0 a) [
-      | inl l ↦
-          let e : a ≡ (a - 1) + 1 = omega arith in
-          let t : g ^ (i + d) ≡ (a - 1) * s + s = pow-add g i d ∙ ap (λ v. s * v) e ∙ omega arith in
-          let z : s ≡ 0 + s = omega arith in
-          power_none g n i root.whole_turn (omega arith)
-          (unit_cancels (a - 1) unit.0 s unit.1.one
-          (mod_add_cancel s (mod_trans (mod_of_eq (sym t)) (mod_trans same (mod_of_eq z)))))
-      | inr l ↦ zero_is_one_where_power_vanishes g n d root.whole_turn (omega arith) l
-    ]
+    power_none g n i root.whole_turn (omega arith) (kept_by_power_vanishes d (g ^ i) root some (omega arith)
+    (mod_trans (mod_of_eq (omega (arith, pow-add g i d))) same))
 
 zero_and_one_differ : (m : ℕ) → 1 < m → Congruent m 0 1 → ⊥
 zero_and_one_differ m more is = let s : 0 ≡ 1 = sym (zero-mod m) ∙ is.same ∙ mod-eq_of_lt more in absurd (omega (arith, s))

@@ -1,6 +1,6 @@
 -- A transform by the inverse of a root of order n takes the transform by the root back to n times the values.
-use Rattle.std.proofs.Common.{◌≡◌, ◌≢◌, ℕ, zero, suc, ◌+◌, ◌-◌, ◌*◌, ◌%◌, ◌^◌, ◌<◌, ◌≤◌, inl, inr}
-use Rattle.std.proofs.Common.{sym, ◌∙◌, ap, arith, refl, subst, ◌↔◌}
+use Rattle.std.proofs.Common.{subst, ◌≡◌, ◌≢◌, ℕ, zero, suc, ◌+◌, ◌-◌, ◌*◌, ◌%◌, ◌^◌, ◌<◌, ◌≤◌, inl, inr}
+use Rattle.std.proofs.Common.{sym, ◌∙◌, ap, arith, refl, ◌↔◌}
 use Rattle.std.specs.Prelude.{Option, Some, None, IsTrue}
 use Rattle.std.specs.Option.{is_some}
 use Rattle.std.proofs.Math.Nat.{pow-suc, pow-zero, zero-mod, mod-lt, add-mod_right}
@@ -22,21 +22,15 @@ use Rattle.long_product.proofs.Bluestein.{powers_cancel}
 geometric_sum : (n a : ℕ) → a * sum_below n (λ j. a ^ j) + 1 ≡ sum_below n (λ j. a ^ j) + a ^ n
 geometric_sum zero a = search (arith, sum_below-zero, pow-zero)
 geometric_sum (suc n) a =
-    let before = geometric_sum n a in
     let s = sum_below-suc n (λ j. a ^ j) in
-    let t = ap (λ v. a * v) s in
-    let p = pow-suc a n in
-    omega (arith, before, s, t, p)
+    omega (arith, geometric_sum n a, s, ap (λ v. a * v) s, pow-suc a n)
 
 -- what a number times a unit is congruent to 0 with, is congruent to 0
 pub unit_cancels : {m : ℕ} (t u s : ℕ) → (t * u) % m ≡ 1 % m → Congruent m (t * s) 0 → Congruent m s 0
 unit_cancels {m} t u s unit none =
     let one : Congruent m (t * u) 1 = record { same = unit } in
-    let a : s ≡ s * 1 = omega arith in
-    let b : s * (t * u) ≡ t * s * u = omega arith in
-    let z : 0 * u ≡ 0 = omega arith in
-    mod_trans (mod_of_eq a) (mod_trans (mod_mul (mod_refl s) (mod_sym one))
-    (mod_trans (mod_of_eq b) (mod_trans (mod_mul none (mod_refl u)) (mod_of_eq z))))
+    mod_trans (mod_of_eq (omega arith)) (mod_trans (mod_mul (mod_refl s) (mod_sym one))
+    (mod_trans (mod_of_eq (omega arith)) (mod_trans (mod_mul none (mod_refl u)) (mod_of_eq (omega arith)))))
 
 -- where 0 is congruent to 1, every number is congruent to 0
 all_zero : {m : ℕ} (s : ℕ) → Congruent m 0 1 → Congruent m s 0
@@ -46,8 +40,7 @@ all_zero {m} s nothing = search (arith, mod_trans, mod_of_eq, mod_mul, mod_refl,
 power_of_root_turns_whole : {m : ℕ} (g n d : ℕ) → g ^ n % m ≡ 1 % m → Congruent m ((g ^ d) ^ n) 1
 power_of_root_turns_whole {m} g n d whole =
     let turn : Congruent m (g ^ n) 1 = record { same = whole } in
-    let e : d * n ≡ n * d = omega arith in
-    mod_trans (mod_of_eq (sym (pow-mul g d n) ∙ ap (λ k. g ^ k) e ∙ pow-mul g n d))
+    mod_trans (mod_of_eq (sym (pow-mul g d n) ∙ ap (λ k. g ^ k) (omega arith) ∙ pow-mul g n d))
     (mod_trans (mod_pow d turn) (mod_of_eq (one-pow d)))
 
 -- so where a power is 0, 0 is congruent to 1
@@ -55,29 +48,31 @@ pub zero_is_one_where_power_vanishes : {m : ℕ} (g n d : ℕ) → g ^ n % m ≡
 zero_is_one_where_power_vanishes {m} g n d whole some none =
     let a = g ^ d in
     let k : ℕ = n - 1 in
-    let e : n ≡ suc k = omega arith in
     let z : a ≡ 0 = omega arith in
-    let zero_power : a ^ n ≡ 0 = ap (λ i. a ^ i) e ∙ pow-suc a k ∙ ap (λ v. a ^ k * v) z ∙ omega arith in
+    let zero_power : a ^ n ≡ 0 = ap (λ i. a ^ i) (omega arith) ∙ pow-suc a k ∙ ap (λ v. a ^ k * v) z ∙ omega arith in
     mod_trans (mod_of_eq (sym zero_power)) (power_of_root_turns_whole g n d whole)
+
+-- what a power of the root does not change, is congruent to 0
+pub kept_by_power_vanishes : {m g n : ℕ} (d s : ℕ) → IsRootOfOrder m g n → 0 < d → d < n → Congruent m (g ^ d * s) s
+    → Congruent m s 0
+kept_by_power_vanishes {m} {g} {n} d s root some few same =
+    let a = g ^ d in
+    let unit = root.no_shorter d some few in
+    elim (cases_lt 0 a) [
+      | inl l ↦
+          let t : a * s ≡ (a - 1) * s + s = ap (λ v. v * s) (let e : a ≡ a - 1 + 1 = omega arith in e) ∙ omega arith in
+          unit_cancels (a - 1) unit.0 s unit.1.one
+          (mod_add_cancel s (mod_trans (mod_of_eq (sym t)) (mod_trans same (mod_of_eq (omega arith)))))
+      | inr l ↦ all_zero s (zero_is_one_where_power_vanishes g n d root.whole_turn (omega arith) l)
+    ]
 
 -- the sum of the powers of g^d is 0
 powers_vanish : {m g n : ℕ} (d : ℕ) → IsRootOfOrder m g n → 0 < d → d < n
     → Congruent m (sum_below n (λ j. (g ^ d) ^ j)) 0
 powers_vanish {m} {g} {n} d root some few =
-    let a = g ^ d in
-    let s = sum_below n (λ j. a ^ j) in
-    let same : Congruent m (a * s) s =
-    mod_add_cancel 1 (mod_trans (mod_of_eq (geometric_sum n a)) (mod_add (mod_refl s) (power_of_root_turns_whole g n d root.whole_turn))) in
-    let unit = root.no_shorter d some few in
-    elim (cases_lt 0 a) [
-      | inl l ↦
-          let e : a ≡ (a - 1) + 1 = omega arith in
-          let t : a * s ≡ (a - 1) * s + s = ap (λ v. v * s) e ∙ omega arith in
-          let z : s ≡ 0 + s = omega arith in
-          unit_cancels (a - 1) unit.0 s unit.1.one
-          (mod_add_cancel s (mod_trans (mod_of_eq (sym t)) (mod_trans same (mod_of_eq z))))
-      | inr l ↦ all_zero s (zero_is_one_where_power_vanishes g n d root.whole_turn (omega arith) l)
-    ]
+    let s = sum_below n (λ j. (g ^ d) ^ j) in
+    kept_by_power_vanishes d s root some few (mod_add_cancel 1 (mod_trans (mod_of_eq (geometric_sum n (g ^ d)))
+    (mod_add (mod_refl s) (power_of_root_turns_whole g n d root.whole_turn))))
 
 -- g^i times h^k, for an inverse h of g, is a power of g between g^0 and g^n
 record IsBetween (m g n v : ℕ) : Type 0 where
@@ -91,9 +86,8 @@ between : {m n : ℕ} (g h i k : ℕ) → Congruent m (g * h) 1 → IsRootOfOrde
 between {m} {n} g h i k one root li lk other = elim (cases_lt k i) [
   | inl l ↦
       let d : ℕ = i - k in
-      let e : i ≡ d + k = omega arith in
       let p : g ^ i * h ^ k ≡ g ^ d * (g ^ k * h ^ k) =
-      ap (λ v. v * h ^ k) (ap (λ j. g ^ j) e ∙ pow-add g d k) ∙ omega arith in
+      ap (λ v. v * h ^ k) (ap (λ j. g ^ j) (omega arith) ∙ pow-add g d k) ∙ omega arith in
       let o : g ^ d * 1 ≡ g ^ d = omega arith in
       record {
         exponent = d;
@@ -104,13 +98,11 @@ between {m} {n} g h i k one root li lk other = elim (cases_lt k i) [
   | inr l ↦
       let c : ℕ = k - i in
       let d : ℕ = n - c in
-      let e : k ≡ i + c = omega arith in
-      let whole : n ≡ d + c = omega arith in
       let turn : Congruent m 1 (g ^ n) = record { same = sym root.whole_turn } in
       let p : g ^ i * h ^ k ≡ g ^ i * h ^ i * h ^ c =
-      ap (λ v. g ^ i * v) (ap (λ j. h ^ j) e ∙ pow-add h i c) ∙ omega arith in
+      ap (λ v. g ^ i * v) (ap (λ j. h ^ j) (omega arith) ∙ pow-add h i c) ∙ omega arith in
       let q : g ^ n * h ^ c ≡ g ^ d * (g ^ c * h ^ c) =
-      ap (λ v. v * h ^ c) (ap (λ j. g ^ j) whole ∙ pow-add g d c) ∙ omega arith in
+      ap (λ v. v * h ^ c) (ap (λ j. g ^ j) (omega arith) ∙ pow-add g d c) ∙ omega arith in
       let o : g ^ d * 1 ≡ g ^ d = omega arith in
       record {
         exponent = d;
@@ -200,10 +192,8 @@ taken_back {m} {g} {h} n k x y are within is =
 value_back : {m : ℕ} (n part s v : ℕ) → (n * part) % m ≡ 1 % m → Congruent m s (n * v) → Congruent m (part * s) v
 value_back {m} n part s v inverse is =
     let one : Congruent m (n * part) 1 = record { same = inverse } in
-    let e : part * (n * v) ≡ n * part * v = omega arith in
-    let o : 1 * v ≡ v = omega arith in
-    mod_trans (mod_mul (mod_refl part) is) (mod_trans (mod_of_eq e)
-    (mod_trans (mod_mul one (mod_refl v)) (mod_of_eq o)))
+    mod_trans (mod_mul (mod_refl part) is) (mod_trans (mod_of_eq (omega arith))
+    (mod_trans (mod_mul one (mod_refl v)) (mod_of_eq (omega arith))))
 
 -- values y with the residues of a transform by g, taken back by what an inverse transform computes
 pub transform_undone : (m g h part n i : ℕ) (x y : ℕ → ℕ) → (g * h) % m ≡ 1 % m → (n * part) % m ≡ 1 % m
@@ -219,8 +209,6 @@ pub inverse_undone : (m g h part n j : ℕ) (x : ℕ → ℕ) → (g * h) % m �
     → IsRootOfOrder m g n → j < n → transform m g n (scaled_transform m part h n x) j ≡ x j % m
 inverse_undone m g h part n j x inverse of_length root within =
     let one : Congruent m (n * part) 1 = record { same = of_length } in
-    let e : n * (part * x j) ≡ n * part * x j = omega arith in
-    let o : 1 * x j ≡ x j = omega arith in
     (mod_trans (taken_back n j (λ k. part * x k) (scaled_transform m part h n x)
     (opposite_sym (root_and_inverse_are_opposite (record { same = inverse }) root)) within
     (λ i l.
@@ -228,7 +216,7 @@ inverse_undone m g h part n j x inverse of_length root within =
     mod_trans (residue_of (part * sum_below n f))
     (mod_of_eq (sym (sum_below-mul n part f)
     ∙ sum_below-same n (λ k. part * f k) (λ k. part * x k * h ^ (k * i)) (λ k t. omega arith)))))
-    (mod_trans (mod_of_eq e) (mod_trans (mod_mul one (mod_refl (x j))) (mod_of_eq o)))).same
+    (mod_trans (mod_of_eq (omega arith)) (mod_trans (mod_mul one (mod_refl (x j))) (mod_of_eq (omega arith))))).same
 
 -- congruent numbers have inverses together
 unit_same : (m a b : ℕ) → a % m ≡ b % m → HasInverse m a → HasInverse m b

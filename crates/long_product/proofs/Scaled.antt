@@ -24,12 +24,10 @@ shifted_remainder m s z d t q r below is shift word whole less =
     let p = 2 ^ s in
     let some = pow_pos s in
     let v = r / p in
-    let l = shifted_below m s z d t below is shift in
     let e : d ≡ m * p = is ∙ ap (λ n. m * 2 ^ n) (sym shift) in
-    let parts = div-add-mod' r p in
-    let kept : t * p ≡ q * d + r = omega (arith, whole, l, word) in
+    let kept : t * p ≡ q * d + r = omega (arith, whole, shifted_below m s z d t below is shift, word) in
     let multiple : q * d ≡ q * m * p = ap (λ n. q * n) e ∙ omega arith in
-    let shifted : t * p ≡ (q * m + v) * p + r % p = omega (arith, kept, multiple, parts) in
+    let shifted : t * p ≡ (q * m + v) * p + r % p = omega (arith, kept, multiple, div-add-mod' r p) in
     let same : t ≡ q * m + v =
     sym (shl-shr t s) ∙ ap (λ n. n / p) shifted ∙ div-mul-add (q * m + v) p (r % p) (mod_below r p some) in
     sym (ap (λ n. n % m) same ∙ mod-mul-add q m v (div_below r p m some (omega (arith, less, e))))

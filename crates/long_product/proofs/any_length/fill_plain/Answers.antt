@@ -1,5 +1,4 @@
-use Rattle.std.proofs.Common.{ℕ, ◌<◌, length, get_or, subst, ◌∙◌, arith}
-use Rattle.long_product.specs.AnyLength.{scaled_transform}
+use Rattle.std.proofs.Common.{◌<◌, length, subst, ◌∙◌, arith}
 use Rattle.long_product.proofs.Bluestein.{same_modulus, written_more, entry_summed, step_none, step_more}
 use Rattle.long_product.proofs.any_length.fill_plain.Goals as goal
 
@@ -16,15 +15,11 @@ pub entries-preserved : goal.entries-preserved
 entries-preserved c =
     let before = c.entries.invariant in
     let m = c.args.m in
-    let n = length c.args.xs.now in
-    let x = λ (k : ℕ). get_or c.args.xs.now k 0 in
     let same = c.reciprocal_of-by.ensures in
     record {
-      written = written_more (λ i. scaled_transform m c.args.part c.args.g n x i) c.entries.out c.entries.j
-          c.scaled_value.result (omega arith) before.written
-          (entry_summed m c.args.part c.args.g n c.entries.j c.entries.power c.scaled_value.result x before.power
+      written = written_more _ c.entries.out c.entries.j _ (omega arith) before.written
+          (entry_summed m c.args.part c.args.g (length c.args.xs.now) c.entries.j _ _ _ before.power
           (same_modulus _ m _ _ same c.scaled_value.ensures));
-      power = step_more m c.args.g c.entries.j c.entries.power c.residue_of_product-power.result before.power
-          (same_modulus _ m _ _ same c.residue_of_product-power.ensures.value);
+      power = step_more _ _ _ _ _ before.power (same_modulus _ m _ _ same c.residue_of_product-power.ensures.value);
       residue = subst (λ m. c.residue_of_product-power.result < m) same c.residue_of_product-power.ensures.below;
     }

@@ -11,15 +11,6 @@ returns-then-not-fits-clause-fits g c = (
       (length c.args.words.now)) (sym c.factors.ensures) h.0),
 )
 
-pub returns-then-not-fits-clause-values : goal.returns-then-not-fits-clause-values
-returns-then-not-fits-clause-values g c t = absurd (false≢true t)
-
-pub returns-then-not-fits-clause-unchanged : goal.returns-then-not-fits-clause-unchanged
-returns-then-not-fits-clause-unchanged g c h = (refl, refl)
-
-pub returns-then-not-fits-clause-undone : goal.returns-then-not-fits-clause-undone
-returns-then-not-fits-clause-undone g c t = absurd (false≢true t)
-
 pub returns-in-Some-Some-clause-fits : goal.returns-in-Some-Some-clause-fits
 returns-in-Some-Some-clause-fits g c = (
   λ t. (
@@ -30,27 +21,6 @@ returns-in-Some-Some-clause-fits g c = (
   ),
   λ h. refl,
 )
-
-pub returns-in-Some-Some-clause-unchanged : goal.returns-in-Some-Some-clause-unchanged
-returns-in-Some-Some-clause-unchanged g c h = absurd (h refl)
-
-pub returns-in_default-clause-values : goal.returns-in_default-clause-values
-returns-in_default-clause-values g c t = absurd (false≢true t)
-
-pub returns-in_default-clause-undone : goal.returns-in_default-clause-undone
-returns-in_default-clause-undone g c t = absurd (false≢true t)
-
-pub returns-in_default-clause-unchanged : goal.returns-in_default-clause-unchanged
-returns-in_default-clause-unchanged g c h = (refl, refl)
-
-pub returns-in_default-2-clause-values : goal.returns-in_default-2-clause-values
-returns-in_default-2-clause-values g c t = absurd (false≢true t)
-
-pub returns-in_default-2-clause-undone : goal.returns-in_default-2-clause-undone
-returns-in_default-2-clause-undone g c t = absurd (false≢true t)
-
-pub returns-in_default-2-clause-unchanged : goal.returns-in_default-2-clause-unchanged
-returns-in_default-2-clause-unchanged g c h = (refl, refl)
 
 pub returns-in-Some-Some-clause-values : goal.returns-in-Some-Some-clause-values
 returns-in-Some-Some-clause-values g c t h part j inverse of_length l =

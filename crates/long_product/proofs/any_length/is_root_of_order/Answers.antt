@@ -22,15 +22,12 @@ exponents-init c =
 pub exponents-preserved : goal.exponents-preserved
 exponents-preserved c =
     let m = c.args.m in
-    let d = c.exponents._done in
     let before = c.exponents.invariant in
     let same = c.reciprocal_of-by.ensures in
     record {
-      power = step_more m c.args.g d c.exponents.power c.residue_of_product-power.result before.power
-          (same_modulus _ m _ _ same c.residue_of_product-power.ensures.value);
+      power = step_more _ _ _ _ _ before.power (same_modulus _ m _ _ same c.residue_of_product-power.ensures.value);
       residue = subst (λ v. c.residue_of_product-power.result < v) same c.residue_of_product-power.ensures.below;
-      units = units_more m c.args.g d c.exponents.power c.exponents.differences c.remainder-difference.result
-          c.residue_of_product-differences.result (omega arith) c.inverse_product_laws.ensures.both before.power
+      units = units_more m c.args.g _ _ _ _ _ (omega arith) c.inverse_product_laws.ensures.both before.power
           (same_modulus _ m _ _ same c.remainder-difference.ensures.value)
           (same_modulus _ m _ _ same c.residue_of_product-differences.ensures.value) before.units;
     }

@@ -4,5 +4,5 @@ use Rattle.long_product.proofs.any_length.scaled_value.Goals as goal
 
 pub returns : goal.returns
 returns c =
-    horner_all _ c.args.part c.args.w (length c.args.xs.now) c.terms.i c.terms.sum c.residue_of_product.result
-    c.args.xs.now (omega arith) c.terms.invariant.value c.residue_of_product.ensures.value
+    horner_all _ _ c.args.w (length c.args.xs.now) c.terms.i _ _ c.args.xs.now (omega arith) c.terms.invariant.value
+    c.residue_of_product.ensures.value

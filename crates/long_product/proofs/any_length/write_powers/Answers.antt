@@ -1,5 +1,4 @@
-use Rattle.std.proofs.Common.{◌*◌, ◌/◌, ◌%◌, ◌^◌, arith, ◌∙◌}
-use Rattle.long_product.specs.AnyLength.{choose_two}
+use Rattle.std.proofs.Common.{arith, ◌∙◌}
 use Rattle.long_product.proofs.Bluestein.{written_more, below_more, power_none, power_more, step_none, step_more}
 use Rattle.long_product.proofs.any_length.write_powers.Goals as goal
 
@@ -16,15 +15,11 @@ powers-init c = record {
 pub powers-preserved : goal.powers-preserved
 powers-preserved c =
     let before = c.powers.invariant in
-    let m = c.args.by.now.divider.divisor / 2 ^ c.args.by.now.shift in
     record {
-      written = written_more (λ i. (c.args.first * c.args.g ^ choose_two i) % m) c.powers.out c.powers.k
-          c.powers.power (omega arith) before.written before.power;
-      below = below_more m c.powers.out c.powers.k c.powers.power (omega arith) before.below before.power_below;
-      power = power_more m c.args.first c.args.g c.powers.k c.powers.power c.powers.step
-          c.residue_of_product-power.result before.power before.step c.residue_of_product-power.ensures.value;
+      written = written_more _ c.powers.out c.powers.k _ (omega arith) before.written before.power;
+      below = below_more _ c.powers.out c.powers.k _ (omega arith) before.below before.power_below;
+      power = power_more _ _ _ _ _ _ _ before.power before.step c.residue_of_product-power.ensures.value;
       power_below = c.residue_of_product-power.ensures.below;
-      step = step_more m c.args.g c.powers.k c.powers.step c.residue_of_product-step.result before.step
-          c.residue_of_product-step.ensures.value;
+      step = step_more _ c.args.g c.powers.k _ _ before.step c.residue_of_product-step.ensures.value;
       step_below = c.residue_of_product-step.ensures.below;
     }

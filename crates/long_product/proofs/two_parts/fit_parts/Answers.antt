@@ -11,13 +11,13 @@ returns c = λ is.
     let part = c.max-part.result in
     let few : part * y ≤ 1152921092289986560 / n = grind (arith, nat_tests, is) in
     let whole = times_divisor (part * y) 1152921092289986560 n few in
-    let low = mul-le-mul_left n (mul-le-mul_right y (let l : 32767 ≤ part = omega arith in l)) in
-    let high = mul-le-mul_left n (mul-le-mul_right y (let l : c.greatest.result / 32768 ≤ part = omega arith in l)) in
     record {
       x = c.greatest.result;
       y = y;
       left = c.greatest.ensures;
       right = c.greatest-2.ensures;
-      low = omega (arith, whole, low);
-      high = omega (arith, whole, high);
+      low = omega (arith, whole, mul-le-mul_left n (mul-le-mul_right y (let l : 32767 ≤ part = omega arith in l)));
+      high =
+          let l : c.greatest.result / 32768 ≤ part = omega arith in
+          omega (arith, whole, mul-le-mul_left n (mul-le-mul_right y l));
     }
