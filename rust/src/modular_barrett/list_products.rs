@@ -26,5 +26,6 @@ pub(crate) fn reduced_products<T: PlainWord>(
     let (sum, carries) = carried_sum(xs, ys, from, to);
     let (low, high) = T::split(sum);
     let rest = upper(divider, high, carries);
-    divider.div_rem_2by1(T::double_shift_right(T::merge(low, rest), shift)).1
+    let shifted = T::double_shift_right(T::merge(low, rest), shift);
+    divider.div_rem_2by1(shifted).1
 }

@@ -14,4 +14,4 @@ returns g c =
     sum_reduced (number c.split-low.result.0) (number c.split-low.result.1) (number c.carried_sum-sum.result.1)
     (2 ^ k) v (pow_pos s) parts
     c.split-low.ensures.value c.upper-rest.ensures
-    (rw (c.double_shift_right.ensures ∙ ap (λ n. n / 2 ^ s) c.merge.ensures.value) at c.div_rem_2by1.ensures) sum
+    (rw (c.double_shift_right-shifted.ensures ∙ ap (λ n. n / 2 ^ s) c.merge.ensures.value) at c.div_rem_2by1.ensures) sum
