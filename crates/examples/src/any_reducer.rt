@@ -1,6 +1,6 @@
 //! Computations over any reducer: stated once, for every word and every modulus.
 
-ghost use Rattle.num_modular.specs.Forms.{IsForm};
+ghost use Rattle.num_modular.specs.Checked.{IsChecked};
 ghost use Rattle.std.specs.Prelude.{◌≡◌, ◌+◌, ◌*◌, ◌%◌};
 
 use num_modular::{Reducer, RingWord};
@@ -44,7 +44,7 @@ pub fn product_and_one<T: RingWord, R: Reducer<T>>(r: &R, x: T, y: T) -> T
 // The form of a product of two words.
 #[tactic(auto, using(num_modular::specs::Remainders::remainders))]
 fn product<T: RingWord, R: Reducer<T>>(r: &R, x: T, y: T) -> T
-    ensures checked { IsForm R.form R.value (R.modulus r.now) (T.number result) }
+    ensures checked { IsChecked R.Reducer T.number r.now result }
     ensures value { R.value (R.modulus r.now) (T.number result) ≡ (T.number x * T.number y) % R.modulus r.now }
 {
     r.mul(&r.transform(x), &r.transform(y))

@@ -1,7 +1,7 @@
 //! Products of polynomials with whole numbers as coefficients.
 
 ghost use Rattle.std.specs.Prelude.{◌≡◌, ℕ, ◌+◌, ◌-◌, ◌*◌, ◌<◌, ◌≤◌, ◌↔◌, IsTrue, All, length, slice_index};
-ghost use Rattle.num_modular.specs.Forms.{IsForm};
+ghost use Rattle.num_modular.specs.Checked.{IsChecked};
 ghost use Rattle.num_modular.specs.Inverses.{HasInverse};
 ghost use Rattle.num_modular.specs.Sums.{sum_below};
 ghost use Rattle.num_modular.specs.Transforms.{Suits};
@@ -46,7 +46,7 @@ pub fn product_of<R: Reducer<u64>>(
     right: &mut [u64],
     bound: u64,
 ) -> bool
-    requires root { IsForm R.form R.value (R.modulus r.now) g }
+    requires root { IsChecked R.Reducer (λ x. x) r.now g }
     requires suits { let m = R.modulus r.now in Suits m (R.value m g) (length left.old) }
     requires equal { length right.old ≡ length left.old }
     requires small_xs { All (λ x. x ≤ bound) xs.now }

@@ -5,6 +5,7 @@
 
 ghost use Rattle.std.specs.Prelude.{◌≡◌, ℕ, ◌+◌, ◌*◌, ◌%◌, ◌^◌, ◌<◌, ◌↔◌, IsTrue, pos, neg_ℤ};
 ghost use Rattle.modular_word.specs.Residues.{residue};
+ghost use Rattle.modular_reduced.specs.Checked.{IsChecked};
 ghost use Rattle.modular_reduced.specs.Forms.{Represents, IsForm};
 
 use crate::modular_integer::ModularInteger;
@@ -18,8 +19,8 @@ use modular_word::ring_word::RingWord;
 /// - a and b are checked forms
 #[tactic(auto, using(crate::proofs::RingLaws::same_form))]
 pub fn sums_commute<T: RingWord, R: Reducer<T>>(reducer: &R, a: T, b: T) -> (T, T)
-    requires a { IsForm R.form R.value (R.modulus reducer.now) (T.number a) }
-    requires b { IsForm R.form R.value (R.modulus reducer.now) (T.number b) }
+    requires a { IsChecked R.Reducer T.number reducer.now a }
+    requires b { IsChecked R.Reducer T.number reducer.now b }
     ensures same { result.0 ≡ result.1 }
     ensures left { let m = R.modulus reducer.now in
         Represents R.form m (T.number result.0) ((R.value m (T.number a) + R.value m (T.number b)) % m) }
@@ -35,9 +36,9 @@ pub fn sums_commute<T: RingWord, R: Reducer<T>>(reducer: &R, a: T, b: T) -> (T, 
 ///
 /// - a, b and c are checked forms
 pub fn sums_associate<T: RingWord, R: Reducer<T>>(reducer: &R, a: T, b: T, c: T) -> (T, T)
-    requires a { IsForm R.form R.value (R.modulus reducer.now) (T.number a) }
-    requires b { IsForm R.form R.value (R.modulus reducer.now) (T.number b) }
-    requires c { IsForm R.form R.value (R.modulus reducer.now) (T.number c) }
+    requires a { IsChecked R.Reducer T.number reducer.now a }
+    requires b { IsChecked R.Reducer T.number reducer.now b }
+    requires c { IsChecked R.Reducer T.number reducer.now c }
     ensures same { result.0 ≡ result.1 }
     ensures left { let m = R.modulus reducer.now in let v = R.value m in
         Represents R.form m (T.number result.0) (((v (T.number a) + v (T.number b)) % m + v (T.number c)) % m) }
@@ -56,8 +57,8 @@ pub fn sums_associate<T: RingWord, R: Reducer<T>>(reducer: &R, a: T, b: T, c: T)
 /// - a and b are checked forms
 #[tactic(auto, using(crate::proofs::RingLaws::same_form))]
 pub fn products_commute<T: RingWord, R: Reducer<T>>(reducer: &R, a: T, b: T) -> (T, T)
-    requires a { IsForm R.form R.value (R.modulus reducer.now) (T.number a) }
-    requires b { IsForm R.form R.value (R.modulus reducer.now) (T.number b) }
+    requires a { IsChecked R.Reducer T.number reducer.now a }
+    requires b { IsChecked R.Reducer T.number reducer.now b }
     ensures same { result.0 ≡ result.1 }
     ensures left { let m = R.modulus reducer.now in
         Represents R.form m (T.number result.0) ((R.value m (T.number a) * R.value m (T.number b)) % m) }
@@ -73,9 +74,9 @@ pub fn products_commute<T: RingWord, R: Reducer<T>>(reducer: &R, a: T, b: T) -> 
 ///
 /// - a, b and c are checked forms
 pub fn products_associate<T: RingWord, R: Reducer<T>>(reducer: &R, a: T, b: T, c: T) -> (T, T)
-    requires a { IsForm R.form R.value (R.modulus reducer.now) (T.number a) }
-    requires b { IsForm R.form R.value (R.modulus reducer.now) (T.number b) }
-    requires c { IsForm R.form R.value (R.modulus reducer.now) (T.number c) }
+    requires a { IsChecked R.Reducer T.number reducer.now a }
+    requires b { IsChecked R.Reducer T.number reducer.now b }
+    requires c { IsChecked R.Reducer T.number reducer.now c }
     ensures same { result.0 ≡ result.1 }
     ensures left { let m = R.modulus reducer.now in let v = R.value m in
         Represents R.form m (T.number result.0) (((v (T.number a) * v (T.number b)) % m * v (T.number c)) % m) }
@@ -93,9 +94,9 @@ pub fn products_associate<T: RingWord, R: Reducer<T>>(reducer: &R, a: T, b: T, c
 ///
 /// - a, b and c are checked forms
 pub fn products_distribute<T: RingWord, R: Reducer<T>>(reducer: &R, a: T, b: T, c: T) -> (T, T)
-    requires a { IsForm R.form R.value (R.modulus reducer.now) (T.number a) }
-    requires b { IsForm R.form R.value (R.modulus reducer.now) (T.number b) }
-    requires c { IsForm R.form R.value (R.modulus reducer.now) (T.number c) }
+    requires a { IsChecked R.Reducer T.number reducer.now a }
+    requires b { IsChecked R.Reducer T.number reducer.now b }
+    requires c { IsChecked R.Reducer T.number reducer.now c }
     ensures same { result.0 ≡ result.1 }
     ensures left { let m = R.modulus reducer.now in let v = R.value m in
         Represents R.form m (T.number result.0) ((v (T.number a) * ((v (T.number b) + v (T.number c)) % m)) % m) }
@@ -114,7 +115,7 @@ pub fn products_distribute<T: RingWord, R: Reducer<T>>(reducer: &R, a: T, b: T, 
 ///
 /// - a is a checked form
 pub fn negative_cancels<T: RingWord, R: Reducer<T>>(reducer: &R, a: T) -> (T, T)
-    requires { IsForm R.form R.value (R.modulus reducer.now) (T.number a) }
+    requires { IsChecked R.Reducer T.number reducer.now a }
     ensures negative { let m = R.modulus reducer.now in
         Represents R.form m (T.number result.0) (residue m (neg_ℤ (pos (R.value m (T.number a))))) }
     ensures zero { Represents R.form (R.modulus reducer.now) (T.number result.1) 0 }
@@ -136,8 +137,8 @@ pub fn residue_by_form<T: RingWord, R: Reducer<T>>(reducer: &R, n: T) -> T
 ///
 /// - a and b are checked forms
 pub fn same_value<T: RingWord, R: Reducer<T>>(reducer: &R, a: T, b: T) -> bool
-    requires a { IsForm R.form R.value (R.modulus reducer.now) (T.number a) }
-    requires b { IsForm R.form R.value (R.modulus reducer.now) (T.number b) }
+    requires a { IsChecked R.Reducer T.number reducer.now a }
+    requires b { IsChecked R.Reducer T.number reducer.now b }
     ensures value { let m = R.modulus reducer.now in
         IsTrue result ↔ (R.value m (T.number a) ≡ R.value m (T.number b)) }
     ensures word { IsTrue result ↔ (a ≡ b) }

@@ -1,7 +1,8 @@
 //! Powers of forms by binary digits, with the number of products.
 
 ghost use Rattle.std.specs.Prelude.{◌≡◌, ℕ, ◌+◌, ◌*◌, ◌%◌, ◌^◌, ◌<◌, ◌≤◌, count_ones};
-ghost use Rattle.modular_reduced.specs.Forms.{Represents, IsForm};
+ghost use Rattle.modular_reduced.specs.Checked.{IsChecked};
+ghost use Rattle.modular_reduced.specs.Forms.{Represents};
 ghost use Rattle.modular_reduced.specs.Powers.{digits, products};
 
 use crate::reducer::Reducer;
@@ -9,7 +10,7 @@ use modular_word::ring_word::RingWord;
 
 // The power, by a square for each digit and a product for each digit 1, and the number of these.
 fn binary_power<T: RingWord, R: Reducer<T>>(reducer: &R, base: T, exp: T) -> (T, u32)
-    requires form { IsForm R.form R.value (R.modulus reducer.now) (T.number base) }
+    requires form { IsChecked R.Reducer T.number reducer.now base }
     requires fits { T.number exp < 2 ^ T.width }
     ensures power { let m = R.modulus reducer.now in
         Represents R.form m (T.number result.0) (R.value m (T.number base) ^ T.number exp % m) }
@@ -55,10 +56,10 @@ fn binary_power<T: RingWord, R: Reducer<T>>(reducer: &R, base: T, exp: T) -> (T,
 /// assert_eq!(pow_counted(&ring, 3, &5), (49, 3 + 2));
 /// ```
 pub fn pow_counted<T: RingWord, R: Reducer<T>>(reducer: &R, base: T, exp: &T) -> (T, u32)
-    requires { IsForm R.form R.value (R.modulus reducer.now) (T.number base) }
+    requires { IsChecked R.Reducer T.number reducer.now base }
     ensures power { let m = R.modulus reducer.now in
         Represents R.form m (T.number result.0) (R.value m (T.number base) ^ T.number exp.now % m) }
-    ensures checked { IsForm R.form R.value (R.modulus reducer.now) (T.number result.0) }
+    ensures checked { IsChecked R.Reducer T.number reducer.now result.0 }
     ensures value { let m = R.modulus reducer.now in
         R.value m (T.number result.0) ≡ R.value m (T.number base) ^ T.number exp.now % m }
     ensures count { result.1 ≡ products (T.number exp.now) }

@@ -1,6 +1,6 @@
 //! Integers modulo m over any reducer.
 
-ghost use Rattle.modular_reduced.specs.Forms.{IsForm};
+ghost use Rattle.modular_reduced.specs.Checked.{IsChecked};
 ghost use Rattle.std.specs.Prelude.{◌≡◌, ⊤};
 
 // rattle: line
@@ -52,7 +52,7 @@ pub struct ReducedInt<T: RingWord, R: Reducer<T>> {
     // rust instead: pub(crate) reducer: R,
     reducer: R,
     // Contracts use the modulus (`modulus_of`), the residue (`residue_of`), and the form (`form_of`).
-    ghost checked: { IsForm R.form R.value (R.modulus reducer) (T.number form) },
+    ghost checked: { IsChecked R.Reducer T.number reducer form },
 }
 
 /// An integer over [`Vanilla`]: modulo m, where the form of a residue is the residue.

@@ -1,8 +1,8 @@
 //! The inverses of all entries of a list by one inversion.
 
-ghost use Rattle.std.specs.Prelude.{◌≡◌, ℕ, ◌<◌, ◌↔◌, IsTrue, All, length};
+ghost use Rattle.std.specs.Prelude.{◌≡◌, ℕ, ◌<◌, ◌↔◌, IsTrue, length};
 ghost use Rattle.modular_reduced.specs.Entries.{entry};
-ghost use Rattle.modular_reduced.specs.Forms.{IsForm};
+ghost use Rattle.modular_reduced.specs.Checked.{AreChecked};
 ghost use Rattle.modular_word.specs.Inverses.{HasInverse, IsInverse};
 
 use modular_reduced::reducer::Reducer;
@@ -37,13 +37,13 @@ use modular_word::ring_word::RingWord;
 // rust: #[must_use]
 // rust: #[track_caller]
 pub fn invert_each<T: RingWord, R: Reducer<T>>(r: &R, forms: &mut [T], scratch: &mut [T]) -> bool
-    requires checked { All (λ f. IsForm R.form R.value (R.modulus r.now) (T.number f)) forms.old }
+    requires checked { AreChecked R.Reducer T.number r.now forms.old }
     requires equal { length scratch.old ≡ length forms.old }
     ensures each { let m = R.modulus r.now in
         IsTrue result ↔ ((i : ℕ) → i < length forms.old → HasInverse m (entry T.number R.value m forms.old i)) }
     ensures inverses { let m = R.modulus r.now in IsTrue result → (i : ℕ) → i < length forms.old →
         IsInverse m (entry T.number R.value m forms.old i) (entry T.number R.value m forms.new i) }
-    ensures checked { All (λ f. IsForm R.form R.value (R.modulus r.now) (T.number f)) forms.new }
+    ensures checked { AreChecked R.Reducer T.number r.now forms.new }
     ensures unchanged { (IsTrue result → ⊥) → forms.new ≡ forms.old }
 {
     // rust: debug_assert!(forms.iter().all(|x| r.check(x)), "the entries of `forms` must be checked forms");

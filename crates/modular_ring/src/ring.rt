@@ -3,7 +3,7 @@
 ghost use Rattle.std.specs.Prelude.{◌≡◌, ℕ, ◌+◌, ◌*◌, ◌%◌, ◌<◌, ◌≤◌, ◌↔◌, IsTrue, IsFalse, Some, All, List, length};
 ghost use Rattle.std.specs.Prelude.{map, option_map, slice_index, slice_index_or, slice_set};
 ghost use Rattle.modular_word.specs.Inverses.{inverse_of};
-ghost use Rattle.modular_reduced.specs.Forms.{IsForm};
+ghost use Rattle.modular_reduced.specs.Checked.{AreChecked, IsChecked};
 ghost use Rattle.modular_ring.specs.Ring.{whole, destination_of, outcome, value_at, IsStop};
 ghost use Rattle.modular_ring.specs.Ring.{value_after, LacksInverse, carried_out, IsFit, values_of, HoldValues};
 ghost use Rattle.modular_ring.specs.Ring.{IsFormOf, LacksInverseAt};
@@ -269,7 +269,7 @@ pub fn commands_fit<T: RingWord, C: AsCommand<T>>(commands: &[C], len: usize) ->
 /// assert!(!all_checked(&ring, &[0, 97]));
 /// ```
 pub fn all_checked<T: RingWord, R: Reducer<T>>(r: &R, regs: &[T]) -> bool
-    ensures { IsTrue result ↔ All (λ f. IsForm R.form R.value (R.modulus r.now) (T.number f)) regs.now }
+    ensures { IsTrue result ↔ AreChecked R.Reducer T.number r.now regs.now }
 {
     regs.iter().all(|form| r.check(form))
 }
@@ -296,8 +296,8 @@ fn destination<T: RingWord>(command: &RingCommand<T>) -> usize
 // The form of the quotient of two forms; `None` exactly where the second has no inverse.
 #[inline(never)]
 fn quotient<T: RingWord, R: Reducer<T>>(r: &R, a: &T, b: T) -> Option<T>
-    requires dividend { IsForm R.form R.value (R.modulus r.now) (T.number a.now) }
-    requires divisor { IsForm R.form R.value (R.modulus r.now) (T.number b) }
+    requires dividend { IsChecked R.Reducer T.number r.now a.now }
+    requires divisor { IsChecked R.Reducer T.number r.now b }
     ensures { let m = R.modulus r.now in
         let x = R.value m (T.number a.now) in
         IsFormOf T.number R.form m (option_map (λ y. (x * y) % m) (inverse_of m (R.value m (T.number b)))) result }
@@ -318,7 +318,7 @@ fn computed_form<T: RingWord, R: Reducer<T>>(
     regs: &[T],
     command: RingCommand<T>,
 ) -> Option<T>
-    requires checked { All (λ f. IsForm R.form R.value (R.modulus r.now) (T.number f)) regs.now }
+    requires checked { AreChecked R.Reducer T.number r.now regs.now }
     requires fit { IsFit (length regs.now) command }
     requires other { Combines command → ⊥ }
     ensures { let m = R.modulus r.now in
@@ -397,7 +397,7 @@ fn carry_out<T: RingWord, R: Reducer<T>>(
     last: &mut Last<T>,
     command: RingCommand<T>,
 ) -> bool
-    requires checked { All (λ f. IsForm R.form R.value (R.modulus r.now) (T.number f)) regs.old }
+    requires checked { AreChecked R.Reducer T.number r.now regs.old }
     requires fit { IsFit (length regs.old) command }
     requires holds { IsHeldAt regs.old last.old.register last.old.form }
     ensures count { length regs.new ≡ length regs.old }
@@ -445,7 +445,7 @@ fn carry_out_at<T: RingWord, R: Reducer<T>, C: AsCommand<T>>(
     commands: &[C],
     at: &mut usize,
 ) -> bool
-    requires checked { All (λ f. IsForm R.form R.value (R.modulus r.now) (T.number f)) regs.old }
+    requires checked { AreChecked R.Reducer T.number r.now regs.old }
     requires fit { All (λ c. IsFit (length regs.old) (C.command c)) commands.now }
     requires holds { IsHeldAt regs.old last.old.register last.old.form }
     requires within { at.old < length commands.now }
@@ -474,7 +474,7 @@ fn carry_out_two<T: RingWord, R: Reducer<T>, C: AsCommand<T>>(
     commands: &[C],
     at: &mut usize,
 ) -> bool
-    requires checked { All (λ f. IsForm R.form R.value (R.modulus r.now) (T.number f)) regs.old }
+    requires checked { AreChecked R.Reducer T.number r.now regs.old }
     requires fit { All (λ c. IsFit (length regs.old) (C.command c)) commands.now }
     requires holds { IsHeldAt regs.old last.old.register last.old.form }
     requires within { at.old + 2 ≤ length commands.now }
@@ -499,7 +499,7 @@ fn carry_out_four<T: RingWord, R: Reducer<T>, C: AsCommand<T>>(
     commands: &[C],
     at: &mut usize,
 ) -> bool
-    requires checked { All (λ f. IsForm R.form R.value (R.modulus r.now) (T.number f)) regs.old }
+    requires checked { AreChecked R.Reducer T.number r.now regs.old }
     requires fit { All (λ c. IsFit (length regs.old) (C.command c)) commands.now }
     requires holds { IsHeldAt regs.old last.old.register last.old.form }
     requires within { at.old + 4 ≤ length commands.now }
@@ -524,7 +524,7 @@ fn carry_out_all<T: RingWord, R: Reducer<T>, C: AsCommand<T>>(
     commands: &[C],
     at: &mut usize,
 ) -> bool
-    requires checked { All (λ f. IsForm R.form R.value (R.modulus r.now) (T.number f)) regs.old }
+    requires checked { AreChecked R.Reducer T.number r.now regs.old }
     requires fit { All (λ c. IsFit (length regs.old) (C.command c)) commands.now }
     requires holds { IsHeldAt regs.old last.old.register last.old.form }
     requires within { at.old ≤ length commands.now }
@@ -581,7 +581,7 @@ pub fn run<T: RingWord, R: Reducer<T>, C: AsCommand<T>>(
     regs: &mut [T],
     commands: &[C],
 ) -> RunEnd
-    requires checked { All (λ f. IsForm R.form R.value (R.modulus r.now) (T.number f)) regs.old }
+    requires checked { AreChecked R.Reducer T.number r.now regs.old }
     requires fit { All (λ c. IsFit (length regs.old) (C.command c)) commands.now }
 
     // The run stops exactly where `IsStop` says, by the values of the registers.
@@ -599,7 +599,7 @@ pub fn run<T: RingWord, R: Reducer<T>, C: AsCommand<T>>(
         let start = values_of T.number R.value m regs.old in
         let wholes = map (λ c. whole T.number (C.command c)) commands.now in
         HoldValues T.number R.form m regs.new (value_at m start wholes (carried_out result wholes)) }
-    ensures checked { All (λ f. IsForm R.form R.value (R.modulus r.now) (T.number f)) regs.new }
+    ensures checked { AreChecked R.Reducer T.number r.now regs.new }
 
     // So its residue is that value, for the list of values and for each register that is read.
     ensures residues { let m = R.modulus r.now in

@@ -2,7 +2,8 @@
 
 ghost use Rattle.std.specs.Prelude.{◌≡◌, ◌*◌, ◌%◌, ◌^◌, ◌<◌, ◌≤◌, IfSome};
 ghost use Rattle.modular_word.specs.Inverses.{IsInversion};
-ghost use Rattle.modular_reduced.specs.Forms.{Represents, IsForm, IsInverseForm};
+ghost use Rattle.modular_reduced.specs.Checked.{IsChecked};
+ghost use Rattle.modular_reduced.specs.Forms.{Represents, IsInverseForm};
 
 use crate::inverse::invm_secret;
 use crate::secret_word::{SecretWord, chosen, odd_mask};
@@ -39,12 +40,12 @@ pub fn pow_secret_counted<T: SecretWord, R: Reducer<T>>(
     exp: &T,
     bits: u32,
 ) -> (T, u32)
-    requires form { IsForm R.form R.value (R.modulus reducer.now) (T.number base) }
+    requires form { IsChecked R.Reducer T.number reducer.now base }
     requires bits { bits ≤ T.width }
     requires fits { T.number exp.now < 2 ^ bits }
     ensures form { let m = R.modulus reducer.now in
         Represents R.form m (T.number result.0) (R.value m (T.number base) ^ T.number exp.now % m) }
-    ensures checked { IsForm R.form R.value (R.modulus reducer.now) (T.number result.0) }
+    ensures checked { IsChecked R.Reducer T.number reducer.now result.0 }
     ensures value { let m = R.modulus reducer.now in
         R.value m (T.number result.0) ≡ R.value m (T.number base) ^ T.number exp.now % m }
     ensures count { result.1 ≡ 2 * bits }
@@ -93,12 +94,12 @@ pub fn pow_secret_counted<T: SecretWord, R: Reducer<T>>(
 /// ```
 // rust: #[track_caller]
 pub fn pow_secret<T: SecretWord, R: Reducer<T>>(reducer: &R, base: T, exp: &T, bits: u32) -> T
-    requires form { IsForm R.form R.value (R.modulus reducer.now) (T.number base) }
+    requires form { IsChecked R.Reducer T.number reducer.now base }
     requires bits { bits ≤ T.width }
     requires fits { T.number exp.now < 2 ^ bits }
     ensures form { let m = R.modulus reducer.now in
         Represents R.form m (T.number result) (R.value m (T.number base) ^ T.number exp.now % m) }
-    ensures checked { IsForm R.form R.value (R.modulus reducer.now) (T.number result) }
+    ensures checked { IsChecked R.Reducer T.number reducer.now result }
     ensures value { let m = R.modulus reducer.now in
         R.value m (T.number result) ≡ R.value m (T.number base) ^ T.number exp.now % m }
 {
@@ -129,9 +130,9 @@ pub fn pow_secret<T: SecretWord, R: Reducer<T>>(reducer: &R, base: T, exp: &T, b
 // rust: #[track_caller]
 pub fn inv_secret<T: SecretWord, R: Reducer<T>>(reducer: &R, f: T) -> Option<T>
     requires odd { R.modulus reducer.now % 2 ≡ 1 }
-    requires form { IsForm R.form R.value (R.modulus reducer.now) (T.number f) }
+    requires form { IsChecked R.Reducer T.number reducer.now f }
     ensures form { let m = R.modulus reducer.now in IsInverseForm T.number R.form m (R.value m (T.number f)) result }
-    ensures checked { IfSome result (λ x. IsForm R.form R.value (R.modulus reducer.now) (T.number x)) }
+    ensures checked { IfSome result (λ x. IsChecked R.Reducer T.number reducer.now x) }
     ensures value { let m = R.modulus reducer.now in
         IsInversion (λ x. R.value m (T.number x)) m (R.value m (T.number f)) result }
 {

@@ -1,10 +1,10 @@
 //! The cyclic product of two lists, by transforms.
 
-ghost use Rattle.std.specs.Prelude.{◌≡◌, ℕ, ◌*◌, ◌%◌, ◌<◌, ◌↔◌, IsTrue, All, length, slice_index};
+ghost use Rattle.std.specs.Prelude.{◌≡◌, ℕ, ◌*◌, ◌%◌, ◌<◌, ◌↔◌, IsTrue, length, slice_index};
 ghost use Rattle.std.specs.Int.{IsPowerOfTwo};
 ghost use Rattle.modular_word.specs.Congruence.{Congruent};
 ghost use Rattle.modular_word.specs.Inverses.{IsInverse, HasInverse};
-ghost use Rattle.modular_reduced.specs.Forms.{IsForm};
+ghost use Rattle.modular_reduced.specs.Checked.{AreChecked, IsChecked};
 ghost use Rattle.modular_reduced.specs.Values.{values_of, HoldValues};
 ghost use Rattle.modular_transform.specs.Transforms.{Suits, transform, cyclic_product};
 
@@ -16,12 +16,12 @@ use modular_word::ring_word::RingWord;
 
 // Replaces xs by the cyclic product and ys by its transform, given a root g and an inverse of the length.
 fn multiply<T: RingWord, R: Reducer<T>>(r: &R, xs: &mut [T], ys: &mut [T], g: &T, part: &T)
-    requires checked_xs { All (λ f. IsForm R.form R.value (R.modulus r.now) (T.number f)) xs.old }
-    requires checked_ys { All (λ f. IsForm R.form R.value (R.modulus r.now) (T.number f)) ys.old }
-    requires root { IsForm R.form R.value (R.modulus r.now) (T.number g.now) }
+    requires checked_xs { AreChecked R.Reducer T.number r.now xs.old }
+    requires checked_ys { AreChecked R.Reducer T.number r.now ys.old }
+    requires root { IsChecked R.Reducer T.number r.now g.now }
     requires suits { let m = R.modulus r.now in Suits m (R.value m (T.number g.now)) (length xs.old) }
     requires equal { length ys.old ≡ length xs.old }
-    requires part { IsForm R.form R.value (R.modulus r.now) (T.number part.now) }
+    requires part { IsChecked R.Reducer T.number r.now part.now }
     requires inverse { let m = R.modulus r.now in IsInverse m (length xs.old) (R.value m (T.number part.now)) }
     ensures product { let m = R.modulus r.now in
         HoldValues T.number R.form m xs.new
@@ -31,8 +31,8 @@ fn multiply<T: RingWord, R: Reducer<T>>(r: &R, xs: &mut [T], ys: &mut [T], g: &T
         HoldValues T.number R.form m ys.new
         (transform m (R.value m (T.number g.now)) (length xs.old) (slice_index (values_of T.number R.value m ys.old))) }
     ensures checked { let m = R.modulus r.now in
-        All (λ f. IsForm R.form R.value m (T.number f)) xs.new
-        × All (λ f. IsForm R.form R.value m (T.number f)) ys.new }
+        AreChecked R.Reducer T.number r.now xs.new
+        × AreChecked R.Reducer T.number r.now ys.new }
 {
     ntt(r, xs, g);
     ntt(r, ys, g);
@@ -72,9 +72,9 @@ fn multiply<T: RingWord, R: Reducer<T>>(r: &R, xs: &mut [T], ys: &mut [T], g: &T
 // rust: #[must_use]
 // rust: #[track_caller]
 pub fn convolve<T: RingWord, R: Reducer<T>>(r: &R, xs: &mut [T], ys: &mut [T], g: &T) -> bool
-    requires checked_xs { All (λ f. IsForm R.form R.value (R.modulus r.now) (T.number f)) xs.old }
-    requires checked_ys { All (λ f. IsForm R.form R.value (R.modulus r.now) (T.number f)) ys.old }
-    requires root { IsForm R.form R.value (R.modulus r.now) (T.number g.now) }
+    requires checked_xs { AreChecked R.Reducer T.number r.now xs.old }
+    requires checked_ys { AreChecked R.Reducer T.number r.now ys.old }
+    requires root { IsChecked R.Reducer T.number r.now g.now }
     requires suits { let m = R.modulus r.now in Suits m (R.value m (T.number g.now)) (length xs.old) }
     requires equal { length ys.old ≡ length xs.old }
     ensures inverse { IsTrue result ↔ HasInverse (R.modulus r.now) (length xs.old) }
@@ -95,8 +95,8 @@ pub fn convolve<T: RingWord, R: Reducer<T>>(r: &R, xs: &mut [T], ys: &mut [T], g
         ≡ transform m (R.value m (T.number g.now)) (length xs.old)
         (slice_index (values_of T.number R.value m ys.old)) j }
     ensures checked { let m = R.modulus r.now in
-        All (λ f. IsForm R.form R.value m (T.number f)) xs.new
-        × All (λ f. IsForm R.form R.value m (T.number f)) ys.new }
+        AreChecked R.Reducer T.number r.now xs.new
+        × AreChecked R.Reducer T.number r.now ys.new }
 {
     // rust: assert!(ys.len() == xs.len(), "the lists must have the same length: {} and {}", xs.len(), ys.len());
     // rust: assert!(xs.len().is_power_of_two(), "the length must be a power of two: {}", xs.len());

@@ -1,10 +1,10 @@
 //! The inverse of the transform, in place.
 
-ghost use Rattle.std.specs.Prelude.{◌≡◌, ℕ, ◌*◌, ◌%◌, ◌<◌, ◌↔◌, IsTrue, All, length, slice_index};
+ghost use Rattle.std.specs.Prelude.{◌≡◌, ℕ, ◌*◌, ◌%◌, ◌<◌, ◌↔◌, IsTrue, length, slice_index};
 ghost use Rattle.std.specs.Int.{IsPowerOfTwo};
 ghost use Rattle.modular_word.specs.Congruence.{Congruent};
 ghost use Rattle.modular_word.specs.Inverses.{HasInverse};
-ghost use Rattle.modular_reduced.specs.Forms.{IsForm};
+ghost use Rattle.modular_reduced.specs.Checked.{AreChecked, IsChecked};
 ghost use Rattle.modular_reduced.specs.Values.{values_of, HoldValues};
 ghost use Rattle.modular_transform.specs.Orders.{mirrored};
 ghost use Rattle.modular_transform.specs.Transforms.{Suits, transform};
@@ -19,7 +19,7 @@ use modular_word::ring_word::RingWord;
 #[tactic(auto, using(crate::proofs::StripPowers::first_power, crate::proofs::ConvolveLemmas::doubled_all))]
 pub(crate) fn length_form<T: RingWord, R: Reducer<T>>(r: &R, n: usize) -> T
     requires { IsPowerOfTwo n }
-    ensures form { IsForm R.form R.value (R.modulus r.now) (T.number result) }
+    ensures form { IsChecked R.Reducer T.number r.now result }
     ensures counted { let m = R.modulus r.now in Congruent m (R.value m (T.number result)) n }
 {
     let mut length = r.transform(T::one());
@@ -32,15 +32,15 @@ pub(crate) fn length_form<T: RingWord, R: Reducer<T>>(r: &R, n: usize) -> T
 // Transforms, reverses the order of all entries but the first, and multiplies each by a factor. With an inverse of the
 // length as the factor, it undoes the transform.
 pub(crate) fn transform_back<T: RingWord, R: Reducer<T>>(r: &R, xs: &mut [T], g: &T, part: &T)
-    requires checked { All (λ f. IsForm R.form R.value (R.modulus r.now) (T.number f)) xs.old }
-    requires root { IsForm R.form R.value (R.modulus r.now) (T.number g.now) }
+    requires checked { AreChecked R.Reducer T.number r.now xs.old }
+    requires root { IsChecked R.Reducer T.number r.now g.now }
     requires suits { let m = R.modulus r.now in Suits m (R.value m (T.number g.now)) (length xs.old) }
-    requires part { IsForm R.form R.value (R.modulus r.now) (T.number part.now) }
+    requires part { IsChecked R.Reducer T.number r.now part.now }
     ensures entries { let m = R.modulus r.now in
         HoldValues T.number R.form m xs.new
         (λ i. (transform m (R.value m (T.number g.now)) (length xs.old) (slice_index (values_of T.number R.value m xs.old))
         (mirrored (length xs.old) i) * R.value m (T.number part.now)) % m) }
-    ensures checked { All (λ f. IsForm R.form R.value (R.modulus r.now) (T.number f)) xs.new }
+    ensures checked { AreChecked R.Reducer T.number r.now xs.new }
 {
     ntt(r, xs, g);
     mirror(xs);
@@ -79,8 +79,8 @@ pub(crate) fn transform_back<T: RingWord, R: Reducer<T>>(r: &R, xs: &mut [T], g:
 // rust: #[must_use]
 // rust: #[track_caller]
 pub fn intt<T: RingWord, R: Reducer<T>>(r: &R, xs: &mut [T], g: &T) -> bool
-    requires checked { All (λ f. IsForm R.form R.value (R.modulus r.now) (T.number f)) xs.old }
-    requires root { IsForm R.form R.value (R.modulus r.now) (T.number g.now) }
+    requires checked { AreChecked R.Reducer T.number r.now xs.old }
+    requires root { IsChecked R.Reducer T.number r.now g.now }
     requires suits { let m = R.modulus r.now in Suits m (R.value m (T.number g.now)) (length xs.old) }
     ensures inverse { IsTrue result ↔ HasInverse (R.modulus r.now) (length xs.old) }
     ensures unchanged { (IsTrue result → ⊥) → xs.new ≡ xs.old }
@@ -93,7 +93,7 @@ pub fn intt<T: RingWord, R: Reducer<T>>(r: &R, xs: &mut [T], g: &T) -> bool
         transform m (R.value m (T.number g.now)) (length xs.old) x j
         ≡ slice_index (values_of T.number R.value m xs.old) j) →
         (i : ℕ) → i < length xs.old → slice_index (values_of T.number R.value m xs.new) i ≡ x i % m }
-    ensures checked { All (λ f. IsForm R.form R.value (R.modulus r.now) (T.number f)) xs.new }
+    ensures checked { AreChecked R.Reducer T.number r.now xs.new }
 {
     // rust: assert!(xs.len().is_power_of_two(), "the length must be a power of two: {}", xs.len());
     // rust: debug_assert!(r.check(g) && xs.iter().all(|x| r.check(x)), "g and the entries must be checked forms");

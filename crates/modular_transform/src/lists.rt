@@ -1,9 +1,10 @@
 //! Lists of forms: conversion from words and back, sums, differences and products entry by entry.
 
 ghost use Rattle.std.specs.Prelude.{◌≡◌, ℕ, ◌+◌, ◌*◌, ◌%◌, ◌^◌, ◌<◌, ◌≤◌, IsTrue, pos, ◌-ℤ◌};
-ghost use Rattle.std.specs.Prelude.{All, length, map, slice_index};
+ghost use Rattle.std.specs.Prelude.{length, map, slice_index};
 ghost use Rattle.modular_word.specs.Residues.{residue};
-ghost use Rattle.modular_reduced.specs.Forms.{Represents, IsForm};
+ghost use Rattle.modular_reduced.specs.Checked.{AreChecked, IsChecked};
+ghost use Rattle.modular_reduced.specs.Forms.{Represents};
 ghost use Rattle.modular_reduced.specs.Values.{values_of, HoldValues, sum_of_products};
 
 use modular_reduced::reducer::Reducer;
@@ -27,7 +28,7 @@ use modular_word::ring_word::RingWord;
 /// assert_eq!(forms, [3, 2, 0, 0]);
 /// ```
 pub fn load_forms<T: RingWord, R: Reducer<T>>(r: &R, words: &[T], forms: &mut [T])
-    ensures checked { All (λ f. IsForm R.form R.value (R.modulus r.now) (T.number f)) forms.new }
+    ensures checked { AreChecked R.Reducer T.number r.now forms.new }
     ensures values { let m = R.modulus r.now in (i : ℕ) → i < length forms.old →
         slice_index (values_of T.number R.value m forms.new) i ≡ slice_index (map T.number words.now) i % m }
 {
@@ -58,7 +59,7 @@ pub fn load_forms<T: RingWord, R: Reducer<T>>(r: &R, words: &[T], forms: &mut [T
 /// ```
 // rust: #[track_caller]
 pub fn unload_forms<T: RingWord, R: Reducer<T>>(r: &R, forms: &[T], words: &mut [T])
-    requires checked { All (λ f. IsForm R.form R.value (R.modulus r.now) (T.number f)) forms.now }
+    requires checked { AreChecked R.Reducer T.number r.now forms.now }
     requires within { length words.old ≤ length forms.now }
     ensures values { let m = R.modulus r.now in (i : ℕ) → i < length words.old →
         slice_index (map T.number words.new) i ≡ slice_index (values_of T.number R.value m forms.now) i }
@@ -100,8 +101,8 @@ fn takes_room<T: RingWord, R: Reducer<T>>(r: &R) -> bool
 // rust: #[track_caller]
 pub fn add_lists<T: RingWord, R: Reducer<T>>(r: &R, xs: &mut [T], ys: &[T])
     requires equal { length ys.now ≡ length xs.old }
-    requires checked_xs { All (λ f. IsForm R.form R.value (R.modulus r.now) (T.number f)) xs.old }
-    requires checked_ys { All (λ f. IsForm R.form R.value (R.modulus r.now) (T.number f)) ys.now }
+    requires checked_xs { AreChecked R.Reducer T.number r.now xs.old }
+    requires checked_ys { AreChecked R.Reducer T.number r.now ys.now }
     ensures entries { let m = R.modulus r.now in
         HoldValues T.number R.form m xs.new
         (λ i. (slice_index (values_of T.number R.value m xs.old) i
@@ -110,7 +111,7 @@ pub fn add_lists<T: RingWord, R: Reducer<T>>(r: &R, xs: &mut [T], ys: &[T])
         (i : ℕ) → i < length xs.old → slice_index (values_of T.number R.value m xs.new) i
         ≡ (slice_index (values_of T.number R.value m xs.old) i
         + slice_index (values_of T.number R.value m ys.now) i) % m }
-    ensures checked { All (λ f. IsForm R.form R.value (R.modulus r.now) (T.number f)) xs.new }
+    ensures checked { AreChecked R.Reducer T.number r.now xs.new }
 {
     // rust: assert!(ys.len() == xs.len(), "the lists must have the same length: {} and {}", xs.len(), ys.len());
     // rust: debug_assert!(xs.iter().chain(ys.iter()).all(|x| r.check(x)), "all entries must be checked forms");
@@ -146,8 +147,8 @@ pub fn add_lists<T: RingWord, R: Reducer<T>>(r: &R, xs: &mut [T], ys: &[T])
 // rust: #[track_caller]
 pub fn sub_lists<T: RingWord, R: Reducer<T>>(r: &R, xs: &mut [T], ys: &[T])
     requires equal { length ys.now ≡ length xs.old }
-    requires checked_xs { All (λ f. IsForm R.form R.value (R.modulus r.now) (T.number f)) xs.old }
-    requires checked_ys { All (λ f. IsForm R.form R.value (R.modulus r.now) (T.number f)) ys.now }
+    requires checked_xs { AreChecked R.Reducer T.number r.now xs.old }
+    requires checked_ys { AreChecked R.Reducer T.number r.now ys.now }
     ensures entries { let m = R.modulus r.now in
         HoldValues T.number R.form m xs.new
         (λ i. residue m (pos (slice_index (values_of T.number R.value m xs.old) i)
@@ -156,7 +157,7 @@ pub fn sub_lists<T: RingWord, R: Reducer<T>>(r: &R, xs: &mut [T], ys: &[T])
         (i : ℕ) → i < length xs.old → slice_index (values_of T.number R.value m xs.new) i
         ≡ residue m (pos (slice_index (values_of T.number R.value m xs.old) i)
         -ℤ pos (slice_index (values_of T.number R.value m ys.now) i)) }
-    ensures checked { All (λ f. IsForm R.form R.value (R.modulus r.now) (T.number f)) xs.new }
+    ensures checked { AreChecked R.Reducer T.number r.now xs.new }
 {
     // rust: assert!(ys.len() == xs.len(), "the lists must have the same length: {} and {}", xs.len(), ys.len());
     // rust: debug_assert!(xs.iter().chain(ys.iter()).all(|x| r.check(x)), "all entries must be checked forms");
@@ -192,8 +193,8 @@ pub fn sub_lists<T: RingWord, R: Reducer<T>>(r: &R, xs: &mut [T], ys: &[T])
 // rust: #[track_caller]
 pub fn multiply_lists<T: RingWord, R: Reducer<T>>(r: &R, xs: &mut [T], ys: &[T])
     requires equal { length ys.now ≡ length xs.old }
-    requires checked_xs { All (λ f. IsForm R.form R.value (R.modulus r.now) (T.number f)) xs.old }
-    requires checked_ys { All (λ f. IsForm R.form R.value (R.modulus r.now) (T.number f)) ys.now }
+    requires checked_xs { AreChecked R.Reducer T.number r.now xs.old }
+    requires checked_ys { AreChecked R.Reducer T.number r.now ys.now }
     ensures entries { let m = R.modulus r.now in
         HoldValues T.number R.form m xs.new
         (λ i. (slice_index (values_of T.number R.value m xs.old) i
@@ -202,7 +203,7 @@ pub fn multiply_lists<T: RingWord, R: Reducer<T>>(r: &R, xs: &mut [T], ys: &[T])
         (i : ℕ) → i < length xs.old → slice_index (values_of T.number R.value m xs.new) i
         ≡ (slice_index (values_of T.number R.value m xs.old) i
         * slice_index (values_of T.number R.value m ys.now) i) % m }
-    ensures checked { All (λ f. IsForm R.form R.value (R.modulus r.now) (T.number f)) xs.new }
+    ensures checked { AreChecked R.Reducer T.number r.now xs.new }
 {
     // rust: assert!(ys.len() == xs.len(), "the lists must have the same length: {} and {}", xs.len(), ys.len());
     // rust: debug_assert!(xs.iter().chain(ys.iter()).all(|x| r.check(x)), "all entries must be checked forms");
@@ -230,15 +231,15 @@ pub fn multiply_lists<T: RingWord, R: Reducer<T>>(r: &R, xs: &mut [T], ys: &[T])
 /// ```
 // rust: #[cfg_attr(debug_assertions, track_caller)]
 pub fn scale_list<T: RingWord, R: Reducer<T>>(r: &R, xs: &mut [T], factor: &T)
-    requires checked { All (λ f. IsForm R.form R.value (R.modulus r.now) (T.number f)) xs.old }
-    requires factor { IsForm R.form R.value (R.modulus r.now) (T.number factor.now) }
+    requires checked { AreChecked R.Reducer T.number r.now xs.old }
+    requires factor { IsChecked R.Reducer T.number r.now factor.now }
     ensures entries { let m = R.modulus r.now in
         HoldValues T.number R.form m xs.new
         (λ i. (slice_index (values_of T.number R.value m xs.old) i * R.value m (T.number factor.now)) % m) }
     ensures values { let m = R.modulus r.now in
         (i : ℕ) → i < length xs.old → slice_index (values_of T.number R.value m xs.new) i
         ≡ (slice_index (values_of T.number R.value m xs.old) i * R.value m (T.number factor.now)) % m }
-    ensures checked { All (λ f. IsForm R.form R.value (R.modulus r.now) (T.number f)) xs.new }
+    ensures checked { AreChecked R.Reducer T.number r.now xs.new }
 {
     // rust: debug_assert!(r.check(factor) && xs.iter().all(|x| r.check(x)),
     // rust:     "the factor and all entries must be checked forms");
@@ -266,11 +267,11 @@ pub fn scale_list<T: RingWord, R: Reducer<T>>(r: &R, xs: &mut [T], factor: &T)
 // rust: #[track_caller]
 pub fn dot_product<T: RingWord, R: Reducer<T>>(r: &R, xs: &[T], ys: &[T]) -> T
     requires equal { length ys.now ≡ length xs.now }
-    requires checked_xs { All (λ f. IsForm R.form R.value (R.modulus r.now) (T.number f)) xs.now }
-    requires checked_ys { All (λ f. IsForm R.form R.value (R.modulus r.now) (T.number f)) ys.now }
+    requires checked_xs { AreChecked R.Reducer T.number r.now xs.now }
+    requires checked_ys { AreChecked R.Reducer T.number r.now ys.now }
     ensures form { let m = R.modulus r.now in
         Represents R.form m (T.number result) (sum_of_products T.number R.value m xs.now ys.now % m) }
-    ensures checked { IsForm R.form R.value (R.modulus r.now) (T.number result) }
+    ensures checked { IsChecked R.Reducer T.number r.now result }
     ensures value { let m = R.modulus r.now in
         R.value m (T.number result) ≡ sum_of_products T.number R.value m xs.now ys.now % m }
 {

@@ -1,7 +1,7 @@
 //! One stage of a transform in place: sums and differences of pairs of entries.
 
-ghost use Rattle.std.specs.Prelude.{◌≡◌, ◌+◌, ◌<◌, All, length, slice_index};
-ghost use Rattle.modular_reduced.specs.Forms.{IsForm};
+ghost use Rattle.std.specs.Prelude.{◌≡◌, ◌+◌, ◌<◌, length, slice_index};
+ghost use Rattle.modular_reduced.specs.Checked.{AreChecked, IsChecked};
 ghost use Rattle.modular_reduced.specs.Values.{values_of};
 ghost use Rattle.modular_transform.specs.Stages.{PairDone, IsStage};
 
@@ -10,10 +10,10 @@ use modular_word::ring_word::RingWord;
 
 // Replaces two entries by their sum, and their difference times a power. It takes one product.
 fn pair<T: RingWord, R: Reducer<T>>(r: &R, forms: &mut [T], first: usize, second: usize, power: &T)
-    requires checked { All (λ f. IsForm R.form R.value (R.modulus r.now) (T.number f)) forms.old }
-    requires power { IsForm R.form R.value (R.modulus r.now) (T.number power.now) }
+    requires checked { AreChecked R.Reducer T.number r.now forms.old }
+    requires power { IsChecked R.Reducer T.number r.now power.now }
     requires within { (first < second) × (second < length forms.old) }
-    ensures checked { All (λ f. IsForm R.form R.value (R.modulus r.now) (T.number f)) forms.new }
+    ensures checked { AreChecked R.Reducer T.number r.now forms.new }
     ensures done { let m = R.modulus r.now in
         PairDone m (R.value m (T.number power.now)) first second
         (slice_index (values_of T.number R.value m forms.old)) (slice_index (values_of T.number R.value m forms.new)) }
@@ -39,10 +39,10 @@ pub fn first_stage<T: RingWord, R: Reducer<T>>(
     half: usize,
     root: &T,
 ) -> usize
-    requires checked { All (λ f. IsForm R.form R.value (R.modulus r.now) (T.number f)) forms.old }
-    requires root { IsForm R.form R.value (R.modulus r.now) (T.number root.now) }
+    requires checked { AreChecked R.Reducer T.number r.now forms.old }
+    requires root { IsChecked R.Reducer T.number r.now root.now }
     requires whole { half + half ≡ length forms.old }
-    ensures checked { All (λ f. IsForm R.form R.value (R.modulus r.now) (T.number f)) forms.new }
+    ensures checked { AreChecked R.Reducer T.number r.now forms.new }
     ensures stage { let m = R.modulus r.now in
         IsStage m (R.value m (T.number root.now)) half 1
         (slice_index (values_of T.number R.value m forms.old)) (slice_index (values_of T.number R.value m forms.new)) }

@@ -1,7 +1,7 @@
 //! The number-theoretic transform in place.
 
-ghost use Rattle.std.specs.Prelude.{◌≡◌, ℕ, ◌+◌, ◌-◌, ◌*◌, ◌/◌, ◌^◌, ◌<◌, ◌↔◌, IsTrue, All, length, slice_index};
-ghost use Rattle.modular_reduced.specs.Forms.{IsForm};
+ghost use Rattle.std.specs.Prelude.{◌≡◌, ℕ, ◌+◌, ◌-◌, ◌*◌, ◌/◌, ◌^◌, ◌<◌, ◌↔◌, IsTrue, length, slice_index};
+ghost use Rattle.modular_reduced.specs.Checked.{AreChecked, IsChecked};
 ghost use Rattle.modular_reduced.specs.Values.{values_of, HoldValues};
 ghost use Rattle.modular_transform.specs.Transforms.{Suits, transform};
 
@@ -30,7 +30,7 @@ use modular_word::ring_word::RingWord;
 /// assert!(!root_fits(&ring, &22, 8));
 /// ```
 pub fn root_fits<T: RingWord, R: Reducer<T>>(r: &R, g: &T, n: usize) -> bool
-    requires { IsForm R.form R.value (R.modulus r.now) (T.number g.now) }
+    requires { IsChecked R.Reducer T.number r.now g.now }
     ensures { let m = R.modulus r.now in IsTrue result ↔ Suits m (R.value m (T.number g.now)) n }
 {
     if !n.is_power_of_two() {
@@ -71,8 +71,8 @@ pub fn root_fits<T: RingWord, R: Reducer<T>>(r: &R, g: &T, n: usize) -> bool
 /// ```
 // rust: #[track_caller]
 pub fn ntt_counted<T: RingWord, R: Reducer<T>>(r: &R, xs: &mut [T], g: &T) -> u128
-    requires checked { All (λ f. IsForm R.form R.value (R.modulus r.now) (T.number f)) xs.old }
-    requires root { IsForm R.form R.value (R.modulus r.now) (T.number g.now) }
+    requires checked { AreChecked R.Reducer T.number r.now xs.old }
+    requires root { IsChecked R.Reducer T.number r.now g.now }
     requires suits { let m = R.modulus r.now in Suits m (R.value m (T.number g.now)) (length xs.old) }
     ensures entries { let m = R.modulus r.now in
         HoldValues T.number R.form m xs.new
@@ -81,7 +81,7 @@ pub fn ntt_counted<T: RingWord, R: Reducer<T>>(r: &R, xs: &mut [T], g: &T) -> u1
         (j : ℕ) → j < length xs.old → slice_index (values_of T.number R.value m xs.new) j
         ≡ transform m (R.value m (T.number g.now)) (length xs.old)
         (slice_index (values_of T.number R.value m xs.old)) j }
-    ensures checked { All (λ f. IsForm R.form R.value (R.modulus r.now) (T.number f)) xs.new }
+    ensures checked { AreChecked R.Reducer T.number r.now xs.new }
     ensures count { (z : ℕ) → length xs.old ≡ 2 ^ z → result ≡ length xs.old * z / 2 + length xs.old - 1 + z }
 {
     // rust: assert!(xs.len().is_power_of_two(), "the length must be a power of two: {}", xs.len());
@@ -147,8 +147,8 @@ pub fn ntt_counted<T: RingWord, R: Reducer<T>>(r: &R, xs: &mut [T], g: &T) -> u1
 /// ```
 // rust: #[track_caller]
 pub fn ntt<T: RingWord, R: Reducer<T>>(r: &R, xs: &mut [T], g: &T)
-    requires checked { All (λ f. IsForm R.form R.value (R.modulus r.now) (T.number f)) xs.old }
-    requires root { IsForm R.form R.value (R.modulus r.now) (T.number g.now) }
+    requires checked { AreChecked R.Reducer T.number r.now xs.old }
+    requires root { IsChecked R.Reducer T.number r.now g.now }
     requires suits { let m = R.modulus r.now in Suits m (R.value m (T.number g.now)) (length xs.old) }
     ensures entries { let m = R.modulus r.now in
         HoldValues T.number R.form m xs.new
@@ -157,7 +157,7 @@ pub fn ntt<T: RingWord, R: Reducer<T>>(r: &R, xs: &mut [T], g: &T)
         (j : ℕ) → j < length xs.old → slice_index (values_of T.number R.value m xs.new) j
         ≡ transform m (R.value m (T.number g.now)) (length xs.old)
         (slice_index (values_of T.number R.value m xs.old)) j }
-    ensures checked { All (λ f. IsForm R.form R.value (R.modulus r.now) (T.number f)) xs.new }
+    ensures checked { AreChecked R.Reducer T.number r.now xs.new }
 {
     let _products = ntt_counted(r, xs, g);
 }

@@ -1,8 +1,8 @@
 //! Two stages of a transform in one pass, which loads and stores each entry once.
 
-ghost use Rattle.std.specs.Prelude.{◌≡◌, ◌+◌, ◌*◌, ◌^◌, ◌<◌, ◌≤◌, All, length, slice_index};
+ghost use Rattle.std.specs.Prelude.{◌≡◌, ◌+◌, ◌*◌, ◌^◌, ◌<◌, ◌≤◌, length, slice_index};
 ghost use Rattle.modular_word.specs.Congruence.{Congruent};
-ghost use Rattle.modular_reduced.specs.Forms.{IsForm};
+ghost use Rattle.modular_reduced.specs.Checked.{AreChecked, IsChecked};
 ghost use Rattle.modular_reduced.specs.Values.{values_of};
 ghost use Rattle.modular_transform.specs.Stages.{ArePowers, FourDone, IsTwoStages};
 
@@ -34,11 +34,11 @@ fn four<T: RingWord, R: Reducer<T>>(
     index: usize,
     column: &Column<T>,
 )
-    requires checked { All (λ f. IsForm R.form R.value (R.modulus r.now) (T.number f)) forms.old }
+    requires checked { AreChecked R.Reducer T.number r.now forms.old }
     requires powers { ArePowers R.form R.value (R.modulus r.now) (T.number column.now.first)
         (T.number column.now.second) (T.number column.now.both) }
     requires within { (index < step) × ((block + 1) * (4 * step) ≤ length forms.old) }
-    ensures checked { All (λ f. IsForm R.form R.value (R.modulus r.now) (T.number f)) forms.new }
+    ensures checked { AreChecked R.Reducer T.number r.now forms.new }
     ensures done { let m = R.modulus r.now in
         FourDone m (R.value m (T.number column.now.first)) (R.value m (T.number column.now.second))
         (R.value m (T.number column.now.both)) step (block * (4 * step) + index)
@@ -86,15 +86,15 @@ pub fn two_stages<T: RingWord, R: Reducer<T>>(
     square: &T,
     turned: &T,
 ) -> u128
-    requires checked { All (λ f. IsForm R.form R.value (R.modulus r.now) (T.number f)) forms.old }
-    requires root { IsForm R.form R.value (R.modulus r.now) (T.number root.now) }
-    requires square { IsForm R.form R.value (R.modulus r.now) (T.number square.now) }
-    requires turned { IsForm R.form R.value (R.modulus r.now) (T.number turned.now) }
+    requires checked { AreChecked R.Reducer T.number r.now forms.old }
+    requires root { IsChecked R.Reducer T.number r.now root.now }
+    requires square { IsChecked R.Reducer T.number r.now square.now }
+    requires turned { IsChecked R.Reducer T.number r.now turned.now }
     requires turn { let m = R.modulus r.now in
         Congruent m (R.value m (T.number turned.now)) (R.value m (T.number root.now) ^ step) }
     requires whole { blocks * (4 * step) ≡ length forms.old }
     requires some { 0 < blocks }
-    ensures checked { All (λ f. IsForm R.form R.value (R.modulus r.now) (T.number f)) forms.new }
+    ensures checked { AreChecked R.Reducer T.number r.now forms.new }
     ensures stages { let m = R.modulus r.now in
         IsTwoStages m (R.value m (T.number root.now)) (R.value m (T.number square.now)) step blocks
         (slice_index (values_of T.number R.value m forms.old)) (slice_index (values_of T.number R.value m forms.new)) }

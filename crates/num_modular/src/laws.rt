@@ -6,6 +6,7 @@
 
 ghost use Rattle.std.specs.Prelude.{◌≡◌, ◌≢◌, ℕ, suc, ◌+◌, ◌-◌, ◌*◌, ◌/◌, ◌%◌, ◌^◌, ◌<◌};
 ghost use Rattle.std.specs.Prelude.{◌≤◌, ◌↔◌, pos, ◌-ℤ◌, List, All, None, length, map, slice_index};
+ghost use Rattle.modular_reduced.specs.Checked.{AreChecked};
 ghost use Rattle.modular_reduced.specs.Forms.{IsForm};
 ghost use Rattle.modular_word.specs.Inverses.{IsInverse, HasInverse};
 ghost use Rattle.modular_word.specs.Residues.{residue};
@@ -92,7 +93,7 @@ pub fn run_both<
     left_commands: &[C],
     right_commands: &[D],
 ) -> (RunEnd, RunEnd)
-    requires left_checked { All (λ f. IsForm R.form R.value (R.modulus left.now) (T.number f)) left_regs.old }
+    requires left_checked { AreChecked R.Reducer T.number left.now left_regs.old }
     requires right_checked { All (λ f. IsForm S.form S.value (S.modulus right.now) (U.number f)) right_regs.old }
     requires left_fit { All (λ c. IsFit (length left_regs.old) (C.command c)) left_commands.now }
     requires right_fit { All (λ c. IsFit (length right_regs.old) (D.command c)) right_commands.now }

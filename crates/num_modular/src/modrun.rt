@@ -3,7 +3,7 @@
 ghost use Rattle.std.specs.Prelude.{◌≡◌, ℕ, ◌<◌, ◌≤◌, List, All, OnOk, IfOk, MatchOption, MatchResult, slice_index};
 ghost use Rattle.std.specs.Borrow.{Bor};
 ghost use Rattle.std.specs.Io.KnownBytes.{Appends};
-ghost use Rattle.modular_reduced.specs.Forms.{IsForm};
+ghost use Rattle.modular_reduced.specs.Checked.{AreChecked};
 ghost use Rattle.modular_ring.specs.Ring.{IsFit, values_of};
 ghost use Rattle.num_modular.specs.Program.{Ask, AreCommands, IsHeading, IsRun, IsAnswer};
 ghost use Rattle.num_modular.specs.Program.{IsFault, reducer_name, usage, line_of};
@@ -193,7 +193,7 @@ fn write_residues<R: Reducer<u64>, O: Write>(
     registers: &[u64; REGISTERS],
     out: &mut O,
 ) -> io::Result<()>
-    requires { All (λ f. IsForm R.form R.value (R.modulus reducer.now) f) registers.now }
+    requires { AreChecked R.Reducer (λ x. x) reducer.now registers.now }
     ensures { OnOk result (Appends (O.contents out.old) (O.contents out.new)
         (line_of (λ r. slice_index (values_of (λ f. f) R.value (R.modulus reducer.now) registers.now) r))) }
 {
@@ -206,7 +206,7 @@ fn write_residues<R: Reducer<u64>, O: Write>(
 
 // The residue of a register.
 fn residue_at<R: Reducer<u64>>(reducer: &R, registers: &[u64; REGISTERS], index: usize) -> u64
-    requires forms { All (λ f. IsForm R.form R.value (R.modulus reducer.now) f) registers.now }
+    requires forms { AreChecked R.Reducer (λ x. x) reducer.now registers.now }
     requires within { index < 8 }
     ensures { result ≡ slice_index (values_of (λ f. f) R.value (R.modulus reducer.now) registers.now) index }
 {

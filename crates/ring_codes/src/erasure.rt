@@ -28,10 +28,10 @@
 //!
 //! Source: Reed and Solomon, "Polynomial codes over certain finite fields".
 
-ghost use Rattle.std.specs.Prelude.{◌≡◌, ℕ, ◌%◌, ◌<◌, ◌≤◌, ◌↔◌, IsTrue, IsOk, IfErr, All};
+ghost use Rattle.std.specs.Prelude.{◌≡◌, ℕ, ◌%◌, ◌<◌, ◌≤◌, ◌↔◌, IsTrue, IsOk, IfErr};
 ghost use Rattle.std.specs.Prelude.{length, slice_index, slice_index_or};
 ghost use Rattle.num_modular.specs.Entries.{entry};
-ghost use Rattle.num_modular.specs.Forms.{IsForm};
+ghost use Rattle.num_modular.specs.Checked.{AreChecked, IsChecked};
 ghost use Rattle.num_modular.specs.Polynomials.{polynomial_at, HaveUnitDifferences};
 ghost use Rattle.ring_codes.specs.Erasure.{IsEncoding, IsErasureCodeword, ArePlaces, IsFault};
 
@@ -111,7 +111,7 @@ pub enum RestoreError {
 // rust: #[cfg_attr(debug_assertions, track_caller)]
 #[tactic(auto, using(num_modular::specs::Callers::product_none))]
 pub fn points_fit<T: RingWord, R: Reducer<T>>(r: &R, points: &[T]) -> bool
-    requires { All (λ f. IsForm R.form R.value (R.modulus r.now) (T.number f)) points.now }
+    requires { AreChecked R.Reducer T.number r.now points.now }
     ensures { let m = R.modulus r.now in
         IsTrue result ↔ HaveUnitDifferences m (length points.now) (entry T.number R.value m points.now) }
 {
@@ -142,9 +142,9 @@ pub fn points_fit<T: RingWord, R: Reducer<T>>(r: &R, points: &[T]) -> bool
 // rust: #[cfg_attr(debug_assertions, track_caller)]
 #[tactic(auto, using(crate::proofs::NewtonForms::value_none, num_modular::specs::Callers::form_read))]
 pub fn evaluate<T: RingWord, R: Reducer<T>>(r: &R, coefficients: &[T], point: &T) -> T
-    requires coefficients { All (λ f. IsForm R.form R.value (R.modulus r.now) (T.number f)) coefficients.now }
-    requires point { IsForm R.form R.value (R.modulus r.now) (T.number point.now) }
-    ensures checked { IsForm R.form R.value (R.modulus r.now) (T.number result) }
+    requires coefficients { AreChecked R.Reducer T.number r.now coefficients.now }
+    requires point { IsChecked R.Reducer T.number r.now point.now }
+    ensures checked { IsChecked R.Reducer T.number r.now result }
     ensures value { let m = R.modulus r.now in R.value m (T.number result)
         ≡ polynomial_at (length coefficients.now) (entry T.number R.value m coefficients.now)
         (R.value m (T.number point.now)) % m }
@@ -187,10 +187,10 @@ pub fn evaluate_each<T: RingWord, R: Reducer<T>>(
     points: &[T],
     values: &mut [T],
 )
-    requires coefficients { All (λ f. IsForm R.form R.value (R.modulus r.now) (T.number f)) coefficients.now }
-    requires points { All (λ f. IsForm R.form R.value (R.modulus r.now) (T.number f)) points.now }
+    requires coefficients { AreChecked R.Reducer T.number r.now coefficients.now }
+    requires points { AreChecked R.Reducer T.number r.now points.now }
     requires room { length values.old ≡ length points.now }
-    ensures checked { All (λ f. IsForm R.form R.value (R.modulus r.now) (T.number f)) values.new }
+    ensures checked { AreChecked R.Reducer T.number r.now values.new }
     ensures encoding { let m = R.modulus r.now in
         IsEncoding m (length coefficients.now) (length points.now) (entry T.number R.value m points.now)
         (entry T.number R.value m coefficients.now) (entry T.number R.value m values.new) }
@@ -237,11 +237,11 @@ pub fn evaluate_each<T: RingWord, R: Reducer<T>>(
 /// ```
 // rust: #[track_caller]
 pub fn encode<T: RingWord, R: Reducer<T>>(r: &R, points: &[T], message: &[T], word: &mut [T])
-    requires points { All (λ f. IsForm R.form R.value (R.modulus r.now) (T.number f)) points.now }
-    requires message { All (λ f. IsForm R.form R.value (R.modulus r.now) (T.number f)) message.now }
+    requires points { AreChecked R.Reducer T.number r.now points.now }
+    requires message { AreChecked R.Reducer T.number r.now message.now }
     requires room { length word.old ≡ length points.now }
     requires few { length message.now ≤ length points.now }
-    ensures checked { All (λ f. IsForm R.form R.value (R.modulus r.now) (T.number f)) word.new }
+    ensures checked { AreChecked R.Reducer T.number r.now word.new }
     ensures encoding { let m = R.modulus r.now in
         IsEncoding m (length message.now) (length points.now) (entry T.number R.value m points.now)
         (entry T.number R.value m message.now) (entry T.number R.value m word.new) }
@@ -293,14 +293,14 @@ pub fn interpolate<T: RingWord, R: Reducer<T>>(
     weights: &mut [T],
     coefficients: &mut [T],
 ) -> bool
-    requires points { All (λ f. IsForm R.form R.value (R.modulus r.now) (T.number f)) points.now }
-    requires values { All (λ f. IsForm R.form R.value (R.modulus r.now) (T.number f)) values.now }
+    requires points { AreChecked R.Reducer T.number r.now points.now }
+    requires values { AreChecked R.Reducer T.number r.now values.now }
     requires points_within { length coefficients.old ≤ length points.now }
     requires values_within { length coefficients.old ≤ length values.now }
     requires weights { length weights.old ≡ length coefficients.old }
     ensures fit { let m = R.modulus r.now in
         IsTrue result ↔ HaveUnitDifferences m (length coefficients.old) (entry T.number R.value m points.now) }
-    ensures checked { IsTrue result → All (λ f. IsForm R.form R.value (R.modulus r.now) (T.number f)) coefficients.new }
+    ensures checked { IsTrue result → AreChecked R.Reducer T.number r.now coefficients.new }
     ensures values { let m = R.modulus r.now in IsTrue result →
         IsEncoding m (length coefficients.old) (length coefficients.old) (entry T.number R.value m points.now)
         (entry T.number R.value m coefficients.new) (entry T.number R.value m values.now) }
@@ -363,8 +363,8 @@ pub fn is_codeword<T: RingWord, R: Reducer<T>>(
     weights: &mut [T],
     message: &mut [T],
 ) -> bool
-    requires points { All (λ f. IsForm R.form R.value (R.modulus r.now) (T.number f)) points.now }
-    requires word { All (λ f. IsForm R.form R.value (R.modulus r.now) (T.number f)) word.now }
+    requires points { AreChecked R.Reducer T.number r.now points.now }
+    requires word { AreChecked R.Reducer T.number r.now word.now }
     requires fit { let m = R.modulus r.now in
         HaveUnitDifferences m (length points.now) (entry T.number R.value m points.now) }
     requires symbols { length word.now ≡ length points.now }
@@ -376,7 +376,7 @@ pub fn is_codeword<T: RingWord, R: Reducer<T>>(
     ensures message { let m = R.modulus r.now in IsTrue result →
         IsEncoding m (length message.old) (length points.now) (entry T.number R.value m points.now)
         (entry T.number R.value m message.new) (entry T.number R.value m word.now) }
-    ensures checked { IsTrue result → All (λ f. IsForm R.form R.value (R.modulus r.now) (T.number f)) message.new }
+    ensures checked { IsTrue result → AreChecked R.Reducer T.number r.now message.new }
 {
     // rust: debug_assert!(points.iter().chain(word.iter()).all(|x| r.check(x)),
     // rust:     "points and word must be checked forms");
@@ -435,21 +435,21 @@ pub fn encode_systematic<T: RingWord, R: Reducer<T>>(
     coefficients: &mut [T],
     word: &mut [T],
 ) -> bool
-    requires points { All (λ f. IsForm R.form R.value (R.modulus r.now) (T.number f)) points.now }
-    requires message { All (λ f. IsForm R.form R.value (R.modulus r.now) (T.number f)) message.now }
+    requires points { AreChecked R.Reducer T.number r.now points.now }
+    requires message { AreChecked R.Reducer T.number r.now message.now }
     requires few { length message.now ≤ length points.now }
     requires room { length word.old ≡ length points.now }
     requires weights { length weights.old ≡ length message.now }
     requires coefficients { length coefficients.old ≡ length message.now }
     ensures fit { let m = R.modulus r.now in
         IsTrue result ↔ HaveUnitDifferences m (length message.now) (entry T.number R.value m points.now) }
-    ensures checked { IsTrue result → All (λ f. IsForm R.form R.value (R.modulus r.now) (T.number f)) word.new }
+    ensures checked { IsTrue result → AreChecked R.Reducer T.number r.now word.new }
     ensures encoding { let m = R.modulus r.now in IsTrue result →
         IsEncoding m (length message.now) (length points.now) (entry T.number R.value m points.now)
         (entry T.number R.value m coefficients.new) (entry T.number R.value m word.new) }
     ensures systematic { let m = R.modulus r.now in IsTrue result → (i : ℕ) → i < length message.now →
         entry T.number R.value m word.new i ≡ entry T.number R.value m message.now i }
-    ensures forms { IsTrue result → All (λ f. IsForm R.form R.value (R.modulus r.now) (T.number f)) coefficients.new }
+    ensures forms { IsTrue result → AreChecked R.Reducer T.number r.now coefficients.new }
     ensures unchanged { (IsTrue result → ⊥) → word.new ≡ word.old }
 {
     // rust: debug_assert!(points.iter().chain(message.iter()).all(|x| r.check(x)),
@@ -514,8 +514,8 @@ pub fn restore<T: RingWord, R: Reducer<T>>(
     weights: &mut [T],
     message: &mut [T],
 ) -> Result<(), RestoreError>
-    requires points { All (λ f. IsForm R.form R.value (R.modulus r.now) (T.number f)) points.now }
-    requires symbols { All (λ f. IsForm R.form R.value (R.modulus r.now) (T.number f)) symbols.now }
+    requires points { AreChecked R.Reducer T.number r.now points.now }
+    requires symbols { AreChecked R.Reducer T.number r.now symbols.now }
     requires pairs { length symbols.now ≡ length places.now }
     requires chosen { length chosen.old ≡ length message.old }
     requires weights { length weights.old ≡ length message.old }
@@ -524,7 +524,7 @@ pub fn restore<T: RingWord, R: Reducer<T>>(
         (λ i. entry T.number R.value m points.now (slice_index places.now i))) }
     ensures fault { let m = R.modulus r.now in IfErr result (λ e. IsFault m (length message.old) (length points.now)
         (entry T.number R.value m points.now) places.now e) }
-    ensures checked { IsOk result → All (λ f. IsForm R.form R.value (R.modulus r.now) (T.number f)) message.new }
+    ensures checked { IsOk result → AreChecked R.Reducer T.number r.now message.new }
     ensures symbols { let m = R.modulus r.now in IsOk result →
         IsEncoding m (length message.old) (length message.old)
         (λ i. entry T.number R.value m points.now (slice_index places.now i))

@@ -1,9 +1,9 @@
 //! Correction of wrong symbols.
 
 ghost use Rattle.std.specs.Prelude.{◌≡◌, ℕ, ◌+◌, ◌-◌, ◌*◌, ◌%◌, ◌<◌, ◌≤◌};
-ghost use Rattle.std.specs.Prelude.{All, IsTrue, IfOk, IfErr, MatchResult, length, slice_index, ◌==◌, if◌then◌else◌};
+ghost use Rattle.std.specs.Prelude.{IsTrue, IfOk, IfErr, MatchResult, length, slice_index, ◌==◌, if◌then◌else◌};
 ghost use Rattle.num_modular.specs.Entries.{entry};
-ghost use Rattle.num_modular.specs.Forms.{IsForm};
+ghost use Rattle.num_modular.specs.Checked.{AreChecked, IsChecked};
 ghost use Rattle.num_modular.specs.Polynomials.{polynomial_at, HaveUnitDifferences};
 ghost use Rattle.ring_correction.specs.Correction.{AreLocated, IsCorrected, ArePlacesAtFault, IsCorrectFault};
 ghost use Rattle.ring_codes.specs.Erasure.{IsErasureCodeword, distance};
@@ -21,10 +21,10 @@ fn locate<T: RingWord, R: Reducer<T>>(
     places: &[usize],
     located: &mut [T],
 ) -> Result<(), RestoreError>
-    requires points { All (λ f. IsForm R.form R.value (R.modulus _r.now) (T.number f)) points.now }
+    requires points { AreChecked R.Reducer T.number _r.now points.now }
     requires room { length located.old ≡ length places.now }
     ensures { let m = R.modulus _r.now in let entries = entry T.number R.value m in MatchResult result
-        (λ _. AreLocated (λ f. IsForm R.form R.value m (T.number f)) entries k points.now places.now located.new)
+        (λ _. AreLocated (λ f. IsChecked R.Reducer T.number _r.now f) entries k points.now places.now located.new)
         (λ e. ArePlacesAtFault m k (length points.now) (entries points.now) places.now e) }
 {
     if places.len() < k {
@@ -51,8 +51,8 @@ fn count_errors<T: RingWord, R: Reducer<T>>(
     symbols: &[T],
     word: &[T],
 ) -> usize
-    requires symbols { All (λ f. IsForm R.form R.value (R.modulus _r.now) (T.number f)) symbols.now }
-    requires word { All (λ f. IsForm R.form R.value (R.modulus _r.now) (T.number f)) word.now }
+    requires symbols { AreChecked R.Reducer T.number _r.now symbols.now }
+    requires word { AreChecked R.Reducer T.number _r.now word.now }
     requires pairs { length symbols.now ≡ length places.now }
     requires within { (i : ℕ) → i < length places.now → slice_index places.now i < length word.now }
     ensures { let m = R.modulus _r.now in result ≡ distance (length places.now)
@@ -125,14 +125,14 @@ pub fn correct<T: RingWord, R: Reducer<T>>(
     message: &mut [T],
     word: &mut [T],
 ) -> Result<usize, CorrectError<T>>
-    requires points { All (λ f. IsForm R.form R.value (R.modulus r.now) (T.number f)) points.now }
-    requires symbols { All (λ f. IsForm R.form R.value (R.modulus r.now) (T.number f)) symbols.now }
+    requires points { AreChecked R.Reducer T.number r.now points.now }
+    requires symbols { AreChecked R.Reducer T.number r.now symbols.now }
     requires pairs { length symbols.now ≡ length places.now }
     requires some { 0 < length message.old }
     requires scratch { 3 * (length places.now + length message.old) + 2 ≤ length scratch.old }
     requires room { length word.old ≡ length points.now }
     ensures { let m = R.modulus r.now in let entries = entry T.number R.value m in MatchResult result
-        (λ errors. IsCorrected (λ f. IsForm R.form R.value m (T.number f)) entries m (length message.old) points.now
+        (λ errors. IsCorrected (λ f. IsChecked R.Reducer T.number r.now f) entries m (length message.old) points.now
         places.now symbols.now message.new word.new errors)
         (λ e. IsCorrectFault T.number m (length message.old) (length points.now) (entries points.now) places.now
         (entries symbols.now) e) }

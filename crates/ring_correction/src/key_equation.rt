@@ -4,10 +4,10 @@
 //! its locator E.
 
 ghost use Rattle.std.specs.Prelude.{◌≡◌, ◌≢◌, ℕ, zero, suc, ◌+◌, ◌*◌, ◌%◌, ◌<◌, ◌≤◌};
-ghost use Rattle.std.specs.Prelude.{◌^◌, All, IsOk, IfOk, IfErr, MatchResult, length, take, drop};
+ghost use Rattle.std.specs.Prelude.{◌^◌, IsOk, IfOk, IfErr, MatchResult, length, take, drop};
 ghost use Rattle.num_modular.specs.Congruence.{Congruent};
 ghost use Rattle.num_modular.specs.Entries.{entry};
-ghost use Rattle.num_modular.specs.Forms.{IsForm};
+ghost use Rattle.num_modular.specs.Checked.{AreChecked, IsChecked};
 ghost use Rattle.num_modular.specs.Polynomials.{polynomial_at};
 ghost use Rattle.ring_correction.specs.KeyAdvance.{AreAdvanced};
 ghost use Rattle.ring_codes.specs.Shifts.{shifted};
@@ -31,11 +31,11 @@ pub fn discrepancy<T: RingWord, R: Reducer<T>>(
     pair: &[T],
     split: usize,
 ) -> T
-    requires point { IsForm R.form R.value (R.modulus r.now) (T.number point.now) }
-    requires symbol { IsForm R.form R.value (R.modulus r.now) (T.number symbol.now) }
-    requires pair { All (λ f. IsForm R.form R.value (R.modulus r.now) (T.number f)) pair.now }
+    requires point { IsChecked R.Reducer T.number r.now point.now }
+    requires symbol { IsChecked R.Reducer T.number r.now symbol.now }
+    requires pair { AreChecked R.Reducer T.number r.now pair.now }
     requires within { split ≤ length pair.now }
-    ensures checked { IsForm R.form R.value (R.modulus r.now) (T.number result) }
+    ensures checked { IsChecked R.Reducer T.number r.now result }
     ensures value { let m = R.modulus r.now in let entries = entry T.number R.value m in (d x y : ℕ) →
         length pair.now ≡ split + d → x ≡ R.value m (T.number point.now) → y ≡ R.value m (T.number symbol.now) →
         Congruent m (R.value m (T.number result) + y * polynomial_at d (entries (drop split pair.now)) x)
@@ -54,9 +54,9 @@ pub fn discrepancy<T: RingWord, R: Reducer<T>>(
 /// - point and coefficients are checked forms
 #[tactic(auto, using(num_modular::specs::Callers::form_read))]
 pub fn multiply_by_root<T: RingWord, R: Reducer<T>>(r: &R, point: &T, coefficients: &mut [T])
-    requires point { IsForm R.form R.value (R.modulus r.now) (T.number point.now) }
-    requires coefficients { All (λ f. IsForm R.form R.value (R.modulus r.now) (T.number f)) coefficients.old }
-    ensures checked { All (λ f. IsForm R.form R.value (R.modulus r.now) (T.number f)) coefficients.new }
+    requires point { IsChecked R.Reducer T.number r.now point.now }
+    requires coefficients { AreChecked R.Reducer T.number r.now coefficients.old }
+    ensures checked { AreChecked R.Reducer T.number r.now coefficients.new }
     ensures product { let m = R.modulus r.now in (i : ℕ) → i < length coefficients.old →
         Congruent m (entry T.number R.value m coefficients.new i
         + R.value m (T.number point.now) * entry T.number R.value m coefficients.old i)
@@ -85,12 +85,12 @@ pub fn eliminate<T: RingWord, R: Reducer<T>>(
     b: &T,
     pivots: &[T],
 )
-    requires a { IsForm R.form R.value (R.modulus r.now) (T.number a.now) }
-    requires coefficients { All (λ f. IsForm R.form R.value (R.modulus r.now) (T.number f)) coefficients.old }
-    requires b { IsForm R.form R.value (R.modulus r.now) (T.number b.now) }
-    requires pivots { All (λ f. IsForm R.form R.value (R.modulus r.now) (T.number f)) pivots.now }
+    requires a { IsChecked R.Reducer T.number r.now a.now }
+    requires coefficients { AreChecked R.Reducer T.number r.now coefficients.old }
+    requires b { IsChecked R.Reducer T.number r.now b.now }
+    requires pivots { AreChecked R.Reducer T.number r.now pivots.now }
     requires equal { length pivots.now ≡ length coefficients.old }
-    ensures checked { All (λ f. IsForm R.form R.value (R.modulus r.now) (T.number f)) coefficients.new }
+    ensures checked { AreChecked R.Reducer T.number r.now coefficients.new }
     ensures difference { let m = R.modulus r.now in (i : ℕ) → i < length coefficients.old →
         Congruent m (entry T.number R.value m coefficients.new i
         + R.value m (T.number b.now) * entry T.number R.value m pivots.now i)
@@ -111,7 +111,7 @@ pub fn eliminate<T: RingWord, R: Reducer<T>>(
 #[tactic(auto, using(num_modular::specs::Callers::forms_written, num_modular::specs::Callers::held_forms, num_modular::specs::Callers::entry_written))]
 pub fn set_unit<T: RingWord, R: Reducer<T>>(r: &R, place: usize, coefficients: &mut [T])
     requires { place < length coefficients.old }
-    ensures checked { All (λ f. IsForm R.form R.value (R.modulus r.now) (T.number f)) coefficients.new }
+    ensures checked { AreChecked R.Reducer T.number r.now coefficients.new }
     ensures one { let m = R.modulus r.now in entry T.number R.value m coefficients.new place ≡ 1 % m }
     ensures others { let m = R.modulus r.now in (i : ℕ) → i ≢ place → entry T.number R.value m coefficients.new i ≡ 0 }
 {
@@ -130,10 +130,10 @@ pub fn set_unit<T: RingWord, R: Reducer<T>>(r: &R, place: usize, coefficients: &
 /// - point and pair are checked forms
 /// - the numerator is within the pair
 pub fn raise<T: RingWord, R: Reducer<T>>(r: &R, point: &T, pair: &mut [T], split: usize)
-    requires point { IsForm R.form R.value (R.modulus r.now) (T.number point.now) }
-    requires pair { All (λ f. IsForm R.form R.value (R.modulus r.now) (T.number f)) pair.old }
+    requires point { IsChecked R.Reducer T.number r.now point.now }
+    requires pair { AreChecked R.Reducer T.number r.now pair.old }
     requires within { split ≤ length pair.old }
-    ensures checked { All (λ f. IsForm R.form R.value (R.modulus r.now) (T.number f)) pair.new }
+    ensures checked { AreChecked R.Reducer T.number r.now pair.new }
     ensures pair { let m = R.modulus r.now in (d k i u : ℕ) (x y : ℕ → ℕ) → length pair.old ≡ split + d →
         d + k ≡ split + 1 → u + 2 < 2 * split → x i ≡ R.value m (T.number point.now) →
         IsKeyPair m k split d i u x y (entry T.number R.value m (take split pair.old))
@@ -163,17 +163,17 @@ pub fn reduce<T: RingWord, R: Reducer<T>>(
     other: &mut [T],
     split: usize,
 ) -> Result<(), T>
-    requires point { IsForm R.form R.value (R.modulus r.now) (T.number point.now) }
-    requires pivot_discrepancy { IsForm R.form R.value (R.modulus r.now) (T.number pivot_discrepancy.now) }
+    requires point { IsChecked R.Reducer T.number r.now point.now }
+    requires pivot_discrepancy { IsChecked R.Reducer T.number r.now pivot_discrepancy.now }
     requires nonzero { R.value (R.modulus r.now) (T.number pivot_discrepancy.now) ≢ 0 }
-    requires pivot { All (λ f. IsForm R.form R.value (R.modulus r.now) (T.number f)) pivot.old }
-    requires discrepancy { IsForm R.form R.value (R.modulus r.now) (T.number discrepancy.now) }
-    requires other { All (λ f. IsForm R.form R.value (R.modulus r.now) (T.number f)) other.old }
+    requires pivot { AreChecked R.Reducer T.number r.now pivot.old }
+    requires discrepancy { IsChecked R.Reducer T.number r.now discrepancy.now }
+    requires other { AreChecked R.Reducer T.number r.now other.old }
     requires equal { length pivot.old ≡ length other.old }
     requires within { split ≤ length other.old }
     ensures inverse { IfErr result (λ a. IsWithoutInverse (R.modulus r.now) (T.number a)) }
-    ensures checked_pivot { IsOk result → All (λ f. IsForm R.form R.value (R.modulus r.now) (T.number f)) pivot.new }
-    ensures checked_other { IsOk result → All (λ f. IsForm R.form R.value (R.modulus r.now) (T.number f)) other.new }
+    ensures checked_pivot { IsOk result → AreChecked R.Reducer T.number r.now pivot.new }
+    ensures checked_other { IsOk result → AreChecked R.Reducer T.number r.now other.new }
     ensures pivot { let m = R.modulus r.now in IsOk result → (d k i u : ℕ) (x y : ℕ → ℕ) →
         length other.old ≡ split + d → d + k ≡ split + 1 → u + 2 < 2 * split → x i ≡ R.value m (T.number point.now) →
         IsKeyPair m k split d i u x y (entry T.number R.value m (take split pivot.old))
@@ -221,15 +221,15 @@ pub fn advance<T: RingWord, R: Reducer<T>>(
     split: usize,
     weights: (usize, usize),
 ) -> Result<(usize, usize), T>
-    requires point { IsForm R.form R.value (R.modulus r.now) (T.number point.now) }
-    requires symbol { IsForm R.form R.value (R.modulus r.now) (T.number symbol.now) }
-    requires first { All (λ f. IsForm R.form R.value (R.modulus r.now) (T.number f)) first.old }
-    requires second { All (λ f. IsForm R.form R.value (R.modulus r.now) (T.number f)) second.old }
+    requires point { IsChecked R.Reducer T.number r.now point.now }
+    requires symbol { IsChecked R.Reducer T.number r.now symbol.now }
+    requires first { AreChecked R.Reducer T.number r.now first.old }
+    requires second { AreChecked R.Reducer T.number r.now second.old }
     requires equal { length first.old ≡ length second.old }
     requires within { split ≤ length first.old }
     requires few { weights.0 + weights.1 + 1 < 2 ^ 64 }
     ensures { let m = R.modulus r.now in MatchResult result
-        (λ w. AreAdvanced (λ f. IsForm R.form R.value m (T.number f)) (entry T.number R.value m) m split
+        (λ w. AreAdvanced (λ f. IsChecked R.Reducer T.number r.now f) (entry T.number R.value m) m split
         (R.value m (T.number point.now)) (R.value m (T.number symbol.now)) first.old second.old weights.0 weights.1
         first.new second.new w.0 w.1)
         (λ a. IsWithoutInverse m (T.number a)) }
@@ -300,8 +300,8 @@ pub fn solve<T: RingWord, R: Reducer<T>>(
     second: &mut [T],
     split: usize,
 ) -> Result<(usize, usize), T>
-    requires points { All (λ f. IsForm R.form R.value (R.modulus r.now) (T.number f)) points.now }
-    requires symbols { All (λ f. IsForm R.form R.value (R.modulus r.now) (T.number f)) symbols.now }
+    requires points { AreChecked R.Reducer T.number r.now points.now }
+    requires symbols { AreChecked R.Reducer T.number r.now symbols.now }
     requires symbols_each { length symbols.now ≡ length points.now }
     requires equal { length first.old ≡ length second.old }
     requires some { split < length first.old }
@@ -309,8 +309,8 @@ pub fn solve<T: RingWord, R: Reducer<T>>(
     requires positive { 1 ≤ k }
     requires few { length points.now + k < 2 ^ 64 }
     ensures inverse { IfErr result (λ a. IsWithoutInverse (R.modulus r.now) (T.number a)) }
-    ensures checked_first { IsOk result → All (λ f. IsForm R.form R.value (R.modulus r.now) (T.number f)) first.new }
-    ensures checked_second { IsOk result → All (λ f. IsForm R.form R.value (R.modulus r.now) (T.number f)) second.new }
+    ensures checked_first { IsOk result → AreChecked R.Reducer T.number r.now first.new }
+    ensures checked_second { IsOk result → AreChecked R.Reducer T.number r.now second.new }
     ensures weights { IfOk result (λ w. w.0 + w.1 < length points.now + k) }
     ensures pairs { let m = R.modulus r.now in IfOk result (λ w. (d : ℕ) → length first.old ≡ split + d →
         AreKeyPairs m k split d (length points.now) w.0 w.1

@@ -1,9 +1,10 @@
 //! The message from a pair that solves the key equation: the quotients N(x)/E(x) at k points are its values there.
 
 ghost use Rattle.std.specs.Prelude.{◌≡◌, ◌≢◌, ℕ, ◌+◌, ◌*◌, ◌%◌, ◌<◌, ◌≤◌};
-ghost use Rattle.std.specs.Prelude.{All, IsTrue, IfOk, IfErr, length, take, drop, MatchOption};
+ghost use Rattle.std.specs.Prelude.{IsTrue, IfOk, IfErr, length, take, drop, MatchOption};
 ghost use Rattle.num_modular.specs.Congruence.{Congruent};
 ghost use Rattle.num_modular.specs.Entries.{entry};
+ghost use Rattle.num_modular.specs.Checked.{AreChecked, IsChecked};
 ghost use Rattle.num_modular.specs.Forms.{IsForm};
 ghost use Rattle.num_modular.specs.Inverses.{HasInverse};
 ghost use Rattle.num_modular.specs.Polynomials.{polynomial_at, HaveUnitDifferences};
@@ -27,9 +28,9 @@ pub fn quotient<T: RingWord, R: Reducer<T>>(
     numerator: &[T],
     locator: &[T],
 ) -> Result<Option<T>, T>
-    requires point { IsForm R.form R.value (R.modulus r.now) (T.number point.now) }
-    requires numerator { All (λ f. IsForm R.form R.value (R.modulus r.now) (T.number f)) numerator.now }
-    requires locator { All (λ f. IsForm R.form R.value (R.modulus r.now) (T.number f)) locator.now }
+    requires point { IsChecked R.Reducer T.number r.now point.now }
+    requires numerator { AreChecked R.Reducer T.number r.now numerator.now }
+    requires locator { AreChecked R.Reducer T.number r.now locator.now }
     ensures inverse { IfErr result (λ a. IsWithoutInverse (R.modulus r.now) (T.number a)) }
     ensures quotient { let m = R.modulus r.now in let x = R.value m (T.number point.now) in
         let n = polynomial_at (length numerator.now) (entry T.number R.value m numerator.now) x in
@@ -71,17 +72,17 @@ pub fn divide<T: RingWord, R: Reducer<T>>(
     chosen: &mut [T],
     values: &mut [T],
 ) -> Result<bool, T>
-    requires points { All (λ f. IsForm R.form R.value (R.modulus r.now) (T.number f)) points.now }
-    requires numerator { All (λ f. IsForm R.form R.value (R.modulus r.now) (T.number f)) numerator.now }
-    requires locator { All (λ f. IsForm R.form R.value (R.modulus r.now) (T.number f)) locator.now }
+    requires points { AreChecked R.Reducer T.number r.now points.now }
+    requires numerator { AreChecked R.Reducer T.number r.now numerator.now }
+    requires locator { AreChecked R.Reducer T.number r.now locator.now }
     requires some { 0 < length chosen.old }
     requires few { length chosen.old ≤ length points.now }
     requires equal { length values.old ≡ length chosen.old }
     ensures inverse { IfErr result (λ a. IsWithoutInverse (R.modulus r.now) (T.number a)) }
     ensures checked_chosen { IfOk result (λ b. IsTrue b →
-        All (λ f. IsForm R.form R.value (R.modulus r.now) (T.number f)) chosen.new) }
+        AreChecked R.Reducer T.number r.now chosen.new) }
     ensures checked_values { IfOk result (λ b. IsTrue b →
-        All (λ f. IsForm R.form R.value (R.modulus r.now) (T.number f)) values.new) }
+        AreChecked R.Reducer T.number r.now values.new) }
     ensures quotients { let m = R.modulus r.now in
         let n = polynomial_at (length numerator.now) (entry T.number R.value m numerator.now) in
         let e = polynomial_at (length locator.now) (entry T.number R.value m locator.now) in
@@ -132,8 +133,8 @@ pub fn divide_pair<T: RingWord, R: Reducer<T>>(
     scratch: &mut [T],
     message: &mut [T],
 ) -> Result<bool, T>
-    requires points { All (λ f. IsForm R.form R.value (R.modulus r.now) (T.number f)) points.now }
-    requires pair { All (λ f. IsForm R.form R.value (R.modulus r.now) (T.number f)) pair.now }
+    requires points { AreChecked R.Reducer T.number r.now points.now }
+    requires pair { AreChecked R.Reducer T.number r.now pair.now }
     requires split { split ≤ length pair.now }
     requires some { 0 < length message.old }
     requires few { length message.old ≤ length points.now }
@@ -142,7 +143,7 @@ pub fn divide_pair<T: RingWord, R: Reducer<T>>(
         HaveUnitDifferences m (length points.now) (entry T.number R.value m points.now) }
     ensures inverse { IfErr result (λ a. IsWithoutInverse (R.modulus r.now) (T.number a)) }
     ensures checked { IfOk result (λ b. IsTrue b →
-        All (λ f. IsForm R.form R.value (R.modulus r.now) (T.number f)) message.new) }
+        AreChecked R.Reducer T.number r.now message.new) }
     ensures message { let m = R.modulus r.now in
         let k = length message.old in let s = length points.now in let x = entry T.number R.value m points.now in
         IfOk result (λ b. (d u : ℕ) (y sent : ℕ → ℕ) → length pair.now ≡ split + d → 1 ≤ d →
@@ -181,9 +182,9 @@ pub fn divide_lighter<T: RingWord, R: Reducer<T>>(
     scratch: &mut [T],
     message: &mut [T],
 ) -> Result<bool, T>
-    requires points { All (λ f. IsForm R.form R.value (R.modulus r.now) (T.number f)) points.now }
-    requires first { All (λ f. IsForm R.form R.value (R.modulus r.now) (T.number f)) first.now }
-    requires second { All (λ f. IsForm R.form R.value (R.modulus r.now) (T.number f)) second.now }
+    requires points { AreChecked R.Reducer T.number r.now points.now }
+    requires first { AreChecked R.Reducer T.number r.now first.now }
+    requires second { AreChecked R.Reducer T.number r.now second.now }
     requires first_split { split ≤ length first.now }
     requires second_split { split ≤ length second.now }
     requires some { 0 < length message.old }
@@ -193,7 +194,7 @@ pub fn divide_lighter<T: RingWord, R: Reducer<T>>(
         HaveUnitDifferences m (length points.now) (entry T.number R.value m points.now) }
     ensures inverse { IfErr result (λ a. IsWithoutInverse (R.modulus r.now) (T.number a)) }
     ensures checked { IfOk result (λ b. IsTrue b →
-        All (λ f. IsForm R.form R.value (R.modulus r.now) (T.number f)) message.new) }
+        AreChecked R.Reducer T.number r.now message.new) }
     ensures message { let m = R.modulus r.now in
         let k = length message.old in let s = length points.now in let x = entry T.number R.value m points.now in
         IfOk result (λ b. (d : ℕ) (y sent : ℕ → ℕ) → length first.now ≡ split + d → length second.now ≡ split + d →

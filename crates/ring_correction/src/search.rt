@@ -1,9 +1,9 @@
 //! The search for the message of a near word: by syndromes, and by the key equation.
 
 ghost use Rattle.std.specs.Prelude.{◌≡◌, ◌≢◌, ℕ, ◌+◌, ◌-◌, ◌*◌, ◌%◌, ◌<◌, ◌≤◌, ◌↔◌};
-ghost use Rattle.std.specs.Prelude.{All, IsTrue, IfOk, IfErr, MatchResult, length};
+ghost use Rattle.std.specs.Prelude.{IsTrue, IfOk, IfErr, MatchResult, length};
 ghost use Rattle.num_modular.specs.Entries.{entry};
-ghost use Rattle.num_modular.specs.Forms.{IsForm};
+ghost use Rattle.num_modular.specs.Checked.{AreChecked, IsChecked};
 ghost use Rattle.num_modular.specs.Polynomials.{polynomial_at, HaveUnitDifferences};
 ghost use Rattle.ring_codes.specs.Erasure.{IsErasureCodeword, IsWithoutInverse, distance};
 ghost use Rattle.ring_correction.specs.Correction.{IsCandidate, IsSearchFault};
@@ -26,8 +26,8 @@ fn decode<T: RingWord, R: Reducer<T>>(
     scratch: &mut [T],
     message: &mut [T],
 ) -> Result<bool, T>
-    requires points { All (λ f. IsForm R.form R.value (R.modulus r.now) (T.number f)) points.now }
-    requires symbols { All (λ f. IsForm R.form R.value (R.modulus r.now) (T.number f)) symbols.now }
+    requires points { AreChecked R.Reducer T.number r.now points.now }
+    requires symbols { AreChecked R.Reducer T.number r.now symbols.now }
     requires pairs { length symbols.now ≡ length points.now }
     requires some { 0 < length message.old }
     requires few { length message.old ≤ length points.now }
@@ -36,7 +36,7 @@ fn decode<T: RingWord, R: Reducer<T>>(
         HaveUnitDifferences m (length points.now) (entry T.number R.value m points.now) }
     ensures inverse { IfErr result (λ a. IsWithoutInverse (R.modulus r.now) (T.number a)) }
     ensures checked { IfOk result (λ b. IsTrue b →
-        All (λ f. IsForm R.form R.value (R.modulus r.now) (T.number f)) message.new) }
+        AreChecked R.Reducer T.number r.now message.new) }
     ensures message { let m = R.modulus r.now in let s = length points.now in let k = length message.old in
         IfOk result (λ b. (sent : ℕ → ℕ) →
         2 * distance s (entry T.number R.value m symbols.now)
@@ -65,8 +65,8 @@ fn find_by_key_equation<T: RingWord, R: Reducer<T>>(
     word: &mut [T],
     message: &mut [T],
 ) -> Result<(), CorrectError<T>>
-    requires points { All (λ f. IsForm R.form R.value (R.modulus r.now) (T.number f)) points.now }
-    requires symbols { All (λ f. IsForm R.form R.value (R.modulus r.now) (T.number f)) symbols.now }
+    requires points { AreChecked R.Reducer T.number r.now points.now }
+    requires symbols { AreChecked R.Reducer T.number r.now symbols.now }
     requires pairs { length symbols.now ≡ length points.now }
     requires some { 0 < length message.old }
     requires few { length message.old ≤ length points.now }
@@ -77,7 +77,7 @@ fn find_by_key_equation<T: RingWord, R: Reducer<T>>(
     requires wrong { let m = R.modulus r.now in IsErasureCodeword m (length message.old) (length points.now)
         (entry T.number R.value m points.now) (entry T.number R.value m symbols.now) → ⊥ }
     ensures { let m = R.modulus r.now in let entries = entry T.number R.value m in MatchResult result
-        (λ _. IsCandidate (λ f. IsForm R.form R.value m (T.number f)) entries m (length message.old) points.now symbols.now
+        (λ _. IsCandidate (λ f. IsChecked R.Reducer T.number r.now f) entries m (length message.old) points.now symbols.now
         message.new word.new)
         (λ e. IsSearchFault T.number m (length message.old) (length points.now) (entries points.now) (entries symbols.now) e) }
 {
@@ -101,15 +101,15 @@ fn find_without_syndromes<T: RingWord, R: Reducer<T>>(
     word: &mut [T],
     message: &mut [T],
 ) -> Result<(), CorrectError<T>>
-    requires points { All (λ f. IsForm R.form R.value (R.modulus r.now) (T.number f)) points.now }
-    requires symbols { All (λ f. IsForm R.form R.value (R.modulus r.now) (T.number f)) symbols.now }
+    requires points { AreChecked R.Reducer T.number r.now points.now }
+    requires symbols { AreChecked R.Reducer T.number r.now symbols.now }
     requires pairs { length symbols.now ≡ length points.now }
     requires some { 0 < length message.old }
     requires few { length message.old ≤ length points.now }
     requires word { length word.old ≡ length points.now }
     requires room { 2 * length points.now + 3 * length message.old + 2 ≤ length scratch.old }
     ensures { let m = R.modulus r.now in let entries = entry T.number R.value m in MatchResult result
-        (λ _. IsCandidate (λ f. IsForm R.form R.value m (T.number f)) entries m (length message.old) points.now symbols.now
+        (λ _. IsCandidate (λ f. IsChecked R.Reducer T.number r.now f) entries m (length message.old) points.now symbols.now
         message.new word.new)
         (λ e. IsSearchFault T.number m (length message.old) (length points.now) (entries points.now) (entries symbols.now) e) }
 {
@@ -141,14 +141,14 @@ fn find_by_syndromes<T: RingWord, R: Reducer<T>>(
     word: &mut [T],
     message: &mut [T],
 ) -> Result<(), CorrectError<T>>
-    requires points { All (λ f. IsForm R.form R.value (R.modulus r.now) (T.number f)) points.now }
-    requires symbols { All (λ f. IsForm R.form R.value (R.modulus r.now) (T.number f)) symbols.now }
+    requires points { AreChecked R.Reducer T.number r.now points.now }
+    requires symbols { AreChecked R.Reducer T.number r.now symbols.now }
     requires pairs { length symbols.now ≡ length points.now }
     requires few { length message.old ≤ length points.now }
     requires word { length word.old ≡ length points.now }
     requires room { 3 * length points.now + 7 * (length points.now - length message.old) + 3 ≤ length scratch.old }
     ensures { let m = R.modulus r.now in let entries = entry T.number R.value m in MatchResult result
-        (λ _. IsCandidate (λ f. IsForm R.form R.value m (T.number f)) entries m (length message.old) points.now symbols.now
+        (λ _. IsCandidate (λ f. IsChecked R.Reducer T.number r.now f) entries m (length message.old) points.now symbols.now
         message.new word.new)
         (λ e. IsSearchFault T.number m (length message.old) (length points.now) (entries points.now) (entries symbols.now) e) }
 {
@@ -182,15 +182,15 @@ pub fn find_message<T: RingWord, R: Reducer<T>>(
     word: &mut [T],
     message: &mut [T],
 ) -> Result<(), CorrectError<T>>
-    requires points { All (λ f. IsForm R.form R.value (R.modulus r.now) (T.number f)) points.now }
-    requires symbols { All (λ f. IsForm R.form R.value (R.modulus r.now) (T.number f)) symbols.now }
+    requires points { AreChecked R.Reducer T.number r.now points.now }
+    requires symbols { AreChecked R.Reducer T.number r.now symbols.now }
     requires pairs { length symbols.now ≡ length points.now }
     requires some { 0 < length message.old }
     requires few { length message.old ≤ length points.now }
     requires word { length word.old ≡ length points.now }
     requires room { 2 * length points.now + 3 * length message.old + 2 ≤ length scratch.old }
     ensures { let m = R.modulus r.now in let entries = entry T.number R.value m in MatchResult result
-        (λ _. IsCandidate (λ f. IsForm R.form R.value m (T.number f)) entries m (length message.old) points.now symbols.now
+        (λ _. IsCandidate (λ f. IsChecked R.Reducer T.number r.now f) entries m (length message.old) points.now symbols.now
         message.new word.new)
         (λ e. IsSearchFault T.number m (length message.old) (length points.now) (entries points.now) (entries symbols.now) e) }
 {

@@ -1,8 +1,8 @@
 //! Shamir's secrets from shares of which some are forged.
 
-ghost use Rattle.std.specs.Prelude.{◌≡◌, ◌+◌, ◌*◌, ◌<◌, ◌≤◌, MatchResult, All, length};
+ghost use Rattle.std.specs.Prelude.{◌≡◌, ◌+◌, ◌*◌, ◌<◌, ◌≤◌, MatchResult, length};
 ghost use Rattle.num_modular.specs.Entries.{entry};
-ghost use Rattle.num_modular.specs.Forms.{IsForm};
+ghost use Rattle.num_modular.specs.Checked.{AreChecked, IsChecked};
 ghost use Rattle.ring_correction.specs.Correction.{IsRecovered, IsCorrectFault};
 
 use super::correction::correct;
@@ -61,14 +61,14 @@ pub fn recover_correct<T: RingWord, R: Reducer<T>>(
     coefficients: &mut [T],
     word: &mut [T],
 ) -> Result<T, CorrectError<T>>
-    requires points { All (λ f. IsForm R.form R.value (R.modulus r.now) (T.number f)) points.now }
-    requires shares { All (λ f. IsForm R.form R.value (R.modulus r.now) (T.number f)) shares.now }
+    requires points { AreChecked R.Reducer T.number r.now points.now }
+    requires shares { AreChecked R.Reducer T.number r.now shares.now }
     requires pairs { length shares.now ≡ length places.now }
     requires some { 0 < length coefficients.old }
     requires scratch { 3 * (length places.now + length coefficients.old) + 2 ≤ length scratch.old }
     requires room { length word.old ≡ length points.now }
     ensures { let m = R.modulus r.now in let entries = entry T.number R.value m in MatchResult result
-        (λ secret. IsRecovered (λ f. IsForm R.form R.value m (T.number f)) (λ f. R.value m (T.number f)) entries m
+        (λ secret. IsRecovered (λ f. IsChecked R.Reducer T.number r.now f) (λ f. R.value m (T.number f)) entries m
         (length coefficients.old) points.now places.now shares.now coefficients.new word.new secret)
         (λ e. IsCorrectFault T.number m (length coefficients.old) (length points.now) (entries points.now) places.now
         (entries shares.now) e) }

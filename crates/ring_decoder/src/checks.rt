@@ -1,8 +1,8 @@
 //! A table of checks: it gives each syndrome of a word by one dot product.
 
-ghost use Rattle.std.specs.Prelude.{◌≡◌, ◌≢◌, ℕ, ◌+◌, ◌*◌, ◌/◌, ◌%◌, ◌^◌, ◌<◌, ◌≤◌, All, length};
+ghost use Rattle.std.specs.Prelude.{◌≡◌, ◌≢◌, ℕ, ◌+◌, ◌*◌, ◌/◌, ◌%◌, ◌^◌, ◌<◌, ◌≤◌, length};
 ghost use Rattle.num_modular.specs.Entries.{entry, HoldBelow};
-ghost use Rattle.num_modular.specs.Forms.{IsForm};
+ghost use Rattle.num_modular.specs.Checked.{AreChecked, IsChecked};
 ghost use Rattle.ring_decoder.specs.PowerSums.{ArePowerSums};
 ghost use Rattle.ring_decoder.specs.Syndromes.{AreChecks};
 
@@ -19,8 +19,8 @@ fn next_check<T: RingWord, R: Reducer<T>>(
     h: usize,
     i: usize,
 ) -> T
-    requires points { All (λ f. IsForm R.form R.value (R.modulus r.now) (T.number f)) points.now }
-    requires weights { All (λ f. IsForm R.form R.value (R.modulus r.now) (T.number f)) weights.now }
+    requires points { AreChecked R.Reducer T.number r.now points.now }
+    requires weights { AreChecked R.Reducer T.number r.now weights.now }
     requires each_weight { length weights.now ≡ length points.now }
     requires column { i < length points.now }
     requires at { next ≡ h * length points.now + i }
@@ -29,7 +29,7 @@ fn next_check<T: RingWord, R: Reducer<T>>(
     requires before { let m = R.modulus r.now in let n = length points.now in
         let x = entry T.number R.value m points.now in let v = entry T.number R.value m weights.now in
         HoldBelow T.number R.form R.value m checks.now (λ e. (v (e % n) * x (e % n) ^ (e / n)) % m) next }
-    ensures checked { IsForm R.form R.value (R.modulus r.now) (T.number result) }
+    ensures checked { IsChecked R.Reducer T.number r.now result }
     ensures value { let m = R.modulus r.now in R.value m (T.number result)
         ≡ (entry T.number R.value m weights.now i * entry T.number R.value m points.now i ^ h) % m }
 {
@@ -59,11 +59,11 @@ pub fn fill_checks<T: RingWord, R: Reducer<T>>(
     rows: usize,
     checks: &mut [T],
 )
-    requires points { All (λ f. IsForm R.form R.value (R.modulus r.now) (T.number f)) points.now }
-    requires weights { All (λ f. IsForm R.form R.value (R.modulus r.now) (T.number f)) weights.now }
+    requires points { AreChecked R.Reducer T.number r.now points.now }
+    requires weights { AreChecked R.Reducer T.number r.now weights.now }
     requires each_weight { length weights.now ≡ length points.now }
     requires room { length checks.old ≡ rows * length points.now }
-    ensures checked { All (λ f. IsForm R.form R.value (R.modulus r.now) (T.number f)) checks.new }
+    ensures checked { AreChecked R.Reducer T.number r.now checks.new }
     ensures table { let m = R.modulus r.now in AreChecks m rows (length points.now)
         (entry T.number R.value m points.now) (entry T.number R.value m weights.now) (entry T.number R.value m checks.new) }
 {
@@ -91,10 +91,10 @@ pub fn fill_checked_syndromes<T: RingWord, R: Reducer<T>>(
     word: &[T],
     syndromes: &mut [T],
 )
-    requires checks { All (λ f. IsForm R.form R.value (R.modulus r.now) (T.number f)) checks.now }
-    requires word { All (λ f. IsForm R.form R.value (R.modulus r.now) (T.number f)) word.now }
+    requires checks { AreChecked R.Reducer T.number r.now checks.now }
+    requires word { AreChecked R.Reducer T.number r.now word.now }
     requires room { length checks.now ≡ length syndromes.old * length word.now }
-    ensures checked { All (λ f. IsForm R.form R.value (R.modulus r.now) (T.number f)) syndromes.new }
+    ensures checked { AreChecked R.Reducer T.number r.now syndromes.new }
     ensures sums { let m = R.modulus r.now in (x v : ℕ → ℕ) →
         AreChecks m (length syndromes.old) (length word.now) x v (entry T.number R.value m checks.now) →
         ArePowerSums m (length syndromes.old) (length word.now) x

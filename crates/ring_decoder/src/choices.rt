@@ -1,10 +1,10 @@
 //! The errors at chosen places: those where a value is 0.
 
 ghost use Rattle.std.specs.Prelude.{◌≡◌, ◌≢◌, ℕ, ◌+◌, ◌-◌, ◌*◌, ◌%◌, ◌<◌, ◌≤◌, ◌↔◌, ◌==◌, if◌then◌else◌};
-ghost use Rattle.std.specs.Prelude.{IsTrue, All, MatchOption, length, slice_set};
+ghost use Rattle.std.specs.Prelude.{IsTrue, MatchOption, length, slice_set};
 ghost use Rattle.num_modular.specs.Congruence.{Congruent};
 ghost use Rattle.num_modular.specs.Entries.{entry};
-ghost use Rattle.num_modular.specs.Forms.{IsForm};
+ghost use Rattle.num_modular.specs.Checked.{AreChecked, IsChecked};
 ghost use Rattle.num_modular.specs.Inverses.{HasInverse};
 ghost use Rattle.num_modular.specs.Polynomials.{HaveUnitDifferences};
 ghost use Rattle.ring_decoder.specs.Corrector.{without};
@@ -18,7 +18,7 @@ use num_modular::{Reducer, RingWord};
 
 // The number of the values that are 0.
 pub fn count_zeros<T: RingWord, R: Reducer<T>>(r: &R, values: &[T]) -> usize
-    requires values { All (λ f. IsForm R.form R.value (R.modulus r.now) (T.number f)) values.now }
+    requires values { AreChecked R.Reducer T.number r.now values.now }
     ensures { let m = R.modulus r.now in result ≡ zeros (length values.now) (entry T.number R.value m values.now) }
 {
     let mut count = 0;
@@ -41,12 +41,12 @@ fn put<T: RingWord>(numbers: &mut [T], place: usize, number: &T)
 // Copies the numbers of the chosen places.
 #[tactic(auto, using(crate::proofs::ChosenPlaces::zeros_before, num_modular::specs::Callers::entry_read))]
 fn gather<T: RingWord, R: Reducer<T>>(r: &R, values: &[T], numbers: &[T], chosen: &mut [T])
-    requires values { All (λ f. IsForm R.form R.value (R.modulus r.now) (T.number f)) values.now }
-    requires numbers { All (λ f. IsForm R.form R.value (R.modulus r.now) (T.number f)) numbers.now }
+    requires values { AreChecked R.Reducer T.number r.now values.now }
+    requires numbers { AreChecked R.Reducer T.number r.now numbers.now }
     requires pairs { length numbers.now ≡ length values.now }
     requires room { let m = R.modulus r.now in
         length chosen.old ≡ zeros (length values.now) (entry T.number R.value m values.now) }
-    ensures checked { All (λ f. IsForm R.form R.value (R.modulus r.now) (T.number f)) chosen.new }
+    ensures checked { AreChecked R.Reducer T.number r.now chosen.new }
     ensures chosen { let m = R.modulus r.now in AreChosen (length values.now) (entry T.number R.value m values.now)
         (entry T.number R.value m numbers.now) (entry T.number R.value m chosen.new) }
 {
@@ -62,12 +62,12 @@ fn gather<T: RingWord, R: Reducer<T>>(r: &R, values: &[T], numbers: &[T], chosen
 // Writes the errors at all places: those at the chosen ones, and 0 at the others.
 #[tactic(auto, using(crate::specs::ErrorPatterns::spread, num_modular::specs::Callers::held_entry))]
 fn scatter<T: RingWord, R: Reducer<T>>(r: &R, values: &[T], chosen: &[T], errors: &mut [T])
-    requires values { All (λ f. IsForm R.form R.value (R.modulus r.now) (T.number f)) values.now }
-    requires chosen { All (λ f. IsForm R.form R.value (R.modulus r.now) (T.number f)) chosen.now }
+    requires values { AreChecked R.Reducer T.number r.now values.now }
+    requires chosen { AreChecked R.Reducer T.number r.now chosen.now }
     requires count { let m = R.modulus r.now in
         length chosen.now ≡ zeros (length values.now) (entry T.number R.value m values.now) }
     requires room { length errors.old ≡ length values.now }
-    ensures checked { All (λ f. IsForm R.form R.value (R.modulus r.now) (T.number f)) errors.new }
+    ensures checked { AreChecked R.Reducer T.number r.now errors.new }
     ensures errors { let m = R.modulus r.now in (i : ℕ) → i < length values.now → entry T.number R.value m errors.new i
         ≡ spread (entry T.number R.value m values.now) (entry T.number R.value m chosen.now) i }
 {
@@ -86,11 +86,11 @@ fn scatter<T: RingWord, R: Reducer<T>>(r: &R, values: &[T], chosen: &[T], errors
 // Writes the product of each two numbers.
 #[tactic(auto, using(num_modular::specs::Callers::held_entry))]
 fn multiply_each<T: RingWord, R: Reducer<T>>(r: &R, xs: &[T], ys: &[T], products: &mut [T])
-    requires xs { All (λ f. IsForm R.form R.value (R.modulus r.now) (T.number f)) xs.now }
-    requires ys { All (λ f. IsForm R.form R.value (R.modulus r.now) (T.number f)) ys.now }
+    requires xs { AreChecked R.Reducer T.number r.now xs.now }
+    requires ys { AreChecked R.Reducer T.number r.now ys.now }
     requires pairs { length ys.now ≡ length xs.now }
     requires room { length products.old ≡ length xs.now }
-    ensures checked { All (λ f. IsForm R.form R.value (R.modulus r.now) (T.number f)) products.new }
+    ensures checked { AreChecked R.Reducer T.number r.now products.new }
     ensures products { let m = R.modulus r.now in (i : ℕ) → i < length xs.now → entry T.number R.value m products.new i
         ≡ (entry T.number R.value m xs.now i * entry T.number R.value m ys.now i) % m }
 {
@@ -109,9 +109,9 @@ fn solve_chosen<T: RingWord, R: Reducer<T>>(
     errors: &mut [T],
     products: &mut u128,
 ) -> bool
-    requires points { All (λ f. IsForm R.form R.value (R.modulus r.now) (T.number f)) points.now }
-    requires weights { All (λ f. IsForm R.form R.value (R.modulus r.now) (T.number f)) weights.now }
-    requires syndromes { All (λ f. IsForm R.form R.value (R.modulus r.now) (T.number f)) syndromes.now }
+    requires points { AreChecked R.Reducer T.number r.now points.now }
+    requires weights { AreChecked R.Reducer T.number r.now weights.now }
+    requires syndromes { AreChecked R.Reducer T.number r.now syndromes.now }
     requires pairs { length weights.now ≡ length points.now }
     requires few { length points.now ≤ length syndromes.now }
     requires fit { let m = R.modulus r.now in
@@ -120,7 +120,7 @@ fn solve_chosen<T: RingWord, R: Reducer<T>>(
         HasInverse m (entry T.number R.value m weights.now i) }
     requires scratch { 3 * length points.now + 1 ≤ length scratch.old }
     requires room { length errors.old ≡ length points.now }
-    ensures checked { IsTrue result → All (λ f. IsForm R.form R.value (R.modulus r.now) (T.number f)) errors.new }
+    ensures checked { IsTrue result → AreChecked R.Reducer T.number r.now errors.new }
     ensures sums { let m = R.modulus r.now in IsTrue result →
         ArePowerSums m (length syndromes.now) (length points.now) (entry T.number R.value m points.now)
         (λ i. entry T.number R.value m weights.now i * entry T.number R.value m errors.new i)
@@ -146,7 +146,7 @@ fn solve_chosen<T: RingWord, R: Reducer<T>>(
 
 // 1 where the error at a place that isn't lost isn't 0, otherwise 0.
 fn is_wrong<T: RingWord, R: Reducer<T>>(r: &R, lost: &[usize], error: &T, place: usize) -> usize
-    requires error { IsForm R.form R.value (R.modulus r.now) (T.number error.now) }
+    requires error { IsChecked R.Reducer T.number r.now error.now }
     ensures counted { let m = R.modulus r.now in
         result ≡ (if without lost.now (λ i. R.value m (T.number error.now)) place == 0 then 0 else 1) }
     ensures few { result ≤ 1 }
@@ -161,7 +161,7 @@ fn is_wrong<T: RingWord, R: Reducer<T>>(r: &R, lost: &[usize], error: &T, place:
 // The number of the errors that aren't 0, at places that aren't lost.
 #[tactic(auto, using(ring_codes::proofs::Distances::none_counted))]
 fn count_wrong<T: RingWord, R: Reducer<T>>(r: &R, lost: &[usize], errors: &[T]) -> usize
-    requires errors { All (λ f. IsForm R.form R.value (R.modulus r.now) (T.number f)) errors.now }
+    requires errors { AreChecked R.Reducer T.number r.now errors.now }
     ensures { let m = R.modulus r.now in
         result ≡ listed_weight m (length errors.now) lost.now (entry T.number R.value m errors.now) }
 {
@@ -185,10 +185,10 @@ pub fn solve<T: RingWord, R: Reducer<T>>(
     errors: &mut [T],
     products: &mut u128,
 ) -> Option<usize>
-    requires points { All (λ f. IsForm R.form R.value (R.modulus r.now) (T.number f)) points.now }
-    requires weights { All (λ f. IsForm R.form R.value (R.modulus r.now) (T.number f)) weights.now }
-    requires syndromes { All (λ f. IsForm R.form R.value (R.modulus r.now) (T.number f)) syndromes.now }
-    requires values { All (λ f. IsForm R.form R.value (R.modulus r.now) (T.number f)) values.now }
+    requires points { AreChecked R.Reducer T.number r.now points.now }
+    requires weights { AreChecked R.Reducer T.number r.now weights.now }
+    requires syndromes { AreChecked R.Reducer T.number r.now syndromes.now }
+    requires values { AreChecked R.Reducer T.number r.now values.now }
     requires each_weight { length weights.now ≡ length points.now }
     requires each_value { length values.now ≡ length points.now }
     requires fit { let m = R.modulus r.now in
@@ -202,7 +202,7 @@ pub fn solve<T: RingWord, R: Reducer<T>>(
         let x = entry T.number R.value m points.now in let v = entry T.number R.value m weights.now in
         let s = entry T.number R.value m syndromes.now in MatchOption result
         ((e : ℕ → ℕ) → IsNearPattern m t n x v lost.now s e → Covers m t n (entry T.number R.value m values.now) e → ⊥)
-        (λ wrong. All (λ f. IsForm R.form R.value m (T.number f)) errors.new
+        (λ wrong. AreChecked R.Reducer T.number r.now errors.new
         × IsSolution m t n x v lost.now s (entry T.number R.value m errors.new) wrong) }
     ensures counted { let t = length syndromes.now in products.new ≤ products.old + solve_products t t }
     ensures grown { products.old ≤ products.new }
@@ -238,10 +238,10 @@ pub fn solve<T: RingWord, R: Reducer<T>>(
 
 // Subtracts the errors from the word.
 pub fn subtract<T: RingWord, R: Reducer<T>>(r: &R, errors: &[T], word: &mut [T])
-    requires errors { All (λ f. IsForm R.form R.value (R.modulus r.now) (T.number f)) errors.now }
-    requires word { All (λ f. IsForm R.form R.value (R.modulus r.now) (T.number f)) word.old }
+    requires errors { AreChecked R.Reducer T.number r.now errors.now }
+    requires word { AreChecked R.Reducer T.number r.now word.old }
     requires room { length word.old ≡ length errors.now }
-    ensures checked { All (λ f. IsForm R.form R.value (R.modulus r.now) (T.number f)) word.new }
+    ensures checked { AreChecked R.Reducer T.number r.now word.new }
     ensures difference { let m = R.modulus r.now in (i : ℕ) → i < length errors.now → Congruent m
         (entry T.number R.value m word.new i + entry T.number R.value m errors.now i) (entry T.number R.value m word.old i) }
 {

@@ -1,9 +1,9 @@
 //! Correction of a word in place, in the Cargo crate in `ring_codes::erasure`: wrong symbols and lost ones.
 
-ghost use Rattle.std.specs.Prelude.{◌≡◌, ◌≢◌, ℕ, ◌+◌, ◌-◌, ◌*◌, ◌^◌, ◌<◌, ◌≤◌, ◌↔◌, IsTrue, All, MatchOption, MatchResult, length};
+ghost use Rattle.std.specs.Prelude.{◌≡◌, ◌≢◌, ℕ, ◌+◌, ◌-◌, ◌*◌, ◌^◌, ◌<◌, ◌≤◌, ◌↔◌, IsTrue, MatchOption, MatchResult, length};
 ghost use Rattle.std.specs.Option.{ForSome};
 ghost use Rattle.num_modular.specs.Entries.{entry};
-ghost use Rattle.num_modular.specs.Forms.{IsForm};
+ghost use Rattle.num_modular.specs.Checked.{AreChecked, IsChecked};
 ghost use Rattle.num_modular.specs.Polynomials.{HaveUnitDifferences};
 ghost use Rattle.num_modular.specs.Transforms.{Suits};
 ghost use Rattle.ring_codes.specs.Erasure.{IsErasureCodeword};
@@ -52,19 +52,19 @@ pub struct Corrector<'a, T: RingWord, R: Reducer<T>> {
     checks: &'a [T],
     // The root of which the points are the powers, where it is given.
     root: Option<T>,
-    pub ghost point_forms: { All (λ f. IsForm R.form R.value (R.modulus ring.now) (T.number f)) points.now },
-    pub ghost weight_forms: { All (λ f. IsForm R.form R.value (R.modulus ring.now) (T.number f)) weights.now },
+    pub ghost point_forms: { AreChecked R.Reducer T.number ring.now points.now },
+    pub ghost weight_forms: { AreChecked R.Reducer T.number ring.now weights.now },
     pub ghost count: { length weights.now ≡ length points.now },
     pub ghost few: { k ≤ length points.now },
     // The inverses of the products of each point's differences from the others.
     pub ghost inverses: { let m = R.modulus ring.now in AreWeights m (length points.now)
         (entry T.number R.value m points.now) (entry T.number R.value m weights.now) },
-    pub ghost check_forms: { All (λ f. IsForm R.form R.value (R.modulus ring.now) (T.number f)) checks.now },
+    pub ghost check_forms: { AreChecked R.Reducer T.number ring.now checks.now },
     pub ghost checks_count: { 0 < length checks.now → length checks.now ≡ (length points.now - k) * length points.now },
     pub ghost table: { let m = R.modulus ring.now in 0 < length checks.now → AreChecks m (length points.now - k)
         (length points.now) (entry T.number R.value m points.now) (entry T.number R.value m weights.now)
         (entry T.number R.value m checks.now) },
-    pub ghost root_form: { ForSome root (λ g. IsForm R.form R.value (R.modulus ring.now) (T.number g)) },
+    pub ghost root_form: { ForSome root (λ g. IsChecked R.Reducer T.number ring.now g) },
     pub ghost suits: { let m = R.modulus ring.now in
         ForSome root (λ g. ∥ Suits m (R.value m (T.number g)) (length points.now) ∥₁) },
     pub ghost powers: { let m = R.modulus ring.now in ForSome root (λ g. ArePowers m (R.value m (T.number g))
@@ -105,7 +105,7 @@ impl<'a, T: RingWord, R: Reducer<T>> Corrector<'a, T, R> {
         weights: &'a mut [T],
         scratch: &mut [T],
     ) -> Option<Self>
-        requires points { All (λ f. IsForm R.form R.value (R.modulus ring.now) (T.number f)) points.now }
+        requires points { AreChecked R.Reducer T.number ring.now points.now }
         requires few { k ≤ length points.now }
         requires room { length weights.old ≡ length points.now }
         requires scratch { length scratch.old ≡ length points.now }
@@ -214,7 +214,7 @@ impl<'a, T: RingWord, R: Reducer<T>> Corrector<'a, T, R> {
     /// ```
     // rust: #[cfg_attr(debug_assertions, track_caller)]
     pub fn with_root(self, g: T) -> Option<Self>
-        requires root { IsForm R.form R.value (R.modulus self.ring.now) (T.number g) }
+        requires root { IsChecked R.Reducer T.number self.ring.now g }
         ensures { let m = R.modulus self.entry.ring.now in let n = length self.entry.points.now in
             let v = R.value m (T.number g) in let x = entry T.number R.value m self.entry.points.now in MatchOption result
             (Suits m v n → ArePowers m v n x → ⊥)
@@ -256,7 +256,7 @@ impl<'a, T: RingWord, R: Reducer<T>> Corrector<'a, T, R> {
         checks: &mut [T],
         scratch: &mut [T],
     ) -> bool
-        requires points { All (λ f. IsForm R.form R.value (R.modulus ring.now) (T.number f)) points.now }
+        requires points { AreChecked R.Reducer T.number ring.now points.now }
         requires few { k ≤ length points.now }
         requires room { length weights.old ≡ length points.now }
         requires checks { 0 < length checks.old → length checks.old ≡ (length points.now - k) * length points.now }
@@ -326,7 +326,7 @@ impl<'a, T: RingWord, R: Reducer<T>> Corrector<'a, T, R> {
     // rust: #[must_use]
     // rust: #[track_caller]
     pub fn is_codeword(&self, word: &[T], scratch: &mut [T]) -> bool
-        requires word { All (λ f. IsForm R.form R.value (R.modulus self.now.ring.now) (T.number f)) word.now }
+        requires word { AreChecked R.Reducer T.number self.now.ring.now word.now }
         requires room { length word.now ≡ length self.now.points.now }
         requires scratch { length self.now.points.now + (length self.now.points.now - self.now.k) ≤ length scratch.old }
         ensures { let m = R.modulus self.now.ring.now in let entries = entry T.number R.value m in
@@ -410,12 +410,12 @@ impl<'a, T: RingWord, R: Reducer<T>> Corrector<'a, T, R> {
         lost: &[usize],
         scratch: &mut [T],
     ) -> Result<usize, CorrectError<T>>
-        requires word { All (λ f. IsForm R.form R.value (R.modulus self.now.ring.now) (T.number f)) word.old }
+        requires word { AreChecked R.Reducer T.number self.now.ring.now word.old }
         requires room { length word.old ≡ length self.now.points.now }
         requires scratch { 2 * length self.now.points.now + 7 * (length self.now.points.now - self.now.k) + 3
             ≤ length scratch.old }
         ensures { let m = R.modulus self.now.ring.now in let entries = entry T.number R.value m in MatchResult result
-            (λ errors. IsCorrectedWord (λ f. IsForm R.form R.value m (T.number f)) entries m self.now.k
+            (λ errors. IsCorrectedWord (λ f. IsChecked R.Reducer T.number self.now.ring.now f) entries m self.now.k
             self.now.points.now lost.now word.old word.new errors)
             (λ e. (word.new ≡ word.old) × IsCorrectorFault T.number m self.now.k (length self.now.points.now)
             (entries self.now.points.now) lost.now (entries word.old) e) }
@@ -465,13 +465,13 @@ impl<'a, T: RingWord, R: Reducer<T>> Corrector<'a, T, R> {
         lost: &[usize],
         scratch: &mut [T],
     ) -> (Result<usize, CorrectError<T>>, u128)
-        requires word { All (λ f. IsForm R.form R.value (R.modulus self.now.ring.now) (T.number f)) word.old }
+        requires word { AreChecked R.Reducer T.number self.now.ring.now word.old }
         requires room { length word.old ≡ length self.now.points.now }
         requires scratch { 2 * length self.now.points.now + 7 * (length self.now.points.now - self.now.k) + 3
             ≤ length scratch.old }
         ensures corrected { let m = R.modulus self.now.ring.now in let entries = entry T.number R.value m in
             MatchResult result.0
-            (λ errors. IsCorrectedWord (λ f. IsForm R.form R.value m (T.number f)) entries m self.now.k
+            (λ errors. IsCorrectedWord (λ f. IsChecked R.Reducer T.number self.now.ring.now f) entries m self.now.k
             self.now.points.now lost.now word.old word.new errors)
             (λ e. (word.new ≡ word.old) × IsCorrectorFault T.number m self.now.k (length self.now.points.now)
             (entries self.now.points.now) lost.now (entries word.old) e) }

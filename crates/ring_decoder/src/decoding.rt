@@ -1,9 +1,9 @@
 //! The two steps of a correction: the syndromes of a word, and the few errors that have them.
 
-ghost use Rattle.std.specs.Prelude.{◌≡◌, ◌≢◌, ℕ, ◌+◌, ◌-◌, ◌*◌, ◌^◌, ◌<◌, ◌≤◌, All, MatchResult, length};
+ghost use Rattle.std.specs.Prelude.{◌≡◌, ◌≢◌, ℕ, ◌+◌, ◌-◌, ◌*◌, ◌^◌, ◌<◌, ◌≤◌, MatchResult, length};
 ghost use Rattle.std.specs.Option.{ForSome};
 ghost use Rattle.num_modular.specs.Entries.{entry};
-ghost use Rattle.num_modular.specs.Forms.{IsForm};
+ghost use Rattle.num_modular.specs.Checked.{AreChecked, IsChecked};
 ghost use Rattle.num_modular.specs.Inverses.{HasInverse};
 ghost use Rattle.num_modular.specs.Polynomials.{HaveUnitDifferences};
 ghost use Rattle.num_modular.specs.Transforms.{Suits};
@@ -34,10 +34,10 @@ pub fn write_syndromes<T: RingWord, R: Reducer<T>>(
     terms: &mut [T],
     syndromes: &mut [T],
 ) -> u128
-    requires points { All (λ f. IsForm R.form R.value (R.modulus r.now) (T.number f)) points.now }
-    requires weights { All (λ f. IsForm R.form R.value (R.modulus r.now) (T.number f)) weights.now }
-    requires checks { All (λ f. IsForm R.form R.value (R.modulus r.now) (T.number f)) checks.now }
-    requires word { All (λ f. IsForm R.form R.value (R.modulus r.now) (T.number f)) word.now }
+    requires points { AreChecked R.Reducer T.number r.now points.now }
+    requires weights { AreChecked R.Reducer T.number r.now weights.now }
+    requires checks { AreChecked R.Reducer T.number r.now checks.now }
+    requires word { AreChecked R.Reducer T.number r.now word.now }
     requires each_weight { length weights.now ≡ length points.now }
     requires each_symbol { length word.now ≡ length points.now }
     requires each_term { length terms.old ≡ length points.now }
@@ -48,12 +48,12 @@ pub fn write_syndromes<T: RingWord, R: Reducer<T>>(
     requires weights_of { let m = R.modulus r.now in AreWeights m (length points.now)
         (entry T.number R.value m points.now) (entry T.number R.value m weights.now) }
     requires few { length syndromes.old ≤ length points.now }
-    requires root { ForSome root (λ g. IsForm R.form R.value (R.modulus r.now) (T.number g)) }
+    requires root { ForSome root (λ g. IsChecked R.Reducer T.number r.now g) }
     requires suits { let m = R.modulus r.now in
         ForSome root (λ g. ∥ Suits m (R.value m (T.number g)) (length points.now) ∥₁) }
     requires powers { let m = R.modulus r.now in ForSome root (λ g. ArePowers m (R.value m (T.number g))
         (length points.now) (entry T.number R.value m points.now)) }
-    ensures checked { All (λ f. IsForm R.form R.value (R.modulus r.now) (T.number f)) syndromes.new }
+    ensures checked { AreChecked R.Reducer T.number r.now syndromes.new }
     ensures sums { let m = R.modulus r.now in ArePowerSums m (length syndromes.old) (length points.now)
         (entry T.number R.value m points.now)
         (λ i. entry T.number R.value m weights.now i * entry T.number R.value m word.now i)
@@ -93,9 +93,9 @@ pub fn find_errors<T: RingWord, R: Reducer<T>>(
     errors: &mut [T],
     products: &mut u128,
 ) -> Result<usize, CorrectError<T>>
-    requires points { All (λ f. IsForm R.form R.value (R.modulus r.now) (T.number f)) points.now }
-    requires weights { All (λ f. IsForm R.form R.value (R.modulus r.now) (T.number f)) weights.now }
-    requires syndromes { All (λ f. IsForm R.form R.value (R.modulus r.now) (T.number f)) syndromes.now }
+    requires points { AreChecked R.Reducer T.number r.now points.now }
+    requires weights { AreChecked R.Reducer T.number r.now weights.now }
+    requires syndromes { AreChecked R.Reducer T.number r.now syndromes.now }
     requires each_weight { length weights.now ≡ length points.now }
     requires fit { let m = R.modulus r.now in
         HaveUnitDifferences m (length points.now) (entry T.number R.value m points.now) }
@@ -110,7 +110,7 @@ pub fn find_errors<T: RingWord, R: Reducer<T>>(
     ensures found { let m = R.modulus r.now in let n = length points.now in let t = length syndromes.now in
         let x = entry T.number R.value m points.now in let v = entry T.number R.value m weights.now in
         let s = entry T.number R.value m syndromes.now in MatchResult result
-        (λ wrong. All (λ f. IsForm R.form R.value m (T.number f)) errors.new
+        (λ wrong. AreChecked R.Reducer T.number r.now errors.new
         × IsSolution m t n x v lost.now s (entry T.number R.value m errors.new) wrong)
         (λ e. IsPatternFault T.number m t n x v lost.now s e) }
     ensures counted { products.new ≤ products.old

@@ -1,8 +1,8 @@
 //! The errors at given places, from the syndromes.
 
-ghost use Rattle.std.specs.Prelude.{◌≡◌, ℕ, ◌+◌, ◌-◌, ◌*◌, ◌%◌, ◌<◌, ◌≤◌, ◌↔◌, IsTrue, All, length};
+ghost use Rattle.std.specs.Prelude.{◌≡◌, ℕ, ◌+◌, ◌-◌, ◌*◌, ◌%◌, ◌<◌, ◌≤◌, ◌↔◌, IsTrue, length};
 ghost use Rattle.num_modular.specs.Entries.{entry};
-ghost use Rattle.num_modular.specs.Forms.{IsForm};
+ghost use Rattle.num_modular.specs.Checked.{AreChecked, IsChecked};
 ghost use Rattle.num_modular.specs.Inverses.{HasInverse};
 ghost use Rattle.num_modular.specs.Polynomials.{HaveUnitDifferences, polynomial_at};
 ghost use Rattle.num_modular.specs.Sums.{sum_below};
@@ -22,12 +22,12 @@ fn quotient_sum<T: RingWord, R: Reducer<T>>(
     numbers: &[T],
     q: usize,
 ) -> T
-    requires coefficients { All (λ f. IsForm R.form R.value (R.modulus r.now) (T.number f)) coefficients.now }
-    requires point { IsForm R.form R.value (R.modulus r.now) (T.number point.now) }
-    requires numbers { All (λ f. IsForm R.form R.value (R.modulus r.now) (T.number f)) numbers.now }
+    requires coefficients { AreChecked R.Reducer T.number r.now coefficients.now }
+    requires point { IsChecked R.Reducer T.number r.now point.now }
+    requires numbers { AreChecked R.Reducer T.number r.now numbers.now }
     requires each { q < length coefficients.now }
     requires enough { q ≤ length numbers.now }
-    ensures checked { IsForm R.form R.value (R.modulus r.now) (T.number result) }
+    ensures checked { IsChecked R.Reducer T.number r.now result }
     ensures value { let m = R.modulus r.now in let f = entry T.number R.value m coefficients.now in
         R.value m (T.number result) ≡ sum_below q (λ k. polynomial_at (k + 1) (λ i. f (q + 1 - (k + 1) + i))
         (R.value m (T.number point.now)) * entry T.number R.value m numbers.now (q - 1 - k)) % m }
@@ -72,9 +72,9 @@ pub fn solve_errors<T: RingWord, R: Reducer<T>>(
     scratch: &mut [T],
     errors: &mut [T],
 ) -> bool
-    requires points { All (λ f. IsForm R.form R.value (R.modulus r.now) (T.number f)) points.now }
-    requires weights { All (λ f. IsForm R.form R.value (R.modulus r.now) (T.number f)) weights.now }
-    requires syndromes { All (λ f. IsForm R.form R.value (R.modulus r.now) (T.number f)) syndromes.now }
+    requires points { AreChecked R.Reducer T.number r.now points.now }
+    requires weights { AreChecked R.Reducer T.number r.now weights.now }
+    requires syndromes { AreChecked R.Reducer T.number r.now syndromes.now }
     requires each_weight { length weights.now ≡ length points.now }
     requires enough { length points.now ≤ length syndromes.now }
     requires product { length product.old ≡ length points.now + 1 }
@@ -84,7 +84,7 @@ pub fn solve_errors<T: RingWord, R: Reducer<T>>(
     ensures solved { let m = R.modulus r.now in IsTrue result ↔
         (HaveUnitDifferences m (length points.now) (entry T.number R.value m points.now)
         × ((j : ℕ) → j < length points.now → HasInverse m (entry T.number R.value m weights.now j))) }
-    ensures checked { IsTrue result → All (λ f. IsForm R.form R.value (R.modulus r.now) (T.number f)) errors.new }
+    ensures checked { IsTrue result → AreChecked R.Reducer T.number r.now errors.new }
     ensures errors { let m = R.modulus r.now in let q = length points.now in
         IsTrue result → (e : ℕ → ℕ) → ArePowerSums m q q (entry T.number R.value m points.now)
         (λ j. entry T.number R.value m weights.now j * e j) (entry T.number R.value m syndromes.now) →

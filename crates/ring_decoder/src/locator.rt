@@ -1,9 +1,9 @@
 //! The locator of a list of moments: a polynomial that is 0 at the points whose weights aren't.
 
-ghost use Rattle.std.specs.Prelude.{◌≡◌, ◌≢◌, ℕ, ◌+◌, ◌*◌, ◌/◌, ◌%◌, ◌<◌, ◌≤◌, All, IfSome, MatchOption, length};
+ghost use Rattle.std.specs.Prelude.{◌≡◌, ◌≢◌, ℕ, ◌+◌, ◌*◌, ◌/◌, ◌%◌, ◌<◌, ◌≤◌, IfSome, MatchOption, length};
 ghost use Rattle.std.specs.Prelude.{if◌then◌else◌};
 ghost use Rattle.num_modular.specs.Entries.{entry};
-ghost use Rattle.num_modular.specs.Forms.{IsForm};
+ghost use Rattle.num_modular.specs.Checked.{AreChecked, IsChecked};
 ghost use Rattle.num_modular.specs.Inverses.{HasInverse};
 ghost use Rattle.num_modular.specs.Sums.{sum_below};
 ghost use Rattle.ring_decoder.specs.LocatorSteps.{HoldsSearch, IsCombined};
@@ -20,11 +20,11 @@ fn apply<T: RingWord, R: Reducer<T>>(
     numbers: &[T],
     from: usize,
 ) -> T
-    requires polynomial { All (λ f. IsForm R.form R.value (R.modulus r.now) (T.number f)) polynomial.now }
-    requires numbers { All (λ f. IsForm R.form R.value (R.modulus r.now) (T.number f)) numbers.now }
+    requires polynomial { AreChecked R.Reducer T.number r.now polynomial.now }
+    requires numbers { AreChecked R.Reducer T.number r.now numbers.now }
     requires within { count ≤ length polynomial.now }
     requires numbers_within { from + count ≤ length numbers.now }
-    ensures checked { IsForm R.form R.value (R.modulus r.now) (T.number result) }
+    ensures checked { IsChecked R.Reducer T.number r.now result }
     ensures value { let m = R.modulus r.now in R.value m (T.number result)
         ≡ sum_below count (λ l. entry T.number R.value m polynomial.now l
         * entry T.number R.value m numbers.now (from + l)) % m }
@@ -43,14 +43,14 @@ fn combine<T: RingWord, R: Reducer<T>>(
     q: usize,
     other: &[T],
 )
-    requires a { IsForm R.form R.value (R.modulus r.now) (T.number a.now) }
-    requires polynomial { All (λ f. IsForm R.form R.value (R.modulus r.now) (T.number f)) polynomial.old }
-    requires b { IsForm R.form R.value (R.modulus r.now) (T.number b.now) }
-    requires other { All (λ f. IsForm R.form R.value (R.modulus r.now) (T.number f)) other.now }
+    requires a { IsChecked R.Reducer T.number r.now a.now }
+    requires polynomial { AreChecked R.Reducer T.number r.now polynomial.old }
+    requires b { IsChecked R.Reducer T.number r.now b.now }
+    requires other { AreChecked R.Reducer T.number r.now other.now }
     requires within { count ≤ length polynomial.old }
     requires low { q ≤ count }
     requires other_within { count ≤ q + length other.now }
-    ensures checked { All (λ f. IsForm R.form R.value (R.modulus r.now) (T.number f)) polynomial.new }
+    ensures checked { AreChecked R.Reducer T.number r.now polynomial.new }
     ensures combined { let m = R.modulus r.now in (k : ℕ) → k < count →
         IsCombined m (R.value m (T.number a.now)) (R.value m (T.number b.now)) q k
         (entry T.number R.value m polynomial.old k) (entry T.number R.value m polynomial.new k)
@@ -72,10 +72,10 @@ fn combine<T: RingWord, R: Reducer<T>>(
 
 // The product of the witness and a number that isn't 0; the witness itself, where the product is 0: then it has no inverse.
 fn extend_witness<T: RingWord, R: Reducer<T>>(r: &R, witness: T, met: &T) -> T
-    requires witness { IsForm R.form R.value (R.modulus r.now) (T.number witness) }
-    requires met { IsForm R.form R.value (R.modulus r.now) (T.number met.now) }
+    requires witness { IsChecked R.Reducer T.number r.now witness }
+    requires met { IsChecked R.Reducer T.number r.now met.now }
     requires some { R.value (R.modulus r.now) (T.number met.now) ≢ 0 }
-    ensures checked { IsForm R.form R.value (R.modulus r.now) (T.number result) }
+    ensures checked { IsChecked R.Reducer T.number r.now result }
     ensures units { let m = R.modulus r.now in HasInverse m (R.value m (T.number result)) →
         HasInverse m (R.value m (T.number witness)) × HasInverse m (R.value m (T.number met.now)) }
     ensures nonzero { let m = R.modulus r.now in
@@ -103,16 +103,16 @@ fn advance<T: RingWord, R: Reducer<T>>(
     witness: T,
     products: &mut u128,
 ) -> Option<(usize, bool, T, T)>
-    requires moments { All (λ f. IsForm R.form R.value (R.modulus r.now) (T.number f)) moments.now }
+    requires moments { AreChecked R.Reducer T.number r.now moments.now }
     requires inside { i < length moments.now }
-    requires locator { All (λ f. IsForm R.form R.value (R.modulus r.now) (T.number f)) locator.old }
-    requires other { All (λ f. IsForm R.form R.value (R.modulus r.now) (T.number f)) other.old }
+    requires locator { AreChecked R.Reducer T.number r.now locator.old }
+    requires other { AreChecked R.Reducer T.number r.now other.old }
     requires locator_places { length locator.old ≡ length moments.now / 2 + 1 }
     requires other_places { length other.old ≡ length moments.now / 2 + 1 }
     requires search { let m = R.modulus r.now in HoldsSearch T.number R.form R.value m (length moments.now) i degree pivot witness
         (entry T.number R.value m locator.old) (entry T.number R.value m other.old) (entry T.number R.value m moments.now) }
-    ensures checked_locator { All (λ f. IsForm R.form R.value (R.modulus r.now) (T.number f)) locator.new }
-    ensures checked_other { All (λ f. IsForm R.form R.value (R.modulus r.now) (T.number f)) other.new }
+    ensures checked_locator { AreChecked R.Reducer T.number r.now locator.new }
+    ensures checked_other { AreChecked R.Reducer T.number r.now other.new }
     ensures advanced { let m = R.modulus r.now in let t = entry T.number R.value m moments.now in
         MatchOption result (NeedManyWeights m (length moments.now) t)
         (λ f. HoldsSearch T.number R.form R.value m (length moments.now) (i + 1) f.0 f.2 f.3
@@ -146,9 +146,9 @@ fn advance<T: RingWord, R: Reducer<T>>(
 // Writes a polynomial without other coefficients than the constant one.
 #[tactic(auto, using(num_modular::specs::Callers::entry_written, num_modular::specs::Callers::forms_written, num_modular::specs::Callers::held_forms, num_modular::specs::Callers::hold_more, ring_codes::proofs::Counts::zero_mod))]
 fn set_constant<T: RingWord, R: Reducer<T>>(r: &R, constant: &T, polynomial: &mut [T])
-    requires constant { IsForm R.form R.value (R.modulus r.now) (T.number constant.now) }
+    requires constant { IsChecked R.Reducer T.number r.now constant.now }
     requires some { 0 < length polynomial.old }
-    ensures checked { All (λ f. IsForm R.form R.value (R.modulus r.now) (T.number f)) polynomial.new }
+    ensures checked { AreChecked R.Reducer T.number r.now polynomial.new }
     ensures constant { let m = R.modulus r.now in
         entry T.number R.value m polynomial.new 0 ≡ R.value m (T.number constant.now) }
     ensures others { let m = R.modulus r.now in (l : ℕ) → l ≢ 0 → entry T.number R.value m polynomial.new l ≡ 0 }
@@ -170,18 +170,18 @@ fn step<T: RingWord, R: Reducer<T>>(
     state: (usize, bool, T, T),
     products: &mut u128,
 ) -> Option<(usize, bool, T, T)>
-    requires moments { All (λ f. IsForm R.form R.value (R.modulus r.now) (T.number f)) moments.now }
+    requires moments { AreChecked R.Reducer T.number r.now moments.now }
     requires inside { i < length moments.now }
-    requires first { All (λ f. IsForm R.form R.value (R.modulus r.now) (T.number f)) first.old }
-    requires second { All (λ f. IsForm R.form R.value (R.modulus r.now) (T.number f)) second.old }
+    requires first { AreChecked R.Reducer T.number r.now first.old }
+    requires second { AreChecked R.Reducer T.number r.now second.old }
     requires first_places { length first.old ≡ length moments.now / 2 + 1 }
     requires second_places { length second.old ≡ length moments.now / 2 + 1 }
     requires search { let m = R.modulus r.now in
         HoldsSearch T.number R.form R.value m (length moments.now) i state.0 state.2 state.3
         (entry T.number R.value m (if state.1 then first.old else second.old))
         (entry T.number R.value m (if state.1 then second.old else first.old)) (entry T.number R.value m moments.now) }
-    ensures checked_first { All (λ f. IsForm R.form R.value (R.modulus r.now) (T.number f)) first.new }
-    ensures checked_second { All (λ f. IsForm R.form R.value (R.modulus r.now) (T.number f)) second.new }
+    ensures checked_first { AreChecked R.Reducer T.number r.now first.new }
+    ensures checked_second { AreChecked R.Reducer T.number r.now second.new }
     ensures advanced { let m = R.modulus r.now in let t = entry T.number R.value m moments.now in
         MatchOption result (NeedManyWeights m (length moments.now) t)
         (λ f. HoldsSearch T.number R.form R.value m (length moments.now) (i + 1) f.0 f.2 f.3
@@ -232,15 +232,15 @@ pub fn find_locator<T: RingWord, R: Reducer<T>>(
     second: &mut [T],
     products: &mut u128,
 ) -> Option<(usize, bool, T)>
-    requires moments { All (λ f. IsForm R.form R.value (R.modulus r.now) (T.number f)) moments.now }
+    requires moments { AreChecked R.Reducer T.number r.now moments.now }
     requires first_places { length first.old ≡ length moments.now / 2 + 1 }
     requires second_places { length second.old ≡ length moments.now / 2 + 1 }
-    ensures checked_first { All (λ f. IsForm R.form R.value (R.modulus r.now) (T.number f)) first.new }
-    ensures checked_second { All (λ f. IsForm R.form R.value (R.modulus r.now) (T.number f)) second.new }
+    ensures checked_first { AreChecked R.Reducer T.number r.now first.new }
+    ensures checked_second { AreChecked R.Reducer T.number r.now second.new }
     ensures located { let m = R.modulus r.now in let t = entry T.number R.value m moments.now in
         MatchOption result (NeedManyWeights m (length moments.now) t) (λ f. IsLocator m (length moments.now) f.0
         (entry T.number R.value m (if f.1 then first.new else second.new)) t) }
-    ensures witness { IfSome result (λ f. IsForm R.form R.value (R.modulus r.now) (T.number f.2)) }
+    ensures witness { IfSome result (λ f. IsChecked R.Reducer T.number r.now f.2) }
     ensures nonzero { let m = R.modulus r.now in IfSome result (λ f. m ≢ 1 → R.value m (T.number f.2) ≢ 0) }
     ensures unit { let m = R.modulus r.now in IfSome result (λ f. HasInverse m (R.value m (T.number f.2)) →
         HasInverse m (entry T.number R.value m (if f.1 then first.new else second.new) f.0)) }

@@ -1,8 +1,8 @@
 //! Places of lost symbols.
 
-ghost use Rattle.std.specs.Prelude.{◌≡◌, ℕ, ◌+◌, ◌<◌, ◌≤◌, ◌↔◌, IsTrue, All, MatchResult, length, slice_index};
+ghost use Rattle.std.specs.Prelude.{◌≡◌, ℕ, ◌+◌, ◌<◌, ◌≤◌, ◌↔◌, IsTrue, MatchResult, length, slice_index};
 ghost use Rattle.num_modular.specs.Entries.{entry};
-ghost use Rattle.num_modular.specs.Forms.{IsForm};
+ghost use Rattle.num_modular.specs.Checked.{AreChecked};
 ghost use Rattle.ring_decoder.specs.Corrector.{AreLost, AreLostAtFault, without};
 
 use num_modular::{Reducer, RingWord};
@@ -49,10 +49,10 @@ pub fn copy_points<T: RingWord, R: Reducer<T>>(
     lost: &[usize],
     located: &mut [T],
 )
-    requires points { All (λ f. IsForm R.form R.value (R.modulus _r.now) (T.number f)) points.now }
+    requires points { AreChecked R.Reducer T.number _r.now points.now }
     requires room { length located.old ≡ length lost.now }
     requires within { (i : ℕ) → i < length lost.now → slice_index lost.now i < length points.now }
-    ensures checked { All (λ f. IsForm R.form R.value (R.modulus _r.now) (T.number f)) located.new }
+    ensures checked { AreChecked R.Reducer T.number _r.now located.new }
     ensures same { let m = R.modulus _r.now in (i : ℕ) → i < length lost.now →
         entry T.number R.value m located.new i ≡ entry T.number R.value m points.now (slice_index lost.now i) }
 {
@@ -63,9 +63,9 @@ pub fn copy_points<T: RingWord, R: Reducer<T>>(
 
 // Writes 0 at the lost places.
 pub fn clear_lost<T: RingWord, R: Reducer<T>>(r: &R, lost: &[usize], values: &mut [T])
-    requires values { All (λ f. IsForm R.form R.value (R.modulus r.now) (T.number f)) values.old }
+    requires values { AreChecked R.Reducer T.number r.now values.old }
     requires within { (i : ℕ) → i < length lost.now → slice_index lost.now i < length values.old }
-    ensures checked { All (λ f. IsForm R.form R.value (R.modulus r.now) (T.number f)) values.new }
+    ensures checked { AreChecked R.Reducer T.number r.now values.new }
     ensures cleared { let m = R.modulus r.now in (i : ℕ) → entry T.number R.value m values.new i
         ≡ without lost.now (entry T.number R.value m values.old) i }
 {

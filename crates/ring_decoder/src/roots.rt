@@ -1,8 +1,8 @@
 //! Syndromes of words at the powers of a root: by one transform.
 
-ghost use Rattle.std.specs.Prelude.{◌≡◌, ℕ, ◌+◌, ◌-◌, ◌*◌, ◌%◌, ◌<◌, ◌≤◌, ◌↔◌, IsTrue, All, length};
+ghost use Rattle.std.specs.Prelude.{◌≡◌, ℕ, ◌+◌, ◌-◌, ◌*◌, ◌%◌, ◌<◌, ◌≤◌, ◌↔◌, IsTrue, length};
 ghost use Rattle.num_modular.specs.Entries.{entry};
-ghost use Rattle.num_modular.specs.Forms.{IsForm};
+ghost use Rattle.num_modular.specs.Checked.{AreChecked, IsChecked};
 ghost use Rattle.num_modular.specs.Inverses.{HasInverse};
 ghost use Rattle.num_modular.specs.Polynomials.{HaveUnitDifferences};
 ghost use Rattle.num_modular.specs.Transforms.{Suits};
@@ -19,8 +19,8 @@ use num_modular::{Reducer, RingWord};
 ///
 /// - g and the points are checked forms
 pub fn are_powers<T: RingWord, R: Reducer<T>>(r: &R, g: &T, points: &[T]) -> bool
-    requires root { IsForm R.form R.value (R.modulus r.now) (T.number g.now) }
-    requires points { All (λ f. IsForm R.form R.value (R.modulus r.now) (T.number f)) points.now }
+    requires root { IsChecked R.Reducer T.number r.now g.now }
+    requires points { AreChecked R.Reducer T.number r.now points.now }
     ensures { let m = R.modulus r.now in IsTrue result ↔
         (Suits m (R.value m (T.number g.now)) (length points.now)
         × ArePowers m (R.value m (T.number g.now)) (length points.now) (entry T.number R.value m points.now)) }
@@ -58,13 +58,13 @@ pub fn fill_syndromes_by_transform<T: RingWord, R: Reducer<T>>(
     coefficients: &mut [T],
     syndromes: &mut [T],
 ) -> bool
-    requires root { IsForm R.form R.value (R.modulus r.now) (T.number g.now) }
-    requires word { All (λ f. IsForm R.form R.value (R.modulus r.now) (T.number f)) word.now }
+    requires root { IsChecked R.Reducer T.number r.now g.now }
+    requires word { AreChecked R.Reducer T.number r.now word.now }
     requires suits { let m = R.modulus r.now in Suits m (R.value m (T.number g.now)) (length word.now) }
     requires room { length coefficients.old ≡ length word.now }
     requires few { length syndromes.old ≤ length word.now }
     ensures inverse { IsTrue result ↔ HasInverse (R.modulus r.now) (length word.now) }
-    ensures checked { IsTrue result → All (λ f. IsForm R.form R.value (R.modulus r.now) (T.number f)) syndromes.new }
+    ensures checked { IsTrue result → AreChecked R.Reducer T.number r.now syndromes.new }
     ensures sums { let m = R.modulus r.now in IsTrue result → (x v : ℕ → ℕ) →
         ArePowers m (R.value m (T.number g.now)) (length word.now) x →
         HaveUnitDifferences m (length word.now) x → AreWeights m (length word.now) x v →

@@ -1,9 +1,9 @@
 //! The search for the places of wrong symbols.
 
-ghost use Rattle.std.specs.Prelude.{◌≡◌, ◌≢◌, ℕ, ◌+◌, ◌-◌, ◌*◌, ◌%◌, ◌^◌, ◌<◌, ◌≤◌, All, IfSome, MatchOption, length};
+ghost use Rattle.std.specs.Prelude.{◌≡◌, ◌≢◌, ℕ, ◌+◌, ◌-◌, ◌*◌, ◌%◌, ◌^◌, ◌<◌, ◌≤◌, IfSome, MatchOption, length};
 ghost use Rattle.std.specs.Prelude.{slice_index, if◌then◌else◌};
 ghost use Rattle.num_modular.specs.Entries.{entry};
-ghost use Rattle.num_modular.specs.Forms.{IsForm};
+ghost use Rattle.num_modular.specs.Checked.{AreChecked, IsChecked};
 ghost use Rattle.num_modular.specs.Inverses.{HasInverse};
 ghost use Rattle.num_modular.specs.Polynomials.{HaveUnitDifferences, polynomial_at};
 ghost use Rattle.ring_codes.specs.Erasure.{IsWithoutInverse};
@@ -26,11 +26,11 @@ fn fill_values<T: RingWord, R: Reducer<T>>(
     degree: usize,
     values: &mut [T],
 ) -> u128
-    requires points { All (λ f. IsForm R.form R.value (R.modulus r.now) (T.number f)) points.now }
-    requires locator { All (λ f. IsForm R.form R.value (R.modulus r.now) (T.number f)) locator.now }
+    requires points { AreChecked R.Reducer T.number r.now points.now }
+    requires locator { AreChecked R.Reducer T.number r.now locator.now }
     requires degree { degree < length locator.now }
     requires room { length values.old ≡ length points.now }
-    ensures checked { All (λ f. IsForm R.form R.value (R.modulus r.now) (T.number f)) values.new }
+    ensures checked { AreChecked R.Reducer T.number r.now values.new }
     ensures values { let m = R.modulus r.now in AreLocatorValues m degree (length points.now)
         (entry T.number R.value m points.now) (entry T.number R.value m locator.now) (entry T.number R.value m values.new) }
     ensures counted { result ≤ length points.now * (degree + 1) }
@@ -57,13 +57,13 @@ fn fill_values_of<T: RingWord, R: Reducer<T>>(
     degree: usize,
     values: &mut [T],
 ) -> u128
-    requires points { All (λ f. IsForm R.form R.value (R.modulus r.now) (T.number f)) points.now }
-    requires first { All (λ f. IsForm R.form R.value (R.modulus r.now) (T.number f)) first.now }
-    requires second { All (λ f. IsForm R.form R.value (R.modulus r.now) (T.number f)) second.now }
+    requires points { AreChecked R.Reducer T.number r.now points.now }
+    requires first { AreChecked R.Reducer T.number r.now first.now }
+    requires second { AreChecked R.Reducer T.number r.now second.now }
     requires degree_first { degree < length first.now }
     requires degree_second { degree < length second.now }
     requires room { length values.old ≡ length points.now }
-    ensures checked { All (λ f. IsForm R.form R.value (R.modulus r.now) (T.number f)) values.new }
+    ensures checked { AreChecked R.Reducer T.number r.now values.new }
     ensures values { let m = R.modulus r.now in AreLocatorValues m degree (length points.now)
         (entry T.number R.value m points.now)
         (entry T.number R.value m (if in_first then first.now else second.now)) (entry T.number R.value m values.new) }
@@ -88,8 +88,8 @@ pub fn locate<T: RingWord, R: Reducer<T>>(
     values: &mut [T],
     products: &mut u128,
 ) -> Option<T>
-    requires points { All (λ f. IsForm R.form R.value (R.modulus r.now) (T.number f)) points.now }
-    requires syndromes { All (λ f. IsForm R.form R.value (R.modulus r.now) (T.number f)) syndromes.now }
+    requires points { AreChecked R.Reducer T.number r.now points.now }
+    requires syndromes { AreChecked R.Reducer T.number r.now syndromes.now }
     requires fit { let m = R.modulus r.now in
         HaveUnitDifferences m (length points.now) (entry T.number R.value m points.now) }
     requires places { AreLost (length points.now - length syndromes.now) (length points.now) lost.now }
@@ -97,8 +97,8 @@ pub fn locate<T: RingWord, R: Reducer<T>>(
     requires modulus { R.modulus r.now ≢ 1 }
     requires scratch { 2 * length syndromes.now + 3 ≤ length scratch.old }
     requires room { length values.old ≡ length points.now }
-    ensures checked { IfSome result (λ _. All (λ f. IsForm R.form R.value (R.modulus r.now) (T.number f)) values.new) }
-    ensures witness { IfSome result (λ a. IsForm R.form R.value (R.modulus r.now) (T.number a)) }
+    ensures checked { IfSome result (λ _. AreChecked R.Reducer T.number r.now values.new) }
+    ensures witness { IfSome result (λ a. IsChecked R.Reducer T.number r.now a) }
     ensures nonzero { IfSome result (λ a. R.value (R.modulus r.now) (T.number a) ≢ 0) }
     ensures located { let m = R.modulus r.now in let n = length points.now in let t = length syndromes.now in
         let x = entry T.number R.value m points.now in let s = entry T.number R.value m syndromes.now in
@@ -135,8 +135,8 @@ pub fn locate<T: RingWord, R: Reducer<T>>(
 // A number without an inverse, of the witness and the values that aren't 0, or a product of some; `None` where each has one.
 // It takes a product for each value.
 pub fn find_nonunit<T: RingWord, R: Reducer<T>>(r: &R, witness: &T, values: &[T]) -> Option<T>
-    requires witness { IsForm R.form R.value (R.modulus r.now) (T.number witness.now) }
-    requires values { All (λ f. IsForm R.form R.value (R.modulus r.now) (T.number f)) values.now }
+    requires witness { IsChecked R.Reducer T.number r.now witness.now }
+    requires values { AreChecked R.Reducer T.number r.now values.now }
     requires nonzero { R.value (R.modulus r.now) (T.number witness.now) ≢ 0 }
     ensures { let m = R.modulus r.now in MatchOption result
         (HasInverse m (R.value m (T.number witness.now)) × ((i : ℕ) → i < length values.now →
@@ -155,10 +155,10 @@ pub fn find_nonunit<T: RingWord, R: Reducer<T>>(r: &R, witness: &T, values: &[T]
 
 // The product of two numbers, the first of which isn't 0; the first, where the product is 0.
 fn joined<T: RingWord, R: Reducer<T>>(r: &R, witness: &T, value: &T) -> T
-    requires witness { IsForm R.form R.value (R.modulus r.now) (T.number witness.now) }
-    requires value { IsForm R.form R.value (R.modulus r.now) (T.number value.now) }
+    requires witness { IsChecked R.Reducer T.number r.now witness.now }
+    requires value { IsChecked R.Reducer T.number r.now value.now }
     requires nonzero { R.value (R.modulus r.now) (T.number witness.now) ≢ 0 }
-    ensures checked { IsForm R.form R.value (R.modulus r.now) (T.number result) }
+    ensures checked { IsChecked R.Reducer T.number r.now result }
     ensures nonzero { R.value (R.modulus r.now) (T.number result) ≢ 0 }
     ensures units { let m = R.modulus r.now in HasInverse m (R.value m (T.number result)) →
         HasInverse m (R.value m (T.number witness.now))

@@ -1,9 +1,9 @@
 //! Power sums: the syndromes of a word, and the moments of its errors at the places that aren't lost.
 
-ghost use Rattle.std.specs.Prelude.{◌≡◌, ℕ, ◌+◌, ◌-◌, ◌*◌, ◌%◌, ◌<◌, ◌≤◌, ◌↔◌, IsTrue, All, length};
+ghost use Rattle.std.specs.Prelude.{◌≡◌, ℕ, ◌+◌, ◌-◌, ◌*◌, ◌%◌, ◌<◌, ◌≤◌, ◌↔◌, IsTrue, length};
 ghost use Rattle.num_modular.specs.Congruence.{Congruent};
 ghost use Rattle.num_modular.specs.Entries.{entry};
-ghost use Rattle.num_modular.specs.Forms.{IsForm};
+ghost use Rattle.num_modular.specs.Checked.{AreChecked, IsChecked};
 ghost use Rattle.num_modular.specs.Polynomials.{HaveUnitDifferences};
 ghost use Rattle.num_modular.specs.Sums.{sum_below};
 ghost use Rattle.ring_codes.specs.Erasure.{IsErasureCodeword};
@@ -17,13 +17,13 @@ use num_modular::{Reducer, RingWord};
 // The sum of the terms; each term is then multiplied by its point.
 #[tactic(auto, using(num_modular::specs::Callers::form_read))]
 fn next_sum<T: RingWord, R: Reducer<T>>(r: &R, points: &[T], terms: &mut [T]) -> T
-    requires points { All (λ f. IsForm R.form R.value (R.modulus r.now) (T.number f)) points.now }
-    requires terms { All (λ f. IsForm R.form R.value (R.modulus r.now) (T.number f)) terms.old }
+    requires points { AreChecked R.Reducer T.number r.now points.now }
+    requires terms { AreChecked R.Reducer T.number r.now terms.old }
     requires each { length terms.old ≡ length points.now }
-    ensures checked { IsForm R.form R.value (R.modulus r.now) (T.number result) }
+    ensures checked { IsChecked R.Reducer T.number r.now result }
     ensures value { let m = R.modulus r.now in R.value m (T.number result)
         ≡ sum_below (length points.now) (entry T.number R.value m terms.old) % m }
-    ensures terms { All (λ f. IsForm R.form R.value (R.modulus r.now) (T.number f)) terms.new }
+    ensures terms { AreChecked R.Reducer T.number r.now terms.new }
     ensures products { let m = R.modulus r.now in (i : ℕ) → i < length points.now →
         entry T.number R.value m terms.new i
         ≡ (entry T.number R.value m terms.old i * entry T.number R.value m points.now i) % m }
@@ -52,11 +52,11 @@ pub fn fill_power_sums<T: RingWord, R: Reducer<T>>(
     terms: &mut [T],
     sums: &mut [T],
 )
-    requires points { All (λ f. IsForm R.form R.value (R.modulus r.now) (T.number f)) points.now }
-    requires terms { All (λ f. IsForm R.form R.value (R.modulus r.now) (T.number f)) terms.old }
+    requires points { AreChecked R.Reducer T.number r.now points.now }
+    requires terms { AreChecked R.Reducer T.number r.now terms.old }
     requires each { length terms.old ≡ length points.now }
-    ensures checked { All (λ f. IsForm R.form R.value (R.modulus r.now) (T.number f)) sums.new }
-    ensures terms { All (λ f. IsForm R.form R.value (R.modulus r.now) (T.number f)) terms.new }
+    ensures checked { AreChecked R.Reducer T.number r.now sums.new }
+    ensures terms { AreChecked R.Reducer T.number r.now terms.new }
     ensures sums { let m = R.modulus r.now in ArePowerSums m (length sums.old) (length points.now)
         (entry T.number R.value m points.now) (entry T.number R.value m terms.old) (entry T.number R.value m sums.new) }
 {
@@ -81,13 +81,13 @@ pub fn are_power_sums<T: RingWord, R: Reducer<T>>(
     sums: &[T],
     products: &mut u128,
 ) -> bool
-    requires points { All (λ f. IsForm R.form R.value (R.modulus r.now) (T.number f)) points.now }
-    requires terms { All (λ f. IsForm R.form R.value (R.modulus r.now) (T.number f)) terms.old }
-    requires sums { All (λ f. IsForm R.form R.value (R.modulus r.now) (T.number f)) sums.now }
+    requires points { AreChecked R.Reducer T.number r.now points.now }
+    requires terms { AreChecked R.Reducer T.number r.now terms.old }
+    requires sums { AreChecked R.Reducer T.number r.now sums.now }
     requires each { length terms.old ≡ length points.now }
     ensures sums { let m = R.modulus r.now in IsTrue result ↔ ArePowerSums m (length sums.now) (length points.now)
         (entry T.number R.value m points.now) (entry T.number R.value m terms.old) (entry T.number R.value m sums.now) }
-    ensures terms { All (λ f. IsForm R.form R.value (R.modulus r.now) (T.number f)) terms.new }
+    ensures terms { AreChecked R.Reducer T.number r.now terms.new }
     ensures counted { products.new ≤ products.old + length sums.now * length points.now }
     ensures grown { products.old ≤ products.new }
 {
@@ -121,13 +121,13 @@ pub fn fill_syndromes<T: RingWord, R: Reducer<T>>(
     terms: &mut [T],
     syndromes: &mut [T],
 )
-    requires points { All (λ f. IsForm R.form R.value (R.modulus r.now) (T.number f)) points.now }
-    requires weights { All (λ f. IsForm R.form R.value (R.modulus r.now) (T.number f)) weights.now }
-    requires word { All (λ f. IsForm R.form R.value (R.modulus r.now) (T.number f)) word.now }
+    requires points { AreChecked R.Reducer T.number r.now points.now }
+    requires weights { AreChecked R.Reducer T.number r.now weights.now }
+    requires word { AreChecked R.Reducer T.number r.now word.now }
     requires each_weight { length weights.now ≡ length points.now }
     requires each_symbol { length word.now ≡ length points.now }
     requires each_term { length terms.old ≡ length points.now }
-    ensures checked { All (λ f. IsForm R.form R.value (R.modulus r.now) (T.number f)) syndromes.new }
+    ensures checked { AreChecked R.Reducer T.number r.now syndromes.new }
     ensures sums { let m = R.modulus r.now in ArePowerSums m (length syndromes.old) (length points.now)
         (entry T.number R.value m points.now)
         (λ i. entry T.number R.value m weights.now i * entry T.number R.value m word.now i)
@@ -147,10 +147,10 @@ fn multiply_front<T: RingWord, R: Reducer<T>>(
     coefficients: &mut [T],
     count: usize,
 )
-    requires point { IsForm R.form R.value (R.modulus r.now) (T.number point.now) }
-    requires coefficients { All (λ f. IsForm R.form R.value (R.modulus r.now) (T.number f)) coefficients.old }
+    requires point { IsChecked R.Reducer T.number r.now point.now }
+    requires coefficients { AreChecked R.Reducer T.number r.now coefficients.old }
     requires within { count ≤ length coefficients.old }
-    ensures checked { All (λ f. IsForm R.form R.value (R.modulus r.now) (T.number f)) coefficients.new }
+    ensures checked { AreChecked R.Reducer T.number r.now coefficients.new }
     ensures product { let m = R.modulus r.now in (i : ℕ) → i < count →
         Congruent m (entry T.number R.value m coefficients.new i
         + R.value m (T.number point.now) * entry T.number R.value m coefficients.old i)
@@ -177,9 +177,9 @@ fn multiply_front<T: RingWord, R: Reducer<T>>(
 /// - the points are checked forms
 #[tactic(auto, using(num_modular::specs::Callers::hold_more, ring_codes::proofs::Counts::zero_mod))]
 pub fn expand_roots<T: RingWord, R: Reducer<T>>(r: &R, points: &[T], coefficients: &mut [T])
-    requires points { All (λ f. IsForm R.form R.value (R.modulus r.now) (T.number f)) points.now }
+    requires points { AreChecked R.Reducer T.number r.now points.now }
     requires room { length coefficients.old ≡ length points.now + 1 }
-    ensures checked { All (λ f. IsForm R.form R.value (R.modulus r.now) (T.number f)) coefficients.new }
+    ensures checked { AreChecked R.Reducer T.number r.now coefficients.new }
     ensures roots { let m = R.modulus r.now in HasRoots m (length points.now) (entry T.number R.value m points.now)
         (entry T.number R.value m coefficients.new) }
 {
@@ -200,10 +200,10 @@ pub fn sum_from<T: RingWord, R: Reducer<T>>(
     numbers: &[T],
     start: usize,
 ) -> T
-    requires coefficients { All (λ f. IsForm R.form R.value (R.modulus r.now) (T.number f)) coefficients.now }
-    requires numbers { All (λ f. IsForm R.form R.value (R.modulus r.now) (T.number f)) numbers.now }
+    requires coefficients { AreChecked R.Reducer T.number r.now coefficients.now }
+    requires numbers { AreChecked R.Reducer T.number r.now numbers.now }
     requires within { start + length coefficients.now ≤ length numbers.now }
-    ensures checked { IsForm R.form R.value (R.modulus r.now) (T.number result) }
+    ensures checked { IsChecked R.Reducer T.number r.now result }
     ensures value { let m = R.modulus r.now in R.value m (T.number result)
         ≡ sum_below (length coefficients.now) (λ l. entry T.number R.value m coefficients.now l
         * entry T.number R.value m numbers.now (start + l)) % m }
@@ -231,11 +231,11 @@ pub fn fill_moments<T: RingWord, R: Reducer<T>>(
     product: &mut [T],
     moments: &mut [T],
 )
-    requires lost { All (λ f. IsForm R.form R.value (R.modulus r.now) (T.number f)) lost.now }
-    requires syndromes { All (λ f. IsForm R.form R.value (R.modulus r.now) (T.number f)) syndromes.now }
+    requires lost { AreChecked R.Reducer T.number r.now lost.now }
+    requires syndromes { AreChecked R.Reducer T.number r.now syndromes.now }
     requires room { length product.old ≡ length lost.now + 1 }
     requires count { length syndromes.now ≡ length moments.old + length lost.now }
-    ensures checked { All (λ f. IsForm R.form R.value (R.modulus r.now) (T.number f)) moments.new }
+    ensures checked { AreChecked R.Reducer T.number r.now moments.new }
     ensures moments { let m = R.modulus r.now in (n : ℕ) (x w : ℕ → ℕ) →
         ArePowerSums m (length syndromes.now) n x w (entry T.number R.value m syndromes.now) →
         ArePowerSums m (length moments.old) n x

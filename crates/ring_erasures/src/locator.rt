@@ -1,9 +1,9 @@
 //! The polynomial whose roots are the points at the lost places, and derivatives.
 
-ghost use Rattle.std.specs.Prelude.{◌≡◌, ℕ, ◌+◌, ◌*◌, ◌%◌, ◌<◌, ◌≤◌, All, length};
+ghost use Rattle.std.specs.Prelude.{◌≡◌, ℕ, ◌+◌, ◌*◌, ◌%◌, ◌<◌, ◌≤◌, length};
 ghost use Rattle.num_modular.specs.Congruence.{Congruent};
 ghost use Rattle.num_modular.specs.Entries.{entry};
-ghost use Rattle.num_modular.specs.Forms.{IsForm};
+ghost use Rattle.num_modular.specs.Checked.{AreChecked, IsChecked};
 ghost use Rattle.ring_codes.specs.Shifts.{shifted};
 ghost use Rattle.ring_erasures.specs.Erasures.{IsLocator};
 
@@ -17,10 +17,10 @@ fn multiply_by_root<T: RingWord, R: Reducer<T>>(
     coefficients: &mut [T],
     count: usize,
 )
-    requires point { IsForm R.form R.value (R.modulus r.now) (T.number point.now) }
-    requires coefficients { All (λ f. IsForm R.form R.value (R.modulus r.now) (T.number f)) coefficients.old }
+    requires point { IsChecked R.Reducer T.number r.now point.now }
+    requires coefficients { AreChecked R.Reducer T.number r.now coefficients.old }
     requires within { count ≤ length coefficients.old }
-    ensures checked { All (λ f. IsForm R.form R.value (R.modulus r.now) (T.number f)) coefficients.new }
+    ensures checked { AreChecked R.Reducer T.number r.now coefficients.new }
     ensures product { let m = R.modulus r.now in (i : ℕ) → i < count →
         Congruent m (entry T.number R.value m coefficients.new i
         + R.value m (T.number point.now) * entry T.number R.value m coefficients.old i)
@@ -40,9 +40,9 @@ fn multiply_by_root<T: RingWord, R: Reducer<T>>(
 // Writes the coefficients, the constant first, of the product of X - x for the points x, followed by zeros.
 #[tactic(auto, using(num_modular::specs::Callers::hold_more, ring_codes::proofs::Counts::zero_mod))]
 pub fn expand_locator<T: RingWord, R: Reducer<T>>(r: &R, points: &[T], coefficients: &mut [T])
-    requires points { All (λ f. IsForm R.form R.value (R.modulus r.now) (T.number f)) points.now }
+    requires points { AreChecked R.Reducer T.number r.now points.now }
     requires room { length points.now < length coefficients.old }
-    ensures checked { All (λ f. IsForm R.form R.value (R.modulus r.now) (T.number f)) coefficients.new }
+    ensures checked { AreChecked R.Reducer T.number r.now coefficients.new }
     ensures roots { let m = R.modulus r.now in IsLocator m (length coefficients.old) (length points.now)
         (entry T.number R.value m points.now) (entry T.number R.value m coefficients.new) }
 {
@@ -59,9 +59,9 @@ pub fn expand_locator<T: RingWord, R: Reducer<T>>(r: &R, points: &[T], coefficie
 // Writes the coefficients of the derivative, one less; the last place is left as it is.
 #[tactic(auto, using(num_modular::specs::Callers::form_read))]
 pub fn differentiate<T: RingWord, R: Reducer<T>>(r: &R, coefficients: &mut [T])
-    requires coefficients { All (λ f. IsForm R.form R.value (R.modulus r.now) (T.number f)) coefficients.old }
+    requires coefficients { AreChecked R.Reducer T.number r.now coefficients.old }
     requires some { 0 < length coefficients.old }
-    ensures checked { All (λ f. IsForm R.form R.value (R.modulus r.now) (T.number f)) coefficients.new }
+    ensures checked { AreChecked R.Reducer T.number r.now coefficients.new }
     ensures derivative { let m = R.modulus r.now in (i : ℕ) → i + 1 < length coefficients.old →
         entry T.number R.value m coefficients.new i
         ≡ ((i + 1) * entry T.number R.value m coefficients.old (i + 1)) % m }

@@ -1,8 +1,8 @@
 //! Words with lost symbols, restored by transforms: in the Cargo crate in `ring_codes::erasure`.
 
-ghost use Rattle.std.specs.Prelude.{◌≡◌, ℕ, ◌+◌, ◌*◌, ◌%◌, ◌<◌, ◌≤◌, ◌↔◌, IsTrue, All, MatchResult, length};
+ghost use Rattle.std.specs.Prelude.{◌≡◌, ℕ, ◌+◌, ◌*◌, ◌%◌, ◌<◌, ◌≤◌, ◌↔◌, IsTrue, MatchResult, length};
 ghost use Rattle.num_modular.specs.Entries.{entry};
-ghost use Rattle.num_modular.specs.Forms.{IsForm};
+ghost use Rattle.num_modular.specs.Checked.{AreChecked, IsChecked};
 ghost use Rattle.num_modular.specs.Transforms.{Suits};
 ghost use Rattle.ring_codes.specs.Erasure.{IsErasureCodeword};
 ghost use Rattle.ring_codes.specs.Powers.{ArePowers};
@@ -46,8 +46,8 @@ pub struct ErasurePattern<'a, T: RingWord, R: Reducer<T>> {
     k: usize,
     lost: &'a [usize],
     factors: &'a [T],
-    pub ghost root_form: { IsForm R.form R.value (R.modulus ring.now) (T.number root) },
-    pub ghost factor_forms: { All (λ f. IsForm R.form R.value (R.modulus ring.now) (T.number f)) factors.now },
+    pub ghost root_form: { IsChecked R.Reducer T.number ring.now root },
+    pub ghost factor_forms: { AreChecked R.Reducer T.number ring.now factors.now },
     pub ghost some: { 1 ≤ k },
     pub ghost odd: { R.modulus ring.now % 2 ≡ 1 },
     pub ghost suits: { let m = R.modulus ring.now in ∥ Suits m (R.value m (T.number root)) (length factors.now) ∥₁ },
@@ -98,7 +98,7 @@ impl<'a, T: RingWord, R: Reducer<T>> ErasurePattern<'a, T, R> {
         factors: &'a mut [T],
         scratch: &mut [T],
     ) -> Result<Self, RestoreError>
-        requires root { IsForm R.form R.value (R.modulus ring.now) (T.number root.now) }
+        requires root { IsChecked R.Reducer T.number ring.now root.now }
         requires some { 1 ≤ k }
         requires scratch { 3 * length factors.old ≤ length scratch.old }
         ensures { let m = R.modulus ring.now in MatchResult result
@@ -166,10 +166,10 @@ impl<'a, T: RingWord, R: Reducer<T>> ErasurePattern<'a, T, R> {
     // rust: #[must_use]
     // rust: #[track_caller]
     pub fn restore(&self, word: &mut [T], scratch: &mut [T]) -> bool
-        requires word { All (λ f. IsForm R.form R.value (R.modulus self.now.ring.now) (T.number f)) word.old }
+        requires word { AreChecked R.Reducer T.number self.now.ring.now word.old }
         requires room { length word.old ≡ length self.now.factors.now }
         requires scratch { 3 * length self.now.factors.now ≤ length scratch.old }
-        ensures checked { All (λ f. IsForm R.form R.value (R.modulus self.now.ring.now) (T.number f)) word.new }
+        ensures checked { AreChecked R.Reducer T.number self.now.ring.now word.new }
         ensures restorable { let m = R.modulus self.now.ring.now in let n = length self.now.factors.now in
             (points : ℕ → ℕ) → ArePowers m (R.value m (T.number self.now.root)) n points →
             (IsTrue result ↔ IsRestorable m self.now.k n points self.now.lost.now (entry T.number R.value m word.old)) }
@@ -212,12 +212,12 @@ fn fill_factors<T: RingWord, R: Reducer<T>>(
     factors: &mut [T],
     scratch: &mut [T],
 )
-    requires root { IsForm R.form R.value (R.modulus r.now) (T.number g.now) }
+    requires root { IsChecked R.Reducer T.number r.now g.now }
     requires odd { R.modulus r.now % 2 ≡ 1 }
     requires suits { let m = R.modulus r.now in Suits m (R.value m (T.number g.now)) (length factors.old) }
     requires erased { AreErased 1 (length factors.old) lost.now }
     requires scratch { 3 * length factors.old ≤ length scratch.old }
-    ensures checked { All (λ f. IsForm R.form R.value (R.modulus r.now) (T.number f)) factors.new }
+    ensures checked { AreChecked R.Reducer T.number r.now factors.new }
     ensures factors { let m = R.modulus r.now in (points : ℕ → ℕ) →
         ArePowers m (R.value m (T.number g.now)) (length factors.old) points →
         AreFactors m (length factors.old) points lost.now (entry T.number R.value m factors.new) }

@@ -1,8 +1,8 @@
 //! Places of lost symbols.
 
-ghost use Rattle.std.specs.Prelude.{◌≡◌, ℕ, ◌+◌, ◌*◌, ◌%◌, ◌<◌, ◌≤◌, All, MatchResult, length, slice_index};
+ghost use Rattle.std.specs.Prelude.{◌≡◌, ℕ, ◌+◌, ◌*◌, ◌%◌, ◌<◌, ◌≤◌, MatchResult, length, slice_index};
 ghost use Rattle.num_modular.specs.Entries.{entry};
-ghost use Rattle.num_modular.specs.Forms.{IsForm};
+ghost use Rattle.num_modular.specs.Checked.{AreChecked};
 ghost use Rattle.ring_codes.specs.Erasure.{ArePlaces};
 ghost use Rattle.ring_erasures.specs.Erasures.{IsKept, AreErased, AreKeptProducts, IsErasureFault};
 
@@ -39,10 +39,10 @@ pub fn check_places<T: RingWord>(
 
 // Copies the numbers at the lost places.
 pub fn gather<T: RingWord, R: Reducer<T>>(_r: &R, lost: &[usize], list: &[T], numbers: &mut [T])
-    requires list { All (λ f. IsForm R.form R.value (R.modulus _r.now) (T.number f)) list.now }
+    requires list { AreChecked R.Reducer T.number _r.now list.now }
     requires within { (l : ℕ) → l < length lost.now → slice_index lost.now l < length list.now }
     requires room { length numbers.old ≡ length lost.now }
-    ensures checked { All (λ f. IsForm R.form R.value (R.modulus _r.now) (T.number f)) numbers.new }
+    ensures checked { AreChecked R.Reducer T.number _r.now numbers.new }
     ensures same { let m = R.modulus _r.now in (l : ℕ) → l < length lost.now →
         entry T.number R.value m numbers.new l ≡ entry T.number R.value m list.now (slice_index lost.now l) }
 {
@@ -53,11 +53,11 @@ pub fn gather<T: RingWord, R: Reducer<T>>(_r: &R, lost: &[usize], list: &[T], nu
 
 // Writes the numbers to the lost places.
 pub fn scatter<T: RingWord, R: Reducer<T>>(_r: &R, lost: &[usize], numbers: &[T], list: &mut [T])
-    requires numbers { All (λ f. IsForm R.form R.value (R.modulus _r.now) (T.number f)) numbers.now }
-    requires list { All (λ f. IsForm R.form R.value (R.modulus _r.now) (T.number f)) list.old }
+    requires numbers { AreChecked R.Reducer T.number _r.now numbers.now }
+    requires list { AreChecked R.Reducer T.number _r.now list.old }
     requires each { length numbers.now ≡ length lost.now }
     requires places { ArePlaces (length lost.now) (length list.old) lost.now }
-    ensures checked { All (λ f. IsForm R.form R.value (R.modulus _r.now) (T.number f)) list.new }
+    ensures checked { AreChecked R.Reducer T.number _r.now list.new }
     ensures there { let m = R.modulus _r.now in (l : ℕ) → l < length lost.now →
         entry T.number R.value m list.new (slice_index lost.now l) ≡ entry T.number R.value m numbers.now l }
     ensures kept { let m = R.modulus _r.now in (i : ℕ) → IsKept lost.now i →
@@ -76,13 +76,13 @@ pub fn write_products<T: RingWord, R: Reducer<T>>(
     factors: &[T],
     word: &mut [T],
 )
-    requires values { All (λ f. IsForm R.form R.value (R.modulus r.now) (T.number f)) values.now }
-    requires factors { All (λ f. IsForm R.form R.value (R.modulus r.now) (T.number f)) factors.now }
-    requires word { All (λ f. IsForm R.form R.value (R.modulus r.now) (T.number f)) word.old }
+    requires values { AreChecked R.Reducer T.number r.now values.now }
+    requires factors { AreChecked R.Reducer T.number r.now factors.now }
+    requires word { AreChecked R.Reducer T.number r.now word.old }
     requires each_value { length values.now ≡ length word.old }
     requires each_factor { length factors.now ≡ length word.old }
     requires places { ArePlaces (length lost.now) (length word.old) lost.now }
-    ensures checked { All (λ f. IsForm R.form R.value (R.modulus r.now) (T.number f)) word.new }
+    ensures checked { AreChecked R.Reducer T.number r.now word.new }
     ensures there { let m = R.modulus r.now in (l : ℕ) → l < length lost.now →
         entry T.number R.value m word.new (slice_index lost.now l)
         ≡ (entry T.number R.value m values.now (slice_index lost.now l)
@@ -104,12 +104,12 @@ pub fn multiply_kept<T: RingWord, R: Reducer<T>>(
     factors: &[T],
     products: &mut [T],
 )
-    requires word { All (λ f. IsForm R.form R.value (R.modulus r.now) (T.number f)) word.now }
-    requires factors { All (λ f. IsForm R.form R.value (R.modulus r.now) (T.number f)) factors.now }
+    requires word { AreChecked R.Reducer T.number r.now word.now }
+    requires factors { AreChecked R.Reducer T.number r.now factors.now }
     requires each_symbol { length word.now ≡ length products.old }
     requires each_factor { length factors.now ≡ length products.old }
     requires places { ArePlaces (length lost.now) (length products.old) lost.now }
-    ensures checked { All (λ f. IsForm R.form R.value (R.modulus r.now) (T.number f)) products.new }
+    ensures checked { AreChecked R.Reducer T.number r.now products.new }
     ensures products { let m = R.modulus r.now in AreKeptProducts m (length products.old) lost.now
         (entry T.number R.value m word.now) (entry T.number R.value m factors.now)
         (entry T.number R.value m products.new) }

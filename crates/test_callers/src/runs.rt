@@ -1,7 +1,7 @@
 //! Callers of `run`, proved from its contract alone.
 
 ghost use Rattle.std.specs.Prelude.{◌≡◌, ℕ, ◌%◌, ◌↔◌, All, length, map, IsSome, IfSome, IfNone};
-ghost use Rattle.modular_reduced.specs.Forms.{IsForm};
+ghost use Rattle.modular_reduced.specs.Checked.{AreChecked};
 ghost use Rattle.modular_ring.specs.Ring.{whole, value_at, IsStop, carried_out, IsFit, values_of, HoldValues};
 
 use modular_reduced::reducer::Reducer;
@@ -16,7 +16,7 @@ pub fn checked_run<T: RingWord, R: Reducer<T>>(
     commands: &[RingCommand<T>],
 ) -> Option<RunEnd>
     ensures runs { IsSome result ↔
-        ((All (λ f. IsForm R.form R.value (R.modulus r.now) (T.number f)) regs.old)
+        ((AreChecked R.Reducer T.number r.now regs.old)
         × All (IsFit (length regs.old)) commands.now) }
     ensures refuses { IfNone result (regs.new ≡ regs.old) }
     ensures stops { let m = R.modulus r.now in

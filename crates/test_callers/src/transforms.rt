@@ -1,7 +1,6 @@
 //! Callers of `ntt`.
 
-ghost use Rattle.std.specs.Prelude.{All};
-ghost use Rattle.modular_reduced.specs.Forms.{IsForm};
+ghost use Rattle.modular_reduced.specs.Checked.{AreChecked, IsChecked};
 
 use modular_reduced::reducer::Reducer;
 use modular_transform::transform::{ntt, root_fits};
@@ -13,9 +12,9 @@ use modular_word::ring_word::RingWord;
 ///
 /// - g and the entries are checked forms
 pub fn transform_where_it_suits<T: RingWord, R: Reducer<T>>(r: &R, xs: &mut [T], g: &T)
-    requires root { IsForm R.form R.value (R.modulus r.now) (T.number g.now) }
-    requires forms { All (λ f. IsForm R.form R.value (R.modulus r.now) (T.number f)) xs.old }
-    ensures { All (λ f. IsForm R.form R.value (R.modulus r.now) (T.number f)) xs.new }
+    requires root { IsChecked R.Reducer T.number r.now g.now }
+    requires forms { AreChecked R.Reducer T.number r.now xs.old }
+    ensures { AreChecked R.Reducer T.number r.now xs.new }
 {
     if root_fits(r, g, xs.len()) {
         ntt(r, xs, g);

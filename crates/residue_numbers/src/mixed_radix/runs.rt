@@ -1,7 +1,7 @@
 //! Lists of ring commands on numbers of any size, run modulo each modulus over any reducer.
 
 ghost use Rattle.std.specs.Prelude.{◌≡◌, ◌≢◌, ℕ, ◌+◌, ◌*◌, ◌%◌, ◌<◌, ◌≤◌, ◌↔◌, IsTrue, All, List, map, length, slice_index};
-ghost use Rattle.num_modular.specs.Forms.{IsForm};
+ghost use Rattle.num_modular.specs.Checked.{AreChecked};
 ghost use Rattle.num_modular.specs.Ring.{whole, value_at, IsStop, IsFit, carried_out, values_of};
 ghost use Rattle.num_modular.specs.Systems.{range_of, AreResidues};
 ghost use Rattle.residue_numbers.specs.Registers.{register, StartWith, IsColumnRun, IsRun};
@@ -22,7 +22,7 @@ fn load_column<R: Reducer<u64>>(
 )
     requires within { place < count }
     requires words { length words.now ≡ length forms.old * count }
-    ensures checked { All (λ f. IsForm R.form R.value (R.modulus reducer.now) f) forms.new }
+    ensures checked { AreChecked R.Reducer (λ x. x) reducer.now forms.new }
     ensures values { let m = R.modulus reducer.now in (r : ℕ) → r < length forms.old →
         slice_index (values_of (λ f. f) R.value m forms.new) r ≡ slice_index words.now (r * count + place) % m }
 {
@@ -39,7 +39,7 @@ fn unload_column<R: Reducer<u64>>(
     forms: &[u64],
     words: &mut [u64],
 )
-    requires checked { All (λ f. IsForm R.form R.value (R.modulus reducer.now) f) forms.now }
+    requires checked { AreChecked R.Reducer (λ x. x) reducer.now forms.now }
     requires within { place < count }
     requires words { length words.old ≡ length forms.now * count }
     ensures written { let m = R.modulus reducer.now in (r : ℕ) → r < length forms.now →

@@ -1,9 +1,9 @@
 //! Newton's form of the polynomial through given points, and its coefficients.
 
-ghost use Rattle.std.specs.Prelude.{◌≡◌, ℕ, ◌+◌, ◌*◌, ◌%◌, ◌<◌, ◌≤◌, All, length};
+ghost use Rattle.std.specs.Prelude.{◌≡◌, ℕ, ◌+◌, ◌*◌, ◌%◌, ◌<◌, ◌≤◌, length};
 ghost use Rattle.num_modular.specs.Congruence.{Congruent};
 ghost use Rattle.num_modular.specs.Entries.{entry};
-ghost use Rattle.num_modular.specs.Forms.{IsForm};
+ghost use Rattle.num_modular.specs.Checked.{AreChecked, IsChecked};
 ghost use Rattle.num_modular.specs.Inverses.{IsInverse};
 ghost use Rattle.num_modular.specs.Polynomials.{polynomial_at};
 ghost use Rattle.num_modular.specs.Products.{product_below};
@@ -20,9 +20,9 @@ use num_modular::{Reducer, RingWord};
 /// - there is a point at the place
 #[tactic(auto, using(num_modular::specs::Callers::product_none, num_modular::specs::Callers::form_read, num_modular::specs::Callers::entry, num_modular::specs::Callers::product_below))]
 pub fn differences_before<T: RingWord, R: Reducer<T>>(r: &R, points: &[T], place: usize) -> T
-    requires checked { All (λ f. IsForm R.form R.value (R.modulus r.now) (T.number f)) points.now }
+    requires checked { AreChecked R.Reducer T.number r.now points.now }
     requires within { place < length points.now }
-    ensures checked { IsForm R.form R.value (R.modulus r.now) (T.number result) }
+    ensures checked { IsChecked R.Reducer T.number r.now result }
     ensures value { let m = R.modulus r.now in R.value m (T.number result)
         ≡ product_below place (difference m (entry T.number R.value m points.now) place) % m }
 {
@@ -44,13 +44,13 @@ fn multiply_by_differences<T: RingWord, R: Reducer<T>>(
     end: usize,
     products: &mut [T],
 )
-    requires points { All (λ f. IsForm R.form R.value (R.modulus r.now) (T.number f)) points.now }
-    requires products { All (λ f. IsForm R.form R.value (R.modulus r.now) (T.number f)) products.old }
+    requires points { AreChecked R.Reducer T.number r.now points.now }
+    requires products { AreChecked R.Reducer T.number r.now products.old }
     requires inside { place < length points.now }
     requires ordered { start ≤ end }
     requires points_within { end ≤ length points.now }
     requires products_within { end ≤ length products.old }
-    ensures checked { All (λ f. IsForm R.form R.value (R.modulus r.now) (T.number f)) products.new }
+    ensures checked { AreChecked R.Reducer T.number r.now products.new }
     ensures multiplied { let m = R.modulus r.now in (i : ℕ) → start ≤ i → i < end →
         entry T.number R.value m products.new i
         ≡ (entry T.number R.value m products.old i * difference m (entry T.number R.value m points.now) i place) % m }
@@ -75,9 +75,9 @@ fn multiply_by_differences<T: RingWord, R: Reducer<T>>(
 /// - the points are checked forms
 /// - there are as many points as weights or more
 pub fn fill_weights<T: RingWord, R: Reducer<T>>(r: &R, points: &[T], weights: &mut [T])
-    requires checked { All (λ f. IsForm R.form R.value (R.modulus r.now) (T.number f)) points.now }
+    requires checked { AreChecked R.Reducer T.number r.now points.now }
     requires within { length weights.old ≤ length points.now }
-    ensures checked { All (λ f. IsForm R.form R.value (R.modulus r.now) (T.number f)) weights.new }
+    ensures checked { AreChecked R.Reducer T.number r.now weights.new }
     ensures values { let m = R.modulus r.now in (i : ℕ) → i < length weights.old →
         entry T.number R.value m weights.new i
         ≡ product_below i (difference m (entry T.number R.value m points.now) i) % m }
@@ -113,9 +113,9 @@ pub fn fill_weights<T: RingWord, R: Reducer<T>>(r: &R, points: &[T], weights: &m
 /// ```
 // rust: #[track_caller]
 pub fn fill_differences<T: RingWord, R: Reducer<T>>(r: &R, points: &[T], products: &mut [T])
-    requires points { All (λ f. IsForm R.form R.value (R.modulus r.now) (T.number f)) points.now }
+    requires points { AreChecked R.Reducer T.number r.now points.now }
     requires room { length products.old ≡ length points.now }
-    ensures checked { All (λ f. IsForm R.form R.value (R.modulus r.now) (T.number f)) products.new }
+    ensures checked { AreChecked R.Reducer T.number r.now products.new }
     ensures products { let m = R.modulus r.now in let x = entry T.number R.value m points.now in
         (i : ℕ) → i < length points.now →
         entry T.number R.value m products.new i ≡ product_but m (length points.now) x i (x i) % m }
@@ -132,10 +132,10 @@ pub fn fill_differences<T: RingWord, R: Reducer<T>>(r: &R, points: &[T], product
 // A step towards the value of Newton's form: a coefficient, plus the value so far times the difference from its point.
 #[tactic(auto, using(num_modular::specs::Callers::form_read))]
 fn newton_step<T: RingWord, R: Reducer<T>>(r: &R, coefficient: &T, difference: &T, value: &T) -> T
-    requires coefficient { IsForm R.form R.value (R.modulus r.now) (T.number coefficient.now) }
-    requires difference { IsForm R.form R.value (R.modulus r.now) (T.number difference.now) }
-    requires value { IsForm R.form R.value (R.modulus r.now) (T.number value.now) }
-    ensures checked { IsForm R.form R.value (R.modulus r.now) (T.number result) }
+    requires coefficient { IsChecked R.Reducer T.number r.now coefficient.now }
+    requires difference { IsChecked R.Reducer T.number r.now difference.now }
+    requires value { IsChecked R.Reducer T.number r.now value.now }
+    ensures checked { IsChecked R.Reducer T.number r.now result }
     ensures value { let m = R.modulus r.now in R.value m (T.number result)
         ≡ (R.value m (T.number coefficient.now)
         + R.value m (T.number difference.now) * R.value m (T.number value.now)) % m }
@@ -161,12 +161,12 @@ pub fn newton_value<T: RingWord, R: Reducer<T>>(
     count: usize,
     point: &T,
 ) -> T
-    requires points { All (λ f. IsForm R.form R.value (R.modulus r.now) (T.number f)) points.now }
-    requires form { All (λ f. IsForm R.form R.value (R.modulus r.now) (T.number f)) form.now }
-    requires point { IsForm R.form R.value (R.modulus r.now) (T.number point.now) }
+    requires points { AreChecked R.Reducer T.number r.now points.now }
+    requires form { AreChecked R.Reducer T.number r.now form.now }
+    requires point { IsChecked R.Reducer T.number r.now point.now }
     requires points_within { count ≤ length points.now }
     requires form_within { count ≤ length form.now }
-    ensures checked { IsForm R.form R.value (R.modulus r.now) (T.number result) }
+    ensures checked { IsChecked R.Reducer T.number r.now result }
     ensures value { let m = R.modulus r.now in R.value m (T.number result)
         ≡ newton_form m count (entry T.number R.value m form.now) (entry T.number R.value m points.now)
         (R.value m (T.number point.now)) % m }
@@ -201,15 +201,15 @@ pub fn divide_differences<T: RingWord, R: Reducer<T>>(
     inverses: &[T],
     values: &mut [T],
 )
-    requires points { All (λ f. IsForm R.form R.value (R.modulus r.now) (T.number f)) points.now }
-    requires inverses { All (λ f. IsForm R.form R.value (R.modulus r.now) (T.number f)) inverses.now }
-    requires values { All (λ f. IsForm R.form R.value (R.modulus r.now) (T.number f)) values.old }
+    requires points { AreChecked R.Reducer T.number r.now points.now }
+    requires inverses { AreChecked R.Reducer T.number r.now inverses.now }
+    requires values { AreChecked R.Reducer T.number r.now values.old }
     requires points_within { length values.old ≤ length points.now }
     requires inverses_within { length values.old ≤ length inverses.now }
     requires inverse { let m = R.modulus r.now in (i : ℕ) → i < length values.old →
         IsInverse m (product_below i (difference m (entry T.number R.value m points.now) i))
         (entry T.number R.value m inverses.now i) }
-    ensures checked { All (λ f. IsForm R.form R.value (R.modulus r.now) (T.number f)) values.new }
+    ensures checked { AreChecked R.Reducer T.number r.now values.new }
     ensures values { let m = R.modulus r.now in let x = entry T.number R.value m points.now in
         (i : ℕ) → i < length values.old →
         newton_form m (length values.old) (entry T.number R.value m values.new) x (x i) % m
@@ -234,10 +234,10 @@ pub fn subtract_multiples<T: RingWord, R: Reducer<T>>(
     values: &mut [T],
     from: usize,
 )
-    requires point { IsForm R.form R.value (R.modulus r.now) (T.number point.now) }
-    requires values { All (λ f. IsForm R.form R.value (R.modulus r.now) (T.number f)) values.old }
+    requires point { IsChecked R.Reducer T.number r.now point.now }
+    requires values { AreChecked R.Reducer T.number r.now values.old }
     requires within { from < length values.old }
-    ensures checked { All (λ f. IsForm R.form R.value (R.modulus r.now) (T.number f)) values.new }
+    ensures checked { AreChecked R.Reducer T.number r.now values.new }
     ensures done { let m = R.modulus r.now in (i : ℕ) → from ≤ i → i + 1 < length values.old →
         Congruent m (entry T.number R.value m values.new i
         + R.value m (T.number point.now) * entry T.number R.value m values.old (i + 1))
@@ -261,10 +261,10 @@ pub fn subtract_multiples<T: RingWord, R: Reducer<T>>(
 /// - there are as many points as coefficients or more
 #[tactic(auto, using(num_modular::specs::Callers::form_read, crate::proofs::Symbols::back_within))]
 pub fn expand<T: RingWord, R: Reducer<T>>(r: &R, points: &[T], form: &mut [T])
-    requires points { All (λ f. IsForm R.form R.value (R.modulus r.now) (T.number f)) points.now }
-    requires form { All (λ f. IsForm R.form R.value (R.modulus r.now) (T.number f)) form.old }
+    requires points { AreChecked R.Reducer T.number r.now points.now }
+    requires form { AreChecked R.Reducer T.number r.now form.old }
     requires within { length form.old ≤ length points.now }
-    ensures checked { All (λ f. IsForm R.form R.value (R.modulus r.now) (T.number f)) form.new }
+    ensures checked { AreChecked R.Reducer T.number r.now form.new }
     ensures same { let m = R.modulus r.now in (a : ℕ) →
         Congruent m (polynomial_at (length form.old) (entry T.number R.value m form.new) a)
         (newton_form m (length form.old) (entry T.number R.value m form.old)

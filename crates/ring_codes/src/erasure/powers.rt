@@ -2,7 +2,7 @@
 
 ghost use Rattle.std.specs.Prelude.{◌≡◌, ℕ, ◌*◌, ◌%◌, ◌^◌, ◌<◌, ◌≤◌, ◌↔◌, IsTrue, All, length};
 ghost use Rattle.num_modular.specs.Entries.{entry};
-ghost use Rattle.num_modular.specs.Forms.{IsForm};
+ghost use Rattle.num_modular.specs.Checked.{AreChecked, IsChecked};
 ghost use Rattle.num_modular.specs.Plans.{numbers};
 ghost use Rattle.num_modular.specs.Polynomials.{HaveUnitDifferences};
 ghost use Rattle.num_modular.specs.Transforms.{Suits, transform};
@@ -38,8 +38,8 @@ use num_modular::{Reducer, RingWord};
 /// ```
 // rust: #[cfg_attr(debug_assertions, track_caller)]
 pub fn fill_powers<T: RingWord, R: Reducer<T>>(r: &R, g: &T, points: &mut [T])
-    requires { IsForm R.form R.value (R.modulus r.now) (T.number g.now) }
-    ensures checked { All (λ f. IsForm R.form R.value (R.modulus r.now) (T.number f)) points.new }
+    requires { IsChecked R.Reducer T.number r.now g.now }
+    ensures checked { AreChecked R.Reducer T.number r.now points.new }
     ensures powers { let m = R.modulus r.now in
         ArePowers m (R.value m (T.number g.now)) (length points.old) (entry T.number R.value m points.new) }
 {
@@ -77,11 +77,11 @@ pub fn fill_powers<T: RingWord, R: Reducer<T>>(r: &R, g: &T, points: &mut [T])
 /// ```
 // rust: #[track_caller]
 pub fn encode_by_transform<T: RingWord, R: Reducer<T>>(r: &R, g: &T, message: &[T], word: &mut [T])
-    requires root { IsForm R.form R.value (R.modulus r.now) (T.number g.now) }
-    requires message { All (λ f. IsForm R.form R.value (R.modulus r.now) (T.number f)) message.now }
+    requires root { IsChecked R.Reducer T.number r.now g.now }
+    requires message { AreChecked R.Reducer T.number r.now message.now }
     requires suits { let m = R.modulus r.now in Suits m (R.value m (T.number g.now)) (length word.old) }
     requires few { length message.now ≤ length word.old }
-    ensures checked { All (λ f. IsForm R.form R.value (R.modulus r.now) (T.number f)) word.new }
+    ensures checked { AreChecked R.Reducer T.number r.now word.new }
     ensures encoding { let m = R.modulus r.now in (points : ℕ → ℕ) →
         ArePowers m (R.value m (T.number g.now)) (length word.old) points →
         IsEncoding m (length message.now) (length word.old) points
@@ -101,7 +101,7 @@ pub fn encode_by_transform<T: RingWord, R: Reducer<T>>(r: &R, g: &T, message: &[
 
 // Whether all entries are 0.
 fn are_zeros<T: RingWord, R: Reducer<T>>(r: &R, entries: &[T]) -> bool
-    requires { All (λ f. IsForm R.form R.value (R.modulus r.now) (T.number f)) entries.now }
+    requires { AreChecked R.Reducer T.number r.now entries.now }
     ensures { let m = R.modulus r.now in IsTrue result ↔
         ((i : ℕ) → i < length entries.now → entry T.number R.value m entries.now i ≡ 0) }
 {
@@ -153,8 +153,8 @@ pub fn is_codeword_by_transform<T: RingWord, R: Reducer<T>>(
     scratch: &mut [T],
     message: &mut [T],
 ) -> bool
-    requires root { IsForm R.form R.value (R.modulus r.now) (T.number g.now) }
-    requires word { All (λ f. IsForm R.form R.value (R.modulus r.now) (T.number f)) word.now }
+    requires root { IsChecked R.Reducer T.number r.now g.now }
+    requires word { AreChecked R.Reducer T.number r.now word.now }
     requires suits { let m = R.modulus r.now in Suits m (R.value m (T.number g.now)) (length word.now) }
     requires odd { R.modulus r.now % 2 ≡ 1 }
     requires few { length message.old ≤ length word.now }
@@ -167,7 +167,7 @@ pub fn is_codeword_by_transform<T: RingWord, R: Reducer<T>>(
         ArePowers m (R.value m (T.number g.now)) (length word.now) points →
         IsEncoding m (length message.old) (length word.now) points
         (entry T.number R.value m message.new) (entry T.number R.value m word.now) }
-    ensures checked { IsTrue result → All (λ f. IsForm R.form R.value (R.modulus r.now) (T.number f)) message.new }
+    ensures checked { IsTrue result → AreChecked R.Reducer T.number r.now message.new }
 {
     // rust: assert!(word.len().is_power_of_two(), "n must be a power of two");
     // rust: debug_assert!(r.check(g) && word.iter().all(|x| r.check(x)), "g and the word must be checked forms");

@@ -1,8 +1,8 @@
 //! Codes prepared for many words: what depends on the points alone is computed once.
 
-ghost use Rattle.std.specs.Prelude.{◌≡◌, ℕ, ◌+◌, ◌*◌, ◌%◌, ◌<◌, ◌≤◌, ◌↔◌, IsTrue, All, length, MatchOption};
+ghost use Rattle.std.specs.Prelude.{◌≡◌, ℕ, ◌+◌, ◌*◌, ◌%◌, ◌<◌, ◌≤◌, ◌↔◌, IsTrue, length, MatchOption};
 ghost use Rattle.num_modular.specs.Entries.{entry};
-ghost use Rattle.num_modular.specs.Forms.{IsForm};
+ghost use Rattle.num_modular.specs.Checked.{AreChecked, IsChecked};
 ghost use Rattle.num_modular.specs.Inverses.{IsInverse};
 ghost use Rattle.num_modular.specs.Polynomials.{HaveUnitDifferences};
 ghost use Rattle.num_modular.specs.Sums.{sum_below};
@@ -45,9 +45,9 @@ pub struct PreparedCode<'a, T: RingWord, R: Reducer<T>> {
     known: &'a [T],
     wanted: &'a [T],
     rows: &'a [T],
-    pub ghost known_forms: { All (λ f. IsForm R.form R.value (R.modulus ring.now) (T.number f)) known.now },
-    pub ghost wanted_forms: { All (λ f. IsForm R.form R.value (R.modulus ring.now) (T.number f)) wanted.now },
-    pub ghost row_forms: { All (λ f. IsForm R.form R.value (R.modulus ring.now) (T.number f)) rows.now },
+    pub ghost known_forms: { AreChecked R.Reducer T.number ring.now known.now },
+    pub ghost wanted_forms: { AreChecked R.Reducer T.number ring.now wanted.now },
+    pub ghost row_forms: { AreChecked R.Reducer T.number ring.now rows.now },
     // The known points fit.
     pub ghost fit: { let m = R.modulus ring.now in
         ∥ HaveUnitDifferences m (length known.now) (entry T.number R.value m known.now) ∥₁ },
@@ -93,8 +93,8 @@ impl<'a, T: RingWord, R: Reducer<T>> PreparedCode<'a, T, R> {
         rows: &'a mut [T],
         scratch: &mut [T],
     ) -> Option<Self>
-        requires known { All (λ f. IsForm R.form R.value (R.modulus ring.now) (T.number f)) known.now }
-        requires wanted { All (λ f. IsForm R.form R.value (R.modulus ring.now) (T.number f)) wanted.now }
+        requires known { AreChecked R.Reducer T.number ring.now known.now }
+        requires wanted { AreChecked R.Reducer T.number ring.now wanted.now }
         requires count { length rows.old ≡ length wanted.now * length known.now }
         requires scratch { length scratch.old ≡ 2 * length known.now }
         ensures { let m = R.modulus ring.now in MatchOption result
@@ -145,10 +145,10 @@ impl<'a, T: RingWord, R: Reducer<T>> PreparedCode<'a, T, R> {
     /// ```
     // rust: #[track_caller]
     pub fn extend(&self, symbols: &[T], others: &mut [T])
-        requires symbols { All (λ f. IsForm R.form R.value (R.modulus self.now.ring.now) (T.number f)) symbols.now }
+        requires symbols { AreChecked R.Reducer T.number self.now.ring.now symbols.now }
         requires given { length symbols.now ≡ length self.now.known.now }
         requires room { length others.old ≡ length self.now.wanted.now }
-        ensures checked { All (λ f. IsForm R.form R.value (R.modulus self.now.ring.now) (T.number f)) others.new }
+        ensures checked { AreChecked R.Reducer T.number self.now.ring.now others.new }
         ensures word { let m = R.modulus self.now.ring.now in let k = length self.now.known.now in
             (message : ℕ → ℕ) ×
             IsEncoding m k k (entry T.number R.value m self.now.known.now) message
@@ -197,8 +197,8 @@ impl<'a, T: RingWord, R: Reducer<T>> PreparedCode<'a, T, R> {
     /// ```
     // rust: #[track_caller]
     pub fn is_codeword(&self, symbols: &[T], others: &[T]) -> bool
-        requires symbols { All (λ f. IsForm R.form R.value (R.modulus self.now.ring.now) (T.number f)) symbols.now }
-        requires others { All (λ f. IsForm R.form R.value (R.modulus self.now.ring.now) (T.number f)) others.now }
+        requires symbols { AreChecked R.Reducer T.number self.now.ring.now symbols.now }
+        requires others { AreChecked R.Reducer T.number self.now.ring.now others.now }
         requires given { length symbols.now ≡ length self.now.known.now }
         requires pairs { length others.now ≡ length self.now.wanted.now }
         ensures { let m = R.modulus self.now.ring.now in let k = length self.now.known.now in
@@ -227,10 +227,10 @@ impl<'a, T: RingWord, R: Reducer<T>> PreparedCode<'a, T, R> {
 // Writes for each point the product of the differences of a point from the other ones.
 #[tactic(auto, using(num_modular::specs::Callers::form_read, crate::proofs::Symbols::back_within))]
 fn fill_products<T: RingWord, R: Reducer<T>>(r: &R, points: &[T], point: &T, products: &mut [T])
-    requires points { All (λ f. IsForm R.form R.value (R.modulus r.now) (T.number f)) points.now }
-    requires point { IsForm R.form R.value (R.modulus r.now) (T.number point.now) }
+    requires points { AreChecked R.Reducer T.number r.now points.now }
+    requires point { IsChecked R.Reducer T.number r.now point.now }
     requires room { length products.old ≡ length points.now }
-    ensures checked { All (λ f. IsForm R.form R.value (R.modulus r.now) (T.number f)) products.new }
+    ensures checked { AreChecked R.Reducer T.number r.now products.new }
     ensures values { let m = R.modulus r.now in (i : ℕ) → i < length points.now →
         entry T.number R.value m products.new i ≡ product_but m (length points.now)
         (entry T.number R.value m points.now) i (R.value m (T.number point.now)) % m }
@@ -288,12 +288,12 @@ pub fn fill_barycentric_weights<T: RingWord, R: Reducer<T>>(
     products: &mut [T],
     weights: &mut [T],
 ) -> bool
-    requires points { All (λ f. IsForm R.form R.value (R.modulus r.now) (T.number f)) points.now }
+    requires points { AreChecked R.Reducer T.number r.now points.now }
     requires products { length products.old ≡ length points.now }
     requires weights { length weights.old ≡ length points.now }
     ensures fit { let m = R.modulus r.now in
         IsTrue result ↔ HaveUnitDifferences m (length points.now) (entry T.number R.value m points.now) }
-    ensures checked { IsTrue result → All (λ f. IsForm R.form R.value (R.modulus r.now) (T.number f)) weights.new }
+    ensures checked { IsTrue result → AreChecked R.Reducer T.number r.now weights.new }
     ensures inverses { let m = R.modulus r.now in let x = entry T.number R.value m points.now in
         IsTrue result → (i : ℕ) → i < length points.now →
         IsInverse m (product_but m (length points.now) x i (x i)) (entry T.number R.value m weights.new i) }
@@ -316,13 +316,13 @@ fn fill_rows<T: RingWord, R: Reducer<T>>(
     products: &mut [T],
     rows: &mut [T],
 )
-    requires known { All (λ f. IsForm R.form R.value (R.modulus r.now) (T.number f)) known.now }
-    requires wanted { All (λ f. IsForm R.form R.value (R.modulus r.now) (T.number f)) wanted.now }
-    requires weights { All (λ f. IsForm R.form R.value (R.modulus r.now) (T.number f)) weights.now }
+    requires known { AreChecked R.Reducer T.number r.now known.now }
+    requires wanted { AreChecked R.Reducer T.number r.now wanted.now }
+    requires weights { AreChecked R.Reducer T.number r.now weights.now }
     requires each { length weights.now ≡ length known.now }
     requires products { length products.old ≡ length known.now }
     requires count { length rows.old ≡ length wanted.now * length known.now }
-    ensures checked { All (λ f. IsForm R.form R.value (R.modulus r.now) (T.number f)) rows.new }
+    ensures checked { AreChecked R.Reducer T.number r.now rows.new }
     ensures values { let m = R.modulus r.now in let k = length known.now in
         (j i : ℕ) → j < length wanted.now → i < k → entry T.number R.value m rows.new (j * k + i)
         ≡ (product_but m k (entry T.number R.value m known.now) i (entry T.number R.value m wanted.now j) % m
@@ -340,10 +340,10 @@ fn fill_rows<T: RingWord, R: Reducer<T>>(
 
 // The sum of the symbols, each times its factor, from an index of the rows on.
 fn row_value<T: RingWord, R: Reducer<T>>(r: &R, rows: &[T], start: usize, symbols: &[T]) -> T
-    requires rows { All (λ f. IsForm R.form R.value (R.modulus r.now) (T.number f)) rows.now }
-    requires symbols { All (λ f. IsForm R.form R.value (R.modulus r.now) (T.number f)) symbols.now }
+    requires rows { AreChecked R.Reducer T.number r.now rows.now }
+    requires symbols { AreChecked R.Reducer T.number r.now symbols.now }
     requires within { start + length symbols.now ≤ length rows.now }
-    ensures checked { IsForm R.form R.value (R.modulus r.now) (T.number result) }
+    ensures checked { IsChecked R.Reducer T.number r.now result }
     ensures value { let m = R.modulus r.now in R.value m (T.number result)
         ≡ sum_below (length symbols.now) (λ i. entry T.number R.value m rows.now (start + i)
         * entry T.number R.value m symbols.now i) % m }

@@ -1,9 +1,9 @@
 //! Shamir's secret sharing, by the erasure codes.
 
 ghost use Rattle.std.specs.Prelude.{◌≡◌, ℕ, ◌-◌, ◌%◌, ◌<◌, ◌≤◌, ◌↔◌};
-ghost use Rattle.std.specs.Prelude.{IsTrue, IsOk, IfErr, MatchResult, IfOk, All, length, slice_index};
+ghost use Rattle.std.specs.Prelude.{IsTrue, IsOk, IfErr, MatchResult, IfOk, length, slice_index};
 ghost use Rattle.num_modular.specs.Entries.{entry};
-ghost use Rattle.num_modular.specs.Forms.{IsForm};
+ghost use Rattle.num_modular.specs.Checked.{AreChecked, IsChecked};
 ghost use Rattle.num_modular.specs.Inverses.{HasInverse};
 ghost use Rattle.num_modular.specs.Polynomials.{HaveUnitDifferences};
 ghost use Rattle.ring_codes.specs.Erasure.{IsEncoding, ArePlaces, AreShares, IsFault, IsShareFault};
@@ -41,7 +41,7 @@ pub enum ShareError {
 
 // Whether each point has an inverse.
 fn have_inverses<T: RingWord, R: Reducer<T>>(r: &R, points: &[T]) -> bool
-    requires { All (λ f. IsForm R.form R.value (R.modulus r.now) (T.number f)) points.now }
+    requires { AreChecked R.Reducer T.number r.now points.now }
     ensures { let m = R.modulus r.now in IsTrue result ↔
         ((i : ℕ) → i < length points.now → HasInverse m (entry T.number R.value m points.now i)) }
 {
@@ -93,11 +93,11 @@ pub fn share<T: RingWord, R: Reducer<T>>(
     coefficients: &[T],
     shares: &mut [T],
 ) -> Result<(), ShareError>
-    requires points { All (λ f. IsForm R.form R.value (R.modulus r.now) (T.number f)) points.now }
-    requires coefficients { All (λ f. IsForm R.form R.value (R.modulus r.now) (T.number f)) coefficients.now }
+    requires points { AreChecked R.Reducer T.number r.now points.now }
+    requires coefficients { AreChecked R.Reducer T.number r.now coefficients.now }
     requires room { length shares.old ≡ length points.now }
     ensures { let m = R.modulus r.now in let entries = entry T.number R.value m in MatchResult result
-        (λ _. AreShares (λ f. IsForm R.form R.value m (T.number f)) entries m points.now coefficients.now shares.new)
+        (λ _. AreShares (λ f. IsChecked R.Reducer T.number r.now f) entries m points.now coefficients.now shares.new)
         (λ e. IsShareFault m (length coefficients.now) (length points.now) (entries points.now) e
         × (shares.new ≡ shares.old)) }
 {
@@ -163,8 +163,8 @@ pub fn recover<T: RingWord, R: Reducer<T>>(
     weights: &mut [T],
     coefficients: &mut [T],
 ) -> Result<T, RestoreError>
-    requires points { All (λ f. IsForm R.form R.value (R.modulus r.now) (T.number f)) points.now }
-    requires shares { All (λ f. IsForm R.form R.value (R.modulus r.now) (T.number f)) shares.now }
+    requires points { AreChecked R.Reducer T.number r.now points.now }
+    requires shares { AreChecked R.Reducer T.number r.now shares.now }
     requires pairs { length shares.now ≡ length places.now }
     requires chosen { length chosen.old ≡ length coefficients.old }
     requires weights { length weights.old ≡ length coefficients.old }
@@ -175,14 +175,14 @@ pub fn recover<T: RingWord, R: Reducer<T>>(
         (λ i. entry T.number R.value m points.now (slice_index places.now i))) }
     ensures fault { let m = R.modulus r.now in IfErr result (λ e. IsFault m (length coefficients.old)
         (length points.now) (entry T.number R.value m points.now) places.now e) }
-    ensures checked { IfOk result (λ secret. IsForm R.form R.value (R.modulus r.now) (T.number secret)) }
+    ensures checked { IfOk result (λ secret. IsChecked R.Reducer T.number r.now secret) }
     ensures secret { let m = R.modulus r.now in IfOk result (λ secret. (original word : ℕ → ℕ) →
         IsEncoding m (length coefficients.old) (length points.now) (entry T.number R.value m points.now)
         original word →
         ((i : ℕ) → i < length coefficients.old →
         entry T.number R.value m shares.now i ≡ word (slice_index places.now i)) →
         R.value m (T.number secret) ≡ original 0 % m) }
-    ensures forms { IsOk result → All (λ f. IsForm R.form R.value (R.modulus r.now) (T.number f)) coefficients.new }
+    ensures forms { IsOk result → AreChecked R.Reducer T.number r.now coefficients.new }
     ensures coefficients { let m = R.modulus r.now in IsOk result → (original word : ℕ → ℕ) →
         IsEncoding m (length coefficients.old) (length points.now) (entry T.number R.value m points.now)
         original word →

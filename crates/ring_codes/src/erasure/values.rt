@@ -1,19 +1,19 @@
 //! A polynomial's values at several points side by side: the processor has their products under way at once.
 
-ghost use Rattle.std.specs.Prelude.{◌≡◌, ℕ, ◌+◌, ◌*◌, ◌%◌, ◌<◌, All, length};
+ghost use Rattle.std.specs.Prelude.{◌≡◌, ℕ, ◌+◌, ◌*◌, ◌%◌, ◌<◌, length};
 ghost use Rattle.num_modular.specs.Entries.{entry};
-ghost use Rattle.num_modular.specs.Forms.{IsForm};
+ghost use Rattle.num_modular.specs.Checked.{AreChecked, IsChecked};
 ghost use Rattle.ring_codes.specs.Erasure.{IsEncoding};
 
 use num_modular::{Reducer, RingWord};
 
 // A step of Horner's rule at each point: the value times the point, plus the coefficient.
 fn step_each<T: RingWord, R: Reducer<T>>(r: &R, coefficient: &T, points: &[T], values: &mut [T])
-    requires coefficient { IsForm R.form R.value (R.modulus r.now) (T.number coefficient.now) }
-    requires points { All (λ f. IsForm R.form R.value (R.modulus r.now) (T.number f)) points.now }
-    requires values { All (λ f. IsForm R.form R.value (R.modulus r.now) (T.number f)) values.old }
+    requires coefficient { IsChecked R.Reducer T.number r.now coefficient.now }
+    requires points { AreChecked R.Reducer T.number r.now points.now }
+    requires values { AreChecked R.Reducer T.number r.now values.old }
     requires room { length values.old ≡ length points.now }
-    ensures checked { All (λ f. IsForm R.form R.value (R.modulus r.now) (T.number f)) values.new }
+    ensures checked { AreChecked R.Reducer T.number r.now values.new }
     ensures values { let m = R.modulus r.now in (i : ℕ) → i < length points.now →
         entry T.number R.value m values.new i ≡ (R.value m (T.number coefficient.now)
         + entry T.number R.value m values.old i * entry T.number R.value m points.now i % m) % m }
@@ -36,10 +36,10 @@ pub fn evaluate_side_by_side<T: RingWord, R: Reducer<T>>(
     points: &[T],
     values: &mut [T],
 )
-    requires coefficients { All (λ f. IsForm R.form R.value (R.modulus r.now) (T.number f)) coefficients.now }
-    requires points { All (λ f. IsForm R.form R.value (R.modulus r.now) (T.number f)) points.now }
+    requires coefficients { AreChecked R.Reducer T.number r.now coefficients.now }
+    requires points { AreChecked R.Reducer T.number r.now points.now }
     requires room { length values.old ≡ length points.now }
-    ensures checked { All (λ f. IsForm R.form R.value (R.modulus r.now) (T.number f)) values.new }
+    ensures checked { AreChecked R.Reducer T.number r.now values.new }
     ensures encoding { let m = R.modulus r.now in
         IsEncoding m (length coefficients.now) (length points.now) (entry T.number R.value m points.now)
         (entry T.number R.value m coefficients.now) (entry T.number R.value m values.new) }

@@ -1,9 +1,9 @@
 //! Whole words from some of their symbols.
 
-ghost use Rattle.std.specs.Prelude.{◌≡◌, ◌≢◌, ℕ, ◌%◌, ◌<◌, ◌≤◌, ◌↔◌, IsOk, IfErr, All};
+ghost use Rattle.std.specs.Prelude.{◌≡◌, ◌≢◌, ℕ, ◌%◌, ◌<◌, ◌≤◌, ◌↔◌, IsOk, IfErr};
 ghost use Rattle.std.specs.Prelude.{length, slice_index, MatchOption};
 ghost use Rattle.num_modular.specs.Entries.{entry};
-ghost use Rattle.num_modular.specs.Forms.{IsForm};
+ghost use Rattle.num_modular.specs.Checked.{AreChecked};
 ghost use Rattle.num_modular.specs.Polynomials.{polynomial_at, HaveUnitDifferences};
 ghost use Rattle.ring_codes.specs.Erasure.{IsEncoding, IsErasureCodeword, ArePlaces, IsFault};
 
@@ -30,16 +30,16 @@ pub fn fill_word<T: RingWord, R: Reducer<T>>(
     symbols: &[T],
     word: &mut [T],
 )
-    requires points { All (λ f. IsForm R.form R.value (R.modulus r.now) (T.number f)) points.now }
-    requires message { All (λ f. IsForm R.form R.value (R.modulus r.now) (T.number f)) message.now }
-    requires symbols { All (λ f. IsForm R.form R.value (R.modulus r.now) (T.number f)) symbols.now }
+    requires points { AreChecked R.Reducer T.number r.now points.now }
+    requires message { AreChecked R.Reducer T.number r.now message.now }
+    requires symbols { AreChecked R.Reducer T.number r.now symbols.now }
     requires pairs { length symbols.now ≡ length places.now }
     requires enough { count ≤ length places.now }
     requires room { length word.old ≡ length points.now }
     requires kept { let m = R.modulus r.now in IsEncoding m (length message.now) count
         (λ i. entry T.number R.value m points.now (slice_index places.now i))
         (entry T.number R.value m message.now) (entry T.number R.value m symbols.now) }
-    ensures checked { All (λ f. IsForm R.form R.value (R.modulus r.now) (T.number f)) word.new }
+    ensures checked { AreChecked R.Reducer T.number r.now word.new }
     ensures encoding { let m = R.modulus r.now in
         IsEncoding m (length message.now) (length points.now) (entry T.number R.value m points.now)
         (entry T.number R.value m message.now) (entry T.number R.value m word.new) }
@@ -96,8 +96,8 @@ pub fn restore_word<T: RingWord, R: Reducer<T>>(
     message: &mut [T],
     word: &mut [T],
 ) -> Result<(), RestoreError>
-    requires points { All (λ f. IsForm R.form R.value (R.modulus r.now) (T.number f)) points.now }
-    requires symbols { All (λ f. IsForm R.form R.value (R.modulus r.now) (T.number f)) symbols.now }
+    requires points { AreChecked R.Reducer T.number r.now points.now }
+    requires symbols { AreChecked R.Reducer T.number r.now symbols.now }
     requires pairs { length symbols.now ≡ length places.now }
     requires few { length message.old ≤ length points.now }
     requires weights { length weights.old ≡ length message.old }
@@ -107,8 +107,8 @@ pub fn restore_word<T: RingWord, R: Reducer<T>>(
         (λ i. entry T.number R.value m points.now (slice_index places.now i))) }
     ensures fault { let m = R.modulus r.now in IfErr result (λ e. IsFault m (length message.old) (length points.now)
         (entry T.number R.value m points.now) places.now e) }
-    ensures checked { IsOk result → All (λ f. IsForm R.form R.value (R.modulus r.now) (T.number f)) word.new }
-    ensures forms { IsOk result → All (λ f. IsForm R.form R.value (R.modulus r.now) (T.number f)) message.new }
+    ensures checked { IsOk result → AreChecked R.Reducer T.number r.now word.new }
+    ensures forms { IsOk result → AreChecked R.Reducer T.number r.now message.new }
     ensures encoding { let m = R.modulus r.now in IsOk result →
         IsEncoding m (length message.old) (length points.now) (entry T.number R.value m points.now)
         (entry T.number R.value m message.new) (entry T.number R.value m word.new) }

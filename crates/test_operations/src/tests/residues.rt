@@ -1,6 +1,6 @@
 //! Calls of a reducer that tests of several reducers share.
 
-ghost use Rattle.modular_reduced.specs.Forms.{IsForm};
+ghost use Rattle.modular_reduced.specs.Checked.{IsChecked};
 ghost use Rattle.std.specs.Prelude.{◌≤◌};
 
 use modular_reduced::reducer::Reducer;
@@ -57,9 +57,9 @@ pub enum Call {
 
 // The form that a call leaves in place of a.
 fn form_in_place<T: RingWord, R: Reducer<T>>(ring: &R, call: &Call, a: T, b: T) -> T
-    requires a { IsForm R.form R.value (R.modulus ring.now) (T.number a) }
-    requires b { IsForm R.form R.value (R.modulus ring.now) (T.number b) }
-    ensures { IsForm R.form R.value (R.modulus ring.now) (T.number result) }
+    requires a { IsChecked R.Reducer T.number ring.now a }
+    requires b { IsChecked R.Reducer T.number ring.now b }
+    ensures { IsChecked R.Reducer T.number ring.now result }
 {
     let mut form = a;
     match call {
@@ -81,7 +81,7 @@ fn form_in_place<T: RingWord, R: Reducer<T>>(ring: &R, call: &Call, a: T, b: T) 
 
 // The form that a call returns for two numbers.
 fn form<T: RingWord, R: Reducer<T>>(ring: &R, call: &Call, numbers: &(T, T)) -> T
-    ensures { IsForm R.form R.value (R.modulus ring.now) (T.number result) }
+    ensures { IsChecked R.Reducer T.number ring.now result }
 {
     let a = ring.transform(numbers.0);
     let b = ring.transform(numbers.1);

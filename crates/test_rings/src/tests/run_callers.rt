@@ -1,7 +1,7 @@
 //! Callers of `run`, proved from its contract and a public law alone.
 
 ghost use Rattle.std.specs.Prelude.{◌≡◌, None, All, length, map};
-ghost use Rattle.modular_reduced.specs.Forms.{IsForm};
+ghost use Rattle.modular_reduced.specs.Checked.{AreChecked};
 ghost use Rattle.num_modular.specs.Ring.{whole, value_at, inverted_by, IsFit, values_of, HoldValues};
 
 use modular_reduced::reducer::Reducer;
@@ -15,7 +15,7 @@ pub fn run_to_the_end<T: RingWord, R: Reducer<T>>(
     regs: &mut [T],
     commands: &[RingCommand<T>],
 )
-    requires checked { All (λ f. IsForm R.form R.value (R.modulus r.now) (T.number f)) regs.old }
+    requires checked { AreChecked R.Reducer T.number r.now regs.old }
     requires fit { All (IsFit (length regs.old)) commands.now }
     requires total { All (λ command. inverted_by command ≡ None) commands.now }
     ensures { let m = R.modulus r.now in

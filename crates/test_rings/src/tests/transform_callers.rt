@@ -1,8 +1,8 @@
 //! Callers of transforms, proved from their contracts and the public laws alone; no test runs them.
 
-ghost use Rattle.std.specs.Prelude.{All, length, slice_index};
+ghost use Rattle.std.specs.Prelude.{length, slice_index};
 ghost use Rattle.modular_word.specs.Inverses.{IsInverse};
-ghost use Rattle.modular_reduced.specs.Forms.{IsForm};
+ghost use Rattle.modular_reduced.specs.Checked.{AreChecked, IsChecked};
 ghost use Rattle.modular_reduced.specs.Values.{values_of, HoldValues};
 ghost use Rattle.modular_transform.specs.Transforms.{Suits};
 
@@ -15,10 +15,10 @@ use modular_word::ring_word::RingWord;
 /// The transform by g and then by its inverse, each entry times the inverse `part` of the length: every entry has
 /// its former value.
 pub fn there_and_back<T: RingWord, R: Reducer<T>>(r: &R, xs: &mut [T], g: &T, inverse: &T, part: &T)
-    requires checked { All (λ f. IsForm R.form R.value (R.modulus r.now) (T.number f)) xs.old }
-    requires root { IsForm R.form R.value (R.modulus r.now) (T.number g.now) }
-    requires inverse_form { IsForm R.form R.value (R.modulus r.now) (T.number inverse.now) }
-    requires part_form { IsForm R.form R.value (R.modulus r.now) (T.number part.now) }
+    requires checked { AreChecked R.Reducer T.number r.now xs.old }
+    requires root { IsChecked R.Reducer T.number r.now g.now }
+    requires inverse_form { IsChecked R.Reducer T.number r.now inverse.now }
+    requires part_form { IsChecked R.Reducer T.number r.now part.now }
     requires suits { let m = R.modulus r.now in Suits m (R.value m (T.number g.now)) (length xs.old) }
     requires inverse { let m = R.modulus r.now in
         IsInverse m (R.value m (T.number g.now)) (R.value m (T.number inverse.now)) }

@@ -1,7 +1,7 @@
 //! Erasure codes: words of messages, messages from every choice of places, and bad input.
 
 ghost use Rattle.std.specs.Prelude.{◌≡◌, ◌<◌, ◌≤◌, All, length};
-ghost use Rattle.num_modular.specs.Forms.{IsForm};
+ghost use Rattle.num_modular.specs.Checked.{AreChecked};
 
 use num_modular::ring::{load_forms, unload_forms};
 use num_modular::{FixedMersenne64, Montgomery, Reducer};
@@ -14,7 +14,7 @@ use std::process::Abort;
 const MERSENNE_PRIME: u64 = 2305843009213693951;
 
 pub fn forms_of<R: Reducer<u64>, const N: usize>(r: &R, words: &[u64; N]) -> [u64; N]
-    ensures { All (λ f. IsForm R.form R.value (R.modulus r.now) f) result }
+    ensures { AreChecked R.Reducer (λ x. x) r.now result }
 {
     let mut forms = [0; N];
     load_forms(r, words, &mut forms);
@@ -22,7 +22,7 @@ pub fn forms_of<R: Reducer<u64>, const N: usize>(r: &R, words: &[u64; N]) -> [u6
 }
 
 pub fn words_of<R: Reducer<u64>, const N: usize>(r: &R, forms: &[u64; N]) -> [u64; N]
-    requires { All (λ f. IsForm R.form R.value (R.modulus r.now) f) forms.now }
+    requires { AreChecked R.Reducer (λ x. x) r.now forms.now }
 {
     let mut words = [0; N];
     unload_forms(r, forms, &mut words);
@@ -35,8 +35,8 @@ fn systematic_word_of<R: Reducer<u64>, const N: usize, const K: usize>(
     points: &[u64],
     message: &[u64],
 ) -> Option<[u64; N]>
-    requires points { All (λ f. IsForm R.form R.value (R.modulus r.now) f) points.now }
-    requires message { All (λ f. IsForm R.form R.value (R.modulus r.now) f) message.now }
+    requires points { AreChecked R.Reducer (λ x. x) r.now points.now }
+    requires message { AreChecked R.Reducer (λ x. x) r.now message.now }
     requires count { length points.now ≡ N }
     requires symbols { length message.now ≡ K }
     requires few { K ≤ N }
@@ -60,8 +60,8 @@ fn systematic_word_of<R: Reducer<u64>, const N: usize, const K: usize>(
 
 // Whether a word is that of a message of three symbols; `None` where the points don't fit. All are forms.
 fn is_word<R: Reducer<u64>>(r: &R, points: &[u64], word: &[u64]) -> Option<bool>
-    requires points { All (λ f. IsForm R.form R.value (R.modulus r.now) f) points.now }
-    requires word { All (λ f. IsForm R.form R.value (R.modulus r.now) f) word.now }
+    requires points { AreChecked R.Reducer (λ x. x) r.now points.now }
+    requires word { AreChecked R.Reducer (λ x. x) r.now word.now }
     requires symbols { length word.now ≡ length points.now }
     requires few { 3 ≤ length points.now }
 {
@@ -85,8 +85,8 @@ fn restores<R: Reducer<u64>, const N: usize, const K: usize>(
     message: &[u64; K],
     word: &[u64; N],
 ) -> bool
-    requires points { All (λ f. IsForm R.form R.value (R.modulus r.now) f) points.now }
-    requires symbols { All (λ f. IsForm R.form R.value (R.modulus r.now) f) symbols.now }
+    requires points { AreChecked R.Reducer (λ x. x) r.now points.now }
+    requires symbols { AreChecked R.Reducer (λ x. x) r.now symbols.now }
     requires pairs { length symbols.now ≡ length places.now }
     requires count { length points.now ≡ N }
     requires few { K ≤ N }
