@@ -31,3 +31,8 @@ pub record CarriesOn {T : Type 0} (number : T → ℕ) (form value : ℕ → ℕ
   pub holds : IsHeldAt after n last
   pub reached : (start : List ℕ) → IsReached number form m start commands before from
       → IsReached number form m start commands after to
+
+-- for each start for which the registers hold their values after command number `from`, command number `to` lacks its inverse
+abbrev pub StopsAt : {T : Type 0} → (T → ℕ) → (ℕ → ℕ → ℕ) → ℕ → List (RingCommand ℕ) → List T → ℕ → ℕ → Type 0
+StopsAt number form m commands before from to =
+    (start : List ℕ) → IsReached number form m start commands before from → LacksInverseAt m start commands to

@@ -1,13 +1,13 @@
 //! Lists of commands on registers, run over any reducer.
 
-ghost use Rattle.std.specs.Prelude.{◌≡◌, ℕ, ◌+◌, ◌*◌, ◌%◌, ◌<◌, ◌≤◌, ◌↔◌, IsTrue, IsFalse, Some, All, List, length};
+ghost use Rattle.std.specs.Prelude.{◌≡◌, ℕ, ◌+◌, ◌*◌, ◌%◌, ◌<◌, ◌≤◌, ◌↔◌, IsTrue, IsFalse, Some, All, length};
 ghost use Rattle.std.specs.Prelude.{map, option_map, slice_index, slice_index_or, slice_set};
 ghost use Rattle.modular_word.specs.Inverses.{inverse_of};
 ghost use Rattle.modular_reduced.specs.Checked.{AreChecked, IsChecked};
 ghost use Rattle.modular_ring.specs.Ring.{whole, destination_of, outcome, value_at, IsStop};
 ghost use Rattle.modular_ring.specs.Ring.{value_after, LacksInverse, carried_out, IsFit, values_of, HoldValues};
-ghost use Rattle.modular_ring.specs.Ring.{IsFormOf, LacksInverseAt};
-ghost use Rattle.modular_ring.specs.RunSteps.{IsHeldAt, Combines, IsReached, CarriesOn};
+ghost use Rattle.modular_ring.specs.Ring.{IsFormOf};
+ghost use Rattle.modular_ring.specs.RunSteps.{IsHeldAt, Combines, CarriesOn, StopsAt};
 ghost use Rattle.modular_ring.specs.declared.ring.RingCommand.{RingCommand};
 
 use modular_reduced::reducer::Reducer;
@@ -452,10 +452,8 @@ fn carry_out_at<T: RingWord, R: Reducer<T>, C: AsCommand<T>>(
     ensures carried { let wholes = map (λ c. whole T.number (C.command c)) commands.now in
         CarriesOn T.number R.form R.value (R.modulus r.now) wholes regs.old regs.new at.old at.new last.new.register
         last.new.form }
-    ensures lacks { let m = R.modulus r.now in
-        let wholes = map (λ c. whole T.number (C.command c)) commands.now in
-        (start : List ℕ) → IsReached T.number R.form m start wholes regs.old at.old →
-        IsFalse result → LacksInverseAt m start wholes at.new }
+    ensures lacks { let wholes = map (λ c. whole T.number (C.command c)) commands.now in
+        IsFalse result → StopsAt T.number R.form (R.modulus r.now) wholes regs.old at.old at.new }
     ensures moved { IsTrue result → at.new ≡ at.old + 1 }
 {
     let done = carry_out(r, regs, last, commands[*at].command());
@@ -481,10 +479,8 @@ fn carry_out_two<T: RingWord, R: Reducer<T>, C: AsCommand<T>>(
     ensures carried { let wholes = map (λ c. whole T.number (C.command c)) commands.now in
         CarriesOn T.number R.form R.value (R.modulus r.now) wholes regs.old regs.new at.old at.new last.new.register
         last.new.form }
-    ensures lacks { let m = R.modulus r.now in
-        let wholes = map (λ c. whole T.number (C.command c)) commands.now in
-        (start : List ℕ) → IsReached T.number R.form m start wholes regs.old at.old →
-        IsFalse result → LacksInverseAt m start wholes at.new }
+    ensures lacks { let wholes = map (λ c. whole T.number (C.command c)) commands.now in
+        IsFalse result → StopsAt T.number R.form (R.modulus r.now) wholes regs.old at.old at.new }
     ensures moved { IsTrue result → at.new ≡ at.old + 2 }
 {
     carry_out_at(r, regs, last, commands, at) && carry_out_at(r, regs, last, commands, at)
@@ -506,10 +502,8 @@ fn carry_out_four<T: RingWord, R: Reducer<T>, C: AsCommand<T>>(
     ensures carried { let wholes = map (λ c. whole T.number (C.command c)) commands.now in
         CarriesOn T.number R.form R.value (R.modulus r.now) wholes regs.old regs.new at.old at.new last.new.register
         last.new.form }
-    ensures lacks { let m = R.modulus r.now in
-        let wholes = map (λ c. whole T.number (C.command c)) commands.now in
-        (start : List ℕ) → IsReached T.number R.form m start wholes regs.old at.old →
-        IsFalse result → LacksInverseAt m start wholes at.new }
+    ensures lacks { let wholes = map (λ c. whole T.number (C.command c)) commands.now in
+        IsFalse result → StopsAt T.number R.form (R.modulus r.now) wholes regs.old at.old at.new }
     ensures moved { IsTrue result → at.new ≡ at.old + 4 }
 {
     carry_out_two(r, regs, last, commands, at) && carry_out_two(r, regs, last, commands, at)
@@ -531,10 +525,8 @@ fn carry_out_all<T: RingWord, R: Reducer<T>, C: AsCommand<T>>(
     ensures carried { let wholes = map (λ c. whole T.number (C.command c)) commands.now in
         CarriesOn T.number R.form R.value (R.modulus r.now) wholes regs.old regs.new at.old at.new last.new.register
         last.new.form }
-    ensures lacks { let m = R.modulus r.now in
-        let wholes = map (λ c. whole T.number (C.command c)) commands.now in
-        (start : List ℕ) → IsReached T.number R.form m start wholes regs.old at.old →
-        IsFalse result → LacksInverseAt m start wholes at.new }
+    ensures lacks { let wholes = map (λ c. whole T.number (C.command c)) commands.now in
+        IsFalse result → StopsAt T.number R.form (R.modulus r.now) wholes regs.old at.old at.new }
     ensures moved { IsTrue result → at.new ≡ length commands.now }
 {
     'fours: while commands.len() - *at >= 4 {

@@ -6,8 +6,8 @@ pub returns-then-not-carry_out_four-clause-carried : goal.returns-then-not-carry
 returns-then-not-carry_out_four-clause-carried g c = carries_both c.fours.invariant.0 c.carry_out_four.ensures.carried
 
 pub returns-then-not-carry_out_four-clause-lacks : goal.returns-then-not-carry_out_four-clause-lacks
-returns-then-not-carry_out_four-clause-lacks g c start reached fails =
-    c.carry_out_four.ensures.lacks start (c.fours.invariant.0.reached start reached) c.if-not-carry_out_four.true
+returns-then-not-carry_out_four-clause-lacks g c fails start reached =
+    c.carry_out_four.ensures.lacks c.if-not-carry_out_four.true start (c.fours.invariant.0.reached start reached)
 
 pub fours-preserved : goal.fours-preserved
 fours-preserved g c = (
@@ -19,8 +19,8 @@ pub returns-then-not-carry_out_at-clause-carried : goal.returns-then-not-carry_o
 returns-then-not-carry_out_at-clause-carried g c = carries_both c.commands.invariant.0 c.carry_out_at.ensures.carried
 
 pub returns-then-not-carry_out_at-clause-lacks : goal.returns-then-not-carry_out_at-clause-lacks
-returns-then-not-carry_out_at-clause-lacks g c start reached fails =
-    c.carry_out_at.ensures.lacks start (c.commands.invariant.0.reached start reached) c.if-not-carry_out_at.true
+returns-then-not-carry_out_at-clause-lacks g c fails start reached =
+    c.carry_out_at.ensures.lacks c.if-not-carry_out_at.true start (c.commands.invariant.0.reached start reached)
 
 pub commands-preserved : goal.commands-preserved
 commands-preserved g c = (

@@ -41,7 +41,7 @@ returns-then-done-clause-carried g c =
     }
 
 pub returns-else-done-clause-lacks : goal.returns-else-done-clause-lacks
-returns-else-done-clause-lacks g c start reached fails =
+returns-else-done-clause-lacks g c fails start reached =
     let m = g.R.Reducer.modulus c.args.r.now in
     let read_as = over_wholes g.T.RingWord.number g.C.AsCommand.command in
     let wholes = map read_as c.args.commands.now in

@@ -6,5 +6,5 @@ returns-then-carry_out_two-clause-carried g c =
     carries_both c.carry_out_two.ensures.carried c.carry_out_two-then-carry_out_two.ensures.carried
 
 pub returns-then-carry_out_two-clause-lacks : goal.returns-then-carry_out_two-clause-lacks
-returns-then-carry_out_two-clause-lacks g c start reached fails =
-    c.carry_out_two-then-carry_out_two.ensures.lacks start (c.carry_out_two.ensures.carried.reached start reached) fails
+returns-then-carry_out_two-clause-lacks g c fails start reached =
+    c.carry_out_two-then-carry_out_two.ensures.lacks fails start (c.carry_out_two.ensures.carried.reached start reached)

@@ -6,5 +6,5 @@ returns-then-carry_out_at-clause-carried g c =
     carries_both c.carry_out_at.ensures.carried c.carry_out_at-then-carry_out_at.ensures.carried
 
 pub returns-then-carry_out_at-clause-lacks : goal.returns-then-carry_out_at-clause-lacks
-returns-then-carry_out_at-clause-lacks g c start reached fails =
-    c.carry_out_at-then-carry_out_at.ensures.lacks start (c.carry_out_at.ensures.carried.reached start reached) fails
+returns-then-carry_out_at-clause-lacks g c fails start reached =
+    c.carry_out_at-then-carry_out_at.ensures.lacks fails start (c.carry_out_at.ensures.carried.reached start reached)

@@ -36,7 +36,7 @@ returns-then-not-carry_out_all g c =
     let before = begun number form g.R.Reducer.value m c.args.regs.now wholes c.requires.checked in
     let reached = c.carry_out_all.ensures.carried.reached start before in
     let stop : IsStop m start wholes c.carry_out_all.new.at = record {
-      lacks = c.carry_out_all.ensures.lacks start before c.if-not-carry_out_all.true;
+      lacks = c.carry_out_all.ensures.lacks c.if-not-carry_out_all.true start before;
       first = reached.passed;
     } in
     let count = c.carry_out_all.ensures.carried.count in
