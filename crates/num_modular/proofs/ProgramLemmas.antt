@@ -55,7 +55,8 @@ unreadable_at (w ∷ ws) i d below none [] read = read
 unreadable_at (w ∷ ws) zero d below none (c ∷ cs) read = none c read.0
 unreadable_at (w ∷ ws) (suc i) d below none (c ∷ cs) read = unreadable_at ws i d (omega arith) none cs read.1
 
-whole_same : (command : RingCommand ℕ) → whole (λ n. n) command ≡ command
+-- a command over words of which each is its own number is the command itself
+pub whole_same : (command : RingCommand ℕ) → whole (λ n. n) command ≡ command
 whole_same (Load dst n) = refl
 whole_same (Add dst a b) = refl
 whole_same (Sub dst a b) = refl

@@ -9,6 +9,7 @@ pub use Rattle.modular_reduced.specs.Entries.{entry, IsCheckedFormOf, HoldBelow,
 pub use Rattle.modular_reduced.specs.EntryLaws.{entry_at, entry_read, form_read, entry_past, entry_written, entry_kept}
 pub use Rattle.modular_reduced.specs.EntryLaws.{forms_written, done_none, done_more, done_before}
 pub use Rattle.modular_reduced.specs.EntryLaws.{hold_more, held_read, held_forms, held_entry}
+pub use Rattle.modular_transform.proofs.ValueLemmas.{values_below}
 pub use Rattle.modular_ring.specs.Products.{product_below}
 pub use Rattle.modular_ring.specs.ProductLaws.{product_none, product_step, inverse_left, inverse_right}
 pub use Rattle.modular_ring.specs.ProductLaws.{inverse_before, inverse_last, inverse_both}

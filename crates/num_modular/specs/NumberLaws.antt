@@ -4,6 +4,11 @@
 pub use Rattle.modular_word.proofs.Congruence.{mod_of_eq, mod_refl, residue_of, mod_sym, mod_trans}
 -- congruence of sums, products and powers, and modulo a factor of the modulus; a summand on both sides cancels
 pub use Rattle.modular_word.proofs.Congruence.{mod_add, mod_mul, mod_pow, mod_of_multiple, mod_add_cancel}
+-- congruent numbers below the modulus are equal; a factor above 0 on both sides of an equation cancels
+pub use Rattle.modular_word.proofs.Congruence.{equal_below, factor_cancel}
+-- inverses of a number and of its residue; divisors of divisors, and coprime numbers in the other order
+pub use Rattle.modular_word.proofs.InverseLemmas.{inverse_mod, inverse_from_mod}
+pub use Rattle.modular_word.proofs.Divisors.{divides_through, Coprime-swap}
 -- the residue of a difference, plus the subtrahend
 pub use Rattle.modular_word.proofs.ResidueLemmas.{difference_and}
 -- sums over a range: the empty one, with one more term, by the first term, and in two parts
@@ -14,5 +19,7 @@ pub use Rattle.modular_word.proofs.Sums.{sum_below-same, sum_below-congruent, su
 pub use Rattle.modular_word.proofs.Sums.{sum_below-of_zeros, sum_below-of_constant, sum_below-bounded}
 -- the order of two sums
 pub use Rattle.modular_word.proofs.Sums.{sum_below-exchanged}
+-- the residue of a sum over a range: of the empty one, and with one more term
+pub use Rattle.modular_transform.proofs.PlainSums.{sum_none, sum_more}
 -- powers of 1, and powers to a product
 pub use Rattle.modular_word.proofs.Powers.{one-pow, pow-mul}
