@@ -63,10 +63,6 @@ power_more m first g k power step v is_power is_step is_v =
     ∙ (mod_mul (residue_of (first * p)) (residue_of (g ^ k))).same
     ∙ ap (λ v. v % m) (e ∙ ap (λ v. first * v) (sym (ap (λ i. g ^ i) (choose_more k) ∙ pow-add g (choose_two k) k)))
 
--- Horner's rule, from the last coefficient on
-pub horner_none : (m : ℕ) (f : ℕ → ℕ) → 0 ≡ sum_below 0 f % m
-horner_none m f = search (arith, sum_below-zero, zero-mod)
-
 pub horner_more : (m w n i sum v : ℕ) (xs : List ℕ) → i < n
     → sum ≡ sum_below i (λ k. get_or xs (n - i + k) 0 * w ^ k) % m
     → v ≡ (sum * w + get_or xs (n - 1 - i) 0) % m

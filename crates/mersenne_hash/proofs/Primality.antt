@@ -11,10 +11,7 @@ use Rattle.num_modular.specs.Congruence.{Congruent}
 use Rattle.num_modular.specs.Inverses.{HasInverse}
 use Rattle.num_modular.specs.NumberLaws.{mod_of_eq, mod_refl, mod_sym, mod_trans, mod_mul, mod_pow, mod_add_cancel, one-pow, pow-mul}
 use Rattle.num_modular.specs.Primes.{IsPrime}
-
--- a divisor of a divisor
-divides_on : (r d n : ℕ) → d % r ≡ 0 → n % d ≡ 0 → n % r ≡ 0
-divides_on r d n e f = mod-eq-zero_of_dvd r (dvd_trans r (dvd_of_mod-eq-zero r e) (dvd_of_mod-eq-zero d f))
+use Rattle.num_modular.specs.NumberLaws.{divides_through}
 
 -- a divisor strictly between 1 and k
 record Divisor (n k : ℕ) : Type 0 where
@@ -57,7 +54,7 @@ prime_divisor (suc fuel) n h l = elim (divisor_or_none n n) [
       record {
         number = r.number;
         prime = r.prime;
-        divides = divides_on r.number w.number n r.divides w.divides;
+        divides = divides_through r.number w.number n r.divides w.divides;
         most = omega (arith, r.most, w.below);
       }
   | inr none ↦
@@ -76,7 +73,7 @@ pub no_small : (n k : ℕ) → 1 < n → n < k * k
 no_small n k h square none =
     let small = λ (f : ℕ) (above : 1 < f) (e : n % f ≡ 0) (l : f * f ≤ n).
     let r = prime_divisor f f (let same : f ≤ f = omega arith in same) above in
-    ⊎_elim (λ (b : r.number < k). none r.number r.prime b (divides_on r.number f n r.divides e))
+    ⊎_elim (λ (b : r.number < k). none r.number r.prime b (divides_through r.number f n r.divides e))
     (λ (b : k ≤ r.number).
     let far : k ≤ f = omega (arith, r.most, b) in
     absurd (omega (arith, mul-le-mul_left k far, mul-le-mul_left f far, l, square)))

@@ -11,14 +11,11 @@ use Rattle.num_modular.specs.Inverses.{HasInverse}
 use Rattle.num_modular.specs.NumberLaws.{mod_of_multiple, mod_add_cancel}
 use Rattle.num_modular.specs.SystemLaws.{spread, gathered, within}
 use Rattle.residue_numbers.specs.Combinations.{AreParts, IsLeastCommonMultiple, IsCommon, IsCombination}
+use Rattle.num_modular.specs.NumberLaws.{factor_cancel}
 
 -- a factor with an inverse cancels, as `congruence_laws` states it
 abbrev pub Quotients : Type 0
 Quotients = (m a b c j : ℕ) → Congruent m (c * j) 1 → Congruent m (a * c) (b * c) → Congruent m a b
-
--- a positive factor cancels
-positive_factor_cancels : (g x y : ℕ) → 0 < g → g * x ≡ g * y → x ≡ y
-positive_factor_cancels g x y h e = sym (mul-div_cancel_left x h) ∙ ap (λ k. k / g) e ∙ mul-div_cancel_left y h
 
 -- what is congruent modulo a multiple of g is congruent modulo g
 to_divisor : (g q n a b : ℕ) → n ≡ g * q → a % n ≡ b % n → a % g ≡ b % g
@@ -102,7 +99,7 @@ only_one quotients m n g u v a b t y positive m_is n_is (j, inverse) a_below t_b
     let n_first = ap (λ w. w * r) n_is in
     let n_second = ap (λ w. w * p) n_is in
     let through : g * (u * q + v * r) ≡ g * (u * t + v * p) = omega (arith, equal, m_first, m_second, n_first, n_second) in
-    let parts = positive_factor_cancels g (u * q + v * r) (u * t + v * p) positive through in
+    let parts = factor_cancel g (u * q + v * r) (u * t + v * p) positive through in
     let products : (q * u) % v ≡ (t * u) % v =
     gathered v (q * u) (t * u) r p (omega (arith, parts)) in
     let same = (quotients v q t u j record { same = inverse.one } record { same = products }).same in

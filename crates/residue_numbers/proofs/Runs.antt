@@ -20,6 +20,7 @@ use Rattle.num_modular.specs.ProductLaws.{has_product}
 use Rattle.num_modular.specs.SystemLaws.{divides, keeps}
 use Rattle.residue_numbers.proofs.Encodings.{remainder_within, sum_within, product_within}
 use Rattle.residue_numbers.proofs.Encodings.{difference_within, range_positive, ArePositive}
+use Rattle.num_modular.specs.NumberLaws.{Coprime-swap}
 
 -- the laws that are taken from the library's calls
 pub record Laws : Type 0 where
@@ -122,11 +123,8 @@ values_within laws {range} {m} f start starts commands (suc i) begin unit r =
     (values_within laws f start starts commands i begin (λ j q h. unit j q (omega (arith, h)))) (slice_get commands i)
     (λ q needs. unit i q (omega arith) needs) r
 
-coprime_swapped : {a n : ℕ} → Coprime a n → Coprime n a
-coprime_swapped {a} {n} h = record { only_one = λ d p q. h.only_one d q p }
-
 inverse_swapped : Laws → (m a : ℕ) → 0 < m → 0 < a → HasInverse m a → HasInverse a m
-inverse_swapped laws m a positive above unit = (laws.coprime a m above).1 (coprime_swapped ((laws.coprime m a positive).0 unit))
+inverse_swapped laws m a positive above unit = (laws.coprime a m above).1 (Coprime-swap _ _ ((laws.coprime m a positive).0 unit))
 
 -- a number with an inverse modulo each modulus has one modulo their product
 unit_above : Laws → (n : ℕ) (moduli : List ℕ) (a : ℕ) → 0 < a → 0 < range_below n moduli
