@@ -3,12 +3,14 @@ pub mod Counts
 pub mod DifferenceProducts
 pub mod Distances
 pub mod EncodedParts
+pub mod KnownRoots
 pub mod Lagrange
 pub mod NearestWords
 pub mod NewtonForms
 pub mod NewtonParts
 pub mod RootPowers
 pub mod RootWords
+pub mod Roots
 pub mod Secrecy
 pub mod Shifts
 pub mod Singleton

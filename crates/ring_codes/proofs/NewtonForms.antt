@@ -5,7 +5,7 @@ use Rattle.std.proofs.Common.{◌↔◌, Bool, true, false, IsTrue, Option, None
 use Rattle.std.proofs.Math.Nat.{zero-mod}
 use Rattle.std.proofs.lemmas.Bool.{cases_eq, cases_lt}
 use Rattle.std.proofs.lemmas.Int.{ints}
-use Rattle.std.proofs.lemmas.Nat.{mul-mod_first, mul-mod_second}
+use Rattle.std.proofs.lemmas.Nat.{mul-mod_second}
 use Rattle.num_modular.specs.Congruence.{Congruent}
 use Rattle.num_modular.specs.Inverses.{IsInverse, HasInverse, IsInversion}
 use Rattle.num_modular.specs.NumberLaws.{mod_of_eq, mod_sym, mod_trans, mod_add, mod_mul}
@@ -18,6 +18,7 @@ use Rattle.num_modular.specs.Sums.{sum_below}
 use Rattle.ring_codes.specs.Newton.{difference, newton_form}
 use Rattle.ring_codes.proofs.NearestWords.{with_multiple}
 use Rattle.ring_codes.proofs.Congruences.{mod_of_combination, mod_times, mod_of_modulus, mod_of_residue, mod_of_difference, mod_of_inverse}
+use Rattle.num_modular.specs.NumberLaws.{inverse_mod, inverse_from_mod}
 
 -- a - b modulo m
 abbrev minus : ℕ → ℕ → ℕ → ℕ
@@ -133,13 +134,6 @@ one_expanded m n a X e s positive each last =
     mod_of_combination (mod_add (with_multiple m n a X e (λ l. s (suc l)) s each)
     (mod_times (polynomial_at n (λ l. s (suc l)) X) (mod_sym is))) (omega (arith, top, polynomial-first n s X))
 
--- a number and its residue have the same inverses
-to_residue : (m a x : ℕ) → IsInverse m a x → IsInverse m (a % m) x
-to_residue m a x h = record { below = h.below; one = mul-mod_first a x m ∙ h.one }
-
-pub of_residue : (m a x : ℕ) → IsInverse m (a % m) x → IsInverse m a x
-of_residue m a x h = record { below = h.below; one = sym (mul-mod_first a x m) ∙ h.one }
-
 inverse_of_negative : (m u v a b x y : ℕ) → y + x ≡ m → Congruent m (u * x) 1 → Congruent m (u + b) a → Congruent m (v + a) b
     → Congruent m (v * y) 1
 inverse_of_negative m u v a b x y whole one at_u at_v =
@@ -161,7 +155,7 @@ pub fit_from_products : (m n : ℕ) (x : ℕ → ℕ)
     → ((i : ℕ) → i < n → HasInverse m (product_below i (difference m x i) % m)) → HaveUnitDifferences m n x
 fit_from_products m n x each =
     let lower : (i j : ℕ) → i < n → j < i → HasInverse m (difference m x i j) =
-    λ i j l k. let h = each i l in has_each m i (difference m x i) (h.0, of_residue m _ h.0 h.1) j k in
+    λ i j l k. let h = each i l in has_each m i (difference m x i) (h.0, inverse_from_mod m _ h.0 h.1) j k in
     record {
       unit = λ i j l k other. elim (cases_lt j i) [
         | inl b ↦ lower i j l b
@@ -174,7 +168,7 @@ pub products_from_fit : (m n : ℕ) (x : ℕ → ℕ) → 0 < m → HaveUnitDiff
 products_from_fit m n x positive fit i l =
     let h = has_product m i (difference m x i) positive
     (λ j k. fit.unit i j l (omega arith) (omega arith)) in
-    (h.0, to_residue m _ h.0 h.1)
+    (h.0, inverse_mod m _ h.0 h.1)
 
 -- one step of Horner's rule, the coefficients taken from the last
 pub value_more : (m n k : ℕ) (c : ℕ → ℕ) (a value product sum : ℕ) → k < n
@@ -255,14 +249,14 @@ inversion_tells value m a (Some y) b h e = ((λ t. (value y, h)), λ inverse. e)
 
 -- a product and its residue
 pub has_of_residue : (m a v : ℕ) → v ≡ a % m → HasInverse m v → HasInverse m a
-has_of_residue m a v e h = grind (arith, of_residue)
+has_of_residue m a v e h = grind (arith, inverse_from_mod)
 
 pub has_to_residue : (m a v : ℕ) → v ≡ a % m → HasInverse m a → HasInverse m v
-has_to_residue m a v e h = grind (arith, to_residue)
+has_to_residue m a v e h = grind (arith, inverse_mod)
 
 pub inverse_of_product : (m a v x : ℕ) → v ≡ a % m → IsInverse m v x → IsInverse m a x
 inverse_of_product m a v x e h =
-    of_residue m a x (record { below = h.below; one = ap (λ w. (w * x) % m) (sym e) ∙ h.one })
+    inverse_from_mod m a x (record { below = h.below; one = ap (λ w. (w * x) % m) (sym e) ∙ h.one })
 
 -- the coefficients from Newton's form have its values
 pub interpolated : (m n a b old y i : ℕ) (e f x : ℕ → ℕ) → a ≡ n → b ≡ n

@@ -50,7 +50,7 @@ same_digits (suc r) m c d small_c small_d same i l =
     (λ j k. small_d (suc j) (omega arith)) rest)
 
 -- where a function takes a value
-value_or_none : (size v : ℕ) (f : ℕ → ℕ) → ((a : ℕ) × (a < size) × (f a ≡ v)) ⊎ ((a : ℕ) → a < size → f a ≢ v)
+pub value_or_none : (size v : ℕ) (f : ℕ → ℕ) → ((a : ℕ) × (a < size) × (f a ≡ v)) ⊎ ((a : ℕ) → a < size → f a ≢ v)
 value_or_none zero v f = inr (λ a l e. absurd (omega arith))
 value_or_none (suc size) v f = elim (cases_eq (f size) v) [
   | inl e ↦ inl (size, omega arith, e)

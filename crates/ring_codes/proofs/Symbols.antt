@@ -1,5 +1,5 @@
 -- Symbols of words, as entries of lists of forms.
-use Rattle.std.proofs.Common.{◌≡◌, ℕ, ◌<◌, ◌≤◌, List, [], ◌∷◌, length, take, get_or, All, pos, ◌-ℤ◌, sym, ◌∙◌, ap, subst, arith}
+use Rattle.std.proofs.Common.{◌≡◌, ℕ, ◌<◌, ◌≤◌, List, [], ◌∷◌, length, take, get_or, pos, ◌-ℤ◌, sym, ◌∙◌, ap, subst, arith}
 use Rattle.std.proofs.Common.{◌-◌, ◌++◌, drop, length-append, length-drop, ◌↔◌, Bool, true, false, not, IsTrue, refl}
 use Rattle.std.proofs.Common.{◌≢◌, Option, Some, None, is_some, MatchOption}
 use Rattle.std.proofs.Common.{◌+◌, slice_range, get_or-drop, inl, inr}
@@ -12,13 +12,6 @@ use Rattle.ring_codes.specs.Erasure.{ArePlaces, IsFault}
 use Rattle.ring_codes.specs.declared.erasure.RestoreError.{RestoreError}
 use Rattle.ring_codes.specs.declared.erasure.RestoreError.TheVariants.{TooFewSymbols, PlaceOutOfRange, PlaceTwice}
 use Rattle.ring_codes.specs.declared.erasure.RestoreError.TheVariants.{PointsDontFit}
-
--- the value of a checked form is below the modulus
-pub entry_below : {T : Type 0} (number : T → ℕ) (form value : ℕ → ℕ → ℕ) (m : ℕ) (forms : List T) (i : ℕ)
-    → All (λ f. IsForm form value m (number f)) forms → i < length forms → entry number value m forms i < m
-entry_below number form value m [] i all l = absurd (omega arith)
-entry_below number form value m (x ∷ xs) i all l =
-    subst (λ v. v < m) (entry_at number value m (x ∷ xs) i x l) (all i x l).below
 
 -- the first k entries
 pub entry_front : {T : Type 0} (number : T → ℕ) (value : ℕ → ℕ → ℕ) (m : ℕ) (forms : List T) (k i : ℕ)

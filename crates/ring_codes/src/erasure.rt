@@ -42,6 +42,7 @@ mod newton;
 mod places;
 mod powers;
 mod prepared;
+mod roots;
 mod secrets;
 mod values;
 mod words;
@@ -57,6 +58,8 @@ pub use powers::{
     encode_by_plan, encode_by_transform, fill_powers, is_codeword_by_transform, root_laws,
 };
 pub use prepared::{PreparedCode, fill_barycentric_weights};
+// rust instead: pub(crate) use roots::{expand_roots, multiply_by_root};
+pub use roots::{expand_roots, multiply_by_root};
 pub use secrets::{ShareError, recover, secrecy_laws, share};
 use values::evaluate_side_by_side;
 // rust: pub(crate) use words::fill_word;

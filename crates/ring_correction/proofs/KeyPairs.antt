@@ -1,6 +1,6 @@
 -- The steps of a pair of polynomials that solves the key equation: its multiplication by X - a, and the combination of
 -- two pairs that removes their discrepancies.
-use Rattle.std.proofs.Common.{◌≡◌, ℕ, zero, suc, ◌+◌, ◌-◌, ◌*◌, ◌%◌, ◌^◌, ◌<◌, ◌≤◌}
+use Rattle.std.proofs.Common.{◌≡◌, ℕ, zero, suc, ◌+◌, ◌*◌, ◌%◌, ◌^◌, ◌<◌, ◌≤◌}
 use Rattle.std.proofs.Common.{ap, ◌∙◌, arith, refl, inl, inr, pos, ◌-ℤ◌}
 use Rattle.std.specs.Prelude.{Result, Ok, Err, IfOk}
 use Rattle.std.proofs.lemmas.Bool.{cases_eq, cases_lt}
@@ -16,11 +16,7 @@ use Rattle.ring_codes.specs.Shifts.{shifted}
 use Rattle.ring_correction.specs.KeyEquations.{IsKeyPair}
 use Rattle.ring_codes.proofs.Congruences.{mod_of_combination, mod_times, mod_of_residue, mod_of_difference, left_alone}
 use Rattle.ring_codes.proofs.Shifts.{shifted-values}
-
-times : (n p : ℕ) (f : ℕ → ℕ) (X : ℕ) → polynomial_at n (λ l. p * f l) X ≡ p * polynomial_at n f X
-unfolding sum_below
-times zero p f X = omega arith
-times (suc n) p f X = let i = times n p f X in omega (arith, i)
+use Rattle.ring_codes.proofs.Roots.{scaled_polynomial}
 
 -- .. where the last coefficient is 0
 shifted-whole : (m n X : ℕ) (f : ℕ → ℕ) → ((l : ℕ) → suc l ≡ n → Congruent m (f l) 0)
@@ -108,9 +104,9 @@ pub eliminated : (m k c d i u v p q : ℕ) (x y h g n e f t : ℕ → ℕ) → d
 eliminated m k c d i u v p q x y h g n e f t lengths room less inverse each_n each_e past_n past_e is_p is_q pivot own =
     let behind_h = pivot.leads.numerator_behind in let behind_g = pivot.leads.locator_behind in
     let at_n : (X : ℕ) → Congruent m (polynomial_at c f X + q * polynomial_at c h X) (p * polynomial_at c n X) =
-    λ X. mod_trans (with_multiple m c q X f h (λ l. p * n l) each_n) (mod_of_eq (times c p n X)) in
+    λ X. mod_trans (with_multiple m c q X f h (λ l. p * n l) each_n) (mod_of_eq (scaled_polynomial c p n X)) in
     let at_e : (X : ℕ) → Congruent m (polynomial_at d t X + q * polynomial_at d g X) (p * polynomial_at d e X) =
-    λ X. mod_trans (with_multiple m d q X t g (λ l. p * e l) each_e) (mod_of_eq (times d p e X)) in
+    λ X. mod_trans (with_multiple m d q X t g (λ l. p * e l) each_e) (mod_of_eq (scaled_polynomial d p e X)) in
     record {
       solves = λ j l. elim (cases_eq j i) [
         | inl s ↦ rw s (mod_of_combination (mod_add (at_n (x i)) (mod_add (mod_times (y i) (mod_sym (at_e (x i))))

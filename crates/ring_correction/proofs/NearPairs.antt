@@ -1,6 +1,6 @@
 -- What a pair that solves the key equation says of a message whose word is near: its numerator is the product of the
 -- message and the locator.
-use Rattle.std.proofs.Common.{◌≡◌, ℕ, zero, suc, ◌+◌, ◌-◌, ◌*◌, ◌/◌, ◌%◌, ◌^◌, ◌<◌, ◌≤◌}
+use Rattle.std.proofs.Common.{◌≡◌, ℕ, zero, suc, ◌+◌, ◌-◌, ◌*◌, ◌/◌, ◌%◌, ◌<◌, ◌≤◌}
 use Rattle.std.proofs.Common.{ap, sym, ◌∙◌, arith, inl, inr, subst, refl, mod-eq_of_lt}
 use Rattle.std.proofs.Math.Nat.{mod-mod, zero-mod}
 use Rattle.std.proofs.lemmas.Bool.{cases_eq, cases_lt}
@@ -12,7 +12,6 @@ use Rattle.num_modular.specs.NumberLaws.{mod_of_eq, mod_refl, mod_sym, mod_trans
 use Rattle.num_modular.specs.NumberLaws.{sum_below-same, sum_below-more, sum_below-joined}
 use Rattle.num_modular.specs.Polynomials.{polynomial_at, HaveUnitDifferences}
 use Rattle.num_modular.specs.PolynomialLaws.{polynomial-none, polynomial-first, polynomial-congruent}
-use Rattle.num_modular.specs.SumLaws.{tail}
 use Rattle.ring_codes.proofs.Distances.{same_messages, selected, counted, counted_same, counted_other, counted_most}
 use Rattle.ring_codes.proofs.Distances.{extended, at_end, before_end, extended_each, extended_rising, rising_fit}
 use Rattle.ring_codes.proofs.Shifts.{shifted-values}
@@ -24,19 +23,12 @@ use Rattle.ring_codes.specs.Erasure.{IsEncoding, distance}
 use Rattle.ring_codes.specs.Shifts.{shifted}
 use Rattle.ring_correction.specs.KeyEquations.{Solves, IsKeyPair, IsQuotient, AreQuotients}
 use Rattle.ring_codes.proofs.Congruences.{mod_of_combination, mod_times, mod_of_residue, mod_of_inverse}
+use Rattle.ring_codes.proofs.Roots.{longer_value}
 
 -- the coefficients of the product of two polynomials, the first with k coefficients
 product : ℕ → (ℕ → ℕ) → (ℕ → ℕ) → ℕ → ℕ
 product zero f e i = 0
 product (suc k) f e i = shifted (product k (λ j. f (suc j)) e) i + f 0 * e i
-
-padded : (d n X : ℕ) (e : ℕ → ℕ) → d ≤ n → ((l : ℕ) → d ≤ l → e l ≡ 0)
-    → polynomial_at n e X ≡ polynomial_at d e X
-padded d n X e l past =
-    let b : ℕ = n - d in
-    let whole : n ≡ d + b = omega arith in
-    ap (λ k. polynomial_at k e X) whole
-    ∙ tail d b (λ i. e i * X ^ i) (λ i above below. let z = ap (λ k. k * X ^ i) (past i above) in omega (arith, z))
 
 product_value : (k d n X : ℕ) (f e : ℕ → ℕ) → 1 ≤ d → k + d ≤ n + 1 → ((l : ℕ) → d ≤ l → e l ≡ 0)
     → polynomial_at n (product k f e) X ≡ polynomial_at k f X * polynomial_at d e X
@@ -48,7 +40,7 @@ product_value (suc k) d (suc n) X f e some room past =
     let p : ℕ → ℕ = product k (λ j. f (suc j)) e in
     let both = combined (suc n) (shifted p) e (f 0) X in
     let i = ap (λ v. X * v) (product_value k d n X (λ j. f (suc j)) e some (omega arith) past) in
-    let whole = ap (λ v. f 0 * v) (padded d (suc n) X e (omega arith) past) in
+    let whole = ap (λ v. f 0 * v) (longer_value d (suc n) X e (omega arith) past) in
     let split = ap (λ v. v * polynomial_at d e X) (polynomial-first k f X) in
     omega (arith, both, shifted-values n X p, i, whole, split)
 

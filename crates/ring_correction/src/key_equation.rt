@@ -15,7 +15,7 @@ ghost use Rattle.ring_correction.specs.KeyEquations.{IsKeyPair, AreKeyPairs};
 ghost use Rattle.ring_codes.specs.Erasure.{IsWithoutInverse};
 
 use num_modular::{Reducer, RingWord};
-use ring_codes::erasure::evaluate;
+use ring_codes::erasure::{evaluate, multiply_by_root};
 
 /// The form of N(x) - y·E(x), for a point x with the symbol y.
 ///
@@ -45,30 +45,6 @@ pub fn discrepancy<T: RingWord, R: Reducer<T>>(
     let located = evaluate(r, &pair[split..], point);
     let product = r.mul(symbol, &located);
     r.sub(&value, &product)
-}
-
-/// Multiplies a polynomial by X - x, in place; the coefficient that has no place is dropped.
-///
-/// # Preconditions
-///
-/// - point and coefficients are checked forms
-#[tactic(auto, using(num_modular::specs::Callers::form_read))]
-pub fn multiply_by_root<T: RingWord, R: Reducer<T>>(r: &R, point: &T, coefficients: &mut [T])
-    requires point { IsChecked R.Reducer T.number r.now point.now }
-    requires coefficients { AreChecked R.Reducer T.number r.now coefficients.old }
-    ensures checked { AreChecked R.Reducer T.number r.now coefficients.new }
-    ensures product { let m = R.modulus r.now in (i : ℕ) → i < length coefficients.old →
-        Congruent m (entry T.number R.value m coefficients.new i
-        + R.value m (T.number point.now) * entry T.number R.value m coefficients.old i)
-        (shifted (entry T.number R.value m coefficients.old) i) }
-{
-    let mut before = r.transform(T::zero());
-    'coefficients: for i in 0..coefficients.len() {
-        let coefficient = coefficients[i];
-        let product = r.mul(point, &coefficient);
-        coefficients[i] = r.sub(&before, &product);
-        before = coefficient;
-    }
 }
 
 /// Replaces each coefficient c by a·c - b·p, p being the other polynomial's.
@@ -142,8 +118,8 @@ pub fn raise<T: RingWord, R: Reducer<T>>(r: &R, point: &T, pair: &mut [T], split
         (entry T.number R.value m (drop split pair.new)) }
 {
     let (numerator, locator) = pair.split_at_mut(split);
-    multiply_by_root(r, point, numerator);
-    multiply_by_root(r, point, locator);
+    multiply_by_root(r, point, numerator, numerator.len());
+    multiply_by_root(r, point, locator, locator.len());
 }
 
 /// With the discrepancies p of the pivot and d of the other pair at a point x, replaces the other pair by p·other -

@@ -8,7 +8,7 @@ use Rattle.num_modular.specs.NumberLaws.{sum_below-congruent, sum_below-add}
 use Rattle.num_modular.specs.Polynomials.{HaveUnitDifferences}
 use Rattle.num_modular.specs.Residues.{residue}
 use Rattle.num_modular.specs.Sums.{sum_below}
-use Rattle.ring_codes.proofs.Distances.{counted, no_distance, words_apart}
+use Rattle.ring_codes.proofs.Distances.{no_distance, words_apart}
 use Rattle.ring_codes.proofs.Lagrange.{fit_from_all}
 use Rattle.ring_codes.specs.Erasure.{IsErasureCodeword, distance}
 use Rattle.ring_codes.specs.declared.erasure.errors.CorrectError.{CorrectError}
@@ -23,6 +23,7 @@ use Rattle.ring_decoder.specs.Syndromes.{AreWeights}
 use Rattle.ring_codes.proofs.Congruences.{mod_of_combination, mod_times}
 use Rattle.ring_decoder.proofs.LocatorSums.{none_of, residue_none}
 use Rattle.ring_decoder.proofs.LostPlaces.{fewer_differences, same_at, listed_none, without_none, without_alike}
+use Rattle.num_modular.specs.NumberLaws.{equal_below}
 
 -- numbers that are all 0, and numbers below m that aren't
 pub all_zero : (n : ℕ) (z : ℕ → ℕ) → zeros n z ≡ n → (i : ℕ) → i < n → z i ≡ 0
@@ -102,9 +103,6 @@ pub record IsRightWord (m k n : ℕ) (x : ℕ → ℕ) (lost : List ℕ) (old ne
   pub only : (word : ℕ → ℕ) → IsErasureCodeword m k n x word → IsNearWord k n lost old word
       → (i : ℕ) → i < n → new i ≡ word i
 
-same_below : (m a b : ℕ) → a < m → b < m → Congruent m a b → a ≡ b
-same_below m a b l k e = sym (mod-eq_of_lt l) ∙ e.same ∙ mod-eq_of_lt k
-
 -- a word whose syndromes are 0
 pub right_already : (m k n : ℕ) (x v : ℕ → ℕ) (lost : List ℕ) (y s : ℕ → ℕ) → 0 < m → AreLost k n lost → AreWeights m n x v
     → ((i : ℕ) → i < n → y i < m) → ArePowerSums m (n - k) n x (λ i. v i * y i) s → ((h : ℕ) → h < n - k → s h ≡ 0)
@@ -152,7 +150,7 @@ right_word m k n wrong x v lost y s e w positive places weights below_y below_w 
     let less = fewer_wrong m n lost y e w (λ i l. mod_of_combination (each i l) (omega arith)) in
     let more = fewer_differences n (without lost y) (without lost w) (λ i. without lost e i % m) (λ i. 0)
     (λ i l same. without_alike lost y w i (λ listed.
-    same_below m (y i) (w i) (below_y i l) (below_w i l)
+    equal_below (below_y i l) (below_w i l)
     (mod_of_combination (mod_add (mod_sym (each i l)) (none_of m (e i) (listed_none m lost e i listed same)))
     (omega arith)))) in
     let count = solution.count in let few = solution.pattern.few in

@@ -10,7 +10,6 @@ use Rattle.num_modular.specs.Polynomials.{polynomial_at, HaveUnitDifferences}
 use Rattle.num_modular.specs.PolynomialLaws.{polynomial-first}
 use Rattle.num_modular.specs.ProductLaws.{has_product}
 use Rattle.num_modular.specs.Residues.{residue}
-use Rattle.num_modular.specs.SumLaws.{single}
 use Rattle.ring_codes.proofs.Distances.{counted, counted_other, no_distance}
 use Rattle.ring_codes.proofs.NewtonForms.{no_difference, product-none, has_of_residue}
 use Rattle.ring_decoder.proofs.ChosenPlaces.{zeros_others, chosen_zero, chosen_nonzero}
@@ -22,10 +21,10 @@ use Rattle.ring_decoder.specs.Corrector.{without, AreLost}
 use Rattle.ring_decoder.specs.ErrorPatterns.{listed_weight, IsNearPattern, zeros, Covers, AreLocatorValues, IsLocated}
 use Rattle.ring_decoder.specs.Locators.{IsLocator, NeedManyWeights, IsGeometric, IsLinear}
 use Rattle.ring_decoder.specs.PowerSums.{ArePowerSums, hamming_weight}
-use Rattle.ring_decoder.specs.Syndromes.{product_of_differences}
+use Rattle.ring_codes.specs.Roots.{product_of_differences}
 use Rattle.ring_codes.proofs.Congruences.{mod_of_combination, mod_of_difference, mod_times}
 use Rattle.ring_decoder.proofs.LocatorSums.{factor_none, none_of, residue_none}
-use Rattle.ring_decoder.proofs.SyndromeRoots.{constant_value}
+use Rattle.ring_codes.proofs.Roots.{constant_value}
 use Rattle.ring_decoder.proofs.SyndromeSums.{single_congruent}
 
 times_none : (m a b : ℕ) → Congruent m a 0 → Congruent m (a * b) 0

@@ -3,12 +3,7 @@
 -- of Research and Development 23, 1979).
 use Rattle.std.proofs.Common.{◌≡◌, ◌≢◌, ℕ, zero, suc, ◌+◌, ◌-◌, ◌*◌, ◌/◌, ◌%◌, ◌^◌, ◌<◌, ◌≤◌, pos, ◌-ℤ◌, ap, sym, subst}
 use Rattle.std.proofs.Common.{◌∙◌, arith, refl, inl, inr}
-use Rattle.std.proofs.Math.Logic.{∥∥₁_elim}
 use Rattle.std.proofs.Math.Nat.{zero-mod, pow-zero, pow-suc}
-use Rattle.std.specs.Int.{IsPowerOfTwo}
-use lib.Pow.{pow-lt}
-use mathlib.Core.HLevel.{Σ_prop_path}
-use native.Mathlib.Nat.{ℕ_set}
 use Rattle.std.proofs.lemmas.Bool.{cases_lt}
 use Rattle.std.proofs.lemmas.Nat.{pow-add, pow_pos}
 use Rattle.num_modular.specs.Congruence.{Congruent}
@@ -30,22 +25,6 @@ use Rattle.ring_decoder.proofs.DualCode.{powers_vanish, top_power}
 use Rattle.ring_decoder.proofs.SyndromeSums.{moment, single_congruent}
 use Rattle.ring_decoder.specs.PowerSums.{ArePowerSums}
 use Rattle.ring_decoder.specs.Syndromes.{AreWeights}
-
--- n is one power of two, so what a ghost field says of a root holds
-one_power : (n : ℕ) (u v : IsPowerOfTwo n) → u ≡ v
-one_power n u v = Σ_prop_path (λ k. ℕ_set n (2 ^ k)) (elim (cases_lt u.0 v.0) [
-  | inl less ↦ absurd (omega (arith, pow-lt less, u.1, v.1))
-  | inr more ↦ elim (cases_lt v.0 u.0) [
-    | inl less ↦ absurd (omega (arith, pow-lt less, u.1, v.1))
-    | inr other ↦ omega (arith, more, other)
-  ]
-])
-
-pub suits_known : (m g n : ℕ) → ∥ Suits m g n ∥₁ → Suits m g n
-suits_known m g n known = record {
-  power_of_two = ∥∥₁_elim known (one_power n) (λ suits. suits.power_of_two);
-  half_turn = λ more. ∥∥₁_elim known (λ p q. ℕ_set _ _ p q) (λ suits. suits.half_turn more);
-}
 
 powers_of_two : (m z : ℕ) → 0 < m → HasInverse m 2 → HasInverse m (2 ^ z)
 powers_of_two m zero positive two = has_of_residue m (2 ^ 0) (1 % m) refl (has_one m positive)

@@ -1,12 +1,12 @@
 -- The errors at given points: by the quotients of the product of X - x by each X - x.
-use Rattle.std.proofs.Common.{◌≡◌, ◌≢◌, ℕ, zero, suc, ◌+◌, ◌-◌, ◌*◌, ◌%◌, ◌^◌, ◌<◌, pos, ◌-ℤ◌, ap, sym, ◌∙◌, arith, inl}
+use Rattle.std.proofs.Common.{◌≡◌, ◌≢◌, ℕ, zero, suc, ◌+◌, ◌-◌, ◌*◌, ◌%◌, ◌<◌, pos, ◌-ℤ◌, ap, sym, ◌∙◌, arith, inl}
 use Rattle.std.proofs.Common.{inr, refl, ◌↔◌, add-one}
 use Rattle.std.proofs.lemmas.Bool.{cases_eq}
 use Rattle.num_modular.specs.Callers.{same_coefficients, has_both}
 use Rattle.num_modular.specs.Congruence.{Congruent}
 use Rattle.num_modular.specs.Inverses.{IsInverse, HasInverse}
 use Rattle.num_modular.specs.NumberLaws.{mod_of_eq, mod_refl, residue_of, mod_sym, mod_trans, mod_add, mod_mul}
-use Rattle.num_modular.specs.NumberLaws.{sum_below-same, sum_below-mul}
+use Rattle.num_modular.specs.NumberLaws.{sum_below-same}
 use Rattle.num_modular.specs.Polynomials.{polynomial_at, HaveUnitDifferences}
 use Rattle.num_modular.specs.PolynomialLaws.{polynomial-first, polynomial-same}
 use Rattle.num_modular.specs.Residues.{residue}
@@ -15,12 +15,14 @@ use Rattle.ring_codes.specs.Prepared.{product_but}
 use Rattle.ring_codes.proofs.Lagrange.{none_at, all_from_fit, fit_from_all}
 use Rattle.ring_codes.proofs.NewtonForms.{one_expanded, no_difference, product-none, has_of_residue, has_to_residue}
 use Rattle.ring_decoder.specs.PowerSums.{ArePowerSums}
-use Rattle.ring_decoder.specs.Syndromes.{HasRoots}
-use Rattle.ring_decoder.proofs.SyndromeRoots.{product_monic, constant_value}
+use Rattle.ring_codes.specs.Roots.{HasRoots}
+use Rattle.ring_decoder.proofs.SyndromeRoots.{product_monic}
+use Rattle.ring_codes.proofs.Roots.{constant_value}
 use Rattle.ring_decoder.proofs.SyndromeSums.{weight_alone, sum_reversed}
 use Rattle.ring_codes.proofs.Congruences.{mod_of_combination, mod_of_inverse, mod_of_residue, mod_times}
 use Rattle.ring_decoder.proofs.LocatorSums.{factor_none}
 use Rattle.std.proofs.Math.Nat.{zero-add, add-zero}
+use Rattle.ring_codes.proofs.Roots.{scaled_polynomial}
 
 -- what Horner's rule at a finds from coefficient l on of a polynomial of degree q; from 1 on these are the coefficients
 -- of its quotient by X - a
@@ -66,11 +68,6 @@ quotient_none m q j i x f positive fit roots below within other =
     factor_none m Q u (fit.unit i j within below other)
     (mod_of_combination (mod_add (mod_sym remainder) (mod_add (mod_sym divided) (root i within))) (omega arith))
 
-times : (n p : ℕ) (f : ℕ → ℕ) (X : ℕ) → polynomial_at n (λ l. p * f l) X ≡ p * polynomial_at n f X
-times n p f X =
-    sum_below-same n (λ i. p * f i * X ^ i) (λ i. p * (f i * X ^ i)) (λ i l. omega arith)
-    ∙ sum_below-mul n p (λ i. f i * X ^ i)
-
 -- two polynomials with d + 1 coefficients that are 0 at all but one of d + 1 points, and whose highest coefficients are
 -- 1, have the same value there
 same_at_point : (m d j : ℕ) (x f g : ℕ → ℕ) → HaveUnitDifferences m (suc d) x → j < suc d
@@ -86,14 +83,14 @@ same_at_point m d j x f g fit below none_f none_g one_f one_g =
     λ i l. elim (cases_eq i j) [
       | inl e ↦ mod_of_eq (omega (
         arith,
-        times n G f (x i),
-        times n F g (x i),
+        scaled_polynomial n G f (x i),
+        scaled_polynomial n F g (x i),
         ap (λ k. G * polynomial_at n f (x k)) e,
         ap (λ k. F * polynomial_at n g (x k)) e,
       ))
       | inr other ↦ mod_of_combination
           (mod_add (mod_times G (none_f i l other)) (mod_times F (mod_sym (none_g i l other))))
-          (omega (arith, times n G f (x i), times n F g (x i)))
+          (omega (arith, scaled_polynomial n G f (x i), scaled_polynomial n F g (x i)))
     ] in
     let last = same_coefficients m n (λ l. G * f l) (λ l. F * g l) x fit at d (omega arith) in
     mod_of_combination (mod_add (mod_sym last) (mod_add (mod_times F (mod_sym one_g)) (mod_times G one_f)))

@@ -1,23 +1,21 @@
 -- Polynomials with given roots and the highest coefficient 1.
 use Rattle.std.proofs.Common.{◌≡◌, ℕ, zero, suc, ◌+◌, ◌-◌, ◌*◌, ◌^◌, ◌<◌, ◌≤◌, pos, ◌-ℤ◌, ap, sym, ◌∙◌, arith, refl}
-use Rattle.std.proofs.Math.Nat.{pow-zero}
 use Rattle.num_modular.specs.Congruence.{Congruent}
 use Rattle.num_modular.specs.NumberLaws.{mod_of_eq, mod_refl, mod_sym, mod_trans, mod_add, mod_mul, sum_below-suc}
 use Rattle.num_modular.specs.NumberLaws.{sum_below-zero, sum_below-congruent}
 use Rattle.num_modular.specs.Polynomials.{polynomial_at}
-use Rattle.num_modular.specs.ProductLaws.{product-zero, product-more}
 use Rattle.num_modular.specs.Products.{product_below}
 use Rattle.num_modular.specs.Residues.{residue}
 use Rattle.num_modular.specs.Sums.{sum_below}
 use Rattle.ring_codes.specs.Shifts.{shifted}
 use Rattle.ring_codes.specs.Prepared.{product_but}
-use Rattle.ring_codes.proofs.Shifts.{shifted-values}
-use Rattle.ring_codes.proofs.NearestWords.{combined, difference_alike, no_value, with_multiple}
+use Rattle.ring_codes.proofs.Roots.{constant_value, times_root, times_root_behind, times_root_value}
+use Rattle.ring_codes.proofs.NearestWords.{combined, difference_alike, no_value}
 use Rattle.ring_codes.proofs.Distances.{extended, at_end, before_end}
 use Rattle.ring_decoder.specs.PowerSums.{ArePowerSums}
-use Rattle.ring_decoder.specs.Syndromes.{product_of_differences, HasRoots}
+use Rattle.ring_codes.specs.Roots.{product_of_differences, HasRoots}
 use Rattle.ring_decoder.proofs.SyndromeSums.{moment}
-use Rattle.ring_codes.proofs.Congruences.{mod_of_combination, mod_of_difference, mod_times}
+use Rattle.ring_codes.proofs.Congruences.{mod_of_combination, mod_times}
 
 -- a function with the values of a polynomial of degree d modulo m, whose highest coefficient is 1
 pub record IsMonic (m d : ℕ) (F : ℕ → ℕ) : Type 0 where
@@ -35,10 +33,6 @@ moved m d e F G count same p = record {
       (mod_trans (p.value X) (mod_of_eq (same X)));
 }
 
-pub constant_value : (X : ℕ) (f : ℕ → ℕ) → polynomial_at (suc 0) f X ≡ f 0
-constant_value X f =
-    omega (arith, sum_below-suc 0 (λ i. f i * X ^ i), sum_below-zero (λ i. f i * X ^ i), ap (λ v. f 0 * v) (pow-zero X))
-
 monic_one : (m : ℕ) → IsMonic m 0 (λ X. 1)
 monic_one m =
     let c : ℕ → ℕ = extended 0 1 (λ i. 0) in
@@ -50,28 +44,10 @@ monic_one m =
       value = λ X. mod_of_eq (constant_value X c ∙ one);
     }
 
--- the coefficients of X + r times a polynomial
-times_root : ℕ → (ℕ → ℕ) → ℕ → ℕ
-times_root r h i = shifted h i + r * h i
-
-times_root_behind : (d r i : ℕ) (h : ℕ → ℕ) → ((i : ℕ) → d < i → h i ≡ 0) → suc d < i → times_root r h i ≡ 0
-unfolding times_root shifted
-times_root_behind d r zero h none l = absurd (omega arith)
-times_root_behind d r (suc i) h none l =
-    omega (arith, none i (omega arith), ap (λ v. r * v) (none (suc i) (omega arith)))
-
+-- the highest coefficient of X + r times a polynomial
 times_root_highest : (d r : ℕ) (h : ℕ → ℕ) → h d ≡ 1 → h (suc d) ≡ 0 → times_root r h (suc d) ≡ 1
 unfolding times_root shifted
 times_root_highest d r h one none = omega (arith, one, ap (λ v. r * v) none)
-
-times_root_value : (d r X : ℕ) (h : ℕ → ℕ) → h (suc d) ≡ 0
-    → polynomial_at (suc (suc d)) (times_root r h) X ≡ polynomial_at (suc d) h X * (X + r)
-unfolding times_root
-times_root_value d r X h none =
-    let more = sum_below-suc (suc d) (λ i. h i * X ^ i) in
-    let gone = ap (λ v. v * X ^ suc d) none in
-    let same : polynomial_at (suc (suc d)) h X ≡ polynomial_at (suc d) h X = omega (arith, more, gone) in
-    omega (arith, combined (suc (suc d)) (shifted h) h r X, shifted-values (suc d) X h, ap (λ v. r * v) same)
 
 -- times X - a
 times_difference : (m d a : ℕ) (F : ℕ → ℕ) → 0 < m → IsMonic m d F
@@ -81,10 +57,10 @@ times_difference m d a F positive p =
     let none = p.behind (suc d) (omega arith) in
     record {
       coefficient = times_root r p.coefficient;
-      behind = λ i l. times_root_behind d r i p.coefficient p.behind l;
+      behind = λ i l. times_root_behind (suc d) r i p.coefficient (λ j b. p.behind j (omega arith)) (omega arith);
       highest = times_root_highest d r p.coefficient p.highest none;
       value = λ X.
-          mod_trans (mod_of_eq (times_root_value d r X p.coefficient none))
+          mod_trans (mod_of_eq (omega (arith, times_root_value (suc d) r X p.coefficient none)))
           (mod_mul (p.value X) (mod_sym (difference_alike m X a positive)));
     }
 
@@ -127,54 +103,6 @@ combination m d (suc n) v F each =
           (mod_trans (mod_add (before.2 X) (mod_mul (mod_refl (v n)) (last.value X)))
           (mod_of_eq (sym (sum_below-suc n (λ i. v i * F i X))))),
     )
-
--- the coefficients of the product without points
-pub roots_none : (m : ℕ) (x f : ℕ → ℕ) → Congruent m (f 0) 1 → HasRoots m 0 x f
-roots_none m x f one = record {
-  highest = one;
-  value = λ a.
-      let one_more : 0 + 1 ≡ suc 0 = omega arith in
-      mod_trans (mod_of_eq (ap (λ n. polynomial_at n f a) one_more ∙ constant_value a f)) (mod_trans one (mod_of_eq (sym (product-zero _))));
-}
-
--- with one point more
-pub roots_more : (m i a : ℕ) (x f g : ℕ → ℕ) → 0 < m → HasRoots m i x f → ((j : ℕ) → i < j → f j ≡ 0) → a ≡ x i
-    → ((j : ℕ) → j < i + 2 → Congruent m (g j + a * f j) (shifted f j)) → HasRoots m (i + 1) x g
-unfolding shifted
-roots_more m i a x f g positive roots behind is each =
-    let none = behind (suc i) (omega arith) in
-    let next : i + 1 ≡ suc i = omega arith in
-    record {
-      highest =
-          mod_trans (mod_of_eq (omega (arith, ap g next, ap (λ v. a * v) none)))
-          (mod_trans (each (suc i) (omega arith)) roots.highest);
-      value = λ X.
-          let F : ℕ = polynomial_at (i + 1) f X in
-          let u : ℕ = residue m (pos X -ℤ pos a) in
-          let n : ℕ = suc (suc i) in
-          let two : i + 1 + 1 ≡ n = omega arith in
-          let front : polynomial_at n f X ≡ F =
-          omega (
-            arith,
-            sum_below-suc (suc i) (λ j. f j * X ^ j),
-            ap (λ v. v * X ^ suc i) none,
-            ap (λ n. polynomial_at n f X) next,
-          ) in
-          let values = with_multiple m n a X g f (shifted f) (λ j l. each j (omega (arith, l))) in
-          let at : Congruent m (u + a) X = mod_of_difference a positive refl in
-          let times : Congruent m (polynomial_at (i + 1 + 1) g X) (F * u) =
-          mod_of_combination (mod_add values (mod_times F (mod_sym at)))
-          (omega (
-            arith,
-            ap (λ n. polynomial_at n g X) two,
-            ap (λ v. a * v) front,
-            shifted-values (suc i) X f,
-            ap (λ n. X * polynomial_at n f X) next,
-          )) in
-          let point : u ≡ residue m (pos X -ℤ pos (x i)) = ap (λ v. residue m (pos X -ℤ pos v)) is in
-          mod_trans times (mod_trans (mod_mul (roots.value X) (mod_of_eq point))
-          (mod_of_eq (sym (product-more (λ l. residue m (pos X -ℤ pos (x l))) i))));
-    }
 
 -- multiples of power sums by the coefficients of a product of X - z are power sums, with the weights times the products
 pub moments_of : (m M c n : ℕ) (z g x w t s : ℕ → ℕ) → HasRoots m c z g → ArePowerSums m (M + c) n x w t

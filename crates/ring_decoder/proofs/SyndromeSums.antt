@@ -6,7 +6,7 @@ use Rattle.std.proofs.lemmas.Nat.{pow-add}
 use Rattle.num_modular.specs.Congruence.{Congruent}
 use Rattle.num_modular.specs.NumberLaws.{mod_of_eq, mod_refl, mod_trans, mod_add, mod_mul}
 use Rattle.num_modular.specs.NumberLaws.{sum_below-zero, sum_below-suc, sum_below-first, sum_below-same, sum_below-congruent}
-use Rattle.num_modular.specs.NumberLaws.{sum_below-mul, sum_below-exchanged, sum_below-of_zeros, sum_below-more}
+use Rattle.num_modular.specs.NumberLaws.{sum_below-mul, sum_below-exchanged, sum_below-of_zeros}
 use Rattle.num_modular.specs.Polynomials.{polynomial_at}
 use Rattle.num_modular.specs.Sums.{sum_below}
 use Rattle.ring_decoder.specs.PowerSums.{ArePowerSums}
@@ -74,12 +74,6 @@ sums_alike m N n x v w t same are = record {
   sum = λ h l. mod_trans (are.sum h l) (sum_below-congruent n (λ i. v i * x i ^ h) (λ i. w i * x i ^ h)
       (λ i b. mod_mul (same i b) (mod_refl (x i ^ h))));
 }
-
--- a sum so far, as a residue, with one term more
-pub sum_step : (m i a b : ℕ) (f : ℕ → ℕ) → a ≡ sum_below i f % m → Congruent m b (f i)
-    → (a + b) % m ≡ sum_below (i + 1) f % m
-sum_step m i a b f so_far term =
-    (mod_trans (mod_add (mod_of_residue so_far) term) (mod_of_eq (sym (sum_below-more f i)))).same
 
 -- the terms of a power sum: at the start, and from one sum to the next
 pub terms_first : (m a x : ℕ) → Congruent m a (a * x ^ 0)

@@ -8,10 +8,9 @@ ghost use Rattle.num_modular.specs.Polynomials.{HaveUnitDifferences, polynomial_
 ghost use Rattle.num_modular.specs.Sums.{sum_below};
 ghost use Rattle.ring_decoder.specs.PowerSums.{ArePowerSums};
 
-use super::syndromes::expand_roots;
 use num_modular::ring::invert_each;
 use num_modular::{Reducer, RingWord};
-use ring_codes::erasure::fill_differences;
+use ring_codes::erasure::{expand_roots, fill_differences};
 
 // The sum of the numbers, each times its coefficient of the quotient of a polynomial with q + 1 coefficients by X - x.
 // The quotient's coefficients are found by Horner's rule, the highest first.

@@ -7,12 +7,13 @@ ghost use Rattle.num_modular.specs.Checked.{AreChecked, IsChecked};
 ghost use Rattle.num_modular.specs.Polynomials.{HaveUnitDifferences};
 ghost use Rattle.num_modular.specs.Sums.{sum_below};
 ghost use Rattle.ring_codes.specs.Erasure.{IsErasureCodeword};
-ghost use Rattle.ring_codes.specs.Shifts.{shifted};
+ghost use Rattle.ring_codes.specs.Roots.{product_of_differences};
 ghost use Rattle.ring_decoder.specs.PowerSums.{ArePowerSums};
-ghost use Rattle.ring_decoder.specs.Syndromes.{product_of_differences, HasRoots, AreWeights};
+ghost use Rattle.ring_decoder.specs.Syndromes.{AreWeights};
 
 use num_modular::ring::dot_product;
 use num_modular::{Reducer, RingWord};
+use ring_codes::erasure::expand_roots;
 
 // The sum of the terms; each term is then multiplied by its point.
 #[tactic(auto, using(num_modular::specs::Callers::form_read))]
@@ -137,60 +138,6 @@ pub fn fill_syndromes<T: RingWord, R: Reducer<T>>(
         terms[i] = r.mul(&weights[i], &word[i]);
     }
     fill_power_sums(r, points, terms, syndromes);
-}
-
-// Multiplies a polynomial with `count` coefficients by X - x, in place; the coefficient that has no place is dropped.
-#[tactic(auto, using(num_modular::specs::Callers::form_read))]
-fn multiply_front<T: RingWord, R: Reducer<T>>(
-    r: &R,
-    point: &T,
-    coefficients: &mut [T],
-    count: usize,
-)
-    requires point { IsChecked R.Reducer T.number r.now point.now }
-    requires coefficients { AreChecked R.Reducer T.number r.now coefficients.old }
-    requires within { count ≤ length coefficients.old }
-    ensures checked { AreChecked R.Reducer T.number r.now coefficients.new }
-    ensures product { let m = R.modulus r.now in (i : ℕ) → i < count →
-        Congruent m (entry T.number R.value m coefficients.new i
-        + R.value m (T.number point.now) * entry T.number R.value m coefficients.old i)
-        (shifted (entry T.number R.value m coefficients.old) i) }
-    ensures behind { let m = R.modulus r.now in (i : ℕ) → count ≤ i →
-        entry T.number R.value m coefficients.new i ≡ entry T.number R.value m coefficients.old i }
-{
-    let mut before = r.transform(T::zero());
-    'coefficients: for i in 0..count {
-        let coefficient = coefficients[i];
-        let product = r.mul(point, &coefficient);
-        coefficients[i] = r.sub(&before, &product);
-        before = coefficient;
-    }
-}
-
-/// Writes the coefficients, the constant first, of the product of X - x for the points x.
-///
-/// The contents of `coefficients` are ignored. It takes q·(q + 3)/2 products for q points.
-///
-/// # Preconditions
-///
-/// - there is one coefficient more than there are points
-/// - the points are checked forms
-#[tactic(auto, using(num_modular::specs::Callers::hold_more, ring_codes::proofs::Counts::zero_mod))]
-pub fn expand_roots<T: RingWord, R: Reducer<T>>(r: &R, points: &[T], coefficients: &mut [T])
-    requires points { AreChecked R.Reducer T.number r.now points.now }
-    requires room { length coefficients.old ≡ length points.now + 1 }
-    ensures checked { AreChecked R.Reducer T.number r.now coefficients.new }
-    ensures roots { let m = R.modulus r.now in HasRoots m (length points.now) (entry T.number R.value m points.now)
-        (entry T.number R.value m coefficients.new) }
-{
-    let zero = r.transform(T::zero());
-    'zeros: for i in 0..coefficients.len() {
-        coefficients[i] = zero;
-    }
-    coefficients[0] = r.transform(T::one());
-    'points: for i in 0..points.len() {
-        multiply_front(r, &points[i], coefficients, i + 2);
-    }
 }
 
 // The sum of the coefficients, each times its number, from an index of these on.

@@ -13,33 +13,15 @@ use Rattle.num_modular.specs.Products.{product_below}
 use Rattle.num_modular.specs.Residues.{residue}
 use Rattle.ring_codes.specs.Shifts.{shifted}
 use Rattle.ring_codes.proofs.Congruences.{mod_of_combination, mod_times}
-use Rattle.ring_codes.proofs.Shifts.{shifted-values}
 use Rattle.ring_codes.proofs.NearestWords.{combined, difference_alike, at_root}
 use Rattle.ring_codes.proofs.NewtonForms.{no_difference, product-none}
-use Rattle.ring_erasures.specs.Erasures.{locator_at, root_weight}
+use Rattle.ring_codes.specs.Roots.{product_of_differences}
+use Rattle.ring_codes.proofs.Roots.{times_root, times_root_behind, times_root_value}
+use Rattle.ring_erasures.specs.Erasures.{root_weight}
 
 -- the coefficients of the derivative
 abbrev pub derivative : (ℕ → ℕ) → ℕ → ℕ
 derivative p i = suc i * p (suc i)
-
--- the coefficients of X + r times a polynomial
-times_root : ℕ → (ℕ → ℕ) → ℕ → ℕ
-times_root r h i = shifted h i + r * h i
-
-times_root_behind : (d r i : ℕ) (h : ℕ → ℕ) → ((i : ℕ) → d ≤ i → h i ≡ 0) → suc d ≤ i → times_root r h i ≡ 0
-unfolding times_root shifted
-times_root_behind d r zero h none l = absurd (omega (arith, l))
-times_root_behind d r (suc i) h none l =
-    omega (arith, none i (omega (arith, l)), ap (λ w. r * w) (none (suc i) (omega (arith, l))))
-
-times_root_value : (d r X : ℕ) (h : ℕ → ℕ) → h d ≡ 0
-    → polynomial_at (suc d) (times_root r h) X ≡ (X + r) * polynomial_at d h X
-unfolding times_root
-times_root_value d r X h none =
-    let parts = combined (suc d) (shifted h) h r X in
-    let same : polynomial_at (suc d) h X ≡ polynomial_at d h X =
-    omega (arith, sum_below-suc d (λ i. h i * X ^ i), ap (λ w. w * X ^ d) none) in
-    omega (arith, parts, shifted-values d X h, ap (λ w. r * w) same)
 
 -- (X + r)·h has the derivative h + (X + r)·h'
 derivative_of_times_root : (d r X : ℕ) (h : ℕ → ℕ) → h d ≡ 0
@@ -82,7 +64,7 @@ rooted_behind m k (suc c) z f i l =
     times_root_behind (k + c) ((m - 1) * z c) i (rooted m k c z f) (rooted_behind m k c z f) (omega (arith, l))
 
 pub rooted_value : (m k c X : ℕ) (z f : ℕ → ℕ) → 0 < m
-    → Congruent m (polynomial_at (k + c) (rooted m k c z f) X) (polynomial_at k f X * locator_at m c z X)
+    → Congruent m (polynomial_at (k + c) (rooted m k c z f) X) (polynomial_at k f X * product_of_differences m c z X)
 unfolding rooted product_below
 rooted_value m k zero X z f positive =
     let same : k + 0 ≡ k = omega arith in
@@ -93,15 +75,15 @@ rooted_value m k (suc c) X z f positive =
     let size = ap (λ n. polynomial_at n (times_root r h) X) next in
     let value = times_root_value (k + c) r X h (rooted_behind m k c z f (k + c) (omega arith)) in
     mod_of_combination (mod_add (mod_times (X + r) (rooted_value m k c X z f positive))
-    (mod_times (polynomial_at k f X * locator_at m c z X) (mod_sym (difference_alike m X (z c) positive))))
+    (mod_times (polynomial_at k f X * product_of_differences m c z X) (mod_sym (difference_alike m X (z c) positive))))
     (omega (arith, size, value))
 
 -- the weight of the last of c + 1 roots, and of another one
-last_weight : (m c l : ℕ) (z : ℕ → ℕ) → l ≡ c → root_weight m (suc c) z l ≡ locator_at m c z (z l)
+last_weight : (m c l : ℕ) (z : ℕ → ℕ) → l ≡ c → root_weight m (suc c) z l ≡ product_of_differences m c z (z l)
 unfolding product_below
 last_weight m c l z e =
     let g : ℕ → ℕ = λ j. cond (eqb j l) 1 (residue m (pos (z l) -ℤ pos (z j))) in
-    let before : product_below c g ≡ locator_at m c z (z l) =
+    let before : product_below c g ≡ product_of_differences m c z (z l) =
     product-same c g (λ j. residue m (pos (z l) -ℤ pos (z j))) (λ j b. elim (eqb_tells j l) [
       | inl p ↦ let q = p.1 in absurd (omega (arith, q, b, e))
       | inr p ↦ rw p.0 refl

@@ -1,5 +1,5 @@
 -- Places of lost symbols, and the others.
-use Rattle.std.proofs.Common.{◌≡◌, ◌≢◌, ℕ, zero, suc, ◌+◌, ◌<◌, List, length, slice_index, ◌⊎◌, inl, inr, sym, ◌∙◌}
+use Rattle.std.proofs.Common.{◌≡◌, ◌≢◌, ℕ, ◌+◌, ◌<◌, List, length, slice_index, ◌⊎◌, inl, inr, sym, ◌∙◌}
 use Rattle.std.proofs.Common.{arith, refl, subst}
 use Rattle.std.proofs.Math.ListN.{set}
 use Rattle.std.proofs.lemmas.Bool.{cases_eq, cases_lt}
@@ -7,23 +7,11 @@ use Rattle.num_modular.specs.Callers.{entry, entry_written, entry_kept}
 use Rattle.num_modular.specs.Polynomials.{HaveUnitDifferences}
 use Rattle.ring_codes.specs.Erasure.{ArePlaces}
 use Rattle.ring_erasures.specs.Erasures.{IsKept, AreErased}
-
-found_below : (c i : ℕ) (s : ℕ → ℕ) → ((l : ℕ) × (l < c) × (s l ≡ i)) ⊎ ((l : ℕ) → l < c → s l ≢ i)
-found_below zero i s = inr (λ l b. absurd (omega arith))
-found_below (suc c) i s = elim (cases_eq (s c) i) [
-  | inl e ↦ inl (c, omega arith, e)
-  | inr other ↦ elim (found_below c i s) [
-    | inl there ↦ let b = there.1 in inl (there.0, omega (arith, b), there.2)
-    | inr none ↦ inr (λ l b. elim (cases_eq l c) [
-      | inl e ↦ λ same. other (rw (← e) same)
-      | inr before ↦ none l (omega arith)
-    ])
-  ]
-]
+use Rattle.ring_codes.proofs.Singleton.{value_or_none}
 
 -- a symbol is lost at a place, or none is
 pub lost_or_kept : (lost : List ℕ) (i : ℕ) → ((l : ℕ) × (l < length lost) × (slice_index lost l ≡ i)) ⊎ IsKept lost i
-lost_or_kept lost i = found_below (length lost) i (slice_index lost)
+lost_or_kept lost i = value_or_none (length lost) i (slice_index lost)
 
 -- the points at the lost places fit
 pub lost_points_fit : (m k n : ℕ) (x : ℕ → ℕ) (lost : List ℕ) → AreErased k n lost → HaveUnitDifferences m n x

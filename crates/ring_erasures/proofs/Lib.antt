@@ -1,5 +1,4 @@
 pub mod Derivatives
 pub mod ErasedPlaces
-pub mod KnownRoots
 pub mod Locators
 pub mod RestoredWords

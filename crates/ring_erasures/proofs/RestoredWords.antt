@@ -1,6 +1,6 @@
 -- Words restored by the product of their polynomial and the locator: at a root its derivative is the symbol times the
 -- locator's derivative (Didier, "Efficient erasure decoding of Reed-Solomon codes", 2009).
-use Rattle.std.proofs.Common.{◌≡◌, ℕ, suc, ◌+◌, ◌-◌, ◌*◌, ◌%◌, ◌^◌, ◌<◌, ◌≤◌, ◌↔◌, pos, ◌-ℤ◌, ap, sym, ◌∙◌, arith}
+use Rattle.std.proofs.Common.{◌≡◌, ℕ, suc, ◌+◌, ◌-◌, ◌*◌, ◌%◌, ◌<◌, ◌≤◌, ◌↔◌, pos, ◌-ℤ◌, ap, sym, ◌∙◌, arith}
 use Rattle.std.proofs.Common.{Bool, IsTrue, add-one, refl, inl, inr, subst, cond, eqb}
 use Rattle.std.proofs.Common.{List, length, slice_index, mod-eq_of_lt}
 use Rattle.num_modular.specs.Callers.{same_coefficients}
@@ -11,27 +11,21 @@ use Rattle.num_modular.specs.Polynomials.{polynomial_at, HaveUnitDifferences}
 use Rattle.num_modular.specs.PolynomialLaws.{polynomial-congruent}
 use Rattle.num_modular.specs.ProductLaws.{product-same}
 use Rattle.num_modular.specs.Residues.{residue}
-use Rattle.num_modular.specs.SumLaws.{tail}
 use Rattle.num_modular.specs.Transforms.{Suits}
 use Rattle.ring_codes.specs.Erasure.{IsEncoding, IsErasureCodeword}
 use Rattle.ring_codes.specs.Powers.{ArePowers}
 use Rattle.ring_codes.proofs.Congruences.{mod_of_combination, mod_times, mod_of_residue, mod_of_inverse}
 use Rattle.ring_codes.proofs.Counts.{fit_front}
 use Rattle.ring_codes.proofs.NearestWords.{unit_alike}
+use Rattle.ring_codes.specs.Roots.{product_of_differences, HasRoots}
 use Rattle.ring_codes.proofs.RootPowers.{powers_fit}
+use Rattle.ring_codes.proofs.Roots.{constant_value, longer_value}
 use Rattle.ring_codes.proofs.NewtonForms.{no_difference, product-none}
-use Rattle.ring_erasures.specs.Erasures.{IsKept, AreErased, locator_at, IsLocator, root_weight, AreFactors, IsRestorable}
+use Rattle.ring_erasures.specs.Erasures.{IsKept, AreErased, root_weight, AreFactors, IsRestorable}
 use Rattle.ring_erasures.specs.Erasures.{AgreeAtKept, AreKeptProducts}
 use Rattle.ring_erasures.proofs.Derivatives.{derivative, rooted, rooted_behind, rooted_value, derivative_at_root}
 use Rattle.ring_erasures.proofs.ErasedPlaces.{lost_or_kept, lost_points_fit}
-use Rattle.ring_erasures.proofs.Locators.{weight_unit, locator_unit, divided_by_roots, constant_value}
-
--- zeros behind change no value
-longer_value : (n s X : ℕ) (p : ℕ → ℕ) → n ≤ s → ((i : ℕ) → n ≤ i → p i ≡ 0) → polynomial_at s p X ≡ polynomial_at n p X
-longer_value n s X p few none =
-    let whole : s ≡ n + (s - n) = omega (arith, few) in
-    ap (λ v. polynomial_at v p X) whole
-    ∙ tail n (s - n) (λ i. p i * X ^ i) (λ i l b. let z = ap (λ v. v * X ^ i) (none i l) in omega (arith, z))
+use Rattle.ring_erasures.proofs.Locators.{weight_unit, locator_unit, divided_by_roots}
 
 -- the points at the lost places
 abbrev at_lost : (ℕ → ℕ) → List ℕ → ℕ → ℕ
@@ -42,7 +36,7 @@ module _ (m k n : ℕ) (x : ℕ → ℕ) (lost : List ℕ) (positive : 0 < m) (f
   -- of a polynomial p with s coefficients that is f times the locator at n points, the derivative d at the roots
   computed_derivative : (s l : ℕ) (f p d : ℕ → ℕ) → k + length lost ≤ s → s ≤ n
       → ((j : ℕ) → j < n → Congruent m (polynomial_at s p (x j))
-      (polynomial_at k f (x j) * locator_at m (length lost) (at_lost x lost) (x j)))
+      (polynomial_at k f (x j) * product_of_differences m (length lost) (at_lost x lost) (x j)))
       → ((i : ℕ) → i + 1 < s → d i ≡ ((i + 1) * p (i + 1)) % m) → l < length lost
       → Congruent m (polynomial_at (s - 1) d (at_lost x lost l))
       (polynomial_at k f (at_lost x lost l) * root_weight m (length lost) (at_lost x lost) l)
@@ -67,7 +61,7 @@ module _ (m k n : ℕ) (x y u products : ℕ → ℕ) (lost : List ℕ) (positiv
     (are : AreKeptProducts m n lost y u products) where
   -- if the symbols that are left are those of f, the products are the values of f times the locator
   products_of_word : (f : ℕ → ℕ) (j : ℕ) → AgreeAtKept n lost y (λ i. polynomial_at k f (x i) % m) → j < n
-      → Congruent m (products j) (polynomial_at k f (x j) * locator_at m (length lost) (at_lost x lost) (x j))
+      → Congruent m (products j) (polynomial_at k f (x j) * product_of_differences m (length lost) (at_lost x lost) (x j))
   products_of_word f j symbols within = elim (lost_or_kept lost j) [
     | inl (l, b, at) ↦
         let z = at_lost x lost in
@@ -139,16 +133,16 @@ module _ (m k n : ℕ) (x y u products : ℕ → ℕ) (lost : List ℕ) (positiv
 
 -- the locator's coefficients e, those of its derivative d, and the derivative's values v
 module _ (m n : ℕ) (x e d v : ℕ → ℕ) (lost : List ℕ) (positive : 0 < m) (fit : HaveUnitDifferences m n x)
-    (erased : AreErased 1 n lost) (is : IsLocator m n (length lost) (at_lost x lost) e)
+    (erased : AreErased 1 n lost) (is : (a : ℕ) → Congruent m (polynomial_at n e a) (product_of_differences m (length lost) (at_lost x lost) a))
     (each : (i : ℕ) → i + 1 < n → d i ≡ ((i + 1) * e (i + 1)) % m) (values : IsEncoding m (n - 1) n x d v) where
   -- the values at the lost places are the roots' weights, and have inverses
   pub lost_values_unit : (l : ℕ) → l < length lost → Congruent m (v (slice_index lost l))
       (root_weight m (length lost) (at_lost x lost) l) × HasInverse m (v (slice_index lost l))
   lost_values_unit l within =
       let c : ℕ = length lost in let z = at_lost x lost in
-      let one = constant_value (λ i. 1) in
+      let one = (λ (X : ℕ). constant_value X (λ i. 1)) in
       let root = computed_derivative m 1 n x lost positive fit erased n l (λ i. 1) e d erased.enough (omega arith)
-      (λ j b. mod_of_combination (is (x j)) (omega (arith, ap (λ v. v * locator_at m c z (x j)) (one (x j)))))
+      (λ j b. mod_of_combination (is (x j)) (omega (arith, ap (λ v. v * product_of_differences m c z (x j)) (one (x j)))))
       each within in
       let here : Congruent m (v (slice_index lost l)) (root_weight m c z l) =
       mod_of_combination (mod_add (mod_of_residue (values.symbol _ (erased.places.within l within))) root)
@@ -185,14 +179,15 @@ factors_alike m k n x y u lost erased same are =
           (λ j d. ap (cond (eqb j l) 1) (alike _ _ (within l b) (within j d)))) (are.erased l b);
     }
 
--- a locator of copied roots
-pub locator_alike : (m s n b c : ℕ) (y z e : ℕ → ℕ) → s ≡ n → b ≡ c → ((l : ℕ) → l < c → y l ≡ z l) → IsLocator m s b y e
-    → IsLocator m n c z e
-locator_alike m s n b c y z e long count same is a =
-    let size = ap (λ t. polynomial_at t e a) long in let number = ap (λ t. locator_at m t y a) count in
+-- the values of a polynomial with copied roots, of which n coefficients are listed
+pub values_of_roots : (m n b c : ℕ) (y z e : ℕ → ℕ) → b ≡ c → c < n → ((l : ℕ) → l < c → y l ≡ z l) → HasRoots m b y e
+    → ((j : ℕ) → b < j → e j ≡ 0) → (a : ℕ) → Congruent m (polynomial_at n e a) (product_of_differences m c z a)
+values_of_roots m n b c y z e count room same roots behind a =
+    let short = longer_value (c + 1) n a e (omega (arith, room)) (λ i l. behind i (omega (arith, l, count))) in
+    let front = ap (λ t. polynomial_at (t + 1) e a) count in let number = ap (λ t. product_of_differences m t y a) count in
     let alike = product-same c (λ j. residue m (pos a -ℤ pos (y j))) (λ j. residue m (pos a -ℤ pos (z j)))
     (λ j l. rw (same j l) refl) in
-    mod_of_combination (is a) (omega (arith, size, number, alike))
+    mod_of_combination (roots.value a) (omega (arith, front, short, number, alike))
 
 -- a test of the products tells whether a word of the code has the symbols that are left
 pub restorable_by_test : (m a k n s t : ℕ) (y u products : ℕ → ℕ) (lost : List ℕ) (b : Bool) → 0 < m → m % 2 ≡ 1 → Suits m a n

@@ -1,13 +1,12 @@
 -- Symbols lost at known places, and the polynomial whose roots are the points there (Didier, "Efficient erasure decoding of
 -- Reed-Solomon codes", 2009; Soro and Lacan, "FNT-based Reed-Solomon erasure codes", 2010).
 use Rattle.std.specs.Prelude.{◌≡◌, ◌≢◌, ℕ, ◌+◌, ◌*◌, ◌%◌, ◌<◌, ◌≤◌, List, length, slice_index, pos, ◌-ℤ◌, ◌==◌, if◌then◌else◌}
-use Rattle.num_modular.specs.Congruence.{Congruent}
 use Rattle.num_modular.specs.Inverses.{IsInverse}
-use Rattle.num_modular.specs.Polynomials.{polynomial_at}
 use Rattle.num_modular.specs.Products.{product_below}
 use Rattle.num_modular.specs.Residues.{residue}
 use Rattle.num_modular.specs.Transforms.{Suits}
 use Rattle.ring_codes.specs.Erasure.{ArePlaces, IsErasureCodeword}
+use Rattle.ring_codes.specs.Roots.{product_of_differences}
 use Rattle.ring_codes.specs.declared.erasure.RestoreError.{RestoreError}
 use Rattle.ring_codes.specs.declared.erasure.RestoreError.TheVariants.{TooFewSymbols, PlaceOutOfRange, PlaceTwice, PointsDontFit}
 
@@ -34,22 +33,14 @@ IsErasureFault m g k n lost PlaceTwice = (i : ℕ) × (j : ℕ) × (i < j) × (j
     × ArePlaces j n lost × (slice_index lost i ≡ slice_index lost j)
 IsErasureFault m g k n lost PointsDontFit = AreErased k n lost × (m % 2 ≡ 1 → Suits m g n → ⊥)
 
--- the product of the differences modulo m of a from the c points z: the value at a of the polynomial with these roots
-abbrev pub locator_at : ℕ → ℕ → (ℕ → ℕ) → ℕ → ℕ
-locator_at m c z a = product_below c (λ j. residue m (pos a -ℤ pos (z j)))
-
--- n coefficients, the constant first, of the polynomial whose roots are the c points z
-abbrev pub IsLocator : ℕ → ℕ → ℕ → (ℕ → ℕ) → (ℕ → ℕ) → Type 0
-IsLocator m n c z coefficients = (a : ℕ) → Congruent m (polynomial_at n coefficients a) (locator_at m c z a)
-
--- the value of its derivative at the root z l: the product of the differences of z l from the other points
+-- the value at the root z l of the derivative of the product of X - z for the c points z: the product of the differences of z l from the other points
 abbrev pub root_weight : ℕ → ℕ → (ℕ → ℕ) → ℕ → ℕ
 root_weight m c z l = product_below c (λ j. if j == l then 1 else residue m (pos (z l) -ℤ pos (z j)))
 
 -- a factor for each of n points x: the locator's value where no symbol is lost, the inverse of its derivative's where one is
 pub record AreFactors (m n : ℕ) (x : ℕ → ℕ) (lost : List ℕ) (factors : ℕ → ℕ) : Type 0 where
   pub kept : (i : ℕ) → i < n → IsKept lost i
-      → factors i ≡ locator_at m (length lost) (λ l. x (slice_index lost l)) (x i) % m
+      → factors i ≡ product_of_differences m (length lost) (λ l. x (slice_index lost l)) (x i) % m
   pub erased : (l : ℕ) → l < length lost
       → IsInverse m (root_weight m (length lost) (λ l. x (slice_index lost l)) l) (factors (slice_index lost l))
 

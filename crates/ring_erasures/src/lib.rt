@@ -2,6 +2,6 @@
 //! O(n·log n).
 #![tactic(auto)]
 
-mod locator;
+mod derivative;
 pub mod pattern;
 mod places;

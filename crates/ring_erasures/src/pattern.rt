@@ -8,12 +8,12 @@ ghost use Rattle.ring_codes.specs.Erasure.{IsErasureCodeword};
 ghost use Rattle.ring_codes.specs.Powers.{ArePowers};
 ghost use Rattle.ring_erasures.specs.Erasures.{AgreeAtKept, AreErased, AreFactors, IsErasureFault, IsRestorable};
 
-use super::locator::{differentiate, expand_locator};
+use super::derivative::differentiate;
 use super::places::{check_places, gather, multiply_kept, scatter, write_products};
 use num_modular::ring::{invert_each, root_fits};
 use num_modular::{Reducer, RingWord};
 use ring_codes::erasure::{
-    RestoreError, encode_by_transform, fill_powers, is_codeword_by_transform,
+    RestoreError, encode_by_transform, expand_roots, fill_powers, is_codeword_by_transform,
 };
 
 /// The places of lost symbols, prepared to restore many words: of the code of k symbols at the powers g^0, .., g^(n - 1)
@@ -227,7 +227,7 @@ fn fill_factors<T: RingWord, R: Reducer<T>>(
     let (chosen, _) = rest.split_at_mut(lost.len());
     fill_powers(r, g, list);
     gather(r, lost, list, chosen);
-    expand_locator(r, chosen, coefficients);
+    expand_roots(r, chosen, coefficients);
     encode_by_transform(r, g, coefficients, factors);
     differentiate(r, coefficients);
     let (derivative, _) = coefficients.split_at_mut(coefficients.len() - 1);

@@ -1,10 +1,10 @@
-//! Lost symbols restored by transforms, by `ErasurePattern`.
+//! Lost symbols restored by transforms, by `ErasurePattern`; polynomials with given roots.
 
 ghost use Rattle.std.specs.Prelude.{◌≤◌};
 
 use super::erasure::{forms_of, words_of};
 use num_modular::{Montgomery, Reducer, Vanilla};
-use ring_codes::erasure::RestoreError;
+use ring_codes::erasure::{RestoreError, expand_roots, multiply_by_root};
 use ring_erasures::pattern::ErasurePattern;
 use std::process::Abort;
 
@@ -120,4 +120,17 @@ fn symbols_restored_by_montgomery_forms(rt: HostRuntime) {
 fn symbols_restored_by_residues(rt: HostRuntime) {
     assert_restored::<Vanilla<u64>>(&rt);
     assert_even(&rt);
+}
+
+// (X - 1)·(X - 2)·(X - 3) = X^3 - 6X^2 + 11X - 6 modulo 97, and its three lowest coefficients times X - 2.
+#[test]
+fn coefficients_of_given_roots(rt: HostRuntime) {
+    let ring = Vanilla::<u64>::new(&97);
+    let mut coefficients = [5; 5];
+    expand_roots(&ring, &[1, 2, 3], &mut coefficients);
+    check!(&rt, 21; coefficients == [91, 11, 91, 1, 0]);
+    multiply_by_root(&ring, &2, &mut coefficients, 3);
+    check!(&rt, 22; coefficients == [12, 69, 23, 1, 0]);
+    expand_roots(&ring, &[], &mut coefficients);
+    check!(&rt, 23; coefficients == [1, 0, 0, 0, 0]);
 }

@@ -3,7 +3,8 @@ use Rattle.num_modular.specs.Callers.{length, HasInverse, entry, same_coefficien
 use Rattle.std.proofs.Common.{le_refl}
 use Rattle.num_modular.specs.Callers.{mod-eq_of_lt}
 use Rattle.ring_codes.proofs.NewtonForms.{fit_from_products, products_from_fit, interpolated}
-use Rattle.ring_codes.proofs.Symbols.{entry_below, entry_front}
+use Rattle.num_modular.specs.Callers.{values_below}
+use Rattle.ring_codes.proofs.Symbols.{entry_front}
 use Rattle.ring_codes.proofs.erasure.interpolate.Goals as goal
 
 pub returns-then-not-invert_each-clause-fit : goal.returns-then-not-invert_each-clause-fit
@@ -36,7 +37,7 @@ returns-clause-only g c t other is i l =
     let fit = (returns-clause-fit g c).0 t in
     let same = same_coefficients m n _ other x fit
     (λ i l. record { same = sym (mine.symbol i l) ∙ is.symbol i l }) i l in
-    let below = entry_below number ring.form ring.value m _ i c.expand.ensures.checked (omega arith) in
+    let below = values_below number ring.form ring.value m _ i c.expand.ensures.checked (omega arith) in
     sym (mod-eq_of_lt below) ∙ same.same
 
 pub divide_differences-requires-clause-inverses_within :

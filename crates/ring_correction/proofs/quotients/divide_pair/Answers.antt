@@ -3,7 +3,7 @@ use Rattle.num_modular.specs.Callers.{◌≡◌, ◌∙◌, sym, arith, length}
 use Rattle.num_modular.specs.Callers.{entry, entry_past}
 use Rattle.std.proofs.lemmas.Bool.{false≢true}
 use Rattle.ring_correction.proofs.Pairs.{rest_whole}
-use Rattle.ring_codes.proofs.Symbols.{entry_below}
+use Rattle.num_modular.specs.Callers.{values_below}
 use Rattle.ring_correction.proofs.NearPairs.{enough_units, near_quotients, chosen_fit}
 use Rattle.ring_correction.proofs.quotients.divide_pair.Goals as goal
 
@@ -24,7 +24,7 @@ returns-in-Ok-true-clause-message g c d u y sent whole some lengths few room pai
       c.interpolate.ensures.only fit sent
           (near_quotients m k split d n x y _ _ sent some lengths c.requires.fit
           (λ l b. entry_past number ring.value m (drop split list) l (omega (arith, b, is_d))) near u _ _ pair are
-          (λ i l. entry_below number ring.form ring.value m c.divide.new.values i forms (omega (arith, l, whole)))),
+          (λ i l. values_below number ring.form ring.value m c.divide.new.values i forms (omega (arith, l, whole)))),
     )
 
 pub returns-in-Ok-false-clause-message : goal.returns-in-Ok-false-clause-message

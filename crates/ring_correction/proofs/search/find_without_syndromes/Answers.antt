@@ -1,5 +1,5 @@
 use Rattle.num_modular.specs.Callers.{arith, length, entry}
-use Rattle.ring_codes.proofs.Symbols.{entry_below}
+use Rattle.num_modular.specs.Callers.{values_below}
 use Rattle.ring_correction.proofs.NearPairs.{near_message}
 use Rattle.ring_correction.proofs.search.find_without_syndromes.Goals as goal
 
@@ -16,5 +16,5 @@ returns-then-is_codeword g c =
       only = λ sent near i l. near_message m (length c.args.message.now) (length c.args.points.now)
           (entry number ring.value m c.args.points.now) (entry number ring.value m c.args.symbols.now)
           (entry number ring.value m mine) sent fit (c.is_codeword.ensures.message is) c.requires.few near i l
-          (entry_below number ring.form ring.value m mine i checked (omega arith));
+          (values_below number ring.form ring.value m mine i checked (omega arith));
     }

@@ -1,7 +1,7 @@
 use Rattle.std.proofs.Common.{◌^◌}
 use Rattle.num_modular.specs.Callers.{ℕ, ◌-◌, ◌*◌, ◌/◌, ◌%◌, ◌<◌, ◌≤◌, arith, length}
 use Rattle.num_modular.specs.Callers.{entry, entry_read, form_read, held_read}
-use Rattle.ring_codes.proofs.Symbols.{entry_below}
+use Rattle.num_modular.specs.Callers.{values_below}
 use Rattle.ring_decoder.proofs.CheckTables.{check_first, check_later}
 use Rattle.ring_decoder.proofs.checks.next_check.Goals as goal
 
@@ -12,7 +12,7 @@ returns-then-h-eq0-clause-value g c =
     let column : i < length weights = omega (arith, c.requires.column, c.requires.each_weight) in
     check_first m c.args.h _ _ (entry number ring.value m c.args.points.now i) c.if-h-eq0.true
     (entry_read number ring.value m weights i _ column c.index-weights-i.is)
-    (entry_below number ring.form ring.value m weights i c.requires.weights column)
+    (values_below number ring.form ring.value m weights i c.requires.weights column)
 
 pub returns-else-h-eq0-clause-value : goal.returns-else-h-eq0-clause-value
 returns-else-h-eq0-clause-value g c =

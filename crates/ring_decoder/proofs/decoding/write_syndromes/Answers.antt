@@ -7,7 +7,8 @@ use Rattle.num_modular.specs.Polynomials.{HaveUnitDifferences}
 use Rattle.num_modular.specs.Transforms.{Suits}
 use Rattle.ring_codes.specs.Powers.{ArePowers}
 use Rattle.ring_decoder.proofs.CorrectedWords.{fit_of_weights}
-use Rattle.ring_decoder.proofs.RootSyndromes.{suits_known, length_unit}
+use Rattle.ring_codes.proofs.KnownRoots.{suits_known}
+use Rattle.ring_decoder.proofs.RootSyndromes.{length_unit}
 use Rattle.ring_decoder.specs.PowerSums.{ArePowerSums}
 use Rattle.ring_decoder.specs.Syndromes.{AreChecks, AreWeights}
 use Rattle.ring_decoder.proofs.decoding.write_syndromes.Goals as goal

@@ -4,7 +4,7 @@ use Rattle.num_modular.specs.NumberLaws.{mod_of_eq, mod_trans, mod_mul, residue_
 use Rattle.num_modular.specs.Polynomials.{polynomial_at}
 use Rattle.num_modular.specs.Sums.{sum_below}
 use Rattle.ring_codes.proofs.NewtonForms.{value_none, value_more}
-use Rattle.ring_decoder.proofs.SyndromeSums.{sum_step}
+use Rattle.num_modular.specs.NumberLaws.{sum_more}
 use Rattle.ring_decoder.proofs.errors.quotient_sum.Goals as goal
 
 pub coefficients-init : goal.coefficients-init
@@ -35,7 +35,7 @@ coefficients-preserved g c =
       record { checked = c.add-quotient.ensures.checked; same = next },
       record {
         checked = c.add-sum.ensures.checked;
-        same = c.add-sum.ensures.value ∙ sum_step m k _ _ (λ k. V k * s (q - 1 - k)) so_far.1.same
+        same = c.add-sum.ensures.value ∙ sum_more m k _ _ (λ k. V k * s (q - 1 - k)) so_far.1.same
             (mod_trans (mod_of_eq c.mul-term.ensures.value) (mod_trans (residue_of _)
             (mod_mul (mod_trans (mod_of_eq next) (residue_of (V k))) (mod_of_eq other))));
       },

@@ -1,9 +1,9 @@
-use Rattle.num_modular.specs.Callers.{◌*◌, ◌-◌, ℕ, ◌∙◌, sym, subst, length, entry}
+use Rattle.num_modular.specs.Callers.{◌*◌, ℕ, ◌∙◌, sym, subst, length, entry}
 use Rattle.num_modular.specs.Inverses.{HasInverse}
 use Rattle.std.proofs.Common.{◌<◌, arith}
 use Rattle.ring_decoder.proofs.NearLocators.{AreSought, located_by, none_near_by}
 use Rattle.ring_decoder.specs.PowerSums.{ArePowerSums}
-use Rattle.ring_decoder.specs.Syndromes.{product_of_differences}
+use Rattle.ring_codes.specs.Roots.{product_of_differences}
 use Rattle.ring_decoder.proofs.search.locate.Goals as goal
 use Rattle.ring_decoder.proofs.search.locate.Goals.{After-fill_moments}
 

@@ -3,7 +3,8 @@ use Rattle.std.proofs.lemmas.Bool.{false≢true}
 use Rattle.num_modular.specs.Callers.{◌<◌, ◌∙◌, ap, sym, refl, arith, length, mod-eq_of_lt}
 use Rattle.num_modular.specs.Callers.{entry, entry_read, form_read}
 use Rattle.num_modular.specs.NumberLaws.{mod_of_eq, mod_trans, residue_of}
-use Rattle.ring_codes.proofs.Symbols.{entry_below, same_forms, told_same, told_other}
+use Rattle.num_modular.specs.Callers.{values_below}
+use Rattle.ring_codes.proofs.Symbols.{same_forms, told_same, told_other}
 use Rattle.ring_decoder.proofs.SyndromeSums.{terms_first, terms_next, sum_of_terms}
 use Rattle.ring_decoder.proofs.syndromes.are_power_sums.Goals as goal
 
@@ -31,7 +32,7 @@ returns-then-ne-clause-sums g c =
           (same_forms ring.form ring.value m _ _ c.next_sum-sum.ensures.checked is
           (sum_of_terms m n h _ x w _ c.sums.invariant.1 c.next_sum-sum.ensures.value
           ∙ sym (are.sum h below).same
-          ∙ mod-eq_of_lt (entry_below number ring.form ring.value m sums h c.requires.sums below) ∙ sym symbol))),
+          ∙ mod-eq_of_lt (values_below number ring.form ring.value m sums h c.requires.sums below) ∙ sym symbol))),
     )
 
 pub sums-preserved : goal.sums-preserved

@@ -1,7 +1,8 @@
 use Rattle.num_modular.specs.Callers.{◌%◌, ◌∙◌, ap, sym, arith}
 use Rattle.num_modular.specs.Callers.{entry, entry_at, entry_read, forms_written, done_none, done_more}
 use Rattle.num_modular.specs.NumberLaws.{mod_of_eq, sum_below-zero}
-use Rattle.ring_decoder.proofs.SyndromeSums.{sum_step, product_of_equal}
+use Rattle.ring_decoder.proofs.SyndromeSums.{product_of_equal}
+use Rattle.num_modular.specs.NumberLaws.{sum_more}
 use Rattle.ring_decoder.proofs.syndromes.next_sum.Goals as goal
 
 pub terms-init : goal.terms-init
@@ -29,7 +30,7 @@ terms-preserved g c =
       forms_written number ring.form ring.value m list i c.mul.result c.mul.ensures.checked so_far.0,
       record {
         checked = c.add-sum.ensures.checked;
-        same = c.add-sum.ensures.value ∙ sum_step m i _ _ old so_far.1.same (mod_of_eq term);
+        same = c.add-sum.ensures.value ∙ sum_more m i _ _ old so_far.1.same (mod_of_eq term);
       },
       done_more number ring.value m list i c.mul.result _ old (omega arith) so_far.2
           (product_of_equal m _ _ _ (old i) (entry number ring.value m points i) c.mul.ensures.value again point),

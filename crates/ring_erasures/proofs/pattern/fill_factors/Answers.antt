@@ -2,7 +2,7 @@ use Rattle.num_modular.specs.Callers.{◌≡◌, ◌<◌, ◌+◌, ◌-◌, ◌*
 use Rattle.std.proofs.Common.{slice_index}
 use Rattle.ring_codes.proofs.RootPowers.{powers_fit}
 use Rattle.ring_codes.proofs.Symbols.{entry_front}
-use Rattle.ring_erasures.proofs.RestoredWords.{locator_alike, lost_values_unit, factors_are, factors_alike}
+use Rattle.ring_erasures.proofs.RestoredWords.{values_of_roots, lost_values_unit, factors_are, factors_alike}
 use Rattle.ring_erasures.proofs.pattern.fill_factors.Goals as goal
 
 pub returns-clause-factors : goal.returns-clause-factors
@@ -16,10 +16,10 @@ returns-clause-factors g c points powers =
     let fit = powers_fit m a n x c.requires.odd c.requires.suits powers_x in
     let same_list : length list ≡ n = c.fill_powers.auto.points ∙ c.split_at_mut-list.ensures.front_len in
     let count : length c.gather.new.numbers ≡ length lost = c.gather.auto.numbers ∙ c.split_at_mut-chosen.ensures.front_len in
-    let coefficients = c.expand_locator.new.coefficients in let e = entry number ring.value m coefficients in
-    let long : length coefficients ≡ n = c.expand_locator.auto.coefficients ∙ c.split_at_mut-coefficients.ensures.front_len in
-    let locator = locator_alike m _ n _ (length lost) _ (λ l. x (slice_index lost l)) e
-    c.split_at_mut-coefficients.ensures.front_len count c.gather.ensures.same c.expand_locator.ensures.roots in
+    let coefficients = c.expand_roots.new.coefficients in let e = entry number ring.value m coefficients in
+    let long : length coefficients ≡ n = c.expand_roots.auto.coefficients ∙ c.split_at_mut-coefficients.ensures.front_len in
+    let locator = values_of_roots m n _ (length lost) _ (λ l. x (slice_index lost l)) e count (omega (arith, erased.enough))
+    c.gather.ensures.same c.expand_roots.ensures.roots c.expand_roots.ensures.behind in
     let first = entry number ring.value m c.encode_by_transform.new.word in
     let encoding = rw long at (c.encode_by_transform.ensures.encoding x powers_x) in
     let whole = c.differentiate.new.coefficients in let derivative = c.split_at_mut-derivative.result.0.now in

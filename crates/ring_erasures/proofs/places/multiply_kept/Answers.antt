@@ -2,7 +2,7 @@ use Rattle.num_modular.specs.Callers.{◌*◌, ◌%◌, ◌∙◌, ap, arith}
 use Rattle.num_modular.specs.Callers.{entry, entry_read, forms_written, hold_more, held_forms, held_entry}
 use Rattle.std.proofs.Common.{slice_index}
 use Rattle.std.proofs.Math.Nat.{zero-mod}
-use Rattle.ring_codes.proofs.Symbols.{entry_below}
+use Rattle.num_modular.specs.Callers.{values_below}
 use Rattle.ring_erasures.proofs.ErasedPlaces.{scattered_none, scattered_more}
 use Rattle.ring_erasures.proofs.places.multiply_kept.Goals as goal
 
@@ -42,6 +42,6 @@ returns-clause-products g c =
       zeros = λ l below. c.places.invariant.1.there l (omega arith);
       each = λ i below left. c.places.invariant.1.kept i (λ l b. left l (omega arith))
           ∙ held_entry number ring.form ring.value m c.symbols.products _ _ i c.symbols.invariant (omega arith) (omega arith);
-      below = λ i b. entry_below number ring.form ring.value m c.places.products i c.places.invariant.0
+      below = λ i b. values_below number ring.form ring.value m c.places.products i c.places.invariant.0
           (omega (arith, b, kept, before));
     }

@@ -4,7 +4,7 @@
 //! A pair is one list: the coefficients of its numerator N, the constant first, and from the index `split` on those of
 //! its locator E.
 
-use crate::applications::ring_codes::erasure::evaluate;
+use crate::applications::ring_codes::erasure::{evaluate, multiply_by_root};
 use crate::{Reducer, RingWord};
 
 /// The form of N(x) - y·E(x), for a point x with the symbol y.
@@ -22,23 +22,6 @@ pub fn discrepancy<T: RingWord, R: Reducer<T>>(r: &R, point: &T, symbol: &T, pai
     let located = evaluate(r, &pair[split..], point);
     let product = r.mul(symbol, &located);
     r.sub(&value, &product)
-}
-
-/// Multiplies a polynomial by X - x, in place; the coefficient that has no place is dropped.
-///
-/// # Preconditions
-///
-/// - point and coefficients are checked forms
-///
-/// No build tests this: where it doesn't hold, the call panics or its result is unspecified.
-pub fn multiply_by_root<T: RingWord, R: Reducer<T>>(r: &R, point: &T, coefficients: &mut [T]) {
-    let mut before = r.transform(T::zero());
-    for i in 0..coefficients.len() {
-        let coefficient = coefficients[i];
-        let product = r.mul(point, &coefficient);
-        coefficients[i] = r.sub(&before, &product);
-        before = coefficient;
-    }
 }
 
 /// Replaces each coefficient c by a·c - b·p, p being the other polynomial's.
@@ -85,8 +68,8 @@ pub fn set_unit<T: RingWord, R: Reducer<T>>(r: &R, place: usize, coefficients: &
 #[inline]
 pub fn raise<T: RingWord, R: Reducer<T>>(r: &R, point: &T, pair: &mut [T], split: usize) {
     let (numerator, locator) = pair.split_at_mut(split);
-    multiply_by_root(r, point, numerator);
-    multiply_by_root(r, point, locator);
+    multiply_by_root(r, point, numerator, numerator.len());
+    multiply_by_root(r, point, locator, locator.len());
 }
 
 /// With the discrepancies p of the pivot and d of the other pair at a point x, replaces the other pair by p·other -

@@ -1,7 +1,8 @@
 use Rattle.num_modular.specs.Callers.{ℕ, ◌<◌, arith, length, entry}
 use Rattle.ring_codes.specs.Prepared.{product_but}
 use Rattle.ring_codes.proofs.Lagrange.{fit_from_all, all_from_fit}
-use Rattle.ring_codes.proofs.NewtonForms.{has_of_residue, has_to_residue, of_residue}
+use Rattle.ring_codes.proofs.NewtonForms.{has_of_residue, has_to_residue}
+use Rattle.num_modular.specs.NumberLaws.{inverse_from_mod}
 use Rattle.ring_codes.proofs.erasure.prepared.fill_barycentric_weights.Goals as goal
 
 pub returns-clause-fit : goal.returns-clause-fit
@@ -17,4 +18,4 @@ returns-clause-fit g c =
     )
 
 pub returns-clause-inverses : goal.returns-clause-inverses
-returns-clause-inverses g c t i l = grind (arith, of_residue)
+returns-clause-inverses g c t i l = grind (arith, inverse_from_mod)

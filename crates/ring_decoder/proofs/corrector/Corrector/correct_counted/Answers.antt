@@ -1,5 +1,5 @@
 use Rattle.num_modular.specs.Callers.{◌≡◌, ◌*◌, ◌-◌, ℕ, ◌∙◌, ap, sym, subst, refl, arith, length, entry}
-use Rattle.ring_codes.proofs.Symbols.{entry_below}
+use Rattle.num_modular.specs.Callers.{values_below}
 use Rattle.ring_codes.specs.Erasure.{IsErasureCodeword}
 use Rattle.ring_decoder.proofs.CorrectedWords.{all_zero, not_one, codeword_by_zeros, fit_of_weights, right_already, right_word, fault_of_word}
 use Rattle.ring_decoder.proofs.DualCode.{weight_unit}
@@ -22,7 +22,7 @@ returns-then-count_zeros-syndromes-clause-corrected g c =
     let long : length c.write_syndromes-products.new.syndromes ≡ n - k =
     c.write_syndromes-products.auto.syndromes ∙ c.split_at_mut-syndromes.ensures.front_len in
     let right = right_already m k n x v lost y s positive places self.inverses
-    (λ i l. entry_below number ring.form ring.value m c.args.word.now i c.requires.word (omega (arith, l, room)))
+    (λ i l. values_below number ring.form ring.value m c.args.word.now i c.requires.word (omega (arith, l, room)))
     (subst (λ t. ArePowerSums m t n x (λ i. v i * y i) s) c.split_at_mut-syndromes.ensures.front_len
     c.write_syndromes-products.ensures.sums)
     (λ h l. all_zero _ _ (sym c.count_zeros.ensures ∙ c.if-count_zeros-syndromes.true) h (omega (arith, l, long))) in
@@ -87,8 +87,8 @@ returns-in-Ok-find_errors-clause-corrected g c =
     c.find_errors.auto.errors ∙ c.split_at_mut-errors.ensures.front_len in
     let found = c.in-Ok-find_errors.ensures.found in
     let right = right_word m k n c.in-Ok-find_errors.wrong x v lost y s e w positive places self.inverses
-    (λ i l. entry_below number ring.form ring.value m c.args.word.now i c.requires.word (omega (arith, l, room)))
-    (λ i l. entry_below number ring.form ring.value m c.subtract.new.word i c.subtract.ensures.checked
+    (λ i l. values_below number ring.form ring.value m c.args.word.now i c.requires.word (omega (arith, l, room)))
+    (λ i l. values_below number ring.form ring.value m c.subtract.new.word i c.subtract.ensures.checked
     (omega (arith, l, c.subtract.auto.word, room)))
     (subst (λ t. ArePowerSums m t n x (λ i. v i * y i) s) c.split_at_mut-syndromes.ensures.front_len
     c.write_syndromes-products.ensures.sums)
@@ -106,7 +106,7 @@ returns-in-Ok-find_errors-clause-corrected g c =
 pub find_errors-requires-clause-modulus : goal.find_errors-requires-clause-modulus
 find_errors-requires-clause-modulus g c =
     let ring = g.R.Reducer in
-    not_one _ _ _ (λ i l. entry_below g.T.RingWord.number ring.form ring.value (ring.modulus c.args.self.now.ring.now)
+    not_one _ _ _ (λ i l. values_below g.T.RingWord.number ring.form ring.value (ring.modulus c.args.self.now.ring.now)
     c.write_syndromes-products.new.syndromes i c.write_syndromes-products.ensures.checked l)
     (λ all. c.if-count_zeros-syndromes.false (c.count_zeros.ensures ∙ all))
 
@@ -126,8 +126,8 @@ zeros_tell g c =
     let room = c.requires.room in let front = c.split_at_mut-syndromes.ensures.front_len in
     let long : length forms ≡ n - k = c.write_syndromes-products.auto.syndromes ∙ front in
     let told = codeword_by_zeros m k n x v y s positive self.few self.inverses
-    (λ i l. entry_below number ring.form ring.value m c.args.word.now i c.requires.word (omega (arith, l, room)))
-    (λ h l. entry_below number ring.form ring.value m forms h c.write_syndromes-products.ensures.checked (omega (arith, l, long)))
+    (λ i l. values_below number ring.form ring.value m c.args.word.now i c.requires.word (omega (arith, l, room)))
+    (λ h l. values_below number ring.form ring.value m forms h c.write_syndromes-products.ensures.checked (omega (arith, l, long)))
     (subst (λ t. ArePowerSums m t n x (λ i. v i * y i) s) front c.write_syndromes-products.ensures.sums) in (
       λ all. told.0 (ap (λ t. zeros t s) (sym long) ∙ sym c.count_zeros.ensures ∙ all ∙ long),
       λ is. c.count_zeros.ensures ∙ ap (λ t. zeros t s) long ∙ told.1 is ∙ sym long,

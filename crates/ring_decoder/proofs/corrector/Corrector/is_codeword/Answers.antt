@@ -1,5 +1,5 @@
 use Rattle.num_modular.specs.Callers.{◌≡◌, ◌*◌, ◌-◌, ℕ, ◌∙◌, subst, ap, arith, length, entry}
-use Rattle.ring_codes.proofs.Symbols.{entry_below}
+use Rattle.num_modular.specs.Callers.{values_below}
 use Rattle.ring_decoder.proofs.CorrectedWords.{codeword_by_zeros}
 use Rattle.ring_decoder.specs.ErrorPatterns.{zeros}
 use Rattle.ring_decoder.specs.PowerSums.{ArePowerSums}
@@ -15,8 +15,8 @@ returns g c =
     let room = c.requires.room in
     let long : length forms ≡ n - k = c.write_syndromes.auto.syndromes ∙ c.split_at_mut-syndromes.ensures.front_len in
     let both = codeword_by_zeros m k n x v y s positive self.few self.inverses
-    (λ i l. entry_below number ring.form ring.value m c.args.word.now i c.requires.word (omega (arith, l, room)))
-    (λ h l. entry_below number ring.form ring.value m forms h c.write_syndromes.ensures.checked (omega (arith, l, long)))
+    (λ i l. values_below number ring.form ring.value m c.args.word.now i c.requires.word (omega (arith, l, room)))
+    (λ h l. values_below number ring.form ring.value m forms h c.write_syndromes.ensures.checked (omega (arith, l, long)))
     (subst (λ t. ArePowerSums m t n x (λ i. v i * y i) s) c.split_at_mut-syndromes.ensures.front_len
     c.write_syndromes.ensures.sums) in
     let count : c.count_zeros.result ≡ zeros (n - k) s = c.count_zeros.ensures ∙ ap (λ t. zeros t s) long in

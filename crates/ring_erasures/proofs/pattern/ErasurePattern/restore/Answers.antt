@@ -2,8 +2,9 @@ use Rattle.std.proofs.lemmas.Bool.{false≢true}
 use Rattle.num_modular.specs.Callers.{◌≡◌, ◌+◌, ◌-◌, ◌∙◌, ℕ, ap, sym, refl, arith, length, entry, IsForm}
 use Rattle.std.proofs.lemmas.List.Elements.{All-take}
 use Rattle.ring_codes.proofs.RootPowers.{powers_fit}
-use Rattle.ring_codes.proofs.Symbols.{entry_below, entry_front}
-use Rattle.ring_erasures.proofs.KnownRoots.{suits_known}
+use Rattle.num_modular.specs.Callers.{values_below}
+use Rattle.ring_codes.proofs.Symbols.{entry_front}
+use Rattle.ring_codes.proofs.KnownRoots.{suits_known}
 use Rattle.ring_erasures.proofs.RestoredWords.{restorable_by_test, restored_word}
 use Rattle.ring_erasures.proofs.pattern.ErasurePattern.restore.Goals as goal
 
@@ -20,7 +21,7 @@ returns-then-not-is_codeword_by_transform-clause-restorable g c points powers =
     let tells = restorable_by_test m _ self.k (length self.factors.now) _ _ _ _ _ self.lost.now _ positive self.odd
     (suits_known m _ _ self.suits) self.erased self.inverses (c.multiply_kept.auto.products ∙ front)
     c.split_at_mut-coefficients.ensures.front_len (rw front at c.multiply_kept.ensures.products)
-    (λ i b. entry_below number ring.form ring.value m c.args.word.now i c.requires.word (omega (arith, b, room)))
+    (λ i b. values_below number ring.form ring.value m c.args.word.now i c.requires.word (omega (arith, b, room)))
     c.is_codeword_by_transform.ensures.codeword points powers in (
       λ t. absurd (false≢true t),
       λ restorable. sym c.if-not-is_codeword_by_transform.true ∙ tells.1 restorable,
@@ -69,7 +70,7 @@ returns-clause-restorable g c points powers =
     let tells = restorable_by_test m _ self.k (length self.factors.now) _ _ _ _ _ self.lost.now _ positive self.odd
     (suits_known m _ _ self.suits) self.erased self.inverses (c.multiply_kept.auto.products ∙ front)
     c.split_at_mut-coefficients.ensures.front_len (rw front at c.multiply_kept.ensures.products)
-    (λ i b. entry_below number ring.form ring.value m c.args.word.now i c.requires.word (omega (arith, b, room)))
+    (λ i b. values_below number ring.form ring.value m c.args.word.now i c.requires.word (omega (arith, b, room)))
     c.is_codeword_by_transform.ensures.codeword points powers in
     (λ t. tells.0 c.if-not-is_codeword_by_transform.false, λ restorable. refl)
 

@@ -2,7 +2,7 @@ use Rattle.num_modular.specs.Callers.{ℕ, ◌+◌, ◌*◌, ◌%◌, ◌∙◌,
 use Rattle.num_modular.specs.Callers.{entry, held_entry}
 use Rattle.num_modular.specs.Sums.{sum_below}
 use Rattle.ring_codes.proofs.Lagrange.{fit_known, message_of, value_from_row}
-use Rattle.ring_codes.proofs.Symbols.{entry_below}
+use Rattle.num_modular.specs.Callers.{values_below}
 use Rattle.num_modular.specs.Callers.{hold_more, held_forms}
 use Rattle.ring_codes.proofs.erasure.prepared.PreparedCode.extend.Goals as goal
 
@@ -30,7 +30,7 @@ returns-clause-word g c =
     let positive = (g.met.R.Reducer.canonical self.ring.now).positive in
     let k : ℕ = length self.known.now in
     let found = message_of m k _ _ positive (fit_known m k _ self.fit)
-    (λ i l. entry_below number ring.form ring.value m c.args.symbols.now i c.requires.symbols (omega arith)) in
+    (λ i l. values_below number ring.form ring.value m c.args.symbols.now i c.requires.symbols (omega arith)) in
     (found.0, found.1, returns-clause-original g c found.0 found.1)
 
 pub wanted-preserved : goal.wanted-preserved

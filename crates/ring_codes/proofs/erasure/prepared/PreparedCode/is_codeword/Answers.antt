@@ -4,7 +4,8 @@ use Rattle.num_modular.specs.Callers.{◌<◌, ℕ, ◌+◌, ◌*◌, ◌%◌, �
 use Rattle.num_modular.specs.Callers.{entry, entry_read, form_read}
 use Rattle.num_modular.specs.Sums.{sum_below}
 use Rattle.ring_codes.proofs.Lagrange.{fit_known, message_of, value_from_row}
-use Rattle.ring_codes.proofs.Symbols.{entry_below, same_forms, told_same, told_other}
+use Rattle.num_modular.specs.Callers.{values_below}
+use Rattle.ring_codes.proofs.Symbols.{same_forms, told_same, told_other}
 use Rattle.ring_codes.proofs.erasure.prepared.PreparedCode.is_codeword.Goals as goal
 
 pub returns-then-ne : goal.returns-then-ne
@@ -50,7 +51,7 @@ returns g c =
     let symbols = entry number ring.value m c.args.symbols.now in
     let k : ℕ = length self.known.now in let n : ℕ = length self.wanted.now in
     let found = message_of m k x symbols positive (fit_known m k x self.fit)
-    (λ i l. entry_below number ring.form ring.value m c.args.symbols.now i c.requires.symbols (omega arith)) in (
+    (λ i l. values_below number ring.form ring.value m c.args.symbols.now i c.requires.symbols (omega arith)) in (
       λ t. (
         found.0,
         found.1,

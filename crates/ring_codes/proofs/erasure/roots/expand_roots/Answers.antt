@@ -3,8 +3,8 @@ use Rattle.num_modular.specs.Callers.{entry_written, held_entry, held_forms, for
 use Rattle.num_modular.specs.NumberLaws.{mod_of_eq, mod_trans, residue_of}
 use Rattle.std.proofs.Common.{inl, inr}
 use Rattle.std.proofs.lemmas.Bool.{cases_lt}
-use Rattle.ring_decoder.proofs.SyndromeRoots.{roots_none, roots_more}
-use Rattle.ring_decoder.proofs.syndromes.expand_roots.Goals as goal
+use Rattle.ring_codes.proofs.Roots.{roots_none, roots_more}
+use Rattle.ring_codes.proofs.erasure.roots.expand_roots.Goals as goal
 
 pub points-init : goal.points-init
 points-init g c =
@@ -30,7 +30,7 @@ points-preserved g c =
     let positive = (g.met.R.Reducer.canonical c.args.r.now).positive in
     let points = c.args.points.now in let i = c.points.i in let so_far = c.points.invariant in
     let point = entry_read number ring.value m points i _ c.points-test.true c.index-points-i.is in (
-      c.multiply_front.ensures.checked,
-      roots_more m i _ _ _ _ positive so_far.1 so_far.2 point c.multiply_front.ensures.product,
-      λ j l. c.multiply_front.ensures.behind j (omega arith) ∙ so_far.2 j (omega arith),
+      c.multiply_by_root.ensures.checked,
+      roots_more m i _ _ _ _ positive so_far.1 so_far.2 point c.multiply_by_root.ensures.product,
+      λ j l. c.multiply_by_root.ensures.behind j (omega arith) ∙ so_far.2 j (omega arith),
     )

@@ -4,7 +4,7 @@ use Rattle.num_modular.specs.Callers.{entry, entry_read, form_read, forms_writte
 use Rattle.num_modular.specs.NumberLaws.{mod_of_eq, mod_trans}
 use Rattle.ring_codes.proofs.Shifts.{shifted_none, shifted_next}
 use Rattle.ring_codes.proofs.NewtonForms.{subtracted}
-use Rattle.ring_correction.proofs.key_equation.multiply_by_root.Goals as goal
+use Rattle.ring_codes.proofs.erasure.roots.multiply_by_root.Goals as goal
 
 pub coefficients-init : goal.coefficients-init
 coefficients-init g c =

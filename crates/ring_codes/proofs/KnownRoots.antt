@@ -10,9 +10,9 @@ use native.Mathlib.Nat.{ℕ_set}
 
 one_power : (n : ℕ) (u v : IsPowerOfTwo n) → u ≡ v
 one_power n u v = Σ_prop_path (λ k. ℕ_set n (2 ^ k)) (elim (cases_lt u.0 v.0) [
-  | inl less ↦ let h = pow-lt less in let a = u.1 in let b = v.1 in absurd (omega (arith, h, a, b))
+  | inl less ↦ absurd (omega (arith, pow-lt less, u.1, v.1))
   | inr more ↦ elim (cases_lt v.0 u.0) [
-    | inl less ↦ let h = pow-lt less in let a = u.1 in let b = v.1 in absurd (omega (arith, h, a, b))
+    | inl less ↦ absurd (omega (arith, pow-lt less, u.1, v.1))
     | inr other ↦ omega (arith, more, other)
   ]
 ])

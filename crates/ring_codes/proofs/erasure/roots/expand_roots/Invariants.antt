@@ -1,6 +1,6 @@
 use Rattle.num_modular.specs.Callers.{◌≡◌, ℕ, ◌<◌, All, IsForm, HoldBelow, entry}
-use Rattle.ring_decoder.specs.Syndromes.{HasRoots}
-use Rattle.ring_decoder.proofs.syndromes.expand_roots.Given as goal
+use Rattle.ring_codes.specs.Roots.{HasRoots}
+use Rattle.ring_codes.proofs.erasure.roots.expand_roots.Given as goal
 
 -- the coefficients so far are 0
 abbrev pub invariant-zeros : goal.invariant-zeros

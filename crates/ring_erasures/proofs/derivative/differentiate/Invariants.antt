@@ -1,5 +1,5 @@
 use Rattle.num_modular.specs.Callers.{◌≡◌, ◌+◌, ◌*◌, ◌%◌, All, IsForm, DoneBelow, IsCheckedFormOf, entry}
-use Rattle.ring_erasures.proofs.locator.differentiate.Given as goal
+use Rattle.ring_erasures.proofs.derivative.differentiate.Given as goal
 
 -- the coefficients so far are those of the derivative
 abbrev pub invariant-coefficients : goal.invariant-coefficients

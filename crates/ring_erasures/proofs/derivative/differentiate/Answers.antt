@@ -2,7 +2,7 @@ use Rattle.num_modular.specs.Callers.{◌≡◌, ◌+◌, ◌*◌, ◌%◌, ◌�
 use Rattle.num_modular.specs.Callers.{entry, entry_at, forms_written, done_none, done_more}
 use Rattle.num_modular.specs.NumberLaws.{mod_add, mod_mul, mod_refl, mod_trans}
 use Rattle.ring_codes.proofs.Congruences.{mod_of_residue}
-use Rattle.ring_erasures.proofs.locator.differentiate.Goals as goal
+use Rattle.ring_erasures.proofs.derivative.differentiate.Goals as goal
 
 pub coefficients-init : goal.coefficients-init
 coefficients-init g c =

@@ -1,0 +1,16 @@
+-- Polynomials with given roots (Knuth, The Art of Computer Programming, volume 2, section 4.6.1). The names are the library's
+-- own words.
+use Rattle.std.specs.Prelude.{ℕ, ◌+◌, pos, ◌-ℤ◌}
+use Rattle.num_modular.specs.Congruence.{Congruent}
+use Rattle.num_modular.specs.Polynomials.{polynomial_at}
+use Rattle.num_modular.specs.Products.{product_below}
+use Rattle.num_modular.specs.Residues.{residue}
+
+-- the product of the differences modulo m of a from the c points z
+abbrev pub product_of_differences : ℕ → ℕ → (ℕ → ℕ) → ℕ → ℕ
+product_of_differences m c z a = product_below c (λ l. residue m (pos a -ℤ pos (z l)))
+
+-- the coefficients, the constant first, of the product of X - z for the c points z
+pub record HasRoots (m c : ℕ) (z coefficients : ℕ → ℕ) : Type 0 where
+  pub highest : Congruent m (coefficients c) 1
+  pub value : (a : ℕ) → Congruent m (polynomial_at (c + 1) coefficients a) (product_of_differences m c z a)
