@@ -302,12 +302,11 @@ impl<'a> Code<'a> {
 
     /// The check digit behind the word: the only symbol below m that makes it one of the code, where 10 is X.
     ///
-    /// `None` exactly where no symbol below m does.
+    /// `None` exactly where no symbol below m does. Each code of `standard_codes` has the last weight 1.
     ///
     /// # Panics
     ///
-    /// A debug build panics unless the last weight has an inverse modulo m, as the weight 1 of each code of
-    /// `standard_codes` has.
+    /// A debug build panics unless the last weight has an inverse modulo m.
     ///
     /// A release build doesn't test this: where it doesn't hold, the call panics or its result is unspecified.
     ///
