@@ -1,11 +1,11 @@
 -- What the codes of standards find.
 use Rattle.std.proofs.Common.{Bool, true, ◌&&◌, ◌||◌, nat_eq, nat_lt, ◌↔◌, ◌≡◌, ℕ, zero, suc, ◌+◌, ◌-◌, ◌*◌, ◌%◌, ◌^◌}
-use Rattle.std.proofs.Common.{◌<◌, ◌≤◌, ◌⊎◌, inl, inr, List, length, get_or, sym, ap, ◌∙◌, refl, arith}
+use Rattle.std.proofs.Common.{◌<◌, ◌≤◌, List, length, get_or, sym, ap, refl, arith}
 use Rattle.std.proofs.lemmas.Bool.{and_parts, or_cases, eqb-true, ltb-true}
 use Rattle.std.proofs.lemmas.Nat.{mul-mod_first}
 use Rattle.check_digits.specs.Codes.{CheckCode, Fits, IsCodeword, exchanged}
 use Rattle.check_digits.specs.Codes.{FindsEachChange, FindsEachExchange, FindsAllButFives}
-use Rattle.check_digits.specs.Standards.{from_right, mod_97_10, isbn_10, isbn_13, issn, ean_13, ean_8, upc_a, orcid, aba_rtn}
+use Rattle.check_digits.specs.Standards.{from_right, mod_97_10}
 use Rattle.check_digits.proofs.Characters.{characters}
 use Rattle.check_digits.proofs.CheckSums.{unit_cancels}
 use Rattle.check_digits.proofs.DammDigits.{damm_changes, damm_exchanges}

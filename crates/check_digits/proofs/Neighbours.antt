@@ -15,7 +15,7 @@ use Rattle.num_modular.specs.Inverses.{HasInverse}
 use Rattle.num_modular.specs.NumberLaws.{mod_of_eq, mod_refl, mod_sym, mod_trans, mod_add, mod_mul, mod_add_cancel}
 use Rattle.num_modular.specs.NumberLaws.{residue_of}
 use Rattle.check_digits.specs.Codes.{exchanged}
-use Rattle.check_digits.specs.Ibans.{IsDigit, IsLetter, IsIban, AreElevenfold, FindsAllButElevenfold, digits_of, iban_digits, iban_number, check_number}
+use Rattle.check_digits.specs.Ibans.{IsDigit, IsLetter, IsIban, AreElevenfold, FindsAllButElevenfold, AreOfOneKind, digits_of, iban_digits, iban_number, check_number}
 use Rattle.check_digits.proofs.Characters.{written, written_is, written_more, digit_is, letter_is, power_unit, rotated}
 use Rattle.check_digits.proofs.Decisions.{each_below, passes}
 
@@ -23,29 +23,16 @@ use Rattle.check_digits.proofs.Decisions.{each_below, passes}
 abbrev pair : ℕ → ℕ → List ℕ
 pair c d = digits_of c ++ digits_of d
 
-two_digits : (c d : ℕ) → IsDigit c → IsDigit d → written (pair c d) ≡ (c - 48) * 10 + (d - 48)
-two_digits c d h k = search (arith, digit_is)
-
-two_letters : (c d : ℕ) → IsLetter c → IsLetter d → written (pair c d) ≡ (c - 55) * 100 + (d - 55)
-two_letters c d h k = search (arith, letter_is)
-
-digit_and_letter : (c d : ℕ) → IsDigit c → IsLetter d → written (pair c d) ≡ (c - 48) * 100 + (d - 55)
-digit_and_letter c d h k = search (arith, digit_is, letter_is)
-
-letter_and_digit : (c d : ℕ) → IsLetter c → IsDigit d → written (pair c d) ≡ (c - 55) * 10 + (d - 48)
-letter_and_digit c d h k = search (arith, letter_is, digit_is)
-
 elevenfold : (c d : ℕ) → IsDigit c → IsLetter d → 11 * (c - 48) ≡ d - 55 → AreElevenfold c d
 elevenfold c d h k e = search (arith, cases_eq)
 
 -- two characters that leave the same in either order
 same_pair : (c d : ℕ) → IsDigit c ⊎ IsLetter c → IsDigit d ⊎ IsLetter d → c ≢ d
     → written (pair c d) % 97 ≡ written (pair d c) % 97 → AreElevenfold c d ⊎ AreElevenfold d c
-same_pair c d h2 h3 apart same =
-    grind (arith, two_digits, two_letters, elevenfold, digit_and_letter, letter_and_digit)
+same_pair c d h2 h3 apart same = grind (arith, elevenfold, digit_is, letter_is)
 
-pair_alike : (c d : ℕ) → AreElevenfold c d → written (pair c d) ≡ written (pair d c)
-pair_alike c d h2 = grind arith
+pair_in_either_order : (c d : ℕ) → AreElevenfold c d ⊎ AreElevenfold d c → written (pair c d) ≡ written (pair d c)
+pair_in_either_order c d h2 = grind arith
 
 one_character : (c : ℕ) → flat_map digits_of (c ∷ []) ≡ digits_of c
 one_character c = append-nil (digits_of c)
@@ -55,12 +42,7 @@ number_at : (before behind : List ℕ) (c d : ℕ) → written (flat_map digits_
     ≡ written (flat_map digits_of before) * 10 ^ (length (pair c d) + length (flat_map digits_of behind))
     + (written (pair c d) * 10 ^ length (flat_map digits_of behind) + written (flat_map digits_of behind))
 number_at before behind c d =
-    let a = flat_map digits_of before in
-    let b = flat_map digits_of behind in
-    ap written (search (arith, flat_map-append))
-    ∙ written_more a (pair c d ++ b)
-    ∙ ap (λ k. written a * 10 ^ k + written (pair c d ++ b)) (length-append (pair c d) b)
-    ∙ ap (λ v. written a * 10 ^ (length (pair c d) + length b) + v) (written_more (pair c d) b)
+    grind (arith, flat_map-append, written_more, length-append, append_assoc)
 
 -- where two neighbouring characters of a text stand when its first four are at its end
 record Neighbours (text : List ℕ) (i : ℕ) : Type 0 where
@@ -107,9 +89,7 @@ cancelled_factor m a b c h same =
 -- the exchange leaves the same exactly where the two characters do
 apart_by : (s a b t u : ℕ) → HasInverse 97 t → Congruent 97 (s + (a * t + u)) (s + (b * t + u)) → Congruent 97 a b
 apart_by s a b t u unit same =
-    let e : a * t + (s + u) ≡ s + (a * t + u) = omega arith in
-    let f : s + (b * t + u) ≡ b * t + (s + u) = omega arith in
-    cancelled_factor 97 a b t unit (mod_add_cancel (s + u) (mod_trans (mod_of_eq e) (mod_trans same (mod_of_eq f))))
+    cancelled_factor 97 a b t unit (mod_add_cancel (s + u) (search (arith, mod_trans, mod_of_eq)))
 
 number_by : (before behind : List ℕ) (c d : ℕ) → written (flat_map digits_of (before ++ d ∷ c ∷ behind))
     ≡ written (flat_map digits_of before) * 10 ^ (length (pair c d) + length (flat_map digits_of behind))
@@ -193,11 +173,8 @@ at_three (s ∷ t ∷ u ∷ c ∷ d ∷ rest) iban apart changed =
     (search (arith, both_leave, append_assoc)))
 
 -- neither two letters nor two digits
-letters_found : (c d : ℕ) → IsLetter c → IsLetter d → AreElevenfold c d ⊎ AreElevenfold d c → ⊥
-letters_found c d h k e = omega (arith, h, k, e)
-
-digits_found : (c d : ℕ) → IsDigit c → IsDigit d → AreElevenfold c d ⊎ AreElevenfold d c → ⊥
-digits_found c d h k e = omega (arith, h, k, e)
+alike_found : (c d : ℕ) → AreOfOneKind c d → AreElevenfold c d ⊎ AreElevenfold d c → ⊥
+alike_found c d h e = omega (arith, h, e)
 
 letter_no_digit : (c : ℕ) → IsLetter c → IsDigit c → ⊥
 letter_no_digit c h k = omega (arith, h, k)
@@ -206,10 +183,9 @@ letter_no_digit c h k = omega (arith, h, k)
 first_found : (text : List ℕ) (i : ℕ) → IsIban text → IsIban (exchanged text i) → suc i < length text → i < 3
     → AreElevenfold (get_or text i 0) (get_or text (suc i) 0) ⊎ AreElevenfold (get_or text (suc i) 0) (get_or text i 0) → ⊥
 first_found text i iban changed inside l h =
-    grind (arith, letters_found, length-set, letter_no_digit, get_or-set_same, digits_found)
+    grind (arith, alike_found, length-set, letter_no_digit, get_or-set_same)
 
-pair_in_either_order : (c d : ℕ) → AreElevenfold c d ⊎ AreElevenfold d c → written (pair c d) ≡ written (pair d c)
-pair_in_either_order c d h2 = grind (arith, pair_alike)
+
 
 -- the text with two neighbours that differ exchanged ..
 pub neighbours_told : FindsAllButElevenfold
