@@ -1,48 +1,38 @@
 -- IBANs with two neighbouring characters exchanged.
-use Rattle.std.proofs.Common.{◌≡◌, ◌≢◌, ℕ, zero, suc, ◌+◌, ◌-◌, ◌*◌, ◌/◌, ◌%◌, ◌^◌, ◌<◌, ◌≤◌, ◌⊎◌, inl, inr, Bool, true}
+use Rattle.std.proofs.Common.{◌≡◌, ◌≢◌, ℕ, zero, suc, ◌+◌, ◌-◌, ◌*◌, ◌/◌, ◌%◌, ◌^◌, ◌<◌, ◌≤◌, ◌⊎◌, inl, inr, Bool}
 use Rattle.std.proofs.Common.{nat_eq, if◌then◌else◌, List, [], ◌∷◌, ◌++◌, length, get_or, set, take, drop, length-append}
 use Rattle.std.proofs.Common.{sym, ap, ◌∙◌, refl, arith, subst, length-set, get_or-set_same, get_or-set_other}
 use Rattle.std.specs.List.{flat_map}
-use Rattle.std.proofs.Math.Nat.{mod-eq_of_lt, add-mul-mod_self_left}
 use Rattle.std.proofs.Math.Seq.{take-set-lt}
 use Rattle.std.proofs.lemmas.Bool.{cases_eq, cases_lt, eqb-true}
 use Rattle.std.proofs.lemmas.Grind.{flat_map-append}
 use Rattle.std.proofs.lemmas.List.{append_assoc, append-nil, set-get_or, drop-set-add, drop-set-lt, take-set-le, length-take-le}
 use Rattle.std.proofs.lemmas.List.Elements.{All-set}
-use Rattle.std.proofs.lemmas.Nat.{mul-mod_second}
-use Rattle.num_modular.specs.Congruence.{Congruent}
 use Rattle.num_modular.specs.Inverses.{HasInverse}
-use Rattle.num_modular.specs.NumberLaws.{mod_of_eq, mod_refl, mod_sym, mod_trans, mod_add, mod_mul, mod_add_cancel}
-use Rattle.num_modular.specs.NumberLaws.{residue_of}
+use Rattle.num_modular.specs.NumberLaws.{mod_of_eq, mod_trans}
 use Rattle.check_digits.specs.Codes.{exchanged}
-use Rattle.check_digits.specs.Ibans.{IsDigit, IsLetter, IsIban, AreElevenfold, FindsAllButElevenfold, AreOfOneKind, digits_of, iban_digits, iban_number, check_number}
-use Rattle.check_digits.proofs.Characters.{written, written_is, written_more, digit_is, letter_is, power_unit, rotated}
-use Rattle.check_digits.proofs.Decisions.{each_below, passes}
+use Rattle.check_digits.specs.Ibans.{IsDigit, IsLetter, IsIban, AreElevenfold, FindsAllButElevenfold, AreOfOneKind, digits_of, check_number}
+use Rattle.check_digits.proofs.Characters.{number, number_middle, middle_residue, written_more, digit_is, letter_is, rotated, number_of, both_leave}
+use Rattle.check_digits.proofs.CheckSums.{one_completion}
+use Rattle.check_digits.proofs.Decisions.{passes}
 
--- the digits of two characters, and the number that they write
-abbrev pair : ℕ → ℕ → List ℕ
-pair c d = digits_of c ++ digits_of d
+-- the number that two characters write
+abbrev pair : ℕ → ℕ → ℕ
+pair c d = number (c ∷ d ∷ [])
 
 elevenfold : (c d : ℕ) → IsDigit c → IsLetter d → 11 * (c - 48) ≡ d - 55 → AreElevenfold c d
 elevenfold c d h k e = search (arith, cases_eq)
 
 -- two characters that leave the same in either order
 same_pair : (c d : ℕ) → IsDigit c ⊎ IsLetter c → IsDigit d ⊎ IsLetter d → c ≢ d
-    → written (pair c d) % 97 ≡ written (pair d c) % 97 → AreElevenfold c d ⊎ AreElevenfold d c
+    → pair c d % 97 ≡ pair d c % 97 → AreElevenfold c d ⊎ AreElevenfold d c
 same_pair c d h2 h3 apart same = grind (arith, elevenfold, digit_is, letter_is)
 
-pair_in_either_order : (c d : ℕ) → AreElevenfold c d ⊎ AreElevenfold d c → written (pair c d) ≡ written (pair d c)
+pair_in_either_order : (c d : ℕ) → AreElevenfold c d ⊎ AreElevenfold d c → pair c d ≡ pair d c
 pair_in_either_order c d h2 = grind arith
 
 one_character : (c : ℕ) → flat_map digits_of (c ∷ []) ≡ digits_of c
 one_character c = append-nil (digits_of c)
-
--- the number of characters with two of them named
-number_at : (before behind : List ℕ) (c d : ℕ) → written (flat_map digits_of (before ++ c ∷ d ∷ behind))
-    ≡ written (flat_map digits_of before) * 10 ^ (length (pair c d) + length (flat_map digits_of behind))
-    + (written (pair c d) * 10 ^ length (flat_map digits_of behind) + written (flat_map digits_of behind))
-number_at before behind c d =
-    grind (arith, flat_map-append, written_more, length-append, append_assoc)
 
 -- where two neighbouring characters of a text stand when its first four are at its end
 record Neighbours (text : List ℕ) (i : ℕ) : Type 0 where
@@ -75,53 +65,25 @@ neighbours_of text i long inside other = elim (cases_lt i 4) [
       }
 ]
 
--- a factor with an inverse cancels
-cancelled_factor : (m a b c : ℕ) → HasInverse m c → Congruent m (a * c) (b * c) → Congruent m a b
-cancelled_factor m a b c h same =
-    let one : Congruent m (c * h.0) 1 = record { same = h.1.one } in
-    let back : (x : ℕ) → Congruent m (x * c * h.0) x =
-    λ x.
-    let e : x * c * h.0 ≡ x * (c * h.0) = omega arith in
-    let f : x * 1 ≡ x = omega arith in
-    mod_trans (mod_of_eq e) (mod_trans (mod_mul (mod_refl x) one) (mod_of_eq f)) in
-    mod_trans (mod_sym (back a)) (mod_trans (mod_mul same (mod_refl h.0)) (back b))
+-- two characters have as many digits in either order
+pair_length : (c d : ℕ) → length (flat_map digits_of (c ∷ d ∷ [])) ≡ length (flat_map digits_of (d ∷ c ∷ []))
+pair_length c d = grind (arith, length-append)
 
--- the exchange leaves the same exactly where the two characters do
-apart_by : (s a b t u : ℕ) → HasInverse 97 t → Congruent 97 (s + (a * t + u)) (s + (b * t + u)) → Congruent 97 a b
-apart_by s a b t u unit same =
-    cancelled_factor 97 a b t unit (mod_add_cancel (s + u) (search (arith, mod_trans, mod_of_eq)))
-
-number_by : (before behind : List ℕ) (c d : ℕ) → written (flat_map digits_of (before ++ d ∷ c ∷ behind))
-    ≡ written (flat_map digits_of before) * 10 ^ (length (pair c d) + length (flat_map digits_of behind))
-    + (written (pair d c) * 10 ^ length (flat_map digits_of behind) + written (flat_map digits_of behind))
-number_by before behind c d = search (arith, length-append, number_at)
-
-exchanged_neighbours : (before behind : List ℕ) (c d : ℕ)
-    → written (flat_map digits_of (before ++ c ∷ d ∷ behind)) % 97 ≡ written (flat_map digits_of (before ++ d ∷ c ∷ behind)) % 97
-    → written (pair c d) % 97 ≡ written (pair d c) % 97
-exchanged_neighbours before behind c d same = search (arith, apart_by, power_unit, mod_trans, mod_of_eq, number_at, number_by)
-
-kept_neighbours : (before behind : List ℕ) (c d : ℕ) → written (pair c d) ≡ written (pair d c)
-    → written (flat_map digits_of (before ++ c ∷ d ∷ behind)) ≡ written (flat_map digits_of (before ++ d ∷ c ∷ behind))
-kept_neighbours before behind c d same = search (arith, number_at, number_by)
+kept_neighbours : (before behind : List ℕ) (c d : ℕ) → pair c d ≡ pair d c
+    → number (before ++ c ∷ d ∷ behind) ≡ number (before ++ d ∷ c ∷ behind)
+kept_neighbours before behind c d same =
+    let first = number_middle before (c ∷ d ∷ []) behind in
+    let second = number_middle before (d ∷ c ∷ []) behind in
+    grind (arith, pair_length)
 
 -- powers of ten less 1 have inverses modulo 97, from 10 to 10^68
-abbrev less_one : ℕ → ℕ
-less_one k = 10 ^ suc k % 97 + 96
-
-abbrev less_one_test : ℕ → Bool
-less_one_test k = nat_eq ((less_one k * less_one k ^ 95) % 97) 1
-
-less_one_passes : each_below 68 less_one_test ≡ true
-less_one_passes = refl
-
 less_one_unit : (k : ℕ) → k < 68 → HasInverse 97 (10 ^ suc k + 96)
 less_one_unit k l =
-    let a : ℕ = less_one k in
-    let x : ℕ = a ^ 95 % 97 in
-    let one : (a * x) % 97 ≡ 1 = mul-mod_second _ _ _ ∙ eqb-true _ _ (passes _ less_one_test less_one_passes _ l) in
-    let is : Congruent 97 (10 ^ suc k + 96) a = mod_sym (mod_add (residue_of _) (mod_refl _)) in
-    (x, record { below = omega arith; one = (mod_mul is (mod_refl _)).same ∙ one })
+    let x = λ (k : ℕ). (10 ^ suc k + 96) ^ 95 % 97 in
+    (x k, record {
+      below = omega arith;
+      one = eqb-true _ _ (passes 68 (λ k. nat_eq (((10 ^ suc k + 96) * x k) % 97) 1) refl k l);
+    })
 
 -- a character has two digits at most
 few_digits : (b : Bool) (c : ℕ) → length (if b then (c - 48) ∷ [] else ((c - 55) / 10) ∷ ((c - 55) % 10) ∷ []) ≤ 2
@@ -132,33 +94,19 @@ digits_at_most [] = omega arith
 digits_at_most (c ∷ cs) = search (arith, length-append, few_digits, digits_at_most cs)
 
 -- the last check digit is read last, and the character behind it first
-ends_number : (mid : List ℕ) (c d : ℕ) → IsDigit c → IsDigit d → written (flat_map digits_of (d ∷ mid ++ c ∷ []))
-    ≡ (d - 48) * 10 ^ suc (length (flat_map digits_of mid)) + (written (flat_map digits_of mid) * 10 + (c - 48))
+ends_number : (mid : List ℕ) (c d : ℕ) → IsDigit c → IsDigit d → number (d ∷ mid ++ c ∷ [])
+    ≡ (d - 48) * 10 ^ suc (length (flat_map digits_of mid)) + (number mid * 10 + (c - 48))
 ends_number mid c d h k = search (arith, flat_map-append, one_character, digit_is, length-append, written_more)
 
 ends_differ : (m c d p : ℕ) → HasInverse 97 (p + 96) → c < 10 → d < 10
-    → Congruent 97 (d * p + (m + c)) (c * p + (m + d)) → d ≡ c
+    → (d * p + (m + c)) % 97 ≡ (c * p + (m + d)) % 97 → d ≡ c
 ends_differ m c d p unit c_small d_small same =
-    let less : (x k : ℕ) → Congruent 97 (x + 97 * k) x = λ x k. record { same = add-mul-mod_self_left x _ k } in
-    let whole : Congruent 97 (d * (p + 96) + m) (c * (p + 96) + m) =
-    mod_trans (mod_sym (less (d * (p + 96) + m) c)) (search (arith, mod_trans, mod_of_eq, mod_add, mod_refl)) in
-    let d_below : d < 97 = omega (arith, d_small) in
-    let c_below : c < 97 = omega (arith, c_small) in
-    sym (mod-eq_of_lt d_below) ∙ (cancelled_factor _ _ _ _ unit (mod_add_cancel _ whole)).same ∙ mod-eq_of_lt c_below
+    one_completion 97 m (p + 96) c d unit (omega (arith, c_small)) (omega (arith, d_small)) (omega (arith, same))
 
 ends_exchanged : (mid : List ℕ) (c d : ℕ) → IsDigit c → IsDigit d → length mid ≤ 32
-    → written (flat_map digits_of (d ∷ mid ++ c ∷ [])) % 97 ≡ written (flat_map digits_of (c ∷ mid ++ d ∷ [])) % 97 → c ≡ d
+    → number (d ∷ mid ++ c ∷ []) % 97 ≡ number (c ∷ mid ++ d ∷ []) % 97 → c ≡ d
 ends_exchanged mid c d h k few same =
     search (arith, digits_at_most, ends_differ, less_one_unit, mod_trans, mod_of_eq, ends_number)
-
-number_of : (text xs : List ℕ) → rotated text ≡ xs → written (flat_map digits_of xs) ≡ iban_number text
-number_of text xs e = ap (λ ys. written (flat_map digits_of ys)) (sym e) ∙ written_is (iban_digits text)
-
--- two texts that leave the same
-both_leave : (s t xs ys : List ℕ) → IsIban s → IsIban t → rotated s ≡ xs → rotated t ≡ ys
-    → written (flat_map digits_of xs) % 97 ≡ written (flat_map digits_of ys) % 97
-both_leave s t xs ys is_s is_t e f =
-    ap (λ k. k % 97) (number_of s xs e) ∙ is_s.leaves ∙ sym (ap (λ k. k % 97) (number_of t ys f) ∙ is_t.leaves)
 
 at_three : (text : List ℕ) → IsIban text → get_or text 3 0 ≢ get_or text 4 0 → IsIban (exchanged text 3) → ⊥
 at_three [] iban apart changed = absurd (omega arith)
@@ -203,7 +151,7 @@ neighbours_told text i iban inside apart =
             (subst (λ j. IsIban (exchanged text j)) e changed))
         | inr other ↦
             let at = neighbours_of text i long inside other in
-            let same = exchanged_neighbours at.before at.behind x y
+            let same = middle_residue at.before (x ∷ y ∷ []) (y ∷ x ∷ []) at.behind (pair_length x y)
             (search (arith, both_leave)) in
             search (arith, same_pair, cases_lt, first_found)
       ],
