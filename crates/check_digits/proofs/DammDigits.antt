@@ -8,7 +8,7 @@ use Rattle.std.proofs.lemmas.Bool.{ltb-true, eqb-true}
 use Rattle.check_digits.specs.Codes.{exchanged, FindsEachChange, FindsEachExchange, IsCheckSymbol}
 use Rattle.check_digits.specs.Damm.{damm_product, damm_check, IsDamm}
 use Rattle.check_digits.specs.States.{state_after}
-use Rattle.check_digits.proofs.Decisions.{each_below, passes, apart}
+use Rattle.check_digits.proofs.Decisions.{each_below, passes, apart, IsAsymmetric}
 use Rattle.check_digits.proofs.States.{Distinguishes, changed_apart, exchanged_apart, state_same, state_next, state_most, one_more, all_more}
 
 pub product_small : (a b : ℕ) → a ≤ 9 → b ≤ 9 → damm_product a b ≤ 9
@@ -18,22 +18,20 @@ product_small a b a_most b_most =
     (passes 10 (λ a. each_below 10 (λ b. nat_lt (damm_product a b) 10)) refl a (omega arith)) b (omega arith) in
     search (arith, ltb-true)
 
-pub rows : (c a b : ℕ) → c ≤ 9 → a ≤ 9 → b ≤ 9 → damm_product c a ≡ damm_product c b → a ≡ b
-rows c a b c_most a_most b_most same = apart (λ c a b. damm_product c a) refl c a b c_most a_most b_most same
+pub rows : IsAsymmetric (λ c a b. damm_product c a)
+rows = apart (λ c a b. damm_product c a) refl
 
-columns : (c a b : ℕ) → c ≤ 9 → a ≤ 9 → b ≤ 9 → damm_product a c ≡ damm_product b c → a ≡ b
-columns c a b c_most a_most b_most same = apart (λ c a b. damm_product a c) refl c a b c_most a_most b_most same
+columns : IsAsymmetric (λ c a b. damm_product a c)
+columns = apart (λ c a b. damm_product a c) refl
 
-orders : (c a b : ℕ) → c ≤ 9 → a ≤ 9 → b ≤ 9
-    → damm_product (damm_product c a) b ≡ damm_product (damm_product c b) a → a ≡ b
-orders c a b c_most a_most b_most same =
-    apart (λ c a b. damm_product (damm_product c a) b) refl c a b c_most a_most b_most same
+ordered_entries : IsAsymmetric (λ c a b. damm_product (damm_product c a) b)
+ordered_entries = apart (λ c a b. damm_product (damm_product c a) b) refl
 
 abbrev pub damm_step : ℕ → ℕ → ℕ → ℕ
 damm_step i c d = damm_product c d
 
 damm_distinguishes : Distinguishes damm_step
-damm_distinguishes = search (arith, product_small, columns, rows, orders)
+damm_distinguishes = search (arith, product_small, columns, rows, ordered_entries)
 
 digit_at : (word : List ℕ) → All (λ d. d ≤ 9) word → (j : ℕ) → j < length word → get_or word j 0 ≤ 9
 digit_at word all j l = all j 0 l

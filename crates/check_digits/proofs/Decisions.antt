@@ -15,14 +15,15 @@ passes (suc n) test h i l =
 
 -- whether a term of three digits is the same with the last two exchanged only where these are equal
 abbrev pub asymmetric : (ℕ → ℕ → ℕ → ℕ) → Bool
-asymmetric u = each_below 10 (λ c. each_below 10 (λ a. each_below 10 (λ b.
-    not (nat_eq (u c a b) (u c b a)) || nat_eq a b)))
+asymmetric u = each_below 10 (λ c. each_below 10 (λ a. each_below 10 (λ b. not (nat_eq (u c a b) (u c b a)) || nat_eq a b)))
+
+abbrev pub IsAsymmetric : (ℕ → ℕ → ℕ → ℕ) → Type 0
+IsAsymmetric u = (c a b : ℕ) → c ≤ 9 → a ≤ 9 → b ≤ 9 → u c a b ≡ u c b a → a ≡ b
 
 not_or : (p q : Bool) → (not p || q) ≡ true → p ≡ true → q ≡ true
 not_or p q h e = grind (arith, false≢true)
 
-pub apart : (u : ℕ → ℕ → ℕ → ℕ) → asymmetric u ≡ true → (c a b : ℕ) → c ≤ 9 → a ≤ 9 → b ≤ 9
-    → u c a b ≡ u c b a → a ≡ b
+pub apart : (u : ℕ → ℕ → ℕ → ℕ) → asymmetric u ≡ true → IsAsymmetric u
 apart u h c a b c_most a_most b_most same =
     let t : (not (nat_eq (u c a b) (u c b a)) || nat_eq a b) ≡ true =
     passes 10 (λ b. not (nat_eq (u c a b) (u c b a)) || nat_eq a b)

@@ -8,52 +8,45 @@ use Rattle.std.proofs.lemmas.Bool.{ltb-true, eqb-true}
 use Rattle.check_digits.specs.Codes.{exchanged, FindsEachChange, FindsEachExchange, IsCheckSymbol}
 use Rattle.check_digits.specs.Verhoeff.{dihedral, permuted, image, verhoeff_product, IsVerhoeff}
 use Rattle.check_digits.specs.States.{state_after}
-use Rattle.check_digits.proofs.Decisions.{each_below, passes, apart}
+use Rattle.check_digits.proofs.Decisions.{each_below, passes, apart, IsAsymmetric}
 use Rattle.check_digits.proofs.States.{Distinguishes, changed_apart, exchanged_apart, state_first, state_same, state_next, state_most, state_later, one_more, all_more}
 
 pub dihedral_small : (a b : ℕ) → dihedral a b ≤ 9
 dihedral_small a b = omega arith
 
-pub left_cancels : (c a b : ℕ) → c ≤ 9 → a ≤ 9 → b ≤ 9 → dihedral c a ≡ dihedral c b → a ≡ b
-left_cancels c a b c_most a_most b_most same = apart (λ c a b. dihedral c a) refl c a b c_most a_most b_most same
+pub left_cancels : IsAsymmetric (λ c a b. dihedral c a)
+left_cancels = apart (λ c a b. dihedral c a) refl
 
-right_cancels : (c a b : ℕ) → c ≤ 9 → a ≤ 9 → b ≤ 9 → dihedral a c ≡ dihedral b c → a ≡ b
-right_cancels c a b c_most a_most b_most same = apart (λ c a b. dihedral a c) refl c a b c_most a_most b_most same
+right_cancels : IsAsymmetric (λ c a b. dihedral a c)
+right_cancels = apart (λ c a b. dihedral a c) refl
 
-orders : (c a b : ℕ) → c ≤ 9 → a ≤ 9 → b ≤ 9
-    → dihedral (dihedral c a) (permuted b) ≡ dihedral (dihedral c b) (permuted a) → a ≡ b
-orders c a b c_most a_most b_most same =
-    apart (λ c a b. dihedral (dihedral c a) (permuted b)) refl c a b c_most a_most b_most same
+ordered_products : IsAsymmetric (λ c a b. dihedral (dihedral c a) (permuted b))
+ordered_products = apart (λ c a b. dihedral (dihedral c a) (permuted b)) refl
 
-permuted_apart : (a b : ℕ) → a ≤ 9 → b ≤ 9 → permuted a ≡ permuted b → a ≡ b
-permuted_apart a b a_most b_most same = apart (λ c a b. permuted a) refl 0 a b (omega arith) a_most b_most same
+permuted_apart : IsAsymmetric (λ c a b. permuted a)
+permuted_apart = apart (λ c a b. permuted a) refl
 
 associates : (a b c : ℕ) → a ≤ 9 → b ≤ 9 → c ≤ 9 → dihedral a (dihedral b c) ≡ dihedral (dihedral a b) c
 associates a b c a_most b_most c_most = search (arith, eqb-true, passes)
 
 unit_behind : (a : ℕ) → a ≤ 9 → dihedral a 0 ≡ a
-unit_behind a most = eqb-true (dihedral a 0) a (passes 10 (λ a. nat_eq (dihedral a 0) a) refl a (omega arith))
+unit_behind a most = grind (arith, most)
 
 unit_before : (a : ℕ) → a ≤ 9 → dihedral 0 a ≡ a
-unit_before a most = eqb-true (dihedral 0 a) a (passes 10 (λ a. nat_eq (dihedral 0 a) a) refl a (omega arith))
+unit_before a most = grind (arith, most)
 
 -- the inverse: that of a rotation, and a reflection itself
 abbrev pub inverse_of : ℕ → ℕ
 inverse_of a = if nat_lt a 5 then (5 - a) % 5 else a
 
 inverse_small : (a : ℕ) → a ≤ 9 → inverse_of a ≤ 9
-inverse_small a most = search (arith, ltb-true, passes)
+inverse_small a most = grind (arith, most)
 
 inverse_cancels : (a : ℕ) → a ≤ 9 → dihedral (inverse_of a) a ≡ 0
-inverse_cancels a most =
-    eqb-true (dihedral (inverse_of a) a) 0 (passes 10 (λ a. nat_eq (dihedral (inverse_of a) a) 0) refl a (omega arith))
+inverse_cancels a most = grind (arith, most)
 
 permuted_small : (a : ℕ) → a ≤ 9 → permuted a ≤ 9
 permuted_small a most = search (arith, ltb-true, passes)
-
-image_next : (k d : ℕ) → image (suc k) d ≡ permuted (image k d)
-unfolding image
-image_next k d = refl
 
 pub image_small : (k d : ℕ) → d ≤ 9 → image k d ≤ 9
 unfolding image
@@ -65,23 +58,22 @@ unfolding image
 image_apart zero a b a_most b_most same = same
 image_apart (suc k) a b a_most b_most same =
     image_apart k a b a_most b_most
-    (permuted_apart (image k a) (image k b) (image_small k a a_most) (image_small k b b_most) same)
+    (permuted_apart 0 _ _ (omega arith) (image_small k a a_most) (image_small k b b_most) same)
 
 -- the step at a place, the first place being that of the last digit
 abbrev pub verhoeff_step : ℕ → ℕ → ℕ → ℕ → ℕ
 verhoeff_step first i c d = dihedral c (image (i + first) d)
 
 image_step : (first i d : ℕ) → image (suc i + first) d ≡ permuted (image (i + first) d)
-image_step first i d =
-    let e : suc i + first ≡ suc (i + first) = omega arith in
-    ap (λ k. image k d) e ∙ image_next (i + first) d
+unfolding image
+image_step first i d = search arith
 
 pub verhoeff_distinguishes : (first : ℕ) → Distinguishes (verhoeff_step first)
 verhoeff_distinguishes first = record {
   closed = λ i c d _ _. dihedral_small c (image (i + first) d);
   states = search (arith, right_cancels, image_small);
   digits = search (arith, image_apart, left_cancels, image_small);
-  orders = search (arith, image_apart, orders, image_small, image_step);
+  orders = search (arith, image_apart, ordered_products, image_small, image_step);
 }
 
 digit_at : (word : List ℕ) → All (λ d. d ≤ 9) word → (n : ℕ) → length word ≡ n → (j : ℕ) → j < n
@@ -133,10 +125,8 @@ from_state : (first start n : ℕ) (f : ℕ → ℕ) → start ≤ 9 → ((j : �
     → state_after (verhoeff_step first) start f n ≡ dihedral start (state_after (verhoeff_step first) 0 f n)
 from_state first start zero f most digits = search (arith, state_first, unit_behind)
 from_state first start (suc n) f most digits =
-    let d = image (n + first) (f n) in
-    state_next (verhoeff_step first) start f n
-    ∙ ap (λ c. dihedral c d) (from_state first start n f most (λ j l. digits j (omega arith)))
-    ∙ sym (search (arith, state_next, associates, state_most, verhoeff_distinguishes, image_small))
+    let before = from_state first start n f most (λ j l. digits j (omega arith)) in
+    search (arith, before, state_next, associates, state_most, verhoeff_distinguishes, image_small)
 
 later_step : (i c d : ℕ) → verhoeff_step 0 (suc i) c d ≡ verhoeff_step 1 i c d
 later_step i c d = let e : suc i + 0 ≡ i + 1 = omega arith in ap (λ k. dihedral c (image k d)) e
@@ -166,28 +156,20 @@ verhoeff_completed word all =
     grind (arith, state_most, verhoeff_distinguishes, digit_at, inverse_small, one_more, all_more, more_product, inverse_cancels, right_cancels)
 
 -- the permutation is the identity after eight steps
-eightfold : (a : ℕ) → a ≤ 9 → image 8 a ≡ a
+eightfold : (k a : ℕ) → a ≤ 9 → image (8 + k) a ≡ image k a
 unfolding image
-eightfold a most = eqb-true (image 8 a) a (passes 10 (λ a. nat_eq (image 8 a) a) refl a (omega arith))
+eightfold zero a most = eqb-true (image 8 a) a (passes 10 (λ a. nat_eq (image 8 a) a) refl a (omega arith))
+eightfold (suc k) a most = let e : 8 + suc k ≡ suc (8 + k) = omega arith in ap (λ k. image k a) e ∙ ap permuted (eightfold k a most)
 
-image_sum : (k l d : ℕ) → image (k + l) d ≡ image k (image l d)
-unfolding image
-image_sum zero l d = let e : 0 + l ≡ l = omega arith in ap (λ k. image k d) e
-image_sum (suc k) l d =
-    let e : suc k + l ≡ suc (k + l) = omega arith in
-    ap (λ k. image k d) e ∙ image_next (k + l) d ∙ ap permuted (image_sum k l d)
-
-image_eights : (q d : ℕ) → d ≤ 9 → image (8 * q) d ≡ d
-unfolding image
-image_eights zero d most = let e : 8 * 0 ≡ 0 = omega arith in ap (λ k. image k d) e
-image_eights (suc q) d most =
-    let e : 8 * suc q ≡ 8 + 8 * q = omega arith in
-    ap (λ k. image k d) e ∙ image_sum 8 (8 * q) d ∙ ap (image 8) (image_eights q d most) ∙ eightfold d most
+image_eights : (q k d : ℕ) → d ≤ 9 → image (k + 8 * q) d ≡ image k d
+image_eights zero k d most = search arith
+image_eights (suc q) k d most =
+    let e : k + 8 * suc q ≡ 8 + (k + 8 * q) = omega arith in
+    ap (λ k. image k d) e ∙ eightfold _ d most ∙ image_eights q k d most
 
 pub image_residue : (k d : ℕ) → d ≤ 9 → image k d ≡ image (k % 8) d
 image_residue k d most =
-    let e : k ≡ k % 8 + 8 * (k / 8) = omega arith in
-    ap (λ k. image k d) e ∙ image_sum (k % 8) (8 * (k / 8)) d ∙ ap (image (k % 8)) (image_eights (k / 8) d most)
+    let e : k ≡ k % 8 + 8 * (k / 8) = omega arith in ap (λ k. image k d) e ∙ image_eights (k / 8) _ d most
 
 -- the images at eight places, ten digits each
 abbrev row : ℕ → List ℕ
