@@ -1,16 +1,15 @@
 -- IBANs with one character changed.
-use Rattle.std.proofs.Common.{◌≡◌, ℕ, zero, suc, ◌+◌, ◌-◌, ◌*◌, ◌/◌, ◌%◌, ◌^◌, ◌<◌, ◌≤◌, inl, inr, Bool, false, nat_le}
+use Rattle.std.proofs.Common.{◌≡◌, ℕ, suc, ◌+◌, ◌-◌, ◌*◌, ◌/◌, ◌%◌, ◌^◌, ◌<◌, ◌≤◌, inl, inr, Bool, false, nat_le}
 use Rattle.std.proofs.Common.{if◌then◌else◌, List, [], ◌∷◌, ◌++◌, length, get_or, set, take, drop, length-append}
 use Rattle.std.proofs.Common.{sym, ap, ◌∙◌, refl, arith, pow-add}
 use Rattle.std.specs.List.{flat_map}
-use Rattle.std.proofs.Math.Nat.{pow-zero, pow-suc}
 use Rattle.std.proofs.Math.Seq.{take-set-lt}
 use Rattle.std.proofs.lemmas.Bool.{cases_lt, leb-true, le-leb, false≢true}
 use Rattle.std.proofs.lemmas.Grind.{flat_map-append}
 use Rattle.std.proofs.lemmas.List.{append_assoc, set_split, set-get_or, length-take-le, drop-set-add, drop-set-lt, take-set-le}
 use Rattle.std.proofs.lemmas.Nat.{mul-pow, mul-mod_second, pow-mod}
 use Rattle.num_modular.specs.Inverses.{HasInverse}
-use Rattle.num_modular.specs.NumberLaws.{sum_below-first, sum_below-same}
+use Rattle.num_modular.specs.NumberLaws.{sum_below-first, sum_below-same, one-pow}
 use Rattle.num_modular.specs.Sums.{sum_below, polynomial_highest_first}
 use Rattle.check_digits.specs.Ibans.{IsDigit, IsLetter, IsIban, AreOfOneKind, FindsEachCharacter, digits_of, iban_digits, iban_number}
 use Rattle.check_digits.proofs.CheckSums.{unit_cancels}
@@ -56,17 +55,12 @@ alike : (c d : ℕ) → AreOfOneKind c d → (length (flat_map digits_of (c ∷ 
 alike c d kind = search (arith, digit_is, letter_is)
 
 -- powers of ten have inverses modulo 97
-one_power : (k : ℕ) → 1 ^ k ≡ 1
-one_power zero = pow-zero 1
-one_power (suc k) = pow-suc 1 k ∙ ap (λ n. n * 1) (one_power k)
-
 pub power_unit : (k : ℕ) → HasInverse 97 (10 ^ k)
 power_unit k = (
   68 ^ k % 97,
   record {
     below = omega arith;
-    one = mul-mod_second (10 ^ k) (68 ^ k) 97 ∙ ap (λ n. n % 97) (sym (mul-pow 10 68 k)) ∙ sym (pow-mod 680 k 97)
-        ∙ ap (λ n. n % 97) (one_power k);
+    one = grind (arith, mul-mod_second, mul-pow 10 68 k, pow-mod 680 k 97, one-pow);
   },
 )
 

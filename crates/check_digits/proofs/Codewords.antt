@@ -1,10 +1,9 @@
 -- Words of codes with one symbol changed, or with two neighbours exchanged.
-use Rattle.std.proofs.Common.{Bool, IsTrue, ◌↔◌, ◌≡◌, ◌≢◌, ℕ, suc, ◌+◌, ◌-◌, ◌*◌, ◌%◌, ◌<◌, pos, ◌-ℤ◌}
+use Rattle.std.proofs.Common.{Bool, IsTrue, ◌↔◌, ◌≡◌, ◌≢◌, ℕ, suc, ◌+◌, ◌*◌, ◌%◌, ◌<◌, pos, ◌-ℤ◌}
 use Rattle.std.proofs.Math.ListN.{get_or-append}
 use Rattle.std.proofs.Math.Seq.{get_or-append_seam}
 use Rattle.std.proofs.Common.{List, [], ◌∷◌, ◌++◌, length, length-append, get_or, set, arith}
 use Rattle.std.proofs.Common.{length-set, get_or-set_same, get_or-set_other}
-use Rattle.std.proofs.Math.Nat.{mod-add-mod, add-mul-mod_self_left, mod-eq_of_lt}
 use Rattle.std.proofs.lemmas.Bool.{cases_eq, cases_lt}
 use Rattle.num_modular.specs.NumberLaws.{difference_and}
 use Rattle.num_modular.specs.Residues.{residue}
@@ -46,14 +45,6 @@ exchanged_word code word p e d is within weights symbols =
     let still = still_leaves code.modulus code.residue _ _ _ is.leaves
     (exchanged_sum code.modulus _ _ _ _ _ _ e d moved weights symbols) in
     search (arith, length-set, get_or-set_other, get_or-set_same, set_fits)
-
--- a difference that is 0 modulo m, of residues
-pub same_residues : (m d x y : ℕ) → x < m → y < m → (d + x) % m ≡ y % m → d % m ≡ 0 → y ≡ x
-same_residues m d x y x_below y_below difference none = search (arith, mod-eq_of_lt, mod-add-mod)
-
--- a difference of residues
-pub a_difference : (m x y : ℕ) → x < m → (y + (m - x) + x) % m ≡ y % m
-a_difference m x y h = search (arith, add-mul-mod_self_left)
 
 -- the same by the residues of the differences
 pub change_told : (code : CheckCode) (word : List ℕ) (p s : ℕ) → 0 < code.modulus → IsCodeword code word → p < length word

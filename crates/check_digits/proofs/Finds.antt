@@ -7,10 +7,10 @@ use Rattle.check_digits.specs.Codes.{CheckCode, Fits, IsCodeword, exchanged}
 use Rattle.check_digits.specs.Codes.{FindsEachChange, FindsEachExchange, FindsAllButFives}
 use Rattle.check_digits.specs.Standards.{from_right, mod_97_10}
 use Rattle.check_digits.proofs.Characters.{characters}
-use Rattle.check_digits.proofs.CheckSums.{unit_cancels}
+use Rattle.check_digits.proofs.CheckSums.{unit_cancels, same_residues, a_difference}
 use Rattle.check_digits.proofs.DammDigits.{damm_changes, damm_exchanges}
 use Rattle.check_digits.proofs.Decisions.{each_below, passes}
-use Rattle.check_digits.proofs.Codewords.{changed_word, exchanged_word, same_residues, a_difference}
+use Rattle.check_digits.proofs.Codewords.{changed_word, exchanged_word}
 use Rattle.check_digits.proofs.VerhoeffDigits.{verhoeff_changes, verhoeff_exchanges}
 
 -- the test of a place: its symbols are residues, and its weight has an inverse, a power of it
