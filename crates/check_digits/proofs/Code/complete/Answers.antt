@@ -1,25 +1,18 @@
-use Rattle.std.proofs.Common.{rules, ◌≡◌, ◌+◌, ◌*◌, ◌%◌, sym, ◌∙◌, ap, subst}
-use Rattle.num_modular.specs.Integers.{residue_of}
-use Rattle.num_modular.specs.Inverses.{HasInverse}
-use Rattle.num_modular.specs.NumberLaws.{difference_and}
-use Rattle.check_digits.proofs.CheckSums.{completed_sum, one_completion, has_to_residue}
+use Rattle.std.proofs.Common.{rules, ◌+◌, ◌%◌, sym, ◌∙◌, ap}
+use Rattle.num_modular.specs.NumberLaws.{difference_and, inverse_mod}
+use Rattle.check_digits.proofs.CheckSums.{completed_sum, one_completion}
 use Rattle.check_digits.proofs.Code.complete.Goals as goal
 
 pub div-quotient-requires : goal.div-quotient-requires
 div-quotient-requires c = (
   c.convert.ensures.modulus,
-  subst (λ k. HasInverse k (residue_of c.new-divisor.result)) (sym c.new-divisor.ensures.modulus)
-      (has_to_residue c.args.self.now.modulus c.args.weight _ c.new-divisor.ensures.residue c.requires),
+  rw c.new-divisor.ensures.modulus (rw c.new-divisor.ensures.residue (c.requires.0, inverse_mod _ _ _ c.requires.1)),
 )
 
 pub returns-clause-leaves : goal.returns-clause-leaves
 returns-clause-leaves c =
     let m = c.args.self.now.modulus in
-    let w = c.args.weight in
-    let q = c.residue.result in
-    let rest = c.subm.result in
-    let product : (q * (w % m)) % m ≡ rest % m = cc in
-    completed_sum m c.args.sum w q rest c.args.self.now.residue product
+    completed_sum m c.args.sum c.args.weight c.residue.result c.subm.result c.args.self.now.residue (cc)
     (ap (λ k. (k + c.args.sum) % m) c.subm.ensures
     ∙ difference_and m c.args.self.now.residue c.args.sum c.args.self.now.positive)
 

@@ -1,4 +1,4 @@
-use Rattle.std.proofs.Common.{◌≡◌, ℕ, suc, List, ◌+◌, ◌*◌, ◌%◌, pos, ◌-ℤ◌, add-one, get_or, ap, ◌∙◌}
+use Rattle.std.proofs.Common.{◌≡◌, ℕ, suc, List, ◌+◌, ◌*◌, ◌%◌, pos, ◌-ℤ◌, add-one, arith, get_or}
 use Rattle.num_modular.specs.NumberLaws.{difference_and}
 use Rattle.num_modular.specs.Residues.{residue}
 use Rattle.check_digits.specs.Codes.{code_of}
@@ -11,26 +11,17 @@ is_product : (m : ℕ) (ws xs : List ℕ) (p e d v : ℕ) → e ≡ residue m (p
     → d ≡ residue m (pos (get_or xs (p + 1) 0) -ℤ pos (get_or xs p 0)) → v ≡ (e * d) % m
     → v ≡ (residue m (pos (get_or ws p 0) -ℤ pos (get_or ws (suc p) 0))
     * residue m (pos (get_or xs (suc p) 0) -ℤ pos (get_or xs p 0))) % m
-is_product m ws xs p e d v weights symbols product =
-    product ∙ ap (λ k. (k * d) % m) (weights ∙ ap (λ j. residue m (pos (get_or ws p 0) -ℤ pos (get_or ws j 0))) (add-one p))
-    ∙ ap (λ k. (residue m (pos (get_or ws p 0) -ℤ pos (get_or ws (suc p) 0)) * k) % m)
-    (symbols ∙ ap (λ j. residue m (pos (get_or xs j 0) -ℤ pos (get_or xs p 0))) (add-one p))
+is_product m ws xs p e d v weights symbols product = search (arith, add-one)
 
-pub returns-clause-refused : goal.returns-clause-refused
-returns-clause-refused c =
-    (found _ _ (is_product c.args.self.now.modulus c.args.self.now.weights.now c.args.word.now c.args.place _ _ _
-    c.subm-weight.ensures c.subm-difference.ensures c.mulm-product.ensures) c.is_found.ensures c.fit_exchanged.ensures
-    (exchange_told (code_of c.args.self.now) c.args.word.now c.args.place c.args.self.now.positive c.requires.accepted
-    c.requires.within)).0
-
-pub returns-clause-product : goal.returns-clause-product
-returns-clause-product c =
-    (found _ _ (is_product c.args.self.now.modulus c.args.self.now.weights.now c.args.word.now c.args.place _ _ _
-    c.subm-weight.ensures c.subm-difference.ensures c.mulm-product.ensures) c.is_found.ensures c.fit_exchanged.ensures
-    (exchange_told (code_of c.args.self.now) c.args.word.now c.args.place c.args.self.now.positive c.requires.accepted
-    c.requires.within)).1
-
-pub returns-clause-unit : goal.returns-clause-unit
-returns-clause-unit c inverse apart =
-    (returns-clause-product c).1
-    (λ _. unit_finds _ _ _ _ _ inverse (difference_and c.args.self.now.modulus _ _ c.args.self.now.positive) apart)
+pub returns : goal.returns
+returns c =
+    let code = code_of c.args.self.now in
+    let both = found _ _ (is_product code.modulus code.weights c.args.word.now c.args.place _ _ _ c.subm-weight.ensures
+    c.subm-difference.ensures c.mulm-product.ensures) c.is_found.ensures c.fit_exchanged.ensures
+    (exchange_told code c.args.word.now c.args.place c.args.self.now.positive c.requires.accepted c.requires.within) in
+    record {
+      refused = both.0;
+      product = both.1;
+      unit = λ inverse apart. both.1.1
+          (λ _. unit_finds _ _ _ _ _ inverse (difference_and code.modulus _ _ c.args.self.now.positive) apart);
+    }

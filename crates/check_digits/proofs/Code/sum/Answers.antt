@@ -1,9 +1,9 @@
-use Rattle.std.proofs.Common.{◌∙◌}
-use Rattle.num_modular.specs.NumberLaws.{sum_none, sum_more, mod_of_eq, mod_trans, residue_of}
+use Rattle.std.proofs.Common.{◌%◌, ap, sym, ◌∙◌}
+use Rattle.num_modular.specs.NumberLaws.{sum_below-zero, sum_more, mod_of_eq, mod_trans, residue_of}
 use Rattle.check_digits.proofs.Code.sum.Goals as goal
 
 pub places-init : goal.places-init
-places-init c = sum_none _ _
+places-init c = ap (λ n. n % c.args.self.now.modulus) (sym (sum_below-zero _))
 
 pub places-preserved : goal.places-preserved
 places-preserved c =
