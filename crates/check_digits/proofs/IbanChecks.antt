@@ -1,6 +1,6 @@
 -- The check digits of an IBAN.
 use Rattle.std.proofs.Common.{◌≡◌, ℕ, ◌+◌, ◌-◌, ◌*◌, ◌/◌, ◌%◌, ◌≤◌, ◌⊎◌, inl}
-use Rattle.std.proofs.Common.{List, [], ◌∷◌, ◌++◌, set, append_assoc, sym, ap, ◌∙◌, refl, arith}
+use Rattle.std.proofs.Common.{List, [], ◌∷◌, ◌++◌, set, append_assoc, sym, ◌∙◌, arith}
 use Rattle.std.specs.List.{flat_map}
 use Rattle.std.proofs.lemmas.Grind.{flat_map-append}
 use Rattle.std.proofs.lemmas.List.Elements.{All-set}
@@ -11,20 +11,13 @@ use Rattle.check_digits.proofs.Characters.{written, written_is, written_more, di
 split_number : (s t a b : ℕ) (rest : List ℕ) → IsDigit a → IsDigit b → iban_number (s ∷ t ∷ a ∷ b ∷ rest)
     ≡ 100 * written (flat_map digits_of (rest ++ s ∷ t ∷ [])) + (10 * (a - 48) + (b - 48))
 split_number s t a b rest h k =
-    let front : List ℕ = flat_map digits_of (rest ++ s ∷ t ∷ []) in
-    let two : List ℕ = (a - 48) ∷ (b - 48) ∷ [] in
-    let last : flat_map digits_of (a ∷ b ∷ []) ≡ two = search (arith, digit_is) in
-    let whole : iban_digits (s ∷ t ∷ a ∷ b ∷ rest) ≡ front ++ two = grind (arith, append_assoc, flat_map-append) in
-    let end : written front * 100 + ((a - 48) * 10 + ((b - 48) * 1 + 0))
-    ≡ 100 * written front + (10 * (a - 48) + (b - 48)) = omega arith in
-    sym (written_is (iban_digits (s ∷ t ∷ a ∷ b ∷ rest))) ∙ ap written whole ∙ written_more front two ∙ end
+    let last : flat_map digits_of (a ∷ b ∷ []) ≡ (a - 48) ∷ (b - 48) ∷ [] = search (arith, digit_is) in
+    let whole : rest ++ s ∷ t ∷ a ∷ b ∷ [] ≡ rest ++ s ∷ t ∷ [] ++ (a ∷ b ∷ []) = search (arith, append_assoc) in
+    sym (written_is (iban_digits (s ∷ t ∷ a ∷ b ∷ rest))) ∙ grind (arith, flat_map-append, written_more)
 
 -- the check digits of a number, v being what it leaves with those of the number c
 abbrev pub check_of : ℕ → ℕ → ℕ
 check_of v c = 98 - (v + 194 - c) % 97
-
-right_check : (n v c k : ℕ) → c ≤ 99 → v ≡ (100 * n + c) % 97 → k ≡ check_of v c → (100 * n + k) % 97 ≡ 1
-right_check n v c k most is is_k = omega (arith, most, is, is_k)
 
 one_check : (n k l : ℕ) → 2 ≤ k → k ≤ 98 → 2 ≤ l → l ≤ 98 → (100 * n + k) % 97 ≡ 1 → (100 * n + l) % 97 ≡ 1 → l ≡ k
 one_check n k l k_least k_most l_least l_most e f = omega (arith, k_least, k_most, l_least, l_most, e, f)
@@ -42,7 +35,7 @@ check_digits_of (s ∷ t ∷ u ∷ c ∷ rest) v form is =
     let old_most : old ≤ 99 = omega arith in
     let k : ℕ = check_of v old in
     let leaves : v ≡ (100 * n + old) % 97 = grind (arith, split_number) in
-    let right = right_check n v old k old_most leaves refl in
+    let right : (100 * n + k) % 97 ≡ 1 = omega (arith, leaves) in
     let least : 2 ≤ k = omega arith in
     let most : k ≤ 98 = omega arith in
     let a : ℕ = 48 + k / 10 in
@@ -62,7 +55,7 @@ check_digits_of (s ∷ t ∷ u ∷ c ∷ rest) v form is =
               (All-set (λ c. IsDigit c ⊎ IsLetter c) text 2 a (inl a_is) form.characters);
         };
         generated = (omega (arith, number, least), omega (arith, number, most));
-        leaves = ap (λ x. x % 97) (split_number s t a b rest a_is b_is) ∙ ap (λ x. (100 * n + x) % 97) number ∙ right;
+        leaves = grind (arith, split_number);
       };
       only = search (arith, split_number, one_check);
     }

@@ -6,11 +6,11 @@ use Rattle.std.proofs.lemmas.List.{get_or-drop}
 use Rattle.std.proofs.lemmas.Nat.{mul-mod_first}
 use Rattle.num_modular.specs.NumberLaws.{sum_below-congruent}
 use Rattle.num_modular.specs.Sums.{polynomial_highest_first}
-use Rattle.std.proofs.Common.{append-nil, length-drop, ◌≤◌, ◌⊎◌, ◌++◌, ◌/◌, take, subst, nat_le, if◌then◌else◌}
+use Rattle.std.proofs.Common.{append-nil, length-drop, ◌≤◌, ◌⊎◌, ◌++◌, ◌/◌, take, nat_le, if◌then◌else◌}
 use Rattle.std.specs.List.{All, flat_map}
 use Rattle.std.proofs.lemmas.List.{ext_get_or, get_or-take, length-take-le, take_all, take_more}
 use Rattle.std.proofs.lemmas.Grind.{flat_map-append}
-use Rattle.std.proofs.lemmas.List.Elements.{All-nil, All-append, All-drop, All-take, All-from_recursion, recursion_from_All}
+use Rattle.std.proofs.lemmas.List.Elements.{All-nil, All-append, All-drop, All-take}
 use Rattle.check_digits.specs.Codes.{weighted_sum, CheckCode, IsCodeword}
 use Rattle.check_digits.specs.Ibans.{IsDigit, IsLetter, digits_of, iban_digits, iban_number}
 use Rattle.check_digits.specs.Standards.{from_right, mod_97_10}
@@ -33,7 +33,7 @@ powers_at : (m : ℕ) (xs : List ℕ) → are_powers m xs ≡ true → (i : ℕ)
 powers_at m [] h i l = absurd (omega (arith, l))
 powers_at m (x ∷ xs) h zero l = search (arith, eqb-true, and_parts)
 powers_at m (x ∷ xs) h (suc i) l =
-    search (arith, and_parts, powers_at m xs (and_parts (nat_eq x (10 ^ length xs % m)) (are_powers m xs) h).1 i (omega (arith, l)))
+    search (arith, powers_at m xs (and_parts (nat_eq x (10 ^ length xs % m)) (are_powers m xs) h).1 i (omega (arith, l)))
 
 -- so are the last of them
 pub powers_behind : (m place : ℕ) (xs : List ℕ) (count i : ℕ) → are_powers m xs ≡ true
@@ -54,8 +54,8 @@ digits_small c h = search (arith, digits_by)
 pub all_digits : (text : List ℕ) → All (λ c. IsDigit c ⊎ IsLetter c) text → All (λ d. d ≤ 9) (flat_map digits_of text)
 all_digits [] h = All-nil (λ d. d ≤ 9)
 all_digits (c ∷ cs) h =
-    let parts = recursion_from_All (λ c. IsDigit c ⊎ IsLetter c) (c ∷ cs) h in
-    search (arith, digits_small, all_digits cs (All-from_recursion (λ c. IsDigit c ⊎ IsLetter c) cs parts.1))
+    All-append (λ d. d ≤ 9) (digits_of c) (flat_map digits_of cs) (digits_small c (h 0 0 (omega arith)))
+    (all_digits cs (λ i d l. h (suc i) d (omega (arith, l))))
 
 -- the weighted sum of the digits of a text leaves what the number leaves that they form
 pub number_leaves : (code : CheckCode) (text word : List ℕ) (n : ℕ) → code ≡ mod_97_10 n → word ≡ iban_digits text
@@ -69,12 +69,9 @@ pub is_word : (code : CheckCode) (text word : List ℕ) (n : ℕ) → code ≡ m
     → IsCodeword code word ↔ (iban_number text % 97 ≡ 1)
 is_word code text word n is digits count characters =
     let number = number_leaves (mod_97_10 n) text word n refl digits count in
+    let kind = λ (c : ℕ). IsDigit c ⊎ IsLetter c in
     let small : All (λ d. d ≤ 9) word =
-    subst (All (λ d. d ≤ 9)) (sym digits)
-    (all_digits (drop 4 text ++ take 4 text)
-    (All-append (λ c. IsDigit c ⊎ IsLetter c) (drop 4 text) (take 4 text)
-    (All-drop (λ c. IsDigit c ⊎ IsLetter c) 4 text characters)
-    (All-take (λ c. IsDigit c ⊎ IsLetter c) 4 text characters))) in
+    rw digits (all_digits _ (All-append kind _ _ (All-drop kind 4 _ characters) (All-take kind 4 _ characters))) in
     search (arith, length-from_right, get_or-from_right)
 
 -- a list by its places
@@ -96,10 +93,7 @@ constant : (v n : ℕ) (xs : List ℕ) → n ≤ 68 → length xs ≡ 68 → is_
     → take n xs ≡ from_right n (λ j. v)
 constant v n xs most count h =
     listed n (take n xs) (λ j. v) (length-take-le n xs (omega (arith, count)))
-    (λ i l.
-    let inside : i < 68 = omega (arith, l) in
-    get_or-take n xs i 0 l
-    ∙ eqb-true (get_or xs i 0) v (passes 68 (λ i. nat_eq (get_or xs i 0) v) h i inside))
+    (λ i l. get_or-take n xs i 0 l ∙ eqb-true _ _ (passes 68 (λ i. nat_eq (get_or xs i 0) v) h i (omega (arith, l))))
 
 -- the code of the powers of ten, and of the digits
 pub is_code : (n : ℕ) (ws ls gs : List ℕ) → n ≤ 68 → length ws ≡ n
@@ -107,17 +101,14 @@ pub is_code : (n : ℕ) (ws ls gs : List ℕ) → n ≤ 68 → length ws ≡ n
     → length ls ≡ 68 → is_constant 0 ls ≡ true → length gs ≡ 68 → is_constant 9 gs ≡ true
     → code_with ws (take n ls) (take n gs) ≡ mod_97_10 n
 is_code n ws ls gs most count weights l_count l g_count g =
-    ap (λ xs. code_with xs (take n ls) (take n gs)) (listed n ws (λ j. 10 ^ j % 97) count weights)
-    ∙ ap (λ xs. code_with (from_right n (λ j. 10 ^ j % 97)) xs (take n gs)) (constant 0 n ls most l_count l)
-    ∙ ap (λ xs. code_with (from_right n (λ j. 10 ^ j % 97)) (from_right n (λ j. 0)) xs)
-    (constant 9 n gs most g_count g)
+    rw (listed n ws (λ j. 10 ^ j % 97) count weights)
+    (rw (constant 0 n ls most l_count l) (rw (constant 9 n gs most g_count g) refl))
 
 -- the digits of one more character
 pub more_digits : (f : ℕ → List ℕ) (text : List ℕ) (i : ℕ) → i < length text
     → flat_map f (take (i + 1) text) ≡ flat_map f (take i text) ++ f (get_or text i 0)
 more_digits f text i l =
-    ap (flat_map f) (take_more text i 0 l) ∙ flat_map-append f (take i text) (get_or text i 0 ∷ [])
-    ∙ ap (λ xs. flat_map f (take i text) ++ xs) (append-nil (f (get_or text i 0)))
+    rw (take_more text i 0 l) (search (arith, flat_map-append, append-nil))
 
 -- the places that the digits take
 pub room_left : (e s i n d room : ℕ) → e ≤ s + 2 * i → i < n → s + 2 * n ≤ d → room ≡ d → e + 2 ≤ room

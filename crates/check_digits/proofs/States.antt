@@ -1,7 +1,7 @@
 -- Check digits by states: which changes of one digit and which exchanges of neighbours end in another state.
 use Rattle.std.proofs.Common.{◌≡◌, ◌≢◌, ℕ, zero, suc, ◌+◌, ◌<◌, ◌≤◌}
 use Rattle.std.proofs.Common.{List, [], ◌∷◌, ◌++◌, length, ap, ◌∙◌, refl, arith, ⊎_elim}
-use Rattle.std.proofs.Common.{add-one, length-append, subst, All}
+use Rattle.std.proofs.Common.{add-one, length-append, All}
 use Rattle.std.proofs.Math.ListN.{get_or-append}
 use Rattle.std.proofs.lemmas.List.Elements.{All-append, All-cons, All-nil}
 use Rattle.std.proofs.lemmas.Bool.{cases_lt}
@@ -81,8 +81,7 @@ pub one_more : (word : List ℕ) (s : ℕ) → length (word ++ s ∷ []) ≡ suc
 one_more word s = let e = length-append word (s ∷ []) in omega (arith, e)
 
 pub all_front : (word : List ℕ) (s : ℕ) → All (λ d. d ≤ 9) (word ++ s ∷ []) → All (λ d. d ≤ 9) word
-all_front word s all i d l =
-    subst (λ n. n ≤ 9) (get_or-append word (s ∷ []) d i l) (all i d (omega (arith, one_more word s, l)))
+all_front word s all i d l = search (arith, get_or-append, one_more)
 
 pub all_more : (word : List ℕ) (s : ℕ) → All (λ d. d ≤ 9) word → s ≤ 9 → All (λ d. d ≤ 9) (word ++ s ∷ [])
 all_more word s all most = All-append (λ d. d ≤ 9) word (s ∷ []) all (All-cons (λ d. d ≤ 9) s [] most (All-nil (λ d. d ≤ 9)))

@@ -1,12 +1,12 @@
 -- Lists that the characters of a text give.
-use Rattle.std.proofs.Common.{◌≡◌, ◌↔◌, ℕ, zero, suc, ◌+◌, ◌-◌, ◌/◌, ◌%◌, ◌<◌, ◌≤◌, if◌then◌else◌}
-use Rattle.std.proofs.Common.{List, [], ◌∷◌, length, length-append, get_or, take, sym, ap, ◌∙◌, refl, arith}
-use Rattle.std.proofs.Common.{◌++◌, append-nil, inl, inr}
+use Rattle.std.proofs.Common.{◌≡◌, ◌↔◌, ℕ, zero, suc, ◌+◌, ◌-◌, ◌/◌, ◌%◌, ◌<◌, ◌≤◌}
+use Rattle.std.proofs.Common.{List, [], ◌∷◌, length, length-append, get_or, take, ap, ◌∙◌, refl, arith}
+use Rattle.std.proofs.Common.{◌++◌, inl, inr}
 use Rattle.std.proofs.lemmas.Bool.{cases_eq, eq-eqb, ne_eqb}
-use Rattle.std.proofs.lemmas.Grind.{flat_map-append}
-use Rattle.std.proofs.lemmas.List.{take_more, take_all}
+use Rattle.std.proofs.lemmas.List.{take_all}
 use Rattle.std.proofs.Math.Nat.{le_refl}
 use Rattle.std.specs.List.{flat_map}
+use Rattle.check_digits.proofs.Ibans.{more_digits}
 use Rattle.check_digits.specs.Ibans.{unspaced, without_spaces, IsGrouped}
 
 -- what one more character gives has room in the whole
@@ -19,10 +19,7 @@ fits_before f (c ∷ cs) (suc i) l = search (arith, length-append, fits_before f
 more_unspaced : (text : List ℕ) (n : ℕ) → n < length text
     → without_spaces (take (suc n) text) ≡ without_spaces (take n text) ++ unspaced (get_or text n 0)
 more_unspaced text n l =
-    let one : suc n ≡ n + 1 = omega arith in
-    ap (λ k. without_spaces (take k text)) one ∙ ap without_spaces (take_more text n 0 l)
-    ∙ flat_map-append unspaced (take n text) (get_or text n 0 ∷ [])
-    ∙ ap (λ xs. without_spaces (take n text) ++ xs) (append-nil (unspaced (get_or text n 0)))
+    let one : suc n ≡ n + 1 = omega arith in ap (λ k. without_spaces (take k text)) one ∙ more_digits unspaced text n l
 
 -- the characters of groups of four
 pub grouped_length : (text : List ℕ) (n : ℕ) → ((i : ℕ) → i < length text → (get_or text i 0 ≡ 32) ↔ (i % 5 ≡ 4))
@@ -32,15 +29,13 @@ grouped_length text (suc n) spaces l =
     let before = grouped_length text n spaces (omega arith) in
     let c = get_or text n 0 in
     let e = ap length (more_unspaced text n l) ∙ length-append (without_spaces (take n text)) (unspaced c) in
-    let told = spaces n l in
     elim (cases_eq (n % 5) 4) [
-      | inl s ↦ search (arith, eq-eqb)
+      | inl s ↦ search (arith, eq-eqb, (spaces n l).1 s)
       | inr s ↦
-          let one : length (unspaced c) ≡ 1 = ap (λ b. length (if b then [] else c ∷ [])) (ne_eqb c 32 (λ is. s (told.0 is))) in
+          let one : length (unspaced c) ≡ 1 = rw (ne_eqb c 32 (λ is. s ((spaces n l).0 is))) refl in
           omega (arith, e, before, one, s)
     ]
 
 pub ungrouped_length : (text : List ℕ) → IsGrouped text → length (without_spaces text) ≡ length text - length text / 5
 ungrouped_length text grouped =
-    ap (λ xs. length (without_spaces xs)) (sym (take_all (length text) text (le_refl (length text))))
-    ∙ grouped_length text (length text) grouped.spaces (le_refl (length text))
+    let told = grouped_length text (length text) grouped.spaces (le_refl (length text)) in search (arith, take_all)
