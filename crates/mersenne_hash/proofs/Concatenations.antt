@@ -1,20 +1,16 @@
 -- Polynomials of texts that are joined, and of texts behind zeros.
-use Rattle.std.proofs.Common.{◌≡◌, ℕ, zero, suc, ◌+◌, ◌-◌, ◌*◌, ◌%◌, ◌^◌, List, ◌++◌, length, get_or, slice_index}
+use Rattle.std.proofs.Common.{◌≡◌, ℕ, zero, suc, ◌+◌, ◌*◌, ◌%◌, ◌^◌, List, ◌++◌, length, slice_index}
 use Rattle.std.proofs.Common.{replicate, arith, ap, ap₂, sym, ◌∙◌, length-append}
 use Rattle.std.proofs.Math.ListN.{get_or-append}
 use Rattle.std.proofs.Math.Nat.{pow-zero, pow-suc}
 use Rattle.std.proofs.lemmas.List.{length-replicate, get_or-replicate, get_or-append-add}
-use Rattle.num_modular.specs.NumberLaws.{sum_below-zero, sum_below-same, mod_add, mod_mul, mod_refl, mod_trans, mod_of_eq}
+use Rattle.num_modular.specs.NumberLaws.{sum_below-of_zeros, sum_below-same, mod_add, mod_mul, mod_refl, mod_trans, mod_of_eq}
 use Rattle.num_modular.specs.NumberLaws.{residue_of}
-use Rattle.num_modular.specs.SumLaws.{tail}
 use Rattle.num_modular.specs.Sums.{sum_below, polynomial_highest_first}
 
 -- Horner's rule, as `range_laws` states it
 abbrev pub Horner : Type 0
 Horner = (n : ℕ) (c : ℕ → ℕ) (x : ℕ) → polynomial_highest_first (n + 1) c x ≡ polynomial_highest_first n c x * x + c n
-
-joined_horner_step : (a b d p q x s t : ℕ) → p ≡ (a * q + b) * x + d → s ≡ q * x → t ≡ b * x + d → p ≡ a * s + t
-joined_horner_step a b d p q x s t e f g = let h = ap (λ k. a * k) f in omega (arith, e, h, g)
 
 -- the first n of n + k coefficients, and the others
 pub polynomial_joined : Horner → (n k : ℕ) (c : ℕ → ℕ) (x : ℕ) → polynomial_highest_first (n + k) c x
@@ -23,11 +19,13 @@ unfolding sum_below
 polynomial_joined horner n zero c x = grind (arith, pow-zero)
 polynomial_joined horner n (suc k) c x =
     let before = polynomial_joined horner n k c x in
-    let one_more = ap (λ k. polynomial_highest_first k c x) (let e : n + suc k ≡ n + k + 1 = omega arith in e) in
-    let last = ap (λ k. polynomial_highest_first k (λ i. c (n + i)) x) (let e : suc k ≡ k + 1 = omega arith in e) in
-    joined_horner_step (polynomial_highest_first n c x) (polynomial_highest_first k (λ i. c (n + i)) x) (c (n + k)) _ (x ^ k) x _ _
-    (one_more ∙ horner (n + k) c x ∙ ap (λ v. v * x + c (n + k)) before) (pow-suc x k)
-    (last ∙ horner k (λ i. c (n + i)) x)
+    let one_more : n + suc k ≡ n + k + 1 = omega arith in
+    let last : suc k ≡ k + 1 = omega arith in
+    let power = ap (λ v. polynomial_highest_first n c x * v) (pow-suc x k) in
+    let times = ap (λ v. v * x) before in
+    ap (λ k. polynomial_highest_first k c x) one_more
+    ∙ sym (ap (λ j. polynomial_highest_first n c x * x ^ suc k + polynomial_highest_first j (λ i. c (n + i)) x) last
+    ∙ omega (arith, power, times, horner (n + k) c x, horner k (λ i. c (n + i)) x))
 
 -- of two texts, one after the other
 pub polynomial_of_joined : Horner → (s t : List ℕ) (x : ℕ)
@@ -43,17 +41,10 @@ pub polynomial_behind_zeros : Horner → (d : ℕ) (cs : List ℕ) (x : ℕ)
     ≡ polynomial_highest_first (length cs) (slice_index cs) x
 polynomial_behind_zeros horner d cs x =
     let zeros : List ℕ = replicate d 0 in
-    let n = length zeros in
-    let k = length cs in
-    let length_is : n ≡ d = length-replicate d 0 in
-    let whole : length (zeros ++ cs) ≡ d + k = length-append zeros cs ∙ ap (λ n. n + k) length_is in
-    let none : polynomial_highest_first n (λ i. get_or zeros i 0) x ≡ 0 =
-    ap (λ k. sum_below k (λ i. get_or zeros i 0 * x ^ (n - 1 - i))) (let e : n ≡ 0 + n = omega arith in e)
-    ∙ tail 0 n (λ i. get_or zeros i 0 * x ^ (n - 1 - i))
-    (λ i past l.
-    let z = ap (λ v. v * x ^ (n - 1 - i)) (get_or-replicate d i 0 0 (omega (arith, l, length_is))) in
-    omega (arith, z))
-    ∙ sum_below-zero (λ i. get_or zeros i 0 * x ^ (n - 1 - i)) in
+    let length_is : length zeros ≡ d = length-replicate d 0 in
+    let none : polynomial_highest_first (length zeros) (slice_index zeros) x ≡ 0 =
+    sum_below-of_zeros _ _ (λ i l. rw (get_or-replicate {A = ℕ} d i 0 0 (omega (arith, l, length_is))) (omega arith)) in
+    let whole : length (zeros ++ cs) ≡ d + length cs = length-append zeros cs ∙ ap (λ n. n + length cs) length_is in
     grind (arith, polynomial_of_joined)
 
 -- without a coefficient, and with one

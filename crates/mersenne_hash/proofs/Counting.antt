@@ -1,7 +1,6 @@
 -- How often a function of finitely many places takes a value: if it takes none of w values more than m times, there are
 -- at most w·m places.
-use Rattle.std.proofs.Common.{◌≡◌, ◌≢◌, ℕ, zero, suc, ◌+◌, ◌*◌, ◌<◌, ◌≤◌, Bool, true, false, eqb, ltb, ◌&&◌, cond, arith, ap, sym, subst, inl, inr}
-use Rattle.std.proofs.lemmas.Bool.{cases_eq}
+use Rattle.std.proofs.Common.{◌≡◌, ℕ, zero, suc, ◌+◌, ◌*◌, ◌<◌, ◌≤◌, Bool, eqb, ltb, ◌&&◌, cond, arith}
 use Rattle.std.proofs.lemmas.Bool.Decides.{nat_tests}
 
 abbrev tick : Bool → ℕ
@@ -21,27 +20,18 @@ abbrev pub place : (ℕ → ℕ) → ℕ → ℕ → ℕ → ℕ
 place f w zero k = 0
 place f w (suc n) k = cond (eqb (f n) w && eqb (count f w n) k) n (place f w n k)
 
-tick_below_suc : (v w : ℕ) → tick (ltb v (suc w)) ≡ tick (ltb v w) + tick (eqb v w)
-tick_below_suc v w = grind (arith, nat_tests)
-
 below_suc : (f : ℕ → ℕ) (w n : ℕ) → count_below f (suc w) n ≡ count_below f w n + count f w n
 below_suc f w zero = omega arith
-below_suc f w (suc n) = omega (arith, below_suc f w n, tick_below_suc (f n) w)
-
-tick_below_zero : (v : ℕ) → tick (ltb v 0) ≡ 0
-tick_below_zero v = grind (arith, nat_tests)
+below_suc f w (suc n) = grind (arith, below_suc f w n, nat_tests)
 
 below_zero : (f : ℕ → ℕ) (n : ℕ) → count_below f 0 n ≡ 0
 below_zero f zero = omega arith
-below_zero f (suc n) = omega (arith, below_zero f n, tick_below_zero (f n))
-
-tick_below : (v w : ℕ) → v < w → tick (ltb v w) ≡ 1
-tick_below v w h = grind (arith, nat_tests)
+below_zero f (suc n) = grind (arith, below_zero f n, nat_tests)
 
 below_all : (f : ℕ → ℕ) (w n : ℕ) → ((i : ℕ) → i < n → f i < w) → count_below f w n ≡ n
 below_all f w zero each = omega arith
 below_all f w (suc n) each =
-    omega (arith, below_all f w n (λ i h. each i (omega arith)), tick_below (f n) w (each n (omega arith)))
+    grind (arith, below_all f w n (λ i h. each i (omega arith)), each n (omega arith), nat_tests)
 
 -- the place of a time: it is before n, the value is w there, and it is w at k places before
 pub record IsPlace (f : ℕ → ℕ) (w n k i : ℕ) : Type 0 where
@@ -49,41 +39,9 @@ pub record IsPlace (f : ℕ → ℕ) (w n k i : ℕ) : Type 0 where
   pub value : f i ≡ w
   pub rank : count f w i ≡ k
 
-both_tests : (a b c d : ℕ) → a ≡ b → c ≡ d → (eqb a b && eqb c d) ≡ true
-both_tests a b c d e f = grind (arith, nat_tests)
-
-first_fails : (a b c d : ℕ) → a ≢ b → (eqb a b && eqb c d) ≡ false
-first_fails a b c d e = grind (arith, nat_tests)
-
-second_fails : (a b c d : ℕ) → c ≢ d → (eqb a b && eqb c d) ≡ false
-second_fails a b c d e = grind (arith, nat_tests)
-
-tick_of_different : (a b : ℕ) → a ≢ b → tick (eqb a b) ≡ 0
-tick_of_different a b e = grind (arith, nat_tests)
-
-tick_of_same : (a b : ℕ) → a ≡ b → tick (eqb a b) ≡ 1
-tick_of_same a b e = grind (arith, nat_tests)
-
-is_place_suc : (f : ℕ → ℕ) (w n k : ℕ) → (eqb (f n) w && eqb (count f w n) k) ≡ false
-    → IsPlace f w n k (place f w n k) → IsPlace f w (suc n) k (place f w (suc n) k)
-is_place_suc f w n k test is = search arith
-
 pub place_right : (f : ℕ → ℕ) (w n k : ℕ) → k < count f w n → IsPlace f w n k (place f w n k)
 place_right f w zero k h = absurd (omega arith)
-place_right f w (suc n) k h = elim (cases_eq (f n) w) [
-  | inl same ↦ elim (cases_eq (count f w n) k) [
-    | inl last ↦
-        subst (IsPlace f w (suc n) k)
-        (sym (ap (λ b. cond b n (place f w n k)) (both_tests (f n) w (count f w n) k same last)))
-        record { within = omega arith; value = same; rank = last }
-    | inr other ↦
-        let one = tick_of_same (f n) w same in
-        is_place_suc f w n k (second_fails (f n) w (count f w n) k other) (place_right f w n k (omega (arith, h, one, other)))
-  ]
-  | inr differs ↦
-      let none = tick_of_different (f n) w differs in
-      is_place_suc f w n k (first_fails (f n) w (count f w n) k differs) (place_right f w n k (omega (arith, h, none)))
-]
+place_right f w (suc n) k h = grind (arith, place_right f w n k, nat_tests)
 
 -- if each value below w is taken at most m times, there are at most w * m places
 at_most_product : (f : ℕ → ℕ) (w n m : ℕ) → ((v : ℕ) → v < w → count f v n ≤ m) → count_below f w n ≤ w * m
