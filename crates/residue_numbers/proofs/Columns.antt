@@ -1,7 +1,7 @@
 -- Runs of one list of commands modulo each modulus of a system, up to the first command whose inverse doesn't exist modulo
 -- one of them.
 use Rattle.std.proofs.Common.{◌≡◌, ℕ, zero, suc, ◌+◌, ◌-◌, ◌*◌, ◌%◌, ◌<◌, ◌≤◌, ◌↔◌, List, [], ◌∷◌, length, map, take, drop, All}
-use Rattle.std.proofs.Common.{get_or, sym, ap, subst, ◌∙◌, refl, arith, below_more, inl, inr, Option, Some, None, IsSomeAnd}
+use Rattle.std.proofs.Common.{get_or, sym, ap, subst, ◌∙◌, refl, arith, below_more, inl, inr}
 use Rattle.std.specs.List.{slice_get}
 use Rattle.std.proofs.Math.Path.{fun_ext}
 use Rattle.std.proofs.Math.Nat.{mul-le-mul_left}
@@ -9,108 +9,32 @@ use Rattle.std.proofs.lemmas.Bool.{cases_lt, cases_eq}
 use Rattle.std.proofs.lemmas.List.{get_or-take, get_or-drop, get_or-map, length-map, length-take-le, take-map}
 use Rattle.std.proofs.lemmas.Grind.{get_or_default_zero, same_number_lists}
 use Rattle.std.proofs.lemmas.Option.{slice_get_past}
-use Rattle.num_modular.specs.Inverses.{HasInverse, IsInversion, inverse_of}
 use Rattle.num_modular.specs.declared.ring.RingCommand.{RingCommand}
-use Rattle.num_modular.specs.declared.ring.RingCommand.TheVariants.{Inv, Div}
 use Rattle.num_modular.specs.declared.ring.RunEnd.{RunEnd}
 use Rattle.num_modular.specs.declared.ring.RunEnd.TheVariants.{Done, NoInverse}
-use Rattle.num_modular.specs.Ring.{whole, value_after, value_at, inverted_by, LacksInverse, LacksInverseAt, IsStop, carried_out}
-use Rattle.num_modular.specs.Stops.{NeedsInverse}
-use Rattle.num_modular.specs.Systems.{range_of}
+use Rattle.num_modular.specs.Ring.{whole, value_after, value_at, LacksInverseAt, IsStop, carried_out}
 use Rattle.residue_numbers.specs.Registers.{register, StartWith, IsCarriedOut, IsColumnRun, IsRun, value_modulo}
-use Rattle.residue_numbers.proofs.Encodings.{ArePositive, range_positive}
-use Rattle.residue_numbers.proofs.Runs.{Laws, IsFactor, inverse_within, values_within, units_below, lacks_none, starts, start_residue, modulus_is_factor}
+use Rattle.residue_numbers.proofs.Encodings.{ArePositive, modulus_is_factor}
+use Rattle.residue_numbers.proofs.Runs.{Laws, NoneLacks, none_lacks_above, starts, values_within, lacks_above}
 
 -- a command over whole numbers
 abbrev pub over_whole : {C : Type 0} → (C → RingCommand ℕ) → C → RingCommand ℕ
 over_whole command_of c = whole (λ n. n) (command_of c)
 
--- `inverse_of` is the inverse, or there is none
-abbrev pub Named : Type 0
-Named = (m a : ℕ) → IsInversion (λ x. x) m a (inverse_of m a)
-
--- an inverse that isn't missing exists
-inverse_exists : (m a : ℕ) (o : Option ℕ) → IsInversion (λ x. x) m a o → ((HasInverse m a → ⊥) → ⊥) → HasInverse m a
-inverse_exists m a o none missing = grind arith
-
-none_is_some : {r : ℕ} → None ≡ Some r → ⊥
-none_is_some e = cc
-
-same_register : {a r : ℕ} → Some a ≡ Some r → a ≡ r
-same_register e = cc
-
--- a command that doesn't lack its inverse has it
-has_inverse : Named → (m : ℕ) (v : ℕ → ℕ) (read : Option (RingCommand ℕ)) → (IsSomeAnd read (LacksInverse m v) → ⊥)
-    → (r : ℕ) → IsSomeAnd read (λ command. inverted_by command ≡ Some r) → HasInverse m (v r)
-has_inverse named m v None lacks r needs = absurd needs
-has_inverse named m v (Some (Inv dst a)) lacks r needs =
-    subst (λ q. HasInverse m (v q)) (same_register needs) (inverse_exists m (v a) (inverse_of m (v a)) (named m (v a)) lacks)
-has_inverse named m v (Some (Div dst a b)) lacks r needs =
-    subst (λ q. HasInverse m (v q)) (same_register needs) (inverse_exists m (v b) (inverse_of m (v b)) (named m (v b)) lacks)
-has_inverse named m v (Some _) lacks r needs = absurd (none_is_some needs)
-
--- an inverse that doesn't exist modulo a factor of the range doesn't exist modulo the range
-lacks_above : {range m : ℕ} → IsFactor range m → (V v : ℕ → ℕ) → ((r : ℕ) → V r % m ≡ v r)
-    → (read : Option (RingCommand ℕ)) → IsSomeAnd read (LacksInverse m v) → IsSomeAnd read (LacksInverse range V)
-lacks_above f V v same None lacks = lacks
-lacks_above {range} {m} f V v same (Some (Inv dst a)) lacks =
-    λ h. lacks (h.0 % m, inverse_within f (V a) (v a) h.0 (same a) h.1)
-lacks_above {range} {m} f V v same (Some (Div dst a b)) lacks =
-    λ h. lacks (h.0 % m, inverse_within f (V b) (v b) h.0 (same b) h.1)
-lacks_above f V v same (Some _) lacks = lacks
-
--- no command before this one lacks its inverse modulo a modulus
-abbrev pub NoneLacks : List ℕ → List ℕ → List (RingCommand ℕ) → ℕ → ℕ → Type 0
-NoneLacks moduli start commands done i =
-    (at : ℕ) → at < done → LacksInverseAt (get_or moduli i 0) (starts (get_or moduli i 0) start) commands at → ⊥
-
-module _ (laws : Laws) (named : Named) (moduli start : List ℕ) (commands : List (RingCommand ℕ)) (done : ℕ)
-    (positive : ArePositive moduli) (each : (i : ℕ) → i < length moduli → NoneLacks moduli start commands done i) where
-  -- so each inverse before it exists modulo the range
-  inverses_modulo_range : (j r : ℕ) → j < done → NeedsInverse commands j r
-      → HasInverse (range_of moduli) (value_at (range_of moduli) start commands j r)
-  inverses_modulo_range =
-      units_below laws (length moduli) moduli start (λ i. starts (get_or moduli i 0) start) commands (modulus_is_factor moduli positive)
-      (range_positive moduli positive) (λ i r h. start_residue (get_or moduli i 0) start (positive i h) r) done
-      (λ i j r h b needs. has_inverse named (get_or moduli i 0)
-      (value_at (get_or moduli i 0) (starts (get_or moduli i 0) start) commands j)
-      (slice_get commands j) (each i h j b) r needs)
-
-  -- and the values there leave those modulo each modulus
-  values_left : (i : ℕ) → i < length moduli → (r : ℕ) → value_at (range_of moduli) start commands done r % get_or moduli i 0
-      ≡ value_at (get_or moduli i 0) (starts (get_or moduli i 0) start) commands done r
-  values_left i h =
-      values_within laws (modulus_is_factor moduli positive i h) start (starts (get_or moduli i 0) start) commands done
-      (start_residue (get_or moduli i 0) start (positive i h)) (λ j r b needs. inverses_modulo_range j r b needs)
-
-  carried_before : (at : ℕ) → at < done → LacksInverseAt (range_of moduli) start commands at → ⊥
-  carried_before at h lacks =
-      lacks_none (range_of moduli) (value_at (range_of moduli) start commands at) (slice_get commands at) lacks
-      (λ r needs. inverses_modulo_range at r h needs)
-
-  carried_next : (i : ℕ) → i < length moduli
-      → LacksInverseAt (get_or moduli i 0) (starts (get_or moduli i 0) start) commands done
-      → LacksInverseAt (range_of moduli) start commands done
-  carried_next i h lacks =
-      lacks_above (modulus_is_factor moduli positive i h) (value_at (range_of moduli) start commands done)
-      (value_at (get_or moduli i 0) (starts (get_or moduli i 0) start) commands done) (values_left i h)
-      (slice_get commands done) lacks
-
 -- where not all commands are carried out, the next one is the stop
 stopped_at : {done at : ℕ} → NoInverse done ≡ NoInverse at → done ≡ at
 stopped_at e = cc
 
-stop_exactly : (m : ℕ) (start : List ℕ) (commands : List (RingCommand ℕ)) (done : ℕ)
-    → ((at : ℕ) → at < done → LacksInverseAt m start commands at → ⊥) → LacksInverseAt m start commands done
-    → (at : ℕ) → (NoInverse done ≡ NoInverse at) ↔ IsStop m start commands at
+stop_exactly : (m : ℕ) (start : List ℕ) (commands : List (RingCommand ℕ)) (done : ℕ) → NoneLacks m start commands done
+    → LacksInverseAt m start commands done → (at : ℕ) → (NoInverse done ≡ NoInverse at) ↔ IsStop m start commands at
 stop_exactly m start commands done before next at = search (arith, stopped_at, cases_lt)
 
--- where all are carried out, there is none
-no_stop_at_all : (m : ℕ) (start : List ℕ) (commands : List (RingCommand ℕ))
-    → ((at : ℕ) → at < length commands → LacksInverseAt m start commands at → ⊥) → (at : ℕ) → IsStop m start commands at → ⊥
-no_stop_at_all m start commands before at stop = search (arith, cases_lt, slice_get_past)
+-- a command that lacks its inverse is one of the list
+lacks_within : (m : ℕ) (start : List ℕ) (commands : List (RingCommand ℕ)) (at : ℕ) → LacksInverseAt m start commands at
+    → at < length commands
+lacks_within m start commands at lacks = search (arith, cases_lt, slice_get_past)
 
--- the first commands of a list
+-- lists with the same first commands: the values there, and the inverses that are missing
 read_prefix : {X : Type 0} (xs : List X) (k i : ℕ) → i < k → slice_get (take k xs) i ≡ slice_get xs i
 read_prefix xs zero i h = absurd (omega (arith, h))
 read_prefix [] (suc k) i h = refl
@@ -121,53 +45,26 @@ value_prefix : (m : ℕ) (start : List ℕ) (commands : List (RingCommand ℕ)) 
     → (r : ℕ) → value_at m start (take k commands) i r ≡ value_at m start commands i r
 value_prefix m start commands k zero h r = refl
 value_prefix m start commands k (suc i) h r =
-    let same : value_at m start (take k commands) i ≡ value_at m start commands i =
-    fun_ext (value_prefix m start commands k i (omega (arith, h))) in
-    ap (λ v. value_after m v (slice_get (take k commands) i) r) same
+    ap (λ v. value_after m v (slice_get (take k commands) i) r) (fun_ext (value_prefix m start commands k i (omega (arith, h))))
     ∙ ap (λ o. value_after m (value_at m start commands i) o r) (read_prefix commands k i (omega (arith, h)))
 
-lacks_of_prefix : (m : ℕ) (start : List ℕ) (commands : List (RingCommand ℕ)) (k i : ℕ) → i < k
-    → LacksInverseAt m start (take k commands) i → LacksInverseAt m start commands i
-lacks_of_prefix m start commands k i h lacks = search (arith, value_prefix, read_prefix)
+lacks_prefix : (m : ℕ) (start : List ℕ) (commands : List (RingCommand ℕ)) (k i : ℕ) → i < k
+    → LacksInverseAt m start (take k commands) i ↔ LacksInverseAt m start commands i
+lacks_prefix m start commands k i h = search (arith, value_prefix, read_prefix)
 
-prefix_lacks : (m : ℕ) (start : List ℕ) (commands : List (RingCommand ℕ)) (k i : ℕ) → i < k
-    → LacksInverseAt m start commands i → LacksInverseAt m start (take k commands) i
-prefix_lacks m start commands k i h lacks = search (arith, value_prefix, read_prefix)
-
--- what is carried out of the first k commands alone
-part_of : {C : Type 0} (f : C → RingCommand ℕ) (commands : List C) (m : ℕ) (start : List ℕ) (k done : ℕ) → done ≤ k
-    → IsCarriedOut m start (map f (take k commands)) k done → IsCarriedOut m start (map f commands) k done
-part_of f commands m start k done most carried =
-    let same = take-map f k commands in record {
-      before = λ at h lacks. carried.before at h (subst (λ cs. LacksInverseAt m start cs at) same
-          (prefix_lacks m start (map f commands) k at (omega (arith, h, most)) lacks));
-      next = λ h. lacks_of_prefix m start (map f commands) k done h (subst (λ cs. LacksInverseAt m start cs done) (sym same)
-          (carried.next h));
-    }
-
-value_of_part : {C : Type 0} (f : C → RingCommand ℕ) (commands : List C) (m : ℕ) (start : List ℕ) (k done r : ℕ)
-    → done ≤ k → value_at m start (map f (take k commands)) done r ≡ value_at m start (map f commands) done r
-value_of_part f commands m start k done r most =
-    ap (λ cs. value_at m start cs done r) (sym (take-map f k commands)) ∙ value_prefix m start (map f commands) k done most r
+carried_prefix : (m : ℕ) (start : List ℕ) (commands : List (RingCommand ℕ)) (k done : ℕ) → done ≤ k
+    → IsCarriedOut m start (take k commands) k done → IsCarriedOut m start commands k done
+carried_prefix m start commands k done most carried = record {
+  before = λ at h lacks. carried.before at h ((lacks_prefix m start commands k at (omega (arith, h, most))).1 lacks);
+  next = λ h. (lacks_prefix m start commands k done h).0 (carried.next h);
+}
 
 -- where a run has no stop, no command lacks its inverse
 none_lacks : (m : ℕ) (start : List ℕ) (commands : List (RingCommand ℕ)) → ((at : ℕ) → IsStop m start commands at → ⊥)
-    → (n at : ℕ) → at < n → LacksInverseAt m start commands at → ⊥
-none_lacks m start commands never zero at h lacks = absurd (omega (arith, h))
-none_lacks m start commands never (suc n) at h lacks = elim (cases_lt at n) [
-  | inl below ↦ none_lacks m start commands never n at below lacks
-  | inr last ↦
-      let e : at ≡ n = omega (arith, h, last) in
-      never at record {
-        lacks = lacks;
-        first = λ j l. none_lacks m start commands never n j (omega (arith, l, e));
-      }
-]
-
--- a command that lacks its inverse is one of the list
-lacks_within : (m : ℕ) (start : List ℕ) (commands : List (RingCommand ℕ)) (at : ℕ) → LacksInverseAt m start commands at
-    → at < length commands
-lacks_within m start commands at lacks = search (arith, cases_lt, slice_get_past)
+    → (n : ℕ) → NoneLacks m start commands n
+none_lacks m start commands never zero at h lacks = omega (arith, h)
+none_lacks m start commands never (suc n) at h lacks =
+    never at record { lacks = lacks; first = λ j l. none_lacks m start commands never n j (omega (arith, h, l)) }
 
 -- places of a list of registers, of n words each
 pub place_within : (count n r i : ℕ) → r < count → i < n → r * n + i < count * n
@@ -190,21 +87,9 @@ register_word : (n : ℕ) (words : List ℕ) (r i : ℕ) → i < n → get_or (r
 register_word n words r i h =
     get_or-take (r * n + n - r * n) (drop (r * n) words) i 0 (omega (arith, h)) ∙ get_or-drop (r * n) words i 0
 
--- the words of a column, of registers that start with the numbers
-pub column : (moduli words start : List ℕ) → StartWith moduli words start → (i : ℕ) → i < length moduli → (r : ℕ)
-    → r < length start → get_or words (r * length moduli + i) 0 % get_or moduli i 0 ≡ get_or start r 0 % get_or moduli i 0
-column moduli words start with i h r k =
-    ap (λ w. w % get_or moduli i 0) (sym (register_word (length moduli) words r i h)) ∙ (with.each r k).each i h
-
 -- a list all of whose entries are so
 pub all_of_each : (P : ℕ → Type 0) (xs : List ℕ) → ((i : ℕ) → i < length xs → P (get_or xs i 0)) → All P xs
 all_of_each P xs each i d h = subst P (sym (get_or_default_zero xs i d h)) (each i h)
-
--- the values that a column starts with are the residues of the numbers
-start_is : (m n place : ℕ) (words values start : List ℕ) → length values ≡ length start
-    → ((r : ℕ) → r < length start → get_or values r 0 ≡ get_or words (r * n + place) 0 % m)
-    → ((r : ℕ) → r < length start → get_or words (r * n + place) 0 % m ≡ get_or start r 0 % m) → values ≡ starts m start
-start_is m n place words values start count loaded congruent = search (arith, same_number_lists, length-map, get_or-map)
 
 -- the modulus of a reducer of the list
 pub modulus_of : {R : Type 0} (modulus : R → ℕ) (reducers : List R) (moduli : List ℕ) (place : ℕ) (reducer : R)
@@ -259,16 +144,15 @@ pub column_run : {C : Type 0} (f : C → RingCommand ℕ) (commands : List C) (m
     ≡ value_at m values (map f (take count commands)) (carried_out end (map f (take count commands))) r)
     → IsColumnRun moduli place start (map f commands) count registers done
 column_run f commands moduli words start values registers m place count done end modulus inside with entries loaded by written =
-    let p = get_or moduli place 0 in
     let cs = map f (take count commands) in
-    let same = start_is m (length moduli) place words values start entries loaded (λ r h.
-    subst (λ q. get_or words (r * length moduli + place) 0 % q ≡ get_or start r 0 % q) (sym modulus)
-    (column moduli words start with place inside r h)) in
+    let part = take-map f count commands in
+    let same : values ≡ starts m start = same_number_lists values (starts m start) (entries ∙ sym (length-map start (λ n. n % m))) (λ r h.
+    let k : r < length start = omega (arith, h, entries) in
+    loaded r k ∙ rw modulus (ap (λ w. w % get_or moduli place 0) (sym (register_word (length moduli) words r place inside))
+        ∙ (with.each r k).each place inside) ∙ sym (get_or-map (λ n. n % m) start r 0 0 k)) in
     record {
-      carried = part_of f commands p (starts p start) count done by.most
-          (subst (λ q. IsCarriedOut q (starts q start) cs count done) modulus
-          (subst (λ s. IsCarriedOut m s cs count done) same by.carried));
-      values = λ r h. grind (arith, starts, value_of_part);
+      carried = rw (← modulus, ← same) (carried_prefix m values (map f commands) count done by.most (rw part by.carried));
+      values = λ r h. rw (← modulus, ← same) (written r h ∙ rw (by.same, ← part) (value_prefix m values (map f commands) count done by.most r));
     }
 
 -- a place is one, or it is another
@@ -284,7 +168,7 @@ IsKept moduli start before after place = (r i : ℕ) → r < length start → i 
 -- the place `again` on
 pub record AreRunBefore (moduli start : List ℕ) (commands : List (RingCommand ℕ)) (registers : List ℕ) (done again place : ℕ)
     : Type 0 where
-  pub each : (i : ℕ) → i < place → NoneLacks moduli start commands done i
+  pub each : (i : ℕ) → i < place → NoneLacks (get_or moduli i 0) (starts (get_or moduli i 0) start) commands done
   pub next : done < length commands → (i : ℕ) × (i < place)
       × LacksInverseAt (get_or moduli i 0) (starts (get_or moduli i 0) start) commands done
   pub values : (r i : ℕ) → r < length start → again ≤ i → i < place
@@ -297,7 +181,7 @@ pub more_run : (moduli start : List ℕ) (commands : List (RingCommand ℕ)) (be
     → AreRunBefore moduli start commands after done next (place + 1)
 more_run moduli start commands before after count done again next place was here kept most inside less all =
     record {
-      each = below_more (λ i. NoneLacks moduli start commands done i) place
+      each = below_more (λ i. NoneLacks (get_or moduli i 0) (starts (get_or moduli i 0) start) commands done) place
           (λ i h at l. was.each i h at (omega (arith, l, most))) here.carried.before;
       next = λ h. elim (cases_lt done count) [
         | inl fewer ↦ (place, omega arith, here.carried.next fewer)
@@ -316,28 +200,29 @@ HoldBut moduli start commands registers done again place = (r i : ℕ) → r < l
 
 pub more_again : (moduli start : List ℕ) (commands : List (RingCommand ℕ)) (before after : List ℕ) (count done again place : ℕ)
     → HoldBut moduli start commands before count again place → IsColumnRun moduli place start commands count after done
-    → IsKept moduli start before after place → done ≤ count → NoneLacks moduli start commands count place
+    → IsKept moduli start before after place → done ≤ count → NoneLacks (get_or moduli place 0) (starts (get_or moduli place 0) start) commands count
     → HoldBut moduli start commands after count again (place + 1)
 more_again moduli start commands before after count done again place was here kept most none r i h within side =
     search (arith, cases_lt, at_or_not)
 
 -- all moduli are run, and those before `again` once more
-pub all_run : Laws → Named → (moduli start : List ℕ) (commands : List (RingCommand ℕ)) (first last : List ℕ)
+pub all_run : Laws → (moduli start : List ℕ) (commands : List (RingCommand ℕ)) (first last : List ℕ)
     (done again place : ℕ) → ArePositive moduli → AreRunBefore moduli start commands first done again (length moduli)
     → HoldBut moduli start commands last done again place → again ≤ place → IsRun moduli start commands last done
-all_run laws named moduli start commands first last done again place positive was held past = record {
-  carried = record {
-    before = carried_before laws named moduli start commands done positive was.each;
-    next = λ h.
-        let (i, l, lacks) = was.next h in
-        carried_next laws named moduli start commands done positive was.each i l lacks;
-  };
-  residues = λ r h. record {
-    each = λ i l.
-        register_word (length moduli) last r i l ∙ held r i h l (λ from. omega (arith, past, from))
-        ∙ sym (values_left laws named moduli start commands done positive was.each i l r);
-  };
-}
+all_run laws moduli start commands first last done again place positive was held past =
+    let none = none_lacks_above laws moduli start commands positive done was.each in
+    let values = λ (i : ℕ) (h : i < length moduli). values_within laws (modulus_is_factor moduli positive i h) start commands done none in record {
+      carried = record {
+        before = none;
+        next = λ h.
+            let (i, l, lacks) = was.next h in
+            lacks_above laws (modulus_is_factor moduli positive i l) _ _ (values i l) (slice_get commands done) lacks;
+      };
+      residues = λ r h. record {
+        each = λ i l.
+            register_word (length moduli) last r i l ∙ held r i h l (λ from. omega (arith, past, from)) ∙ sym (values i l r);
+      };
+    }
 
 -- where a run ends that carries so many commands out
 pub record IsEnd (m : ℕ) (start : List ℕ) (commands : List (RingCommand ℕ)) (end : RunEnd) (done : ℕ) : Type 0 where
@@ -350,21 +235,11 @@ pub end_of_run : {C : Type 0} (f : C → RingCommand ℕ) (commands : List C) (m
     → (done ≡ length commands → end ≡ Done) → (done < length commands → end ≡ NoInverse done)
     → IsEnd m start (map f commands) end done
 end_of_run f commands m start end done is most all part =
-    let long = length-map commands f in
     elim (cases_lt done (length commands)) [
-      | inl less ↦
-          let next = is.next (omega (arith, less, long)) in
-          subst (λ e. IsEnd m start (map f commands) e done) (sym (part less)) record {
-            stops = stop_exactly m start (map f commands) done is.before next;
-            never = (λ e. cc, λ none. absurd (none done record { lacks = next; first = is.before }));
-            same = refl;
-          }
+      | inl less ↦ grind (arith, length-map, stop_exactly)
       | inr other ↦
           let e : done ≡ length commands = omega (arith, most, other) in
-          let none = no_stop_at_all m start (map f commands) (λ at h. is.before at (omega (arith, h, e, long))) in
-          subst (λ d. IsEnd m start (map f commands) d done) (sym (all e)) record {
-            stops = λ at. (λ wrong. cc, λ stop. absurd (none at stop));
-            never = (λ done. none, λ none. refl);
-            same = long ∙ sym e;
-          }
+          let none : (at : ℕ) → IsStop m start (map f commands) at → ⊥ =
+          λ at stop. is.before at (omega (arith, lacks_within m start (map f commands) at stop.lacks, length-map commands f, e)) stop.lacks in
+          grind (arith, length-map, all e)
     ]

@@ -33,6 +33,6 @@ pub returns-clause-run : goal.returns-clause-run
 returns-clause-run g c start entries with =
     let laws : Laws = grind arith in
     let all : c.moduli.place ≡ length c.args.self.now.moduli.now = omega arith in
-    all_run laws c.inverse_laws.ensures.named _ start _ c.moduli.registers _ _ _ _ c.args.self.now.coprime.positive
+    all_run laws _ start _ c.moduli.registers _ _ _ _ c.args.self.now.coprime.positive
     (subst (AreRunBefore _ start _ c.moduli.registers _ _) all (c.moduli.invariant.run start entries with))
     (c.again.invariant start entries with) (omega arith)
