@@ -1,42 +1,20 @@
 -- Numbers in the mixed radix of moduli: one more digit, an order, and the digit that gives a residue.
-use Rattle.std.proofs.Common.{◌≡◌, ℕ, zero, suc, ◌+◌, ◌*◌, ◌%◌, ◌<◌, ◌↔◌, List, slice_index, length, get_or, set, arith, sym}
-use Rattle.std.proofs.Common.{ap, subst, ◌∙◌, inl, inr}
-use Rattle.std.proofs.Common.{add-one}
+use Rattle.std.proofs.Common.{◌≡◌, ℕ, zero, suc, ◌+◌, ◌*◌, ◌%◌, ◌<◌, ◌↔◌, List, slice_index, length, get_or, arith, sym}
+use Rattle.std.proofs.Common.{ap, ◌∙◌, inl, inr}
 use Rattle.std.proofs.Math.Nat.{mul-le-mul_left, add-mod-mod, mod-add-mod}
 use Rattle.std.proofs.lemmas.Bool.{cases_lt}
-use Rattle.std.proofs.lemmas.List.{get_or-set_other, get_or-set_same}
 use Rattle.num_modular.specs.Divisors.{Coprime}
 use Rattle.num_modular.specs.Inverses.{HasInverse}
-use Rattle.num_modular.specs.NumberLaws.{sum_below-zero, sum_below-suc, sum_below-same}
 use Rattle.num_modular.specs.Products.{product_below}
 use Rattle.num_modular.specs.Sums.{sum_below}
 use Rattle.num_modular.specs.Systems.{range_below}
-use Rattle.num_modular.specs.ProductLaws.{has_product}
+use Rattle.num_modular.specs.ProductLaws.{has_product, product-more}
 use Rattle.num_modular.specs.SystemLaws.{within}
 use Rattle.residue_numbers.specs.MixedRadix.{IsCoprimeSystem, mixed_below}
 
--- one more digit
-pub mixed_none : (ms ds : List ℕ) → mixed_below 0 ms ds ≡ 0
-mixed_none ms ds = sum_below-zero (λ i. get_or ds i 0 * range_below i ms)
-
-pub mixed_more : (n : ℕ) (ms ds : List ℕ) → mixed_below (n + 1) ms ds ≡ mixed_below n ms ds + get_or ds n 0 * range_below n ms
-mixed_more n ms ds =
-    ap (λ k. mixed_below k ms ds) (add-one n) ∙ sum_below-suc n (λ i. get_or ds i 0 * range_below i ms)
-
--- digits that are equal denote equal numbers
-pub mixed_same : (n : ℕ) (ms ds es : List ℕ) → ((i : ℕ) → i < n → get_or ds i 0 ≡ get_or es i 0)
-    → mixed_below n ms ds ≡ mixed_below n ms es
-mixed_same n ms ds es same = search (arith, sum_below-same)
-
--- a write of a digit leaves the number of those before it
-pub mixed_before : (n d : ℕ) (ms ds : List ℕ) → mixed_below n ms (set ds n d) ≡ mixed_below n ms ds
-mixed_before n d ms ds =
-    mixed_same n ms (set ds n d) ds (λ i l. get_or-set_other ds n i d 0 (λ e. omega (arith, l, e)))
-
--- and adds its part
-pub mixed_written : (n d : ℕ) (ms ds : List ℕ) → n < length ds
-    → mixed_below (n + 1) ms (set ds n d) ≡ mixed_below n ms ds + range_below n ms * d
-mixed_written n d ms ds room = search (arith, mixed_more, mixed_before, get_or-set_same)
+-- the product with one modulus more
+pub range_more : (ms : List ℕ) (place next : ℕ) → place ≡ next + 1 → range_below place ms ≡ range_below next ms * get_or ms next 0
+range_more ms place next one = ap (λ k. range_below k ms) one ∙ product-more (slice_index ms) next
 
 -- digits below the moduli denote a number below their product
 pub mixed_within : (n : ℕ) (ms ds : List ℕ) → ((i : ℕ) → i < n → get_or ds i 0 < get_or ms i 0)
@@ -56,17 +34,16 @@ pub mixed_less : (n k : ℕ) (ms ds es : List ℕ) → k < n → ((i : ℕ) → 
     → get_or ds k 0 < get_or es k 0 → ((i : ℕ) → k < i → i < n → get_or ds i 0 ≡ get_or es i 0)
     → mixed_below n ms ds < mixed_below n ms es
 unfolding sum_below
-mixed_less zero k ms ds es inside below less same = absurd (omega arith)
+mixed_less zero k ms ds es inside below less same = omega arith
 mixed_less (suc n) k ms ds es inside below less same = elim (cases_lt k n) [
   | inl l ↦
       let before = mixed_less n k ms ds es l below less (λ i h m. same i h (omega arith)) in
-      let top = ap (λ d. d * range_below n ms) (same n l (omega arith)) in
-      omega (arith, before, top)
+      grind (arith, same n l)
   | inr h ↦
       let here : n ≡ k = omega arith in
       let inside = mixed_within n ms ds (λ i l. below i (omega (arith, l, here))) in
-      let digits = subst (λ i. get_or ds i 0 < get_or es i 0) (sym here) less in
-      omega (arith, higher_digit_decides (range_below n ms) (mixed_below n ms ds) (mixed_below n ms es) _ _ inside digits)
+      let first : get_or ds n 0 < get_or es n 0 = rw here less in
+      omega (arith, higher_digit_decides (range_below n ms) (mixed_below n ms ds) (mixed_below n ms es) _ _ inside first)
 ]
 
 -- in a system the product of the moduli before one has an inverse modulo it

@@ -6,11 +6,13 @@ use Rattle.num_modular.specs.Systems.{range_below}
 use Rattle.num_modular.specs.ProductLaws.{product-zero, product-more}
 use Rattle.num_modular.specs.SystemLaws.{divides, keeps, only_digit, modulo_one, set_more}
 use Rattle.residue_numbers.specs.MixedRadix.{mixed_below}
-use Rattle.residue_numbers.proofs.MixedRadix.{mixed_none, mixed_written, mixed_within, digit_gives}
+use Rattle.residue_numbers.proofs.MixedRadix.{mixed_within, digit_gives}
+use Rattle.residue_numbers.proofs.Words.{weighted_written}
+use Rattle.num_modular.specs.NumberLaws.{sum_below-zero}
 use Rattle.residue_numbers.proofs.mixed_radix.System.digits.Goals as goal
 
 pub moduli-init : goal.moduli-init
-moduli-init c = search (arith, product-zero, modulo_one, mixed_none)
+moduli-init c = search (arith, product-zero, modulo_one, sum_below-zero)
 
 pub moduli-preserved : goal.moduli-preserved
 moduli-preserved c =
@@ -37,7 +39,7 @@ moduli-preserved c =
     let right = digit_gives m number range t r v s c.number_modulo-known.ensures product difference in
     let reduced = mod-eq_of_lt (c.requires.reduced place inside) in
     let below : t < m = subst (λ k. k < m) (sym c.mulm.ensures) (mod-lt (s * get_or self.inverses.now place 0) positive) in
-    let whole = mixed_written place t ms ds room in
+    let whole = weighted_written place t (λ i. range_below i ms) ds room in
     record {
       entries = length-set ds place t ∙ before.entries;
       below = set_more ds place t (λ i d. d < get_or ms i 0) room before.below below;

@@ -1,19 +1,16 @@
 use Rattle.std.proofs.Common.{◌≡◌, ℕ, ◌+◌, ◌-◌, ◌*◌, List, slice_index, length, get_or, arith, ap, ◌∙◌}
 use Rattle.num_modular.specs.Systems.{range_below, range_of}
-use Rattle.num_modular.specs.ProductLaws.{product-zero, product-more}
+use Rattle.num_modular.specs.ProductLaws.{product-zero}
+use Rattle.num_modular.specs.NumberLaws.{sum_below-zero, sum_below-more}
 use Rattle.residue_numbers.specs.MixedRadix.{mixed_below, mixed_number}
-use Rattle.residue_numbers.proofs.MixedRadix.{mixed_none, mixed_more, mixed_within}
+use Rattle.residue_numbers.proofs.MixedRadix.{range_more, mixed_within}
 use Rattle.residue_numbers.proofs.Signs.{half_more, sign_here, sign_even, sign_none}
 use Rattle.residue_numbers.proofs.mixed_radix.System.is_negative.Goals as goal
 
--- the number with one more digit, and the product of one more modulus
+-- the number with one more digit
 number_more : (ms ds : List ℕ) (place next : ℕ) → place ≡ next + 1
     → mixed_below place ms ds ≡ mixed_below next ms ds + get_or ds next 0 * range_below next ms
-number_more ms ds place next one = ap (λ k. mixed_below k ms ds) one ∙ mixed_more next ms ds
-
-range_more : (ms : List ℕ) (place next : ℕ) → place ≡ next + 1
-    → range_below place ms ≡ range_below next ms * get_or ms next 0
-range_more ms place next one = ap (λ k. range_below k ms) one ∙ product-more (slice_index ms) next
+number_more ms ds place next one = ap (λ k. mixed_below k ms ds) one ∙ sum_below-more _ next
 
 pub returns-then-digits-place : goal.returns-then-digits-place
 returns-then-digits-place c =
@@ -54,5 +51,5 @@ returns c =
     let ms : List ℕ = c.args.self.now.moduli.now in let ds : List ℕ = c.args.digits.now in
     let none : c.digits.place ≡ 0 = omega arith in
     sign_none (mixed_number ms ds) (mixed_below c.digits.place ms ds) (range_below c.digits.place ms) (range_of ms)
-    c.digits.invariant.halves (ap (λ k. mixed_below k ms ds) none ∙ mixed_none ms ds)
+    c.digits.invariant.halves (ap (λ k. mixed_below k ms ds) none ∙ sum_below-zero _)
     (ap (λ k. range_below k ms) none ∙ product-zero (slice_index ms))
