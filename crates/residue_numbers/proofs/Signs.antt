@@ -1,33 +1,46 @@
 -- Signs of numbers by their digits: where a number lies in the range, and the integer that it represents.
-use Rattle.std.proofs.Common.{◌≡◌, ◌≢◌, ℕ, ◌+◌, ◌*◌, ◌/◌, ◌%◌, ◌<◌, ◌≤◌, ◌↔◌, Bool, true, false, IsTrue, arith, ap, refl, ◌∙◌}
-use Rattle.std.proofs.Common.{ℤ, pos, ◌-ℤ◌, ◌<ℤ◌, if◌then◌else◌, inl, inr}
+use Rattle.std.proofs.Common.{◌≡◌, ℕ, ◌+◌, ◌*◌, ◌<◌, ◌≤◌, ◌↔◌, Bool, true, IsTrue, arith, ap, ◌∙◌}
+use Rattle.std.proofs.Common.{ℤ, pos, ◌-ℤ◌, ◌<ℤ◌, if◌then◌else◌}
+use Rattle.std.proofs.Common.{List, length, get_or, slice_index}
 use Rattle.std.proofs.Math.Nat.{mul-le-mul_left}
-use Rattle.std.proofs.lemmas.Bool.{cases_lt, lt-ltb, le-ltb, ltb-true, false≢true}
+use Rattle.num_modular.specs.NumberLaws.{sum_below-zero, sum_below-more}
+use Rattle.num_modular.specs.ProductLaws.{product-zero}
+use Rattle.num_modular.specs.Systems.{range_below, range_of}
+use Rattle.residue_numbers.specs.MixedRadix.{AreDigits, mixed_below, mixed_number}
+use Rattle.residue_numbers.proofs.MixedRadix.{range_more, mixed_within}
+use Rattle.std.proofs.lemmas.Bool.{cases_lt, lt-ltb, le-ltb, false≢true}
 use Rattle.std.proofs.Math.Bool.{beq}
-use Rattle.std.proofs.Math.Dec.{ltb}
 use Rattle.std.proofs.lemmas.Int.{ints}
 use Rattle.std.specs.Ordering.{MatchOrdering}
 use Rattle.std.specs.declared.cmp.Ordering.{Ordering}
 use Rattle.residue_numbers.specs.Signs.{signed_number}
 
--- the top digits are the halves of odd moduli: the next one is too
-pub half_more : (x low before p q m d range : ℕ) → 2 * x + p ≡ 2 * low + range → low ≡ before + d * q → p ≡ q * m
-    → m ≡ 2 * d + 1 → 2 * x + q ≡ 2 * before + range
-half_more x low before p q m d range e f g h = let k = ap (λ n. q * n) h in omega (arith, e, f, g, k)
+-- below the digits from `place` on, which are the halves of odd moduli, the next digit tells the half of the range, or that it
+-- is a half too
+pub digit_tells : (ms ds : List ℕ) (place next : ℕ) → AreDigits ms ds → place ≤ length ms → place ≡ next + 1
+    → 2 * mixed_number ms ds + range_below place ms ≡ 2 * mixed_below place ms ds + range_of ms
+    → (get_or ms next 0 ≤ 2 * get_or ds next 0 → range_of ms ≤ 2 * mixed_number ms ds)
+    × (2 * get_or ds next 0 + 2 ≤ get_or ms next 0 → 2 * mixed_number ms ds < range_of ms)
+    × (get_or ms next 0 ≡ 2 * get_or ds next 0 + 1
+    → 2 * mixed_number ms ds + range_below next ms ≡ 2 * mixed_below next ms ds + range_of ms)
+digit_tells ms ds place next digits within one halves =
+    let q = range_below next ms in
+    let low = ap (λ k. mixed_below k ms ds) one ∙ sum_below-more (λ i. get_or ds i 0 * range_below i ms) next in
+    let range = range_more ms place next one in
+    let before = mixed_within next ms ds (λ i l. digits.below i (omega (arith, l, one, within))) in (
+      λ h. let k = mul-le-mul_left q h in omega (arith, halves, low, range, k),
+      λ h. let k = mul-le-mul_left q h in omega (arith, halves, low, range, before, k),
+      λ h. let k = ap (λ n. q * n) h in omega (arith, halves, low, range, k),
+    )
 
--- a digit at least half of its modulus
-half_above : (x low before p q m d range : ℕ) → 2 * x + p ≡ 2 * low + range → low ≡ before + d * q → p ≡ q * m
-    → m ≤ 2 * d → range ≤ 2 * x
-half_above x low before p q m d range e f g h = let k = mul-le-mul_left q h in omega (arith, e, f, g, k)
-
--- a digit below half
-half_below : (x low before p q m d range : ℕ) → 2 * x + p ≡ 2 * low + range → low ≡ before + d * q → p ≡ q * m
-    → before < q → 2 * d + 2 ≤ m → 2 * x < range
-half_below x low before p q m d range e f g l h = let k = mul-le-mul_left q h in omega (arith, e, f, g, l, k)
-
--- all digits are halves
-half_of_none : (x low p range : ℕ) → 2 * x + p ≡ 2 * low + range → low ≡ 0 → p ≡ 1 → 2 * x < range
-half_of_none x low p range e f g = omega (arith, e, f, g)
+-- halves of odd moduli alone are below it
+pub odd_halves_are_low : (ms ds : List ℕ) (place : ℕ) → place ≡ 0
+    → 2 * mixed_number ms ds + range_below place ms ≡ 2 * mixed_below place ms ds + range_of ms
+    → 2 * mixed_number ms ds < range_of ms
+odd_halves_are_low ms ds place none halves =
+    let low = ap (λ k. mixed_below k ms ds) none ∙ sum_below-zero (λ i. get_or ds i 0 * range_below i ms) in
+    let range = ap (λ k. range_below k ms) none ∙ product-zero (slice_index ms) in
+    omega (arith, halves, low, range)
 
 -- what a number represents below half of the range, and from there on
 signed_low : (range x : ℕ) → 2 * x < range → signed_number range x ≡ pos x -ℤ pos 0
@@ -40,54 +53,23 @@ signed_high range x h = ap (λ b. if b then pos x else pos x -ℤ pos range) (le
 negative_high : (range x : ℕ) → x < range → range ≤ 2 * x → signed_number range x <ℤ pos 0
 negative_high range x h high = let e = signed_high range x high in omega (arith, ints, e, h)
 
-high_of_negative : (range x : ℕ) → signed_number range x <ℤ pos 0 → range ≤ 2 * x
+pub high_of_negative : (range x : ℕ) → signed_number range x <ℤ pos 0 → range ≤ 2 * x
 high_of_negative range x negative = search (arith, cases_lt, signed_low)
 
 same_bool : (l r : Bool) → beq l r ≡ true → l ≡ r
 same_bool l r e = grind arith
 
--- the sign by the top digit that isn't the half of its modulus
-pub sign_here : (x low before p q m d range : ℕ) → 2 * x + p ≡ 2 * low + range → low ≡ before + d * q → p ≡ q * m
-    → before < q → x < range → d ≢ m / 2 → IsTrue (ltb (m / 2) d) ↔ (signed_number range x <ℤ pos 0)
-sign_here x low before p q m d range e f g l h other = elim (cases_lt (m / 2) d) [
-  | inl above ↦
-      let high = half_above x low before p q m d range e f g (omega (arith, above)) in
-      ((λ t. negative_high range x h high), λ negative. lt-ltb (m / 2) d above)
-  | inr most ↦
-      let below : d < m / 2 = omega (arith, most, other) in
-      let low_is = half_below x low before p q m d range e f g l (omega (arith, below)) in (
-        (λ t. let wrong = ltb-true (m / 2) d t in absurd (omega (arith, wrong, most))),
-        λ negative. let wrong = high_of_negative range x negative in absurd (omega (arith, wrong, low_is)),
-      )
-]
-
--- by the half of an even modulus
-pub sign_even : (x low before p q m d range : ℕ) → 2 * x + p ≡ 2 * low + range → low ≡ before + d * q → p ≡ q * m
-    → x < range → d ≡ m / 2 → m % 2 ≡ 0 → IsTrue true ↔ (signed_number range x <ℤ pos 0)
-sign_even x low before p q m d range e f g h half even =
-    let high = half_above x low before p q m d range e f g (omega (arith, half, even)) in
-    ((λ t. negative_high range x h high), λ negative. refl)
-
--- by digits that are all halves
-pub sign_none : (x low p range : ℕ) → 2 * x + p ≡ 2 * low + range → low ≡ 0 → p ≡ 1
-    → IsTrue false ↔ (signed_number range x <ℤ pos 0)
-sign_none x low p range e f g = search (arith, half_of_none, false≢true, high_of_negative)
+-- a sign by the half of the range
+pub sign_is : (b : Bool) (range x : ℕ) → x < range → IsTrue b ↔ (range ≤ 2 * x) → IsTrue b ↔ (signed_number range x <ℤ pos 0)
+sign_is b range x h is = (λ t. negative_high range x h (is.0 t), λ negative. is.1 (high_of_negative range x negative))
 
 low_of_other : (range x : ℕ) → x < range → (signed_number range x <ℤ pos 0 → ⊥) → 2 * x < range
 low_of_other range x h other = search (arith, cases_lt, negative_high)
 
 -- numbers on one side compare as what they represent
-ordered : (o : Ordering) (x y : ℕ) (v w : ℤ) → (x < y → v <ℤ w) → (x ≡ y → v ≡ w) → (y < x → w <ℤ v)
+ordered_with : (o : Ordering) (d x y : ℕ) (v w : ℤ) → v ≡ pos x -ℤ pos d → w ≡ pos y -ℤ pos d
     → MatchOrdering o (x < y) (x ≡ y) (y < x) → MatchOrdering o (v <ℤ w) (v ≡ w) (w <ℤ v)
-ordered o x y v w less equal greater h = grind arith
-
-ordered_with : (o : Ordering) (range d x y : ℕ) → signed_number range x ≡ pos x -ℤ pos d → signed_number range y ≡ pos y -ℤ pos d
-    → MatchOrdering o (x < y) (x ≡ y) (y < x)
-    → MatchOrdering o (signed_number range x <ℤ signed_number range y) (signed_number range x ≡ signed_number range y)
-    (signed_number range y <ℤ signed_number range x)
-ordered_with o range d x y e f =
-    ordered o x y (signed_number range x) (signed_number range y) (λ l. omega (arith, ints, e, f, l))
-    (ap (signed_number range)) (λ l. omega (arith, ints, e, f, l))
+ordered_with o d x y v w e f h = grind (arith, ints)
 
 pub ordered_alike : (l r : Bool) (o : Ordering) (range x y : ℕ) → x < range → y < range
     → IsTrue l ↔ (signed_number range x <ℤ pos 0) → IsTrue r ↔ (signed_number range y <ℤ pos 0) → beq l r ≡ true
