@@ -1,4 +1,4 @@
-use Rattle.std.proofs.Common.{◌≡◌, ◌/◌, ◌%◌, sym, subst, refl}
+use Rattle.std.proofs.Common.{◌/◌, refl}
 use Rattle.std.proofs.lemmas.Bool.{false≢true}
 use Rattle.residue_numbers.proofs.Combinations.{combined, divides_exactly, same_of_common}
 use Rattle.residue_numbers.proofs.combination.combine.Goals as goal
@@ -6,15 +6,14 @@ use Rattle.residue_numbers.proofs.combination.combine.Goals as goal
 pub returns-then-difference-divisor-ne0-clause-number : goal.returns-then-difference-divisor-ne0-clause-number
 returns-then-difference-divisor-ne0-clause-number c x common =
     let parts = c.common_divisor-divisor.ensures.parts in
-    c.if-difference-divisor-ne0.true ((divides_exactly _ _ _ c.args.a c.args.b c.difference_modulo-difference.result parts
-    c.difference_modulo-difference.ensures).1 (same_of_common _ _ _ c.args.a c.args.b x parts common))
+    c.if-difference-divisor-ne0.true ((divides_exactly _ _ _ _ c.args.a c.args.b _ refl parts c.difference_modulo-difference.ensures).1
+    (same_of_common _ _ _ c.args.a c.args.b x parts common))
 
 pub returns-then-difference-divisor-ne0-clause-exactly : goal.returns-then-difference-divisor-ne0-clause-exactly
 returns-then-difference-divisor-ne0-clause-exactly c = (
   λ t. absurd (false≢true t),
-  λ same. absurd (c.if-difference-divisor-ne0.true ((divides_exactly _ _ _ c.args.a c.args.b
-      c.difference_modulo-difference.result c.common_divisor-divisor.ensures.parts c.difference_modulo-difference.ensures).1
-      (subst (λ k. c.args.a % k ≡ c.args.b % k) (sym c.common_divisor-divisor.ensures.greatest) same))),
+  λ same. absurd (c.if-difference-divisor-ne0.true ((divides_exactly _ _ _ _ c.args.a c.args.b _
+      c.common_divisor-divisor.ensures.greatest c.common_divisor-divisor.ensures.parts c.difference_modulo-difference.ensures).1 same)),
 )
 
 pub returns-clause-number : goal.returns-clause-number
@@ -30,8 +29,7 @@ returns-clause-number c =
 
 pub returns-clause-exactly : goal.returns-clause-exactly
 returns-clause-exactly c = (
-  λ t. subst (λ k. c.args.a % k ≡ c.args.b % k) c.common_divisor-divisor.ensures.greatest
-      ((divides_exactly _ _ _ c.args.a c.args.b c.difference_modulo-difference.result c.common_divisor-divisor.ensures.parts
-      c.difference_modulo-difference.ensures).0 c.if-difference-divisor-ne0.false),
+  λ t. (divides_exactly _ _ _ _ c.args.a c.args.b _ c.common_divisor-divisor.ensures.greatest
+      c.common_divisor-divisor.ensures.parts c.difference_modulo-difference.ensures).0 c.if-difference-divisor-ne0.false,
   λ same. refl,
 )
