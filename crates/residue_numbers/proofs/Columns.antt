@@ -5,17 +5,17 @@ use Rattle.std.proofs.Common.{get_or, sym, ap, subst, ◌∙◌, refl, arith, be
 use Rattle.std.specs.List.{slice_get}
 use Rattle.std.proofs.Math.Path.{fun_ext}
 use Rattle.std.proofs.Math.Nat.{mul-le-mul_left}
+use Rattle.std.proofs.lemmas.Nat.{mod-mul-add}
 use Rattle.std.proofs.lemmas.Bool.{cases_lt, cases_eq}
-use Rattle.std.proofs.lemmas.List.{get_or-take, get_or-drop, get_or-map, length-map, length-take-le, take-map}
-use Rattle.std.proofs.lemmas.Grind.{get_or_default_zero, same_number_lists}
+use Rattle.std.proofs.lemmas.List.{get_or-take, get_or-drop, length-map}
+use Rattle.std.proofs.lemmas.Grind.{get_or_default_zero}
 use Rattle.std.proofs.lemmas.Option.{slice_get_past}
 use Rattle.num_modular.specs.declared.ring.RingCommand.{RingCommand}
 use Rattle.num_modular.specs.declared.ring.RunEnd.{RunEnd}
 use Rattle.num_modular.specs.declared.ring.RunEnd.TheVariants.{Done, NoInverse}
 use Rattle.num_modular.specs.Ring.{whole, value_after, value_at, LacksInverseAt, IsStop, carried_out}
-use Rattle.residue_numbers.specs.Registers.{register, StartWith, IsCarriedOut, IsColumnRun, IsRun, value_modulo}
-use Rattle.residue_numbers.proofs.Encodings.{ArePositive, modulus_is_factor}
-use Rattle.residue_numbers.proofs.Runs.{Laws, NoneLacks, none_lacks_above, starts, values_within, lacks_above}
+use Rattle.residue_numbers.specs.Registers.{register, IsCarriedOut, IsColumnRun, value_modulo}
+use Rattle.residue_numbers.proofs.Runs.{NoneLacks, starts}
 
 -- a command over whole numbers
 abbrev pub over_whole : {C : Type 0} → (C → RingCommand ℕ) → C → RingCommand ℕ
@@ -41,7 +41,7 @@ read_prefix [] (suc k) i h = refl
 read_prefix (x ∷ xs) (suc k) zero h = refl
 read_prefix (x ∷ xs) (suc k) (suc i) h = read_prefix xs k i (omega (arith, h))
 
-value_prefix : (m : ℕ) (start : List ℕ) (commands : List (RingCommand ℕ)) (k i : ℕ) → i ≤ k
+pub value_prefix : (m : ℕ) (start : List ℕ) (commands : List (RingCommand ℕ)) (k i : ℕ) → i ≤ k
     → (r : ℕ) → value_at m start (take k commands) i r ≡ value_at m start commands i r
 value_prefix m start commands k zero h r = refl
 value_prefix m start commands k (suc i) h r =
@@ -52,7 +52,7 @@ lacks_prefix : (m : ℕ) (start : List ℕ) (commands : List (RingCommand ℕ)) 
     → LacksInverseAt m start (take k commands) i ↔ LacksInverseAt m start commands i
 lacks_prefix m start commands k i h = search (arith, value_prefix, read_prefix)
 
-carried_prefix : (m : ℕ) (start : List ℕ) (commands : List (RingCommand ℕ)) (k done : ℕ) → done ≤ k
+pub carried_prefix : (m : ℕ) (start : List ℕ) (commands : List (RingCommand ℕ)) (k done : ℕ) → done ≤ k
     → IsCarriedOut m start (take k commands) k done → IsCarriedOut m start commands k done
 carried_prefix m start commands k done most carried = record {
   before = λ at h lacks. carried.before at h ((lacks_prefix m start commands k at (omega (arith, h, most))).1 lacks);
@@ -71,36 +71,16 @@ pub place_within : (count n r i : ℕ) → r < count → i < n → r * n + i < c
 place_within count n r i h k = let f = mul-le-mul_left n h in omega (arith, f, k)
 
 pub other_place : (n r q i j : ℕ) → i < n → j < n → r * n + i ≡ q * n + j → i ≡ j
-other_place n r q i j h k e = elim (cases_lt r q) [
-  | inl less ↦ let f = mul-le-mul_left n less in absurd (omega (arith, f, h, k, e))
-  | inr more ↦ elim (cases_lt q r) [
-    | inl less ↦ let f = mul-le-mul_left n less in absurd (omega (arith, f, h, k, e))
-    | inr equal ↦
-        let s : r ≡ q = omega (arith, more, equal) in
-        let f = ap (λ k. k * n) s in
-        omega (arith, e, f)
-  ]
-]
+other_place n r q i j h k e = sym (mod-mul-add r n i h) ∙ ap (λ a. a % n) e ∙ mod-mul-add q n j k
 
 -- a word of a register
-register_word : (n : ℕ) (words : List ℕ) (r i : ℕ) → i < n → get_or (register n words r) i 0 ≡ get_or words (r * n + i) 0
+pub register_word : (n : ℕ) (words : List ℕ) (r i : ℕ) → i < n → get_or (register n words r) i 0 ≡ get_or words (r * n + i) 0
 register_word n words r i h =
     get_or-take (r * n + n - r * n) (drop (r * n) words) i 0 (omega (arith, h)) ∙ get_or-drop (r * n) words i 0
 
 -- a list all of whose entries are so
 pub all_of_each : (P : ℕ → Type 0) (xs : List ℕ) → ((i : ℕ) → i < length xs → P (get_or xs i 0)) → All P xs
 all_of_each P xs each i d h = subst P (sym (get_or_default_zero xs i d h)) (each i h)
-
--- the modulus of a reducer of the list
-pub modulus_of : {R : Type 0} (modulus : R → ℕ) (reducers : List R) (moduli : List ℕ) (place : ℕ) (reducer : R)
-    → map modulus reducers ≡ moduli → place < length reducers → reducer ≡ get_or reducers place reducer
-    → modulus reducer ≡ get_or moduli place 0
-modulus_of modulus reducers moduli place reducer all h is =
-    ap modulus is ∙ sym (get_or-map modulus reducers place reducer 0 h) ∙ ap (λ ms. get_or ms place 0) all
-
-pub count_of : {R : Type 0} (modulus : R → ℕ) (reducers : List R) (moduli : List ℕ) → map modulus reducers ≡ moduli
-    → length reducers ≡ length moduli
-count_of modulus reducers moduli all = sym (length-map reducers modulus) ∙ ap length all
 
 -- the end of a run tells what it carried out
 pub record IsCarriedBy (m : ℕ) (start : List ℕ) (commands : List (RingCommand ℕ)) (end : RunEnd) (count done : ℕ)
@@ -109,51 +89,18 @@ pub record IsCarriedBy (m : ℕ) (start : List ℕ) (commands : List (RingComman
   pub most : done ≤ count
   pub same : carried_out end commands ≡ done
 
-carried_by_end : (m : ℕ) (start : List ℕ) (commands : List (RingCommand ℕ)) (end : RunEnd) (count done : ℕ)
+pub carried_by_end : (m : ℕ) (start : List ℕ) (commands : List (RingCommand ℕ)) (end : RunEnd) (count done : ℕ)
     → length commands ≡ count → ((at : ℕ) → (end ≡ NoInverse at) ↔ IsStop m start commands at)
     → ((end ≡ Done) ↔ ((at : ℕ) → IsStop m start commands at → ⊥)) → (end ≡ Done → done ≡ count)
     → ((at : ℕ) → end ≡ NoInverse at → done ≡ at) → IsCarriedBy m start commands end count done
 carried_by_end m start commands Done count done long stops never all stopped =
     let e = all refl in record {
-      carried = record {
-        before = λ at h. none_lacks m start commands (never.0 refl) done at h;
-        next = λ h. absurd (omega (arith, h, e));
-      };
+      carried = record { before = none_lacks m start commands (never.0 refl) done; next = λ h. absurd (omega (arith, h, e)) };
       most = omega (arith, e);
       same = long ∙ sym e;
     }
 carried_by_end m start commands (NoInverse at) count done long stops never all stopped =
-    let stop = (stops at).0 refl in
-    let within = lacks_within m start commands at stop.lacks in
-    grind arith
-
--- the same for the first commands of a list
-pub by_end : {C : Type 0} (f : C → RingCommand ℕ) (commands : List C) (m : ℕ) (start : List ℕ) (end : RunEnd) (count done : ℕ)
-    → count ≤ length commands → ((at : ℕ) → (end ≡ NoInverse at) ↔ IsStop m start (map f (take count commands)) at)
-    → ((end ≡ Done) ↔ ((at : ℕ) → IsStop m start (map f (take count commands)) at → ⊥)) → (end ≡ Done → done ≡ count)
-    → ((at : ℕ) → end ≡ NoInverse at → done ≡ at) → IsCarriedBy m start (map f (take count commands)) end count done
-by_end f commands m start end count done within = search (arith, carried_by_end, length-map, length-take-le)
-
--- a run modulo one modulus, from the inputs at its place
-pub column_run : {C : Type 0} (f : C → RingCommand ℕ) (commands : List C) (moduli words start values registers : List ℕ)
-    (m place count done : ℕ) (end : RunEnd) → m ≡ get_or moduli place 0 → place < length moduli → StartWith moduli words start
-    → length values ≡ length start
-    → ((r : ℕ) → r < length start → get_or values r 0 ≡ get_or words (r * length moduli + place) 0 % m)
-    → IsCarriedBy m values (map f (take count commands)) end count done
-    → ((r : ℕ) → r < length start → get_or registers (r * length moduli + place) 0
-    ≡ value_at m values (map f (take count commands)) (carried_out end (map f (take count commands))) r)
-    → IsColumnRun moduli place start (map f commands) count registers done
-column_run f commands moduli words start values registers m place count done end modulus inside with entries loaded by written =
-    let cs = map f (take count commands) in
-    let part = take-map f count commands in
-    let same : values ≡ starts m start = same_number_lists values (starts m start) (entries ∙ sym (length-map start (λ n. n % m))) (λ r h.
-    let k : r < length start = omega (arith, h, entries) in
-    loaded r k ∙ rw modulus (ap (λ w. w % get_or moduli place 0) (sym (register_word (length moduli) words r place inside))
-        ∙ (with.each r k).each place inside) ∙ sym (get_or-map (λ n. n % m) start r 0 0 k)) in
-    record {
-      carried = rw (← modulus, ← same) (carried_prefix m values (map f commands) count done by.most (rw part by.carried));
-      values = λ r h. rw (← modulus, ← same) (written r h ∙ rw (by.same, ← part) (value_prefix m values (map f commands) count done by.most r));
-    }
+    let stop = (stops at).0 refl in let within = lacks_within m start commands at stop.lacks in grind arith
 
 -- a place is one, or it is another
 at_or_not : (P : ℕ → Type 0) (i place : ℕ) → P place → ((i ≡ place → ⊥) → P i) → P i
@@ -204,25 +151,6 @@ pub more_again : (moduli start : List ℕ) (commands : List (RingCommand ℕ)) (
     → HoldBut moduli start commands after count again (place + 1)
 more_again moduli start commands before after count done again place was here kept most none r i h within side =
     search (arith, cases_lt, at_or_not)
-
--- all moduli are run, and those before `again` once more
-pub all_run : Laws → (moduli start : List ℕ) (commands : List (RingCommand ℕ)) (first last : List ℕ)
-    (done again place : ℕ) → ArePositive moduli → AreRunBefore moduli start commands first done again (length moduli)
-    → HoldBut moduli start commands last done again place → again ≤ place → IsRun moduli start commands last done
-all_run laws moduli start commands first last done again place positive was held past =
-    let none = none_lacks_above laws moduli start commands positive done was.each in
-    let values = λ (i : ℕ) (h : i < length moduli). values_within laws (modulus_is_factor moduli positive i h) start commands done none in record {
-      carried = record {
-        before = none;
-        next = λ h.
-            let (i, l, lacks) = was.next h in
-            lacks_above laws (modulus_is_factor moduli positive i l) _ _ (values i l) (slice_get commands done) lacks;
-      };
-      residues = λ r h. record {
-        each = λ i l.
-            register_word (length moduli) last r i l ∙ held r i h l (λ from. omega (arith, past, from)) ∙ sym (values i l r);
-      };
-    }
 
 -- where a run ends that carries so many commands out
 pub record IsEnd (m : ℕ) (start : List ℕ) (commands : List (RingCommand ℕ)) (end : RunEnd) (done : ℕ) : Type 0 where

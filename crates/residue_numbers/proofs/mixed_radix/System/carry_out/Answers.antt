@@ -1,6 +1,9 @@
-use Rattle.std.proofs.Common.{◌≡◌, length, arith, sym, ◌∙◌, subst}
-use Rattle.residue_numbers.proofs.Runs.{Laws}
-use Rattle.residue_numbers.proofs.Columns.{AreRunBefore, more_run, more_again, all_run}
+use Rattle.std.proofs.Common.{◌≡◌, ℕ, ◌<◌, List, length, map, arith, sym, ◌∙◌}
+use Rattle.std.specs.List.{slice_get}
+use Rattle.num_modular.specs.declared.ring.RingCommand.{RingCommand}
+use Rattle.residue_numbers.proofs.Encodings.{modulus_is_factor}
+use Rattle.residue_numbers.proofs.Runs.{Laws, none_lacks_above, values_within, lacks_above}
+use Rattle.residue_numbers.proofs.Columns.{over_whole, register_word, more_run, more_again}
 use Rattle.residue_numbers.proofs.mixed_radix.System.carry_out.Goals as goal
 
 pub moduli-preserved : goal.moduli-preserved
@@ -32,7 +35,21 @@ again-preserved g c start entries with =
 pub returns-clause-run : goal.returns-clause-run
 returns-clause-run g c start entries with =
     let laws : Laws = grind arith in
-    let all : c.moduli.place ≡ length c.args.self.now.moduli.now = omega arith in
-    all_run laws _ start _ c.moduli.registers _ _ _ _ c.args.self.now.coprime.positive
-    (subst (AreRunBefore _ start _ c.moduli.registers _ _) all (c.moduli.invariant.run start entries with))
-    (c.again.invariant start entries with) (omega arith)
+    let ms : List ℕ = c.args.self.now.moduli.now in let positive = c.args.self.now.coprime.positive in
+    let wholes : List (RingCommand ℕ) = map (over_whole g.C.AsCommand.command) c.args.commands.now in
+    let all : c.moduli.place ≡ length ms = omega arith in
+    let was = c.moduli.invariant.run start entries with in
+    let none = none_lacks_above laws ms start wholes positive c.moduli.carried (λ i h. was.each i (omega (arith, h, all))) in
+    let values = λ (i : ℕ) (h : i < length ms).
+    values_within laws (modulus_is_factor ms positive i h) start wholes c.moduli.carried none in record {
+      carried = record {
+        before = none;
+        next = λ h.
+            let (i, l, lacks) = was.next h in let k : i < length ms = omega (arith, l, all) in
+            lacks_above laws (modulus_is_factor ms positive i k) _ _ (values i k) (slice_get wholes c.moduli.carried) lacks;
+      };
+      residues = λ r h. record {
+        each = λ i l. register_word (length ms) c.again.registers r i l
+            ∙ c.again.invariant start entries with r i h l (λ from. omega arith) ∙ sym (values i l r);
+      };
+    }

@@ -1,26 +1,38 @@
-use Rattle.std.proofs.Common.{◌<◌, List, ℕ, length, arith, sym, ◌∙◌}
-use Rattle.std.proofs.lemmas.List.{length-map}
+use Rattle.std.proofs.Common.{◌≡◌, ◌<◌, ◌%◌, List, ℕ, length, map, get_or, arith, ap, sym, ◌∙◌}
+use Rattle.std.proofs.lemmas.Grind.{same_number_lists}
+use Rattle.std.proofs.lemmas.List.{get_or-map, length-map, length-take-le, take-map}
+use Rattle.num_modular.specs.declared.ring.RingCommand.{RingCommand}
 use Rattle.num_modular.specs.Ring.{values_of}
-use Rattle.residue_numbers.proofs.Columns.{over_whole, by_end, column_run, modulus_of, count_of}
+use Rattle.residue_numbers.proofs.Runs.{starts}
+use Rattle.residue_numbers.proofs.Columns.{over_whole, carried_by_end, carried_prefix, value_prefix, register_word}
 use Rattle.residue_numbers.proofs.mixed_radix.System.run_column.Goals as goal
 
 pub returns : goal.returns
 returns g c =
-    let ring = g.R.Reducer in let reducer = c.index-reducers-place in
+    let ring = g.R.Reducer in let reducer = c.index-reducers-place in let m : ℕ = ring.modulus reducer.result in
     let ms : List ℕ = c.args.self.now.moduli.now in let forms : List ℕ = c.load_column.new.forms in
-    let count = count_of ring.modulus c.args.reducers.now ms c.requires.reducers in
-    let by = by_end (over_whole g.C.AsCommand.command) c.args.commands.now _ _ _ _ _ c.requires.count
+    let n = length ms in let place : ℕ = c.args.place in let inputs : List ℕ = c.args.inputs.now in
+    let f = over_whole g.C.AsCommand.command in let commands : List (RingCommand ℕ) = map f c.args.commands.now in
+    let values = values_of (λ f. f) ring.value m forms in
+    let part = take-map f c.args.count c.args.commands.now in
+    let count : length c.args.reducers.now ≡ n = sym (length-map c.args.reducers.now ring.modulus) ∙ ap length c.requires.reducers in
+    let modulus : m ≡ get_or ms place 0 = ap ring.modulus reducer.is
+        ∙ sym (get_or-map ring.modulus c.args.reducers.now place reducer.result 0 (omega (arith, count, c.requires.within)))
+        ∙ ap (λ ms. get_or ms place 0) c.requires.reducers in
+    let by = carried_by_end _ _ _ _ c.args.count _ (length-map _ _ ∙ length-take-le _ _ c.requires.count)
     c.run-end.ensures.stops c.run-end.ensures.done c.carried_by.ensures.done c.carried_by.ensures.stopped in record {
       most = by.most;
       run = λ start entries with.
-          column_run (over_whole g.C.AsCommand.command) c.args.commands.now ms c.args.inputs.now start
-          (values_of (λ f. f) ring.value _ forms) c.unload_column.new.words _ c.args.place c.args.count _ c.run-end.result
-          (modulus_of ring.modulus c.args.reducers.now ms c.args.place reducer.result c.requires.reducers
-          (omega (arith, count, c.requires.within)) reducer.is) c.requires.within with
-          (length-map forms (λ f. ring.value _ f) ∙ c.load_column.auto.forms ∙ sym entries)
-          (λ r h. c.load_column.ensures.values r (omega (arith, h, entries))) by
-          (λ r h.
-          let within : r < length forms = omega (arith, h, entries, c.load_column.auto.forms) in
-          c.unload_column.ensures.written r (omega (arith, within, c.run-end.auto.regs)) ∙ c.run-end.ensures.residues r within);
+          let same : values ≡ starts m start = same_number_lists values (starts m start) (simp length-map (c.load_column.auto.forms ∙ sym entries)) (λ r h.
+          let k : r < length start = let e = length-map forms (λ f. ring.value m f) in omega (arith, h, e, entries, c.load_column.auto.forms) in
+          c.load_column.ensures.values r (omega (arith, k, entries))
+          ∙ rw modulus (ap (λ w. w % get_or ms place 0) (sym (register_word n inputs r place c.requires.within))
+          ∙ (with.each r k).each place c.requires.within) ∙ sym (get_or-map (λ n. n % m) start r 0 0 k)) in record {
+            carried = rw (← modulus, ← same) (carried_prefix m values commands c.args.count _ by.most (rw part by.carried));
+            values = λ r h.
+                let within : r < length forms = omega (arith, h, entries, c.load_column.auto.forms) in
+                rw (← modulus, ← same) (c.unload_column.ensures.written r (omega (arith, within, c.run-end.auto.regs))
+                ∙ c.run-end.ensures.residues r within ∙ rw (by.same, ← part) (value_prefix m values commands c.args.count _ by.most r));
+          };
       kept = search arith;
     }
