@@ -73,7 +73,8 @@ number_middle before mid behind = search (arith, flat_map-append, written_more, 
 -- with others there that have as many digits, and that leave the same modulo 97
 pub middle_residue : (before mid other behind : List ℕ)
     → length (flat_map digits_of mid) ≡ length (flat_map digits_of other)
-    → number (before ++ (mid ++ behind)) % 97 ≡ number (before ++ (other ++ behind)) % 97 → number mid % 97 ≡ number other % 97
+    → number (before ++ (mid ++ behind)) % 97 ≡ number (before ++ (other ++ behind)) % 97
+    → number mid % 97 ≡ number other % 97
 middle_residue before mid other behind count same =
     let k = length (flat_map digits_of behind) in
     let unit = power_unit k in
@@ -111,7 +112,8 @@ pub number_of : (text xs : List ℕ) → rotated text ≡ xs → number xs ≡ i
 number_of text xs e = ap number (sym e) ∙ written_is (iban_digits text)
 
 -- two texts that leave the same
-pub both_leave : (s t xs ys : List ℕ) → IsIban s → IsIban t → rotated s ≡ xs → rotated t ≡ ys → number xs % 97 ≡ number ys % 97
+pub both_leave : (s t xs ys : List ℕ) → IsIban s → IsIban t → rotated s ≡ xs → rotated t ≡ ys
+    → number xs % 97 ≡ number ys % 97
 both_leave s t xs ys is_s is_t e f =
     ap (λ k. k % 97) (number_of s xs e) ∙ is_s.leaves ∙ sym (ap (λ k. k % 97) (number_of t ys f) ∙ is_t.leaves)
 

@@ -30,8 +30,8 @@ one_term f g p (suc n) h l =
 pub changed_symbol : (ws xs : List ℕ) (p s : ℕ) → p < length xs
     → weighted_sum ws (set xs p s) + get_or ws p 0 * get_or xs p 0 ≡ weighted_sum ws xs + get_or ws p 0 * s
 changed_symbol ws xs p s h =
-    let moved = one_term (λ i. get_or ws i 0 * get_or (set xs p s) i 0) (λ i. get_or ws i 0 * get_or xs i 0) p (length xs)
-    (λ i ne. search (arith, get_or-set_other)) h in
+    let moved = one_term (λ i. get_or ws i 0 * get_or (set xs p s) i 0) (λ i. get_or ws i 0 * get_or xs i 0) p
+    (length xs) (λ i ne. search (arith, get_or-set_other)) h in
     grind (arith, length-set, get_or-set_same)
 
 -- and with two neighbours exchanged

@@ -15,7 +15,8 @@ passes (suc n) test h i l =
 
 -- whether a term of three digits is the same with the last two exchanged only where these are equal
 abbrev pub asymmetric : (ℕ → ℕ → ℕ → ℕ) → Bool
-asymmetric u = each_below 10 (λ c. each_below 10 (λ a. each_below 10 (λ b. not (nat_eq (u c a b) (u c b a)) || nat_eq a b)))
+asymmetric u =
+    each_below 10 (λ c. each_below 10 (λ a. each_below 10 (λ b. not (nat_eq (u c a b) (u c b a)) || nat_eq a b)))
 
 abbrev pub IsAsymmetric : (ℕ → ℕ → ℕ → ℕ) → Type 0
 IsAsymmetric u = (c a b : ℕ) → c ≤ 9 → a ≤ 9 → b ≤ 9 → u c a b ≡ u c b a → a ≡ b

@@ -46,8 +46,8 @@ abbrev step_test : CheckCode → ℕ → Bool
 step_test code i =
     nat_eq ((step_at code i + get_or code.weights (suc i) 0) % code.modulus) (get_or code.weights i 0 % code.modulus)
 
-exchanged_by_step : (code : CheckCode) (word : List ℕ) (i : ℕ) → step_test code i ≡ true → get_or word i 0 < code.modulus
-    → IsCodeword code word → suc i < length word → IsCodeword code (exchanged word i)
+exchanged_by_step : (code : CheckCode) (word : List ℕ) (i : ℕ) → step_test code i ≡ true
+    → get_or word i 0 < code.modulus → IsCodeword code word → suc i < length word → IsCodeword code (exchanged word i)
     ↔ (Fits code i (get_or word (suc i) 0) × Fits code (suc i) (get_or word i 0)
     × ((step_at code i * (get_or word (suc i) 0 + (code.modulus - get_or word i 0))) % code.modulus ≡ 0))
 exchanged_by_step code word i step x_below is within =
@@ -65,7 +65,8 @@ exchanges_tested code power h tested word i is within apart changed =
     omega (arith, passed code power h i (omega (arith, is.places)), (is.symbols i (omega arith)).greatest) in
     let y_below : get_or word (suc i) 0 < code.modulus =
     omega (arith, passed code power h (suc i) (omega (arith, is.places)), (is.symbols (suc i) within).greatest) in
-    let at = and_parts _ _ (passes (length code.weights - 1) (exchange_test code power) tested i (omega (arith, is.places))) in
+    let test = exchange_test code power in
+    let at = and_parts _ _ (passes (length code.weights - 1) test tested i (omega (arith, is.places))) in
     let both = (exchanged_by_step code word i at.0 x_below is within).0 changed in
     apart (sym (same_residues _ _ _ _ x_below y_below (a_difference _ _ _ x_below)
     (unit_cancels _ _ _ _ (eqb-true _ _ at.1) both.2)))
@@ -115,8 +116,8 @@ get_or-from_right (suc n) f (suc i) l = search (arith, get_or-from_right n f i (
 
 -- the digits of an IBAN, of each length
 abbrev test_97 : ℕ → Bool
-test_97 n = let code = mod_97_10 n in
-    each_below (length code.weights) (change_test code 95) && each_below (length code.weights - 1) (exchange_test code 95)
+test_97 n = let code = mod_97_10 n in let k = length code.weights in
+    each_below k (change_test code 95) && each_below (k - 1) (exchange_test code 95)
 
 ibans_pass : each_below 69 test_97 ≡ true
 unfolding from_right

@@ -33,7 +33,8 @@ powers_at : (m : ℕ) (xs : List ℕ) → are_powers m xs ≡ true → (i : ℕ)
 powers_at m [] h i l = absurd (omega (arith, l))
 powers_at m (x ∷ xs) h zero l = search (arith, eqb-true, and_parts)
 powers_at m (x ∷ xs) h (suc i) l =
-    search (arith, powers_at m xs (and_parts (nat_eq x (10 ^ length xs % m)) (are_powers m xs) h).1 i (omega (arith, l)))
+    let parts = and_parts (nat_eq x (10 ^ length xs % m)) (are_powers m xs) h in
+    search (arith, powers_at m xs parts.1 i (omega (arith, l)))
 
 -- so are the last of them
 pub powers_behind : (m place : ℕ) (xs : List ℕ) (count i : ℕ) → are_powers m xs ≡ true

@@ -1,6 +1,6 @@
 -- IBANs with two neighbouring characters exchanged.
-use Rattle.std.proofs.Common.{◌≡◌, ◌≢◌, ℕ, zero, suc, ◌+◌, ◌-◌, ◌*◌, ◌/◌, ◌%◌, ◌^◌, ◌<◌, ◌≤◌, ◌⊎◌, inl, inr, Bool}
-use Rattle.std.proofs.Common.{nat_eq, if◌then◌else◌, List, [], ◌∷◌, ◌++◌, length, get_or, set, take, drop, length-append}
+use Rattle.std.proofs.Common.{◌≡◌, ◌≢◌, ℕ, zero, suc, ◌+◌, ◌-◌, ◌*◌, ◌%◌, ◌^◌, ◌<◌, ◌≤◌, ◌⊎◌, inl, inr}
+use Rattle.std.proofs.Common.{nat_eq, List, [], ◌∷◌, ◌++◌, length, get_or, set, take, drop, length-append}
 use Rattle.std.proofs.Common.{sym, ap, ◌∙◌, refl, arith, subst, length-set, get_or-set_same, get_or-set_other}
 use Rattle.std.specs.List.{flat_map}
 use Rattle.std.proofs.Math.Seq.{take-set-lt}
@@ -20,19 +20,13 @@ use Rattle.check_digits.proofs.Decisions.{passes}
 abbrev pair : ℕ → ℕ → ℕ
 pair c d = number (c ∷ d ∷ [])
 
-elevenfold : (c d : ℕ) → IsDigit c → IsLetter d → 11 * (c - 48) ≡ d - 55 → AreElevenfold c d
-elevenfold c d h k e = search (arith, cases_eq)
-
 -- two characters that leave the same in either order
 same_pair : (c d : ℕ) → IsDigit c ⊎ IsLetter c → IsDigit d ⊎ IsLetter d → c ≢ d
     → pair c d % 97 ≡ pair d c % 97 → AreElevenfold c d ⊎ AreElevenfold d c
-same_pair c d h2 h3 apart same = grind (arith, elevenfold, digit_is, letter_is)
+same_pair c d h2 h3 apart same = grind (arith, digit_is, letter_is)
 
 pair_in_either_order : (c d : ℕ) → AreElevenfold c d ⊎ AreElevenfold d c → pair c d ≡ pair d c
 pair_in_either_order c d h2 = grind arith
-
-one_character : (c : ℕ) → flat_map digits_of (c ∷ []) ≡ digits_of c
-one_character c = append-nil (digits_of c)
 
 -- where two neighbouring characters of a text stand when its first four are at its end
 record Neighbours (text : List ℕ) (i : ℕ) : Type 0 where
@@ -86,17 +80,14 @@ less_one_unit k l =
     })
 
 -- a character has two digits at most
-few_digits : (b : Bool) (c : ℕ) → length (if b then (c - 48) ∷ [] else ((c - 55) / 10) ∷ ((c - 55) % 10) ∷ []) ≤ 2
-few_digits b c = grind arith
-
 digits_at_most : (xs : List ℕ) → length (flat_map digits_of xs) ≤ 2 * length xs
 digits_at_most [] = omega arith
-digits_at_most (c ∷ cs) = search (arith, length-append, few_digits, digits_at_most cs)
+digits_at_most (c ∷ cs) = grind (arith, length-append, digits_at_most cs)
 
 -- the last check digit is read last, and the character behind it first
 ends_number : (mid : List ℕ) (c d : ℕ) → IsDigit c → IsDigit d → number (d ∷ mid ++ c ∷ [])
     ≡ (d - 48) * 10 ^ suc (length (flat_map digits_of mid)) + (number mid * 10 + (c - 48))
-ends_number mid c d h k = search (arith, flat_map-append, one_character, digit_is, length-append, written_more)
+ends_number mid c d h k = search (arith, flat_map-append, append-nil, digit_is, length-append, written_more)
 
 ends_differ : (m c d p : ℕ) → HasInverse 97 (p + 96) → c < 10 → d < 10
     → (d * p + (m + c)) % 97 ≡ (c * p + (m + d)) % 97 → d ≡ c

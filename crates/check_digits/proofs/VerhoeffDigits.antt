@@ -159,7 +159,8 @@ verhoeff_completed word all =
 eightfold : (k a : ℕ) → a ≤ 9 → image (8 + k) a ≡ image k a
 unfolding image
 eightfold zero a most = eqb-true (image 8 a) a (passes 10 (λ a. nat_eq (image 8 a) a) refl a (omega arith))
-eightfold (suc k) a most = let e : 8 + suc k ≡ suc (8 + k) = omega arith in ap (λ k. image k a) e ∙ ap permuted (eightfold k a most)
+eightfold (suc k) a most =
+    let e : 8 + suc k ≡ suc (8 + k) = omega arith in ap (λ k. image k a) e ∙ ap permuted (eightfold k a most)
 
 image_eights : (q k d : ℕ) → d ≤ 9 → image (k + 8 * q) d ≡ image k d
 image_eights zero k d most = search arith

@@ -71,7 +71,8 @@ Inverts = (a p : ℕ) → IsPrime p → (a % p ≡ 0 → ⊥) → HasInverse p a
 unit_not_zero : (n r x c : ℕ) → 1 < r → n % r ≡ 0 → (x * c) % n ≡ 1 % n → Congruent r x 0 → ⊥
 unit_not_zero n r x c above e one none =
     let nothing : 0 * c ≡ 0 = omega arith in
-    let zero_one = mod_trans (mod_sym (mod_trans (mod_mul none (mod_refl c)) (mod_of_eq nothing))) (modulo_divisor n r _ _ e one) in
+    let zero = mod_trans (mod_mul none (mod_refl c)) (mod_of_eq nothing) in
+    let zero_one = mod_trans (mod_sym zero) (modulo_divisor n r _ _ e one) in
     search (arith, zero_one.same, mod-eq_of_lt, zero-mod)
 
 -- so q divides r - 1 for each prime divisor r
@@ -85,7 +86,8 @@ one_less n q a c r fermat inverts w q_prime r_prime e = elim (cases_eq ((r - 1) 
       let k = (r - 1) * i / q in
       let last = inverse.one ∙ mod-eq_of_lt q_prime.above_one in
       let whole : (r - 1) * i ≡ suc (q * k) = omega (arith, div-add-mod ((r - 1) * i) q, last) in
-      let unit = λ (h : b % r ≡ 0). unit_not_zero n r b _ r_prime.above_one e w.unit (record { same = h ∙ sym (zero-mod r) }) in
+      let unit = λ (h : b % r ≡ 0).
+      unit_not_zero n r b _ r_prime.above_one e w.unit (record { same = h ∙ sym (zero-mod r) }) in
       let by_fermat : Congruent r (b ^ ((r - 1) * i)) 1 = mod_trans (mod_of_eq (pow-mul b (r - 1) i))
       (power_of_one i (record { same = fermat b r r_prime unit ∙ sym (mod-eq_of_lt r_prime.above_one) })) in
       let alone : 1 * b ≡ b = omega arith in

@@ -10,8 +10,8 @@ returns c =
     let code = code_of c.args.self.now in
     let w = get_or c.args.self.now.weights.now c.args.place 0 in
     let both = found _ _ (c.mulm-product.ensures ∙ ap (λ d. (w * d) % code.modulus) c.subm-difference.ensures)
-    c.is_found.ensures c.fits.ensures (change_told code c.args.word.now c.args.place c.args.symbol c.args.self.now.positive
-    c.requires.accepted c.requires.within) in
+    c.is_found.ensures c.fits.ensures (change_told code c.args.word.now c.args.place c.args.symbol
+    c.args.self.now.positive c.requires.accepted c.requires.within) in
     record {
       refused = both.0;
       product = both.1;

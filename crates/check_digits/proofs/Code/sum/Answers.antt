@@ -7,4 +7,5 @@ places-init c = ap (λ n. n % c.args.self.now.modulus) (sym (sum_below-zero _))
 
 pub places-preserved : goal.places-preserved
 places-preserved c =
-    c.addm-sum.ensures ∙ sum_more _ _ _ _ _ c.places.invariant (mod_trans (mod_of_eq c.mulm-product.ensures) (residue_of _))
+    c.addm-sum.ensures
+    ∙ sum_more _ _ _ _ _ c.places.invariant (mod_trans (mod_of_eq c.mulm-product.ensures) (residue_of _))

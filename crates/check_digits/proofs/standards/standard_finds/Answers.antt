@@ -12,7 +12,8 @@ returns-clause-changes_modulo_11 c = (changes_tested _ 9 refl, changes_tested _ 
 pub returns-clause-changes_modulo_10 : goal.returns-clause-changes_modulo_10
 unfolding from_right
 returns-clause-changes_modulo_10 c = (
-  changes_tested _ 3 refl, changes_tested _ 3 refl, changes_tested _ 3 refl, changes_tested _ 3 refl, changes_tested _ 3 refl,
+  changes_tested _ 3 refl, changes_tested _ 3 refl, changes_tested _ 3 refl, changes_tested _ 3 refl,
+  changes_tested _ 3 refl,
 )
 
 pub returns-clause-exchanges : goal.returns-clause-exchanges
