@@ -2,8 +2,9 @@
 use Rattle.std.proofs.Common.{Bool, IsTrue, ◌↔◌, ◌≡◌, ◌≢◌, ℕ, suc, ◌+◌, ◌*◌, ◌%◌, ◌<◌, pos, ◌-ℤ◌}
 use Rattle.std.proofs.Math.ListN.{get_or-append}
 use Rattle.std.proofs.Math.Seq.{get_or-append_seam}
-use Rattle.std.proofs.Common.{List, [], ◌∷◌, ◌++◌, length, length-append, get_or, set, arith}
+use Rattle.std.proofs.Common.{List, [], ◌∷◌, ◌++◌, length, length-append, get_or, set, ap, ◌∙◌, arith}
 use Rattle.std.proofs.Common.{length-set, get_or-set_same, get_or-set_other}
+use Rattle.std.proofs.Math.Nat.{mod-add-mod}
 use Rattle.std.proofs.lemmas.Bool.{cases_eq, cases_lt}
 use Rattle.num_modular.specs.NumberLaws.{difference_and}
 use Rattle.num_modular.specs.Residues.{residue}
@@ -70,10 +71,13 @@ pub found : {r f : Bool} {F W : Type 0} (shown v : ℕ) → shown ≡ v → IsTr
     → W ↔ (F × (v ≡ 0)) → (IsTrue r ↔ ¬ W) × (IsTrue r ↔ (F → v ≢ 0))
 found shown v same is test told = search arith
 
--- the word with one more symbol
-pub appended_word : (code : CheckCode) (word : List ℕ) (s : ℕ) → length word + 1 ≡ length code.weights
+-- the word with one more symbol, v being the residue of the sum without it
+pub appended_word : (code : CheckCode) (word : List ℕ) (s v : ℕ) → length word + 1 ≡ length code.weights
+    → v ≡ weighted_sum code.weights word % code.modulus
     → IsCodeword code (word ++ s ∷ []) ↔ (((i : ℕ) → i < length word → Fits code i (get_or word i 0))
     × Fits code (length word) s
-    × ((weighted_sum code.weights word + get_or code.weights (length word) 0 * s) % code.modulus
-    ≡ code.residue % code.modulus))
-appended_word code word s whole = search (arith, length-append, appended_symbol, get_or-append, get_or-append_seam, cases_lt)
+    × ((v + get_or code.weights (length word) 0 * s) % code.modulus ≡ code.residue % code.modulus))
+appended_word code word s v whole is =
+    let w = get_or code.weights (length word) 0 in
+    let leaves = ap (λ k. (k + w * s) % code.modulus) is ∙ mod-add-mod _ _ (w * s) in
+    search (arith, leaves, length-append, appended_symbol, get_or-append, get_or-append_seam, cases_lt)

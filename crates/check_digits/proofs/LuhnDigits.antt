@@ -4,7 +4,6 @@ use Rattle.std.proofs.Math.ListN.{get_or-append}
 use Rattle.std.proofs.Math.Seq.{get_or-append_seam}
 use Rattle.std.proofs.Common.{List, [], ◌∷◌, ◌++◌, All, length, length-append, get_or, set, arith}
 use Rattle.std.proofs.Common.{length-set, get_or-set_same, get_or-set_other}
-use Rattle.std.proofs.lemmas.Bool.{cases_lt}
 use Rattle.std.proofs.lemmas.List.Elements.{All-set}
 use Rattle.num_modular.specs.NumberLaws.{sum_below-more, sum_below-same}
 use Rattle.check_digits.specs.Codes.{exchanged, FindsEachChange, IsCheckSymbol}
@@ -20,12 +19,9 @@ whole_sum word = luhn_sum (length word) word
 abbrev doubled : ℕ → ℕ
 doubled d = 2 * d / 10 + 2 * d % 10
 
-doubled_apart : (d e : ℕ) → d ≤ 9 → e ≤ 9 → doubled d % 10 ≡ doubled e % 10 → d ≡ e
-doubled_apart d e d_most e_most same = omega (arith, d_most, e_most, same)
-
 -- digits that count the same at a place are equal
 value_apart : (j d e : ℕ) → d ≤ 9 → e ≤ 9 → luhn_value j d % 10 ≡ luhn_value j e % 10 → d ≡ e
-value_apart j d e d_most e_most same = grind (arith, doubled_apart)
+value_apart j d e d_most e_most same = grind arith
 
 -- the sum of a word with one digit changed
 changed_luhn : (xs : List ℕ) (p d : ℕ) → p < length xs
@@ -48,20 +44,13 @@ luhn_changes word i digit is within apart changed =
 abbrev AreNines : ℕ → ℕ → Type 0
 AreNines x y = ((x ≡ 0) × (y ≡ 9)) ⊎ ((x ≡ 9) × (y ≡ 0))
 
--- a digit that counts itself, and one that is doubled, exchanged
-nines_of : (x y : ℕ) → x ≤ 9 → y ≤ 9 → x ≢ y → (doubled x + y) % 10 ≡ (doubled y + x) % 10 → AreNines x y
-nines_of x y x_most y_most apart same = search (arith, cases_lt)
-
-of_nines : (x y : ℕ) → AreNines x y → (doubled x + y) % 10 ≡ (doubled y + x) % 10
-of_nines x y nines = search arith
-
 -- what two neighbours count, and what they count exchanged
 abbrev counted : ℕ → ℕ → ℕ → ℕ
 counted j x y = luhn_value (suc j) x + luhn_value j y
 
 counts_same : (j x y : ℕ) → x ≤ 9 → y ≤ 9 → x ≢ y
     → (counted j x y % 10 ≡ counted j y x % 10) ↔ AreNines x y
-counts_same j x y x_most y_most apart = grind (arith, nines_of, of_nines)
+counts_same j x y x_most y_most apart = grind arith
 
 -- the sum of a word with two neighbours exchanged
 exchanged_luhn : (xs : List ℕ) (p : ℕ) → suc p < length xs

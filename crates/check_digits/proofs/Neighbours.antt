@@ -11,7 +11,7 @@ use Rattle.std.proofs.lemmas.List.Elements.{All-set}
 use Rattle.num_modular.specs.Inverses.{HasInverse}
 use Rattle.num_modular.specs.NumberLaws.{mod_of_eq, mod_trans}
 use Rattle.check_digits.specs.Codes.{exchanged}
-use Rattle.check_digits.specs.Ibans.{IsDigit, IsLetter, IsIban, AreElevenfold, FindsAllButElevenfold, AreOfOneKind, digits_of, check_number}
+use Rattle.check_digits.specs.Ibans.{IsDigit, IsLetter, IsIban, AreElevenfold, FindsAllButElevenfold, digits_of, check_number}
 use Rattle.check_digits.proofs.Characters.{number, number_middle, middle_residue, written_more, digit_is, letter_is, rotated, number_of, both_leave}
 use Rattle.check_digits.proofs.CheckSums.{one_completion}
 use Rattle.check_digits.proofs.Decisions.{passes}
@@ -111,18 +111,11 @@ at_three (s ∷ t ∷ u ∷ c ∷ d ∷ rest) iban apart changed =
     apart (ends_exchanged (rest ++ first) c d iban.form.check.1 changed.form.check.1 (omega (arith, p))
     (search (arith, both_leave, append_assoc)))
 
--- neither two letters nor two digits
-alike_found : (c d : ℕ) → AreOfOneKind c d → AreElevenfold c d ⊎ AreElevenfold d c → ⊥
-alike_found c d h e = omega (arith, h, e)
-
-letter_no_digit : (c : ℕ) → IsLetter c → IsDigit c → ⊥
-letter_no_digit c h k = omega (arith, h, k)
-
 -- among the first four characters each exchange is found
 first_found : (text : List ℕ) (i : ℕ) → IsIban text → IsIban (exchanged text i) → suc i < length text → i < 3
     → AreElevenfold (get_or text i 0) (get_or text (suc i) 0) ⊎ AreElevenfold (get_or text (suc i) 0) (get_or text i 0) → ⊥
 first_found text i iban changed inside l h =
-    grind (arith, alike_found, length-set, letter_no_digit, get_or-set_same)
+    grind (arith, length-set, get_or-set_same, get_or-set_other)
 
 
 

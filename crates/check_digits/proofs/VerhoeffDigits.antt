@@ -150,9 +150,9 @@ more_product word s all most =
     (λ j l. search (arith, get_or-append))
     ∙ from_state _ _ _ _ most (digit_at _ all _ refl)
 
-pub verhoeff_completed : (word : List ℕ) → All (λ d. d ≤ 9) word
-    → IsCheckSymbol 10 IsVerhoeff word (inverse_of (verhoeff_product 1 word))
-verhoeff_completed word all =
+pub verhoeff_completed : (word : List ℕ) (v s : ℕ) → All (λ d. d ≤ 9) word → v ≡ verhoeff_product 1 word → s ≡ inverse_of v
+    → IsCheckSymbol 10 IsVerhoeff word s
+verhoeff_completed word v s all is inverse =
     grind (arith, state_most, verhoeff_distinguishes, digit_at, inverse_small, one_more, all_more, more_product, inverse_cancels, right_cancels)
 
 -- the permutation is the identity after eight steps
