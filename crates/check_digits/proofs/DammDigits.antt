@@ -1,13 +1,12 @@
 -- What Damm's check digit detects.
-use Rattle.std.proofs.Common.{◌≡◌, ◌≢◌, ℕ, suc, ◌<◌, ◌≤◌, true, nat_lt, nat_eq}
+use Rattle.std.proofs.Common.{◌≡◌, ℕ, ◌≤◌, true, nat_lt, nat_eq}
 use Rattle.std.proofs.Math.ListN.{get_or-append}
 use Rattle.std.proofs.Math.Seq.{get_or-append_seam}
-use Rattle.std.proofs.Common.{List, [], ◌∷◌, ◌++◌, All, length, get_or, set, sym, ap, ◌∙◌, refl, arith}
+use Rattle.std.proofs.Common.{List, [], ◌∷◌, ◌++◌, All, length, get_or, set, sym, ◌∙◌, refl, arith}
 use Rattle.std.proofs.Common.{length-set, get_or-set_same, get_or-set_other}
 use Rattle.std.proofs.lemmas.Bool.{ltb-true, eqb-true}
 use Rattle.check_digits.specs.Codes.{exchanged, FindsEachChange, FindsEachExchange, IsCheckSymbol}
 use Rattle.check_digits.specs.Damm.{damm_product, damm_check, IsDamm}
-use Rattle.check_digits.specs.States.{state_after}
 use Rattle.check_digits.proofs.Decisions.{each_below, passes, apart, IsAsymmetric}
 use Rattle.check_digits.proofs.States.{Distinguishes, changed_apart, exchanged_apart, state_same, state_next, state_most, one_more, all_more}
 
@@ -33,38 +32,23 @@ damm_step i c d = damm_product c d
 damm_distinguishes : Distinguishes damm_step
 damm_distinguishes = search (arith, product_small, columns, rows, ordered_entries)
 
-digit_at : (word : List ℕ) → All (λ d. d ≤ 9) word → (j : ℕ) → j < length word → get_or word j 0 ≤ 9
-digit_at word all j l = all j 0 l
-
 pub damm_changes : FindsEachChange IsDamm
 damm_changes word i digit is within apart_ changed =
-    let n = length word in
     let new = set word i digit in
     let count = length-set word i digit in
-    let e : damm_check word ≡ state_after damm_step 0 (λ j. get_or new j 0) n =
-    is.product ∙ sym (ap (λ k. state_after damm_step 0 (λ j. get_or new j 0) k) (sym count) ∙ changed.product) in
-    apart_ (sym (changed_apart damm_step 0 (λ j. get_or word j 0) (λ j. get_or new j 0) i n damm_distinguishes (omega arith)
-    within (digit_at word is.digits) (λ j l. digit_at new changed.digits j (omega (arith, count, l)))
-    (λ j _ ne. sym (get_or-set_other word i j digit 0 ne)) e ∙ get_or-set_same word i digit 0 within))
+    let told = changed_apart damm_step 0 (λ j. get_or word j 0) (λ j. get_or new j 0) i (length word) damm_distinguishes
+    (omega arith) within (λ j. is.digits j 0) (λ j l. changed.digits j 0 (omega (arith, count, l)))
+    (λ j _ ne. sym (get_or-set_other word i j digit 0 ne)) (is.product ∙ sym (rw (sym count) changed.product)) in
+    search (arith, told, get_or-set_same)
 
 pub damm_exchanges : FindsEachExchange IsDamm
 damm_exchanges word i is within apart_ changed =
-    let n = length word in
-    let x = get_or word i 0 in
-    let y = get_or word (suc i) 0 in
-    let half = set word i y in
     let new = exchanged word i in
-    let count : length new ≡ n = length-set half (suc i) x ∙ length-set word i y in
-    let e : damm_check word ≡ state_after damm_step 0 (λ j. get_or new j 0) n =
-    is.product ∙ sym (ap (λ k. state_after damm_step 0 (λ j. get_or new j 0) k) (sym count) ∙ changed.product) in
-    let before : i < n = omega (arith, within) in
-    let behind : suc i < length half = omega (arith, length-set word i y, within) in
-    let ne : i ≢ suc i = omega arith in
-    apart_ (exchanged_apart damm_step 0 (λ j. get_or word j 0) (λ j. get_or new j 0) i n damm_distinguishes (omega arith)
-    within (digit_at word is.digits) (λ j l. digit_at new changed.digits j (omega (arith, count, l)))
-    (λ j _ no nor. sym (get_or-set_other half (suc i) j x 0 nor ∙ get_or-set_other word i j y 0 no))
-    (get_or-set_other half (suc i) i x 0 ne ∙ get_or-set_same word i y 0 before)
-    (get_or-set_same half (suc i) x 0 behind) e)
+    let count : length new ≡ length word = search (arith, length-set) in
+    apart_ (exchanged_apart damm_step 0 (λ j. get_or word j 0) (λ j. get_or new j 0) i (length word) damm_distinguishes
+    (omega arith) within (λ j. is.digits j 0) (λ j l. changed.digits j 0 (omega (arith, count, l)))
+    (λ j _ no nor. search (arith, get_or-set_other)) (search (arith, get_or-set_other, get_or-set_same))
+    (search (arith, length-set, get_or-set_same)) (is.product ∙ sym (rw (sym count) changed.product)))
 
 -- the product of a word with one more digit
 more_product : (word : List ℕ) (s : ℕ) → damm_check (word ++ s ∷ []) ≡ damm_product (damm_check word) s
@@ -76,7 +60,7 @@ squares a most = eqb-true (damm_product a a) 0 (passes 10 (λ a. nat_eq (damm_pr
 pub damm_completed : (word : List ℕ) → All (λ d. d ≤ 9) word → IsCheckSymbol 10 IsDamm word (damm_check word)
 damm_completed word all =
     let c = damm_check word in
-    let most : c ≤ 9 = state_most damm_step _ _ _ damm_distinguishes.closed (omega arith) (digit_at _ all) in
+    let most : c ≤ 9 = state_most damm_step _ _ _ damm_distinguishes.closed (omega arith) (λ j. all j 0) in
     record {
       below = omega (arith, most);
       accepted = search (arith, one_more, all_more, more_product, squares);

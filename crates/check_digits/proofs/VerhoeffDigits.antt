@@ -87,38 +87,29 @@ product_by word n count = ap (λ n. state_after (verhoeff_step 0) 0 (λ j. get_o
 pub verhoeff_changes : FindsEachChange IsVerhoeff
 verhoeff_changes word i digit is within apart_ changed =
     let n = length word in
-    let p = n - 1 - i in
     let new = set word i digit in
     let count : length new ≡ n = length-set word i digit in
-    let e = is.product ∙ sym (sym (product_by new n count) ∙ changed.product) in
-    let place : n - 1 - p ≡ i = omega (arith, within) in
-    apart_ (sym (ap (λ k. get_or word k 0) (sym place) ∙ changed_apart (verhoeff_step 0) 0 (λ j. get_or word (n - 1 - j) 0)
-    (λ j. get_or new (n - 1 - j) 0) p n
-    (verhoeff_distinguishes 0) (omega arith)
-    (omega (arith, within)) (digit_at word is.digits n refl) (digit_at new changed.digits n count)
-    (λ j l ne. sym (get_or-set_other word i (n - 1 - j) digit 0 (omega (arith, l, ne, within)))) e
-    ∙ ap (λ k. get_or new k 0) place ∙ get_or-set_same word i digit 0 within))
+    let told = changed_apart (verhoeff_step 0) 0 (λ j. get_or word (n - 1 - j) 0) (λ j. get_or new (n - 1 - j) 0) (n - 1 - i) n
+    (verhoeff_distinguishes 0) (omega arith) (omega (arith, within)) (digit_at word is.digits n refl)
+    (digit_at new changed.digits n count) (λ j l ne. search (arith, get_or-set_other))
+    (is.product ∙ sym (sym (product_by new n count) ∙ changed.product)) in
+    let place : n - 1 - (n - 1 - i) ≡ i = omega (arith, within) in
+    grind (arith, told, get_or-set_same)
 
 pub verhoeff_exchanges : FindsEachExchange IsVerhoeff
 verhoeff_exchanges word i is within apart_ changed =
     let n = length word in
     let p = n - 1 - suc i in
-    let x = get_or word i 0 in
-    let y = get_or word (suc i) 0 in
-    let half = set word i y in
     let new = exchanged word i in
-    let count : length new ≡ n = length-set half (suc i) x ∙ length-set word i y in
-    let e = is.product ∙ sym (sym (product_by new n count) ∙ changed.product) in
+    let count : length new ≡ n = search (arith, length-set) in
     let first : n - 1 - p ≡ suc i = omega (arith, within) in
     let second : n - 1 - suc p ≡ i = omega (arith, within) in
-    let behind : suc i < length half = omega (arith, length-set word i y, within) in
-    apart_ (sym (ap (λ k. get_or word k 0) (sym first) ∙ exchanged_apart (verhoeff_step 0) 0
-    (λ j. get_or word (n - 1 - j) 0) (λ j. get_or new (n - 1 - j) 0) p n (verhoeff_distinguishes 0) (omega arith)
-    (omega (arith, within)) (digit_at word is.digits n refl) (digit_at new changed.digits n count)
-    (λ j l no nor. search (arith, get_or-set_other))
-    (ap (λ k. get_or new k 0) first ∙ get_or-set_same half (suc i) x 0 behind ∙ ap (λ k. get_or word k 0) (sym second))
-    (search (arith, get_or-set_other, get_or-set_same)) e
-    ∙ ap (λ k. get_or word k 0) second))
+    let told = exchanged_apart (verhoeff_step 0) 0 (λ j. get_or word (n - 1 - j) 0) (λ j. get_or new (n - 1 - j) 0) p n
+    (verhoeff_distinguishes 0) (omega arith) (omega (arith, within)) (digit_at word is.digits n refl)
+    (digit_at new changed.digits n count) (λ j l no nor. search (arith, get_or-set_other))
+    (search (arith, length-set, get_or-set_same)) (search (arith, get_or-set_other, get_or-set_same))
+    (is.product ∙ sym (sym (product_by new n count) ∙ changed.product)) in
+    search (arith, told)
 
 -- the product from another state on
 from_state : (first start n : ℕ) (f : ℕ → ℕ) → start ≤ 9 → ((j : ℕ) → j < n → f j ≤ 9)
