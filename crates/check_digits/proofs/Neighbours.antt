@@ -25,9 +25,6 @@ same_pair : (c d : ℕ) → IsDigit c ⊎ IsLetter c → IsDigit d ⊎ IsLetter 
     → pair c d % 97 ≡ pair d c % 97 → AreElevenfold c d ⊎ AreElevenfold d c
 same_pair c d h2 h3 apart same = grind (arith, digit_is, letter_is)
 
-pair_in_either_order : (c d : ℕ) → AreElevenfold c d ⊎ AreElevenfold d c → pair c d ≡ pair d c
-pair_in_either_order c d h2 = grind arith
-
 -- where two neighbouring characters of a text stand when its first four are at its end
 record Neighbours (text : List ℕ) (i : ℕ) : Type 0 where
   before : List ℕ
@@ -66,9 +63,7 @@ pair_length c d = grind (arith, length-append)
 kept_neighbours : (before behind : List ℕ) (c d : ℕ) → pair c d ≡ pair d c
     → number (before ++ c ∷ d ∷ behind) ≡ number (before ++ d ∷ c ∷ behind)
 kept_neighbours before behind c d same =
-    let first = number_middle before (c ∷ d ∷ []) behind in
-    let second = number_middle before (d ∷ c ∷ []) behind in
-    grind (arith, pair_length)
+    grind (arith, pair_length, number_middle before (c ∷ d ∷ []) behind, number_middle before (d ∷ c ∷ []) behind)
 
 -- powers of ten less 1 have inverses modulo 97, from 10 to 10^68
 less_one_unit : (k : ℕ) → k < 68 → HasInverse 97 (10 ^ suc k + 96)
@@ -142,22 +137,21 @@ neighbours_told text i iban inside apart =
       λ (high, told).
           let at = neighbours_of text i long inside (omega (arith, high)) in
           let kept : (j : ℕ) → j < 4 → get_or (exchanged text i) j 0 ≡ get_or text j 0 = search (arith, get_or-set_other) in
-          let count : length (exchanged text i) ≡ length text = length-set (set text i y) (suc i) x ∙ length-set text i y in
+          let count : length (exchanged text i) ≡ length text = search (arith, length-set) in
           let check : check_number (exchanged text i) ≡ check_number text = search arith in
-          let most = iban.form.most in
+
           record {
             form = record {
               least = omega (arith, count, least);
-              most = omega (arith, count, most);
+              most = omega (arith, count, iban.form.most);
               country = search arith;
               check = search arith;
               characters = All-set (λ c. IsDigit c ⊎ IsLetter c) (set text i y) (suc i) x kind_x
                   (All-set (λ c. IsDigit c ⊎ IsLetter c) text i y kind_y iban.form.characters);
             };
             generated = search arith;
-            leaves = ap (λ k. k % 97)
-                (sym (number_of (exchanged text i) (at.before ++ y ∷ x ∷ at.behind) (at.moves y x))
-                ∙ sym (kept_neighbours at.before at.behind x y (pair_in_either_order x y told))
-                ∙ number_of text (at.before ++ x ∷ y ∷ at.behind) (ap rotated itself_is ∙ at.moves x y)) ∙ iban.leaves;
+            leaves = ap (λ k. k % 97) (sym (number_of (exchanged text i) _ (at.moves y x))
+                ∙ sym (kept_neighbours at.before at.behind x y (grind arith))
+                ∙ number_of text _ (ap rotated itself_is ∙ at.moves x y)) ∙ iban.leaves;
           },
     )

@@ -1,8 +1,7 @@
-use Rattle.std.proofs.Common.{◌≤◌, arith, take}
+use Rattle.std.proofs.Common.{arith, take}
 use Rattle.std.proofs.lemmas.List.{length-take-le}
 use Rattle.check_digits.specs.Codes.{code_of}
 use Rattle.check_digits.proofs.Ibans.{is_word}
-use Rattle.std.proofs.Common.{refl}
 use Rattle.std.proofs.Math.Nat.{le_trans, le_refl}
 use Rattle.check_digits.proofs.iban.accepts_iban.Goals as goal
 
@@ -12,21 +11,10 @@ returns c =
     let digits = c.iban_digits-count.new.digits in
     let form = c.has_iban_form.ensures.0 c.if-not-has_iban_form.false in
     let is = is_word (code_of c.iban_code.result) c.args.text.now (take n digits) n c.iban_code.ensures.code
-    c.iban_digits-count.ensures.digits (length-take-le n digits (omega arith)) form.characters in
-    let low : 2 ≤ c.check_number-check.result = omega arith in
-    let high : c.check_number-check.result ≤ 98 = omega arith in (
-      λ t. grind arith,
-      λ iban. c.accepts.ensures.1 (is.1 iban.leaves),
-    )
+    c.iban_digits-count.ensures.digits (length-take-le n digits (omega arith)) form.characters in (λ t. grind arith, λ iban. c.accepts.ensures.1 (is.1 iban.leaves))
 
 pub slice_bounds-digits-end : goal.slice_bounds-digits-end
 slice_bounds-digits-end c = grind (arith, le_trans, le_refl)
 
 pub slice_bounds-accepts-end : goal.slice_bounds-accepts-end
 slice_bounds-accepts-end c = grind (arith, length-take-le, le_trans, le_refl)
-
-pub iban_code-requires : goal.iban_code-requires
-iban_code-requires c = c.iban_digits-count.ensures.count
-
-pub iban_digits-count-requires-clause-form : goal.iban_digits-count-requires-clause-form
-iban_digits-count-requires-clause-form c = c.if-not-has_iban_form.ensures.0 refl
