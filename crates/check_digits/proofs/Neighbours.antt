@@ -109,10 +109,7 @@ at_three (s ∷ t ∷ u ∷ c ∷ d ∷ rest) iban apart changed =
 -- among the first four characters each exchange is found
 first_found : (text : List ℕ) (i : ℕ) → IsIban text → IsIban (exchanged text i) → suc i < length text → i < 3
     → AreElevenfold (get_or text i 0) (get_or text (suc i) 0) ⊎ AreElevenfold (get_or text (suc i) 0) (get_or text i 0) → ⊥
-first_found text i iban changed inside l h =
-    grind (arith, length-set, get_or-set_same, get_or-set_other)
-
-
+first_found text i iban changed inside l h = grind (arith, length-set, get_or-set_same, get_or-set_other)
 
 -- the text with two neighbours that differ exchanged ..
 pub neighbours_told : FindsAllButElevenfold

@@ -2,10 +2,10 @@
 use Rattle.std.proofs.Common.{◌≡◌, ℕ, zero, suc, ◌+◌, ◌*◌, ◌%◌, ◌^◌, List, ◌++◌, length, slice_index}
 use Rattle.std.proofs.Common.{replicate, arith, ap, ap₂, sym, ◌∙◌, length-append}
 use Rattle.std.proofs.Math.ListN.{get_or-append}
-use Rattle.std.proofs.Math.Nat.{pow-zero, pow-suc}
+use Rattle.std.proofs.Math.Nat.{pow-zero, pow-suc, mod-add-mod}
+use Rattle.std.proofs.lemmas.Nat.{mul-mod_first}
 use Rattle.std.proofs.lemmas.List.{length-replicate, get_or-replicate, get_or-append-add}
-use Rattle.num_modular.specs.NumberLaws.{sum_below-of_zeros, sum_below-same, mod_add, mod_mul, mod_refl, mod_trans, mod_of_eq}
-use Rattle.num_modular.specs.NumberLaws.{residue_of}
+use Rattle.num_modular.specs.NumberLaws.{sum_below-of_zeros, sum_below-same}
 use Rattle.num_modular.specs.Sums.{sum_below, polynomial_highest_first}
 
 -- Horner's rule, as `range_laws` states it
@@ -36,15 +36,15 @@ polynomial_of_joined horner s t x =
     search (arith, sum_below-same, get_or-append, get_or-append-add, length-append, polynomial_joined)
 
 -- zeros in front change nothing
-pub polynomial_behind_zeros : Horner → (d : ℕ) (cs : List ℕ) (x : ℕ)
-    → polynomial_highest_first (d + length cs) (slice_index (replicate d 0 ++ cs)) x
+pub polynomial_behind_zeros : Horner → (n d : ℕ) (cs : List ℕ) (x : ℕ) → n ≡ d + length cs
+    → polynomial_highest_first n (slice_index (replicate d 0 ++ cs)) x
     ≡ polynomial_highest_first (length cs) (slice_index cs) x
-polynomial_behind_zeros horner d cs x =
+polynomial_behind_zeros horner n d cs x whole =
     let zeros : List ℕ = replicate d 0 in
     let length_is : length zeros ≡ d = length-replicate d 0 in
     let none : polynomial_highest_first (length zeros) (slice_index zeros) x ≡ 0 =
     sum_below-of_zeros _ _ (λ i l. rw (get_or-replicate {A = ℕ} d i 0 0 (omega (arith, l, length_is))) (omega arith)) in
-    let whole : length (zeros ++ cs) ≡ d + length cs = length-append zeros cs ∙ ap (λ n. n + length cs) length_is in
+    let longer : length (zeros ++ cs) ≡ n = length-append zeros cs ∙ ap (λ n. n + length cs) length_is ∙ sym whole in
     grind (arith, polynomial_of_joined)
 
 -- without a coefficient, and with one
@@ -61,8 +61,5 @@ pub residue_more : Horner → (m n : ℕ) (c : ℕ → ℕ) (x d value product :
     → value ≡ polynomial_highest_first n c x % m → product ≡ (value * x) % m
     → (product + d) % m ≡ polynomial_highest_first (n + 1) c x % m
 residue_more horner m n c x d value product is e f =
-    let v = polynomial_highest_first n c x in
-    ap₂ (λ k d. (k + d) % m) f (sym is)
-    ∙ (mod_add (mod_trans (residue_of (value * x)) (mod_mul (mod_trans (mod_of_eq e) (residue_of v)) (mod_refl x)))
-    (mod_refl (c n))).same
-    ∙ ap (λ k. k % m) (sym (horner n c x))
+    let times = f ∙ ap (λ k. (k * x) % m) e ∙ mul-mod_first _ x m in
+    ap₂ (λ k d. (k + d) % m) times (sym is) ∙ mod-add-mod _ m (c n) ∙ ap (λ k. k % m) (sym (horner n c x))

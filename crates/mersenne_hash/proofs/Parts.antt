@@ -1,9 +1,10 @@
 -- The hash of a part of a text, by those of two beginnings.
 use Rattle.std.proofs.Common.{◌≡◌, ℕ, ◌+◌, ◌-◌, ◌*◌, ◌%◌, ◌^◌, ◌<◌, ◌≤◌, List, length, slice_index, slice_range, get_or, map}
-use Rattle.std.proofs.Common.{arith, ap, sym, ◌∙◌, length-drop, mod-eq_of_lt}
+use Rattle.std.proofs.Common.{arith, ap, ap₂, sym, ◌∙◌, length-drop, mod-eq_of_lt}
+use Rattle.std.proofs.Math.Nat.{add-mod-mod, mod-mod}
+use Rattle.std.proofs.lemmas.Nat.{mul-mod}
 use Rattle.std.proofs.lemmas.List.{length-take-le, get_or-take, get_or-drop, get_or-map}
-use Rattle.num_modular.specs.NumberLaws.{mod_add, mod_mul, mod_refl, mod_sym, mod_trans, mod_of_eq, mod_add_cancel, residue_of, sum_below-same}
-use Rattle.num_modular.specs.Congruence.{Congruent}
+use Rattle.num_modular.specs.NumberLaws.{mod_add_cancel, sum_below-same}
 use Rattle.num_modular.specs.Sums.{polynomial_highest_first}
 use Rattle.mersenne_hash.proofs.Concatenations.{Horner, polynomial_joined}
 
@@ -36,12 +37,8 @@ part_is horner p from to text x whole start power product value ordered within w
     let split : polynomial_highest_first to c x ≡ a * x ^ k + b =
     ap (λ n. polynomial_highest_first n c x) (let e : to ≡ from + k = omega (arith, ordered) in e)
     ∙ polynomial_joined horner _ _ _ _ in
-    let product_of : Congruent p product (a * x ^ k) =
-    mod_trans (mod_trans (mod_of_eq product_is) (residue_of _))
-    (mod_mul (mod_trans (mod_of_eq start_is) (residue_of _)) (mod_trans (mod_of_eq power_is) (residue_of _))) in
-    let sum_of : Congruent p (value + product) whole = record { same = sum } in
-    let whole_of : Congruent p whole (b + a * x ^ k) = grind (arith, mod_trans, mod_of_eq, residue_of) in
-    let value_of : Congruent p value b =
-    mod_add_cancel _
-    (mod_trans (mod_add (mod_refl _) (mod_sym product_of)) (mod_trans sum_of whole_of)) in
-    sym (mod-eq_of_lt below) ∙ value_of.same ∙ ap (λ v. v % p) (sym (part_polynomial _ _ _ _ ordered within))
+    let product_of : product ≡ (a * x ^ k) % p =
+    product_is ∙ ap₂ (λ s t. (s * t) % p) start_is power_is ∙ sym (mul-mod a (x ^ k) p) in
+    let same : (value + a * x ^ k) % p ≡ (b + a * x ^ k) % p = grind (arith, add-mod-mod value (a * x ^ k) p, mod-mod) in
+    sym (mod-eq_of_lt below) ∙ (mod_add_cancel (a * x ^ k) (record { same = same })).same
+    ∙ ap (λ v. v % p) (sym (part_polynomial _ _ _ _ ordered within))

@@ -35,10 +35,8 @@ returns-clause-lengths c s t n x s_few t_few bases s_below t_below hashes =
     same_texts p (n + 1) d e s t (lit< tt) s_whole t_whole s_below t_below
     (c.polynomial_laws.ensures.descending p (n + 1) (λ i. get_or (marked d s) i 0) (λ i. get_or (marked e t) i 0) x units
     (λ i l.
-    ap (λ k. polynomial_highest_first k (λ j. get_or (marked d s) j 0) (x i) % p) s_whole
-    ∙ ap (λ v. v % p) (polynomial_behind_zeros horner d (1 ∷ s) (x i)) ∙ hashes i l
-    ∙ ap (λ v. v % p) (sym (polynomial_behind_zeros horner e (1 ∷ t) (x i)))
-    ∙ ap (λ k. polynomial_highest_first k (λ j. get_or (marked e t) j 0) (x i) % p) (sym t_whole)))
+    ap (λ v. v % p) (polynomial_behind_zeros horner _ d (1 ∷ s) (x i) s_whole) ∙ hashes i l
+    ∙ ap (λ v. v % p) (sym (polynomial_behind_zeros horner _ e (1 ∷ t) (x i) t_whole))))
 
 pub returns-clause-joined : goal.returns-clause-joined
 returns-clause-joined c s t x =

@@ -11,7 +11,8 @@ returns c =
     let digits = c.iban_digits-count.new.digits in
     let form = c.has_iban_form.ensures.0 c.if-not-has_iban_form.false in
     let is = is_word (code_of c.iban_code.result) c.args.text.now (take n digits) n c.iban_code.ensures.code
-    c.iban_digits-count.ensures.digits (length-take-le n digits (omega arith)) form.characters in (λ t. grind arith, λ iban. c.accepts.ensures.1 (is.1 iban.leaves))
+    c.iban_digits-count.ensures.digits (length-take-le n digits (omega arith)) form.characters in
+    (λ t. grind arith, λ iban. c.accepts.ensures.1 (is.1 iban.leaves))
 
 pub slice_bounds-digits-end : goal.slice_bounds-digits-end
 slice_bounds-digits-end c = grind (arith, le_trans, le_refl)
