@@ -25,9 +25,6 @@ no_divisor_below n (suc k) none d above l e =
           (divides_through f d n t e);
     } l e
 
-greater_one : (n d q : ℕ) → d < n → d * q ≡ n → 1 < n → 1 < q
-greater_one n d q l whole h = grind arith
-
 -- so it is a prime, if its square is above the number
 pub no_small : (n k : ℕ) → 1 < n → n < k * k → ((r : ℕ) → IsPrime r → r < k → n % r ≡ 0 → ⊥) → IsPrime n
 no_small n k h square none = record {
@@ -36,10 +33,11 @@ no_small n k h square none = record {
       let q = n / d in
       let whole : d * q ≡ n = omega (arith, div-add-mod n d, e) in
       let divides : n % q ≡ 0 = ap (λ k. k % q) (sym whole) ∙ mod-eq-zero_of_dvd q (dvd-mul_left q d) in
+      let big : 1 < q = grind arith in
       elim (cases_lt d k) [
         | inl b ↦ no_divisor_below n k none d above b e
         | inr b ↦ elim (cases_lt q k) [
-          | inl l ↦ no_divisor_below n k none q (greater_one n d q below whole h) l divides
+          | inl l ↦ no_divisor_below n k none q big l divides
           | inr l ↦ absurd (omega (arith, mul-le-mul_left q b, mul-le-mul_left k l, whole, square))
         ]
       ];
