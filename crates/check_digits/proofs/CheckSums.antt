@@ -3,14 +3,13 @@ use Rattle.std.proofs.Common.{◌↔◌, ◌≡◌, ◌≢◌, ℕ, zero, suc, �
 use Rattle.std.proofs.Math.ListN.{get_or-append}
 use Rattle.std.proofs.Math.Seq.{get_or-append_seam}
 use Rattle.std.proofs.Common.{◌≤◌, List, [], ◌∷◌, ◌++◌, length, length-append, get_or, set, sym, ap, ◌∙◌, refl, arith}
-use Rattle.std.proofs.Common.{⊎_elim, length-set, get_or-set_same, get_or-set_other, ℤ}
+use Rattle.std.proofs.Common.{⊎_elim, length-set, get_or-set_same, get_or-set_other}
 use Rattle.std.proofs.Math.Nat.{mod-add-mod, add-mul-mod_self_left}
-use Rattle.std.proofs.Math.Nat.{zero-mod, mod-eq_of_lt, mod-lt}
+use Rattle.std.proofs.Math.Nat.{zero-mod, mod-eq_of_lt}
 use Rattle.std.proofs.lemmas.Bool.{cases_lt}
-use Rattle.std.proofs.lemmas.Nat.{mul-mod_first, mul-mod_second}
+use Rattle.std.proofs.lemmas.Nat.{mul-mod_second}
 use Rattle.num_modular.specs.Inverses.{HasInverse}
 use Rattle.num_modular.specs.NumberLaws.{sum_below-more, sum_below-same}
-use Rattle.num_modular.specs.Residues.{residue}
 use Rattle.num_modular.specs.Sums.{sum_below}
 use Rattle.num_modular.specs.SystemLaws.{spread, gathered}
 use Rattle.check_digits.specs.Codes.{weighted_sum, exchanged}
@@ -96,14 +95,6 @@ pub others_sum : (m S S' w x s others : ℕ) → S' + w * x ≡ S + w * s → (o
     → S' % m ≡ (others + w * s) % m
 others_sum m S S' w x s others moved less =
     gathered m S' (others + w * s) ((others + (w * x) % m) / m + w * x / m) (S / m) (omega (arith, moved))
-
-pub residue_below : (m : ℕ) (z : ℤ) → 0 < m → residue m z < m
-residue_below m z positive = grind (arith, mod-lt)
-
--- a number with an inverse, and its residue
-pub has_to_residue : (m a v : ℕ) → v ≡ a % m → HasInverse m a → HasInverse m v
-has_to_residue m a v e (i, h) =
-    (i, record { below = h.below; one = ap (λ w. (w * i) % m) e ∙ mul-mod_first a i m ∙ h.one })
 
 -- a difference that is 0 modulo m, of residues
 pub same_residues : (m d x y : ℕ) → x < m → y < m → (d + x) % m ≡ y % m → d % m ≡ 0 → y ≡ x

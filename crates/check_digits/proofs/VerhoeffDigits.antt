@@ -119,23 +119,17 @@ from_state first start (suc n) f most digits =
     let before = from_state first start n f most (λ j l. digits j (omega arith)) in
     search (arith, before, state_next, associates, state_most, verhoeff_distinguishes, image_small)
 
-later_step : (i c d : ℕ) → verhoeff_step 0 (suc i) c d ≡ verhoeff_step 1 i c d
-later_step i c d = let e : suc i + 0 ≡ i + 1 = omega arith in ap (λ k. dihedral c (image k d)) e
-
-image_none : (d : ℕ) → image (0 + 0) d ≡ d
-unfolding image
-image_none d = refl
-
 -- the product of a word with one more digit
 more_product : (word : List ℕ) (s : ℕ) → All (λ d. d ≤ 9) word → s ≤ 9
     → verhoeff_product 0 (word ++ s ∷ []) ≡ dihedral s (verhoeff_product 1 word)
+unfolding image
 more_product word s all most =
     let n = length word in
     let f : ℕ → ℕ = λ j. get_or (word ++ s ∷ []) (suc n - 1 - j) 0 in
     let last : suc n - 1 - 0 ≡ n = omega arith in
-    let first : verhoeff_step 0 0 0 (f 0) ≡ s = search (arith, image_none, get_or-append_seam, unit_before) in
+    let first : verhoeff_step 0 0 0 (f 0) ≡ s = search (arith, get_or-append_seam, unit_before) in
     product_by (word ++ s ∷ []) _ (one_more _ _)
-    ∙ state_later (verhoeff_step 0) (verhoeff_step 1) _ _ _ later_step
+    ∙ state_later (verhoeff_step 0) (verhoeff_step 1) _ _ _ (λ i c d. search arith)
     ∙ ap (λ c. state_after (verhoeff_step 1) c (λ j. f (suc j)) n) first
     ∙ state_same (verhoeff_step 1) _ _ _ _
     (λ j l. search (arith, get_or-append))
