@@ -7,21 +7,21 @@ use Rattle.std.proofs.Common.{length-set, get_or-set_same, get_or-set_other}
 use Rattle.std.proofs.lemmas.Bool.{ltb-true, eqb-true}
 use Rattle.check_digits.specs.Codes.{exchanged, FindsEachChange, FindsEachExchange, IsCheckSymbol}
 use Rattle.check_digits.specs.Damm.{damm_product, damm_check, IsDamm}
-use Rattle.check_digits.proofs.Decisions.{each_below, passes, apart, IsAsymmetric}
+use Rattle.check_digits.proofs.Decisions.{each_below, each_passes, apart, IsAsymmetric}
 use Rattle.check_digits.proofs.States.{Distinguishes, changed_apart, exchanged_apart, state_same, state_next, state_most, one_more, all_more}
 
 pub product_small : (a b : ℕ) → a ≤ 9 → b ≤ 9 → damm_product a b ≤ 9
 product_small a b a_most b_most =
     let t : nat_lt (damm_product a b) 10 ≡ true =
-    passes 10 (λ b. nat_lt (damm_product a b) 10)
-    (passes 10 (λ a. each_below 10 (λ b. nat_lt (damm_product a b) 10)) refl a (omega arith)) b (omega arith) in
+    each_passes 10 (λ b. nat_lt (damm_product a b) 10)
+    (each_passes 10 (λ a. each_below 10 (λ b. nat_lt (damm_product a b) 10)) refl a (omega arith)) b (omega arith) in
     search (arith, ltb-true)
 
-pub rows : IsAsymmetric (λ c a b. damm_product c a)
-rows = apart (λ c a b. damm_product c a) refl
+pub damm_rows_apart : IsAsymmetric (λ c a b. damm_product c a)
+damm_rows_apart = apart (λ c a b. damm_product c a) refl
 
-columns : IsAsymmetric (λ c a b. damm_product a c)
-columns = apart (λ c a b. damm_product a c) refl
+damm_columns_apart : IsAsymmetric (λ c a b. damm_product a c)
+damm_columns_apart = apart (λ c a b. damm_product a c) refl
 
 ordered_entries : IsAsymmetric (λ c a b. damm_product (damm_product c a) b)
 ordered_entries = apart (λ c a b. damm_product (damm_product c a) b) refl
@@ -30,7 +30,7 @@ abbrev pub damm_step : ℕ → ℕ → ℕ → ℕ
 damm_step i c d = damm_product c d
 
 damm_distinguishes : Distinguishes damm_step
-damm_distinguishes = search (arith, product_small, columns, rows, ordered_entries)
+damm_distinguishes = search (arith, product_small, damm_columns_apart, damm_rows_apart, ordered_entries)
 
 pub damm_changes : FindsEachChange IsDamm
 damm_changes word i digit is within apart_ changed =
@@ -54,8 +54,8 @@ damm_exchanges word i is within apart_ changed =
 more_product : (word : List ℕ) (s : ℕ) → damm_check (word ++ s ∷ []) ≡ damm_product (damm_check word) s
 more_product word s = search (arith, one_more, state_next, state_same, get_or-append, get_or-append_seam)
 
-squares : (a : ℕ) → a ≤ 9 → damm_product a a ≡ 0
-squares a most = eqb-true (damm_product a a) 0 (passes 10 (λ a. nat_eq (damm_product a a) 0) refl a (omega arith))
+damm_squares_vanish : (a : ℕ) → a ≤ 9 → damm_product a a ≡ 0
+damm_squares_vanish a most = eqb-true (damm_product a a) 0 (each_passes 10 (λ a. nat_eq (damm_product a a) 0) refl a (omega arith))
 
 pub damm_completed : (word : List ℕ) → All (λ d. d ≤ 9) word → IsCheckSymbol 10 IsDamm word (damm_check word)
 damm_completed word all =
@@ -63,7 +63,7 @@ damm_completed word all =
     let most : c ≤ 9 = state_most damm_step _ _ _ damm_distinguishes.closed (omega arith) (λ j. all j 0) in
     record {
       below = omega (arith, most);
-      accepted = search (arith, one_more, all_more, more_product, squares);
-      only = λ t l is. rows _ t _ most (omega (arith, l)) most
-          (sym (more_product _ t) ∙ is.product ∙ sym (squares _ most));
+      accepted = search (arith, one_more, all_more, more_product, damm_squares_vanish);
+      only = λ t l is. damm_rows_apart _ t _ most (omega (arith, l)) most
+          (sym (more_product _ t) ∙ is.product ∙ sym (damm_squares_vanish _ most));
     }

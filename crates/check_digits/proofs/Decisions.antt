@@ -7,11 +7,11 @@ abbrev pub each_below : ℕ → (ℕ → Bool) → Bool
 each_below zero test = true
 each_below (suc n) test = each_below n test && test n
 
-pub passes : (n : ℕ) (test : ℕ → Bool) → each_below n test ≡ true → (i : ℕ) → i < n → test i ≡ true
-passes zero test h i l = absurd (omega (arith, l))
-passes (suc n) test h i l =
+pub each_passes : (n : ℕ) (test : ℕ → Bool) → each_below n test ≡ true → (i : ℕ) → i < n → test i ≡ true
+each_passes zero test h i l = absurd (omega (arith, l))
+each_passes (suc n) test h i l =
     let parts = and_parts (each_below n test) (test n) h in
-    ⊎_elim (λ (b : i < n). passes n test parts.0 i b) (λ (b : n ≤ i). search arith) (cases_lt _ n)
+    ⊎_elim (λ (b : i < n). each_passes n test parts.0 i b) (λ (b : n ≤ i). search arith) (cases_lt _ n)
 
 -- whether a term of three digits is the same with the last two exchanged only where these are equal
 abbrev pub asymmetric : (ℕ → ℕ → ℕ → ℕ) → Bool
@@ -27,8 +27,8 @@ not_or p q h e = grind (arith, false≢true)
 pub apart : (u : ℕ → ℕ → ℕ → ℕ) → asymmetric u ≡ true → IsAsymmetric u
 apart u h c a b c_most a_most b_most same =
     let t : (not (nat_eq (u c a b) (u c b a)) || nat_eq a b) ≡ true =
-    passes 10 (λ b. not (nat_eq (u c a b) (u c b a)) || nat_eq a b)
-    (passes 10 (λ a. each_below 10 (λ b. not (nat_eq (u c a b) (u c b a)) || nat_eq a b))
-    (passes 10 (λ c. each_below 10 (λ a. each_below 10 (λ b. not (nat_eq (u c a b) (u c b a)) || nat_eq a b)))
+    each_passes 10 (λ b. not (nat_eq (u c a b) (u c b a)) || nat_eq a b)
+    (each_passes 10 (λ a. each_below 10 (λ b. not (nat_eq (u c a b) (u c b a)) || nat_eq a b))
+    (each_passes 10 (λ c. each_below 10 (λ a. each_below 10 (λ b. not (nat_eq (u c a b) (u c b a)) || nat_eq a b)))
     h c (omega arith)) a (omega arith)) b (omega arith) in
     eqb-true a b (search (arith, not_or, eq-eqb))

@@ -9,7 +9,7 @@ use Rattle.check_digits.specs.Standards.{from_right, mod_97_10}
 use Rattle.check_digits.proofs.Characters.{characters}
 use Rattle.check_digits.proofs.CheckSums.{unit_cancels, same_residues, a_difference}
 use Rattle.check_digits.proofs.DammDigits.{damm_changes, damm_exchanges}
-use Rattle.check_digits.proofs.Decisions.{each_below, passes}
+use Rattle.check_digits.proofs.Decisions.{each_below, each_passes}
 use Rattle.check_digits.proofs.Codewords.{changed_word, exchanged_word}
 use Rattle.check_digits.proofs.VerhoeffDigits.{verhoeff_changes, verhoeff_exchanges}
 
@@ -26,7 +26,7 @@ passed : (code : CheckCode) (power : ℕ) → Passes code power → (i : ℕ) �
     → (get_or code.greatest i 0 < code.modulus)
     × ((get_or code.weights i 0 * get_or code.weights i 0 ^ power) % code.modulus ≡ 1 % code.modulus)
 passed code power h i l =
-    let both = and_parts _ _ (passes _ (change_test code power) h i l) in (ltb-true _ _ both.0, eqb-true _ _ both.1)
+    let both = and_parts _ _ (each_passes _ (change_test code power) h i l) in (ltb-true _ _ both.0, eqb-true _ _ both.1)
 
 -- where each place passes, every change is found
 pub changes_tested : (code : CheckCode) (power : ℕ) → Passes code power → FindsEachChange (IsCodeword code)
@@ -66,7 +66,7 @@ exchanges_tested code power h tested word i is within apart changed =
     let y_below : get_or word (suc i) 0 < code.modulus =
     omega (arith, passed code power h (suc i) (omega (arith, is.places)), (is.symbols (suc i) within).greatest) in
     let test = exchange_test code power in
-    let at = and_parts _ _ (passes (length code.weights - 1) test tested i (omega (arith, is.places))) in
+    let at = and_parts _ _ (each_passes (length code.weights - 1) test tested i (omega (arith, is.places))) in
     let both = (exchanged_by_step code word i at.0 x_below is within).0 changed in
     apart (sym (same_residues _ _ _ _ x_below y_below (a_difference _ _ _ x_below)
     (unit_cancels _ _ _ _ (eqb-true _ _ at.1) both.2)))
@@ -98,7 +98,7 @@ fives_tested r ws ls gs h tested word i is within =
     let code = modulo_10 r ws ls gs in
     let x_below : get_or word i 0 < 10 =
     omega (arith, passed code 3 h i (omega (arith, is.places)), (is.symbols i (omega arith)).greatest) in
-    let at = and_parts _ _ (passes (length ws - 1) (five_test code) tested i (omega (arith, is.places))) in
+    let at = and_parts _ _ (each_passes (length ws - 1) (five_test code) tested i (omega (arith, is.places))) in
     let word_is = exchanged_by_step code word i at.0 x_below is within in
     search (arith, five_by, same_modulo_5)
 
@@ -125,7 +125,7 @@ ibans_pass = refl
 
 pub of_iban : (n : ℕ) → n ≤ 68 → FindsEachChange (IsCodeword (mod_97_10 n)) × FindsEachExchange (IsCodeword (mod_97_10 n))
 of_iban n most =
-    let tests = and_parts _ _ (passes 69 test_97 ibans_pass n (omega (arith, most))) in
+    let tests = and_parts _ _ (each_passes 69 test_97 ibans_pass n (omega (arith, most))) in
     (changes_tested (mod_97_10 n) 95 tests.0, exchanges_tested (mod_97_10 n) 95 tests.0 tests.1)
 
 -- what the codes of the standards detect, but for what `standard_finds` answers

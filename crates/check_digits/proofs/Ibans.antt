@@ -14,7 +14,7 @@ use Rattle.std.proofs.lemmas.List.Elements.{All-nil, All-append, All-drop, All-t
 use Rattle.check_digits.specs.Codes.{weighted_sum, CheckCode, IsCodeword}
 use Rattle.check_digits.specs.Ibans.{IsDigit, IsLetter, digits_of, iban_digits, iban_number}
 use Rattle.check_digits.specs.Standards.{from_right, mod_97_10}
-use Rattle.check_digits.proofs.Decisions.{each_below, passes}
+use Rattle.check_digits.proofs.Decisions.{each_below, each_passes}
 use Rattle.check_digits.proofs.Finds.{length-from_right, get_or-from_right}
 
 -- with the powers of ten as weights, the sum of digits is congruent to the number that they form
@@ -76,9 +76,9 @@ is_word code text word n is digits count characters =
     search (arith, length-from_right, get_or-from_right)
 
 -- a list by its places
-listed : (n : ℕ) (xs : List ℕ) (f : ℕ → ℕ) → length xs ≡ n → ((i : ℕ) → i < n → get_or xs i 0 ≡ f (n - 1 - i))
-    → xs ≡ from_right n f
-listed n xs f count at =
+from_right_of_entries : (n : ℕ) (xs : List ℕ) (f : ℕ → ℕ) → length xs ≡ n
+    → ((i : ℕ) → i < n → get_or xs i 0 ≡ f (n - 1 - i)) → xs ≡ from_right n f
+from_right_of_entries n xs f count at =
     ext_get_or 0 xs (from_right n f) (count ∙ sym (length-from_right n f))
     (λ i h. search (arith, get_or-from_right))
 
@@ -90,11 +90,11 @@ abbrev pub is_constant : ℕ → List ℕ → Bool
 is_constant v xs = each_below 68 (λ i. nat_eq (get_or xs i 0) v)
 
 -- the first of them
-constant : (v n : ℕ) (xs : List ℕ) → n ≤ 68 → length xs ≡ 68 → is_constant v xs ≡ true
+take_of_constant : (v n : ℕ) (xs : List ℕ) → n ≤ 68 → length xs ≡ 68 → is_constant v xs ≡ true
     → take n xs ≡ from_right n (λ j. v)
-constant v n xs most count h =
-    listed n (take n xs) (λ j. v) (length-take-le n xs (omega (arith, count)))
-    (λ i l. get_or-take n xs i 0 l ∙ eqb-true _ _ (passes 68 (λ i. nat_eq (get_or xs i 0) v) h i (omega (arith, l))))
+take_of_constant v n xs most count h =
+    from_right_of_entries n (take n xs) (λ j. v) (length-take-le n xs (omega (arith, count)))
+    (λ i l. get_or-take n xs i 0 l ∙ eqb-true _ _ (each_passes 68 (λ i. nat_eq (get_or xs i 0) v) h i (omega (arith, l))))
 
 -- the code of the powers of ten, and of the digits
 pub is_code : (n : ℕ) (ws ls gs : List ℕ) → n ≤ 68 → length ws ≡ n
@@ -102,8 +102,8 @@ pub is_code : (n : ℕ) (ws ls gs : List ℕ) → n ≤ 68 → length ws ≡ n
     → length ls ≡ 68 → is_constant 0 ls ≡ true → length gs ≡ 68 → is_constant 9 gs ≡ true
     → code_with ws (take n ls) (take n gs) ≡ mod_97_10 n
 is_code n ws ls gs most count weights l_count l g_count g =
-    rw (listed n ws (λ j. 10 ^ j % 97) count weights)
-    (rw (constant 0 n ls most l_count l) (rw (constant 9 n gs most g_count g) refl))
+    rw (from_right_of_entries n ws (λ j. 10 ^ j % 97) count weights)
+    (rw (take_of_constant 0 n ls most l_count l) (rw (take_of_constant 9 n gs most g_count g) refl))
 
 -- the digits of one more character
 pub more_digits : (f : ℕ → List ℕ) (text : List ℕ) (i : ℕ) → i < length text

@@ -28,9 +28,8 @@ changed_luhn : (xs : List ℕ) (p d : ℕ) → p < length xs
     → whole_sum (set xs p d) + luhn_value (length xs - 1 - p) (get_or xs p 0)
     ≡ whole_sum xs + luhn_value (length xs - 1 - p) d
 changed_luhn xs p d h =
-    let n = length xs in
-    let moved = one_term (λ i. luhn_value (n - 1 - i) (get_or (set xs p d) i 0)) (λ i. luhn_value (n - 1 - i) (get_or xs i 0))
-    p n (λ i ne. search (arith, get_or-set_other)) h in
+    let value = λ (ys : List ℕ) (i : ℕ). luhn_value (length xs - 1 - i) (get_or ys i 0) in
+    let moved = one_term (value (set xs p d)) (value xs) p (length xs) (λ i ne. search (arith, get_or-set_other)) h in
     grind (arith, length-set, get_or-set_same)
 
 -- every change is found

@@ -14,7 +14,7 @@ use Rattle.check_digits.specs.Codes.{exchanged}
 use Rattle.check_digits.specs.Ibans.{IsDigit, IsLetter, IsIban, AreElevenfold, FindsAllButElevenfold, digits_of, check_number}
 use Rattle.check_digits.proofs.Characters.{number, number_middle, middle_residue, written_more, digit_is, letter_is, rotated, number_of, both_leave}
 use Rattle.check_digits.proofs.CheckSums.{one_completion}
-use Rattle.check_digits.proofs.Decisions.{passes}
+use Rattle.check_digits.proofs.Decisions.{each_passes}
 
 -- the number that two characters write
 abbrev pair : ℕ → ℕ → ℕ
@@ -71,7 +71,7 @@ less_one_unit k l =
     let x = λ (k : ℕ). (10 ^ suc k + 96) ^ 95 % 97 in
     (x k, record {
       below = omega arith;
-      one = eqb-true _ _ (passes 68 (λ k. nat_eq (((10 ^ suc k + 96) * x k) % 97) 1) refl k l);
+      one = eqb-true _ _ (each_passes 68 (λ k. nat_eq (((10 ^ suc k + 96) * x k) % 97) 1) refl k l);
     })
 
 -- a character has two digits at most

@@ -40,18 +40,18 @@ state_most step start f (suc n) closed most digits =
     closed n _ (f n) (state_most step start f n closed most (λ i l. digits i (omega arith))) (digits n (omega arith))
 
 -- states that differ stay apart
-kept : (step : ℕ → ℕ → ℕ → ℕ) (start : ℕ) (f g : ℕ → ℕ) (k n : ℕ) → Distinguishes step → start ≤ 9 → k ≤ n
+states_equal_at : (step : ℕ → ℕ → ℕ → ℕ) (start : ℕ) (f g : ℕ → ℕ) (k n : ℕ) → Distinguishes step → start ≤ 9 → k ≤ n
     → ((i : ℕ) → i < n → f i ≤ 9) → ((i : ℕ) → i < n → g i ≤ 9) → ((i : ℕ) → k ≤ i → i < n → f i ≡ g i)
     → state_after step start f n ≡ state_after step start g n → state_after step start f k ≡ state_after step start g k
-kept step start f g k zero told most l f_most g_most same e = search arith
-kept step start f g k (suc n) told most l f_most g_most same e =
+states_equal_at step start f g k zero told most l f_most g_most same e = search arith
+states_equal_at step start f g k (suc n) told most l f_most g_most same e =
     ⊎_elim
     (λ (b : k < suc n).
     let f_state = state_most step start f n told.closed most (λ i l. f_most i (omega arith)) in
     let g_state = state_most step start g n told.closed most (λ i l. g_most i (omega arith)) in
     let step_same : step n (state_after step start f n) (f n) ≡ step n (state_after step start g n) (f n) =
     search (arith, state_next) in
-    kept step start f g k n told most (omega arith) (λ i l. f_most i (omega arith)) (λ i l. g_most i (omega arith))
+    states_equal_at step start f g k n told most (omega arith) (λ i l. f_most i (omega arith)) (λ i l. g_most i (omega arith))
     (λ i m l. same i m (omega arith))
     (told.states n _ _ (f n) f_state g_state (f_most n (omega arith)) step_same))
     (λ (b : suc n ≤ k). search arith)
@@ -62,7 +62,7 @@ pub changed_apart : (step : ℕ → ℕ → ℕ → ℕ) (start : ℕ) (f g : �
     → p < n → ((i : ℕ) → i < n → f i ≤ 9) → ((i : ℕ) → i < n → g i ≤ 9) → ((i : ℕ) → i < n → i ≢ p → f i ≡ g i)
     → state_after step start f n ≡ state_after step start g n → f p ≡ g p
 changed_apart step start f g p n told most l f_most g_most same e =
-    let at = kept step start f g (suc p) n told most (omega arith) f_most g_most
+    let at = states_equal_at step start f g (suc p) n told most (omega arith) f_most g_most
     (λ i m k. same i k (omega arith)) e in
     search (arith, state_same, state_most, state_next)
 
@@ -72,7 +72,7 @@ pub exchanged_apart : (step : ℕ → ℕ → ℕ → ℕ) (start : ℕ) (f g : 
     → ((i : ℕ) → i < n → i ≢ p → i ≢ suc p → f i ≡ g i) → g p ≡ f (suc p) → g (suc p) ≡ f p
     → state_after step start f n ≡ state_after step start g n → f p ≡ f (suc p)
 exchanged_apart step start f g p n told most l f_most g_most same first second e =
-    let at = kept step start f g (suc (suc p)) n told most (omega arith) f_most g_most
+    let at = states_equal_at step start f g (suc (suc p)) n told most (omega arith) f_most g_most
     (λ i m k. same i k (omega arith) (omega arith)) e in
     search (arith, state_same, state_next, state_most)
 

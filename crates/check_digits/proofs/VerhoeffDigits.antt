@@ -8,7 +8,7 @@ use Rattle.std.proofs.lemmas.Bool.{ltb-true, eqb-true}
 use Rattle.check_digits.specs.Codes.{exchanged, FindsEachChange, FindsEachExchange, IsCheckSymbol}
 use Rattle.check_digits.specs.Verhoeff.{dihedral, permuted, image, verhoeff_product, IsVerhoeff}
 use Rattle.check_digits.specs.States.{state_after}
-use Rattle.check_digits.proofs.Decisions.{each_below, passes, apart, IsAsymmetric}
+use Rattle.check_digits.proofs.Decisions.{each_below, each_passes, apart, IsAsymmetric}
 use Rattle.check_digits.proofs.States.{Distinguishes, changed_apart, exchanged_apart, state_first, state_same, state_next, state_most, state_later, one_more, all_more}
 
 pub dihedral_small : (a b : ℕ) → dihedral a b ≤ 9
@@ -26,8 +26,8 @@ ordered_products = apart (λ c a b. dihedral (dihedral c a) (permuted b)) refl
 permuted_apart : IsAsymmetric (λ c a b. permuted a)
 permuted_apart = apart (λ c a b. permuted a) refl
 
-associates : (a b c : ℕ) → a ≤ 9 → b ≤ 9 → c ≤ 9 → dihedral a (dihedral b c) ≡ dihedral (dihedral a b) c
-associates a b c a_most b_most c_most = search (arith, eqb-true, passes)
+dihedral_associates : (a b c : ℕ) → a ≤ 9 → b ≤ 9 → c ≤ 9 → dihedral a (dihedral b c) ≡ dihedral (dihedral a b) c
+dihedral_associates a b c a_most b_most c_most = search (arith, eqb-true, each_passes)
 
 unit_behind : (a : ℕ) → a ≤ 9 → dihedral a 0 ≡ a
 unit_behind a most = grind (arith, most)
@@ -46,7 +46,7 @@ inverse_cancels : (a : ℕ) → a ≤ 9 → dihedral (inverse_of a) a ≡ 0
 inverse_cancels a most = grind (arith, most)
 
 permuted_small : (a : ℕ) → a ≤ 9 → permuted a ≤ 9
-permuted_small a most = search (arith, ltb-true, passes)
+permuted_small a most = search (arith, ltb-true, each_passes)
 
 pub image_small : (k d : ℕ) → d ≤ 9 → image k d ≤ 9
 unfolding image
@@ -89,8 +89,8 @@ verhoeff_changes word i digit is within apart_ changed =
     let n = length word in
     let new = set word i digit in
     let count : length new ≡ n = length-set word i digit in
-    let told = changed_apart (verhoeff_step 0) 0 (λ j. get_or word (n - 1 - j) 0) (λ j. get_or new (n - 1 - j) 0) (n - 1 - i) n
-    (verhoeff_distinguishes 0) (omega arith) (omega (arith, within)) (digit_at word is.digits n refl)
+    let told = changed_apart (verhoeff_step 0) 0 (λ j. get_or word (n - 1 - j) 0) (λ j. get_or new (n - 1 - j) 0)
+    (n - 1 - i) n (verhoeff_distinguishes 0) (omega arith) (omega (arith, within)) (digit_at word is.digits n refl)
     (digit_at new changed.digits n count) (λ j l ne. search (arith, get_or-set_other))
     (is.product ∙ sym (sym (product_by new n count) ∙ changed.product)) in
     let place : n - 1 - (n - 1 - i) ≡ i = omega (arith, within) in
@@ -117,7 +117,7 @@ from_state : (first start n : ℕ) (f : ℕ → ℕ) → start ≤ 9 → ((j : �
 from_state first start zero f most digits = search (arith, state_first, unit_behind)
 from_state first start (suc n) f most digits =
     let before = from_state first start n f most (λ j l. digits j (omega arith)) in
-    search (arith, before, state_next, associates, state_most, verhoeff_distinguishes, image_small)
+    search (arith, before, state_next, dihedral_associates, state_most, verhoeff_distinguishes, image_small)
 
 -- the product of a word with one more digit
 more_product : (word : List ℕ) (s : ℕ) → All (λ d. d ≤ 9) word → s ≤ 9
@@ -135,15 +135,15 @@ more_product word s all most =
     (λ j l. search (arith, get_or-append))
     ∙ from_state _ _ _ _ most (digit_at _ all _ refl)
 
-pub verhoeff_completed : (word : List ℕ) (v s : ℕ) → All (λ d. d ≤ 9) word → v ≡ verhoeff_product 1 word → s ≡ inverse_of v
-    → IsCheckSymbol 10 IsVerhoeff word s
+pub verhoeff_completed : (word : List ℕ) (v s : ℕ) → All (λ d. d ≤ 9) word → v ≡ verhoeff_product 1 word
+    → s ≡ inverse_of v → IsCheckSymbol 10 IsVerhoeff word s
 verhoeff_completed word v s all is inverse =
     grind (arith, state_most, verhoeff_distinguishes, digit_at, inverse_small, one_more, all_more, more_product, inverse_cancels, right_cancels)
 
 -- the permutation is the identity after eight steps
 eightfold : (k a : ℕ) → a ≤ 9 → image (8 + k) a ≡ image k a
 unfolding image
-eightfold zero a most = eqb-true (image 8 a) a (passes 10 (λ a. nat_eq (image 8 a) a) refl a (omega arith))
+eightfold zero a most = eqb-true (image 8 a) a (each_passes 10 (λ a. nat_eq (image 8 a) a) refl a (omega arith))
 eightfold (suc k) a most =
     let e : 8 + suc k ≡ suc (8 + k) = omega arith in ap (λ k. image k a) e ∙ ap permuted (eightfold k a most)
 
@@ -174,5 +174,5 @@ images_pass = refl
 pub image_read : (k d : ℕ) → d ≤ 9 → get_or images (10 * (k % 8) + d) 0 ≡ image k d
 image_read k d most =
     eqb-true (get_or images (10 * (k % 8) + d) 0) (image (k % 8) d)
-    (passes 10 (image_test (k % 8)) (passes 8 (λ k. each_below 10 (image_test k)) images_pass (k % 8) (omega arith)) d (omega arith))
+    (each_passes 10 (image_test (k % 8)) (each_passes 8 (λ k. each_below 10 (image_test k)) images_pass (k % 8) (omega arith)) d (omega arith))
     ∙ sym (image_residue k d most)

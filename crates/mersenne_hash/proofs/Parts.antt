@@ -39,6 +39,7 @@ part_is horner p from to text x whole start power product value ordered within w
     ∙ polynomial_joined horner _ _ _ _ in
     let product_of : product ≡ (a * x ^ k) % p =
     product_is ∙ ap₂ (λ s t. (s * t) % p) start_is power_is ∙ sym (mul-mod a (x ^ k) p) in
-    let same : (value + a * x ^ k) % p ≡ (b + a * x ^ k) % p = grind (arith, add-mod-mod value (a * x ^ k) p, mod-mod) in
+    let same : (value + a * x ^ k) % p ≡ (b + a * x ^ k) % p =
+    grind (arith, add-mod-mod value (a * x ^ k) p, mod-mod) in
     sym (mod-eq_of_lt below) ∙ (mod_add_cancel (a * x ^ k) (record { same = same })).same
     ∙ ap (λ v. v % p) (sym (part_polynomial _ _ _ _ ordered within))
