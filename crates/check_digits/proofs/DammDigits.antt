@@ -55,7 +55,8 @@ more_product : (word : List ℕ) (s : ℕ) → damm_check (word ++ s ∷ []) ≡
 more_product word s = search (arith, one_more, state_next, state_same, get_or-append, get_or-append_seam)
 
 damm_squares_vanish : (a : ℕ) → a ≤ 9 → damm_product a a ≡ 0
-damm_squares_vanish a most = eqb-true (damm_product a a) 0 (each_passes 10 (λ a. nat_eq (damm_product a a) 0) refl a (omega arith))
+damm_squares_vanish a most =
+    eqb-true (damm_product a a) 0 (each_passes 10 (λ a. nat_eq (damm_product a a) 0) refl a (omega arith))
 
 pub damm_completed : (word : List ℕ) → All (λ d. d ≤ 9) word → IsCheckSymbol 10 IsDamm word (damm_check word)
 damm_completed word all =

@@ -26,7 +26,8 @@ passed : (code : CheckCode) (power : ℕ) → Passes code power → (i : ℕ) �
     → (get_or code.greatest i 0 < code.modulus)
     × ((get_or code.weights i 0 * get_or code.weights i 0 ^ power) % code.modulus ≡ 1 % code.modulus)
 passed code power h i l =
-    let both = and_parts _ _ (each_passes _ (change_test code power) h i l) in (ltb-true _ _ both.0, eqb-true _ _ both.1)
+    let both = and_parts _ _ (each_passes _ (change_test code power) h i l) in
+    (ltb-true _ _ both.0, eqb-true _ _ both.1)
 
 -- where each place passes, every change is found
 pub changes_tested : (code : CheckCode) (power : ℕ) → Passes code power → FindsEachChange (IsCodeword code)

@@ -94,7 +94,8 @@ take_of_constant : (v n : ℕ) (xs : List ℕ) → n ≤ 68 → length xs ≡ 68
     → take n xs ≡ from_right n (λ j. v)
 take_of_constant v n xs most count h =
     from_right_of_entries n (take n xs) (λ j. v) (length-take-le n xs (omega (arith, count)))
-    (λ i l. get_or-take n xs i 0 l ∙ eqb-true _ _ (each_passes 68 (λ i. nat_eq (get_or xs i 0) v) h i (omega (arith, l))))
+    (λ i l. get_or-take n xs i 0 l
+    ∙ eqb-true _ _ (each_passes 68 (λ i. nat_eq (get_or xs i 0) v) h i (omega (arith, l))))
 
 -- the code of the powers of ten, and of the digits
 pub is_code : (n : ℕ) (ws ls gs : List ℕ) → n ≤ 68 → length ws ≡ n

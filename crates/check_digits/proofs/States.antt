@@ -51,8 +51,8 @@ states_equal_at step start f g k (suc n) told most l f_most g_most same e =
     let g_state = state_most step start g n told.closed most (λ i l. g_most i (omega arith)) in
     let step_same : step n (state_after step start f n) (f n) ≡ step n (state_after step start g n) (f n) =
     search (arith, state_next) in
-    states_equal_at step start f g k n told most (omega arith) (λ i l. f_most i (omega arith)) (λ i l. g_most i (omega arith))
-    (λ i m l. same i m (omega arith))
+    states_equal_at step start f g k n told most (omega arith) (λ i l. f_most i (omega arith))
+    (λ i l. g_most i (omega arith)) (λ i m l. same i m (omega arith))
     (told.states n _ _ (f n) f_state g_state (f_most n (omega arith)) step_same))
     (λ (b : suc n ≤ k). search arith)
     (cases_lt k (suc n))

@@ -173,6 +173,5 @@ images_pass = refl
 
 pub image_read : (k d : ℕ) → d ≤ 9 → get_or images (10 * (k % 8) + d) 0 ≡ image k d
 image_read k d most =
-    eqb-true (get_or images (10 * (k % 8) + d) 0) (image (k % 8) d)
-    (each_passes 10 (image_test (k % 8)) (each_passes 8 (λ k. each_below 10 (image_test k)) images_pass (k % 8) (omega arith)) d (omega arith))
-    ∙ sym (image_residue k d most)
+    let test = each_passes 8 (λ k. each_below 10 (image_test k)) images_pass (k % 8) (omega arith) in
+    eqb-true _ _ (each_passes 10 (image_test (k % 8)) test d (omega arith)) ∙ sym (image_residue k d most)
