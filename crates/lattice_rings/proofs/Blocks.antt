@@ -1,7 +1,7 @@
 -- The remainders below block 1 of the tree, in the words of the standards.
-use Rattle.std.proofs.Common.{◌≡◌, ℕ, suc, ◌+◌, ◌-◌, ◌*◌, ◌/◌, ◌%◌, ◌^◌, ◌<◌, ◌≤◌}
-use Rattle.std.proofs.Common.{List, length, slice_index, refl, sym, ◌∙◌, ap, arith, subst}
-use Rattle.std.proofs.Math.Nat.{two-pow-succ, mod-eq_of_lt, add-mul-mod_self_right, mod-mod, mod-lt, mul-le-mul_right}
+use Rattle.std.proofs.Common.{◌≡◌, ℕ, suc, ◌+◌, ◌-◌, ◌*◌, ◌/◌, ◌%◌, ◌^◌, ◌<◌, ◌≤◌, ◌↔◌}
+use Rattle.std.proofs.Common.{List, length, slice_index, refl, sym, ◌∙◌, ap, arith}
+use Rattle.std.proofs.Math.Nat.{two-pow-succ, mod-eq_of_lt, mod-add-mod, add-mul-mod_self_right, mod-mod, mod-lt, mul-le-mul_right}
 use Rattle.std.proofs.lemmas.Nat.{div-mul-add, mod-mul-add, mul-pow, pow-add, pow_pos}
 use Rattle.std.proofs.lemmas.List.{map-id}
 use Rattle.num_modular.specs.Congruence.{Congruent}
@@ -11,7 +11,9 @@ use Rattle.num_modular.specs.NumberLaws.{one-pow, pow-mul}
 use Rattle.num_modular.specs.NumberLaws.{sum_below-same, sum_below-congruent, sum_below-mul}
 use Rattle.num_modular.specs.Orders.{bits_reversed}
 use Rattle.num_modular.specs.Transforms.{Suits, transform}
-use Rattle.num_modular.specs.PlanLaws.{bits_reversed_below, bits_reversed_of_high, bits_reversed_twice}
+use Rattle.num_modular.specs.Factors.{AllFactors}
+use Rattle.num_modular.specs.Tables.{IsTable}
+use Rattle.num_modular.specs.PlanLaws.{table_of, bits_reversed_below, bits_reversed_of_high, bits_reversed_twice}
 use Rattle.num_modular.specs.Plans.{numbers, constant, AreTwiddles, AreRemainders}
 use Rattle.num_modular.specs.PlanProducts.{coefficient, product_modulo, AreProducts}
 use Rattle.num_modular.specs.PlanLaws.{negacyclic, remainders_of_product}
@@ -19,7 +21,7 @@ use Rattle.num_modular.specs.Polynomials.{polynomial_at}
 use Rattle.lattice_rings.specs.Rings.{IsRingProduct}
 
 -- words of 32 bits are their own numbers
-pub own_numbers : (w : List ℕ) → numbers (λ x. x) w ≡ slice_index w
+own_numbers : (w : List ℕ) → numbers (λ x. x) w ≡ slice_index w
 own_numbers w = ap (λ l. slice_index l) (map-id w)
 
 -- the table as the twiddle factors
@@ -32,6 +34,15 @@ pub powers_are_twiddles : (m g s : ℕ) → Suits m g (2 ^ suc s)
     → AreTwiddles m g (suc s) (2 ^ s) (λ k. g ^ bits_reversed s k % m)
 powers_are_twiddles m g s suits = twiddles_of m g s (2 ^ s) (λ k. g ^ bits_reversed s k % m) suits refl (λ k l. refl)
 
+-- a table that holds the powers of a root that suits is the root's
+pub root_table : {F : Type 0} {q g m : ℕ} (value quotient : F → ℕ) (s : ℕ) (table : List F) → Suits q g (2 * 2 ^ s)
+    → m ≡ q → length table ≡ 2 ^ s → AllFactors 4294967296 q value quotient table
+    → ((k : ℕ) → k < 2 ^ s → numbers value table k ≡ g ^ bits_reversed s k % q)
+    → Suits m g (2 * length table) × IsTable 4294967296 m g value quotient table
+root_table {q = q} {g = g} value quotient s table suits is count factors powers =
+    let wide : Suits q g (2 * length table) = rw count suits in
+    rw is (wide, table_of 4294967296 q g s value quotient table count wide factors (λ k l. powers k (omega (arith, l, count))))
+
 -- the modulus m, the root r and the exponent b of the plan that a ring's calls use, and the number n of blocks
 pub record IsRingPlan (q g s m r b n : ℕ) : Type 0 where
   pub modulus : m ≡ q
@@ -39,13 +50,9 @@ pub record IsRingPlan (q g s m r b n : ℕ) : Type 0 where
   pub exponent : b ≡ suc s
   pub count : n ≡ 2 ^ s
 
-by_ring : {q g s m r b n : ℕ} (last : ℕ) (x y : ℕ → ℕ) → IsRingPlan q g s m r b n → AreRemainders m r b 1 n last x y
-    → AreRemainders q g (suc s) 1 (2 ^ s) last x y
-by_ring {q} {g} {s} {m} {r} {b} {n} last x y ring are = search arith
-
-of_ring : {q g s m r b n : ℕ} (last : ℕ) (x y : ℕ → ℕ) → IsRingPlan q g s m r b n
-    → AreRemainders q g (suc s) 1 (2 ^ s) last x y → AreRemainders m r b 1 n last x y
-of_ring {q} {g} {s} {m} {r} {b} {n} last x y ring are = search arith
+by_ring : {q g s m r b n : ℕ} (last : ℕ) (x y : ℕ → ℕ) → IsRingPlan q g s m r b n
+    → AreRemainders m r b 1 n last x y ↔ AreRemainders q g (suc s) 1 (2 ^ s) last x y
+by_ring {q} {g} {s} {m} {r} {b} {n} last x y ring = search arith
 
 -- the constant of block j below block 1
 pub constant_is : (g s j : ℕ) → j < 2 ^ s → constant g (suc s) (1 * 2 ^ s + j) ≡ g ^ (2 * bits_reversed s j + 1)
@@ -58,12 +65,9 @@ pub record AreValues (m g s last : ℕ) (x y : ℕ → ℕ) : Type 0 where
   pub each : (j i : ℕ) → j < 2 ^ s → i < last
       → y (j * last + i) ≡ polynomial_at (2 ^ s) (λ k. x (k * last + i)) (g ^ (2 * bits_reversed s j + 1)) % m
 
-pub values_of : (m g s last : ℕ) (x y : ℕ → ℕ) → AreRemainders m g (suc s) 1 (2 ^ s) last x y → AreValues m g s last x y
-values_of m g s last x y are = search (arith, constant_is)
-
-pub remainders_of : (m g s last : ℕ) (x y : ℕ → ℕ) → AreValues m g s last x y
-    → AreRemainders m g (suc s) 1 (2 ^ s) last x y
-remainders_of m g s last x y are = search (arith, constant_is)
+remainders_are_values : (m g s last : ℕ) (x y : ℕ → ℕ)
+    → AreRemainders m g (suc s) 1 (2 ^ s) last x y ↔ AreValues m g s last x y
+remainders_are_values m g s last x y = search (arith, constant_is)
 
 -- equal coefficients, equal values
 pub value_same : (m n c : ℕ) (x f : ℕ → ℕ) → ((k : ℕ) → k < n → x k ≡ f k)
@@ -129,29 +133,29 @@ preimage_values {m} g h G H s last part y inverse square of_number back below = 
 }
 
 -- what is past the coefficients, taken away, is added with m - 1
+nothing_left : (m a b : ℕ) → 0 < m → (a + b + (m - 1) * b) % m ≡ a % m
+nothing_left m a b some =
+    let o : m - 1 + 1 ≡ m = omega (arith, some) in
+    let s : a + b + (m - 1) * b ≡ a + b * m = let f = ap (λ v. b * v) o in omega (arith, f) in
+    ap (λ v. v % m) s ∙ add-mul-mod_self_right a b m
+
 taken_away : (m a b : ℕ) → 0 < m → ((a + (m - 1) * b) % m + b) % m ≡ a % m
 taken_away m a b some =
-    let s : a + (m - 1) * b + b ≡ a + b * m = (let o : m - 1 + 1 ≡ m = omega (arith, some) in
-    let f = ap (λ v. b * v) o in omega (arith, f)) in
-    (mod_trans (mod_add (residue_of (a + (m - 1) * b)) (mod_refl b)) (mod_of_eq s)).same ∙ add-mul-mod_self_right a b m
+    let s : a + (m - 1) * b + b ≡ a + b + (m - 1) * b = omega arith in
+    mod-add-mod (a + (m - 1) * b) m b ∙ ap (λ v. v % m) s ∙ nothing_left m a b some
 
 added_to : (m a b p : ℕ) → p < m → (p + b) % m ≡ a % m → (a + (m - 1) * b) % m ≡ p
 added_to m a b p below is =
-    let s : p + b + (m - 1) * b ≡ p + b * m = (let o : m - 1 + 1 ≡ m = omega (arith, below) in
-    let f = ap (λ v. b * v) o in omega (arith, f)) in
-    let known : Congruent m (p + b) a = record { same = is } in
-    (mod_trans (mod_add (mod_sym known) (mod_refl ((m - 1) * b))) (mod_of_eq s)).same
-    ∙ add-mul-mod_self_right p b m ∙ mod-eq_of_lt below
+    let known : Congruent m a (p + b) = record { same = sym is } in
+    (mod_add known (mod_refl ((m - 1) * b))).same ∙ nothing_left m p b (omega (arith, below)) ∙ mod-eq_of_lt below
 
 -- what `split` says of words, in the words of the standards
 pub told : {q g s m r b n : ℕ} (last : ℕ) (xs ys : List ℕ) → IsRingPlan q g s m r b n
     → AreRemainders m r b 1 n last (numbers (λ x. x) xs) (numbers (λ x. x) ys)
     → AreValues q g s last (slice_index xs) (slice_index ys)
 told {q} {g} {s} last xs ys ring are =
-    values_of q g s last (slice_index xs) (slice_index ys)
-    (subst (λ f. AreRemainders q g (suc s) 1 (2 ^ s) last f (slice_index ys)) (own_numbers xs)
-    (subst (λ f. AreRemainders q g (suc s) 1 (2 ^ s) last (numbers (λ x. x) xs) f) (own_numbers ys)
-    (by_ring last (numbers (λ x. x) xs) (numbers (λ x. x) ys) ring are)))
+    (remainders_are_values q g s last (slice_index xs) (slice_index ys)).0 (rw (← own_numbers xs, ← own_numbers ys)
+    ((by_ring last _ _ ring).0 are))
 
 -- what `join` says of words
 pub joined : {q g s m r b n : ℕ} (last : ℕ) (x : ℕ → ℕ) (ys zs : List ℕ) → IsRingPlan q g s m r b n
@@ -160,14 +164,9 @@ pub joined : {q g s m r b n : ℕ} (last : ℕ) (x : ℕ → ℕ) (ys zs : List 
     → (i : ℕ) → i < length ys → numbers (λ v. v) zs i ≡ x i % m)
     → (i : ℕ) → i < length ys → slice_index zs i ≡ x i % q
 joined {q} {g} {s} {m} last x ys zs ring are known i l =
-    let own = remainders_of q g s last x (λ i. slice_index ys i % q)
-    (own_residues q g s last x (slice_index ys) are) in
-    let there = subst (λ f. AreRemainders q g (suc s) 1 (2 ^ s) last x (λ i. f i % q)) (sym (own_numbers ys)) own in
-    let given = subst (λ k. AreRemainders q g (suc s) 1 (2 ^ s) last x (λ i. numbers (λ v. v) ys i % k))
-    (sym ring.modulus) there in
-    sym (ap (λ f. f i) (own_numbers zs))
-    ∙ known (of_ring last x (λ i. numbers (λ v. v) ys i % m) ring given) i l
-    ∙ ap (λ k. x i % k) ring.modulus
+    let own : AreRemainders q g (suc s) 1 (2 ^ s) last x (λ i. numbers (λ v. v) ys i % m) =
+    simp (map-id, ring.modulus) ((remainders_are_values q g s last x _).1 (own_residues q g s last x (slice_index ys) are)) in
+    simp (map-id, ring.modulus) at (known ((by_ring last x (λ i. numbers (λ v. v) ys i % m) ring).1 own) i l)
 
 -- the product in the ring, by a formula
 pub ring_product : (q : ℕ) (x y : ℕ → ℕ) → 0 < q → IsRingProduct q x y (product_modulo q 256 (q - 1) x y)
@@ -181,10 +180,7 @@ ring_product_same q x y p r is same = search (arith, mod-eq_of_lt)
 pub multiplied_words : {q m : ℕ} (xs ys zs : List ℕ) → m ≡ q
     → ((i : ℕ) → i < length xs → numbers (λ x. x) zs i ≡ (numbers (λ x. x) xs i * numbers (λ x. x) ys i) % m)
     → (i : ℕ) → i < length xs → slice_index zs i ≡ (slice_index xs i * slice_index ys i) % q
-multiplied_words {q} {m} xs ys zs is known i l =
-    sym (ap (λ f. f i) (own_numbers zs)) ∙ known i l ∙ ap (λ k. (numbers (λ x. x) xs i * numbers (λ x. x) ys i) % k) is
-    ∙ ap (λ f. (f i * numbers (λ x. x) ys i) % q) (own_numbers xs)
-    ∙ ap (λ f. (slice_index xs i * f i) % q) (own_numbers ys)
+multiplied_words {q} {m} xs ys zs is known i l = simp (map-id, is) at (known i l)
 
 -- the product of two transforms is the transform of the product
 pub product_transformed : (q g s last : ℕ) (x y p u v r : ℕ → ℕ) → 0 < q → 2 ^ s * last ≡ 256
@@ -199,9 +195,8 @@ product_transformed q g s last x y p u v r some size suits product first second 
     ∙ negacyclic _ e _ _ _ _ _ _ some (pow_pos _) twiddles
     ∙ added_to _ (coefficient 256 x y e) (coefficient 256 x y (e + 256)) (p e) (product.below e l) (product.each e l) in
     let room : (1 + 1) * (n / 2) ≤ n = omega arith in
-    let are = values_of _ _ _ _ z _
-    (remainders_of_product _ _ _ _ _ _ _ _ _ _ _ _ (s, refl) room twiddles
-    (remainders_of _ _ _ _ _ _ first) (remainders_of _ _ _ _ _ _ second) products) in
+    let are = (remainders_are_values _ _ _ _ z _).0 (remainders_of_product _ _ _ _ _ _ _ _ _ _ _ _ (s, refl) room twiddles
+    ((remainders_are_values _ _ _ _ _ _).1 first) ((remainders_are_values _ _ _ _ _ _).1 second) products) in
     record {
       each = λ j i lj li.
           let value = products.each j i lj li in

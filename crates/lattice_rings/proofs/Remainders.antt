@@ -48,13 +48,6 @@ pub record ProductsBelow (i : ℕ) (x y p : List ℕ) : Type 0 where
   pub kept : (k : ℕ) → 2 * i ≤ k → get_or p k 0 ≡ get_or x k 0
 
 -- two writes
-low : (p : List ℕ) (e f a b : ℕ) → e < length p → e ≢ f → get_or (set (set p e a) f b) e 0 ≡ a
-low p e f a b l ne = get_or-set_other (set p e a) f e b 0 ne ∙ get_or-set_same p e a 0 l
-
-high : (p : List ℕ) (e f a b : ℕ) → f < length p → get_or (set (set p e a) f b) f 0 ≡ b
-high p e f a b l =
-    get_or-set_same (set p e a) f b 0 (subst (λ n. f < n) (sym (length-set p e a)) l)
-
 other : (p : List ℕ) (e f k a b : ℕ) → k ≢ e → k ≢ f → get_or (set (set p e a) f b) k 0 ≡ get_or p k 0
 other p e f k a b ne nf = get_or-set_other (set p e a) f k b 0 nf ∙ get_or-set_other p e k a 0 ne
 
@@ -68,17 +61,12 @@ products_more i a b c x y p within square before is_a is_b =
     let f : ℕ = 2 * i + 1 in
     let u = before.kept e (omega arith) in
     let v = before.kept f (omega arith) in
-    let at_e = low p e f a b (omega arith) (omega arith) in
-    let at_f = high p e f a b within in
+    let at_e = get_or-set_other (set p e a) f e b 0 (omega arith) ∙ get_or-set_same p e a 0 (omega arith) in
+    let at_f = get_or-set_same (set p e a) f b 0 (let n = length-set p e a in omega (arith, n, within)) in
     record {
       below = search (arith, cases_eq, set, other);
       constant = λ k l. elim (cases_eq k i) [
-        | inl s ↦
-            subst (λ n. get_or (set (set p e a) f b) (2 * n) 0
-            ≡ (get_or x (2 * n) 0 * get_or y (2 * n) 0
-            + get_or x (2 * n + 1) 0 * get_or y (2 * n + 1) 0 * 17 ^ (2 * bits_reversed 7 n + 1)) % 3329) (sym s)
-            (at_e ∙ is_a
-            ∙ (mod_add (mod_mul (mod_of_eq u) (mod_refl (get_or y e 0)))
+        | inl s ↦ rw s (at_e ∙ is_a ∙ (mod_add (mod_mul (mod_of_eq u) (mod_refl (get_or y e 0)))
             (mod_mul (mod_mul (mod_of_eq v) (mod_refl (get_or y f 0))) square)).same)
         | inr n ↦ other p e f (2 * k) a b (omega arith) (omega arith) ∙ before.constant k (omega arith)
       ];

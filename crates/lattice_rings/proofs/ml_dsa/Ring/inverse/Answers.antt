@@ -1,6 +1,6 @@
-use Rattle.std.proofs.Common.{◌≡◌, ℕ, ◌%◌, ◌/◌, ◌<◌, length, slice_index, ◌∙◌, arith}
+use Rattle.std.proofs.Common.{◌≡◌, ℕ, ◌%◌, ◌<◌, slice_index, ◌∙◌, arith}
 use Rattle.std.proofs.Math.Nat.{mod-mod}
-use Rattle.lattice_rings.proofs.Blocks.{AreValues, IsRingPlan, joined}
+use Rattle.lattice_rings.proofs.Blocks.{AreValues, joined}
 use Rattle.lattice_rings.proofs.Dsa.{back_suits, back_inverse}
 use Rattle.lattice_rings.proofs.Dsa.{transform_of, values_of_transform, transform_same, before, before_values}
 use Rattle.lattice_rings.proofs.ml_dsa.Ring.inverse.Goals as goal
@@ -10,14 +10,10 @@ join-requires-clause-blocks c =
     let table = c.plan.ensures.table in
     record { some = omega arith; count = (8, omega arith); whole = omega arith; within = omega (arith, table) }
 
-ring : (c : goal.After-join) → IsRingPlan 8380417 1753 8 c.plan.result.modulus.modulus c.plan.result.root c.plan.result.bits
-    (length c.args.w.now / 1)
-ring c = search arith
-
 -- the list is that of each polynomial whose transform was given
 entries : (c : goal.After-join) (x : ℕ → ℕ) → AreValues 8380417 1753 8 1 x (slice_index c.args.w.now)
     → (i : ℕ) → i < 256 → slice_index c.join.new.xs i ≡ x i % 8380417
-entries c x are i l = joined _ x _ _ (ring c) are (c.join.ensures.joined x) i (omega arith)
+entries c x are i l = joined _ x _ _ (search arith) are (c.join.ensures.joined x) i (omega arith)
 
 pub returns-clause-unique : goal.returns-clause-unique
 returns-clause-unique c = λ x is. entries c x (values_of_transform x (slice_index c.args.w.now) is)

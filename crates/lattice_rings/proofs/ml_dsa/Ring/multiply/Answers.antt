@@ -1,16 +1,12 @@
 use Rattle.std.proofs.Common.{slice_index, arith}
-use Rattle.lattice_rings.specs.Rings.{IsDsaProduct}
 use Rattle.lattice_rings.proofs.Blocks.{multiplied_words, product_transformed}
 use Rattle.lattice_rings.proofs.Dsa.{zeta_suits, transform_of, values_of_transform, products_of_places}
 use Rattle.lattice_rings.proofs.ml_dsa.Ring.multiply.Goals as goal
 
-products : (c : goal.After-multiply) → IsDsaProduct (slice_index c.args.xs.now) (slice_index c.args.ys.now)
-    (slice_index c.multiply.new.xs)
-products c = search (arith, multiplied_words)
-
 pub returns-clause-products : goal.returns-clause-products
-returns-clause-products c = products c
+returns-clause-products c = search (arith, multiplied_words)
 
 pub returns-clause-product : goal.returns-clause-product
 returns-clause-product c =
-    grind (arith, slice_index, transform_of, product_transformed, zeta_suits, values_of_transform, products_of_places, products)
+    let products = returns-clause-products c in
+    grind (arith, slice_index, transform_of, product_transformed, zeta_suits, values_of_transform, products_of_places)

@@ -1,6 +1,6 @@
-use Rattle.std.proofs.Common.{◌≡◌, ℕ, ◌%◌, ◌/◌, ◌<◌, length, slice_index, ◌∙◌, arith}
+use Rattle.std.proofs.Common.{◌≡◌, ℕ, ◌%◌, ◌<◌, slice_index, ◌∙◌, arith}
 use Rattle.std.proofs.Math.Nat.{mod-mod}
-use Rattle.lattice_rings.proofs.Blocks.{AreValues, IsRingPlan, joined}
+use Rattle.lattice_rings.proofs.Blocks.{AreValues, joined}
 use Rattle.lattice_rings.proofs.Kem.{back_suits, back_inverse}
 use Rattle.lattice_rings.proofs.Kem.{transform_of, values_of_transform, transform_same, before, before_values}
 use Rattle.lattice_rings.proofs.ml_kem.Ring.inverse.Goals as goal
@@ -10,14 +10,10 @@ join-requires-clause-blocks c =
     let table = c.plan.ensures.table in
     record { some = omega arith; count = (7, omega arith); whole = omega arith; within = omega (arith, table) }
 
-ring : (c : goal.After-join) → IsRingPlan 3329 17 7 c.plan.result.modulus.modulus c.plan.result.root c.plan.result.bits
-    (length c.args.w.now / 2)
-ring c = search arith
-
 -- the list is that of each polynomial whose transform was given
 entries : (c : goal.After-join) (x : ℕ → ℕ) → AreValues 3329 17 7 2 x (slice_index c.args.w.now)
     → (i : ℕ) → i < 256 → slice_index c.join.new.xs i ≡ x i % 3329
-entries c x are i l = joined _ x _ _ (ring c) are (c.join.ensures.joined x) i (omega arith)
+entries c x are i l = joined _ x _ _ (search arith) are (c.join.ensures.joined x) i (omega arith)
 
 pub returns-clause-unique : goal.returns-clause-unique
 returns-clause-unique c = λ x is. entries c x (values_of_transform x (slice_index c.args.w.now) is)

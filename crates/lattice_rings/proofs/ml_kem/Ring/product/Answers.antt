@@ -1,14 +1,9 @@
-use Rattle.std.proofs.Common.{◌-◌, slice_index, arith}
-use Rattle.num_modular.specs.PlanProducts.{product_modulo}
+use Rattle.std.proofs.Common.{arith}
 use Rattle.lattice_rings.proofs.Blocks.{ring_product, ring_product_same}
 use Rattle.lattice_rings.proofs.ml_kem.Ring.product.Goals as goal
 
 pub returns-clause-product : goal.returns-clause-product
 returns-clause-product c =
-    let x = slice_index c.args.xs.now in
-    let y = slice_index c.args.ys.now in
-    let p = product_modulo 3329 256 (3329 - 1) x y in
-    let is = ring_product 3329 x y (omega arith) in
-    ring_product_same 3329 x y p (slice_index c.inverse.new.w) is
-    (c.inverse.ensures.unique p
-    (c.multiply.ensures.product x y p is c.ntt.ensures.remainders c.ntt-2.ensures.remainders))
+    let is = ring_product 3329 _ _ (omega arith) in
+    ring_product_same 3329 _ _ _ _ is
+    (c.inverse.ensures.unique _ (c.multiply.ensures.product _ _ _ is c.ntt.ensures.remainders c.ntt-2.ensures.remainders))
