@@ -14,16 +14,6 @@ use Rattle.lattice_rings.proofs.Blocks.{AreValues, value_same, preimage, preimag
 pub zeta_suits : Suits 8380417 1753 512
 zeta_suits = record { power_of_two = (9, refl); half_turn = λ l. refl }
 
--- the inverse of the square of zeta suits
-pub back_suits : Suits 8380417 6635910 256
-back_suits = record { power_of_two = (8, refl); half_turn = λ l. refl }
-
-pub back_inverse : IsInverse 8380417 6635910 3073009
-back_inverse = record { below = omega arith; one = refl }
-
-pub of_number : Congruent 8380417 (256 * 8347681) 1
-of_number = record { same = refl }
-
 pub transform_of : (x y : ℕ → ℕ) → AreValues 8380417 1753 8 1 x y → IsDsaTransform x y
 transform_of x y are = record {
   each = λ i l.
@@ -38,19 +28,6 @@ values_of_transform x y are = search (arith, value_same)
 -- the transform depends on the 256 coefficients alone
 pub transform_same : (w x y : ℕ → ℕ) → ((i : ℕ) → i < 256 → w i ≡ x i) → IsDsaTransform x y → IsDsaTransform w y
 transform_same w x y same are = search (arith, value_same)
-
--- the polynomial whose transform is given
-abbrev pub before : (ℕ → ℕ) → ℕ → ℕ
-before = preimage 8380417 731434 6635910 8 1 8347681
-
-pub before_values : (y : ℕ → ℕ) → ((i : ℕ) → i < 256 → y i < 8380417)
-    → ((v : ℕ → ℕ) (k : ℕ) → k < 256
-    → Congruent 8380417 (transform 8380417 3073009 256 (transform 8380417 6635910 256 v) k) (256 * v k))
-    → AreValues 8380417 1753 8 1 (before y) y
-before_values y below back =
-    preimage_values 1753 731434 3073009 6635910 8 1 8347681 y (record { same = refl }) (record { same = refl })
-    of_number
-    back (λ j i lj li. below (j * 1 + i) (omega arith))
 
 -- products of values are those of remainders modulo X - c
 pub products_of_places : (u v p : ℕ → ℕ) → IsDsaProduct u v p → AreProducts 8380417 1753 9 1 256 1 u v p

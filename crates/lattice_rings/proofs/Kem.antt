@@ -16,16 +16,6 @@ use Rattle.lattice_rings.proofs.Blocks.{value_same, preimage, preimage_values}
 pub zeta_suits : Suits 3329 17 256
 zeta_suits = record { power_of_two = (8, refl); half_turn = λ l. refl }
 
--- the inverse of the square of zeta suits
-pub back_suits : Suits 3329 2419 128
-back_suits = record { power_of_two = (7, refl); half_turn = λ l. refl }
-
-pub back_inverse : IsInverse 3329 2419 289
-back_inverse = record { below = omega arith; one = refl }
-
-pub of_number : Congruent 3329 (128 * 3303) 1
-of_number = record { same = refl }
-
 pub transform_of : (x y : ℕ → ℕ) → AreValues 3329 17 7 2 x y → IsKemTransform x y
 transform_of x y are = record {
   constant = λ i l.
@@ -55,18 +45,6 @@ values_of_transform x y are = record {
 -- the transform depends on the 256 coefficients alone
 pub transform_same : (w x y : ℕ → ℕ) → ((i : ℕ) → i < 256 → w i ≡ x i) → IsKemTransform x y → IsKemTransform w y
 transform_same w x y same are = search (arith, value_same)
-
--- the polynomial whose transform is given
-abbrev pub before : (ℕ → ℕ) → ℕ → ℕ
-before = preimage 3329 1175 2419 7 2 3303
-
-pub before_values : (y : ℕ → ℕ) → ((i : ℕ) → i < 256 → y i < 3329)
-    → ((v : ℕ → ℕ) (k : ℕ) → k < 128
-    → Congruent 3329 (transform 3329 289 128 (transform 3329 2419 128 v) k) (128 * v k))
-    → AreValues 3329 17 7 2 (before y) y
-before_values y below back =
-    preimage_values 17 1175 289 2419 7 2 3303 y (record { same = refl }) (record { same = refl }) of_number
-    back (λ j i lj li. below (j * 2 + i) (omega arith))
 
 -- products in the words of the standard are those of remainders modulo X^2 - c
 pub products_of_remainders : (u v p : ℕ → ℕ) → IsKemProduct u v p → AreProducts 3329 17 8 1 128 2 u v p

@@ -4,15 +4,12 @@ use Rattle.lattice_rings.proofs.Blocks.{root_table}
 use Rattle.lattice_rings.proofs.Dsa.{zeta_suits}
 use Rattle.lattice_rings.proofs.ml_dsa.Ring.plan.Goals as goal
 
-pub over-requires-clause-suits : goal.over-requires-clause-suits
-over-requires-clause-suits c =
+pub over-requires : goal.over-requires
+over-requires c =
     let ring = c.args.self.now in
-    (root_table (λ f. f.value) (λ f. f.quotient) 8 ring.table zeta_suits ring.modulus_is (omega arith) ring.factors ring.powers).0
-
-pub over-requires-clause-holds : goal.over-requires-clause-holds
-over-requires-clause-holds c =
-    let ring = c.args.self.now in
-    (root_table (λ f. f.value) (λ f. f.quotient) 8 ring.table zeta_suits ring.modulus_is (omega arith) ring.factors ring.powers).1
+    let (suits, holds) = root_table (λ f. f.value) (λ f. f.quotient) 8 ring.table zeta_suits ring.modulus_is (omega arith)
+    ring.factors ring.powers in
+    record { odd = search arith; below = search arith; suits = suits; holds = holds }
 
 pub returns-clause-bits : goal.returns-clause-bits
 returns-clause-bits c =

@@ -1,8 +1,7 @@
-use Rattle.std.proofs.Common.{◌≡◌, ℕ, ◌%◌, ◌<◌, slice_index, ◌∙◌, arith}
+use Rattle.std.proofs.Common.{◌≡◌, ℕ, ◌+◌, ◌*◌, ◌%◌, ◌<◌, slice_index, ◌∙◌, refl, arith}
 use Rattle.std.proofs.Math.Nat.{mod-mod}
-use Rattle.lattice_rings.proofs.Blocks.{AreValues, joined}
-use Rattle.lattice_rings.proofs.Kem.{back_suits, back_inverse}
-use Rattle.lattice_rings.proofs.Kem.{transform_of, values_of_transform, transform_same, before, before_values}
+use Rattle.lattice_rings.proofs.Blocks.{AreValues, joined, preimage, preimage_values}
+use Rattle.lattice_rings.proofs.Kem.{transform_of, values_of_transform, transform_same}
 use Rattle.lattice_rings.proofs.ml_kem.Ring.inverse.Goals as goal
 
 pub join-requires-clause-blocks : goal.join-requires-clause-blocks
@@ -21,7 +20,9 @@ returns-clause-unique c = λ x is. entries c x (values_of_transform x (slice_ind
 pub returns-clause-inverse : goal.returns-clause-inverse
 returns-clause-inverse c =
     let y = slice_index c.args.w.now in
-    let values = before_values y (λ i l. c.requires i 0 (omega arith))
-    (λ v k l. c.transform_laws.ensures.back 3329 2419 289 128 k v back_inverse back_suits l) in
-    transform_same (slice_index c.join.new.xs) (before y) y
-    (λ i l. entries c (before y) values i l ∙ mod-mod _ 3329) (transform_of (before y) y values)
+    let x = preimage 3329 1175 2419 7 2 3303 y in
+    let back = λ (v : ℕ → ℕ) (k : ℕ) (l : k < 128). c.transform_laws.ensures.back 3329 2419 289 128 k v
+    record { below = omega arith; one = refl } record { power_of_two = (7, refl); half_turn = λ l. refl } l in
+    let values = preimage_values 17 1175 289 2419 7 2 3303 y record { same = refl } record { same = refl }
+    record { same = refl } back (λ j i lj li. c.requires (j * 2 + i) 0 (omega arith)) in
+    transform_same (slice_index c.join.new.xs) x y (λ i l. entries c x values i l ∙ mod-mod _ 3329) (transform_of x y values)
