@@ -1,44 +1,34 @@
 -- The numbers of FIPS 203, and its transform as remainders modulo X^2 - c.
-use Rattle.std.proofs.Common.{◌≡◌, ℕ, ◌+◌, ◌*◌, ◌^◌, ◌<◌, refl, sym, ◌∙◌, ap, arith, subst, inl, inr}
+use Rattle.std.proofs.Common.{◌≡◌, ℕ, ◌+◌, ◌*◌, ◌^◌, ◌<◌, refl, sym, arith, subst, inl, inr}
 use Rattle.std.proofs.lemmas.Bool.{cases_eq}
-use Rattle.num_modular.specs.Congruence.{Congruent}
-use Rattle.num_modular.specs.Inverses.{IsInverse}
+use Rattle.std.proofs.Math.Nat.{add-zero}
 use Rattle.num_modular.specs.Orders.{bits_reversed}
-use Rattle.num_modular.specs.Transforms.{Suits, transform}
+use Rattle.num_modular.specs.Transforms.{Suits}
 use Rattle.num_modular.specs.Plans.{constant}
 use Rattle.num_modular.specs.PlanProducts.{product_modulo, AreProducts}
 use Rattle.num_modular.specs.PlanLaws.{product_of_two_low, product_of_two_high}
 use Rattle.lattice_rings.specs.Rings.{IsKemTransform, IsKemProduct}
 use Rattle.lattice_rings.proofs.Blocks.{AreValues, constant_is}
-use Rattle.lattice_rings.proofs.Blocks.{value_same, preimage, preimage_values}
+use Rattle.lattice_rings.proofs.Blocks.{value_same}
 
 -- zeta suits
 pub zeta_suits : Suits 3329 17 256
 zeta_suits = record { power_of_two = (8, refl); half_turn = λ l. refl }
 
+twice : (k : ℕ) → k * 2 ≡ 2 * k
+twice k = omega arith
+
 pub transform_of : (x y : ℕ → ℕ) → AreValues 3329 17 7 2 x y → IsKemTransform x y
 transform_of x y are = record {
-  constant = λ i l.
-      ap y (let e : 2 * i ≡ i * 2 + 0 = omega arith in e) ∙ are.each i 0 l (omega arith)
-      ∙ value_same 3329 128 (17 ^ (2 * bits_reversed 7 i + 1)) (λ k. x (k * 2 + 0)) (λ k. x (2 * k))
-      (λ k _. ap x (let e : k * 2 + 0 ≡ 2 * k = omega arith in e));
-  linear = λ i l.
-      ap y (let e : 2 * i + 1 ≡ i * 2 + 1 = omega arith in e) ∙ are.each i 1 l (omega arith)
-      ∙ value_same 3329 128 (17 ^ (2 * bits_reversed 7 i + 1)) (λ k. x (k * 2 + 1)) (λ k. x (2 * k + 1))
-      (λ k _. ap x (let e : k * 2 + 1 ≡ 2 * k + 1 = omega arith in e));
+  constant = λ i l. simp (twice, add-zero) at (are.each i 0 l (omega arith));
+  linear = λ i l. simp twice at (are.each i 1 l (omega arith));
 }
 
 pub values_of_transform : (x y : ℕ → ℕ) → IsKemTransform x y → AreValues 3329 17 7 2 x y
 values_of_transform x y are = record {
   each = λ j i lj li. elim (cases_eq i 0) [
-    | inl z ↦
-        ap y (let e : j * 2 + i ≡ 2 * j = omega arith in e) ∙ are.constant j lj
-        ∙ value_same 3329 128 (17 ^ (2 * bits_reversed 7 j + 1)) (λ k. x (2 * k)) (λ k. x (k * 2 + i))
-        (λ k _. ap x (let e : 2 * k ≡ k * 2 + i = omega arith in e))
-    | inr n ↦
-        ap y (let e : j * 2 + i ≡ 2 * j + 1 = omega arith in e) ∙ are.linear j lj
-        ∙ value_same 3329 128 (17 ^ (2 * bits_reversed 7 j + 1)) (λ k. x (2 * k + 1)) (λ k. x (k * 2 + i))
-        (λ k _. ap x (let e : 2 * k + 1 ≡ k * 2 + i = omega arith in e))
+    | inl z ↦ simp (z, twice, add-zero) (are.constant j lj)
+    | inr n ↦ let one : i ≡ 1 = omega arith in simp (one, twice) (are.linear j lj)
   ];
 }
 
