@@ -1,7 +1,8 @@
 -- The remainders below block 1 of the tree, in the words of the standards.
 use Rattle.std.proofs.Common.{◌≡◌, ℕ, suc, ◌+◌, ◌-◌, ◌*◌, ◌/◌, ◌%◌, ◌^◌, ◌<◌, ◌≤◌, ◌↔◌}
 use Rattle.std.proofs.Common.{List, length, slice_index, refl, sym, ◌∙◌, ap, arith}
-use Rattle.std.proofs.Math.Nat.{two-pow-succ, mod-eq_of_lt, mod-add-mod, add-mul-mod_self_right, mod-mod, mod-lt, mul-le-mul_right}
+use Rattle.std.proofs.Math.Nat.{two-pow-succ, mod-eq_of_lt, mod-add-mod, add-mul-mod_self_right, mod-mod, mod-lt}
+use Rattle.std.proofs.Math.Nat.{mul-le-mul_right}
 use Rattle.std.proofs.lemmas.Nat.{div-mul-add, mod-mul-add, mul-pow, pow-add, pow_pos}
 use Rattle.std.proofs.lemmas.List.{map-id}
 use Rattle.num_modular.specs.Congruence.{Congruent}
@@ -41,7 +42,8 @@ pub root_table : {F : Type 0} {q g m : ℕ} (value quotient : F → ℕ) (s : �
     → Suits m g (2 * length table) × IsTable 4294967296 m g value quotient table
 root_table {q = q} {g = g} value quotient s table suits is count factors powers =
     let wide : Suits q g (2 * length table) = rw count suits in
-    rw is (wide, table_of 4294967296 q g s value quotient table count wide factors (λ k l. powers k (omega (arith, l, count))))
+    rw is (wide, table_of 4294967296 q g s value quotient table count wide factors
+        (λ k l. powers k (omega (arith, l, count))))
 
 -- the modulus m, the root r and the exponent b of the plan that a ring's calls use, and the number n of blocks
 pub record IsRingPlan (q g s m r b n : ℕ) : Type 0 where
@@ -165,7 +167,8 @@ pub joined : {q g s m r b n : ℕ} (last : ℕ) (x : ℕ → ℕ) (ys zs : List 
     → (i : ℕ) → i < length ys → slice_index zs i ≡ x i % q
 joined {q} {g} {s} {m} last x ys zs ring are known i l =
     let own : AreRemainders q g (suc s) 1 (2 ^ s) last x (λ i. numbers (λ v. v) ys i % m) =
-    simp (map-id, ring.modulus) ((remainders_are_values q g s last x _).1 (own_residues q g s last x (slice_index ys) are)) in
+    simp (map-id, ring.modulus) ((remainders_are_values q g s last x _).1 (own_residues q g s last x (slice_index ys)
+        are)) in
     simp (map-id, ring.modulus) at (known ((by_ring last x (λ i. numbers (λ v. v) ys i % m) ring).1 own) i l)
 
 -- the product in the ring, by a formula
@@ -195,7 +198,8 @@ product_transformed q g s last x y p u v r some size suits product first second 
     ∙ negacyclic _ e _ _ _ _ _ _ some (pow_pos _) twiddles
     ∙ added_to _ (coefficient 256 x y e) (coefficient 256 x y (e + 256)) (p e) (product.below e l) (product.each e l) in
     let room : (1 + 1) * (n / 2) ≤ n = omega arith in
-    let are = (remainders_are_values _ _ _ _ z _).0 (remainders_of_product _ _ _ _ _ _ _ _ _ _ _ _ (s, refl) room twiddles
+    let are = (remainders_are_values _ _ _ _ z _).0 (remainders_of_product _ _ _ _ _ _ _ _ _ _ _ _ (s, refl) room
+        twiddles
     ((remainders_are_values _ _ _ _ _ _).1 first) ((remainders_are_values _ _ _ _ _ _).1 second) products) in
     record {
       each = λ j i lj li.

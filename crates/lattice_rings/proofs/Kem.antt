@@ -1,11 +1,11 @@
 -- The numbers of FIPS 203, and its transform as remainders modulo X^2 - c.
-use Rattle.std.proofs.Common.{◌≡◌, ℕ, ◌+◌, ◌*◌, ◌^◌, ◌<◌, refl, sym, arith, subst, inl, inr}
+use Rattle.std.proofs.Common.{◌≡◌, ◌%◌, ◌∙◌, ap, ℕ, ◌+◌, ◌*◌, ◌^◌, ◌<◌, refl, arith, inl, inr}
 use Rattle.std.proofs.lemmas.Bool.{cases_eq}
 use Rattle.std.proofs.Math.Nat.{add-zero}
 use Rattle.num_modular.specs.Orders.{bits_reversed}
 use Rattle.num_modular.specs.Transforms.{Suits}
 use Rattle.num_modular.specs.Plans.{constant}
-use Rattle.num_modular.specs.PlanProducts.{product_modulo, AreProducts}
+use Rattle.num_modular.specs.PlanProducts.{AreProducts}
 use Rattle.num_modular.specs.PlanLaws.{product_of_two_low, product_of_two_high}
 use Rattle.lattice_rings.specs.Rings.{IsKemTransform, IsKemProduct}
 use Rattle.lattice_rings.proofs.Blocks.{AreValues, constant_is}
@@ -40,17 +40,10 @@ transform_same w x y same are = search (arith, value_same)
 pub products_of_remainders : (u v p : ℕ → ℕ) → IsKemProduct u v p → AreProducts 3329 17 8 1 128 2 u v p
 products_of_remainders u v p are = record {
   each = λ j i lj li.
-      let c = 17 ^ (2 * bits_reversed 7 j + 1) in
-      let e : 2 * j ≡ j * 2 + 0 = omega arith in
-      let f : 2 * j + 1 ≡ j * 2 + 1 = omega arith in
-      let x = λ (k : ℕ). u (j * 2 + k) in
-      let y = λ (k : ℕ). v (j * 2 + k) in
-      let k = constant 17 8 (1 * 128 + j) in
-      let low : p (j * 2 + 0) ≡ product_modulo 3329 2 k x y 0 = search (arith, constant_is, product_of_two_low) in
-      let high : p (j * 2 + 1) ≡ product_modulo 3329 2 k x y 1 = search (arith, product_of_two_high) in
+      let k = constant 17 8 (1 * 128 + j) in let c : k ≡ 17 ^ (2 * bits_reversed 7 j + 1) = constant_is 17 7 j lj in
       elim (cases_eq i 0) [
-        | inl z ↦ subst (λ n. p (j * 2 + n) ≡ product_modulo 3329 2 k x y n) (sym z) low
-        | inr n ↦
-            subst (λ n. p (j * 2 + n) ≡ product_modulo 3329 2 k x y n) (let o : 1 ≡ i = omega arith in o) high
+        | inl z ↦ simp (z, twice, add-zero, product_of_two_low, c) (are.constant j lj
+            ∙ ap (λ n. n % 3329) (omega arith))
+        | inr n ↦ let one : i ≡ 1 = omega arith in simp (one, twice, add-zero, product_of_two_high) (are.linear j lj)
       ];
 }

@@ -25,4 +25,5 @@ returns-clause-inverse c =
     record { below = omega arith; one = refl } record { power_of_two = (8, refl); half_turn = λ l. refl } l in
     let values = preimage_values 1753 731434 3073009 6635910 8 1 8347681 y record { same = refl } record { same = refl }
     record { same = refl } back (λ j i lj li. c.requires (j * 1 + i) 0 (omega arith)) in
-    transform_same (slice_index c.join.new.xs) x y (λ i l. entries c x values i l ∙ mod-mod _ 8380417) (transform_of x y values)
+    transform_same (slice_index c.join.new.xs) x y (λ i l. entries c x values i l ∙ mod-mod _ 8380417)
+        (transform_of x y values)

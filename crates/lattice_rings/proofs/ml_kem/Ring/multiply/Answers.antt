@@ -5,4 +5,5 @@ use Rattle.lattice_rings.proofs.ml_kem.Ring.multiply.Goals as goal
 
 pub returns-clause-product : goal.returns-clause-product
 returns-clause-product c =
-    grind (arith, slice_index, transform_of, product_transformed, zeta_suits, values_of_transform, products_of_remainders)
+    grind (arith, slice_index, transform_of, product_transformed, zeta_suits, values_of_transform,
+        products_of_remainders)
