@@ -1,6 +1,7 @@
--- Runs of one list of commands modulo each modulus of a system, up to the first command whose inverse doesn't exist modulo
--- one of them.
-use Rattle.std.proofs.Common.{◌≡◌, ℕ, zero, suc, ◌+◌, ◌-◌, ◌*◌, ◌%◌, ◌<◌, ◌≤◌, ◌↔◌, List, [], ◌∷◌, length, map, take, drop, All}
+-- Runs of one list of commands modulo each modulus of a system, up to the first command whose inverse doesn't exist
+-- modulo one of them.
+use Rattle.std.proofs.Common.{◌≡◌, ℕ, zero, suc, ◌+◌, ◌-◌, ◌*◌, ◌%◌, ◌<◌, ◌≤◌, ◌↔◌, List, [], ◌∷◌, length, map, take}
+use Rattle.std.proofs.Common.{drop, All}
 use Rattle.std.proofs.Common.{get_or, sym, ap, subst, ◌∙◌, refl, arith, below_more, inl, inr}
 use Rattle.std.specs.List.{slice_get}
 use Rattle.std.proofs.Math.Path.{fun_ext}
@@ -45,7 +46,8 @@ pub value_prefix : (m : ℕ) (start : List ℕ) (commands : List (RingCommand �
     → (r : ℕ) → value_at m start (take k commands) i r ≡ value_at m start commands i r
 value_prefix m start commands k zero h r = refl
 value_prefix m start commands k (suc i) h r =
-    ap (λ v. value_after m v (slice_get (take k commands) i) r) (fun_ext (value_prefix m start commands k i (omega (arith, h))))
+    ap (λ v. value_after m v (slice_get (take k commands) i) r)
+        (fun_ext (value_prefix m start commands k i (omega (arith, h))))
     ∙ ap (λ o. value_after m (value_at m start commands i) o r) (read_prefix commands k i (omega (arith, h)))
 
 lacks_prefix : (m : ℕ) (start : List ℕ) (commands : List (RingCommand ℕ)) (k i : ℕ) → i < k
@@ -74,7 +76,8 @@ pub other_place : (n r q i j : ℕ) → i < n → j < n → r * n + i ≡ q * n 
 other_place n r q i j h k e = sym (mod-mul-add r n i h) ∙ ap (λ a. a % n) e ∙ mod-mul-add q n j k
 
 -- a word of a register
-pub register_word : (n : ℕ) (words : List ℕ) (r i : ℕ) → i < n → get_or (register n words r) i 0 ≡ get_or words (r * n + i) 0
+pub register_word : (n : ℕ) (words : List ℕ) (r i : ℕ) → i < n → get_or (register n words r) i 0 ≡ get_or words
+    (r * n + i) 0
 register_word n words r i h =
     get_or-take (r * n + n - r * n) (drop (r * n) words) i 0 (omega (arith, h)) ∙ get_or-drop (r * n) words i 0
 
@@ -83,37 +86,29 @@ pub all_of_each : (P : ℕ → Type 0) (xs : List ℕ) → ((i : ℕ) → i < le
 all_of_each P xs each i d h = subst P (sym (get_or_default_zero xs i d h)) (each i h)
 
 -- the end of a run tells what it carried out
-pub record IsCarriedBy (m : ℕ) (start : List ℕ) (commands : List (RingCommand ℕ)) (end : RunEnd) (count done : ℕ)
-    : Type 0 where
-  pub carried : IsCarriedOut m start commands count done
-  pub most : done ≤ count
-  pub same : carried_out end commands ≡ done
-
 pub carried_by_end : (m : ℕ) (start : List ℕ) (commands : List (RingCommand ℕ)) (end : RunEnd) (count done : ℕ)
     → length commands ≡ count → ((at : ℕ) → (end ≡ NoInverse at) ↔ IsStop m start commands at)
     → ((end ≡ Done) ↔ ((at : ℕ) → IsStop m start commands at → ⊥)) → (end ≡ Done → done ≡ count)
-    → ((at : ℕ) → end ≡ NoInverse at → done ≡ at) → IsCarriedBy m start commands end count done
+    → ((at : ℕ) → end ≡ NoInverse at → done ≡ at) 
+    → IsCarriedOut m start commands count done × (done ≤ count) × (carried_out end commands ≡ done)
 carried_by_end m start commands Done count done long stops never all stopped =
-    let e = all refl in record {
-      carried = record { before = none_lacks m start commands (never.0 refl) done; next = λ h. absurd (omega (arith, h, e)) };
-      most = omega (arith, e);
-      same = long ∙ sym e;
-    }
+    let e = all refl in (
+      record { before = none_lacks m start commands (never.0 refl) done; next = λ h. absurd (omega (arith, h, e)) },
+      omega (arith, e),
+      long ∙ sym e,
+    )
 carried_by_end m start commands (NoInverse at) count done long stops never all stopped =
     let stop = (stops at).0 refl in let within = lacks_within m start commands at stop.lacks in grind arith
-
--- a place is one, or it is another
-at_or_not : (P : ℕ → Type 0) (i place : ℕ) → P place → ((i ≡ place → ⊥) → P i) → P i
-at_or_not P i place at not = elim (cases_eq i place) [ inl e ↦ subst P (sym e) at | inr other ↦ not other ]
 
 -- a column changes the words at its place alone
 abbrev pub IsKept : List ℕ → List ℕ → List ℕ → List ℕ → ℕ → Type 0
 IsKept moduli start before after place = (r i : ℕ) → r < length start → i < length moduli → (i ≡ place → ⊥)
     → get_or after (r * length moduli + i) 0 ≡ get_or before (r * length moduli + i) 0
 
--- as many commands as can be carried out modulo each of the moduli before a place; the registers hold the values there from
--- the place `again` on
-pub record AreRunBefore (moduli start : List ℕ) (commands : List (RingCommand ℕ)) (registers : List ℕ) (done again place : ℕ)
+-- as many commands as can be carried out modulo each of the moduli before a place; the registers hold the values there
+-- from the place `again` on
+pub record AreRunBefore (moduli start : List ℕ) (commands : List (RingCommand ℕ)) (registers : List ℕ)
+    (done again place : ℕ)
     : Type 0 where
   pub each : (i : ℕ) → i < place → NoneLacks (get_or moduli i 0) (starts (get_or moduli i 0) start) commands done
   pub next : done < length commands → (i : ℕ) × (i < place)
@@ -135,9 +130,10 @@ more_run moduli start commands before after count done again next place was here
         | inr same ↦
             let e : count ≡ done = omega (arith, same, most) in
             let (i, l, lacks) = was.next (omega (arith, h, e)) in
-            (i, omega (arith, l), subst (LacksInverseAt (get_or moduli i 0) (starts (get_or moduli i 0) start) commands) e lacks)
+            (i, omega (arith, l), subst (LacksInverseAt (get_or moduli i 0) (starts (get_or moduli i 0) start) commands)
+                e lacks)
       ];
-      values = λ r i h from to. grind (arith, at_or_not, cases_lt);
+      values = λ r i h from to. grind (arith, cases_eq, cases_lt);
     }
 
 -- the registers hold the values at all places but those from a place to before `again`
@@ -145,12 +141,14 @@ abbrev pub HoldBut : List ℕ → List ℕ → List (RingCommand ℕ) → List �
 HoldBut moduli start commands registers done again place = (r i : ℕ) → r < length start → i < length moduli
     → (place ≤ i → again ≤ i) → get_or registers (r * length moduli + i) 0 ≡ value_modulo moduli i start commands done r
 
-pub more_again : (moduli start : List ℕ) (commands : List (RingCommand ℕ)) (before after : List ℕ) (count done again place : ℕ)
+pub more_again : (moduli start : List ℕ) (commands : List (RingCommand ℕ)) (before after : List ℕ)
+    (count done again place : ℕ)
     → HoldBut moduli start commands before count again place → IsColumnRun moduli place start commands count after done
-    → IsKept moduli start before after place → done ≤ count → NoneLacks (get_or moduli place 0) (starts (get_or moduli place 0) start) commands count
+    → IsKept moduli start before after place → done ≤ count
+    → NoneLacks (get_or moduli place 0) (starts (get_or moduli place 0) start) commands count
     → HoldBut moduli start commands after count again (place + 1)
 more_again moduli start commands before after count done again place was here kept most none r i h within side =
-    search (arith, cases_lt, at_or_not)
+    grind (arith, cases_eq)
 
 -- where a run ends that carries so many commands out
 pub record IsEnd (m : ℕ) (start : List ℕ) (commands : List (RingCommand ℕ)) (end : RunEnd) (done : ℕ) : Type 0 where
@@ -158,7 +156,8 @@ pub record IsEnd (m : ℕ) (start : List ℕ) (commands : List (RingCommand ℕ)
   pub never : (end ≡ Done) ↔ ((at : ℕ) → IsStop m start commands at → ⊥)
   pub same : carried_out end commands ≡ done
 
-pub end_of_run : {C : Type 0} (f : C → RingCommand ℕ) (commands : List C) (m : ℕ) (start : List ℕ) (end : RunEnd) (done : ℕ)
+pub end_of_run : {C : Type 0} (f : C → RingCommand ℕ) (commands : List C) (m : ℕ) (start : List ℕ) (end : RunEnd)
+    (done : ℕ)
     → IsCarriedOut m start (map f commands) (length (map f commands)) done → done ≤ length commands
     → (done ≡ length commands → end ≡ Done) → (done < length commands → end ≡ NoInverse done)
     → IsEnd m start (map f commands) end done
@@ -168,6 +167,7 @@ end_of_run f commands m start end done is most all part =
       | inr other ↦
           let e : done ≡ length commands = omega (arith, most, other) in
           let none : (at : ℕ) → IsStop m start (map f commands) at → ⊥ =
-          λ at stop. is.before at (omega (arith, lacks_within m start (map f commands) at stop.lacks, length-map commands f, e)) stop.lacks in
+          λ at stop. is.before at (omega (arith, lacks_within m start (map f commands) at stop.lacks, length-map
+              commands f, e)) stop.lacks in
           grind (arith, length-map, all e)
     ]

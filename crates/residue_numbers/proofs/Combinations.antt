@@ -1,6 +1,7 @@
 -- Numbers with two remainders, for moduli m = g·u and n = g·v whose greatest common divisor is g.
 use Rattle.std.proofs.Common.{◌≡◌, ℕ, ◌+◌, ◌*◌, ◌/◌, ◌%◌, ◌<◌, ◌≤◌, ◌↔◌, arith, sym, ap, ◌∙◌}
-use Rattle.std.proofs.Math.Nat.{mod-lt, div-add-mod, add-mul-mod_self_left, mod-eq_of_lt, mod-zero, mod-mod, mul-mod_right}
+use Rattle.std.proofs.Math.Nat.{mod-lt, div-add-mod, add-mul-mod_self_left, mod-eq_of_lt, mod-zero, mod-mod}
+use Rattle.std.proofs.Math.Nat.{mul-mod_right}
 use Rattle.std.proofs.Math.Nat.{mul-le-mul_left}
 use Rattle.std.specs.Int.{IsGcd}
 use Rattle.std.proofs.lemmas.Nat.Gcd.{le_of_dvd, dvd_of_mod-eq-zero, mod-eq-zero_of_dvd}
@@ -19,9 +20,7 @@ Quotients = (m a b c j : ℕ) → Congruent m (c * j) 1 → Congruent m (a * c) 
 
 -- what is congruent modulo a multiple of g is congruent modulo g
 to_divisor : (g q n a b : ℕ) → n ≡ g * q → a % n ≡ b % n → a % g ≡ b % g
-to_divisor g q n a b e h =
-    sym (ap (λ k. a % k % g) e ∙ mod_of_multiple g q a) ∙ ap (λ w. w % g) h
-    ∙ (ap (λ k. b % k % g) e ∙ mod_of_multiple g q b)
+to_divisor g q n a b e h = sym (mod_of_multiple g q a) ∙ ap (λ w. w % g) (rw e at h) ∙ mod_of_multiple g q b
 
 -- a divisor of a positive number is positive
 positive_divisor : (d n : ℕ) → 0 < n → n % d ≡ 0 → 0 < d
@@ -29,7 +28,8 @@ positive_divisor d n above divides = search (arith, cases_lt, mod-zero)
 
 -- the greatest common divisor that Euclid's algorithm leaves
 pub euclid_is : (m n d g : ℕ) → 0 < n → IsGcd m n d → IsGreatestCommonDivisor m n g → d ≡ g
-euclid_is m n d g above is greatest = search (arith, mod-eq-zero_of_dvd, le_of_dvd, positive_divisor, dvd_of_mod-eq-zero)
+euclid_is m n d g above is greatest =
+    search (arith, mod-eq-zero_of_dvd, le_of_dvd, positive_divisor, dvd_of_mod-eq-zero)
 
 -- a common divisor d of the parts makes g·d one of the numbers
 at_most_one : (g d : ℕ) → 0 < g → g * d ≤ g → 0 < d → d ≡ 1
@@ -55,7 +55,8 @@ parts_of m n g above greatest =
       second = second;
       step = step;
       coprime = record { only_one = λ d h k. at_most_one g d positive (greatest.greatest (g * d)
-          (multiple_of_both g d m (m / g) first h) (multiple_of_both g d n (n / g) second k)) (positive_divisor d (n / g) step k) };
+          (multiple_of_both g d m (m / g) first h) (multiple_of_both g d n (n / g) second k))
+              (positive_divisor d (n / g) step k) };
     }
 
 -- a factor of both numbers and of the modulus
@@ -79,7 +80,8 @@ module _ (m n g u v : ℕ) (m_is : m ≡ g * u) (n_is : n ≡ g * v) where
 
   module _ (quotients : Quotients) (positive : 0 < g) (unit : HasInverse v u) where
     -- and the only one below m·v
-    only_one : (a b t y : ℕ) → a < m → t < v → (a + m * t) % n ≡ b % n → y % m ≡ a → y % n ≡ b % n → y % (m * v) ≡ a + m * t
+    only_one : (a b t y : ℕ) → a < m → t < v → (a + m * t) % n ≡ b % n → y % m ≡ a → y % n ≡ b % n
+        → y % (m * v) ≡ a + m * t
     only_one a b t y a_below t_below is first second =
         let q : ℕ = y / m in let x = a + m * t in
         let e = ap (λ w. w * q) m_is in let f = ap (λ w. w * t) m_is in
@@ -89,10 +91,12 @@ module _ (m n g u v : ℕ) (m_is : m ≡ g * u) (n_is : n ≡ g * v) where
           same = ap (λ w. w % n) y_is ∙ second ∙ sym is ∙ ap (λ w. w % n) x_is;
         } in
         let steps = unscaled g v (q * u) (t * u) positive (rw n_is at same.same) in
-        let digit = (quotients v q t u unit.0 record { same = unit.1.one } record { same = steps }).same ∙ mod-eq_of_lt t_below in
+        let digit = (quotients v q t u unit.0 record { same = unit.1.one } record { same = steps }).same
+            ∙ mod-eq_of_lt t_below in
         let along : m * (v * (q / v) + t) ≡ m * q = ap (λ w. m * w) (omega (arith, digit)) in
         let sum : y ≡ x + m * v * (q / v) = omega (arith, y_is, e, along) in
-        ap (λ k. k % (m * v)) sum ∙ add-mul-mod_self_left x (m * v) (q / v) ∙ mod-eq_of_lt (within m v a t a_below t_below)
+        ap (λ k. k % (m * v)) sum ∙ add-mul-mod_self_left x (m * v) (q / v)
+            ∙ mod-eq_of_lt (within m v a t a_below t_below)
 
     -- the least common multiple
     multiple_is : 0 < m → 0 < v → IsLeastCommonMultiple m n (m * v)
@@ -120,7 +124,8 @@ combined quotients m n g a b s t parts above unit divides steps below difference
       multiple = multiple_is m n g u v parts.first parts.second quotients parts.positive unit above parts.step;
       below = within m v (a % m) t reduced below;
       common = record { first = add-mul-mod_self_left (a % m) m t ∙ mod-mod a m; second = is };
-      only = λ y common. only_one m n g u v parts.first parts.second quotients parts.positive unit (a % m) b t y reduced below is
+      only = λ y common. only_one m n g u v parts.first parts.second quotients parts.positive unit (a % m) b t y reduced
+          below is
           common.first common.second;
     }
 
@@ -132,7 +137,8 @@ adds_nothing g s w = let none : 0 ≡ 0 % g = omega arith in (
 )
 
 -- g divides the difference s exactly where a and b are congruent modulo g
-pub divides_exactly : (m n g k a b s : ℕ) → g ≡ k → AreParts m n g → (s + a % m) % n ≡ b % n → (s % g ≡ 0) ↔ (a % k ≡ b % k)
+pub divides_exactly : (m n g k a b s : ℕ) → g ≡ k → AreParts m n g → (s + a % m) % n ≡ b % n
+    → (s % g ≡ 0) ↔ (a % k ≡ b % k)
 divides_exactly m n g k a b s same parts difference = rw (← same) (
     let reduced : a % m % g ≡ a % g = to_divisor g (m / g) m (a % m) a parts.first (mod-mod a m) in
     let sum : (s + a % m) % g ≡ b % g = to_divisor g (n / g) n (s + a % m) b parts.second difference in

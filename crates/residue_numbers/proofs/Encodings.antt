@@ -21,7 +21,8 @@ pub remainder_within : {range m : ℕ} → IsFactor range m → (a : ℕ) → a 
 remainder_within {range} {m} f a = ap (λ k. a % k % m) f.is ∙ mod_of_multiple m f.times a
 
 -- the sum, the product and the difference of residues are the residues of those modulo the range
-pub sum_within : {range m : ℕ} → IsFactor range m → (x y a b : ℕ) → x % m ≡ a → y % m ≡ b → (a + b) % m ≡ (x + y) % range % m
+pub sum_within : {range m : ℕ} → IsFactor range m → (x y a b : ℕ) → x % m ≡ a → y % m ≡ b
+    → (a + b) % m ≡ (x + y) % range % m
 sum_within f x y a b p q = search (arith, mod-add-mod, add-mod-mod, remainder_within)
 
 pub product_within : {range m : ℕ} → IsFactor range m → (x y a b : ℕ) → x % m ≡ a → y % m ≡ b

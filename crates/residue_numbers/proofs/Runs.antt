@@ -13,7 +13,8 @@ use Rattle.num_modular.specs.Inverses.{IsInverse, IsInversion, HasInverse, inver
 use Rattle.num_modular.specs.Residues.{residue}
 use Rattle.num_modular.specs.declared.ring.RingCommand.{RingCommand}
 use Rattle.num_modular.specs.declared.ring.RingCommand.TheVariants.{Load, Add, Sub, Mul, Neg, Dbl, Sqr, Inv, Div, Pow}
-use Rattle.num_modular.specs.Ring.{destination_of, outcome, value_after, value_at, inverted_by, LacksInverse, LacksInverseAt}
+use Rattle.num_modular.specs.Ring.{destination_of, outcome, value_after, value_at, inverted_by, LacksInverse}
+use Rattle.num_modular.specs.Ring.{LacksInverseAt}
 use Rattle.num_modular.specs.Systems.{range_of}
 use Rattle.num_modular.specs.NumberLaws.{Coprime-swap, inverse_mod, inverse_from_mod}
 use Rattle.num_modular.specs.ProductLaws.{has_product}
@@ -31,12 +32,8 @@ pub record Laws : Type 0 where
 abbrev pub starts : ℕ → List ℕ → List ℕ
 starts m numbers = map (λ n. n % m) numbers
 
-start_residue : (m : ℕ) (numbers : List ℕ) → 0 < m → (r : ℕ) → get_or numbers r 0 % m ≡ get_or (starts m numbers) r 0
-start_residue m numbers positive r =
-    sym (subst (λ d. get_or (starts m numbers) r d ≡ get_or numbers r 0 % m) (mod-eq_of_lt positive)
-    (get_or-map (λ n. n % m) numbers r 0))
-
-inverse_within : {range m : ℕ} → IsFactor range m → (x a i : ℕ) → x % m ≡ a → IsInverse range x i → IsInverse m a (i % m)
+inverse_within : {range m : ℕ} → IsFactor range m → (x a i : ℕ) → x % m ≡ a → IsInverse range x i
+    → IsInverse m a (i % m)
 inverse_within {m = m} f x a i p inverse = record {
   below = mod-lt i f.positive;
   one = product_within f x i a (i % m) p refl ∙ ap (λ n. n % m) inverse.one ∙ remainder_within f 1;
@@ -52,7 +49,8 @@ some_and None to h = h
 some_and (Some x) to h = to x h
 
 none_of_each : {X : Type 0} {n : ℕ} {P : X → Type 0} {Q : ℕ → X → Type 0} (o : Option X)
-    → ((x : X) → ((i : ℕ) → i < n → Q i x → ⊥) → P x → ⊥) → ((i : ℕ) → i < n → IsSomeAnd o (Q i) → ⊥) → IsSomeAnd o P → ⊥
+    → ((x : X) → ((i : ℕ) → i < n → Q i x → ⊥) → P x → ⊥) → ((i : ℕ) → i < n → IsSomeAnd o (Q i) → ⊥) → IsSomeAnd o P
+    → ⊥
 none_of_each None from each h = h
 none_of_each (Some x) from each h = from x each h
 
@@ -74,7 +72,8 @@ module _ (laws : Laws) {range m : ℕ} (f : IsFactor range m) where
 
   -- the result of a command modulo the range is congruent to that modulo m, where the inverse that it needs exists
   outcome_within : (V v : ℕ → ℕ) → ((r : ℕ) → V r % m ≡ v r) → (command : RingCommand ℕ)
-      → (LacksInverse range V command → ⊥) → IsSomeAnd (outcome range V command) (λ w. outcome m v command ≡ Some (w % m))
+      → (LacksInverse range V command → ⊥) → IsSomeAnd (outcome range V command) (λ w. outcome m v command ≡ Some
+      (w % m))
   outcome_within V v same (Load dst n) unit = ap Some (sym (remainder_within f n))
   outcome_within V v same (Add dst a b) unit = ap Some (sum_within f (V a) (V b) (v a) (v b) (same a) (same b))
   outcome_within V v same (Sub dst a b) unit = ap Some (difference_within f (V a) (V b) (v a) (v b) (same a) (same b))
@@ -100,10 +99,13 @@ module _ (laws : Laws) {range m : ℕ} (f : IsFactor range m) where
   -- so the values modulo the range leave the values modulo m, as long as each inverse is there modulo the range
   pub values_within : (start : List ℕ) (commands : List (RingCommand ℕ)) (i : ℕ) → NoneLacks range start commands i
       → (r : ℕ) → value_at range start commands i r % m ≡ value_at m (starts m start) commands i r
-  values_within start commands zero unit r = start_residue m start f.positive r
+  values_within start commands zero unit r =
+      sym (subst (λ d. get_or (starts m start) r d ≡ get_or start r 0 % m) (mod-eq_of_lt f.positive)
+      (get_or-map (λ n. n % m) start r 0))
   values_within start commands (suc i) unit r =
       after_within (value_at range start commands i) (value_at m (starts m start) commands i)
-      (values_within start commands i (λ j h. unit j (omega (arith, h)))) (slice_get commands i) (unit i (omega arith)) r
+      (values_within start commands i (λ j h. unit j (omega (arith, h)))) (slice_get commands i) (unit i (omega arith))
+          r
 
   -- an inverse that doesn't exist modulo a factor of the range doesn't exist modulo the range
   pub lacks_above : (V v : ℕ → ℕ) → ((r : ℕ) → V r % m ≡ v r) → (read : Option (RingCommand ℕ))
@@ -113,7 +115,8 @@ module _ (laws : Laws) {range m : ℕ} (f : IsFactor range m) where
 
 module _ (laws : Laws) where
   inverse_swapped : (m a : ℕ) → 0 < m → 0 < a → HasInverse m a → HasInverse a m
-  inverse_swapped m a positive above unit = (laws.coprime a m above).1 (Coprime-swap _ _ ((laws.coprime m a positive).0 unit))
+  inverse_swapped m a positive above unit =
+      (laws.coprime a m above).1 (Coprime-swap _ _ ((laws.coprime m a positive).0 unit))
 
   -- a number whose residues have inverses modulo each modulus has one modulo their product
   unit_above : (moduli : List ℕ) (a : ℕ) → 0 < a → ArePositive moduli
@@ -121,14 +124,17 @@ module _ (laws : Laws) where
   unit_above moduli a above positive each = search (arith, inverse_swapped, has_product, range_positive)
 
   unit_of_product : (moduli : List ℕ) (a : ℕ) → ArePositive moduli
-      → ((i : ℕ) → i < length moduli → HasInverse (get_or moduli i 0) (a % get_or moduli i 0)) → HasInverse (range_of moduli) a
+      → ((i : ℕ) → i < length moduli → HasInverse (get_or moduli i 0) (a % get_or moduli i 0))
+      → HasInverse (range_of moduli) a
   unit_of_product moduli a positive each =
       let range = range_of moduli in let b = a + range * 1 in
       let one : range ≡ range * 1 = omega arith in
-      let (x, unit) = unit_above moduli b (let wide = range_positive moduli positive in omega (arith, wide)) positive (λ i h.
+      let (x, unit) = unit_above moduli b (let wide = range_positive moduli positive in
+      omega (arith, wide)) positive (λ i h.
       let m = get_or moduli i 0 in let (k, e) = divides (length moduli) i moduli h in let (y, is) = each i h in
       (y, inverse_from_mod m b y (subst (λ c. IsInverse m c y) (sym (keeps range m k a 1 e)) is))) in
-      (x, inverse_from_mod range a x (subst (λ c. IsInverse range c x) (keeps range range 1 a 1 one) (inverse_mod range b x unit)))
+      (x, inverse_from_mod range a x (subst (λ c. IsInverse range c x) (keeps range range 1 a 1 one)
+          (inverse_mod range b x unit)))
 
   -- an inverse that isn't missing exists
   inverse_exists : (m a : ℕ) (o : Option ℕ) → IsInversion (λ x. x) m a o → ((HasInverse m a → ⊥) → ⊥) → HasInverse m a
@@ -143,9 +149,11 @@ module _ (laws : Laws) where
       let before = none_lacks_above moduli start commands positive done (λ i l k b. each i l k (omega (arith, b))) in
       elim (cases_lt at done) [
         | inl l ↦ before at l lacks
-        | inr other ↦ none_of_each (slice_get commands at) (λ command. none_of_each (inverted_by command) (λ r units none.
+        | inr other ↦ none_of_each (slice_get commands at) (λ command. none_of_each (inverted_by command)
+            (λ r units none.
             none (unit_of_product moduli (value_at (range_of moduli) start commands at r) positive (λ i l.
-            subst (HasInverse (get_or moduli i 0)) (sym (values_within laws (modulus_is_factor moduli positive i l) start commands at
+            subst (HasInverse (get_or moduli i 0)) (sym (values_within laws (modulus_is_factor moduli positive i l)
+                start commands at
             (λ k b. before k (omega (arith, b, h))) r)) (inverse_exists _ _ _ (laws.named _ _) (units i l))))))
             (λ i l. each i l at h) lacks
       ]

@@ -15,8 +15,8 @@ use Rattle.std.specs.Ordering.{MatchOrdering}
 use Rattle.std.specs.declared.cmp.Ordering.{Ordering}
 use Rattle.residue_numbers.specs.Signs.{signed_number}
 
--- below the digits from `place` on, which are the halves of odd moduli, the next digit tells the half of the range, or that it
--- is a half too
+-- below the digits from `place` on, which are the halves of odd moduli, the next digit tells the half of the range, or
+-- that it is a half too
 pub digit_tells : (ms ds : List ℕ) (place next : ℕ) → AreDigits ms ds → place ≤ length ms → place ≡ next + 1
     → 2 * mixed_number ms ds + range_below place ms ≡ 2 * mixed_below place ms ds + range_of ms
     → (get_or ms next 0 ≤ 2 * get_or ds next 0 → range_of ms ≤ 2 * mixed_number ms ds)
@@ -60,7 +60,8 @@ same_bool : (l r : Bool) → beq l r ≡ true → l ≡ r
 same_bool l r e = grind arith
 
 -- a sign by the half of the range
-pub sign_is : (b : Bool) (range x : ℕ) → x < range → IsTrue b ↔ (range ≤ 2 * x) → IsTrue b ↔ (signed_number range x <ℤ pos 0)
+pub sign_is : (b : Bool) (range x : ℕ) → x < range → IsTrue b ↔ (range ≤ 2 * x)
+    → IsTrue b ↔ (signed_number range x <ℤ pos 0)
 sign_is b range x h is = (λ t. negative_high range x h (is.0 t), λ negative. is.1 (high_of_negative range x negative))
 
 low_of_other : (range x : ℕ) → x < range → (signed_number range x <ℤ pos 0 → ⊥) → 2 * x < range

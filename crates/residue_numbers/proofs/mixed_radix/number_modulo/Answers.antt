@@ -13,7 +13,8 @@ digits-preserved c =
       within = omega (arith, c.digits.invariant.within);
       above = (
         high * get_or ms next 0 + get_or ds next 0,
-        weighted_lower c.args.count place next high _ (λ i. range_below i ms) ds one (range_more ms place next one) whole,
+        weighted_lower c.args.count place next high _ (λ i. range_below i ms) ds one (range_more ms place next one)
+            whole,
         c.addm-number.ensures ∙ one_lower_modulo _ c.digits.number high _ _ c.mulm.result number c.mulm.ensures,
       );
     }
@@ -22,5 +23,6 @@ pub returns : goal.returns
 returns c =
     let ms : List ℕ = c.args.moduli.now in
     let (high, whole, number) = c.digits.invariant.above in
-    number ∙ ap (λ k. k % c.args.m) (weighted_lowest c.args.count c.digits.place high (λ i. range_below i ms) c.args.digits.now
+    number ∙ ap (λ k. k % c.args.m) (weighted_lowest c.args.count c.digits.place high (λ i. range_below i ms)
+        c.args.digits.now
     (omega arith) (product-zero (slice_index ms)) whole)

@@ -3,8 +3,8 @@ use Rattle.num_modular.specs.Systems.{range_below, range_of}
 use Rattle.residue_numbers.specs.MixedRadix.{mixed_below, mixed_number}
 use Rattle.residue_numbers.proofs.mixed_radix.System.is_negative.Given as goal
 
--- the digits from here on are the halves of odd moduli: twice the number is the range, less the product of the moduli before,
--- and twice the number of the digits before
+-- the digits from here on are the halves of odd moduli: twice the number is the range, less the product of the moduli
+-- before, and twice the number of the digits before
 abbrev pub invariant-digits : goal.invariant-digits
 invariant-digits l = let ms = l.self.moduli.now in record {
   within : l.place ≤ length ms;
