@@ -16,7 +16,7 @@ use Rattle.num_modular.specs.declared.ring.RunEnd.{RunEnd}
 use Rattle.num_modular.specs.declared.ring.RunEnd.TheVariants.{Done, NoInverse}
 use Rattle.num_modular.specs.Ring.{whole, value_after, value_at, LacksInverseAt, IsStop, carried_out}
 use Rattle.residue_numbers.specs.Registers.{register, IsCarriedOut, IsColumnRun, value_modulo}
-use Rattle.residue_numbers.proofs.Runs.{NoneLacks, starts}
+use Rattle.residue_numbers.proofs.Runs.{NoneLacks, start_residues}
 
 -- a command over whole numbers
 abbrev pub over_whole : {C : Type 0} → (C → RingCommand ℕ) → C → RingCommand ℕ
@@ -62,11 +62,13 @@ carried_prefix m start commands k done most carried = record {
 }
 
 -- where a run has no stop, no command lacks its inverse
-none_lacks : (m : ℕ) (start : List ℕ) (commands : List (RingCommand ℕ)) → ((at : ℕ) → IsStop m start commands at → ⊥)
+none_lacks_unstopped : (m : ℕ) (start : List ℕ) (commands : List (RingCommand ℕ))
+    → ((at : ℕ) → IsStop m start commands at → ⊥)
     → (n : ℕ) → NoneLacks m start commands n
-none_lacks m start commands never zero at h lacks = omega (arith, h)
-none_lacks m start commands never (suc n) at h lacks =
-    never at record { lacks = lacks; first = λ j l. none_lacks m start commands never n j (omega (arith, h, l)) }
+none_lacks_unstopped m start commands never zero at h lacks = omega (arith, h)
+none_lacks_unstopped m start commands never (suc n) at h lacks =
+    never at record { lacks = lacks; first = λ j l. none_lacks_unstopped m start commands never n j
+        (omega (arith, h, l)) }
 
 -- places of a list of registers, of n words each
 pub place_within : (count n r i : ℕ) → r < count → i < n → r * n + i < count * n
@@ -93,7 +95,8 @@ pub carried_by_end : (m : ℕ) (start : List ℕ) (commands : List (RingCommand 
     → IsCarriedOut m start commands count done × (done ≤ count) × (carried_out end commands ≡ done)
 carried_by_end m start commands Done count done long stops never all stopped =
     let e = all refl in (
-      record { before = none_lacks m start commands (never.0 refl) done; next = λ h. absurd (omega (arith, h, e)) },
+      record { before = none_lacks_unstopped m start commands (never.0 refl) done; next = λ h. absurd
+          (omega (arith, h, e)) },
       omega (arith, e),
       long ∙ sym e,
     )
@@ -110,9 +113,10 @@ IsKept moduli start before after place = (r i : ℕ) → r < length start → i 
 pub record AreRunBefore (moduli start : List ℕ) (commands : List (RingCommand ℕ)) (registers : List ℕ)
     (done again place : ℕ)
     : Type 0 where
-  pub each : (i : ℕ) → i < place → NoneLacks (get_or moduli i 0) (starts (get_or moduli i 0) start) commands done
+  pub each : (i : ℕ) → i < place → NoneLacks (get_or moduli i 0) (start_residues (get_or moduli i 0) start) commands
+      done
   pub next : done < length commands → (i : ℕ) × (i < place)
-      × LacksInverseAt (get_or moduli i 0) (starts (get_or moduli i 0) start) commands done
+      × LacksInverseAt (get_or moduli i 0) (start_residues (get_or moduli i 0) start) commands done
   pub values : (r i : ℕ) → r < length start → again ≤ i → i < place
       → get_or registers (r * length moduli + i) 0 ≡ value_modulo moduli i start commands done r
 
@@ -123,14 +127,16 @@ pub more_run : (moduli start : List ℕ) (commands : List (RingCommand ℕ)) (be
     → AreRunBefore moduli start commands after done next (place + 1)
 more_run moduli start commands before after count done again next place was here kept most inside less all =
     record {
-      each = below_more (λ i. NoneLacks (get_or moduli i 0) (starts (get_or moduli i 0) start) commands done) place
+      each = below_more (λ i. NoneLacks (get_or moduli i 0) (start_residues (get_or moduli i 0) start) commands done)
+          place
           (λ i h at l. was.each i h at (omega (arith, l, most))) here.carried.before;
       next = λ h. elim (cases_lt done count) [
         | inl fewer ↦ (place, omega arith, here.carried.next fewer)
         | inr same ↦
             let e : count ≡ done = omega (arith, same, most) in
             let (i, l, lacks) = was.next (omega (arith, h, e)) in
-            (i, omega (arith, l), subst (LacksInverseAt (get_or moduli i 0) (starts (get_or moduli i 0) start) commands)
+            (i, omega (arith, l), subst (LacksInverseAt (get_or moduli i 0) (start_residues (get_or moduli i 0) start)
+                commands)
                 e lacks)
       ];
       values = λ r i h from to. grind (arith, cases_eq, cases_lt);
@@ -145,7 +151,7 @@ pub more_again : (moduli start : List ℕ) (commands : List (RingCommand ℕ)) (
     (count done again place : ℕ)
     → HoldBut moduli start commands before count again place → IsColumnRun moduli place start commands count after done
     → IsKept moduli start before after place → done ≤ count
-    → NoneLacks (get_or moduli place 0) (starts (get_or moduli place 0) start) commands count
+    → NoneLacks (get_or moduli place 0) (start_residues (get_or moduli place 0) start) commands count
     → HoldBut moduli start commands after count again (place + 1)
 more_again moduli start commands before after count done again place was here kept most none r i h within side =
     grind (arith, cases_eq)
@@ -156,12 +162,13 @@ pub record IsEnd (m : ℕ) (start : List ℕ) (commands : List (RingCommand ℕ)
   pub never : (end ≡ Done) ↔ ((at : ℕ) → IsStop m start commands at → ⊥)
   pub same : carried_out end commands ≡ done
 
-pub end_of_run : {C : Type 0} (f : C → RingCommand ℕ) (commands : List C) (m : ℕ) (start : List ℕ) (end : RunEnd)
+pub IsEnd-from_carried : {C : Type 0} (f : C → RingCommand ℕ) (commands : List C) (m : ℕ) (start : List ℕ)
+    (end : RunEnd)
     (done : ℕ)
     → IsCarriedOut m start (map f commands) (length (map f commands)) done → done ≤ length commands
     → (done ≡ length commands → end ≡ Done) → (done < length commands → end ≡ NoInverse done)
     → IsEnd m start (map f commands) end done
-end_of_run f commands m start end done is most all part =
+IsEnd-from_carried f commands m start end done is most all part =
     elim (cases_lt done (length commands)) [
       | inl less ↦ grind (arith, length-map, stop_exactly)
       | inr other ↦

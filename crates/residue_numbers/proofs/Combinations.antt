@@ -23,13 +23,13 @@ to_divisor : (g q n a b : ℕ) → n ≡ g * q → a % n ≡ b % n → a % g ≡
 to_divisor g q n a b e h = sym (mod_of_multiple g q a) ∙ ap (λ w. w % g) (rw e at h) ∙ mod_of_multiple g q b
 
 -- a divisor of a positive number is positive
-positive_divisor : (d n : ℕ) → 0 < n → n % d ≡ 0 → 0 < d
-positive_divisor d n above divides = search (arith, cases_lt, mod-zero)
+divisor_positive : (d n : ℕ) → 0 < n → n % d ≡ 0 → 0 < d
+divisor_positive d n above divides = search (arith, cases_lt, mod-zero)
 
 -- the greatest common divisor that Euclid's algorithm leaves
 pub euclid_is : (m n d g : ℕ) → 0 < n → IsGcd m n d → IsGreatestCommonDivisor m n g → d ≡ g
 euclid_is m n d g above is greatest =
-    search (arith, mod-eq-zero_of_dvd, le_of_dvd, positive_divisor, dvd_of_mod-eq-zero)
+    search (arith, mod-eq-zero_of_dvd, le_of_dvd, divisor_positive, dvd_of_mod-eq-zero)
 
 -- a common divisor d of the parts makes g·d one of the numbers
 at_most_one : (g d : ℕ) → 0 < g → g * d ≤ g → 0 < d → d ≡ 1
@@ -47,7 +47,7 @@ pub parts_of : (m n g : ℕ) → 0 < n → IsGreatestCommonDivisor m n g → Are
 parts_of m n g above greatest =
     let first : m ≡ g * (m / g) = let e = greatest.first in omega (arith, e) in
     let second : n ≡ g * (n / g) = let e = greatest.second in omega (arith, e) in
-    let positive = positive_divisor g n above greatest.second in
+    let positive = divisor_positive g n above greatest.second in
     let step : 0 < n / g = grind (arith, cases_lt) in
     record {
       positive = positive;
@@ -56,16 +56,16 @@ parts_of m n g above greatest =
       step = step;
       coprime = record { only_one = λ d h k. at_most_one g d positive (greatest.greatest (g * d)
           (multiple_of_both g d m (m / g) first h) (multiple_of_both g d n (n / g) second k))
-              (positive_divisor d (n / g) step k) };
+              (divisor_positive d (n / g) step k) };
     }
 
 -- a factor of both numbers and of the modulus
-scaled : (g v x y : ℕ) → x % v ≡ y % v → (g * x) % (g * v) ≡ (g * y) % (g * v)
-scaled g v x y e =
+scaled_congruent : (g v x y : ℕ) → x % v ≡ y % v → (g * x) % (g * v) ≡ (g * y) % (g * v)
+scaled_congruent g v x y e =
     let f = ap (λ w. g * w) (spread v x y e) in gathered (g * v) (g * x) (g * y) (y / v) (x / v) (omega (arith, f))
 
-unscaled : (g v x y : ℕ) → 0 < g → (g * x) % (g * v) ≡ (g * y) % (g * v) → x % v ≡ y % v
-unscaled g v x y positive e =
+congruent_of_scaled : (g v x y : ℕ) → 0 < g → (g * x) % (g * v) ≡ (g * y) % (g * v) → x % v ≡ y % v
+congruent_of_scaled g v x y positive e =
     let f = spread (g * v) (g * x) (g * y) e in
     let p = g * y / (g * v) in let q = g * x / (g * v) in
     gathered v x y p q (factor_cancel g (x + v * p) (y + v * q) positive (omega (arith, f)))
@@ -75,7 +75,7 @@ module _ (m n g u v : ℕ) (m_is : m ≡ g * u) (n_is : n ≡ g * v) where
   solution_is_common : (a b s k t : ℕ) → s ≡ g * k → (u * t) % v ≡ k % v → (s + a) % n ≡ b % n → (a + m * t) % n ≡ b % n
   solution_is_common a b s k t s_is steps difference =
       let turn : a + m * t ≡ g * (u * t) + a = let e = ap (λ w. w * t) m_is in omega (arith, e) in
-      let same : (g * (u * t)) % n ≡ s % n = rw (n_is, s_is) (scaled g v (u * t) k steps) in
+      let same : (g * (u * t)) % n ≡ s % n = rw (n_is, s_is) (scaled_congruent g v (u * t) k steps) in
       ap (λ w. w % n) turn ∙ (mod_add record { same = same } (mod_refl a)).same ∙ difference
 
   module _ (quotients : Quotients) (positive : 0 < g) (unit : HasInverse v u) where
@@ -90,7 +90,7 @@ module _ (m n g u v : ℕ) (m_is : m ≡ g * u) (n_is : n ≡ g * v) where
         let same : Congruent n (g * (q * u)) (g * (t * u)) = mod_add_cancel a record {
           same = ap (λ w. w % n) y_is ∙ second ∙ sym is ∙ ap (λ w. w % n) x_is;
         } in
-        let steps = unscaled g v (q * u) (t * u) positive (rw n_is at same.same) in
+        let steps = congruent_of_scaled g v (q * u) (t * u) positive (rw n_is at same.same) in
         let digit = (quotients v q t u unit.0 record { same = unit.1.one } record { same = steps }).same
             ∙ mod-eq_of_lt t_below in
         let along : m * (v * (q / v) + t) ≡ m * q = ap (λ w. m * w) (omega (arith, digit)) in
@@ -112,10 +112,10 @@ module _ (m n g u v : ℕ) (m_is : m ≡ g * u) (n_is : n ≡ g * v) where
     }
 
 -- the combination
-pub combined : Quotients → (m n g a b s t : ℕ) → AreParts m n g → 0 < m → HasInverse (n / g) (m / g) → s % g ≡ 0
+pub combination_is : Quotients → (m n g a b s t : ℕ) → AreParts m n g → 0 < m → HasInverse (n / g) (m / g) → s % g ≡ 0
     → (m / g * t) % (n / g) ≡ (s / g) % (n / g) → t < n / g → (s + a % m) % n ≡ b % n
     → IsCombination a m b n (a % m + m * t) (m * (n / g))
-combined quotients m n g a b s t parts above unit divides steps below difference =
+combination_is quotients m n g a b s t parts above unit divides steps below difference =
     let u = m / g in let v = n / g in
     let reduced = mod-lt a above in
     let s_is : s ≡ g * (s / g) = omega (arith, divides) in

@@ -29,15 +29,15 @@ pub product_within : {range m : ℕ} → IsFactor range m → (x y a b : ℕ) �
     → (a * b) % m ≡ (x * y) % range % m
 product_within f x y a b p q = search (arith, mul-mod, remainder_within)
 
-residue_below : (m : ℕ) (z : ℤ) → 0 < m → residue m z < m
-residue_below m (pos n) h = mod-lt n h
-residue_below m (negsuc n) h = omega arith
+residue_below_modulus : (m : ℕ) (z : ℤ) → 0 < m → residue m z < m
+residue_below_modulus m (pos n) h = mod-lt n h
+residue_below_modulus m (negsuc n) h = omega arith
 
 pub difference_within : {range m : ℕ} → IsFactor range m → (x y a b : ℕ) → x % m ≡ a → y % m ≡ b
     → residue m (pos a -ℤ pos b) ≡ residue range (pos x -ℤ pos y) % m
 difference_within {range} {m} f x y a b p q =
     let r = residue range (pos x -ℤ pos y) in
-    equal_below (residue_below m (pos a -ℤ pos b) f.positive) (mod-lt r f.positive) (mod_add_cancel b record {
+    equal_below (residue_below_modulus m (pos a -ℤ pos b) f.positive) (mod-lt r f.positive) (mod_add_cancel b record {
       same = difference_and m a b f.positive ∙ ap (λ n. n % m) (sym p) ∙ mod-mod x m ∙ sym (remainder_within f x)
           ∙ sym (ap (λ n. n % m) (difference_and range x y f.wide)) ∙ sym (sum_within f r y (r % m) b refl q);
     })

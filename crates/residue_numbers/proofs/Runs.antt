@@ -23,14 +23,14 @@ use Rattle.residue_numbers.proofs.Encodings.{IsFactor, remainder_within, sum_wit
 use Rattle.residue_numbers.proofs.Encodings.{ArePositive, range_positive, modulus_is_factor}
 
 -- the laws of inverses that are taken from the library's calls
-pub record Laws : Type 0 where
+pub record InverseLaws : Type 0 where
   pub found : (m a x : ℕ) → IsInverse m a x → inverse_of m a ≡ Some x
   pub named : (m a : ℕ) → IsInversion (λ x. x) m a (inverse_of m a)
   pub coprime : (m a : ℕ) → 0 < m → HasInverse m a ↔ Coprime a m
 
 -- the residues of the numbers that the registers start with
-abbrev pub starts : ℕ → List ℕ → List ℕ
-starts m numbers = map (λ n. n % m) numbers
+abbrev pub start_residues : ℕ → List ℕ → List ℕ
+start_residues m numbers = map (λ n. n % m) numbers
 
 inverse_within : {range m : ℕ} → IsFactor range m → (x a i : ℕ) → x % m ≡ a → IsInverse range x i
     → IsInverse m a (i % m)
@@ -58,7 +58,7 @@ none_of_each (Some x) from each h = from x each h
 abbrev pub NoneLacks : ℕ → List ℕ → List (RingCommand ℕ) → ℕ → Type 0
 NoneLacks m start commands done = (at : ℕ) → at < done → LacksInverseAt m start commands at → ⊥
 
-module _ (laws : Laws) {range m : ℕ} (f : IsFactor range m) where
+module _ (laws : InverseLaws) {range m : ℕ} (f : IsFactor range m) where
   -- an inverse that isn't missing is there modulo a factor too
   inverse_found : (x a : ℕ) (o : Option ℕ) → IsInversion (λ x. x) range x o → ((HasInverse range x → ⊥) → ⊥) → x % m ≡ a
       → IsSomeAnd o (λ w. inverse_of m a ≡ Some (w % m))
@@ -98,12 +98,12 @@ module _ (laws : Laws) {range m : ℕ} (f : IsFactor range m) where
 
   -- so the values modulo the range leave the values modulo m, as long as each inverse is there modulo the range
   pub values_within : (start : List ℕ) (commands : List (RingCommand ℕ)) (i : ℕ) → NoneLacks range start commands i
-      → (r : ℕ) → value_at range start commands i r % m ≡ value_at m (starts m start) commands i r
+      → (r : ℕ) → value_at range start commands i r % m ≡ value_at m (start_residues m start) commands i r
   values_within start commands zero unit r =
-      sym (subst (λ d. get_or (starts m start) r d ≡ get_or start r 0 % m) (mod-eq_of_lt f.positive)
+      sym (subst (λ d. get_or (start_residues m start) r d ≡ get_or start r 0 % m) (mod-eq_of_lt f.positive)
       (get_or-map (λ n. n % m) start r 0))
   values_within start commands (suc i) unit r =
-      after_within (value_at range start commands i) (value_at m (starts m start) commands i)
+      after_within (value_at range start commands i) (value_at m (start_residues m start) commands i)
       (values_within start commands i (λ j h. unit j (omega (arith, h)))) (slice_get commands i) (unit i (omega arith))
           r
 
@@ -113,7 +113,7 @@ module _ (laws : Laws) {range m : ℕ} (f : IsFactor range m) where
   lacks_above V v same read = some_and read (λ command. some_and (inverted_by command)
       (λ r none h. none (h.0 % m, inverse_within f (V r) (v r) h.0 (same r) h.1)))
 
-module _ (laws : Laws) where
+module _ (laws : InverseLaws) where
   inverse_swapped : (m a : ℕ) → 0 < m → 0 < a → HasInverse m a → HasInverse a m
   inverse_swapped m a positive above unit =
       (laws.coprime a m above).1 (Coprime-swap _ _ ((laws.coprime m a positive).0 unit))
@@ -142,7 +142,8 @@ module _ (laws : Laws) where
 
   -- where no command before one lacks its inverse modulo a modulus, none does modulo their product
   pub none_lacks_above : (moduli start : List ℕ) (commands : List (RingCommand ℕ)) → ArePositive moduli → (done : ℕ)
-      → ((i : ℕ) → i < length moduli → NoneLacks (get_or moduli i 0) (starts (get_or moduli i 0) start) commands done)
+      → ((i : ℕ) → i < length moduli → NoneLacks (get_or moduli i 0) (start_residues (get_or moduli i 0) start) commands
+      done)
       → NoneLacks (range_of moduli) start commands done
   none_lacks_above moduli start commands positive zero each at h lacks = omega (arith, h)
   none_lacks_above moduli start commands positive (suc done) each at h lacks =

@@ -1,6 +1,6 @@
 use Rattle.std.proofs.Common.{◌/◌, refl}
 use Rattle.std.proofs.lemmas.Bool.{false≢true}
-use Rattle.residue_numbers.proofs.Combinations.{combined, divides_exactly, same_of_common}
+use Rattle.residue_numbers.proofs.Combinations.{combination_is, divides_exactly, same_of_common}
 use Rattle.residue_numbers.proofs.combination.combine.Goals as goal
 
 pub returns-then-difference-divisor-ne0-clause-number : goal.returns-then-difference-divisor-ne0-clause-number
@@ -25,7 +25,7 @@ returns-clause-number c =
     let steps = c.quotient_modulo-steps in
     let unit = (c.inverse_laws.ensures.coprime (n / g) (m / g) parts.step).1 parts.coprime in
     simp (c.from.ensures, c.from-2.ensures, c.from-3.ensures, c.from-4.ensures, c.from-5.ensures)
-    (combined c.congruence_laws.ensures.quotients m n g c.args.a c.args.b c.difference_modulo-difference.result
+    (combination_is c.congruence_laws.ensures.quotients m n g c.args.a c.args.b c.difference_modulo-difference.result
         steps.result
     parts c.requires.m unit c.if-difference-divisor-ne0.false steps.ensures.solved steps.ensures.below
     c.difference_modulo-difference.ensures)

@@ -2,7 +2,7 @@ use Rattle.std.proofs.Common.{◌≡◌, ℕ, ◌<◌, List, length, map, arith,
 use Rattle.std.specs.List.{slice_get}
 use Rattle.num_modular.specs.declared.ring.RingCommand.{RingCommand}
 use Rattle.residue_numbers.proofs.Encodings.{modulus_is_factor}
-use Rattle.residue_numbers.proofs.Runs.{Laws, none_lacks_above, values_within, lacks_above}
+use Rattle.residue_numbers.proofs.Runs.{InverseLaws, none_lacks_above, values_within, lacks_above}
 use Rattle.residue_numbers.proofs.Columns.{over_whole, register_word, more_run, more_again}
 use Rattle.residue_numbers.proofs.mixed_radix.System.carry_out.Goals as goal
 
@@ -34,7 +34,7 @@ again-preserved g c start entries with =
 
 pub returns-clause-run : goal.returns-clause-run
 returns-clause-run g c start entries with =
-    let laws : Laws = grind arith in
+    let laws : InverseLaws = grind arith in
     let ms : List ℕ = c.args.self.now.moduli.now in let positive = c.args.self.now.coprime.positive in
     let wholes : List (RingCommand ℕ) = map (over_whole g.C.AsCommand.command) c.args.commands.now in
     let all : c.moduli.place ≡ length ms = omega arith in

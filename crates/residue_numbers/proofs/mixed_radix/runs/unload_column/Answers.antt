@@ -4,8 +4,8 @@ use Rattle.std.proofs.lemmas.List.{length-set, get_or-set_same, get_or-set_other
 use Rattle.residue_numbers.proofs.Columns.{place_within, other_place}
 use Rattle.residue_numbers.proofs.mixed_radix.runs.unload_column.Goals as goal
 
-apart : (n r q place : ℕ) → r < q → place < n → r * n + place ≢ q * n + place
-apart n r q place h k e = let f = mul-le-mul_left n h in absurd (omega (arith, e, f, k))
+registers_apart : (n r q place : ℕ) → r < q → place < n → r * n + place ≢ q * n + place
+registers_apart n r q place h k e = let f = mul-le-mul_left n h in absurd (omega (arith, e, f, k))
 
 pub registers-preserved : goal.registers-preserved
 registers-preserved g c =
@@ -18,7 +18,7 @@ registers-preserved g c =
     record {
       entries = length-set words at x ∙ before.entries;
       written = below_more (λ r. get_or (set words at x) (r * n + place) 0 ≡ ring.value m (get_or forms r 0)) q
-          (λ r h. get_or-set_other words at (r * n + place) x 0 (apart n r q place h c.requires.within)
+          (λ r h. get_or-set_other words at (r * n + place) x 0 (registers_apart n r q place h c.requires.within)
               ∙ before.written r h)
           (get_or-set_same words at x 0 (omega (arith, inside, before.entries, c.requires.words))
               ∙ c.residue.ensures.value);
