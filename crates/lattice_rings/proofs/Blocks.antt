@@ -26,14 +26,15 @@ own_numbers : (w : List ℕ) → numbers (λ x. x) w ≡ slice_index w
 own_numbers w = ap (λ l. slice_index l) (map-id w)
 
 -- the table as the twiddle factors
-pub twiddles_of : (m g s count : ℕ) (w : ℕ → ℕ) → Suits m g (2 ^ suc s) → count ≡ 2 ^ s
+pub AreTwiddles-from_powers : (m g s count : ℕ) (w : ℕ → ℕ) → Suits m g (2 ^ suc s) → count ≡ 2 ^ s
     → ((k : ℕ) → k < count → w k ≡ g ^ bits_reversed s k % m) → AreTwiddles m g (suc s) count w
-twiddles_of m g s count w suits is entry = search (arith, two-pow-succ)
+AreTwiddles-from_powers m g s count w suits is entry = search (arith, two-pow-succ)
 
 -- the powers of a root that suits twice 2^s entries are its twiddle factors
 pub powers_are_twiddles : (m g s : ℕ) → Suits m g (2 ^ suc s)
     → AreTwiddles m g (suc s) (2 ^ s) (λ k. g ^ bits_reversed s k % m)
-powers_are_twiddles m g s suits = twiddles_of m g s (2 ^ s) (λ k. g ^ bits_reversed s k % m) suits refl (λ k l. refl)
+powers_are_twiddles m g s suits = AreTwiddles-from_powers m g s (2 ^ s) (λ k. g ^ bits_reversed s k % m) suits refl
+    (λ k l. refl)
 
 -- a table that holds the powers of a root that suits is the root's
 pub root_table : {F : Type 0} {q g m : ℕ} (value quotient : F → ℕ) (s : ℕ) (table : List F) → Suits q g (2 * 2 ^ s)
@@ -78,13 +79,15 @@ value_same m n c x f same =
     ap (λ v. v % m) (sum_below-same n (λ k. x k * c ^ k) (λ k. f k * c ^ k) (λ k l. ap (λ v. v * c ^ k) (same k l)))
 
 -- residues are their own residues
-pub own_residues : (m g s last : ℕ) (x y : ℕ → ℕ) → AreValues m g s last x y → AreValues m g s last x (λ i. y i % m)
-own_residues m g s last x y are = record { each = λ j i lj li. ap (λ v. v % m) (are.each j i lj li) ∙ mod-mod _ m }
+pub AreValues-of_residues : (m g s last : ℕ) (x y : ℕ → ℕ) → AreValues m g s last x y
+    → AreValues m g s last x (λ i. y i % m)
+AreValues-of_residues m g s last x y are = record { each = λ j i lj li. ap (λ v. v % m) (are.each j i lj li)
+    ∙ mod-mod _ m }
 
 -- the powers of g and of its inverse h in a term, G being congruent to g^2
-term : {m : ℕ} (g h G r k part u : ℕ) → Congruent m (g * h) 1 → Congruent m G (g * g)
+powers_of_term : {m : ℕ} (g h G r k part u : ℕ) → Congruent m (g * h) 1 → Congruent m G (g * g)
     → Congruent m (part * h ^ k * u * (g ^ (2 * r + 1)) ^ k) (part * (u * G ^ (k * r)))
-term {m} g h G r k part u inverse square =
+powers_of_term {m} g h G r k part u inverse square =
     let e : (2 * r + 1) * k ≡ k + (k * r + k * r) = omega arith in
     let a : (g ^ (2 * r + 1)) ^ k ≡ g ^ k * (g * g) ^ (k * r) =
     sym (pow-mul g (2 * r + 1) k) ∙ ap (λ n. g ^ n) e ∙ pow-add g k (k * r + k * r)
@@ -99,30 +102,31 @@ term {m} g h G r k part u inverse square =
     (mod_of_eq o))
 
 -- the polynomial whose values are given, h being the inverse of g, H that of g^2 and part that of the number of blocks
-abbrev pub preimage : ℕ → ℕ → ℕ → ℕ → ℕ → ℕ → (ℕ → ℕ) → ℕ → ℕ
-preimage m h H s last part y p =
+abbrev pub inverse_polynomial : ℕ → ℕ → ℕ → ℕ → ℕ → ℕ → (ℕ → ℕ) → ℕ → ℕ
+inverse_polynomial m h H s last part y p =
     (part * h ^ (p / last) * transform m H (2 ^ s) (λ q. y (bits_reversed s q * last + p % last)) (p / last)) % m
 
-pub preimage_values : {m : ℕ} (g h G H s last part : ℕ) (y : ℕ → ℕ) → Congruent m (g * h) 1 → Congruent m G (g * g)
+pub inverse_polynomial_values : {m : ℕ} (g h G H s last part : ℕ) (y : ℕ → ℕ) → Congruent m (g * h) 1
+    → Congruent m G (g * g)
     → Congruent m (2 ^ s * part) 1
     → ((v : ℕ → ℕ) (k : ℕ) → k < 2 ^ s → Congruent m (transform m G (2 ^ s) (transform m H (2 ^ s) v) k) (2 ^ s * v k))
     → ((j i : ℕ) → j < 2 ^ s → i < last → y (j * last + i) < m)
-    → AreValues m g s last (preimage m h H s last part y) y
-preimage_values {m} g h G H s last part y inverse square of_number back below = record {
+    → AreValues m g s last (inverse_polynomial m h H s last part y) y
+inverse_polynomial_values {m} g h G H s last part y inverse square of_number back below = record {
   each = λ j i lj li.
       let r = bits_reversed s j in
       let c = g ^ (2 * r + 1) in
       let n = 2 ^ s in
       let v = λ (e q : ℕ). y (bits_reversed s q * last + e) in
       let u = transform m H n (v i) in
-      let x = preimage m h H s last part y in
+      let x = inverse_polynomial m h H s last part y in
       let is : (k : ℕ) → x (k * last + i) ≡ (part * h ^ k * u k) % m = search (arith, div-mul-add, mod-mul-add) in
       let f = λ (k : ℕ). x (k * last + i) * c ^ k in
       let w = λ (k : ℕ). u k * G ^ (k * r) in
       let all : Congruent m (sum_below n f) (sum_below n (λ k. part * w k)) =
       sum_below-congruent n f (λ k. part * w k)
       (λ k l. mod_trans (mod_mul (mod_trans (mod_of_eq (is k)) (residue_of (part * h ^ k * u k))) (mod_refl (c ^ k)))
-      (term g h G r k part (u k) inverse square)) in
+      (powers_of_term g h G r k part (u k) inverse square)) in
       let whole : Congruent m (part * sum_below n w) (part * (n * v i r)) =
       mod_mul (mod_refl part)
       (mod_trans (mod_sym (residue_of (sum_below n w))) (back (v i) r (bits_reversed_below s j))) in
@@ -152,22 +156,23 @@ added_to m a b p below is =
     (mod_add known (mod_refl ((m - 1) * b))).same ∙ nothing_left m p b (omega (arith, below)) ∙ mod-eq_of_lt below
 
 -- what `split` says of words, in the words of the standards
-pub told : {q g s m r b n : ℕ} (last : ℕ) (xs ys : List ℕ) → IsRingPlan q g s m r b n
+pub AreValues-from_split : {q g s m r b n : ℕ} (last : ℕ) (xs ys : List ℕ) → IsRingPlan q g s m r b n
     → AreRemainders m r b 1 n last (numbers (λ x. x) xs) (numbers (λ x. x) ys)
     → AreValues q g s last (slice_index xs) (slice_index ys)
-told {q} {g} {s} last xs ys ring are =
+AreValues-from_split {q} {g} {s} last xs ys ring are =
     (remainders_are_values q g s last (slice_index xs) (slice_index ys)).0 (rw (← own_numbers xs, ← own_numbers ys)
     ((by_ring last _ _ ring).0 are))
 
 -- what `join` says of words
-pub joined : {q g s m r b n : ℕ} (last : ℕ) (x : ℕ → ℕ) (ys zs : List ℕ) → IsRingPlan q g s m r b n
+pub join_entries : {q g s m r b n : ℕ} (last : ℕ) (x : ℕ → ℕ) (ys zs : List ℕ) → IsRingPlan q g s m r b n
     → AreValues q g s last x (slice_index ys)
     → (AreRemainders m r b 1 n last x (λ i. numbers (λ v. v) ys i % m)
     → (i : ℕ) → i < length ys → numbers (λ v. v) zs i ≡ x i % m)
     → (i : ℕ) → i < length ys → slice_index zs i ≡ x i % q
-joined {q} {g} {s} {m} last x ys zs ring are known i l =
+join_entries {q} {g} {s} {m} last x ys zs ring are known i l =
     let own : AreRemainders q g (suc s) 1 (2 ^ s) last x (λ i. numbers (λ v. v) ys i % m) =
-    simp (map-id, ring.modulus) ((remainders_are_values q g s last x _).1 (own_residues q g s last x (slice_index ys)
+    simp (map-id, ring.modulus) ((remainders_are_values q g s last x _).1 (AreValues-of_residues q g s last x
+        (slice_index ys)
         are)) in
     simp (map-id, ring.modulus) at (known ((by_ring last x (λ i. numbers (λ v. v) ys i % m) ring).1 own) i l)
 

@@ -9,18 +9,18 @@ use Rattle.lattice_rings.specs.Rings.{IsDsaTransform, IsDsaProduct}
 use Rattle.lattice_rings.proofs.Blocks.{AreValues, value_same}
 
 -- zeta suits
-pub zeta_suits : Suits 8380417 1753 512
-zeta_suits = record { power_of_two = (9, refl); half_turn = λ l. refl }
+pub dsa_zeta_suits : Suits 8380417 1753 512
+dsa_zeta_suits = record { power_of_two = (9, refl); half_turn = λ l. refl }
 
-pub transform_of : (x y : ℕ → ℕ) → AreValues 8380417 1753 8 1 x y → IsDsaTransform x y
-transform_of x y are = record { each = λ i l. simp (mul-one, add-zero) at (are.each i 0 l (omega arith)) }
+pub IsDsaTransform-from_values : (x y : ℕ → ℕ) → AreValues 8380417 1753 8 1 x y → IsDsaTransform x y
+IsDsaTransform-from_values x y are = record { each = λ i l. simp (mul-one, add-zero) at (are.each i 0 l (omega arith)) }
 
-pub values_of_transform : (x y : ℕ → ℕ) → IsDsaTransform x y → AreValues 8380417 1753 8 1 x y
-values_of_transform x y are = search (arith, value_same)
+pub AreValues-from_dsa_transform : (x y : ℕ → ℕ) → IsDsaTransform x y → AreValues 8380417 1753 8 1 x y
+AreValues-from_dsa_transform x y are = search (arith, value_same)
 
 -- the transform depends on the 256 coefficients alone
-pub transform_same : (w x y : ℕ → ℕ) → ((i : ℕ) → i < 256 → w i ≡ x i) → IsDsaTransform x y → IsDsaTransform w y
-transform_same w x y same are = search (arith, value_same)
+pub dsa_transform_same : (w x y : ℕ → ℕ) → ((i : ℕ) → i < 256 → w i ≡ x i) → IsDsaTransform x y → IsDsaTransform w y
+dsa_transform_same w x y same are = search (arith, value_same)
 
 -- products of values are those of remainders modulo X - c
 pub products_of_places : (u v p : ℕ → ℕ) → IsDsaProduct u v p → AreProducts 8380417 1753 9 1 256 1 u v p

@@ -1,13 +1,13 @@
 use Rattle.std.proofs.Common.{refl, arith}
 use Rattle.num_modular.specs.PlanLaws.{exponent}
 use Rattle.lattice_rings.proofs.Blocks.{root_table}
-use Rattle.lattice_rings.proofs.Dsa.{zeta_suits}
+use Rattle.lattice_rings.proofs.Dsa.{dsa_zeta_suits}
 use Rattle.lattice_rings.proofs.ml_dsa.Ring.plan.Goals as goal
 
 pub over-requires : goal.over-requires
 over-requires c =
     let ring = c.args.self.now in
-    let (suits, holds) = root_table (λ f. f.value) (λ f. f.quotient) 8 ring.table zeta_suits ring.modulus_is
+    let (suits, holds) = root_table (λ f. f.value) (λ f. f.quotient) 8 ring.table dsa_zeta_suits ring.modulus_is
         (omega arith)
     ring.factors ring.powers in
     record { odd = search arith; below = search arith; suits = suits; holds = holds }

@@ -1,6 +1,6 @@
 use Rattle.std.proofs.Common.{arith}
-use Rattle.lattice_rings.proofs.Blocks.{told}
-use Rattle.lattice_rings.proofs.Kem.{transform_of}
+use Rattle.lattice_rings.proofs.Blocks.{AreValues-from_split}
+use Rattle.lattice_rings.proofs.Kem.{IsKemTransform-from_values}
 use Rattle.lattice_rings.proofs.ml_kem.Ring.ntt.Goals as goal
 
 pub split-requires-clause-blocks : goal.split-requires-clause-blocks
@@ -10,4 +10,5 @@ split-requires-clause-blocks c =
 
 pub returns-clause-remainders : goal.returns-clause-remainders
 returns-clause-remainders c =
-    transform_of _ _ (told 2 c.args.w.now c.split.new.xs (search arith) c.split.ensures.remainders)
+    IsKemTransform-from_values _ _ (AreValues-from_split 2 c.args.w.now c.split.new.xs (search arith)
+        c.split.ensures.remainders)
