@@ -1,8 +1,7 @@
 -- Runs of one list of commands modulo each modulus of a system, up to the first command whose inverse doesn't exist
 -- modulo one of them.
 use Rattle.std.proofs.Common.{◌≡◌, ℕ, zero, suc, ◌+◌, ◌-◌, ◌*◌, ◌%◌, ◌<◌, ◌≤◌, ◌↔◌, List, [], ◌∷◌, length, map, take}
-use Rattle.std.proofs.Common.{drop, All}
-use Rattle.std.proofs.Common.{get_or, sym, ap, subst, ◌∙◌, refl, arith, below_more, inl, inr}
+use Rattle.std.proofs.Common.{drop, All, get_or, sym, ap, subst, ◌∙◌, refl, arith, below_more, inl, inr}
 use Rattle.std.specs.List.{slice_get}
 use Rattle.std.proofs.Math.Path.{fun_ext}
 use Rattle.std.proofs.Math.Nat.{mul-le-mul_left}
@@ -16,7 +15,7 @@ use Rattle.num_modular.specs.declared.ring.RunEnd.{RunEnd}
 use Rattle.num_modular.specs.declared.ring.RunEnd.TheVariants.{Done, NoInverse}
 use Rattle.num_modular.specs.Ring.{whole, value_after, value_at, LacksInverseAt, IsStop, carried_out}
 use Rattle.residue_numbers.specs.Registers.{register, IsCarriedOut, IsColumnRun, value_modulo}
-use Rattle.residue_numbers.proofs.Runs.{NoneLacks, start_residues}
+use Rattle.residue_numbers.proofs.Runs.{NoneLacks, start_mod}
 
 -- a command over whole numbers
 abbrev pub over_whole : {C : Type 0} → (C → RingCommand ℕ) → C → RingCommand ℕ
@@ -63,12 +62,10 @@ carried_prefix m start commands k done most carried = record {
 
 -- where a run has no stop, no command lacks its inverse
 none_lacks_unstopped : (m : ℕ) (start : List ℕ) (commands : List (RingCommand ℕ))
-    → ((at : ℕ) → IsStop m start commands at → ⊥)
-    → (n : ℕ) → NoneLacks m start commands n
+    → ((at : ℕ) → IsStop m start commands at → ⊥) → (n : ℕ) → NoneLacks m start commands n
 none_lacks_unstopped m start commands never zero at h lacks = omega (arith, h)
 none_lacks_unstopped m start commands never (suc n) at h lacks =
-    never at record { lacks = lacks; first = λ j l. none_lacks_unstopped m start commands never n j
-        (omega (arith, h, l)) }
+    never at record { lacks = lacks; first = λ j l. none_lacks_unstopped m start commands never n j (omega arith) }
 
 -- places of a list of registers, of n words each
 pub place_within : (count n r i : ℕ) → r < count → i < n → r * n + i < count * n
@@ -78,8 +75,8 @@ pub other_place : (n r q i j : ℕ) → i < n → j < n → r * n + i ≡ q * n 
 other_place n r q i j h k e = sym (mod-mul-add r n i h) ∙ ap (λ a. a % n) e ∙ mod-mul-add q n j k
 
 -- a word of a register
-pub register_word : (n : ℕ) (words : List ℕ) (r i : ℕ) → i < n → get_or (register n words r) i 0 ≡ get_or words
-    (r * n + i) 0
+pub register_word : (n : ℕ) (words : List ℕ) (r i : ℕ) → i < n
+    → get_or (register n words r) i 0 ≡ get_or words (r * n + i) 0
 register_word n words r i h =
     get_or-take (r * n + n - r * n) (drop (r * n) words) i 0 (omega (arith, h)) ∙ get_or-drop (r * n) words i 0
 
@@ -91,12 +88,11 @@ all_of_each P xs each i d h = subst P (sym (get_or_default_zero xs i d h)) (each
 pub carried_by_end : (m : ℕ) (start : List ℕ) (commands : List (RingCommand ℕ)) (end : RunEnd) (count done : ℕ)
     → length commands ≡ count → ((at : ℕ) → (end ≡ NoInverse at) ↔ IsStop m start commands at)
     → ((end ≡ Done) ↔ ((at : ℕ) → IsStop m start commands at → ⊥)) → (end ≡ Done → done ≡ count)
-    → ((at : ℕ) → end ≡ NoInverse at → done ≡ at) 
+    → ((at : ℕ) → end ≡ NoInverse at → done ≡ at)
     → IsCarriedOut m start commands count done × (done ≤ count) × (carried_out end commands ≡ done)
 carried_by_end m start commands Done count done long stops never all stopped =
     let e = all refl in (
-      record { before = none_lacks_unstopped m start commands (never.0 refl) done; next = λ h. absurd
-          (omega (arith, h, e)) },
+      record { before = none_lacks_unstopped m start commands (never.0 refl) done; next = λ h. absurd (omega arith) },
       omega (arith, e),
       long ∙ sym e,
     )
@@ -111,12 +107,10 @@ IsKept moduli start before after place = (r i : ℕ) → r < length start → i 
 -- as many commands as can be carried out modulo each of the moduli before a place; the registers hold the values there
 -- from the place `again` on
 pub record AreRunBefore (moduli start : List ℕ) (commands : List (RingCommand ℕ)) (registers : List ℕ)
-    (done again place : ℕ)
-    : Type 0 where
-  pub each : (i : ℕ) → i < place → NoneLacks (get_or moduli i 0) (start_residues (get_or moduli i 0) start) commands
-      done
+    (done again place : ℕ) : Type 0 where
+  pub each : (i : ℕ) → i < place → NoneLacks (get_or moduli i 0) (start_mod (get_or moduli i 0) start) commands done
   pub next : done < length commands → (i : ℕ) × (i < place)
-      × LacksInverseAt (get_or moduli i 0) (start_residues (get_or moduli i 0) start) commands done
+      × LacksInverseAt (get_or moduli i 0) (start_mod (get_or moduli i 0) start) commands done
   pub values : (r i : ℕ) → r < length start → again ≤ i → i < place
       → get_or registers (r * length moduli + i) 0 ≡ value_modulo moduli i start commands done r
 
@@ -127,17 +121,14 @@ pub more_run : (moduli start : List ℕ) (commands : List (RingCommand ℕ)) (be
     → AreRunBefore moduli start commands after done next (place + 1)
 more_run moduli start commands before after count done again next place was here kept most inside less all =
     record {
-      each = below_more (λ i. NoneLacks (get_or moduli i 0) (start_residues (get_or moduli i 0) start) commands done)
-          place
+      each = below_more (λ i. NoneLacks (get_or moduli i 0) (start_mod (get_or moduli i 0) start) commands done) place
           (λ i h at l. was.each i h at (omega (arith, l, most))) here.carried.before;
       next = λ h. elim (cases_lt done count) [
         | inl fewer ↦ (place, omega arith, here.carried.next fewer)
         | inr same ↦
             let e : count ≡ done = omega (arith, same, most) in
             let (i, l, lacks) = was.next (omega (arith, h, e)) in
-            (i, omega (arith, l), subst (LacksInverseAt (get_or moduli i 0) (start_residues (get_or moduli i 0) start)
-                commands)
-                e lacks)
+            (i, omega (arith, l), simp e at lacks)
       ];
       values = λ r i h from to. grind (arith, cases_eq, cases_lt);
     }
@@ -148,10 +139,9 @@ HoldBut moduli start commands registers done again place = (r i : ℕ) → r < l
     → (place ≤ i → again ≤ i) → get_or registers (r * length moduli + i) 0 ≡ value_modulo moduli i start commands done r
 
 pub more_again : (moduli start : List ℕ) (commands : List (RingCommand ℕ)) (before after : List ℕ)
-    (count done again place : ℕ)
-    → HoldBut moduli start commands before count again place → IsColumnRun moduli place start commands count after done
-    → IsKept moduli start before after place → done ≤ count
-    → NoneLacks (get_or moduli place 0) (start_residues (get_or moduli place 0) start) commands count
+    (count done again place : ℕ) → HoldBut moduli start commands before count again place
+    → IsColumnRun moduli place start commands count after done → IsKept moduli start before after place → done ≤ count
+    → NoneLacks (get_or moduli place 0) (start_mod (get_or moduli place 0) start) commands count
     → HoldBut moduli start commands after count again (place + 1)
 more_again moduli start commands before after count done again place was here kept most none r i h within side =
     grind (arith, cases_eq)
@@ -163,18 +153,16 @@ pub record IsEnd (m : ℕ) (start : List ℕ) (commands : List (RingCommand ℕ)
   pub same : carried_out end commands ≡ done
 
 pub IsEnd-from_carried : {C : Type 0} (f : C → RingCommand ℕ) (commands : List C) (m : ℕ) (start : List ℕ)
-    (end : RunEnd)
-    (done : ℕ)
-    → IsCarriedOut m start (map f commands) (length (map f commands)) done → done ≤ length commands
-    → (done ≡ length commands → end ≡ Done) → (done < length commands → end ≡ NoInverse done)
-    → IsEnd m start (map f commands) end done
+    (end : RunEnd) (done : ℕ) → IsCarriedOut m start (map f commands) (length (map f commands)) done
+    → done ≤ length commands → (done ≡ length commands → end ≡ Done)
+    → (done < length commands → end ≡ NoInverse done) → IsEnd m start (map f commands) end done
 IsEnd-from_carried f commands m start end done is most all part =
     elim (cases_lt done (length commands)) [
       | inl less ↦ grind (arith, length-map, stop_exactly)
       | inr other ↦
           let e : done ≡ length commands = omega (arith, most, other) in
           let none : (at : ℕ) → IsStop m start (map f commands) at → ⊥ =
-          λ at stop. is.before at (omega (arith, lacks_within m start (map f commands) at stop.lacks, length-map
-              commands f, e)) stop.lacks in
+          λ at stop. let l = lacks_within m start (map f commands) at stop.lacks in
+          is.before at (omega (arith, l, length-map commands f, e)) stop.lacks in
           grind (arith, length-map, all e)
     ]

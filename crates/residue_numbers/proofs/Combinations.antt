@@ -1,18 +1,16 @@
 -- Numbers with two remainders, for moduli m = g·u and n = g·v whose greatest common divisor is g.
 use Rattle.std.proofs.Common.{◌≡◌, ℕ, ◌+◌, ◌*◌, ◌/◌, ◌%◌, ◌<◌, ◌≤◌, ◌↔◌, arith, sym, ap, ◌∙◌}
 use Rattle.std.proofs.Math.Nat.{mod-lt, div-add-mod, add-mul-mod_self_left, mod-eq_of_lt, mod-zero, mod-mod}
-use Rattle.std.proofs.Math.Nat.{mul-mod_right}
-use Rattle.std.proofs.Math.Nat.{mul-le-mul_left}
+use Rattle.std.proofs.Math.Nat.{mul-mod_right, mul-le-mul_left}
 use Rattle.std.specs.Int.{IsGcd}
 use Rattle.std.proofs.lemmas.Nat.Gcd.{le_of_dvd, dvd_of_mod-eq-zero, mod-eq-zero_of_dvd}
 use Rattle.std.proofs.lemmas.Bool.{cases_lt}
 use Rattle.num_modular.specs.Congruence.{Congruent}
 use Rattle.num_modular.specs.Divisors.{IsGreatestCommonDivisor}
 use Rattle.num_modular.specs.Inverses.{HasInverse}
-use Rattle.num_modular.specs.NumberLaws.{mod_of_multiple, mod_add_cancel, mod_add, mod_refl}
+use Rattle.num_modular.specs.NumberLaws.{mod_of_multiple, mod_add_cancel, mod_add, mod_refl, factor_cancel}
 use Rattle.num_modular.specs.SystemLaws.{spread, gathered, within}
 use Rattle.residue_numbers.specs.Combinations.{AreParts, IsLeastCommonMultiple, IsCommon, IsCombination}
-use Rattle.num_modular.specs.NumberLaws.{factor_cancel}
 
 -- a factor with an inverse cancels, as `congruence_laws` states it
 abbrev pub Quotients : Type 0

@@ -1,6 +1,6 @@
 -- Remainders modulo a product, seen modulo a factor of it: products and differences of encodings.
-use Rattle.std.proofs.Common.{◌≡◌, ℕ, ◌+◌, ◌*◌, ◌%◌, ◌<◌, List, slice_index, get_or, length}
-use Rattle.std.proofs.Common.{ap, sym, refl, ◌∙◌, arith, pos, ◌-ℤ◌, ℤ, negsuc}
+use Rattle.std.proofs.Common.{◌≡◌, ℕ, ◌+◌, ◌*◌, ◌%◌, ◌<◌, List, slice_index, get_or, length, ap, sym, refl, ◌∙◌, arith}
+use Rattle.std.proofs.Common.{pos, ◌-ℤ◌, ℤ, negsuc}
 use Rattle.std.proofs.Math.Nat.{mod-lt, mod-mod, mod-add-mod, add-mod-mod}
 use Rattle.std.proofs.lemmas.Nat.{mul-mod}
 use Rattle.num_modular.specs.NumberLaws.{difference_and, mod_add_cancel, equal_below, mod_of_multiple}

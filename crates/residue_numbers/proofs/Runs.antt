@@ -1,7 +1,7 @@
 -- Runs of one list of commands modulo the range and modulo the moduli.
-use Rattle.std.proofs.Common.{◌≡◌, ℕ, zero, suc, ◌+◌, ◌*◌, ◌%◌, ◌<◌, ◌==◌, if◌then◌else◌, List, Bool}
-use Rattle.std.proofs.Common.{Option, Some, None, option_map, unwrap_or, IsSomeAnd, get_or, inl, inr}
-use Rattle.std.proofs.Common.{length, map, sym, ap, subst, ◌∙◌, refl, arith, pos, ◌-ℤ◌, ◌↔◌}
+use Rattle.std.proofs.Common.{◌≡◌, ℕ, zero, suc, ◌+◌, ◌*◌, ◌%◌, ◌<◌, ◌==◌, if◌then◌else◌, List, Bool, Option, Some}
+use Rattle.std.proofs.Common.{None, option_map, unwrap_or, IsSomeAnd, get_or, inl, inr, length, map, sym, ap, subst}
+use Rattle.std.proofs.Common.{◌∙◌, refl, arith, pos, ◌-ℤ◌, ◌↔◌}
 use Rattle.std.specs.List.{slice_get}
 use Rattle.std.proofs.Math.ListN.{get_or-map}
 use Rattle.std.proofs.Math.Nat.{mod-lt, mod-eq_of_lt}
@@ -29,8 +29,8 @@ pub record InverseLaws : Type 0 where
   pub coprime : (m a : ℕ) → 0 < m → HasInverse m a ↔ Coprime a m
 
 -- the residues of the numbers that the registers start with
-abbrev pub start_residues : ℕ → List ℕ → List ℕ
-start_residues m numbers = map (λ n. n % m) numbers
+abbrev pub start_mod : ℕ → List ℕ → List ℕ
+start_mod m numbers = map (λ n. n % m) numbers
 
 inverse_within : {range m : ℕ} → IsFactor range m → (x a i : ℕ) → x % m ≡ a → IsInverse range x i
     → IsInverse m a (i % m)
@@ -49,8 +49,8 @@ some_and None to h = h
 some_and (Some x) to h = to x h
 
 none_of_each : {X : Type 0} {n : ℕ} {P : X → Type 0} {Q : ℕ → X → Type 0} (o : Option X)
-    → ((x : X) → ((i : ℕ) → i < n → Q i x → ⊥) → P x → ⊥) → ((i : ℕ) → i < n → IsSomeAnd o (Q i) → ⊥) → IsSomeAnd o P
-    → ⊥
+    → ((x : X) → ((i : ℕ) → i < n → Q i x → ⊥) → P x → ⊥) → ((i : ℕ) → i < n → IsSomeAnd o (Q i) → ⊥)
+    → IsSomeAnd o P → ⊥
 none_of_each None from each h = h
 none_of_each (Some x) from each h = from x each h
 
@@ -72,8 +72,8 @@ module _ (laws : InverseLaws) {range m : ℕ} (f : IsFactor range m) where
 
   -- the result of a command modulo the range is congruent to that modulo m, where the inverse that it needs exists
   outcome_within : (V v : ℕ → ℕ) → ((r : ℕ) → V r % m ≡ v r) → (command : RingCommand ℕ)
-      → (LacksInverse range V command → ⊥) → IsSomeAnd (outcome range V command) (λ w. outcome m v command ≡ Some
-      (w % m))
+      → (LacksInverse range V command → ⊥)
+      → IsSomeAnd (outcome range V command) (λ w. outcome m v command ≡ Some (w % m))
   outcome_within V v same (Load dst n) unit = ap Some (sym (remainder_within f n))
   outcome_within V v same (Add dst a b) unit = ap Some (sum_within f (V a) (V b) (v a) (v b) (same a) (same b))
   outcome_within V v same (Sub dst a b) unit = ap Some (difference_within f (V a) (V b) (v a) (v b) (same a) (same b))
@@ -98,14 +98,13 @@ module _ (laws : InverseLaws) {range m : ℕ} (f : IsFactor range m) where
 
   -- so the values modulo the range leave the values modulo m, as long as each inverse is there modulo the range
   pub values_within : (start : List ℕ) (commands : List (RingCommand ℕ)) (i : ℕ) → NoneLacks range start commands i
-      → (r : ℕ) → value_at range start commands i r % m ≡ value_at m (start_residues m start) commands i r
+      → (r : ℕ) → value_at range start commands i r % m ≡ value_at m (start_mod m start) commands i r
   values_within start commands zero unit r =
-      sym (subst (λ d. get_or (start_residues m start) r d ≡ get_or start r 0 % m) (mod-eq_of_lt f.positive)
+      sym (subst (λ d. get_or (start_mod m start) r d ≡ get_or start r 0 % m) (mod-eq_of_lt f.positive)
       (get_or-map (λ n. n % m) start r 0))
   values_within start commands (suc i) unit r =
-      after_within (value_at range start commands i) (value_at m (start_residues m start) commands i)
-      (values_within start commands i (λ j h. unit j (omega (arith, h)))) (slice_get commands i) (unit i (omega arith))
-          r
+      after_within (value_at range start commands i) (value_at m (start_mod m start) commands i)
+      (values_within start commands i (λ j h. unit j (omega arith))) (slice_get commands i) (unit i (omega arith)) r
 
   -- an inverse that doesn't exist modulo a factor of the range doesn't exist modulo the range
   pub lacks_above : (V v : ℕ → ℕ) → ((r : ℕ) → V r % m ≡ v r) → (read : Option (RingCommand ℕ))
@@ -128,9 +127,8 @@ module _ (laws : InverseLaws) where
       → HasInverse (range_of moduli) a
   unit_of_product moduli a positive each =
       let range = range_of moduli in let b = a + range * 1 in
-      let one : range ≡ range * 1 = omega arith in
-      let (x, unit) = unit_above moduli b (let wide = range_positive moduli positive in
-      omega (arith, wide)) positive (λ i h.
+      let one : range ≡ range * 1 = omega arith in let wide = range_positive moduli positive in
+      let (x, unit) = unit_above moduli b (omega (arith, wide)) positive (λ i h.
       let m = get_or moduli i 0 in let (k, e) = divides (length moduli) i moduli h in let (y, is) = each i h in
       (y, inverse_from_mod m b y (subst (λ c. IsInverse m c y) (sym (keeps range m k a 1 e)) is))) in
       (x, inverse_from_mod range a x (subst (λ c. IsInverse range c x) (keeps range range 1 a 1 one)
@@ -141,20 +139,18 @@ module _ (laws : InverseLaws) where
   inverse_exists m a o none missing = grind arith
 
   -- where no command before one lacks its inverse modulo a modulus, none does modulo their product
-  pub none_lacks_above : (moduli start : List ℕ) (commands : List (RingCommand ℕ)) → ArePositive moduli → (done : ℕ)
-      → ((i : ℕ) → i < length moduli → NoneLacks (get_or moduli i 0) (start_residues (get_or moduli i 0) start) commands
-      done)
-      → NoneLacks (range_of moduli) start commands done
+  pub none_lacks_above : (moduli start : List ℕ) (commands : List (RingCommand ℕ)) → ArePositive moduli → (n : ℕ)
+      → ((i : ℕ) → i < length moduli → NoneLacks (get_or moduli i 0) (start_mod (get_or moduli i 0) start) commands n)
+      → NoneLacks (range_of moduli) start commands n
   none_lacks_above moduli start commands positive zero each at h lacks = omega (arith, h)
   none_lacks_above moduli start commands positive (suc done) each at h lacks =
       let before = none_lacks_above moduli start commands positive done (λ i l k b. each i l k (omega (arith, b))) in
       elim (cases_lt at done) [
         | inl l ↦ before at l lacks
-        | inr other ↦ none_of_each (slice_get commands at) (λ command. none_of_each (inverted_by command)
-            (λ r units none.
-            none (unit_of_product moduli (value_at (range_of moduli) start commands at r) positive (λ i l.
-            subst (HasInverse (get_or moduli i 0)) (sym (values_within laws (modulus_is_factor moduli positive i l)
-                start commands at
+        | inr other ↦ none_of_each (slice_get commands at)
+            (λ command. none_of_each (inverted_by command) (λ r units no. no (unit_of_product moduli _ positive (λ i l.
+            let f = modulus_is_factor moduli positive i l in
+            subst (HasInverse (get_or moduli i 0)) (sym (values_within laws f start commands at
             (λ k b. before k (omega (arith, b, h))) r)) (inverse_exists _ _ _ (laws.named _ _) (units i l))))))
             (λ i l. each i l at h) lacks
       ]

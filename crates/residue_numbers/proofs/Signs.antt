@@ -1,7 +1,6 @@
 -- Signs of numbers by their digits: where a number lies in the range, and the integer that it represents.
-use Rattle.std.proofs.Common.{◌≡◌, ℕ, ◌+◌, ◌*◌, ◌<◌, ◌≤◌, ◌↔◌, Bool, true, IsTrue, arith, ap, ◌∙◌}
-use Rattle.std.proofs.Common.{ℤ, pos, ◌-ℤ◌, ◌<ℤ◌, if◌then◌else◌}
-use Rattle.std.proofs.Common.{List, length, get_or, slice_index}
+use Rattle.std.proofs.Common.{◌≡◌, ℕ, ◌+◌, ◌*◌, ◌<◌, ◌≤◌, ◌↔◌, Bool, true, IsTrue, arith, ap, ◌∙◌, ℤ, pos, ◌-ℤ◌, ◌<ℤ◌}
+use Rattle.std.proofs.Common.{if◌then◌else◌, List, length, get_or, slice_index}
 use Rattle.std.proofs.Math.Nat.{mul-le-mul_left}
 use Rattle.num_modular.specs.NumberLaws.{sum_below-zero, sum_below-more}
 use Rattle.num_modular.specs.ProductLaws.{product-zero}

@@ -3,7 +3,7 @@ use Rattle.std.proofs.lemmas.Grind.{same_number_lists}
 use Rattle.std.proofs.lemmas.List.{get_or-map, length-map, length-take-le, take-map}
 use Rattle.num_modular.specs.declared.ring.RingCommand.{RingCommand}
 use Rattle.num_modular.specs.Ring.{values_of}
-use Rattle.residue_numbers.proofs.Runs.{start_residues}
+use Rattle.residue_numbers.proofs.Runs.{start_mod}
 use Rattle.residue_numbers.proofs.Columns.{over_whole, carried_by_end, carried_prefix, value_prefix, register_word}
 use Rattle.residue_numbers.proofs.mixed_radix.System.run_column.Goals as goal
 
@@ -26,8 +26,8 @@ returns g c =
     c.run-end.ensures.stops c.run-end.ensures.done c.carried_by.ensures.done c.carried_by.ensures.stopped in record {
       most = most;
       run = λ start entries with.
-          let started : values ≡ start_residues m start =
-              same_number_lists values (start_residues m start) (simp length-map (c.load_column.auto.forms
+          let started : values ≡ start_mod m start =
+              same_number_lists values (start_mod m start) (simp length-map (c.load_column.auto.forms
                   ∙ sym entries))
                   (λ r h.
           let k : r < length start = let e = length-map forms (λ f. ring.value m f) in
