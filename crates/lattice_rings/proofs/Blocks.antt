@@ -1,6 +1,6 @@
 -- The remainders below block 1 of the tree, in the words of the standards.
-use Rattle.std.proofs.Common.{◌≡◌, ℕ, suc, ◌+◌, ◌-◌, ◌*◌, ◌/◌, ◌%◌, ◌^◌, ◌<◌, ◌≤◌, ◌↔◌}
-use Rattle.std.proofs.Common.{List, length, slice_index, refl, sym, ◌∙◌, ap, arith}
+use Rattle.std.proofs.Common.{◌≡◌, ℕ, suc, ◌+◌, ◌-◌, ◌*◌, ◌/◌, ◌%◌, ◌^◌, ◌<◌, ◌≤◌, ◌↔◌, List, length, slice_index, refl}
+use Rattle.std.proofs.Common.{sym, ◌∙◌, ap, arith}
 use Rattle.std.proofs.Math.Nat.{two-pow-succ, mod-eq_of_lt, mod-add-mod, add-mul-mod_self_right, mod-mod, mod-lt}
 use Rattle.std.proofs.Math.Nat.{mul-le-mul_right}
 use Rattle.std.proofs.lemmas.Nat.{div-mul-add, mod-mul-add, mul-pow, pow-add, pow_pos}
@@ -8,16 +8,15 @@ use Rattle.std.proofs.lemmas.List.{map-id}
 use Rattle.num_modular.specs.Congruence.{Congruent}
 use Rattle.num_modular.specs.Sums.{sum_below}
 use Rattle.num_modular.specs.NumberLaws.{mod_of_eq, mod_refl, mod_sym, mod_trans, mod_add, mod_mul, mod_pow, residue_of}
-use Rattle.num_modular.specs.NumberLaws.{one-pow, pow-mul}
-use Rattle.num_modular.specs.NumberLaws.{sum_below-same, sum_below-congruent, sum_below-mul}
+use Rattle.num_modular.specs.NumberLaws.{one-pow, pow-mul, sum_below-same, sum_below-congruent, sum_below-mul}
 use Rattle.num_modular.specs.Orders.{bits_reversed}
 use Rattle.num_modular.specs.Transforms.{Suits, transform}
 use Rattle.num_modular.specs.Factors.{AllFactors}
 use Rattle.num_modular.specs.Tables.{IsTable}
 use Rattle.num_modular.specs.PlanLaws.{table_of, bits_reversed_below, bits_reversed_of_high, bits_reversed_twice}
+use Rattle.num_modular.specs.PlanLaws.{negacyclic, remainders_of_product}
 use Rattle.num_modular.specs.Plans.{numbers, constant, AreTwiddles, AreRemainders}
 use Rattle.num_modular.specs.PlanProducts.{coefficient, product_modulo, AreProducts}
-use Rattle.num_modular.specs.PlanLaws.{negacyclic, remainders_of_product}
 use Rattle.num_modular.specs.Polynomials.{polynomial_at}
 use Rattle.lattice_rings.specs.Rings.{IsRingProduct}
 

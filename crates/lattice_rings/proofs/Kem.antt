@@ -8,8 +8,7 @@ use Rattle.num_modular.specs.Plans.{constant}
 use Rattle.num_modular.specs.PlanProducts.{AreProducts}
 use Rattle.num_modular.specs.PlanLaws.{product_of_two_low, product_of_two_high}
 use Rattle.lattice_rings.specs.Rings.{IsKemTransform, IsKemProduct}
-use Rattle.lattice_rings.proofs.Blocks.{AreValues, constant_is}
-use Rattle.lattice_rings.proofs.Blocks.{value_same}
+use Rattle.lattice_rings.proofs.Blocks.{AreValues, constant_is, value_same}
 
 -- zeta suits
 pub kem_zeta_suits : Suits 3329 17 256
