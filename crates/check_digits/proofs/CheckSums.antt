@@ -63,8 +63,6 @@ still_leaves m r S S' p leaves changed = (
   λ none. changed ∙ gathered m (S + p) S 0 (p / m) (omega arith) ∙ leaves,
 )
 
-
-
 -- a factor with an inverse cancels from a product that is 0 modulo m
 pub unit_cancels : (m e i d : ℕ) → (e * i) % m ≡ 1 % m → (e * d) % m ≡ 0 → d % m ≡ 0
 unit_cancels m e i d one zero_product =

@@ -22,17 +22,17 @@ change_test code power i =
 abbrev pub Passes : CheckCode → ℕ → Type 0
 Passes code power = each_below (length code.weights) (change_test code power) ≡ true
 
-passed : (code : CheckCode) (power : ℕ) → Passes code power → (i : ℕ) → i < length code.weights
+place_tested : (code : CheckCode) (power : ℕ) → Passes code power → (i : ℕ) → i < length code.weights
     → (get_or code.greatest i 0 < code.modulus)
     × ((get_or code.weights i 0 * get_or code.weights i 0 ^ power) % code.modulus ≡ 1 % code.modulus)
-passed code power h i l =
+place_tested code power h i l =
     let both = and_parts _ _ (each_passes _ (change_test code power) h i l) in
     (ltb-true _ _ both.0, eqb-true _ _ both.1)
 
 -- where each place passes, every change is found
 pub changes_tested : (code : CheckCode) (power : ℕ) → Passes code power → FindsEachChange (IsCodeword code)
 changes_tested code power h word i s is within apart changed =
-    let unit = passed code power h i (omega (arith, is.places)) in
+    let unit = place_tested code power h i (omega (arith, is.places)) in
     let x_below : get_or word i 0 < code.modulus = omega (arith, unit, (is.symbols i within).greatest) in
     let difference = a_difference code.modulus (get_or word i 0) s x_below in
     let both = (changed_word code word i s _ is within difference).0 changed in
@@ -63,9 +63,9 @@ pub exchanges_tested : (code : CheckCode) (power : ℕ) → Passes code power
     → each_below (length code.weights - 1) (exchange_test code power) ≡ true → FindsEachExchange (IsCodeword code)
 exchanges_tested code power h tested word i is within apart changed =
     let x_below : get_or word i 0 < code.modulus =
-    omega (arith, passed code power h i (omega (arith, is.places)), (is.symbols i (omega arith)).greatest) in
+    omega (arith, place_tested code power h i (omega (arith, is.places)), (is.symbols i (omega arith)).greatest) in
     let y_below : get_or word (suc i) 0 < code.modulus =
-    omega (arith, passed code power h (suc i) (omega (arith, is.places)), (is.symbols (suc i) within).greatest) in
+    omega (arith, place_tested code power h (suc i) (omega (arith, is.places)), (is.symbols (suc i) within).greatest) in
     let test = exchange_test code power in
     let at = and_parts _ _ (each_passes (length code.weights - 1) test tested i (omega (arith, is.places))) in
     let both = (exchanged_by_step code word i at.0 x_below is within).0 changed in
@@ -98,7 +98,7 @@ pub fives_tested : (r : ℕ) (ws ls gs : List ℕ) → Passes (modulo_10 r ws ls
 fives_tested r ws ls gs h tested word i is within =
     let code = modulo_10 r ws ls gs in
     let x_below : get_or word i 0 < 10 =
-    omega (arith, passed code 3 h i (omega (arith, is.places)), (is.symbols i (omega arith)).greatest) in
+    omega (arith, place_tested code 3 h i (omega (arith, is.places)), (is.symbols i (omega arith)).greatest) in
     let at = and_parts _ _ (each_passes (length ws - 1) (five_test code) tested i (omega (arith, is.places))) in
     let word_is = exchanged_by_step code word i at.0 x_below is within in
     search (arith, five_by, same_modulo_5)
