@@ -3,9 +3,7 @@ pub mod CorrectedResidues
 pub mod Division
 pub mod HashLists
 pub mod InPlace
-pub mod Moved
 pub mod PlannedProducts
-pub mod Rooms
 pub mod SameTerms
 pub mod ShorterBack
 pub mod Wholes
