@@ -1,7 +1,6 @@
-use Rattle.std.proofs.Common.{◌≡◌, ◌*◌, ◌%◌, ◌∙◌, ap, get_or, length, sym, arith}
-use Rattle.modular_word.proofs.Sums.{sum_below-zero}
-use Rattle.num_modular.specs.Sums.{sum_below}
-use Rattle.num_modular_c.proofs.WordLists.{one_more, product_of_words}
+use Rattle.std.proofs.Common.{◌≡◌, ◌%◌, ◌∙◌, ap, length, sym, arith}
+use Rattle.num_modular.specs.NumberLaws.{mod_of_eq, mod_trans, residue_of, sum_below-zero, sum_more}
+use Rattle.num_modular_c.proofs.WordLists.{product_of_words}
 use Rattle.num_modular_c.proofs.word_lists.sum_products.Goals as goal
 
 pub entries-init : goal.entries-init
@@ -12,19 +11,14 @@ entries-init g c = record {
 
 pub entries-preserved : goal.entries-preserved
 entries-preserved g c =
-    let m = g.R.Reducer.modulus c.args.r.now in
-    let i = c.entries.i in
-    let x = get_or c.args.xs.now i 0 in let y = get_or c.args.ys.now i 0 in
+    let product = product_of_words _ _ _ _ _ c.transform.ensures.value c.transform-in-entries.ensures.value in
     record {
       form = c.add-sum.ensures.checked;
-      value = c.add-sum.ensures.value ∙ one_more m i _ _ (λ k. get_or c.args.xs.now k 0 * get_or c.args.ys.now k 0)
-          c.entries.invariant.value (c.mul-product.ensures.value
-          ∙ product_of_words m _ _ x y c.transform.ensures.value c.transform-in-entries.ensures.value);
+      value = c.add-sum.ensures.value ∙ sum_more _ c.entries.i _ _ _ c.entries.invariant.value
+          (mod_trans (mod_of_eq (c.mul-product.ensures.value ∙ product)) (residue_of _));
     }
 
 pub returns : goal.returns
 returns g c =
-    let m = g.R.Reducer.modulus c.args.r.now in
     let all : c.entries.i ≡ length c.args.xs.now = omega arith in
-    c.residue.ensures.value ∙ c.entries.invariant.value
-    ∙ ap (λ n. sum_below n (λ k. get_or c.args.xs.now k 0 * get_or c.args.ys.now k 0) % m) all
+    c.residue.ensures.value ∙ (rw all at c.entries.invariant.value)
