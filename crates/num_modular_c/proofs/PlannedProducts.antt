@@ -1,5 +1,5 @@
 -- Products by a table as block 0 and as block 1, in the words of their calls.
-use Rattle.std.proofs.Common.{◌≡◌, ℕ, ◌+◌, ◌-◌, ◌*◌, ◌/◌, ◌<◌, ◌≤◌, List, length, ◌∙◌, arith}
+use Rattle.std.proofs.Common.{◌≡◌, ℕ, ◌-◌, ◌<◌, List, length, ◌∙◌, arith}
 use Rattle.std.proofs.lemmas.Nat.{pow_pos}
 use Rattle.modular_plan_passes.specs.Plans.{constant}
 use Rattle.modular_plan_transforms.specs.Products.{product_modulo}
@@ -26,18 +26,12 @@ pub as_cyclic : (n : ℕ) (x y : ℕ → ℕ) {m last : ℕ} {table : List NmFac
 as_cyclic n x y {m} all is =
     as_other (λ g z e twiddles l. product_is_cyclic m n e g z x y (omega (arith, all, l))) is
 
--- block 1 has a factor
-some_factor : (k factors : ℕ) → 0 < k → (1 + 1) * k ≤ 2 * factors → 0 < factors
-some_factor k factors some within = omega (arith, some, within)
-
 pub as_negacyclic : (n : ℕ) (x y : ℕ → ℕ) {m last : ℕ} {table : List NmFactor}
     {lefts rights others words new_others : List ℕ}
     → FitPlannedProduct m (length table) 1 last lefts rights
     → IsPlannedProduct m 1 last table (λ g z e. product_modulo m n (constant g z 1) x y e) others words new_others
     → IsPlannedProduct m 1 last table (λ g z e. product_modulo m n (m - 1) x y e) others words new_others
-as_negacyclic n x y {last = last} {table} {lefts} pair is =
-    let count = pair.blocks.count in
-    let whole = count.1 in
-    let positive = pow_pos count.0 in
-    let some = some_factor (length lefts / last) (length table) (omega (arith, whole, positive)) pair.blocks.within in
+as_negacyclic n x y {last = last} {table} pair is =
+    let within = rw pair.blocks.count.1 at pair.blocks.within in
+    let some : 0 < length table = omega (arith, within, pow_pos pair.blocks.count.0) in
     as_other (λ g z e twiddles l. negacyclic n e g z (length table) _ x y pair.admitted.0 some twiddles) is

@@ -1,16 +1,14 @@
-use Rattle.std.proofs.Common.{◌≡◌, ◌*◌, ◌/◌, ◌%◌, length, refl, ◌∙◌, sym, ap, subst, arith}
+use Rattle.std.proofs.Common.{◌≡◌, ◌*◌, ◌/◌, ◌%◌, length, refl, ◌∙◌, sym, ap, arith}
 use Rattle.std.proofs.lemmas.List.{get_or-map}
 use Rattle.modular_word.specs.Congruence.{Congruent}
-use Rattle.modular_plan_passes.specs.Plans.{AreRemainders}
+use Rattle.std.proofs.Math.Nat.{div-one}
 use Rattle.modular_plan_transforms.proofs.Convolutions.{blocks_of, product_is_cyclic, joined_product, residues_again}
 use Rattle.modular_plan_transforms.proofs.SmallProducts.{are_products_of_one}
 use Rattle.num_modular_c.specs.Plans.{words_of}
 use Rattle.num_modular_c.proofs.plan_squares.nm_plan_square.Goals as goal
 
 pub inverse_of_count-requires : goal.inverse_of_count-requires
-inverse_of_count-requires c =
-    let one : length c.args.xs.now / 1 ≡ length c.args.xs.now = omega arith in
-    rw one at (c.if-not-is_pair.ensures.0 refl).blocks.count
+inverse_of_count-requires c = rw div-one at (c.if-not-is_pair.ensures.0 refl).blocks.count
 
 pub join_scaled-requires-clause-blocks : goal.join_scaled-requires-clause-blocks
 join_scaled-requires-clause-blocks c =
@@ -25,12 +23,11 @@ returns-clause-did c pair inverse =
     let part = c.in-Some.part.value in
     let split = c.split.new.xs in
     let squares = c.square_each.new.xs in
-    let one : n / 1 ≡ n = omega arith in
-    let same : length squares / 1 ≡ n / 1 = omega arith in
+    let same : length squares ≡ n = omega arith in
     let is_inverse = rw c.new-m.ensures at c.in-Some.ensures.1 in
-    let unit : Congruent m (n / 1 * part) 1 = record { same = ap (λ k. (k * part) % m) one ∙ is_inverse.one } in
+    let unit : Congruent m (n / 1 * part) 1 = record { same = rw div-one is_inverse.one } in
     let each = rw c.new-m.ensures at c.square_each.ensures.squares in
-    let joined = rw c.new-m.ensures at c.join_scaled.ensures.joined in (
+    let joined = rw (c.new-m.ensures, same) at c.join_scaled.ensures.joined in (
       refl,
       record {
         below = rw c.new-m.ensures at c.join_scaled.ensures.below;
@@ -44,11 +41,7 @@ returns-clause-did c pair inverse =
             (λ i k.
             get_or-map (λ x. x) squares i 0 0 (omega (arith, k)) ∙ each i (omega (arith, k))
             ∙ sym (ap (λ v. (v * v) % m) (get_or-map (λ x. x) split i 0 0 (omega (arith, k))))))
-            (λ r remain i k.
-            joined g z r twiddles
-            (subst (λ q. AreRemainders m g z 0 q 1 r (λ j. words_of squares j % m)) (sym same) remain) i (omega (arith, k))
-            ∙ ap (λ q. (q * r i * part) % m) same)
-            e l
+            (λ r. joined g z r twiddles) e l
             ∙ product_is_cyclic m n e g z (words_of xs) (words_of xs) (omega (arith, l));
       },
     )

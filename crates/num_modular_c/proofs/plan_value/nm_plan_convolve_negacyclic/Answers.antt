@@ -9,5 +9,4 @@ returns-clause-did c pair inverse =
     (is.0, as_negacyclic (length c.args.xs.now) (words_of c.args.xs.now) (words_of c.args.ys.now) pair is.1)
 
 pub returns-clause-no_inverse : goal.returns-clause-no_inverse
-returns-clause-no_inverse c pair none =
-    c.product_code.ensures.no_inverse none
+returns-clause-no_inverse c pair none = c.product_code.ensures.no_inverse none
