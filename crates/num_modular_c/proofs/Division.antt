@@ -8,8 +8,9 @@ use Rattle.modular_prim.proofs.DigitSteps.{remainder_is}
 use Rattle.modular_prim.proofs.Scaled.{scaled_below, scaled_remainder}
 
 -- the quotient stays, and the remainder is scaled too
-pub unscaled : {n d q r : ℕ} (s : ℕ) → 0 < d → IsDivision (n * 2 ^ s) (d * 2 ^ s) q r → IsDivision n d q (r / 2 ^ s)
-unscaled {n} {d} {q} {r} s some h =
+pub division_unscaled : {n d q r : ℕ} (s : ℕ) → 0 < d → IsDivision (n * 2 ^ s) (d * 2 ^ s) q r
+    → IsDivision n d q (r / 2 ^ s)
+division_unscaled {n} {d} {q} {r} s some h =
     let p = 2 ^ s in
     let left : r ≡ n % d * p = remainder_is h ∙ scaled_remainder n d p some (pow_pos s) in
     let down : r / p ≡ n % d = ap (λ v. v / p) left ∙ shl-shr (n % d) s in

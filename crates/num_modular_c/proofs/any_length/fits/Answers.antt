@@ -1,22 +1,18 @@
 use Rattle.std.proofs.Common.{refl, arith}
 use Rattle.std.proofs.lemmas.Bool.{false≢true}
 use Rattle.num_modular_c.proofs.any_length.fits.Goals as goal
-use Rattle.num_modular_c.proofs.any_length.fits.Goals.{then-needed-words-via-then-needed-words, then-needed-words-via-else-needed-words+then-factors-table}
+use Rattle.num_modular_c.proofs.any_length.fits.Goals.{then-needed-words-via-then-needed-words}
+use Rattle.num_modular_c.proofs.any_length.fits.Goals.{then-needed-words-via-else-needed-words+then-factors-table}
 
 pub returns-then-needed-words : goal.returns-then-needed-words
 returns-then-needed-words c = (
   λ t. absurd (false≢true t),
   λ is.
       let room = (c.room-needed.ensures c.args.words c.args.table).0 is.room in
-      let words = room.0 in
-      let table = room.1 in
       elim c.then-needed-words.branch [
-        | then-needed-words-via-then-needed-words w ↦
-            let more = w.if-needed-words.true in
-            absurd (omega (arith, words, more))
+        | then-needed-words-via-then-needed-words w ↦ absurd (omega (arith, room.0, w.if-needed-words.true))
         | then-needed-words-via-else-needed-words+then-factors-table w ↦
-            let more = w.if-factors-table.true in
-            absurd (omega (arith, table, more))
+            absurd (omega (arith, room.1, w.if-factors-table.true))
       ],
 )
 

@@ -1,20 +1,15 @@
-use Rattle.std.proofs.Common.{◌/◌, length, refl, arith}
+use Rattle.std.proofs.Common.{refl, arith}
 use Rattle.num_modular_c.proofs.any_length.nm_transform_inverse.Goals as goal
 
 pub invert_once-requires-else-n-lt-LEAST_TRANSFORMED-clause-fits :
     goal.invert_once-requires-else-n-lt-LEAST_TRANSFORMED-clause-fits
 invert_once-requires-else-n-lt-LEAST_TRANSFORMED-clause-fits c =
     let is = c.if-not-fits.ensures.0 refl in
-    record {
-      modulus = is.modulus;
-      equal = is.equal;
-      room = c.table_length-table.ensures.room (length c.args.words.now) (length c.args.factors.now / 3) is.room;
-    }
+    record { modulus = is.modulus; equal = is.equal; room = c.table_length-table.ensures.room _ _ is.room }
 
 pub invert_once-requires-else-n-lt-LEAST_TRANSFORMED-clause-room :
     goal.invert_once-requires-else-n-lt-LEAST_TRANSFORMED-clause-room
 invert_once-requires-else-n-lt-LEAST_TRANSFORMED-clause-room c =
-    let is = c.if-not-fits.ensures.0 refl in
-    let within = c.table_length-table.ensures.within (length c.args.words.now) (length c.args.factors.now / 3) is.room
+    let within = c.table_length-table.ensures.within _ _ (c.if-not-fits.ensures.0 refl).room
     c.if-n-lt-LEAST_TRANSFORMED.false in
     omega (arith, within)

@@ -5,12 +5,10 @@ use Rattle.num_modular_c.proofs.any_length.table_length.Goals as goal
 pub returns-clause-lengths : goal.returns-clause-lengths
 returns-clause-lengths c =
     let is = c.transform_length.ensures in
-    let n = c.transform_length.result in
-    let enough = is.enough in
-    let long = c.if-n-lt-LEAST_TRANSFORMED.false in
     let few = is.least 4294967296 (32, refl) (omega (arith, c.requires)) in
     record {
-      power = (half_of_power_of_two 1 n (0, refl) is.power.0 is.power.1 (omega (arith, enough, long))).power;
+      power = (half_of_power_of_two 1 c.transform_length.result (0, refl) is.power.0 is.power.1
+          (omega (arith, is.enough, c.if-n-lt-LEAST_TRANSFORMED.false))).power;
       few = omega (arith, few);
       equal = refl;
       equal_third = refl;
@@ -19,29 +17,21 @@ returns-clause-lengths c =
 pub returns-clause-room : goal.returns-clause-room
 returns-clause-room c words table room long =
     let is = c.transform_length.ensures in
-    let n = c.transform_length.result in
-    let enough = is.enough in
-    let all = c.if-n-lt-LEAST_TRANSFORMED.false in
-    let half = half_of_power_of_two 1 n (0, refl) is.power.0 is.power.1 (omega (arith, enough, all)) in
-    let whole = half.whole in
-    let old = room long in (
-      old.0,
-      record {
-        places = refl;
-        scratch = λ a b.
-            let scratch = old.1.scratch a b in
-            let other = scratch.1 in
-            let least = is.least other.0 other.1 (omega (arith, other.2)) in
-            let fits = other.3 in
-            (scratch.0, (n, is.power, omega (arith, enough), omega (arith, least, fits), omega (arith, whole)));
-      },
-    )
+    let half = half_of_power_of_two 1 c.transform_length.result (0, refl) is.power.0 is.power.1
+    (omega (arith, is.enough, c.if-n-lt-LEAST_TRANSFORMED.false)) in
+    let old = room long in
+    (old.0, record {
+      places = refl;
+      scratch = λ a b.
+          let other = (old.1.scratch a b).1 in
+          let least = is.least other.0 other.1 (omega (arith, other.2)) in
+          ((old.1.scratch a b).0, (c.transform_length.result, is.power, omega (arith, is.enough),
+          omega (arith, least, other.3), omega (arith, half.whole)));
+    })
 
 pub returns-clause-within : goal.returns-clause-within
 returns-clause-within c words table room long =
     let is = c.transform_length.ensures in
-    let old = room (omega (arith, long)) in
-    let other = (old.1.scratch long (omega (arith, long))).1 in
+    let other = ((room (omega (arith, long))).1.scratch long (omega (arith, long))).1 in
     let least = is.least other.0 other.1 (omega (arith, other.2)) in
-    let fits = other.4 in
-    omega (arith, least, fits)
+    omega (arith, least, other.4)

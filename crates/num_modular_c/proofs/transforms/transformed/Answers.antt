@@ -1,6 +1,5 @@
-use Rattle.std.proofs.Common.{◌<◌, ◌∙◌, length, refl, subst, sym}
+use Rattle.std.proofs.Common.{◌<◌, ◌∙◌, refl, subst, sym}
 use Rattle.std.proofs.lemmas.Bool.{false≢true}
-use Rattle.num_modular.specs.Transforms.{Suits}
 use Rattle.num_modular_c.proofs.SameTerms.{same_transform}
 use Rattle.num_modular_c.proofs.transforms.transformed.Goals as goal
 
@@ -14,19 +13,11 @@ returns-clause-did g c suits = (
 
 pub returns-then-not-root_fits-clause-did : goal.returns-then-not-root_fits-clause-did
 returns-then-not-root_fits-clause-did g c suits =
-    let m = g.R.Reducer.modulus c.args.r.now in
-    let value = sym c.transform-g.ensures.value in
-    let suits_form = subst (λ x. Suits m x (length c.args.xs.now)) value suits in
-    absurd (false≢true (c.if-not-root_fits.ensures.1 suits_form))
+    absurd (false≢true (c.if-not-root_fits.ensures.1 (rw c.transform-g.ensures.value suits)))
 
 pub ntt-requires-clause-suits : goal.ntt-requires-clause-suits
-ntt-requires-clause-suits g c =
-    let m = g.R.Reducer.modulus c.args.r.now in
-    subst (λ n. Suits m (g.R.Reducer.value m c.transform-g.result) n) (sym c.load.auto.xs)
-    (c.if-not-root_fits.ensures.0 refl)
+ntt-requires-clause-suits g c = rw c.load.auto.xs (c.if-not-root_fits.ensures.0 refl)
 
 pub returns-clause-no_root : goal.returns-clause-no_root
 returns-clause-no_root g c none =
-    let m = g.R.Reducer.modulus c.args.r.now in
-    let value = c.transform-g.ensures.value in
-    absurd (none (subst (λ x. Suits m x (length c.args.xs.now)) value (c.if-not-root_fits.ensures.0 refl)))
+    absurd (none (rw c.transform-g.ensures.value at (c.if-not-root_fits.ensures.0 refl)))
