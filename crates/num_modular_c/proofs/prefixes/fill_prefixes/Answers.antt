@@ -13,18 +13,15 @@ pub places-init : goal.places-init
 places-init c =
     let p : ℕ = mersenne 61 1 in let x = residue_of c.args.base in
     let hash : ℕ → ℕ = λ k. polynomial_highest_first k (slice_index c.args.text.now) x % p in
-    let value = c.convert-value.ensures.residue ∙ ap (λ v. v % p) (sym (no_coefficient (slice_index c.args.text.now) x)) in
-    let power = c.convert-power.ensures.residue ∙ ap (λ v. v % p) (sym (pow-zero x)) in
     let none : 0 ≡ hash 0 = ap (λ v. v % p) (sym (no_coefficient (slice_index c.args.text.now) x)) in
     let one : 1 ≡ x ^ 0 % p = ap (λ v. v % p) (sym (pow-zero x)) in
-    let room = c.requires.hashes_room in let other = c.requires.powers_room in
     record {
-      value = value;
-      power = power;
+      value = c.convert-value.ensures.residue ∙ none;
+      power = c.convert-power.ensures.residue ∙ one;
       entries = length-set _ _ _ ∙ c.requires.hashes_room;
       exponents = length-set _ _ _ ∙ c.requires.powers_room;
-      hashed = first_word c.args.hashes.now 0 hash (omega (arith, room)) none;
-      raised = first_word c.args.powers.now 1 (λ k. x ^ k % p) (omega (arith, other)) one;
+      hashed = first_word c.args.hashes.now 0 hash (omega (arith, c.requires.hashes_room)) none;
+      raised = first_word c.args.powers.now 1 (λ k. x ^ k % p) (omega (arith, c.requires.powers_room)) one;
     }
 
 pub places-preserved : goal.places-preserved

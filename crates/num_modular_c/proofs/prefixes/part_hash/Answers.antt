@@ -1,4 +1,4 @@
-use Rattle.std.proofs.Common.{ℕ, ◌+◌, ◌*◌, ◌%◌, ◌<◌, lit<, subst, sym, ap, ◌∙◌}
+use Rattle.std.proofs.Common.{ℕ, ◌+◌, ◌*◌, ◌%◌, ◌<◌, lit<, ap, ◌∙◌}
 use Rattle.num_modular.specs.Congruence.{Congruent}
 use Rattle.num_modular.specs.Integers.{residue_of as residue_in}
 use Rattle.num_modular.specs.Mersenne.{mersenne}
@@ -12,8 +12,6 @@ returns c =
     let product : ℕ = residue_in c.mul.result in
     let difference : ℕ = residue_in c.sub.result in
     let same = c.residue.ensures in
-    let below : difference < p =
-    subst (λ n. n < p) (sym c.sub.ensures.residue) (c.residue_laws.ensures.residue p _ positive).below in
     let product_of : Congruent p product (c.args.start * c.args.power) =
     mod_trans (mod_trans (mod_of_eq c.mul.ensures.residue) (residue_of _))
     (mod_mul (mod_trans (mod_of_eq c.base-first.ensures) (residue_of c.args.start))
@@ -25,7 +23,7 @@ returns c =
     })
     (mod_trans (mod_of_eq c.base-end.ensures) (residue_of c.args.whole)) in
     record {
-      below = subst (λ n. n < p) (sym same) below;
+      below = rw (same, c.sub.ensures.residue) (c.residue_laws.ensures.residue p _ positive).below;
       sum = ap (λ v. (v + c.args.start * c.args.power) % p) same
           ∙ (mod_trans (mod_add (mod_refl difference) (mod_sym product_of)) sum).same;
     }

@@ -13,11 +13,11 @@ returns-then-at-text c = record {
   most = omega arith;
   stands = λ l. absurd (omega (arith, l));
   first = λ j l stands.
-      let fits = stands.within in
       let size = pattern_length c.args.patterns.now c.args.size (length c.args.hashes.now) j c.requires.whole l in
       elim c.then-at-text.branch [
-        | then-at-text-via-then-at-text w ↦ omega (arith, fits, size, w.if-at-text.true)
-        | then-at-text-via-else-at-text+then-text-at w ↦ omega (arith, fits, size, w.if-at-text.false, w.if-text-at.true)
+        | then-at-text-via-then-at-text w ↦ omega (arith, stands.within, size, w.if-at-text.true)
+        | then-at-text-via-else-at-text+then-text-at w ↦
+            omega (arith, stands.within, size, w.if-at-text.false, w.if-text-at.true)
       ];
 }
 
