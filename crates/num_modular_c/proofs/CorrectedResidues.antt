@@ -31,8 +31,8 @@ same_values form value m forms all = residues_of_residues m _ (values_of_forms_b
 pub corrected_residues : (form value : ℕ → ℕ → ℕ) (m k e : ℕ) (points lost word old new after : List ℕ)
     → All (λ f. IsForm form value m f) points → map (λ f. value m f) old ≡ residues_of m word
     → after ≡ map (λ f. value m f) new
-    → IsCorrectedWord (λ f. IsForm form value m f) (λ fs. slice_index (map (λ f. value m f) fs)) m k points lost old new e
-    → IsCorrectedModulo m k (map (λ f. value m f) points) lost word after e
+    → IsCorrectedWord (λ f. IsForm form value m f) (λ fs. slice_index (map (λ f. value m f) fs)) m k points lost old new
+    e → IsCorrectedModulo m k (map (λ f. value m f) points) lost word after e
 corrected_residues form value m k e points lost word old new after checked loaded unloaded is =
     let long = length-map points (λ f. value m f) in
     let below = values_of_forms_below form value m new is.checked in

@@ -39,7 +39,8 @@ places-preserved c =
       power = power;
       entries = length-set _ _ _ ∙ before.entries;
       exponents = length-set _ _ _ ∙ before.exponents;
-      hashed = more_words c.places.hashes i _ hash (omega (arith, before.entries)) before.hashed (c.residue-hash.ensures ∙ value);
+      hashed = more_words c.places.hashes i _ hash (omega (arith, before.entries)) before.hashed
+          (c.residue-hash.ensures ∙ value);
       raised = more_words c.places.powers i _ (λ k. x ^ k % p) (omega (arith, before.exponents)) before.raised
           (c.residue-word.ensures ∙ power);
     }

@@ -7,6 +7,6 @@ pub places-preserved : goal.places-preserved
 places-preserved c = record {
   hashed = c.next_window-window.ensures;
   written = set_more c.places.found c.places.at c.first_pattern.result
-      (λ i k. IsFirstPattern c.args.text.now c.args.patterns.now c.args.size (length c.args.hashes.now) i k) (omega arith)
-      c.places.invariant.written c.first_pattern.ensures;
+      (λ i k. IsFirstPattern c.args.text.now c.args.patterns.now c.args.size (length c.args.hashes.now) i k)
+      (omega arith) c.places.invariant.written c.first_pattern.ensures;
 }
