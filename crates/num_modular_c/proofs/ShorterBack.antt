@@ -3,7 +3,6 @@ use Rattle.std.proofs.Common.{◌≡◌, ℕ, ◌+◌, ◌-◌, ◌*◌, ◌/◌
 use Rattle.std.proofs.Common.{List, length, refl, sym, ap, ◌∙◌, arith, subst}
 use Rattle.std.proofs.Math.Nat.{mod-lt, mul-div_cancel_left}
 use Rattle.std.proofs.lemmas.Nat.{pow-add, pow_pos}
-use Rattle.modular_word.specs.Congruence.{Congruent}
 use Rattle.modular_word.specs.Inverses.{IsInverse}
 use Rattle.modular_word.proofs.Congruence.{mod_of_eq, mod_trans, mod_sym, mod_mul, mod_pow, residue_of, mod_refl}
 use Rattle.modular_word.proofs.Powers.{pow-mul}
@@ -37,12 +36,6 @@ remainders_of_shorter m g z n bits d x y whole sum are = record {
       are.each j i l first ∙ ap (λ c. remainder m x n 1 c i) same;
 }
 
--- roots that are congruent have the same transform
-transform_by : {m g h : ℕ} (n j : ℕ) (x : ℕ → ℕ) → Congruent m g h → transform m g n x j ≡ transform m h n x j
-transform_by {m} {g} {h} n j x same =
-    (sum_below-congruent n (λ i. x i * g ^ (i * j)) (λ i. x i * h ^ (i * j))
-    (λ i _. mod_mul (mod_refl (x i)) (mod_pow (i * j) same))).same
-
 -- numbers whose transform the old ones are, and that are each list whose transform these are
 pub record IsUndone (m h n : ℕ) (old new : ℕ → ℕ) : Type 0 where
   pub values : (j : ℕ) → j < n → transform m h n new j ≡ old j % m
@@ -68,7 +61,9 @@ undone_by_join m g z n bits count part w old mid new some whole len len_mid with
     ∙ inverse_unscales m n part (x i) inverse in
     let suits = power_suits (2 ^ d) n (bits, whole) (rw times at twiddles.suits) in
     let x = λ (i : ℕ). (transform m (h % m) n (words_of old) (mirrored n i) * part) % m in
-    let back = λ (k : ℕ) (l : k < n). transform_by n k x (mod_sym (residue_of h))
+    let back = λ (k : ℕ) (l : k < n).
+    (sum_below-congruent n (λ i. x i * h ^ (i * k)) (λ i. x i * (h % m) ^ (i * k))
+    (λ i _. mod_mul (mod_refl (x i)) (mod_pow (i * k) (mod_sym (residue_of h))))).same
     ∙ restored_at m (h % m) n part k x (words_of old) (mod-lt h some) suits inverse l (λ i t. refl) in
     subst (λ q. IsUndone m (g ^ q) n (words_of old) new) (sym quotient) (record {
       values = λ j l. transform_congruent h n j new x (λ i k.
