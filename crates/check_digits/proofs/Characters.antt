@@ -102,10 +102,10 @@ place_of text i long inside = elim (cases_lt i 4) [
         moves = search (arith, drop-set-lt, take-set-lt, set_split, append_assoc);
       }
   | inr b ↦ record {
-      before = take (i - 4) (drop 4 text);
-      behind = drop (suc (i - 4)) (drop 4 text) ++ take 4 text;
-      moves = search (arith, drop-set-add, take-set-le, set_split, append_assoc);
-    }
+    before = take (i - 4) (drop 4 text);
+    behind = drop (suc (i - 4)) (drop 4 text) ++ take 4 text;
+    moves = search (arith, drop-set-add, take-set-le, set_split, append_assoc);
+  }
 ]
 
 pub number_of : (text xs : List ℕ) → rotated text ≡ xs → number xs ≡ iban_number text

@@ -32,7 +32,6 @@ check_digits_of (s ∷ t ∷ u ∷ c ∷ rest) v form is =
     let text : List ℕ = s ∷ t ∷ u ∷ c ∷ rest in
     let n = written (flat_map digits_of (rest ++ s ∷ t ∷ [])) in
     let old : ℕ = 10 * (u - 48) + (c - 48) in
-
     let k : ℕ = check_of v old in
     let leaves : v ≡ (100 * n + old) % 97 = grind (arith, split_number) in
     let right : (100 * n + k) % 97 ≡ 1 = omega (arith, leaves) in

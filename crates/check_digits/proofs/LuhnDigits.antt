@@ -62,7 +62,6 @@ pub luhn_exchanges : LuhnFindsAllButNines
 luhn_exchanges word i is within apart =
     let x = get_or word i 0 in
     let y = get_or word (suc i) 0 in
-
     let x_most : x ≤ 9 = is.digits i 0 (omega (arith, within)) in
     let y_most : y ≤ 9 = is.digits (suc i) 0 within in
     let moved = exchanged_luhn word i within in

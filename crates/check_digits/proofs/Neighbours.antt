@@ -68,11 +68,13 @@ kept_neighbours before behind c d same =
 -- powers of ten less 1 have inverses modulo 97, from 10 to 10^68
 less_one_unit : (k : ℕ) → k < 68 → HasInverse 97 (10 ^ suc k + 96)
 less_one_unit k l =
-    let x = λ (k : ℕ). (10 ^ suc k + 96) ^ 95 % 97 in
-    (x k, record {
-      below = omega arith;
-      one = eqb-true _ _ (each_passes 68 (λ k. nat_eq (((10 ^ suc k + 96) * x k) % 97) 1) refl k l);
-    })
+    let x = λ (k : ℕ). (10 ^ suc k + 96) ^ 95 % 97 in (
+      x k,
+      record {
+        below = omega arith;
+        one = eqb-true _ _ (each_passes 68 (λ k. nat_eq (((10 ^ suc k + 96) * x k) % 97) 1) refl k l);
+      },
+    )
 
 -- a character has two digits at most
 digits_at_most : (xs : List ℕ) → length (flat_map digits_of xs) ≤ 2 * length xs
@@ -136,7 +138,6 @@ neighbours_told text i iban inside apart =
           let kept : (j : ℕ) → j < 4 → get_or (exchanged text i) j 0 ≡ get_or text j 0 = search (arith, get_or-set_other) in
           let count : length (exchanged text i) ≡ length text = search (arith, length-set) in
           let check : check_number (exchanged text i) ≡ check_number text = search arith in
-
           record {
             form = record {
               least = omega (arith, count, least);

@@ -42,8 +42,11 @@ pub root_table : {F : Type 0} {q g m : ℕ} (value quotient : F → ℕ) (s : �
     → Suits m g (2 * length table) × IsTable 4294967296 m g value quotient table
 root_table {q = q} {g = g} value quotient s table suits is count factors powers =
     let wide : Suits q g (2 * length table) = rw count suits in
-    rw is (wide, table_of 4294967296 q g s value quotient table count wide factors
-        (λ k l. powers k (omega (arith, l, count))))
+    rw is (
+      wide,
+      table_of 4294967296 q g s value quotient table count wide factors
+          (λ k l. powers k (omega (arith, l, count))),
+    )
 
 -- the modulus m, the root r and the exponent b of the plan that a ring's calls use, and the number n of blocks
 pub record IsRingPlan (q g s m r b n : ℕ) : Type 0 where
@@ -80,8 +83,10 @@ value_same m n c x f same =
 -- residues are their own residues
 pub AreValues-of_residues : (m g s last : ℕ) (x y : ℕ → ℕ) → AreValues m g s last x y
     → AreValues m g s last x (λ i. y i % m)
-AreValues-of_residues m g s last x y are = record { each = λ j i lj li. ap (λ v. v % m) (are.each j i lj li)
-    ∙ mod-mod _ m }
+AreValues-of_residues m g s last x y are = record {
+  each = λ j i lj li. ap (λ v. v % m) (are.each j i lj li)
+      ∙ mod-mod _ m;
+}
 
 -- the powers of g and of its inverse h in a term, G being congruent to g^2
 powers_of_term : {m : ℕ} (g h G r k part u : ℕ) → Congruent m (g * h) 1 → Congruent m G (g * g)
@@ -171,8 +176,8 @@ pub join_entries : {q g s m r b n : ℕ} (last : ℕ) (x : ℕ → ℕ) (ys zs :
 join_entries {q} {g} {s} {m} last x ys zs ring are known i l =
     let own : AreRemainders q g (suc s) 1 (2 ^ s) last x (λ i. numbers (λ v. v) ys i % m) =
     simp (map-id, ring.modulus) ((remainders_are_values q g s last x _).1 (AreValues-of_residues q g s last x
-        (slice_index ys)
-        are)) in
+    (slice_index ys)
+    are)) in
     simp (map-id, ring.modulus) at (known ((by_ring last x (λ i. numbers (λ v. v) ys i % m) ring).1 own) i l)
 
 -- the product in the ring, by a formula
@@ -203,7 +208,7 @@ product_transformed q g s last x y p u v r some size suits product first second 
     ∙ added_to _ (coefficient 256 x y e) (coefficient 256 x y (e + 256)) (p e) (product.below e l) (product.each e l) in
     let room : (1 + 1) * (n / 2) ≤ n = omega arith in
     let are = (remainders_are_values _ _ _ _ z _).0 (remainders_of_product _ _ _ _ _ _ _ _ _ _ _ _ (s, refl) room
-        twiddles
+    twiddles
     ((remainders_are_values _ _ _ _ _ _).1 first) ((remainders_are_values _ _ _ _ _ _).1 second) products) in
     record {
       each = λ j i lj li.

@@ -46,7 +46,7 @@ pub value_prefix : (m : ℕ) (start : List ℕ) (commands : List (RingCommand �
 value_prefix m start commands k zero h r = refl
 value_prefix m start commands k (suc i) h r =
     ap (λ v. value_after m v (slice_get (take k commands) i) r)
-        (fun_ext (value_prefix m start commands k i (omega (arith, h))))
+    (fun_ext (value_prefix m start commands k i (omega (arith, h))))
     ∙ ap (λ o. value_after m (value_at m start commands i) o r) (read_prefix commands k i (omega (arith, h)))
 
 lacks_prefix : (m : ℕ) (start : List ℕ) (commands : List (RingCommand ℕ)) (k i : ℕ) → i < k

@@ -52,9 +52,11 @@ parts_of m n g above greatest =
       first = first;
       second = second;
       step = step;
-      coprime = record { only_one = λ d h k. at_most_one g d positive (greatest.greatest (g * d)
-          (multiple_of_both g d m (m / g) first h) (multiple_of_both g d n (n / g) second k))
-              (divisor_positive d (n / g) step k) };
+      coprime = record {
+        only_one = λ d h k. at_most_one g d positive (greatest.greatest (g * d)
+            (multiple_of_both g d m (m / g) first h) (multiple_of_both g d n (n / g) second k))
+            (divisor_positive d (n / g) step k);
+      };
     }
 
 -- a factor of both numbers and of the modulus
@@ -90,11 +92,11 @@ module _ (m n g u v : ℕ) (m_is : m ≡ g * u) (n_is : n ≡ g * v) where
         } in
         let steps = congruent_of_scaled g v (q * u) (t * u) positive (rw n_is at same.same) in
         let digit = (quotients v q t u unit.0 record { same = unit.1.one } record { same = steps }).same
-            ∙ mod-eq_of_lt t_below in
+        ∙ mod-eq_of_lt t_below in
         let along : m * (v * (q / v) + t) ≡ m * q = ap (λ w. m * w) (omega (arith, digit)) in
         let sum : y ≡ x + m * v * (q / v) = omega (arith, y_is, e, along) in
         ap (λ k. k % (m * v)) sum ∙ add-mul-mod_self_left x (m * v) (q / v)
-            ∙ mod-eq_of_lt (within m v a t a_below t_below)
+        ∙ mod-eq_of_lt (within m v a t a_below t_below)
 
     -- the least common multiple
     multiple_is : 0 < m → 0 < v → IsLeastCommonMultiple m n (m * v)

@@ -25,7 +25,7 @@ mixed_within zero ms ds below = omega arith
 mixed_within (suc n) ms ds below =
     let before = mixed_within n ms ds (λ i l. below i (omega arith)) in
     let inside = within (range_below n ms) (get_or ms n 0) (mixed_below n ms ds) (get_or ds n 0) before
-        (below n (omega arith)) in
+    (below n (omega arith)) in
     omega (arith, inside)
 
 -- the first digit from the top that differs decides
@@ -45,8 +45,11 @@ mixed_less (suc n) k ms ds es inside below less same = elim (cases_lt k n) [
       let here : n ≡ k = omega arith in
       let inside = mixed_within n ms ds (λ i l. below i (omega (arith, l, here))) in
       let first : get_or ds n 0 < get_or es n 0 = rw here less in
-      omega (arith, higher_digit_decides (range_below n ms) (mixed_below n ms ds) (mixed_below n ms es) _ _ inside
-          first)
+      omega (
+        arith,
+        higher_digit_decides (range_below n ms) (mixed_below n ms ds) (mixed_below n ms es) _ _ inside
+            first,
+      )
 ]
 
 -- in a system the product of the moduli before one has an inverse modulo it

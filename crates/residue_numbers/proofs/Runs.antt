@@ -130,9 +130,11 @@ module _ (laws : InverseLaws) where
       let one : range ≡ range * 1 = omega arith in let wide = range_positive moduli positive in
       let (x, unit) = unit_above moduli b (omega (arith, wide)) positive (λ i h.
       let m = get_or moduli i 0 in let (k, e) = divides (length moduli) i moduli h in let (y, is) = each i h in
-      (y, inverse_from_mod m b y (subst (λ c. IsInverse m c y) (sym (keeps range m k a 1 e)) is))) in
-      (x, inverse_from_mod range a x (subst (λ c. IsInverse range c x) (keeps range range 1 a 1 one)
-          (inverse_mod range b x unit)))
+      (y, inverse_from_mod m b y (subst (λ c. IsInverse m c y) (sym (keeps range m k a 1 e)) is))) in (
+        x,
+        inverse_from_mod range a x (subst (λ c. IsInverse range c x) (keeps range range 1 a 1 one)
+            (inverse_mod range b x unit)),
+      )
 
   -- an inverse that isn't missing exists
   inverse_exists : (m a : ℕ) (o : Option ℕ) → IsInversion (λ x. x) m a o → ((HasInverse m a → ⊥) → ⊥) → HasInverse m a

@@ -12,7 +12,10 @@ returns-clause-changes_modulo_11 c = (changes_tested _ 9 refl, changes_tested _ 
 pub returns-clause-changes_modulo_10 : goal.returns-clause-changes_modulo_10
 unfolding from_right
 returns-clause-changes_modulo_10 c = (
-  changes_tested _ 3 refl, changes_tested _ 3 refl, changes_tested _ 3 refl, changes_tested _ 3 refl,
+  changes_tested _ 3 refl,
+  changes_tested _ 3 refl,
+  changes_tested _ 3 refl,
+  changes_tested _ 3 refl,
   changes_tested _ 3 refl,
 )
 
@@ -24,8 +27,11 @@ returns-clause-exchanges c =
 pub returns-clause-fives : goal.returns-clause-fives
 unfolding from_right
 returns-clause-fives c = (
-  fives_tested _ _ _ _ refl refl, fives_tested _ _ _ _ refl refl, fives_tested _ _ _ _ refl refl,
-  fives_tested _ _ _ _ refl refl, fives_tested _ _ _ _ refl refl,
+  fives_tested _ _ _ _ refl refl,
+  fives_tested _ _ _ _ refl refl,
+  fives_tested _ _ _ _ refl refl,
+  fives_tested _ _ _ _ refl refl,
+  fives_tested _ _ _ _ refl refl,
 )
 
 pub returns-clause-iban : goal.returns-clause-iban

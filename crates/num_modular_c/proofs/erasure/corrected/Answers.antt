@@ -5,14 +5,24 @@ pub returns-in-Ok-clause-ok : goal.returns-in-Ok-clause-ok
 returns-in-Ok-clause-ok g c ok =
     let points = c.load_from.auto.forms ∙ c.split_at_mut-xs.ensures.front_len in
     let right = c.in-Ok.ensures in
-    rw (← c.split_at_mut-forms.ensures.front_len, ← points, ← c.load_from.ensures.values,
-    ← c.load_from-2.ensures.values, c.unload_from.ensures, c.unload_from-in-Ok.ensures) (right.fit, refl, record {
-      encoding = right.encoding;
-      errors = right.count;
-      few = right.few;
-      only_word = λ sent other is near. (right.only sent other is near).0;
-      only_message = λ sent other is near. (right.only sent other is near).1;
-    })
+    rw (
+      ← c.split_at_mut-forms.ensures.front_len,
+      ← points,
+      ← c.load_from.ensures.values,
+      ← c.load_from-2.ensures.values,
+      c.unload_from.ensures,
+      c.unload_from-in-Ok.ensures,
+    ) (
+      right.fit,
+      refl,
+      record {
+        encoding = right.encoding;
+        errors = right.count;
+        few = right.few;
+        only_word = λ sent other is near. (right.only sent other is near).0;
+        only_message = λ sent other is near. (right.only sent other is near).1;
+      },
+    )
 
 pub returns-in-Err-clause-failure : goal.returns-in-Err-clause-failure
 returns-in-Err-clause-failure g c bad =
@@ -20,8 +30,12 @@ returns-in-Err-clause-failure g c bad =
       record {
         error = c.in-Err.error;
         code_is = c.correct_code.ensures.code;
-        reason = rw (← c.split_at_mut-forms.ensures.front_len, ← points, ← c.load_from.ensures.values,
-            ← c.load_from-2.ensures.values) c.in-Err.ensures;
+        reason = rw (
+          ← c.split_at_mut-forms.ensures.front_len,
+          ← points,
+          ← c.load_from.ensures.values,
+          ← c.load_from-2.ensures.values,
+        ) c.in-Err.ensures;
         number = c.correct_code.ensures.number;
       },
       refl,
@@ -38,14 +52,25 @@ split_at_mut-forms-requires g c =
 
 pub split_at_mut-word_forms-requires : goal.split_at_mut-word_forms-requires
 split_at_mut-word_forms-requires g c =
-    omega (arith, c.requires.scratch, c.split_at_mut-xs.ensures.back_len, c.split_at_mut-ys.ensures.back_len,
-    c.split_at_mut-forms.ensures.back_len)
+    omega (
+      arith,
+      c.requires.scratch,
+      c.split_at_mut-xs.ensures.back_len,
+      c.split_at_mut-ys.ensures.back_len,
+      c.split_at_mut-forms.ensures.back_len,
+    )
 
 pub correct-requires-clause-scratch : goal.correct-requires-clause-scratch
 correct-requires-clause-scratch g c =
-    omega (arith, c.requires.scratch, c.split_at_mut-xs.ensures.back_len, c.split_at_mut-ys.ensures.back_len,
-    c.split_at_mut-forms.ensures.back_len, c.split_at_mut-word_forms.ensures.back_len,
-    c.split_at_mut-forms.ensures.front_len)
+    omega (
+      arith,
+      c.requires.scratch,
+      c.split_at_mut-xs.ensures.back_len,
+      c.split_at_mut-ys.ensures.back_len,
+      c.split_at_mut-forms.ensures.back_len,
+      c.split_at_mut-word_forms.ensures.back_len,
+      c.split_at_mut-forms.ensures.front_len,
+    )
 
 pub correct-requires-clause-room : goal.correct-requires-clause-room
 correct-requires-clause-room g c =

@@ -10,10 +10,17 @@ returns-in-Ok-clause-failure g c none =
 
 pub returns-in-Ok-clause-did : goal.returns-in-Ok-clause-did
 returns-in-Ok-clause-did g c placed =
-    let points = c.load_from.auto.forms ∙ c.split_at_mut-xs.ensures.front_len in
-    (refl, rw (← c.split_at_mut-forms.ensures.front_len, ← points, ← c.load_from.ensures.values,
-    ← c.load_from-2.ensures.values, c.unload_from.ensures)
-    (record { symbols = c.in-Ok.ensures.symbols refl; original = c.in-Ok.ensures.original refl }))
+    let points = c.load_from.auto.forms ∙ c.split_at_mut-xs.ensures.front_len in (
+      refl,
+      rw (
+        ← c.split_at_mut-forms.ensures.front_len,
+        ← points,
+        ← c.load_from.ensures.values,
+        ← c.load_from-2.ensures.values,
+        c.unload_from.ensures,
+      )
+          (record { symbols = c.in-Ok.ensures.symbols refl; original = c.in-Ok.ensures.original refl }),
+    )
 
 pub returns-in-Err-clause-did : goal.returns-in-Err-clause-did
 returns-in-Err-clause-did g c placed =
@@ -38,13 +45,24 @@ split_at_mut-chosen-requires g c =
 
 pub split_at_mut-weights-requires : goal.split_at_mut-weights-requires
 split_at_mut-weights-requires g c =
-    omega (arith, c.requires.scratch, c.split_at_mut-xs.ensures.back_len, c.split_at_mut-ys.ensures.back_len,
-    c.split_at_mut-chosen.ensures.back_len)
+    omega (
+      arith,
+      c.requires.scratch,
+      c.split_at_mut-xs.ensures.back_len,
+      c.split_at_mut-ys.ensures.back_len,
+      c.split_at_mut-chosen.ensures.back_len,
+    )
 
 pub split_at_mut-forms-requires : goal.split_at_mut-forms-requires
 split_at_mut-forms-requires g c =
-    omega (arith, c.requires.scratch, c.split_at_mut-xs.ensures.back_len, c.split_at_mut-ys.ensures.back_len,
-    c.split_at_mut-chosen.ensures.back_len, c.split_at_mut-weights.ensures.back_len)
+    omega (
+      arith,
+      c.requires.scratch,
+      c.split_at_mut-xs.ensures.back_len,
+      c.split_at_mut-ys.ensures.back_len,
+      c.split_at_mut-chosen.ensures.back_len,
+      c.split_at_mut-weights.ensures.back_len,
+    )
 
 pub restore-requires-clause-chosen : goal.restore-requires-clause-chosen
 restore-requires-clause-chosen g c =

@@ -9,9 +9,11 @@ returns-then-not-are_forms-clause-did c is all below =
     absurd (false≢true ((rw (sym c.in-Ok.ensures.0) at c.if-not-are_forms.ensures.below).1 all))
 
 pub returns-clause-did : goal.returns-clause-did
-returns-clause-did c is all below =
-    (refl, forms_of_outcomes _ _ (λ m v w. (v * value_of m c.args.factor) % m) _ c.args.xs.now _ c.in-Ok.ensures.0
-    c.scale_list.auto.xs refl c.scale_list.ensures.checked c.scale_list.ensures.values)
+returns-clause-did c is all below = (
+  refl,
+  forms_of_outcomes _ _ (λ m v w. (v * value_of m c.args.factor) % m) _ c.args.xs.now _ c.in-Ok.ensures.0
+      c.scale_list.auto.xs refl c.scale_list.ensures.checked c.scale_list.ensures.values,
+)
 
 pub returns-clause-bad_argument : goal.returns-clause-bad_argument
 returns-clause-bad_argument c is none =

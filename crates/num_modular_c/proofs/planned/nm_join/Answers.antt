@@ -1,5 +1,7 @@
 use Rattle.num_modular_c.proofs.planned.nm_join.Goals as goal
 
 pub returns-then-code-eq-NM_OK-clause-did : goal.returns-then-code-eq-NM_OK-clause-did
-returns-then-code-eq-NM_OK-clause-did c split factors = (c.if-code-eq-NM_OK.true,
-    rw (← c.new.ensures) (record { below = c.join.ensures.below; joined = c.join.ensures.joined }))
+returns-then-code-eq-NM_OK-clause-did c split factors = (
+  c.if-code-eq-NM_OK.true,
+  rw (← c.new.ensures) (record { below = c.join.ensures.below; joined = c.join.ensures.joined }),
+)

@@ -11,5 +11,7 @@ ntt_planned-requires-clause-within c =
     omega (arith, (c.split_code-code.ensures.fits.0 c.if-code-eq-NM_OK.true).0.blocks.within)
 
 pub returns-then-code-eq-NM_OK-clause-did : goal.returns-then-code-eq-NM_OK-clause-did
-returns-then-code-eq-NM_OK-clause-did c split factors = (c.if-code-eq-NM_OK.true,
-    rw (← c.new.ensures) (record { below = c.ntt_planned.ensures.below; values = c.ntt_planned.ensures.values }))
+returns-then-code-eq-NM_OK-clause-did c split factors = (
+  c.if-code-eq-NM_OK.true,
+  rw (← c.new.ensures) (record { below = c.ntt_planned.ensures.below; values = c.ntt_planned.ensures.values }),
+)

@@ -5,13 +5,15 @@ use Rattle.num_modular_c.proofs.planned.product_code.Goals as goal
 pub returns-then-convolve_block-clause-did : goal.returns-then-convolve_block-clause-did
 returns-then-convolve_block-clause-did c inverse =
     let done = c.convolve_block.ensures in
-    let is = c.if-convolve_block.true in
-    (refl, rw (← c.new.ensures) (record {
-      below = (done.below is).0;
-      product = rw c.convolve_block.auto.xs (done.product is);
-      others_below = (done.below is).1;
-      remainders = rw c.requires.pair.equal (done.remainders is);
-    }))
+    let is = c.if-convolve_block.true in (
+      refl,
+      rw (← c.new.ensures) (record {
+        below = (done.below is).0;
+        product = rw c.convolve_block.auto.xs (done.product is);
+        others_below = (done.below is).1;
+        remainders = rw c.requires.pair.equal (done.remainders is);
+      }),
+    )
 
 pub returns-then-convolve_block-clause-no_inverse : goal.returns-then-convolve_block-clause-no_inverse
 returns-then-convolve_block-clause-no_inverse c none =

@@ -16,12 +16,18 @@ loaded_residues g c =
 
 pub returns-in-Done-clause-did : goal.returns-in-Done-clause-did
 returns-in-Done-clause-did g c all none =
-    let start = loaded_residues g (goal.at.returns-in-Done-clause-did g c).After-load in
-    (refl, record {
-      carried_out = refl;
-      values = λ n l. c.unload.ensures n (omega arith) ∙ (rw (start, word_wholes_same c.args.commands.now, c.in-Done.is,
-          length-map c.args.commands.now ring_command_of) at c.run-end.ensures.residues n (omega arith));
-    })
+    let start = loaded_residues g (goal.at.returns-in-Done-clause-did g c).After-load in (
+      refl,
+      record {
+        carried_out = refl;
+        values = λ n l. c.unload.ensures n (omega arith) ∙ (rw (
+          start,
+          word_wholes_same c.args.commands.now,
+          c.in-Done.is,
+          length-map c.args.commands.now ring_command_of,
+        ) at c.run-end.ensures.residues n (omega arith));
+      },
+    )
 
 pub returns-in-Done-clause-no_inverse : goal.returns-in-Done-clause-no_inverse
 returns-in-Done-clause-no_inverse g c stop all is =
@@ -39,9 +45,11 @@ returns-in-NoInverse-clause-no_inverse g c stop all is =
     let start = loaded_residues g (goal.at.returns-in-NoInverse-clause-no_inverse g c).After-load in
     let told = (c.run-end.ensures.stops stop).1 (rw (start, word_wholes_same c.args.commands.now) is) in
     let here = c.in-NoInverse.is in
-    let same : c.in-NoInverse.at ≡ stop = cc in
-    (refl, record {
-      carried_out = same;
-      values = λ n l. c.unload.ensures n (omega arith)
-          ∙ (rw (start, word_wholes_same c.args.commands.now, told) at c.run-end.ensures.residues n (omega arith));
-    })
+    let same : c.in-NoInverse.at ≡ stop = cc in (
+      refl,
+      record {
+        carried_out = same;
+        values = λ n l. c.unload.ensures n (omega arith)
+            ∙ (rw (start, word_wholes_same c.args.commands.now, told) at c.run-end.ensures.residues n (omega arith));
+      },
+    )

@@ -24,5 +24,5 @@ returns c =
     let ms : List ℕ = c.args.moduli.now in
     let (high, whole, number) = c.digits.invariant.above in
     number ∙ ap (λ k. k % c.args.m) (weighted_lowest c.args.count c.digits.place high (λ i. range_below i ms)
-        c.args.digits.now
+    c.args.digits.now
     (omega arith) (product-zero (slice_index ms)) whole)

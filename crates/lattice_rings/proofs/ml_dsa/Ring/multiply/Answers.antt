@@ -10,5 +10,12 @@ returns-clause-products c = search (arith, multiplied_words)
 pub returns-clause-product : goal.returns-clause-product
 returns-clause-product c =
     let products = returns-clause-products c in
-    grind (arith, slice_index, IsDsaTransform-from_values, product_transformed, dsa_zeta_suits,
-        AreValues-from_dsa_transform, products_of_places)
+    grind (
+      arith,
+      slice_index,
+      IsDsaTransform-from_values,
+      product_transformed,
+      dsa_zeta_suits,
+      AreValues-from_dsa_transform,
+      products_of_places,
+    )

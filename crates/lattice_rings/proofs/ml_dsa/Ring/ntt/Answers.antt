@@ -11,4 +11,4 @@ split-requires-clause-blocks c =
 pub returns-clause-values : goal.returns-clause-values
 returns-clause-values c =
     IsDsaTransform-from_values _ _ (AreValues-from_split 1 c.args.w.now c.split.new.xs (search arith)
-        c.split.ensures.remainders)
+    c.split.ensures.remainders)

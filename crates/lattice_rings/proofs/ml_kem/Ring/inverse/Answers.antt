@@ -26,4 +26,4 @@ returns-clause-inverse c =
     let values = inverse_polynomial_values 17 1175 289 2419 7 2 3303 y record { same = refl } record { same = refl }
     record { same = refl } back (λ j i lj li. c.requires (j * 2 + i) 0 (omega arith)) in
     kem_transform_same (slice_index c.join.new.xs) x y (λ i l. inverse_entries c x values i l ∙ mod-mod _ 3329)
-        (IsKemTransform-from_values x y values)
+    (IsKemTransform-from_values x y values)

@@ -6,6 +6,12 @@ use Rattle.lattice_rings.proofs.ml_kem.Ring.multiply.Goals as goal
 
 pub returns-clause-product : goal.returns-clause-product
 returns-clause-product c =
-    grind (arith, slice_index, IsKemTransform-from_values, product_transformed, kem_zeta_suits,
-        AreValues-from_kem_transform,
-        products_of_remainders)
+    grind (
+      arith,
+      slice_index,
+      IsKemTransform-from_values,
+      product_transformed,
+      kem_zeta_suits,
+      AreValues-from_kem_transform,
+      products_of_remainders,
+    )

@@ -7,4 +7,4 @@ returns-clause-product c =
     let is = ring_product 3329 _ _ (omega arith) in
     ring_product_same 3329 _ _ _ _ is
     (c.inverse.ensures.unique _ (c.multiply.ensures.product _ _ _ is c.ntt.ensures.remainders
-        c.ntt-2.ensures.remainders))
+    c.ntt-2.ensures.remainders))

@@ -40,7 +40,7 @@ returns-clause-run g c start entries with =
     let all : c.moduli.place ≡ length ms = omega arith in
     let was = c.moduli.invariant.run start entries with in
     let none = none_lacks_above laws ms start wholes positive c.moduli.carried
-        (λ i h. was.each i (omega (arith, h, all))) in
+    (λ i h. was.each i (omega (arith, h, all))) in
     let values = λ (i : ℕ) (h : i < length ms).
     values_within laws (modulus_is_factor ms positive i h) start wholes c.moduli.carried none in record {
       carried = record {
@@ -48,7 +48,7 @@ returns-clause-run g c start entries with =
         next = λ h.
             let (i, l, lacks) = was.next h in let k : i < length ms = omega (arith, l, all) in
             lacks_above laws (modulus_is_factor ms positive i k) _ _ (values i k) (slice_get wholes c.moduli.carried)
-                lacks;
+            lacks;
       };
       residues = λ r h. record {
         each = λ i l. register_word (length ms) c.again.registers r i l

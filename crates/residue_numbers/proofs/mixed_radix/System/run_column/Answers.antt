@@ -16,20 +16,20 @@ returns g c =
     let values = values_of (λ f. f) ring.value m forms in
     let part = take-map f c.args.count c.args.commands.now in
     let count : length c.args.reducers.now ≡ n = sym (length-map c.args.reducers.now ring.modulus)
-        ∙ ap length c.requires.reducers in
+    ∙ ap length c.requires.reducers in
     let modulus : m ≡ get_or ms place 0 = ap ring.modulus reducer.is
-        ∙ sym (get_or-map ring.modulus c.args.reducers.now place reducer.result 0
-            (omega (arith, count, c.requires.within)))
-        ∙ ap (λ ms. get_or ms place 0) c.requires.reducers in
+    ∙ sym (get_or-map ring.modulus c.args.reducers.now place reducer.result 0
+    (omega (arith, count, c.requires.within)))
+    ∙ ap (λ ms. get_or ms place 0) c.requires.reducers in
     let (carried, most, same) = carried_by_end _ _ _ _ c.args.count _ (length-map _ _
-        ∙ length-take-le _ _ c.requires.count)
+    ∙ length-take-le _ _ c.requires.count)
     c.run-end.ensures.stops c.run-end.ensures.done c.carried_by.ensures.done c.carried_by.ensures.stopped in record {
       most = most;
       run = λ start entries with.
           let started : values ≡ start_mod m start =
-              same_number_lists values (start_mod m start) (simp length-map (c.load_column.auto.forms
-                  ∙ sym entries))
-                  (λ r h.
+          same_number_lists values (start_mod m start) (simp length-map (c.load_column.auto.forms
+          ∙ sym entries))
+          (λ r h.
           let k : r < length start = let e = length-map forms (λ f. ring.value m f) in
           omega (arith, h, e, entries, c.load_column.auto.forms) in
           c.load_column.ensures.values r (omega (arith, k, entries))
@@ -40,9 +40,9 @@ returns g c =
             values = λ r h.
                 let within : r < length forms = omega (arith, h, entries, c.load_column.auto.forms) in
                 rw (← modulus, ← started) (c.unload_column.ensures.written r
-                    (omega (arith, within, c.run-end.auto.regs))
+                (omega (arith, within, c.run-end.auto.regs))
                 ∙ c.run-end.ensures.residues r within
-                    ∙ rw (same, ← part) (value_prefix m values commands c.args.count _ most r));
+                ∙ rw (same, ← part) (value_prefix m values commands c.args.count _ most r));
           };
       kept = search arith;
     }

@@ -19,9 +19,9 @@ registers-preserved g c =
       entries = length-set words at x ∙ before.entries;
       written = below_more (λ r. get_or (set words at x) (r * n + place) 0 ≡ ring.value m (get_or forms r 0)) q
           (λ r h. get_or-set_other words at (r * n + place) x 0 (registers_apart n r q place h c.requires.within)
-              ∙ before.written r h)
+          ∙ before.written r h)
           (get_or-set_same words at x 0 (omega (arith, inside, before.entries, c.requires.words))
-              ∙ c.residue.ensures.value);
+          ∙ c.residue.ensures.value);
       kept = λ r i h k other.
           get_or-set_other words at (r * n + i) x 0 (λ e. other (other_place n r q i place k c.requires.within e))
           ∙ before.kept r i h k other;
