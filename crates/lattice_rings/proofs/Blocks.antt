@@ -32,8 +32,8 @@ AreTwiddles-from_powers m g s count w suits is entry = search (arith, two-pow-su
 -- the powers of a root that suits twice 2^s entries are its twiddle factors
 pub powers_are_twiddles : (m g s : ℕ) → Suits m g (2 ^ suc s)
     → AreTwiddles m g (suc s) (2 ^ s) (λ k. g ^ bits_reversed s k % m)
-powers_are_twiddles m g s suits = AreTwiddles-from_powers m g s (2 ^ s) (λ k. g ^ bits_reversed s k % m) suits refl
-    (λ k l. refl)
+powers_are_twiddles m g s suits =
+    AreTwiddles-from_powers m g s (2 ^ s) (λ k. g ^ bits_reversed s k % m) suits refl (λ k l. refl)
 
 -- a table that holds the powers of a root that suits is the root's
 pub root_table : {F : Type 0} {q g m : ℕ} (value quotient : F → ℕ) (s : ℕ) (table : List F) → Suits q g (2 * 2 ^ s)
@@ -42,11 +42,8 @@ pub root_table : {F : Type 0} {q g m : ℕ} (value quotient : F → ℕ) (s : �
     → Suits m g (2 * length table) × IsTable 4294967296 m g value quotient table
 root_table {q = q} {g = g} value quotient s table suits is count factors powers =
     let wide : Suits q g (2 * length table) = rw count suits in
-    rw is (
-      wide,
-      table_of 4294967296 q g s value quotient table count wide factors
-          (λ k l. powers k (omega (arith, l, count))),
-    )
+    let entry = λ (k : ℕ) (l : k < length table). powers k (omega (arith, l, count)) in
+    rw is (wide, table_of 4294967296 q g s value quotient table count wide factors entry)
 
 -- the modulus m, the root r and the exponent b of the plan that a ring's calls use, and the number n of blocks
 pub record IsRingPlan (q g s m r b n : ℕ) : Type 0 where
@@ -175,9 +172,8 @@ pub join_entries : {q g s m r b n : ℕ} (last : ℕ) (x : ℕ → ℕ) (ys zs :
     → (i : ℕ) → i < length ys → slice_index zs i ≡ x i % q
 join_entries {q} {g} {s} {m} last x ys zs ring are known i l =
     let own : AreRemainders q g (suc s) 1 (2 ^ s) last x (λ i. numbers (λ v. v) ys i % m) =
-    simp (map-id, ring.modulus) ((remainders_are_values q g s last x _).1 (AreValues-of_residues q g s last x
-    (slice_index ys)
-    are)) in
+    simp (map-id, ring.modulus)
+    ((remainders_are_values q g s last x _).1 (AreValues-of_residues q g s last x (slice_index ys) are)) in
     simp (map-id, ring.modulus) at (known ((by_ring last x (λ i. numbers (λ v. v) ys i % m) ring).1 own) i l)
 
 -- the product in the ring, by a formula
@@ -208,8 +204,7 @@ product_transformed q g s last x y p u v r some size suits product first second 
     ∙ added_to _ (coefficient 256 x y e) (coefficient 256 x y (e + 256)) (p e) (product.below e l) (product.each e l) in
     let room : (1 + 1) * (n / 2) ≤ n = omega arith in
     let are = (remainders_are_values _ _ _ _ z _).0 (remainders_of_product _ _ _ _ _ _ _ _ _ _ _ _ (s, refl) room
-    twiddles
-    ((remainders_are_values _ _ _ _ _ _).1 first) ((remainders_are_values _ _ _ _ _ _).1 second) products) in
+    twiddles ((remainders_are_values _ _ _ _ _ _).1 first) ((remainders_are_values _ _ _ _ _ _).1 second) products) in
     record {
       each = λ j i lj li.
           let value = products.each j i lj li in

@@ -116,16 +116,15 @@ pub combination_is : Quotients → (m n g a b s t : ℕ) → AreParts m n g → 
     → (m / g * t) % (n / g) ≡ (s / g) % (n / g) → t < n / g → (s + a % m) % n ≡ b % n
     → IsCombination a m b n (a % m + m * t) (m * (n / g))
 combination_is quotients m n g a b s t parts above unit divides steps below difference =
-    let u = m / g in let v = n / g in
-    let reduced = mod-lt a above in
+    let u = m / g in let v = n / g in let reduced = mod-lt a above in
     let s_is : s ≡ g * (s / g) = omega (arith, divides) in
     let is = solution_is_common m n g u v parts.first parts.second (a % m) b s (s / g) t s_is steps difference in
     record {
       multiple = multiple_is m n g u v parts.first parts.second quotients parts.positive unit above parts.step;
       below = within m v (a % m) t reduced below;
       common = record { first = add-mul-mod_self_left (a % m) m t ∙ mod-mod a m; second = is };
-      only = λ y common. only_one m n g u v parts.first parts.second quotients parts.positive unit (a % m) b t y reduced
-          below is
+      only = λ y common.
+          only_one m n g u v parts.first parts.second quotients parts.positive unit (a % m) b t y reduced below is
           common.first common.second;
     }
 

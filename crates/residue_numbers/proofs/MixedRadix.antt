@@ -42,14 +42,9 @@ mixed_less (suc n) k ms ds es inside below less same = elim (cases_lt k n) [
       let before = mixed_less n k ms ds es l below less (λ i h m. same i h (omega arith)) in
       grind (arith, same n l)
   | inr h ↦
-      let here : n ≡ k = omega arith in
+      let here : n ≡ k = omega arith in let top : get_or ds n 0 < get_or es n 0 = rw here less in
       let inside = mixed_within n ms ds (λ i l. below i (omega (arith, l, here))) in
-      let first : get_or ds n 0 < get_or es n 0 = rw here less in
-      omega (
-        arith,
-        higher_digit_decides (range_below n ms) (mixed_below n ms ds) (mixed_below n ms es) _ _ inside
-            first,
-      )
+      omega (arith, higher_digit_decides (range_below n ms) (mixed_below n ms ds) (mixed_below n ms es) _ _ inside top)
 ]
 
 -- in a system the product of the moduli before one has an inverse modulo it

@@ -6,9 +6,8 @@ use Rattle.residue_numbers.proofs.combination.combine.Goals as goal
 pub returns-then-difference-divisor-ne0-clause-number : goal.returns-then-difference-divisor-ne0-clause-number
 returns-then-difference-divisor-ne0-clause-number c x common =
     let parts = c.common_divisor-divisor.ensures.parts in
-    c.if-difference-divisor-ne0.true
-    ((divides_exactly _ _ _ _ c.args.a c.args.b _ refl parts c.difference_modulo-difference.ensures).1
-    (same_of_common _ _ _ c.args.a c.args.b x parts common))
+    let exactly = divides_exactly _ _ _ _ c.args.a c.args.b _ refl parts c.difference_modulo-difference.ensures in
+    c.if-difference-divisor-ne0.true (exactly.1 (same_of_common _ _ _ c.args.a c.args.b x parts common))
 
 pub returns-then-difference-divisor-ne0-clause-exactly : goal.returns-then-difference-divisor-ne0-clause-exactly
 returns-then-difference-divisor-ne0-clause-exactly c = (
@@ -26,8 +25,7 @@ returns-clause-number c =
     let unit = (c.inverse_laws.ensures.coprime (n / g) (m / g) parts.step).1 parts.coprime in
     simp (c.from.ensures, c.from-2.ensures, c.from-3.ensures, c.from-4.ensures, c.from-5.ensures)
     (combination_is c.congruence_laws.ensures.quotients m n g c.args.a c.args.b c.difference_modulo-difference.result
-    steps.result
-    parts c.requires.m unit c.if-difference-divisor-ne0.false steps.ensures.solved steps.ensures.below
+    steps.result parts c.requires.m unit c.if-difference-divisor-ne0.false steps.ensures.solved steps.ensures.below
     c.difference_modulo-difference.ensures)
 
 pub returns-clause-exactly : goal.returns-clause-exactly

@@ -19,17 +19,13 @@ returns-then-is_none c = search (arith, false≢true, unit_at)
 
 pub moduli-preserved : goal.moduli-preserved
 moduli-preserved c =
-    let ms : List ℕ = c.args.moduli.now in let place : ℕ = c.moduli.place in
-    let m = get_or ms place 0 in
-    let before = c.moduli.invariant in
-    let (positive, found) = some_is m (range_below place ms) _ c.inverse_at.ensures (c.is_none.ensures
-    ∙ ap not c.if-is_none.false) in
+    let ms : List ℕ = c.args.moduli.now in let place : ℕ = c.moduli.place in let m = get_or ms place 0 in
+    let before = c.moduli.invariant in let is = c.is_none.ensures ∙ ap not c.if-is_none.false in
+    let (positive, found) = some_is m (range_below place ms) _ c.inverse_at.ensures is in
     record {
       positive = below_more (λ i. 0 < get_or ms i 0) place before.positive positive;
       coprime = λ i j h k.
           below_more (λ i. (j : ℕ) → j < i → Coprime (get_or ms j 0) (get_or ms i 0)) place
-          (λ i l j h. before.coprime i j h l)
-          (λ j h. (c.inverse_laws.ensures.coprime m (get_or ms j 0) positive).0 (has_each m place (slice_index ms) found
-          j h))
-          i k j h;
+          (λ i l j h. before.coprime i j h l) (λ j h. (c.inverse_laws.ensures.coprime m (get_or ms j 0) positive).0
+          (has_each m place (slice_index ms) found j h)) i k j h;
     }

@@ -24,7 +24,6 @@ returns-clause-inverse c =
     let back = λ (v : ℕ → ℕ) (k : ℕ) (l : k < 256). c.transform_laws.ensures.back 8380417 6635910 3073009 256 k v
     record { below = omega arith; one = refl } record { power_of_two = (8, refl); half_turn = λ l. refl } l in
     let values = inverse_polynomial_values 1753 731434 3073009 6635910 8 1 8347681 y record { same = refl }
-    record { same = refl }
-    record { same = refl } back (λ j i lj li. c.requires (j * 1 + i) 0 (omega arith)) in
+    record { same = refl } record { same = refl } back (λ j i lj li. c.requires (j * 1 + i) 0 (omega arith)) in
     dsa_transform_same (slice_index c.join.new.xs) x y (λ i l. inverse_entries c x values i l ∙ mod-mod _ 8380417)
     (IsDsaTransform-from_values x y values)

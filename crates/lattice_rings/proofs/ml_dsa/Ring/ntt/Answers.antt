@@ -10,5 +10,5 @@ split-requires-clause-blocks c =
 
 pub returns-clause-values : goal.returns-clause-values
 returns-clause-values c =
-    IsDsaTransform-from_values _ _ (AreValues-from_split 1 c.args.w.now c.split.new.xs (search arith)
-    c.split.ensures.remainders)
+    IsDsaTransform-from_values _ _
+    (AreValues-from_split 1 c.args.w.now c.split.new.xs (search arith) c.split.ensures.remainders)

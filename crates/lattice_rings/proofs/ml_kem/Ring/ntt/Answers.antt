@@ -10,5 +10,5 @@ split-requires-clause-blocks c =
 
 pub returns-clause-remainders : goal.returns-clause-remainders
 returns-clause-remainders c =
-    IsKemTransform-from_values _ _ (AreValues-from_split 2 c.args.w.now c.split.new.xs (search arith)
-    c.split.ensures.remainders)
+    IsKemTransform-from_values _ _
+    (AreValues-from_split 2 c.args.w.now c.split.new.xs (search arith) c.split.ensures.remainders)

@@ -8,8 +8,7 @@ pub over-requires : goal.over-requires
 over-requires c =
     let ring = c.args.self.now in
     let (suits, holds) = root_table (λ f. f.value) (λ f. f.quotient) 7 ring.table kem_zeta_suits ring.modulus_is
-    (omega arith)
-    ring.factors ring.powers in
+    (omega arith) ring.factors ring.powers in
     record { odd = search arith; below = search arith; suits = suits; holds = holds }
 
 pub returns-clause-bits : goal.returns-clause-bits

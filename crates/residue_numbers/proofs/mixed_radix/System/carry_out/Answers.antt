@@ -47,8 +47,7 @@ returns-clause-run g c start entries with =
         before = none;
         next = λ h.
             let (i, l, lacks) = was.next h in let k : i < length ms = omega (arith, l, all) in
-            lacks_above laws (modulus_is_factor ms positive i k) _ _ (values i k) (slice_get wholes c.moduli.carried)
-            lacks;
+            lacks_above laws (modulus_is_factor ms positive i k) _ _ (values i k) (slice_get wholes _) lacks;
       };
       residues = λ r h. record {
         each = λ i l. register_word (length ms) c.again.registers r i l

@@ -11,8 +11,7 @@ returns-then-digits-place c =
     let ms : List ℕ = c.args.self.now.moduli.now in let ds : List ℕ = c.args.digits.now in
     let next : ℕ = c.digits.place - 1 in let half : ℕ = get_or ms next 0 / 2 in let d = get_or ds next 0 in
     let (high, low, more) = digit_tells ms ds c.digits.place next c.requires.digits c.digits.invariant.within
-    (omega arith)
-    c.digits.invariant.halves in
+    (omega arith) c.digits.invariant.halves in
     sign_is _ (range_of ms) (mixed_number ms ds) (mixed_within (length ms) ms ds c.requires.digits.below) (
       λ t. high (let above = ltb-true half d t in omega (arith, above)),
       λ h. lt-ltb half d (grind (arith, low, c.if-digits-place.true)),
@@ -22,8 +21,7 @@ pub returns-then-self-place-eq0 : goal.returns-then-self-place-eq0
 returns-then-self-place-eq0 c =
     let ms : List ℕ = c.args.self.now.moduli.now in let ds : List ℕ = c.args.digits.now in
     let (high, low, more) = digit_tells ms ds c.digits.place (c.digits.place - 1) c.requires.digits
-    c.digits.invariant.within
-    (omega arith) c.digits.invariant.halves in
+    c.digits.invariant.within (omega arith) c.digits.invariant.halves in
     sign_is _ (range_of ms) (mixed_number ms ds) (mixed_within (length ms) ms ds c.requires.digits.below)
     (λ t. high (omega (arith, c.if-digits-place.false, c.if-self-place-eq0.true)), λ h. refl)
 
