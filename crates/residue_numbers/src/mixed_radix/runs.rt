@@ -8,7 +8,7 @@ ghost use Rattle.residue_numbers.specs.Registers.{register, StartWith, IsColumnR
 
 use crate::mixed_radix::System;
 use num_modular::Reducer;
-use num_modular::laws::{inverse_laws, remainder_laws, residue_laws};
+use num_modular::laws::inverse_laws;
 use num_modular::ring::{AsCommand, RunEnd, run};
 
 // Writes the forms of the words at one place of each register, of those at `count` places.
@@ -211,8 +211,6 @@ impl<'a> System<'a> {
             IsRun moduli start wholes registers.new result }
     {
         inverse_laws();
-        remainder_laws();
-        residue_laws();
         let mut carried = commands.len();
         let mut again = 0;
         'moduli: for place in 0..self.moduli.len() {
