@@ -8,7 +8,7 @@ use Rattle.std.proofs.lemmas.Int.{ints}
 use Rattle.std.proofs.lemmas.Nat.{mul-mod_second}
 use Rattle.num_modular.specs.Congruence.{Congruent}
 use Rattle.num_modular.specs.Inverses.{IsInverse, HasInverse, IsInversion}
-use Rattle.num_modular.specs.NumberLaws.{mod_of_eq, mod_sym, mod_trans, mod_add, mod_mul}
+use Rattle.num_modular.specs.NumberLaws.{mod_of_eq, mod_sym, mod_trans, mod_add}
 use Rattle.num_modular.specs.Polynomials.{polynomial_at, HaveUnitDifferences}
 use Rattle.num_modular.specs.PolynomialLaws.{polynomial-none, polynomial-first, polynomial-same}
 use Rattle.num_modular.specs.ProductLaws.{has_each, has_product}
@@ -46,22 +46,15 @@ form-same m (suc n) c d x y a same points =
 pub product-first : (n : ℕ) (f : ℕ → ℕ) → product_below (suc n) f ≡ f 0 * product_below n (λ i. f (suc i))
 unfolding product_below
 product-first zero f = omega arith
-product-first (suc n) f =
-    let i = ap (λ v. v * f (suc n)) (product-first n f) in
-    omega (arith, i)
+product-first (suc n) f = omega (arith, ap (λ v. v * f (suc n)) (product-first n f))
 
 -- a factor of 0
 pub product-none : (n l : ℕ) (f : ℕ → ℕ) → l < n → f l ≡ 0 → product_below n f ≡ 0
 unfolding product_below
 product-none zero l f below none = absurd (omega arith)
 product-none (suc n) l f below none = elim (cases_eq l n) [
-  | inl e ↦
-      let z : f n ≡ 0 = ap f (sym e) ∙ none in
-      let g = ap (λ v. product_below n f * v) z in
-      omega (arith, g)
-  | inr other ↦
-      let g = ap (λ v. v * f n) (product-none n l f (omega arith) none) in
-      omega (arith, g)
+  | inl e ↦ rw (← e, none) (omega arith)
+  | inr other ↦ rw (product-none n l f (omega arith) none) (omega arith)
 ]
 
 -- one coefficient more
@@ -71,9 +64,11 @@ unfolding newton_form product_below
 form-more m zero c x a = omega arith
 form-more m (suc n) c x a =
     let f : ℕ → ℕ = λ j. residue m (pos a -ℤ pos (x j)) in
-    let i = ap (λ v. f 0 * v) (form-more m n (λ i. c (suc i)) (λ i. x (suc i)) a) in
-    let p = ap (λ v. v * c (suc n)) (product-first n f) in
-    omega (arith, i, p)
+    omega (
+      arith,
+      ap (λ v. f 0 * v) (form-more m n (λ i. c (suc i)) (λ i. x (suc i)) a),
+      ap (λ v. v * c (suc n)) (product-first n f),
+    )
 
 pub no_difference : (m a : ℕ) → residue m (pos a -ℤ pos a) ≡ 0
 no_difference m a = let e : pos a -ℤ pos a ≡ pos 0 = omega (arith, ints) in ap (residue m) e ∙ zero-mod m
@@ -81,36 +76,16 @@ no_difference m a = let e : pos a -ℤ pos a ≡ pos 0 = omega (arith, ints) in 
 -- at a point before it, one coefficient more changes nothing
 kept_before : (m n l : ℕ) (c x : ℕ → ℕ) → l < n → newton_form m (suc n) c x (x l) ≡ newton_form m n c x (x l)
 kept_before m n l c x below =
-    let p = product-none n l (λ j. residue m (pos (x l) -ℤ pos (x j))) below (no_difference m (x l)) in
-    let z = ap (λ v. v * c n) p in
-    omega (arith, form-more m n c x (x l), z)
+    let none = product-none n l (λ j. residue m (pos (x l) -ℤ pos (x j))) below (no_difference m (x l)) in
+    rw (form-more m n c x (x l), none) (omega arith)
 
 -- what is left, divided by the product of the differences
 value_completed : (m known f rest y d w c : ℕ) → known ≡ f % m → rest ≡ residue m (pos y -ℤ pos known) → IsInverse m d w
     → c ≡ (rest * w) % m → (f + d * c) % m ≡ y % m
 value_completed m known f rest y d w c is_known is_rest inverse is =
-    let whole : Congruent m (f + d * c) y =
-    mod_of_combination (mod_add (mod_sym (mod_of_residue is_known)) (mod_add (mod_of_difference known (omega (arith, inverse.below)) is_rest)
-    (mod_add (mod_times d (mod_of_residue is)) (mod_times rest (mod_of_inverse inverse))))) (omega arith) in whole.same
-
-one_divided_at : (m i : ℕ) (c d x y : ℕ → ℕ) (known rest w : ℕ)
-    → ((l : ℕ) → l < i → newton_form m i c x (x l) % m ≡ y l) → ((l : ℕ) → l < i → d l ≡ c l)
-    → known ≡ newton_form m i c x (x i) % m → rest ≡ residue m (pos (y i) -ℤ pos known)
-    → IsInverse m (product_below i (difference m x i)) w → d i ≡ (rest * w) % m → y i < m
-    → (l : ℕ) → l < suc i → newton_form m (suc i) d x (x l) % m ≡ y l
-one_divided_at m i c d x y known rest w before kept is_known is_rest inverse is below l within =
-    let same : (a : ℕ) → newton_form m i d x a ≡ newton_form m i c x a = grind (arith, form-same) in
-    elim (cases_eq l i) [
-      | inl e ↦
-          let here : newton_form m (suc i) d x (x i) % m ≡ y i =
-          ap (λ v. v % m) (form-more m i d x (x i) ∙ ap (λ v. v + product_below i (difference m x i) * d i) (same (x i)))
-          ∙ value_completed m known (newton_form m i c x (x i)) rest (y i) (product_below i (difference m x i)) w (d i) is_known
-          is_rest inverse is
-          ∙ mod-eq_of_lt below in
-          ap (λ k. newton_form m (suc i) d x (x k) % m) e ∙ here ∙ ap y (sym e)
-      | inr other ↦
-          ap (λ v. v % m) (kept_before m i l d x (omega arith) ∙ same (x l)) ∙ before l (omega arith)
-    ]
+    (mod_of_combination {u = f + d * c} {v = y} (mod_add (mod_sym (mod_of_residue is_known))
+    (mod_add (mod_of_difference known (omega (arith, inverse.below)) is_rest)
+    (mod_add (mod_times d (mod_of_residue is)) (mod_times rest (mod_of_inverse inverse))))) (omega arith)).same
 
 -- one more coefficient by Newton's divided differences
 pub one_divided : (m i : ℕ) (c d x y : ℕ → ℕ) (known rest w : ℕ)
@@ -119,9 +94,13 @@ pub one_divided : (m i : ℕ) (c d x y : ℕ → ℕ) (known rest w : ℕ)
     → IsInverse m (product_below i (difference m x i)) w → d i ≡ (rest * w) % m → y i < m
     → (l : ℕ) → l < i + 1 → newton_form m (i + 1) d x (x l) % m ≡ y l
 one_divided m i c d x y known rest w before kept is_known is_rest inverse is below l within =
+    let same : (a : ℕ) → newton_form m i d x a ≡ newton_form m i c x a = grind (arith, form-same) in
     let next : i + 1 ≡ suc i = omega arith in
-    ap (λ j. newton_form m j d x (x l) % m) next
-    ∙ one_divided_at m i c d x y known rest w before kept is_known is_rest inverse is below l (omega arith)
+    rw next (elim (cases_eq l i) [
+      | inl e ↦ rw (e, form-more m i d x (x i), same (x i), ← mod-eq_of_lt below)
+          (value_completed m known _ rest (y i) _ w (d i) is_known is_rest inverse is)
+      | inr other ↦ rw (kept_before m i l d x (omega arith), same (x l)) (before l (omega arith))
+    ])
 
 pub one_expanded : (m n a X : ℕ) (e s : ℕ → ℕ) → 0 < m
     → ((l : ℕ) → l < n → Congruent m (e l + a * s (suc l)) (s l)) → e n ≡ s n
@@ -129,17 +108,16 @@ pub one_expanded : (m n a X : ℕ) (e s : ℕ → ℕ) → 0 < m
     (s 0 + residue m (pos X -ℤ pos a) * polynomial_at n (λ l. s (suc l)) X)
 unfolding sum_below
 one_expanded m n a X e s positive each last =
-    let top = ap (λ v. v * X ^ n) last in
     let is : Congruent m (residue m (pos X -ℤ pos a) + a) X = mod_of_difference _ positive refl in
     mod_of_combination (mod_add (with_multiple m n a X e (λ l. s (suc l)) s each)
-    (mod_times (polynomial_at n (λ l. s (suc l)) X) (mod_sym is))) (omega (arith, top, polynomial-first n s X))
+    (mod_times (polynomial_at n (λ l. s (suc l)) X) (mod_sym is)))
+    (omega (arith, ap (λ v. v * X ^ n) last, polynomial-first n s X))
 
 inverse_of_negative : (m u v a b x y : ℕ) → y + x ≡ m → Congruent m (u * x) 1 → Congruent m (u + b) a → Congruent m (v + a) b
     → Congruent m (v * y) 1
 inverse_of_negative m u v a b x y whole one at_u at_v =
-    let product = ap (λ k. v * k) whole in
     mod_of_combination (mod_add (mod_of_modulus v) (mod_add (mod_times x (mod_sym at_u)) (mod_add (mod_times x (mod_sym at_v)) one)))
-    (omega (arith, product))
+    (omega (arith, ap (λ k. v * k) whole))
 
 -- b - a has an inverse where a - b has
 pub turned_difference : (m a b : ℕ) → HasInverse m (residue m (pos a -ℤ pos b)) → HasInverse m (residue m (pos b -ℤ pos a))
@@ -176,14 +154,12 @@ pub value_more : (m n k : ℕ) (c : ℕ → ℕ) (a value product sum : ℕ) →
     → sum ≡ (c (n - 1 - k) + product) % m
     → sum ≡ polynomial_at (k + 1) (λ i. c (n - (k + 1) + i)) a % m
 value_more m n k c a value product sum l is_value is_product is =
-    let v : ℕ = polynomial_at k (λ i. c (n - k + i)) a in
-    let e = polynomial-first k (λ i. c (n - (k + 1) + i)) a in
-    let f : c (n - (k + 1) + 0) ≡ c (n - 1 - k) = ap c (omega arith) in
-    let g = ap (λ w. a * w) (polynomial-same k (λ i. c (n - (k + 1) + suc i)) (λ i. c (n - k + i)) a
-    (λ i b. ap c (let t : n - (k + 1) + suc i ≡ n - k + i = omega arith in t))) in
-    let whole : Congruent m (c (n - 1 - k) + product) (polynomial_at (suc k) (λ i. c (n - (k + 1) + i)) a) =
-    mod_of_combination (mod_add (mod_of_residue is_product) (mod_times a (mod_of_residue is_value))) (omega (arith, e, f, g)) in
-    is ∙ whole.same ∙ ap (λ j. polynomial_at j (λ i. c (n - (k + 1) + i)) a % m) (let t : suc k ≡ k + 1 = omega arith in t)
+    let next : k + 1 ≡ suc k = omega arith in
+    let first : n - suc k + 0 ≡ n - 1 - k = omega arith in
+    let rest = polynomial-same k (λ i. c (n - suc k + suc i)) (λ i. c (n - k + i)) a (λ i b. ap c (omega arith)) in
+    let whole : Congruent m (c (n - 1 - k) + product) (c (n - 1 - k) + a * polynomial_at k (λ i. c (n - k + i)) a) =
+    mod_of_combination (mod_add (mod_of_residue is_product) (mod_times a (mod_of_residue is_value))) (omega arith) in
+    rw (is, next, polynomial-first k (λ i. c (n - suc k + i)) a, first, rest) whole.same
 
 pub value_none : (m a value : ℕ) (c : ℕ → ℕ) → value ≡ 0 % m → value ≡ polynomial_at 0 c a % m
 value_none m a value c is = is ∙ ap (λ v. v % m) (sym (polynomial-none c a))
@@ -205,35 +181,24 @@ pub expanded_more : (m n k : ℕ) (c e f x : ℕ → ℕ) → 0 < m → k < n
     → (a : ℕ) → Congruent m (polynomial_at (k + 1) (λ i. f (n - (k + 1) + i)) a)
     (newton_form m (k + 1) (λ i. c (n - (k + 1) + i)) (λ i. x (n - (k + 1) + i)) a)
 expanded_more m n k c e f x positive l before kept done last a =
-    let from : ℕ = n - (k + 1) in
-    let at_zero : from + 0 ≡ n - 1 - k = omega arith in
-    let here : n - 1 - k ≡ from + 0 = omega arith in
+    let from : ℕ = n - suc k in
+    let next : k + 1 ≡ suc k = omega arith in
+    let here : from + 0 ≡ n - 1 - k = omega arith in
     let shift : (i : ℕ) → from + suc i ≡ n - k + i = λ i. omega arith in
     let each : (i : ℕ) → i < k → Congruent m (f (from + i) + x (n - 1 - k) * e (from + suc i)) (e (from + i)) =
     grind (arith, mod_trans, mod_of_eq) in
-    let q : ℕ = polynomial_at k (λ i. e (from + suc i)) a in
-    let rest : Congruent m q (newton_form m k (λ i. c (from + suc i)) (λ i. x (from + suc i)) a) =
-    mod_trans (mod_of_eq (polynomial-same _ _ _ _ (λ i b. ap e (shift i))))
-    (mod_trans (before a)
-    (mod_of_eq (sym (form-same _ _ _ _ _
-    _ _ (λ i b. ap c (shift i)) (λ i b. ap x (shift i)))))) in
-    let one = one_expanded _ _ _ _ _ _ positive each (last (from + k) (omega arith)) in
-    let first : Congruent m (e (from + 0)) (c (from + 0)) = mod_of_eq (kept (from + 0) (omega arith)) in
-    let next : suc k ≡ k + 1 = omega arith in
-    mod_trans (mod_of_eq (ap (λ j. polynomial_at j (λ i. f (from + i)) a) (sym next)))
-    (mod_trans one
-    (mod_trans (mod_add first (mod_mul (mod_of_eq (ap (λ w. minus m a (x w)) here)) rest))
-    (mod_of_eq (sym (form-first _ _ _ _ _)
-    ∙ ap (λ j. newton_form m j (λ i. c (from + i)) (λ i. x (from + i)) a) next))))
+    let forms = form-same m k (λ i. c (from + suc i)) (λ i. c (n - k + i)) (λ i. x (from + suc i)) (λ i. x (n - k + i))
+    a (λ i b. ap c (shift i)) (λ i b. ap x (shift i)) in
+    let sums = polynomial-same k (λ i. e (from + suc i)) (λ i. e (n - k + i)) a (λ i b. ap e (shift i)) in
+    rw (next, form-first m k (λ i. c (from + i)) (λ i. x (from + i)) a, forms, here, ← kept (n - 1 - k) (omega arith))
+    (mod_trans (rw (sums, here) at (one_expanded m k (x (n - 1 - k)) a (λ i. f (from + i)) (λ i. e (from + i)) positive
+    each (last (from + k) (omega arith)))) (mod_add (mod_of_eq refl) (mod_times _ (before a))))
 
 pub expanded_all : (m n k : ℕ) (c e x : ℕ → ℕ) → k ≡ n
     → ((a : ℕ) → Congruent m (polynomial_at k (λ i. e (n - k + i)) a)
     (newton_form m k (λ i. c (n - k + i)) (λ i. x (n - k + i)) a))
     → (a : ℕ) → Congruent m (polynomial_at n e a) (newton_form m n c x a)
-expanded_all m n k c e x is same a =
-    mod_trans (mod_of_eq (sym (ap (λ k. polynomial_at k (λ i. e (n - k + i)) a) is ∙ value_all n a e)))
-    (mod_trans (same a)
-    (mod_of_eq (ap (λ k. newton_form m k (λ i. c (n - k + i)) (λ i. x (n - k + i)) a) is ∙ form_all m n a c x)))
+expanded_all m n k c e x is same a = rw (is, value_all n a e, form_all m n a c x) at (same a)
 
 -- the difference of a value and a multiple of the next one
 pub subtracted : (m a product new o next : ℕ) → 0 < m → product ≡ (a * next) % m
@@ -255,8 +220,7 @@ pub has_to_residue : (m a v : ℕ) → v ≡ a % m → HasInverse m a → HasInv
 has_to_residue m a v e h = grind (arith, inverse_mod)
 
 pub inverse_of_product : (m a v x : ℕ) → v ≡ a % m → IsInverse m v x → IsInverse m a x
-inverse_of_product m a v x e h =
-    inverse_from_mod m a x (record { below = h.below; one = ap (λ w. (w * x) % m) (sym e) ∙ h.one })
+inverse_of_product m a v x e h = inverse_from_mod m a x (rw e at h)
 
 -- the coefficients from Newton's form have its values
 pub interpolated : (m n a b old y i : ℕ) (e f x : ℕ → ℕ) → a ≡ n → b ≡ n
