@@ -1,5 +1,5 @@
 -- Lagrange's form: a polynomial with k coefficients by its values at k points that fit.
-use Rattle.std.proofs.Common.{◌≡◌, ◌≢◌, ℕ, zero, suc, ◌+◌, ◌-◌, ◌*◌, ◌%◌, ◌<◌, ◌≤◌, pos, ◌-ℤ◌, ap, sym, subst, ◌∙◌}
+use Rattle.std.proofs.Common.{◌≡◌, ◌≢◌, ℕ, zero, suc, ◌+◌, ◌-◌, ◌*◌, ◌%◌, ◌<◌, ◌≤◌, pos, ◌-ℤ◌, ap, sym, ◌∙◌}
 use Rattle.std.proofs.Common.{arith, refl, inl, inr, mod-eq_of_lt}
 use Rattle.std.proofs.Math.Nat.{mul-le-mul_right}
 use Rattle.std.proofs.Common.{◌⊎◌}
@@ -9,7 +9,7 @@ use Rattle.num_modular.specs.Callers.{same_coefficients}
 use Rattle.num_modular.specs.Congruence.{Congruent}
 use Rattle.num_modular.specs.Inverses.{IsInverse, HasInverse}
 use Rattle.num_modular.specs.ProductLaws.{has_both, has_each, has_product}
-use Rattle.num_modular.specs.NumberLaws.{mod_of_eq, mod_refl, residue_of, mod_sym, mod_trans, mod_add, mod_mul}
+use Rattle.num_modular.specs.NumberLaws.{mod_of_eq, mod_refl, mod_sym, mod_trans, mod_add, mod_mul}
 use Rattle.num_modular.specs.NumberLaws.{sum_below-congruent}
 use Rattle.num_modular.specs.Polynomials.{polynomial_at, HaveUnitDifferences}
 use Rattle.num_modular.specs.PolynomialLaws.{polynomial-none, polynomial-congruent}
@@ -20,9 +20,9 @@ use Rattle.num_modular.specs.Sums.{sum_below}
 use Rattle.ring_codes.specs.Erasure.{IsEncoding}
 use Rattle.ring_codes.specs.Newton.{difference}
 use Rattle.ring_codes.specs.Prepared.{product_but, AreRows}
-use Rattle.ring_codes.proofs.NearestWords.{combined, no_value, difference_alike}
+use Rattle.ring_codes.proofs.NearestWords.{combined, no_value, difference_alike, raised, raised_behind, value_raised}
 use Rattle.ring_codes.proofs.NewtonForms.{no_difference, product-none}
-use Rattle.ring_codes.proofs.Secrecy.{raised, raised_behind, value_raised, through}
+use Rattle.ring_codes.proofs.Secrecy.{through}
 use Rattle.ring_codes.proofs.Congruences.{mod_of_combination, mod_times, mod_of_residue, mod_of_inverse}
 
 -- a function with the values of a polynomial with d coefficients modulo m
@@ -77,7 +77,7 @@ sum_of m k (suc n) v F each =
     let last = each n (omega arith) in
     record {
       coefficient = λ i. before.coefficient i + v n * last.coefficient i;
-      behind = λ i l. let p = before.behind i l in let q = ap (λ w. v n * w) (last.behind i l) in omega (arith, p, q);
+      behind = λ i l. rw (before.behind i l, last.behind i l) (omega arith);
       value = λ X. mod_of_combination (mod_add (before.value X) (mod_times (v n) (last.value X)))
           (omega (arith, combined k before.coefficient last.coefficient (v n) X));
     }
@@ -85,10 +85,8 @@ sum_of m k (suc n) v F each =
 product_is : (m k i : ℕ) (x : ℕ → ℕ) → 0 < m → i < k → IsPolynomial m k (product_but m k x i)
 unfolding product_but
 product_is m k i x positive l =
-    let P : ℕ → ℕ = λ X. product_below i (λ l. residue m (pos X -ℤ pos (x l))) in
-    let Q : ℕ → ℕ = λ X. product_below (k - 1 - i) (λ l. residue m (pos X -ℤ pos (x (k - 1 - l)))) in
-    polynomial_same m (k - 1 - i + (i + 1)) k (λ X. 1 * P X * Q X) (λ X. P X * Q X) (omega arith) (λ X. omega arith)
-    (times_differences m (k - 1 - i) (i + 1) (λ l. x (k - 1 - l)) (λ X. 1 * P X) positive
+    polynomial_same m (k - 1 - i + (i + 1)) k _ _ (omega arith) (λ X. omega arith)
+    (times_differences m (k - 1 - i) (i + 1) (λ l. x (k - 1 - l)) _ positive
     (times_differences m i 1 x (λ X. 1) positive (constant_one m)))
 
 -- it is 0 at each other point
@@ -97,16 +95,11 @@ unfolding product_but
 none_at m k i l x within below other =
     let f : ℕ → ℕ = λ j. residue m (pos (x l) -ℤ pos (x j)) in
     elim (cases_lt l i) [
-      | inl b ↦
-          let z = ap (λ v. v * product_below (k - 1 - i) (λ j. f (k - 1 - j)))
-          (product-none i l f b (no_difference m (x l))) in
-          omega (arith, z)
+      | inl b ↦ rw (product-none i l f b (no_difference m (x l))) (omega arith)
       | inr b ↦
           let back : k - 1 - (k - 1 - l) ≡ l = omega (arith, below) in
-          let here : f (k - 1 - (k - 1 - l)) ≡ 0 = ap f back ∙ no_difference m (x l) in
-          let z = ap (λ v. product_below i f * v)
-          (product-none (k - 1 - i) (k - 1 - l) (λ j. f (k - 1 - j)) (omega (arith, below, within, b, other)) here) in
-          omega (arith, z)
+          rw (product-none (k - 1 - i) (k - 1 - l) (λ j. f (k - 1 - j)) (omega (arith, below, within, b, other))
+          (rw back (no_difference m (x l)))) (omega arith)
     ]
 
 -- the sum of the values, each times the inverse w and the product
@@ -120,8 +113,7 @@ lagrange m k X x w c positive fit inverse =
     let at : (l : ℕ) → l < k → Congruent m (polynomial_at k whole.coefficient (x l)) (polynomial_at k c (x l)) =
     λ l b.
     let alone = single k l (λ i. v i * product_but m k x i (x l)) b
-    (λ i d other.
-    let z = ap (λ u. v i * u) (none_at m k i l x d b (λ e. other (sym e))) in omega (arith, z)) in
+    (λ i d other. rw (none_at m k i l x d b (λ e. other (sym e))) (omega arith)) in
     mod_of_combination (mod_add (whole.value (x l)) (mod_times (polynomial_at k c (x l)) (mod_of_inverse (inverse l b))))
     (omega (arith, alone)) in
     mod_trans (mod_sym (whole.value X))
@@ -134,8 +126,7 @@ pub rows_from : (m k n : ℕ) (x y w rows : ℕ → ℕ) → 0 < m → HaveUnitD
     → AreRows m k n x y rows
 rows_from m k n x y w rows positive fit inverse each = record {
   value = λ j c l.
-      mod_trans (sum_below-congruent k (λ i. rows (j * k + i) * polynomial_at k c (x i))
-      (λ i. (polynomial_at k c (x i) * w i) * product_but m k x i (y j))
+      mod_trans (sum_below-congruent k _ _
       (λ i b. mod_of_combination (mod_times (polynomial_at k c (x i)) (each j i l b)) (omega arith)))
       (lagrange m k (y j) x w c positive fit inverse);
 }
@@ -160,7 +151,7 @@ fit_from_all m k x each = record {
         | inl before ↦ has_each m i f both.0 j before
         | inr behind ↦
             let back : k - 1 - (k - 1 - j) ≡ j = omega (arith, b) in
-            subst (λ n. HasInverse m (f n)) back
+            rw back at
             (has_each m (k - 1 - i) (λ l. f (k - 1 - l)) both.1 (k - 1 - j) (omega (arith, b, l, behind, other)))
       ];
 }
@@ -168,21 +159,16 @@ fit_from_all m k x each = record {
 pub all_from_fit : (m k : ℕ) (x : ℕ → ℕ) → 0 < m → HaveUnitDifferences m k x
     → (i : ℕ) → i < k → HasInverse m (product_but m k x i (x i))
 unfolding product_but
-all_from_fit m k x positive fit i l =
-    (has_both _ _ _).1 (
-      has_product _ _ _ positive (λ j b. fit.unit i j l (omega arith) (omega arith)),
-      has_product _ _ _ positive
-          (λ j b. fit.unit i (k - 1 - j) l (omega arith) (omega arith)),
-    )
+all_from_fit m k x positive fit i l = (has_both _ _ _).1 (
+  has_product _ _ _ positive (λ j b. fit.unit i j l (omega arith) (omega arith)),
+  has_product _ _ _ positive (λ j b. fit.unit i (k - 1 - j) l (omega arith) (omega arith)),
+)
 
 -- symbols at wanted points, from the symbols at the known points
 pub value_from_row : (m k n j : ℕ) (x y rows symbols c : ℕ → ℕ) → AreRows m k n x y rows → IsEncoding m k k x c symbols
     → j < n → sum_below k (λ i. rows (j * k + i) * symbols i) % m ≡ polynomial_at k c (y j) % m
 value_from_row m k n j x y rows symbols c are is l =
-    (mod_trans (sum_below-congruent k (λ i. rows (j * k + i) * symbols i)
-    (λ i. rows (j * k + i) * polynomial_at k c (x i))
-    (λ i b. mod_mul (mod_refl (rows (j * k + i)))
-    (mod_trans (mod_of_eq (is.symbol i b)) (residue_of (polynomial_at k c (x i))))))
+    (mod_trans (sum_below-congruent k _ _ (λ i b. mod_times (rows (j * k + i)) (mod_of_residue (is.symbol i b))))
     (are.value j c l)).same
 
 -- any symbols at the known points are of a message

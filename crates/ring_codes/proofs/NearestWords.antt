@@ -19,31 +19,6 @@ use Rattle.ring_codes.specs.Erasure.{IsEncoding, distance}
 use Rattle.ring_codes.proofs.Distances.{counted_same, counted_other}
 use Rattle.ring_codes.proofs.Congruences.{mod_of_combination, mod_of_modulus, mod_of_difference}
 
--- the coefficients of the product of X + r 0, .., X + r (d - 1), the constant first
-expanded : ℕ → (ℕ → ℕ) → ℕ → ℕ
-expanded zero r zero = 1
-expanded zero r (suc i) = 0
-expanded (suc d) r zero = r d * expanded d r zero
-expanded (suc d) r (suc i) = expanded d r i + r d * expanded d r (suc i)
-
-none_behind : (d i : ℕ) (r : ℕ → ℕ) → d < i → expanded d r i ≡ 0
-unfolding expanded
-none_behind d zero r l = absurd (omega arith)
-none_behind zero (suc i) r l = refl
-none_behind (suc d) (suc i) r l =
-    let p = none_behind d i r (omega arith) in
-    let q = ap (λ v. r d * v) (none_behind d (suc i) r (omega arith)) in
-    omega (arith, p, q)
-
--- the highest is 1
-highest_is_one : (d : ℕ) (r : ℕ → ℕ) → expanded d r d ≡ 1
-unfolding expanded
-highest_is_one zero r = refl
-highest_is_one (suc d) r =
-    let p = highest_is_one d r in
-    let q = ap (λ v. r d * v) (none_behind d (suc d) r (omega arith)) in
-    omega (arith, p, q)
-
 pub combined : (n : ℕ) (f g : ℕ → ℕ) (a X : ℕ)
     → polynomial_at n (λ i. f i + a * g i) X ≡ polynomial_at n f X + a * polynomial_at n g X
 unfolding sum_below
@@ -56,28 +31,57 @@ pub with_multiple : (m n b X : ℕ) (e g h : ℕ → ℕ) → ((l : ℕ) → l <
 with_multiple m n b X e g h each =
     mod_trans (mod_of_eq (sym (combined _ _ _ _ _))) (polynomial-congruent _ _ _ _ _ each (mod_refl _))
 
+-- the coefficients of v + (X + r) times a polynomial
+unfoldable pub raised : ℕ → ℕ → (ℕ → ℕ) → ℕ → ℕ
+raised v r h zero = v + r * h zero
+raised v r h (suc i) = h i + r * h (suc i)
+
+pub raised_behind : (d v r : ℕ) (h : ℕ → ℕ) → ((i : ℕ) → d ≤ i → h i ≡ 0)
+    → (i : ℕ) → suc d ≤ i → raised v r h i ≡ 0
+unfolding raised
+raised_behind d v r h none zero l = absurd (omega arith)
+raised_behind d v r h none (suc i) l = grind arith
+
+pub value_raised : (d v r X : ℕ) (h : ℕ → ℕ) → h d ≡ 0
+    → polynomial_at (suc d) (raised v r h) X ≡ v + (X + r) * polynomial_at d h X
+unfolding raised
+value_raised d v r X h none =
+    let first = polynomial-first d (raised v r h) X in
+    let rest = ap (λ w. X * w) (combined d h (λ i. h (suc i)) r X) in
+    let more = sum_below-suc d (λ i. h i * X ^ i) in
+    let gone = ap (λ w. w * X ^ d) none in
+    let same : polynomial_at (suc d) h X ≡ polynomial_at d h X = omega (arith, more, gone) in
+    let whole = ap (λ w. r * w) (sym same ∙ polynomial-first d h X) in
+    omega (arith, first, rest, whole)
+
+-- the coefficients of the product of X + r 0, .., X + r (d - 1), the constant first
+expanded : ℕ → (ℕ → ℕ) → ℕ → ℕ
+expanded zero r = raised 1 0 (λ i. 0)
+expanded (suc d) r = raised 0 (r d) (expanded d r)
+
+none_behind : (d : ℕ) (r : ℕ → ℕ) (i : ℕ) → d < i → expanded d r i ≡ 0
+unfolding expanded
+none_behind zero r i l = raised_behind 0 1 0 (λ i. 0) (λ i l. refl) i l
+none_behind (suc d) r i l = raised_behind (suc d) 0 (r d) (expanded d r) (none_behind d r) i l
+
+-- the highest is 1
+highest_is_one : (d : ℕ) (r : ℕ → ℕ) → expanded d r d ≡ 1
+unfolding expanded raised
+highest_is_one zero r = refl
+highest_is_one (suc d) r = rw (highest_is_one d r, none_behind d r (suc d) (omega arith)) (omega arith)
+
 -- its values are the products
 value_is : (d X : ℕ) (r : ℕ → ℕ) → polynomial_at (suc d) (expanded d r) X ≡ product_below d (λ j. X + r j)
 unfolding expanded product_below
-value_is zero X r = grind (arith, polynomial-first, polynomial-none)
+value_is zero X r = grind (arith, value_raised, polynomial-none)
 value_is (suc d) X r =
-    let w : ℕ → ℕ = expanded d r in
-    let p : ℕ = polynomial_at (suc d) w X in
-    let first = polynomial-first (suc d) (expanded (suc d) r) X in
-    let rest = ap (λ v. X * v) (combined (suc d) w (λ i. w (suc i)) (r d) X) in
-    let more = sum_below-suc (suc d) (λ i. w i * X ^ i) in
-    let none = ap (λ v. v * X ^ suc d) (none_behind d (suc d) r (omega arith)) in
-    let same : polynomial_at (suc (suc d)) w X ≡ p = omega (arith, more, none) in
-    let whole = ap (λ v. r d * v) (sym same ∙ polynomial-first (suc d) w X) in
-    let product = ap (λ v. v * (X + r d)) (value_is d X r) in
-    omega (arith, first, rest, whole, product)
+    rw (value_raised _ 0 (r d) X (expanded d r) (none_behind d r (suc d) (omega arith)), value_is d X r) (omega arith)
 
 -- (m - 1)·x takes the place of -x
 pub turned_sign : (m x : ℕ) → 0 < m → x + (m - 1) * x ≡ m * x
 turned_sign m x positive =
     let s : suc (m - 1) ≡ m = omega arith in
-    let e : x + (m - 1) * x ≡ suc (m - 1) * x = omega arith in
-    e ∙ ap (λ k. k * x) s
+    let e : x + (m - 1) * x ≡ suc (m - 1) * x = omega arith in rw s at e
 
 pub at_root : (m x : ℕ) → 0 < m → (x + (m - 1) * x) % m ≡ 0
 at_root m x positive = grind (arith, turned_sign, add-mul-mod_self_left, zero-mod)
@@ -94,23 +98,14 @@ unit_alike m a b e h =
 
 pub unit_not_zero : (m a : ℕ) → 2 ≤ m → HasInverse m a → a % m ≢ 0
 unit_not_zero m a two h z =
-    let none : 0 * h.0 ≡ 0 = omega arith in
-    let one = sym h.1.one ∙ sym (mul-mod_first a h.0 m) ∙ ap (λ v. (v * h.0) % m) z ∙ ap (λ v. v % m) none ∙ zero-mod m in
-    let small : 1 % m ≡ 1 = mod-eq_of_lt two in
-    absurd (omega (arith, one, small))
+    absurd (omega (arith, rw (← mul-mod_first a h.0 m, z) at h.1.one, mod-eq_of_lt two))
 
 product_zero : (m n l : ℕ) (f : ℕ → ℕ) → l < n → f l % m ≡ 0 → product_below n f % m ≡ 0
 unfolding product_below
 product_zero m zero l f below none = absurd (omega arith)
 product_zero m (suc n) l f below none = elim (cases_eq l n) [
-  | inl e ↦
-      let z : product_below n f * 0 ≡ 0 = omega arith in
-      sym (mul-mod_second (product_below n f) (f n) m)
-      ∙ ap (λ v. (product_below n f * v) % m) (ap (λ k. f k % m) (sym e) ∙ none) ∙ ap (λ v. v % m) z ∙ zero-mod m
-  | inr other ↦
-      let z : 0 * f n ≡ 0 = omega arith in
-      sym (mul-mod_first (product_below n f) (f n) m)
-      ∙ ap (λ v. (v * f n) % m) (product_zero m n l f (omega arith) none) ∙ ap (λ v. v % m) z ∙ zero-mod m
+  | inl e ↦ rw (← mul-mod_second (product_below n f) (f n) m, ← e, none) (omega arith)
+  | inr other ↦ rw (← mul-mod_first (product_below n f) (f n) m, product_zero m n l f (omega arith) none) (omega arith)
 ]
 
 pub no_value : (n X : ℕ) → polynomial_at n (λ i. 0) X ≡ 0
@@ -135,23 +130,20 @@ bound_met m zero n x two some few fit = absurd (omega arith)
 bound_met m (suc d) n x two some few fit =
     let positive : 0 < m = omega arith in
     let r : ℕ → ℕ = λ j. (m - 1) * x j in
-    let value : (i : ℕ) → polynomial_at (suc d) (expanded d r) (x i) % m
-    ≡ product_below d (λ j. x i + r j) % m =
-    λ i. ap (λ v. v % m) (value_is d (x i) r) in
-    let apart = agree_first n d (λ i. polynomial_at (suc d) (expanded d r) (x i) % m) (λ i. 0)
-    (λ i l. value i ∙ product_zero m d i (λ j. x i + r j) l (at_root m (x i) positive))
+    let word : ℕ → ℕ = λ i. polynomial_at (suc d) (expanded d r) (x i) % m in
+    let value : (i : ℕ) → word i ≡ product_below d (λ j. x i + r j) % m = λ i. rw (value_is d (x i) r) refl in
+    let apart = agree_first n d word (λ i. 0)
+    (λ i l. rw (value i) (product_zero m d i (λ j. x i + r j) l (at_root m (x i) positive)))
     (λ i l k z. unit_not_zero m (product_below d (λ j. x i + r j)) two
     (has_product m d (λ j. x i + r j) positive
     (λ j b. unit_alike m _ _ (difference_alike m (x i) (x j) positive)
-    (fit.unit i j k (omega arith) (omega arith)))) (sym (value i) ∙ z)) in
-    let one : expanded d r d % m ≡ 1 = ap (λ v. v % m) (highest_is_one d r) ∙ mod-eq_of_lt two in
-    let none = zero-mod m in (
+    (fit.unit i j k (omega arith) (omega arith)))) (rw (value i) at z)) in (
       expanded d r,
       (λ i. 0),
-      (λ i. polynomial_at (suc d) (expanded d r) (x i) % m),
+      word,
       (λ i. 0),
       record { symbol = λ i l. refl },
-      record { symbol = λ i l. sym (ap (λ v. v % m) (no_value (suc d) (x i)) ∙ zero-mod m) },
-      (d, omega arith, λ same. omega (arith, one, none, same)),
+      record { symbol = λ i l. rw (no_value (suc d) (x i)) (sym (zero-mod m)) },
+      (d, omega arith, rw (highest_is_one d r, mod-eq_of_lt two, zero-mod m) (λ same. omega (arith, same))),
       omega (arith, apart, few),
     )

@@ -1,18 +1,18 @@
 -- Any values at points that fit are those of a polynomial, by Newton's way; with a constant that is given, exactly one.
-use Rattle.std.proofs.Common.{◌≡◌, ℕ, zero, suc, ◌+◌, ◌-◌, ◌*◌, ◌%◌, ◌^◌, ◌<◌, ◌≤◌, pos, ◌-ℤ◌, ap, sym, ◌∙◌, arith, refl}
+use Rattle.std.proofs.Common.{◌≡◌, ℕ, zero, suc, ◌+◌, ◌-◌, ◌*◌, ◌%◌, ◌<◌, ◌≤◌, pos, ◌-ℤ◌, ap, sym, ◌∙◌, arith, refl}
 use Rattle.std.proofs.Common.{mod-eq_of_lt, mod-lt}
 use Rattle.std.proofs.Math.Nat.{zero-mod}
 use Rattle.num_modular.specs.Callers.{same_coefficients}
 use Rattle.num_modular.specs.Congruence.{Congruent}
 use Rattle.num_modular.specs.Inverses.{IsInverse, HasInverse}
 use Rattle.num_modular.specs.NumberLaws.{mod_of_eq, mod_refl, residue_of, mod_sym, mod_trans, mod_add}
-use Rattle.num_modular.specs.NumberLaws.{sum_below-suc}
 use Rattle.num_modular.specs.Polynomials.{polynomial_at, HaveUnitDifferences}
 use Rattle.num_modular.specs.PolynomialLaws.{polynomial-first, polynomial-congruent}
 use Rattle.num_modular.specs.Residues.{residue}
 use Rattle.ring_codes.specs.Secrets.{FitsShares, IsPerfectlySecret}
+use Rattle.ring_codes.proofs.Counts.{fit_front}
 use Rattle.ring_codes.proofs.Distances.{extended, extended_each}
-use Rattle.ring_codes.proofs.NearestWords.{combined, turned_sign, at_root, difference_alike}
+use Rattle.ring_codes.proofs.NearestWords.{raised, raised_behind, value_raised, turned_sign, at_root, difference_alike}
 use Rattle.ring_codes.proofs.Congruences.{mod_of_combination, mod_times, mod_of_modulus, mod_of_inverse}
 
 -- the inverses of the first d numbers
@@ -23,29 +23,6 @@ inverses_below m (suc d) f each =
     let (u, before) = inverses_below m d f (λ i l. each i (omega arith)) in
     let (last, is) = each d (omega arith) in
     (extended d last u, λ i l. extended_each d last u (λ i v. IsInverse m (f i) v) before is i (omega arith))
-
--- the coefficients of v + (X + r) times a polynomial
-pub raised : ℕ → ℕ → (ℕ → ℕ) → ℕ → ℕ
-raised v r h zero = v + r * h zero
-raised v r h (suc i) = h i + r * h (suc i)
-
-pub raised_behind : (d v r : ℕ) (h : ℕ → ℕ) → ((i : ℕ) → d ≤ i → h i ≡ 0)
-    → (i : ℕ) → suc d ≤ i → raised v r h i ≡ 0
-unfolding raised
-raised_behind d v r h none zero l = absurd (omega arith)
-raised_behind d v r h none (suc i) l = grind arith
-
-pub value_raised : (d v r X : ℕ) (h : ℕ → ℕ) → h d ≡ 0
-    → polynomial_at (suc d) (raised v r h) X ≡ v + (X + r) * polynomial_at d h X
-unfolding raised
-value_raised d v r X h none =
-    let first = polynomial-first d (raised v r h) X in
-    let rest = ap (λ w. X * w) (combined d h (λ i. h (suc i)) r X) in
-    let more = sum_below-suc d (λ i. h i * X ^ i) in
-    let gone = ap (λ w. w * X ^ d) none in
-    let same : polynomial_at (suc d) h X ≡ polynomial_at d h X = omega (arith, more, gone) in
-    let whole = ap (λ w. r * w) (sym same ∙ polynomial-first d h X) in
-    omega (arith, first, rest, whole)
 
 -- v + (X + r)·H is w, where H is the quotient of w - v by d, which is X + r
 value_of_quotient : (m X r d u H v w : ℕ) → 0 < m → Congruent m d (X + r) → IsInverse m d u
@@ -63,10 +40,10 @@ values_raised : (m d : ℕ) (x v u h : ℕ → ℕ) → 0 < m → h d ≡ 0
     → Congruent m (polynomial_at (suc d) (raised (v 0) ((m - 1) * x 0) h) (x i)) (v i)
 values_raised m d x v u h positive none units values zero l =
     let r : ℕ = (m - 1) * x 0 in
-    let root : Congruent m (x 0 + r) 0 = record { same = at_root m (x 0) positive ∙ sym (zero-mod m) } in
+    let root : Congruent m (x 0 + r) 0 = record { same = rw (zero-mod m) (at_root m (x 0) positive) } in
     mod_of_combination (mod_times (polynomial_at d h (x 0)) root) (omega (arith, value_raised d (v 0) r (x 0) h none))
 values_raised m d x v u h positive none units values (suc i) l =
-    mod_trans (mod_of_eq (value_raised _ _ _ (x (suc i)) _ none))
+    rw (value_raised d (v 0) ((m - 1) * x 0) (x (suc i)) h none)
     (value_of_quotient _ (x (suc i)) _ (residue m (pos (x (suc i)) -ℤ pos (x 0))) (u i)
     (polynomial_at d h (x (suc i))) _ (v (suc i)) positive
     (difference_alike _ (x (suc i)) _ positive) (units i (omega arith)) (values i (omega arith)))
@@ -109,7 +86,7 @@ same_list m d secret x y a b each fit p q (suc i) l =
     let same = same_coefficients m d (λ i. a (suc i)) (λ i. b (suc i)) x fit
     (λ i l. same_behind m d secret (x i) (each i l).0 (y i) a b (each i l).1 p.constant q.constant
     (p.encoding.symbol i (omega arith)) (q.encoding.symbol i (omega arith))) i (omega arith) in
-    sym (mod-eq_of_lt (p.below (suc i) l)) ∙ same.same ∙ mod-eq_of_lt (q.below (suc i) l)
+    rw (mod-eq_of_lt (p.below (suc i) l), mod-eq_of_lt (q.below (suc i) l)) at same.same
 
 fitting : (m d secret : ℕ) (x y : ℕ → ℕ) → secret < m → ((i : ℕ) → i < d → y i < m)
     → ((i : ℕ) → i < d → HasInverse m (x i)) → HaveUnitDifferences m d x
@@ -144,7 +121,6 @@ pub perfect : (m k : ℕ) (x : ℕ → ℕ) → 1 ≤ k → ((i : ℕ) → i < k
 perfect m zero x some each fit = absurd (omega arith)
 perfect m (suc d) x some each fit = λ secret shares small below.
     let units : (i : ℕ) → i < d → HasInverse m (x i) = λ i l. each i (omega arith) in
-    let apart : HaveUnitDifferences m d x =
-    record { unit = λ i j k l other. fit.unit i j (omega arith) (omega arith) other } in
+    let apart = fit_front m (suc d - 1) d x (omega arith) fit in
     let found = fitting m d secret x shares small (λ i l. below i (omega arith)) units apart in
     (found.0, found.1, λ other fits. same_list m d secret x shares other found.0 units apart fits found.1)
