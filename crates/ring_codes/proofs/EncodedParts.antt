@@ -1,11 +1,11 @@
 -- Words of which a part was encoded.
-use Rattle.std.proofs.Common.{◌≡◌, ℕ, ◌+◌, ◌-◌, ◌%◌, ◌<◌, ◌≤◌, List, length, take, get_or, slice_range, All}
-use Rattle.std.proofs.Common.{refl, ap, sym, ◌∙◌, subst, arith, inl, inr}
+use Rattle.std.proofs.Common.{◌≡◌, ℕ, ◌+◌, ◌-◌, ◌%◌, ◌<◌, ◌≤◌, List, length, take, slice_range, All}
+use Rattle.std.proofs.Common.{refl, ap, ◌∙◌, arith, inl, inr}
 use Rattle.std.proofs.lemmas.Bool.{cases_lt}
 use Rattle.std.proofs.lemmas.List.{get_or-take, get_or-append_right, length-take-le}
 use Rattle.std.proofs.lemmas.Slice.{take-put_mid, take-put_mid_below}
 use borrow.Rule.Slice.PartMut.{put_mid}
-use Rattle.num_modular.specs.Callers.{IsForm, IsCheckedFormOf, HoldBelow, entry, entry_at}
+use Rattle.num_modular.specs.Callers.{IsForm, HoldBelow, entry, entry_at}
 use Rattle.num_modular.specs.Polynomials.{polynomial_at}
 use Rattle.ring_codes.proofs.Symbols.{entry_slice, slice_length}
 use Rattle.ring_codes.specs.Erasure.{IsEncoding}
@@ -18,16 +18,18 @@ part_holds : {T : Type 0} (number : T → ℕ) (form value : ℕ → ℕ → ℕ
 part_holds number form value m forms part v from k within held all same = record {
   each = λ i d l. elim (cases_lt i from) [
     | inl before ↦
-        let read = sym (get_or-take from (put_mid from k forms part) i d before)
-        ∙ ap (λ xs. get_or xs i d) (take-put_mid_below from k forms part from (omega arith) within)
-        ∙ get_or-take from forms i d before in
-        subst (λ f. IsCheckedFormOf form value m (number f) (v i)) (sym read) (held.each i d before)
+        rw (
+          ← get_or-take from (put_mid from k forms part) i d before,
+          take-put_mid_below from k forms part from (omega arith) within,
+          get_or-take from forms i d before,
+        ) (held.each i d before)
     | inr past ↦
         let j : ℕ = i - from in let here : j < length part = omega arith in let at : from + j ≡ i = omega arith in
-        let read = sym (get_or-take (from + length part) (put_mid from k forms part) i d l)
-        ∙ ap (λ xs. get_or xs i d) (take-put_mid from k forms part (from + length part) refl within)
-        ∙ get_or-append_right (take from forms) part from i d (length-take-le from forms within) past in
-        subst (λ f. IsCheckedFormOf form value m (number f) (v i)) (sym read) (record {
+        rw (
+          ← get_or-take (from + length part) (put_mid from k forms part) i d l,
+          take-put_mid from k forms part (from + length part) refl within,
+          get_or-append_right (take from forms) part from i d (length-take-le from forms within) past,
+        ) (record {
           checked = all j d here;
           same = entry_at number value m part j d here ∙ same j here ∙ ap v at;
         })
@@ -46,8 +48,7 @@ pub part_encoded : {T : Type 0} (number : T → ℕ) (form value : ℕ → ℕ �
 part_encoded number form value m n c points forms part from to k ordered within long count held all encoded =
     let v : ℕ → ℕ = λ i. polynomial_at n c (entry number value m points i) % m in
     let symbols = slice_length points from to ordered within in
-    let end : from + length part ≡ to = omega (arith, count, ordered) in
-    subst (λ e. HoldBelow number form value m (put_mid from k forms part) v e) end
-    (part_holds number form value m forms part v from k (omega (arith, ordered, within, long)) held all
+    let end : to ≡ from + length part = omega (arith, count, ordered) in
+    rw end (part_holds number form value m forms part v from k (omega (arith, ordered, within, long)) held all
     (λ i l. encoded.symbol i (omega (arith, symbols, count, l))
     ∙ ap (λ a. polynomial_at n c a % m) (entry_slice number value m points from to i ordered within (omega (arith, count, l)))))

@@ -1,5 +1,5 @@
 -- Powers of a root: modulo an odd number their differences have inverses, and values at them are transforms.
-use Rattle.std.proofs.Common.{◌≡◌, ℕ, zero, suc, ◌+◌, ◌-◌, ◌*◌, ◌/◌, ◌%◌, ◌^◌, ◌<◌, ◌≤◌, pos, ◌-ℤ◌, ap, sym, subst, ◌∙◌}
+use Rattle.std.proofs.Common.{◌≡◌, ℕ, zero, suc, ◌+◌, ◌-◌, ◌*◌, ◌/◌, ◌%◌, ◌^◌, ◌<◌, ◌≤◌, pos, ◌-ℤ◌, ap, sym, ◌∙◌}
 use Rattle.std.proofs.Common.{arith, refl, inl, inr, mod-lt, cond, ltb}
 use Rattle.std.proofs.Math.Nat.{zero-mod, pow-zero, pow-suc}
 use Rattle.std.proofs.lemmas.Nat.{pow-add}
@@ -51,11 +51,8 @@ odd_power m x d is odd =
     let h : ℕ = d / 2 in
     let whole : d ≡ suc (2 * h) = omega (arith, odd) in
     let square : x ^ 2 ≡ x * x = grind (arith, pow-suc, pow-zero) in
-    let even : Congruent m (x ^ (2 * h)) 1 =
-    mod_trans (mod_of_eq (pow-mul x 2 h ∙ ap (λ v. v ^ h) square))
-    (mod_trans (mod_pow h (square_of m x is)) (mod_of_eq (one-pow h))) in
-    let power : x ^ d ≡ x ^ (2 * h) * x = ap (λ v. x ^ v) whole ∙ pow-suc x (2 * h) in
-    mod_of_combination (mod_add (mod_times x even) is) (omega (arith, power))
+    let even : Congruent m (x ^ (2 * h)) 1 = rw (pow-mul x 2 h, square, ← one-pow h) (mod_pow h (square_of m x is)) in
+    rw (whole, pow-suc x (2 * h)) (mod_of_combination (mod_add (mod_times x even) is) (omega arith))
 
 -- g^d less 1, where g^(2^y) is -1: for odd d, and for each d
 odd_less_one : (m y g d a : ℕ) → m % 2 ≡ 1 → Congruent m (g ^ (2 ^ y) + 1) 0 → d % 2 ≡ 1
@@ -106,13 +103,12 @@ root_unit m g n positive more suits =
     let h : ℕ = n / 2 in
     let some : h ≡ suc (h - 1) = omega (arith, more) in
     let turn : Congruent m (g ^ h + 1) 0 = record { same = suits.half_turn more ∙ sym (zero-mod _) } in
-    let power : g ^ h ≡ g ^ (h - 1) * g = ap (λ v. g ^ v) some ∙ pow-suc _ _ in
-    ((has_both _ _ _).0 (subst (HasInverse m) power (own_inverse _ _ positive (square_of _ _ turn)))).1
+    ((has_both _ (g ^ (h - 1)) g).0 (rw (some, pow-suc g (h - 1)) at (own_inverse _ _ positive (square_of _ _ turn)))).1
 
 power_unit : (m g j : ℕ) → 0 < m → HasInverse m g → HasInverse m (g ^ j)
 power_unit m g zero positive unit = grind (arith, pow-zero, own_inverse, mod_of_eq)
 power_unit m g (suc j) positive unit =
-    subst (HasInverse m) (sym (pow-suc g j)) ((has_both m (g ^ j) g).1 (power_unit m g j positive unit, unit))
+    rw (pow-suc g j) ((has_both m (g ^ j) g).1 (power_unit m g j positive unit, unit))
 
 lower_unit : (m g n i j : ℕ) (x : ℕ → ℕ) → m % 2 ≡ 1 → Suits m g n → ArePowers m g n x → j < i → i < n
     → HasInverse m (residue m (pos (x i) -ℤ pos (x j)))
@@ -153,10 +149,9 @@ value_by_transform m g k n j points message x few powers same none within =
     let short : sum_below n f ≡ sum_below k f = grind (arith, tail) in
     let point : Congruent m (g ^ j) (points j) = grind (arith, mod_trans, mod_sym, residue_of, mod_of_eq) in
     let each : (i : ℕ) → i < k → Congruent m (f i) (message i * points j ^ i) =
-    λ i l.
-    let swap : i * j ≡ j * i = omega arith in
-    mod_mul (mod_of_eq (same i l)) (mod_trans (mod_of_eq (ap (λ v. g ^ v) swap ∙ pow-mul g j i)) (mod_pow i point)) in
-    ap (λ v. v % m) short ∙ (sum_below-congruent k f (λ i. message i * points j ^ i) each).same
+    λ i l. let swap : i * j ≡ j * i = omega arith in
+    rw (same i l, swap, pow-mul g j i) (mod_times (message i) (mod_pow i point)) in
+    rw short ((sum_below-congruent k f (λ i. message i * points j ^ i) each).same)
 
 pub encoding_by_transform : (m g k n : ℕ) (points message : ℕ → ℕ) → k ≤ n → ArePowers m g n points
     → ((i : ℕ) → k ≤ i → i < n → message i ≡ 0) → IsEncoding m k n points message (transform m g n message)
@@ -166,8 +161,8 @@ encoding_by_transform m g k n points message few powers none = grind (arith, val
 pub length_unit : (m g n : ℕ) → m % 2 ≡ 1 → Suits m g n → HasInverse m n
 length_unit m g n odd suits =
     let positive : 0 < m = omega (arith, odd) in
-    let two : HasInverse m 2 = two_divided m 2 (m - 1) odd (mod_of_combination (mod_of_modulus 2) (omega (arith, positive))) in
-    subst (HasInverse m) (sym suits.power_of_two.1) (power_unit m 2 suits.power_of_two.0 positive two)
+    rw suits.power_of_two.1 (power_unit m 2 suits.power_of_two.0 positive
+    (two_divided m 2 (m - 1) odd (mod_of_combination (mod_of_modulus 2) (omega (arith, positive)))))
 
 -- a word is of a message exactly where its coefficients from number k on are 0: those whose transform it is
 pub word_of_coefficients : (m g k n : ℕ) (points c w : ℕ → ℕ) → k ≤ n → ArePowers m g n points

@@ -1,8 +1,8 @@
 -- Polynomials with given roots and the highest coefficient 1, root by root.
-use Rattle.std.proofs.Common.{◌≡◌, ℕ, zero, suc, ◌+◌, ◌-◌, ◌*◌, ◌^◌, ◌<◌, ◌≤◌, pos, ◌-ℤ◌, ap, sym, ◌∙◌, arith, refl}
+use Rattle.std.proofs.Common.{◌≡◌, ℕ, zero, suc, ◌+◌, ◌-◌, ◌*◌, ◌^◌, ◌<◌, ◌≤◌, pos, ◌-ℤ◌, ap, ◌∙◌, arith, refl}
 use Rattle.std.proofs.Math.Nat.{pow-zero}
 use Rattle.num_modular.specs.Congruence.{Congruent}
-use Rattle.num_modular.specs.NumberLaws.{mod_of_eq, mod_sym, mod_trans, mod_add, mod_mul, sum_below-suc, sum_below-zero}
+use Rattle.num_modular.specs.NumberLaws.{mod_of_eq, mod_sym, mod_trans, mod_add, sum_below-suc, sum_below-zero}
 use Rattle.num_modular.specs.Polynomials.{polynomial_at}
 use Rattle.num_modular.specs.ProductLaws.{product-zero, product-more}
 use Rattle.num_modular.specs.Residues.{residue}
@@ -58,7 +58,7 @@ roots_none m x f one = record {
   highest = one;
   value = λ a.
       let one_more : 0 + 1 ≡ suc 0 = omega arith in
-      mod_trans (mod_of_eq (ap (λ n. polynomial_at n f a) one_more ∙ constant_value a f)) (mod_trans one (mod_of_eq (sym (product-zero _))));
+      rw (one_more, constant_value a f, product-zero (λ i. residue m (pos a -ℤ pos (x i)))) one;
 }
 
 -- with one point more
@@ -73,29 +73,14 @@ roots_more m i a x f g positive roots behind is each =
           mod_trans (mod_of_eq (omega (arith, ap g next, ap (λ v. a * v) none)))
           (mod_trans (each (suc i) (omega arith)) roots.highest);
       value = λ X.
-          let F : ℕ = polynomial_at (i + 1) f X in
+          let two : i + 1 + 1 ≡ suc (suc i) = omega arith in
+          let F : ℕ = polynomial_at (suc i) f X in
           let u : ℕ = residue m (pos X -ℤ pos a) in
-          let n : ℕ = suc (suc i) in
-          let two : i + 1 + 1 ≡ n = omega arith in
-          let front : polynomial_at n f X ≡ F =
-          omega (
-            arith,
-            sum_below-suc (suc i) (λ j. f j * X ^ j),
-            ap (λ v. v * X ^ suc i) none,
-            ap (λ n. polynomial_at n f X) next,
-          ) in
-          let values = with_multiple m n a X g f (shifted f) (λ j l. each j (omega (arith, l))) in
+          let front : polynomial_at (suc (suc i)) f X ≡ F =
+          omega (arith, sum_below-suc (suc i) (λ j. f j * X ^ j), ap (λ v. v * X ^ suc i) none) in
+          let values = with_multiple m (suc (suc i)) a X g f (shifted f) (λ j l. each j (omega (arith, l))) in
           let at : Congruent m (u + a) X = mod_of_difference a positive refl in
-          let times : Congruent m (polynomial_at (i + 1 + 1) g X) (F * u) =
-          mod_of_combination (mod_add values (mod_times F (mod_sym at)))
-          (omega (
-            arith,
-            ap (λ n. polynomial_at n g X) two,
-            ap (λ v. a * v) front,
-            shifted-values (suc i) X f,
-            ap (λ n. X * polynomial_at n f X) next,
-          )) in
-          let point : u ≡ residue m (pos X -ℤ pos (x i)) = ap (λ v. residue m (pos X -ℤ pos v)) is in
-          mod_trans times (mod_trans (mod_mul (roots.value X) (mod_of_eq point))
-          (mod_of_eq (sym (product-more (λ l. residue m (pos X -ℤ pos (x l))) i))));
+          rw (two, product-more (λ l. residue m (pos X -ℤ pos (x l))) i, ← is)
+          (mod_of_combination (mod_add (rw (front, shifted-values (suc i) X f) at values)
+          (mod_add (mod_times F (mod_sym at)) (mod_times u (rw next at (roots.value X))))) (omega arith));
     }

@@ -11,17 +11,10 @@ use Rattle.ring_codes.proofs.Distances.{extended, at_end, before_end, counted_sa
 
 -- the number with these digits
 below_power : (r m : ℕ) (c : ℕ → ℕ) → ((i : ℕ) → i < r → c i < m) → polynomial_at r c m < m ^ r
-below_power zero m c small = let z = polynomial-none c m in let o = pow-zero m in omega (arith, z, o)
+below_power zero m c small = omega (arith, polynomial-none c m, pow-zero m)
 below_power (suc r) m c small =
-    let rest = below_power r m (λ i. c (suc i)) (λ i l. small (suc i) (omega arith)) in
-    let v : ℕ = polynomial_at r (λ i. c (suc i)) m in
-    let most : m * suc v ≤ m * m ^ r = mul-le-mul_left m rest in
-    let one : m * suc v ≡ m * v + m = omega arith in
-    let first = small 0 (omega arith) in
-    let f = polynomial-first r c m in
-    let p = pow-suc m r in
-    let swap : m ^ r * m ≡ m * m ^ r = omega arith in
-    omega (arith, most, one, first, f, p, swap)
+    let most = mul-le-mul_left m (below_power r m (λ i. c (suc i)) (λ i l. small (suc i) (omega arith))) in
+    omega (arith, most, small 0 (omega arith), polynomial-first r c m, pow-suc m r)
 
 -- a list by its first element and the others
 digit_same : (r : ℕ) (c d : ℕ → ℕ) (i : ℕ) → i < suc r → c 0 ≡ d 0 → ((j : ℕ) → j < r → c (suc j) ≡ d (suc j)) → c i ≡ d i
@@ -38,13 +31,15 @@ same_digits (suc r) m c d small_c small_d same i l =
     let c_small = small_c 0 (omega arith) in
     let d_small = small_d 0 (omega arith) in
     let positive : 0 < m = omega (arith, c_small) in
-    let whole : c 0 + m * v ≡ d 0 + m * w = sym (polynomial-first r c m) ∙ same ∙ polynomial-first r d m in
-    let first : c 0 ≡ d 0 =
-    sym (mod-eq_of_lt c_small) ∙ sym (add-mul-mod_self_left (c 0) m v) ∙ ap (λ n. n % m) whole
-    ∙ add-mul-mod_self_left (d 0) m w ∙ mod-eq_of_lt d_small in
+    let whole : c 0 + m * v ≡ d 0 + m * w = rw (polynomial-first r c m, polynomial-first r d m) at same in
+    let first : c 0 ≡ d 0 = rw (
+      add-mul-mod_self_left (c 0) m v,
+      add-mul-mod_self_left (d 0) m w,
+      mod-eq_of_lt c_small,
+      mod-eq_of_lt d_small,
+    ) at (ap (λ n. n % m) whole) in
     let more : m * v ≡ m * w = omega (arith, whole, first) in
-    let rest : v ≡ w =
-    sym (mul-div_cancel_left v positive) ∙ ap (λ n. n / m) more ∙ mul-div_cancel_left w positive in
+    let rest : v ≡ w = rw (mul-div_cancel_left v positive, mul-div_cancel_left w positive) at (ap (λ n. n / m) more) in
     digit_same r c d i l first
     (same_digits r m (λ i. c (suc i)) (λ i. d (suc i)) (λ j k. small_c (suc j) (omega arith))
     (λ j k. small_d (suc j) (omega arith)) rest)
@@ -85,25 +80,19 @@ pigeonholes (suc most) (suc size) f below apart = elim (value_or_none (suc size)
       omega (arith, b, not_most) in
       let l = pigeonholes most size g
       (λ a l. elim (cases_eq a c) [
-        | inl e ↦
-            let p = at_end c (f size) f a e in
-            let b = other size (omega arith) (omega (arith, e, l)) in
-            omega (arith, p, b)
-        | inr differ ↦
-            let p = before_end c (f size) f a differ in
-            let b = other a (omega arith) differ in
-            omega (arith, p, b)
+        | inl e ↦ rw (at_end c (f size) f a e) (other size (omega arith) (omega (arith, e, l)))
+        | inr differ ↦ rw (before_end c (f size) f a differ) (other a (omega arith) differ)
       ])
       (λ a b l k differ same. elim (cases_eq a c) [
         | inl e ↦
             let q : b ≢ c = omega (arith, e, differ) in
             apart size b (omega arith) (omega arith) (omega arith)
-            (sym (at_end c (f size) f a e) ∙ same ∙ before_end c (f size) f b q)
+            (rw (at_end c (f size) f a e, before_end c (f size) f b q) at same)
         | inr p ↦ elim (cases_eq b c) [
           | inl e ↦ apart a size (omega arith) (omega arith) (omega arith)
-              (sym (before_end c (f size) f a p) ∙ same ∙ at_end c (f size) f b e)
+              (rw (before_end c (f size) f a p, at_end c (f size) f b e) at same)
           | inr q ↦ apart a b (omega arith) (omega arith) differ
-              (sym (before_end c (f size) f a p) ∙ same ∙ before_end c (f size) f b q)
+              (rw (before_end c (f size) f a p, before_end c (f size) f b q) at same)
         ]
       ]) in
       omega (arith, l)

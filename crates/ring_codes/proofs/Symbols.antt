@@ -1,27 +1,33 @@
 -- Symbols of words, as entries of lists of forms.
-use Rattle.std.proofs.Common.{◌≡◌, ℕ, ◌<◌, ◌≤◌, List, [], ◌∷◌, length, take, get_or, pos, ◌-ℤ◌, sym, ◌∙◌, ap, subst, arith}
+use Rattle.std.proofs.Common.{◌≡◌, ℕ, ◌<◌, ◌≤◌, List, [], ◌∷◌, length, take, get_or, sym, ◌∙◌, ap, arith}
 use Rattle.std.proofs.Common.{◌-◌, ◌++◌, drop, length-append, length-drop, ◌↔◌, Bool, true, false, not, IsTrue, refl}
 use Rattle.std.proofs.Common.{◌≢◌, Option, Some, None, is_some, MatchOption}
 use Rattle.std.proofs.Common.{◌+◌, slice_range, get_or-drop, inl, inr}
 use Rattle.std.proofs.lemmas.Bool.{cases_lt, false≢true}
 use Rattle.std.proofs.lemmas.List.{get_or-take, length-take-le}
-use Rattle.num_modular.specs.Callers.{IsForm, HasInverse, entry, entry_at, entry_past}
+use Rattle.num_modular.specs.Callers.{IsForm, entry, entry_at, entry_past}
 use Rattle.num_modular.specs.Polynomials.{HaveUnitDifferences}
-use Rattle.num_modular.specs.Residues.{residue}
 use Rattle.ring_codes.specs.Erasure.{ArePlaces, IsFault}
 use Rattle.ring_codes.specs.declared.erasure.RestoreError.{RestoreError}
 use Rattle.ring_codes.specs.declared.erasure.RestoreError.TheVariants.{TooFewSymbols, PlaceOutOfRange, PlaceTwice}
 use Rattle.ring_codes.specs.declared.erasure.RestoreError.TheVariants.{PointsDontFit}
 
+-- entries that were read at other places
+pub entry_chosen : {T : Type 0} (number : T → ℕ) (value : ℕ → ℕ → ℕ) (m : ℕ) (forms chosen : List T) (i p : ℕ)
+    → ((d : T) → get_or chosen i d ≡ get_or forms p d) → i < length chosen → p < length forms
+    → entry number value m chosen i ≡ entry number value m forms p
+entry_chosen number value m forms [] i p same l within = absurd (omega arith)
+entry_chosen number value m forms (x ∷ xs) i p same l within =
+    sym (entry_at number value m (x ∷ xs) i x l) ∙ ap (λ f. value m (number f)) (same x)
+    ∙ entry_at number value m forms p x within
+
 -- the first k entries
 pub entry_front : {T : Type 0} (number : T → ℕ) (value : ℕ → ℕ → ℕ) (m : ℕ) (forms : List T) (k i : ℕ)
     → i < k → k ≤ length forms → entry number value m (take k forms) i ≡ entry number value m forms i
-entry_front number value m [] k i l room = absurd (omega arith)
-entry_front number value m (x ∷ xs) k i l room =
-    let count = length-take-le k (x ∷ xs) room in
-    sym (entry_at number value m (take k (x ∷ xs)) i x (omega (arith, count, l)))
-    ∙ ap (λ f. value m (number f)) (get_or-take k (x ∷ xs) i x l)
-    ∙ entry_at number value m (x ∷ xs) i x (omega (arith, l, room))
+entry_front number value m forms k i l room =
+    let count = length-take-le k forms room in
+    entry_chosen number value m forms (take k forms) i i (λ d. get_or-take k forms i d l) (omega (arith, count, l))
+    (omega (arith, l, room))
 
 -- what the test of a loop bounds: places counted from the last of n, and the neighbours of a place
 pub back_within : (n k m : ℕ) → k < n → n ≤ m → n - 1 - k < m
@@ -54,22 +60,11 @@ index_tells places count place None b h e =
     ((λ t. let wrong : false ≡ true = sym e ∙ t in cc), λ there. absurd (h there.0 there.1 there.2))
 index_tells places count place (Some j) b h e = ((λ t. (j, h.0, h.1)), λ there. e)
 
--- entries that were read at other places
-pub entry_chosen : {T : Type 0} (number : T → ℕ) (value : ℕ → ℕ → ℕ) (m : ℕ) (forms chosen : List T) (i p : ℕ)
-    → ((d : T) → get_or chosen i d ≡ get_or forms p d) → i < length chosen → p < length forms
-    → entry number value m chosen i ≡ entry number value m forms p
-entry_chosen number value m forms [] i p same l within = absurd (omega arith)
-entry_chosen number value m forms (x ∷ xs) i p same l within =
-    sym (entry_at number value m (x ∷ xs) i x l) ∙ ap (λ f. value m (number f)) (same x)
-    ∙ entry_at number value m forms p x within
-
 -- points that are equal fit alike
 pub fit_same : (m n : ℕ) (x y : ℕ → ℕ) → ((i : ℕ) → i < n → x i ≡ y i) → HaveUnitDifferences m n x
     → HaveUnitDifferences m n y
 fit_same m n x y same fit = record {
-  unit = λ i j l k other. subst (HasInverse m)
-      (ap (λ v. residue m (pos v -ℤ pos (x j))) (same i l) ∙ ap (λ v. residue m (pos (y i) -ℤ pos v)) (same j k))
-      (fit.unit i j l k other);
+  unit = λ i j l k other. rw (← same i l, ← same j k) (fit.unit i j l k other);
 }
 
 -- the points at the first k places, copied to a list: these places are right, and the points fit exactly where the copies do
@@ -96,22 +91,13 @@ no_fault m k n x places PointsDontFit right fit h = h.1 fit
 -- the entries after the first k
 pub entry_back : {T : Type 0} (number : T → ℕ) (value : ℕ → ℕ → ℕ) (m : ℕ) (forms : List T) (k i : ℕ)
     → entry number value m (drop k forms) i ≡ entry number value m forms (k + i)
-entry_back {T} number value m forms k i =
+entry_back number value m forms k i =
     let left = length-drop k forms in
     elim (cases_lt (k + i) (length forms)) [
-      | inl b ↦ inside forms k i b
-      | inr past ↦ entry_past number value m (drop k forms) i (omega (arith, left, past))
-          ∙ sym (entry_past number value m forms (k + i) past)
+      | inl b ↦ entry_chosen number value m forms _ i (k + i) (λ d. get_or-drop k forms i d) (omega (arith, left, b)) b
+      | inr past ↦ rw (entry_past number value m (drop k forms) i (omega (arith, left, past)))
+          (sym (entry_past number value m forms (k + i) past))
     ]
-  where
-    inside : (forms : List T) (k i : ℕ) → k + i < length forms
-        → entry number value m (drop k forms) i ≡ entry number value m forms (k + i)
-    inside [] k i b = absurd (omega arith)
-    inside (x ∷ xs) k i b =
-        let left = length-drop k (x ∷ xs) in
-        sym (entry_at number value m (drop k (x ∷ xs)) i x (omega (arith, left, b)))
-        ∙ ap (λ f. value m (number f)) (get_or-drop k (x ∷ xs) i x)
-        ∙ entry_at number value m (x ∷ xs) (k + i) x b
 
 -- the length and the entries of a slice
 pub slice_length : {T : Type 0} (forms : List T) (from to : ℕ) → from ≤ to → to ≤ length forms
