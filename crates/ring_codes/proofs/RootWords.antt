@@ -1,5 +1,5 @@
 -- Words at the powers of a root, told by their coefficients.
-use Rattle.std.proofs.Common.{◌≡◌, ℕ, ◌+◌, ◌-◌, ◌%◌, ◌<◌, ◌≤◌, ◌↔◌, List, length, slice_range, ap, sym, ◌∙◌, arith}
+use Rattle.std.proofs.Common.{◌≡◌, ℕ, ◌+◌, ◌-◌, ◌%◌, ◌<◌, ◌≤◌, List, length, slice_range, ap, sym, ◌∙◌, arith}
 use Rattle.num_modular.specs.Callers.{entry}
 use Rattle.num_modular.specs.NumberLaws.{mod_of_eq, mod_refl}
 use Rattle.num_modular.specs.PolynomialLaws.{polynomial-congruent}
@@ -29,23 +29,25 @@ word_exactly m g k n points c w few powers is undone = (
 
 -- the same of lists: the word was copied, and its coefficients took the place of the copy
 pub list_exactly : {T : Type 0} (number : T → ℕ) (value : ℕ → ℕ → ℕ) (m g k : ℕ) (points : ℕ → ℕ) (found copy word : List T)
-    → copy ≡ word → k ≤ length word → ArePowers m g (length word) points
+    → copy ≡ word → length found ≡ length word → k ≤ length word → ArePowers m g (length word) points
     → ((j : ℕ) → j < length copy
     → transform m g (length copy) (entry number value m found) j ≡ entry number value m copy j)
     → ((x : ℕ → ℕ) → ((j : ℕ) → j < length copy → transform m g (length copy) x j ≡ entry number value m copy j)
     → (i : ℕ) → i < length copy → entry number value m found i ≡ x i % m)
-    → (((i : ℕ) → i < length word - k → entry number value m found (k + i) ≡ 0)
+    → (((i : ℕ) → i < length (slice_range found k (length found))
+    → entry number value m (slice_range found k (length found)) i ≡ 0)
     → IsEncoding m k (length word) points (entry number value m found) (entry number value m word))
     × (IsErasureCodeword m k (length word) points (entry number value m word)
-    → (i : ℕ) → i < length word - k → entry number value m found (k + i) ≡ 0)
-list_exactly number value m g k points found copy word same few powers values undone =
-    rw (← same) (word_exactly m g k (length copy) points (entry number value m found) (entry number value m copy)
-    (rw (← same) at few) (rw (← same) at powers) values undone)
-
--- the entries of the part from k on are 0
-pub zeros_behind : {T : Type 0} (number : T → ℕ) (value : ℕ → ℕ → ℕ) (m : ℕ) (forms : List T) (k n : ℕ) → length forms ≡ n
-    → k ≤ n
-    → ((i : ℕ) → i < length (slice_range forms k (length forms))
-    → entry number value m (slice_range forms k (length forms)) i ≡ 0)
-    ↔ ((i : ℕ) → i < n - k → entry number value m forms (k + i) ≡ 0)
-zeros_behind number value m forms k n count few = grind (arith, slice_length, entry_slice)
+    → (i : ℕ) → i < length (slice_range found k (length found))
+    → entry number value m (slice_range found k (length found)) i ≡ 0)
+list_exactly number value m g k points found copy word same count few powers values undone =
+    let exactly = rw same at (word_exactly m g k (length copy) points (entry number value m found)
+    (entry number value m copy) (rw (← same) at few) (rw (← same) at powers) values undone) in
+    let left = slice_length found k (length found) (omega (arith, count, few)) (omega arith) in
+    let read : (i : ℕ) → i < length word - k
+    → entry number value m (slice_range found k (length found)) i ≡ entry number value m found (k + i) =
+    λ i l. entry_slice number value m found k (length found) i (omega (arith, count, few)) (omega arith)
+    (omega (arith, count, l)) in (
+      λ none. exactly.0 (λ i l. sym (read i l) ∙ none i (omega (arith, left, count, l))),
+      λ codeword i l. let b : i < length word - k = omega (arith, left, count, l) in read i b ∙ exactly.1 codeword i b,
+    )
