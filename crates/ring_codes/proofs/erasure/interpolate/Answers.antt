@@ -1,6 +1,5 @@
 use Rattle.std.proofs.lemmas.Bool.{false≢true}
-use Rattle.num_modular.specs.Callers.{length, HasInverse, entry, same_coefficients, ◌∙◌, sym, refl, subst, arith, ◌≤◌}
-use Rattle.std.proofs.Common.{le_refl}
+use Rattle.num_modular.specs.Callers.{length, entry, same_coefficients, ◌∙◌, sym, refl, arith}
 use Rattle.num_modular.specs.Callers.{mod-eq_of_lt}
 use Rattle.ring_codes.proofs.NewtonForms.{fit_from_products, products_from_fit, interpolated}
 use Rattle.num_modular.specs.Callers.{values_below}
@@ -9,22 +8,19 @@ use Rattle.ring_codes.proofs.erasure.interpolate.Goals as goal
 
 pub returns-then-not-invert_each-clause-fit : goal.returns-then-not-invert_each-clause-fit
 returns-then-not-invert_each-clause-fit g c =
-    let ring = g.R.Reducer in let m = ring.modulus c.args.r.now in
     let positive = (g.met.R.Reducer.canonical c.args.r.now).positive in (
       λ t. absurd (false≢true t),
       λ fit. c.if-not-invert_each.ensures.each.1
-          (λ i l. subst (HasInverse m) (sym (c.fill_weights.ensures.values i (omega arith)))
+          (λ i l. rw (c.fill_weights.ensures.values i (omega arith))
           (products_from_fit _ _ _ positive fit i (omega arith))),
     )
 
 pub returns-clause-fit : goal.returns-clause-fit
-returns-clause-fit g c =
-    let ring = g.R.Reducer in let m = ring.modulus c.args.r.now in (
-      λ t. fit_from_products _ _ _
-          (λ i l. subst (HasInverse m) (c.fill_weights.ensures.values i (omega arith))
-          (c.if-not-invert_each.ensures.each.0 refl i (omega arith))),
-      λ fit. refl,
-    )
+returns-clause-fit g c = (
+  λ t. fit_from_products _ _ _ (λ i l. rw (c.fill_weights.ensures.values i (omega arith)) at
+      (c.if-not-invert_each.ensures.each.0 refl i (omega arith))),
+  λ fit. refl,
+)
 
 pub returns-clause-values : goal.returns-clause-values
 returns-clause-values g c t = grind (arith, interpolated, entry_front)
@@ -34,21 +30,14 @@ returns-clause-only g c t other is i l =
     let ring = g.R.Reducer in let m = ring.modulus c.args.r.now in let number = g.T.RingWord.number in
     let n = length c.args.coefficients.now in let x = entry number ring.value m c.args.points.now in
     let mine = returns-clause-values g c t in
-    let fit = (returns-clause-fit g c).0 t in
-    let same = same_coefficients m n _ other x fit
-    (λ i l. record { same = sym (mine.symbol i l) ∙ is.symbol i l }) i l in
-    let below = values_below number ring.form ring.value m _ i c.expand.ensures.checked (omega arith) in
-    sym (mod-eq_of_lt below) ∙ same.same
+    rw (mod-eq_of_lt (values_below number ring.form ring.value m _ i c.expand.ensures.checked (omega arith))) at
+    ((same_coefficients m n _ other x ((returns-clause-fit g c).0 t)
+    (λ i l. record { same = sym (mine.symbol i l) ∙ is.symbol i l }) i l).same)
 
 pub divide_differences-requires-clause-inverses_within :
     goal.divide_differences-requires-clause-inverses_within
-divide_differences-requires-clause-inverses_within g c =
-    subst (λ n. length c.copy_from_slice.new.self ≤ n)
-    (c.copy_from_slice.auto.self ∙ c.invert_each.auto.scratch
-    ∙ sym (c.invert_each.auto.forms ∙ c.fill_weights.auto.weights ∙ c.requires.weights)) (le_refl _)
+divide_differences-requires-clause-inverses_within g c = omega arith
 
 pub divide_differences-requires-clause-points_within :
     goal.divide_differences-requires-clause-points_within
-divide_differences-requires-clause-points_within g c =
-    subst (λ n. n ≤ length c.args.points.now)
-    (sym (c.copy_from_slice.auto.self ∙ c.invert_each.auto.scratch)) c.requires.points_within
+divide_differences-requires-clause-points_within g c = omega (arith, c.requires.points_within)

@@ -1,5 +1,5 @@
-use Rattle.num_modular.specs.Callers.{◌≡◌, ◌+◌, ◌-◌, ◌*◌, length, ◌∙◌, ap, sym, arith, entry, entry_read}
-use Rattle.num_modular.specs.NumberLaws.{mod_of_eq, mod_trans}
+use Rattle.num_modular.specs.Callers.{◌≡◌, ◌-◌, length, ◌∙◌, ap, arith, entry, entry_read}
+use Rattle.num_modular.specs.NumberLaws.{mod_of_eq}
 use Rattle.num_modular.specs.PolynomialLaws.{polynomial-none}
 use Rattle.ring_codes.proofs.NewtonForms.{form-none, expanded_more, expanded_all}
 use Rattle.ring_codes.proofs.erasure.newton.expand.Goals as goal
@@ -21,8 +21,7 @@ points-preserved g c =
     let done = c.subtract_multiples.ensures in (
       done.checked,
       expanded_more m n _ (entry number ring.value m c.args.form.now) e f x positive (omega arith) so_far.1 so_far.2
-          (λ i l b. mod_trans (mod_of_eq (ap (λ v. f i + v * e (i + 1)) (sym point)))
-          (done.done i (omega arith) (omega arith)))
+          (λ i l b. rw point at (done.done i (omega arith) (omega arith)))
           (λ i l. done.last i (omega arith)),
       λ i l. done.before i (omega arith) ∙ so_far.2 i (omega arith),
     )

@@ -1,6 +1,4 @@
-use Rattle.std.proofs.Common.{pos, ◌-ℤ◌}
-use Rattle.num_modular.specs.Callers.{◌*◌, ◌%◌, ◌∙◌, ap, arith, entry, entry_at, entry_read, forms_written, done_more}
-use Rattle.num_modular.specs.Residues.{residue}
+use Rattle.num_modular.specs.Callers.{◌∙◌, arith, entry, entry_at, entry_read, forms_written, done_more}
 use Rattle.ring_codes.proofs.erasure.newton.multiply_by_differences.Goals as goal
 
 pub points-init : goal.points-init
@@ -15,14 +13,8 @@ points-preserved g c =
     let own = entry_at number ring.value m list i c.index-products-i.result (omega arith) ∙ so_far.1.kept i (omega arith) in
     let here = entry_read number ring.value m points i _ (omega arith) c.index-points-i.is in
     let there = entry_read number ring.value m points c.args.place _ c.requires.inside c.index-points-place.is in
-    let difference = c.sub-difference.ensures.value
-    ∙ ap (λ v. residue m (pos v -ℤ pos (ring.value m (number c.index-points-place.result)))) here
-    ∙ ap (λ v. residue m (pos (x i) -ℤ pos v)) there in (
+    let difference = rw (here, there) at c.sub-difference.ensures.value in (
       forms_written number ring.form ring.value m list i c.mul.result c.mul.ensures.checked so_far.0,
-      done_more number ring.value m list i c.mul.result _ old (omega arith) so_far.1 (
-        (λ a. c.mul.ensures.value
-            ∙ ap (λ v. (v * ring.value m (number c.sub-difference.result)) % m) own
-            ∙ ap (λ v. (old i * v) % m) difference),
-        λ s. absurd (omega arith),
-      ),
+      done_more number ring.value m list i c.mul.result _ old (omega arith) so_far.1
+          ((λ a. rw (own, difference) at c.mul.ensures.value), λ s. absurd (omega arith)),
     )

@@ -1,5 +1,6 @@
 use Rattle.std.proofs.Common.{pos, ◌-ℤ◌}
-use Rattle.num_modular.specs.Callers.{◌≡◌, ◌≢◌, ℕ, ◌+◌, ◌-◌, ◌*◌, ◌/◌, ◌%◌, ◌∙◌, ap, sym, arith, subst, entry, entry_read, form_read, IsForm, product_none}
+use Rattle.num_modular.specs.Callers.{◌≡◌, ◌≢◌, ℕ, ◌+◌, ◌-◌, ◌*◌, ◌/◌, ◌%◌, ◌∙◌, ap, arith}
+use Rattle.num_modular.specs.Callers.{entry, entry_read, form_read, IsForm, product_none}
 use Rattle.num_modular.specs.Congruence.{Congruent}
 use Rattle.num_modular.specs.Residues.{residue}
 use Rattle.ring_codes.proofs.Congruences.{mod_of_residue}
@@ -22,15 +23,11 @@ coefficients-init g c =
           let top = entry_read number ring.value m c.args.form.now (n - 1) _ (omega (arith, odd, c.requires.form_within))
           w.index-form-count.is in
           let checked = form_read number ring.form ring.value m c.args.form.now (n - 1) _ c.requires.form
-          (omega (arith, odd, c.requires.form_within)) w.index-form-count.is in (
-            subst (λ f. IsForm ring.form ring.value m (number f)) (sym w.high-is) checked,
-            part_of_top m n a _ e x odd (ap (λ f. ring.value m (number f)) w.high-is ∙ top),
-          )
+          (omega (arith, odd, c.requires.form_within)) w.index-form-count.is in
+          rw w.high-is (checked, part_of_top m n a _ e x odd top)
       | else-count-eq1 w ↦
-          let even : n % 2 ≢ 1 = λ odd. omega (arith, w.if-count-eq1, odd) in (
-            subst (λ f. IsForm ring.form ring.value m (number f)) (sym w.high-is) c.transform-low.ensures.checked,
-            part_of_no_top m n a _ e x even (ap (λ f. ring.value m (number f)) w.high-is ∙ zero),
-          )
+          let even : n % 2 ≢ 1 = λ odd. omega (arith, w.if-count-eq1, odd) in
+          rw w.high-is (c.transform-low.ensures.checked, part_of_no_top m n a _ e x even zero)
     ] in (
       c.transform-low.ensures.checked,
       part_of_none m a (h - 0) _ e x zero,

@@ -1,9 +1,7 @@
 use Rattle.std.proofs.Common.{pos, ◌-ℤ◌, set}
 use Rattle.std.proofs.lemmas.Bool.{cases_eq}
-use Rattle.num_modular.specs.Callers.{◌≡◌, ◌≢◌, ℕ, ◌+◌, ◌-◌, ◌*◌, ◌%◌, ◌∙◌, ap, sym, inl, inr, arith, subst}
+use Rattle.num_modular.specs.Callers.{◌≡◌, ◌≢◌, ℕ, ◌+◌, ◌-◌, ◌*◌, ◌%◌, ◌∙◌, ap, sym, inl, inr, arith}
 use Rattle.num_modular.specs.Callers.{entry, entry_at, entry_written, entry_kept, forms_written}
-use Rattle.num_modular.specs.Congruence.{Congruent}
-use Rattle.num_modular.specs.NumberLaws.{mod_of_eq, mod_trans}
 use Rattle.num_modular.specs.Residues.{residue}
 use Rattle.ring_codes.proofs.NewtonForms.{subtracted}
 use Rattle.ring_codes.proofs.erasure.newton.subtract_multiples.Goals as goal
@@ -29,9 +27,8 @@ places-preserved g c =
     let kept = λ (k : ℕ) (other : k ≢ before). entry_kept number ring.value m values before k c.sub.result other in (
       forms_written number ring.form ring.value m values before c.sub.result c.sub.ensures.checked so_far.0,
       λ k l b. elim (cases_eq k before) [
-        | inl e ↦ subst (λ j. Congruent m (entry number ring.value m new j + a * old (j + 1)) (old j)) (sym e) one
-        | inr other ↦
-            mod_trans (mod_of_eq (ap (λ v. v + a * old (k + 1)) (kept k other))) (so_far.1 k l (omega arith))
+        | inl e ↦ rw e one
+        | inr other ↦ rw (kept k other) (so_far.1 k l (omega arith))
       ],
       λ k l. kept k (omega arith) ∙ so_far.2 k l,
       λ k l. kept k (omega arith) ∙ so_far.3 k (omega arith),

@@ -1,7 +1,6 @@
-use Rattle.num_modular.specs.Callers.{◌≡◌, ℕ, ◌*◌, ◌<◌, ◌≤◌, ◌∙◌, ap, arith, length, sym, subst}
+use Rattle.num_modular.specs.Callers.{◌≡◌, ℕ, ◌*◌, ◌<◌, ◌≤◌, ◌∙◌, ap, arith, length, sym}
 use Rattle.num_modular.specs.Callers.{entry_at, entry_read, entry_past, entry_written, entry_kept}
 use Rattle.std.proofs.Common.{get_or, inl, inr}
-use Rattle.std.proofs.Math.ListN.{set}
 use Rattle.std.proofs.lemmas.Bool.{cases_eq, cases_lt}
 use Rattle.num_modular.specs.Plans.{numbers}
 use Rattle.ring_codes.proofs.RootPowers.{value_by_transform}
@@ -15,17 +14,13 @@ symbols-preserved g c =
     let within : i < length padded = omega arith in
     let is : number x ≡ numbers number message i = elim c.if-i-message.branch [
       | then-i-message w ↦
-          let read = w.index-message-i in
-          ap number w.word-is ∙ entry_read number (λ k x. x) 0 message i read.result w.if-i-message.true read.is
+          ap number w.word-is ∙ entry_read number (λ k x. x) 0 message i _ w.if-i-message.true w.index-message-i.is
       | else-i-message w ↦
           ap number w.word-is ∙ w.zero.ensures ∙ sym (entry_past number (λ k x. x) 0 message i w.if-i-message.false)
     ] in
     λ k l. elim (cases_eq k i) [
-      | inl e ↦
-          let here = entry_written number (λ k x. x) 0 padded i x within in
-          subst (λ j. numbers number (set padded i x) j ≡ numbers number message j) (sym e) (here ∙ is)
-      | inr other ↦
-          entry_kept number (λ k x. x) 0 padded i k x other ∙ c.symbols.invariant k (omega (arith, l, other))
+      | inl e ↦ rw e (entry_written number (λ k x. x) 0 padded i x within ∙ is)
+      | inr other ↦ entry_kept number (λ k x. x) 0 padded i k x other ∙ c.symbols.invariant k (omega (arith, l, other))
     ]
 
 pub transform-requires-clause-entries : goal.transform-requires-clause-entries
@@ -36,13 +31,8 @@ transform-requires-clause-entries g c =
     let is : number (get_or padded k d) ≡ numbers number message k =
     entry_at number (λ k x. x) 0 padded k d l ∙ c.symbols.invariant k (omega (arith, l)) in
     elim (cases_lt k (length message)) [
-      | inl short ↦
-          let read = entry_at number (λ k x. x) 0 message k d short in
-          subst (λ v. v < bound) (sym (is ∙ sym read)) (c.requires.symbols k d short)
-      | inr after ↦
-          let zero = is ∙ entry_past number (λ k x. x) 0 message k after in
-          let odd = c.args.plan.now.odd in
-          omega (arith, zero, odd)
+      | inl short ↦ rw (is, ← entry_at number (λ k x. x) 0 message k d short) (c.requires.symbols k d short)
+      | inr after ↦ omega (arith, is, entry_past number (λ k x. x) 0 message k after, c.args.plan.now.odd)
     ]
 
 pub returns-clause-encoding : goal.returns-clause-encoding

@@ -1,6 +1,5 @@
-use Rattle.num_modular.specs.Callers.{◌≡◌, ℕ, ◌<◌, ◌∙◌, ap, arith, length}
+use Rattle.num_modular.specs.Callers.{◌≡◌, ℕ, ◌<◌, ◌∙◌, arith, length}
 use Rattle.num_modular.specs.Callers.{entry, entry_past, held_entry}
-use Rattle.num_modular.specs.Transforms.{transform}
 use Rattle.ring_codes.proofs.RootPowers.{value_by_transform}
 use Rattle.num_modular.specs.Callers.{held_forms}
 use Rattle.num_modular.specs.Callers.{entry_read, form_read, hold_more}
@@ -19,8 +18,7 @@ returns-clause-encoding g c points powers =
     c.symbols.invariant (omega arith) (omega (arith, l, count)) in
     record {
       symbol = λ j l.
-          c.ntt.ensures.values j (omega (arith, l, count))
-          ∙ ap (λ k. transform m a k (entry number ring.value m padded) j) count
+          rw count at (c.ntt.ensures.values j (omega (arith, l, count)))
           ∙ value_by_transform m a (length message) n j points (entry number ring.value m message)
           (entry number ring.value m padded) c.requires.few powers (λ i b. held i (omega (arith, b, c.requires.few)))
           (λ i b k. held i k ∙ entry_past number ring.value m message i b) l;

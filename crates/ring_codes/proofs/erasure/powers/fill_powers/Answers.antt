@@ -1,4 +1,4 @@
-use Rattle.num_modular.specs.Callers.{◌*◌, ◌%◌, ◌∙◌, ap, sym, arith}
+use Rattle.num_modular.specs.Callers.{◌%◌, arith}
 use Rattle.std.proofs.Common.{◌^◌, add-one}
 use Rattle.std.proofs.Math.Nat.{pow-zero, pow-suc}
 use Rattle.std.proofs.lemmas.Nat.{mul-mod_first}
@@ -17,8 +17,7 @@ powers-preserved g c =
           next.checked next.same,
       record {
         checked = c.mul-power.ensures.checked;
-        same = c.mul-power.ensures.value ∙ ap (λ v. (v * a) % m) next.same ∙ mul-mod_first (a ^ i) a m
-            ∙ ap (λ v. v % m) (sym (pow-suc a i) ∙ ap (λ k. a ^ k) (sym (add-one i)));
+        same = rw (add-one i, pow-suc a i) (rw (next.same, mul-mod_first (a ^ i) a m) at c.mul-power.ensures.value);
       },
     )
 

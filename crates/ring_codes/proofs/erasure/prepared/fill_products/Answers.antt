@@ -1,10 +1,9 @@
-use Rattle.num_modular.specs.Callers.{◌≡◌, ◌≢◌, ℕ, ◌-◌, ◌%◌, ◌<◌, ◌∙◌, ap, sym, arith, inl, inr, length}
+use Rattle.num_modular.specs.Callers.{◌≡◌, ◌≢◌, ℕ, ◌-◌, ◌%◌, ◌<◌, ◌∙◌, ap, arith, inl, inr, length}
 use Rattle.num_modular.specs.Callers.{entry, entry_at, entry_read, entry_written, entry_kept, forms_written}
 use Rattle.num_modular.specs.Callers.{hold_more, held_forms, held_entry, product_none, product_step, product_below}
-use Rattle.std.proofs.Common.{pos, ◌-ℤ◌, slice_set}
+use Rattle.std.proofs.Common.{pos, ◌-ℤ◌}
 use Rattle.std.proofs.lemmas.Bool.{cases_eq}
 use Rattle.num_modular.specs.Residues.{residue}
-use Rattle.ring_codes.specs.Prepared.{product_but}
 use Rattle.ring_codes.proofs.Lagrange.{product_of_parts}
 use Rattle.ring_codes.proofs.erasure.prepared.fill_products.Goals as goal
 
@@ -39,10 +38,7 @@ backward-preserved g c =
       forms_written number ring.form ring.value m products i c.mul.result c.mul.ensures.checked so_far.0,
       λ j l. kept j (omega (arith, l, below)) ∙ so_far.1 j (omega (arith, l)),
       λ j l b. elim (cases_eq j i) [
-        | inl e ↦
-            ap (λ p. entry number ring.value m (slice_set products i c.mul.result) p) e
-            ∙ entry_written number ring.value m products i c.mul.result within ∙ c.mul.ensures.value ∙ here
-            ∙ ap (λ p. product_but m n x p a % m) (sym e)
+        | inl e ↦ rw e (entry_written number ring.value m products i c.mul.result within ∙ c.mul.ensures.value ∙ here)
         | inr other ↦ kept j other ∙ so_far.2 j (omega (arith, l, other, below)) b
       ],
       record {

@@ -1,4 +1,4 @@
-use Rattle.num_modular.specs.Callers.{◌≡◌, ℕ, ◌+◌, ◌*◌, ◌/◌, ◌%◌, ◌≤◌, ◌∙◌, ap, sym, arith, length}
+use Rattle.num_modular.specs.Callers.{◌≡◌, ℕ, ◌+◌, ◌*◌, ◌/◌, ◌%◌, ◌≤◌, ◌∙◌, sym, arith, length, refl}
 use Rattle.num_modular.specs.Callers.{entry, entry_at, entry_read, hold_more, held_forms, held_entry}
 use Rattle.std.proofs.Math.Nat.{mul-le-mul_right}
 use Rattle.std.proofs.lemmas.Nat.{mod-mul-add, div-mul-add}
@@ -20,18 +20,14 @@ known-preserved g c =
     let k : ℕ = length known in let j = c.wanted.j in let i = c.known.i in let next = c.known.next in
     let v : ℕ → ℕ = λ e. (product_but m k x (e % k) (y (e / k)) % m * w (e % k)) % m in
     let so_far = c.known.invariant.1 in let at = c.known.invariant.0 in
-    let column : next % k ≡ i = ap (λ e. e % k) at ∙ mod-mul-add j k i c.known-test.true in
-    let row : next / k ≡ j = ap (λ e. e / k) at ∙ div-mul-add j k i c.known-test.true in
+    let column : next % k ≡ i = rw at (mod-mul-add j k i c.known-test.true) in
+    let row : next / k ≡ j = rw at (div-mul-add j k i c.known-test.true) in
     let point = entry_read number ring.value m c.args.wanted.now j _ c.wanted-test.true c.index-wanted-j.is in
-    let product = entry_at number ring.value m _ i c.index-products-i.result (omega arith) in
+    let product = entry_at number ring.value m c.fill_products.new.products i c.index-products-i.result (omega arith) in
     let weight = entry_read number ring.value m c.args.weights.now i _ (omega arith) c.index-weights-i.is in
-    let here : v next ≡ (product_but m k x i (y j) % m * w i) % m =
-    ap (λ e. (product_but m k x e (y (next / k)) % m * w e) % m) column
-    ∙ ap (λ e. (product_but m k x i (y e) % m * w i) % m) row in
-    let value = c.mul.ensures.value
-    ∙ ap (λ e. (e * ring.value m (number c.index-weights-i.result)) % m)
-    (product ∙ c.fill_products.ensures.values i c.known-test.true ∙ ap (λ a. product_but m k x i a % m) point)
-    ∙ ap (λ e. (product_but m k x i (y j) % m * e) % m) weight in
+    let here : v next ≡ (product_but m k x i (y j) % m * w i) % m = rw (column, row) refl in
+    let value =
+    rw (product, c.fill_products.ensures.values i c.known-test.true, point, weight) at c.mul.ensures.value in
     let inside = row_within j (length c.args.wanted.now) k i c.wanted-test.true c.known-test.true in (
       omega (arith, at),
       hold_more number ring.form ring.value m c.known.rows next c.mul.result v
@@ -50,8 +46,7 @@ returns-clause-values g c j i l b =
     let at = c.wanted.invariant.0 in
     held_entry number ring.form ring.value m c.wanted.rows v c.wanted.next (j * k + i) c.wanted.invariant.1
     (omega (arith, inside, all, at)) (omega (arith, inside, c.wanted.auto.rows, c.requires.count))
-    ∙ ap (λ e. (product_but m k x e (y ((j * k + i) / k)) % m * w e) % m) (mod-mul-add j k i b)
-    ∙ ap (λ e. (product_but m k x i (y e) % m * w i) % m) (div-mul-add j k i b)
+    ∙ rw (mod-mul-add j k i b, div-mul-add j k i b) refl
 
 pub returns-clause-checked : goal.returns-clause-checked
 returns-clause-checked g c = grind (arith, mul-le-mul_right, held_forms)

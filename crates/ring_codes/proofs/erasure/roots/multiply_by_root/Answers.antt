@@ -12,7 +12,7 @@ coefficients-init g c =
       c.requires.coefficients,
       record {
         checked = c.transform-before.ensures.checked;
-        same = c.transform-before.ensures.value ∙ ap (λ v. v % m) c.zero.ensures ∙ zero-mod m ∙ sym (shifted_none _);
+        same = c.transform-before.ensures.value ∙ rw (c.zero.ensures, zero-mod m) (sym (shifted_none _));
       },
       done_none _ _,
     )

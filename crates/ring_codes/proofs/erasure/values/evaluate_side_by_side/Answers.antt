@@ -1,5 +1,4 @@
-use Rattle.num_modular.specs.Polynomials.{polynomial_at}
-use Rattle.num_modular.specs.Callers.{ℕ, ◌+◌, ◌-◌, ◌*◌, ◌%◌, ◌≡◌, length, ◌∙◌, ap, refl, arith}
+use Rattle.num_modular.specs.Callers.{ℕ, ◌-◌, ◌*◌, ◌%◌, ◌≡◌, length, refl, arith}
 use Rattle.num_modular.specs.Callers.{entry, entry_read}
 use Rattle.ring_codes.proofs.NewtonForms.{value_more, value_all}
 use Rattle.ring_codes.proofs.erasure.values.evaluate_side_by_side.Goals as goal
@@ -13,7 +12,7 @@ coefficients-preserved g c =
       c.step_each.ensures.checked,
       λ j l. value_more m n k (entry number ring.value m cs) (x j) (v j) (v j * x j % m) _ (omega arith)
           (c.coefficients.invariant.1 j l) refl
-          (c.step_each.ensures.values j l ∙ ap (λ a. (a + v j * x j % m) % m) read),
+          (rw read at (c.step_each.ensures.values j l)),
     )
 
 pub returns-clause-encoding : goal.returns-clause-encoding
@@ -22,6 +21,5 @@ returns-clause-encoding g c =
     let cs = entry number ring.value m c.args.coefficients.now in let n = length c.args.coefficients.now in
     let count : c.coefficients.k ≡ n = omega arith in record {
       symbol = λ j l. let a = entry number ring.value m c.args.points.now j in
-          c.coefficients.invariant.1 j l ∙ ap (λ k. polynomial_at k (λ i. cs (n - k + i)) a % m) count
-          ∙ ap (λ v. v % m) (value_all n a cs);
+          rw (count, value_all n a cs) at (c.coefficients.invariant.1 j l);
     }

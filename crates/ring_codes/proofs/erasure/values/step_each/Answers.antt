@@ -1,4 +1,4 @@
-use Rattle.num_modular.specs.Callers.{◌+◌, ◌*◌, ◌%◌, ◌∙◌, ap, arith}
+use Rattle.num_modular.specs.Callers.{◌∙◌, arith}
 use Rattle.num_modular.specs.Callers.{entry, entry_at, entry_read, forms_written, done_more}
 use Rattle.ring_codes.proofs.erasure.values.step_each.Goals as goal
 
@@ -10,9 +10,8 @@ points-preserved g c =
     let a = ring.value m (number c.args.coefficient.now) in
     let point = entry_read number ring.value m c.args.points.now i _ (omega arith) c.index-points-i.is in
     let here = entry_at number ring.value m list i c.index-values-i.result (omega arith) ∙ so_far.1.kept i (omega arith) in
-    let product = c.mul-product.ensures.value
-    ∙ ap (λ v. (v * ring.value m (number c.index-points-i.result)) % m) here ∙ ap (λ v. (old i * v) % m) point in (
+    let product = rw (here, point) at c.mul-product.ensures.value in (
       forms_written number ring.form ring.value m list i c.add.result c.add.ensures.checked so_far.0,
       done_more number ring.value m list i c.add.result _ old (omega arith) so_far.1
-          (c.add.ensures.value ∙ ap (λ v. (a + v) % m) product),
+          (rw product at c.add.ensures.value),
     )

@@ -1,4 +1,4 @@
-use Rattle.num_modular.specs.Callers.{ℕ, ◌+◌, ◌*◌, ◌%◌, ◌∙◌, ap, arith, length}
+use Rattle.num_modular.specs.Callers.{ℕ, ◌+◌, ◌*◌, ◌%◌, ◌∙◌, arith, length}
 use Rattle.num_modular.specs.Callers.{entry, held_entry}
 use Rattle.num_modular.specs.Sums.{sum_below}
 use Rattle.ring_codes.proofs.Lagrange.{fit_known, message_of, value_from_row}
@@ -19,8 +19,7 @@ returns-clause-original g c message is =
       symbol = λ j l.
           held_entry number ring.form ring.value m others (v (length c.args.symbols.now)) c.wanted.j j c.wanted.invariant
           (omega arith) (omega arith)
-          ∙ ap (λ k. v k j) c.requires.given
-          ∙ value_from_row m k n j x y rows symbols message self.factors is l;
+          ∙ rw c.requires.given (value_from_row m k n j x y rows symbols message self.factors is l);
     }
 
 pub returns-clause-word : goal.returns-clause-word

@@ -24,10 +24,8 @@ returns-then-ne g c =
           absurd (told_other _ _ _ c.ne.ensures c.if-ne.true
           (g.met.T.RingWord.equal c.row_value-symbol.result c.index-others-j.result)
           (same_forms ring.form ring.value m _ _ c.row_value-symbol.ensures.checked is
-          (c.row_value-symbol.ensures.value
-          ∙ ap (λ k. sum_below k (λ i. rows (j * k + i) * symbols i) % m) c.requires.given
-          ∙ value_from_row m k n j x y rows symbols message self.factors known (omega arith)
-          ∙ sym (wanted.symbol j (omega arith)) ∙ sym symbol))),
+          (rw (symbol, wanted.symbol j (omega arith)) (c.row_value-symbol.ensures.value ∙ rw c.requires.given
+          (value_from_row m k n j x y rows symbols message self.factors known (omega arith)))))),
     )
 
 pub wanted-preserved : goal.wanted-preserved

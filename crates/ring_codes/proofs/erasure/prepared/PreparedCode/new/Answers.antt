@@ -1,7 +1,7 @@
-use Rattle.num_modular.specs.Callers.{ℕ, ◌*◌, ◌%◌, ◌∙◌, refl, length}
+use Rattle.num_modular.specs.Callers.{ℕ, ◌∙◌, refl, length}
 use Rattle.num_modular.specs.Callers.{entry}
-use Rattle.num_modular.specs.NumberLaws.{mod_of_eq, mod_refl, residue_of, mod_trans, mod_mul}
-use Rattle.ring_codes.specs.Prepared.{product_but}
+use Rattle.num_modular.specs.NumberLaws.{mod_refl, residue_of, mod_trans, mod_mul}
+use Rattle.ring_codes.proofs.Congruences.{mod_of_residue}
 use Rattle.ring_codes.proofs.Lagrange.{rows_from}
 use Rattle.ring_codes.proofs.erasure.prepared.PreparedCode.new.Goals as goal
 
@@ -22,7 +22,6 @@ invariant_of-result g c =
       count = c.fill_rows.auto.rows ∙ c.requires.count;
       factors = rows_from m k (length wanted) x y w (entry number ring.value m c.fill_rows.new.rows) positive fit
           (c.if-not-fill_barycentric_weights.ensures.inverses refl)
-          (λ j i l b. mod_trans (mod_of_eq (c.fill_rows.ensures.values j i l b))
-          (mod_trans (residue_of (product_but m k x i (y j) % m * w i))
-          (mod_mul (residue_of (product_but m k x i (y j))) (mod_refl (w i)))));
+          (λ j i l b. mod_trans (mod_of_residue (c.fill_rows.ensures.values j i l b))
+          (mod_mul (residue_of _) (mod_refl (w i))));
     }
