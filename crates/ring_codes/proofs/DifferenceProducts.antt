@@ -1,5 +1,5 @@
 -- Products of the differences of a point from those before it and from the last ones.
-use Rattle.std.proofs.Common.{◌≡◌, ℕ, ◌+◌, ◌-◌, ◌*◌, ◌%◌, ap, ◌∙◌, arith}
+use Rattle.std.proofs.Common.{◌≡◌, ℕ, ◌+◌, ◌-◌, ◌*◌, ◌%◌, arith, refl}
 use Rattle.std.proofs.lemmas.Nat.{mul-mod_first}
 use Rattle.num_modular.specs.Products.{product_below}
 use Rattle.num_modular.specs.ProductLaws.{product-zero, product-more}
@@ -14,14 +14,13 @@ products_so_far_none m i d g e = grind (arith, product-zero)
 pub products_so_far_more : (m i k : ℕ) {a : ℕ} (d g : ℕ → ℕ) → a ≡ (product_below i d * product_below k g) % m
     → (a * g k) % m ≡ (product_below i d * product_below (k + 1) g) % m
 products_so_far_more m i k d g e =
-    let more = ap (λ v. product_below i d * v) (product-more g k) in
-    let same : product_below i d * product_below k g * g k ≡ product_below i d * product_below (k + 1) g = omega (arith, more) in
-    ap (λ v. (v * g k) % m) e ∙ mul-mod_first (product_below i d * product_below k g) (g k) m ∙ ap (λ v. v % m) same
+    let p : ℕ = product_below i d in let q : ℕ = product_below k g in
+    let same : p * q * g k ≡ p * (q * g k) = omega arith in
+    rw (e, mul-mod_first (p * q) (g k) m, product-more g k, same) refl
 
 -- .. and with all points behind
 pub product_but_whole : (m n i k : ℕ) {a : ℕ} (x : ℕ → ℕ) → k ≡ n - 1 - i
     → a ≡ (product_below i (difference m x i) * product_below k (λ j. difference m x i (n - 1 - j))) % m
     → a ≡ product_but m n x i (x i) % m
 unfolding product_but
-product_but_whole m n i k x count e =
-    e ∙ ap (λ b. (product_below i (difference m x i) * product_below b (λ j. difference m x i (n - 1 - j))) % m) count
+product_but_whole m n i k x count e = rw count at e

@@ -7,7 +7,7 @@ points-init g c = grind arith
 pub points-preserved : goal.points-preserved
 points-preserved g c =
     let ring = g.R.Reducer in let m = ring.modulus c.args.r.now in let number = g.T.RingWord.number in
-    let points = c.args.points.now in let x = entry number ring.value m points in
+    let points = c.args.points.now in
     let old = entry number ring.value m c.args.products.now in
     let list = c.points.products in let i = c.points.i in let so_far = c.points.invariant in
     let own = entry_at number ring.value m list i c.index-products-i.result (omega arith) ∙ so_far.1.kept i (omega arith) in

@@ -1,8 +1,7 @@
-use Rattle.std.proofs.Common.{pos, ◌-ℤ◌, set}
+use Rattle.std.proofs.Common.{set}
 use Rattle.std.proofs.lemmas.Bool.{cases_eq}
 use Rattle.num_modular.specs.Callers.{◌≡◌, ◌≢◌, ℕ, ◌+◌, ◌-◌, ◌*◌, ◌%◌, ◌∙◌, ap, sym, inl, inr, arith}
 use Rattle.num_modular.specs.Callers.{entry, entry_at, entry_written, entry_kept, forms_written}
-use Rattle.num_modular.specs.Residues.{residue}
 use Rattle.ring_codes.proofs.NewtonForms.{subtracted}
 use Rattle.ring_codes.proofs.erasure.newton.subtract_multiples.Goals as goal
 
@@ -22,8 +21,7 @@ places-preserved g c =
     let product = c.mul-product.ensures.value ∙ ap (λ v. (a * v) % m) (next ∙ ap old (sym at_i)) in
     let one = subtracted m a (ring.value m (number c.mul-product.result)) (entry number ring.value m new before)
     (old before) (old (before + 1)) positive product
-    (entry_written number ring.value m values before c.sub.result (omega arith) ∙ c.sub.ensures.value
-    ∙ ap (λ v. residue m (pos v -ℤ pos (ring.value m (number c.mul-product.result)))) here) in
+    (entry_written number ring.value m values before c.sub.result (omega arith) ∙ rw here at c.sub.ensures.value) in
     let kept = λ (k : ℕ) (other : k ≢ before). entry_kept number ring.value m values before k c.sub.result other in (
       forms_written number ring.form ring.value m values before c.sub.result c.sub.ensures.checked so_far.0,
       λ k l b. elim (cases_eq k before) [

@@ -1,4 +1,4 @@
-use Rattle.num_modular.specs.Callers.{◌≡◌, ℕ, ◌*◌, ◌<◌, ◌≤◌, ◌∙◌, ap, arith, length, sym}
+use Rattle.num_modular.specs.Callers.{◌≡◌, ℕ, ◌<◌, ◌≤◌, ◌∙◌, ap, arith, length, sym}
 use Rattle.num_modular.specs.Callers.{entry_at, entry_read, entry_past, entry_written, entry_kept}
 use Rattle.std.proofs.Common.{get_or, inl, inr}
 use Rattle.std.proofs.lemmas.Bool.{cases_eq, cases_lt}
@@ -26,7 +26,6 @@ symbols-preserved g c =
 pub transform-requires-clause-entries : goal.transform-requires-clause-entries
 transform-requires-clause-entries g c =
     let number = g.T.RingWord.number in let message = c.args.message.now in let padded = c.symbols.word in
-    let bound : ℕ = 4 * number c.args.plan.now.modulus.modulus in
     λ k d l.
     let is : number (get_or padded k d) ≡ numbers number message k =
     entry_at number (λ k x. x) 0 padded k d l ∙ c.symbols.invariant k (omega (arith, l)) in

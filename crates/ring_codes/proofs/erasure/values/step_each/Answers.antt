@@ -7,7 +7,6 @@ points-preserved g c =
     let ring = g.R.Reducer in let m = ring.modulus c.args.r.now in let number = g.T.RingWord.number in
     let list = c.points.values in let i = c.points.i in let so_far = c.points.invariant in
     let old = entry number ring.value m c.args.values.now in
-    let a = ring.value m (number c.args.coefficient.now) in
     let point = entry_read number ring.value m c.args.points.now i _ (omega arith) c.index-points-i.is in
     let here = entry_at number ring.value m list i c.index-values-i.result (omega arith) ∙ so_far.1.kept i (omega arith) in
     let product = rw (here, point) at c.mul-product.ensures.value in (
