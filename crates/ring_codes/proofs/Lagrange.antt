@@ -22,7 +22,7 @@ use Rattle.ring_codes.specs.Newton.{difference}
 use Rattle.ring_codes.specs.Prepared.{product_but, AreRows}
 use Rattle.ring_codes.proofs.NearestWords.{combined, no_value, difference_alike, raised, raised_behind, value_raised}
 use Rattle.ring_codes.proofs.NewtonForms.{no_difference, product-none}
-use Rattle.ring_codes.proofs.Secrecy.{through}
+use Rattle.ring_codes.proofs.Secrecy.{polynomial_through}
 use Rattle.ring_codes.proofs.Congruences.{mod_of_combination, mod_times, mod_of_residue, mod_of_inverse}
 
 -- a function with the values of a polynomial with d coefficients modulo m
@@ -64,16 +64,16 @@ times_differences m (suc b) d a F positive p =
     (times_difference _ (b + d) (a b) _ positive (times_differences m b d a F positive p))
 
 -- sums of multiples
-sum_of : (m k n : ℕ) (v : ℕ → ℕ) (F : ℕ → ℕ → ℕ) → ((i : ℕ) → i < n → IsPolynomial m k (F i))
+is_polynomial_sum : (m k n : ℕ) (v : ℕ → ℕ) (F : ℕ → ℕ → ℕ) → ((i : ℕ) → i < n → IsPolynomial m k (F i))
     → IsPolynomial m k (λ X. sum_below n (λ i. v i * F i X))
 unfolding sum_below
-sum_of m k zero v F each = record {
+is_polynomial_sum m k zero v F each = record {
   coefficient = λ i. 0;
   behind = λ i l. refl;
   value = λ X. mod_of_eq (no_value k X);
 }
-sum_of m k (suc n) v F each =
-    let before = sum_of m k n v F (λ i l. each i (omega arith)) in
+is_polynomial_sum m k (suc n) v F each =
+    let before = is_polynomial_sum m k n v F (λ i l. each i (omega arith)) in
     let last = each n (omega arith) in
     record {
       coefficient = λ i. before.coefficient i + v n * last.coefficient i;
@@ -103,13 +103,13 @@ none_at m k i l x within below other =
     ]
 
 -- the sum of the values, each times the inverse w and the product
-lagrange : (m k X : ℕ) (x w c : ℕ → ℕ) → 0 < m → HaveUnitDifferences m k x
+lagrange_congruent : (m k X : ℕ) (x w c : ℕ → ℕ) → 0 < m → HaveUnitDifferences m k x
     → ((i : ℕ) → i < k → IsInverse m (product_but m k x i (x i)) (w i))
     → Congruent m (sum_below k (λ i. (polynomial_at k c (x i) * w i) * product_but m k x i X))
     (polynomial_at k c X)
-lagrange m k X x w c positive fit inverse =
+lagrange_congruent m k X x w c positive fit inverse =
     let v : ℕ → ℕ = λ i. polynomial_at k c (x i) * w i in
-    let whole = sum_of m k k v (product_but m k x) (λ i l. product_is m k i x positive l) in
+    let whole = is_polynomial_sum m k k v (product_but m k x) (λ i l. product_is m k i x positive l) in
     let at : (l : ℕ) → l < k → Congruent m (polynomial_at k whole.coefficient (x l)) (polynomial_at k c (x l)) =
     λ l b.
     let alone = single k l (λ i. v i * product_but m k x i (x l)) b
@@ -128,7 +128,7 @@ rows_from m k n x y w rows positive fit inverse each = record {
   value = λ j c l.
       mod_trans (sum_below-congruent k _ _
       (λ i b. mod_of_combination (mod_times (polynomial_at k c (x i)) (each j i l b)) (omega arith)))
-      (lagrange m k (y j) x w c positive fit inverse);
+      (lagrange_congruent m k (y j) x w c positive fit inverse);
 }
 
 -- the product from its parts
@@ -175,7 +175,7 @@ value_from_row m k n j x y rows symbols c are is l =
 pub message_of : (m k : ℕ) (x symbols : ℕ → ℕ) → 0 < m → HaveUnitDifferences m k x
     → ((i : ℕ) → i < k → symbols i < m) → (c : ℕ → ℕ) × IsEncoding m k k x c symbols
 message_of m k x symbols positive fit below =
-    let found = through m k x symbols positive fit in
+    let found = polynomial_through m k x symbols positive fit in
     (found.0, record { symbol = λ i l. sym ((found.2 i l).same ∙ mod-eq_of_lt (below i l)) })
 
 -- place i of row j, of n rows of k

@@ -71,11 +71,12 @@ highest_is_one zero r = refl
 highest_is_one (suc d) r = rw (highest_is_one d r, none_behind d r (suc d) (omega arith)) (omega arith)
 
 -- its values are the products
-value_is : (d X : ℕ) (r : ℕ → ℕ) → polynomial_at (suc d) (expanded d r) X ≡ product_below d (λ j. X + r j)
+value_expanded : (d X : ℕ) (r : ℕ → ℕ) → polynomial_at (suc d) (expanded d r) X ≡ product_below d (λ j. X + r j)
 unfolding expanded product_below
-value_is zero X r = grind (arith, value_raised, polynomial-none)
-value_is (suc d) X r =
-    rw (value_raised _ 0 (r d) X (expanded d r) (none_behind d r (suc d) (omega arith)), value_is d X r) (omega arith)
+value_expanded zero X r = grind (arith, value_raised, polynomial-none)
+value_expanded (suc d) X r =
+    rw (value_raised (suc d) 0 (r d) X (expanded d r) (none_behind d r _ (omega arith)), value_expanded d X r)
+    (omega arith)
 
 -- (m - 1)·x takes the place of -x
 pub turned_sign : (m x : ℕ) → 0 < m → x + (m - 1) * x ≡ m * x
@@ -131,7 +132,7 @@ bound_met m (suc d) n x two some few fit =
     let positive : 0 < m = omega arith in
     let r : ℕ → ℕ = λ j. (m - 1) * x j in
     let word : ℕ → ℕ = λ i. polynomial_at (suc d) (expanded d r) (x i) % m in
-    let value : (i : ℕ) → word i ≡ product_below d (λ j. x i + r j) % m = λ i. rw (value_is d (x i) r) refl in
+    let value : (i : ℕ) → word i ≡ product_below d (λ j. x i + r j) % m = λ i. rw (value_expanded d (x i) r) refl in
     let apart = agree_first n d word (λ i. 0)
     (λ i l. rw (value i) (product_zero m d i (λ j. x i + r j) l (at_root m (x i) positive)))
     (λ i l k z. unit_not_zero m (product_below d (λ j. x i + r j)) two

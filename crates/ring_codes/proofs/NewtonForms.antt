@@ -223,7 +223,7 @@ pub inverse_of_product : (m a v x : ℕ) → v ≡ a % m → IsInverse m v x →
 inverse_of_product m a v x e h = inverse_from_mod m a x (rw e at h)
 
 -- the coefficients from Newton's form have its values
-pub interpolated : (m n a b old y i : ℕ) (e f x : ℕ → ℕ) → a ≡ n → b ≡ n
+pub interpolated_value : (m n a b old y i : ℕ) (e f x : ℕ → ℕ) → a ≡ n → b ≡ n
     → ((q : ℕ) → Congruent m (polynomial_at a e q) (newton_form m a f x q))
     → newton_form m b f x (x i) % m ≡ old → old ≡ y → y ≡ polynomial_at n e (x i) % m
-interpolated m n a b old y i e f x is_a is_b same value is = grind arith
+interpolated_value m n a b old y i e f x is_a is_b same value is = grind arith

@@ -49,14 +49,14 @@ values_raised m d x v u h positive none units values (suc i) l =
     (difference_alike _ (x (suc i)) _ positive) (units i (omega arith)) (values i (omega arith)))
 
 -- d coefficients with these values at d points
-pub through : (m d : ℕ) (x v : ℕ → ℕ) → 0 < m → HaveUnitDifferences m d x
+pub polynomial_through : (m d : ℕ) (x v : ℕ → ℕ) → 0 < m → HaveUnitDifferences m d x
     → (h : ℕ → ℕ) × ((i : ℕ) → d ≤ i → h i ≡ 0)
     × ((i : ℕ) → i < d → Congruent m (polynomial_at d h (x i)) (v i))
-through m zero x v positive fit = ((λ i. 0), (λ i l. refl), λ i l. absurd (omega arith))
-through m (suc d) x v positive fit =
+polynomial_through m zero x v positive fit = ((λ i. 0), (λ i l. refl), λ i l. absurd (omega arith))
+polynomial_through m (suc d) x v positive fit =
     let u = inverses_below m d (λ i. residue m (pos (x (suc i)) -ℤ pos (x 0)))
     (λ i l. fit.unit (suc i) 0 (omega arith) (omega arith) (omega arith)) in
-    let rest = through m d (λ i. x (suc i)) (λ i. (v (suc i) + (m - 1) * v 0) * u.0 i) positive
+    let rest = polynomial_through m d (λ i. x (suc i)) (λ i. (v (suc i) + (m - 1) * v 0) * u.0 i) positive
     (record { unit = λ i j k l other. fit.unit (suc i) (suc j) (omega arith) (omega arith) (omega arith) }) in (
       raised (v 0) ((m - 1) * x 0) rest.0,
       raised_behind d (v 0) ((m - 1) * x 0) rest.0 rest.1,
@@ -88,14 +88,14 @@ same_list m d secret x y a b each fit p q (suc i) l =
     (p.encoding.symbol i (omega arith)) (q.encoding.symbol i (omega arith))) i (omega arith) in
     rw (mod-eq_of_lt (p.below (suc i) l), mod-eq_of_lt (q.below (suc i) l)) at same.same
 
-fitting : (m d secret : ℕ) (x y : ℕ → ℕ) → secret < m → ((i : ℕ) → i < d → y i < m)
+fitting_shares : (m d secret : ℕ) (x y : ℕ → ℕ) → secret < m → ((i : ℕ) → i < d → y i < m)
     → ((i : ℕ) → i < d → HasInverse m (x i)) → HaveUnitDifferences m d x
     → (c : ℕ → ℕ) × FitsShares m (suc d) secret x y c
 unfolding raised
-fitting m d secret x y small shares each fit =
+fitting_shares m d secret x y small shares each fit =
     let positive : 0 < m = omega arith in
     let u = inverses_below m d x each in
-    let g = through m d x (λ i. (y i + (m - 1) * secret) * u.0 i) positive fit in
+    let g = polynomial_through m d x (λ i. (y i + (m - 1) * secret) * u.0 i) positive fit in
     let f : ℕ → ℕ = raised secret 0 g.0 in
     let value : (i : ℕ) → i < d → Congruent m (polynomial_at (suc d) (λ i. f i % m) (x i)) (y i) =
     λ i l.
@@ -116,11 +116,11 @@ fitting m d secret x y small shares each fit =
       },
     )
 
-pub perfect : (m k : ℕ) (x : ℕ → ℕ) → 1 ≤ k → ((i : ℕ) → i < k - 1 → HasInverse m (x i))
+pub perfectly_secret_of_fit : (m k : ℕ) (x : ℕ → ℕ) → 1 ≤ k → ((i : ℕ) → i < k - 1 → HasInverse m (x i))
     → HaveUnitDifferences m (k - 1) x → IsPerfectlySecret m k x
-perfect m zero x some each fit = absurd (omega arith)
-perfect m (suc d) x some each fit = λ secret shares small below.
+perfectly_secret_of_fit m zero x some each fit = absurd (omega arith)
+perfectly_secret_of_fit m (suc d) x some each fit = λ secret shares small below.
     let units : (i : ℕ) → i < d → HasInverse m (x i) = λ i l. each i (omega arith) in
     let apart = fit_front m (suc d - 1) d x (omega arith) fit in
-    let found = fitting m d secret x shares small (λ i l. below i (omega arith)) units apart in
+    let found = fitting_shares m d secret x shares small (λ i l. below i (omega arith)) units apart in
     (found.0, found.1, λ other fits. same_list m d secret x shares other found.0 units apart fits found.1)

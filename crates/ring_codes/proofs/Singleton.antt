@@ -109,10 +109,10 @@ few_behind (suc n) r a b same =
       | inr behind ↦ let o = counted_most (a n) (b n) in omega (arith, o, i, behind)
     ]
 
-pub bound : (m n d size : ℕ) (words : ℕ → ℕ → ℕ) → 1 ≤ d → d ≤ n
+pub singleton_bound : (m n d size : ℕ) (words : ℕ → ℕ → ℕ) → 1 ≤ d → d ≤ n
     → ((a i : ℕ) → a < size → i < n → words a i < m)
     → ((a b : ℕ) → a < size → b < size → a ≢ b → d ≤ distance n (words a) (words b)) → size ≤ m ^ (n - d + 1)
-bound m n d size words some few small apart =
+singleton_bound m n d size words some few small apart =
     let r : ℕ = n - d + 1 in
     let digits : (a : ℕ) → a < size → (i : ℕ) → i < r → words a i < m = grind arith in
     pigeonholes (m ^ r) size (λ a. polynomial_at r (words a) m) (λ a l. below_power r m (words a) (digits a l))

@@ -1,7 +1,7 @@
 use Rattle.std.proofs.lemmas.Bool.{false≢true}
 use Rattle.num_modular.specs.Callers.{length, entry, same_coefficients, ◌∙◌, sym, refl, arith}
 use Rattle.num_modular.specs.Callers.{mod-eq_of_lt}
-use Rattle.ring_codes.proofs.NewtonForms.{fit_from_products, products_from_fit, interpolated}
+use Rattle.ring_codes.proofs.NewtonForms.{fit_from_products, products_from_fit, interpolated_value}
 use Rattle.num_modular.specs.Callers.{values_below}
 use Rattle.ring_codes.proofs.Symbols.{entry_front}
 use Rattle.ring_codes.proofs.erasure.interpolate.Goals as goal
@@ -23,7 +23,7 @@ returns-clause-fit g c = (
 )
 
 pub returns-clause-values : goal.returns-clause-values
-returns-clause-values g c t = grind (arith, interpolated, entry_front)
+returns-clause-values g c t = grind (arith, interpolated_value, entry_front)
 
 pub returns-clause-only : goal.returns-clause-only
 returns-clause-only g c t other is i l =

@@ -1,5 +1,5 @@
-use Rattle.ring_codes.proofs.Singleton.{bound}
+use Rattle.ring_codes.proofs.Singleton.{singleton_bound}
 use Rattle.ring_codes.proofs.erasure.bounds.singleton_law.Goals as goal
 
 pub returns : goal.returns
-returns c = bound
+returns c = singleton_bound
