@@ -1,9 +1,8 @@
 -- Words restored by the product of their polynomial and the locator: at a root its derivative is the symbol times the
 -- locator's derivative (Didier, "Efficient erasure decoding of Reed-Solomon codes", 2009).
-use Rattle.std.proofs.Common.{◌≡◌, ℕ, suc, ◌+◌, ◌-◌, ◌*◌, ◌%◌, ◌<◌, ◌≤◌, ◌↔◌, pos, ◌-ℤ◌, ap, sym, ◌∙◌, arith}
-use Rattle.std.proofs.Common.{Bool, IsTrue, add-one, refl, inl, inr, subst, cond, eqb}
-use Rattle.std.proofs.Common.{List, length, slice_index, mod-eq_of_lt}
-use Rattle.num_modular.specs.Callers.{same_coefficients}
+use Rattle.std.proofs.Common.{pos, ◌-ℤ◌, Bool, IsTrue, add-one, cond, eqb, slice_index}
+use Rattle.num_modular.specs.Callers.{◌≡◌, ℕ, suc, ◌+◌, ◌-◌, ◌*◌, ◌%◌, ◌<◌, ◌≤◌, ◌↔◌, ap, sym, ◌∙◌, arith, refl, inl}
+use Rattle.num_modular.specs.Callers.{inr, subst, List, length, mod-eq_of_lt, same_coefficients}
 use Rattle.num_modular.specs.Congruence.{Congruent}
 use Rattle.num_modular.specs.Inverses.{IsInverse, HasInverse}
 use Rattle.num_modular.specs.NumberLaws.{mod_of_eq, mod_sym, mod_trans, mod_add, mod_mul, mod_refl}
@@ -21,8 +20,8 @@ use Rattle.ring_codes.specs.Roots.{product_of_differences, HasRoots}
 use Rattle.ring_codes.proofs.RootPowers.{powers_fit}
 use Rattle.ring_codes.proofs.Roots.{constant_value, longer_value}
 use Rattle.ring_codes.proofs.NewtonForms.{no_difference, product-none}
-use Rattle.ring_erasures.specs.Erasures.{IsKept, AreErased, root_weight, AreFactors, IsRestorable}
-use Rattle.ring_erasures.specs.Erasures.{AgreeAtKept, AreKeptProducts}
+use Rattle.ring_erasures.specs.Erasures.{IsKept, AreErased, root_weight, AreFactors, IsRestorable, AgreeAtKept}
+use Rattle.ring_erasures.specs.Erasures.{AreKeptProducts}
 use Rattle.ring_erasures.proofs.Derivatives.{derivative, rooted, rooted_behind, rooted_value, derivative_at_root}
 use Rattle.ring_erasures.proofs.ErasedPlaces.{lost_or_kept, lost_points_fit}
 use Rattle.ring_erasures.proofs.Locators.{weight_unit, locator_unit, divided_by_roots}

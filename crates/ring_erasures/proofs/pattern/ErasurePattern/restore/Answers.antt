@@ -1,8 +1,7 @@
 use Rattle.std.proofs.lemmas.Bool.{false≢true}
-use Rattle.num_modular.specs.Callers.{◌≡◌, ◌+◌, ◌-◌, ◌∙◌, ℕ, ap, sym, refl, arith, length, entry, IsForm}
+use Rattle.num_modular.specs.Callers.{◌≡◌, ◌+◌, ◌-◌, ◌∙◌, ℕ, ap, sym, refl, arith, length, entry, IsForm, values_below}
 use Rattle.std.proofs.lemmas.List.Elements.{All-take}
 use Rattle.ring_codes.proofs.RootPowers.{powers_fit}
-use Rattle.num_modular.specs.Callers.{values_below}
 use Rattle.ring_codes.proofs.Symbols.{entry_front}
 use Rattle.ring_codes.proofs.KnownRoots.{suits_known}
 use Rattle.ring_erasures.proofs.RestoredWords.{restorable_by_test, restored_word}
