@@ -84,22 +84,15 @@ unfolding product_below
 last_weight m c l z e =
     let g : ℕ → ℕ = λ j. cond (eqb j l) 1 (residue m (pos (z l) -ℤ pos (z j))) in
     let before : product_below c g ≡ product_of_differences m c z (z l) =
-    product-same c g (λ j. residue m (pos (z l) -ℤ pos (z j))) (λ j b. elim (eqb_tells j l) [
-      | inl p ↦ let q = p.1 in absurd (omega (arith, q, b, e))
-      | inr p ↦ rw p.0 refl
-    ]) in
-    let one : g c ≡ 1 = elim (eqb_tells c l) [ inl p ↦ rw p.0 refl | inr p ↦ absurd (p.1 (sym e)) ] in
-    let whole = ap (λ v. product_below c g * v) one in
-    omega (arith, whole, before)
+    product-same c g (λ j. residue m (pos (z l) -ℤ pos (z j))) (λ j b. grind (arith, nat_tests)) in
+    let one : g c ≡ 1 = grind (arith, nat_tests) in rw one (omega (arith, before))
 
 other_weight : (m c l : ℕ) (z : ℕ → ℕ) → l ≢ c
     → root_weight m (suc c) z l ≡ root_weight m c z l * residue m (pos (z l) -ℤ pos (z c))
 unfolding product_below
 other_weight m c l z other =
     let g : ℕ → ℕ = λ j. cond (eqb j l) 1 (residue m (pos (z l) -ℤ pos (z j))) in
-    let last : g c ≡ residue m (pos (z l) -ℤ pos (z c)) =
-    elim (eqb_tells c l) [ inl p ↦ absurd (other (sym p.1)) | inr p ↦ rw p.0 refl ] in
-    ap (λ v. product_below c g * v) last
+    let last : g c ≡ residue m (pos (z l) -ℤ pos (z c)) = grind (arith, nat_tests) in rw last refl
 
 -- at a root z l the derivative of f times the product of X - z is f times the root's weight
 pub derivative_at_root : (m k c l : ℕ) (z f : ℕ → ℕ) → 0 < m → l < c

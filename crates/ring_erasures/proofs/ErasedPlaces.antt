@@ -9,19 +9,10 @@ use Rattle.ring_codes.specs.Erasure.{ArePlaces}
 use Rattle.ring_erasures.specs.Erasures.{IsKept, AreErased}
 use Rattle.ring_codes.proofs.Singleton.{value_or_none}
 
--- a symbol is lost at a place, or none is
-pub lost_or_kept : (lost : List ℕ) (i : ℕ) → ((l : ℕ) × (l < length lost) × (slice_index lost l ≡ i)) ⊎ IsKept lost i
-lost_or_kept lost i = value_or_none (length lost) i (slice_index lost)
-
 -- the points at the lost places fit
 pub lost_points_fit : (m k n : ℕ) (x : ℕ → ℕ) (lost : List ℕ) → AreErased k n lost → HaveUnitDifferences m n x
     → HaveUnitDifferences m (length lost) (λ l. x (slice_index lost l))
-lost_points_fit m k n x lost erased fit = record {
-  unit = λ i j a b other. fit.unit _ _ (erased.places.within i a) (erased.places.within j b) (elim (cases_lt i j) [
-    | inl before ↦ erased.places.distinct i j before b
-    | inr behind ↦ λ e. erased.places.distinct j i (omega arith) a (sym e)
-  ]);
-}
+lost_points_fit m k n x lost erased fit = grind (arith, cases_lt)
 
 -- from the values old to the values new: v i stands at lost place number i for the first c of them, and no other is changed
 pub record IsScattered (c : ℕ) (lost : List ℕ) (v old new : ℕ → ℕ) : Type 0 where

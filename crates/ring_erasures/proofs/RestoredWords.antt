@@ -23,7 +23,8 @@ use Rattle.ring_codes.proofs.NewtonForms.{no_difference, product-none}
 use Rattle.ring_erasures.specs.Erasures.{IsKept, AreErased, root_weight, AreFactors, IsRestorable, AgreeAtKept}
 use Rattle.ring_erasures.specs.Erasures.{AreKeptProducts}
 use Rattle.ring_erasures.proofs.Derivatives.{derivative, rooted, rooted_behind, rooted_value, derivative_at_root}
-use Rattle.ring_erasures.proofs.ErasedPlaces.{lost_or_kept, lost_points_fit}
+use Rattle.ring_erasures.proofs.ErasedPlaces.{lost_points_fit}
+use Rattle.ring_codes.proofs.Singleton.{value_or_none}
 use Rattle.ring_erasures.proofs.Locators.{weight_unit, locator_unit, divided_by_roots}
 
 -- the points at the lost places
@@ -61,7 +62,7 @@ module _ (m k n : ℕ) (x y u products : ℕ → ℕ) (lost : List ℕ) (positiv
   -- if the symbols that are left are those of f, the products are the values of f times the locator
   products_of_word : (f : ℕ → ℕ) (j : ℕ) → AgreeAtKept n lost y (λ i. polynomial_at k f (x i) % m) → j < n
       → Congruent m (products j) (polynomial_at k f (x j) * product_of_differences m (length lost) (at_lost x lost) (x j))
-  products_of_word f j symbols within = elim (lost_or_kept lost j) [
+  products_of_word f j symbols within = elim (value_or_none (length lost) j (slice_index lost)) [
     | inl (l, b, at) ↦
         let z = at_lost x lost in
         let root = product-none (length lost) l (λ j. residue m (pos (z l) -ℤ pos (z j))) b (no_difference m (z l)) in
@@ -99,7 +100,7 @@ module _ (m k n : ℕ) (x y u products : ℕ → ℕ) (lost : List ℕ) (positiv
       → IsEncoding m (k + length lost - 1) n x d v → ((i : ℕ) → IsKept lost i → w i ≡ y i)
       → ((l : ℕ) → l < length lost → w (slice_index lost l) ≡ (v (slice_index lost l) * u (slice_index lost l)) % m)
       → (i : ℕ) → i < n → w i ≡ polynomial_at k f (x i) % m
-  restored_word f p d v w symbols encoding each values kept written i b = elim (lost_or_kept lost i) [
+  restored_word f p d v w symbols encoding each values kept written i b = elim (value_or_none (length lost) i (slice_index lost)) [
     | inl (l, less, at) ↦
         let a : ℕ = slice_index lost l in let F : ℕ = polynomial_at k f (x a) in
         let root = computed_derivative m k n x lost positive fit erased (k + length lost) l f p d (omega arith)
@@ -162,22 +163,6 @@ module _ (m n : ℕ) (x e d v : ℕ → ℕ) (lost : List ℕ) (positive : 0 < m
     });
   }
 
--- factors at the same points
-pub factors_alike : (m k n : ℕ) (x y u : ℕ → ℕ) (lost : List ℕ) → AreErased k n lost → ((i : ℕ) → i < n → x i ≡ y i)
-    → AreFactors m n x lost u → AreFactors m n y lost u
-factors_alike m k n x y u lost erased same are =
-    let alike : (i j : ℕ) → i < n → j < n → residue m (pos (x i) -ℤ pos (x j)) ≡ residue m (pos (y i) -ℤ pos (y j)) =
-    λ i j a b. rw (same i a, same j b) refl in
-    let within = erased.places.within in record {
-      kept = λ i b left. are.kept i b left ∙ ap (λ v. v % m) (product-same (length lost)
-          (λ l. residue m (pos (x i) -ℤ pos (at_lost x lost l))) (λ l. residue m (pos (y i) -ℤ pos (at_lost y lost l)))
-          (λ l d. alike i (slice_index lost l) b (within l d)));
-      erased = λ l b. subst (λ v. IsInverse m v (u (slice_index lost l))) (product-same (length lost)
-          (λ j. cond (eqb j l) 1 (residue m (pos (at_lost x lost l) -ℤ pos (at_lost x lost j))))
-          (λ j. cond (eqb j l) 1 (residue m (pos (at_lost y lost l) -ℤ pos (at_lost y lost j))))
-          (λ j d. ap (cond (eqb j l) 1) (alike _ _ (within l b) (within j d)))) (are.erased l b);
-    }
-
 -- the values of a polynomial with copied roots, of which n coefficients are listed
 pub values_of_roots : (m n b c : ℕ) (y z e : ℕ → ℕ) → b ≡ c → c < n → ((l : ℕ) → l < c → y l ≡ z l) → HasRoots m b y e
     → ((j : ℕ) → b < j → e j ≡ 0) → (a : ℕ) → Congruent m (polynomial_at n e a) (product_of_differences m c z a)
@@ -187,15 +172,3 @@ values_of_roots m n b c y z e count room same roots behind a =
     let alike = product-same c (λ j. residue m (pos a -ℤ pos (y j))) (λ j. residue m (pos a -ℤ pos (z j)))
     (λ j l. rw (same j l) refl) in
     mod_of_combination (roots.value a) (omega (arith, front, short, number, alike))
-
--- a test of the products tells whether a word of the code has the symbols that are left
-pub restorable_by_test : (m a k n s t : ℕ) (y u products : ℕ → ℕ) (lost : List ℕ) (b : Bool) → 0 < m → m % 2 ≡ 1 → Suits m a n
-    → AreErased k n lost → ((x : ℕ → ℕ) → ArePowers m a n x → AreFactors m n x lost u) → s ≡ n → t ≡ k + length lost
-    → AreKeptProducts m n lost y u products → ((i : ℕ) → i < n → y i < m)
-    → ((x : ℕ → ℕ) → ArePowers m a s x → (IsTrue b ↔ IsErasureCodeword m t s x products))
-    → (x : ℕ → ℕ) → ArePowers m a n x → (IsTrue b ↔ IsRestorable m k n x lost y)
-restorable_by_test m a k n s t y u products lost b positive odd suits erased factors same size are below tells x powers =
-    let tell = products_tell m k n x y u products lost positive (powers_fit m a n x odd suits powers) erased (factors x powers) are
-    below in
-    let codeword = rw (same, size) at (tells x (rw same powers)) in
-    (λ holds. tell.0 (codeword.0 holds), λ restorable. codeword.1 (tell.1 restorable))

@@ -1,4 +1,4 @@
-use Rattle.num_modular.specs.Callers.{◌≡◌, ◌≢◌, ◌<◌, ◌∙◌, ap, sym, arith, inl, inr, length, entry_written, entry_kept, entry_read}
+use Rattle.num_modular.specs.Callers.{◌≡◌, ◌≢◌, ◌<◌, ◌∙◌, ap, sym, refl, arith, inl, inr, length, entry_written, entry_kept, entry_read}
 use Rattle.std.proofs.Common.{slice_index}
 use Rattle.std.proofs.Math.ListN.{set, length-set}
 use Rattle.std.proofs.lemmas.Bool.{cases_eq, false≢true}
@@ -7,19 +7,16 @@ use Rattle.ring_erasures.proofs.places.check_places.Goals as goal
 
 pub marks-preserved : goal.marks-preserved
 marks-preserved g c p l =
-    let number = g.T.RingWord.number in let marks = c.marks.marks in let i = c.marks.i in let x = c.zero.result in
-    elim (cases_eq p i) [
-      | inl e ↦ ap (λ j. numbers number (set marks i x) j) e
-          ∙ entry_written number (λ k x. x) 0 marks i x (omega arith) ∙ c.zero.ensures
-      | inr other ↦ entry_kept number (λ k x. x) 0 marks i p x other ∙ c.marks.invariant p (omega arith)
+    let number = g.T.RingWord.number in let marks = c.marks.marks in let i = c.marks.i in elim (cases_eq p i) [
+      | inl e ↦ rw e (entry_written number (λ k x. x) 0 marks i _ (omega arith) ∙ c.zero.ensures)
+      | inr other ↦ entry_kept number (λ k x. x) 0 marks i p _ other ∙ c.marks.invariant p (omega arith)
     ]
 
 pub returns-then-not-is_zero_word : goal.returns-then-not-is_zero_word
 returns-then-not-is_zero_word g c m root =
     let number = g.T.RingWord.number in let marks = c.places.marks in let i = c.places.i in
     let (within, distinct, marked, only) = c.places.invariant in
-    let place = slice_index c.args.lost.now i in
-    let below : place < length marks = omega arith in
+    let place = slice_index c.args.lost.now i in let below : place < length marks = omega arith in
     let read = entry_read number (λ k x. x) 0 marks place _ below c.index-marks-place.is in
     let (j, before, same) = only place below (λ zero. false≢true (sym c.if-not-is_zero_word.true
     ∙ c.is_zero_word.ensures.zero.1 (read ∙ zero))) in (
@@ -35,10 +32,8 @@ returns-then-not-is_zero_word g c m root =
 pub places-preserved : goal.places-preserved
 places-preserved g c =
     let number = g.T.RingWord.number in let marks = c.places.marks in let i = c.places.i in let lost = c.args.lost.now in
-    let x = c.one.result in
-    let (within, distinct, marked, only) = c.places.invariant in
-    let place = slice_index lost i in
-    let below : place < length marks = omega arith in
+    let x = c.one.result in let (within, distinct, marked, only) = c.places.invariant in
+    let place = slice_index lost i in let below : place < length marks = omega arith in
     let read = entry_read number (λ k x. x) 0 marks place _ below c.index-marks-place.is in
     let none : numbers number marks place ≡ 0 = sym read ∙ c.is_zero_word.ensures.zero.0 c.if-not-is_zero_word.false in
     let long = length-set marks place x in
@@ -52,15 +47,13 @@ places-preserved g c =
         | inr other ↦ distinct a b before (omega arith)
       ],
       λ a b zero. elim (cases_eq (slice_index lost a) place) [
-        | inl e ↦ let q = sym (ap (numbers number (set marks place x)) e ∙ here) ∙ zero in omega (arith, q)
-        | inr other ↦
-            let before : a ≢ i = λ e. other (ap (slice_index lost) e) in
-            marked a (omega (arith, before)) (sym (entry_kept number (λ k x. x) 0 marks place (slice_index lost a) x other) ∙ zero)
+        | inl e ↦ let q = sym here ∙ rw e at zero in omega (arith, q)
+        | inr other ↦ let before : a ≢ i = λ e. other (rw e refl) in
+            marked a (omega (arith, before)) (sym (entry_kept number (λ k x. x) 0 marks place _ x other) ∙ zero)
       ],
       λ p l some. elim (cases_eq p place) [
         | inl e ↦ (i, omega arith, sym e)
-        | inr other ↦
-            let kept = entry_kept number (λ k x. x) 0 marks place p x other in
+        | inr other ↦ let kept = entry_kept number (λ k x. x) 0 marks place p x other in
             let (j, b, same) = only p (omega (arith, l, long)) (λ zero. some (kept ∙ zero)) in (j, omega (arith, b), same)
       ],
     )

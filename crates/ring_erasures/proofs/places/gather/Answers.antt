@@ -4,6 +4,4 @@ use Rattle.ring_erasures.proofs.places.gather.Goals as goal
 
 pub returns-clause-same : goal.returns-clause-same
 returns-clause-same g c l below =
-    let ring = g.R.Reducer in let m = ring.modulus c.args._r.now in let number = g.T.RingWord.number in
-    held_entry number ring.form ring.value m c.places.numbers
-    (λ i. entry number ring.value m c.args.list.now (slice_index c.args.lost.now i)) _ l c.places.invariant (omega arith) (omega arith)
+    held_entry _ _ _ _ c.places.numbers _ _ l c.places.invariant (omega arith) (omega arith)

@@ -18,29 +18,22 @@ symbols-preserved g c =
 
 pub places-init : goal.places-init
 places-init g c =
-    let ring = g.R.Reducer in let m = ring.modulus c.args.r.now in (
-      held_forms g.T.RingWord.number ring.form ring.value m c.symbols.products _ _ c.symbols.invariant (omega arith),
-      scattered_none c.args.lost.now _ _,
-    )
+    (held_forms _ _ _ _ c.symbols.products _ _ c.symbols.invariant (omega arith), scattered_none c.args.lost.now _ _)
 
 pub places-preserved : goal.places-preserved
 places-preserved g c =
-    let ring = g.R.Reducer in let m = ring.modulus c.args.r.now in let number = g.T.RingWord.number in
-    let products = c.places.products in let l = c.places.l in let lost = c.args.lost.now in
+    let number = g.T.RingWord.number in let ring = g.R.Reducer in let m = ring.modulus c.args.r.now in
     let so_far = c.places.invariant in let zero = c.transform-zero in (
-      forms_written number ring.form ring.value m products (slice_index lost l) zero.result zero.ensures.checked so_far.0,
-      scattered_more number ring.value m l lost _ _ products zero.result
-          (rw (c.places.auto.products ∙ c.symbols.auto.products) c.requires.places) c.places-test.true so_far.1
-          (zero.ensures.value ∙ ap (λ v. v % m) c.zero.ensures ∙ zero-mod m),
+      forms_written number _ _ _ _ _ _ zero.ensures.checked so_far.0,
+      scattered_more number ring.value m c.places.l _ _ _ _ _ (rw (c.places.auto.products ∙ c.symbols.auto.products) c.requires.places)
+          c.places-test.true so_far.1 (zero.ensures.value ∙ rw c.zero.ensures (zero-mod _)),
     )
 
 pub returns-clause-products : goal.returns-clause-products
 returns-clause-products g c =
-    let ring = g.R.Reducer in let m = ring.modulus c.args.r.now in let number = g.T.RingWord.number in
     let kept = c.places.auto.products in let before = c.symbols.auto.products in record {
       zeros = λ l below. c.places.invariant.1.there l (omega arith);
       each = λ i below left. c.places.invariant.1.kept i (λ l b. left l (omega arith))
-          ∙ held_entry number ring.form ring.value m c.symbols.products _ _ i c.symbols.invariant (omega arith) (omega arith);
-      below = λ i b. values_below number ring.form ring.value m c.places.products i c.places.invariant.0
-          (omega (arith, b, kept, before));
+          ∙ held_entry _ _ _ _ c.symbols.products _ _ i c.symbols.invariant (omega arith) (omega arith);
+      below = λ i b. values_below _ _ _ _ c.places.products i c.places.invariant.0 (omega (arith, b, kept, before));
     }

@@ -4,7 +4,7 @@ use Rattle.std.proofs.lemmas.List.Elements.{All-take}
 use Rattle.ring_codes.proofs.RootPowers.{powers_fit}
 use Rattle.ring_codes.proofs.Symbols.{entry_front}
 use Rattle.ring_codes.proofs.KnownRoots.{suits_known}
-use Rattle.ring_erasures.proofs.RestoredWords.{restorable_by_test, restored_word}
+use Rattle.ring_erasures.proofs.RestoredWords.{products_tell, restored_word}
 use Rattle.ring_erasures.proofs.pattern.ErasurePattern.restore.Goals as goal
 
 pub is_codeword_by_transform-requires-clause-suits : goal.is_codeword_by_transform-requires-clause-suits
@@ -14,16 +14,16 @@ is_codeword_by_transform-requires-clause-suits g c =
 
 pub returns-then-not-is_codeword_by_transform-clause-restorable : goal.returns-then-not-is_codeword_by_transform-clause-restorable
 returns-then-not-is_codeword_by_transform-clause-restorable g c points powers =
-    let self = c.args.self.now in let ring = g.R.Reducer in let m = ring.modulus self.ring.now in
-    let number = g.T.RingWord.number in let positive = (g.met.R.Reducer.canonical self.ring.now).positive in
-    let front = c.split_at_mut-products.ensures.front_len in let room = c.requires.room in
-    let tells = restorable_by_test m _ self.k (length self.factors.now) _ _ _ _ _ self.lost.now _ positive self.odd
-    (suits_known m _ _ self.suits) self.erased self.inverses (c.multiply_kept.auto.products ∙ front)
-    c.split_at_mut-coefficients.ensures.front_len (rw front at c.multiply_kept.ensures.products)
-    (λ i b. values_below number ring.form ring.value m c.args.word.now i c.requires.word (omega (arith, b, room)))
-    c.is_codeword_by_transform.ensures.codeword points powers in (
+    let self = c.args.self.now in let front = c.split_at_mut-products.ensures.front_len in let room = c.requires.room in
+    let fit = powers_fit _ _ _ points self.odd (suits_known _ _ _ self.suits) powers in
+    let count = c.multiply_kept.auto.products ∙ front in
+    let tells = products_tell _ _ _ _ _ _ _ _ (g.met.R.Reducer.canonical self.ring.now).positive fit self.erased
+    (self.inverses points powers) (rw front at c.multiply_kept.ensures.products)
+    (λ i b. values_below _ _ _ _ c.args.word.now i c.requires.word (omega (arith, b, room))) in
+    let code = rw (c.split_at_mut-coefficients.ensures.front_len, count) at
+    (c.is_codeword_by_transform.ensures.codeword points (rw count powers)) in (
       λ t. absurd (false≢true t),
-      λ restorable. sym c.if-not-is_codeword_by_transform.true ∙ tells.1 restorable,
+      λ restorable. sym c.if-not-is_codeword_by_transform.true ∙ code.1 (tells.1 restorable),
     )
 
 pub returns-then-not-is_codeword_by_transform-clause-only : goal.returns-then-not-is_codeword_by_transform-clause-only
@@ -33,22 +33,13 @@ returns-then-not-is_codeword_by_transform-clause-only g c points other powers co
 
 pub differentiate-requires-clause-some : goal.differentiate-requires-clause-some
 differentiate-requires-clause-some g c =
-    omega (
-      arith,
-      c.args.self.now.some,
-      c.split_at_mut-coefficients.ensures.front_len,
-      c.is_codeword_by_transform.auto.message,
-    )
+    let some = c.args.self.now.some in let size = c.split_at_mut-coefficients.ensures.front_len in
+    omega (arith, some, size, c.is_codeword_by_transform.auto.message)
 
 pub overflow_sub-coefficients : goal.overflow_sub-coefficients
 overflow_sub-coefficients g c =
-    omega (
-      arith,
-      c.args.self.now.some,
-      c.split_at_mut-coefficients.ensures.front_len,
-      c.is_codeword_by_transform.auto.message,
-      c.differentiate.auto.coefficients,
-    )
+    let some = c.args.self.now.some in let size = c.split_at_mut-coefficients.ensures.front_len in
+    omega (arith, some, size, c.is_codeword_by_transform.auto.message, c.differentiate.auto.coefficients)
 
 pub encode_by_transform-requires-clause-message : goal.encode_by_transform-requires-clause-message
 encode_by_transform-requires-clause-message g c =
@@ -63,15 +54,15 @@ encode_by_transform-requires-clause-suits g c =
 
 pub returns-clause-restorable : goal.returns-clause-restorable
 returns-clause-restorable g c points powers =
-    let self = c.args.self.now in let ring = g.R.Reducer in let m = ring.modulus self.ring.now in
-    let number = g.T.RingWord.number in let positive = (g.met.R.Reducer.canonical self.ring.now).positive in
-    let front = c.split_at_mut-products.ensures.front_len in let room = c.requires.room in
-    let tells = restorable_by_test m _ self.k (length self.factors.now) _ _ _ _ _ self.lost.now _ positive self.odd
-    (suits_known m _ _ self.suits) self.erased self.inverses (c.multiply_kept.auto.products ∙ front)
-    c.split_at_mut-coefficients.ensures.front_len (rw front at c.multiply_kept.ensures.products)
-    (λ i b. values_below number ring.form ring.value m c.args.word.now i c.requires.word (omega (arith, b, room)))
-    c.is_codeword_by_transform.ensures.codeword points powers in
-    (λ t. tells.0 c.if-not-is_codeword_by_transform.false, λ restorable. refl)
+    let self = c.args.self.now in let front = c.split_at_mut-products.ensures.front_len in let room = c.requires.room in
+    let fit = powers_fit _ _ _ points self.odd (suits_known _ _ _ self.suits) powers in
+    let count = c.multiply_kept.auto.products ∙ front in
+    let tells = products_tell _ _ _ _ _ _ _ _ (g.met.R.Reducer.canonical self.ring.now).positive fit self.erased
+    (self.inverses points powers) (rw front at c.multiply_kept.ensures.products)
+    (λ i b. values_below _ _ _ _ c.args.word.now i c.requires.word (omega (arith, b, room))) in
+    let code = rw (c.split_at_mut-coefficients.ensures.front_len, count) at
+    (c.is_codeword_by_transform.ensures.codeword points (rw count powers)) in
+    (λ t. tells.0 (code.0 c.if-not-is_codeword_by_transform.false), λ restorable. refl)
 
 pub returns-clause-only : goal.returns-clause-only
 returns-clause-only g c points other powers codeword agree i l =
