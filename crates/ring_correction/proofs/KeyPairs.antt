@@ -130,13 +130,6 @@ eliminated m k c d i u v p q x y h g n e f t lengths room less inverse each_n ea
       };
     }
 
--- the difference of a value and of a symbol times another
-pub discrepancy_value : (m y n e value located product d : ℕ) → 0 < m → value ≡ n % m → located ≡ e % m
-    → product ≡ (y * located) % m → d ≡ residue m (pos value -ℤ pos product) → Congruent m (d + y * e) n
-discrepancy_value m y n e value located product d positive is_n is_e is_product is =
-    mod_of_combination (mod_add (mod_of_difference product positive is) (mod_add (mod_sym (mod_of_residue is_product))
-    (mod_add (mod_times y (mod_sym (mod_of_residue is_e))) (mod_of_residue is_n)))) (omega arith)
-
 -- a pair without a discrepancy solves the key equation there too
 pub kept_pair : {m k c d i u p : ℕ} {x y n e : ℕ → ℕ} → p ≡ 0
     → Congruent m (p + y i * polynomial_at d e (x i)) (polynomial_at c n (x i))

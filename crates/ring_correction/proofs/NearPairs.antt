@@ -108,13 +108,6 @@ module _ (m k c d n : ℕ) (x y p e sent : ℕ → ℕ) (some : 1 ≤ d) (length
         ∙ ap (λ v. polynomial_at k sent v % m) (sym (are.chosen_there i l));
   }
 
--- the chosen points fit
-pub chosen_fit : (m n k : ℕ) (x p e chosen values : ℕ → ℕ) → HaveUnitDifferences m n x
-    → AreQuotients m n k x p e chosen values → HaveUnitDifferences m k chosen
-chosen_fit m n k x p e chosen values fit are =
-    fit_same m k (λ i. x (are.place i)) chosen (λ i l. sym (are.chosen_there i l))
-    (rising_fit m n k x are.place are.within are.rising fit)
-
 -- words that are the same at the places
 pub distance_same : (n : ℕ) (a b d : ℕ → ℕ) → ((i : ℕ) → i < n → b i ≡ d i) → distance n a b ≡ distance n a d
 distance_same n a b d same =
@@ -176,13 +169,13 @@ module _ {T : Type 0} (number : T → ℕ) (form value : ℕ → ℕ → ℕ) (m
   }
 
   -- a point more with a quotient
-  pub found_more : (n k : ℕ) (p e : ℕ → ℕ) (points chosen values : List T) (a f q : T) → k < length chosen
+  pub found_more : {n k : ℕ} {p e : ℕ → ℕ} (points : List T) {chosen values : List T} {a f q : T} → k < length chosen
       → k < length values → Found n k (entry number value m points) p e chosen values
       → All (λ f. IsForm form value m (number f)) points → n < length points → a ≡ get_or points n a
       → f ≡ get_or points n f → IsForm form value m (number q)
       × IsQuotient m (p (value m (number a))) (e (value m (number a))) (value m (number q))
       → Found (n + 1) (k + 1) (entry number value m points) p e (set chosen k f) (set values k q)
-  found_more n k p e points chosen values a f q room room_values found all within at_a at_f quotient =
+  found_more {n} {k} {p} {e} points {chosen} {values} {a} {f} {q} room room_values found all within at_a at_f quotient =
       let x = entry number value m points in let at = entry_read number value m points n a within at_a in record {
         place = extended k n found.place;
         within = extended_each k n found.place (λ i p. p < n + 1)
@@ -235,10 +228,10 @@ counted_forms form value m f g v w is_f is_g at_f at_g = elim (cases_eq f g) [
 ]
 
 -- the quotient from an inverse
-pub quotient_made : (m n e value x dividend q : ℕ) → value ≡ e % m → IsInverse m value x → dividend ≡ n % m
+pub quotient_made : {m n e value x dividend q : ℕ} → value ≡ e % m → IsInverse m value x → dividend ≡ n % m
     → q ≡ (dividend * x) % m → IsQuotient m n e q
-quotient_made m n e value x dividend q is_e inverse is_n is = record {
-  unit = has_of_residue m e value is_e (x, inverse);
+quotient_made {value} {dividend} {q} is_e inverse is_n is = record {
+  unit = has_of_residue _ _ _ is_e (_, inverse);
   product = mod_of_combination (mod_add (mod_times q (mod_sym (mod_of_residue is_e))) (mod_add (mod_times value (mod_of_residue is))
       (mod_add (mod_times dividend (mod_of_inverse inverse)) (mod_of_residue is_n)))) (omega arith);
 }
@@ -246,16 +239,6 @@ quotient_made m n e value x dividend q is_e inverse is_n is = record {
 -- the half of a number, rounded down
 pub half_of : (a : ℕ) → (2 * (a / 2) ≤ a) × (a ≤ 2 * (a / 2) + 1)
 half_of a = (omega arith, omega arith)
-
--- a word that is near to the symbols at places, by the points there
-pub near_there : (m k n s r : ℕ) (X x place y sent other : ℕ → ℕ) → s ≡ r → IsEncoding m k n X sent other
-    → ((i : ℕ) → i < r → place i < n) → ((i : ℕ) → i < r → x i ≡ X (place i))
-    → 2 * distance r y (λ j. other (place j)) ≤ r - k
-    → 2 * distance s y (λ j. polynomial_at k sent (x j) % m) ≤ s - k
-near_there m k n s r X x place y sent other count is within at near =
-    let same = distance_same r y (λ j. other (place j)) (λ j. polynomial_at k sent (x j) % m)
-    (λ i l. is.symbol (place i) (within i l) ∙ ap (λ a. polynomial_at k sent a % m) (sym (at i l))) in
-    rw count (omega (arith, same, near))
 
 -- messages that are congruent have one word
 pub recoded : {m k n : ℕ} {X mine sent word : ℕ → ℕ} → IsEncoding m k n X sent word

@@ -22,7 +22,7 @@ module _ {T : Type 0} (number : T → ℕ) (value : ℕ → ℕ → ℕ) (m c : 
   locator forms = entry number value m (drop c forms)
 
   -- a coefficient of the numerator is 0, also behind its last
-  front_zero : (forms : List T) (l : ℕ) → c ≤ length forms → (l < c → entry number value m forms l ≡ 0)
+  pub front_zero : (forms : List T) (l : ℕ) → c ≤ length forms → (l < c → entry number value m forms l ≡ 0)
       → numerator forms l ≡ 0
   front_zero forms l within zero = elim (cases_lt l c) [
     | inl b ↦ entry_front number value m forms c l b within ∙ zero b
@@ -54,34 +54,3 @@ module _ {T : Type 0} (number : T → ℕ) (value : ℕ → ℕ → ℕ) (m c : 
           };
         };
       }
-
-  -- a pair whose parts were replaced
-  pub joined_pair : (k d i u : ℕ) (x y : ℕ → ℕ) (p q : List T) → length p ≡ c
-      → IsKeyPair m k c d i u x y (entry number value m p) (entry number value m q)
-      → IsKeyPair m k c d i u x y (numerator (p ++ q)) (locator (p ++ q))
-  joined_pair k d i u x y p q same pair = rw (take_at p q c same, drop_at p q c same) pair
-
-  -- a multiple of one list less a multiple of another one: at the numerators, and at the locators
-  pub front_difference : (p q : ℕ) (e h n : List T) → c ≤ length e → c ≤ length h → c ≤ length n
-      → ((l : ℕ) → l < length n
-      → Congruent m (entry number value m e l + q * entry number value m h l) (p * entry number value m n l))
-      → (l : ℕ) → l < c → Congruent m (numerator e l + q * numerator h l) (p * numerator n l)
-  front_difference p q e h n in_e in_h in_n each l b =
-      rw (entry_front number value m e c l b in_e, entry_front number value m h c l b in_h)
-      (rw (entry_front number value m n c l b in_n) (each l (omega arith)))
-
-  pub back_difference : (p q : ℕ) (e h n : List T) (d : ℕ) → length n ≡ c + d
-      → ((l : ℕ) → l < length n
-      → Congruent m (entry number value m e l + q * entry number value m h l) (p * entry number value m n l))
-      → (l : ℕ) → l < d → Congruent m (locator e l + q * locator h l) (p * locator n l)
-  back_difference p q e h n d whole each l b =
-      rw (entry_back number value m e c l, entry_back number value m h c l, entry_back number value m n c l)
-      (each (c + l) (omega (arith, whole)))
-
-  -- after the last entry of the numerator, and of the locator
-  pub front_past : (forms : List T) → c ≤ length forms → (l : ℕ) → c ≤ l → numerator forms l ≡ 0
-  front_past forms within l b = front_zero forms l within (λ before. absurd (omega arith))
-
-  pub back_past : (forms : List T) (d : ℕ) → length forms ≡ c + d → (l : ℕ) → d ≤ l → locator forms l ≡ 0
-  back_past forms d whole l b =
-      entry_past number value m (drop c forms) l (omega (arith, length-drop c forms, whole, b))

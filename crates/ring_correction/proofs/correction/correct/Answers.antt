@@ -1,4 +1,4 @@
-use Rattle.num_modular.specs.Callers.{◌≡◌, ◌<◌, ◌≤◌, ◌∙◌, ℕ, ◌%◌, ap, sym, subst, arith, length, entry}
+use Rattle.num_modular.specs.Callers.{◌≡◌, ◌<◌, ◌≤◌, ◌∙◌, ℕ, ◌%◌, ap, sym, refl, arith, length, entry}
 use Rattle.num_modular.specs.Polynomials.{polynomial_at}
 use Rattle.std.proofs.Common.{rules, List, slice_index, take_at, inl, inr}
 use Rattle.std.proofs.lemmas.Bool.{cases_lt}
@@ -8,7 +8,7 @@ use Rattle.ring_codes.proofs.Symbols.{fit_same}
 use Rattle.ring_codes.specs.Erasure.{IsEncoding, IsErasureCodeword, ArePlaces}
 use Rattle.ring_codes.specs.declared.erasure.errors.CorrectError.{CorrectError}
 use Rattle.ring_codes.specs.declared.erasure.errors.CorrectError.TheVariants.{Restore, TooManyErrors, NoInverse}
-use Rattle.ring_correction.proofs.NearPairs.{near_there, same_word, distance_same}
+use Rattle.ring_correction.proofs.NearPairs.{same_word, distance_same}
 use Rattle.ring_correction.specs.Correction.{AreFit, AreLocated, ArePlacesAtFault, IsCorrectFault, IsNear, IsNearMessage, IsSearchFault}
 use Rattle.num_modular.specs.Polynomials.{HaveUnitDifferences}
 use Rattle.ring_correction.proofs.correction.correct.Goals as goal
@@ -28,8 +28,7 @@ fit_places : {T : Type 0} {P : T → Type 0} {entries : List T → ℕ → ℕ} 
 fit_places {entries} {m} {points} {located} {places} at fit = record {
   enough = at.enough;
   right = at.right;
-  points = fit_same m (length places) (entries located) (λ i. entries points (slice_index places i)) at.same
-      (subst (λ s. HaveUnitDifferences m s (entries located)) at.pairs fit);
+  points = fit_same m (length places) (entries located) (λ i. entries points (slice_index places i)) at.same (rw at.pairs at fit);
 }
 
 -- a word that is near at the places, by the points there
@@ -38,8 +37,9 @@ near_located : {T : Type 0} {P : T → Type 0} {entries : List T → ℕ → ℕ
     → IsEncoding m k (length points) (entries points) sent other → IsNear k places y other
     → IsNearMessage m k (length located) (entries located) y sent
 near_located {entries} {m} {k} {points} {located} {places} {sent} {other} y at is near =
-    near_there m k (length points) (length located) (length places) (entries points) (entries located)
-    (λ i. slice_index places i) y sent other at.pairs is at.right.within at.same near
+    let same = distance_same (length places) y (λ j. other (slice_index places j)) (λ j. polynomial_at k sent (entries located j) % m)
+    (λ i l. is.symbol _ (at.right.within i l) ∙ rw (at.same i l) refl) in
+    rw at.pairs (omega (arith, same, near))
 
 -- a word that has the symbols at the places is near
 right_near : (k : ℕ) (places : List ℕ) (y word : ℕ → ℕ) → ((i : ℕ) → i < length places → y i ≡ word (slice_index places i))
@@ -58,7 +58,7 @@ located_codeword {m} {k} {places} at (sent, is) same = (
   record {
     symbol = λ i l. let below : i < length places = omega (arith, at.pairs, l) in
         same i below ∙ is.symbol (slice_index places i) (at.right.within i below)
-        ∙ ap (λ a. polynomial_at k sent a % m) (sym (at.same i below));
+        ∙ rw (at.same i below) refl;
   },
 )
 
@@ -68,14 +68,9 @@ fault_places : {T : Type 0} {P : T → Type 0} {entries : List T → ℕ → ℕ
     → IsSearchFault number m k (length located) (entries located) y e
     → IsCorrectFault number m k (length points) (entries points) places y e
 fault_places {entries} {k} {points} {located} {places} number m y (Restore e) at fault =
-    subst (ArePlacesAtFault m k (length points) (entries points) places) (sym fault.0) (
-      at.enough,
-      (
-        at.right,
-        λ fit. fault.1 (subst (λ s. HaveUnitDifferences m s (entries located)) (sym at.pairs)
-            (fit_same m (length places) (λ i. entries points (slice_index places i)) (entries located) (λ i l. sym (at.same i l)) fit)),
-      ),
-    )
+    let back = fit_same m (length places) (λ i. entries points (slice_index places i)) (entries located)
+    (λ i l. sym (at.same i l)) in
+    rw fault.0 (at.enough, (at.right, λ fit. fault.1 (rw at.pairs (back fit))))
 fault_places number m y TooManyErrors at fault =
     (fit_places at fault.0, λ word codeword near. fault.1 codeword.0 (near_located y at codeword.1 near))
 fault_places number m y (NoInverse a) at fault =

@@ -1,5 +1,4 @@
-use Rattle.num_modular.specs.Callers.{◌<◌, ◌∙◌, arith, length}
-use Rattle.num_modular.specs.Callers.{entry, entry_read, form_read}
+use Rattle.num_modular.specs.Callers.{◌<◌, ◌∙◌, arith, length, entry, entry_read, form_read}
 use Rattle.std.proofs.Common.{slice_index}
 use Rattle.ring_correction.proofs.NearPairs.{counted_forms}
 use Rattle.ring_codes.proofs.Distances.{one_counted, none_counted}

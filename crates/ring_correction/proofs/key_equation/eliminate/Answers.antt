@@ -1,5 +1,4 @@
-use Rattle.num_modular.specs.Callers.{◌*◌, ◌%◌, ◌∙◌, ap, arith}
-use Rattle.num_modular.specs.Callers.{entry, entry_at, entry_read, forms_written, done_more}
+use Rattle.num_modular.specs.Callers.{◌*◌, ◌%◌, ◌∙◌, ap, arith, entry, entry_at, entry_read, forms_written, done_more}
 use Rattle.num_modular.specs.NumberLaws.{mod_of_eq, mod_trans, residue_of}
 use Rattle.ring_codes.proofs.NewtonForms.{subtracted}
 use Rattle.ring_correction.proofs.key_equation.eliminate.Goals as goal

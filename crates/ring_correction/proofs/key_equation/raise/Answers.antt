@@ -1,7 +1,6 @@
-use Rattle.std.proofs.Common.{◌≡◌, ◌+◌, ◌∙◌, length}
-use Rattle.num_modular.specs.Callers.{entry_past, arith}
+use Rattle.num_modular.specs.Callers.{◌≡◌, ◌+◌, ◌∙◌, length, entry_past, arith}
 use Rattle.ring_correction.proofs.KeyPairs.{raised}
-use Rattle.ring_correction.proofs.Pairs.{joined_pair}
+use Rattle.std.proofs.Common.{take_at, drop_at}
 use Rattle.ring_correction.proofs.key_equation.raise.Goals as goal
 
 pub returns-clause-pair : goal.returns-clause-pair
@@ -13,8 +12,10 @@ returns-clause-pair g c d k i u x y whole lengths room at pair =
     let is_d : length back ≡ d = omega (arith, c.split_at_mut-numerator.ensures.back_len, whole) in
     let parts = rw (← c.split_at_mut-numerator.ensures.front, ← c.split_at_mut-numerator.ensures.back) at pair in
     let long_c = c.multiply_by_root.auto.coefficients in let long_d = c.multiply_by_root-2.auto.coefficients in
-    joined_pair number ring.value m split k d (i + 1) (u + 2) x y c.multiply_by_root.new.coefficients
-    c.multiply_by_root-2.new.coefficients (long_c ∙ is_c)
+    rw (
+      take_at c.multiply_by_root.new.coefficients c.multiply_by_root-2.new.coefficients split (long_c ∙ is_c),
+      drop_at c.multiply_by_root.new.coefficients c.multiply_by_root-2.new.coefficients split (long_c ∙ is_c),
+    )
     (raised m k split d i u _ x y _ _ _ _ lengths room at
     (λ l b. c.multiply_by_root.ensures.product l (omega (arith, b, is_c)))
     (λ l b. c.multiply_by_root-2.ensures.product l (omega (arith, b, is_d)))

@@ -1,5 +1,4 @@
-use Rattle.num_modular.specs.Callers.{◌≡◌, ◌-◌, ◌<◌, ◌∙◌, sym, arith, length}
-use Rattle.num_modular.specs.Callers.{entry_read}
+use Rattle.num_modular.specs.Callers.{◌≡◌, ◌-◌, ◌<◌, ◌∙◌, sym, arith, length, entry_read}
 use Rattle.ring_correction.proofs.Pairs.{unit_pairs}
 use Rattle.ring_correction.proofs.key_equation.solve.Goals as goal
 

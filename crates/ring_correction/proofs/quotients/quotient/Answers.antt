@@ -4,16 +4,10 @@ use Rattle.ring_correction.proofs.quotients.quotient.Goals as goal
 
 pub returns-in-Some-clause-quotient : goal.returns-in-Some-clause-quotient
 returns-in-Some-clause-quotient g c =
-    let m = g.R.Reducer.modulus c.args.r.now in (
-      c.mul.ensures.checked,
-      quotient_made m _ _ _ _ _ _ c.evaluate-value.ensures.value c.in-Some.ensures.value c.evaluate-dividend.ensures.value
-          c.mul.ensures.value,
-    )
+    let v = c.evaluate-value.ensures.value in let d = c.evaluate-dividend.ensures.value in
+    (c.mul.ensures.checked, quotient_made v c.in-Some.ensures.value d c.mul.ensures.value)
 
 pub returns-then-is_zero-clause-quotient : goal.returns-then-is_zero-clause-quotient
 returns-then-is_zero-clause-quotient g c =
-    let m = g.R.Reducer.modulus c.args.r.now in
-    let none = c.is_zero.ensures.0 c.if-is_zero.true in (
-      sym c.evaluate-value.ensures.value ∙ none,
-      λ h. subst (λ v. HasInverse m v → ⊥) none (λ k. c.in-None.ensures.value k.0 k.1) h,
-    )
+    let none = c.is_zero.ensures.0 c.if-is_zero.true in
+    (sym c.evaluate-value.ensures.value ∙ none, λ h. c.in-None.ensures.value h.0 (rw none h.1))

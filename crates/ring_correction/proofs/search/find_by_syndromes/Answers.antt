@@ -39,11 +39,9 @@ fault_of_corrector number m k s x y (NoInverse a) fit few fault = (
 
 pub returns-in-Err : goal.returns-in-Err
 returns-in-Err g c =
-    let ring = g.R.Reducer in let m = ring.modulus c.args.r.now in let number = g.T.RingWord.number in
     let same = c.over-code.ensures in
     let fault = rw c.copy_from_slice.ensures.after at (rw same.2 at (rw same.1 at (rw same.0 at c.in-Err.ensures))) in
-    fault_of_corrector number m (length c.args.message.now) (length c.args.points.now) (entry number ring.value m c.args.points.now)
-    (entry number ring.value m c.args.symbols.now) c.in-Err.error (c.if-not-fill_lists.ensures.fit.0 refl) c.requires.few fault.1
+    fault_of_corrector _ _ _ _ _ _ c.in-Err.error (c.if-not-fill_lists.ensures.fit.0 refl) c.requires.few fault.1
 
 pub returns-then-interpolate : goal.returns-then-interpolate
 returns-then-interpolate g c =
@@ -64,6 +62,4 @@ returns-then-interpolate g c =
 
 pub returns-else-interpolate : goal.returns-else-interpolate
 returns-else-interpolate g c =
-    let ring = g.R.Reducer in let m = ring.modulus c.args.r.now in
-    absurd (false≢true (c.if-interpolate.ensures.fit.1 (fit_front m (length c.args.points.now) (length c.args.message.now)
-    (entry g.T.RingWord.number ring.value m c.args.points.now) c.requires.few (c.if-not-fill_lists.ensures.fit.0 refl))))
+    absurd (false≢true (c.if-interpolate.ensures.fit.1 (fit_front _ _ _ _ c.requires.few (c.if-not-fill_lists.ensures.fit.0 refl))))

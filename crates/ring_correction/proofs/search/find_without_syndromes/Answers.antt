@@ -1,11 +1,9 @@
-use Rattle.num_modular.specs.Callers.{arith, length, entry}
-use Rattle.num_modular.specs.Callers.{values_below}
+use Rattle.num_modular.specs.Callers.{arith, length, entry, values_below}
 use Rattle.ring_correction.proofs.NearPairs.{near_message}
 use Rattle.ring_correction.proofs.search.find_without_syndromes.Goals as goal
 
 pub returns-then-is_codeword : goal.returns-then-is_codeword
 returns-then-is_codeword g c =
-    let ring = g.R.Reducer in let m = ring.modulus c.args.r.now in let number = g.T.RingWord.number in
     let mine = c.is_codeword.new.message in let is = c.if-is_codeword.true in
     let fit = c.points_fit.ensures.0 (search (c.if-not-points_fit.false)) in
     let checked = c.is_codeword.ensures.checked is in record {
@@ -13,8 +11,6 @@ returns-then-is_codeword g c =
       checked = checked;
       forms = rw c.copy_from_slice.ensures.after c.requires.symbols;
       encoding = rw c.copy_from_slice.ensures.after (c.is_codeword.ensures.message is);
-      only = λ sent near i l. near_message m (length c.args.message.now) (length c.args.points.now)
-          (entry number ring.value m c.args.points.now) (entry number ring.value m c.args.symbols.now)
-          (entry number ring.value m mine) sent fit (c.is_codeword.ensures.message is) c.requires.few near i l
-          (values_below number ring.form ring.value m mine i checked (omega arith));
+      only = λ sent near i l. near_message _ _ _ _ _ _ sent fit (c.is_codeword.ensures.message is)
+          c.requires.few near i l (values_below _ _ _ _ mine i checked (omega arith));
     }
