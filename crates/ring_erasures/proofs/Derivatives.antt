@@ -72,11 +72,10 @@ rooted_value m k zero X z f positive =
 rooted_value m k (suc c) X z f positive =
     let r : ℕ = (m - 1) * z c in let h = rooted m k c z f in
     let next : k + suc c ≡ suc (k + c) = omega arith in
-    let size = ap (λ n. polynomial_at n (times_root r h) X) next in
     let value = times_root_value (k + c) r X h (rooted_behind m k c z f (k + c) (omega arith)) in
-    mod_of_combination (mod_add (mod_times (X + r) (rooted_value m k c X z f positive))
+    rw next (mod_of_combination (mod_add (mod_times (X + r) (rooted_value m k c X z f positive))
     (mod_times (polynomial_at k f X * product_of_differences m c z X) (mod_sym (difference_alike m X (z c) positive))))
-    (omega (arith, size, value))
+    (omega (arith, value)))
 
 -- the weight of the last of c + 1 roots, and of another one
 last_weight : (m c l : ℕ) (z : ℕ → ℕ) → l ≡ c → root_weight m (suc c) z l ≡ product_of_differences m c z (z l)
@@ -112,9 +111,7 @@ derivative_at_root m k (suc c) l z f positive within =
     let value = rooted_value m k c X z f positive in
     elim (cases_eq l c) [
       | inl e ↦
-          let zero_there : Congruent m (X + r) 0 = record {
-            same = ap (λ v. (v + r) % m) (ap z e) ∙ at_root m (z c) positive ∙ sym (zero-mod m);
-          } in
+          let zero_there : Congruent m (X + r) 0 = rw e (record { same = at_root m (z c) positive ∙ sym (zero-mod m) }) in
           let w = ap (λ v. F * v) (last_weight m c l z e) in
           mod_of_combination (mod_add value (mod_times D zero_there)) (omega (arith, size, top, gone, whole, w))
       | inr other ↦

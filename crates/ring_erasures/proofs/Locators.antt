@@ -44,20 +44,13 @@ ahead_value n v X h = polynomial-first n (ahead v h) X
 -- the quotient by X - a: the remainder is the value at a
 pub divided : (n a : ℕ) (p : ℕ → ℕ) → (q : ℕ → ℕ) × ((X : ℕ) → polynomial_at (suc n) p X + a * polynomial_at n q X
     ≡ polynomial_at (suc n) p a + X * polynomial_at n q X)
-divided zero a p = (
-  p,
-  λ X. let none = polynomial-none p X in
-      omega (arith, constant_value X p, constant_value a p, ap (λ v. X * v) none, ap (λ v. a * v) none),
-)
+divided zero a p = (p, λ X. rw (polynomial-none p X) (omega (arith, constant_value X p, constant_value a p)))
 divided (suc n) a p =
     let rest = divided n a (λ i. p (suc i)) in
     let v : ℕ = polynomial_at (suc n) (λ i. p (suc i)) a in (
       ahead v rest.0,
-      λ X.
-          let here = polynomial-first (suc n) p X in let there = polynomial-first (suc n) p a in
-          let value = ahead_value n v X rest.0 in let is = rest.1 X in
-          let times = ap (λ w. X * w) is in
-          omega (arith, here, there, ap (λ w. a * w) value, ap (λ w. X * w) value, times),
+      λ X. let first = polynomial-first (suc n) p in
+          rw (ahead_value n v X rest.0) (omega (arith, first X, first a, ap (λ w. X * w) (rest.1 X))),
     )
 
 -- of a polynomial that is 0 at c points that fit, the quotient by the product of X - z
@@ -65,11 +58,8 @@ pub divided_by_roots : (m k c : ℕ) (z p : ℕ → ℕ) → 0 < m → HaveUnitD
     → ((l : ℕ) → l < c → Congruent m (polynomial_at (k + c) p (z l)) 0)
     → (f : ℕ → ℕ) × ((X : ℕ) → Congruent m (polynomial_at (k + c) p X) (polynomial_at k f X * product_of_differences m c z X))
 unfolding product_below
-divided_by_roots m k zero z p positive fit roots = (
-  p,
-  λ X. let same : k + 0 ≡ k = omega arith in
-      let size = ap (λ n. polynomial_at n p X) same in mod_of_eq (omega (arith, size)),
-)
+divided_by_roots m k zero z p positive fit roots =
+    let same : k + 0 ≡ k = omega arith in (p, λ X. rw same (mod_of_eq (omega arith)))
 divided_by_roots m k (suc c) z p positive fit roots =
     let a : ℕ = z c in let next : k + suc c ≡ suc (k + c) = omega arith in
     let by = divided (k + c) a p in let q = by.0 in

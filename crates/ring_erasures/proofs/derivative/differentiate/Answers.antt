@@ -6,14 +6,8 @@ use Rattle.ring_erasures.proofs.derivative.differentiate.Goals as goal
 
 pub coefficients-init : goal.coefficients-init
 coefficients-init g c =
-    let m = g.R.Reducer.modulus c.args.r.now in (
-      c.requires.coefficients,
-      record {
-        checked = c.transform-index.ensures.checked;
-        same = c.transform-index.ensures.value ∙ ap (λ v. v % m) c.zero.ensures;
-      },
-      done_none _ _,
-    )
+    let same = c.transform-index.ensures.value ∙ ap (λ v. v % g.R.Reducer.modulus c.args.r.now) c.zero.ensures in
+    (c.requires.coefficients, record { checked = c.transform-index.ensures.checked; same = same }, done_none _ _)
 
 pub coefficients-preserved : goal.coefficients-preserved
 coefficients-preserved g c =

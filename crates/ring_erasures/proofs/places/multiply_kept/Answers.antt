@@ -12,8 +12,7 @@ symbols-preserved g c =
     let below = c.symbols-test.true in let kept = c.symbols.auto.products in
     let left = entry_read number ring.value m word i _ (omega (arith, below, kept, c.requires.each_symbol)) c.index-word-i.is in
     let right = entry_read number ring.value m factors i _ (omega (arith, below, kept, c.requires.each_factor)) c.index-factors-i.is in
-    hold_more number ring.form ring.value m products i c.mul.result
-    (λ i. (entry number ring.value m word i * entry number ring.value m factors i) % m) (omega (arith, below, kept)) c.symbols.invariant
+    hold_more number _ _ _ _ _ _ _ (omega (arith, below, kept)) c.symbols.invariant
     c.mul.ensures.checked (rw (← left, ← right) c.mul.ensures.value)
 
 pub places-init : goal.places-init
