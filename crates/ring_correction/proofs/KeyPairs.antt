@@ -1,7 +1,7 @@
 -- The steps of a pair of polynomials that solves the key equation: its multiplication by X - a, and the combination of
 -- two pairs that removes their discrepancies.
-use Rattle.std.proofs.Common.{◌≡◌, ℕ, zero, suc, ◌+◌, ◌*◌, ◌%◌, ◌^◌, ◌<◌, ◌≤◌}
-use Rattle.std.proofs.Common.{ap, ◌∙◌, arith, refl, inl, inr, pos, ◌-ℤ◌}
+use Rattle.std.proofs.Common.{◌≡◌, ℕ, zero, suc, ◌+◌, ◌*◌, ◌^◌, ◌<◌, ◌≤◌}
+use Rattle.std.proofs.Common.{ap, ◌∙◌, arith, refl, inl, inr}
 use Rattle.std.specs.Prelude.{Result, Ok, Err, IfOk}
 use Rattle.std.proofs.lemmas.Bool.{cases_eq, cases_lt}
 use Rattle.num_modular.specs.Callers.{has_both}
@@ -10,11 +10,10 @@ use Rattle.num_modular.specs.Inverses.{HasInverse}
 use Rattle.num_modular.specs.NumberLaws.{mod_of_eq, mod_sym, mod_trans, mod_add}
 use Rattle.num_modular.specs.Sums.{sum_below}
 use Rattle.num_modular.specs.Polynomials.{polynomial_at}
-use Rattle.num_modular.specs.Residues.{residue}
 use Rattle.ring_codes.proofs.NearestWords.{with_multiple, unit_alike}
 use Rattle.ring_codes.specs.Shifts.{shifted}
 use Rattle.ring_correction.specs.KeyEquations.{IsKeyPair}
-use Rattle.ring_codes.proofs.Congruences.{mod_of_combination, mod_times, mod_of_residue, mod_of_difference, left_alone}
+use Rattle.ring_codes.proofs.Congruences.{mod_of_combination, mod_times, left_alone}
 use Rattle.ring_codes.proofs.Shifts.{shifted-values}
 use Rattle.ring_codes.proofs.Roots.{scaled_polynomial}
 

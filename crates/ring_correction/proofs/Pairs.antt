@@ -1,13 +1,12 @@
 -- Pairs of polynomials as one list each: the coefficients of the numerator, and after them those of the locator.
-use Rattle.std.proofs.Common.{◌≡◌, ◌≢◌, ℕ, ◌+◌, ◌-◌, ◌*◌, ◌%◌, ◌<◌, ◌≤◌, List, ◌++◌, length, take, drop}
-use Rattle.std.proofs.Common.{◌∙◌, arith, inl, inr, take_all, take_at, drop_at, length-drop, length-take-le}
+use Rattle.std.proofs.Common.{◌≡◌, ◌≢◌, ℕ, ◌+◌, ◌-◌, ◌%◌, ◌<◌, ◌≤◌, List, length, take, drop}
+use Rattle.std.proofs.Common.{◌∙◌, arith, inl, inr, take_all, length-drop, length-take-le}
 use Rattle.std.proofs.lemmas.Bool.{cases_lt}
 use Rattle.num_modular.specs.Callers.{entry, entry_past}
-use Rattle.num_modular.specs.Congruence.{Congruent}
 use Rattle.ring_codes.proofs.Congruences.{has_one}
 use Rattle.num_modular.specs.NumberLaws.{mod_of_eq}
 use Rattle.ring_codes.proofs.Symbols.{entry_front, entry_back}
-use Rattle.ring_correction.specs.KeyEquations.{IsKeyPair, AreKeyPairs}
+use Rattle.ring_correction.specs.KeyEquations.{AreKeyPairs}
 
 -- what a slice from c on reads
 pub rest_whole : {T : Type 0} (forms : List T) (c : ℕ) → take (length forms - c) (drop c forms) ≡ drop c forms

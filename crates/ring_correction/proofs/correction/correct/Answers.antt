@@ -9,7 +9,7 @@ use Rattle.ring_codes.specs.Erasure.{IsEncoding, IsErasureCodeword, ArePlaces}
 use Rattle.ring_codes.specs.declared.erasure.errors.CorrectError.{CorrectError}
 use Rattle.ring_codes.specs.declared.erasure.errors.CorrectError.TheVariants.{Restore, TooManyErrors, NoInverse}
 use Rattle.ring_correction.proofs.NearPairs.{same_word, distance_same}
-use Rattle.ring_correction.specs.Correction.{AreFit, AreLocated, ArePlacesAtFault, IsCorrectFault, IsNear, IsNearMessage, IsSearchFault}
+use Rattle.ring_correction.specs.Correction.{AreFit, AreLocated, IsCorrectFault, IsNear, IsNearMessage, IsSearchFault}
 use Rattle.num_modular.specs.Polynomials.{HaveUnitDifferences}
 use Rattle.ring_correction.proofs.correction.correct.Goals as goal
 
@@ -40,12 +40,6 @@ near_located {entries} {m} {k} {points} {located} {places} {sent} {other} y at i
     let same = distance_same (length places) y (λ j. other (slice_index places j)) (λ j. polynomial_at k sent (entries located j) % m)
     (λ i l. is.symbol _ (at.right.within i l) ∙ rw (at.same i l) refl) in
     rw at.pairs (omega (arith, same, near))
-
--- a word that has the symbols at the places is near
-right_near : (k : ℕ) (places : List ℕ) (y word : ℕ → ℕ) → ((i : ℕ) → i < length places → y i ≡ word (slice_index places i))
-    → IsNear k places y word
-right_near k places y word right =
-    let none = no_distance (length places) y (λ j. word (slice_index places j)) right in omega (arith, none)
 
 -- symbols at the places that are those of a word of the code, by the points there
 located_codeword : {T : Type 0} {P : T → Type 0} {entries : List T → ℕ → ℕ} {m k : ℕ} {points located : List T}
@@ -89,11 +83,7 @@ returns-then-errors-places g c =
     let m = g.R.Reducer.modulus c.args.r.now in let entries = entry g.T.RingWord.number g.R.Reducer.value m in
     let y = entries c.args.symbols.now in let places = c.args.places.now in let k = length c.args.message.now in
     let points = c.args.points.now in let same = c.find_message.auto.message in let at = c.in-Ok.ensures in
-    let found = c.in-Ok-find_message.ensures in
-    let message : (sent other : ℕ → ℕ) → IsEncoding m k (length points) (entries points) sent other → IsNear k places y other
-    → (i : ℕ) → i < k → entries c.find_message.new.message i ≡ sent i % m =
-    λ sent other is near. found.only sent (near_located y at is near) in
-    let encoding = rw same at c.fill_word.ensures.encoding in record {
+    let found = c.in-Ok-find_message.ensures in let encoding = rw same at c.fill_word.ensures.encoding in record {
       fit = fit_places at found.fit;
       checked = search rules;
       forms = search rules;
@@ -101,12 +91,13 @@ returns-then-errors-places g c =
       count = c.count_errors-errors.ensures;
       few = omega (arith, same, c.if-errors-places.true);
       none = λ (other, codeword, right).
-          let near = right_near k places y other right in
-          let word = same_word encoding codeword.1 (message codeword.0 other codeword.1 near) in
+          let none = no_distance (length places) y (λ j. other (slice_index places j)) right in
+          let near : IsNear k places y other = omega (arith, none) in
+          let word = same_word encoding codeword.1 (found.only _ (near_located y at codeword.1 near)) in
           c.count_errors-errors.ensures ∙ no_distance (length places) y (λ j. entries c.fill_word.new.word (slice_index places j))
           (λ i l. right i l ∙ sym (word (slice_index places i) (at.right.within i l)));
       only = λ sent other is near.
-          (same_word encoding is (message sent other is near), message sent other is near);
+          let sure = found.only sent (near_located y at is near) in (same_word encoding is sure, sure);
     }
 
 pub returns-else-errors-places : goal.returns-else-errors-places
@@ -115,9 +106,9 @@ returns-else-errors-places g c = (
   λ other codeword near.
       let entries = entry g.T.RingWord.number g.R.Reducer.value (g.R.Reducer.modulus c.args.r.now) in
       let y = entries c.args.symbols.now in let places = c.args.places.now in
-      let message = c.in-Ok-find_message.ensures.only codeword.0 (near_located y c.in-Ok.ensures codeword.1 near) in
       let encoding = rw c.find_message.auto.message at c.fill_word.ensures.encoding in
-      let word = same_word encoding codeword.1 message in
+      let word = same_word encoding codeword.1
+      (c.in-Ok-find_message.ensures.only codeword.0 (near_located y c.in-Ok.ensures codeword.1 near)) in
       let count = c.count_errors-errors.ensures ∙ distance_same (length places) y
       (λ j. entries c.fill_word.new.word (slice_index places j)) (λ j. other (slice_index places j))
       (λ i l. word (slice_index places i) (c.in-Ok.ensures.right.within i l)) in
@@ -127,12 +118,11 @@ returns-else-errors-places g c = (
 
 pub fill_word-requires-clause-kept : goal.fill_word-requires-clause-kept
 fill_word-requires-clause-kept g c =
-    let m = g.R.Reducer.modulus c.args.r.now in let entries = entry g.T.RingWord.number g.R.Reducer.value m in
-    let places = c.args.places.now in let at = c.in-Ok.ensures in let found = c.in-Ok-find_message.ensures in
-    let mine = entries c.find_message.new.message in let pairs = at.pairs in
-    let count = c.find_message.auto.word ∙ c.split_at_mut-found.ensures.front_len in
-    let copied = c.copy_from_slice.ensures.after ∙ take_at c.find_message.new.word _ (length places) count in
+    let entries = entry g.T.RingWord.number g.R.Reducer.value (g.R.Reducer.modulus c.args.r.now) in
+    let at = c.in-Ok.ensures in let found = c.in-Ok-find_message.ensures in let pairs = at.pairs in
+    let copied = c.copy_from_slice.ensures.after ∙ take_at c.find_message.new.word _ (length c.args.places.now)
+    (c.find_message.auto.word ∙ c.split_at_mut-found.ensures.front_len) in
     rw c.find_message.auto.message (record {
       symbol = λ i l. ap (λ list. entries list i) copied ∙ found.encoding.symbol i (omega (arith, l, pairs))
-          ∙ ap (λ a. polynomial_at (length c.args.message.now) mine a % m) (at.same i l);
+          ∙ rw (at.same i l) refl;
     })

@@ -1,4 +1,4 @@
-use Rattle.num_modular.specs.Callers.{◌≡◌, ◌+◌, ◌∙◌, length, entry_past, arith}
+use Rattle.num_modular.specs.Callers.{◌≡◌, ◌∙◌, length, entry_past, arith}
 use Rattle.ring_correction.proofs.KeyPairs.{raised}
 use Rattle.std.proofs.Common.{take_at, drop_at}
 use Rattle.ring_correction.proofs.key_equation.raise.Goals as goal

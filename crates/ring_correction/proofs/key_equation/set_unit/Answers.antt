@@ -1,5 +1,5 @@
-use Rattle.num_modular.specs.Callers.{◌∙◌, arith, inl, inr, length, entry_past, entry_kept, held_entry, ◌<◌, ◌%◌, ap}
-use Rattle.num_modular.specs.Callers.{sym, subst, hold_more}
+use Rattle.num_modular.specs.Callers.{◌∙◌, arith, inl, inr, length, entry_past, entry_kept, held_entry}
+use Rattle.num_modular.specs.Callers.{hold_more}
 use Rattle.std.proofs.lemmas.Bool.{cases_lt}
 use Rattle.ring_codes.proofs.Counts.{zero_mod}
 use Rattle.ring_correction.proofs.key_equation.set_unit.Goals as goal

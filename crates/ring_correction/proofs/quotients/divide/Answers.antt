@@ -1,6 +1,5 @@
-use Rattle.num_modular.specs.Callers.{ℕ, ◌+◌, ◌%◌, ◌∙◌, ap, sym, refl, arith, length, entry, entry_read, ◌≡◌}
+use Rattle.num_modular.specs.Callers.{refl, arith, length, entry_read, ◌≡◌}
 use Rattle.num_modular.specs.Callers.{held_forms, subst, ◌≤◌}
-use Rattle.num_modular.specs.Polynomials.{polynomial_at}
 use Rattle.std.proofs.Common.{length-set, rules}
 use Rattle.ring_correction.proofs.NearPairs.{found_none, found_kept, found_more, found_all, zeros_kept, zeros_more}
 use Rattle.ring_correction.proofs.NearPairs.{found_forms}

@@ -1,5 +1,5 @@
 use Rattle.std.proofs.Common.{take, drop, length-drop, length-take-le}
-use Rattle.num_modular.specs.Callers.{◌≡◌, ◌∙◌, sym, arith, length, entry, entry_past, values_below}
+use Rattle.num_modular.specs.Callers.{◌≡◌, ◌∙◌, sym, arith, length, entry_past, values_below}
 use Rattle.std.proofs.lemmas.Bool.{false≢true}
 use Rattle.ring_correction.proofs.Pairs.{rest_whole}
 use Rattle.ring_correction.proofs.NearPairs.{enough_units, near_quotients}

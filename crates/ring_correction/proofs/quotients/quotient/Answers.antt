@@ -1,4 +1,4 @@
-use Rattle.num_modular.specs.Callers.{◌∙◌, sym, subst, HasInverse}
+use Rattle.num_modular.specs.Callers.{◌∙◌, sym}
 use Rattle.ring_correction.proofs.NearPairs.{quotient_made}
 use Rattle.ring_correction.proofs.quotients.quotient.Goals as goal
 

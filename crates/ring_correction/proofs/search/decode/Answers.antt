@@ -1,4 +1,4 @@
-use Rattle.num_modular.specs.Callers.{ℕ, ◌+◌, ◌*◌, ◌-◌, ◌≤◌, arith, length, entry, ◌/◌, ◌≡◌}
+use Rattle.num_modular.specs.Callers.{ℕ, ◌+◌, ◌*◌, ◌-◌, ◌≤◌, arith, length, ◌/◌, ◌≡◌}
 use Rattle.ring_correction.proofs.KeyPairs.{ok_then}
 use Rattle.std.proofs.Common.{take, length-take-le}
 use Rattle.ring_correction.proofs.NearPairs.{distance_taken}

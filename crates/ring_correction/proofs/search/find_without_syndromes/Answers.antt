@@ -1,4 +1,4 @@
-use Rattle.num_modular.specs.Callers.{arith, length, entry, values_below}
+use Rattle.num_modular.specs.Callers.{arith, values_below}
 use Rattle.ring_correction.proofs.NearPairs.{near_message}
 use Rattle.ring_correction.proofs.search.find_without_syndromes.Goals as goal
 
