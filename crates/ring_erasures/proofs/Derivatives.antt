@@ -1,9 +1,9 @@
 -- Polynomials with given roots, and the values of their derivatives there.
-use Rattle.std.proofs.Common.{◌≡◌, ◌≢◌, ℕ, zero, suc, ◌+◌, ◌-◌, ◌*◌, ◌%◌, ◌^◌, ◌<◌, ◌≤◌, pos, ◌-ℤ◌, ap, sym, ◌∙◌, arith}
+use Rattle.std.proofs.Common.{◌≡◌, ◌≢◌, ℕ, zero, suc, ◌+◌, ◌-◌, ◌*◌, ◌^◌, ◌<◌, ◌≤◌, pos, ◌-ℤ◌, ap, sym, ◌∙◌, arith}
 use Rattle.std.proofs.Common.{refl, inl, inr, cond, eqb, ltb}
 use Rattle.std.proofs.Math.Nat.{zero-mod}
 use Rattle.std.proofs.lemmas.Bool.{cases_eq}
-use Rattle.std.proofs.lemmas.Bool.Decides.{eqb_tells, nat_tests}
+use Rattle.std.proofs.lemmas.Bool.Decides.{nat_tests}
 use Rattle.num_modular.specs.Congruence.{Congruent}
 use Rattle.num_modular.specs.NumberLaws.{mod_of_eq, mod_sym, mod_add, sum_below-suc}
 use Rattle.num_modular.specs.Polynomials.{polynomial_at}
@@ -29,13 +29,11 @@ derivative_of_times_root : (d r X : ℕ) (h : ℕ → ℕ) → h d ≡ 0
     ≡ polynomial_at d h X + (X + r) * polynomial_at d (derivative h) X
 unfolding times_root shifted
 derivative_of_times_root d r X h none =
-    let a : ℕ = polynomial_at d (λ i. i * h i) X in
-    let s : ℕ = polynomial_at d (derivative h) X in
+    let a : ℕ = polynomial_at d (λ i. i * h i) X in let s : ℕ = polynomial_at d (derivative h) X in
     let parts : polynomial_at d (λ i. suc i * (h i + r * h (suc i))) X
     ≡ polynomial_at d (λ i. (i * h i + 1 * h i) + r * derivative h i) X =
     polynomial-same d (λ i. suc i * (h i + r * h (suc i))) (λ i. (i * h i + 1 * h i) + r * derivative h i) X (λ i l. omega arith) in
-    let split = combined d (λ i. i * h i + 1 * h i) (derivative h) r X in
-    let inner = combined d (λ i. i * h i) h 1 X in
+    let split = combined d (λ i. i * h i + 1 * h i) (derivative h) r X in let inner = combined d (λ i. i * h i) h 1 X in
     let more = sum_below-suc d (λ i. i * h i * X ^ i) in
     let turned : a ≡ X * s = omega (arith, more, ap (λ w. d * w * X ^ d) none, polynomial-first d (λ i. i * h i) X) in
     omega (arith, parts, split, inner, turned)
@@ -70,8 +68,7 @@ rooted_value m k zero X z f positive =
     let same : k + 0 ≡ k = omega arith in
     mod_of_eq (omega (arith, ap (λ n. polynomial_at n (front k f) X) same, front_value k X f))
 rooted_value m k (suc c) X z f positive =
-    let r : ℕ = (m - 1) * z c in let h = rooted m k c z f in
-    let next : k + suc c ≡ suc (k + c) = omega arith in
+    let r : ℕ = (m - 1) * z c in let h = rooted m k c z f in let next : k + suc c ≡ suc (k + c) = omega arith in
     let value = times_root_value (k + c) r X h (rooted_behind m k c z f (k + c) (omega arith)) in
     rw next (mod_of_combination (mod_add (mod_times (X + r) (rooted_value m k c X z f positive))
     (mod_times (polynomial_at k f X * product_of_differences m c z X) (mod_sym (difference_alike m X (z c) positive))))
@@ -103,22 +100,21 @@ derivative_at_root m k (suc c) l z f positive within =
     let X : ℕ = z l in let r : ℕ = (m - 1) * z c in let h = rooted m k c z f in
     let F : ℕ = polynomial_at k f X in let D : ℕ = polynomial_at (k + c) (derivative h) X in
     let next : k + suc c ≡ suc (k + c) = omega arith in
-    let size = ap (λ n. polynomial_at n (derivative (times_root r h)) X) next in
     let top = sum_below-suc (k + c) (λ i. derivative (times_root r h) i * X ^ i) in
     let none_more = times_root_behind (k + c) r (suc (k + c)) h (rooted_behind m k c z f) (omega arith) in
     let gone = ap (λ w. suc (k + c) * w * X ^ (k + c)) none_more in
     let whole = derivative_of_times_root (k + c) r X h (rooted_behind m k c z f (k + c) (omega arith)) in
     let value = rooted_value m k c X z f positive in
-    elim (cases_eq l c) [
+    rw next (elim (cases_eq l c) [
       | inl e ↦
           let zero_there : Congruent m (X + r) 0 = rw e (record { same = at_root m (z c) positive ∙ sym (zero-mod m) }) in
           let w = ap (λ v. F * v) (last_weight m c l z e) in
-          mod_of_combination (mod_add value (mod_times D zero_there)) (omega (arith, size, top, gone, whole, w))
+          mod_of_combination (mod_add value (mod_times D zero_there)) (omega (arith, top, gone, whole, w))
       | inr other ↦
           let root = product-none c l (λ j. residue m (pos X -ℤ pos (z j))) (omega arith) (no_difference m X) in
           let w = ap (λ v. F * v) (other_weight m c l z other) in
           let before = derivative_at_root m k c l z f positive (omega arith) in
           mod_of_combination (mod_add value (mod_add (mod_times (X + r) before)
           (mod_times (F * root_weight m c z l) (mod_sym (difference_alike m X (z c) positive)))))
-          (omega (arith, size, top, gone, whole, w, ap (λ v. F * v) root))
-    ]
+          (omega (arith, top, gone, whole, w, ap (λ v. F * v) root))
+    ])

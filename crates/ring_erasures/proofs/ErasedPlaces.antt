@@ -1,13 +1,12 @@
 -- Places of lost symbols, and the others.
-use Rattle.std.proofs.Common.{◌≡◌, ◌≢◌, ℕ, ◌+◌, ◌<◌, List, length, slice_index, ◌⊎◌, inl, inr, sym, ◌∙◌}
+use Rattle.std.proofs.Common.{◌≡◌, ◌≢◌, ℕ, ◌+◌, ◌<◌, List, length, slice_index, inl, inr, sym, ◌∙◌}
 use Rattle.std.proofs.Common.{arith, refl, subst}
 use Rattle.std.proofs.Math.ListN.{set}
 use Rattle.std.proofs.lemmas.Bool.{cases_eq, cases_lt}
 use Rattle.num_modular.specs.Callers.{entry, entry_written, entry_kept}
 use Rattle.num_modular.specs.Polynomials.{HaveUnitDifferences}
 use Rattle.ring_codes.specs.Erasure.{ArePlaces}
-use Rattle.ring_erasures.specs.Erasures.{IsKept, AreErased}
-use Rattle.ring_codes.proofs.Singleton.{value_or_none}
+use Rattle.ring_erasures.specs.Erasures.{AreErased}
 
 -- the points at the lost places fit
 pub lost_points_fit : (m k n : ℕ) (x : ℕ → ℕ) (lost : List ℕ) → AreErased k n lost → HaveUnitDifferences m n x

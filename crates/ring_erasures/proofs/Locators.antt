@@ -62,8 +62,7 @@ divided_by_roots m k zero z p positive fit roots =
     let same : k + 0 ≡ k = omega arith in (p, λ X. rw same (mod_of_eq (omega arith)))
 divided_by_roots m k (suc c) z p positive fit roots =
     let a : ℕ = z c in let next : k + suc c ≡ suc (k + c) = omega arith in
-    let by = divided (k + c) a p in let q = by.0 in
-    let last = roots c (omega arith) in
+    let by = divided (k + c) a p in let q = by.0 in let last = roots c (omega arith) in
     let factor : (X : ℕ) → Congruent m (polynomial_at (k + suc c) p X)
     (residue m (pos X -ℤ pos a) * polynomial_at (k + c) q X) =
     λ X.
@@ -75,8 +74,7 @@ divided_by_roots m k (suc c) z p positive fit roots =
     let rest = divided_by_roots m k c z q positive
     (record { unit = λ i j b d other. fit.unit i j (omega arith) (omega arith) other })
     (λ l b.
-    let u = fit.unit l c (omega arith) (omega arith) (omega arith) in
-    let v : ℕ = polynomial_at (k + c) q (z l) in
+    let u = fit.unit l c (omega arith) (omega arith) (omega arith) in let v : ℕ = polynomial_at (k + c) q (z l) in
     let one = mod_of_inverse u.1 in
     mod_of_combination (mod_add (mod_times v (mod_sym one))
     (mod_times u.0 (mod_trans (mod_sym (factor (z l))) (roots l (omega arith))))) (omega arith)) in (

@@ -1,8 +1,8 @@
 -- Words restored by the product of their polynomial and the locator: at a root its derivative is the symbol times the
 -- locator's derivative (Didier, "Efficient erasure decoding of Reed-Solomon codes", 2009).
-use Rattle.std.proofs.Common.{pos, ◌-ℤ◌, Bool, IsTrue, add-one, cond, eqb, slice_index}
+use Rattle.std.proofs.Common.{pos, ◌-ℤ◌, add-one, slice_index}
 use Rattle.num_modular.specs.Callers.{◌≡◌, ℕ, suc, ◌+◌, ◌-◌, ◌*◌, ◌%◌, ◌<◌, ◌≤◌, ◌↔◌, ap, sym, ◌∙◌, arith, refl, inl}
-use Rattle.num_modular.specs.Callers.{inr, subst, List, length, mod-eq_of_lt, same_coefficients}
+use Rattle.num_modular.specs.Callers.{inr, List, length, mod-eq_of_lt, same_coefficients}
 use Rattle.num_modular.specs.Congruence.{Congruent}
 use Rattle.num_modular.specs.Inverses.{IsInverse, HasInverse}
 use Rattle.num_modular.specs.NumberLaws.{mod_of_eq, mod_sym, mod_trans, mod_add, mod_mul, mod_refl}
@@ -10,14 +10,11 @@ use Rattle.num_modular.specs.Polynomials.{polynomial_at, HaveUnitDifferences}
 use Rattle.num_modular.specs.PolynomialLaws.{polynomial-congruent}
 use Rattle.num_modular.specs.ProductLaws.{product-same}
 use Rattle.num_modular.specs.Residues.{residue}
-use Rattle.num_modular.specs.Transforms.{Suits}
 use Rattle.ring_codes.specs.Erasure.{IsEncoding, IsErasureCodeword}
-use Rattle.ring_codes.specs.Powers.{ArePowers}
 use Rattle.ring_codes.proofs.Congruences.{mod_of_combination, mod_times, mod_of_residue, mod_of_inverse}
 use Rattle.ring_codes.proofs.Counts.{fit_front}
 use Rattle.ring_codes.proofs.NearestWords.{unit_alike}
 use Rattle.ring_codes.specs.Roots.{product_of_differences, HasRoots}
-use Rattle.ring_codes.proofs.RootPowers.{powers_fit}
 use Rattle.ring_codes.proofs.Roots.{constant_value, longer_value}
 use Rattle.ring_codes.proofs.NewtonForms.{no_difference, product-none}
 use Rattle.ring_erasures.specs.Erasures.{IsKept, AreErased, root_weight, AreFactors, IsRestorable, AgreeAtKept}
@@ -139,8 +136,7 @@ module _ (m n : ℕ) (x e d v : ℕ → ℕ) (lost : List ℕ) (positive : 0 < m
   pub lost_values_unit : (l : ℕ) → l < length lost → Congruent m (v (slice_index lost l))
       (root_weight m (length lost) (at_lost x lost) l) × HasInverse m (v (slice_index lost l))
   lost_values_unit l within =
-      let c : ℕ = length lost in let z = at_lost x lost in
-      let one = (λ (X : ℕ). constant_value X (λ i. 1)) in
+      let c : ℕ = length lost in let z = at_lost x lost in let one = (λ (X : ℕ). constant_value X (λ i. 1)) in
       let root = computed_derivative m 1 n x lost positive fit erased n l (λ i. 1) e d erased.enough (omega arith)
       (λ j b. mod_of_combination (is (x j)) (omega (arith, ap (λ v. v * product_of_differences m c z (x j)) (one (x j)))))
       each within in
@@ -168,7 +164,6 @@ pub values_of_roots : (m n b c : ℕ) (y z e : ℕ → ℕ) → b ≡ c → c < 
     → ((j : ℕ) → b < j → e j ≡ 0) → (a : ℕ) → Congruent m (polynomial_at n e a) (product_of_differences m c z a)
 values_of_roots m n b c y z e count room same roots behind a =
     let short = longer_value (c + 1) n a e (omega (arith, room)) (λ i l. behind i (omega (arith, l, count))) in
-    let front = ap (λ t. polynomial_at (t + 1) e a) count in let number = ap (λ t. product_of_differences m t y a) count in
     let alike = product-same c (λ j. residue m (pos a -ℤ pos (y j))) (λ j. residue m (pos a -ℤ pos (z j)))
     (λ j l. rw (same j l) refl) in
-    mod_of_combination (roots.value a) (omega (arith, front, short, number, alike))
+    mod_of_combination (rw count at (roots.value a)) (omega (arith, short, alike))

@@ -10,8 +10,7 @@ returns-clause-factors g c points powers =
     let ring = g.R.Reducer in let m = ring.modulus c.args.r.now in let number = g.T.RingWord.number in
     let positive = (g.met.R.Reducer.canonical c.args.r.now).positive in
     let a = ring.value m (number c.args.g.now) in let n : ℕ = length c.args.factors.now in let lost = c.args.lost.now in
-    let erased = c.requires.erased in
-    let list = c.fill_powers.new.points in let x = entry number ring.value m list in
+    let erased = c.requires.erased in let list = c.fill_powers.new.points in let x = entry number ring.value m list in
     let powers_x = rw c.split_at_mut-list.ensures.front_len at c.fill_powers.ensures.powers in
     let fit = powers_fit m a n points c.requires.odd c.requires.suits powers in
     let same_list : length list ≡ n = c.fill_powers.auto.points ∙ c.split_at_mut-list.ensures.front_len in

@@ -1,6 +1,6 @@
 use Rattle.num_modular.specs.Callers.{◌≡◌, ◌≢◌, ◌<◌, ◌∙◌, ap, sym, refl, arith, inl, inr, length, entry_written, entry_kept, entry_read}
 use Rattle.std.proofs.Common.{slice_index}
-use Rattle.std.proofs.Math.ListN.{set, length-set}
+use Rattle.std.proofs.Math.ListN.{length-set}
 use Rattle.std.proofs.lemmas.Bool.{cases_eq, false≢true}
 use Rattle.num_modular.specs.Plans.{numbers}
 use Rattle.ring_erasures.proofs.places.check_places.Goals as goal

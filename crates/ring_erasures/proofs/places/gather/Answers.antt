@@ -1,5 +1,4 @@
-use Rattle.num_modular.specs.Callers.{arith, entry, held_entry}
-use Rattle.std.proofs.Common.{slice_index}
+use Rattle.num_modular.specs.Callers.{arith, held_entry}
 use Rattle.ring_erasures.proofs.places.gather.Goals as goal
 
 pub returns-clause-same : goal.returns-clause-same

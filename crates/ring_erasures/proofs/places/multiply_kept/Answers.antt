@@ -1,6 +1,5 @@
-use Rattle.num_modular.specs.Callers.{◌*◌, ◌%◌, ◌∙◌, ap, arith, entry, entry_read, forms_written, hold_more, held_forms}
+use Rattle.num_modular.specs.Callers.{◌∙◌, arith, entry_read, forms_written, hold_more, held_forms}
 use Rattle.num_modular.specs.Callers.{held_entry, values_below}
-use Rattle.std.proofs.Common.{slice_index}
 use Rattle.std.proofs.Math.Nat.{zero-mod}
 use Rattle.ring_erasures.proofs.ErasedPlaces.{scattered_none, scattered_more}
 use Rattle.ring_erasures.proofs.places.multiply_kept.Goals as goal

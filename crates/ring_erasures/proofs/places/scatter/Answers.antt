@@ -1,5 +1,4 @@
-use Rattle.num_modular.specs.Callers.{◌<◌, arith, length, entry, entry_read, form_read, forms_written}
-use Rattle.std.proofs.Common.{slice_index}
+use Rattle.num_modular.specs.Callers.{◌<◌, arith, length, entry_read, form_read, forms_written}
 use Rattle.ring_erasures.proofs.ErasedPlaces.{scattered_none, scattered_more}
 use Rattle.ring_erasures.proofs.places.scatter.Goals as goal
 

@@ -75,8 +75,7 @@ returns-clause-only g c points other powers codeword agree i l =
     let encoding = rw (size, count) at
     (c.is_codeword_by_transform.ensures.message c.if-not-is_codeword_by_transform.false points (rw count powers)) in
     let whole = c.differentiate.new.coefficients in let derivative = c.split_at_mut-derivative.result.0.now in
-    let d = entry number ring.value m derivative in
-    let long = c.is_codeword_by_transform.auto.message ∙ size in
+    let d = entry number ring.value m derivative in let long = c.is_codeword_by_transform.auto.message ∙ size in
     let kept : length whole ≡ self.k + length lost = c.differentiate.auto.coefficients ∙ long in
     let short = c.split_at_mut-derivative.ensures.front_len ∙ ap (λ s. s - 1) kept in
     let values = rw (short, count) at (c.encode_by_transform.ensures.encoding points (rw count powers)) in
