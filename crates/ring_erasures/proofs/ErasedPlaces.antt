@@ -1,6 +1,5 @@
--- Places of lost symbols, and the others.
-use Rattle.std.proofs.Common.{◌≡◌, ◌≢◌, ℕ, ◌+◌, ◌<◌, List, length, slice_index, inl, inr, sym, ◌∙◌}
-use Rattle.std.proofs.Common.{arith, refl, subst}
+-- Places of lost symbols: the points there, and lists that change there alone.
+use Rattle.std.proofs.Common.{◌≡◌, ◌≢◌, ℕ, ◌+◌, ◌<◌, List, length, slice_index, inl, inr, sym, ◌∙◌, arith, refl, subst}
 use Rattle.std.proofs.Math.ListN.{set}
 use Rattle.std.proofs.lemmas.Bool.{cases_eq, cases_lt}
 use Rattle.num_modular.specs.Callers.{entry, entry_written, entry_kept}

@@ -66,11 +66,10 @@ divided_by_roots m k (suc c) z p positive fit roots =
     let factor : (X : ℕ) → Congruent m (polynomial_at (k + suc c) p X)
     (residue m (pos X -ℤ pos a) * polynomial_at (k + c) q X) =
     λ X.
-    let is = by.1 X in
-    let size = ap (λ n. polynomial_at n p X) next in let there = ap (λ n. polynomial_at n p a) next in
+    let is = rw (← next) at (by.1 X) in
     let difference : Congruent m (residue m (pos X -ℤ pos a) + a) X = mod_of_difference a positive refl in
     mod_of_combination (mod_add last (mod_times (polynomial_at (k + c) q X) (mod_sym difference)))
-    (omega (arith, is, size, there)) in
+    (omega (arith, is)) in
     let rest = divided_by_roots m k c z q positive
     (record { unit = λ i j b d other. fit.unit i j (omega arith) (omega arith) other })
     (λ l b.
