@@ -37,8 +37,7 @@ product_value zero d n X f e some room past =
     omega (arith, no_value n X, ap (λ v. v * polynomial_at d e X) (polynomial-none f X))
 product_value (suc k) d zero X f e some room past = absurd (omega arith)
 product_value (suc k) d (suc n) X f e some room past =
-    let p : ℕ → ℕ = product k (λ j. f (suc j)) e in
-    let both = combined (suc n) (shifted p) e (f 0) X in
+    let p : ℕ → ℕ = product k (λ j. f (suc j)) e in let both = combined (suc n) (shifted p) e (f 0) X in
     let i = ap (λ v. X * v) (product_value k d n X (λ j. f (suc j)) e some (omega arith) past) in
     let whole = ap (λ v. f 0 * v) (longer_value d (suc n) X e (omega arith) past) in
     let split = ap (λ v. v * polynomial_at d e X) (polynomial-first k f X) in
@@ -206,8 +205,7 @@ module _ {T : Type 0} (number : T → ℕ) (form value : ℕ → ℕ → ℕ) (m
     rising = λ i i' l b. found.rising i i' l (omega arith);
     chosen_there = λ i l. held_entry number form value m chosen (λ i. x (found.place i)) k i found.chosen_there
         (omega arith) (omega arith);
-    quotient = λ i l. subst (IsQuotient m (p (x (found.place i))) (e (x (found.place i))))
-        (entry_at number value m values i a (omega arith)) (found.quotient i a (omega arith)).1;
+    quotient = λ i l. rw (← entry_at number value m values i a (omega arith)) (found.quotient i a (omega arith)).1;
   }
 
 -- one point more where a value is 0, or isn't

@@ -1,5 +1,5 @@
 use Rattle.num_modular.specs.Callers.{◌≡◌, ◌<◌, ◌≤◌, ◌∙◌, ℕ, ◌%◌, ap, sym, refl, arith, length, entry}
-use Rattle.num_modular.specs.Polynomials.{polynomial_at}
+use Rattle.num_modular.specs.Polynomials.{polynomial_at, HaveUnitDifferences}
 use Rattle.std.proofs.Common.{rules, List, slice_index, take_at, inl, inr}
 use Rattle.std.proofs.lemmas.Bool.{cases_lt}
 use Rattle.ring_codes.proofs.Distances.{no_distance}
@@ -10,7 +10,6 @@ use Rattle.ring_codes.specs.declared.erasure.errors.CorrectError.{CorrectError}
 use Rattle.ring_codes.specs.declared.erasure.errors.CorrectError.TheVariants.{Restore, TooManyErrors, NoInverse}
 use Rattle.ring_correction.proofs.NearPairs.{same_word, distance_same}
 use Rattle.ring_correction.specs.Correction.{AreFit, AreLocated, IsCorrectFault, IsNear, IsNearMessage, IsSearchFault}
-use Rattle.num_modular.specs.Polynomials.{HaveUnitDifferences}
 use Rattle.ring_correction.proofs.correction.correct.Goals as goal
 
 -- there are no more places than points

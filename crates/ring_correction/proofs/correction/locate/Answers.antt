@@ -18,10 +18,8 @@ fault_places m k n x places PointsDontFit enough h = (enough, h)
 pub returns-in-Err : goal.returns-in-Err
 returns-in-Err g c =
     let ring = g.R.Reducer in let m = ring.modulus c.args._r.now in
-    let points = c.args.points.now in let x = entry g.T.RingWord.number ring.value m points in
-    fault_places m c.args.k (length points) x c.args.places.now c.in-Err.error c.if-places-k.false
-    (subst (λ k. IsFault m k (length points) x c.args.places.now c.in-Err.error) c.requires.room
-    (c.in-Err.ensures.fault m x))
+    let x = entry g.T.RingWord.number ring.value m c.args.points.now in
+    fault_places m c.args.k _ x _ _ c.if-places-k.false (rw c.requires.room at (c.in-Err.ensures.fault m x))
 
 pub returns-in-Ok : goal.returns-in-Ok
 returns-in-Ok g c =

@@ -9,8 +9,7 @@ pub returns-clause-value : goal.returns-clause-value
 returns-clause-value g c d s t whole at_s at_t =
     let ring = g.R.Reducer in let m = ring.modulus c.args.r.now in let number = g.T.RingWord.number in
     let positive = (g.met.R.Reducer.canonical c.args.r.now).positive in
-    let pair = c.args.pair.now in let split = c.args.split in
-    let left = length-drop split pair in
+    let pair = c.args.pair.now in let split = c.args.split in let left = length-drop split pair in
     let front : length (take split pair) ≡ split = length-take-le split pair c.requires.within in
     let back : length (drop split pair) ≡ d = omega (arith, left, whole) in
     let value = rw front at c.evaluate-value.ensures.value in

@@ -9,8 +9,7 @@ coefficients-preserved g c =
     let positive = (g.met.R.Reducer.canonical c.args.r.now).positive in
     let list = c.coefficients.coefficients in let i = c.coefficients.i in let so_far = c.coefficients.invariant in
     let old = entry number ring.value m c.args.coefficients.now in
-    let pivots = entry number ring.value m c.args.pivots.now in
-    let a = ring.value m (number c.args.a.now) in
+    let pivots = entry number ring.value m c.args.pivots.now in let a = ring.value m (number c.args.a.now) in
     let b = ring.value m (number c.args.b.now) in
     let pivot = entry_read number ring.value m c.args.pivots.now i _ (omega (arith, c.requires.equal)) c.index-pivots-i.is in
     let here = entry_at number ring.value m list i c.index-coefficients-i.result (omega arith) ∙ so_far.1.kept i (omega arith) in

@@ -1,5 +1,4 @@
-use Rattle.num_modular.specs.Callers.{◌∙◌, arith, inl, inr, length, entry_past, entry_kept, held_entry}
-use Rattle.num_modular.specs.Callers.{hold_more}
+use Rattle.num_modular.specs.Callers.{◌∙◌, arith, inl, inr, length, entry_past, entry_kept, held_entry, hold_more}
 use Rattle.std.proofs.lemmas.Bool.{cases_lt}
 use Rattle.ring_codes.proofs.Counts.{zero_mod}
 use Rattle.ring_correction.proofs.key_equation.set_unit.Goals as goal

@@ -1,5 +1,4 @@
-use Rattle.num_modular.specs.Callers.{refl, arith, length, entry_read, ◌≡◌}
-use Rattle.num_modular.specs.Callers.{held_forms, subst, ◌≤◌}
+use Rattle.num_modular.specs.Callers.{refl, arith, length, entry_read, ◌≡◌, held_forms, subst, ◌≤◌}
 use Rattle.std.proofs.Common.{length-set, rules}
 use Rattle.ring_correction.proofs.NearPairs.{found_none, found_kept, found_more, found_all, zeros_kept, zeros_more}
 use Rattle.ring_correction.proofs.NearPairs.{found_forms}

@@ -11,7 +11,7 @@ pub returns-in-Ok-true-clause-message : goal.returns-in-Ok-true-clause-message
 returns-in-Ok-true-clause-message g c d u y sent whole some lengths few room pair near =
     let ring = g.R.Reducer in let m = ring.modulus c.args.r.now in let number = g.T.RingWord.number in
     let split = c.args.split in let list = c.args.pair.now in let left = length-drop split list in
-    let is_c : length (take split list) ≡ split = length-take-le split list c.requires.split in
+    let is_c = length-take-le split list c.requires.split in
     let is_d : length (drop split list) ≡ d = omega (arith, left, whole) in
     let forms = c.in-Ok-true.ensures.checked_values c.in-Ok-true.field-0-test in
     let whole = c.divide.auto.values ∙ c.split_at_mut-values.ensures.front_len in
