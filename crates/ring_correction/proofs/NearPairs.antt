@@ -1,7 +1,7 @@
 -- What a pair that solves the key equation says of a message whose word is near: its numerator is the product of the
 -- message and the locator.
 use Rattle.std.proofs.Common.{◌≡◌, ℕ, zero, suc, ◌+◌, ◌-◌, ◌*◌, ◌/◌, ◌%◌, ◌<◌, ◌≤◌}
-use Rattle.std.proofs.Common.{ap, sym, ◌∙◌, arith, inl, inr, subst, refl, mod-eq_of_lt}
+use Rattle.std.proofs.Common.{ap, sym, ◌∙◌, arith, inl, inr, refl, mod-eq_of_lt}
 use Rattle.std.proofs.Math.Nat.{mod-mod, zero-mod}
 use Rattle.std.proofs.lemmas.Bool.{cases_eq, cases_lt}
 use Rattle.std.proofs.Common.{List, length, take, get_or, set, All, get_or-set_same, get_or-set_other, length-take-le}

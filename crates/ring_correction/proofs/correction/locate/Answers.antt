@@ -1,4 +1,4 @@
-use Rattle.num_modular.specs.Callers.{◌≤◌, ℕ, refl, arith, subst, length, entry}
+use Rattle.num_modular.specs.Callers.{◌≤◌, ℕ, refl, arith, length, entry}
 use Rattle.std.proofs.Common.{rules, List}
 use Rattle.ring_codes.proofs.Symbols.{are_chosen}
 use Rattle.ring_codes.specs.Erasure.{IsFault}

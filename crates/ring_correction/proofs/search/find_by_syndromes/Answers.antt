@@ -1,5 +1,5 @@
 use Rattle.std.proofs.Common.{[]}
-use Rattle.num_modular.specs.Callers.{◌≤◌, ◌%◌, ℕ, refl, arith, length, entry}
+use Rattle.num_modular.specs.Callers.{◌≤◌, ◌%◌, ℕ, refl, arith}
 use Rattle.num_modular.specs.Polynomials.{polynomial_at, HaveUnitDifferences}
 use Rattle.std.proofs.lemmas.Bool.{false≢true}
 use Rattle.ring_codes.proofs.Counts.{fit_front}
@@ -45,7 +45,6 @@ returns-in-Err g c =
 
 pub returns-then-interpolate : goal.returns-then-interpolate
 returns-then-interpolate g c =
-    let ring = g.R.Reducer in let m = ring.modulus c.args.r.now in let number = g.T.RingWord.number in
     let same = c.over-code.ensures in let few = c.requires.few in
     let corrected = rw c.copy_from_slice.ensures.after at (rw same.2 at (rw same.1 at (rw same.0 at c.in-Ok.ensures))) in record {
       fit = c.if-not-fill_lists.ensures.fit.0 refl;
@@ -54,8 +53,7 @@ returns-then-interpolate g c =
       encoding = recoded corrected.codeword.1 (λ i l. c.if-interpolate.ensures.only refl corrected.codeword.0
           (record { symbol = λ i l. corrected.codeword.1.symbol i (omega (arith, l, few)) }) i l);
       only = λ sent near.
-          let word = near_word m (length c.args.message.now) (length c.args.points.now)
-          (entry number ring.value m c.args.points.now) (entry number ring.value m c.args.symbols.now) sent near in
+          let word = near_word _ _ _ _ _ sent near in
           c.if-interpolate.ensures.only refl sent
           (record { symbol = λ i l. corrected.only _ word.0 word.1 i (omega (arith, l, few)) });
     }
