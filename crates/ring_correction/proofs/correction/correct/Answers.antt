@@ -27,7 +27,8 @@ fit_places : {T : Type 0} {P : T → Type 0} {entries : List T → ℕ → ℕ} 
 fit_places {entries} {m} {points} {located} {places} at fit = record {
   enough = at.enough;
   right = at.right;
-  points = fit_same m (length places) (entries located) (λ i. entries points (slice_index places i)) at.same (rw at.pairs at fit);
+  points = fit_same m (length places) (entries located) (λ i. entries points (slice_index places i)) at.same
+      (rw at.pairs at fit);
 }
 
 -- a word that is near at the places, by the points there
@@ -36,7 +37,8 @@ near_located : {T : Type 0} {P : T → Type 0} {entries : List T → ℕ → ℕ
     → IsEncoding m k (length points) (entries points) sent other → IsNear k places y other
     → IsNearMessage m k (length located) (entries located) y sent
 near_located {entries} {m} {k} {points} {located} {places} {sent} {other} y at is near =
-    let same = distance_same (length places) y (λ j. other (slice_index places j)) (λ j. polynomial_at k sent (entries located j) % m)
+    let same = distance_same (length places) y (λ j. other (slice_index places j))
+    (λ j. polynomial_at k sent (entries located j) % m)
     (λ i l. is.symbol _ (at.right.within i l) ∙ rw (at.same i l) refl) in
     rw at.pairs (omega (arith, same, near))
 

@@ -14,6 +14,8 @@ returns-clause-value g c d s t whole at_s at_t =
     let back : length (drop split pair) ≡ d = omega (arith, left, whole) in
     let value = rw front at c.evaluate-value.ensures.value in
     let located = mod_of_residue (rw (rest_whole pair split, back) at c.evaluate-located.ensures.value) in
-    let product = mod_trans (mod_of_residue (rw (← at_t) at c.mul-product.ensures.value)) (mod_mul (mod_refl t) located) in
-    rw at_s (mod_of_combination (mod_add (mod_of_difference (ring.value m (number c.mul-product.result)) positive c.sub.ensures.value)
+    let product = mod_trans (mod_of_residue (rw (← at_t) at c.mul-product.ensures.value))
+    (mod_mul (mod_refl t) located) in
+    rw at_s (mod_of_combination (mod_add
+    (mod_of_difference (ring.value m (number c.mul-product.result)) positive c.sub.ensures.value)
     (mod_add (mod_sym product) (mod_of_residue value))) (omega arith))

@@ -38,15 +38,15 @@ returns-then-found-chosen g c =
     let same = length-set c.points.chosen c.points.found c.index-points-i-in-Ok-Some.result in
     let same_values = length-set c.points.values c.points.found c.in-Ok-Some.value in
     let last = c.if-found-chosen.true in let equal = c.requires.equal in
-    let more = found_more _ _ _ _ _ (omega (arith, below)) (omega (arith, below, equal)) found c.requires.points (omega arith)
-    c.index-points-i.is c.index-points-i-in-Ok-Some.is
+    let more = found_more _ _ _ _ _ (omega (arith, below)) (omega (arith, below, equal)) found c.requires.points
+    (omega arith) c.index-points-i.is c.index-points-i-in-Ok-Some.is
     (rw c.in-Ok-Some.field-0-is at c.in-Ok-Some.ensures.quotient) in
     record {
       inverse = search rules;
       checked_chosen = λ t. held_forms _ _ _ _ _ _ _ more.chosen_there (omega (arith, same, last));
       checked_values = λ t. found_forms _ _ _ _ (omega (arith, same_values, equal, last)) more;
-      quotients = λ t. found_all _ _ _ _ _ _ _ _ _ _ _ _ _ c.in-Ok-Some.value (omega (arith, same, last)) last (omega (arith, same_values, equal, last))
-          (omega arith) more;
+      quotients = λ t. found_all _ _ _ _ _ _ _ _ _ _ _ _ _ c.in-Ok-Some.value (omega (arith, same, last)) last
+          (omega (arith, same_values, equal, last)) (omega arith) more;
       zeros = λ other. absurd (other refl);
     }
 

@@ -60,4 +60,5 @@ returns-then-interpolate g c =
 
 pub returns-else-interpolate : goal.returns-else-interpolate
 returns-else-interpolate g c =
-    absurd (false≢true (c.if-interpolate.ensures.fit.1 (fit_front _ _ _ _ c.requires.few (c.if-not-fill_lists.ensures.fit.0 refl))))
+    absurd (false≢true (c.if-interpolate.ensures.fit.1
+    (fit_front _ _ _ _ c.requires.few (c.if-not-fill_lists.ensures.fit.0 refl))))
