@@ -107,7 +107,8 @@ derivative_at_root m k (suc c) l z f positive within =
     let value = rooted_value m k c X z f positive in
     rw next (elim (cases_eq l c) [
       | inl e ↦
-          let zero_there : Congruent m (X + r) 0 = rw e (record { same = at_root m (z c) positive ∙ sym (zero-mod m) }) in
+          let zero_there : Congruent m (X + r) 0 =
+          rw e (record { same = at_root m (z c) positive ∙ sym (zero-mod m) }) in
           let w = ap (λ v. F * v) (last_weight m c l z e) in
           mod_of_combination (mod_add value (mod_times D zero_there)) (omega (arith, top, gone, whole, w))
       | inr other ↦

@@ -97,19 +97,21 @@ module _ (m k n : ℕ) (x y u products : ℕ → ℕ) (lost : List ℕ) (positiv
       → IsEncoding m (k + length lost - 1) n x d v → ((i : ℕ) → IsKept lost i → w i ≡ y i)
       → ((l : ℕ) → l < length lost → w (slice_index lost l) ≡ (v (slice_index lost l) * u (slice_index lost l)) % m)
       → (i : ℕ) → i < n → w i ≡ polynomial_at k f (x i) % m
-  restored_word f p d v w symbols encoding each values kept written i b = elim (value_or_none (length lost) i (slice_index lost)) [
-    | inl (l, less, at) ↦
-        let a : ℕ = slice_index lost l in let F : ℕ = polynomial_at k f (x a) in
-        let root = computed_derivative m k n x lost positive fit erased (k + length lost) l f p d (omega arith)
-        erased.enough (λ j b.
-        mod_trans (mod_sym (mod_of_residue (encoding.symbol j b))) (products_of_word f j symbols b)) each less in
-        let one = mod_of_inverse (factors.erased l less) in
-        let same : Congruent m (v a * u a) F =
-        mod_of_combination (mod_add (mod_times (u a) (mod_of_residue (values.symbol a (erased.places.within l less))))
-        (mod_add (mod_times (u a) root) (mod_times F one))) (omega arith) in
-        rw (← at) (written l less ∙ same.same)
-    | inr left ↦ kept i left ∙ symbols i b left
-  ]
+  restored_word f p d v w symbols encoding each values kept written i b =
+      elim (value_or_none (length lost) i (slice_index lost)) [
+        | inl (l, less, at) ↦
+            let a : ℕ = slice_index lost l in let F : ℕ = polynomial_at k f (x a) in
+            let root = computed_derivative m k n x lost positive fit erased (k + length lost) l f p d (omega arith)
+            erased.enough (λ j b.
+            mod_trans (mod_sym (mod_of_residue (encoding.symbol j b))) (products_of_word f j symbols b)) each less in
+            let one = mod_of_inverse (factors.erased l less) in
+            let same : Congruent m (v a * u a) F =
+            mod_of_combination (mod_add
+            (mod_times (u a) (mod_of_residue (values.symbol a (erased.places.within l less))))
+            (mod_add (mod_times (u a) root) (mod_times F one))) (omega arith) in
+            rw (← at) (written l less ∙ same.same)
+        | inr left ↦ kept i left ∙ symbols i b left
+      ]
 
   -- so the products tell whether a word of the code has the symbols that are left
   pub products_tell : ((i : ℕ) → i < n → y i < m)

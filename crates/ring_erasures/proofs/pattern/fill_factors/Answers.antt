@@ -17,8 +17,10 @@ returns-clause-factors g c points powers =
     let count : length c.gather.new.numbers ≡ length lost = c.gather.auto.numbers ∙ c.split_at_mut-chosen.ensures.front_len in
     let coefficients = c.expand_roots.new.coefficients in let e = entry number ring.value m coefficients in
     let long : length coefficients ≡ n = c.expand_roots.auto.coefficients ∙ c.split_at_mut-coefficients.ensures.front_len in
-    let locator = values_of_roots m n _ (length lost) _ (λ l. points (slice_index lost l)) e count (omega (arith, erased.enough))
-    (λ l b. let w = erased.places.within l b in c.gather.ensures.same l b ∙ powers_x.power _ w ∙ sym (powers.power _ w)) c.expand_roots.ensures.roots c.expand_roots.ensures.behind in
+    let locator = values_of_roots m n _ (length lost) _ (λ l. points (slice_index lost l)) e count
+    (omega (arith, erased.enough)) (λ l b. let w = erased.places.within l b in
+    c.gather.ensures.same l b ∙ powers_x.power _ w ∙ sym (powers.power _ w))
+    c.expand_roots.ensures.roots c.expand_roots.ensures.behind in
     let first = entry number ring.value m c.encode_by_transform.new.word in
     let encoding = rw long at (c.encode_by_transform.ensures.encoding points powers) in
     let whole = c.differentiate.new.coefficients in let derivative = c.split_at_mut-derivative.result.0.now in

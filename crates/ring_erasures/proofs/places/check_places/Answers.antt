@@ -1,4 +1,5 @@
-use Rattle.num_modular.specs.Callers.{◌≡◌, ◌≢◌, ◌<◌, ◌∙◌, ap, sym, refl, arith, inl, inr, length, entry_written, entry_kept, entry_read}
+use Rattle.num_modular.specs.Callers.{◌≡◌, ◌≢◌, ◌<◌, ◌∙◌, ap, sym, refl, arith, inl, inr, length, entry_written}
+use Rattle.num_modular.specs.Callers.{entry_kept, entry_read}
 use Rattle.std.proofs.Common.{slice_index}
 use Rattle.std.proofs.Math.ListN.{length-set}
 use Rattle.std.proofs.lemmas.Bool.{cases_eq, false≢true}

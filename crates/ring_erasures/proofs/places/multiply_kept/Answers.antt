@@ -23,8 +23,9 @@ places-preserved g c =
     let number = g.T.RingWord.number in let ring = g.R.Reducer in let m = ring.modulus c.args.r.now in
     let so_far = c.places.invariant in let zero = c.transform-zero in (
       forms_written number _ _ _ _ _ _ zero.ensures.checked so_far.0,
-      scattered_more number ring.value m c.places.l _ _ _ _ _ (rw (c.places.auto.products ∙ c.symbols.auto.products) c.requires.places)
-          c.places-test.true so_far.1 (zero.ensures.value ∙ rw c.zero.ensures (zero-mod _)),
+      scattered_more number ring.value m c.places.l _ _ _ _ _
+          (rw (c.places.auto.products ∙ c.symbols.auto.products) c.requires.places) c.places-test.true so_far.1
+          (zero.ensures.value ∙ rw c.zero.ensures (zero-mod _)),
     )
 
 pub returns-clause-products : goal.returns-clause-products
