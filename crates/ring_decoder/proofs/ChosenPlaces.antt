@@ -1,8 +1,7 @@
 -- The places at which a list of numbers is 0, in their order.
 use Rattle.std.proofs.Common.{◌≡◌, ◌≢◌, ℕ, zero, suc, ◌+◌, ◌*◌, ◌^◌, ◌<◌, cond, eqb, pos, ◌-ℤ◌, ap, sym, ◌∙◌, arith}
 use Rattle.std.proofs.Common.{inl, inr, subst, add-one, refl}
-use Rattle.std.proofs.lemmas.Bool.{cases_eq}
-use Rattle.std.proofs.lemmas.Bool.Decides.{eqb_tells}
+use Rattle.std.proofs.lemmas.Bool.{cases_eq, eq-eqb, ne_eqb}
 use Rattle.num_modular.specs.Congruence.{Congruent}
 use Rattle.num_modular.specs.Inverses.{HasInverse}
 use Rattle.num_modular.specs.NumberLaws.{mod_of_eq, mod_sym, mod_trans, sum_below-zero, sum_below-suc}
@@ -22,10 +21,10 @@ one_at_zero v = cond (eqb v 0) 1 0
 
 -- a choice by a number that is 0, or isn't
 pub chosen_zero : (v a b : ℕ) → v ≡ 0 → cond (eqb v 0) a b ≡ a
-chosen_zero v a b e = elim (eqb_tells v 0) [ inl p ↦ ap (λ t. cond t a b) p.0 | inr p ↦ absurd (p.1 e) ]
+chosen_zero v a b e = ap (λ t. cond t a b) (eq-eqb v 0 e)
 
 pub chosen_nonzero : (v a b : ℕ) → v ≢ 0 → cond (eqb v 0) a b ≡ b
-chosen_nonzero v a b o = elim (eqb_tells v 0) [ inl p ↦ absurd (o p.1) | inr p ↦ ap (λ t. cond t a b) p.0 ]
+chosen_nonzero v a b o = ap (λ t. cond t a b) (ne_eqb v 0 o)
 
 pub zeros-none : (z : ℕ → ℕ) → zeros 0 z ≡ 0
 zeros-none z = sum_below-zero (λ i. one_at_zero (z i))
@@ -46,9 +45,7 @@ zeros_kept n z o = ap (λ k. zeros k z) (add-one n) ∙ zeros-same n z o
 pub zeros_before : (i n : ℕ) (z : ℕ → ℕ) → i < n → z i ≡ 0 → zeros i z < zeros n z
 zeros_before i zero z l e = absurd (omega arith)
 zeros_before i (suc n) z l e = elim (cases_eq i n) [
-  | inl same ↦
-      let here : z n ≡ 0 = ap z (sym same) ∙ e in
-      omega (arith, zeros-suc n z here, ap (λ k. zeros k z) same)
+  | inl same ↦ rw same (omega (arith, zeros-suc n z (rw (← same) e)))
   | inr other ↦
       let b = zeros_before i n z (omega arith) e in
       elim (cases_eq (z n) 0) [
@@ -58,8 +55,7 @@ zeros_before i (suc n) z l e = elim (cases_eq i n) [
 ]
 
 pub zeros_others : (n : ℕ) (z : ℕ → ℕ) → zeros n z + distance n z (λ i. 0) ≡ n
-zeros_others zero z =
-    omega (arith, zeros-none z, sum_below-zero (λ i. counted (z i) 0))
+zeros_others zero z = omega (arith, zeros-none z, sum_below-zero (λ i. counted (z i) 0))
 zeros_others (suc n) z =
     let i = zeros_others n z in
     let t = sum_below-suc n (λ i. counted (z i) 0) in
@@ -73,13 +69,11 @@ pub ranked : (n k : ℕ) (z : ℕ → ℕ) → k < zeros n z → (i : ℕ) × (i
 ranked zero k z l = absurd (omega (arith, l, zeros-none z))
 ranked (suc n) k z l = elim (cases_eq (z n) 0) [
   | inl e ↦
-      let s = zeros-suc n z e in
       elim (cases_eq (zeros n z) k) [
         | inl same ↦ (n, omega arith, e, same)
-        | inr other ↦ let r = ranked n k z (omega (arith, l, s, other)) in (r.0, omega (arith, r.1), r.2, r.3)
+        | inr o ↦ let r = ranked n k z (omega (arith, l, zeros-suc n z e, o)) in (r.0, omega (arith, r.1), r.2, r.3)
       ]
-  | inr o ↦
-      let r = ranked n k z (omega (arith, l, zeros-same n z o)) in (r.0, omega (arith, r.1), r.2, r.3)
+  | inr o ↦ let r = ranked n k z (omega (arith, l, zeros-same n z o)) in (r.0, omega (arith, r.1), r.2, r.3)
 ]
 
 fewer : {n : ℕ} {z f g : ℕ → ℕ} → AreChosen (suc n) z f g → AreChosen n z f g
@@ -90,16 +84,15 @@ pub chosen_more : (n : ℕ) (z f g h : ℕ → ℕ) → AreChosen n z f g → h 
     → ((k : ℕ) → k ≢ zeros n z → h k ≡ g k) → AreChosen (n + 1) z f h
 chosen_more n z f g h c last same = record {
   at = λ i l here. elim (cases_eq i n) [
-    | inl e ↦ ap h (ap (λ k. zeros k z) e) ∙ last ∙ ap f (sym e)
-    | inr other ↦
-        same (zeros i z) (omega (arith, zeros_before i n z (omega arith) here)) ∙ c.at i (omega arith) here
+    | inl e ↦ rw e last
+    | inr other ↦ same (zeros i z) (omega (arith, zeros_before i n z (omega arith) here)) ∙ c.at i (omega arith) here
   ];
 }
 
 pub chosen_kept : (n : ℕ) (z f g : ℕ → ℕ) → AreChosen n z f g → z n ≢ 0 → AreChosen (n + 1) z f g
 chosen_kept n z f g c other = record {
   at = λ i l here. elim (cases_eq i n) [
-    | inl e ↦ absurd (other (ap z (sym e) ∙ here))
+    | inl e ↦ absurd (other (rw e at here))
     | inr before ↦ c.at i (omega arith) here
   ];
 }
@@ -113,49 +106,42 @@ picked (suc n) z f =
     elim (cases_eq (z n) 0) [
       | inl e ↦ (
         more,
-        subst (λ k. AreChosen k z f more) (add-one n)
-            (chosen_more n z f p.0 more p.1 (at_end (zeros n z) (f n) p.0 (zeros n z) refl)
-            (before_end (zeros n z) (f n) p.0)),
+        rw (← add-one n) (chosen_more n z f p.0 more p.1 (at_end _ _ _ (zeros n z) refl) (before_end _ _ _)),
       )
-      | inr o ↦ (p.0, subst (λ k. AreChosen k z f p.0) (add-one n) (chosen_kept n z f p.0 p.1 o))
+      | inr o ↦ (p.0, rw (← add-one n) (chosen_kept n z f p.0 p.1 o))
     ]
 
 -- the chosen numbers by their number
 pub chosen_is : (n k : ℕ) (z f g : ℕ → ℕ) → AreChosen n z f g → (l : k < zeros n z) → f (ranked n k z l).0 ≡ g k
-chosen_is n k z f g c l =
-    let r = ranked n k z l in sym (c.at r.0 r.1 r.2) ∙ ap g r.3
+chosen_is n k z f g c l = let r = ranked n k z l in sym (c.at r.0 r.1 r.2) ∙ ap g r.3
 
 pub chosen_fit : (m n : ℕ) (z x g : ℕ → ℕ) → AreChosen n z x g → HaveUnitDifferences m n x
     → HaveUnitDifferences m (zeros n z) g
 chosen_fit m n z x g c fit = record {
   unit = λ i j l d other.
       let p = ranked n i z l in let q = ranked n j z d in
-      subst (HasInverse m)
-      (ap (λ v. residue m (pos v -ℤ pos (x q.0))) (chosen_is n i z x g c l)
-      ∙ ap (λ v. residue m (pos (g i) -ℤ pos v)) (chosen_is n j z x g c d))
+      rw (← chosen_is n i z x g c l, ← chosen_is n j z x g c d)
       (fit.unit p.0 q.0 p.1 q.1 (λ e. other (sym p.3 ∙ ap (λ k. zeros k z) e ∙ q.3)));
 }
 
 pub chosen_units : (m n : ℕ) (z v g : ℕ → ℕ) → AreChosen n z v g → ((i : ℕ) → i < n → HasInverse m (v i))
     → (k : ℕ) → k < zeros n z → HasInverse m (g k)
 chosen_units m n z v g c unit k l =
-    let r = ranked n k z l in subst (HasInverse m) (chosen_is n k z v g c l) (unit r.0 r.1)
+    let r = ranked n k z l in rw (← chosen_is n k z v g c l) (unit r.0 r.1)
 
 -- the sum of the chosen numbers
 pub chosen_sum : (n : ℕ) (z f g : ℕ → ℕ) → AreChosen n z f g
     → sum_below (zeros n z) g ≡ sum_below n (λ i. cond (eqb (z i) 0) (f i) 0)
 chosen_sum zero z f g c =
-    ap (λ k. sum_below k g) (zeros-none z) ∙ sum_below-zero g ∙ sym (sum_below-zero (λ i. cond (eqb (z i) 0) (f i) 0))
+    rw (zeros-none z) (sum_below-zero g ∙ sym (sum_below-zero _))
 chosen_sum (suc n) z f g c =
     let i = chosen_sum n z f g (fewer c) in
     let t = sum_below-suc n (λ i. cond (eqb (z i) 0) (f i) 0) in
     elim (cases_eq (z n) 0) [
       | inl e ↦
           let k : zeros (suc n) z ≡ suc (zeros n z) = omega (arith, zeros-suc n z e) in
-          let one = chosen_zero (z n) (f n) 0 e in
-          omega (arith, i, t, ap (λ k. sum_below k g) k ∙ sum_below-suc (zeros n z) g, c.at n (omega arith) e, one)
-      | inr o ↦
-          omega (arith, i, t, ap (λ k. sum_below k g) (zeros-same n z o), chosen_nonzero (z n) (f n) 0 o)
+          rw k (omega (arith, i, t, sum_below-suc (zeros n z) g, c.at n (omega arith) e, chosen_zero (z n) (f n) 0 e))
+      | inr o ↦ omega (arith, i, t, ap (λ k. sum_below k g) (zeros-same n z o), chosen_nonzero (z n) (f n) 0 o)
     ]
 
 -- power sums of the chosen points are those of all, where the other weights are 0
@@ -166,10 +152,7 @@ chosen_powers m n h z x v e p w d points weights errors none =
     let f : ℕ → ℕ = λ i. v i * e i * x i ^ h in
     mod_trans
     (mod_of_eq (chosen_sum n z f (λ k. w k * d k * p k ^ h) (record {
-      at = λ i l here.
-          ap (λ a. a * d (zeros i z) * p (zeros i z) ^ h) (weights.at i l here)
-          ∙ ap (λ a. v i * a * p (zeros i z) ^ h) (errors.at i l here)
-          ∙ ap (λ a. v i * e i * a ^ h) (points.at i l here);
+      at = λ i l here. rw (weights.at i l here, errors.at i l here, points.at i l here) refl;
     })))
     (sum_below-congruent n (λ i. cond (eqb (z i) 0) (f i) 0) f
     (λ i l. elim (cases_eq (z i) 0) [

@@ -37,7 +37,7 @@ next_is m N u x h s t some geometric =
 
 applied_at : (m c k h j d : ℕ) (s t : ℕ → ℕ) → c ≡ k → h ≡ j → Congruent m (applied c s t h) d → Congruent m (applied k s t j) d
 applied_at m c k h j d s t at_c at_h is =
-    subst (λ h. Congruent m (applied k s t h) d) at_h (subst (λ c. Congruent m (applied c s t h) d) at_c is)
+    rw (← at_h, ← at_c) is
 
 -- the discrepancy is 0
 pub kept_one : (m N i L p u x h : ℕ) (s b t : ℕ → ℕ) → i < N → h + L ≡ i → L ≤ h
@@ -86,10 +86,9 @@ corrected_first m N i L p d u x h q s b t f inside at room first is high behind 
     record {
       degree = is_L;
       constant = constant_one m (f 0) d (b 0) p (s 0) (s 1) u x
-          (subst (λ k. Congruent m (f k + d * b 0) (p * s k)) q_zero (high 0 (omega (arith, is_q)))) before.3 before.1 before.2 at_d;
+          (rw q_zero at (high 0 (omega (arith, is_q)))) before.3 before.1 before.2 at_d;
       leading = leading_one m (f 1) d (b 1) p (s 1) u
-          (subst (λ k. Congruent m (f k + d * b 1) (p * s k)) q_one (high 1 (omega (arith, is_q, is_L))))
-          (behind 1 (omega (arith, is_L))) before.4 before.2;
+          (rw q_one at (high 1 (omega (arith, is_q, is_L)))) (behind 1 (omega (arith, is_L))) before.4 before.2;
     }
 
 -- the polynomial is corrected
@@ -135,8 +134,7 @@ longer_one m N i L p d u x h q s b t f inside at room half is other low high beh
         mod_of_combination (mod_add (low 0 (omega (arith, is_q))) (mod_times d (behind 0 (omega (arith, is_L)))))
             (omega arith),
         minus_first m (f 1) d (b 1) p (s 0)
-            (subst (λ k. Congruent m (f k + p * s 0) (d * b k)) is_q (high 0 (omega (arith, is_q))))
-            (behind 1 (omega (arith, is_L))) start.2 start.1,
+            (rw is_q at (high 0 (omega (arith, is_q)))) (behind 1 (omega (arith, is_L))) start.2 start.1,
         start.1,
         mod_trans (mod_sym there) (first_is m N u x s t (omega (arith, inside)) geometric start.1),
       );

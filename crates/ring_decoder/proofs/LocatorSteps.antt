@@ -42,12 +42,7 @@ combined_more : (m a b q c h : ℕ) (e f g t : ℕ → ℕ) → ((k : ℕ) → k
     → Congruent m (applied (q + c) f t h + b * applied c g t (h + q)) (a * applied (q + c) e t h)
 combined_more m a b q zero h e f g t low high =
     let n : q + 0 ≡ q = omega arith in
-    mod_of_combination (multiple_sum m a q h e f t low) (omega (
-      arith,
-      ap (λ k. applied k f t h) n,
-      ap (λ k. a * applied k e t h) n,
-      ap (λ v. b * v) (sum_below-zero (λ l. g l * t (h + q + l))),
-    ))
+    rw (n, sum_below-zero (λ l. g l * t (h + q + l))) (mod_of_combination (multiple_sum m a q h e f t low) (omega arith))
 combined_more m a b q (suc c) h e f g t low high =
     let n : q + suc c ≡ suc (q + c) = omega arith in
     let at : h + q + c ≡ h + (q + c) = omega arith in
@@ -75,7 +70,7 @@ search_kept m N i L p w h s b t inside at half none found = record {
   behind = found.behind;
   recurrence = record {
     sum = λ k l. elim (cases_eq k h) [
-      | inl e ↦ subst (λ k. Congruent m (applied (L + 1) s t k) 0) (sym e) none
+      | inl e ↦ rw e none
       | inr other ↦ found.recurrence.sum k (omega (arith, l, at, other))
     ];
   };
@@ -105,12 +100,11 @@ corrected_sum m N i L p w d h q k s b t f at room is low high found l =
     let c : ℕ = h + 2 in
     let whole : q + c ≡ L + 1 = omega arith in
     let both : Congruent m (applied (L + 1) f t k + d * applied c b t (k + q)) (p * applied (L + 1) s t k) =
-    subst (λ n. Congruent m (applied n f t k + d * applied c b t (k + q)) (p * applied n s t k)) whole
-    (combined_more m p d q c k s f b t low (λ l below. high l (omega arith))) in
+    rw (← whole) (combined_more m p d q c k s f b t low (λ l below. high l (omega arith))) in
     let same = same_before m N i L p w h c (k + q) s b t at (omega arith) (omega arith) found in
     elim (cases_eq k h) [
       | inl e ↦ both_alike m p d _ _ _ both (mod_trans same (found.pivot_there (k + q) (omega (arith, e, room))))
-          (subst (λ k. Congruent m (applied (L + 1) s t k) d) (sym e) is)
+          (rw e is)
       | inr other ↦ both_none m p d _ _ _ both
           (mod_trans same (found.recurrence_before (k + q) (omega (arith, l, at, room, other))))
           (found.recurrence.sum k (omega (arith, l, at, other)))
@@ -135,9 +129,7 @@ search_corrected m N i L p w d h q s b t f inside at room is low high kept found
   units = λ unit.
       let both = found.units unit in
       let last : q + (h + 1) ≡ L = omega arith in
-      let lead : Congruent m (f L + d * b (h + 1)) (p * s L) =
-      subst (λ n. Congruent m (f n + d * b (h + 1)) (p * s n)) last (high (h + 1) (omega arith)) in
-      let alone = left_alone m (f L) d (b (h + 1)) (p * s L) lead (found.behind_then (h + 1) (omega arith)) in
+      let alone = left_alone m (f L) d _ (p * s L) (rw last at (high (h + 1) (omega arith))) (found.behind_then _ (omega arith)) in
       (both.0, unit_alike m (p * s L) (f L) (mod_sym alone) ((has_both m p (s L)).1 both));
   nonzero = found.nonzero;
   of_one = λ u x geometric.
@@ -151,14 +143,12 @@ longer_sum : (m N i L p w d h q k : ℕ) (s b t f : ℕ → ℕ) → h + L ≡ i
 longer_sum m N i L p w d h q k s b t f at room half is low high found l =
     let whole : q + (L + 1) ≡ h + 1 + 1 = omega arith in
     let both : Congruent m (applied (h + 1 + 1) f t k + p * applied (L + 1) s t (k + q)) (d * applied (h + 1 + 1) b t k) =
-    subst (λ n. Congruent m (applied n f t k + p * applied (L + 1) s t (k + q)) (d * applied n b t k)) whole
-    (combined_more m d p q (L + 1) k b f s t low (λ l below. high l (omega arith))) in
+    rw (← whole) (combined_more m d p q (L + 1) k b f s t low (λ l below. high l (omega arith))) in
     let same = padded m L (h + 1 + 1) k b t (omega arith) found.behind_before in
     elim (cases_eq (k + 1) L) [
       | inl e ↦
           let there : h ≡ k + q = omega (arith, e, room) in
-          both_alike m d p _ _ _ both (subst (λ k. Congruent m (applied (L + 1) s t k) d) there is)
-          (mod_trans same (found.pivot_there k e))
+          both_alike m d p _ _ _ both (rw there at is) (mod_trans same (found.pivot_there k e))
       | inr other ↦ both_none m d p _ _ _ both (found.recurrence.sum (k + q) (omega (arith, l, at, room, other)))
           (mod_trans same (found.recurrence_before k (omega (arith, l, at, other))))
     ]
@@ -195,16 +185,12 @@ search_longer m N i L p w d v h q s b t f positive inside at room half short is 
       (found.recurrence.sum k (omega (arith, l, at)));
   pivot_there = λ k e.
       let there : k ≡ h = omega (arith, e) in
-      subst (λ k. Congruent m (applied (h + 1) s t k) d) (sym there)
-      (mod_trans (padded m (L + 1) (h + 1) h s t (omega arith) (λ l b. found.behind l (omega (arith, b)))) is);
+      rw there (mod_trans (padded m (L + 1) (h + 1) h s t (omega arith) (λ l b. found.behind l (omega (arith, b)))) is);
   units = λ unit.
       let both = units unit in
       let before = found.units both.0 in
-      let last : q + L ≡ h + 1 = room in
-      let lead : Congruent m (f (h + 1) + p * s L) (d * b (h + 1)) =
-      subst (λ n. Congruent m (f n + p * s L) (d * b n)) last (high L (omega arith)) in
-      let z : d * 0 ≡ 0 = omega arith in
-      let none = mod_trans lead (mod_trans (mod_mul (mod_refl d) (found.behind_before (h + 1) (omega arith))) (mod_of_eq z)) in
+      let none = mod_of_combination (mod_add (rw room at (high L (omega arith))) (mod_times d (found.behind_before (h + 1) (omega arith))))
+      (omega arith) in
       (both.1, negative_unit m (f (h + 1)) (p * s L) positive none ((has_both m p (s L)).1 before));
   nonzero = λ some. nonzero (found.nonzero some);
   of_one = λ u x geometric.
@@ -222,8 +208,7 @@ search_none m N i L p w h s b t positive inside at long other found =
 -- a witness that stays, since its product with another number is 0, has no inverse
 pub witness_kept : (m w d p : ℕ) → d < m → d ≢ 0 → p ≡ (w * d) % m → p ≡ 0 → HasInverse m w → ⊥
 witness_kept m w d p below some is none unit =
-    let e : d * w ≡ w * d = omega arith in
-    let z = factor_none m d w unit (mod_trans (mod_of_eq e) (none_of m (w * d) (sym is ∙ none))) in
+    let z = factor_none m d w unit (mod_of_combination (none_of m (w * d) (sym is ∙ none)) (omega arith)) in
     some (sym (mod-eq_of_lt below) ∙ residue_none m d z)
 
 pub witness_more : (m w d p : ℕ) → p ≡ (w * d) % m → HasInverse m p → HasInverse m w × HasInverse m d
@@ -245,12 +230,10 @@ search_start m N p w s b t positive first others none is_p is_w =
       behind_then = λ l k. mod_of_eq (none l);
       recurrence_before = λ h l. absurd (omega (arith, l));
       pivot_there = λ h e. absurd (omega (arith, e));
-      units = λ unit. (subst (HasInverse m) (sym is_p) one, subst (HasInverse m) (sym first) one);
+      units = λ unit. (rw is_p one, rw first one);
       nonzero = λ other e.
-          let two : 1 < m = omega (arith, positive, other) in
-          let small : 1 % m ≡ 1 = mod-eq_of_lt two in
-          let is : w % m ≡ 1 = ap (λ v. v % m) (is_w ∙ small) ∙ small in
-          absurd (omega (arith, is, e));
+          let small : 1 % m ≡ 1 = mod-eq_of_lt (let two : 1 < m = omega (arith, positive, other) in two) in
+          absurd (omega (arith, rw (is_w, small, small) at e));
       of_one = λ u x geometric. record {
         at_start = λ e.
             (refl, mod_trans (mod_of_eq first) (residue_of 1), mod_trans (mod_of_eq is_p) (residue_of 1));
@@ -264,7 +247,7 @@ pub search_done : (m N i L p w : ℕ) (s b t : ℕ → ℕ) → i ≡ N → IsSe
 search_done m N i L p w s b t all found = record {
   short = found.short;
   behind = found.behind;
-  recurrence = subst (λ i. IsRecurrence m i L s t) all found.recurrence;
+  recurrence = rw all at found.recurrence;
   least = found.least;
 }
 

@@ -2,7 +2,7 @@
 use Rattle.std.proofs.Common.{◌≡◌, ◌≢◌, ℕ, zero, suc, ◌+◌, ◌%◌, ◌<◌, ◌≤◌, Bool, true, false, cond, eqb, ◌||◌, ◌⊎◌}
 use Rattle.std.proofs.Common.{List, [], ◌∷◌, length, take, slice_index, ap, sym, ◌∙◌, arith, refl, inl, inr, subst, eq-eqb, mod-eq_of_lt}
 use Rattle.std.proofs.Math.Nat.{zero-mod}
-use Rattle.std.proofs.lemmas.Bool.{cases_eq, false≢true}
+use Rattle.std.proofs.lemmas.Bool.{cases_eq, cases_Bool, false≢true, ne_eqb}
 use Rattle.std.proofs.lemmas.Bool.Decides.{eqb_tells}
 use Rattle.std.proofs.lemmas.List.Folds.{list_any_more, list_any_at}
 use Rattle.std.specs.List.{list_any}
@@ -20,10 +20,7 @@ abbrev pub is_lost : List ℕ → ℕ → Bool
 is_lost lost i = list_any (λ p. eqb p i) lost
 
 pub lost_or_listed : (lost : List ℕ) (i : ℕ) → (is_lost lost i ≡ true) ⊎ (is_lost lost i ≡ false)
-lost_or_listed lost i = elim (list_any (λ p. eqb p i) lost) as (λ b. (b ≡ true) ⊎ (b ≡ false)) [
-  | true ↦ inl refl
-  | false ↦ inr refl
-]
+lost_or_listed lost i = cases_Bool (is_lost lost i)
 
 pub without_lost : (lost : List ℕ) (y : ℕ → ℕ) (i : ℕ) → is_lost lost i ≡ true → without lost y i ≡ 0
 without_lost lost y i e = ap (λ b. cond b 0 (y i)) e
@@ -48,48 +45,34 @@ is_lost_at lost l below =
 
 -- one lost place more
 without_other : (p i : ℕ) (ps : List ℕ) (y : ℕ → ℕ) → i ≢ p → without (p ∷ ps) y i ≡ without ps y i
-without_other p i ps y other = elim (eqb_tells p i) [
-  | inl q ↦ absurd (other (sym q.1))
-  | inr q ↦ ap (λ b. cond (b || list_any (λ r. eqb r i) ps) 0 (y i)) q.0
-]
+without_other p i ps y other = ap (λ b. cond (b || is_lost ps i) 0 (y i)) (ne_eqb p i (λ e. other (sym e)))
 
 pub without_more : (lost : List ℕ) (k i : ℕ) (y : ℕ → ℕ) → k < length lost → i ≡ slice_index lost k
     → without (take (k + 1) lost) y i ≡ 0
 without_more lost k i y below e =
     without_lost (take (k + 1) lost) y i
     (list_any_more (λ p. eqb p i) lost k 0 below
-    ∙ ap (λ b. list_any (λ p. eqb p i) (take k lost) || b) (eq-eqb (slice_index lost k) i (sym e)) ∙ or-true _)
+    ∙ ap (λ b. is_lost (take k lost) i || b) (eq-eqb (slice_index lost k) i (sym e)) ∙ or-true _)
 
 pub without_kept : (lost : List ℕ) (k i : ℕ) (y : ℕ → ℕ) → k < length lost → i ≢ slice_index lost k
     → without (take (k + 1) lost) y i ≡ without (take k lost) y i
 without_kept lost k i y below other =
-    let more = list_any_more (λ p. eqb p i) lost k 0 below in
-    elim (eqb_tells (slice_index lost k) i) [
-      | inl q ↦ absurd (other (sym q.1))
-      | inr q ↦ ap (λ b. cond b 0 (y i))
-          (more ∙ ap (λ b. list_any (λ p. eqb p i) (take k lost) || b) q.0 ∙ or-false _)
-    ]
+    ap (λ b. cond b 0 (y i)) (list_any_more (λ p. eqb p i) lost k 0 below
+    ∙ ap (λ b. is_lost (take k lost) i || b) (ne_eqb (slice_index lost k) i (λ e. other (sym e))) ∙ or-false _)
 
 pub without_below : (m : ℕ) (lost : List ℕ) (y : ℕ → ℕ) (i : ℕ) → y i < m → without lost y i % m ≡ without lost y i
-without_below m lost y i l = elim (lost_or_listed lost i) [
-  | inl gone ↦ ap (λ v. v % m) (without_lost lost y i gone) ∙ zero-mod m ∙ sym (without_lost lost y i gone)
-  | inr listed ↦ ap (λ v. v % m) (without_listed lost y i listed) ∙ mod-eq_of_lt l ∙ sym (without_listed lost y i listed)
-]
+without_below m lost y i l =
+    grind (arith, lost_or_listed lost i, without_lost lost y i, without_listed lost y i, zero-mod m, mod-eq_of_lt l)
 
 -- words that are the same where no symbol is lost, and numbers that are 0 modulo m there
 pub without_alike : (lost : List ℕ) (y z : ℕ → ℕ) (i : ℕ) → (is_lost lost i ≡ false → y i ≡ z i)
     → without lost y i ≡ without lost z i
-without_alike lost y z i same = elim (lost_or_listed lost i) [
-  | inl gone ↦ without_lost lost y i gone ∙ sym (without_lost lost z i gone)
-  | inr listed ↦ without_listed lost y i listed ∙ same listed ∙ sym (without_listed lost z i listed)
-]
+without_alike lost y z i same = grind (arith, lost_or_listed lost i, without_lost lost, without_listed lost, same)
 
 pub without_none : (m : ℕ) (lost : List ℕ) (d : ℕ → ℕ) (i : ℕ) → (is_lost lost i ≡ false → d i % m ≡ 0)
     → without lost d i % m ≡ 0
-without_none m lost d i none = elim (lost_or_listed lost i) [
-  | inl gone ↦ ap (λ a. a % m) (without_lost lost d i gone) ∙ zero-mod m
-  | inr listed ↦ ap (λ a. a % m) (without_listed lost d i listed) ∙ none listed
-]
+without_none m lost d i none =
+    grind (arith, lost_or_listed lost i, without_lost lost d i, without_listed lost d i, zero-mod m, none)
 
 pub listed_none : (m : ℕ) (lost : List ℕ) (d : ℕ → ℕ) (i : ℕ) → is_lost lost i ≡ false → without lost d i % m ≡ 0
     → d i % m ≡ 0
@@ -109,8 +92,8 @@ one_place (suc n) p f g less one =
     let s = sum_below-suc n f in let t = sum_below-suc n g in
     elim (cases_eq n p) [
       | inl e ↦
-          let i = below_place n p f g (λ i b. less i (omega arith)) (omega arith) in
-          let o : f n ≤ 1 = subst (λ k. f k ≤ 1) (sym e) one in omega (arith, s, t, i, o)
+          let o : f n ≤ 1 = rw e one in
+          omega (arith, s, t, below_place n p f g (λ i b. less i (omega arith)) (omega arith), o)
       | inr other ↦
           omega (arith, s, t, one_place n p f g (λ i b. less i (omega arith)) one, less n (omega arith) other)
     ]
@@ -122,10 +105,7 @@ few_hidden n (p ∷ ps) a b =
     let i = few_hidden n ps a b in
     let o = one_place n p (λ i. counted (without ps a i) (without ps b i))
     (λ i. counted (without (p ∷ ps) a i) (without (p ∷ ps) b i))
-    (λ i _ other.
-    let e : counted (without (p ∷ ps) a i) (without (p ∷ ps) b i) ≡ counted (without ps a i) (without ps b i) =
-    ap (λ v. counted v (without (p ∷ ps) b i)) (without_other p i ps a other)
-    ∙ ap (λ v. counted (without ps a i) v) (without_other p i ps b other) in omega (arith, e))
+    (λ i _ other. rw (without_other p i ps a other, without_other p i ps b other) (omega arith))
     (counted_most (without ps a p) (without ps b p)) in
     let more : length (p ∷ ps) ≡ suc (length ps) = refl in
     omega (arith, i, o, more)
@@ -134,8 +114,7 @@ few_hidden n (p ∷ ps) a b =
 pub distance_alike : (n : ℕ) (a b c d : ℕ → ℕ) → ((i : ℕ) → i < n → a i ≡ c i) → ((i : ℕ) → i < n → b i ≡ d i)
     → distance n a b ≡ distance n c d
 distance_alike n a b c d first second =
-    sum_below-same n (λ i. counted (a i) (b i)) (λ i. counted (c i) (d i))
-    (λ i l. ap (λ v. counted v (b i)) (first i l) ∙ ap (λ v. counted (c i) v) (second i l))
+    sum_below-same n _ _ (λ i l. rw (first i l, second i l) refl)
 
 -- words that differ at fewer places
 pub fewer_differences : (n : ℕ) (a b c d : ℕ → ℕ) → ((i : ℕ) → i < n → c i ≡ d i → a i ≡ b i)
@@ -156,10 +135,7 @@ same_at zero i a b none l = absurd (omega arith)
 same_at (suc n) i a b none l =
     let s = sum_below-suc n (λ i. counted (a i) (b i)) in
     elim (cases_eq (a n) (b n)) [
-      | inl e ↦ elim (cases_eq i n) [
-        | inl last ↦ ap a last ∙ e ∙ ap b (sym last)
-        | inr before ↦ same_at n i a b (omega (arith, s, none)) (omega arith)
-      ]
+      | inl e ↦ elim (cases_eq i n) [ inl o ↦ rw o e | inr o ↦ same_at n i a b (omega (arith, s, none)) (omega arith) ]
       | inr o ↦ absurd (omega (arith, s, none, counted_other (a n) (b n) o))
     ]
 
@@ -170,16 +146,13 @@ counted_sum x y z = grind (arith, cases_eq x y, cases_eq x z, counted_same, coun
 pub distance_sum : (n : ℕ) (a b c : ℕ → ℕ) → distance n b c ≤ distance n a b + distance n a c
 distance_sum zero a b c = omega (arith, sum_below-zero (λ i. counted (b i) (c i)))
 distance_sum (suc n) a b c =
-    let t = sum_below-suc n (λ i. counted (a i) (b i)) in
-    let u = sum_below-suc n (λ i. counted (a i) (c i)) in
-    let i = distance_sum n a b c in
-    omega (arith, sum_below-suc n (λ i. counted (b i) (c i)), t, u, i, counted_sum (a n) (b n) (c n))
+    let s : (x y : ℕ → ℕ) → _ = λ x y. sum_below-suc n (λ i. counted (x i) (y i)) in
+    omega (arith, s b c, s a b, s a c, distance_sum n a b c, counted_sum (a n) (b n) (c n))
 
 -- places at fault aren't right
 pub not_lost : (m k n : ℕ) (x : ℕ → ℕ) (lost : List ℕ) (e : RestoreError) → AreLostAtFault m k n x lost e → AreLost k n lost
     → ⊥
 not_lost m k n x lost TooFewSymbols fault is = omega (arith, fault, is.enough)
-not_lost m k n x lost PlaceOutOfRange fault is =
-    omega (arith, is.places.within fault.1.0 fault.1.1, fault.1.4)
+not_lost m k n x lost PlaceOutOfRange fault is = omega (arith, is.places.within fault.1.0 fault.1.1, fault.1.4)
 not_lost m k n x lost PlaceTwice fault is = is.places.distinct fault.1.0 fault.1.1 fault.1.2 fault.1.3 fault.1.6
 not_lost m k n x lost PointsDontFit fault is = fault

@@ -42,7 +42,7 @@ some_weight m (suc n) a few =
           inr (n, omega arith, o, λ i l other. same_at n i (λ i. a i % m) (λ i. 0) none (omega arith))
       | inl e ↦
           let last : (i : ℕ) → i < suc n → (i < n → a i % m ≡ 0) → a i % m ≡ 0 =
-          λ i l none. elim (cases_eq i n) [ inl same ↦ ap (λ k. a k % m) same ∙ e | inr before ↦ none (omega arith) ] in
+          λ i l none. elim (cases_eq i n) [ inl same ↦ rw same e | inr before ↦ none (omega arith) ] in
           elim (some_weight m n a (omega (arith, s, few))) [
             | inl none ↦ inl (λ i l. last i l (none i))
             | inr (j, l, there, none) ↦ inr (j, omega (arith, l), there, λ i b other. last i b (λ k. none i k other))
@@ -71,7 +71,7 @@ lost_factor : {m t n c N : ℕ} {x v z : ℕ → ℕ} {lost : List ℕ} {s q : �
 lost_factor {m} {t} {n} {c} {N} {x} {v} {z} {lost} sought i is =
     let l = lost_at lost i is in
     product-none c l.0 (λ l. residue m (pos (x i) -ℤ pos (z l))) (omega (arith, l.1, sought.count))
-    (ap (λ a. residue m (pos (x i) -ℤ pos a)) (sought.there l.0 l.1 ∙ ap x l.2) ∙ no_difference m (x i))
+    (rw (sought.there l.0 l.1, l.2) (no_difference m (x i)))
 
 listed_factor : {m t n c N : ℕ} {x v z : ℕ → ℕ} {lost : List ℕ} {s q : ℕ → ℕ} → AreSought m t n c N x v z lost s q
     → (i : ℕ) → i < n → is_lost lost i ≡ false → HasInverse m (product_of_differences m c z (x i))
@@ -79,8 +79,7 @@ listed_factor {m} {t} {n} {c} {N} {x} {v} {z} {lost} sought i b listed =
     has_product m c (λ l. residue m (pos (x i) -ℤ pos (z l))) (omega (arith, sought.two))
     (λ l d.
     let e : l < length lost = omega (arith, d, sought.count) in
-    subst (λ a. HasInverse m (residue m (pos (x i) -ℤ pos a))) (sym (sought.there l e))
-    (sought.fit.unit i (slice_index lost l) b (sought.places.places.within l e)
+    rw (sought.there l e) (sought.fit.unit i (slice_index lost l) b (sought.places.places.within l e)
     (λ same. false≢true (sym listed ∙ ap (is_lost lost) same ∙ is_lost_at lost l e))))
 
 -- where a listed error is 0, or the symbol is lost, so is the weight of the moments ..
@@ -98,10 +97,8 @@ error_none : {m t n c N : ℕ} {x v z : ℕ → ℕ} {lost : List ℕ} {s q : �
     → (d : ℕ → ℕ) (i : ℕ) → i < n → is_lost lost i ≡ false → Congruent m (moment_weight m c x v z d i) 0
     → Congruent m (d i) 0
 error_none {m} {t} {n} {c} {N} {x} {v} {z} {lost} sought d i b listed none =
-    let f : d i * v i ≡ v i * d i = omega arith in
-    factor_none m (d i) (v i) (sought.units i b)
-    (mod_trans (mod_of_eq f)
-    (factor_none m (v i * d i) (product_of_differences m c z (x i)) (listed_factor sought i b listed) none))
+    factor_none m (d i) (v i) (sought.units i b) (mod_of_combination
+    (factor_none m (v i * d i) (product_of_differences m c z (x i)) (listed_factor sought i b listed) none) (omega arith))
 
 fewer_weights : {m t n c N : ℕ} {x v z : ℕ → ℕ} {lost : List ℕ} {s q : ℕ → ℕ} → AreSought m t n c N x v z lost s q
     → (d : ℕ → ℕ) → hamming_weight m n (moment_weight m c x v z d) ≤ listed_weight m n lost d
@@ -117,13 +114,8 @@ pub record AreCleared (m L n : ℕ) (x p f g : ℕ → ℕ) (lost : List ℕ) : 
 cleared_zeros : {m L n : ℕ} {x p f g : ℕ → ℕ} {lost : List ℕ} → AreCleared m L n x p f g lost
     → zeros n g ≤ zeros n f + length lost
 cleared_zeros {m} {L} {n} {x} {p} {f} {g} {lost} clear =
-    let none : (i : ℕ) → 0 ≡ without lost (λ i. 0) i =
-    λ i. elim (lost_or_listed lost i) [
-      | inl is ↦ sym (without_lost lost (λ i. 0) i is)
-      | inr listed ↦ sym (without_listed lost (λ i. 0) i listed)
-    ] in
     let same = distance_alike n g (λ i. 0) (without lost f) (without lost (λ i. 0)) (λ i l. clear.cleared i)
-    (λ i l. none i) in
+    (λ i l. grind (arith, lost_or_listed lost i, without_lost lost (λ i. 0) i, without_listed lost (λ i. 0) i)) in
     omega (arith, zeros_others n g, zeros_others n f, few_hidden n lost f (λ i. 0), same)
 
 -- a value that isn't 0 isn't at a lost place, so it was there before
@@ -149,11 +141,10 @@ one_zero n j f none =
     omega (arith, o, sum_below-of_zeros n (λ i. 0) (λ i l. refl))
 
 linear_value : (s : ℕ → ℕ) (X : ℕ) → polynomial_at 2 s X ≡ s 0 + X * s 1
-linear_value s X =
-    omega (arith, polynomial-first 1 s X, ap (λ v. X * v) (constant_value X (λ i. s (suc i))))
+linear_value s X = omega (arith, polynomial-first 1 s X, ap (λ v. X * v) (constant_value X (λ i. s (suc i))))
 
 one_not_zero : (m : ℕ) → 2 ≤ m → 1 % m ≢ 0
-one_not_zero m two e = let one : 1 % m ≡ 1 = mod-eq_of_lt two in omega (arith, one, e)
+one_not_zero m two e = absurd (omega (arith, rw (mod-eq_of_lt two) at e))
 
 -- before the lost places are cleared, at most L values are 0 where the coefficient L has an inverse
 found_zeros : {m L n : ℕ} {x p f g : ℕ → ℕ} {lost : List ℕ} → 2 ≤ m → HaveUnitDifferences m n x
@@ -185,20 +176,13 @@ covers_units {m} {t} {n} {c} {N} {L} {x} {v} {z} {lost} {s} {q} {p} {f} {g} soug
     let sums = sought.sums (λ i. v i * d i) near.sums in
     let vanish = weights_vanish m N L n x w p q (omega (arith, two)) sought.fit sums locator.recurrence
     (omega (arith, locator.least.each n x w sums, fewer_weights sought d, near.few, rest)) in
+    let found = found_zeros two sought.fit clear unit in
     record {
-      few = omega (
-        arith,
-        found_zeros two sought.fit clear unit,
-        cleared_zeros clear,
-        locator.short,
-        rest,
-        sought.places.enough,
-        sought.few,
-      );
+      few = omega (arith, found, cleared_zeros clear, locator.short, rest, sought.places.enough, sought.few);
       none = λ i l other.
           let kept = kept_value clear i other in
           error_none sought d i l kept.0
-          (value_cancels clear unit (w i) i l (subst (HasInverse m) kept.1 (values i l other)) (vanish i l));
+          (value_cancels clear unit (w i) i l (rw kept.1 at (values i l other)) (vanish i l));
     }
 
 -- where no listed symbol is wrong
@@ -258,19 +242,17 @@ covers_one : {m t n c N L : ℕ} {x v z : ℕ → ℕ} {lost : List ℕ} {s q p 
     → ((i : ℕ) → i < n → i ≢ j → without lost d i % m ≡ 0) → Covers m t n g d
 covers_one {m} {t} {n} {c} {N} {L} {x} {v} {z} {lost} {s} {q} {p} {f} {g} sought clear one d near j l there right =
     let w = moment_weight m c x v z d in let few = near.few in let rest = sought.rest in
-    let some : 0 < listed_weight m n lost d = elim (cases_lt 0 (listed_weight m n lost d)) [
-      | inl positive ↦ positive
+    let two : 2 ≤ N = elim (cases_lt 0 (listed_weight m n lost d)) [
+      | inl some ↦ omega (arith, few, rest, some)
       | inr none ↦ absurd (there (same_at n j (λ i. without lost d i % m) (λ i. 0) none l))
     ] in
-    let two : 2 ≤ N = omega (arith, few, rest, some) in
     let wrong : w j % m ≢ 0 =
     λ e. there (without_none m lost d j
     (λ listed. residue_none m (d j) (error_none sought d j l listed (none_of m (w j) e)))) in
     let is = one (w j) (x j) two
     (geometric m N n j x w q (sought.sums (λ i. v i * d i) near.sums) l wrong
     (λ i b other. none_of m (w i) (weight_none sought d i b (right i b other)))) in
-    let values = linear_values (subst (λ L. AreCleared m L n x p f g lost) is.degree clear) sought.fit (w j) j wrong l
-    (subst (λ L. IsLinear m (w j) (x j) L p) is.degree is) in
+    let values = linear_values (rw is.degree at clear) sought.fit (w j) j wrong l (rw is.degree at is) in
     record {
       few = omega (arith, one_zero n j f values.1, cleared_zeros clear, two, rest, sought.places.enough, sought.few);
       none = λ i b other.
@@ -298,5 +280,4 @@ located_by {m} {t} {n} {c} {N} {L} {a} {x} {v} {z} {lost} {s} {q} {p} {f} {g} so
 pub none_near_by : {m t n c N : ℕ} {x v z : ℕ → ℕ} {lost : List ℕ} {s q : ℕ → ℕ} → AreSought m t n c N x v z lost s q
     → NeedManyWeights m N q → (d : ℕ → ℕ) → IsNearPattern m t n x v lost s d → ⊥
 none_near_by {m} {t} {n} {c} {N} {x} {v} {z} {lost} sought many d near =
-    let far = many.each n x (moment_weight m c x v z d) (sought.sums (λ i. v i * d i) near.sums) in
-    absurd (omega (arith, far, fewer_weights sought d, near.few, sought.rest))
+    let far = many.each n x _ (sought.sums (λ i. v i * d i) near.sums) in absurd (omega (arith, far, fewer_weights sought d, near.few, sought.rest))
