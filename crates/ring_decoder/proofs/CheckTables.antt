@@ -27,10 +27,7 @@ check_later m n zero i next value above point x v later column at before there i
 check_later m n (suc k) i next value above point x v later column at before there is =
     let one : suc k * n ≡ k * n + n = omega arith in
     let left : next - n ≡ k * n + i = omega (arith, at, one) in
-    let of_column : (next - n) % n ≡ i = ap (λ e. e % n) left ∙ mod-mul-add k n i column in
-    let of_row : (next - n) / n ≡ k = ap (λ e. e / n) left ∙ div-mul-add k n i column in
-    let a : above ≡ (v i * x i ^ k) % m =
-    before ∙ ap (λ e. (v e * x e ^ ((next - n) / n)) % m) of_column ∙ ap (λ e. (v i * x i ^ e) % m) of_row in
+    let a = rw (left, mod-mul-add k n i column, div-mul-add k n i column) at before in
     is ∙ (mod_of_combination (mod_mul (mod_of_residue a) (mod_of_eq there))
     (omega (arith, ap (λ e. v i * e) (pow-suc (x i) k)))).same
 

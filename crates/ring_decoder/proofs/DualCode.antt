@@ -28,8 +28,7 @@ use Rattle.ring_decoder.proofs.LocatorSums.{factor_none, none_of, residue_none, 
 power_value : (n e X : ℕ) → e < n → polynomial_at n (extended e 1 (λ i. 0)) X ≡ X ^ e
 power_value n e X l =
     let p : ℕ → ℕ = extended e 1 (λ i. 0) in
-    let alone = single n e (λ i. p i * X ^ i) l
-    (λ i b other. omega (arith, ap (λ v. v * X ^ i) (before_end e 1 (λ i. 0) i other))) in
+    let alone = single n e (λ i. p i * X ^ i) l (λ i b other. rw (before_end e 1 (λ i. 0) i other) (omega arith)) in
     omega (arith, alone, ap (λ v. v * X ^ e) (at_end e 1 (λ i. 0) e refl))
 
 -- of d + 1 points with their weights, the sums of the powers below d are 0, and that of power d is 1
@@ -87,8 +86,7 @@ congruent_from_difference m a b positive none =
     mod_add_cancel ((m - 1) * b) (mod_trans none (mod_sym (none_of m _ (at_root m b positive))))
 
 no_difference_of : (m a b : ℕ) → 0 < m → a ≡ b → Congruent m (a + (m - 1) * b) 0
-no_difference_of m a b positive same =
-    mod_trans (mod_of_eq (ap (λ v. v + (m - 1) * b) same)) (none_of m _ (at_root m b positive))
+no_difference_of m a b positive same = rw same (none_of m _ (at_root m b positive))
 
 -- power sums of differences
 pub sums_subtracted : (m N n : ℕ) (x v y z : ℕ → ℕ) → ArePowerSums m N n x (λ i. v i * y i) (λ h. 0)
@@ -98,11 +96,10 @@ sums_subtracted m N n x v y z of_y of_z = record {
   sum = λ h l.
       let f : ℕ → ℕ = λ i. v i * y i * x i ^ h in
       let g : ℕ → ℕ = λ i. v i * z i * x i ^ h in
-      let parts : sum_below n f + (m - 1) * sum_below n g ≡ sum_below n (λ i. v i * (y i + (m - 1) * z i) * x i ^ h) =
-      ap (λ s. sum_below n f + s) (sym (sum_below-mul n (m - 1) g))
-      ∙ sym (sum_below-add n f (λ i. (m - 1) * g i))
-      ∙ sum_below-same n (λ i. f i + (m - 1) * g i) (λ i. v i * (y i + (m - 1) * z i) * x i ^ h) (λ i b. omega arith) in
-      mod_of_combination (mod_add (of_y.sum h l) (mod_times (m - 1) (of_z.sum h l))) (omega (arith, parts));
+      let both = sum_below-add n f (λ i. (m - 1) * g i) in
+      let same = sum_below-same n (λ i. f i + (m - 1) * g i) (λ i. v i * (y i + (m - 1) * z i) * x i ^ h) (λ i b. omega arith) in
+      mod_of_combination (mod_add (of_y.sum h l) (mod_times (m - 1) (of_z.sum h l)))
+      (omega (arith, sum_below-mul n (m - 1) g, both, same));
 }
 
 -- words whose first k symbols are the same
@@ -143,13 +140,12 @@ codeword_by_syndromes m k n x v y positive few fit weights below none =
     (mod_of_combination (mod_times (v i) (no_difference_of m (y i) (z i) positive (found.1.symbol i l)))
     (omega arith)) in
     let each = weights_none m n q x w positive fit (few_behind k q n (λ i. w i % m) (λ i. 0) (omega arith) first)
-    (λ h l. mod_sym (sums.sum h l)) in
-    let swap : (i : ℕ) → rest i * v i ≡ w i = λ i. omega arith in (
+    (λ h l. mod_sym (sums.sum h l)) in (
       c,
       record {
         symbol = λ i l.
             let zero = factor_none m (rest i) (v i) (weight_unit m n i x v weights l)
-            (mod_trans (mod_of_eq (swap i)) (each i l)) in
+            (mod_of_combination (each i l) (omega arith)) in
             sym (mod-eq_of_lt (below i l)) ∙ (congruent_from_difference m (y i) (z i) positive zero).same
             ∙ (residue_of (polynomial_at k c (x i))).same;
       },

@@ -90,8 +90,7 @@ vanish_with_last : (m n k : ℕ) (x u : ℕ → ℕ) → 0 < m → hamming_weigh
     → ((j : ℕ) (v : ℕ → ℕ) → hamming_weight m n v ≤ j → ((h : ℕ) → h < j → Congruent m (power_sum n x v h) 0)
     → Congruent m (power_sum n x v j) 0)
     → Congruent m (power_sum (suc n) x u k) 0
-vanish_with_last m n zero x u positive few none other fewer_vanish =
-    absurd (omega (arith, some_weight m n u other, few))
+vanish_with_last m n zero x u positive few none other less = absurd (omega (arith, some_weight m n u other, few))
 vanish_with_last m n (suc k) x u positive few none other fewer_vanish =
     left_alone m _ ((m - 1) * x n) (power_sum (suc n) x u k) 0
     (mod_trans (mod_sym (rest_sum m n k x u positive))
@@ -104,8 +103,7 @@ pub sums_vanish : (m n k : ℕ) (x u : ℕ → ℕ) → 0 < m → hamming_weight
     → ((h : ℕ) → h < k → Congruent m (power_sum n x u h) 0) → Congruent m (power_sum n x u k) 0
 sums_vanish m zero k x u positive few none = mod_of_eq (sum_below-zero (λ j. u j * x j ^ k))
 sums_vanish m (suc n) k x u positive few none = elim (cases_eq (u n % m) 0) [
-  | inl z ↦
-      mod_trans (without_last m n k x u (none_of m (u n) z))
+  | inl z ↦ mod_trans (without_last m n k x u (none_of m (u n) z))
       (sums_vanish m n k x u positive (omega (arith, fewer m n u, few)) (without_none m n k x u z none))
   | inr other ↦ vanish_with_last m n k x u positive few none other (λ j v light zeros. sums_vanish m n j x v positive light zeros)
 ]
@@ -139,15 +137,14 @@ none_with_last : (m n k : ℕ) (x u : ℕ → ℕ) → 0 < m → HaveUnitDiffere
     → ((j : ℕ) (v : ℕ → ℕ) → hamming_weight m n v ≤ j → ((h : ℕ) → h < j → Congruent m (power_sum n x v h) 0)
     → (i : ℕ) → i < n → Congruent m (v i) 0)
     → (j : ℕ) → j < suc n → Congruent m (u j) 0
-none_with_last m n zero x u positive fit few none other fewer_none j l =
-    absurd (omega (arith, some_weight m n u other, few))
+none_with_last m n zero x u positive fit few none other less j l = absurd (omega (arith, some_weight m n u other, few))
 none_with_last m n (suc k) x u positive fit few none other fewer_none j l =
     let before : (i : ℕ) → i < n → Congruent m (u i) 0 =
     λ i b. rest_unit m n i x u positive fit b
     (fewer_none k (rest m n x u) (rest_light m n k x u other few)
     (λ h l. rest_none m n h x u positive (none (suc h) (omega arith)) (none h (omega arith))) i b) in
     elim (cases_eq j n) [
-      | inl e ↦ subst (λ i. Congruent m (u i) 0) (sym e) (last_none m n x u before (none 0 (omega arith)))
+      | inl e ↦ rw e (last_none m n x u before (none 0 (omega arith)))
       | inr o ↦ before j (omega (arith, l, o))
     ]
 
@@ -157,11 +154,9 @@ pub weights_none : (m n k : ℕ) (x u : ℕ → ℕ) → 0 < m → HaveUnitDiffe
 weights_none m zero k x u positive fit few none j l = absurd (omega arith)
 weights_none m (suc n) k x u positive fit few none j l = elim (cases_eq (u n % m) 0) [
   | inl z ↦ elim (cases_eq j n) [
-    | inl e ↦ subst (λ i. Congruent m (u i) 0) (sym e) (none_of m (u n) z)
-    | inr other ↦
-        let f = fewer m n u in
-        weights_none m n k x u positive (fit_before m n x fit) (omega (arith, f, few)) (without_none m n k x u z none)
-        j (omega (arith, l, other))
+    | inl e ↦ rw e (none_of m (u n) z)
+    | inr other ↦ weights_none m n k x u positive (fit_before m n x fit) (omega (arith, fewer m n u, few))
+        (without_none m n k x u z none) j (omega (arith, l, other))
   ]
   | inr other ↦ none_with_last m n k x u positive fit few none other
       (λ i v light zeros. weights_none m n i x v positive (fit_before m n x fit) light zeros) j l

@@ -73,8 +73,7 @@ point_turn m g n i x suits powers l =
     (elim (cases_lt 1 n) [
       | inl more ↦ mod_trans (mod_pow i (root_turn m g n suits.power_of_two.0 suits suits.power_of_two.1 more))
           (mod_of_eq (one-pow i))
-      | inr one ↦ let first : i ≡ 0 = omega (arith, one, l) in
-          mod_of_eq (ap (λ v. (g ^ n) ^ v) first ∙ pow-zero (g ^ n))
+      | inr one ↦ let first : i ≡ 0 = omega (arith, one, l) in rw first (mod_of_eq (pow-zero (g ^ n)))
     ]))
 
 -- a coefficient of the polynomial through all symbols is a syndrome, the last one number 0
@@ -98,7 +97,7 @@ syndrome_of_coefficient m d h x v c w positive row fit weights turn encoding =
       | inr more ↦
           let e : ℕ = h + l - n in
           let at : h + l ≡ e + n = omega (arith, more, other, row, b) in
-          mod_trans (mod_of_eq (ap t at)) (late e (omega (arith, at, row, b)))
+          rw at (late e (omega (arith, at, row, b)))
     ])) (omega arith) in
     let alone = single_congruent m n (d - h) (λ l. c l * t (h + l)) (omega arith) others in
     let at : h + (d - h) ≡ d = omega (arith, row) in
@@ -117,9 +116,7 @@ syndromes_by_transform m g zero t x v c w s positive few suits powers fit weight
     record { sum = λ h l. absurd (omega arith) }
 syndromes_by_transform m g (suc d) t x v c w s positive few suits powers fit weights values same = record {
   sum = λ h l.
-      let row : h < suc d = omega (arith, l, few) in
       let at : suc d - 1 - h ≡ d - h = omega arith in
-      mod_trans (mod_of_eq (same h l ∙ ap c at))
-      (syndrome_of_coefficient m d h x v c w positive row fit weights (λ i b. point_turn m g (suc d) i x suits powers b)
-      (word_of_coefficients m g (suc d) (suc d) x c w (omega arith) powers values (λ i b k. absurd (omega (arith, b, k)))));
+      rw (same h l, at) (syndrome_of_coefficient m d h x v c w positive (omega (arith, l, few)) fit weights
+      (λ i b. point_turn m g (suc d) i x suits powers b) (word_of_coefficients m g (suc d) (suc d) x c w (omega arith) powers values (λ i b k. absurd (omega (arith, b, k)))));
 }

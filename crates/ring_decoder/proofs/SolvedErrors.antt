@@ -15,13 +15,12 @@ pub same_errors : (m t n : ℕ) (z e g d s : ℕ → ℕ) → Covers m t n z e �
     → ((k : ℕ) → k < zeros n z → d k ≡ g k % m) → ((i : ℕ) → i < n → s i ≡ spread z d i)
     → (i : ℕ) → i < n → Congruent m (s i) (e i)
 same_errors m t n z e g d s covers chosen solved is i l = elim (cases_eq (z i) 0) [
-  | inl here ↦
-      mod_trans
-      (mod_of_eq (is i l ∙ chosen_zero (z i) (d (zeros i z)) 0 here ∙ solved (zeros i z) (zeros_before i n z l here)
-      ∙ ap (λ v. v % m) (chosen.at i l here)))
-      (residue_of (e i))
-  | inr other ↦
-      mod_trans (mod_of_eq (is i l ∙ chosen_nonzero (z i) (d (zeros i z)) 0 other)) (mod_sym (covers.none i l other))
+  | inl here ↦ rw (
+    is i l ∙ chosen_zero (z i) (d (zeros i z)) 0 here,
+    solved (zeros i z) (zeros_before i n z l here),
+    chosen.at i l here,
+  ) (residue_of (e i))
+  | inr other ↦ rw (is i l ∙ chosen_nonzero (z i) (d (zeros i z)) 0 other) (mod_sym (covers.none i l other))
 ]
 
 pub same_weight : (m n : ℕ) (lost : List ℕ) (a b : ℕ → ℕ) → ((i : ℕ) → i < n → Congruent m (a i) (b i))
@@ -30,8 +29,7 @@ same_weight m n lost a b same =
     distance_alike n (λ i. without lost a i % m) (λ i. 0) (λ i. without lost b i % m) (λ i. 0)
     (λ i l. elim (lost_or_listed lost i) [
       | inl gone ↦ ap (λ v. v % m) (without_lost lost a i gone ∙ sym (without_lost lost b i gone))
-      | inr listed ↦ ap (λ v. v % m) (without_listed lost a i listed) ∙ (same i l).same
-          ∙ ap (λ v. v % m) (sym (without_listed lost b i listed))
+      | inr listed ↦ rw (without_listed lost a i listed, without_listed lost b i listed) (same i l).same
     ])
     (λ i l. refl)
 
@@ -45,9 +43,7 @@ pub sums_of_products : (m N q : ℕ) (x w d e terms s : ℕ → ℕ) → ((i : �
     → ((i : ℕ) → i < q → d i ≡ e i % m) → ArePowerSums m N q x (λ i. w i * e i) s → ArePowerSums m N q x terms s
 sums_of_products m N q x w d e terms s is same sums =
     sums_alike m N q x (λ i. w i * e i) terms s
-    (λ i l. mod_sym (mod_trans (mod_of_eq (is i l)) (mod_trans (residue_of (w i * d i))
-    (mod_mul (mod_refl (w i)) (mod_trans (mod_of_eq (same i l)) (residue_of (e i)))))))
-    sums
+    (λ i l. rw (is i l, same i l) (mod_sym (mod_trans (residue_of _) (mod_mul (mod_refl (w i)) (residue_of (e i)))))) sums
 
 -- fewer of the power sums
 pub fewer_sums : (m N k q : ℕ) (x w s : ℕ → ℕ) → k ≤ N → ArePowerSums m N q x w s → ArePowerSums m k q x w s
@@ -58,15 +54,13 @@ pub solved_sums : (m t n q : ℕ) (z x v e p w d s : ℕ → ℕ) → q ≡ zero
     → ((i : ℕ) → i < n → e i ≡ spread z d i) → ArePowerSums m t q p (λ k. w k * d k) s
     → ArePowerSums m t n x (λ i. v i * e i) s
 solved_sums m t n q z x v e p w d s count points weights is sums =
-    all_powers m t n z x v e p w d s points weights is (subst (λ k. ArePowerSums m t k p (λ k. w k * d k) s) count sums)
+    all_powers m t n z x v e p w d s points weights is (rw count at sums)
 
 pub covered_sums : (m t n q : ℕ) (z x v e p w s : ℕ → ℕ) → q ≡ zeros n z → AreChosen n z x p → AreChosen n z v w
     → Covers m t n z e → ArePowerSums m t n x (λ i. v i * e i) s
     → ArePowerSums m t q p (λ k. w k * (picked n z e).0 k) s
 covered_sums m t n q z x v e p w s count points weights covers sums =
-    let g = (picked n z e).0 in
-    subst (λ k. ArePowerSums m t k p (λ k. w k * g k) s) (sym count)
-    (few_powers m t n z x v e p w g s points weights (picked n z e).1 covers.none sums)
+    rw count (few_powers m t n z x v e p w (picked n z e).0 s points weights (picked n z e).1 covers.none sums)
 
 pub covered_weight : (m t n q : ℕ) (lost : List ℕ) (z e d f : ℕ → ℕ) → q ≡ zeros n z → Covers m t n z e
     → ((k : ℕ) → k < q → d k ≡ (picked n z e).0 k % m) → ((i : ℕ) → i < n → f i ≡ spread z d i)

@@ -36,8 +36,7 @@ next_coefficient q l a f b =
     let here = ap f (let e : l + 0 ≡ l = omega arith in e) in
     let rest = ap (λ v. a * v) (polynomial-same (q + 1 - suc l) (λ i. f (l + suc i)) (λ i. f (suc l + i)) a
     (λ i d. ap f (let e : l + suc i ≡ suc l + i = omega arith in e))) in
-    let whole = ap (λ n. polynomial_at n (λ i. f (l + i)) a) count in
-    omega (arith, polynomial-first (q + 1 - suc l) (λ i. f (l + i)) a, here, rest, whole)
+    rw count (omega (arith, polynomial-first (q + 1 - suc l) (λ i. f (l + i)) a, here, rest))
 
 last_coefficient : (q a : ℕ) (f : ℕ → ℕ) → from_coefficient q f a q ≡ f q
 last_coefficient q a f =
@@ -59,8 +58,7 @@ quotient_none m q j i x f positive fit roots below within other =
     let Q : ℕ = polynomial_at q (λ l. s (suc l)) (x i) in
     let u : ℕ = residue m (pos (x i) -ℤ pos a) in
     let root : (k : ℕ) → k < q → Congruent m (polynomial_at (suc q) f (x k)) 0 =
-    λ k b. mod_trans (mod_of_eq (ap (λ n. polynomial_at n f (x k)) (sym (add-one q))))
-    (mod_trans (roots.value (x k))
+    λ k b. rw (← add-one q) (mod_trans (roots.value (x k))
     (mod_of_eq (product-none q k (λ l. residue m (pos (x k) -ℤ pos (x l))) b (no_difference m (x k))))) in
     let divided : Congruent m (polynomial_at (suc q) f (x i)) (s 0 + u * Q) =
     one_expanded m q a (x i) f s positive (λ l b. mod_of_eq (next_coefficient q l a f b)) (sym (last_coefficient q a f)) in
@@ -81,13 +79,7 @@ same_at_point m d j x f g fit below none_f none_g one_f one_g =
     let G : ℕ = polynomial_at n g (x j) in
     let at : (i : ℕ) → i < n → Congruent m (polynomial_at n (λ l. G * f l) (x i)) (polynomial_at n (λ l. F * g l) (x i)) =
     λ i l. elim (cases_eq i j) [
-      | inl e ↦ mod_of_eq (omega (
-        arith,
-        scaled_polynomial n G f (x i),
-        scaled_polynomial n F g (x i),
-        ap (λ k. G * polynomial_at n f (x k)) e,
-        ap (λ k. F * polynomial_at n g (x k)) e,
-      ))
+      | inl e ↦ rw (e, scaled_polynomial n G f (x j), scaled_polynomial n F g (x j)) (mod_of_eq (omega arith))
       | inr other ↦ mod_of_combination
           (mod_add (mod_times G (none_f i l other)) (mod_times F (mod_sym (none_g i l other))))
           (omega (arith, scaled_polynomial n G f (x i), scaled_polynomial n F g (x i)))
@@ -121,9 +113,7 @@ quotient_sum_is m q j x f w s positive fit roots below are =
     → polynomial_at (k + 1) (λ i. f (q + 1 - (k + 1) + i)) (x j) * s (q - 1 - k) ≡ G (q - 1 - k) =
     λ k l.
     let count : k + 1 ≡ q + 1 - suc (q - 1 - k) = omega arith in
-    let from : q + 1 - (k + 1) ≡ suc (q - 1 - k) = omega arith in
-    ap (λ n. polynomial_at n (λ i. f (q + 1 - (k + 1) + i)) (x j) * s (q - 1 - k)) count
-    ∙ ap (λ t. polynomial_at (q + 1 - suc (q - 1 - k)) (λ i. f (t + i)) (x j) * s (q - 1 - k)) from in
+    let from : q + 1 - (k + 1) ≡ suc (q - 1 - k) = omega arith in rw (← count, ← from) refl in
     mod_trans (mod_of_eq (sum_below-same q _ (λ k. G (q - 1 - k)) each ∙ sum_reversed q G))
     (mod_trans (weight_alone m q j x w s p are below
     (λ i l other. quotient_none m q j i x f positive fit roots below l other))

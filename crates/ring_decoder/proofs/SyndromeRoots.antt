@@ -28,9 +28,8 @@ moved : (m d e : ℕ) (F G : ℕ → ℕ) → d ≡ e → ((X : ℕ) → F X ≡
 moved m d e F G count same p = record {
   coefficient = p.coefficient;
   behind = λ i l. p.behind i (omega (arith, l, count));
-  highest = ap p.coefficient (sym count) ∙ p.highest;
-  value = λ X. mod_trans (mod_of_eq (ap (λ n. polynomial_at (suc n) p.coefficient X) (sym count)))
-      (mod_trans (p.value X) (mod_of_eq (same X)));
+  highest = rw (← count) p.highest;
+  value = λ X. rw (← count, ← same X) (p.value X);
 }
 
 monic_one : (m : ℕ) → IsMonic m 0 (λ X. 1)
@@ -89,19 +88,15 @@ product_monic m d i x positive l =
 pub combination : (m d n : ℕ) (v : ℕ → ℕ) (F : ℕ → ℕ → ℕ) → ((i : ℕ) → i < n → IsMonic m d (F i))
     → (c : ℕ → ℕ) × (c d ≡ sum_below n v)
     × ((X : ℕ) → Congruent m (polynomial_at (suc d) c X) (sum_below n (λ i. v i * F i X)))
-combination m d zero v F each = (
-  (λ i. 0),
-  sym (sum_below-zero v),
-  λ X. mod_of_eq (no_value (suc d) X ∙ sym (sum_below-zero (λ i. v i * F i X))),
-)
+combination m d zero v F each =
+    ((λ i. 0), sym (sum_below-zero v), λ X. mod_of_eq (no_value (suc d) X ∙ sym (sum_below-zero _)))
 combination m d (suc n) v F each =
     let before = combination m d n v F (λ i l. each i (omega arith)) in
     let last = each n (omega arith) in (
       (λ i. before.0 i + v n * last.coefficient i),
       (omega (arith, before.1, ap (λ w. v n * w) last.highest, sum_below-suc n v)),
-      λ X. mod_trans (mod_of_eq (combined (suc d) before.0 last.coefficient (v n) X))
-          (mod_trans (mod_add (before.2 X) (mod_mul (mod_refl (v n)) (last.value X)))
-          (mod_of_eq (sym (sum_below-suc n (λ i. v i * F i X))))),
+      λ X. rw (combined (suc d) before.0 last.coefficient (v n) X, sum_below-suc n (λ i. v i * F i X))
+          (mod_add (before.2 X) (mod_mul (mod_refl (v n)) (last.value X))),
     )
 
 -- multiples of power sums by the coefficients of a product of X - z are power sums, with the weights times the products

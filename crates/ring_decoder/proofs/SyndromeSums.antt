@@ -1,6 +1,6 @@
 -- Power sums with weights: what their multiples by the coefficients of a polynomial add up to.
 use Rattle.std.proofs.Common.{◌≡◌, ◌≢◌, ℕ, zero, suc, ◌+◌, ◌-◌, ◌*◌, ◌%◌, ◌^◌, ◌<◌, ◌≤◌, ap, sym, ◌∙◌, arith, inl, inr}
-use Rattle.std.proofs.Math.Nat.{pow-zero, pow-suc}
+use Rattle.std.proofs.Math.Nat.{pow-zero, pow-suc, zero-add}
 use Rattle.std.proofs.lemmas.Bool.{cases_eq}
 use Rattle.std.proofs.lemmas.Nat.{pow-add}
 use Rattle.num_modular.specs.Congruence.{Congruent}
@@ -20,8 +20,7 @@ moment m N n d h x w t p are within =
     let f : ℕ → ℕ → ℕ = λ l i. w i * x i ^ h * (p l * x i ^ l) in
     let row : (l : ℕ) → p l * sum_below n (λ i. w i * x i ^ (h + l)) ≡ sum_below n (λ i. f l i) =
     λ l. sym (sum_below-mul n (p l) (λ i. w i * x i ^ (h + l)))
-    ∙ sum_below-same n (λ i. p l * (w i * x i ^ (h + l))) (λ i. f l i)
-    (λ i b. omega (arith, ap (λ v. p l * (w i * v)) (pow-add (x i) h l))) in
+    ∙ sum_below-same n _ (λ i. f l i) (λ i b. rw (pow-add (x i) h l) (omega arith)) in
     mod_trans (sum_below-congruent d (λ l. p l * t (h + l)) (λ l. sum_below n (λ i. f l i))
     (λ l b. mod_trans (mod_times (p l) (are.sum (h + l) (omega arith))) (mod_of_eq (row l))))
     (mod_of_eq (sum_below-exchanged d n f
@@ -50,9 +49,7 @@ pub weight_alone : (m q j : ℕ) (x w t p : ℕ → ℕ) → ArePowerSums m q q 
     → ((i : ℕ) → i < q → i ≢ j → Congruent m (polynomial_at q p (x i)) 0)
     → Congruent m (sum_below q (λ l. p l * t l)) (w j * polynomial_at q p (x j))
 weight_alone m q j x w t p are below none =
-    let shift : (l : ℕ) → l ≡ 0 + l = λ l. omega arith in
-    mod_trans (mod_of_eq (sum_below-same q (λ l. p l * t l) (λ l. p l * t (0 + l))
-    (λ l b. ap (λ k. p l * t k) (shift l))))
+    mod_trans (mod_of_eq (sum_below-same q (λ l. p l * t l) (λ l. p l * t (0 + l)) (λ l b. rw (zero-add l) refl)))
     (mod_trans (moment m q q q 0 x w t p are (omega arith))
     (mod_of_combination (single_congruent m q j (λ i. w i * x i ^ 0 * polynomial_at q p (x i)) below
     (λ i l other. mod_of_combination (mod_times (w i * x i ^ 0) (none i l other)) (omega arith)))
