@@ -1,13 +1,12 @@
 -- The places at which a list of numbers is 0, in their order.
-use Rattle.std.proofs.Common.{◌≡◌, ◌≢◌, ℕ, zero, suc, ◌+◌, ◌*◌, ◌^◌, ◌<◌, cond, eqb, pos, ◌-ℤ◌, ap, sym, ◌∙◌, arith}
-use Rattle.std.proofs.Common.{inl, inr, subst, add-one, refl}
+use Rattle.std.proofs.Common.{◌≡◌, ◌≢◌, ℕ, zero, suc, ◌+◌, ◌*◌, ◌^◌, ◌<◌, cond, eqb, ap, sym, ◌∙◌, arith}
+use Rattle.std.proofs.Common.{inl, inr, add-one, refl}
 use Rattle.std.proofs.lemmas.Bool.{cases_eq, eq-eqb, ne_eqb}
 use Rattle.num_modular.specs.Congruence.{Congruent}
 use Rattle.num_modular.specs.Inverses.{HasInverse}
 use Rattle.num_modular.specs.NumberLaws.{mod_of_eq, mod_sym, mod_trans, sum_below-zero, sum_below-suc}
 use Rattle.num_modular.specs.NumberLaws.{sum_below-congruent}
 use Rattle.num_modular.specs.Polynomials.{HaveUnitDifferences}
-use Rattle.num_modular.specs.Residues.{residue}
 use Rattle.num_modular.specs.Sums.{sum_below}
 use Rattle.ring_codes.proofs.Distances.{counted, counted_same, counted_other, extended, at_end, before_end}
 use Rattle.ring_codes.specs.Erasure.{distance}

@@ -1,12 +1,12 @@
 -- The steps of the search for a locator: with one number more the recurrence stays, its polynomial is corrected, or its
 -- order grows.
 use Rattle.std.proofs.Common.{Bool, true, false, cond, not, List, ◌≡◌, ◌≢◌, ℕ, zero, suc, ◌+◌, ◌-◌, ◌*◌, ◌%◌, ◌<◌, ◌≤◌}
-use Rattle.std.proofs.Common.{ap, sym, ◌∙◌, arith, refl, inl, inr, subst, mod-eq_of_lt, mod-lt}
+use Rattle.std.proofs.Common.{ap, sym, ◌∙◌, arith, refl, inl, inr, mod-eq_of_lt, mod-lt}
 use Rattle.std.proofs.lemmas.Bool.{cases_eq}
 use Rattle.num_modular.specs.Callers.{has_both}
 use Rattle.num_modular.specs.Congruence.{Congruent}
 use Rattle.num_modular.specs.Inverses.{HasInverse}
-use Rattle.num_modular.specs.NumberLaws.{mod_of_eq, mod_refl, residue_of, mod_sym, mod_trans, mod_add, mod_mul}
+use Rattle.num_modular.specs.NumberLaws.{mod_of_eq, residue_of, mod_sym, mod_trans, mod_add}
 use Rattle.num_modular.specs.NumberLaws.{sum_below-zero, sum_below-suc, sum_below-mul, sum_below-congruent}
 use Rattle.num_modular.specs.NumberLaws.{sum_below-joined}
 use Rattle.ring_codes.proofs.Congruences.{left_alone, has_one, mod_of_combination, mod_of_inverse, mod_of_modulus}
@@ -15,7 +15,7 @@ use Rattle.ring_codes.proofs.NearestWords.{unit_alike}
 use Rattle.ring_decoder.proofs.LocatorOfOne.{kept_one, corrected_one, longer_one}
 use Rattle.ring_decoder.proofs.LocatorPlaces.{applied, massey_bound}
 use Rattle.ring_decoder.proofs.LocatorSums.{factor_none, none_of, residue_none}
-use Rattle.ring_decoder.specs.Locators.{IsRecurrence, IsLocator, NeedManyWeights}
+use Rattle.ring_decoder.specs.Locators.{IsLocator, NeedManyWeights}
 use Rattle.ring_decoder.specs.LocatorSteps.{IsSearch}
 use Rattle.ring_decoder.proofs.SyndromeSums.{sum_none}
 

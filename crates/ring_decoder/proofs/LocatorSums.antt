@@ -1,6 +1,5 @@
 -- Power sums of few weights: where as many sums are 0 as weights aren't, all sums and all weights are 0.
 use Rattle.std.proofs.Common.{◌≡◌, ◌≢◌, ℕ, zero, suc, ◌+◌, ◌-◌, ◌*◌, ◌%◌, ◌^◌, ◌<◌, ◌≤◌, ap, sym, ◌∙◌, arith, inl, inr}
-use Rattle.std.proofs.Common.{subst}
 use Rattle.std.proofs.Math.Nat.{zero-mod, pow-zero, pow-suc}
 use Rattle.std.proofs.lemmas.Bool.{cases_eq}
 use Rattle.num_modular.specs.Congruence.{Congruent}

@@ -1,6 +1,6 @@
 -- What the locator says of errors that are few: its values are 0 at each place where an error isn't.
 use Rattle.std.proofs.Common.{◌≡◌, ◌≢◌, ℕ, zero, suc, ◌+◌, ◌-◌, ◌*◌, ◌%◌, ◌^◌, ◌<◌, ◌≤◌, ◌⊎◌, cond, eqb, pos, ◌-ℤ◌}
-use Rattle.std.proofs.Common.{List, length, slice_index, true, false, ap, sym, ◌∙◌, arith, refl, inl, inr, subst}
+use Rattle.std.proofs.Common.{List, length, slice_index, true, false, ap, sym, ◌∙◌, arith, refl, inl, inr}
 use Rattle.std.proofs.Common.{mod-eq_of_lt}
 use Rattle.std.proofs.lemmas.Bool.{cases_eq, cases_lt, false≢true}
 use Rattle.num_modular.specs.Congruence.{Congruent}

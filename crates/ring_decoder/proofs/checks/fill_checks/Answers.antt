@@ -1,7 +1,7 @@
 use Rattle.std.proofs.Common.{◌^◌}
 use Rattle.std.proofs.Math.Nat.{mul-le-mul_right}
 use Rattle.std.proofs.lemmas.Nat.{mod-mul-add, div-mul-add}
-use Rattle.num_modular.specs.Callers.{◌≡◌, ℕ, ◌+◌, ◌*◌, ◌/◌, ◌%◌, ◌≤◌, ◌∙◌, ap, sym, arith, length}
+use Rattle.num_modular.specs.Callers.{refl, ◌≡◌, ℕ, ◌+◌, ◌*◌, ◌/◌, ◌%◌, ◌≤◌, ◌∙◌, ap, sym, arith, length}
 use Rattle.num_modular.specs.Callers.{entry, hold_more, held_entry}
 use Rattle.num_modular.specs.NumberLaws.{mod_of_eq, mod_trans, residue_of}
 use Rattle.ring_codes.proofs.Lagrange.{row_within}
@@ -14,10 +14,8 @@ points-preserved g c =
     let x = entry number ring.value m c.args.points.now in let v = entry number ring.value m c.args.weights.now in
     let f : ℕ → ℕ = λ e. (v (e % n) * x (e % n) ^ (e / n)) % m in
     let at = c.points.invariant.0 in
-    let column : next % n ≡ i = ap (λ e. e % n) at ∙ mod-mul-add h n i c.points-test.true in
-    let row : next / n ≡ h = ap (λ e. e / n) at ∙ div-mul-add h n i c.points-test.true in
     let here : f next ≡ (v i * x i ^ h) % m =
-    ap (λ e. (v e * x e ^ (next / n)) % m) column ∙ ap (λ e. (v i * x i ^ e) % m) row in
+    rw (at, mod-mul-add h n i c.points-test.true, div-mul-add h n i c.points-test.true) refl in
     let inside = row_within h c.args.rows n i c.rows-test.true c.points-test.true in (
       omega (arith, at),
       hold_more number ring.form ring.value m c.points.checks next c.next_check.result f

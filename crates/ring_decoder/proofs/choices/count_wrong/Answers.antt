@@ -1,4 +1,4 @@
-use Rattle.num_modular.specs.Callers.{◌<◌, ◌%◌, ◌∙◌, ap, sym, subst, arith, entry, entry_read, form_read}
+use Rattle.num_modular.specs.Callers.{◌%◌, ◌∙◌, ap, sym, arith, entry, entry_read, form_read}
 use Rattle.ring_codes.proofs.Distances.{counted, one_counted}
 use Rattle.ring_decoder.proofs.LostPlaces.{without_alike, without_below}
 use Rattle.ring_decoder.specs.Corrector.{without}
@@ -15,6 +15,6 @@ errors-preserved g c =
       one_counted i _ _ (λ i. without lost e i % m) (λ i. 0) so_far.0
           (c.is_wrong-wrong.ensures.counted
           ∙ ap (λ v. counted v 0) (without_alike lost (λ _. ring.value m (number x)) e i (λ _. at)
-          ∙ sym (without_below m lost e i (subst (λ v. v < m) at form.below)))),
+          ∙ sym (without_below m lost e i (rw at at form.below)))),
       omega (arith, c.is_wrong-wrong.ensures.few, so_far.1),
     )

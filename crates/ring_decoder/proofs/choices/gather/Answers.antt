@@ -1,9 +1,8 @@
-use Rattle.num_modular.specs.Callers.{◌≡◌, ◌<◌, ◌+◌, ◌∙◌, ap, sym, subst, inl, inr, arith, length, IsForm}
+use Rattle.num_modular.specs.Callers.{◌≡◌, ◌<◌, ◌+◌, ◌∙◌, ap, sym, inl, inr, arith, length}
 use Rattle.num_modular.specs.Callers.{entry, entry_read, form_read, entry_written, entry_kept}
-use Rattle.std.proofs.Common.{get_or, slice_set, get_or-set_same, get_or-set_other}
+use Rattle.std.proofs.Common.{slice_set, get_or-set_same, get_or-set_other}
 use Rattle.std.proofs.lemmas.Bool.{cases_eq, false≢true}
 use Rattle.ring_decoder.proofs.ChosenPlaces.{zeros-none, zeros_more, zeros_kept, zeros_before, chosen_more, chosen_kept, chosen_none}
-use Rattle.ring_decoder.specs.ErrorPatterns.{AreChosen}
 use Rattle.ring_decoder.proofs.choices.gather.Goals as goal
 use Rattle.ring_decoder.proofs.choices.gather.Goals.{then-is_zero, else-is_zero}
 
@@ -31,15 +30,11 @@ values-preserved g c =
           let form = form_read number ring.form ring.value m numbers i x c.requires.numbers there w.index-numbers-i.is in (
             is ∙ ap (λ k. k + 1) count ∙ sym (zeros_more i z here),
             omega (arith, few, is),
-            λ k d l. subst (λ xs. IsForm ring.form ring.value m (number (get_or xs k d))) (sym new)
-                (elim (cases_eq k next) [
-                  | inl e ↦ subst (λ y. IsForm ring.form ring.value m (number y))
-                      (sym (ap (λ j. get_or (slice_set chosen next x) j d) e ∙ get_or-set_same chosen next x d within)) form
-                  | inr o ↦ subst (λ y. IsForm ring.form ring.value m (number y))
-                      (sym (get_or-set_other chosen next k x d o)) (so_far.2 k d (omega (arith, l, is, o)))
-                ]),
-            subst (λ xs. AreChosen (i + 1) z (entry number ring.value m numbers) (entry number ring.value m xs)) (sym new)
-                (chosen_more i z (entry number ring.value m numbers) (entry number ring.value m chosen)
+            λ k d l. rw new (elim (cases_eq k next) [
+              | inl e ↦ rw (e, get_or-set_same chosen next x d within) form
+              | inr o ↦ rw (get_or-set_other chosen next k x d o) (so_far.2 k d (omega (arith, l, is, o)))
+            ]),
+            rw new (chosen_more i z (entry number ring.value m numbers) (entry number ring.value m chosen)
                 (entry number ring.value m (slice_set chosen next x)) so_far.3
                 (ap (λ j. entry number ring.value m (slice_set chosen next x) j) (sym count)
                 ∙ entry_written number ring.value m chosen next x within
@@ -51,10 +46,7 @@ values-preserved g c =
           let other : z i ≡ 0 → ⊥ = λ e. false≢true (sym w.if-is_zero.false ∙ c.is_zero.ensures.1 (at ∙ e)) in (
             is ∙ so_far.0 ∙ sym (zeros_kept i z other),
             omega (arith, few, is),
-            λ k d l. subst (λ xs. IsForm ring.form ring.value m (number (get_or xs k d))) (sym w.chosen-is)
-                (so_far.2 k d (omega (arith, l, is))),
-            subst (λ xs. AreChosen (i + 1) z (entry number ring.value m numbers) (entry number ring.value m xs))
-                (sym w.chosen-is)
-                (chosen_kept i z (entry number ring.value m numbers) (entry number ring.value m chosen) so_far.3 other),
+            λ k d l. rw w.chosen-is (so_far.2 k d (omega (arith, l, is))),
+            rw w.chosen-is (chosen_kept i z _ (entry number ring.value m chosen) so_far.3 other),
           )
     ]

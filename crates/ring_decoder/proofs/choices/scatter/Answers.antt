@@ -1,4 +1,4 @@
-use Rattle.num_modular.specs.Callers.{◌≡◌, ◌<◌, ◌+◌, ◌%◌, ◌∙◌, ap, sym, subst, arith, length, HoldBelow}
+use Rattle.num_modular.specs.Callers.{◌≡◌, ◌<◌, ◌+◌, ◌%◌, ◌∙◌, ap, sym, arith, length}
 use Rattle.num_modular.specs.Callers.{entry, entry_read, form_read, hold_more}
 use Rattle.std.proofs.Math.Nat.{zero-mod}
 use Rattle.std.proofs.lemmas.Bool.{false≢true}
@@ -39,8 +39,7 @@ values-preserved g c =
           let there : next < length chosen = omega (arith, so_far.0, before, c.requires.count) in (
             is ∙ ap (λ k. k + 1) so_far.0 ∙ sym (zeros_more i z here),
             omega (arith, few, is),
-            subst (λ xs. HoldBelow number ring.form ring.value m xs (spread z e) (i + 1)) (sym w.errors-is)
-                (hold_more number ring.form ring.value m errors i x (spread z e) within so_far.2
+            rw w.errors-is (hold_more number ring.form ring.value m errors i x (spread z e) within so_far.2
                 (form_read number ring.form ring.value m chosen next x c.requires.chosen there w.index-chosen-next.is)
                 (entry_read number ring.value m chosen next x there w.index-chosen-next.is ∙ ap e so_far.0
                 ∙ sym (chosen_zero (z i) (e (zeros i z)) 0 here))),
@@ -50,8 +49,7 @@ values-preserved g c =
           let other : z i ≡ 0 → ⊥ = λ e. false≢true (sym w.if-is_zero.false ∙ c.is_zero.ensures.1 (at ∙ e)) in (
             is ∙ so_far.0 ∙ sym (zeros_kept i z other),
             omega (arith, few, is),
-            subst (λ xs. HoldBelow number ring.form ring.value m xs (spread z e) (i + 1)) (sym w.errors-is)
-                (hold_more number ring.form ring.value m errors i c.transform-zero.result (spread z e) within so_far.2
+            rw w.errors-is (hold_more number ring.form ring.value m errors i c.transform-zero.result (spread z e) within so_far.2
                 c.transform-zero.ensures.checked
                 (c.transform-zero.ensures.value ∙ ap (λ k. k % m) c.zero.ensures ∙ zero-mod m
                 ∙ sym (chosen_nonzero (z i) (e (zeros i z)) 0 other))),

@@ -1,5 +1,4 @@
-use Rattle.num_modular.specs.Callers.{◌≡◌, ◌∙◌, ap, sym, subst, refl, arith, length, entry}
-use Rattle.num_modular.specs.Polynomials.{HaveUnitDifferences}
+use Rattle.num_modular.specs.Callers.{◌≡◌, ◌∙◌, ap, refl, arith, length, entry}
 use Rattle.std.proofs.lemmas.Bool.{false≢true}
 use Rattle.ring_decoder.proofs.ChosenPlaces.{picked, chosen_fit, chosen_units}
 use Rattle.ring_decoder.proofs.SolvedErrors.{solved_sums, covered_sums, covered_weight}
@@ -18,18 +17,15 @@ chosen g c =
     let z = entries c.args.values.now in let each = c.requires.each_value in (
       c.gather.auto.chosen ∙ c.split_at_mut-chosen.ensures.front_len ∙ c.count_zeros-q.ensures
           ∙ ap (λ k. zeros k z) each,
-      subst (λ k. AreChosen k z (entries c.args.points.now) (entries c.gather.new.chosen)) each c.gather.ensures.chosen,
-      subst (λ k. AreChosen k z (entries c.args.weights.now) (entries c.gather-2.new.chosen)) each
-          c.gather-2.ensures.chosen,
+      rw each at c.gather.ensures.chosen,
+      rw each at c.gather-2.ensures.chosen,
     )
 
 pub solve_chosen-requires-clause-fit : goal.solve_chosen-requires-clause-fit
 solve_chosen-requires-clause-fit g c =
     let m = g.R.Reducer.modulus c.args.r.now in
     let known = chosen g (goal.at.solve_chosen-requires-clause-fit g c).After-gather-2 in
-    subst (λ k. HaveUnitDifferences m k (entry g.T.RingWord.number g.R.Reducer.value m c.gather.new.chosen))
-    (sym known.0)
-    (chosen_fit m _ _ _ _ known.1 c.requires.fit)
+    rw known.0 (chosen_fit m _ _ _ _ known.1 c.requires.fit)
 
 pub solve_chosen-requires-clause-units : goal.solve_chosen-requires-clause-units
 solve_chosen-requires-clause-units g c i l =

@@ -1,4 +1,4 @@
-use Rattle.num_modular.specs.Callers.{◌≡◌, ◌<◌, ◌+◌, ◌%◌, ℕ, ◌∙◌, ap, sym, arith, length}
+use Rattle.num_modular.specs.Callers.{◌≡◌, ◌<◌, ◌+◌, ℕ, ◌∙◌, arith, length}
 use Rattle.num_modular.specs.Callers.{entry, entry_at, entry_read, forms_written, done_more}
 use Rattle.num_modular.specs.Congruence.{Congruent}
 use Rattle.num_modular.specs.NumberLaws.{difference_and}
@@ -8,10 +8,7 @@ use Rattle.ring_decoder.proofs.choices.subtract.Goals as goal
 
 -- what is left of a symbol, and its error
 less_error : (m x a b y e : ℕ) → 0 < m → x ≡ residue m (pos a -ℤ pos b) → a ≡ y → b ≡ e → Congruent m (x + e) y
-less_error m x a b y e positive is at error = record {
-  same = ap (λ v. (v + e) % m) is ∙ ap (λ v. (residue m (pos a -ℤ pos b) + v) % m) (sym error)
-      ∙ difference_and m a b positive ∙ ap (λ v. v % m) at;
-}
+less_error m x a b y e positive is at error = rw (is, ← error, ← at) (record { same = difference_and m a b positive })
 
 pub places-preserved : goal.places-preserved
 places-preserved g c =

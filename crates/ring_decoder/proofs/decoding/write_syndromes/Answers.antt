@@ -1,16 +1,11 @@
 use Rattle.std.proofs.lemmas.Bool.{eqb-false}
 use Rattle.std.proofs.lemmas.Nat.{pow_pos}
 use Rattle.std.proofs.Common.{rules, Some}
-use Rattle.num_modular.specs.Callers.{◌≡◌, ℕ, ◌*◌, ◌<◌, ◌∙◌, sym, subst, arith, length, entry}
+use Rattle.num_modular.specs.Callers.{◌≡◌, ◌<◌, ◌∙◌, sym, arith, length, entry}
 use Rattle.num_modular.specs.Inverses.{HasInverse}
-use Rattle.num_modular.specs.Polynomials.{HaveUnitDifferences}
-use Rattle.num_modular.specs.Transforms.{Suits}
-use Rattle.ring_codes.specs.Powers.{ArePowers}
 use Rattle.ring_decoder.proofs.CorrectedWords.{fit_of_weights}
 use Rattle.ring_codes.proofs.KnownRoots.{suits_known}
 use Rattle.ring_decoder.proofs.RootSyndromes.{length_unit}
-use Rattle.ring_decoder.specs.PowerSums.{ArePowerSums}
-use Rattle.ring_decoder.specs.Syndromes.{AreChecks, AreWeights}
 use Rattle.ring_decoder.proofs.decoding.write_syndromes.Goals as goal
 use Rattle.ring_decoder.proofs.decoding.write_syndromes.Goals.{Start}
 
@@ -18,38 +13,25 @@ pub fill_syndromes_by_transform-requires-clause-suits : goal.fill_syndromes_by_t
 fill_syndromes_by_transform-requires-clause-suits g c =
     let ring = g.R.Reducer in let m = ring.modulus c.args.r.now in
     let a = ring.value m (g.T.RingWord.number c.in-Some.g) in
-    subst (λ n. Suits m a n) (sym c.requires.each_symbol)
-    (suits_known m a (length c.args.points.now) (c.requires.suits _ c.in-Some.is))
+    rw c.requires.each_symbol (suits_known m a (length c.args.points.now) (c.requires.suits _ c.in-Some.is))
 
 pub returns-then-fill_syndromes_by_transform-clause-sums : goal.returns-then-fill_syndromes_by_transform-clause-sums
 returns-then-fill_syndromes_by_transform-clause-sums g c =
     let ring = g.R.Reducer in let m = ring.modulus c.args.r.now in let number = g.T.RingWord.number in
     let x = entry number ring.value m c.args.points.now in let v = entry number ring.value m c.args.weights.now in
-    let y = entry number ring.value m c.args.word.now in let a = ring.value m (number c.in-Some.g) in
-    let t : ℕ = length c.args.syndromes.now in
-    let s = entry number ring.value m c.fill_syndromes_by_transform.new.syndromes in
     let same = c.requires.each_symbol in
-    subst (λ n. ArePowerSums m t n x (λ i. v i * y i) s) same
-    (c.fill_syndromes_by_transform.ensures.sums c.if-fill_syndromes_by_transform.true x v
-    (subst (λ n. ArePowers m a n x) (sym same) (c.requires.powers _ c.in-Some.is))
-    (subst (λ n. HaveUnitDifferences m n x) (sym same)
-    (fit_of_weights m (length c.args.points.now) x v c.requires.weights_of))
-    (subst (λ n. AreWeights m n x v) (sym same) c.requires.weights_of))
+    rw same at (c.fill_syndromes_by_transform.ensures.sums c.if-fill_syndromes_by_transform.true x v
+    (rw same (c.requires.powers _ c.in-Some.is)) (rw same (fit_of_weights m _ x v c.requires.weights_of))
+    (rw same c.requires.weights_of))
 
 pub returns-else-is_empty-clause-sums : goal.returns-else-is_empty-clause-sums
 returns-else-is_empty-clause-sums g c =
     let ring = g.R.Reducer in let m = ring.modulus c.args.r.now in let number = g.T.RingWord.number in
     let x = entry number ring.value m c.args.points.now in let v = entry number ring.value m c.args.weights.now in
-    let y = entry number ring.value m c.args.word.now in let checks = entry number ring.value m c.args.checks.now in
-    let s = entry number ring.value m c.fill_checked_syndromes.new.syndromes in
     let some_checks = eqb-false _ _ (sym c.is_empty.ensures ∙ c.if-is_empty.false) in
     let some : 0 < length c.args.checks.now = omega (arith, some_checks) in
     let same = c.requires.each_symbol in let kept = c.match-root.auto.syndromes in
-    subst (λ n. ArePowerSums m (length c.args.syndromes.now) n x (λ i. v i * y i) s) same
-    (subst (λ t. ArePowerSums m t (length c.args.word.now) x (λ i. v i * y i) s) kept
-    (c.fill_checked_syndromes.ensures.sums x v
-    (subst (λ t. AreChecks m t (length c.args.word.now) x v checks) (sym kept)
-    (subst (λ n. AreChecks m (length c.args.syndromes.now) n x v checks) (sym same) (c.requires.table some)))))
+    rw (kept, same) at (c.fill_checked_syndromes.ensures.sums x v (rw (kept, same) (c.requires.table some)))
 
 -- where there is a root, the number of the symbols has an inverse
 units : (g : _) (c : Start g) (a : _) → c.args.root ≡ Some a
@@ -57,7 +39,7 @@ units : (g : _) (c : Start g) (a : _) → c.args.root ≡ Some a
 units g c a is =
     let ring = g.R.Reducer in let m = ring.modulus c.args.r.now in
     let positive = (g.met.R.Reducer.canonical c.args.r.now).positive in
-    subst (HasInverse m) (sym c.requires.each_symbol) (length_unit m (ring.value m (g.T.RingWord.number a)) _ _ positive
+    rw c.requires.each_symbol (length_unit m (ring.value m (g.T.RingWord.number a)) _ _ positive
     (suits_known m _ _ (c.requires.suits a is)) (c.requires.powers a is) (fit_of_weights m _ _ _ c.requires.weights_of))
 
 pub returns-then-is_empty-clause-counted : goal.returns-then-is_empty-clause-counted

@@ -2,7 +2,6 @@ use Rattle.num_modular.specs.Callers.{form_read, ◌<◌, ◌≡◌, ℕ, ◌+�
 use Rattle.num_modular.specs.Callers.{entry_read}
 use Rattle.num_modular.specs.NumberLaws.{mod_of_eq, mod_trans, mod_mul, residue_of, sum_below-zero}
 use Rattle.num_modular.specs.Polynomials.{polynomial_at}
-use Rattle.num_modular.specs.Sums.{sum_below}
 use Rattle.ring_codes.proofs.NewtonForms.{value_none, value_more}
 use Rattle.num_modular.specs.NumberLaws.{sum_more}
 use Rattle.ring_decoder.proofs.errors.quotient_sum.Goals as goal
@@ -43,12 +42,7 @@ coefficients-preserved g c =
 
 pub returns-clause-value : goal.returns-clause-value
 returns-clause-value g c =
-    let ring = g.R.Reducer in let m = ring.modulus c.args.r.now in let number = g.T.RingWord.number in
-    let f = entry number ring.value m c.args.coefficients.now in let s = entry number ring.value m c.args.numbers.now in
-    let a = ring.value m (number c.args.point.now) in let q = c.args.q in
-    let count : c.coefficients.k ≡ q = omega arith in
-    c.coefficients.invariant.1.same
-    ∙ ap (λ n. sum_below n (λ k. polynomial_at (k + 1) (λ i. f (q + 1 - (k + 1) + i)) a * s (q - 1 - k)) % m) count
+    let count : c.coefficients.k ≡ c.args.q = omega arith in rw count at c.coefficients.invariant.1.same
 
 pub add-quotient-requires-clause-left : goal.add-quotient-requires-clause-left
 add-quotient-requires-clause-left g c =

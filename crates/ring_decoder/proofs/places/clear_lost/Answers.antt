@@ -1,7 +1,6 @@
-use Rattle.num_modular.specs.Callers.{◌<◌, ◌%◌, ◌∙◌, ap, inl, inr, sym, arith, length}
+use Rattle.num_modular.specs.Callers.{◌<◌, ◌%◌, ◌∙◌, ap, inl, inr, sym, refl, arith, length}
 use Rattle.num_modular.specs.Callers.{entry, entry_written, entry_kept, forms_written}
 use Rattle.std.proofs.Common.{slice_index}
-use Rattle.std.proofs.Math.ListN.{set}
 use Rattle.std.proofs.Math.Nat.{zero-mod}
 use Rattle.std.proofs.lemmas.Bool.{cases_eq}
 use Rattle.ring_decoder.proofs.LostPlaces.{without_more, without_kept}
@@ -16,11 +15,9 @@ places-preserved g c =
     let within : p < length values = omega (arith, c.requires.within k c.places-test.true, c.places.auto.values) in (
       forms_written number ring.form ring.value m values p c.transform-zero.result c.transform-zero.ensures.checked so_far.0,
       λ i. elim (cases_eq i p) [
-        | inl e ↦
-            ap (λ j. entry number ring.value m (set values p c.transform-zero.result) j) e
-            ∙ entry_written number ring.value m values p c.transform-zero.result within
+        | inl e ↦ rw e (entry_written number ring.value m values p c.transform-zero.result within
             ∙ c.transform-zero.ensures.value ∙ ap (λ v. v % m) c.zero.ensures ∙ zero-mod m
-            ∙ sym (without_more lost k i old c.places-test.true e)
+            ∙ sym (without_more lost k p old c.places-test.true refl))
         | inr other ↦ entry_kept number ring.value m values p i c.transform-zero.result other ∙ so_far.1 i
             ∙ sym (without_kept lost k i old c.places-test.true other)
       ],

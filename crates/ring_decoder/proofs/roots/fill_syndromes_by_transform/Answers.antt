@@ -1,6 +1,5 @@
-use Rattle.num_modular.specs.Callers.{◌≡◌, ℕ, ◌-◌, ◌<◌, ◌∙◌, ap, subst, arith, length}
+use Rattle.num_modular.specs.Callers.{◌≡◌, ℕ, ◌-◌, ◌<◌, ◌∙◌, ap, arith, length}
 use Rattle.num_modular.specs.Callers.{entry, entry_read, form_read, hold_more, held_forms, held_entry}
-use Rattle.num_modular.specs.Transforms.{transform}
 use Rattle.ring_decoder.proofs.RootSyndromes.{syndromes_by_transform}
 use Rattle.ring_decoder.proofs.roots.fill_syndromes_by_transform.Goals as goal
 
@@ -29,7 +28,6 @@ returns-clause-sums g c t x v powers fit weights =
     let f = entry number ring.value m found in
     syndromes_by_transform m a (length word) (length c.args.syndromes.now) x v f (entry number ring.value m word)
     (entry number ring.value m c.syndromes.syndromes) positive c.requires.few c.requires.suits powers fit weights
-    (subst (λ l. (j : ℕ) → j < length l → transform m a (length l) f j ≡ entry number ring.value m l j) copied
-    (c.intt.ensures.values c.if-not-intt.false))
+    (rw copied at (c.intt.ensures.values c.if-not-intt.false))
     (λ h l. held_entry number ring.form ring.value m c.syndromes.syndromes (λ h. f (length found - 1 - h)) c.syndromes.h h
     c.syndromes.invariant (omega arith) (omega arith) ∙ ap (λ n. f (n - 1 - h)) count)

@@ -1,9 +1,7 @@
-use Rattle.num_modular.specs.Callers.{◌*◌, ℕ, ◌∙◌, sym, subst, length, entry}
+use Rattle.num_modular.specs.Callers.{ℕ, ◌∙◌, length, entry}
 use Rattle.num_modular.specs.Inverses.{HasInverse}
 use Rattle.std.proofs.Common.{◌<◌, arith}
 use Rattle.ring_decoder.proofs.NearLocators.{AreSought, located_by, none_near_by}
-use Rattle.ring_decoder.specs.PowerSums.{ArePowerSums}
-use Rattle.ring_codes.specs.Roots.{product_of_differences}
 use Rattle.ring_decoder.proofs.search.locate.Goals as goal
 use Rattle.ring_decoder.proofs.search.locate.Goals.{After-fill_moments}
 
@@ -16,24 +14,17 @@ sought : (g : _) (c : After-fill_moments g) (v : ℕ → ℕ)
     (length c.fill_moments.new.moments) (entries c.args.points.now) v
     (entries c.copy_points.new.located) c.args.lost.now
     (entries c.args.syndromes.now) (entries c.fill_moments.new.moments)
-sought g c v units =
-    let ring = g.R.Reducer in let m = ring.modulus c.args.r.now in let number = g.T.RingWord.number in
-    let n : ℕ = length c.args.points.now in let x = entry number ring.value m c.args.points.now in
-    let z = entry number ring.value m c.copy_points.new.located in
-    let q = entry number ring.value m c.fill_moments.new.moments in
-    record {
-      two = omega (arith, (g.met.R.Reducer.canonical c.args.r.now).positive, c.requires.modulus);
-      few = c.requires.few;
-      places = c.requires.places;
-      count = c.copy_points.auto.located ∙ c.split_at_mut-located.ensures.front_len;
-      rest = c.fill_moments.auto.moments ∙ c.split_at_mut-moments.ensures.front_len;
-      fit = c.requires.fit;
-      units = units;
-      there = c.copy_points.ensures.same;
-      sums = λ w is. subst (λ k. ArePowerSums m k n x
-          (λ i. w i * product_of_differences m (length c.copy_points.new.located) z (x i)) q)
-          (sym c.fill_moments.auto.moments) (c.fill_moments.ensures.moments n x w is);
-    }
+sought g c v units = record {
+  two = omega (arith, (g.met.R.Reducer.canonical c.args.r.now).positive, c.requires.modulus);
+  few = c.requires.few;
+  places = c.requires.places;
+  count = c.copy_points.auto.located ∙ c.split_at_mut-located.ensures.front_len;
+  rest = c.fill_moments.auto.moments ∙ c.split_at_mut-moments.ensures.front_len;
+  fit = c.requires.fit;
+  units = units;
+  there = c.copy_points.ensures.same;
+  sums = λ w is. rw c.fill_moments.auto.moments (c.fill_moments.ensures.moments _ _ w is);
+}
 
 pub returns-in-None-clause-located : goal.returns-in-None-clause-located
 returns-in-None-clause-located g c v units errors near =

@@ -1,8 +1,7 @@
-use Rattle.num_modular.specs.Callers.{◌≡◌, ℕ, ◌+◌, ◌*◌, ◌%◌, ◌∙◌, ap, subst, arith, length}
+use Rattle.num_modular.specs.Callers.{◌≡◌, ℕ, ◌+◌, ◌*◌, ◌%◌, ◌∙◌, ap, arith, length}
 use Rattle.num_modular.specs.Callers.{entry, hold_more, held_forms, held_entry}
 use Rattle.num_modular.specs.NumberLaws.{mod_of_eq, mod_trans, residue_of}
 use Rattle.num_modular.specs.Sums.{sum_below}
-use Rattle.ring_decoder.specs.PowerSums.{ArePowerSums}
 use Rattle.ring_decoder.proofs.SyndromeRoots.{moments_of}
 use Rattle.ring_decoder.proofs.syndromes.fill_moments.Goals as goal
 
@@ -27,7 +26,7 @@ returns-clause-moments g c n x w are =
     let count : length product ≡ length lost + 1 = omega arith in
     let v : ℕ → ℕ → ℕ = λ n h. sum_below n (λ k. f k * t (h + k)) in
     moments_of m M (length lost) n (entry number ring.value m lost) f x w t _ c.expand_roots.ensures.roots
-    (subst (λ N. ArePowerSums m N n x w t) c.requires.count are)
+    (rw c.requires.count at are)
     (λ h l. mod_trans (mod_of_eq (held_entry number ring.form ring.value m c.moments.moments
     (λ h. v (length product) h % m) c.moments.h h c.moments.invariant (omega arith) (omega arith)
     ∙ ap (λ n. v n h % m) count)) (residue_of _))

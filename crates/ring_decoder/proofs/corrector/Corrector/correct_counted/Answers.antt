@@ -1,12 +1,11 @@
-use Rattle.num_modular.specs.Callers.{◌≡◌, ◌*◌, ◌-◌, ℕ, ◌∙◌, ap, sym, subst, refl, arith, length, entry}
+use Rattle.num_modular.specs.Callers.{◌≡◌, ◌-◌, ℕ, ◌∙◌, ap, sym, subst, refl, arith, length, entry}
 use Rattle.num_modular.specs.Callers.{values_below}
 use Rattle.ring_codes.specs.Erasure.{IsErasureCodeword}
 use Rattle.ring_decoder.proofs.CorrectedWords.{all_zero, not_one, codeword_by_zeros, fit_of_weights, right_already, right_word, fault_of_word}
 use Rattle.ring_decoder.proofs.DualCode.{weight_unit}
 use Rattle.ring_decoder.proofs.LostPlaces.{not_lost}
 use Rattle.ring_decoder.specs.Corrector.{AreLost}
-use Rattle.ring_decoder.specs.ErrorPatterns.{IsPatternFault, IsSolution, zeros}
-use Rattle.ring_decoder.specs.PowerSums.{ArePowerSums}
+use Rattle.ring_decoder.specs.ErrorPatterns.{IsPatternFault, zeros}
 use Rattle.ring_decoder.proofs.corrector.Corrector.correct_counted.Goals as goal
 use Rattle.ring_decoder.proofs.corrector.Corrector.correct_counted.Goals.{After-count_zeros}
 
@@ -23,8 +22,7 @@ returns-then-count_zeros-syndromes-clause-corrected g c =
     c.write_syndromes-products.auto.syndromes ∙ c.split_at_mut-syndromes.ensures.front_len in
     let right = right_already m k n x v lost y s positive places self.inverses
     (λ i l. values_below number ring.form ring.value m c.args.word.now i c.requires.word (omega (arith, l, room)))
-    (subst (λ t. ArePowerSums m t n x (λ i. v i * y i) s) c.split_at_mut-syndromes.ensures.front_len
-    c.write_syndromes-products.ensures.sums)
+    (rw c.split_at_mut-syndromes.ensures.front_len at c.write_syndromes-products.ensures.sums)
     (λ h l. all_zero _ _ (sym c.count_zeros.ensures ∙ c.if-count_zeros-syndromes.true) h (omega (arith, l, long))) in
     record {
       places = places;
@@ -36,12 +34,10 @@ returns-then-count_zeros-syndromes-clause-corrected g c =
     }
 
 pub find_errors-requires-clause-fit : goal.find_errors-requires-clause-fit
-find_errors-requires-clause-fit g c =
-    fit_of_weights _ _ _ _ c.args.self.now.inverses
+find_errors-requires-clause-fit g c = fit_of_weights _ _ _ _ c.args.self.now.inverses
 
 pub find_errors-requires-clause-units : goal.find_errors-requires-clause-units
-find_errors-requires-clause-units g c i l =
-    weight_unit _ _ i _ _ c.args.self.now.inverses l
+find_errors-requires-clause-units g c i l = weight_unit _ _ i _ _ c.args.self.now.inverses l
 
 pub find_errors-requires-clause-places : goal.find_errors-requires-clause-places
 find_errors-requires-clause-places g c =
@@ -51,7 +47,7 @@ find_errors-requires-clause-places g c =
     let long : length c.write_syndromes-products.new.syndromes ≡ n - self.k =
     c.write_syndromes-products.auto.syndromes ∙ c.split_at_mut-syndromes.ensures.front_len in
     let same : self.k ≡ n - length c.write_syndromes-products.new.syndromes = omega (arith, long, self.few) in
-    subst (λ k. AreLost k n lost) same places
+    rw same at places
 
 pub returns-in-Err-find_errors-clause-corrected : goal.returns-in-Err-find_errors-clause-corrected
 returns-in-Err-find_errors-clause-corrected g c =
@@ -65,8 +61,7 @@ returns-in-Err-find_errors-clause-corrected g c =
     c.write_syndromes-products.auto.syndromes ∙ c.split_at_mut-syndromes.ensures.front_len in (
       refl,
       fault_of_word number m k n x v lost y s positive places self.inverses
-          (subst (λ t. ArePowerSums m t n x (λ i. v i * y i) s) c.split_at_mut-syndromes.ensures.front_len
-          c.write_syndromes-products.ensures.sums)
+          (rw c.split_at_mut-syndromes.ensures.front_len at c.write_syndromes-products.ensures.sums)
           c.in-Err-find_errors.error
           (subst (λ t. IsPatternFault number m t n x v lost s c.in-Err-find_errors.error) long c.in-Err-find_errors.ensures.found),
     )
@@ -90,9 +85,8 @@ returns-in-Ok-find_errors-clause-corrected g c =
     (λ i l. values_below number ring.form ring.value m c.args.word.now i c.requires.word (omega (arith, l, room)))
     (λ i l. values_below number ring.form ring.value m c.subtract.new.word i c.subtract.ensures.checked
     (omega (arith, l, c.subtract.auto.word, room)))
-    (subst (λ t. ArePowerSums m t n x (λ i. v i * y i) s) c.split_at_mut-syndromes.ensures.front_len
-    c.write_syndromes-products.ensures.sums)
-    (subst (λ t. IsSolution m t n x v lost s e c.in-Ok-find_errors.wrong) long found.1)
+    (rw c.split_at_mut-syndromes.ensures.front_len at c.write_syndromes-products.ensures.sums)
+    (rw long at found.1)
     (λ i l. c.subtract.ensures.difference i (omega (arith, l, each))) in
     record {
       places = places;
@@ -128,7 +122,7 @@ zeros_tell g c =
     let told = codeword_by_zeros m k n x v y s positive self.few self.inverses
     (λ i l. values_below number ring.form ring.value m c.args.word.now i c.requires.word (omega (arith, l, room)))
     (λ h l. values_below number ring.form ring.value m forms h c.write_syndromes-products.ensures.checked (omega (arith, l, long)))
-    (subst (λ t. ArePowerSums m t n x (λ i. v i * y i) s) front c.write_syndromes-products.ensures.sums) in (
+    (rw front at c.write_syndromes-products.ensures.sums) in (
       λ all. told.0 (ap (λ t. zeros t s) (sym long) ∙ sym c.count_zeros.ensures ∙ all ∙ long),
       λ is. c.count_zeros.ensures ∙ ap (λ t. zeros t s) long ∙ told.1 is ∙ sym long,
     )

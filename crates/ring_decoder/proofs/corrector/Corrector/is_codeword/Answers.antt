@@ -1,8 +1,7 @@
-use Rattle.num_modular.specs.Callers.{◌≡◌, ◌*◌, ◌-◌, ℕ, ◌∙◌, subst, ap, arith, length, entry}
+use Rattle.num_modular.specs.Callers.{◌≡◌, ◌-◌, ℕ, ◌∙◌, ap, arith, length, entry}
 use Rattle.num_modular.specs.Callers.{values_below}
 use Rattle.ring_decoder.proofs.CorrectedWords.{codeword_by_zeros}
 use Rattle.ring_decoder.specs.ErrorPatterns.{zeros}
-use Rattle.ring_decoder.specs.PowerSums.{ArePowerSums}
 use Rattle.ring_decoder.proofs.corrector.Corrector.is_codeword.Goals as goal
 
 pub returns : goal.returns
@@ -17,7 +16,6 @@ returns g c =
     let both = codeword_by_zeros m k n x v y s positive self.few self.inverses
     (λ i l. values_below number ring.form ring.value m c.args.word.now i c.requires.word (omega (arith, l, room)))
     (λ h l. values_below number ring.form ring.value m forms h c.write_syndromes.ensures.checked (omega (arith, l, long)))
-    (subst (λ t. ArePowerSums m t n x (λ i. v i * y i) s) c.split_at_mut-syndromes.ensures.front_len
-    c.write_syndromes.ensures.sums) in
+    (rw c.split_at_mut-syndromes.ensures.front_len at c.write_syndromes.ensures.sums) in
     let count : c.count_zeros.result ≡ zeros (n - k) s = c.count_zeros.ensures ∙ ap (λ t. zeros t s) long in
     search (arith, both.0, both.1, count, long)
