@@ -25,8 +25,7 @@ pub check_later : (m n h i next value above point : ℕ) (x v : ℕ → ℕ) →
     → value ≡ (above * point) % m → value ≡ (v i * x i ^ h) % m
 check_later m n zero i next value above point x v later column at before there is = absurd (later refl)
 check_later m n (suc k) i next value above point x v later column at before there is =
-    let one : suc k * n ≡ k * n + n = omega arith in
-    let left : next - n ≡ k * n + i = omega (arith, at, one) in
+    let one : suc k * n ≡ k * n + n = omega arith in let left : next - n ≡ k * n + i = omega (arith, at, one) in
     let a = rw (left, mod-mul-add k n i column, div-mul-add k n i column) at before in
     is ∙ (mod_of_combination (mod_mul (mod_of_residue a) (mod_of_eq there))
     (omega (arith, ap (λ e. v i * e) (pow-suc (x i) k)))).same

@@ -56,8 +56,7 @@ zeros_before i (suc n) z l e = elim (cases_eq i n) [
 pub zeros_others : (n : ℕ) (z : ℕ → ℕ) → zeros n z + distance n z (λ i. 0) ≡ n
 zeros_others zero z = omega (arith, zeros-none z, sum_below-zero (λ i. counted (z i) 0))
 zeros_others (suc n) z =
-    let i = zeros_others n z in
-    let t = sum_below-suc n (λ i. counted (z i) 0) in
+    let i = zeros_others n z in let t = sum_below-suc n (λ i. counted (z i) 0) in
     elim (cases_eq (z n) 0) [
       | inl e ↦ omega (arith, i, zeros-suc n z e, t, counted_same (z n) 0 e)
       | inr o ↦ omega (arith, i, zeros-same n z o, t, counted_other (z n) 0 o)
@@ -100,8 +99,7 @@ chosen_kept n z f g c other = record {
 pub picked : (n : ℕ) (z f : ℕ → ℕ) → (g : ℕ → ℕ) × AreChosen n z f g
 picked zero z f = (f, record { at = λ i l e. absurd (omega arith) })
 picked (suc n) z f =
-    let p = picked n z f in
-    let more : ℕ → ℕ = extended (zeros n z) (f n) p.0 in
+    let p = picked n z f in let more : ℕ → ℕ = extended (zeros n z) (f n) p.0 in
     elim (cases_eq (z n) 0) [
       | inl e ↦ (
         more,
@@ -125,17 +123,14 @@ chosen_fit m n z x g c fit = record {
 
 pub chosen_units : (m n : ℕ) (z v g : ℕ → ℕ) → AreChosen n z v g → ((i : ℕ) → i < n → HasInverse m (v i))
     → (k : ℕ) → k < zeros n z → HasInverse m (g k)
-chosen_units m n z v g c unit k l =
-    let r = ranked n k z l in rw (← chosen_is n k z v g c l) (unit r.0 r.1)
+chosen_units m n z v g c unit k l = let r = ranked n k z l in rw (← chosen_is n k z v g c l) (unit r.0 r.1)
 
 -- the sum of the chosen numbers
 pub chosen_sum : (n : ℕ) (z f g : ℕ → ℕ) → AreChosen n z f g
     → sum_below (zeros n z) g ≡ sum_below n (λ i. cond (eqb (z i) 0) (f i) 0)
-chosen_sum zero z f g c =
-    rw (zeros-none z) (sum_below-zero g ∙ sym (sum_below-zero _))
+chosen_sum zero z f g c = rw (zeros-none z) (sum_below-zero g ∙ sym (sum_below-zero _))
 chosen_sum (suc n) z f g c =
-    let i = chosen_sum n z f g (fewer c) in
-    let t = sum_below-suc n (λ i. cond (eqb (z i) 0) (f i) 0) in
+    let i = chosen_sum n z f g (fewer c) in let t = sum_below-suc n (λ i. cond (eqb (z i) 0) (f i) 0) in
     elim (cases_eq (z n) 0) [
       | inl e ↦
           let k : zeros (suc n) z ≡ suc (zeros n z) = omega (arith, zeros-suc n z e) in

@@ -35,9 +35,7 @@ power_value n e X l =
 powers_sum : (m d e : ℕ) (x v : ℕ → ℕ) → 0 < m → HaveUnitDifferences m (suc d) x → AreWeights m (suc d) x v
     → e < suc d → Congruent m (extended e 1 (λ i. 0) d) (sum_below (suc d) (λ i. v i * x i ^ e))
 powers_sum m d e x v positive fit weights small =
-    let n : ℕ = suc d in
-    let p : ℕ → ℕ = extended e 1 (λ i. 0) in
-    let u : ℕ → ℕ = λ i. v i * x i ^ e in
+    let n : ℕ = suc d in let p : ℕ → ℕ = extended e 1 (λ i. 0) in let u : ℕ → ℕ = λ i. v i * x i ^ e in
     let whole = combination m d n u (product_but m n x)
     (λ i l. product_monic m d i x positive (omega arith)) in
     let at : (l : ℕ) → l < n → Congruent m (polynomial_at n whole.0 (x l)) (polynomial_at n p (x l)) =
@@ -90,12 +88,10 @@ no_difference_of m a b positive same = rw same (none_of m _ (at_root m b positiv
 
 -- power sums of differences
 pub sums_subtracted : (m N n : ℕ) (x v y z : ℕ → ℕ) → ArePowerSums m N n x (λ i. v i * y i) (λ h. 0)
-    → ArePowerSums m N n x (λ i. v i * z i) (λ h. 0)
-    → ArePowerSums m N n x (λ i. v i * (y i + (m - 1) * z i)) (λ h. 0)
+    → ArePowerSums m N n x (λ i. v i * z i) (λ h. 0) → ArePowerSums m N n x (λ i. v i * (y i + (m - 1) * z i)) (λ h. 0)
 sums_subtracted m N n x v y z of_y of_z = record {
   sum = λ h l.
-      let f : ℕ → ℕ = λ i. v i * y i * x i ^ h in
-      let g : ℕ → ℕ = λ i. v i * z i * x i ^ h in
+      let f : ℕ → ℕ = λ i. v i * y i * x i ^ h in let g : ℕ → ℕ = λ i. v i * z i * x i ^ h in
       let both = sum_below-add n f (λ i. (m - 1) * g i) in
       let same = sum_below-same n (λ i. f i + (m - 1) * g i) (λ i. v i * (y i + (m - 1) * z i) * x i ^ h) (λ i b. omega arith) in
       mod_of_combination (mod_add (of_y.sum h l) (mod_times (m - 1) (of_z.sum h l)))
@@ -117,8 +113,7 @@ few_behind k q n a b whole same =
 -- each weight has an inverse
 pub weight_unit : (m n i : ℕ) (x v : ℕ → ℕ) → AreWeights m n x v → i < n → HasInverse m (v i)
 weight_unit m n i x v weights l =
-    let P : ℕ = product_but m n x i (x i) in
-    let small = (weights i l).below in
+    let P : ℕ = product_but m n x i (x i) in let small = (weights i l).below in
     ((has_both m P (v i)).0 (unit_alike m (1 % m) (P * v i)
     (mod_trans (residue_of 1) (mod_sym (mod_of_inverse (weights i l)))) (has_one m (omega (arith, small))))).1
 
@@ -129,10 +124,8 @@ pub codeword_by_syndromes : (m k n : ℕ) (x v y : ℕ → ℕ) → 0 < m → k 
 codeword_by_syndromes m k n x v y positive few fit weights below none =
     let q : ℕ = n - k in
     let found = message_of m k x y positive (fit_front m n k x few fit) (λ i l. below i (omega arith)) in
-    let c : ℕ → ℕ = found.0 in
-    let z : ℕ → ℕ = λ i. polynomial_at k c (x i) % m in
-    let rest : ℕ → ℕ = λ i. y i + (m - 1) * z i in
-    let w : ℕ → ℕ = λ i. v i * rest i in
+    let c : ℕ → ℕ = found.0 in let z : ℕ → ℕ = λ i. polynomial_at k c (x i) % m in
+    let rest : ℕ → ℕ = λ i. y i + (m - 1) * z i in let w : ℕ → ℕ = λ i. v i * rest i in
     let sums = sums_subtracted m q n x v y z none
     (codeword_without_syndromes m k n x v z positive few fit weights (c, record { symbol = λ i l. refl })) in
     let first : (i : ℕ) → i < k → w i % m ≡ 0 =

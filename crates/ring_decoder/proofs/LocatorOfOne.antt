@@ -12,8 +12,7 @@ use Rattle.ring_decoder.specs.LocatorSteps.{IsSearchOfOne}
 use Rattle.ring_codes.proofs.Congruences.{mod_of_combination, mod_times}
 
 one_term : (s t : ℕ → ℕ) → applied 1 s t 0 ≡ s 0 * t 0
-one_term s t =
-    omega (arith, sum_below-zero (λ l. s l * t (0 + l)), sum_below-suc 0 (λ l. s l * t (0 + l)))
+one_term s t = omega (arith, sum_below-zero (λ l. s l * t (0 + l)), sum_below-suc 0 (λ l. s l * t (0 + l)))
 
 two_terms : (h : ℕ) (s t : ℕ → ℕ) → applied 2 s t h ≡ s 0 * t h + s 1 * t (h + 1)
 two_terms h s t =
@@ -36,8 +35,7 @@ next_is m N u x h s t some geometric =
     (omega (arith, two_terms h s t, ap (λ v. s 1 * (u * v)) (ap (λ k. x ^ k) (add-one h) ∙ pow-suc x h)))
 
 applied_at : (m c k h j d : ℕ) (s t : ℕ → ℕ) → c ≡ k → h ≡ j → Congruent m (applied c s t h) d → Congruent m (applied k s t j) d
-applied_at m c k h j d s t at_c at_h is =
-    rw (← at_h, ← at_c) is
+applied_at m c k h j d s t at_c at_h is = rw (← at_h, ← at_c) is
 
 -- the discrepancy is 0
 pub kept_one : (m N i L p u x h : ℕ) (s b t : ℕ → ℕ) → i < N → h + L ≡ i → L ≤ h
@@ -74,15 +72,12 @@ corrected_first : (m N i L p d u x h q : ℕ) (s b t f : ℕ → ℕ) → i < N 
     → ((l : ℕ) → q + l < L + 1 → Congruent m (f (q + l) + d * b l) (p * s (q + l)))
     → ((l : ℕ) → L ≤ l → Congruent m (b l) 0) → IsGeometric m N u x t → IsSearchOfOne m i L p u x s b → IsLinear m u x L f
 corrected_first m N i L p d u x h q s b t f inside at room first is high behind geometric one =
-    let before = one.after_first first in
-    let is_L = before.0 in
-    let is_q : q ≡ 0 = omega (arith, is_L, room) in
+    let before = one.after_first first in let is_L = before.0 in let is_q : q ≡ 0 = omega (arith, is_L, room) in
     let here = applied_at m (L + 1) 2 h 0 d s t (omega (arith, is_L)) (omega (arith, is_L, room)) is in
     let at_d : Congruent m d (s 1 * (u * x)) =
     mod_of_combination (mod_add (mod_sym here) (mod_add (next_is m N u x 0 s t (omega (arith, inside, first)) geometric)
     (mod_times (u * x ^ 0) before.1))) (omega (arith, ap (λ v. s 1 * (u * v * x)) (pow-zero x))) in
-    let q_zero : q + 0 ≡ 0 = omega (arith, is_q) in
-    let q_one : q + 1 ≡ 1 = omega (arith, is_q) in
+    let q_zero : q + 0 ≡ 0 = omega (arith, is_q) in let q_one : q + 1 ≡ 1 = omega (arith, is_q) in
     record {
       degree = is_L;
       constant = constant_one m (f 0) d (b 0) p (s 0) (s 1) u x
@@ -126,8 +121,7 @@ pub longer_one : (m N i L p d u x h q : ℕ) (s b t f : ℕ → ℕ) → i < N �
 longer_one m N i L p d u x h q s b t f inside at room half is other low high behind geometric one = record {
   at_start = λ e. absurd (omega (arith, e));
   after_first = λ e.
-      let start = one.at_start (omega (arith, e)) in let is_L = start.0 in
-      let is_h : h ≡ 0 = omega (arith, e, at) in
+      let start = one.at_start (omega (arith, e)) in let is_L = start.0 in let is_h : h ≡ 0 = omega (arith, e, at) in
       let is_q : q + 0 ≡ 1 = omega (arith, is_L, is_h, room) in
       let there = applied_at m (L + 1) 1 h 0 d s t (omega (arith, is_L)) is_h is in (
         omega (arith, is_h),

@@ -44,8 +44,7 @@ combined_more m a b q zero h e f g t low high =
     let n : q + 0 ≡ q = omega arith in
     rw (n, sum_below-zero (λ l. g l * t (h + q + l))) (mod_of_combination (multiple_sum m a q h e f t low) (omega arith))
 combined_more m a b q (suc c) h e f g t low high =
-    let n : q + suc c ≡ suc (q + c) = omega arith in
-    let at : h + q + c ≡ h + (q + c) = omega arith in
+    let n : q + suc c ≡ suc (q + c) = omega arith in let at : h + q + c ≡ h + (q + c) = omega arith in
     let sf = ap (λ k. applied k f t h) n ∙ sum_below-suc (q + c) (λ l. f l * t (h + l)) in
     let sg = ap (λ v. b * v) (sum_below-suc c (λ l. g l * t (h + q + l))) in
     let se = ap (λ k. a * applied k e t h) n ∙ ap (λ v. a * v) (sum_below-suc (q + c) (λ l. e l * t (h + l))) in
@@ -97,8 +96,7 @@ corrected_sum : (m N i L p w d h q k : ℕ) (s b t f : ℕ → ℕ) → h + L �
     → ((l : ℕ) → q + l < L + 1 → Congruent m (f (q + l) + d * b l) (p * s (q + l)))
     → IsSearch m N i L p w s b t → k + L < i + 1 → Congruent m (applied (L + 1) f t k) 0
 corrected_sum m N i L p w d h q k s b t f at room is low high found l =
-    let c : ℕ = h + 2 in
-    let whole : q + c ≡ L + 1 = omega arith in
+    let c : ℕ = h + 2 in let whole : q + c ≡ L + 1 = omega arith in
     let both : Congruent m (applied (L + 1) f t k + d * applied c b t (k + q)) (p * applied (L + 1) s t k) =
     rw (← whole) (combined_more m p d q c k s f b t low (λ l below. high l (omega arith))) in
     let same = same_before m N i L p w h c (k + q) s b t at (omega arith) (omega arith) found in
@@ -113,8 +111,7 @@ corrected_sum m N i L p w d h q k s b t f at room is low high found l =
 -- the polynomial is corrected
 pub search_corrected : (m N i L p w d h q : ℕ) (s b t f : ℕ → ℕ) → i < N → h + L ≡ i → h + q + 1 ≡ L
     → Congruent m (applied (L + 1) s t h) d → ((k : ℕ) → k < q → Congruent m (f k) (p * s k))
-    → ((l : ℕ) → q + l < L + 1 → Congruent m (f (q + l) + d * b l) (p * s (q + l)))
-    → ((k : ℕ) → L + 1 ≤ k → f k ≡ s k)
+    → ((l : ℕ) → q + l < L + 1 → Congruent m (f (q + l) + d * b l) (p * s (q + l))) → ((k : ℕ) → L + 1 ≤ k → f k ≡ s k)
     → IsSearch m N i L p w s b t → IsSearch m N (i + 1) L p w f b t
 search_corrected m N i L p w d h q s b t f inside at room is low high kept found = record {
   within = omega (arith, found.within);
@@ -127,8 +124,7 @@ search_corrected m N i L p w d h q s b t f inside at room is low high kept found
   recurrence_before = found.recurrence_before;
   pivot_there = found.pivot_there;
   units = λ unit.
-      let both = found.units unit in
-      let last : q + (h + 1) ≡ L = omega arith in
+      let both = found.units unit in let last : q + (h + 1) ≡ L = omega arith in
       let alone = left_alone m (f L) d _ (p * s L) (rw last at (high (h + 1) (omega arith))) (found.behind_then _ (omega arith)) in
       (both.0, unit_alike m (p * s L) (f L) (mod_sym alone) ((has_both m p (s L)).1 both));
   nonzero = found.nonzero;
@@ -169,8 +165,7 @@ negative_unit (suc k) a b positive none (x, inverse) = (
 pub search_longer : (m N i L p w d v h q : ℕ) (s b t f : ℕ → ℕ) → 0 < m → i < N → h + L ≡ i → q + L ≡ h + 1 → L ≤ h
     → 2 * (h + 1) ≤ N → Congruent m (applied (L + 1) s t h) d → d % m ≢ 0
     → ((k : ℕ) → k < q → Congruent m (f k) (d * b k))
-    → ((l : ℕ) → q + l < h + 2 → Congruent m (f (q + l) + p * s l) (d * b (q + l)))
-    → ((k : ℕ) → h + 2 ≤ k → f k ≡ b k)
+    → ((l : ℕ) → q + l < h + 2 → Congruent m (f (q + l) + p * s l) (d * b (q + l))) → ((k : ℕ) → h + 2 ≤ k → f k ≡ b k)
     → (HasInverse m v → HasInverse m w × HasInverse m d) → (w % m ≢ 0 → v % m ≢ 0)
     → IsSearch m N i L p w s b t → IsSearch m N (i + 1) (h + 1) d v f s t
 search_longer m N i L p w d v h q s b t f positive inside at room half short is other low high kept units nonzero found = record {
@@ -187,8 +182,7 @@ search_longer m N i L p w d v h q s b t f positive inside at room half short is 
       let there : k ≡ h = omega (arith, e) in
       rw there (mod_trans (padded m (L + 1) (h + 1) h s t (omega arith) (λ l b. found.behind l (omega (arith, b)))) is);
   units = λ unit.
-      let both = units unit in
-      let before = found.units both.0 in
+      let both = units unit in let before = found.units both.0 in
       let none = mod_of_combination (mod_add (rw room at (high L (omega arith))) (mod_times d (found.behind_before (h + 1) (omega arith))))
       (omega arith) in
       (both.1, negative_unit m (f (h + 1)) (p * s L) positive none ((has_both m p (s L)).1 before));

@@ -81,14 +81,12 @@ fewer : (m n : ℕ) (u : ℕ → ℕ) → hamming_weight m n u ≤ hamming_weigh
 fewer m n u = omega (arith, sum_below-suc n (λ i. counted (u i % m) 0))
 
 some_weight : (m n : ℕ) (u : ℕ → ℕ) → u n % m ≢ 0 → 1 ≤ hamming_weight m (suc n) u
-some_weight m n u other =
-    omega (arith, sum_below-suc n (λ i. counted (u i % m) 0), counted_other (u n % m) 0 other)
+some_weight m n u other = omega (arith, sum_below-suc n (λ i. counted (u i % m) 0), counted_other (u n % m) 0 other)
 
 vanish_with_last : (m n k : ℕ) (x u : ℕ → ℕ) → 0 < m → hamming_weight m (suc n) u ≤ k
     → ((h : ℕ) → h < k → Congruent m (power_sum (suc n) x u h) 0) → u n % m ≢ 0
     → ((j : ℕ) (v : ℕ → ℕ) → hamming_weight m n v ≤ j → ((h : ℕ) → h < j → Congruent m (power_sum n x v h) 0)
-    → Congruent m (power_sum n x v j) 0)
-    → Congruent m (power_sum (suc n) x u k) 0
+    → Congruent m (power_sum n x v j) 0) → Congruent m (power_sum (suc n) x u k) 0
 vanish_with_last m n zero x u positive few none other less = absurd (omega (arith, some_weight m n u other, few))
 vanish_with_last m n (suc k) x u positive few none other fewer_vanish =
     left_alone m _ ((m - 1) * x n) (power_sum (suc n) x u k) 0
@@ -134,8 +132,7 @@ last_none m n x u before none =
 none_with_last : (m n k : ℕ) (x u : ℕ → ℕ) → 0 < m → HaveUnitDifferences m (suc n) x → hamming_weight m (suc n) u ≤ k
     → ((h : ℕ) → h < k → Congruent m (power_sum (suc n) x u h) 0) → u n % m ≢ 0
     → ((j : ℕ) (v : ℕ → ℕ) → hamming_weight m n v ≤ j → ((h : ℕ) → h < j → Congruent m (power_sum n x v h) 0)
-    → (i : ℕ) → i < n → Congruent m (v i) 0)
-    → (j : ℕ) → j < suc n → Congruent m (u j) 0
+    → (i : ℕ) → i < n → Congruent m (v i) 0) → (j : ℕ) → j < suc n → Congruent m (u j) 0
 none_with_last m n zero x u positive fit few none other less j l = absurd (omega (arith, some_weight m n u other, few))
 none_with_last m n (suc k) x u positive fit few none other fewer_none j l =
     let before : (i : ℕ) → i < n → Congruent m (u i) 0 =

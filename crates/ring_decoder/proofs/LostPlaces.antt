@@ -29,8 +29,7 @@ pub without_listed : (lost : List ℕ) (y : ℕ → ℕ) (i : ℕ) → is_lost l
 without_listed lost y i e = ap (λ b. cond b 0 (y i)) e
 
 -- which lost place it is
-pub lost_at : (lost : List ℕ) (i : ℕ) → is_lost lost i ≡ true
-    → (l : ℕ) × (l < length lost) × (slice_index lost l ≡ i)
+pub lost_at : (lost : List ℕ) (i : ℕ) → is_lost lost i ≡ true → (l : ℕ) × (l < length lost) × (slice_index lost l ≡ i)
 lost_at [] i e = absurd (false≢true e)
 lost_at (p ∷ ps) i e = elim (eqb_tells p i) [
   | inl q ↦ (0, omega arith, q.1)
@@ -113,16 +112,14 @@ few_hidden n (p ∷ ps) a b =
 -- words that are the same
 pub distance_alike : (n : ℕ) (a b c d : ℕ → ℕ) → ((i : ℕ) → i < n → a i ≡ c i) → ((i : ℕ) → i < n → b i ≡ d i)
     → distance n a b ≡ distance n c d
-distance_alike n a b c d first second =
-    sum_below-same n _ _ (λ i l. rw (first i l, second i l) refl)
+distance_alike n a b c d first second = sum_below-same n _ _ (λ i l. rw (first i l, second i l) refl)
 
 -- words that differ at fewer places
 pub fewer_differences : (n : ℕ) (a b c d : ℕ → ℕ) → ((i : ℕ) → i < n → c i ≡ d i → a i ≡ b i)
     → distance n a b ≤ distance n c d
 fewer_differences zero a b c d less = omega (arith, sum_below-zero (λ i. counted (a i) (b i)))
 fewer_differences (suc n) a b c d less =
-    let s = sum_below-suc n (λ i. counted (a i) (b i)) in
-    let t = sum_below-suc n (λ i. counted (c i) (d i)) in
+    let s = sum_below-suc n (λ i. counted (a i) (b i)) in let t = sum_below-suc n (λ i. counted (c i) (d i)) in
     let i = fewer_differences n a b c d (λ i l. less i (omega arith)) in
     elim (cases_eq (c n) (d n)) [
       | inl e ↦ omega (arith, s, t, i, counted_same (a n) (b n) (less n (omega arith) e))

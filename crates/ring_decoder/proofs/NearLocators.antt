@@ -128,8 +128,7 @@ kept_value {m} {L} {n} {x} {p} {f} {g} {lost} clear i other = elim (lost_or_list
 
 -- no zeros, or one
 no_zeros : (n : ℕ) (f : ℕ → ℕ) → ((i : ℕ) → i < n → f i ≢ 0) → zeros n f ≡ 0
-no_zeros n f none =
-    sum_below-of_zeros n (λ i. cond (eqb (f i) 0) 1 0) (λ i l. chosen_nonzero (f i) 1 0 (none i l))
+no_zeros n f none = sum_below-of_zeros n (λ i. cond (eqb (f i) 0) 1 0) (λ i l. chosen_nonzero (f i) 1 0 (none i l))
 
 zero_at_most : (v : ℕ) → cond (eqb v 0) 1 0 ≤ 1
 zero_at_most v = grind (arith, cases_eq v 0, chosen_zero v 1 0, chosen_nonzero v 1 0)
@@ -167,8 +166,7 @@ value_cancels {m} {L = suc d} {n} {x} {p} {f} {g} {lost} clear unit w i l value 
 
 -- where all numbers met have inverses
 covers_units : {m t n c N L : ℕ} {x v z : ℕ → ℕ} {lost : List ℕ} {s q p f g : ℕ → ℕ}
-    → AreSought m t n c N x v z lost s q
-    → IsLocator m N L p q → AreCleared m L n x p f g lost → HasInverse m (p L)
+    → AreSought m t n c N x v z lost s q → IsLocator m N L p q → AreCleared m L n x p f g lost → HasInverse m (p L)
     → ((i : ℕ) → i < n → g i ≢ 0 → HasInverse m (g i))
     → (d : ℕ → ℕ) → IsNearPattern m t n x v lost s d → Covers m t n g d
 covers_units {m} {t} {n} {c} {N} {L} {x} {v} {z} {lost} {s} {q} {p} {f} {g} sought locator clear unit values d near =
@@ -209,8 +207,7 @@ geometric m N n j x w q sums l there none = record {
 }
 
 -- the values of u·(a - X): at X it is 0 only where X is a
-linear_none : (m u a X : ℕ) (p : ℕ → ℕ) → IsLinear m u a 1 p
-    → Congruent m (polynomial_at 2 p X + u * X) (u * a)
+linear_none : (m u a X : ℕ) (p : ℕ → ℕ) → IsLinear m u a 1 p → Congruent m (polynomial_at 2 p X + u * X) (u * a)
 linear_none m u a X p is =
     mod_of_combination (mod_add (mod_times X is.leading) is.constant) (omega (arith, linear_value p X))
 
@@ -222,8 +219,7 @@ apart_none m u a b unit same =
     factor_none m u r unit (mod_of_combination (mod_add (mod_times u is) same) (omega arith))
 
 linear_values : {m n : ℕ} {x p f g : ℕ → ℕ} {lost : List ℕ} → AreCleared m 1 n x p f g lost → HaveUnitDifferences m n x
-    → (u j : ℕ) → u % m ≢ 0 → j < n → IsLinear m u (x j) 1 p
-    → (f j ≡ 0) × ((i : ℕ) → i < n → i ≢ j → f i ≢ 0)
+    → (u j : ℕ) → u % m ≢ 0 → j < n → IsLinear m u (x j) 1 p → (f j ≡ 0) × ((i : ℕ) → i < n → i ≢ j → f i ≢ 0)
 linear_values {m} {n} {x} {p} {f} {g} {lost} clear fit u j there l is =
     let value : (i : ℕ) → i < n → f i ≡ polynomial_at 2 p (x i) % m = clear.values.some (omega arith) in (
       value j l ∙ residue_none m (polynomial_at 2 p (x j))
@@ -236,8 +232,7 @@ linear_values {m} {n} {x} {p} {f} {g} {lost} clear fit u j there l is =
 
 -- where one listed symbol is wrong
 covers_one : {m t n c N L : ℕ} {x v z : ℕ → ℕ} {lost : List ℕ} {s q p f g : ℕ → ℕ} → AreSought m t n c N x v z lost s q
-    → AreCleared m L n x p f g lost
-    → ((u a : ℕ) → 2 ≤ N → IsGeometric m N u a q → IsLinear m u a L p)
+    → AreCleared m L n x p f g lost → ((u a : ℕ) → 2 ≤ N → IsGeometric m N u a q → IsLinear m u a L p)
     → (d : ℕ → ℕ) → IsNearPattern m t n x v lost s d → (j : ℕ) → j < n → without lost d j % m ≢ 0
     → ((i : ℕ) → i < n → i ≢ j → without lost d i % m ≡ 0) → Covers m t n g d
 covers_one {m} {t} {n} {c} {N} {L} {x} {v} {z} {lost} {s} {q} {p} {f} {g} sought clear one d near j l there right =
@@ -264,8 +259,7 @@ covers_one {m} {t} {n} {c} {N} {L} {x} {v} {z} {lost} {s} {q} {p} {f} {g} sought
 pub located_by : {m t n c N L a : ℕ} {x v z : ℕ → ℕ} {lost : List ℕ} {s q p f g : ℕ → ℕ}
     → AreSought m t n c N x v z lost s q
     → IsLocator m N L p q → AreLocatorValues m L n x p f → ((i : ℕ) → g i ≡ without lost f i)
-    → (HasInverse m a → HasInverse m (p L))
-    → ((u b : ℕ) → 2 ≤ N → IsGeometric m N u b q → IsLinear m u b L p)
+    → (HasInverse m a → HasInverse m (p L)) → ((u b : ℕ) → 2 ≤ N → IsGeometric m N u b q → IsLinear m u b L p)
     → IsLocated m t n x v lost s g a
 located_by {m} {t} {n} {c} {N} {L} {a} {x} {v} {z} {lost} {s} {q} {p} {f} {g} sought locator values cleared unit one =
     let clear : AreCleared m L n x p f g lost = record { values = values; cleared = cleared } in

@@ -36,8 +36,7 @@ pub length_unit : (m g n : ℕ) (x : ℕ → ℕ) → 0 < m → Suits m g n → 
     → HasInverse m n
 length_unit m g n x positive suits powers fit = elim (cases_lt 1 n) [
   | inl more ↦
-      let h : ℕ = n / 2 in
-      let u : ℕ = residue m (pos (x 0) -ℤ pos (x h)) in
+      let h : ℕ = n / 2 in let u : ℕ = residue m (pos (x 0) -ℤ pos (x h)) in
       let turn : Congruent m (g ^ h + 1) 0 = record { same = suits.half_turn more ∙ sym (zero-mod m) } in
       let at_u : Congruent m (u + x h) (x 0) = mod_of_difference (x h) positive refl in
       let first : Congruent m (x 0) (g ^ 0) = mod_of_residue (powers.power 0 (omega (arith, more))) in
@@ -55,9 +54,7 @@ length_unit m g n x positive suits powers fit = elim (cases_lt 1 n) [
 root_turn : (m g n z : ℕ) → Suits m g n → n ≡ 2 ^ z → 1 < n → Congruent m (g ^ n) 1
 root_turn m g n zero suits whole more = let one : 2 ^ 0 ≡ 1 = refl in absurd (omega (arith, whole, one, more))
 root_turn m g n (suc y) suits whole more =
-    let s = pow-suc 2 y in
-    let h : ℕ = 2 ^ y in
-    let half : n / 2 ≡ h = omega (arith, whole, s) in
+    let s = pow-suc 2 y in let h : ℕ = 2 ^ y in let half : n / 2 ≡ h = omega (arith, whole, s) in
     let double : n ≡ h + h = omega (arith, whole, s) in
     let turn : Congruent m (g ^ h + 1) 0 =
     record { same = ap (λ v. (g ^ v + 1) % m) (sym half) ∙ suits.half_turn more ∙ sym (zero-mod m) } in
@@ -81,8 +78,7 @@ pub syndrome_of_coefficient : (m d h : ℕ) (x v c w : ℕ → ℕ) → 0 < m �
     → AreWeights m (suc d) x v → ((i : ℕ) → i < suc d → Congruent m (x i ^ suc d) 1) → IsEncoding m (suc d) (suc d) x c w
     → Congruent m (c (d - h)) (sum_below (suc d) (λ i. v i * w i * x i ^ h))
 syndrome_of_coefficient m d h x v c w positive row fit weights turn encoding =
-    let n : ℕ = suc d in
-    let t : ℕ → ℕ = λ e. sum_below n (λ i. v i * x i ^ e) in
+    let n : ℕ = suc d in let t : ℕ → ℕ = λ e. sum_below n (λ i. v i * x i ^ e) in
     let whole = moment m (h + n) n n h x v t c (record { sum = λ e l. mod_refl (t e) }) (omega arith) in
     let early : (e : ℕ) → e < d → Congruent m (t e) 0 =
     λ e l. mod_sym (powers_vanish m d e x v positive fit weights l) in
@@ -95,8 +91,7 @@ syndrome_of_coefficient m d h x v c w positive row fit weights turn encoding =
     λ l b other. mod_of_combination (mod_times (c l) (elim (cases_lt (h + l) d) [
       | inl less ↦ early (h + l) less
       | inr more ↦
-          let e : ℕ = h + l - n in
-          let at : h + l ≡ e + n = omega (arith, more, other, row, b) in
+          let e : ℕ = h + l - n in let at : h + l ≡ e + n = omega (arith, more, other, row, b) in
           rw at (late e (omega (arith, at, row, b)))
     ])) (omega arith) in
     let alone = single_congruent m n (d - h) (λ l. c l * t (h + l)) (omega arith) others in

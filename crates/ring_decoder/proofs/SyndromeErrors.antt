@@ -29,8 +29,7 @@ use Rattle.ring_codes.proofs.Roots.{scaled_polynomial}
 abbrev pub from_coefficient : ℕ → (ℕ → ℕ) → ℕ → ℕ → ℕ
 from_coefficient q f a l = polynomial_at (q + 1 - l) (λ i. f (l + i)) a
 
-next_coefficient : (q l a : ℕ) (f : ℕ → ℕ) → l < q
-    → f l + a * from_coefficient q f a (suc l) ≡ from_coefficient q f a l
+next_coefficient : (q l a : ℕ) (f : ℕ → ℕ) → l < q → f l + a * from_coefficient q f a (suc l) ≡ from_coefficient q f a l
 next_coefficient q l a f b =
     let count : q + 1 - l ≡ suc (q + 1 - suc l) = omega arith in
     let here = ap f (let e : l + 0 ≡ l = omega arith in e) in
@@ -53,9 +52,7 @@ all_coefficients q a f =
 quotient_none : (m q j i : ℕ) (x f : ℕ → ℕ) → 0 < m → HaveUnitDifferences m q x → HasRoots m q x f → j < q → i < q → i ≢ j
     → Congruent m (polynomial_at q (λ l. from_coefficient q f (x j) (suc l)) (x i)) 0
 quotient_none m q j i x f positive fit roots below within other =
-    let a : ℕ = x j in
-    let s : ℕ → ℕ = from_coefficient q f a in
-    let Q : ℕ = polynomial_at q (λ l. s (suc l)) (x i) in
+    let a : ℕ = x j in let s : ℕ → ℕ = from_coefficient q f a in let Q : ℕ = polynomial_at q (λ l. s (suc l)) (x i) in
     let u : ℕ = residue m (pos (x i) -ℤ pos a) in
     let root : (k : ℕ) → k < q → Congruent m (polynomial_at (suc q) f (x k)) 0 =
     λ k b. rw (← add-one q) (mod_trans (roots.value (x k))
@@ -74,9 +71,7 @@ same_at_point : (m d j : ℕ) (x f g : ℕ → ℕ) → HaveUnitDifferences m (s
     → Congruent m (f d) 1 → Congruent m (g d) 1
     → Congruent m (polynomial_at (suc d) f (x j)) (polynomial_at (suc d) g (x j))
 same_at_point m d j x f g fit below none_f none_g one_f one_g =
-    let n : ℕ = suc d in
-    let F : ℕ = polynomial_at n f (x j) in
-    let G : ℕ = polynomial_at n g (x j) in
+    let n : ℕ = suc d in let F : ℕ = polynomial_at n f (x j) in let G : ℕ = polynomial_at n g (x j) in
     let at : (i : ℕ) → i < n → Congruent m (polynomial_at n (λ l. G * f l) (x i)) (polynomial_at n (λ l. F * g l) (x i)) =
     λ i l. elim (cases_eq i j) [
       | inl e ↦ rw (e, scaled_polynomial n G f (x j), scaled_polynomial n F g (x j)) (mod_of_eq (omega arith))
@@ -93,8 +88,7 @@ quotient_own : (m q j : ℕ) (x f : ℕ → ℕ) → 0 < m → HaveUnitDifferenc
     → Congruent m (polynomial_at q (λ l. from_coefficient q f (x j) (suc l)) (x j)) (product_but m q x j (x j))
 quotient_own m zero j x f positive fit roots below = absurd (omega arith)
 quotient_own m (suc d) j x f positive fit roots below =
-    let q : ℕ = suc d in
-    let p = product_monic m d j x positive (omega arith) in
+    let q : ℕ = suc d in let p = product_monic m d j x positive (omega arith) in
     mod_trans (same_at_point m d j x (λ l. from_coefficient q f (x j) (suc l)) p.coefficient fit below
     (λ i l other. quotient_none m q j i x f positive fit roots below l other)
     (λ i l other. mod_trans (p.value (x i)) (mod_of_eq (none_at m q j i x below l other)))
@@ -107,8 +101,7 @@ quotient_sum_is : (m q j : ℕ) (x f w s : ℕ → ℕ) → 0 < m → HaveUnitDi
     → Congruent m (sum_below q (λ k. polynomial_at (k + 1) (λ i. f (q + 1 - (k + 1) + i)) (x j) * s (q - 1 - k)))
     (w j * product_but m q x j (x j))
 quotient_sum_is m q j x f w s positive fit roots below are =
-    let p : ℕ → ℕ = λ l. from_coefficient q f (x j) (suc l) in
-    let G : ℕ → ℕ = λ l. p l * s l in
+    let p : ℕ → ℕ = λ l. from_coefficient q f (x j) (suc l) in let G : ℕ → ℕ = λ l. p l * s l in
     let each : (k : ℕ) → k < q
     → polynomial_at (k + 1) (λ i. f (q + 1 - (k + 1) + i)) (x j) * s (q - 1 - k) ≡ G (q - 1 - k) =
     λ k l.

@@ -34,8 +34,7 @@ moved m d e F G count same p = record {
 
 monic_one : (m : ℕ) → IsMonic m 0 (λ X. 1)
 monic_one m =
-    let c : ℕ → ℕ = extended 0 1 (λ i. 0) in
-    let one : c 0 ≡ 1 = at_end 0 1 (λ i. 0) 0 refl in
+    let c : ℕ → ℕ = extended 0 1 (λ i. 0) in let one : c 0 ≡ 1 = at_end 0 1 (λ i. 0) 0 refl in
     record {
       coefficient = c;
       behind = λ i l. before_end 0 1 (λ i. 0) i (omega arith);
@@ -52,8 +51,7 @@ times_root_highest d r h one none = omega (arith, one, ap (λ v. r * v) none)
 times_difference : (m d a : ℕ) (F : ℕ → ℕ) → 0 < m → IsMonic m d F
     → IsMonic m (suc d) (λ X. F X * residue m (pos X -ℤ pos a))
 times_difference m d a F positive p =
-    let r : ℕ = (m - 1) * a in
-    let none = p.behind (suc d) (omega arith) in
+    let r : ℕ = (m - 1) * a in let none = p.behind (suc d) (omega arith) in
     record {
       coefficient = times_root r p.coefficient;
       behind = λ i l. times_root_behind (suc d) r i p.coefficient (λ j b. p.behind j (omega arith)) (omega arith);
@@ -66,8 +64,7 @@ times_difference m d a F positive p =
 times_differences : (m b d : ℕ) (a F : ℕ → ℕ) → 0 < m → IsMonic m d F
     → IsMonic m (b + d) (λ X. F X * product_below b (λ l. residue m (pos X -ℤ pos (a l))))
 unfolding product_below
-times_differences m zero d a F positive p =
-    moved m d (0 + d) F (λ X. F X * 1) (omega arith) (λ X. omega arith) p
+times_differences m zero d a F positive p = moved m d (0 + d) F (λ X. F X * 1) (omega arith) (λ X. omega arith) p
 times_differences m (suc b) d a F positive p =
     let P : ℕ → ℕ = λ X. product_below b (λ l. residue m (pos X -ℤ pos (a l))) in
     moved m (suc (b + d)) (suc b + d) (λ X. F X * P X * residue m (pos X -ℤ pos (a b)))
@@ -91,8 +88,7 @@ pub combination : (m d n : ℕ) (v : ℕ → ℕ) (F : ℕ → ℕ → ℕ) → 
 combination m d zero v F each =
     ((λ i. 0), sym (sum_below-zero v), λ X. mod_of_eq (no_value (suc d) X ∙ sym (sum_below-zero _)))
 combination m d (suc n) v F each =
-    let before = combination m d n v F (λ i l. each i (omega arith)) in
-    let last = each n (omega arith) in (
+    let before = combination m d n v F (λ i l. each i (omega arith)) in let last = each n (omega arith) in (
       (λ i. before.0 i + v n * last.coefficient i),
       (omega (arith, before.1, ap (λ w. v n * w) last.highest, sum_below-suc n v)),
       λ X. rw (combined (suc d) before.0 last.coefficient (v n) X, sum_below-suc n (λ i. v i * F i X))

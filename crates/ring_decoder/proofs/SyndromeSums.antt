@@ -84,8 +84,7 @@ terms_next m h new old a x is before =
 
 pub sum_of_terms : (m n h sum : ℕ) (x w terms : ℕ → ℕ) → ((i : ℕ) → i < n → Congruent m (terms i) (w i * x i ^ h))
     → sum ≡ sum_below n terms % m → sum ≡ sum_below n (λ i. w i * x i ^ h) % m
-sum_of_terms m n h sum x w terms each is =
-    is ∙ (sum_below-congruent n terms (λ i. w i * x i ^ h) each).same
+sum_of_terms m n h sum x w terms each is = is ∙ (sum_below-congruent n terms (λ i. w i * x i ^ h) each).same
 
 -- a product of equal factors
 pub product_of_equal : (m v a b c d : ℕ) → v ≡ (a * b) % m → a ≡ c → b ≡ d → v ≡ (c * d) % m

@@ -12,8 +12,7 @@ points-preserved g c =
     let ring = g.R.Reducer in let m = ring.modulus c.args.r.now in let number = g.T.RingWord.number in
     let n : ℕ = length c.args.points.now in let h = c.rows.h in let i = c.points.i in let next = c.points.next in
     let x = entry number ring.value m c.args.points.now in let v = entry number ring.value m c.args.weights.now in
-    let f : ℕ → ℕ = λ e. (v (e % n) * x (e % n) ^ (e / n)) % m in
-    let at = c.points.invariant.0 in
+    let f : ℕ → ℕ = λ e. (v (e % n) * x (e % n) ^ (e / n)) % m in let at = c.points.invariant.0 in
     let here : f next ≡ (v i * x i ^ h) % m =
     rw (at, mod-mul-add h n i c.points-test.true, div-mul-add h n i c.points-test.true) refl in
     let inside = row_within h c.args.rows n i c.rows-test.true c.points-test.true in (

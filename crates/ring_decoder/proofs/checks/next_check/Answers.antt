@@ -19,8 +19,7 @@ returns-else-h-eq0-clause-value g c =
     let ring = g.R.Reducer in let m = ring.modulus c.args.r.now in let number = g.T.RingWord.number in
     let n : ℕ = length c.args.points.now in let i = c.args.i in let next = c.args.next in
     let x = entry number ring.value m c.args.points.now in let v = entry number ring.value m c.args.weights.now in
-    let above : n ≤ next = c.requires.above c.if-h-eq0.false in
-    let column = c.requires.column in
+    let above : n ≤ next = c.requires.above c.if-h-eq0.false in let column = c.requires.column in
     let held = held_read number ring.form ring.value m c.args.checks.now (next - n) next _
     (λ e. (v (e % n) * x (e % n) ^ (e / n)) % m) c.requires.before (omega (arith, above, column)) c.index-checks-next.is in
     check_later m n c.args.h i next _ _ _ x v c.if-h-eq0.false column c.requires.at held.same
@@ -31,8 +30,7 @@ mul-requires-clause-left g c =
     let ring = g.R.Reducer in let m = ring.modulus c.args.r.now in let number = g.T.RingWord.number in
     let n : ℕ = length c.args.points.now in let next = c.args.next in
     let x = entry number ring.value m c.args.points.now in let v = entry number ring.value m c.args.weights.now in
-    let above : n ≤ next = c.requires.above c.if-h-eq0.false in
-    let column = c.requires.column in
+    let above : n ≤ next = c.requires.above c.if-h-eq0.false in let column = c.requires.column in
     (held_read number ring.form ring.value m c.args.checks.now (next - n) next _
     (λ e. (v (e % n) * x (e % n) ^ (e / n)) % m) c.requires.before (omega (arith, above, column)) c.index-checks-next.is).checked
 

@@ -7,8 +7,7 @@ use Rattle.ring_decoder.proofs.choices.gather.Goals as goal
 use Rattle.ring_decoder.proofs.choices.gather.Goals.{then-is_zero, else-is_zero}
 
 pub values-init : goal.values-init
-values-init g c =
-    (sym (zeros-none _), omega arith, λ k d l. absurd (omega arith), chosen_none _ _ _)
+values-init g c = (sym (zeros-none _), omega arith, λ k d l. absurd (omega arith), chosen_none _ _ _)
 
 pub values-preserved : goal.values-preserved
 values-preserved g c =
@@ -20,11 +19,9 @@ values-preserved g c =
     elim c.if-is_zero.branch [
       | then-is_zero w ↦
           let here = sym at ∙ c.is_zero.ensures.0 w.if-is_zero.true in
-          let is = w.next-is in let x = w.index-numbers-i.result in
-          let test = c.values-test.true in
+          let is = w.next-is in let x = w.index-numbers-i.result in let test = c.values-test.true in
           let there : i < length numbers = omega (arith, c.requires.pairs, test) in
-          let before = zeros_before i (length values) z test here in
-          let count = so_far.0 in
+          let before = zeros_before i (length values) z test here in let count = so_far.0 in
           let within : next < length chosen = omega (arith, count, before, c.values.auto.chosen, c.requires.room) in
           let new = w.chosen-is ∙ w.put.ensures in
           let form = form_read number ring.form ring.value m numbers i x c.requires.numbers there w.index-numbers-i.is in (

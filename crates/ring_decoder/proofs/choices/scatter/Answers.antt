@@ -28,8 +28,7 @@ values-preserved g c =
     let chosen = c.args.chosen.now in let errors = c.values.errors in let next = c.values.next in
     let e = entry number ring.value m chosen in
     let at = entry_read number ring.value m values i _ c.values-test.true c.index-values-i.is in
-    let so_far = c.values.invariant in let few = so_far.1 in
-    let test = c.values-test.true in
+    let so_far = c.values.invariant in let few = so_far.1 in let test = c.values-test.true in
     let within : i < length errors = omega (arith, test, c.values.auto.errors, c.requires.room) in
     elim c.if-is_zero.branch [
       | then-is_zero w ↦

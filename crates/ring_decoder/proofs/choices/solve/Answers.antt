@@ -43,8 +43,7 @@ pub returns-then-wrong-syndromes-clause-solved : goal.returns-then-wrong-syndrom
 returns-then-wrong-syndromes-clause-solved g c e near covers =
     let known = chosen g (goal.at.returns-then-wrong-syndromes-clause-solved g c).After-gather-2 in
     let m = g.R.Reducer.modulus c.args.r.now in let entries = entry g.T.RingWord.number g.R.Reducer.value m in
-    let z = entries c.args.values.now in let f = entries c.scatter.new.errors in
-    let lost = c.args.lost.now in
+    let z = entries c.args.values.now in let f = entries c.scatter.new.errors in let lost = c.args.lost.now in
     let only = c.if-not-solve_chosen.ensures.only (picked (length c.args.points.now) z e).0
     (covered_sums _ _ _ _ z _ _ e _ _ _ known.0 known.1 known.2 covers near.sums) in
     let weight = covered_weight m _ _ _ lost z e (entries c.solve_chosen.new.errors) f known.0 covers only.1

@@ -23,8 +23,7 @@ coefficients-preserved g c =
     let coefficients = c.args.coefficients.now in let numbers = c.args.numbers.now in
     let f = entry number ring.value m coefficients in let s = entry number ring.value m numbers in
     let a = ring.value m (number c.args.point.now) in let q = c.args.q in let k = c.coefficients.k in
-    let so_far = c.coefficients.invariant in
-    let below : k < q = c.coefficients-test.true in
+    let so_far = c.coefficients.invariant in let below : k < q = c.coefficients-test.true in
     let V : ℕ → ℕ = λ k. polynomial_at (k + 1) (λ i. f (q + 1 - (k + 1) + i)) a in
     let at : q - k ≡ q + 1 - 1 - k = omega (arith, below) in
     let read = entry_read number ring.value m coefficients (q - k) _ (omega (arith, c.requires.each)) c.index-coefficients-q.is in

@@ -30,8 +30,7 @@ pub errors-preserved : goal.errors-preserved
 errors-preserved g c =
     let ring = g.R.Reducer in let m = ring.modulus c.args.r.now in let number = g.T.RingWord.number in
     let list = c.errors.errors in let j = c.errors.j in let so_far = c.errors.invariant in
-    let old = entry number ring.value m c.points.errors in
-    let divisors = c.invert_each.new.forms in
+    let old = entry number ring.value m c.points.errors in let divisors = c.invert_each.new.forms in
     let here = entry_at number ring.value m list j c.index-errors-j.result (omega arith) ∙ so_far.1.kept j (omega arith) in
     let inverse = entry_at number ring.value m divisors j c.index-divisors-j-in-errors.result (omega arith) in (
       forms_written number ring.form ring.value m list j c.mul-in-errors.result c.mul-in-errors.ensures.checked so_far.0,
@@ -73,8 +72,7 @@ returns-clause-errors g c t e are j l =
     let points = c.args.points.now in let x = entry number ring.value m points in let q : ℕ = length points in
     let w = entry number ring.value m c.args.weights.now in
     let f = entry number ring.value m c.expand_roots.new.coefficients in
-    let s = entry number ring.value m c.args.syndromes.now in
-    let fit = (returns-clause-solved g c).0 t in
+    let s = entry number ring.value m c.args.syndromes.now in let fit = (returns-clause-solved g c).0 t in
     error_found m q j _ _ _ _ x f w e s positive fit.0 c.expand_roots.ensures.roots l are
     (held_entry number ring.form ring.value m c.points.errors _ c.points.j j c.points.invariant.0 (omega arith) (omega arith))
     (c.points.invariant.2.done j (omega arith)

@@ -25,8 +25,7 @@ returns-then-from-degree-clause-advanced g c =
 
 pub returns-then-is_zero-clause-advanced : goal.returns-then-is_zero-clause-advanced
 returns-then-is_zero-clause-advanced g c =
-    let ring = g.R.Reducer in let m = ring.modulus c.args.r.now in
-    let found = c.requires.search.search in
+    let ring = g.R.Reducer in let m = ring.modulus c.args.r.now in let found = c.requires.search.search in
     let i = c.args.i in let L = c.args.degree in let h : ℕ = i - L in
     record {
       pivot_checked = c.requires.search.pivot_checked;
@@ -38,21 +37,17 @@ returns-then-is_zero-clause-advanced g c =
 pub returns-then-from-moments-clause-advanced : goal.returns-then-from-moments-clause-advanced
 returns-then-from-moments-clause-advanced g c =
     let ring = g.R.Reducer in let m = ring.modulus c.args.r.now in
-    let positive = (g.met.R.Reducer.canonical c.args.r.now).positive in
-    let found = c.requires.search.search in
-    let i = c.args.i in let L = c.args.degree in let h : ℕ = i - L in
-    let long = c.if-from-moments.true in
+    let positive = (g.met.R.Reducer.canonical c.args.r.now).positive in let found = c.requires.search.search in
+    let i = c.args.i in let L = c.args.degree in let h : ℕ = i - L in let long = c.if-from-moments.true in
     search_none m _ i L _ _ h _ _ _ positive c.requires.inside (omega (arith, found.within)) (omega (arith, long))
     (λ e. false≢true (sym c.if-is_zero.false ∙ c.is_zero.ensures.1 (c.apply-discrepancy.ensures.value ∙ e))) found
 
 pub returns-clause-advanced : goal.returns-clause-advanced
 returns-clause-advanced g c =
     let ring = g.R.Reducer in let m = ring.modulus c.args.r.now in let number = g.T.RingWord.number in
-    let positive = (g.met.R.Reducer.canonical c.args.r.now).positive in
-    let found = c.requires.search.search in
+    let positive = (g.met.R.Reducer.canonical c.args.r.now).positive in let found = c.requires.search.search in
     let i = c.args.i in let L = c.args.degree in let h : ℕ = i - L in let q : ℕ = h + 1 - L in
-    let half = c.if-from-degree.false in
-    let d = ring.value m (number c.apply-discrepancy.result) in
+    let half = c.if-from-degree.false in let d = ring.value m (number c.apply-discrepancy.result) in
     let v = ring.value m (number c.extend_witness-next.result) in
     record {
       pivot_checked = c.apply-discrepancy.ensures.checked;

@@ -9,11 +9,9 @@ pub returns-clause-value : goal.returns-clause-value
 returns-clause-value g c =
     let ring = g.R.Reducer in let m = ring.modulus c.args.r.now in let number = g.T.RingWord.number in
     let polynomial = c.args.polynomial.now in let numbers = c.args.numbers.now in
-    let from = c.args.from in let n = c.args.count in
-    let coefficient = entry number ring.value m (take n polynomial) in
+    let from = c.args.from in let n = c.args.count in let coefficient = entry number ring.value m (take n polynomial) in
     let term = entry number ring.value m (slice_range numbers from (from + n)) in
-    let end : ℕ = from + n in let ordered : from ≤ end = omega arith in
-    let size : end - from ≡ n = omega arith in
+    let end : ℕ = from + n in let ordered : from ≤ end = omega arith in let size : end - from ≡ n = omega arith in
     let count = length-take-le n polynomial c.requires.within in
     c.dot_product.ensures.value ∙ ap (λ v. v % m) (ap (λ k. sum_below k (λ i. coefficient i * term i)) count
     ∙ sum_below-same n (λ i. coefficient i * term i)

@@ -9,8 +9,7 @@ pub low-preserved : goal.low-preserved
 low-preserved g c =
     let ring = g.R.Reducer in let m = ring.modulus c.args.r.now in let number = g.T.RingWord.number in
     let list = c.low.polynomial in let i = c.low.i in let so_far = c.low.invariant in
-    let old = entry number ring.value m c.args.polynomial.now in
-    let a = ring.value m (number c.args.a.now) in
+    let old = entry number ring.value m c.args.polynomial.now in let a = ring.value m (number c.args.a.now) in
     let here = entry_at number ring.value m list i c.index-polynomial-i.result (omega arith) ∙ so_far.1.kept i (omega arith) in
     let own = c.mul-scaled.ensures.value ∙ ap (λ v. (a * v) % m) here in (
       forms_written number ring.form ring.value m list i c.mul-scaled.result c.mul-scaled.ensures.checked so_far.0,
@@ -27,8 +26,7 @@ high-preserved g c =
     let positive = (g.met.R.Reducer.canonical c.args.r.now).positive in
     let list = c.high.polynomial in let k = c.high.k in let so_far = c.high.invariant in
     let old = entry number ring.value m c.args.polynomial.now in
-    let others = entry number ring.value m c.args.other.now in
-    let a = ring.value m (number c.args.a.now) in
+    let others = entry number ring.value m c.args.other.now in let a = ring.value m (number c.args.a.now) in
     let b = ring.value m (number c.args.b.now) in
     let there = entry_read number ring.value m c.args.other.now (k - c.args.q) _ (omega (arith, c.requires.other_within)) c.index-other-place.is in
     let here = entry_at number ring.value m list k c.index-polynomial-k.result (omega arith) ∙ so_far.1.kept k (omega arith) in

@@ -5,8 +5,7 @@ use Rattle.ring_decoder.proofs.locator.find_locator.Goals as goal
 
 pub moments-init : goal.moments-init
 moments-init g c =
-    let m = g.R.Reducer.modulus c.args.r.now in
-    let positive = (g.met.R.Reducer.canonical c.args.r.now).positive in
+    let m = g.R.Reducer.modulus c.args.r.now in let positive = (g.met.R.Reducer.canonical c.args.r.now).positive in
     let one = c.transform-one.ensures.value ∙ ap (λ v. v % m) c.one.ensures in
     let none = c.transform-zero.ensures.value ∙ ap (λ v. v % m) c.zero.ensures ∙ zero-mod m in (
       c.set_constant.ensures.checked,

@@ -40,8 +40,7 @@ sums-preserved g c =
     let ring = g.R.Reducer in let m = ring.modulus c.args.r.now in let number = g.T.RingWord.number in
     let x = entry number ring.value m c.args.points.now in let w = entry number ring.value m c.args.terms.now in
     let n = length c.args.points.now in let sums = c.args.sums.now in let h = c.sums.h in
-    let so_far = c.sums.invariant in
-    let below : h < length sums = omega arith in
+    let so_far = c.sums.invariant in let below : h < length sums = omega arith in
     let symbol = entry_read number ring.value m sums h _ below c.index-sums-h.is in
     let same = told_same _ _ _ c.ne.ensures c.if-ne.false
     (g.met.T.RingWord.equal c.next_sum-sum.result c.index-sums-h.result) in (

@@ -19,8 +19,7 @@ returns-clause-checked g c =
 pub returns-clause-moments : goal.returns-clause-moments
 returns-clause-moments g c n x w are =
     let ring = g.R.Reducer in let m = ring.modulus c.args.r.now in let number = g.T.RingWord.number in
-    let product = c.expand_roots.new.coefficients in
-    let f = entry number ring.value m product in
+    let product = c.expand_roots.new.coefficients in let f = entry number ring.value m product in
     let t = entry number ring.value m c.args.syndromes.now in
     let lost = c.args.lost.now in let M = length c.args.moments.now in
     let count : length product ≡ length lost + 1 = omega arith in

@@ -19,8 +19,7 @@ terms-init g c =
 pub terms-preserved : goal.terms-preserved
 terms-preserved g c =
     let ring = g.R.Reducer in let m = ring.modulus c.args.r.now in let number = g.T.RingWord.number in
-    let points = c.args.points.now in let list = c.terms.terms in let i = c.terms.i in
-    let so_far = c.terms.invariant in
+    let points = c.args.points.now in let list = c.terms.terms in let i = c.terms.i in let so_far = c.terms.invariant in
     let old = entry number ring.value m c.args.terms.now in
     let term = entry_at number ring.value m list i c.index-terms-i.result (omega arith)
     ∙ so_far.2.kept i (omega arith) in

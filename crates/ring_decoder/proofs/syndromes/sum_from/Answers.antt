@@ -10,8 +10,7 @@ returns-clause-value g c =
     let numbers = c.args.numbers.now in let start = c.args.start in let n = length c.args.coefficients.now in
     let f = entry number ring.value m c.args.coefficients.now in
     let slice = entry number ring.value m (slice_range numbers start (start + n)) in
-    let end : ℕ = start + n in let ordered : start ≤ end = omega arith in
-    let size : end - start ≡ n = omega arith in
+    let end : ℕ = start + n in let ordered : start ≤ end = omega arith in let size : end - start ≡ n = omega arith in
     c.dot_product.ensures.value
     ∙ ap (λ v. v % m) (sum_below-same n (λ i. f i * slice i) (λ i. f i * entry number ring.value m numbers (start + i))
     (λ i l. ap (λ v. f i * v)

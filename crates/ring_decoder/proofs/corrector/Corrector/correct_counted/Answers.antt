@@ -16,8 +16,7 @@ returns-then-count_zeros-syndromes-clause-corrected g c =
     let x = entry number ring.value m self.points.now in let v = entry number ring.value m self.weights.now in
     let y = entry number ring.value m c.args.word.now in let n : ℕ = length self.points.now in let k = self.k in
     let s = entry number ring.value m c.write_syndromes-products.new.syndromes in let lost = c.args.lost.now in
-    let places : AreLost k n lost = c.in-Ok.ensures m x in
-    let room = c.requires.room in
+    let places : AreLost k n lost = c.in-Ok.ensures m x in let room = c.requires.room in
     let long : length c.write_syndromes-products.new.syndromes ≡ n - k =
     c.write_syndromes-products.auto.syndromes ∙ c.split_at_mut-syndromes.ensures.front_len in
     let right = right_already m k n x v lost y s positive places self.inverses
@@ -74,8 +73,7 @@ returns-in-Ok-find_errors-clause-corrected g c =
     let y = entry number ring.value m c.args.word.now in let n : ℕ = length self.points.now in let k = self.k in
     let s = entry number ring.value m c.write_syndromes-products.new.syndromes in let lost = c.args.lost.now in
     let e = entry number ring.value m c.find_errors.new.errors in let w = entry number ring.value m c.subtract.new.word in
-    let places : AreLost k n lost = c.in-Ok.ensures m x in
-    let room = c.requires.room in
+    let places : AreLost k n lost = c.in-Ok.ensures m x in let room = c.requires.room in
     let long : length c.write_syndromes-products.new.syndromes ≡ n - k =
     c.write_syndromes-products.auto.syndromes ∙ c.split_at_mut-syndromes.ensures.front_len in
     let each : length c.find_errors.new.errors ≡ n =
