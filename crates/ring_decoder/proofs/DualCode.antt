@@ -93,7 +93,8 @@ sums_subtracted m N n x v y z of_y of_z = record {
   sum = λ h l.
       let f : ℕ → ℕ = λ i. v i * y i * x i ^ h in let g : ℕ → ℕ = λ i. v i * z i * x i ^ h in
       let both = sum_below-add n f (λ i. (m - 1) * g i) in
-      let same = sum_below-same n (λ i. f i + (m - 1) * g i) (λ i. v i * (y i + (m - 1) * z i) * x i ^ h) (λ i b. omega arith) in
+      let same = sum_below-same n (λ i. f i + (m - 1) * g i) (λ i. v i * (y i + (m - 1) * z i) * x i ^ h)
+      (λ i b. omega arith) in
       mod_of_combination (mod_add (of_y.sum h l) (mod_times (m - 1) (of_z.sum h l)))
       (omega (arith, sum_below-mul n (m - 1) g, both, same));
 }

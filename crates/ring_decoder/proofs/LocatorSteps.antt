@@ -42,7 +42,8 @@ combined_more : (m a b q c h : ℕ) (e f g t : ℕ → ℕ) → ((k : ℕ) → k
     → Congruent m (applied (q + c) f t h + b * applied c g t (h + q)) (a * applied (q + c) e t h)
 combined_more m a b q zero h e f g t low high =
     let n : q + 0 ≡ q = omega arith in
-    rw (n, sum_below-zero (λ l. g l * t (h + q + l))) (mod_of_combination (multiple_sum m a q h e f t low) (omega arith))
+    rw (n, sum_below-zero (λ l. g l * t (h + q + l)))
+    (mod_of_combination (multiple_sum m a q h e f t low) (omega arith))
 combined_more m a b q (suc c) h e f g t low high =
     let n : q + suc c ≡ suc (q + c) = omega arith in let at : h + q + c ≡ h + (q + c) = omega arith in
     let sf = ap (λ k. applied k f t h) n ∙ sum_below-suc (q + c) (λ l. f l * t (h + l)) in
@@ -125,7 +126,8 @@ search_corrected m N i L p w d h q s b t f inside at room is low high kept found
   pivot_there = found.pivot_there;
   units = λ unit.
       let both = found.units unit in let last : q + (h + 1) ≡ L = omega arith in
-      let alone = left_alone m (f L) d _ (p * s L) (rw last at (high (h + 1) (omega arith))) (found.behind_then _ (omega arith)) in
+      let alone = left_alone m (f L) d _ (p * s L) (rw last at (high (h + 1) (omega arith)))
+      (found.behind_then _ (omega arith)) in
       (both.0, unit_alike m (p * s L) (f L) (mod_sym alone) ((has_both m p (s L)).1 both));
   nonzero = found.nonzero;
   of_one = λ u x geometric.
@@ -183,8 +185,8 @@ search_longer m N i L p w d v h q s b t f positive inside at room half short is 
       rw there (mod_trans (padded m (L + 1) (h + 1) h s t (omega arith) (λ l b. found.behind l (omega (arith, b)))) is);
   units = λ unit.
       let both = units unit in let before = found.units both.0 in
-      let none = mod_of_combination (mod_add (rw room at (high L (omega arith))) (mod_times d (found.behind_before (h + 1) (omega arith))))
-      (omega arith) in
+      let none = mod_of_combination (mod_add (rw room at (high L (omega arith)))
+      (mod_times d (found.behind_before (h + 1) (omega arith)))) (omega arith) in
       (both.1, negative_unit m (f (h + 1)) (p * s L) positive none ((has_both m p (s L)).1 before));
   nonzero = λ some. nonzero (found.nonzero some);
   of_one = λ u x geometric.

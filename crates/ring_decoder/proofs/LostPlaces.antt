@@ -1,6 +1,7 @@
 -- Words without their lost symbols, and counts of symbols that differ there.
 use Rattle.std.proofs.Common.{◌≡◌, ◌≢◌, ℕ, zero, suc, ◌+◌, ◌%◌, ◌<◌, ◌≤◌, Bool, true, false, cond, eqb, ◌||◌, ◌⊎◌}
-use Rattle.std.proofs.Common.{List, [], ◌∷◌, length, take, slice_index, ap, sym, ◌∙◌, arith, refl, inl, inr, eq-eqb, mod-eq_of_lt}
+use Rattle.std.proofs.Common.{List, [], ◌∷◌, length, take, slice_index, ap, sym, ◌∙◌, arith, refl, inl, inr}
+use Rattle.std.proofs.Common.{eq-eqb, mod-eq_of_lt}
 use Rattle.std.proofs.Math.Nat.{zero-mod}
 use Rattle.std.proofs.lemmas.Bool.{cases_eq, cases_Bool, false≢true, ne_eqb}
 use Rattle.std.proofs.lemmas.Bool.Decides.{eqb_tells}

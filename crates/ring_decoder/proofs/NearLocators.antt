@@ -98,7 +98,8 @@ error_none : {m t n c N : ℕ} {x v z : ℕ → ℕ} {lost : List ℕ} {s q : �
     → Congruent m (d i) 0
 error_none {m} {t} {n} {c} {N} {x} {v} {z} {lost} sought d i b listed none =
     factor_none m (d i) (v i) (sought.units i b) (mod_of_combination
-    (factor_none m (v i * d i) (product_of_differences m c z (x i)) (listed_factor sought i b listed) none) (omega arith))
+    (factor_none m (v i * d i) (product_of_differences m c z (x i)) (listed_factor sought i b listed) none)
+    (omega arith))
 
 fewer_weights : {m t n c N : ℕ} {x v z : ℕ → ℕ} {lost : List ℕ} {s q : ℕ → ℕ} → AreSought m t n c N x v z lost s q
     → (d : ℕ → ℕ) → hamming_weight m n (moment_weight m c x v z d) ≤ listed_weight m n lost d
@@ -274,4 +275,5 @@ located_by {m} {t} {n} {c} {N} {L} {a} {x} {v} {z} {lost} {s} {q} {p} {f} {g} so
 pub none_near_by : {m t n c N : ℕ} {x v z : ℕ → ℕ} {lost : List ℕ} {s q : ℕ → ℕ} → AreSought m t n c N x v z lost s q
     → NeedManyWeights m N q → (d : ℕ → ℕ) → IsNearPattern m t n x v lost s d → ⊥
 none_near_by {m} {t} {n} {c} {N} {x} {v} {z} {lost} sought many d near =
-    let far = many.each n x _ (sought.sums (λ i. v i * d i) near.sums) in absurd (omega (arith, far, fewer_weights sought d, near.few, sought.rest))
+    let far = many.each n x _ (sought.sums (λ i. v i * d i) near.sums) in
+    absurd (omega (arith, far, fewer_weights sought d, near.few, sought.rest))

@@ -113,5 +113,6 @@ syndromes_by_transform m g (suc d) t x v c w s positive few suits powers fit wei
   sum = λ h l.
       let at : suc d - 1 - h ≡ d - h = omega arith in
       rw (same h l, at) (syndrome_of_coefficient m d h x v c w positive (omega (arith, l, few)) fit weights
-      (λ i b. point_turn m g (suc d) i x suits powers b) (word_of_coefficients m g (suc d) (suc d) x c w (omega arith) powers values (λ i b k. absurd (omega (arith, b, k)))));
+      (λ i b. point_turn m g (suc d) i x suits powers b)
+      (word_of_coefficients m g (suc d) (suc d) x c w (omega arith) powers values (λ i b k. absurd (omega (arith, b, k)))));
 }

@@ -43,7 +43,8 @@ pub sums_of_products : (m N q : ℕ) (x w d e terms s : ℕ → ℕ) → ((i : �
     → ((i : ℕ) → i < q → d i ≡ e i % m) → ArePowerSums m N q x (λ i. w i * e i) s → ArePowerSums m N q x terms s
 sums_of_products m N q x w d e terms s is same sums =
     sums_alike m N q x (λ i. w i * e i) terms s
-    (λ i l. rw (is i l, same i l) (mod_sym (mod_trans (residue_of _) (mod_mul (mod_refl (w i)) (residue_of (e i)))))) sums
+    (λ i l. rw (is i l, same i l) (mod_sym (mod_trans (residue_of _) (mod_mul (mod_refl (w i)) (residue_of (e i))))))
+    sums
 
 -- fewer of the power sums
 pub fewer_sums : (m N k q : ℕ) (x w s : ℕ → ℕ) → k ≤ N → ArePowerSums m N q x w s → ArePowerSums m k q x w s

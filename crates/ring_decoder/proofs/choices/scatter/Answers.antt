@@ -48,8 +48,8 @@ values-preserved g c =
           let other : z i ≡ 0 → ⊥ = λ e. false≢true (sym w.if-is_zero.false ∙ c.is_zero.ensures.1 (at ∙ e)) in (
             is ∙ so_far.0 ∙ sym (zeros_kept i z other),
             omega (arith, few, is),
-            rw w.errors-is (hold_more number ring.form ring.value m errors i c.transform-zero.result (spread z e) within so_far.2
-                c.transform-zero.ensures.checked
+            rw w.errors-is (hold_more number ring.form ring.value m errors i c.transform-zero.result (spread z e) within
+                so_far.2 c.transform-zero.ensures.checked
                 (c.transform-zero.ensures.value ∙ ap (λ k. k % m) c.zero.ensures ∙ zero-mod m
                 ∙ sym (chosen_nonzero (z i) (e (zeros i z)) 0 other))),
           )
