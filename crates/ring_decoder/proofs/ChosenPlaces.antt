@@ -74,8 +74,8 @@ ranked (suc n) k z l = elim (cases_eq (z n) 0) [
   | inr o ↦ let r = ranked n k z (omega (arith, l, zeros-same n z o)) in (r.0, omega (arith, r.1), r.2, r.3)
 ]
 
-fewer : {n : ℕ} {z f g : ℕ → ℕ} → AreChosen (suc n) z f g → AreChosen n z f g
-fewer c = record { at = λ i l e. c.at i (omega arith) e }
+chosen_of_suc : {n : ℕ} {z f g : ℕ → ℕ} → AreChosen (suc n) z f g → AreChosen n z f g
+chosen_of_suc c = record { at = λ i l e. c.at i (omega arith) e }
 
 -- one place more, that is chosen, or isn't
 pub chosen_more : (n : ℕ) (z f g h : ℕ → ℕ) → AreChosen n z f g → h (zeros n z) ≡ f n
@@ -130,7 +130,7 @@ pub chosen_sum : (n : ℕ) (z f g : ℕ → ℕ) → AreChosen n z f g
     → sum_below (zeros n z) g ≡ sum_below n (λ i. cond (eqb (z i) 0) (f i) 0)
 chosen_sum zero z f g c = rw (zeros-none z) (sum_below-zero g ∙ sym (sum_below-zero _))
 chosen_sum (suc n) z f g c =
-    let i = chosen_sum n z f g (fewer c) in let t = sum_below-suc n (λ i. cond (eqb (z i) 0) (f i) 0) in
+    let i = chosen_sum n z f g (chosen_of_suc c) in let t = sum_below-suc n (λ i. cond (eqb (z i) 0) (f i) 0) in
     elim (cases_eq (z n) 0) [
       | inl e ↦
           let k : zeros (suc n) z ≡ suc (zeros n z) = omega (arith, zeros-suc n z e) in

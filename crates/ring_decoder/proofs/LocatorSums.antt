@@ -77,8 +77,8 @@ without_none : (m n k : ℕ) (x u : ℕ → ℕ) → u n % m ≡ 0 → ((h : ℕ
     → (h : ℕ) → h < k → Congruent m (power_sum n x u h) 0
 without_none m n k x u z none h l = mod_trans (mod_sym (without_last m n h x u (none_of m (u n) z))) (none h l)
 
-fewer : (m n : ℕ) (u : ℕ → ℕ) → hamming_weight m n u ≤ hamming_weight m (suc n) u
-fewer m n u = omega (arith, sum_below-suc n (λ i. counted (u i % m) 0))
+hamming_weight_le_suc : (m n : ℕ) (u : ℕ → ℕ) → hamming_weight m n u ≤ hamming_weight m (suc n) u
+hamming_weight_le_suc m n u = omega (arith, sum_below-suc n (λ i. counted (u i % m) 0))
 
 some_weight : (m n : ℕ) (u : ℕ → ℕ) → u n % m ≢ 0 → 1 ≤ hamming_weight m (suc n) u
 some_weight m n u other = omega (arith, sum_below-suc n (λ i. counted (u i % m) 0), counted_other (u n % m) 0 other)
@@ -101,7 +101,7 @@ pub sums_vanish : (m n k : ℕ) (x u : ℕ → ℕ) → 0 < m → hamming_weight
 sums_vanish m zero k x u positive few none = mod_of_eq (sum_below-zero (λ j. u j * x j ^ k))
 sums_vanish m (suc n) k x u positive few none = elim (cases_eq (u n % m) 0) [
   | inl z ↦ mod_trans (without_last m n k x u (none_of m (u n) z))
-      (sums_vanish m n k x u positive (omega (arith, fewer m n u, few)) (without_none m n k x u z none))
+      (sums_vanish m n k x u positive (omega (arith, hamming_weight_le_suc m n u, few)) (without_none m n k x u z none))
   | inr other ↦ vanish_with_last m n k x u positive few none other (λ j v light zeros. sums_vanish m n j x v positive light zeros)
 ]
 
@@ -151,8 +151,8 @@ weights_none m zero k x u positive fit few none j l = absurd (omega arith)
 weights_none m (suc n) k x u positive fit few none j l = elim (cases_eq (u n % m) 0) [
   | inl z ↦ elim (cases_eq j n) [
     | inl e ↦ rw e (none_of m (u n) z)
-    | inr other ↦ weights_none m n k x u positive (fit_before m n x fit) (omega (arith, fewer m n u, few))
-        (without_none m n k x u z none) j (omega (arith, l, other))
+    | inr other ↦ weights_none m n k x u positive (fit_before m n x fit)
+        (omega (arith, hamming_weight_le_suc m n u, few)) (without_none m n k x u z none) j (omega (arith, l, other))
   ]
   | inr other ↦ none_with_last m n k x u positive fit few none other
       (λ i v light zeros. weights_none m n i x v positive (fit_before m n x fit) light zeros) j l

@@ -199,9 +199,9 @@ covers_none {m} {t} {n} {c} {N} {L} {x} {v} {z} {lost} {s} {q} {p} {f} {g} sough
     }
 
 -- the power sums of one weight
-geometric : (m N n j : ℕ) (x w q : ℕ → ℕ) → ArePowerSums m N n x w q → j < n → w j % m ≢ 0
+geometric_of_single : (m N n j : ℕ) (x w q : ℕ → ℕ) → ArePowerSums m N n x w q → j < n → w j % m ≢ 0
     → ((i : ℕ) → i < n → i ≢ j → Congruent m (w i) 0) → IsGeometric m N (w j) (x j) q
-geometric m N n j x w q sums l there none = record {
+geometric_of_single m N n j x w q sums l there none = record {
   nonzero = there;
   each = λ h b. mod_trans (sums.sum h b) (single_congruent m n j (λ i. w i * x i ^ h) l
       (λ i k other. times_none m (w i) (x i ^ h) (none i k other)));
@@ -246,7 +246,7 @@ covers_one {m} {t} {n} {c} {N} {L} {x} {v} {z} {lost} {s} {q} {p} {f} {g} sought
     λ e. there (without_none m lost d j
     (λ listed. residue_none m (d j) (error_none sought d j l listed (none_of m (w j) e)))) in
     let is = one (w j) (x j) two
-    (geometric m N n j x w q (sought.sums (λ i. v i * d i) near.sums) l wrong
+    (geometric_of_single m N n j x w q (sought.sums (λ i. v i * d i) near.sums) l wrong
     (λ i b other. none_of m (w i) (weight_none sought d i b (right i b other)))) in
     let values = linear_values (rw is.degree at clear) sought.fit (w j) j wrong l (rw is.degree at is) in
     record {

@@ -24,8 +24,8 @@ pub record IsMonic (m d : ℕ) (F : ℕ → ℕ) : Type 0 where
   pub highest : coefficient d ≡ 1
   pub value : (X : ℕ) → Congruent m (polynomial_at (suc d) coefficient X) (F X)
 
-moved : (m d e : ℕ) (F G : ℕ → ℕ) → d ≡ e → ((X : ℕ) → F X ≡ G X) → IsMonic m d F → IsMonic m e G
-moved m d e F G count same p = record {
+monic_of_equal : (m d e : ℕ) (F G : ℕ → ℕ) → d ≡ e → ((X : ℕ) → F X ≡ G X) → IsMonic m d F → IsMonic m e G
+monic_of_equal m d e F G count same p = record {
   coefficient = p.coefficient;
   behind = λ i l. p.behind i (omega (arith, l, count));
   highest = rw (← count) p.highest;
@@ -64,10 +64,10 @@ times_difference m d a F positive p =
 times_differences : (m b d : ℕ) (a F : ℕ → ℕ) → 0 < m → IsMonic m d F
     → IsMonic m (b + d) (λ X. F X * product_below b (λ l. residue m (pos X -ℤ pos (a l))))
 unfolding product_below
-times_differences m zero d a F positive p = moved m d (0 + d) F (λ X. F X * 1) (omega arith) (λ X. omega arith) p
+times_differences m zero d a F positive p = monic_of_equal m d _ F (λ X. F X * 1) (omega arith) (λ X. omega arith) p
 times_differences m (suc b) d a F positive p =
     let P : ℕ → ℕ = λ X. product_below b (λ l. residue m (pos X -ℤ pos (a l))) in
-    moved m (suc (b + d)) (suc b + d) (λ X. F X * P X * residue m (pos X -ℤ pos (a b)))
+    monic_of_equal m (suc (b + d)) (suc b + d) (λ X. F X * P X * residue m (pos X -ℤ pos (a b)))
     (λ X. F X * (P X * residue m (pos X -ℤ pos (a b)))) (omega arith) (λ X. omega arith)
     (times_difference m (b + d) (a b) (λ X. F X * P X) positive (times_differences m b d a F positive p))
 
@@ -77,7 +77,7 @@ unfolding product_but
 product_monic m d i x positive l =
     let P : ℕ → ℕ = λ X. product_below i (λ l. residue m (pos X -ℤ pos (x l))) in
     let Q : ℕ → ℕ = λ X. product_below (suc d - 1 - i) (λ l. residue m (pos X -ℤ pos (x (suc d - 1 - l)))) in
-    moved m (suc d - 1 - i + (i + 0)) d (λ X. 1 * P X * Q X) (λ X. P X * Q X) (omega arith) (λ X. omega arith)
+    monic_of_equal m (suc d - 1 - i + (i + 0)) d (λ X. 1 * P X * Q X) (λ X. P X * Q X) (omega arith) (λ X. omega arith)
     (times_differences m (suc d - 1 - i) (i + 0) (λ l. x (suc d - 1 - l)) (λ X. 1 * P X) positive
     (times_differences m i 0 x (λ X. 1) positive (monic_one m)))
 
