@@ -1,7 +1,7 @@
 use Rattle.std.proofs.Common.{◌/◌, ◌%◌, subst, ap, ◌∙◌, bit_xor}
-use Rattle.modular_prim.proofs.DigitSteps.{remainder_is}
+use Rattle.modular_prim.proofs.DigitSteps.{quotient_is, remainder_is}
 use Rattle.modular_word.specs.Division.{IsDivision}
-use Rattle.modular_bench.proofs.Steps.{iterate_more, quotient_of}
+use Rattle.modular_bench.proofs.Steps.{iterate_more}
 use Rattle.modular_bench.specs.Steps.{mixed_division_of_two}
 use Rattle.modular_bench.proofs.dividers.bench_normalized_div_rem_2by1.Goals as goal
 
@@ -17,7 +17,7 @@ steps-preserved c =
     record {
       below = division.below;
       both =
-          ap (λ v. (bit_xor v y, r)) (quotient_of division)
+          ap (λ v. (bit_xor v y, r)) (quotient_is division)
           ∙ ap (λ v. (bit_xor (c.merge.result / m) y, v)) (remainder_is division)
           ∙ ap (λ whole. (bit_xor (whole / m) y, whole % m)) c.merge.ensures
           ∙ ap step c.steps.invariant.both ∙ iterate_more step c.steps.counter (c.args.x, y % m);
