@@ -1,14 +1,7 @@
-use Rattle.std.proofs.Common.{◌+◌, ◌*◌, ◌/◌, ◌%◌, ◌^◌, ap, ◌∙◌}
-use Rattle.std.specs.Int.Count.{count_leading_zeros}
 use Rattle.modular_bench.proofs.Steps.{iterate_more}
-use Rattle.modular_bench.specs.Steps.{symbol_number, symbol_step}
+use Rattle.modular_bench.specs.Steps.{symbol_step}
 use Rattle.modular_bench.proofs.symbols.steps.Goals as goal
 
 pub steps-preserved : goal.steps-preserved
 steps-preserved g c =
-    let y = c.args.y in
-    let m = c.args.m in
-    let step = symbol_step g.row.OPERATION y m in
-    ap (λ v. ((y * c.steps.x) % 2 ^ 64 + v) % 2 ^ 64 / 2 ^ count_leading_zeros 64 m)
-    (c.number-term.ensures ∙ ap symbol_number c.symbol.ensures)
-    ∙ ap step c.steps.invariant ∙ iterate_more step c.steps.counter c.args.x
+    rw (c.number-term.ensures, c.symbol.ensures, c.steps.invariant) (iterate_more (symbol_step g.row.OPERATION c.args.y c.args.m) c.steps.counter c.args.x)
