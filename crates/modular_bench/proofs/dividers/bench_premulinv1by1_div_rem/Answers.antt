@@ -1,4 +1,3 @@
-use Rattle.std.proofs.Common.{◌/◌, ap, ◌∙◌, bit_xor}
 use Rattle.modular_prim.proofs.DigitSteps.{quotient_is, remainder_is}
 use Rattle.modular_bench.proofs.Steps.{iterate_more}
 use Rattle.modular_bench.specs.Steps.{mixed_division}
@@ -6,9 +5,5 @@ use Rattle.modular_bench.proofs.dividers.bench_premulinv1by1_div_rem.Goals as go
 
 pub steps-preserved : goal.steps-preserved
 steps-preserved c =
-    let y = c.args.y in
-    let step = mixed_division y c.args.m in
-    let division = c.div_rem-q.ensures in
-    ap (λ q. bit_xor (bit_xor y q) c.div_rem-q.result.1) (quotient_is division)
-    ∙ ap (λ r. bit_xor (bit_xor y (c.steps.x / c.args.m)) r) (remainder_is division)
-    ∙ ap step c.steps.invariant ∙ iterate_more step c.steps.counter c.args.x
+    rw (quotient_is c.div_rem-q.ensures, remainder_is c.div_rem-q.ensures, c.steps.invariant)
+    (iterate_more (mixed_division c.args.y c.args.m) c.steps.counter c.args.x)
