@@ -4,4 +4,5 @@ use Rattle.modular_bench.proofs.symbols.odd_steps.Goals as goal
 
 pub steps-preserved : goal.steps-preserved
 steps-preserved g c =
-    rw (c.odd_symbol-term.ensures, c.steps.invariant) (iterate_more (symbol_step 0 c.args.y c.args.m) c.steps.counter c.args.x)
+    rw (c.odd_symbol-term.ensures, c.steps.invariant)
+    (iterate_more (symbol_step 0 c.args.y c.args.m) c.steps.counter c.args.x)
