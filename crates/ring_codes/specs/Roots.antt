@@ -1,5 +1,5 @@
--- Polynomials with given roots (Knuth, The Art of Computer Programming, volume 2, section 4.6.1). The names are the library's
--- own words.
+-- Polynomials with given roots: products of X - z (von zur Gathen and Gerhard, Modern Computer Algebra, section 10.1). The
+-- names are the library's own words.
 use Rattle.std.specs.Prelude.{ℕ, ◌+◌, pos, ◌-ℤ◌}
 use Rattle.num_modular.specs.Congruence.{Congruent}
 use Rattle.num_modular.specs.Polynomials.{polynomial_at}

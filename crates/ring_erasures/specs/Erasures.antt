@@ -33,7 +33,8 @@ IsErasureFault m g k n lost PlaceTwice = (i : ℕ) × (j : ℕ) × (i < j) × (j
     × ArePlaces j n lost × (slice_index lost i ≡ slice_index lost j)
 IsErasureFault m g k n lost PointsDontFit = AreErased k n lost × (m % 2 ≡ 1 → Suits m g n → ⊥)
 
--- the value at the root z l of the derivative of the product of X - z for the c points z: the product of the differences of z l from the other points
+-- the value at the root z l of the derivative of the product of X - z for the c points z: the product of the differences of
+-- z l from the other points
 abbrev pub root_weight : ℕ → ℕ → (ℕ → ℕ) → ℕ → ℕ
 root_weight m c z l = product_below c (λ j. if j == l then 1 else residue m (pos (z l) -ℤ pos (z j)))
 

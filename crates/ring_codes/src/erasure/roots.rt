@@ -14,6 +14,8 @@ use num_modular::{Reducer, RingWord};
 /// It has `count` coefficients, the constant first; that of the product which has no place is dropped. Those behind are
 /// left as they are.
 ///
+/// Source: the definition of the product, coefficient by coefficient.
+///
 /// # Preconditions
 ///
 /// - there are `count` coefficients or more
@@ -47,7 +49,10 @@ pub fn multiply_by_root<T: RingWord, R: Reducer<T>>(
 
 /// Writes the polynomial with the points as roots: the product of X - x for the points x.
 ///
-/// Its constant coefficient is first, and 0 follows the last. The contents of `coefficients` are ignored. It takes q·(q + 3)/2 products for q points.
+/// Its constant coefficient is first, and 0 follows the last. The contents of `coefficients` are ignored. It takes
+/// q·(q + 3)/2 products for q points.
+///
+/// Source: the definition, one factor after another.
 ///
 /// # Preconditions
 ///
