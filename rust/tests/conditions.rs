@@ -15,11 +15,11 @@ use num_modular::plans::{
 };
 use num_modular::prim::{by_subtraction, symbol_over_prime};
 use num_modular::residues;
-use num_modular::ring::{convolve, find_root, intt, ntt, ntt_counted, run, RingCommand, RunEnd};
+use num_modular::ring::{add_lists, convolve, find_root, intt, ntt, ntt_counted, run, sub_lists, RingCommand, RunEnd};
 use num_modular::secrets::{inv_secret, invm_secret, invm_secret_counted, pow_secret, pow_secret_counted};
 use num_modular::word;
 use num_modular::{
-    DivExact, FixedMersenne, FixedMersenne32, FixedMersenne64, FixedMontgomery32, FixedProth32, FixedProth64,
+    DivExact, FixedMersenne, FixedMersenne32, FixedMersenne64, FixedMontgomery32, FixedMontgomery64, FixedProth32, FixedProth64,
     FixedTrinomialSolinas32, ModularAbs, ModularCoreOps, ModularPow, ModularRefOps, ModularSymbols, ModularUnaryOps,
     Montgomery, MontgomeryInt, Normalized2by1Divisor, OddMontgomery, OddMontgomeryInt, PreModInv, PreMulInv1by1, PreMulInv2by1,
     Reducer, Vanilla, VanillaInt,
@@ -240,11 +240,25 @@ fn transforms() {
 }
 
 #[test]
-fn sums_without_room() {
-    let words = "2m must be below the base";
-    panic_in_debug_with!(words; Vanilla::<u8>::new(&251).add_with_room(&1, &2), Vanilla::<u8>::new(&251).sub_with_room(&1, &2));
-    panic_in_debug_with!(words; Montgomery::<u8>::new(251).add_with_room(&1, &2), Montgomery::<u8>::new(250).sub_with_room(&1, &2));
-    panic_in_debug_with!(words; PreMulInv2by1::<u8>::new(251).add_with_room(&1, &2));
+fn sums_of_lists() {
+    fn tried<R: Reducer<u64> + std::panic::RefUnwindSafe>(ring: &R) {
+        let forms = [1, 2].map(|x| ring.transform(x));
+        for n in [1, 3] {
+            let text = format!("the lists must have the same length: 2 and {n}");
+            let words = text.as_str();
+            panic_with!(words; ring.add_entries(&mut forms.clone(), &vec![forms[0]; n]));
+            panic_with!(words; ring.sub_entries(&mut forms.clone(), &vec![forms[0]; n]), add_lists(ring, &mut forms.clone(), &vec![forms[0]; n]));
+        }
+        let words = "all entries must be checked forms";
+        panic_in_debug_with!(words; ring.add_entries(&mut forms.clone(), &[forms[0], u64::MAX]));
+        panic_in_debug_with!(words; ring.sub_entries(&mut [forms[0], u64::MAX], &forms), sub_lists(ring, &mut [u64::MAX], &[forms[0]]));
+    }
+    tried(&Vanilla::<u64>::new(&97));
+    tried(&Montgomery::<u64>::new(97));
+    tried(&Montgomery::<u64>::new(96));
+    tried(&PreMulInv2by1::<u64>::new(97));
+    tried(&FixedMontgomery64::<97>::RING);
+    tried(&FixedMersenne64::<31, 1>::RING);
 }
 
 #[test]

@@ -1,7 +1,9 @@
 //! The reducer whose forms are the values shifted to the top of the word.
 
-ghost use Rattle.std.specs.Prelude.{◌≡◌, ℕ, ◌+◌, ◌-◌, ◌*◌, ◌/◌, ◌%◌, ◌^◌, ◌<◌, ◌≤◌, ⊤, IsTrue};
+ghost use Rattle.std.specs.Prelude.{◌≡◌, ℕ, ◌+◌, ◌-◌, ◌*◌, ◌/◌, ◌%◌, ◌^◌, ◌<◌, ◌≤◌, ⊤, IsTrue, pos, ◌-ℤ◌};
 ghost use Rattle.std.specs.Int.Count.{count_leading_zeros};
+ghost use Rattle.modular_word.specs.Residues.{residue};
+ghost use Rattle.modular_reduced.specs.Forms.{IsForm, Represents};
 ghost use Rattle.modular_barrett.specs.Scaling.{scale, scaled_form, scaled_value, IsScaling};
 ghost use Rattle.modular_barrett.specs.ScaledForms.{scaled_canonical};
 
@@ -11,7 +13,7 @@ use crate::normalized::{Normalized2by1Divisor, StoredDivisor};
 use modular_prim::below::{add_below, dbl_below_stored, neg_below, sub_below};
 use modular_prim::inverse::fast_inverse;
 use modular_prim::plain_word::PlainWord;
-use modular_reduced::lanes::{difference_by_sign, sum_by_sign};
+use modular_reduced::lanes::{add_each, difference_by_sign, sub_each, sum_by_sign, takes_signs};
 use modular_reduced::list_products::{block, multiply_by_factor};
 use modular_reduced::reducer::Reducer;
 use modular_word::path_word::PathWord;
@@ -148,6 +150,37 @@ impl<T: PlainWord> PreMulInv2by1<T> {
     {
         self.divider.divisor()
     }
+
+    // The form of a sum where the modulus leaves a bit free: the divisor and all forms are even then, and their halves
+    // are added.
+    fn sum_by_halves(&self, a: T, b: T) -> T
+        requires left { let m = ⟦<PreMulInv2by1<T> as Reducer<T>>⟧.modulus self.now in
+            IsForm (scaled_form T.width) (scaled_value T.width) m (T.number a) }
+        requires right { let m = ⟦<PreMulInv2by1<T> as Reducer<T>>⟧.modulus self.now in
+            IsForm (scaled_form T.width) (scaled_value T.width) m (T.number b) }
+        requires room { 2 * ⟦<PreMulInv2by1<T> as Reducer<T>>⟧.modulus self.now < 2 ^ T.width }
+        ensures { let m = ⟦<PreMulInv2by1<T> as Reducer<T>>⟧.modulus self.now in
+            Represents (scaled_form T.width) m (T.number result)
+            ((scaled_value T.width m (T.number a) + scaled_value T.width m (T.number b)) % m) }
+    {
+        let half = sum_by_sign(a.half(), b.half(), self.divisor().half());
+        half.plus(half)
+    }
+
+    // That of a difference.
+    fn difference_by_halves(&self, a: T, b: T) -> T
+        requires left { let m = ⟦<PreMulInv2by1<T> as Reducer<T>>⟧.modulus self.now in
+            IsForm (scaled_form T.width) (scaled_value T.width) m (T.number a) }
+        requires right { let m = ⟦<PreMulInv2by1<T> as Reducer<T>>⟧.modulus self.now in
+            IsForm (scaled_form T.width) (scaled_value T.width) m (T.number b) }
+        requires room { 2 * ⟦<PreMulInv2by1<T> as Reducer<T>>⟧.modulus self.now < 2 ^ T.width }
+        ensures { let m = ⟦<PreMulInv2by1<T> as Reducer<T>>⟧.modulus self.now in
+            Represents (scaled_form T.width) m (T.number result)
+            (residue m (pos (scaled_value T.width m (T.number a)) -ℤ pos (scaled_value T.width m (T.number b)))) }
+    {
+        let half = difference_by_sign(a.half(), b.half(), self.divisor().half());
+        half.plus(half)
+    }
 }
 
 // Whether one of the lowest bits of a word is set, where `check` tests them first. At these widths compilers then branch
@@ -227,19 +260,29 @@ impl<T: PlainWord> Reducer<T> for PreMulInv2by1<T> {
         neg_below(f, self.divisor())
     }
 
-    // The divisor uses all bits, and is even, as all forms are. So the halves of the forms are added.
-    // rust: #[cfg_attr(debug_assertions, track_caller)]
-    fn add_with_room(&self, a: &T, b: &T) -> T {
-        // rust: debug_assert!(!self.modulus().has_top_bit(), "2m must be below the base");
-        let half = sum_by_sign(a.half(), b.half(), self.divisor().half());
-        half.plus(half)
+    // The divisor uses all bits. Where the modulus leaves one free, all forms are even, and their halves are added.
+    // rust: #[track_caller]
+    fn add_entries(&self, xs: &mut [T], ys: &[T]) {
+        // rust: crate::additions::expect_entries(self, xs, ys);
+        if takes_signs(self.modulus()) {
+            'halves: for i in 0..xs.len() {
+                xs[i] = self.sum_by_halves(xs[i], ys[i]);
+            }
+        } else {
+            add_each(xs, ys, self.divisor());
+        }
     }
 
-    // rust: #[cfg_attr(debug_assertions, track_caller)]
-    fn sub_with_room(&self, a: &T, b: &T) -> T {
-        // rust: debug_assert!(!self.modulus().has_top_bit(), "2m must be below the base");
-        let half = difference_by_sign(a.half(), b.half(), self.divisor().half());
-        half.plus(half)
+    // rust: #[track_caller]
+    fn sub_entries(&self, xs: &mut [T], ys: &[T]) {
+        // rust: crate::additions::expect_entries(self, xs, ys);
+        if takes_signs(self.modulus()) {
+            'halves: for i in 0..xs.len() {
+                xs[i] = self.difference_by_halves(xs[i], ys[i]);
+            }
+        } else {
+            sub_each(xs, ys, self.divisor());
+        }
     }
 
     fn mul(&self, a: &T, b: &T) -> T {

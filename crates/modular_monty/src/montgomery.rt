@@ -11,6 +11,7 @@ use crate::odd_montgomery::OddMontgomery;
 use crate::odd_ring::{OddRing, StoredModulus, reduced_factor};
 use modular_prim::below::{add_below, dbl_below_stored};
 use modular_prim::reducer_word::ReducerWord;
+use modular_reduced::lanes::{add_each, sub_each};
 use modular_reduced::list_products::{multiply_by_factor, product_by_factor};
 use modular_reduced::reducer::Reducer;
 // rattle: line
@@ -251,22 +252,28 @@ impl<T: ReducerWord> Reducer<T> for Montgomery<T> {
         self.sub(&T::zero(), &f)
     }
 
-    // rust: #[cfg_attr(debug_assertions, track_caller)]
-    fn add_with_room(&self, a: &T, b: &T) -> T {
-        // rust: debug_assert!(!self.modulus().has_top_bit(), "2m must be below the base");
+    // rust: #[track_caller]
+    fn add_entries(&self, xs: &mut [T], ys: &[T]) {
+        // rust: crate::additions::expect_entries(self, xs, ys);
         if self.twos == 0 {
-            return self.odd.add_with_room(a, b);
+            add_each(xs, ys, self.odd.kept.modulus);
+            return;
         }
-        self.add(a, b)
+        'entries: for i in 0..xs.len() {
+            xs[i] = self.add(&xs[i], &ys[i]);
+        }
     }
 
-    // rust: #[cfg_attr(debug_assertions, track_caller)]
-    fn sub_with_room(&self, a: &T, b: &T) -> T {
-        // rust: debug_assert!(!self.modulus().has_top_bit(), "2m must be below the base");
+    // rust: #[track_caller]
+    fn sub_entries(&self, xs: &mut [T], ys: &[T]) {
+        // rust: crate::additions::expect_entries(self, xs, ys);
         if self.twos == 0 {
-            return self.odd.sub_with_room(a, b);
+            sub_each(xs, ys, self.odd.kept.modulus);
+            return;
         }
-        self.sub(a, b)
+        'entries: for i in 0..xs.len() {
+            xs[i] = self.sub(&xs[i], &ys[i]);
+        }
     }
 
     fn mul(&self, a: &T, b: &T) -> T {

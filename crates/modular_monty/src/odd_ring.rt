@@ -11,7 +11,7 @@ use crate::list_products::reduced_products;
 use crate::neg_mod_inv::neginv;
 use modular_prim::below::{add_below, branchless_sub_below, dbl_below, neg_below, sub_below};
 use modular_prim::reducer_word::ReducerWord;
-use modular_reduced::lanes::{difference_by_sign, sum_by_sign};
+use modular_reduced::lanes::{add_each, sub_each};
 use modular_reduced::list_products::block;
 use modular_reduced::reducer::Reducer;
 use modular_word::path_word::PathWord;
@@ -379,16 +379,16 @@ impl<T: ReducerWord, M: OddModulus<T>> Reducer<T> for OddRing<T, M> {
         neg_below(f, self.kept.modulus())
     }
 
-    // rust: #[cfg_attr(debug_assertions, track_caller)]
-    fn add_with_room(&self, a: &T, b: &T) -> T {
-        // rust: debug_assert!(!self.modulus().has_top_bit(), "2m must be below the base");
-        sum_by_sign(*a, *b, self.kept.modulus())
+    // rust: #[track_caller]
+    fn add_entries(&self, xs: &mut [T], ys: &[T]) {
+        // rust: crate::additions::expect_entries(self, xs, ys);
+        add_each(xs, ys, self.kept.modulus());
     }
 
-    // rust: #[cfg_attr(debug_assertions, track_caller)]
-    fn sub_with_room(&self, a: &T, b: &T) -> T {
-        // rust: debug_assert!(!self.modulus().has_top_bit(), "2m must be below the base");
-        difference_by_sign(*a, *b, self.kept.modulus())
+    // rust: #[track_caller]
+    fn sub_entries(&self, xs: &mut [T], ys: &[T]) {
+        // rust: crate::additions::expect_entries(self, xs, ys);
+        sub_each(xs, ys, self.kept.modulus());
     }
 
     fn mul(&self, a: &T, b: &T) -> T {

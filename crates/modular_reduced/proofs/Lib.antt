@@ -2,6 +2,7 @@ pub mod CarriedSums
 pub mod FixedFactors
 pub mod FormLemmas
 pub mod IntegerLemmas
+pub mod ListPairs
 pub mod ListProducts
 pub mod ListSteps
 pub mod PowerCounts

@@ -1,12 +1,12 @@
 -- Loops that replace each entry of a list by the form of a value.
-use Rattle.std.proofs.Common.{◌≡◌, ℕ, ◌+◌, ◌<◌, List, [], ◌∷◌, length, map, slice_index, get_or, All}
+use Rattle.std.proofs.Common.{◌≡◌, ℕ, ◌+◌, ◌<◌, ◌≤◌, List, [], ◌∷◌, length, map, slice_index, get_or, All}
 use Rattle.std.proofs.Common.{◌∙◌, ap, arith, subst, sym}
 use Rattle.std.proofs.Math.ListN.{set}
 use Rattle.modular_reduced.specs.Forms.{IsForm, IsCanonical, Represents}
 use Rattle.modular_reduced.specs.Values.{HoldValues}
 use Rattle.modular_reduced.specs.Entries.{entry, DoneBelow}
 use Rattle.modular_reduced.specs.EntryLaws.{entry_at, forms_written, done_more}
-use Rattle.modular_reduced.proofs.FormLemmas.{form_of_value}
+use Rattle.modular_reduced.proofs.FormLemmas.{form_of_value, form_as}
 
 -- all forms are checked; those before i have the values v, and from i on no value is changed
 pub record WrittenBelow {T : Type 0} (number : T → ℕ) (form value : ℕ → ℕ → ℕ) (m : ℕ)
@@ -23,6 +23,13 @@ pub written_more : {T : Type 0} (number : T → ℕ) (form value : ℕ → ℕ �
 written_more number form value m forms i x v old within before is here = record {
   checked = forms_written number form value m forms i x is before.checked;
   done = done_more number value m forms i x (λ k n. n ≡ v k) old within before.done here;
+}
+
+-- at the end each value stands
+pub written_all : {T : Type 0} {number : T → ℕ} {form value : ℕ → ℕ → ℕ} {m i : ℕ} {v old : ℕ → ℕ} {forms : List T}
+    → WrittenBelow number form value m v i old forms → length forms ≤ i → HoldValues number form m forms v
+written_all {number = number} {value = value} {m = m} {forms = forms} is all = record {
+  each = λ k d l. form_as (is.checked k d l) (entry_at number value m forms k d l ∙ is.done.done k (omega (arith, l, all)));
 }
 
 -- where g takes the form of each value v to the form of h v, and each word of a list of forms is replaced by g of it
@@ -55,3 +62,21 @@ held_values number [] v i canonical held l = absurd (omega arith)
 held_values number {form} {value} {width} {m} (x ∷ xs) v i canonical held l =
     sym (entry_at number value m (x ∷ xs) i x l)
     ∙ canonical.one_value (number (get_or (x ∷ xs) i x)) (v i) (held.each i x l)
+
+-- the clauses of a call that writes n forms of values: that they represent these, their values, and that they are checked
+abbrev pub ListAnswered : {T : Type 0} → (T → ℕ) → (ℕ → ℕ → ℕ) → (ℕ → ℕ → ℕ) → ℕ → ℕ → List T → (ℕ → ℕ) → Type 0
+ListAnswered number form value m n forms v = record {
+  entries : HoldValues number form m forms v;
+  values : (i : ℕ) → i < n → entry number value m forms i ≡ v i;
+  checked : All (λ f. IsForm form value m (number f)) forms;
+}
+
+-- the first is enough
+pub list_answered : {T : Type 0} {number : T → ℕ} {form value : ℕ → ℕ → ℕ} {width m n : ℕ} (forms : List T) {v : ℕ → ℕ}
+    → IsCanonical form value width m → HoldValues number form m forms v → length forms ≡ n
+    → ListAnswered number form value m n forms v
+list_answered {number = number} forms canonical held same = record {
+  entries = held;
+  values = λ i l. held_values number forms _ i canonical held (omega (arith, l, same));
+  checked = held_checked number forms _ canonical held;
+}

@@ -376,13 +376,14 @@ pub trait Reducer<T: RingWord> {
         self.mul(&difference, factor)
     }
 
-    /// The same as without `_with_room`, faster in loops: the form of the sum modulo m, as `add` returns it.
+    /// Adds to each entry of xs the entry of ys with the same index: as `add` does.
     ///
-    /// A reducer may override it with a body of which compilers do several at once in a loop over a list.
+    /// A reducer may override it with a body of which compilers do several entries at once.
     ///
-    /// # Preconditions
+    /// # Conditions
     ///
-    /// - 2m is below the base
+    /// - the lists have the same length
+    /// - (debug) all entries are checked forms
     ///
     /// # Examples
     ///
@@ -390,28 +391,38 @@ pub trait Reducer<T: RingWord> {
     /// use num_modular::{Reducer, Vanilla};
     ///
     /// let ring = Vanilla::<u64>::new(&97);
-    /// assert_eq!(ring.add_with_room(&60, &50), 13); // 110 - 97
+    /// let mut xs = [60, 2];
+    /// ring.add_entries(&mut xs, &[50, 3]);
+    /// assert_eq!(xs, [13, 5]); // 110 - 97
     /// ```
-    fn add_with_room(&self, a: &T, b: &T) -> T
-        requires left { IsForm form value (modulus self.now) (T.number a.now) }
-        requires right { IsForm form value (modulus self.now) (T.number b.now) }
-        requires room { 2 * modulus self.now < 2 ^ T.width }
-        ensures form { let m = modulus self.now in
-            Represents form m (T.number result) ((value m (T.number a.now) + value m (T.number b.now)) % m) }
-        ensures checked { IsForm form value (modulus self.now) (T.number result) }
-        ensures value { let m = modulus self.now in
-            value m (T.number result) ≡ (value m (T.number a.now) + value m (T.number b.now)) % m }
+    // rust: #[track_caller]
+    fn add_entries(&self, xs: &mut [T], ys: &[T])
+        requires equal { length ys.now ≡ length xs.old }
+        requires checked_xs { All (λ f. IsForm form value (modulus self.now) (T.number f)) xs.old }
+        requires checked_ys { All (λ f. IsForm form value (modulus self.now) (T.number f)) ys.now }
+        ensures entries { let m = modulus self.now in HoldValues T.number form m xs.new
+            (λ i. (slice_index (values_of T.number value m xs.old) i
+            + slice_index (values_of T.number value m ys.now) i) % m) }
+        ensures values { let m = modulus self.now in
+            (i : ℕ) → i < length xs.old → slice_index (values_of T.number value m xs.new) i
+            ≡ (slice_index (values_of T.number value m xs.old) i
+            + slice_index (values_of T.number value m ys.now) i) % m }
+        ensures checked { All (λ f. IsForm form value (modulus self.now) (T.number f)) xs.new }
     {
-        self.add(a, b)
+        // rust: crate::additions::expect_entries(self, xs, ys);
+        'entries: for i in 0..xs.len() {
+            xs[i] = self.add(&xs[i], &ys[i]);
+        }
     }
 
-    /// The same as without `_with_room`, faster in loops: the form of the difference modulo m, as `sub` returns it.
+    /// Subtracts from each entry of xs the entry of ys with the same index: as `sub` does.
     ///
-    /// A reducer may override it as `add_with_room`.
+    /// A reducer may override it as `add_entries`.
     ///
-    /// # Preconditions
+    /// # Conditions
     ///
-    /// - 2m is below the base
+    /// - the lists have the same length
+    /// - (debug) all entries are checked forms
     ///
     /// # Examples
     ///
@@ -419,19 +430,28 @@ pub trait Reducer<T: RingWord> {
     /// use num_modular::{Reducer, Vanilla};
     ///
     /// let ring = Vanilla::<u64>::new(&97);
-    /// assert_eq!(ring.sub_with_room(&50, &60), 87); // -10 + 97
+    /// let mut xs = [50, 5];
+    /// ring.sub_entries(&mut xs, &[60, 3]);
+    /// assert_eq!(xs, [87, 2]); // -10 + 97
     /// ```
-    fn sub_with_room(&self, a: &T, b: &T) -> T
-        requires left { IsForm form value (modulus self.now) (T.number a.now) }
-        requires right { IsForm form value (modulus self.now) (T.number b.now) }
-        requires room { 2 * modulus self.now < 2 ^ T.width }
-        ensures form { let m = modulus self.now in Represents form m (T.number result)
-            (residue m (pos (value m (T.number a.now)) -ℤ pos (value m (T.number b.now)))) }
-        ensures checked { IsForm form value (modulus self.now) (T.number result) }
-        ensures value { let m = modulus self.now in
-            value m (T.number result) ≡ residue m (pos (value m (T.number a.now)) -ℤ pos (value m (T.number b.now))) }
+    // rust: #[track_caller]
+    fn sub_entries(&self, xs: &mut [T], ys: &[T])
+        requires equal { length ys.now ≡ length xs.old }
+        requires checked_xs { All (λ f. IsForm form value (modulus self.now) (T.number f)) xs.old }
+        requires checked_ys { All (λ f. IsForm form value (modulus self.now) (T.number f)) ys.now }
+        ensures entries { let m = modulus self.now in HoldValues T.number form m xs.new
+            (λ i. residue m (pos (slice_index (values_of T.number value m xs.old) i)
+            -ℤ pos (slice_index (values_of T.number value m ys.now) i))) }
+        ensures values { let m = modulus self.now in
+            (i : ℕ) → i < length xs.old → slice_index (values_of T.number value m xs.new) i
+            ≡ residue m (pos (slice_index (values_of T.number value m xs.old) i)
+            -ℤ pos (slice_index (values_of T.number value m ys.now) i)) }
+        ensures checked { All (λ f. IsForm form value (modulus self.now) (T.number f)) xs.new }
     {
-        self.sub(a, b)
+        // rust: crate::additions::expect_entries(self, xs, ys);
+        'entries: for i in 0..xs.len() {
+            xs[i] = self.sub(&xs[i], &ys[i]);
+        }
     }
 
     /// The form of `sum` + Σ x_i·y_i: entry by entry, modulo m.

@@ -3,7 +3,7 @@
 ghost use Rattle.std.specs.Prelude.{◌≡◌, ℕ, ◌^◌, ◌<◌, ◌≤◌};
 ghost use Rattle.modular_reduced.specs.Plain.{plain_form, plain_value, plain_canonical};
 
-use crate::lanes::{difference_by_sign, sum_by_sign};
+use crate::lanes::{add_each, sub_each};
 use crate::reducer::Reducer;
 use modular_prim::below::{add_below, dbl_below_stored, neg_below, sub_below};
 use modular_prim::inverse::fast_inverse;
@@ -119,16 +119,16 @@ impl<T: PlainWord> Reducer<T> for Vanilla<T> {
         T::narrow_remainder(a.product(*b), self.modulus)
     }
 
-    // rust: #[cfg_attr(debug_assertions, track_caller)]
-    fn add_with_room(&self, a: &T, b: &T) -> T {
-        // rust: debug_assert!(!self.modulus().has_top_bit(), "2m must be below the base");
-        sum_by_sign(*a, *b, self.modulus)
+    // rust: #[track_caller]
+    fn add_entries(&self, xs: &mut [T], ys: &[T]) {
+        // rust: crate::additions::expect_entries(self, xs, ys);
+        add_each(xs, ys, self.modulus);
     }
 
-    // rust: #[cfg_attr(debug_assertions, track_caller)]
-    fn sub_with_room(&self, a: &T, b: &T) -> T {
-        // rust: debug_assert!(!self.modulus().has_top_bit(), "2m must be below the base");
-        difference_by_sign(*a, *b, self.modulus)
+    // rust: #[track_caller]
+    fn sub_entries(&self, xs: &mut [T], ys: &[T]) {
+        // rust: crate::additions::expect_entries(self, xs, ys);
+        sub_each(xs, ys, self.modulus);
     }
 
     fn inv(&self, f: T) -> Option<T> {

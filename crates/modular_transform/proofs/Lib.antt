@@ -7,7 +7,6 @@ pub mod FourValues
 pub mod Geometry
 pub mod Halves
 pub mod InverseTransform
-pub mod ListPairs
 pub mod MinusOne
 pub mod PairLemmas
 pub mod Places

@@ -72,14 +72,6 @@ pub fn unload_forms<T: RingWord, R: Reducer<T>>(r: &R, forms: &[T], words: &mut 
     }
 }
 
-// Whether sums and differences of lists are by `add_with_room` and `sub_with_room`. Of words of 64 bits the vector
-// instructions that every x86-64 processor has test the sign alone. They compare shorter words, so `add` does well there.
-fn takes_room<T: RingWord, R: Reducer<T>>(r: &R) -> bool
-    ensures { IsTrue result → 2 * R.modulus r.now < 2 ^ T.width }
-{
-    T::bits() == 64 && !r.modulus().has_top_bit()
-}
-
 /// Changes xs by ys, entry by entry: it adds to each entry of xs the entry of ys with the same index.
 ///
 /// # Conditions
@@ -113,17 +105,7 @@ pub fn add_lists<T: RingWord, R: Reducer<T>>(r: &R, xs: &mut [T], ys: &[T])
         + slice_index (values_of T.number R.value m ys.now) i) % m }
     ensures checked { AreChecked R.Reducer T.number r.now xs.new }
 {
-    // rust: assert!(ys.len() == xs.len(), "the lists must have the same length: {} and {}", xs.len(), ys.len());
-    // rust: debug_assert!(xs.iter().chain(ys.iter()).all(|x| r.check(x)), "all entries must be checked forms");
-    if takes_room::<T, R>(r) {
-        'roomy: for i in 0..xs.len() {
-            xs[i] = r.add_with_room(&xs[i], &ys[i]);
-        }
-    } else {
-        'entries: for i in 0..xs.len() {
-            xs[i] = r.add(&xs[i], &ys[i]);
-        }
-    }
+    r.add_entries(xs, ys);
 }
 
 /// Changes xs by ys, entry by entry: it subtracts from each entry of xs the entry of ys with the same index.
@@ -159,17 +141,7 @@ pub fn sub_lists<T: RingWord, R: Reducer<T>>(r: &R, xs: &mut [T], ys: &[T])
         -ℤ pos (slice_index (values_of T.number R.value m ys.now) i)) }
     ensures checked { AreChecked R.Reducer T.number r.now xs.new }
 {
-    // rust: assert!(ys.len() == xs.len(), "the lists must have the same length: {} and {}", xs.len(), ys.len());
-    // rust: debug_assert!(xs.iter().chain(ys.iter()).all(|x| r.check(x)), "all entries must be checked forms");
-    if takes_room::<T, R>(r) {
-        'roomy: for i in 0..xs.len() {
-            xs[i] = r.sub_with_room(&xs[i], &ys[i]);
-        }
-    } else {
-        'entries: for i in 0..xs.len() {
-            xs[i] = r.sub(&xs[i], &ys[i]);
-        }
-    }
+    r.sub_entries(xs, ys);
 }
 
 /// Changes xs by ys, entry by entry: it multiplies each entry of xs by the entry of ys with the same index.

@@ -7,7 +7,7 @@ use crate::modular_barrett::normalized::Normalized2by1Divisor;
 use crate::modular_prim::below::{add_below, dbl_below_stored, neg_below, sub_below};
 use crate::modular_prim::inverse::fast_inverse;
 use crate::modular_prim::plain_word::PlainWord;
-use crate::modular_reduced::lanes::{difference_by_sign, sum_by_sign};
+use crate::modular_reduced::lanes::{add_each, difference_by_sign, sub_each, sum_by_sign, takes_signs};
 use crate::modular_reduced::list_products::{block, multiply_by_factor};
 use crate::modular_reduced::reducer::Reducer;
 use crate::modular_word::path_word::PathWord;
@@ -120,6 +120,21 @@ impl<T: PlainWord> PreMulInv2by1<T> {
     pub const fn divisor(&self) -> T {
         self.divider.divisor()
     }
+
+    // The form of a sum where the modulus leaves a bit free: the divisor and all forms are even then, and their halves
+    // are added.
+    #[inline]
+    fn sum_by_halves(&self, a: T, b: T) -> T {
+        let half = sum_by_sign(a.half(), b.half(), self.divisor().half());
+        half.plus(half)
+    }
+
+    // That of a difference.
+    #[inline]
+    fn difference_by_halves(&self, a: T, b: T) -> T {
+        let half = difference_by_sign(a.half(), b.half(), self.divisor().half());
+        half.plus(half)
+    }
 }
 
 // Whether one of the lowest bits of a word is set, where `check` tests them first. At these widths compilers then branch
@@ -192,21 +207,31 @@ impl<T: PlainWord> Reducer<T> for PreMulInv2by1<T> {
         neg_below(f, self.divisor())
     }
 
-    // The divisor uses all bits, and is even, as all forms are. So the halves of the forms are added.
-    #[cfg_attr(debug_assertions, track_caller)]
+    // The divisor uses all bits. Where the modulus leaves one free, all forms are even, and their halves are added.
+    #[track_caller]
     #[inline]
-    fn add_with_room(&self, a: &T, b: &T) -> T {
-        debug_assert!(!self.modulus().has_top_bit(), "2m must be below the base");
-        let half = sum_by_sign(a.half(), b.half(), self.divisor().half());
-        half.plus(half)
+    fn add_entries(&self, xs: &mut [T], ys: &[T]) {
+        crate::additions::expect_entries(self, xs, ys);
+        if takes_signs(self.modulus()) {
+            for i in 0..xs.len() {
+                xs[i] = self.sum_by_halves(xs[i], ys[i]);
+            }
+        } else {
+            add_each(xs, ys, self.divisor());
+        }
     }
 
-    #[cfg_attr(debug_assertions, track_caller)]
+    #[track_caller]
     #[inline]
-    fn sub_with_room(&self, a: &T, b: &T) -> T {
-        debug_assert!(!self.modulus().has_top_bit(), "2m must be below the base");
-        let half = difference_by_sign(a.half(), b.half(), self.divisor().half());
-        half.plus(half)
+    fn sub_entries(&self, xs: &mut [T], ys: &[T]) {
+        crate::additions::expect_entries(self, xs, ys);
+        if takes_signs(self.modulus()) {
+            for i in 0..xs.len() {
+                xs[i] = self.difference_by_halves(xs[i], ys[i]);
+            }
+        } else {
+            sub_each(xs, ys, self.divisor());
+        }
     }
 
     #[inline]

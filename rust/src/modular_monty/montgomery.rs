@@ -5,6 +5,7 @@ use crate::modular_monty::odd_montgomery::OddMontgomery;
 use crate::modular_monty::odd_ring::{reduced_factor, OddRing, StoredModulus};
 use crate::modular_prim::below::{add_below, dbl_below_stored};
 use crate::modular_prim::reducer_word::ReducerWord;
+use crate::modular_reduced::lanes::{add_each, sub_each};
 use crate::modular_reduced::list_products::{multiply_by_factor, product_by_factor};
 use crate::modular_reduced::reducer::Reducer;
 
@@ -200,24 +201,28 @@ impl<T: ReducerWord> Reducer<T> for Montgomery<T> {
         self.sub(&T::zero(), &f)
     }
 
-    #[cfg_attr(debug_assertions, track_caller)]
-    #[inline]
-    fn add_with_room(&self, a: &T, b: &T) -> T {
-        debug_assert!(!self.modulus().has_top_bit(), "2m must be below the base");
+    #[track_caller]
+    fn add_entries(&self, xs: &mut [T], ys: &[T]) {
+        crate::additions::expect_entries(self, xs, ys);
         if self.twos == 0 {
-            return self.odd.add_with_room(a, b);
+            add_each(xs, ys, self.odd.kept.modulus);
+            return;
         }
-        self.add(a, b)
+        for i in 0..xs.len() {
+            xs[i] = self.add(&xs[i], &ys[i]);
+        }
     }
 
-    #[cfg_attr(debug_assertions, track_caller)]
-    #[inline]
-    fn sub_with_room(&self, a: &T, b: &T) -> T {
-        debug_assert!(!self.modulus().has_top_bit(), "2m must be below the base");
+    #[track_caller]
+    fn sub_entries(&self, xs: &mut [T], ys: &[T]) {
+        crate::additions::expect_entries(self, xs, ys);
         if self.twos == 0 {
-            return self.odd.sub_with_room(a, b);
+            sub_each(xs, ys, self.odd.kept.modulus);
+            return;
         }
-        self.sub(a, b)
+        for i in 0..xs.len() {
+            xs[i] = self.sub(&xs[i], &ys[i]);
+        }
     }
 
     fn mul(&self, a: &T, b: &T) -> T {

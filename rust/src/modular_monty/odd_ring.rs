@@ -6,7 +6,7 @@ use crate::modular_monty::list_products::reduced_products;
 use crate::modular_monty::neg_mod_inv::neginv;
 use crate::modular_prim::below::{add_below, branchless_sub_below, dbl_below, neg_below, sub_below};
 use crate::modular_prim::reducer_word::ReducerWord;
-use crate::modular_reduced::lanes::{difference_by_sign, sum_by_sign};
+use crate::modular_reduced::lanes::{add_each, sub_each};
 use crate::modular_reduced::list_products::block;
 use crate::modular_reduced::reducer::Reducer;
 use crate::modular_word::path_word::PathWord;
@@ -311,18 +311,18 @@ impl<T: ReducerWord, M: OddModulus<T>> Reducer<T> for OddRing<T, M> {
         neg_below(f, self.kept.modulus())
     }
 
-    #[cfg_attr(debug_assertions, track_caller)]
+    #[track_caller]
     #[inline]
-    fn add_with_room(&self, a: &T, b: &T) -> T {
-        debug_assert!(!self.modulus().has_top_bit(), "2m must be below the base");
-        sum_by_sign(*a, *b, self.kept.modulus())
+    fn add_entries(&self, xs: &mut [T], ys: &[T]) {
+        crate::additions::expect_entries(self, xs, ys);
+        add_each(xs, ys, self.kept.modulus());
     }
 
-    #[cfg_attr(debug_assertions, track_caller)]
+    #[track_caller]
     #[inline]
-    fn sub_with_room(&self, a: &T, b: &T) -> T {
-        debug_assert!(!self.modulus().has_top_bit(), "2m must be below the base");
-        difference_by_sign(*a, *b, self.kept.modulus())
+    fn sub_entries(&self, xs: &mut [T], ys: &[T]) {
+        crate::additions::expect_entries(self, xs, ys);
+        sub_each(xs, ys, self.kept.modulus());
     }
 
     #[inline]

@@ -5,6 +5,7 @@
 //! Those don't compare words of 64 bits, and other words as signed numbers alone. So the top bit of a difference
 //! chooses, which requires that 2m is at most the base.
 
+use crate::modular_prim::below::{add_below, sub_below};
 use crate::modular_word::path_word::PathWord;
 
 /// The residue of a word below 2m.
@@ -53,5 +54,51 @@ pub fn difference_by_sign<T: PathWord>(a: T, b: T, m: T) -> T {
         less.wrapping_add(m)
     } else {
         less
+    }
+}
+
+/// Whether sums and differences of many words below m go by the top bit: if it's free and the words have 64 bits. Shorter
+/// words are compared by vector instructions, too.
+#[must_use]
+#[inline]
+pub fn takes_signs<T: PathWord>(m: T) -> bool {
+    T::bits() == 64 && !m.has_top_bit()
+}
+
+/// Adds to each word of xs the word of ys with the same index, modulo m.
+///
+/// # Preconditions
+///
+/// - the lists have the same length, and all words are below m
+///
+/// No build tests this: where it doesn't hold, the call panics or its result is unspecified.
+pub fn add_each<T: PathWord>(xs: &mut [T], ys: &[T], m: T) {
+    if takes_signs(m) {
+        for i in 0..xs.len() {
+            xs[i] = sum_by_sign(xs[i], ys[i], m);
+        }
+    } else {
+        for i in 0..xs.len() {
+            xs[i] = add_below(xs[i], ys[i], m);
+        }
+    }
+}
+
+/// Subtracts from each word of xs the word of ys with the same index, modulo m.
+///
+/// # Preconditions
+///
+/// - the lists have the same length, and all words are below m
+///
+/// No build tests this: where it doesn't hold, the call panics or its result is unspecified.
+pub fn sub_each<T: PathWord>(xs: &mut [T], ys: &[T], m: T) {
+    if takes_signs(m) {
+        for i in 0..xs.len() {
+            xs[i] = difference_by_sign(xs[i], ys[i], m);
+        }
+    } else {
+        for i in 0..xs.len() {
+            xs[i] = sub_below(xs[i], ys[i], m);
+        }
     }
 }

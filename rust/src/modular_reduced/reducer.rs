@@ -300,15 +300,17 @@ pub trait Reducer<T>: Sized {
         self.mul(&difference, factor)
     }
 
-    /// The same as without `_with_room`, faster in loops: the form of the sum modulo m, as `add` returns it.
+    /// Adds to each entry of xs the entry of ys with the same index: as `add` does.
     ///
-    /// A reducer may override it with a body of which compilers do several at once in a loop over a list.
+    /// A reducer may override it with a body of which compilers do several entries at once.
     ///
-    /// # Preconditions
+    /// # Panics
     ///
-    /// - 2m is below the base
+    /// Panics unless the lists have the same length.
     ///
-    /// No build tests this: where it doesn't hold, the call panics or its result is unspecified.
+    /// A debug build also panics unless all entries are checked forms.
+    ///
+    /// A release build doesn't test this: where it doesn't hold, the call panics or its result is unspecified.
     ///
     /// # Examples
     ///
@@ -316,22 +318,30 @@ pub trait Reducer<T>: Sized {
     /// use num_modular::{Reducer, Vanilla};
     ///
     /// let ring = Vanilla::<u64>::new(&97);
-    /// assert_eq!(ring.add_with_room(&60, &50), 13); // 110 - 97
+    /// let mut xs = [60, 2];
+    /// ring.add_entries(&mut xs, &[50, 3]);
+    /// assert_eq!(xs, [13, 5]); // 110 - 97
     /// ```
+    #[track_caller]
     #[inline]
-    fn add_with_room(&self, a: &T, b: &T) -> T {
-        self.add(a, b)
+    fn add_entries(&self, xs: &mut [T], ys: &[T]) {
+        crate::additions::expect_entries(self, xs, ys);
+        for i in 0..xs.len() {
+            xs[i] = self.add(&xs[i], &ys[i]);
+        }
     }
 
-    /// The same as without `_with_room`, faster in loops: the form of the difference modulo m, as `sub` returns it.
+    /// Subtracts from each entry of xs the entry of ys with the same index: as `sub` does.
     ///
-    /// A reducer may override it as `add_with_room`.
+    /// A reducer may override it as `add_entries`.
     ///
-    /// # Preconditions
+    /// # Panics
     ///
-    /// - 2m is below the base
+    /// Panics unless the lists have the same length.
     ///
-    /// No build tests this: where it doesn't hold, the call panics or its result is unspecified.
+    /// A debug build also panics unless all entries are checked forms.
+    ///
+    /// A release build doesn't test this: where it doesn't hold, the call panics or its result is unspecified.
     ///
     /// # Examples
     ///
@@ -339,11 +349,17 @@ pub trait Reducer<T>: Sized {
     /// use num_modular::{Reducer, Vanilla};
     ///
     /// let ring = Vanilla::<u64>::new(&97);
-    /// assert_eq!(ring.sub_with_room(&50, &60), 87); // -10 + 97
+    /// let mut xs = [50, 5];
+    /// ring.sub_entries(&mut xs, &[60, 3]);
+    /// assert_eq!(xs, [87, 2]); // -10 + 97
     /// ```
+    #[track_caller]
     #[inline]
-    fn sub_with_room(&self, a: &T, b: &T) -> T {
-        self.sub(a, b)
+    fn sub_entries(&self, xs: &mut [T], ys: &[T]) {
+        crate::additions::expect_entries(self, xs, ys);
+        for i in 0..xs.len() {
+            xs[i] = self.sub(&xs[i], &ys[i]);
+        }
     }
 
     /// The form of `sum` + Σ x_i·y_i: entry by entry, modulo m.

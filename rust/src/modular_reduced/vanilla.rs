@@ -4,7 +4,7 @@
 use crate::modular_prim::below::{add_below, dbl_below_stored, neg_below, sub_below};
 use crate::modular_prim::inverse::fast_inverse;
 use crate::modular_prim::plain_word::PlainWord;
-use crate::modular_reduced::lanes::{difference_by_sign, sum_by_sign};
+use crate::modular_reduced::lanes::{add_each, sub_each};
 use crate::modular_reduced::reducer::Reducer;
 
 /// The plain reducer of any m: m is at least 1, and the form of a value is the value.
@@ -102,18 +102,18 @@ impl<T: PlainWord> Reducer<T> for Vanilla<T> {
         T::narrow_remainder(a.product(*b), self.modulus)
     }
 
-    #[cfg_attr(debug_assertions, track_caller)]
+    #[track_caller]
     #[inline]
-    fn add_with_room(&self, a: &T, b: &T) -> T {
-        debug_assert!(!self.modulus().has_top_bit(), "2m must be below the base");
-        sum_by_sign(*a, *b, self.modulus)
+    fn add_entries(&self, xs: &mut [T], ys: &[T]) {
+        crate::additions::expect_entries(self, xs, ys);
+        add_each(xs, ys, self.modulus);
     }
 
-    #[cfg_attr(debug_assertions, track_caller)]
+    #[track_caller]
     #[inline]
-    fn sub_with_room(&self, a: &T, b: &T) -> T {
-        debug_assert!(!self.modulus().has_top_bit(), "2m must be below the base");
-        difference_by_sign(*a, *b, self.modulus)
+    fn sub_entries(&self, xs: &mut [T], ys: &[T]) {
+        crate::additions::expect_entries(self, xs, ys);
+        sub_each(xs, ys, self.modulus);
     }
 
     #[inline]

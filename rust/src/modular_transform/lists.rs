@@ -61,13 +61,6 @@ pub fn unload_forms<T: RingWord, R: Reducer<T>>(r: &R, forms: &[T], words: &mut 
     }
 }
 
-// Whether sums and differences of lists are by `add_with_room` and `sub_with_room`. Of words of 64 bits the vector
-// instructions that every x86-64 processor has test the sign alone. They compare shorter words, so `add` does well there.
-#[inline]
-fn takes_room<T: RingWord, R: Reducer<T>>(r: &R) -> bool {
-    T::bits() == 64 && !r.modulus().has_top_bit()
-}
-
 /// Changes xs by ys, entry by entry: it adds to each entry of xs the entry of ys with the same index.
 ///
 /// # Panics
@@ -90,18 +83,9 @@ fn takes_room<T: RingWord, R: Reducer<T>>(r: &R) -> bool {
 /// assert_eq!(xs, [3, 5]);
 /// ```
 #[track_caller]
+#[inline]
 pub fn add_lists<T: RingWord, R: Reducer<T>>(r: &R, xs: &mut [T], ys: &[T]) {
-    assert!(ys.len() == xs.len(), "the lists must have the same length: {} and {}", xs.len(), ys.len());
-    debug_assert!(xs.iter().chain(ys.iter()).all(|x| r.check(x)), "all entries must be checked forms");
-    if takes_room::<T, R>(r) {
-        for i in 0..xs.len() {
-            xs[i] = r.add_with_room(&xs[i], &ys[i]);
-        }
-    } else {
-        for i in 0..xs.len() {
-            xs[i] = r.add(&xs[i], &ys[i]);
-        }
-    }
+    r.add_entries(xs, ys);
 }
 
 /// Changes xs by ys, entry by entry: it subtracts from each entry of xs the entry of ys with the same index.
@@ -126,18 +110,9 @@ pub fn add_lists<T: RingWord, R: Reducer<T>>(r: &R, xs: &mut [T], ys: &[T]) {
 /// assert_eq!(xs, [80, 96]);
 /// ```
 #[track_caller]
+#[inline]
 pub fn sub_lists<T: RingWord, R: Reducer<T>>(r: &R, xs: &mut [T], ys: &[T]) {
-    assert!(ys.len() == xs.len(), "the lists must have the same length: {} and {}", xs.len(), ys.len());
-    debug_assert!(xs.iter().chain(ys.iter()).all(|x| r.check(x)), "all entries must be checked forms");
-    if takes_room::<T, R>(r) {
-        for i in 0..xs.len() {
-            xs[i] = r.sub_with_room(&xs[i], &ys[i]);
-        }
-    } else {
-        for i in 0..xs.len() {
-            xs[i] = r.sub(&xs[i], &ys[i]);
-        }
-    }
+    r.sub_entries(xs, ys);
 }
 
 /// Changes xs by ys, entry by entry: it multiplies each entry of xs by the entry of ys with the same index.

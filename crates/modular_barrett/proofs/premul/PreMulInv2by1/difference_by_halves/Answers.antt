@@ -1,17 +1,15 @@
 use Rattle.std.proofs.Common.{arith}
-use Rattle.modular_reduced.proofs.FormLemmas.{answered}
-use Rattle.modular_barrett.specs.ScaledForms.{scaled_canonical}
 use Rattle.modular_barrett.proofs.ScaledLemmas.{difference_stands}
 use Rattle.modular_barrett.proofs.ScaledHalves.{AreHalves, halves_of_scaled, difference_of_halves}
-use Rattle.modular_barrett.proofs.premul.PreMulInv2by1Reducer.sub_with_room.Goals as goal
-use Rattle.modular_barrett.proofs.premul.PreMulInv2by1Reducer.sub_with_room.Goals.{After-half-3}
+use Rattle.modular_barrett.proofs.premul.PreMulInv2by1.difference_by_halves.Goals as goal
+use Rattle.modular_barrett.proofs.premul.PreMulInv2by1.difference_by_halves.Goals.{After-half-3}
 
 are : (g : _) (c : After-half-3 g)
     → let n = g.T.RingWord.number in
-    AreHalves (n c.divisor.result) (n c.args.a.now) (n c.args.b.now) (n c.half-3.result) (n c.half.result) (n c.half-2.result)
+    AreHalves (n c.divisor.result) (n c.args.a) (n c.args.b) (n c.half-3.result) (n c.half.result) (n c.half-2.result)
 are g c =
     let n = g.T.RingWord.number in
-    halves_of_scaled g.T.RingWord.width _ (n c.divisor.result) (n c.args.a.now) (n c.args.b.now)
+    halves_of_scaled g.T.RingWord.width _ (n c.divisor.result) (n c.args.a) (n c.args.b)
     (n c.half-3.result) (n c.half.result) (n c.half-2.result) c.divisor.ensures.scaled c.requires.room
     (let b = g.met.T.PathWord.base_is in omega (arith, c.divisor.ensures.top, b)) c.requires.left c.requires.right
     c.half-3.ensures.value c.half.ensures.value c.half-2.ensures.value
@@ -32,8 +30,7 @@ pub returns : goal.returns
 returns g c =
     let n = g.T.RingWord.number in
     let is = are g (goal.at.returns g c).After-half-3 in
-    let made = difference_of_halves (n c.divisor.result) (n c.args.a.now) (n c.args.b.now)
+    let made = difference_of_halves (n c.divisor.result) (n c.args.a) (n c.args.b)
     (n c.half-3.result) (n c.half.result) (n c.half-2.result) (n c.difference_by_sign-half.result) (n c.plus.result) is
     c.difference_by_sign-half.ensures.value c.plus.ensures in
-    answered (scaled_canonical c.args.self.now.scaling)
-    (difference_stands _ _ _ _ _ _ c.args.self.now.scaling.positive c.divisor.ensures.scaled c.requires.left c.requires.right made)
+    difference_stands _ _ _ _ _ _ c.args.self.now.scaling.positive c.divisor.ensures.scaled c.requires.left c.requires.right made

@@ -1,0 +1,17 @@
+use Rattle.std.proofs.Common.{◌≡◌, pos, ◌-ℤ◌, map, slice_index}
+use Rattle.modular_word.specs.Residues.{residue}
+use Rattle.modular_reduced.specs.Entries.{DoneBelow}
+use Rattle.modular_reduced.proofs.lanes.sub_each.Given as goal
+
+-- the first i words are replaced
+abbrev pub invariant-signs : goal.invariant-signs
+invariant-signs g l =
+    let m = g.T.RingWord.number l.m in let old = slice_index (map g.T.RingWord.number l.fn.xs) in
+    let y = slice_index (map g.T.RingWord.number l.fn.ys) in
+    DoneBelow (λ k n. n ≡ residue m (pos (old k) -ℤ pos (y k))) l.i old (slice_index (map g.T.RingWord.number l.xs))
+
+abbrev pub invariant-words : goal.invariant-words
+invariant-words g l =
+    let m = g.T.RingWord.number l.m in let old = slice_index (map g.T.RingWord.number l.fn.xs) in
+    let y = slice_index (map g.T.RingWord.number l.fn.ys) in
+    DoneBelow (λ k n. n ≡ residue m (pos (old k) -ℤ pos (y k))) l.i old (slice_index (map g.T.RingWord.number l.xs))
