@@ -10,7 +10,7 @@ use Rattle.num_modular.specs.Congruence.{Congruent}
 use Rattle.num_modular.specs.NumberLaws.{mod_of_eq, mod_refl, mod_trans, mod_add, mod_mul, mod_pow}
 use Rattle.num_modular.specs.NumberLaws.{residue_of, one-pow, pow-mul}
 use Rattle.num_modular.specs.NumberLaws.{sum_below-zero, sum_below-suc, sum_below-first, sum_below-same}
-use Rattle.num_modular.specs.NumberLaws.{sum_below-congruent, sum_below-mul}
+use Rattle.num_modular.specs.NumberLaws.{sum_below-congruent, sum_below-mul, sum_below-reversed}
 use Rattle.num_modular.specs.Sums.{sum_below}
 use Rattle.long_product.specs.AnyLength.{choose_two, scaled_transform}
 use Rattle.long_product.specs.Polynomials.{product_entry, HasProductRoom}
@@ -103,11 +103,6 @@ choose_sum i (suc j) =
     let e : i + suc j ≡ i + j + 1 = omega arith in
     search (arith, choose_more, sum_below-suc, choose_sum i j)
 
--- a sum in the other order
-sum_reversed : (n : ℕ) (f : ℕ → ℕ) → sum_below n f ≡ sum_below n (λ i. f (n - 1 - i))
-sum_reversed zero f = sum_below-zero f ∙ sym (sum_below-zero (λ i. f (0 - 1 - i)))
-sum_reversed (suc n) f = search (arith, sum_below-suc, sum_below-first, sum_below-same, sum_reversed n f)
-
 -- powers of a number and of its inverse cancel
 pub powers_cancel : {m : ℕ} (g h k : ℕ) → Congruent m (g * h) 1 → Congruent m (g ^ k * h ^ k) 1
 powers_cancel {m} g h k one =
@@ -152,7 +147,7 @@ reversed_product : (n j : ℕ) (us bs : List ℕ) → length us ≡ n → j < n
 reversed_product n j us bs l within =
     let f = λ (p : ℕ). get_or (reverse us) p 0 * get_or bs (n - 1 + j - p) 0 in
     sym (no_back (reverse us) bs (n - 1 + j) n (omega arith) (λ k. omega (arith, length-reverse us)))
-    ∙ sum_reversed n f
+    ∙ sym (sum_below-reversed n f)
     ∙ sum_below-same n (λ i. f (n - 1 - i)) (λ i. get_or us i 0 * get_or bs (i + j) 0)
     (λ i k. search (arith, get_or-reverse))
 

@@ -204,6 +204,11 @@ unfolding sum_below
 sum_below-same zero f g h = refl
 sum_below-same (suc n) f g h = grind (arith, sum_below-same n f g (λ i l. h i (omega arith)))
 
+-- a sum from its last term on
+pub sum_below-reversed : (n : ℕ) (f : ℕ → ℕ) → sum_below n (λ i. f (n - 1 - i)) ≡ sum_below n f
+sum_below-reversed zero f = sum_below-zero _ ∙ sym (sum_below-zero f)
+sum_below-reversed (suc n) f = search (arith, sum_below-suc, sum_below-first, sum_below-same, sum_below-reversed n f)
+
 -- congruent summands, congruent sums
 pub sum_below-congruent : {m : ℕ} (n : ℕ) (f g : ℕ → ℕ) → ((i : ℕ) → i < n → Congruent m (f i) (g i))
     → Congruent m (sum_below n f) (sum_below n g)

@@ -18,7 +18,7 @@ pub use Rattle.modular_word.proofs.Polynomials.{sum_below-more}
 pub use Rattle.modular_word.proofs.Sums.{sum_below-same, sum_below-congruent, sum_below-mul, sum_below-add}
 pub use Rattle.modular_word.proofs.Sums.{sum_below-of_zeros, sum_below-of_constant, sum_below-bounded}
 -- the order of two sums
-pub use Rattle.modular_word.proofs.Sums.{sum_below-exchanged}
+pub use Rattle.modular_word.proofs.Sums.{sum_below-exchanged, sum_below-reversed}
 -- the residue of a sum over a range: of the empty one, and with one more term
 pub use Rattle.modular_transform.proofs.PlainSums.{sum_none, sum_more}
 -- powers of 1, and powers to a product
