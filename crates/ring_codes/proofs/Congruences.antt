@@ -1,10 +1,11 @@
 -- Congruences that are linear combinations of others.
-use Rattle.std.proofs.Common.{◌≡◌, ℕ, ◌+◌, ◌*◌, ◌%◌, ◌<◌, pos, ◌-ℤ◌, ap, ◌∙◌, arith, mod-lt}
+use Rattle.std.proofs.Common.{◌≡◌, ℕ, zero, suc, ◌+◌, ◌*◌, ◌%◌, ◌<◌, pos, ◌-ℤ◌, ap, ◌∙◌, arith, mod-lt}
 use Rattle.std.proofs.Math.Nat.{add-mul-mod_self_left}
 use Rattle.std.proofs.lemmas.Nat.{mul-mod_first, mul-mod_second}
 use Rattle.num_modular.specs.Congruence.{Congruent}
 use Rattle.num_modular.specs.Inverses.{IsInverse, HasInverse}
 use Rattle.num_modular.specs.NumberLaws.{mod_of_eq, mod_refl, mod_sym, residue_of, mod_trans, mod_add, mod_mul, mod_add_cancel, difference_and}
+use Rattle.num_modular.specs.Products.{product_below}
 use Rattle.num_modular.specs.Residues.{residue}
 
 -- two numbers whose difference is that of two congruent ones, such as a sum of multiples
@@ -39,3 +40,11 @@ pub has_one : (m : ℕ) → 0 < m → HasInverse m (1 % m)
 has_one m positive =
     let e : 1 * 1 ≡ 1 = omega arith in
     (1 % m, record { below = mod-lt 1 positive; one = mul-mod_second (1 % m) 1 m ∙ mul-mod_first 1 1 m ∙ ap (λ v. v % m) e })
+
+-- products of congruent factors
+pub product-congruent : (m n : ℕ) (f g : ℕ → ℕ) → ((i : ℕ) → i < n → Congruent m (f i) (g i))
+    → Congruent m (product_below n f) (product_below n g)
+unfolding product_below
+product-congruent m zero f g same = mod_refl 1
+product-congruent m (suc n) f g same =
+    mod_mul (product-congruent m n f g (λ i l. same i (omega arith))) (same n (omega arith))

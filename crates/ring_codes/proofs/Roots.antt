@@ -1,18 +1,19 @@
--- Polynomials with given roots and the highest coefficient 1, root by root.
-use Rattle.std.proofs.Common.{◌≡◌, ℕ, zero, suc, ◌+◌, ◌-◌, ◌*◌, ◌^◌, ◌<◌, ◌≤◌, pos, ◌-ℤ◌, ap, ◌∙◌, arith, refl}
+-- Polynomials with given roots, root by root: products of X + r, where (m - 1)·z takes the place of -z.
+use Rattle.std.proofs.Common.{◌≡◌, ℕ, zero, suc, ◌+◌, ◌-◌, ◌*◌, ◌%◌, ◌^◌, ◌<◌, ◌≤◌, ap, sym, ◌∙◌, arith, refl, inl, inr}
 use Rattle.std.proofs.Math.Nat.{pow-zero}
+use Rattle.std.proofs.lemmas.Bool.{cases_lt}
 use Rattle.num_modular.specs.Congruence.{Congruent}
-use Rattle.num_modular.specs.NumberLaws.{mod_of_eq, mod_sym, mod_trans, mod_add, sum_below-suc, sum_below-zero}
+use Rattle.num_modular.specs.NumberLaws.{mod_of_eq, mod_refl, mod_sym, mod_trans, mod_add, sum_below-suc, sum_below-zero}
 use Rattle.num_modular.specs.Polynomials.{polynomial_at}
-use Rattle.num_modular.specs.ProductLaws.{product-zero, product-more}
-use Rattle.num_modular.specs.Residues.{residue}
+use Rattle.num_modular.specs.PolynomialLaws.{polynomial-congruent}
+use Rattle.num_modular.specs.Products.{product_below}
 use Rattle.num_modular.specs.SumLaws.{tail}
 use Rattle.num_modular.specs.Sums.{sum_below}
-use Rattle.ring_codes.specs.Roots.{HasRoots}
+use Rattle.ring_codes.specs.Roots.{HasRoots, AreRootCoefficients}
 use Rattle.ring_codes.specs.Shifts.{shifted}
-use Rattle.ring_codes.proofs.Congruences.{mod_of_combination, mod_of_difference, mod_times}
-use Rattle.ring_codes.proofs.NearestWords.{combined, with_multiple}
-use Rattle.ring_codes.proofs.Shifts.{shifted-values}
+use Rattle.ring_codes.proofs.Congruences.{mod_of_combination, mod_of_modulus, mod_of_residue, mod_times, product-congruent}
+use Rattle.ring_codes.proofs.NearestWords.{combined, turned_sign, difference_alike}
+use Rattle.ring_codes.proofs.Shifts.{shifted-values, shifted-congruent}
 
 -- a polynomial with one coefficient
 pub constant_value : (X : ℕ) (f : ℕ → ℕ) → polynomial_at (suc 0) f X ≡ f 0
@@ -52,35 +53,94 @@ times_root_value d r X h none =
     omega (arith, sum_below-suc d (λ i. h i * X ^ i), ap (λ w. w * X ^ d) none) in
     omega (arith, parts, shifted-values d X h, ap (λ w. r * w) same)
 
--- the coefficients of the product without points
-pub roots_none : (m : ℕ) (x f : ℕ → ℕ) → Congruent m (f 0) 1 → HasRoots m 0 x f
-roots_none m x f one = record {
-  highest = one;
-  value = λ a.
-      let one_more : 0 + 1 ≡ suc 0 = omega arith in
-      rw (one_more, constant_value a f, product-zero (λ i. residue m (pos a -ℤ pos (x i)))) one;
+-- the coefficients of 1
+pub constant_one : ℕ → ℕ
+constant_one zero = 1
+constant_one (suc i) = 0
+
+pub constant_one_behind : (i : ℕ) → 1 ≤ i → constant_one i ≡ 0
+unfolding constant_one
+constant_one_behind zero l = absurd (omega arith)
+constant_one_behind (suc i) l = refl
+
+-- the coefficients of the product of X + r 0, .., X + r (d - 1) and a polynomial
+pub expanded : ℕ → (ℕ → ℕ) → (ℕ → ℕ) → ℕ → ℕ
+expanded zero r h = h
+expanded (suc d) r h = times_root (r d) (expanded d r h)
+
+pub expanded_behind : (d e : ℕ) (r h : ℕ → ℕ) → ((i : ℕ) → e ≤ i → h i ≡ 0) → (i : ℕ) → d + e ≤ i → expanded d r h i ≡ 0
+unfolding expanded
+expanded_behind zero e r h none i l = none i (omega arith)
+expanded_behind (suc d) e r h none i l =
+    times_root_behind (d + e) (r d) i (expanded d r h) (expanded_behind d e r h none) (omega arith)
+
+-- its values are the products
+pub value_expanded : (d e n X : ℕ) (r h : ℕ → ℕ) → ((i : ℕ) → e ≤ i → h i ≡ 0) → n ≡ d + e
+    → polynomial_at n (expanded d r h) X ≡ product_below d (λ j. X + r j) * polynomial_at e h X
+unfolding expanded product_below
+value_expanded zero e n X r h none count = let is : n ≡ e = omega (arith, count) in rw is (omega arith)
+value_expanded (suc d) e n X r h none count =
+    let is : n ≡ suc (d + e) = omega (arith, count) in
+    let last = expanded_behind d e r h none (d + e) (omega arith) in
+    rw (is, times_root_value (d + e) (r d) X (expanded d r h) last, value_expanded d e (d + e) X r h none refl) (omega arith)
+
+-- those of the product alone: its values, and its highest coefficient
+pub product_expanded : (d X : ℕ) (r : ℕ → ℕ)
+    → polynomial_at (suc d) (expanded d r constant_one) X ≡ product_below d (λ j. X + r j)
+unfolding constant_one
+product_expanded d X r =
+    rw (value_expanded d 1 (suc d) X r constant_one constant_one_behind (omega arith), constant_value X constant_one)
+    (omega arith)
+
+pub highest_is_one : (d : ℕ) (r : ℕ → ℕ) → expanded d r constant_one d ≡ 1
+unfolding expanded times_root shifted constant_one
+highest_is_one zero r = refl
+highest_is_one (suc d) r =
+    let none = expanded_behind d 1 r constant_one constant_one_behind (suc d) (omega arith) in
+    omega (arith, highest_is_one d r, ap (λ v. r d * v) none)
+
+-- the product without roots
+pub coefficients_none : (m : ℕ) (r f : ℕ → ℕ) → f 0 ≡ 1 % m → ((j : ℕ) → 0 < j → f j ≡ 0)
+    → (j : ℕ) → Congruent m (f j) (expanded 0 r constant_one j)
+unfolding expanded constant_one
+coefficients_none m r f first none zero = mod_of_residue first
+coefficients_none m r f first none (suc j) = mod_of_eq (none (suc j) (omega arith))
+
+-- with one root more
+pub coefficients_more : (m i : ℕ) (x f g : ℕ → ℕ) → 0 < m
+    → ((j : ℕ) → Congruent m (f j) (expanded i (λ l. (m - 1) * x l) constant_one j)) → ((j : ℕ) → i < j → f j ≡ 0)
+    → ((j : ℕ) → j < i + 2 → Congruent m (g j + x i * f j) (shifted f j)) → ((j : ℕ) → i + 2 ≤ j → g j ≡ f j)
+    → (j : ℕ) → Congruent m (g j) (expanded (i + 1) (λ l. (m - 1) * x l) constant_one j)
+unfolding expanded times_root
+coefficients_more m i x f g positive same none each behind j =
+    let r : ℕ → ℕ = λ l. (m - 1) * x l in
+    let next : i + 1 ≡ suc i = omega arith in
+    elim (cases_lt j (i + 2)) [
+      | inl l ↦
+          let t = turned_sign m (x i * f j) positive in
+          rw next (mod_of_combination (mod_add (each j l) (mod_add (shifted-congruent m j f _ same)
+          (mod_add (mod_times (r i) (same j)) (mod_sym (mod_of_modulus (x i * f j)))))) (omega (arith, t)))
+      | inr b ↦
+          let last = expanded_behind (i + 1) 1 r constant_one constant_one_behind j (omega (arith, b)) in
+          mod_of_eq (behind j b ∙ none j (omega (arith, b)) ∙ sym last)
+    ]
+
+-- what these coefficients are
+pub roots_of_coefficients : (m c : ℕ) (x f : ℕ → ℕ) → 0 < m
+    → ((j : ℕ) → Congruent m (f j) (expanded c (λ l. (m - 1) * x l) constant_one j)) → HasRoots m c x f
+roots_of_coefficients m c x f positive same = record {
+  highest = mod_trans (same c) (mod_of_eq (highest_is_one c (λ l. (m - 1) * x l)));
+  value = λ X.
+      let next : c + 1 ≡ suc c = omega arith in
+      rw next (mod_trans (polynomial-congruent (suc c) f _ X X (λ i l. same i) (mod_refl X))
+      (mod_trans (mod_of_eq (product_expanded c X (λ l. (m - 1) * x l)))
+      (product-congruent m c _ _ (λ l b. mod_sym (difference_alike m X (x l) positive)))));
 }
 
--- with one point more
-pub roots_more : (m i a : ℕ) (x f g : ℕ → ℕ) → 0 < m → HasRoots m i x f → ((j : ℕ) → i < j → f j ≡ 0) → a ≡ x i
-    → ((j : ℕ) → j < i + 2 → Congruent m (g j + a * f j) (shifted f j)) → HasRoots m (i + 1) x g
-unfolding shifted
-roots_more m i a x f g positive roots behind is each =
-    let none = behind (suc i) (omega arith) in
-    let next : i + 1 ≡ suc i = omega arith in
-    record {
-      highest =
-          mod_trans (mod_of_eq (omega (arith, ap g next, ap (λ v. a * v) none)))
-          (mod_trans (each (suc i) (omega arith)) roots.highest);
-      value = λ X.
-          let two : i + 1 + 1 ≡ suc (suc i) = omega arith in
-          let F : ℕ = polynomial_at (suc i) f X in
-          let u : ℕ = residue m (pos X -ℤ pos a) in
-          let front : polynomial_at (suc (suc i)) f X ≡ F =
-          omega (arith, sum_below-suc (suc i) (λ j. f j * X ^ j), ap (λ v. v * X ^ suc i) none) in
-          let values = with_multiple m (suc (suc i)) a X g f (shifted f) (λ j l. each j (omega (arith, l))) in
-          let at : Congruent m (u + a) X = mod_of_difference a positive refl in
-          rw (two, product-more (λ l. residue m (pos X -ℤ pos (x l))) i, ← is)
-          (mod_of_combination (mod_add (rw (front, shifted-values (suc i) X f) at values)
-          (mod_add (mod_times F (mod_sym at)) (mod_times u (rw next at (roots.value X))))) (omega arith));
-    }
+pub coefficients_of_roots : (m c : ℕ) (x f : ℕ → ℕ)
+    → ((j : ℕ) → Congruent m (f j) (expanded c (λ l. (m - 1) * x l) constant_one j)) → AreRootCoefficients m c x f
+coefficients_of_roots m c x f same = record {
+  whole = expanded c (λ l. (m - 1) * x l) constant_one;
+  value = λ a. let next : c + 1 ≡ suc c = omega arith in rw next (product_expanded c a (λ l. (m - 1) * x l));
+  same = λ k l. same k;
+}

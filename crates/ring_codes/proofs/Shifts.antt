@@ -1,5 +1,7 @@
 -- The polynomial X·f: its coefficients and its values.
-use Rattle.std.proofs.Common.{◌≡◌, ℕ, suc, ◌+◌, ◌*◌, ap, refl, arith}
+use Rattle.std.proofs.Common.{◌≡◌, ℕ, zero, suc, ◌+◌, ◌*◌, ap, refl, arith}
+use Rattle.num_modular.specs.Congruence.{Congruent}
+use Rattle.num_modular.specs.NumberLaws.{mod_refl}
 use Rattle.num_modular.specs.Polynomials.{polynomial_at}
 use Rattle.num_modular.specs.PolynomialLaws.{polynomial-first}
 use Rattle.ring_codes.specs.Shifts.{shifted}
@@ -16,3 +18,8 @@ shifted_next f i = let e : i + 1 ≡ suc i = omega arith in ap (shifted f) e
 pub shifted-values : (n X : ℕ) (f : ℕ → ℕ) → polynomial_at (suc n) (shifted f) X ≡ X * polynomial_at n f X
 unfolding shifted
 shifted-values n X f = let e = polynomial-first n (shifted f) X in omega (arith, e)
+
+pub shifted-congruent : (m i : ℕ) (f g : ℕ → ℕ) → ((i : ℕ) → Congruent m (f i) (g i)) → Congruent m (shifted f i) (shifted g i)
+unfolding shifted
+shifted-congruent m zero f g same = mod_refl 0
+shifted-congruent m (suc i) f g same = same i

@@ -1,13 +1,18 @@
 -- Singleton's bound: words that differ in at least d of n places differ in the first n - d + 1 ones, so that these are
--- the digits of different numbers.
-use Rattle.std.proofs.Common.{◌≡◌, ◌≢◌, ◌⊎◌, ℕ, zero, suc, ◌+◌, ◌-◌, ◌*◌, ◌/◌, ◌%◌, ◌^◌, ◌<◌, ◌≤◌, ap, sym, ◌∙◌, arith, inl, inr, mod-eq_of_lt}
-use Rattle.std.proofs.Math.Nat.{add-mul-mod_self_left, pow-zero, pow-suc, mul-le-mul_left, mul-div_cancel_left}
+-- the digits of different numbers. The bound is met.
+use Rattle.std.proofs.Common.{◌≡◌, ◌≢◌, ◌⊎◌, ℕ, zero, suc, ◌+◌, ◌-◌, ◌*◌, ◌/◌, ◌%◌, ◌^◌, ◌<◌, ◌≤◌, ap, sym, ◌∙◌, arith, refl, inl, inr, mod-eq_of_lt}
+use Rattle.std.proofs.Math.Nat.{zero-mod, add-mul-mod_self_left, pow-zero, pow-suc, mul-le-mul_left, mul-div_cancel_left}
 use Rattle.std.proofs.lemmas.Bool.{cases_eq, cases_lt}
+use Rattle.std.proofs.lemmas.Nat.{mul-mod_first, mul-mod_second}
 use Rattle.num_modular.specs.Sums.{sum_below}
-use Rattle.num_modular.specs.Polynomials.{polynomial_at}
+use Rattle.num_modular.specs.Polynomials.{polynomial_at, HaveUnitDifferences}
 use Rattle.num_modular.specs.PolynomialLaws.{polynomial-none, polynomial-first}
-use Rattle.ring_codes.specs.Erasure.{distance}
-use Rattle.ring_codes.proofs.Distances.{extended, at_end, before_end, counted_same, counted_most}
+use Rattle.num_modular.specs.ProductLaws.{has_product}
+use Rattle.num_modular.specs.Products.{product_below}
+use Rattle.ring_codes.specs.Erasure.{IsEncoding, distance}
+use Rattle.ring_codes.proofs.Distances.{extended, at_end, before_end, counted_same, counted_other, counted_most}
+use Rattle.ring_codes.proofs.NearestWords.{at_root, difference_alike, no_value, unit_alike, unit_not_zero}
+use Rattle.ring_codes.proofs.Roots.{constant_one, expanded, highest_is_one, product_expanded}
 
 -- the number with these digits
 below_power : (r m : ℕ) (c : ℕ → ℕ) → ((i : ℕ) → i < r → c i < m) → polynomial_at r c m < m ^ r
@@ -121,3 +126,52 @@ singleton_bound m n d size words some few small apart =
     let near = few_behind n r (words a) (words b)
     (same_digits r m (words a) (words b) (digits a l) (digits b k) same) in
     omega (arith, far, near, some, few))
+
+-- The bound is met: by 0 and the coefficients of the product of X - x 0, .., X - x (k - 2).
+
+-- a factor that is 0 modulo m
+product_zero : (m n l : ℕ) (f : ℕ → ℕ) → l < n → f l % m ≡ 0 → product_below n f % m ≡ 0
+unfolding product_below
+product_zero m zero l f below none = absurd (omega arith)
+product_zero m (suc n) l f below none = elim (cases_eq l n) [
+  | inl e ↦ rw (← mul-mod_second (product_below n f) (f n) m, ← e, none) (omega arith)
+  | inr other ↦ rw (← mul-mod_first (product_below n f) (f n) m, product_zero m n l f (omega arith) none) (omega arith)
+]
+
+-- words that agree at the first d places alone
+agree_first : (n d : ℕ) (a b : ℕ → ℕ) → ((i : ℕ) → i < d → a i ≡ b i) → ((i : ℕ) → d ≤ i → i < n → a i ≢ b i)
+    → distance n a b ≡ n - d
+unfolding sum_below
+agree_first zero d a b same other = omega arith
+agree_first (suc n) d a b same other =
+    let i = agree_first n d a b same (λ i l k. other i l (omega arith)) in
+    elim (cases_lt n d) [
+      | inl before ↦ let z = counted_same (a n) (b n) (same n before) in omega (arith, z, i)
+      | inr behind ↦ let z = counted_other (a n) (b n) (other n behind (omega arith)) in omega (arith, z, i)
+    ]
+
+pub bound_met : (m k n : ℕ) (x : ℕ → ℕ) → 2 ≤ m → 1 ≤ k → k ≤ n → HaveUnitDifferences m n x
+    → (a : ℕ → ℕ) × (b : ℕ → ℕ) × (u : ℕ → ℕ) × (v : ℕ → ℕ) × IsEncoding m k n x a u × IsEncoding m k n x b v
+    × ((i : ℕ) × (i < k) × (a i % m ≢ b i % m)) × (distance n u v ≡ n - k + 1)
+bound_met m zero n x two some few fit = absurd (omega arith)
+bound_met m (suc d) n x two some few fit =
+    let positive : 0 < m = omega arith in
+    let r : ℕ → ℕ = λ j. (m - 1) * x j in
+    let a : ℕ → ℕ = expanded d r constant_one in
+    let word : ℕ → ℕ = λ i. polynomial_at (suc d) a (x i) % m in
+    let value : (i : ℕ) → word i ≡ product_below d (λ j. x i + r j) % m = λ i. rw (product_expanded d (x i) r) refl in
+    let apart = agree_first n d word (λ i. 0)
+    (λ i l. rw (value i) (product_zero m d i (λ j. x i + r j) l (at_root m (x i) positive)))
+    (λ i l k z. unit_not_zero m (product_below d (λ j. x i + r j)) two
+    (has_product m d (λ j. x i + r j) positive
+    (λ j b. unit_alike m _ _ (difference_alike m (x i) (x j) positive)
+    (fit.unit i j k (omega arith) (omega arith)))) (rw (value i) at z)) in (
+      a,
+      (λ i. 0),
+      word,
+      (λ i. 0),
+      record { symbol = λ i l. refl },
+      record { symbol = λ i l. rw (no_value (suc d) (x i)) (sym (zero-mod m)) },
+      (d, omega arith, rw (highest_is_one d r, mod-eq_of_lt two, zero-mod m) (λ same. omega (arith, same))),
+      omega (arith, apart, few),
+    )

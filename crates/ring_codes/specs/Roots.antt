@@ -1,6 +1,6 @@
 -- Polynomials with given roots: products of X - z (von zur Gathen and Gerhard, Modern Computer Algebra, section 10.1). The
 -- names are the library's own words.
-use Rattle.std.specs.Prelude.{ℕ, ◌+◌, pos, ◌-ℤ◌}
+use Rattle.std.specs.Prelude.{◌≡◌, ℕ, ◌+◌, ◌-◌, ◌*◌, ◌≤◌, pos, ◌-ℤ◌}
 use Rattle.num_modular.specs.Congruence.{Congruent}
 use Rattle.num_modular.specs.Polynomials.{polynomial_at}
 use Rattle.num_modular.specs.Products.{product_below}
@@ -14,3 +14,10 @@ product_of_differences m c z a = product_below c (λ l. residue m (pos a -ℤ po
 pub record HasRoots (m c : ℕ) (z coefficients : ℕ → ℕ) : Type 0 where
   pub highest : Congruent m (coefficients c) 1
   pub value : (a : ℕ) → Congruent m (polynomial_at (c + 1) coefficients a) (product_of_differences m c z a)
+
+-- each coefficient of that product: modulo m it is that of a polynomial over the whole numbers, whose value at each a is the
+-- product of a + (m - 1)·z for the c points z, as (m - 1)·z is -z modulo m. Such values determine the polynomial.
+pub record AreRootCoefficients (m c : ℕ) (z coefficients : ℕ → ℕ) : Type 0 where
+  pub whole : ℕ → ℕ
+  pub value : (a : ℕ) → polynomial_at (c + 1) whole a ≡ product_below c (λ l. a + (m - 1) * z l)
+  pub same : (k : ℕ) → k ≤ c → Congruent m (coefficients k) (whole k)

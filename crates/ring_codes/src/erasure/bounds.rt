@@ -25,7 +25,7 @@ pub fn singleton_law()
 ///
 /// Source: Reed and Solomon, "Polynomial codes over certain finite fields"; Singleton, "Maximum distance
 /// q-nary codes".
-#[tactic(auto, using(crate::proofs::Distances::messages_apart, crate::proofs::Distances::words_apart, crate::proofs::NearestWords::bound_met))]
+#[tactic(auto, using(crate::proofs::Distances::messages_apart, crate::proofs::Distances::words_apart, crate::proofs::Singleton::bound_met))]
 pub fn distance_laws()
     ensures messages { (m k n : ℕ) (points a b u v : ℕ → ℕ) → k ≤ n → HaveUnitDifferences m n points →
         IsEncoding m k n points a u → IsEncoding m k n points b v →

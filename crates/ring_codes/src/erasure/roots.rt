@@ -4,7 +4,7 @@ ghost use Rattle.std.specs.Prelude.{◌≡◌, ℕ, ◌+◌, ◌*◌, ◌<◌, �
 ghost use Rattle.num_modular.specs.Congruence.{Congruent};
 ghost use Rattle.num_modular.specs.Checked.{AreChecked, IsChecked};
 ghost use Rattle.num_modular.specs.Entries.{entry};
-ghost use Rattle.ring_codes.specs.Roots.{HasRoots};
+ghost use Rattle.ring_codes.specs.Roots.{HasRoots, AreRootCoefficients};
 ghost use Rattle.ring_codes.specs.Shifts.{shifted};
 
 use num_modular::{Reducer, RingWord};
@@ -65,6 +65,8 @@ pub fn expand_roots<T: RingWord, R: Reducer<T>>(r: &R, points: &[T], coefficient
     ensures checked { AreChecked R.Reducer T.number r.now coefficients.new }
     ensures roots { let m = R.modulus r.now in HasRoots m (length points.now) (entry T.number R.value m points.now)
         (entry T.number R.value m coefficients.new) }
+    ensures each { let m = R.modulus r.now in AreRootCoefficients m (length points.now)
+        (entry T.number R.value m points.now) (entry T.number R.value m coefficients.new) }
     ensures behind { let m = R.modulus r.now in (j : ℕ) → length points.now < j →
         entry T.number R.value m coefficients.new j ≡ 0 }
 {

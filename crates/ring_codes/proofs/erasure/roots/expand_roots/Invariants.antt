@@ -1,5 +1,6 @@
-use Rattle.num_modular.specs.Callers.{◌≡◌, ℕ, ◌<◌, All, IsForm, HoldBelow, entry}
-use Rattle.ring_codes.specs.Roots.{HasRoots}
+use Rattle.num_modular.specs.Callers.{◌≡◌, ℕ, ◌-◌, ◌*◌, ◌<◌, All, IsForm, HoldBelow, entry}
+use Rattle.num_modular.specs.Congruence.{Congruent}
+use Rattle.ring_codes.proofs.Roots.{expanded, constant_one}
 use Rattle.ring_codes.proofs.erasure.roots.expand_roots.Given as goal
 
 -- the coefficients so far are 0
@@ -14,5 +15,6 @@ invariant-points g l =
     let ring = g.R.Reducer in let m = ring.modulus l.fn.r in let number = g.T.RingWord.number in
     let f = entry number ring.value m l.coefficients in
     All (λ f. IsForm ring.form ring.value m (number f)) l.coefficients
-    × HasRoots m l.i (entry number ring.value m l.fn.points) f
+    × ((j : ℕ) → Congruent m (f j)
+    (expanded l.i (λ k. (m - 1) * entry number ring.value m l.fn.points k) constant_one j))
     × ((j : ℕ) → l.i < j → f j ≡ 0)
