@@ -9,7 +9,6 @@ pub mod NearestWords
 pub mod NewtonForms
 pub mod NewtonParts
 pub mod RootPowers
-pub mod RootWords
 pub mod Roots
 pub mod Secrecy
 pub mod Shifts

@@ -10,6 +10,7 @@ use Rattle.num_modular.specs.Inverses.{HasInverse}
 use Rattle.num_modular.specs.NumberLaws.{mod_of_eq, mod_refl, residue_of, mod_sym, mod_trans, mod_add, mod_mul, mod_pow}
 use Rattle.num_modular.specs.NumberLaws.{sum_below-congruent, pow-mul, one-pow}
 use Rattle.num_modular.specs.Polynomials.{polynomial_at, HaveUnitDifferences}
+use Rattle.num_modular.specs.PolynomialLaws.{polynomial-congruent}
 use Rattle.num_modular.specs.ProductLaws.{has_both}
 use Rattle.num_modular.specs.Residues.{residue}
 use Rattle.num_modular.specs.SumLaws.{tail}
@@ -192,3 +193,8 @@ coefficients_end m g k n points message c w few powers is undone i past within =
     (λ j l. value_by_transform m g k n j points message (padded k message) few powers (padded_within k message)
     (λ t b d. padded_past k message t b) l ∙ sym (is.symbol j l)) i within
     ∙ ap (λ v. v % m) (padded_past k message i past) ∙ zero-mod m
+
+-- the same coefficients have the same word
+pub encoding_alike : (m k n : ℕ) (points a b w : ℕ → ℕ) → ((i : ℕ) → i < k → a i ≡ b i) → IsEncoding m k n points a w
+    → IsEncoding m k n points b w
+encoding_alike m k n points a b w same is = grind (arith, polynomial-congruent, mod_of_eq, mod_refl)

@@ -99,18 +99,48 @@ pub fn encode_by_transform<T: RingWord, R: Reducer<T>>(r: &R, g: &T, message: &[
     ntt(r, word, g);
 }
 
-// Whether all entries are 0.
-fn are_zeros<T: RingWord, R: Reducer<T>>(r: &R, entries: &[T]) -> bool
+// Whether all entries from an index on are 0.
+fn are_zeros<T: RingWord, R: Reducer<T>>(r: &R, entries: &[T], from: usize) -> bool
     requires { AreChecked R.Reducer T.number r.now entries.now }
     ensures { let m = R.modulus r.now in IsTrue result ↔
-        ((i : ℕ) → i < length entries.now → entry T.number R.value m entries.now i ≡ 0) }
+        ((i : ℕ) → from ≤ i → i < length entries.now → entry T.number R.value m entries.now i ≡ 0) }
 {
-    'entries: for i in 0..entries.len() {
+    'entries: for i in from..entries.len() {
         if !r.is_zero(&entries[i]) {
             return false;
         }
     }
     true
+}
+
+// Whether the word at the powers of a root is that of a message of k symbols, which are then the first ones of `found`.
+fn find_coefficients<T: RingWord, R: Reducer<T>>(
+    r: &R,
+    g: &T,
+    word: &[T],
+    found: &mut [T],
+    k: usize,
+) -> bool
+    requires root { IsChecked R.Reducer T.number r.now g.now }
+    requires word { AreChecked R.Reducer T.number r.now word.now }
+    requires suits { let m = R.modulus r.now in Suits m (R.value m (T.number g.now)) (length word.now) }
+    requires odd { R.modulus r.now % 2 ≡ 1 }
+    requires few { k ≤ length word.now }
+    requires room { length found.old ≡ length word.now }
+    ensures codeword { let m = R.modulus r.now in (points : ℕ → ℕ) →
+        ArePowers m (R.value m (T.number g.now)) (length word.now) points →
+        (IsTrue result ↔ IsErasureCodeword m k (length word.now) points (entry T.number R.value m word.now)) }
+    ensures message { let m = R.modulus r.now in IsTrue result → (points : ℕ → ℕ) →
+        ArePowers m (R.value m (T.number g.now)) (length word.now) points →
+        IsEncoding m k (length word.now) points (entry T.number R.value m found.new)
+        (entry T.number R.value m word.now) }
+    ensures checked { IsTrue result → AreChecked R.Reducer T.number r.now found.new }
+{
+    found.copy_from_slice(word);
+    if !intt(r, found, g) {
+        return false;
+    }
+    are_zeros(r, found, k)
 }
 
 /// Whether the word at the powers of a root is that of a message: of k symbols, k being the length of `message`, at the
@@ -175,8 +205,7 @@ pub fn is_codeword_by_transform<T: RingWord, R: Reducer<T>>(
     // rust: assert!(r.inv(r.dbl(r.transform(T::one()))).is_some(), "the modulus must be odd");
     // rust: assert!(message.len() <= word.len(), "k must be at most n: {} and {}", message.len(), word.len());
     // rust: assert!(scratch.len() == word.len(), "there must be n places of scratch: {} and {}", scratch.len(), word.len());
-    scratch.copy_from_slice(word);
-    if !intt(r, scratch, g) || !are_zeros(r, &scratch[message.len()..]) {
+    if !find_coefficients(r, g, word, scratch, message.len()) {
         return false;
     }
     message.copy_from_slice(&scratch[..message.len()]);
