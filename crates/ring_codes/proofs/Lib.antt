@@ -7,7 +7,6 @@ pub mod KnownRoots
 pub mod Lagrange
 pub mod NearestWords
 pub mod NewtonForms
-pub mod NewtonParts
 pub mod RootPowers
 pub mod Roots
 pub mod Secrecy

@@ -1,5 +1,5 @@
--- Newton's form: one coefficient more, its values at its points, and its coefficients as a polynomial.
-use Rattle.std.proofs.Common.{◌≡◌, ℕ, zero, suc, ◌+◌, ◌-◌, ◌*◌, ◌%◌, ◌^◌, ◌<◌, ◌≤◌, pos, ◌-ℤ◌}
+-- Newton's form: one coefficient more, its parts, its values at its points, and its coefficients as a polynomial.
+use Rattle.std.proofs.Common.{◌≡◌, ◌≢◌, ℕ, zero, suc, ◌+◌, ◌-◌, ◌*◌, ◌/◌, ◌%◌, ◌^◌, ◌<◌, ◌≤◌, pos, ◌-ℤ◌}
 use Rattle.std.proofs.Common.{ap, sym, ◌∙◌, arith, refl, inl, inr, mod-eq_of_lt, mod-lt}
 use Rattle.std.proofs.Common.{◌↔◌, Bool, true, false, IsTrue, Option, None, Some, is_some}
 use Rattle.std.proofs.Math.Nat.{zero-mod}
@@ -8,7 +8,7 @@ use Rattle.std.proofs.lemmas.Int.{ints}
 use Rattle.std.proofs.lemmas.Nat.{mul-mod_second}
 use Rattle.num_modular.specs.Congruence.{Congruent}
 use Rattle.num_modular.specs.Inverses.{IsInverse, HasInverse, IsInversion}
-use Rattle.num_modular.specs.NumberLaws.{mod_of_eq, mod_sym, mod_trans, mod_add}
+use Rattle.num_modular.specs.NumberLaws.{mod_of_eq, mod_refl, mod_sym, mod_trans, mod_add, mod_mul}
 use Rattle.num_modular.specs.Polynomials.{polynomial_at, HaveUnitDifferences}
 use Rattle.num_modular.specs.PolynomialLaws.{polynomial-none, polynomial-first, polynomial-same}
 use Rattle.num_modular.specs.ProductLaws.{has_each, has_product}
@@ -20,33 +20,53 @@ use Rattle.ring_codes.proofs.NearestWords.{with_multiple}
 use Rattle.ring_codes.proofs.Congruences.{mod_of_combination, mod_times, mod_of_modulus, mod_of_residue, mod_of_difference, mod_of_inverse}
 use Rattle.num_modular.specs.NumberLaws.{inverse_mod, inverse_from_mod}
 
--- a - b modulo m
-abbrev minus : ℕ → ℕ → ℕ → ℕ
-minus m a b = residue m (pos a -ℤ pos b)
-
-pub form-none : (m : ℕ) (c x : ℕ → ℕ) (a : ℕ) → newton_form m 0 c x a ≡ 0
+pub form-none : (m a i : ℕ) (c x : ℕ → ℕ) → newton_form m c x a i 0 ≡ 0
 unfolding newton_form
-form-none m c x a = refl
+form-none m a i c x = refl
 
-pub form-first : (m n : ℕ) (c x : ℕ → ℕ) (a : ℕ) → newton_form m (suc n) c x a
-    ≡ c 0 + residue m (pos a -ℤ pos (x 0)) * newton_form m n (λ i. c (suc i)) (λ i. x (suc i)) a
+part_of_one : (m a i : ℕ) (c x : ℕ → ℕ) → newton_form m c x a i 1 ≡ c i
 unfolding newton_form
-form-first m n c x a = refl
+part_of_one m a i c x = omega arith
 
--- equal coefficients and points
-pub form-same : (m n : ℕ) (c d x y : ℕ → ℕ) (a : ℕ) → ((i : ℕ) → i < n → c i ≡ d i)
-    → ((i : ℕ) → i < n → x i ≡ y i) → newton_form m n c x a ≡ newton_form m n d y a
-form-same m zero c d x y a same points = form-none m c x a ∙ sym (form-none m d y a)
-form-same m (suc n) c d x y a same points =
-    let i = form-same m n (λ i. c (suc i)) (λ i. d (suc i)) (λ i. x (suc i)) (λ i. y (suc i)) a
-    (λ i l. same (suc i) (omega arith)) (λ i l. points (suc i) (omega arith)) in
-    grind (arith, form-first)
+-- equal coefficients
+form-same : (m n i a : ℕ) (c d x : ℕ → ℕ) → ((l : ℕ) → l < i + n → c l ≡ d l)
+    → newton_form m c x a i n ≡ newton_form m d x a i n
+unfolding newton_form
+form-same m zero i a c d x same = refl
+form-same m (suc n) i a c d x same =
+    let rest = form-same m n (suc i) a c d x (λ l b. same l (omega (arith, b))) in
+    rw (same i (omega arith), rest) refl
 
--- a product over a range, the first factor taken out
-pub product-first : (n : ℕ) (f : ℕ → ℕ) → product_below (suc n) f ≡ f 0 * product_below n (λ i. f (suc i))
-unfolding product_below
-product-first zero f = omega arith
-product-first (suc n) f = omega (arith, ap (λ v. v * f (suc n)) (product-first n f))
+-- the product of the differences of a from n points from number i on: its last factor, and those from number 0 on
+pub differences : ℕ → (ℕ → ℕ) → ℕ → ℕ → ℕ → ℕ
+differences m x a i zero = 1
+differences m x a i (suc n) = residue m (pos a -ℤ pos (x i)) * differences m x a (suc i) n
+
+differences-last : (m i n j a : ℕ) (x : ℕ → ℕ) → j ≡ i + n
+    → differences m x a i (suc n) ≡ differences m x a i n * residue m (pos a -ℤ pos (x j))
+unfolding differences
+differences-last m i zero j a x is = let at : j ≡ i = omega (arith, is) in rw at (omega arith)
+differences-last m i (suc n) j a x is =
+    let rest = differences-last m (suc i) n j a x (omega (arith, is)) in
+    omega (arith, ap (λ v. residue m (pos a -ℤ pos (x i)) * v) rest)
+
+differences-below : (m n a : ℕ) (x : ℕ → ℕ)
+    → differences m x a 0 n ≡ product_below n (λ j. residue m (pos a -ℤ pos (x j)))
+unfolding differences product_below
+differences-below m zero a x = refl
+differences-below m (suc n) a x =
+    differences-last m 0 n n a x (omega arith) ∙ ap (λ v. v * residue m (pos a -ℤ pos (x n))) (differences-below m n a x)
+
+-- the first h coefficients and the k behind them
+parts_joined : (m i h j k n a : ℕ) (c x : ℕ → ℕ) → j ≡ i + h → n ≡ h + k
+    → newton_form m c x a i h + differences m x a i h * newton_form m c x a j k ≡ newton_form m c x a i n
+unfolding newton_form differences
+parts_joined m i zero j k n a c x from whole =
+    let at : j ≡ i = omega (arith, from) in let count : n ≡ k = omega (arith, whole) in rw (at, count) (omega arith)
+parts_joined m i (suc h) j k n a c x from whole =
+    let count : n ≡ suc (h + k) = omega (arith, whole) in
+    let rest = parts_joined m (suc i) h j k (h + k) a c x (omega (arith, from)) refl in
+    rw count (omega (arith, ap (λ v. residue m (pos a -ℤ pos (x i)) * v) rest))
 
 -- a factor of 0
 pub product-none : (n l : ℕ) (f : ℕ → ℕ) → l < n → f l ≡ 0 → product_below n f ≡ 0
@@ -58,26 +78,20 @@ product-none (suc n) l f below none = elim (cases_eq l n) [
 ]
 
 -- one coefficient more
-form-more : (m n : ℕ) (c x : ℕ → ℕ) (a : ℕ) → newton_form m (suc n) c x a
-    ≡ newton_form m n c x a + product_below n (λ j. residue m (pos a -ℤ pos (x j))) * c n
-unfolding newton_form product_below
-form-more m zero c x a = omega arith
-form-more m (suc n) c x a =
-    let f : ℕ → ℕ = λ j. residue m (pos a -ℤ pos (x j)) in
-    omega (
-      arith,
-      ap (λ v. f 0 * v) (form-more m n (λ i. c (suc i)) (λ i. x (suc i)) a),
-      ap (λ v. v * c (suc n)) (product-first n f),
-    )
+form-more : (m n a : ℕ) (c x : ℕ → ℕ) → newton_form m c x a 0 (suc n)
+    ≡ newton_form m c x a 0 n + product_below n (λ j. residue m (pos a -ℤ pos (x j))) * c n
+form-more m n a c x =
+    let joined = parts_joined m 0 n n 1 (suc n) a c x (omega arith) (omega arith) in
+    sym (rw (differences-below m n a x, part_of_one m a n c x) at joined)
 
 pub no_difference : (m a : ℕ) → residue m (pos a -ℤ pos a) ≡ 0
 no_difference m a = let e : pos a -ℤ pos a ≡ pos 0 = omega (arith, ints) in ap (residue m) e ∙ zero-mod m
 
 -- at a point before it, one coefficient more changes nothing
-kept_before : (m n l : ℕ) (c x : ℕ → ℕ) → l < n → newton_form m (suc n) c x (x l) ≡ newton_form m n c x (x l)
+kept_before : (m n l : ℕ) (c x : ℕ → ℕ) → l < n → newton_form m c x (x l) 0 (suc n) ≡ newton_form m c x (x l) 0 n
 kept_before m n l c x below =
     let none = product-none n l (λ j. residue m (pos (x l) -ℤ pos (x j))) below (no_difference m (x l)) in
-    rw (form-more m n c x (x l), none) (omega arith)
+    rw (form-more m n (x l) c x, none) (omega arith)
 
 -- what is left, divided by the product of the differences
 value_completed : (m known f rest y d w c : ℕ) → known ≡ f % m → rest ≡ residue m (pos y -ℤ pos known) → IsInverse m d w
@@ -89,15 +103,16 @@ value_completed m known f rest y d w c is_known is_rest inverse is =
 
 -- one more coefficient by Newton's divided differences
 pub one_divided : (m i : ℕ) (c d x y : ℕ → ℕ) (known rest w : ℕ)
-    → ((l : ℕ) → l < i → newton_form m i c x (x l) % m ≡ y l) → ((l : ℕ) → l < i → d l ≡ c l)
-    → known ≡ newton_form m i c x (x i) % m → rest ≡ residue m (pos (y i) -ℤ pos known)
+    → ((l : ℕ) → l < i → newton_form m c x (x l) 0 i % m ≡ y l) → ((l : ℕ) → l < i → d l ≡ c l)
+    → known ≡ newton_form m c x (x i) 0 i % m → rest ≡ residue m (pos (y i) -ℤ pos known)
     → IsInverse m (product_below i (difference m x i)) w → d i ≡ (rest * w) % m → y i < m
-    → (l : ℕ) → l < i + 1 → newton_form m (i + 1) d x (x l) % m ≡ y l
+    → (l : ℕ) → l < i + 1 → newton_form m d x (x l) 0 (i + 1) % m ≡ y l
 one_divided m i c d x y known rest w before kept is_known is_rest inverse is below l within =
-    let same : (a : ℕ) → newton_form m i d x a ≡ newton_form m i c x a = grind (arith, form-same) in
+    let same : (a : ℕ) → newton_form m d x a 0 i ≡ newton_form m c x a 0 i =
+    λ a. form-same m i 0 a d c x (λ l b. kept l (omega (arith, b))) in
     let next : i + 1 ≡ suc i = omega arith in
     rw next (elim (cases_eq l i) [
-      | inl e ↦ rw (e, form-more m i d x (x i), same (x i), ← mod-eq_of_lt below)
+      | inl e ↦ rw (e, form-more m i (x i) d x, same (x i), ← mod-eq_of_lt below)
           (value_completed m known _ rest (y i) _ w (d i) is_known is_rest inverse is)
       | inr other ↦ rw (kept_before m i l d x (omega arith), same (x l)) (before l (omega arith))
     ])
@@ -167,38 +182,29 @@ value_none m a value c is = is ∙ ap (λ v. v % m) (sym (polynomial-none c a))
 pub value_all : (n a : ℕ) (c : ℕ → ℕ) → polynomial_at n (λ i. c (n - n + i)) a ≡ polynomial_at n c a
 value_all n a c = polynomial-same n (λ i. c (n - n + i)) c a (λ i l. ap c (let e : n - n + i ≡ i = omega arith in e))
 
-pub form_all : (m n a : ℕ) (c x : ℕ → ℕ)
-    → newton_form m n (λ i. c (n - n + i)) (λ i. x (n - n + i)) a ≡ newton_form m n c x a
-form_all m n a c x = grind (arith, form-same)
-
 -- one point more of the coefficients: e are the coefficients behind it before, f after
-pub expanded_more : (m n k : ℕ) (c e f x : ℕ → ℕ) → 0 < m → k < n
-    → ((a : ℕ) → Congruent m (polynomial_at k (λ i. e (n - k + i)) a)
-    (newton_form m k (λ i. c (n - k + i)) (λ i. x (n - k + i)) a))
-    → ((i : ℕ) → i < n - k → e i ≡ c i)
-    → ((i : ℕ) → n - 1 - k ≤ i → i + 1 < n → Congruent m (f i + x (n - 1 - k) * e (i + 1)) (e i))
-    → ((i : ℕ) → n ≤ i + 1 → f i ≡ e i)
-    → (a : ℕ) → Congruent m (polynomial_at (k + 1) (λ i. f (n - (k + 1) + i)) a)
-    (newton_form m (k + 1) (λ i. c (n - (k + 1) + i)) (λ i. x (n - (k + 1) + i)) a)
-expanded_more m n k c e f x positive l before kept done last a =
-    let from : ℕ = n - suc k in
-    let next : k + 1 ≡ suc k = omega arith in
-    let here : from + 0 ≡ n - 1 - k = omega arith in
-    let shift : (i : ℕ) → from + suc i ≡ n - k + i = λ i. omega arith in
-    let each : (i : ℕ) → i < k → Congruent m (f (from + i) + x (n - 1 - k) * e (from + suc i)) (e (from + i)) =
-    grind (arith, mod_trans, mod_of_eq) in
-    let forms = form-same m k (λ i. c (from + suc i)) (λ i. c (n - k + i)) (λ i. x (from + suc i)) (λ i. x (n - k + i))
-    a (λ i b. ap c (shift i)) (λ i b. ap x (shift i)) in
-    let sums = polynomial-same k (λ i. e (from + suc i)) (λ i. e (n - k + i)) a (λ i b. ap e (shift i)) in
-    rw (next, form-first m k (λ i. c (from + i)) (λ i. x (from + i)) a, forms, here, ← kept (n - 1 - k) (omega arith))
-    (mod_trans (rw (sums, here) at (one_expanded m k (x (n - 1 - k)) a (λ i. f (from + i)) (λ i. e (from + i)) positive
-    each (last (from + k) (omega arith)))) (mod_add (mod_of_eq refl) (mod_times _ (before a))))
+pub expanded_more : (m n i from old k next : ℕ) (c e f x : ℕ → ℕ) → 0 < m → from ≡ i → old ≡ suc i → next ≡ suc k
+    → n ≡ i + suc k
+    → ((a : ℕ) → Congruent m (polynomial_at k (λ l. e (old + l)) a) (newton_form m c x a old k)) → e i ≡ c i
+    → ((l : ℕ) → i ≤ l → l + 1 < n → Congruent m (f l + x i * e (l + 1)) (e l)) → ((l : ℕ) → n ≤ l + 1 → f l ≡ e l)
+    → (a : ℕ) → Congruent m (polynomial_at next (λ l. f (from + l)) a) (newton_form m c x a from next)
+unfolding newton_form
+expanded_more m n i from old k next c e f x positive is_from is_old is_next count before kept done last a =
+    let start : i + 0 ≡ i = omega arith in
+    let each : (l : ℕ) → l < k → Congruent m (f (i + l) + x i * e (i + suc l)) (e (i + l)) =
+    λ l b. let at : i + suc l ≡ i + l + 1 = omega arith in
+    mod_trans (mod_of_eq (ap (λ j. f (i + l) + x i * e j) at)) (done (i + l) (omega arith) (omega (arith, b, count))) in
+    let shifted = polynomial-same k (λ l. e (i + suc l)) (λ l. e (suc i + l)) a (λ l b. ap e (omega arith)) in
+    let step = one_expanded m k (x i) a (λ l. f (i + l)) (λ l. e (i + l)) positive each
+    (last (i + k) (omega (arith, count))) in
+    rw (is_from, is_next) (mod_trans step (mod_add (mod_of_eq (ap e start ∙ kept))
+    (mod_times _ (mod_trans (mod_of_eq shifted) (rw is_old at (before a))))))
 
 pub expanded_all : (m n k : ℕ) (c e x : ℕ → ℕ) → k ≡ n
-    → ((a : ℕ) → Congruent m (polynomial_at k (λ i. e (n - k + i)) a)
-    (newton_form m k (λ i. c (n - k + i)) (λ i. x (n - k + i)) a))
-    → (a : ℕ) → Congruent m (polynomial_at n e a) (newton_form m n c x a)
-expanded_all m n k c e x is same a = rw (is, value_all n a e, form_all m n a c x) at (same a)
+    → ((a : ℕ) → Congruent m (polynomial_at k (λ i. e (n - k + i)) a) (newton_form m c x a (n - k) k))
+    → (a : ℕ) → Congruent m (polynomial_at n e a) (newton_form m c x a 0 n)
+expanded_all m n k c e x is same a =
+    let none : n - n ≡ 0 = omega arith in rw (is, value_all n a e, none) at (same a)
 
 -- the difference of a value and a multiple of the next one
 pub subtracted : (m a product new o next : ℕ) → 0 < m → product ≡ (a * next) % m
@@ -224,6 +230,62 @@ inverse_of_product m a v x e h = inverse_from_mod m a x (rw e at h)
 
 -- the coefficients from Newton's form have its values
 pub interpolated_value : (m n a b old y i : ℕ) (e f x : ℕ → ℕ) → a ≡ n → b ≡ n
-    → ((q : ℕ) → Congruent m (polynomial_at a e q) (newton_form m a f x q))
-    → newton_form m b f x (x i) % m ≡ old → old ≡ y → y ≡ polynomial_at n e (x i) % m
+    → ((q : ℕ) → Congruent m (polynomial_at a e q) (newton_form m f x q 0 a))
+    → newton_form m f x (x i) 0 b % m ≡ old → old ≡ y → y ≡ polynomial_at n e (x i) % m
 interpolated_value m n a b old y i e f x is_a is_b same value is = grind arith
+
+-- parts without a coefficient
+pub part_of_none : (m a from value : ℕ) (c x : ℕ → ℕ) → value ≡ 0 % m → Congruent m value (newton_form m c x a from 0)
+unfolding newton_form
+part_of_none m a from value c x is = mod_of_residue is
+
+pub product_of_none : (m a from value : ℕ) (x : ℕ → ℕ) → value ≡ 1 % m → Congruent m value (differences m x a from 0)
+unfolding differences
+product_of_none m a from value x is = mod_of_residue is
+
+-- one coefficient more at the front
+pub part_of_more : (m i from k l : ℕ) (c x : ℕ → ℕ) (a value difference coefficient new : ℕ) → from ≡ i + 1 → l ≡ suc k
+    → difference ≡ residue m (pos a -ℤ pos (x i)) → coefficient ≡ c i → new ≡ (coefficient + difference * value) % m
+    → Congruent m value (newton_form m c x a from k) → Congruent m new (newton_form m c x a i l)
+unfolding newton_form
+part_of_more m i from k l c x a value difference coefficient new next count is read step before =
+    let start : from ≡ suc i = omega (arith, next) in
+    rw (count, ← is, ← read)
+    (mod_trans (mod_of_residue step) (mod_add (mod_refl coefficient) (mod_times difference (rw start at before))))
+
+-- .. and one difference more
+pub product_of_more : (m i from k l : ℕ) (x : ℕ → ℕ) (a product difference new : ℕ) → from ≡ i + 1 → l ≡ suc k
+    → difference ≡ residue m (pos a -ℤ pos (x i)) → new ≡ (product * difference) % m
+    → Congruent m product (differences m x a from k) → Congruent m new (differences m x a i l)
+unfolding differences
+product_of_more m i from k l x a product difference new next count is step before =
+    let start : from ≡ suc i = omega (arith, next) in
+    rw (count, ← is)
+    (mod_of_combination (mod_add (mod_of_residue step) (mod_times difference (rw start at before))) (omega arith))
+
+-- the value from the two halves, of which the upper may have one coefficient more
+pub value_joined : (m n h k : ℕ) (c x : ℕ → ℕ) (a low product high : ℕ) → k ≡ h → 2 * h ≤ n
+    → Congruent m low (newton_form m c x a (h - k) k) → Congruent m product (differences m x a (h - k) k)
+    → Congruent m high (newton_form m c x a (2 * h - k) (k + (n - 2 * h)))
+    → Congruent m (low + product * high) (newton_form m c x a 0 n)
+value_joined m n h k c x a low product high done within is_low is_product is_high =
+    let front : h - k ≡ 0 = omega (arith, done) in
+    let behind : 2 * h - k ≡ h = omega (arith, done) in
+    let count : k + (n - 2 * h) ≡ n - h = omega (arith, done, within) in
+    let joined = parts_joined m 0 h h (n - h) n a c x (omega arith) (omega (arith, within)) in
+    mod_trans (mod_add (rw (front, done) at is_low)
+    (mod_mul (rw (front, done) at is_product) (rw (behind, count) at is_high))) (mod_of_eq joined)
+
+-- the upper half before its first step: the coefficient that it has more, or none
+pub part_of_top : (m n a high : ℕ) (c x : ℕ → ℕ) → n % 2 ≡ 1 → high ≡ c (n - 1)
+    → Congruent m high (newton_form m c x a (2 * (n / 2) - 0) (0 + (n - 2 * (n / 2))))
+part_of_top m n a high c x odd is =
+    let last : 2 * (n / 2) - 0 ≡ n - 1 = omega (arith, odd) in
+    let count : 0 + (n - 2 * (n / 2)) ≡ 1 = omega (arith, odd) in
+    rw (count, last, part_of_one m a (n - 1) c x) (mod_of_eq is)
+
+pub part_of_no_top : (m n a high : ℕ) (c x : ℕ → ℕ) → n % 2 ≢ 1 → high ≡ 0 % m
+    → Congruent m high (newton_form m c x a (2 * (n / 2) - 0) (0 + (n - 2 * (n / 2))))
+part_of_no_top m n a high c x even is =
+    let none : 0 + (n - 2 * (n / 2)) ≡ 0 = omega (arith, even) in
+    rw none (part_of_none m a (2 * (n / 2) - 0) high c x is)

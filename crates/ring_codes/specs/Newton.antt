@@ -7,8 +7,8 @@ use Rattle.num_modular.specs.Residues.{residue}
 abbrev pub difference : ℕ → (ℕ → ℕ) → ℕ → ℕ → ℕ
 difference m x i j = residue m (pos (x i) -ℤ pos (x j))
 
--- c 0 + (a - x 0)·(c 1 + (a - x 1)·(c 2 + ..)), with n coefficients, each difference modulo m
-unfoldable pub newton_form : ℕ → ℕ → (ℕ → ℕ) → (ℕ → ℕ) → ℕ → ℕ
-newton_form m zero c x a = 0
-newton_form m (suc n) c x a =
-    c 0 + residue m (pos a -ℤ pos (x 0)) * newton_form m n (λ i. c (suc i)) (λ i. x (suc i)) a
+-- c i + (a - x i)·(c (i + 1) + (a - x (i + 1))·(c (i + 2) + ..)), with n coefficients from number i on, each difference
+-- modulo m
+unfoldable pub newton_form : ℕ → (ℕ → ℕ) → (ℕ → ℕ) → ℕ → ℕ → ℕ → ℕ
+newton_form m c x a i zero = 0
+newton_form m c x a i (suc n) = c i + residue m (pos a -ℤ pos (x i)) * newton_form m c x a (suc i) n

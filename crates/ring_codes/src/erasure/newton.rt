@@ -168,8 +168,8 @@ pub fn newton_value<T: RingWord, R: Reducer<T>>(
     requires form_within { count ≤ length form.now }
     ensures checked { IsChecked R.Reducer T.number r.now result }
     ensures value { let m = R.modulus r.now in R.value m (T.number result)
-        ≡ newton_form m count (entry T.number R.value m form.now) (entry T.number R.value m points.now)
-        (R.value m (T.number point.now)) % m }
+        ≡ newton_form m (entry T.number R.value m form.now) (entry T.number R.value m points.now)
+        (R.value m (T.number point.now)) 0 count % m }
 {
     let half = count / 2;
     let mut low = r.transform(T::zero());
@@ -212,7 +212,7 @@ pub fn divide_differences<T: RingWord, R: Reducer<T>>(
     ensures checked { AreChecked R.Reducer T.number r.now values.new }
     ensures values { let m = R.modulus r.now in let x = entry T.number R.value m points.now in
         (i : ℕ) → i < length values.old →
-        newton_form m (length values.old) (entry T.number R.value m values.new) x (x i) % m
+        newton_form m (entry T.number R.value m values.new) x (x i) 0 (length values.old) % m
         ≡ entry T.number R.value m values.old i }
 {
     'points: for i in 0..values.len() {
@@ -267,8 +267,8 @@ pub fn expand<T: RingWord, R: Reducer<T>>(r: &R, points: &[T], form: &mut [T])
     ensures checked { AreChecked R.Reducer T.number r.now form.new }
     ensures same { let m = R.modulus r.now in (a : ℕ) →
         Congruent m (polynomial_at (length form.old) (entry T.number R.value m form.new) a)
-        (newton_form m (length form.old) (entry T.number R.value m form.old)
-        (entry T.number R.value m points.now) a) }
+        (newton_form m (entry T.number R.value m form.old) (entry T.number R.value m points.now) a 0
+        (length form.old)) }
 {
     'points: for k in 0..form.len() {
         let from = form.len() - 1 - k;

@@ -8,6 +8,6 @@ invariant-points g l =
     let ring = g.R.Reducer in let m = ring.modulus l.fn.r in let number = g.T.RingWord.number in
     let x = entry number ring.value m l.fn.points in
     All (λ f. IsForm ring.form ring.value m (number f)) l.values
-    × ((k : ℕ) → k < l.i → newton_form m l.i (entry number ring.value m l.values) x (x k) % m
+    × ((k : ℕ) → k < l.i → newton_form m (entry number ring.value m l.values) x (x k) 0 l.i % m
     ≡ entry number ring.value m l.fn.values k)
     × ((k : ℕ) → l.i ≤ k → entry number ring.value m l.values k ≡ entry number ring.value m l.fn.values k)

@@ -1,4 +1,4 @@
-use Rattle.num_modular.specs.Callers.{◌≡◌, ◌-◌, length, ◌∙◌, ap, arith, entry, entry_read}
+use Rattle.num_modular.specs.Callers.{◌≡◌, ℕ, ◌-◌, length, ◌∙◌, ap, arith, entry, entry_read}
 use Rattle.num_modular.specs.NumberLaws.{mod_of_eq}
 use Rattle.num_modular.specs.PolynomialLaws.{polynomial-none}
 use Rattle.ring_codes.proofs.NewtonForms.{form-none, expanded_more, expanded_all}
@@ -16,13 +16,13 @@ points-preserved g c =
     let e = entry number ring.value m c.points.form in
     let f = entry number ring.value m c.subtract_multiples.new.values in
     let x = entry number ring.value m points in
-    let there : length c.points.form - 1 - k ≡ n - 1 - k = omega arith in
+    let i : ℕ = n - 1 - k in let there : length c.points.form - 1 - k ≡ i = omega arith in
     let point = entry_read number ring.value m points _ _ (omega arith) c.index-points-from.is ∙ ap x there in
     let done = c.subtract_multiples.ensures in (
       done.checked,
-      expanded_more m n _ (entry number ring.value m c.args.form.now) e f x positive (omega arith) so_far.1 so_far.2
-          (λ i l b. rw point at (done.done i (omega arith) (omega arith)))
-          (λ i l. done.last i (omega arith)),
+      expanded_more m n i _ _ k _ (entry number ring.value m c.args.form.now) e f x positive (omega arith) (omega arith)
+          (omega arith) (omega arith) so_far.1 (so_far.2 i (omega arith))
+          (λ l b d. rw point at (done.done l (omega arith) (omega arith))) (λ l b. done.last l (omega arith)),
       λ i l. done.before i (omega arith) ∙ so_far.2 i (omega arith),
     )
 

@@ -11,6 +11,5 @@ invariant-points g l =
     let from = length l.fn.form - l.k in
     All (λ f. IsForm ring.form ring.value m (number f)) l.form
     × ((a : ℕ) → Congruent m (polynomial_at l.k (λ i. entry number ring.value m l.form (from + i)) a)
-    (newton_form m l.k (λ i. entry number ring.value m l.fn.form (from + i))
-    (λ i. entry number ring.value m l.fn.points (from + i)) a))
+    (newton_form m (entry number ring.value m l.fn.form) (entry number ring.value m l.fn.points) a from l.k))
     × ((i : ℕ) → i < from → entry number ring.value m l.form i ≡ entry number ring.value m l.fn.form i)

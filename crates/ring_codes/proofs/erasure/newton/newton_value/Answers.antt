@@ -1,10 +1,11 @@
 use Rattle.std.proofs.Common.{pos, ◌-ℤ◌}
 use Rattle.num_modular.specs.Callers.{◌≡◌, ◌≢◌, ℕ, ◌+◌, ◌-◌, ◌*◌, ◌/◌, ◌%◌, ◌∙◌, ap, arith}
-use Rattle.num_modular.specs.Callers.{entry, entry_read, form_read, IsForm, product_none}
+use Rattle.num_modular.specs.Callers.{entry, entry_read, form_read, IsForm}
 use Rattle.num_modular.specs.Congruence.{Congruent}
 use Rattle.num_modular.specs.Residues.{residue}
-use Rattle.ring_codes.proofs.Congruences.{mod_of_residue}
-use Rattle.ring_codes.proofs.NewtonParts.{form_part, part_of_none, part_of_top, part_of_no_top, part_of_more, product_of_more, value_joined}
+use Rattle.ring_codes.specs.Newton.{newton_form}
+use Rattle.ring_codes.proofs.NewtonForms.{part_of_none, part_of_top, part_of_no_top, part_of_more}
+use Rattle.ring_codes.proofs.NewtonForms.{product_of_none, product_of_more, value_joined}
 use Rattle.ring_codes.proofs.erasure.newton.newton_value.Goals as goal
 use Rattle.ring_codes.proofs.erasure.newton.newton_value.Goals.{then-count-eq1, else-count-eq1}
 
@@ -16,7 +17,7 @@ coefficients-init g c =
     let zero = c.transform-low.ensures.value ∙ ap (λ v. v % m) c.zero.ensures in
     let one = c.transform-product.ensures.value ∙ ap (λ v. v % m) c.one.ensures in
     let high : IsForm ring.form ring.value m (number c.if-count-eq1.high)
-    × Congruent m (ring.value m (number c.if-count-eq1.high)) (form_part m e x a (2 * (n / 2) - 0) (0 + (n - 2 * (n / 2)))) =
+    × Congruent m (ring.value m (number c.if-count-eq1.high)) (newton_form m e x a (2 * (n / 2) - 0) (0 + (n - 2 * (n / 2)))) =
     elim c.if-count-eq1.branch [
       | then-count-eq1 w ↦
           let odd : n % 2 ≡ 1 = omega (arith, w.if-count-eq1) in
@@ -32,7 +33,7 @@ coefficients-init g c =
       c.transform-low.ensures.checked,
       part_of_none m a (h - 0) _ e x zero,
       c.transform-product.ensures.checked,
-      mod_of_residue (product_none m _ (λ i. residue m (pos a -ℤ pos (x (h - 0 + i)))) one),
+      product_of_none m a (h - 0) _ x one,
       high.0,
       high.1,
     )

@@ -1,6 +1,7 @@
 use Rattle.num_modular.specs.Callers.{◌+◌, ◌-◌, ◌*◌, IsForm, entry}
 use Rattle.num_modular.specs.Congruence.{Congruent}
-use Rattle.ring_codes.proofs.NewtonParts.{form_part, product_part}
+use Rattle.ring_codes.specs.Newton.{newton_form}
+use Rattle.ring_codes.proofs.NewtonForms.{differences}
 use Rattle.ring_codes.proofs.erasure.newton.newton_value.Given as goal
 
 -- the values of the last k coefficients of each half, and the product of the differences from the points of the lower
@@ -10,8 +11,8 @@ invariant-coefficients g l =
     let e = entry number ring.value m l.fn.form in let x = entry number ring.value m l.fn.points in
     let a = ring.value m (number l.fn.point) in
     IsForm ring.form ring.value m (number l.low)
-    × Congruent m (ring.value m (number l.low)) (form_part m e x a (l.half - l.k) l.k)
+    × Congruent m (ring.value m (number l.low)) (newton_form m e x a (l.half - l.k) l.k)
     × IsForm ring.form ring.value m (number l.product)
-    × Congruent m (ring.value m (number l.product)) (product_part m x a (l.half - l.k) l.k)
+    × Congruent m (ring.value m (number l.product)) (differences m x a (l.half - l.k) l.k)
     × IsForm ring.form ring.value m (number l.high)
-    × Congruent m (ring.value m (number l.high)) (form_part m e x a (2 * l.half - l.k) (l.k + (l.fn.count - 2 * l.half)))
+    × Congruent m (ring.value m (number l.high)) (newton_form m e x a (2 * l.half - l.k) (l.k + (l.fn.count - 2 * l.half)))
