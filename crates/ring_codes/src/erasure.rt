@@ -112,7 +112,7 @@ pub enum RestoreError {
 /// assert!(!points_fit(&ring, &[0, 1, 3])); // 3 has no inverse modulo 15
 /// ```
 // rust: #[cfg_attr(debug_assertions, track_caller)]
-#[tactic(auto, using(num_modular::specs::Callers::product_none))]
+#[tactic(auto, using(num_modular::specs::Callers::product_none, num_modular::specs::Callers::product_step))]
 pub fn points_fit<T: RingWord, R: Reducer<T>>(r: &R, points: &[T]) -> bool
     requires { AreChecked R.Reducer T.number r.now points.now }
     ensures { let m = R.modulus r.now in
@@ -143,7 +143,7 @@ pub fn points_fit<T: RingWord, R: Reducer<T>>(r: &R, points: &[T]) -> bool
 /// assert_eq!(evaluate(&ring, &[5, 7], &2), 19); // 5 + 7 * 2
 /// ```
 // rust: #[cfg_attr(debug_assertions, track_caller)]
-#[tactic(auto, using(crate::proofs::NewtonForms::value_none, num_modular::specs::Callers::form_read))]
+#[tactic(auto, using(crate::proofs::NewtonForms::value_none, num_modular::specs::Callers::form_read, crate::proofs::NewtonForms::value_all))]
 pub fn evaluate<T: RingWord, R: Reducer<T>>(r: &R, coefficients: &[T], point: &T) -> T
     requires coefficients { AreChecked R.Reducer T.number r.now coefficients.now }
     requires point { IsChecked R.Reducer T.number r.now point.now }
@@ -359,6 +359,7 @@ pub fn interpolate<T: RingWord, R: Reducer<T>>(
 /// ```
 // rust: #[must_use]
 // rust: #[track_caller]
+#[tactic(auto, using(num_modular::specs::Callers::form_read))]
 pub fn is_codeword<T: RingWord, R: Reducer<T>>(
     r: &R,
     points: &[T],

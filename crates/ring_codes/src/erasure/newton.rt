@@ -18,7 +18,7 @@ use num_modular::{Reducer, RingWord};
 ///
 /// - the points are checked forms
 /// - there is a point at the place
-#[tactic(auto, using(num_modular::specs::Callers::product_none, num_modular::specs::Callers::form_read, num_modular::specs::Callers::entry, num_modular::specs::Callers::product_below))]
+#[tactic(auto, using(num_modular::specs::Callers::product_none, num_modular::specs::Callers::form_read, num_modular::specs::Callers::entry, num_modular::specs::Callers::product_below, num_modular::specs::Callers::entry_read, num_modular::specs::Callers::product_step))]
 pub fn differences_before<T: RingWord, R: Reducer<T>>(r: &R, points: &[T], place: usize) -> T
     requires checked { AreChecked R.Reducer T.number r.now points.now }
     requires within { place < length points.now }
@@ -74,6 +74,7 @@ fn multiply_by_differences<T: RingWord, R: Reducer<T>>(
 ///
 /// - the points are checked forms
 /// - there are as many points as weights or more
+#[tactic(auto, using(num_modular::specs::Callers::held_forms, num_modular::specs::Callers::product_none, num_modular::specs::Callers::held_entry, num_modular::specs::Callers::product_step, std::proofs::lemmas::Bool::cases_lt))]
 pub fn fill_weights<T: RingWord, R: Reducer<T>>(r: &R, points: &[T], weights: &mut [T])
     requires checked { AreChecked R.Reducer T.number r.now points.now }
     requires within { length weights.old ≤ length points.now }

@@ -37,6 +37,7 @@ use num_modular::{Reducer, RingWord};
 /// assert!(points_fit(&ring, &points));
 /// ```
 // rust: #[cfg_attr(debug_assertions, track_caller)]
+#[tactic(auto, using(num_modular::specs::Callers::held_forms, num_modular::specs::Callers::held_entry))]
 pub fn fill_powers<T: RingWord, R: Reducer<T>>(r: &R, g: &T, points: &mut [T])
     requires { IsChecked R.Reducer T.number r.now g.now }
     ensures checked { AreChecked R.Reducer T.number r.now points.new }
@@ -76,6 +77,7 @@ pub fn fill_powers<T: RingWord, R: Reducer<T>>(r: &R, g: &T, points: &mut [T])
 /// assert_eq!((word, same), ([6, 24, 2, 57], [6, 24, 2, 57]));
 /// ```
 // rust: #[track_caller]
+#[tactic(auto, using(num_modular::specs::Callers::form_read, num_modular::specs::Callers::entry_read, num_modular::specs::Callers::entry_past, num_modular::specs::Callers::hold_more, num_modular::specs::Callers::held_forms, crate::proofs::Counts::zero_mod))]
 pub fn encode_by_transform<T: RingWord, R: Reducer<T>>(r: &R, g: &T, message: &[T], word: &mut [T])
     requires root { IsChecked R.Reducer T.number r.now g.now }
     requires message { AreChecked R.Reducer T.number r.now message.now }

@@ -144,6 +144,7 @@ impl<'a, T: RingWord, R: Reducer<T>> PreparedCode<'a, T, R> {
     /// assert_eq!(lost, [1, 17]);
     /// ```
     // rust: #[track_caller]
+    #[tactic(auto, using(num_modular::specs::Callers::hold_more, num_modular::specs::Callers::held_forms))]
     pub fn extend(&self, symbols: &[T], others: &mut [T])
         requires symbols { AreChecked R.Reducer T.number self.now.ring.now symbols.now }
         requires given { length symbols.now ≡ length self.now.known.now }
@@ -225,7 +226,7 @@ impl<'a, T: RingWord, R: Reducer<T>> PreparedCode<'a, T, R> {
 }
 
 // Writes for each point the product of the differences of a point from the other ones.
-#[tactic(auto, using(num_modular::specs::Callers::form_read, crate::proofs::Symbols::back_within))]
+#[tactic(auto, using(num_modular::specs::Callers::form_read, crate::proofs::Symbols::back_within, num_modular::specs::Callers::product_none, num_modular::specs::Callers::entry_read, num_modular::specs::Callers::hold_more, num_modular::specs::Callers::product_step, num_modular::specs::Callers::held_forms, num_modular::specs::Callers::held_entry))]
 fn fill_products<T: RingWord, R: Reducer<T>>(r: &R, points: &[T], point: &T, products: &mut [T])
     requires points { AreChecked R.Reducer T.number r.now points.now }
     requires point { IsChecked R.Reducer T.number r.now point.now }

@@ -40,6 +40,7 @@ pub enum ShareError {
 }
 
 // Whether each point has an inverse.
+#[tactic(auto, using(num_modular::specs::Callers::product_none, num_modular::specs::Callers::product_step, num_modular::specs::Callers::entry_read, num_modular::specs::Callers::form_read))]
 fn have_inverses<T: RingWord, R: Reducer<T>>(r: &R, points: &[T]) -> bool
     requires { AreChecked R.Reducer T.number r.now points.now }
     ensures { let m = R.modulus r.now in IsTrue result ↔

@@ -20,7 +20,7 @@ use num_modular::{Reducer, RingWord};
 /// - the word has as many places as there are points
 /// - the first `count` symbols are the message's values at the points of their places
 /// - points, message and symbols are checked forms
-#[tactic(auto, using(num_modular::specs::Callers::held_forms, num_modular::specs::Callers::held_entry, num_modular::specs::Callers::form_read))]
+#[tactic(auto, using(num_modular::specs::Callers::held_forms, num_modular::specs::Callers::held_entry, num_modular::specs::Callers::form_read, num_modular::specs::Callers::entry_read, num_modular::specs::Callers::hold_more))]
 pub fn fill_word<T: RingWord, R: Reducer<T>>(
     r: &R,
     points: &[T],

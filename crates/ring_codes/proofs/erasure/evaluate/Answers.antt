@@ -1,5 +1,5 @@
 use Rattle.num_modular.specs.Callers.{ℕ, ◌+◌, ◌-◌, ◌%◌, length, ◌∙◌, ap, arith, entry, entry_read}
-use Rattle.ring_codes.proofs.NewtonForms.{value_more, value_all}
+use Rattle.ring_codes.proofs.NewtonForms.{value_more}
 use Rattle.ring_codes.proofs.erasure.evaluate.Goals as goal
 
 pub coefficients-preserved : goal.coefficients-preserved
@@ -13,6 +13,3 @@ coefficients-preserved g c =
           c.mul-product.ensures.value
           (c.add-value.ensures.value ∙ ap (λ v. (v + ring.value m (number c.mul-product.result)) % m) read);
     }
-
-pub returns-clause-value : goal.returns-clause-value
-returns-clause-value g c = grind (arith, value_all)

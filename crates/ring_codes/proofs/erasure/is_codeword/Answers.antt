@@ -56,6 +56,3 @@ returns-then-not-interpolate-clause-codeword g c = grind (arith, false≢true)
 
 pub places-init : goal.places-init
 places-init g c k l = grind arith
-
-pub evaluate-symbol-requires-clause-point : goal.evaluate-symbol-requires-clause-point
-evaluate-symbol-requires-clause-point g c = grind (arith, form_read)

@@ -1,11 +1,8 @@
-use Rattle.num_modular.specs.Callers.{arith, product_step}
+use Rattle.num_modular.specs.Callers.{arith}
 use Rattle.num_modular.specs.Callers.{has_each, has_product}
 use Rattle.ring_codes.proofs.NewtonForms.{inversion_tells, fit_from_products, products_from_fit, has_of_residue}
 use Rattle.ring_codes.proofs.NewtonForms.{has_to_residue}
 use Rattle.ring_codes.proofs.erasure.points_fit.Goals as goal
-
-pub points-preserved : goal.points-preserved
-points-preserved g c = grind (arith, product_step)
 
 pub returns : goal.returns
 returns g c =

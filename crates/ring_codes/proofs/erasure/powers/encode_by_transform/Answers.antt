@@ -1,9 +1,6 @@
 use Rattle.num_modular.specs.Callers.{◌≡◌, ℕ, ◌<◌, ◌∙◌, arith, length}
 use Rattle.num_modular.specs.Callers.{entry, entry_past, held_entry}
 use Rattle.ring_codes.proofs.RootPowers.{value_by_transform}
-use Rattle.num_modular.specs.Callers.{held_forms}
-use Rattle.num_modular.specs.Callers.{entry_read, form_read, hold_more}
-use Rattle.ring_codes.proofs.Counts.{zero_mod}
 use Rattle.ring_codes.proofs.erasure.powers.encode_by_transform.Goals as goal
 
 pub returns-clause-encoding : goal.returns-clause-encoding
@@ -23,9 +20,3 @@ returns-clause-encoding g c points powers =
           (entry number ring.value m padded) c.requires.few powers (λ i b. held i (omega (arith, b, c.requires.few)))
           (λ i b k. held i k ∙ entry_past number ring.value m message i b) l;
     }
-
-pub symbols-preserved : goal.symbols-preserved
-symbols-preserved g c = grind (arith, form_read, entry_read, zero_mod, entry_past, hold_more)
-
-pub ntt-requires-clause-checked : goal.ntt-requires-clause-checked
-ntt-requires-clause-checked g c = grind (arith, held_forms)

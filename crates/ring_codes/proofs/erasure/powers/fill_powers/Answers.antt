@@ -2,7 +2,7 @@ use Rattle.num_modular.specs.Callers.{◌%◌, arith}
 use Rattle.std.proofs.Common.{◌^◌, add-one}
 use Rattle.std.proofs.Math.Nat.{pow-zero, pow-suc}
 use Rattle.std.proofs.lemmas.Nat.{mul-mod_first}
-use Rattle.num_modular.specs.Callers.{hold_more, held_entry, held_forms}
+use Rattle.num_modular.specs.Callers.{hold_more}
 use Rattle.ring_codes.proofs.erasure.powers.fill_powers.Goals as goal
 
 pub powers-init : goal.powers-init
@@ -20,9 +20,3 @@ powers-preserved g c =
         same = rw (add-one i, pow-suc a i) (rw (next.same, mul-mod_first (a ^ i) a m) at c.mul-power.ensures.value);
       },
     )
-
-pub returns-clause-checked : goal.returns-clause-checked
-returns-clause-checked g c = grind (arith, held_forms)
-
-pub returns-clause-powers : goal.returns-clause-powers
-returns-clause-powers g c = grind (arith, held_entry)

@@ -1,20 +1,11 @@
 use Rattle.num_modular.specs.Callers.{◌≡◌, ◌≢◌, ℕ, ◌-◌, ◌%◌, ◌<◌, ◌∙◌, ap, arith, inl, inr, length}
 use Rattle.num_modular.specs.Callers.{entry, entry_at, entry_read, entry_written, entry_kept, forms_written}
-use Rattle.num_modular.specs.Callers.{hold_more, held_forms, held_entry, product_none, product_step, product_below}
+use Rattle.num_modular.specs.Callers.{product_step, product_below}
 use Rattle.std.proofs.Common.{pos, ◌-ℤ◌}
 use Rattle.std.proofs.lemmas.Bool.{cases_eq}
 use Rattle.num_modular.specs.Residues.{residue}
 use Rattle.ring_codes.proofs.Lagrange.{product_of_parts}
 use Rattle.ring_codes.proofs.erasure.prepared.fill_products.Goals as goal
-
-pub forward-init : goal.forward-init
-forward-init g c = grind (arith, product_none)
-
-pub forward-preserved : goal.forward-preserved
-forward-preserved g c = grind (arith, entry_read, hold_more, product_step)
-
-pub backward-init : goal.backward-init
-backward-init g c = grind (arith, held_forms, held_entry, product_none)
 
 pub backward-preserved : goal.backward-preserved
 backward-preserved g c =

@@ -1,13 +1,7 @@
-use Rattle.num_modular.specs.Callers.{arith, entry_read, form_read, product_none, product_step}
+use Rattle.num_modular.specs.Callers.{arith}
 use Rattle.num_modular.specs.Callers.{has_each, has_product}
 use Rattle.ring_codes.proofs.NewtonForms.{inversion_tells, has_of_residue, has_to_residue}
 use Rattle.ring_codes.proofs.erasure.secrets.have_inverses.Goals as goal
-
-pub points-init : goal.points-init
-points-init g c = grind (arith, product_none)
-
-pub points-preserved : goal.points-preserved
-points-preserved g c = grind (arith, product_step, entry_read)
 
 pub returns : goal.returns
 returns g c =
@@ -18,6 +12,3 @@ returns g c =
       λ each. tells.1 (has_to_residue _ _ _ whole
           (has_product _ _ _ positive (λ i l. each i (omega (arith, l))))),
     )
-
-pub mul-product-requires-clause-right : goal.mul-product-requires-clause-right
-mul-product-requires-clause-right g c = grind (arith, form_read)

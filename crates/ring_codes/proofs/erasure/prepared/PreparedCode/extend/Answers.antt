@@ -3,7 +3,6 @@ use Rattle.num_modular.specs.Callers.{entry, held_entry}
 use Rattle.num_modular.specs.Sums.{sum_below}
 use Rattle.ring_codes.proofs.Lagrange.{fit_known, message_of, value_from_row}
 use Rattle.num_modular.specs.Callers.{values_below}
-use Rattle.num_modular.specs.Callers.{hold_more, held_forms}
 use Rattle.ring_codes.proofs.erasure.prepared.PreparedCode.extend.Goals as goal
 
 pub returns-clause-original : goal.returns-clause-original
@@ -31,9 +30,3 @@ returns-clause-word g c =
     let found = message_of m k _ _ positive (fit_known m k _ self.fit)
     (λ i l. values_below number ring.form ring.value m c.args.symbols.now i c.requires.symbols (omega arith)) in
     (found.0, found.1, returns-clause-original g c found.0 found.1)
-
-pub wanted-preserved : goal.wanted-preserved
-wanted-preserved g c = grind (arith, hold_more)
-
-pub returns-clause-checked : goal.returns-clause-checked
-returns-clause-checked g c = grind (arith, held_forms)
