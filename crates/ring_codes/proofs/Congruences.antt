@@ -1,12 +1,9 @@
 -- Congruences that are linear combinations of others.
-use Rattle.std.proofs.Common.{◌≡◌, ℕ, zero, suc, ◌+◌, ◌*◌, ◌%◌, ◌<◌, pos, ◌-ℤ◌, ap, ◌∙◌, arith, mod-lt}
-use Rattle.std.proofs.Math.Nat.{add-mul-mod_self_left}
-use Rattle.std.proofs.lemmas.Nat.{mul-mod_first, mul-mod_second}
-use Rattle.num_modular.specs.Congruence.{Congruent}
-use Rattle.num_modular.specs.Inverses.{IsInverse, HasInverse}
-use Rattle.num_modular.specs.NumberLaws.{mod_of_eq, mod_refl, mod_sym, residue_of, mod_trans, mod_add, mod_mul, mod_add_cancel, difference_and}
+use Rattle.ring_codes.proofs.Names.{◌≡◌, ◌+◌, ◌*◌, ◌%◌, ◌<◌, ◌-ℤ◌, ◌∙◌, ℕ, zero, suc, pos, ap, arith, mod-lt}
+use Rattle.ring_codes.proofs.Names.{add-mul-mod_self_left, mul-mod_first, mul-mod_second, Congruent, IsInverse}
+use Rattle.ring_codes.proofs.Names.{HasInverse, mod_of_eq, mod_refl, mod_sym, residue_of, mod_trans, mod_add, mod_mul}
+use Rattle.ring_codes.proofs.Names.{mod_add_cancel, difference_and, residue}
 use Rattle.num_modular.specs.Products.{product_below}
-use Rattle.num_modular.specs.Residues.{residue}
 
 -- two numbers whose difference is that of two congruent ones, such as a sum of multiples
 pub mod_of_combination : {m a b u v : ℕ} → Congruent m a b → u + b ≡ v + a → Congruent m u v

@@ -1,6 +1,5 @@
 -- Bounds on lengths, counts and weights, over plain numbers.
-use Rattle.std.proofs.Common.{◌≡◌, ℕ, ◌%◌, ◌≤◌, arith}
-use Rattle.num_modular.specs.Polynomials.{HaveUnitDifferences}
+use Rattle.ring_codes.proofs.Names.{◌≡◌, ◌%◌, ◌≤◌, ℕ, arith, HaveUnitDifferences}
 
 pub zero_mod : (m : ℕ) → 0 % m ≡ 0
 zero_mod m = omega arith

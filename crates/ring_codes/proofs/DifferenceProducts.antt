@@ -1,9 +1,6 @@
 -- Products of the differences of a point from those before it and from the last ones.
-use Rattle.std.proofs.Common.{◌≡◌, ℕ, ◌+◌, ◌-◌, ◌*◌, ◌%◌, arith, refl}
-use Rattle.std.proofs.lemmas.Nat.{mul-mod_first}
-use Rattle.num_modular.specs.Products.{product_below}
-use Rattle.num_modular.specs.ProductLaws.{product-zero, product-more}
-use Rattle.ring_codes.specs.Newton.{difference}
+use Rattle.ring_codes.proofs.Names.{◌≡◌, ◌+◌, ◌-◌, ◌*◌, ◌%◌, ℕ, arith, refl, mul-mod_first, product_below, product-zero}
+use Rattle.ring_codes.proofs.Names.{product-more, difference}
 use Rattle.ring_codes.specs.Prepared.{product_but}
 
 -- the two products, where the second has no factor, and with one more

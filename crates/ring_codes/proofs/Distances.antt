@@ -1,15 +1,9 @@
 -- Words that agree at as many places as their messages have symbols are of one message.
-use Rattle.std.proofs.Common.{◌≡◌, ◌≢◌, ℕ, zero, suc, ◌+◌, ◌-◌, ◌%◌, ◌<◌, ◌≤◌, cond, eqb, sym, ◌∙◌, arith, refl}
-use Rattle.std.proofs.Common.{inl, inr}
-use Rattle.std.proofs.lemmas.Bool.{cases_eq, cases_lt}
-use Rattle.std.proofs.lemmas.Bool.Decides.{eqb_tells}
-use Rattle.num_modular.specs.Callers.{same_coefficients}
-use Rattle.num_modular.specs.Congruence.{Congruent}
-use Rattle.num_modular.specs.NumberLaws.{mod_refl, sum_below-zero, sum_below-more, sum_below-of_zeros}
+use Rattle.ring_codes.proofs.Names.{◌≡◌, ◌≢◌, ◌+◌, ◌-◌, ◌%◌, ◌<◌, ◌≤◌, ◌∙◌, ℕ, zero, suc, cond, eqb, sym, arith, refl}
+use Rattle.ring_codes.proofs.Names.{inl, inr, cases_eq, cases_lt, eqb_tells, same_coefficients, Congruent, mod_refl}
+use Rattle.ring_codes.proofs.Names.{sum_below-zero, sum_below-more, sum_below-of_zeros, HaveUnitDifferences}
+use Rattle.ring_codes.proofs.Names.{polynomial-congruent, IsEncoding, IsErasureCodeword, distance}
 use Rattle.num_modular.specs.Sums.{sum_below}
-use Rattle.num_modular.specs.Polynomials.{HaveUnitDifferences}
-use Rattle.num_modular.specs.PolynomialLaws.{polynomial-congruent}
-use Rattle.ring_codes.specs.Erasure.{IsEncoding, IsErasureCodeword, distance}
 
 -- k of the first n places, in their order, at which two words agree
 pub record Selection (n k : ℕ) (a b : ℕ → ℕ) : Type 0 where

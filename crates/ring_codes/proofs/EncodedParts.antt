@@ -1,14 +1,10 @@
 -- Words of which a part was encoded.
-use Rattle.std.proofs.Common.{◌≡◌, ℕ, ◌+◌, ◌-◌, ◌%◌, ◌<◌, ◌≤◌, List, length, take, slice_range, All}
-use Rattle.std.proofs.Common.{refl, ap, ◌∙◌, arith, inl, inr}
-use Rattle.std.proofs.lemmas.Bool.{cases_lt}
-use Rattle.std.proofs.lemmas.List.{get_or-take, get_or-append_right, length-take-le}
-use Rattle.std.proofs.lemmas.Slice.{take-put_mid, take-put_mid_below}
+use Rattle.ring_codes.proofs.Names.{◌≡◌, ◌+◌, ◌-◌, ◌%◌, ◌<◌, ◌≤◌, ◌∙◌, ℕ, List, length, take, slice_range, All, refl}
+use Rattle.ring_codes.proofs.Names.{ap, arith, inl, inr, cases_lt, get_or-take, get_or-append_right, length-take-le}
+use Rattle.ring_codes.proofs.Names.{take-put_mid, take-put_mid_below, IsForm, HoldBelow, entry, entry_at, polynomial_at}
+use Rattle.ring_codes.proofs.Names.{IsEncoding}
 use borrow.Rule.Slice.PartMut.{put_mid}
-use Rattle.num_modular.specs.Callers.{IsForm, HoldBelow, entry, entry_at}
-use Rattle.num_modular.specs.Polynomials.{polynomial_at}
 use Rattle.ring_codes.proofs.Symbols.{entry_slice, slice_length}
-use Rattle.ring_codes.specs.Erasure.{IsEncoding}
 
 -- where the entries before a part hold their values, and the part now has the next ones, all up to its end hold them
 part_holds : {T : Type 0} (number : T → ℕ) (form value : ℕ → ℕ → ℕ) (m : ℕ) (forms part : List T) (v : ℕ → ℕ) (from k : ℕ)

@@ -1,9 +1,5 @@
 -- What a field says of a root: n is one power of two, so that it suits n is known.
-use Rattle.std.proofs.Common.{◌≡◌, ℕ, ◌^◌, arith, inl, inr}
-use Rattle.std.proofs.Math.Logic.{∥∥₁_elim}
-use Rattle.std.proofs.lemmas.Bool.{cases_lt}
-use Rattle.std.specs.Int.{IsPowerOfTwo}
-use Rattle.num_modular.specs.Transforms.{Suits}
+use Rattle.ring_codes.proofs.Names.{◌≡◌, ◌^◌, ℕ, arith, inl, inr, ∥∥₁_elim, cases_lt, IsPowerOfTwo, Suits}
 use lib.Pow.{pow-lt}
 use mathlib.Core.HLevel.{Σ_prop_path}
 use native.Mathlib.Nat.{ℕ_set}

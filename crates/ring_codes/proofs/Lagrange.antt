@@ -1,24 +1,13 @@
 -- Lagrange's form: a polynomial with k coefficients by its values at k points that fit.
-use Rattle.std.proofs.Common.{◌≡◌, ◌≢◌, ℕ, zero, suc, ◌+◌, ◌-◌, ◌*◌, ◌%◌, ◌<◌, pos, ◌-ℤ◌, ap, sym, ◌∙◌}
-use Rattle.std.proofs.Common.{arith, inl, inr, mod-eq_of_lt}
-use Rattle.std.proofs.Math.Nat.{mul-le-mul_right}
-use Rattle.std.proofs.Math.Logic.{∥∥₁_elim}
-use Rattle.std.proofs.lemmas.Bool.{cases_lt}
-use Rattle.num_modular.specs.Callers.{same_coefficients}
-use Rattle.num_modular.specs.Congruence.{Congruent}
-use Rattle.num_modular.specs.Inverses.{IsInverse, HasInverse}
-use Rattle.num_modular.specs.ProductLaws.{has_both, has_each, has_product}
-use Rattle.num_modular.specs.NumberLaws.{mod_of_eq, mod_refl, mod_sym, mod_trans, mod_add, mod_mul}
-use Rattle.num_modular.specs.NumberLaws.{sum_below-congruent}
-use Rattle.num_modular.specs.Polynomials.{polynomial_at, HaveUnitDifferences}
-use Rattle.num_modular.specs.PolynomialLaws.{polynomial-congruent}
+use Rattle.ring_codes.proofs.Names.{◌≡◌, ◌≢◌, ◌+◌, ◌-◌, ◌*◌, ◌%◌, ◌<◌, ◌-ℤ◌, ◌∙◌, ℕ, zero, suc, pos, ap, sym, arith}
+use Rattle.ring_codes.proofs.Names.{inl, inr, mod-eq_of_lt, mul-le-mul_right, ∥∥₁_elim, cases_lt, same_coefficients}
+use Rattle.ring_codes.proofs.Names.{Congruent, IsInverse, HasInverse, has_both, has_each, has_product, mod_of_eq}
+use Rattle.ring_codes.proofs.Names.{mod_refl, mod_sym, mod_trans, mod_add, mod_mul, sum_below-congruent, polynomial_at}
+use Rattle.ring_codes.proofs.Names.{HaveUnitDifferences, polynomial-congruent, residue, single, IsEncoding, difference}
+use Rattle.ring_codes.proofs.Names.{AreRows}
 use Rattle.num_modular.specs.Products.{product_below}
-use Rattle.num_modular.specs.Residues.{residue}
-use Rattle.num_modular.specs.SumLaws.{single}
 use Rattle.num_modular.specs.Sums.{sum_below}
-use Rattle.ring_codes.specs.Erasure.{IsEncoding}
-use Rattle.ring_codes.specs.Newton.{difference}
-use Rattle.ring_codes.specs.Prepared.{product_but, AreRows}
+use Rattle.ring_codes.specs.Prepared.{product_but}
 use Rattle.ring_codes.proofs.Distances.{extended, extended_each}
 use Rattle.ring_codes.proofs.NearestWords.{combined, no_value, difference_alike}
 use Rattle.ring_codes.proofs.NewtonForms.{no_difference, product-none}

@@ -5,6 +5,7 @@ pub mod Distances
 pub mod EncodedParts
 pub mod KnownRoots
 pub mod Lagrange
+pub mod Names
 pub mod NearestWords
 pub mod NewtonForms
 pub mod RootPowers

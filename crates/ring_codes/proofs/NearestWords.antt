@@ -1,15 +1,9 @@
 -- Polynomials that are combined, and numbers in place of negative ones: (m - 1)·x takes the place of -x.
-use Rattle.std.proofs.Common.{◌≡◌, ◌≢◌, ℕ, zero, suc, ◌+◌, ◌-◌, ◌*◌, ◌%◌, ◌^◌, ◌<◌, ◌≤◌, pos, ◌-ℤ◌, sym, ◌∙◌, arith, refl}
-use Rattle.std.proofs.Common.{mod-eq_of_lt}
-use Rattle.std.proofs.Math.Nat.{zero-mod, add-mul-mod_self_left}
-use Rattle.std.proofs.lemmas.Nat.{mul-mod_first}
-use Rattle.num_modular.specs.Congruence.{Congruent}
-use Rattle.num_modular.specs.Inverses.{HasInverse}
-use Rattle.num_modular.specs.NumberLaws.{mod_of_eq, mod_refl, mod_sym, mod_trans, mod_add, mod_mul, sum_below-of_zeros}
+use Rattle.ring_codes.proofs.Names.{◌≡◌, ◌≢◌, ◌+◌, ◌-◌, ◌*◌, ◌%◌, ◌^◌, ◌<◌, ◌≤◌, ◌-ℤ◌, ◌∙◌, ℕ, zero, suc, pos, sym}
+use Rattle.ring_codes.proofs.Names.{arith, refl, mod-eq_of_lt, zero-mod, add-mul-mod_self_left, mul-mod_first}
+use Rattle.ring_codes.proofs.Names.{Congruent, HasInverse, mod_of_eq, mod_refl, mod_sym, mod_trans, mod_add, mod_mul}
+use Rattle.ring_codes.proofs.Names.{sum_below-of_zeros, polynomial_at, polynomial-congruent, residue}
 use Rattle.num_modular.specs.Sums.{sum_below}
-use Rattle.num_modular.specs.Polynomials.{polynomial_at}
-use Rattle.num_modular.specs.PolynomialLaws.{polynomial-congruent}
-use Rattle.num_modular.specs.Residues.{residue}
 use Rattle.ring_codes.proofs.Congruences.{mod_of_combination, mod_of_modulus, mod_of_difference}
 
 pub combined : (n : ℕ) (f g : ℕ → ℕ) (a X : ℕ)

@@ -1,24 +1,16 @@
 -- Newton's form: one coefficient more, its parts, its values at its points, and its coefficients as a polynomial.
-use Rattle.std.proofs.Common.{◌≡◌, ◌≢◌, ℕ, zero, suc, ◌+◌, ◌-◌, ◌*◌, ◌/◌, ◌%◌, ◌^◌, ◌<◌, ◌≤◌, pos, ◌-ℤ◌}
-use Rattle.std.proofs.Common.{ap, sym, ◌∙◌, arith, refl, inl, inr, mod-eq_of_lt, mod-lt}
-use Rattle.std.proofs.Common.{◌↔◌, Bool, true, false, IsTrue, Option, None, Some, is_some}
-use Rattle.std.proofs.Math.Nat.{zero-mod}
-use Rattle.std.proofs.lemmas.Bool.{cases_eq, cases_lt}
-use Rattle.std.proofs.lemmas.Int.{ints}
-use Rattle.std.proofs.lemmas.Nat.{mul-mod_second}
-use Rattle.num_modular.specs.Congruence.{Congruent}
-use Rattle.num_modular.specs.Inverses.{IsInverse, HasInverse, IsInversion}
-use Rattle.num_modular.specs.NumberLaws.{mod_of_eq, mod_refl, mod_sym, mod_trans, mod_add, mod_mul}
-use Rattle.num_modular.specs.Polynomials.{polynomial_at, HaveUnitDifferences}
-use Rattle.num_modular.specs.PolynomialLaws.{polynomial-none, polynomial-first, polynomial-same}
-use Rattle.num_modular.specs.ProductLaws.{has_each, has_product}
+use Rattle.ring_codes.proofs.Names.{◌≡◌, ◌≢◌, ◌+◌, ◌-◌, ◌*◌, ◌/◌, ◌%◌, ◌^◌, ◌<◌, ◌≤◌, ◌-ℤ◌, ◌∙◌, ◌↔◌, ℕ, zero, suc, pos}
+use Rattle.ring_codes.proofs.Names.{ap, sym, arith, refl, inl, inr, mod-eq_of_lt, mod-lt, Bool, true, false, IsTrue}
+use Rattle.ring_codes.proofs.Names.{Option, None, Some, is_some, zero-mod, cases_eq, cases_lt, ints, mul-mod_second}
+use Rattle.ring_codes.proofs.Names.{Congruent, IsInverse, HasInverse, IsInversion, mod_of_eq, mod_refl, mod_sym}
+use Rattle.ring_codes.proofs.Names.{mod_trans, mod_add, mod_mul, polynomial_at, HaveUnitDifferences, polynomial-none}
+use Rattle.ring_codes.proofs.Names.{polynomial-first, polynomial-same, has_each, has_product, residue, difference}
+use Rattle.ring_codes.proofs.Names.{inverse_mod, inverse_from_mod}
 use Rattle.num_modular.specs.Products.{product_below}
-use Rattle.num_modular.specs.Residues.{residue}
 use Rattle.num_modular.specs.Sums.{sum_below}
-use Rattle.ring_codes.specs.Newton.{difference, newton_form}
+use Rattle.ring_codes.specs.Newton.{newton_form}
 use Rattle.ring_codes.proofs.NearestWords.{with_multiple}
 use Rattle.ring_codes.proofs.Congruences.{mod_of_combination, mod_times, mod_of_modulus, mod_of_residue, mod_of_difference, mod_of_inverse}
-use Rattle.num_modular.specs.NumberLaws.{inverse_mod, inverse_from_mod}
 
 pub form-none : (m a i : ℕ) (c x : ℕ → ℕ) → newton_form m c x a i 0 ≡ 0
 unfolding newton_form

@@ -1,23 +1,10 @@
 -- Powers of a root: modulo an odd number their differences have inverses, and values at them are transforms.
-use Rattle.std.proofs.Common.{◌≡◌, ℕ, zero, suc, ◌+◌, ◌-◌, ◌*◌, ◌/◌, ◌%◌, ◌^◌, ◌<◌, ◌≤◌, pos, ◌-ℤ◌, ap, sym, ◌∙◌}
-use Rattle.std.proofs.Common.{arith, refl, inl, inr, mod-lt, cond, ltb}
-use Rattle.std.proofs.Math.Nat.{zero-mod, pow-zero, pow-suc}
-use Rattle.std.proofs.lemmas.Nat.{pow-add}
-use Rattle.std.proofs.lemmas.Bool.{cases_lt, cases_eq}
-use Rattle.std.proofs.lemmas.Bool.Decides.{leb_tells}
-use Rattle.num_modular.specs.Congruence.{Congruent}
-use Rattle.num_modular.specs.Inverses.{HasInverse}
-use Rattle.num_modular.specs.NumberLaws.{mod_of_eq, mod_refl, residue_of, mod_sym, mod_trans, mod_add, mod_mul, mod_pow}
-use Rattle.num_modular.specs.NumberLaws.{sum_below-congruent, pow-mul, one-pow}
-use Rattle.num_modular.specs.Polynomials.{polynomial_at, HaveUnitDifferences}
-use Rattle.num_modular.specs.PolynomialLaws.{polynomial-congruent}
-use Rattle.num_modular.specs.ProductLaws.{has_both}
-use Rattle.num_modular.specs.Residues.{residue}
-use Rattle.num_modular.specs.SumLaws.{tail}
-use Rattle.num_modular.specs.Sums.{sum_below}
-use Rattle.num_modular.specs.Transforms.{Suits, transform}
-use Rattle.ring_codes.specs.Erasure.{IsEncoding}
-use Rattle.ring_codes.specs.Powers.{ArePowers}
+use Rattle.ring_codes.proofs.Names.{◌≡◌, ◌+◌, ◌-◌, ◌*◌, ◌/◌, ◌%◌, ◌^◌, ◌<◌, ◌≤◌, ◌-ℤ◌, ◌∙◌, ℕ, zero, suc, pos, ap, sym}
+use Rattle.ring_codes.proofs.Names.{arith, refl, inl, inr, mod-lt, cond, ltb, zero-mod, pow-zero, pow-suc, pow-add}
+use Rattle.ring_codes.proofs.Names.{cases_lt, cases_eq, leb_tells, Congruent, HasInverse, mod_of_eq, mod_refl}
+use Rattle.ring_codes.proofs.Names.{residue_of, mod_sym, mod_trans, mod_add, mod_mul, mod_pow, sum_below-congruent}
+use Rattle.ring_codes.proofs.Names.{pow-mul, one-pow, polynomial_at, HaveUnitDifferences, polynomial-congruent}
+use Rattle.ring_codes.proofs.Names.{has_both, residue, tail, sum_below, Suits, transform, IsEncoding, ArePowers}
 use Rattle.ring_codes.proofs.NearestWords.{unit_alike}
 use Rattle.ring_codes.proofs.NewtonForms.{turned_difference}
 use Rattle.ring_codes.proofs.Congruences.{mod_of_combination, mod_times, mod_of_modulus, mod_of_residue, mod_of_difference}

@@ -1,15 +1,10 @@
 -- Polynomials with given roots, root by root: products of X + r, where (m - 1)·z takes the place of -z.
-use Rattle.std.proofs.Common.{◌≡◌, ℕ, zero, suc, ◌+◌, ◌-◌, ◌*◌, ◌%◌, ◌^◌, ◌<◌, ◌≤◌, ap, sym, ◌∙◌, arith, refl, inl, inr}
-use Rattle.std.proofs.Math.Nat.{pow-zero}
-use Rattle.std.proofs.lemmas.Bool.{cases_lt}
-use Rattle.num_modular.specs.Congruence.{Congruent}
-use Rattle.num_modular.specs.NumberLaws.{mod_of_eq, mod_refl, mod_sym, mod_trans, mod_add, sum_below-suc, sum_below-zero}
-use Rattle.num_modular.specs.Polynomials.{polynomial_at}
-use Rattle.num_modular.specs.PolynomialLaws.{polynomial-congruent}
+use Rattle.ring_codes.proofs.Names.{◌≡◌, ◌+◌, ◌-◌, ◌*◌, ◌%◌, ◌^◌, ◌<◌, ◌≤◌, ◌∙◌, ℕ, zero, suc, ap, sym, arith, refl}
+use Rattle.ring_codes.proofs.Names.{inl, inr, pow-zero, cases_lt, Congruent, mod_of_eq, mod_refl, mod_sym, mod_trans}
+use Rattle.ring_codes.proofs.Names.{mod_add, sum_below-suc, sum_below-zero, polynomial_at, polynomial-congruent, tail}
+use Rattle.ring_codes.proofs.Names.{HasRoots, AreRootCoefficients}
 use Rattle.num_modular.specs.Products.{product_below}
-use Rattle.num_modular.specs.SumLaws.{tail}
 use Rattle.num_modular.specs.Sums.{sum_below}
-use Rattle.ring_codes.specs.Roots.{HasRoots, AreRootCoefficients}
 use Rattle.ring_codes.specs.Shifts.{shifted}
 use Rattle.ring_codes.proofs.Congruences.{mod_of_combination, mod_of_modulus, mod_of_residue, mod_times, product-congruent}
 use Rattle.ring_codes.proofs.NearestWords.{combined, turned_sign, difference_alike}

@@ -1,16 +1,10 @@
 -- With a constant that is given, exactly one polynomial has given values at points that fit and have inverses: 0 is one
 -- point more.
-use Rattle.std.proofs.Common.{◌≡◌, ◌≢◌, ℕ, zero, suc, ◌+◌, ◌-◌, ◌%◌, ◌<◌, ◌≤◌, pos, ◌-ℤ◌, ap, sym, ◌∙◌, arith, refl}
-use Rattle.std.proofs.Common.{mod-eq_of_lt, mod-lt}
-use Rattle.num_modular.specs.Callers.{same_coefficients}
-use Rattle.num_modular.specs.Congruence.{Congruent}
-use Rattle.num_modular.specs.Inverses.{HasInverse}
-use Rattle.num_modular.specs.NumberLaws.{mod_of_eq, mod_refl, residue_of, mod_sym, mod_trans}
-use Rattle.num_modular.specs.Polynomials.{polynomial_at, HaveUnitDifferences}
-use Rattle.num_modular.specs.PolynomialLaws.{polynomial-first, polynomial-congruent}
-use Rattle.num_modular.specs.Residues.{residue}
-use Rattle.ring_codes.specs.Erasure.{IsEncoding}
-use Rattle.ring_codes.specs.Secrets.{FitsShares, IsPerfectlySecret}
+use Rattle.ring_codes.proofs.Names.{◌≡◌, ◌≢◌, ◌+◌, ◌-◌, ◌%◌, ◌<◌, ◌≤◌, ◌-ℤ◌, ◌∙◌, ℕ, zero, suc, pos, ap, sym, arith}
+use Rattle.ring_codes.proofs.Names.{refl, mod-eq_of_lt, mod-lt, same_coefficients, Congruent, HasInverse, mod_of_eq}
+use Rattle.ring_codes.proofs.Names.{mod_refl, residue_of, mod_sym, mod_trans, polynomial_at, HaveUnitDifferences}
+use Rattle.ring_codes.proofs.Names.{polynomial-first, polynomial-congruent, residue, IsEncoding, FitsShares}
+use Rattle.ring_codes.proofs.Names.{IsPerfectlySecret}
 use Rattle.ring_codes.proofs.Congruences.{mod_of_difference, mod_of_residue}
 use Rattle.ring_codes.proofs.Counts.{fit_front}
 use Rattle.ring_codes.proofs.Lagrange.{message_of}

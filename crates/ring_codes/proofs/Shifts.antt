@@ -1,9 +1,6 @@
 -- The polynomial X·f: its coefficients and its values.
-use Rattle.std.proofs.Common.{◌≡◌, ℕ, zero, suc, ◌+◌, ◌*◌, ap, refl, arith}
-use Rattle.num_modular.specs.Congruence.{Congruent}
-use Rattle.num_modular.specs.NumberLaws.{mod_refl}
-use Rattle.num_modular.specs.Polynomials.{polynomial_at}
-use Rattle.num_modular.specs.PolynomialLaws.{polynomial-first}
+use Rattle.ring_codes.proofs.Names.{◌≡◌, ◌+◌, ◌*◌, ℕ, zero, suc, ap, refl, arith, Congruent, mod_refl, polynomial_at}
+use Rattle.ring_codes.proofs.Names.{polynomial-first}
 use Rattle.ring_codes.specs.Shifts.{shifted}
 
 -- before the first coefficient, and from one to the next

@@ -1,15 +1,12 @@
 -- Singleton's bound: words that differ in at least d of n places differ in the first n - d + 1 ones, so that these are
 -- the digits of different numbers. The bound is met.
-use Rattle.std.proofs.Common.{◌≡◌, ◌≢◌, ◌⊎◌, ℕ, zero, suc, ◌+◌, ◌-◌, ◌*◌, ◌/◌, ◌%◌, ◌^◌, ◌<◌, ◌≤◌, ap, sym, ◌∙◌, arith, refl, inl, inr, mod-eq_of_lt}
-use Rattle.std.proofs.Math.Nat.{zero-mod, add-mul-mod_self_left, pow-zero, pow-suc, mul-le-mul_left, mul-div_cancel_left}
-use Rattle.std.proofs.lemmas.Bool.{cases_eq, cases_lt}
-use Rattle.std.proofs.lemmas.Nat.{mul-mod_first, mul-mod_second}
+use Rattle.ring_codes.proofs.Names.{◌≡◌, ◌≢◌, ◌⊎◌, ◌+◌, ◌-◌, ◌*◌, ◌/◌, ◌%◌, ◌^◌, ◌<◌, ◌≤◌, ◌∙◌, ℕ, zero, suc, ap, sym}
+use Rattle.ring_codes.proofs.Names.{arith, refl, inl, inr, mod-eq_of_lt, zero-mod, add-mul-mod_self_left, pow-zero}
+use Rattle.ring_codes.proofs.Names.{pow-suc, mul-le-mul_left, mul-div_cancel_left, cases_eq, cases_lt, mul-mod_first}
+use Rattle.ring_codes.proofs.Names.{mul-mod_second, polynomial_at, HaveUnitDifferences, polynomial-none}
+use Rattle.ring_codes.proofs.Names.{polynomial-first, has_product, IsEncoding, distance}
 use Rattle.num_modular.specs.Sums.{sum_below}
-use Rattle.num_modular.specs.Polynomials.{polynomial_at, HaveUnitDifferences}
-use Rattle.num_modular.specs.PolynomialLaws.{polynomial-none, polynomial-first}
-use Rattle.num_modular.specs.ProductLaws.{has_product}
 use Rattle.num_modular.specs.Products.{product_below}
-use Rattle.ring_codes.specs.Erasure.{IsEncoding, distance}
 use Rattle.ring_codes.proofs.Distances.{extended, at_end, before_end, counted_same, counted_other, counted_most}
 use Rattle.ring_codes.proofs.NearestWords.{at_root, difference_alike, no_value, unit_alike, unit_not_zero}
 use Rattle.ring_codes.proofs.Roots.{constant_one, expanded, highest_is_one, product_expanded}

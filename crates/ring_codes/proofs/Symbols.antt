@@ -1,13 +1,9 @@
 -- Symbols of words, as entries of lists of forms.
-use Rattle.std.proofs.Common.{◌≡◌, ℕ, ◌<◌, ◌≤◌, List, [], ◌∷◌, length, take, get_or, sym, ◌∙◌, ap, arith}
-use Rattle.std.proofs.Common.{◌-◌, ◌++◌, drop, length-append, length-drop, ◌↔◌, Bool, true, false, not, IsTrue, refl}
-use Rattle.std.proofs.Common.{◌≢◌, Option, Some, None, is_some, MatchOption}
-use Rattle.std.proofs.Common.{◌+◌, slice_range, get_or-drop, inl, inr}
-use Rattle.std.proofs.lemmas.Bool.{cases_lt, false≢true}
-use Rattle.std.proofs.lemmas.List.{get_or-take, length-take-le}
-use Rattle.num_modular.specs.Callers.{IsForm, entry, entry_at, entry_past}
-use Rattle.num_modular.specs.Polynomials.{HaveUnitDifferences}
-use Rattle.ring_codes.specs.Erasure.{ArePlaces, IsFault}
+use Rattle.ring_codes.proofs.Names.{◌≡◌, ◌<◌, ◌≤◌, ◌∷◌, ◌∙◌, ◌-◌, ◌++◌, ◌↔◌, ◌≢◌, ◌+◌, ℕ, List, [], length, take}
+use Rattle.ring_codes.proofs.Names.{get_or, sym, ap, arith, drop, length-append, length-drop, Bool, true, false, not}
+use Rattle.ring_codes.proofs.Names.{IsTrue, refl, Option, Some, None, is_some, MatchOption, slice_range, get_or-drop}
+use Rattle.ring_codes.proofs.Names.{inl, inr, cases_lt, false≢true, get_or-take, length-take-le, IsForm, entry}
+use Rattle.ring_codes.proofs.Names.{entry_at, entry_past, HaveUnitDifferences, ArePlaces, IsFault}
 use Rattle.ring_codes.specs.declared.erasure.RestoreError.{RestoreError}
 use Rattle.ring_codes.specs.declared.erasure.RestoreError.TheVariants.{TooFewSymbols, PlaceOutOfRange, PlaceTwice}
 use Rattle.ring_codes.specs.declared.erasure.RestoreError.TheVariants.{PointsDontFit}

@@ -1,4 +1,4 @@
-use Rattle.num_modular.specs.Callers.{arith}
+use Rattle.ring_codes.proofs.Names.{arith}
 use Rattle.ring_codes.proofs.erasure.encode_systematic.Goals as goal
 
 pub returns-clause-encoding : goal.returns-clause-encoding

@@ -1,4 +1,4 @@
-use Rattle.num_modular.specs.Callers.{ℕ, ◌+◌, ◌-◌, ◌%◌, length, ◌∙◌, ap, arith, entry, entry_read}
+use Rattle.ring_codes.proofs.Names.{◌+◌, ◌-◌, ◌%◌, ◌∙◌, ℕ, length, ap, arith, entry, entry_read}
 use Rattle.ring_codes.proofs.NewtonForms.{value_more}
 use Rattle.ring_codes.proofs.erasure.evaluate.Goals as goal
 

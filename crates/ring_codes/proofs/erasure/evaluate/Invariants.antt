@@ -1,5 +1,4 @@
-use Rattle.num_modular.specs.Callers.{◌+◌, ◌-◌, ◌%◌, length, IsCheckedFormOf, entry}
-use Rattle.num_modular.specs.Polynomials.{polynomial_at}
+use Rattle.ring_codes.proofs.Names.{◌+◌, ◌-◌, ◌%◌, length, IsCheckedFormOf, entry, polynomial_at}
 use Rattle.ring_codes.proofs.erasure.evaluate.Given as goal
 
 -- the value of the last k coefficients

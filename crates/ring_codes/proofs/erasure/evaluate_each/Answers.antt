@@ -1,4 +1,4 @@
-use Rattle.num_modular.specs.Callers.{◌+◌, length, arith, held_entry}
+use Rattle.ring_codes.proofs.Names.{◌+◌, length, arith, held_entry}
 use Rattle.ring_codes.proofs.EncodedParts.{part_encoded}
 use Rattle.ring_codes.proofs.erasure.evaluate_each.Goals as goal
 

@@ -1,5 +1,4 @@
-use Rattle.num_modular.specs.Callers.{◌*◌, ◌%◌, ◌≡◌, length, HoldBelow, entry}
-use Rattle.num_modular.specs.Polynomials.{polynomial_at}
+use Rattle.ring_codes.proofs.Names.{◌*◌, ◌%◌, ◌≡◌, length, HoldBelow, entry, polynomial_at}
 use Rattle.ring_codes.proofs.erasure.evaluate_each.Given as goal
 
 -- the symbols at the points of the groups so far

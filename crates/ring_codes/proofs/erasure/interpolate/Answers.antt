@@ -1,8 +1,6 @@
-use Rattle.std.proofs.lemmas.Bool.{false≢true}
-use Rattle.num_modular.specs.Callers.{length, entry, same_coefficients, ◌∙◌, sym, refl, arith}
-use Rattle.num_modular.specs.Callers.{mod-eq_of_lt}
+use Rattle.ring_codes.proofs.Names.{◌∙◌, false≢true, length, entry, same_coefficients, sym, refl, arith, mod-eq_of_lt}
+use Rattle.ring_codes.proofs.Names.{values_below}
 use Rattle.ring_codes.proofs.NewtonForms.{fit_from_products, products_from_fit, interpolated_value}
-use Rattle.num_modular.specs.Callers.{values_below}
 use Rattle.ring_codes.proofs.Symbols.{entry_front}
 use Rattle.ring_codes.proofs.erasure.interpolate.Goals as goal
 

@@ -1,10 +1,5 @@
-use Rattle.std.proofs.Common.{below_more}
-use Rattle.std.proofs.Math.Nat.{mod-mod}
-use Rattle.std.proofs.lemmas.Bool.{false≢true}
-use Rattle.num_modular.specs.Callers.{◌≡◌, ◌%◌, length, entry, entry_read, form_read, ◌∙◌, ap, sym, refl, arith}
-use Rattle.num_modular.specs.NumberLaws.{mod_refl}
-use Rattle.num_modular.specs.Polynomials.{polynomial_at}
-use Rattle.num_modular.specs.PolynomialLaws.{polynomial-congruent}
+use Rattle.ring_codes.proofs.Names.{◌≡◌, ◌%◌, ◌∙◌, below_more, mod-mod, false≢true, length, entry, entry_read}
+use Rattle.ring_codes.proofs.Names.{form_read, ap, sym, refl, arith, mod_refl, polynomial_at, polynomial-congruent}
 use Rattle.ring_codes.proofs.Symbols.{same_forms, told_same, told_other}
 use Rattle.ring_codes.proofs.erasure.is_codeword.Goals as goal
 

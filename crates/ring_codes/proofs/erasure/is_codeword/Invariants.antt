@@ -1,5 +1,4 @@
-use Rattle.num_modular.specs.Callers.{◌≡◌, ℕ, ◌%◌, ◌<◌, length, entry}
-use Rattle.num_modular.specs.Polynomials.{polynomial_at}
+use Rattle.ring_codes.proofs.Names.{◌≡◌, ◌%◌, ◌<◌, ℕ, length, entry, polynomial_at}
 use Rattle.ring_codes.proofs.erasure.is_codeword.Given as goal
 
 -- the symbols so far are the message's

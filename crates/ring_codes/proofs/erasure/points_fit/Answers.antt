@@ -1,5 +1,4 @@
-use Rattle.num_modular.specs.Callers.{arith}
-use Rattle.num_modular.specs.Callers.{has_each, has_product}
+use Rattle.ring_codes.proofs.Names.{arith, has_each, has_product}
 use Rattle.ring_codes.proofs.NewtonForms.{inversion_tells, fit_from_products, products_from_fit, has_of_residue}
 use Rattle.ring_codes.proofs.NewtonForms.{has_to_residue}
 use Rattle.ring_codes.proofs.erasure.points_fit.Goals as goal

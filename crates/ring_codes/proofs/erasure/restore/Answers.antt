@@ -1,9 +1,5 @@
-use Rattle.std.proofs.Common.{slice_index, rules}
-use Rattle.std.proofs.lemmas.Bool.{false≢true}
-use Rattle.num_modular.specs.Callers.{length, entry, refl, subst, arith}
-use Rattle.ring_codes.specs.Erasure.{IsFault}
+use Rattle.ring_codes.proofs.Names.{slice_index, rules, false≢true, length, entry, refl, subst, arith, IsFault, le_refl}
 use Rattle.ring_codes.proofs.Symbols.{are_chosen, no_fault}
-use Rattle.std.proofs.Math.Nat.{le_refl}
 use Rattle.ring_codes.proofs.erasure.restore.Goals as goal
 
 pub returns-in-Err-clause-fault : goal.returns-in-Err-clause-fault

@@ -1,5 +1,4 @@
-use Rattle.num_modular.specs.Callers.{◌%◌, IsCheckedFormOf, entry, product_below}
-use Rattle.ring_codes.specs.Newton.{difference}
+use Rattle.ring_codes.proofs.Names.{◌%◌, IsCheckedFormOf, entry, product_below, difference}
 use Rattle.ring_codes.proofs.erasure.newton.differences_before.Given as goal
 
 -- the product of the differences so far

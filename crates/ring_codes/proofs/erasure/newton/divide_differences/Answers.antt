@@ -1,8 +1,5 @@
-use Rattle.std.proofs.Common.{pos, ◌-ℤ◌}
-use Rattle.num_modular.specs.Callers.{◌≢◌, ◌*◌, ◌%◌, ◌∙◌, ap, arith, entry, entry_at, entry_read, entry_written, entry_kept}
-use Rattle.num_modular.specs.Callers.{form_read, forms_written}
-use Rattle.num_modular.specs.Residues.{residue}
-use Rattle.ring_codes.specs.Newton.{newton_form}
+use Rattle.ring_codes.proofs.Names.{◌-ℤ◌, ◌≢◌, ◌*◌, ◌%◌, ◌∙◌, pos, ap, arith, entry, entry_at, entry_read}
+use Rattle.ring_codes.proofs.Names.{entry_written, entry_kept, form_read, forms_written, residue, newton_form}
 use Rattle.ring_codes.proofs.NewtonForms.{one_divided}
 use Rattle.ring_codes.proofs.erasure.newton.divide_differences.Goals as goal
 

@@ -1,5 +1,4 @@
-use Rattle.num_modular.specs.Callers.{◌≡◌, ℕ, ◌%◌, ◌<◌, ◌≤◌, All, IsForm, entry}
-use Rattle.ring_codes.specs.Newton.{newton_form}
+use Rattle.ring_codes.proofs.Names.{◌≡◌, ◌%◌, ◌<◌, ◌≤◌, ℕ, All, IsForm, entry, newton_form}
 use Rattle.ring_codes.proofs.erasure.newton.divide_differences.Given as goal
 
 -- the form so far has the values at the points so far, and the values behind them are as they were

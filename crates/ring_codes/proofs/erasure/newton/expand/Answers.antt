@@ -1,6 +1,4 @@
-use Rattle.num_modular.specs.Callers.{◌≡◌, ℕ, ◌-◌, length, ◌∙◌, ap, arith, entry, entry_read}
-use Rattle.num_modular.specs.NumberLaws.{mod_of_eq}
-use Rattle.num_modular.specs.PolynomialLaws.{polynomial-none}
+use Rattle.ring_codes.proofs.Names.{◌≡◌, ◌-◌, ◌∙◌, ℕ, length, ap, arith, entry, entry_read, mod_of_eq, polynomial-none}
 use Rattle.ring_codes.proofs.NewtonForms.{form-none, expanded_more, expanded_all}
 use Rattle.ring_codes.proofs.erasure.newton.expand.Goals as goal
 

@@ -1,7 +1,5 @@
-use Rattle.num_modular.specs.Callers.{◌≡◌, ℕ, ◌+◌, ◌-◌, ◌<◌, All, length, IsForm, entry}
-use Rattle.num_modular.specs.Congruence.{Congruent}
-use Rattle.num_modular.specs.Polynomials.{polynomial_at}
-use Rattle.ring_codes.specs.Newton.{newton_form}
+use Rattle.ring_codes.proofs.Names.{◌≡◌, ◌+◌, ◌-◌, ◌<◌, ℕ, All, length, IsForm, entry, Congruent, polynomial_at}
+use Rattle.ring_codes.proofs.Names.{newton_form}
 use Rattle.ring_codes.proofs.erasure.newton.expand.Given as goal
 
 -- the last k coefficients are those of the form with the last k points, and the others as they were

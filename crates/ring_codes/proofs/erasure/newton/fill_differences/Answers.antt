@@ -1,7 +1,4 @@
-use Rattle.std.proofs.Common.{inl, inr}
-use Rattle.std.proofs.lemmas.Bool.{cases_lt}
-use Rattle.num_modular.specs.Callers.{ℕ, ◌+◌, ◌-◌, ◌<◌, ◌∙◌, arith, entry, length}
-use Rattle.ring_codes.specs.Newton.{difference}
+use Rattle.ring_codes.proofs.Names.{◌+◌, ◌-◌, ◌<◌, ◌∙◌, inl, inr, cases_lt, ℕ, arith, entry, length, difference}
 use Rattle.ring_codes.proofs.DifferenceProducts.{products_so_far_none, products_so_far_more, product_but_whole}
 use Rattle.ring_codes.proofs.erasure.newton.fill_differences.Goals as goal
 

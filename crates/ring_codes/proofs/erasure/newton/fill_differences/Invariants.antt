@@ -1,6 +1,5 @@
-use Rattle.num_modular.specs.Callers.{◌≡◌, ℕ, ◌+◌, ◌-◌, ◌*◌, ◌%◌, ◌<◌, ◌≤◌, All, IsForm, entry, length, product_below}
-use Rattle.ring_codes.specs.Newton.{difference}
-use Rattle.ring_codes.specs.Prepared.{product_but}
+use Rattle.ring_codes.proofs.Names.{◌≡◌, ◌+◌, ◌-◌, ◌*◌, ◌%◌, ◌<◌, ◌≤◌, ℕ, All, IsForm, entry, length, product_below}
+use Rattle.ring_codes.proofs.Names.{difference, product_but}
 use Rattle.ring_codes.proofs.erasure.newton.fill_differences.Given as goal
 
 -- the products of the differences from the points before, and from the last ones so far; from all others, where these are all

@@ -1,5 +1,5 @@
-use Rattle.num_modular.specs.Callers.{◌≡◌, ℕ, ◌%◌, ◌<◌, ◌≤◌, All, IsForm, HoldBelow, entry, length, product_below}
-use Rattle.ring_codes.specs.Newton.{difference}
+use Rattle.ring_codes.proofs.Names.{◌≡◌, ◌%◌, ◌<◌, ◌≤◌, ℕ, All, IsForm, HoldBelow, entry, length, product_below}
+use Rattle.ring_codes.proofs.Names.{difference}
 use Rattle.ring_codes.proofs.erasure.newton.fill_weights.Given as goal
 
 -- ones so far

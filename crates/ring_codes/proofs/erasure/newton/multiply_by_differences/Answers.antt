@@ -1,4 +1,4 @@
-use Rattle.num_modular.specs.Callers.{◌∙◌, arith, entry, entry_at, entry_read, forms_written, done_more}
+use Rattle.ring_codes.proofs.Names.{◌∙◌, arith, entry, entry_at, entry_read, forms_written, done_more}
 use Rattle.ring_codes.proofs.erasure.newton.multiply_by_differences.Goals as goal
 
 pub points-init : goal.points-init

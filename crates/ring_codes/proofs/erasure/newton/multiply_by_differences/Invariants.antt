@@ -1,5 +1,4 @@
-use Rattle.num_modular.specs.Callers.{◌≡◌, ◌*◌, ◌%◌, ◌<◌, ◌≤◌, All, IsForm, DoneBelow, entry}
-use Rattle.ring_codes.specs.Newton.{difference}
+use Rattle.ring_codes.proofs.Names.{◌≡◌, ◌*◌, ◌%◌, ◌<◌, ◌≤◌, All, IsForm, DoneBelow, entry, difference}
 use Rattle.ring_codes.proofs.erasure.newton.multiply_by_differences.Given as goal
 
 -- the products from the start on so far are multiplied

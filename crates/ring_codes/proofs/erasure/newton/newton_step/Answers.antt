@@ -1,5 +1,4 @@
-use Rattle.num_modular.specs.Callers.{◌∙◌}
-use Rattle.num_modular.specs.NumberLaws.{mod_add, mod_refl}
+use Rattle.ring_codes.proofs.Names.{◌∙◌, mod_add, mod_refl}
 use Rattle.ring_codes.proofs.Congruences.{mod_of_residue}
 use Rattle.ring_codes.proofs.erasure.newton.newton_step.Goals as goal
 

@@ -1,9 +1,5 @@
-use Rattle.std.proofs.Common.{pos, ◌-ℤ◌}
-use Rattle.num_modular.specs.Callers.{◌≡◌, ◌≢◌, ℕ, ◌+◌, ◌-◌, ◌*◌, ◌/◌, ◌%◌, ◌∙◌, ap, arith}
-use Rattle.num_modular.specs.Callers.{entry, entry_read, form_read, IsForm}
-use Rattle.num_modular.specs.Congruence.{Congruent}
-use Rattle.num_modular.specs.Residues.{residue}
-use Rattle.ring_codes.specs.Newton.{newton_form}
+use Rattle.ring_codes.proofs.Names.{◌-ℤ◌, ◌≡◌, ◌≢◌, ◌+◌, ◌-◌, ◌*◌, ◌/◌, ◌%◌, ◌∙◌, pos, ℕ, ap, arith, entry, entry_read}
+use Rattle.ring_codes.proofs.Names.{form_read, IsForm, Congruent, residue, newton_form}
 use Rattle.ring_codes.proofs.NewtonForms.{part_of_none, part_of_top, part_of_no_top, part_of_more}
 use Rattle.ring_codes.proofs.NewtonForms.{product_of_none, product_of_more, value_joined}
 use Rattle.ring_codes.proofs.erasure.newton.newton_value.Goals as goal

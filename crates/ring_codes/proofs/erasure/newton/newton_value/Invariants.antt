@@ -1,6 +1,4 @@
-use Rattle.num_modular.specs.Callers.{◌+◌, ◌-◌, ◌*◌, IsForm, entry}
-use Rattle.num_modular.specs.Congruence.{Congruent}
-use Rattle.ring_codes.specs.Newton.{newton_form}
+use Rattle.ring_codes.proofs.Names.{◌+◌, ◌-◌, ◌*◌, IsForm, entry, Congruent, newton_form}
 use Rattle.ring_codes.proofs.NewtonForms.{differences}
 use Rattle.ring_codes.proofs.erasure.newton.newton_value.Given as goal
 

@@ -1,7 +1,5 @@
-use Rattle.std.proofs.Common.{set}
-use Rattle.std.proofs.lemmas.Bool.{cases_eq}
-use Rattle.num_modular.specs.Callers.{◌≡◌, ◌≢◌, ℕ, ◌+◌, ◌-◌, ◌*◌, ◌%◌, ◌∙◌, ap, sym, inl, inr, arith}
-use Rattle.num_modular.specs.Callers.{entry, entry_at, entry_written, entry_kept, forms_written}
+use Rattle.ring_codes.proofs.Names.{◌≡◌, ◌≢◌, ◌+◌, ◌-◌, ◌*◌, ◌%◌, ◌∙◌, set, cases_eq, ℕ, ap, sym, inl, inr, arith}
+use Rattle.ring_codes.proofs.Names.{entry, entry_at, entry_written, entry_kept, forms_written}
 use Rattle.ring_codes.proofs.NewtonForms.{subtracted}
 use Rattle.ring_codes.proofs.erasure.newton.subtract_multiples.Goals as goal
 

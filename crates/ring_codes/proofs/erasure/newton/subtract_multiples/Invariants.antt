@@ -1,5 +1,4 @@
-use Rattle.num_modular.specs.Callers.{◌≡◌, ℕ, ◌+◌, ◌*◌, ◌<◌, ◌≤◌, All, IsForm, entry}
-use Rattle.num_modular.specs.Congruence.{Congruent}
+use Rattle.ring_codes.proofs.Names.{◌≡◌, ◌+◌, ◌*◌, ◌<◌, ◌≤◌, ℕ, All, IsForm, entry, Congruent}
 use Rattle.ring_codes.proofs.erasure.newton.subtract_multiples.Given as goal
 
 -- the places before i - 1 are done, and the others as they were

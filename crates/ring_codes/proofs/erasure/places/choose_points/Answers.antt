@@ -1,6 +1,5 @@
-use Rattle.std.proofs.Common.{slice_index, below_more, get_or-set_same, get_or-set_other, arith}
-use Rattle.std.proofs.lemmas.Bool.{cases_eq, false≢true}
-use Rattle.std.proofs.lemmas.List.{get_or_read}
+use Rattle.ring_codes.proofs.Names.{slice_index, below_more, get_or-set_same, get_or-set_other, arith, cases_eq}
+use Rattle.ring_codes.proofs.Names.{false≢true, get_or_read}
 use Rattle.ring_codes.proofs.Symbols.{index_tells}
 use Rattle.ring_codes.proofs.erasure.places.choose_points.Goals as goal
 

@@ -1,4 +1,4 @@
-use Rattle.std.proofs.Common.{◌≡◌, ◌≢◌, ℕ, ◌<◌, length, get_or, slice_index}
+use Rattle.ring_codes.proofs.Names.{◌≡◌, ◌≢◌, ◌<◌, ℕ, length, get_or, slice_index}
 use Rattle.ring_codes.proofs.erasure.places.choose_points.Given as goal
 
 -- the places so far have points, no two are the same, and their points are chosen

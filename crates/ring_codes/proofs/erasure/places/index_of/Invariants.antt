@@ -1,4 +1,4 @@
-use Rattle.std.proofs.Common.{◌≢◌, ℕ, ◌<◌, slice_index}
+use Rattle.ring_codes.proofs.Names.{◌≢◌, ◌<◌, ℕ, slice_index}
 use Rattle.ring_codes.proofs.erasure.places.index_of.Given as goal
 
 -- the place isn't among those so far

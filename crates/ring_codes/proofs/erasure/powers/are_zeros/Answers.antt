@@ -1,6 +1,4 @@
-use Rattle.std.proofs.Common.{below_more}
-use Rattle.std.proofs.lemmas.Bool.{false≢true}
-use Rattle.num_modular.specs.Callers.{◌∙◌, sym, refl, arith, entry_read}
+use Rattle.ring_codes.proofs.Names.{◌∙◌, below_more, false≢true, sym, refl, arith, entry_read}
 use Rattle.ring_codes.proofs.erasure.powers.are_zeros.Goals as goal
 
 pub entries-init : goal.entries-init

@@ -1,4 +1,4 @@
-use Rattle.num_modular.specs.Callers.{◌≡◌, ◌<◌, ◌≤◌, ℕ, entry}
+use Rattle.ring_codes.proofs.Names.{◌≡◌, ◌<◌, ◌≤◌, ℕ, entry}
 use Rattle.ring_codes.proofs.erasure.powers.are_zeros.Given as goal
 
 -- the entries so far are 0

@@ -1,8 +1,5 @@
-use Rattle.num_modular.specs.Callers.{◌≡◌, ℕ, ◌<◌, ◌≤◌, ◌∙◌, ap, arith, length, sym}
-use Rattle.num_modular.specs.Callers.{entry_at, entry_read, entry_past, entry_written, entry_kept}
-use Rattle.std.proofs.Common.{get_or, inl, inr}
-use Rattle.std.proofs.lemmas.Bool.{cases_eq, cases_lt}
-use Rattle.num_modular.specs.Plans.{numbers}
+use Rattle.ring_codes.proofs.Names.{◌≡◌, ◌<◌, ◌≤◌, ◌∙◌, ℕ, ap, arith, length, sym, entry_at, entry_read, entry_past}
+use Rattle.ring_codes.proofs.Names.{entry_written, entry_kept, get_or, inl, inr, cases_eq, cases_lt, numbers}
 use Rattle.ring_codes.proofs.RootPowers.{value_by_transform}
 use Rattle.ring_codes.proofs.erasure.powers.encode_by_plan.Goals as goal
 use Rattle.ring_codes.proofs.erasure.powers.encode_by_plan.Goals.{then-i-message, else-i-message}

@@ -1,5 +1,4 @@
-use Rattle.std.proofs.Common.{◌≡◌, ℕ, ◌<◌}
-use Rattle.num_modular.specs.Plans.{numbers}
+use Rattle.ring_codes.proofs.Names.{◌≡◌, ◌<◌, ℕ, numbers}
 use Rattle.ring_codes.proofs.erasure.powers.encode_by_plan.Given as goal
 
 -- the symbols of the message, then zeros

@@ -1,5 +1,4 @@
-use Rattle.num_modular.specs.Callers.{◌≡◌, ℕ, ◌<◌, ◌∙◌, arith, length}
-use Rattle.num_modular.specs.Callers.{entry, entry_past, held_entry}
+use Rattle.ring_codes.proofs.Names.{◌≡◌, ◌<◌, ◌∙◌, ℕ, arith, length, entry, entry_past, held_entry}
 use Rattle.ring_codes.proofs.RootPowers.{value_by_transform}
 use Rattle.ring_codes.proofs.erasure.powers.encode_by_transform.Goals as goal
 

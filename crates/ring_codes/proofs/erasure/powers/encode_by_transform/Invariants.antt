@@ -1,4 +1,4 @@
-use Rattle.num_modular.specs.Callers.{HoldBelow, entry}
+use Rattle.ring_codes.proofs.Names.{HoldBelow, entry}
 use Rattle.ring_codes.proofs.erasure.powers.encode_by_transform.Given as goal
 
 -- the symbols of the message, then zeros

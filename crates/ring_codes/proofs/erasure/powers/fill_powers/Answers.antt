@@ -1,8 +1,4 @@
-use Rattle.num_modular.specs.Callers.{◌%◌, arith}
-use Rattle.std.proofs.Common.{◌^◌, add-one}
-use Rattle.std.proofs.Math.Nat.{pow-zero, pow-suc}
-use Rattle.std.proofs.lemmas.Nat.{mul-mod_first}
-use Rattle.num_modular.specs.Callers.{hold_more}
+use Rattle.ring_codes.proofs.Names.{◌%◌, ◌^◌, arith, add-one, pow-zero, pow-suc, mul-mod_first, hold_more}
 use Rattle.ring_codes.proofs.erasure.powers.fill_powers.Goals as goal
 
 pub powers-init : goal.powers-init

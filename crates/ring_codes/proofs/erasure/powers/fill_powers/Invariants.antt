@@ -1,5 +1,4 @@
-use Rattle.num_modular.specs.Callers.{◌%◌, HoldBelow, IsCheckedFormOf}
-use Rattle.std.proofs.Common.{◌^◌}
+use Rattle.ring_codes.proofs.Names.{◌%◌, ◌^◌, HoldBelow, IsCheckedFormOf}
 use Rattle.ring_codes.proofs.erasure.powers.fill_powers.Given as goal
 
 -- the powers so far, and the next

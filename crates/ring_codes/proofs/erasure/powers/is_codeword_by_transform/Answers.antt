@@ -1,4 +1,4 @@
-use Rattle.num_modular.specs.Callers.{◌≡◌, ◌∙◌, sym, refl, length, entry, arith}
+use Rattle.ring_codes.proofs.Names.{◌≡◌, ◌∙◌, sym, refl, length, entry, arith}
 use Rattle.ring_codes.proofs.RootPowers.{encoding_alike}
 use Rattle.ring_codes.proofs.Symbols.{entry_front}
 use Rattle.ring_codes.proofs.erasure.powers.is_codeword_by_transform.Goals as goal

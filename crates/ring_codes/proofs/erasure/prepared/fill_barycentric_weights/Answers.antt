@@ -1,8 +1,6 @@
-use Rattle.num_modular.specs.Callers.{ℕ, ◌<◌, arith, length, entry}
-use Rattle.ring_codes.specs.Prepared.{product_but}
+use Rattle.ring_codes.proofs.Names.{◌<◌, ℕ, arith, length, entry, product_but, inverse_from_mod}
 use Rattle.ring_codes.proofs.Lagrange.{fit_from_all, all_from_fit}
 use Rattle.ring_codes.proofs.NewtonForms.{has_of_residue, has_to_residue}
-use Rattle.num_modular.specs.NumberLaws.{inverse_from_mod}
 use Rattle.ring_codes.proofs.erasure.prepared.fill_barycentric_weights.Goals as goal
 
 pub returns-clause-fit : goal.returns-clause-fit

@@ -1,9 +1,6 @@
-use Rattle.num_modular.specs.Callers.{◌≡◌, ◌≢◌, ℕ, ◌-◌, ◌%◌, ◌<◌, ◌∙◌, ap, arith, inl, inr, length}
-use Rattle.num_modular.specs.Callers.{entry, entry_at, entry_read, entry_written, entry_kept, forms_written}
-use Rattle.num_modular.specs.Callers.{product_step, product_below}
-use Rattle.std.proofs.Common.{pos, ◌-ℤ◌}
-use Rattle.std.proofs.lemmas.Bool.{cases_eq}
-use Rattle.num_modular.specs.Residues.{residue}
+use Rattle.ring_codes.proofs.Names.{◌≡◌, ◌≢◌, ◌-◌, ◌%◌, ◌<◌, ◌∙◌, ◌-ℤ◌, ℕ, ap, arith, inl, inr, length, entry, entry_at}
+use Rattle.ring_codes.proofs.Names.{entry_read, entry_written, entry_kept, forms_written, product_step, product_below}
+use Rattle.ring_codes.proofs.Names.{pos, cases_eq, residue}
 use Rattle.ring_codes.proofs.Lagrange.{product_of_parts}
 use Rattle.ring_codes.proofs.erasure.prepared.fill_products.Goals as goal
 

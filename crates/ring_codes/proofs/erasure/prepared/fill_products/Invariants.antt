@@ -1,7 +1,5 @@
-use Rattle.num_modular.specs.Callers.{◌≡◌, ℕ, ◌-◌, ◌%◌, ◌<◌, ◌≤◌, All, length, HoldBelow, IsCheckedFormOf, IsForm, entry, product_below}
-use Rattle.std.proofs.Common.{pos, ◌-ℤ◌}
-use Rattle.num_modular.specs.Residues.{residue}
-use Rattle.ring_codes.specs.Prepared.{product_but}
+use Rattle.ring_codes.proofs.Names.{◌≡◌, ◌-◌, ◌%◌, ◌<◌, ◌≤◌, ◌-ℤ◌, ℕ, All, length, HoldBelow, IsCheckedFormOf, IsForm}
+use Rattle.ring_codes.proofs.Names.{entry, product_below, pos, residue, product_but}
 use Rattle.ring_codes.proofs.erasure.prepared.fill_products.Given as goal
 
 -- the products of the differences before each point so far

@@ -1,9 +1,7 @@
-use Rattle.num_modular.specs.Callers.{◌≡◌, ℕ, ◌+◌, ◌*◌, ◌/◌, ◌%◌, ◌≤◌, ◌∙◌, sym, arith, length, refl}
-use Rattle.num_modular.specs.Callers.{entry, entry_at, entry_read, hold_more, held_forms, held_entry}
-use Rattle.std.proofs.Math.Nat.{mul-le-mul_right}
-use Rattle.std.proofs.lemmas.Nat.{mod-mul-add, div-mul-add}
+use Rattle.ring_codes.proofs.Names.{◌≡◌, ◌+◌, ◌*◌, ◌/◌, ◌%◌, ◌≤◌, ◌∙◌, ℕ, sym, arith, length, refl, entry, entry_at}
+use Rattle.ring_codes.proofs.Names.{entry_read, hold_more, held_forms, held_entry, mul-le-mul_right, mod-mul-add}
+use Rattle.ring_codes.proofs.Names.{div-mul-add, product_but}
 use borrow.Author.Rules.{scaled_Fits}
-use Rattle.ring_codes.specs.Prepared.{product_but}
 use Rattle.ring_codes.proofs.Lagrange.{row_within}
 use Rattle.ring_codes.proofs.erasure.prepared.fill_rows.Goals as goal
 

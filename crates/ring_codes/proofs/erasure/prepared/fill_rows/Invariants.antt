@@ -1,5 +1,4 @@
-use Rattle.num_modular.specs.Callers.{◌≡◌, ◌+◌, ◌*◌, ◌/◌, ◌%◌, length, HoldBelow, entry}
-use Rattle.ring_codes.specs.Prepared.{product_but}
+use Rattle.ring_codes.proofs.Names.{◌≡◌, ◌+◌, ◌*◌, ◌/◌, ◌%◌, length, HoldBelow, entry, product_but}
 use Rattle.ring_codes.proofs.erasure.prepared.fill_rows.Given as goal
 
 -- the rows so far

@@ -1,6 +1,4 @@
-use Rattle.std.proofs.Common.{slice_range}
-use Rattle.num_modular.specs.Callers.{arith}
-use Rattle.num_modular.specs.NumberLaws.{sum_below-same}
+use Rattle.ring_codes.proofs.Names.{slice_range, arith, sum_below-same}
 use Rattle.ring_codes.proofs.Symbols.{entry_slice, slice_length}
 use Rattle.ring_codes.proofs.erasure.prepared.row_value.Goals as goal
 

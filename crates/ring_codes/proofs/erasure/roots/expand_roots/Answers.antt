@@ -1,7 +1,6 @@
-use Rattle.num_modular.specs.Callers.{◌≡◌, ◌≤◌, ◌≢◌, ◌∙◌, ℕ, ◌<◌, ◌%◌, ap, arith, length, entry, entry_read, entry_past, entry_kept}
-use Rattle.num_modular.specs.Callers.{entry_written, held_entry, held_forms, forms_written}
-use Rattle.std.proofs.Common.{inl, inr, set}
-use Rattle.std.proofs.lemmas.Bool.{cases_lt}
+use Rattle.ring_codes.proofs.Names.{◌≡◌, ◌≤◌, ◌≢◌, ◌∙◌, ◌<◌, ◌%◌, ℕ, ap, arith, length, entry, entry_read, entry_past}
+use Rattle.ring_codes.proofs.Names.{entry_kept, entry_written, held_entry, held_forms, forms_written, inl, inr, set}
+use Rattle.ring_codes.proofs.Names.{cases_lt}
 use Rattle.ring_codes.proofs.Roots.{coefficients_none, coefficients_more, roots_of_coefficients, coefficients_of_roots}
 use Rattle.ring_codes.proofs.erasure.roots.expand_roots.Goals as goal
 

@@ -1,5 +1,4 @@
-use Rattle.num_modular.specs.Callers.{◌≡◌, ℕ, ◌-◌, ◌*◌, ◌<◌, All, IsForm, HoldBelow, entry}
-use Rattle.num_modular.specs.Congruence.{Congruent}
+use Rattle.ring_codes.proofs.Names.{◌≡◌, ◌-◌, ◌*◌, ◌<◌, ℕ, All, IsForm, HoldBelow, entry, Congruent}
 use Rattle.ring_codes.proofs.Roots.{expanded, constant_one}
 use Rattle.ring_codes.proofs.erasure.roots.expand_roots.Given as goal
 

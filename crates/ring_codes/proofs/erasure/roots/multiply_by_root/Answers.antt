@@ -1,7 +1,5 @@
-use Rattle.std.proofs.Math.Nat.{zero-mod}
-use Rattle.num_modular.specs.Callers.{◌*◌, ◌%◌, ◌∙◌, ap, sym, arith}
-use Rattle.num_modular.specs.Callers.{entry, entry_read, form_read, forms_written, done_none, done_more}
-use Rattle.num_modular.specs.NumberLaws.{mod_of_eq, mod_trans}
+use Rattle.ring_codes.proofs.Names.{◌*◌, ◌%◌, ◌∙◌, zero-mod, ap, sym, arith, entry, entry_read, form_read}
+use Rattle.ring_codes.proofs.Names.{forms_written, done_none, done_more, mod_of_eq, mod_trans}
 use Rattle.ring_codes.proofs.Shifts.{shifted_none, shifted_next}
 use Rattle.ring_codes.proofs.NewtonForms.{subtracted}
 use Rattle.ring_codes.proofs.erasure.roots.multiply_by_root.Goals as goal

@@ -1,6 +1,4 @@
-use Rattle.num_modular.specs.Callers.{◌+◌, ◌*◌, All, IsForm, entry, DoneBelow, IsCheckedFormOf}
-use Rattle.num_modular.specs.Congruence.{Congruent}
-use Rattle.ring_codes.specs.Shifts.{shifted}
+use Rattle.ring_codes.proofs.Names.{◌+◌, ◌*◌, All, IsForm, entry, DoneBelow, IsCheckedFormOf, Congruent, shifted}
 use Rattle.ring_codes.proofs.erasure.roots.multiply_by_root.Given as goal
 
 -- the coefficients so far are replaced, and the one before is kept

@@ -1,5 +1,4 @@
-use Rattle.num_modular.specs.Callers.{arith}
-use Rattle.num_modular.specs.Callers.{has_each, has_product}
+use Rattle.ring_codes.proofs.Names.{arith, has_each, has_product}
 use Rattle.ring_codes.proofs.NewtonForms.{inversion_tells, has_of_residue, has_to_residue}
 use Rattle.ring_codes.proofs.erasure.secrets.have_inverses.Goals as goal
 

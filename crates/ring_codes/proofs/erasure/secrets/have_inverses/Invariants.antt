@@ -1,4 +1,4 @@
-use Rattle.num_modular.specs.Callers.{◌%◌, IsCheckedFormOf, entry, product_below}
+use Rattle.ring_codes.proofs.Names.{◌%◌, IsCheckedFormOf, entry, product_below}
 use Rattle.ring_codes.proofs.erasure.secrets.have_inverses.Given as goal
 
 -- the product of the points so far

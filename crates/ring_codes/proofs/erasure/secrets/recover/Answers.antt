@@ -1,4 +1,4 @@
-use Rattle.num_modular.specs.Callers.{entry_read, ◌∙◌, refl, arith}
+use Rattle.ring_codes.proofs.Names.{◌∙◌, entry_read, refl, arith}
 use Rattle.ring_codes.proofs.erasure.secrets.recover.Goals as goal
 
 pub returns-in-Ok-clause-secret : goal.returns-in-Ok-clause-secret

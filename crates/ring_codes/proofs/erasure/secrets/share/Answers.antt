@@ -1,6 +1,4 @@
-use Rattle.std.proofs.lemmas.Bool.{false≢true}
-use Rattle.num_modular.specs.Callers.{refl, arith}
-use Rattle.std.proofs.Common.{rules}
+use Rattle.ring_codes.proofs.Names.{false≢true, refl, arith, rules}
 use Rattle.ring_codes.proofs.erasure.secrets.share.Goals as goal
 
 pub returns-then-not-have_inverses : goal.returns-then-not-have_inverses

@@ -1,5 +1,4 @@
-use Rattle.num_modular.specs.Callers.{ℕ, ◌-◌, ◌*◌, ◌%◌, ◌≡◌, length, refl, arith}
-use Rattle.num_modular.specs.Callers.{entry, entry_read}
+use Rattle.ring_codes.proofs.Names.{◌-◌, ◌*◌, ◌%◌, ◌≡◌, ℕ, length, refl, arith, entry, entry_read}
 use Rattle.ring_codes.proofs.NewtonForms.{value_more, value_all}
 use Rattle.ring_codes.proofs.erasure.values.evaluate_side_by_side.Goals as goal
 

@@ -1,5 +1,4 @@
-use Rattle.num_modular.specs.Callers.{ℕ, ◌+◌, ◌-◌, ◌%◌, ◌≡◌, ◌<◌, length, All, IsForm, HoldBelow, entry}
-use Rattle.num_modular.specs.Polynomials.{polynomial_at}
+use Rattle.ring_codes.proofs.Names.{◌+◌, ◌-◌, ◌%◌, ◌≡◌, ◌<◌, ℕ, length, All, IsForm, HoldBelow, entry, polynomial_at}
 use Rattle.ring_codes.proofs.erasure.values.evaluate_side_by_side.Given as goal
 
 -- the values so far are 0

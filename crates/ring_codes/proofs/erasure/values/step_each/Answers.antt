@@ -1,5 +1,4 @@
-use Rattle.num_modular.specs.Callers.{◌∙◌, arith}
-use Rattle.num_modular.specs.Callers.{entry, entry_at, entry_read, forms_written, done_more}
+use Rattle.ring_codes.proofs.Names.{◌∙◌, arith, entry, entry_at, entry_read, forms_written, done_more}
 use Rattle.ring_codes.proofs.erasure.values.step_each.Goals as goal
 
 pub points-preserved : goal.points-preserved

@@ -1,4 +1,4 @@
-use Rattle.num_modular.specs.Callers.{◌+◌, ◌*◌, ◌%◌, ◌≡◌, All, IsForm, entry, DoneBelow}
+use Rattle.ring_codes.proofs.Names.{◌+◌, ◌*◌, ◌%◌, ◌≡◌, All, IsForm, entry, DoneBelow}
 use Rattle.ring_codes.proofs.erasure.values.step_each.Given as goal
 
 -- the values so far are those of the next step

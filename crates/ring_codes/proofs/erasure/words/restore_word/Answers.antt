@@ -1,9 +1,4 @@
-use Rattle.std.proofs.Common.{slice_index}
-use Rattle.std.proofs.Math.Nat.{mod-mod}
-use Rattle.num_modular.specs.Callers.{arith}
-use Rattle.num_modular.specs.NumberLaws.{mod_refl}
-use Rattle.num_modular.specs.PolynomialLaws.{polynomial-congruent}
-use Rattle.std.proofs.lemmas.List.{length-take-le}
+use Rattle.ring_codes.proofs.Names.{slice_index, mod-mod, arith, mod_refl, polynomial-congruent, length-take-le}
 use Rattle.ring_codes.proofs.Symbols.{joined_length}
 use Rattle.ring_codes.proofs.erasure.words.restore_word.Goals as goal
 

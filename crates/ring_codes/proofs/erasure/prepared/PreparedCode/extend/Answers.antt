@@ -1,8 +1,5 @@
-use Rattle.num_modular.specs.Callers.{ℕ, ◌+◌, ◌*◌, ◌%◌, ◌∙◌, arith, length}
-use Rattle.num_modular.specs.Callers.{entry, held_entry}
-use Rattle.num_modular.specs.Sums.{sum_below}
+use Rattle.ring_codes.proofs.Names.{◌+◌, ◌*◌, ◌%◌, ◌∙◌, ℕ, arith, length, entry, held_entry, sum_below, values_below}
 use Rattle.ring_codes.proofs.Lagrange.{fit_known, message_of, value_from_row}
-use Rattle.num_modular.specs.Callers.{values_below}
 use Rattle.ring_codes.proofs.erasure.prepared.PreparedCode.extend.Goals as goal
 
 pub returns-clause-original : goal.returns-clause-original

@@ -1,5 +1,4 @@
-use Rattle.num_modular.specs.Callers.{◌+◌, ◌*◌, ◌%◌, length, HoldBelow, entry}
-use Rattle.num_modular.specs.Sums.{sum_below}
+use Rattle.ring_codes.proofs.Names.{◌+◌, ◌*◌, ◌%◌, length, HoldBelow, entry, sum_below}
 use Rattle.ring_codes.proofs.erasure.prepared.PreparedCode.extend.Given as goal
 
 -- the symbols at the wanted points so far

@@ -1,10 +1,6 @@
-use Rattle.std.proofs.Common.{below_more}
-use Rattle.std.proofs.lemmas.Bool.{false≢true}
-use Rattle.num_modular.specs.Callers.{◌<◌, ℕ, ◌+◌, ◌*◌, ◌%◌, ◌∙◌, ap, sym, refl, arith, length}
-use Rattle.num_modular.specs.Callers.{entry, entry_read, form_read}
-use Rattle.num_modular.specs.Sums.{sum_below}
+use Rattle.ring_codes.proofs.Names.{◌<◌, ◌+◌, ◌*◌, ◌%◌, ◌∙◌, below_more, false≢true, ℕ, ap, sym, refl, arith, length}
+use Rattle.ring_codes.proofs.Names.{entry, entry_read, form_read, sum_below, values_below}
 use Rattle.ring_codes.proofs.Lagrange.{fit_known, message_of, value_from_row}
-use Rattle.num_modular.specs.Callers.{values_below}
 use Rattle.ring_codes.proofs.Symbols.{same_forms, told_same, told_other}
 use Rattle.ring_codes.proofs.erasure.prepared.PreparedCode.is_codeword.Goals as goal
 

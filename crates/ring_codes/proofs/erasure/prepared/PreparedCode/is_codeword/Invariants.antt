@@ -1,5 +1,4 @@
-use Rattle.num_modular.specs.Callers.{◌≡◌, ℕ, ◌+◌, ◌*◌, ◌%◌, ◌<◌, length, entry}
-use Rattle.num_modular.specs.Sums.{sum_below}
+use Rattle.ring_codes.proofs.Names.{◌≡◌, ◌+◌, ◌*◌, ◌%◌, ◌<◌, ℕ, length, entry, sum_below}
 use Rattle.ring_codes.proofs.erasure.prepared.PreparedCode.is_codeword.Given as goal
 
 -- the symbols at the wanted points so far are those of the rows

@@ -1,6 +1,4 @@
-use Rattle.num_modular.specs.Callers.{ℕ, ◌∙◌, refl, length}
-use Rattle.num_modular.specs.Callers.{entry}
-use Rattle.num_modular.specs.NumberLaws.{mod_refl, residue_of, mod_trans, mod_mul}
+use Rattle.ring_codes.proofs.Names.{◌∙◌, ℕ, refl, length, entry, mod_refl, residue_of, mod_trans, mod_mul}
 use Rattle.ring_codes.proofs.Congruences.{mod_of_residue}
 use Rattle.ring_codes.proofs.Lagrange.{rows_from}
 use Rattle.ring_codes.proofs.erasure.prepared.PreparedCode.new.Goals as goal
