@@ -4,16 +4,18 @@ use Rattle.ring_codes.proofs.Names.{inl, inr, mod-eq_of_lt, mul-le-mul_right, �
 use Rattle.ring_codes.proofs.Names.{Congruent, IsInverse, HasInverse, has_both, has_each, has_product, mod_of_eq}
 use Rattle.ring_codes.proofs.Names.{mod_refl, mod_sym, mod_trans, mod_add, mod_mul, sum_below-congruent, polynomial_at}
 use Rattle.ring_codes.proofs.Names.{HaveUnitDifferences, polynomial-congruent, residue, single, IsEncoding, difference}
-use Rattle.ring_codes.proofs.Names.{AreRows}
+use Rattle.ring_codes.proofs.Names.{AreRows, refl, mul-mod_first, product-more, product-zero}
 use Rattle.num_modular.specs.Products.{product_below}
 use Rattle.num_modular.specs.Sums.{sum_below}
 use Rattle.ring_codes.specs.Prepared.{product_but}
 use Rattle.ring_codes.proofs.Distances.{extended, extended_each}
 use Rattle.ring_codes.proofs.NearestWords.{combined, no_value, difference_alike}
 use Rattle.ring_codes.proofs.NewtonForms.{no_difference, product-none}
-use Rattle.ring_codes.proofs.Roots.{expanded, expanded_behind, constant_one, constant_one_behind, value_expanded, product_expanded}
+use Rattle.ring_codes.proofs.Roots.{expanded, expanded_behind, constant_one, constant_one_behind, value_expanded}
+use Rattle.ring_codes.proofs.Roots.{product_expanded}
 use Rattle.ring_codes.proofs.Singleton.{value_or_none}
-use Rattle.ring_codes.proofs.Congruences.{mod_of_combination, mod_times, mod_of_residue, mod_of_inverse, product-congruent}
+use Rattle.ring_codes.proofs.Congruences.{mod_of_combination, mod_times, mod_of_residue, mod_of_inverse}
+use Rattle.ring_codes.proofs.Congruences.{product-congruent}
 
 -- the coefficients of product_but, and its values
 basis : ℕ → ℕ → (ℕ → ℕ) → ℕ → ℕ → ℕ
@@ -104,6 +106,25 @@ pub product_of_parts : (m k i p a b : ℕ) (x : ℕ → ℕ)
     → (p * b) % m ≡ product_but m k x i a % m
 unfolding product_but product_below
 product_of_parts m k i p a b x is_p is_b = (mod_mul (mod_of_residue is_p) (mod_of_residue is_b)).same
+
+-- the two products, where the second has no factor, and with one more
+pub products_so_far_none : (m i : ℕ) {a : ℕ} (d g : ℕ → ℕ) → a ≡ product_below i d % m
+    → a ≡ (product_below i d * product_below 0 g) % m
+products_so_far_none m i d g e = grind (arith, product-zero)
+
+pub products_so_far_more : (m i k : ℕ) {a : ℕ} (d g : ℕ → ℕ) → a ≡ (product_below i d * product_below k g) % m
+    → (a * g k) % m ≡ (product_below i d * product_below (k + 1) g) % m
+products_so_far_more m i k d g e =
+    let p : ℕ = product_below i d in let q : ℕ = product_below k g in
+    let same : p * q * g k ≡ p * (q * g k) = omega arith in
+    rw (e, mul-mod_first (p * q) (g k) m, product-more g k, same) refl
+
+-- .. and with all points behind
+pub product_but_whole : (m n i k : ℕ) {a : ℕ} (x : ℕ → ℕ) → k ≡ n - 1 - i
+    → a ≡ (product_below i (difference m x i) * product_below k (λ j. difference m x i (n - 1 - j))) % m
+    → a ≡ product_but m n x i (x i) % m
+unfolding product_but
+product_but_whole m n i k x count e = rw count at e
 
 -- the points fit exactly where the products at them have inverses
 pub fit_from_all : (m k : ℕ) (x : ℕ → ℕ) → ((i : ℕ) → i < k → HasInverse m (product_but m k x i (x i)))

@@ -1,8 +1,6 @@
 pub mod Congruences
 pub mod Counts
-pub mod DifferenceProducts
 pub mod Distances
-pub mod EncodedParts
 pub mod KnownRoots
 pub mod Lagrange
 pub mod Names
@@ -11,6 +9,7 @@ pub mod NewtonForms
 pub mod RootPowers
 pub mod Roots
 pub mod Secrecy
+pub mod Sets
 pub mod Shifts
 pub mod Singleton
 pub mod Symbols

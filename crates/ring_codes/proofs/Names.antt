@@ -6,7 +6,7 @@ pub use Rattle.std.proofs.Common.{get_or-set_same, inl, inr, is_some, length, le
 pub use Rattle.std.proofs.Common.{mod-eq_of_lt, mod-lt, not, pos, refl, rules, set, slice_index, slice_range, suc, sym}
 pub use Rattle.std.proofs.Common.{take, true, zero, ℕ}
 pub use Rattle.std.proofs.Math.Logic.{∥∥₁_elim}
-pub use Rattle.std.proofs.Math.Nat.{add-mul-mod_self_left, le_refl, mod-mod, mul-div_cancel_left, mul-le-mul_left}
+pub use Rattle.std.proofs.Math.Nat.{add-mul-mod_self_left, le_refl, mod-mod, mul-le-mul_left}
 pub use Rattle.std.proofs.Math.Nat.{mul-le-mul_right, pow-suc, pow-zero, zero-mod}
 pub use Rattle.std.proofs.lemmas.Bool.{cases_eq, cases_lt, false≢true}
 pub use Rattle.std.proofs.lemmas.Bool.Decides.{eqb_tells, leb_tells}
@@ -21,6 +21,7 @@ pub use Rattle.num_modular.specs.Callers.{forms_written, has_each, has_product, 
 pub use Rattle.num_modular.specs.Callers.{product_below, product_step, same_coefficients, subst, values_below}
 pub use Rattle.num_modular.specs.Congruence.{Congruent}
 pub use Rattle.num_modular.specs.Inverses.{HasInverse, IsInverse, IsInversion}
+pub use Rattle.num_modular.specs.NumberLaws.{equal_below, factor_cancel}
 pub use Rattle.num_modular.specs.NumberLaws.{difference_and, inverse_from_mod, inverse_mod, mod_add, mod_add_cancel}
 pub use Rattle.num_modular.specs.NumberLaws.{mod_mul, mod_of_eq, mod_pow, mod_refl, mod_sym, mod_trans, one-pow}
 pub use Rattle.num_modular.specs.NumberLaws.{pow-mul, residue_of, sum_below-congruent, sum_below-more}

@@ -10,7 +10,8 @@ use Rattle.num_modular.specs.Products.{product_below}
 use Rattle.num_modular.specs.Sums.{sum_below}
 use Rattle.ring_codes.specs.Newton.{newton_form}
 use Rattle.ring_codes.proofs.NearestWords.{with_multiple}
-use Rattle.ring_codes.proofs.Congruences.{mod_of_combination, mod_times, mod_of_modulus, mod_of_residue, mod_of_difference, mod_of_inverse}
+use Rattle.ring_codes.proofs.Congruences.{mod_of_combination, mod_times, mod_of_modulus, mod_of_residue}
+use Rattle.ring_codes.proofs.Congruences.{mod_of_difference, mod_of_inverse}
 
 pub form-none : (m a i : ℕ) (c x : ℕ → ℕ) → newton_form m c x a i 0 ≡ 0
 unfolding newton_form
@@ -47,7 +48,8 @@ differences-below : (m n a : ℕ) (x : ℕ → ℕ)
 unfolding differences product_below
 differences-below m zero a x = refl
 differences-below m (suc n) a x =
-    differences-last m 0 n n a x (omega arith) ∙ ap (λ v. v * residue m (pos a -ℤ pos (x n))) (differences-below m n a x)
+    differences-last m 0 n n a x (omega arith)
+    ∙ ap (λ v. v * residue m (pos a -ℤ pos (x n))) (differences-below m n a x)
 
 -- the first h coefficients and the k behind them
 parts_joined : (m i h j k n a : ℕ) (c x : ℕ → ℕ) → j ≡ i + h → n ≡ h + k

@@ -6,7 +6,8 @@ use Rattle.ring_codes.proofs.Names.{HasRoots, AreRootCoefficients}
 use Rattle.num_modular.specs.Products.{product_below}
 use Rattle.num_modular.specs.Sums.{sum_below}
 use Rattle.ring_codes.specs.Shifts.{shifted}
-use Rattle.ring_codes.proofs.Congruences.{mod_of_combination, mod_of_modulus, mod_of_residue, mod_times, product-congruent}
+use Rattle.ring_codes.proofs.Congruences.{mod_of_combination, mod_of_modulus, mod_of_residue, mod_times}
+use Rattle.ring_codes.proofs.Congruences.{product-congruent}
 use Rattle.ring_codes.proofs.NearestWords.{combined, turned_sign, difference_alike}
 use Rattle.ring_codes.proofs.Shifts.{shifted-values, shifted-congruent}
 
@@ -77,7 +78,8 @@ value_expanded zero e n X r h none count = let is : n ≡ e = omega (arith, coun
 value_expanded (suc d) e n X r h none count =
     let is : n ≡ suc (d + e) = omega (arith, count) in
     let last = expanded_behind d e r h none (d + e) (omega arith) in
-    rw (is, times_root_value (d + e) (r d) X (expanded d r h) last, value_expanded d e (d + e) X r h none refl) (omega arith)
+    rw (is, times_root_value (d + e) (r d) X (expanded d r h) last, value_expanded d e (d + e) X r h none refl)
+    (omega arith)
 
 -- those of the product alone: its values, and its highest coefficient
 pub product_expanded : (d X : ℕ) (r : ℕ → ℕ)

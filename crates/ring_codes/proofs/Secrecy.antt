@@ -35,7 +35,8 @@ unit_with_none m d x positive each fit zero zero l k other = absurd (other refl)
 unit_with_none m d x positive each fit zero (suc j) l k other =
     turned_difference m (x j) 0 (less_none m (x j) positive (each j (omega arith)))
 unit_with_none m d x positive each fit (suc i) zero l k other = less_none m (x i) positive (each i (omega arith))
-unit_with_none m d x positive each fit (suc i) (suc j) l k other = fit.unit i j (omega arith) (omega arith) (omega arith)
+unit_with_none m d x positive each fit (suc i) (suc j) l k other =
+    fit.unit i j (omega arith) (omega arith) (omega arith)
 
 -- the values of what fits the shares
 fitting_values : (m d secret : ℕ) (x y c : ℕ → ℕ) → FitsShares m (suc d) secret x y c
@@ -55,7 +56,8 @@ fitting_shares m d secret x y c positive is =
       encoding = record {
         symbol = λ i l.
             is.symbol (suc i) (omega (arith, l))
-            ∙ (polynomial-congruent (suc d) c (λ i. c i % m) (x i) (x i) (λ j b. mod_sym (residue_of (c j))) (mod_refl (x i))).same;
+            ∙ (polynomial-congruent (suc d) c (λ i. c i % m) (x i) (x i) (λ j b. mod_sym (residue_of (c j)))
+            (mod_refl (x i))).same;
       };
     }
 

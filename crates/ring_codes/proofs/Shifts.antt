@@ -16,7 +16,8 @@ pub shifted-values : (n X : ℕ) (f : ℕ → ℕ) → polynomial_at (suc n) (sh
 unfolding shifted
 shifted-values n X f = let e = polynomial-first n (shifted f) X in omega (arith, e)
 
-pub shifted-congruent : (m i : ℕ) (f g : ℕ → ℕ) → ((i : ℕ) → Congruent m (f i) (g i)) → Congruent m (shifted f i) (shifted g i)
+pub shifted-congruent : (m i : ℕ) (f g : ℕ → ℕ) → ((i : ℕ) → Congruent m (f i) (g i))
+    → Congruent m (shifted f i) (shifted g i)
 unfolding shifted
 shifted-congruent m zero f g same = mod_refl 0
 shifted-congruent m (suc i) f g same = same i

@@ -1,12 +1,13 @@
 -- Singleton's bound: words that differ in at least d of n places differ in the first n - d + 1 ones, so that these are
 -- the digits of different numbers. The bound is met.
-use Rattle.ring_codes.proofs.Names.{◌≡◌, ◌≢◌, ◌⊎◌, ◌+◌, ◌-◌, ◌*◌, ◌/◌, ◌%◌, ◌^◌, ◌<◌, ◌≤◌, ◌∙◌, ℕ, zero, suc, ap, sym}
-use Rattle.ring_codes.proofs.Names.{arith, refl, inl, inr, mod-eq_of_lt, zero-mod, add-mul-mod_self_left, pow-zero}
-use Rattle.ring_codes.proofs.Names.{pow-suc, mul-le-mul_left, mul-div_cancel_left, cases_eq, cases_lt, mul-mod_first}
-use Rattle.ring_codes.proofs.Names.{mul-mod_second, polynomial_at, HaveUnitDifferences, polynomial-none}
+use Rattle.ring_codes.proofs.Names.{◌≡◌, ◌≢◌, ◌⊎◌, ◌+◌, ◌-◌, ◌*◌, ◌%◌, ◌^◌, ◌<◌, ◌≤◌, ◌∙◌, ℕ, zero, suc, ap, sym, arith}
+use Rattle.ring_codes.proofs.Names.{refl, inl, inr, mod-eq_of_lt, zero-mod, pow-zero, pow-suc, mul-le-mul_left}
+use Rattle.ring_codes.proofs.Names.{cases_eq, cases_lt, mul-mod_first, mul-mod_second, polynomial_at}
+use Rattle.ring_codes.proofs.Names.{HaveUnitDifferences, polynomial-none, mod_add, mod_sym, equal_below, factor_cancel}
 use Rattle.ring_codes.proofs.Names.{polynomial-first, has_product, IsEncoding, distance}
 use Rattle.num_modular.specs.Sums.{sum_below}
 use Rattle.num_modular.specs.Products.{product_below}
+use Rattle.ring_codes.proofs.Congruences.{mod_of_combination, mod_of_modulus}
 use Rattle.ring_codes.proofs.Distances.{extended, at_end, before_end, counted_same, counted_other, counted_most}
 use Rattle.ring_codes.proofs.NearestWords.{at_root, difference_alike, no_value, unit_alike, unit_not_zero}
 use Rattle.ring_codes.proofs.Roots.{constant_one, expanded, highest_is_one, product_expanded}
@@ -31,17 +32,10 @@ same_digits (suc r) m c d small_c small_d same i l =
     let v : ℕ = polynomial_at r (λ i. c (suc i)) m in
     let w : ℕ = polynomial_at r (λ i. d (suc i)) m in
     let c_small = small_c 0 (omega arith) in
-    let d_small = small_d 0 (omega arith) in
-    let positive : 0 < m = omega (arith, c_small) in
     let whole : c 0 + m * v ≡ d 0 + m * w = rw (polynomial-first r c m, polynomial-first r d m) at same in
-    let first : c 0 ≡ d 0 = rw (
-      add-mul-mod_self_left (c 0) m v,
-      add-mul-mod_self_left (d 0) m w,
-      mod-eq_of_lt c_small,
-      mod-eq_of_lt d_small,
-    ) at (ap (λ n. n % m) whole) in
-    let more : m * v ≡ m * w = omega (arith, whole, first) in
-    let rest : v ≡ w = rw (mul-div_cancel_left v positive, mul-div_cancel_left w positive) at (ap (λ n. n / m) more) in
+    let first : c 0 ≡ d 0 = equal_below c_small (small_d 0 (omega arith))
+    (mod_of_combination (mod_add (mod_sym (mod_of_modulus v)) (mod_of_modulus w)) (omega (arith, whole))) in
+    let rest : v ≡ w = factor_cancel m v w (omega (arith, c_small)) (omega (arith, whole, first)) in
     digit_same r c d i l first
     (same_digits r m (λ i. c (suc i)) (λ i. d (suc i)) (λ j k. small_c (suc j) (omega arith))
     (λ j k. small_d (suc j) (omega arith)) rest)

@@ -1,9 +1,12 @@
 -- Symbols of words, as entries of lists of forms.
-use Rattle.ring_codes.proofs.Names.{◌≡◌, ◌<◌, ◌≤◌, ◌∷◌, ◌∙◌, ◌-◌, ◌++◌, ◌↔◌, ◌≢◌, ◌+◌, ℕ, List, [], length, take}
+use Rattle.ring_codes.proofs.Names.{◌≡◌, ◌<◌, ◌≤◌, ◌∷◌, ◌∙◌, ◌-◌, ◌++◌, ◌↔◌, ◌≢◌, ◌+◌, ◌%◌, ℕ, List, [], length, take}
 use Rattle.ring_codes.proofs.Names.{get_or, sym, ap, arith, drop, length-append, length-drop, Bool, true, false, not}
 use Rattle.ring_codes.proofs.Names.{IsTrue, refl, Option, Some, None, is_some, MatchOption, slice_range, get_or-drop}
 use Rattle.ring_codes.proofs.Names.{inl, inr, cases_lt, false≢true, get_or-take, length-take-le, IsForm, entry}
-use Rattle.ring_codes.proofs.Names.{entry_at, entry_past, HaveUnitDifferences, ArePlaces, IsFault}
+use Rattle.ring_codes.proofs.Names.{entry_at, entry_past, HaveUnitDifferences, ArePlaces, IsFault, All}
+use Rattle.ring_codes.proofs.Names.{get_or-append_right, take-put_mid, take-put_mid_below, HoldBelow, polynomial_at}
+use Rattle.ring_codes.proofs.Names.{IsEncoding}
+use borrow.Rule.Slice.PartMut.{put_mid}
 use Rattle.ring_codes.specs.declared.erasure.RestoreError.{RestoreError}
 use Rattle.ring_codes.specs.declared.erasure.RestoreError.TheVariants.{TooFewSymbols, PlaceOutOfRange, PlaceTwice}
 use Rattle.ring_codes.specs.declared.erasure.RestoreError.TheVariants.{PointsDontFit}
@@ -105,3 +108,46 @@ pub entry_slice : {T : Type 0} (number : T → ℕ) (value : ℕ → ℕ → ℕ
     → from ≤ to → to ≤ length forms → i < to - from
     → entry number value m (slice_range forms from to) i ≡ entry number value m forms (from + i)
 entry_slice number value m forms from to i ordered within l = grind (arith, length-drop, entry_front, entry_back)
+
+-- where the entries before a part hold their values, and the part now has the next ones, all up to its end hold them
+part_holds : {T : Type 0} (number : T → ℕ) (form value : ℕ → ℕ → ℕ) (m : ℕ) (forms part : List T) (v : ℕ → ℕ) (from k : ℕ)
+    → from ≤ length forms → HoldBelow number form value m forms v from → All (λ f. IsForm form value m (number f)) part
+    → ((i : ℕ) → i < length part → entry number value m part i ≡ v (from + i))
+    → HoldBelow number form value m (put_mid from k forms part) v (from + length part)
+part_holds number form value m forms part v from k within held all same = record {
+  each = λ i d l. elim (cases_lt i from) [
+    | inl before ↦
+        rw (
+          ← get_or-take from (put_mid from k forms part) i d before,
+          take-put_mid_below from k forms part from (omega arith) within,
+          get_or-take from forms i d before,
+        ) (held.each i d before)
+    | inr past ↦
+        let j : ℕ = i - from in let here : j < length part = omega arith in let at : from + j ≡ i = omega arith in
+        rw (
+          ← get_or-take (from + length part) (put_mid from k forms part) i d l,
+          take-put_mid from k forms part (from + length part) refl within,
+          get_or-append_right (take from forms) part from i d (length-take-le from forms within) past,
+        ) (record {
+          checked = all j d here;
+          same = entry_at number value m part j d here ∙ same j here ∙ ap v at;
+        })
+  ];
+}
+
+-- .. and so with the symbols at points of which a part follows
+pub part_encoded : {T : Type 0} (number : T → ℕ) (form value : ℕ → ℕ → ℕ) (m n : ℕ) (c : ℕ → ℕ) (points forms part : List T)
+    (from to k : ℕ) → from ≤ to → to ≤ length points → length forms ≡ length points → length part ≡ to - from
+    → HoldBelow number form value m forms (λ i. polynomial_at n c (entry number value m points i) % m) from
+    → All (λ f. IsForm form value m (number f)) part
+    → IsEncoding m n (length (slice_range points from to)) (entry number value m (slice_range points from to)) c
+    (entry number value m part)
+    → HoldBelow number form value m (put_mid from k forms part)
+    (λ i. polynomial_at n c (entry number value m points i) % m) to
+part_encoded number form value m n c points forms part from to k ordered within long count held all encoded =
+    let v : ℕ → ℕ = λ i. polynomial_at n c (entry number value m points i) % m in
+    let symbols = slice_length points from to ordered within in
+    let end : to ≡ from + length part = omega (arith, count, ordered) in
+    rw end (part_holds number form value m forms part v from k (omega (arith, ordered, within, long)) held all
+    (λ i l. encoded.symbol i (omega (arith, symbols, count, l))
+    ∙ ap (λ a. polynomial_at n c a % m) (entry_slice number value m points from to i ordered within (omega (arith, count, l)))))

@@ -509,6 +509,7 @@ pub fn encode_systematic<T: RingWord, R: Reducer<T>>(
 /// assert_eq!(message, [5, 7]);
 /// ```
 // rust: #[track_caller]
+#[tactic(auto, using(crate::proofs::Sets::front_parts))]
 pub fn restore<T: RingWord, R: Reducer<T>>(
     r: &R,
     points: &[T],

@@ -43,6 +43,7 @@ pub fn index_of(places: &[usize], count: usize, place: usize) -> Option<usize>
 /// assert_eq!(chosen, [7, 5]);
 /// assert_eq!(choose_points(&[5, 6, 7], &[2, 2], &mut chosen), Err(RestoreError::PlaceTwice));
 /// ```
+#[tactic(auto, using(crate::proofs::Sets::places_so_far))]
 pub fn choose_points<T: RingWord>(
     points: &[T],
     places: &[usize],

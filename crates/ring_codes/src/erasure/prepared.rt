@@ -340,6 +340,7 @@ fn fill_rows<T: RingWord, R: Reducer<T>>(
 }
 
 // The sum of the symbols, each times its factor, from an index of the rows on.
+#[tactic(auto, using(crate::proofs::Sets::row_parts))]
 fn row_value<T: RingWord, R: Reducer<T>>(r: &R, rows: &[T], start: usize, symbols: &[T]) -> T
     requires rows { AreChecked R.Reducer T.number r.now rows.now }
     requires symbols { AreChecked R.Reducer T.number r.now symbols.now }

@@ -87,6 +87,7 @@ pub fn fill_word<T: RingWord, R: Reducer<T>>(
 /// assert_eq!((message, word), ([5, 7], [12, 19, 26, 33]));
 /// ```
 // rust: #[track_caller]
+#[tactic(auto, using(crate::proofs::Sets::front_parts))]
 pub fn restore_word<T: RingWord, R: Reducer<T>>(
     r: &R,
     points: &[T],

@@ -1,5 +1,5 @@
 use Rattle.ring_codes.proofs.Names.{◌+◌, length, arith, held_entry}
-use Rattle.ring_codes.proofs.EncodedParts.{part_encoded}
+use Rattle.ring_codes.proofs.Symbols.{part_encoded}
 use Rattle.ring_codes.proofs.erasure.evaluate_each.Goals as goal
 
 pub groups-preserved : goal.groups-preserved

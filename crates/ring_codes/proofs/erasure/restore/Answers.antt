@@ -1,4 +1,4 @@
-use Rattle.ring_codes.proofs.Names.{slice_index, rules, false≢true, length, entry, refl, subst, arith, IsFault, le_refl}
+use Rattle.ring_codes.proofs.Names.{slice_index, rules, false≢true, length, entry, refl, subst, arith, IsFault}
 use Rattle.ring_codes.proofs.Symbols.{are_chosen, no_fault}
 use Rattle.ring_codes.proofs.erasure.restore.Goals as goal
 
@@ -47,12 +47,3 @@ returns-else-interpolate g c =
       symbols = λ t. absurd (false≢true t);
       original = λ t. absurd (false≢true t);
     }
-
-pub interpolate-requires-clause-points : goal.interpolate-requires-clause-points
-interpolate-requires-clause-points g c i d l = grind (arith, slice_index)
-
-pub interpolate-requires-clause-values_within : goal.interpolate-requires-clause-values_within
-interpolate-requires-clause-values_within g c = grind arith
-
-pub interpolate-requires-clause-points_within : goal.interpolate-requires-clause-points_within
-interpolate-requires-clause-points_within g c = grind (arith, le_refl)

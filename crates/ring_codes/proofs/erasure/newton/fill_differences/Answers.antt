@@ -1,5 +1,5 @@
 use Rattle.ring_codes.proofs.Names.{◌+◌, ◌-◌, ◌<◌, ◌∙◌, inl, inr, cases_lt, ℕ, arith, entry, length, difference}
-use Rattle.ring_codes.proofs.DifferenceProducts.{products_so_far_none, products_so_far_more, product_but_whole}
+use Rattle.ring_codes.proofs.Lagrange.{products_so_far_none, products_so_far_more, product_but_whole}
 use Rattle.ring_codes.proofs.erasure.newton.fill_differences.Goals as goal
 
 pub points-init : goal.points-init
