@@ -9,3 +9,5 @@ pub ruleset places_so_far =
 pub ruleset front_parts = (joined_length, le_refl, length-take-le, slice_index)
 
 pub ruleset row_parts = (entry_slice, slice_length, slice_range, sum_below-same)
+
+pub ruleset refusals = (false≢true)

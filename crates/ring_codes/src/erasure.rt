@@ -359,7 +359,7 @@ pub fn interpolate<T: RingWord, R: Reducer<T>>(
 /// ```
 // rust: #[must_use]
 // rust: #[track_caller]
-#[tactic(auto, using(num_modular::specs::Callers::form_read))]
+#[tactic(auto, using(num_modular::specs::Callers::form_read, crate::proofs::Sets::refusals))]
 pub fn is_codeword<T: RingWord, R: Reducer<T>>(
     r: &R,
     points: &[T],

@@ -113,6 +113,7 @@ pub fn fill_weights<T: RingWord, R: Reducer<T>>(r: &R, points: &[T], weights: &m
 /// assert_eq!(products, [3, 95, 6]); // (0 - 1)(0 - 3), (1 - 0)(1 - 3) and (3 - 0)(3 - 1)
 /// ```
 // rust: #[track_caller]
+#[tactic(auto, using(crate::proofs::Lagrange::products_so_far_none))]
 pub fn fill_differences<T: RingWord, R: Reducer<T>>(r: &R, points: &[T], products: &mut [T])
     requires points { AreChecked R.Reducer T.number r.now points.now }
     requires room { length products.old ≡ length points.now }

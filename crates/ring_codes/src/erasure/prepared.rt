@@ -282,7 +282,7 @@ fn fill_products<T: RingWord, R: Reducer<T>>(r: &R, points: &[T], point: &T, pro
 /// ```
 // rust: #[must_use]
 // rust: #[track_caller]
-#[tactic(auto, using(num_modular::specs::Callers::form_read))]
+#[tactic(auto, using(num_modular::specs::Callers::form_read, num_modular::specs::NumberLaws::inverse_from_mod))]
 pub fn fill_barycentric_weights<T: RingWord, R: Reducer<T>>(
     r: &R,
     points: &[T],

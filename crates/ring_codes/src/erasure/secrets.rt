@@ -88,6 +88,7 @@ fn have_inverses<T: RingWord, R: Reducer<T>>(r: &R, points: &[T]) -> bool
 /// assert_eq!(shares, [12, 19, 26]);
 /// ```
 // rust: #[track_caller]
+#[tactic(auto, using(crate::proofs::Sets::refusals))]
 pub fn share<T: RingWord, R: Reducer<T>>(
     r: &R,
     points: &[T],

@@ -45,9 +45,3 @@ returns-clause-message g c t = grind arith
 
 pub returns-clause-codeword : goal.returns-clause-codeword
 returns-clause-codeword g c = ((λ t. (_, returns-clause-message g c t)), λ h. refl)
-
-pub returns-then-not-interpolate-clause-codeword : goal.returns-then-not-interpolate-clause-codeword
-returns-then-not-interpolate-clause-codeword g c = grind (arith, false≢true)
-
-pub places-init : goal.places-init
-places-init g c k l = grind arith

@@ -1,9 +1,6 @@
 use Rattle.ring_codes.proofs.Names.{◌+◌, ◌-◌, ◌<◌, ◌∙◌, inl, inr, cases_lt, ℕ, arith, entry, length, difference}
-use Rattle.ring_codes.proofs.Lagrange.{products_so_far_none, products_so_far_more, product_but_whole}
+use Rattle.ring_codes.proofs.Lagrange.{products_so_far_more, product_but_whole}
 use Rattle.ring_codes.proofs.erasure.newton.fill_differences.Goals as goal
-
-pub points-init : goal.points-init
-points-init g c = grind (arith, products_so_far_none)
 
 pub points-preserved : goal.points-preserved
 points-preserved g c =

@@ -1,4 +1,4 @@
-use Rattle.ring_codes.proofs.Names.{◌<◌, ℕ, arith, length, entry, product_but, inverse_from_mod}
+use Rattle.ring_codes.proofs.Names.{◌<◌, ℕ, arith, length, entry, product_but}
 use Rattle.ring_codes.proofs.Lagrange.{fit_from_all, all_from_fit}
 use Rattle.ring_codes.proofs.NewtonForms.{has_of_residue, has_to_residue}
 use Rattle.ring_codes.proofs.erasure.prepared.fill_barycentric_weights.Goals as goal
@@ -14,6 +14,3 @@ returns-clause-fit g c =
       λ fit. tells.1 (λ i b. let l : i < n = omega arith in
           has_to_residue m (product_but m n x i (x i)) _ (each i l) (all_from_fit m n x positive fit i l)),
     )
-
-pub returns-clause-inverses : goal.returns-clause-inverses
-returns-clause-inverses g c t i l = grind (arith, inverse_from_mod)

@@ -1,9 +1,6 @@
 use Rattle.ring_codes.proofs.Names.{false≢true, refl, arith, rules}
 use Rattle.ring_codes.proofs.erasure.secrets.share.Goals as goal
 
-pub returns-then-not-have_inverses : goal.returns-then-not-have_inverses
-returns-then-not-have_inverses g c = grind (arith, false≢true)
-
 pub returns-then-not-points_fit : goal.returns-then-not-points_fit
 returns-then-not-points_fit g c = (
   (
@@ -12,6 +9,3 @@ returns-then-not-points_fit g c = (
   ),
   refl,
 )
-
-pub returns : goal.returns
-returns g c = grind arith
