@@ -1,7 +1,7 @@
 -- Lemmas on registers that hold values, and on the value table.
-use Rattle.std.proofs.Common.{◌≡◌, ℕ, ◌+◌, ◌*◌, ◌%◌, ◌<◌, List, length, map, get_or, true, false}
+use Rattle.std.proofs.Common.{◌≡◌, ℕ, ◌+◌, ◌*◌, ◌%◌, ◌<◌, List, length, map, get_or, true, false, Bool}
 use Rattle.std.proofs.Common.{cond, eqb, refl, sym, ◌∙◌, ap, subst, arith, ◌≢◌, ◌⊎◌, ◌↔◌, Option, Some, None}
-use Rattle.std.proofs.Common.{option_map, All, get_or-set_same, get_or-set_other, add-one, IsSomeAnd, inl, inr}
+use Rattle.std.proofs.Common.{option_map, All, get_or-set_same, get_or-set_other, add-one, IsSomeAnd, inl, inr, IsTrue, IsFalse, ◌≤◌}
 use Rattle.std.proofs.Math.ListN.{set, length-set}
 use Rattle.std.specs.List.{slice_get}
 use Rattle.std.proofs.lemmas.Bool.Decides.{eqb_tells}
@@ -10,14 +10,16 @@ use Rattle.std.proofs.lemmas.List.{get_or-map}
 use Rattle.std.proofs.lemmas.Bool.{cases_lt}
 use Rattle.modular_word.specs.Inverses.{inverse_of}
 use Rattle.modular_word.proofs.InverseLemmas.{inverse_of-found, inverse_of-none, inverse_of-empty}
+use Rattle.modular_reduced.specs.declared.reducer.Reducer as reducer
 use Rattle.modular_reduced.specs.Forms.{Represents, IsForm, IsCanonical, IsInverseForm}
 use Rattle.modular_reduced.proofs.FormLemmas.{form_as}
 use Rattle.modular_ring.specs.declared.ring.RingCommand.{RingCommand}
-use Rattle.modular_ring.specs.declared.ring.RingCommand.TheVariants.{Load, Add, Sub, Mul, Neg, Dbl, Sqr, Inv, Div, Pow}
+use Rattle.modular_ring.specs.declared.ring.RingCommand.TheVariants.{Load, Inv, Div}
 use Rattle.modular_ring.specs.declared.ring.RunEnd.TheVariants.{Done, NoInverse}
 use Rattle.modular_ring.specs.Ring.{HoldValues, IsFormOf, destination_of, outcome, value_after}
 use Rattle.modular_ring.specs.Ring.{value_at, LacksInverse, LacksInverseAt, IsStop, values_of, IsFit, whole}
-use Rattle.modular_ring.specs.RunSteps.{CarriesOn}
+use Rattle.modular_ring.specs.declared.ring.Last.{Last}
+use Rattle.modular_ring.specs.RunSteps.{GoesOn, MayGoOn}
 
 -- what is read of register a has the value v a
 pub value_of : {T : Type 0} {number : T → ℕ} {form value : ℕ → ℕ → ℕ} {width m : ℕ}
@@ -111,31 +113,16 @@ after_command number form m start commands i registers command is holds =
 pub destination_below : {T : Type 0} (number : T → ℕ) (count : ℕ) (command : RingCommand T)
     → IsFit count command → destination_of (whole number command) < count
 destination_below number count (Load dst n) fit = fit
-destination_below number count (Add dst a b) fit = fit.0
-destination_below number count (Sub dst a b) fit = fit.0
-destination_below number count (Mul dst a b) fit = fit.0
-destination_below number count (Neg dst a) fit = fit.0
-destination_below number count (Dbl dst a) fit = fit.0
-destination_below number count (Sqr dst a) fit = fit.0
-destination_below number count (Inv dst a) fit = fit.0
-destination_below number count (Div dst a b) fit = fit.0
-destination_below number count (Pow dst a exp) fit = fit.0
+destination_below number count _ fit = fit.0
 
 image_none : {A B : Type 0} (f : A → B) (o : Option A) → option_map f o ≡ None → o ≡ None
 image_none f None e = refl
 image_none f (Some x) e = cc
 
 outcome_none : (m : ℕ) (v : ℕ → ℕ) (command : RingCommand ℕ) → outcome m v command ≡ None → LacksInverse m v command
-outcome_none m v (Load dst n) e = cc
-outcome_none m v (Add dst a b) e = cc
-outcome_none m v (Sub dst a b) e = cc
-outcome_none m v (Mul dst a b) e = cc
-outcome_none m v (Neg dst a) e = cc
-outcome_none m v (Dbl dst a) e = cc
-outcome_none m v (Sqr dst a) e = cc
 outcome_none m v (Inv dst a) e = λ h. inverse_of-empty m (v a) h.0 e h.1
 outcome_none m v (Div dst a b) e = λ h. inverse_of-empty m (v b) h.0 (image_none _ _ e) h.1
-outcome_none m v (Pow dst a exp) e = cc
+outcome_none m v _ e = cc
 
 lacking_none : (m : ℕ) (v : ℕ → ℕ) (command : RingCommand ℕ) → LacksInverse m v command → outcome m v command ≡ None
 lacking_none m v (Inv dst a) lacks = inverse_of-none m (v a) (λ x h. lacks (x, h))
@@ -206,15 +193,61 @@ pub read_map : {C D : Type 0} (f : C → D) (xs : List C) (i : ℕ) (x : C) → 
     → slice_get (map f xs) i ≡ Some (f x)
 read_map f xs i x e = slice_get-map f xs i ∙ ap (option_map f) e
 
--- commands carried out, and then more
-pub carries_both : {T : Type 0} {number : T → ℕ} {form value : ℕ → ℕ → ℕ} {m : ℕ} {commands : List (RingCommand ℕ)}
-    {before between after : List T} {from mid to k n : ℕ} {x y : T}
-    → CarriesOn number form value m commands before between from mid k x
-    → CarriesOn number form value m commands between after mid to n y
-    → CarriesOn number form value m commands before after from to n y
-carries_both first second = record {
+pub true_not_false : {b : Bool} → IsTrue b → IsFalse b → ⊥
+true_not_false holds fails = cc
+
+-- no step
+pub goes_nowhere : {R T C : Type 0} {ring : reducer.Ghosts R T} {number : T → ℕ} {command_of : C → RingCommand T} {r : R}
+    {commands : List C} {registers : List T} {last : Last T} {at : ℕ}
+    → MayGoOn ring number command_of r commands registers last at
+    → GoesOn ring number command_of r commands registers registers last at at at true
+goes_nowhere ready = record {
+  count = refl;
+  checked = ready.checked;
+  holds = ready.holds;
+  reached = λ start reached. reached;
+  lacks = λ fails. absurd (true_not_false refl fails);
+  moved = λ holds. refl;
+}
+
+-- a step, and then another
+pub goes_both : {R T C : Type 0} {ring : reducer.Ghosts R T} {number : T → ℕ} {command_of : C → RingCommand T} {r : R}
+    {commands : List C} {before between after : List T} {kept last : Last T} {from mid to stop end : ℕ} {went done : Bool}
+    → GoesOn ring number command_of r commands before between kept from mid stop went
+    → GoesOn ring number command_of r commands between after last mid to end done
+    → GoesOn ring number command_of r commands before after last from to end done
+goes_both first second = record {
   count = second.count ∙ first.count;
   checked = second.checked;
   holds = second.holds;
   reached = λ start reached. second.reached start (first.reached start reached);
+  lacks = λ fails start reached. second.lacks fails start (first.reached start reached);
+  moved = second.moved;
+}
+
+-- a step with another end, or another word of whether it was done
+pub ends_at : {R T C : Type 0} {ring : reducer.Ghosts R T} {number : T → ℕ} {command_of : C → RingCommand T} {r : R}
+    {commands : List C} {before after : List T} {last : Last T} {from to end other : ℕ} {done told : Bool}
+    → GoesOn ring number command_of r commands before after last from to end done → (IsFalse told → IsFalse done)
+    → (IsTrue told → to ≡ other) → GoesOn ring number command_of r commands before after last from to other told
+ends_at step fails holds = record {
+  count = step.count;
+  checked = step.checked;
+  holds = step.holds;
+  reached = step.reached;
+  lacks = λ same. step.lacks (fails same);
+  moved = holds;
+}
+
+-- after a step the next may begin
+pub next_ready : {R T C : Type 0} {ring : reducer.Ghosts R T} {number : T → ℕ} {command_of : C → RingCommand T} {r : R}
+    {commands : List C} {before after : List T} {kept last : Last T} {from to end stop next : ℕ} {done : Bool}
+    → MayGoOn ring number command_of r commands before kept stop
+    → GoesOn ring number command_of r commands before after last from to end done → next ≤ length commands
+    → MayGoOn ring number command_of r commands after last next
+next_ready ready step within = record {
+  checked = step.checked;
+  fit = rw step.count ready.fit;
+  holds = step.holds;
+  within = within;
 }

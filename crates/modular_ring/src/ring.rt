@@ -1,13 +1,12 @@
 //! Lists of commands on registers, run over any reducer.
 
-ghost use Rattle.std.specs.Prelude.{◌≡◌, ℕ, ◌+◌, ◌*◌, ◌%◌, ◌<◌, ◌≤◌, ◌↔◌, IsTrue, IsFalse, Some, All, length};
+ghost use Rattle.std.specs.Prelude.{◌≡◌, ℕ, ◌+◌, ◌*◌, ◌%◌, ◌<◌, ◌↔◌, IsTrue, IsFalse, Some, All, length};
 ghost use Rattle.std.specs.Prelude.{map, option_map, slice_index, slice_index_or, slice_set};
 ghost use Rattle.modular_word.specs.Inverses.{inverse_of};
 ghost use Rattle.modular_reduced.specs.Checked.{AreChecked, IsChecked};
-ghost use Rattle.modular_ring.specs.Ring.{whole, destination_of, outcome, value_at, IsStop};
-ghost use Rattle.modular_ring.specs.Ring.{value_after, LacksInverse, carried_out, IsFit, values_of, HoldValues};
-ghost use Rattle.modular_ring.specs.Ring.{IsFormOf};
-ghost use Rattle.modular_ring.specs.RunSteps.{IsHeldAt, Combines, CarriesOn, StopsAt};
+ghost use Rattle.modular_ring.specs.Ring.{whole, destination_of, outcome, value_at, value_after, values_of, carried_out};
+ghost use Rattle.modular_ring.specs.Ring.{LacksInverse, IsStop, IsFit, IsFormOf, HoldValues};
+ghost use Rattle.modular_ring.specs.RunSteps.{IsHeldAt, Combines, MayGoOn, GoesOn};
 ghost use Rattle.modular_ring.specs.declared.ring.RingCommand.{RingCommand};
 
 use modular_reduced::reducer::Reducer;
@@ -313,6 +312,7 @@ fn quotient<T: RingWord, R: Reducer<T>>(r: &R, a: &T, b: T) -> Option<T>
 #[cold]
 #[inline(never)]
 // rust: #[track_caller]
+#[tactic(auto, using(crate::proofs::RunLemmas::form_of_one, crate::proofs::RunLemmas::value_of))]
 fn computed_form<T: RingWord, R: Reducer<T>>(
     r: &R,
     regs: &[T],
@@ -445,16 +445,9 @@ fn carry_out_at<T: RingWord, R: Reducer<T>, C: AsCommand<T>>(
     commands: &[C],
     at: &mut usize,
 ) -> bool
-    requires checked { AreChecked R.Reducer T.number r.now regs.old }
-    requires fit { All (λ c. IsFit (length regs.old) (C.command c)) commands.now }
-    requires holds { IsHeldAt regs.old last.old.register last.old.form }
-    requires within { at.old < length commands.now }
-    ensures carried { let wholes = map (λ c. whole T.number (C.command c)) commands.now in
-        CarriesOn T.number R.form R.value (R.modulus r.now) wholes regs.old regs.new at.old at.new last.new.register
-        last.new.form }
-    ensures lacks { let wholes = map (λ c. whole T.number (C.command c)) commands.now in
-        IsFalse result → StopsAt T.number R.form (R.modulus r.now) wholes regs.old at.old at.new }
-    ensures moved { IsTrue result → at.new ≡ at.old + 1 }
+    requires { MayGoOn R.Reducer T.number C.command r.now commands.now regs.old last.old (at.old + 1) }
+    ensures { GoesOn R.Reducer T.number C.command r.now commands.now regs.old regs.new last.new at.old at.new
+        (at.old + 1) result }
 {
     let done = carry_out(r, regs, last, commands[*at].command());
     if done {
@@ -472,16 +465,9 @@ fn carry_out_two<T: RingWord, R: Reducer<T>, C: AsCommand<T>>(
     commands: &[C],
     at: &mut usize,
 ) -> bool
-    requires checked { AreChecked R.Reducer T.number r.now regs.old }
-    requires fit { All (λ c. IsFit (length regs.old) (C.command c)) commands.now }
-    requires holds { IsHeldAt regs.old last.old.register last.old.form }
-    requires within { at.old + 2 ≤ length commands.now }
-    ensures carried { let wholes = map (λ c. whole T.number (C.command c)) commands.now in
-        CarriesOn T.number R.form R.value (R.modulus r.now) wholes regs.old regs.new at.old at.new last.new.register
-        last.new.form }
-    ensures lacks { let wholes = map (λ c. whole T.number (C.command c)) commands.now in
-        IsFalse result → StopsAt T.number R.form (R.modulus r.now) wholes regs.old at.old at.new }
-    ensures moved { IsTrue result → at.new ≡ at.old + 2 }
+    requires { MayGoOn R.Reducer T.number C.command r.now commands.now regs.old last.old (at.old + 2) }
+    ensures { GoesOn R.Reducer T.number C.command r.now commands.now regs.old regs.new last.new at.old at.new
+        (at.old + 2) result }
 {
     carry_out_at(r, regs, last, commands, at) && carry_out_at(r, regs, last, commands, at)
 }
@@ -495,16 +481,9 @@ fn carry_out_four<T: RingWord, R: Reducer<T>, C: AsCommand<T>>(
     commands: &[C],
     at: &mut usize,
 ) -> bool
-    requires checked { AreChecked R.Reducer T.number r.now regs.old }
-    requires fit { All (λ c. IsFit (length regs.old) (C.command c)) commands.now }
-    requires holds { IsHeldAt regs.old last.old.register last.old.form }
-    requires within { at.old + 4 ≤ length commands.now }
-    ensures carried { let wholes = map (λ c. whole T.number (C.command c)) commands.now in
-        CarriesOn T.number R.form R.value (R.modulus r.now) wholes regs.old regs.new at.old at.new last.new.register
-        last.new.form }
-    ensures lacks { let wholes = map (λ c. whole T.number (C.command c)) commands.now in
-        IsFalse result → StopsAt T.number R.form (R.modulus r.now) wholes regs.old at.old at.new }
-    ensures moved { IsTrue result → at.new ≡ at.old + 4 }
+    requires { MayGoOn R.Reducer T.number C.command r.now commands.now regs.old last.old (at.old + 4) }
+    ensures { GoesOn R.Reducer T.number C.command r.now commands.now regs.old regs.new last.new at.old at.new
+        (at.old + 4) result }
 {
     carry_out_two(r, regs, last, commands, at) && carry_out_two(r, regs, last, commands, at)
 }
@@ -518,16 +497,9 @@ fn carry_out_all<T: RingWord, R: Reducer<T>, C: AsCommand<T>>(
     commands: &[C],
     at: &mut usize,
 ) -> bool
-    requires checked { AreChecked R.Reducer T.number r.now regs.old }
-    requires fit { All (λ c. IsFit (length regs.old) (C.command c)) commands.now }
-    requires holds { IsHeldAt regs.old last.old.register last.old.form }
-    requires within { at.old ≤ length commands.now }
-    ensures carried { let wholes = map (λ c. whole T.number (C.command c)) commands.now in
-        CarriesOn T.number R.form R.value (R.modulus r.now) wholes regs.old regs.new at.old at.new last.new.register
-        last.new.form }
-    ensures lacks { let wholes = map (λ c. whole T.number (C.command c)) commands.now in
-        IsFalse result → StopsAt T.number R.form (R.modulus r.now) wholes regs.old at.old at.new }
-    ensures moved { IsTrue result → at.new ≡ length commands.now }
+    requires { MayGoOn R.Reducer T.number C.command r.now commands.now regs.old last.old at.old }
+    ensures { GoesOn R.Reducer T.number C.command r.now commands.now regs.old regs.new last.new at.old at.new
+        (length commands.now) result }
 {
     'fours: while commands.len() - *at >= 4 {
         if !carry_out_four(r, regs, last, commands, at) {

@@ -1,29 +1,39 @@
-use Rattle.std.proofs.Common.{arith}
-use Rattle.modular_ring.proofs.RunLemmas.{carries_both}
+use Rattle.std.proofs.Common.{arith, refl}
+use Rattle.modular_ring.proofs.RunLemmas.{ends_at, goes_both, goes_nowhere, next_ready, true_not_false}
 use Rattle.modular_ring.proofs.ring.carry_out_all.Goals as goal
 
-pub returns-then-not-carry_out_four-clause-carried : goal.returns-then-not-carry_out_four-clause-carried
-returns-then-not-carry_out_four-clause-carried g c = carries_both c.fours.invariant.0 c.carry_out_four.ensures.carried
+pub fours-init : goal.fours-init
+fours-init g c = (goes_nowhere c.requires, c.requires.within)
 
-pub returns-then-not-carry_out_four-clause-lacks : goal.returns-then-not-carry_out_four-clause-lacks
-returns-then-not-carry_out_four-clause-lacks g c fails start reached =
-    c.carry_out_four.ensures.lacks c.if-not-carry_out_four.true start (c.fours.invariant.0.reached start reached)
+pub carry_out_four-requires : goal.carry_out_four-requires
+carry_out_four-requires g c =
+    next_ready c.requires c.fours.invariant.0 (omega (arith, c.fours.invariant.1, c.fours-test.true))
+
+pub returns-then-not-carry_out_four : goal.returns-then-not-carry_out_four
+returns-then-not-carry_out_four g c =
+    ends_at (goes_both c.fours.invariant.0 c.carry_out_four.ensures) (λ same. c.if-not-carry_out_four.true)
+    (λ holds. absurd (true_not_false holds refl))
 
 pub fours-preserved : goal.fours-preserved
 fours-preserved g c = (
-  carries_both c.fours.invariant.0 c.carry_out_four.ensures.carried,
+  ends_at (goes_both c.fours.invariant.0 c.carry_out_four.ensures) (λ fails. absurd (true_not_false refl fails)) (λ holds. refl),
   omega (arith, c.carry_out_four.ensures.moved c.if-not-carry_out_four.false, c.fours-test.true),
 )
 
-pub returns-then-not-carry_out_at-clause-carried : goal.returns-then-not-carry_out_at-clause-carried
-returns-then-not-carry_out_at-clause-carried g c = carries_both c.commands.invariant.0 c.carry_out_at.ensures.carried
+pub carry_out_at-requires : goal.carry_out_at-requires
+carry_out_at-requires g c = next_ready c.requires c.commands.invariant.0 (omega (arith, c.commands-test.true))
 
-pub returns-then-not-carry_out_at-clause-lacks : goal.returns-then-not-carry_out_at-clause-lacks
-returns-then-not-carry_out_at-clause-lacks g c fails start reached =
-    c.carry_out_at.ensures.lacks c.if-not-carry_out_at.true start (c.commands.invariant.0.reached start reached)
+pub returns-then-not-carry_out_at : goal.returns-then-not-carry_out_at
+returns-then-not-carry_out_at g c =
+    ends_at (goes_both c.commands.invariant.0 c.carry_out_at.ensures) (λ same. c.if-not-carry_out_at.true)
+    (λ holds. absurd (true_not_false holds refl))
 
 pub commands-preserved : goal.commands-preserved
 commands-preserved g c = (
-  carries_both c.commands.invariant.0 c.carry_out_at.ensures.carried,
+  ends_at (goes_both c.commands.invariant.0 c.carry_out_at.ensures) (λ fails. absurd (true_not_false refl fails)) (λ holds. refl),
   omega (arith, c.carry_out_at.ensures.moved c.if-not-carry_out_at.false, c.commands-test.true),
 )
+
+pub returns : goal.returns
+returns g c =
+    ends_at c.commands.invariant.0 (λ fails. fails) (λ holds. omega (arith, c.commands-test.false, c.commands.invariant.1))

@@ -1,28 +1,26 @@
-use Rattle.std.proofs.Common.{◌≡◌, ℕ, Bool, IsTrue, IsFalse, map, Some, below_more, refl}
+use Rattle.std.proofs.Common.{◌≡◌, ℕ, ◌<◌, map, length, Some, arith, below_more, refl}
 use Rattle.std.specs.List.{slice_get}
 use Rattle.std.proofs.lemmas.Option.{slice_get_read}
 use Rattle.modular_reduced.proofs.ListSteps.{held_checked}
 use Rattle.modular_ring.specs.Ring.{whole, value_at, LacksInverseAt}
 use Rattle.modular_ring.specs.declared.ring.RingCommand.{RingCommand}
-use Rattle.modular_ring.proofs.RunLemmas.{after_command, lacks_at, lacks_of, start_holds, read_map}
+use Rattle.modular_ring.proofs.RunLemmas.{after_command, lacks_at, lacks_of, start_holds, read_map, true_not_false}
 use Rattle.modular_ring.proofs.ring.carry_out_at.Goals as goal
 
 -- what a command represents, over whole numbers
 abbrev over_wholes : {T C : Type 0} → (T → ℕ) → (C → RingCommand T) → C → RingCommand ℕ
 over_wholes number command_of c = whole number (command_of c)
 
-true_not_false : {b : Bool} → IsTrue b → IsFalse b → ⊥
-true_not_false holds fails = cc
-
-pub returns-then-done-clause-carried : goal.returns-then-done-clause-carried
-returns-then-done-clause-carried g c =
+pub returns-then-done : goal.returns-then-done
+returns-then-done g c =
     let number = g.T.RingWord.number in let form = g.R.Reducer.form in
     let m = g.R.Reducer.modulus c.args.r.now in
     let read_as = over_wholes number g.C.AsCommand.command in
     let wholes = map read_as c.args.commands.now in
     let at = c.args.at.now in
     let command = c.index-commands-at.result in
-    let read = slice_get_read c.args.commands.now _ at command refl c.requires.within c.index-commands-at.is in
+    let within : at < length c.args.commands.now = omega (arith, c.requires.within) in
+    let read = slice_get_read c.args.commands.now _ at command refl within c.index-commands-at.is in
     let is : slice_get wholes at ≡ Some (read_as command) =
     read_map read_as c.args.commands.now at command read in
     let told = c.if-done.true in
@@ -38,15 +36,27 @@ returns-then-done-clause-carried g c =
             (((rw c.command.ensures at c.carry_out-done.ensures.missing) (value_at m start wholes at) reached.held).1
             (lacks_of m start wholes at (read_as command) is lacks))));
       };
+      lacks = λ fails. absurd (true_not_false told fails);
+      moved = λ holds. refl;
     }
 
-pub returns-else-done-clause-lacks : goal.returns-else-done-clause-lacks
-returns-else-done-clause-lacks g c fails start reached =
+pub returns-else-done : goal.returns-else-done
+returns-else-done g c =
     let m = g.R.Reducer.modulus c.args.r.now in
     let read_as = over_wholes g.T.RingWord.number g.C.AsCommand.command in
     let wholes = map read_as c.args.commands.now in
     let at = c.args.at.now in
     let command = c.index-commands-at.result in
-    let read = slice_get_read c.args.commands.now _ at command refl c.requires.within c.index-commands-at.is in
-    lacks_at m start wholes at (read_as command) (read_map read_as c.args.commands.now at command read)
-    (((rw c.command.ensures at c.carry_out-done.ensures.missing) (value_at m start wholes at) reached.held).0 fails)
+    let within : at < length c.args.commands.now = omega (arith, c.requires.within) in
+    let read = slice_get_read c.args.commands.now _ at command refl within c.index-commands-at.is in
+    let kept = c.carry_out-done.ensures.kept c.if-done.false in
+    record {
+      count = c.carry_out-done.ensures.count;
+      checked = rw kept c.requires.checked;
+      holds = c.carry_out-done.ensures.holds;
+      reached = λ start reached. rw kept reached;
+      lacks = λ fails start reached. lacks_at m start wholes at (read_as command)
+          (read_map read_as c.args.commands.now at command read)
+          (((rw c.command.ensures at c.carry_out-done.ensures.missing) (value_at m start wholes at) reached.held).0 fails);
+      moved = λ holds. absurd (true_not_false holds c.if-done.false);
+    }

@@ -1,6 +1,7 @@
-use Rattle.std.proofs.Common.{◌≡◌, ℕ, ◌<◌, All, List, arith, length, map, subst, refl}
+use Rattle.std.proofs.Common.{◌≡◌, ℕ, ◌<◌, List, arith, length, map, subst, refl}
 use Rattle.std.proofs.lemmas.List.{length-map}
-use Rattle.modular_reduced.specs.Forms.{IsForm}
+use Rattle.modular_reduced.specs.declared.reducer.Reducer as reducer
+use Rattle.modular_reduced.specs.Checked.{AreChecked}
 use Rattle.modular_reduced.proofs.ListSteps.{held_values}
 use Rattle.modular_ring.specs.Ring.{IsStop, whole, values_of, value_at, HoldValues}
 use Rattle.modular_ring.specs.RunSteps.{IsReached}
@@ -13,17 +14,25 @@ none_below : (j : ℕ) → j < 0 → ⊥
 none_below j h = omega (arith, h)
 
 -- before the first command
-begun : {T : Type 0} (number : T → ℕ) (form value : ℕ → ℕ → ℕ) (m : ℕ) (registers : List T) (commands : List (RingCommand ℕ))
-    → All (λ f. IsForm form value m (number f)) registers
-    → IsReached number form m (values_of number value m registers) commands registers 0
-begun number form value m registers commands checked = record {
-  held = start_holds number form value m registers checked;
+begun : {R T C : Type 0} (ring : reducer.Ghosts R T) (number : T → ℕ) (command_of : C → RingCommand T) (r : R) (commands : List C)
+    (registers : List T) → AreChecked ring number r registers
+    → IsReached ring number command_of r commands (values_of number ring.value (ring.modulus r) registers) registers 0
+begun ring number command_of r commands registers checked = record {
+  held = start_holds number ring.form ring.value (ring.modulus r) registers checked;
   passed = λ j h. absurd (none_below j h);
 }
 
 -- what a command represents, over whole numbers
 abbrev over_wholes : {T C : Type 0} → (T → ℕ) → (C → RingCommand T) → C → RingCommand ℕ
 over_wholes number command_of c = whole number (command_of c)
+
+pub carry_out_all-requires : goal.carry_out_all-requires
+carry_out_all-requires g c = record {
+  checked = c.requires.checked;
+  fit = c.requires.fit;
+  holds = c.first_register-last.ensures;
+  within = omega arith;
+}
 
 pub returns-then-not-carry_out_all : goal.returns-then-not-carry_out_all
 returns-then-not-carry_out_all g c =
@@ -33,18 +42,18 @@ returns-then-not-carry_out_all g c =
     let canonical = g.met.R.Reducer.canonical c.args.r.now in
     let start = values_of number g.R.Reducer.value m c.args.regs.now in
     let wholes = map (over_wholes number g.C.AsCommand.command) c.args.commands.now in
-    let before = begun number form g.R.Reducer.value m c.args.regs.now wholes c.requires.checked in
-    let reached = c.carry_out_all.ensures.carried.reached start before in
+    let before = begun g.R.Reducer number g.C.AsCommand.command c.args.r.now c.args.commands.now c.args.regs.now c.requires.checked in
+    let reached = c.carry_out_all.ensures.reached start before in
     let stop : IsStop m start wholes c.carry_out_all.new.at = record {
       lacks = c.carry_out_all.ensures.lacks c.if-not-carry_out_all.true start before;
       first = reached.passed;
     } in
-    let count = c.carry_out_all.ensures.carried.count in
+    let count = c.carry_out_all.ensures.count in
     record {
       stops = stops_at stop;
       done = not_done stop;
       values = reached.held;
-      checked = c.carry_out_all.ensures.carried.checked;
+      checked = c.carry_out_all.ensures.checked;
       residues = λ n h. held_values number c.carry_out_all.new.regs _ n canonical reached.held (omega (arith, h, count));
       read = λ n other h. canonical.one_value _ _ (reached.held.each n other (omega (arith, h, count)));
     }
@@ -62,19 +71,19 @@ returns g c =
     let start = values_of number g.R.Reducer.value m c.args.regs.now in
     let read_as = over_wholes number g.C.AsCommand.command in
     let wholes = map read_as c.args.commands.now in
-    let before = begun number form g.R.Reducer.value m c.args.regs.now wholes c.requires.checked in
-    let reached = c.carry_out_all.ensures.carried.reached start before in
+    let before = begun g.R.Reducer number g.C.AsCommand.command c.args.r.now c.args.commands.now c.args.regs.now c.requires.checked in
+    let reached = c.carry_out_all.ensures.reached start before in
     let all : c.carry_out_all.new.at ≡ length wholes =
     omega (arith, length-map c.args.commands.now read_as, c.carry_out_all.ensures.moved c.if-not-carry_out_all.false) in
     let held : HoldValues number form m c.carry_out_all.new.regs (value_at m start wholes (length wholes)) =
     subst (λ n. HoldValues number form m c.carry_out_all.new.regs (value_at m start wholes n)) all reached.held in
     let never = never_stops (λ j h lacks. reached.passed j (omega (arith, h, all)) lacks) in
-    let count = c.carry_out_all.ensures.carried.count in
+    let count = c.carry_out_all.ensures.count in
     record {
       stops = λ at. (λ e. absurd (done_not_stopped at e), λ stop. absurd (never at stop));
       done = (λ e. never, λ h. refl);
       values = held;
-      checked = c.carry_out_all.ensures.carried.checked;
+      checked = c.carry_out_all.ensures.checked;
       residues = λ n h. held_values number c.carry_out_all.new.regs _ n canonical held (omega (arith, h, count));
       read = λ n other h. canonical.one_value _ _ (held.each n other (omega (arith, h, count)));
     }
