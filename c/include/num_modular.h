@@ -282,21 +282,21 @@ NM_CHECK nm_code_t nm_montgomery_convolve(const nm_montgomery_t *context, uint64
 
 /* --- Lists of commands on registers, modulo m. --- */
 
-/* What a command does. Operands are read before dst is written, so dst may be an operand. */
-#define NM_LOAD 0u /* writes n modulo m in dst */
-#define NM_ADD 1u  /* the sum of a and b */
-#define NM_SUB 2u  /* the difference of a and b */
-#define NM_MUL 3u  /* the product of a and b */
-#define NM_NEG 4u  /* the negative of a */
-#define NM_DBL 5u  /* the double of a */
-#define NM_SQR 6u  /* the square of a */
+/* What a command writes in dst. Operands are read before that, so dst may be an operand. */
+#define NM_LOAD 0u /* n modulo m */
+#define NM_ADD 1u  /* a + b */
+#define NM_SUB 2u  /* a - b */
+#define NM_MUL 3u  /* a times b */
+#define NM_NEG 4u  /* -a */
+#define NM_DBL 5u  /* 2 times a */
+#define NM_SQR 6u  /* a times a */
 #define NM_INV 7u  /* the inverse of a; the run stops where there is none */
-#define NM_DIV 8u  /* the product of a and the inverse of b; the run stops where b has none */
-#define NM_POW 9u  /* the power of a to the exponent n */
+#define NM_DIV 8u  /* a times the inverse of b; the run stops where b has none */
+#define NM_POW 9u  /* a to the power n */
 
 /* A command. Fields that its operation doesn't use may have any value. */
 typedef struct {
-    uint32_t operation; /* NM_LOAD to NM_POW */
+    uint32_t operation; /* one of those above */
     size_t dst;         /* the register that is written */
     size_t a;           /* the register of the first operand */
     size_t b;           /* the register of the second operand */

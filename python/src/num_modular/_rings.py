@@ -33,11 +33,11 @@ _OPERATIONS = {
     "add": (lib.NM_ADD, ("dst", "a", "b")),
     "sub": (lib.NM_SUB, ("dst", "a", "b")),
     "mul": (lib.NM_MUL, ("dst", "a", "b")),
-    "div": (lib.NM_DIV, ("dst", "a", "b")),
     "neg": (lib.NM_NEG, ("dst", "a")),
     "dbl": (lib.NM_DBL, ("dst", "a")),
     "sqr": (lib.NM_SQR, ("dst", "a")),
     "inv": (lib.NM_INV, ("dst", "a")),
+    "div": (lib.NM_DIV, ("dst", "a", "b")),
     "pow": (lib.NM_POW, ("dst", "a", "n")),
 }
 

@@ -3,25 +3,25 @@
 
 use crate::ring::{commands_fit, AsCommand, RingCommand};
 
-/// Writes n modulo m in dst.
+/// Writes n modulo m.
 pub const NM_LOAD: u32 = 0;
-/// Writes the sum of a and b.
+/// Writes a + b.
 pub const NM_ADD: u32 = 1;
-/// Writes the difference of a and b.
+/// Writes a - b.
 pub const NM_SUB: u32 = 2;
-/// Writes the product of a and b.
+/// Writes a times b.
 pub const NM_MUL: u32 = 3;
-/// Writes the negative of a.
+/// Writes -a.
 pub const NM_NEG: u32 = 4;
-/// Writes the double of a.
+/// Writes 2 times a.
 pub const NM_DBL: u32 = 5;
-/// Writes the square of a.
+/// Writes a times a.
 pub const NM_SQR: u32 = 6;
 /// Writes the inverse of a; the run stops where there is none.
 pub const NM_INV: u32 = 7;
-/// Writes the product of a and the inverse of b; the run stops where b has none.
+/// Writes a times the inverse of b; the run stops where b has none.
 pub const NM_DIV: u32 = 8;
-/// Writes the power of a to the exponent n.
+/// Writes a to the power n.
 pub const NM_POW: u32 = 9;
 
 // The number of operations.
@@ -32,7 +32,7 @@ const OPERATIONS: u32 = NM_POW + 1;
 #[derive(Clone, Copy)]
 #[must_use]
 pub struct NmCommand {
-    /// The operation: `NM_LOAD` to `NM_POW`.
+    /// The operation: one of the constants above.
     pub operation: u32,
     /// The register that is written.
     pub dst: usize,
