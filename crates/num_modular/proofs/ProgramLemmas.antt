@@ -10,7 +10,6 @@ use Rattle.modular_ring.specs.declared.ring.RunEnd.{RunEnd}
 use Rattle.modular_ring.specs.declared.ring.RunEnd.TheVariants.{Done, NoInverse}
 use Rattle.std.specs.Io.KnownBytes.{Appends}
 use Rattle.modular_ring.specs.declared.ring.RingCommand.{RingCommand}
-use Rattle.modular_ring.specs.declared.ring.RingCommand.TheVariants.{Load, Add, Sub, Mul, Neg, Dbl, Sqr, Inv, Div, Pow}
 use Rattle.num_modular.specs.declared.modrun.ReducerName.{ReducerName}
 use Rattle.modular_ring.specs.Ring.{IsFit, IsStop, whole, value_at, carried_out}
 use Rattle.num_modular.specs.Words.{IsCommandWord, IsCommandParts, parts}
@@ -57,16 +56,7 @@ unreadable_at (w ∷ ws) (suc i) d below none (c ∷ cs) read = unreadable_at ws
 
 -- a command over words of which each is its own number is the command itself
 pub whole_same : (command : RingCommand ℕ) → whole (λ n. n) command ≡ command
-whole_same (Load dst n) = refl
-whole_same (Add dst a b) = refl
-whole_same (Sub dst a b) = refl
-whole_same (Mul dst a b) = refl
-whole_same (Neg dst a) = refl
-whole_same (Dbl dst a) = refl
-whole_same (Sqr dst a) = refl
-whole_same (Inv dst a) = refl
-whole_same (Div dst a b) = refl
-whole_same (Pow dst a exp) = refl
+whole_same command = grind arith
 
 -- commands over words of 64 bits are commands over whole numbers
 pub wholes_same : (commands : List (RingCommand ℕ)) → map (whole (λ n. n)) commands ≡ commands

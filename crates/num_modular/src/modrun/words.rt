@@ -45,7 +45,8 @@ fn first_register(text: &str) -> Option<(usize, &str)>
 // A register and a number.
 #[tactic(auto, using(crate::proofs::CommandTexts::last_number, crate::proofs::CommandTexts::read_rest, crate::proofs::CommandTexts::last_text, crate::proofs::CommandTexts::read_more))]
 fn register_and_number(text: &str) -> Option<(usize, u64)>
-    ensures { FindsWhere (λ p. (p.0 < 8) × AreNumberTexts (parts text.now) (p.0 ∷ p.1 ∷ [])) result }
+    ensures { MatchOption result ((r n : ℕ) → r < 8 → AreNumberTexts (parts text.now) (r ∷ n ∷ []) → ⊥)
+        (λ p. (p.0 < 8) × AreNumberTexts (parts text.now) (p.0 ∷ p.1 ∷ [])) }
 {
     let (dst, rest) = first_register(text)?;
     Some((dst, number(rest)?))
@@ -54,7 +55,8 @@ fn register_and_number(text: &str) -> Option<(usize, u64)>
 // Two registers.
 #[tactic(auto, using(crate::proofs::CommandTexts::last_number, crate::proofs::CommandTexts::read_rest))]
 fn two_registers(text: &str) -> Option<(usize, usize)>
-    ensures { FindsWhere (λ p. (p.0 < 8) × (p.1 < 8) × AreNumberTexts (parts text.now) (p.0 ∷ p.1 ∷ [])) result }
+    ensures { MatchOption result ((r s : ℕ) → r < 8 → s < 8 → AreNumberTexts (parts text.now) (r ∷ s ∷ []) → ⊥)
+        (λ p. (p.0 < 8) × (p.1 < 8) × AreNumberTexts (parts text.now) (p.0 ∷ p.1 ∷ [])) }
 {
     let (dst, rest) = first_register(text)?;
     Some((dst, register(rest)?))
@@ -62,7 +64,9 @@ fn two_registers(text: &str) -> Option<(usize, usize)>
 
 // Two registers and a number.
 fn two_registers_and_number(text: &str) -> Option<(usize, usize, u64)>
-    ensures { FindsWhere (λ p. (p.0 < 8) × (p.1 < 8) × AreNumberTexts (parts text.now) (p.0 ∷ p.1 ∷ p.2 ∷ [])) result }
+    ensures { MatchOption result
+        ((r s n : ℕ) → r < 8 → s < 8 → AreNumberTexts (parts text.now) (r ∷ s ∷ n ∷ []) → ⊥)
+        (λ p. (p.0 < 8) × (p.1 < 8) × AreNumberTexts (parts text.now) (p.0 ∷ p.1 ∷ p.2 ∷ [])) }
 {
     let (dst, rest) = first_register(text)?;
     let (a, n) = register_and_number(rest)?;
@@ -71,8 +75,9 @@ fn two_registers_and_number(text: &str) -> Option<(usize, usize, u64)>
 
 // Three registers.
 fn three_registers(text: &str) -> Option<(usize, usize, usize)>
-    ensures { FindsWhere
-        (λ p. (p.0 < 8) × (p.1 < 8) × (p.2 < 8) × AreNumberTexts (parts text.now) (p.0 ∷ p.1 ∷ p.2 ∷ [])) result }
+    ensures { MatchOption result
+        ((r s t : ℕ) → r < 8 → s < 8 → t < 8 → AreNumberTexts (parts text.now) (r ∷ s ∷ t ∷ []) → ⊥)
+        (λ p. (p.0 < 8) × (p.1 < 8) × (p.2 < 8) × AreNumberTexts (parts text.now) (p.0 ∷ p.1 ∷ p.2 ∷ [])) }
 {
     let (dst, rest) = first_register(text)?;
     let (a, b) = two_registers(rest)?;
@@ -80,7 +85,6 @@ fn three_registers(text: &str) -> Option<(usize, usize, usize)>
 }
 
 // The command of a name and of the text after the first comma.
-#[tactic(auto, using(crate::proofs::CommandTexts::no_load, crate::proofs::CommandTexts::no_add, crate::proofs::CommandTexts::no_sub, crate::proofs::CommandTexts::no_mul, crate::proofs::CommandTexts::no_neg, crate::proofs::CommandTexts::no_dbl, crate::proofs::CommandTexts::no_sqr, crate::proofs::CommandTexts::no_inv, crate::proofs::CommandTexts::no_div, crate::proofs::CommandTexts::no_pow))]
 fn named_command(name: &str, numbers: &str) -> Option<RingCommand<u64>>
     ensures { FindsWhere (IsCommand name.now (parts numbers.now)) result }
 {
