@@ -12,7 +12,7 @@ use Rattle.num_modular.specs.Divisors.{Coprime}
 use Rattle.num_modular.specs.Inverses.{IsInverse, IsInversion, HasInverse, inverse_of}
 use Rattle.num_modular.specs.Residues.{residue}
 use Rattle.num_modular.specs.declared.ring.RingCommand.{RingCommand}
-use Rattle.num_modular.specs.declared.ring.RingCommand.TheVariants.{Load, Add, Sub, Mul, Neg, Dbl, Sqr, Inv, Div, Pow}
+use Rattle.num_modular.specs.declared.ring.RingCommand.TheVariants.{Load, Add, Sub, Mul, Neg, Sqr, Inv, Div}
 use Rattle.num_modular.specs.Ring.{destination_of, outcome, value_after, value_at, inverted_by, LacksInverse}
 use Rattle.num_modular.specs.Ring.{LacksInverseAt}
 use Rattle.num_modular.specs.Systems.{range_of}
@@ -82,12 +82,11 @@ module _ (laws : InverseLaws) {range m : ℕ} (f : IsFactor range m) where
       let e : residue m (pos 0 -ℤ pos (v a)) ≡ residue range (pos 0 -ℤ pos (V a)) % m =
       difference_within f 0 (V a) 0 (v a) (mod-eq_of_lt f.positive) (same a) in
       ap Some (simp +ℤ_idl at e)
-  outcome_within V v same (Dbl dst a) unit = grind (arith, mul-mod_second, remainder_within)
   outcome_within V v same (Sqr dst a) unit = ap Some (product_within f (V a) (V a) (v a) (v a) (same a) (same a))
   outcome_within V v same (Inv dst a) unit = inverse_found (V a) (v a) _ (laws.named range (V a)) unit (same a)
   outcome_within V v same (Div dst a b) unit =
       quotient_found (V a) (v a) _ _ (inverse_found (V b) (v b) _ (laws.named range (V b)) unit (same b)) (same a)
-  outcome_within V v same (Pow dst a exp) unit = grind (arith, pow-mod, remainder_within)
+  outcome_within V v same _ unit = grind (arith, mul-mod_second, pow-mod, remainder_within)
 
   after_within : (V v : ℕ → ℕ) → ((r : ℕ) → V r % m ≡ v r) → (read : Option (RingCommand ℕ))
       → (IsSomeAnd read (LacksInverse range V) → ⊥) → (r : ℕ) → value_after range V read r % m ≡ value_after m v read r
