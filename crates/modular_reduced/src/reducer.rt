@@ -376,7 +376,7 @@ pub trait Reducer<T: RingWord> {
         self.mul(&difference, factor)
     }
 
-    /// Adds to each entry of xs the entry of ys with the same index: as `add` does.
+    /// Changes xs by ys, entry by entry: as `add` does.
     ///
     /// A reducer may override it with a body of which compilers do several entries at once.
     ///
@@ -415,7 +415,7 @@ pub trait Reducer<T: RingWord> {
         }
     }
 
-    /// Subtracts from each entry of xs the entry of ys with the same index: as `sub` does.
+    /// Changes xs by ys, entry by entry: as `sub` does.
     ///
     /// A reducer may override it as `add_entries`.
     ///

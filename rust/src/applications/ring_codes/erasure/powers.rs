@@ -83,15 +83,25 @@ pub fn encode_by_transform<T: RingWord, R: Reducer<T>>(r: &R, g: &T, message: &[
     ntt(r, word, g);
 }
 
-// Whether all entries are 0.
+// Whether all entries from an index on are 0.
 #[inline]
-fn are_zeros<T: RingWord, R: Reducer<T>>(r: &R, entries: &[T]) -> bool {
-    for i in 0..entries.len() {
+fn are_zeros<T: RingWord, R: Reducer<T>>(r: &R, entries: &[T], from: usize) -> bool {
+    for i in from..entries.len() {
         if !r.is_zero(&entries[i]) {
             return false;
         }
     }
     true
+}
+
+// Whether the word at the powers of a root is that of a message of k symbols, which are then the first ones of `found`.
+#[inline]
+fn find_coefficients<T: RingWord, R: Reducer<T>>(r: &R, g: &T, word: &[T], found: &mut [T], k: usize) -> bool {
+    found.copy_from_slice(word);
+    if !intt(r, found, g) {
+        return false;
+    }
+    are_zeros(r, found, k)
 }
 
 /// Whether the word at the powers of a root is that of a message: of k symbols, k being the length of `message`, at the
@@ -146,8 +156,7 @@ pub fn is_codeword_by_transform<T: RingWord, R: Reducer<T>>(
     assert!(r.inv(r.dbl(r.transform(T::one()))).is_some(), "the modulus must be odd");
     assert!(message.len() <= word.len(), "k must be at most n: {} and {}", message.len(), word.len());
     assert!(scratch.len() == word.len(), "there must be n places of scratch: {} and {}", scratch.len(), word.len());
-    scratch.copy_from_slice(word);
-    if !intt(r, scratch, g) || !are_zeros(r, &scratch[message.len()..]) {
+    if !find_coefficients(r, g, word, scratch, message.len()) {
         return false;
     }
     message.copy_from_slice(&scratch[..message.len()]);
