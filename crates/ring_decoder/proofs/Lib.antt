@@ -2,7 +2,6 @@ pub mod CheckTables
 pub mod ChosenPlaces
 pub mod CorrectedWords
 pub mod DualCode
-pub mod LocatorOfOne
 pub mod LocatorPlaces
 pub mod LocatorSteps
 pub mod LocatorSums

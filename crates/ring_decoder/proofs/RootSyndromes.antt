@@ -3,7 +3,7 @@
 -- of Research and Development 23, 1979).
 use Rattle.std.proofs.Common.{◌≡◌, ◌≢◌, ℕ, zero, suc, ◌+◌, ◌-◌, ◌*◌, ◌/◌, ◌%◌, ◌^◌, ◌<◌, ◌≤◌, pos, ◌-ℤ◌, ap, sym, subst}
 use Rattle.std.proofs.Common.{◌∙◌, arith, refl, inl, inr}
-use Rattle.std.proofs.Math.Nat.{zero-mod, pow-zero, pow-suc}
+use Rattle.std.proofs.Math.Nat.{pow-zero, pow-suc}
 use Rattle.std.proofs.lemmas.Bool.{cases_lt}
 use Rattle.std.proofs.lemmas.Nat.{pow-add, pow_pos}
 use Rattle.num_modular.specs.Congruence.{Congruent}
@@ -22,6 +22,7 @@ use Rattle.ring_codes.proofs.RootPowers.{word_of_coefficients}
 use Rattle.ring_codes.specs.Erasure.{IsEncoding}
 use Rattle.ring_codes.specs.Powers.{ArePowers}
 use Rattle.ring_decoder.proofs.DualCode.{powers_vanish, top_power}
+use Rattle.ring_decoder.proofs.LocatorSums.{none_of}
 use Rattle.ring_decoder.proofs.SyndromeSums.{moment, single_congruent}
 use Rattle.ring_decoder.specs.PowerSums.{ArePowerSums}
 use Rattle.ring_decoder.specs.Syndromes.{AreWeights}
@@ -37,10 +38,10 @@ pub length_unit : (m g n : ℕ) (x : ℕ → ℕ) → 0 < m → Suits m g n → 
 length_unit m g n x positive suits powers fit = elim (cases_lt 1 n) [
   | inl more ↦
       let h : ℕ = n / 2 in let u : ℕ = residue m (pos (x 0) -ℤ pos (x h)) in
-      let turn : Congruent m (g ^ h + 1) 0 = record { same = suits.half_turn more ∙ sym (zero-mod m) } in
+      let turn = none_of m (g ^ h + 1) (suits.half_turn more) in
       let at_u : Congruent m (u + x h) (x 0) = mod_of_difference (x h) positive refl in
-      let first : Congruent m (x 0) (g ^ 0) = mod_of_residue (powers.power 0 (omega (arith, more))) in
-      let middle : Congruent m (x h) (g ^ h) = mod_of_residue (powers.power h (omega (arith, more))) in
+      let first = mod_of_residue (powers.power 0 (omega (arith, more))) in
+      let middle = mod_of_residue (powers.power h (omega (arith, more))) in
       let two : Congruent m u 2 =
       mod_of_combination (mod_add at_u (mod_add first (mod_add (mod_sym turn) (mod_sym middle)))) (omega (arith, pow-zero g)) in
       subst (HasInverse m) (sym suits.power_of_two.1) (powers_of_two m suits.power_of_two.0 positive
@@ -54,10 +55,8 @@ length_unit m g n x positive suits powers fit = elim (cases_lt 1 n) [
 root_turn : (m g n z : ℕ) → Suits m g n → n ≡ 2 ^ z → 1 < n → Congruent m (g ^ n) 1
 root_turn m g n zero suits whole more = let one : 2 ^ 0 ≡ 1 = refl in absurd (omega (arith, whole, one, more))
 root_turn m g n (suc y) suits whole more =
-    let s = pow-suc 2 y in let h : ℕ = 2 ^ y in let half : n / 2 ≡ h = omega (arith, whole, s) in
-    let double : n ≡ h + h = omega (arith, whole, s) in
-    let turn : Congruent m (g ^ h + 1) 0 =
-    record { same = ap (λ v. (g ^ v + 1) % m) (sym half) ∙ suits.half_turn more ∙ sym (zero-mod m) } in
+    let h : ℕ = n / 2 in let double : n ≡ h + h = omega (arith, whole, pow-suc 2 y) in
+    let turn = none_of m (g ^ h + 1) (suits.half_turn more) in
     mod_of_combination (mod_add (mod_times (g ^ h) turn) (mod_sym turn))
     (omega (arith, ap (λ v. g ^ v) double ∙ pow-add g h h))
 

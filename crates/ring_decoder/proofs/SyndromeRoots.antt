@@ -24,16 +24,30 @@ pub record IsMonic (m d : ℕ) (F : ℕ → ℕ) : Type 0 where
   pub highest : coefficient d ≡ 1
   pub value : (X : ℕ) → Congruent m (polynomial_at (suc d) coefficient X) (F X)
 
-monic_of_equal : (m d e : ℕ) (F G : ℕ → ℕ) → d ≡ e → ((X : ℕ) → F X ≡ G X) → IsMonic m d F → IsMonic m e G
-monic_of_equal m d e F G count same p = record {
-  coefficient = p.coefficient;
-  behind = λ i l. p.behind i (omega (arith, l, count));
-  highest = rw (← count) p.highest;
-  value = λ X. rw (← count, ← same X) (p.value X);
-}
+-- the highest coefficient of X + r times a polynomial
+times_root_highest : (d r : ℕ) (h : ℕ → ℕ) → h d ≡ 1 → h (suc d) ≡ 0 → times_root r h (suc d) ≡ 1
+unfolding times_root shifted
+times_root_highest d r h one none = omega (arith, one, ap (λ v. r * v) none)
 
-monic_one : (m : ℕ) → IsMonic m 0 (λ X. 1)
-monic_one m =
+-- times X - a
+times_difference : (m d a : ℕ) (F G : ℕ → ℕ) → 0 < m → ((X : ℕ) → F X * residue m (pos X -ℤ pos a) ≡ G X) → IsMonic m d F
+    → IsMonic m (suc d) G
+times_difference m d a F G positive same p =
+    let r : ℕ = (m - 1) * a in let none = p.behind (suc d) (omega arith) in
+    record {
+      coefficient = times_root r p.coefficient;
+      behind = λ i l. times_root_behind (suc d) r i p.coefficient (λ j b. p.behind j (omega arith)) (omega arith);
+      highest = times_root_highest d r p.coefficient p.highest none;
+      value = λ X. rw (← same X)
+          (mod_trans (mod_of_eq (omega (arith, times_root_value (suc d) r X p.coefficient none)))
+          (mod_mul (p.value X) (mod_sym (difference_alike m X a positive))));
+    }
+
+-- products of X - y and X - z
+monic : (m b c : ℕ) (y z : ℕ → ℕ) → 0 < m → IsMonic m (b + c) (λ X.
+    product_below b (λ l. residue m (pos X -ℤ pos (y l))) * product_below c (λ l. residue m (pos X -ℤ pos (z l))))
+unfolding product_below
+monic m zero zero y z positive =
     let c : ℕ → ℕ = extended 0 1 (λ i. 0) in let one : c 0 ≡ 1 = at_end 0 1 (λ i. 0) 0 refl in
     record {
       coefficient = c;
@@ -41,45 +55,19 @@ monic_one m =
       highest = one;
       value = λ X. mod_of_eq (constant_value X c ∙ one);
     }
-
--- the highest coefficient of X + r times a polynomial
-times_root_highest : (d r : ℕ) (h : ℕ → ℕ) → h d ≡ 1 → h (suc d) ≡ 0 → times_root r h (suc d) ≡ 1
-unfolding times_root shifted
-times_root_highest d r h one none = omega (arith, one, ap (λ v. r * v) none)
-
--- times X - a
-times_difference : (m d a : ℕ) (F : ℕ → ℕ) → 0 < m → IsMonic m d F
-    → IsMonic m (suc d) (λ X. F X * residue m (pos X -ℤ pos a))
-times_difference m d a F positive p =
-    let r : ℕ = (m - 1) * a in let none = p.behind (suc d) (omega arith) in
-    record {
-      coefficient = times_root r p.coefficient;
-      behind = λ i l. times_root_behind (suc d) r i p.coefficient (λ j b. p.behind j (omega arith)) (omega arith);
-      highest = times_root_highest d r p.coefficient p.highest none;
-      value = λ X.
-          mod_trans (mod_of_eq (omega (arith, times_root_value (suc d) r X p.coefficient none)))
-          (mod_mul (p.value X) (mod_sym (difference_alike m X a positive)));
-    }
-
-times_differences : (m b d : ℕ) (a F : ℕ → ℕ) → 0 < m → IsMonic m d F
-    → IsMonic m (b + d) (λ X. F X * product_below b (λ l. residue m (pos X -ℤ pos (a l))))
-unfolding product_below
-times_differences m zero d a F positive p = monic_of_equal m d _ F (λ X. F X * 1) (omega arith) (λ X. omega arith) p
-times_differences m (suc b) d a F positive p =
-    let P : ℕ → ℕ = λ X. product_below b (λ l. residue m (pos X -ℤ pos (a l))) in
-    monic_of_equal m (suc (b + d)) (suc b + d) (λ X. F X * P X * residue m (pos X -ℤ pos (a b)))
-    (λ X. F X * (P X * residue m (pos X -ℤ pos (a b)))) (omega arith) (λ X. omega arith)
-    (times_difference m (b + d) (a b) (λ X. F X * P X) positive (times_differences m b d a F positive p))
+monic m zero (suc c) y z positive =
+    let count : 0 + suc c ≡ suc (0 + c) = omega arith in
+    rw count (times_difference m (0 + c) (z c) _ _ positive (λ X. omega arith) (monic m zero c y z positive))
+monic m (suc b) c y z positive =
+    let count : suc b + c ≡ suc (b + c) = omega arith in
+    rw count (times_difference m (b + c) (y b) _ _ positive (λ X. omega arith) (monic m b c y z positive))
 
 -- the product of the differences from all of d + 1 points but number i
 pub product_monic : (m d i : ℕ) (x : ℕ → ℕ) → 0 < m → i ≤ d → IsMonic m d (product_but m (suc d) x i)
 unfolding product_but
 product_monic m d i x positive l =
-    let P : ℕ → ℕ = λ X. product_below i (λ l. residue m (pos X -ℤ pos (x l))) in
-    let Q : ℕ → ℕ = λ X. product_below (suc d - 1 - i) (λ l. residue m (pos X -ℤ pos (x (suc d - 1 - l)))) in
-    monic_of_equal m (suc d - 1 - i + (i + 0)) d (λ X. 1 * P X * Q X) (λ X. P X * Q X) (omega arith) (λ X. omega arith)
-    (times_differences m (suc d - 1 - i) (i + 0) (λ l. x (suc d - 1 - l)) (λ X. 1 * P X) positive
-    (times_differences m i 0 x (λ X. 1) positive (monic_one m)))
+    let count : i + (suc d - 1 - i) ≡ d = omega arith in
+    rw count at (monic m i (suc d - 1 - i) x (λ l. x (suc d - 1 - l)) positive)
 
 -- sums of multiples of n such functions
 pub combination : (m d n : ℕ) (v : ℕ → ℕ) (F : ℕ → ℕ → ℕ) → ((i : ℕ) → i < n → IsMonic m d (F i))

@@ -6,14 +6,14 @@ ghost use Rattle.num_modular.specs.Entries.{entry};
 ghost use Rattle.num_modular.specs.Checked.{AreChecked, IsChecked};
 ghost use Rattle.num_modular.specs.Inverses.{HasInverse};
 ghost use Rattle.num_modular.specs.Sums.{sum_below};
-ghost use Rattle.ring_decoder.specs.LocatorSteps.{HoldsSearch, IsCombined};
+ghost use Rattle.ring_decoder.specs.LocatorSteps.{IsSearch, IsCombined};
 ghost use Rattle.ring_decoder.specs.Locators.{IsLocator, IsGeometric, IsLinear, NeedManyWeights};
 
 use num_modular::ring::dot_product;
 use num_modular::{Reducer, RingWord};
 
 // The sum of the first coefficients of a polynomial, each times its number, from an index of the numbers on.
-fn apply<T: RingWord, R: Reducer<T>>(
+pub fn apply<T: RingWord, R: Reducer<T>>(
     r: &R,
     polynomial: &[T],
     count: usize,
@@ -109,13 +109,17 @@ fn advance<T: RingWord, R: Reducer<T>>(
     requires other { AreChecked R.Reducer T.number r.now other.old }
     requires locator_places { length locator.old ≡ length moments.now / 2 + 1 }
     requires other_places { length other.old ≡ length moments.now / 2 + 1 }
-    requires search { let m = R.modulus r.now in HoldsSearch T.number R.form R.value m (length moments.now) i degree pivot witness
+    requires pivot { IsChecked R.Reducer T.number r.now pivot }
+    requires witness { IsChecked R.Reducer T.number r.now witness }
+    requires search { let m = R.modulus r.now in
+        IsSearch m (length moments.now) i degree (R.value m (T.number pivot)) (R.value m (T.number witness))
         (entry T.number R.value m locator.old) (entry T.number R.value m other.old) (entry T.number R.value m moments.now) }
     ensures checked_locator { AreChecked R.Reducer T.number r.now locator.new }
     ensures checked_other { AreChecked R.Reducer T.number r.now other.new }
+    ensures forms { IfSome result (λ f. IsChecked R.Reducer T.number r.now f.2 × IsChecked R.Reducer T.number r.now f.3) }
     ensures advanced { let m = R.modulus r.now in let t = entry T.number R.value m moments.now in
         MatchOption result (NeedManyWeights m (length moments.now) t)
-        (λ f. HoldsSearch T.number R.form R.value m (length moments.now) (i + 1) f.0 f.2 f.3
+        (λ f. IsSearch m (length moments.now) (i + 1) f.0 (R.value m (T.number f.2)) (R.value m (T.number f.3))
         (entry T.number R.value m (if f.1 then other.new else locator.new))
         (entry T.number R.value m (if f.1 then locator.new else other.new)) t) }
     ensures counted { products.new ≤ products.old + 3 * (length moments.now / 2 + 1) }
@@ -144,7 +148,7 @@ fn advance<T: RingWord, R: Reducer<T>>(
 }
 
 // Writes a polynomial without other coefficients than the constant one.
-#[tactic(auto, using(num_modular::specs::Callers::entry_written, num_modular::specs::Callers::forms_written, num_modular::specs::Callers::held_forms, num_modular::specs::Callers::hold_more, ring_codes::proofs::Counts::zero_mod))]
+#[tactic(auto, using(num_modular::specs::Callers::entry_kept, num_modular::specs::Callers::entry_past, num_modular::specs::Callers::entry_written, num_modular::specs::Callers::forms_written, num_modular::specs::Callers::held_entry, num_modular::specs::Callers::held_forms, num_modular::specs::Callers::hold_more, ring_codes::proofs::Counts::zero_mod))]
 fn set_constant<T: RingWord, R: Reducer<T>>(r: &R, constant: &T, polynomial: &mut [T])
     requires constant { IsChecked R.Reducer T.number r.now constant.now }
     requires some { 0 < length polynomial.old }
@@ -176,15 +180,18 @@ fn step<T: RingWord, R: Reducer<T>>(
     requires second { AreChecked R.Reducer T.number r.now second.old }
     requires first_places { length first.old ≡ length moments.now / 2 + 1 }
     requires second_places { length second.old ≡ length moments.now / 2 + 1 }
+    requires pivot { IsChecked R.Reducer T.number r.now state.2 }
+    requires witness { IsChecked R.Reducer T.number r.now state.3 }
     requires search { let m = R.modulus r.now in
-        HoldsSearch T.number R.form R.value m (length moments.now) i state.0 state.2 state.3
+        IsSearch m (length moments.now) i state.0 (R.value m (T.number state.2)) (R.value m (T.number state.3))
         (entry T.number R.value m (if state.1 then first.old else second.old))
         (entry T.number R.value m (if state.1 then second.old else first.old)) (entry T.number R.value m moments.now) }
     ensures checked_first { AreChecked R.Reducer T.number r.now first.new }
     ensures checked_second { AreChecked R.Reducer T.number r.now second.new }
+    ensures forms { IfSome result (λ f. IsChecked R.Reducer T.number r.now f.2 × IsChecked R.Reducer T.number r.now f.3) }
     ensures advanced { let m = R.modulus r.now in let t = entry T.number R.value m moments.now in
         MatchOption result (NeedManyWeights m (length moments.now) t)
-        (λ f. HoldsSearch T.number R.form R.value m (length moments.now) (i + 1) f.0 f.2 f.3
+        (λ f. IsSearch m (length moments.now) (i + 1) f.0 (R.value m (T.number f.2)) (R.value m (T.number f.3))
         (entry T.number R.value m (if f.1 then first.new else second.new))
         (entry T.number R.value m (if f.1 then second.new else first.new)) t) }
     ensures counted { products.new ≤ products.old + 3 * (length moments.now / 2 + 1) }

@@ -51,6 +51,7 @@ pub fn are_powers<T: RingWord, R: Reducer<T>>(r: &R, g: &T, points: &[T]) -> boo
 /// - g suits the number of symbols
 /// - there are as many coefficients as symbols, and no more syndromes
 /// - g and the symbols are checked forms
+#[tactic(auto, using(num_modular::specs::Callers::entry_read, num_modular::specs::Callers::form_read, num_modular::specs::Callers::held_forms, num_modular::specs::Callers::hold_more))]
 pub fn fill_syndromes_by_transform<T: RingWord, R: Reducer<T>>(
     r: &R,
     g: &T,

@@ -11,12 +11,12 @@ ghost use Rattle.ring_codes.specs.Roots.{product_of_differences};
 ghost use Rattle.ring_decoder.specs.PowerSums.{ArePowerSums};
 ghost use Rattle.ring_decoder.specs.Syndromes.{AreWeights};
 
-use num_modular::ring::dot_product;
+use super::locator::apply;
 use num_modular::{Reducer, RingWord};
 use ring_codes::erasure::expand_roots;
 
 // The sum of the terms; each term is then multiplied by its point.
-#[tactic(auto, using(num_modular::specs::Callers::form_read))]
+#[tactic(auto, using(num_modular::specs::Callers::done_none, num_modular::specs::Callers::form_read, num_modular::specs::NumberLaws::sum_none))]
 fn next_sum<T: RingWord, R: Reducer<T>>(r: &R, points: &[T], terms: &mut [T]) -> T
     requires points { AreChecked R.Reducer T.number r.now points.now }
     requires terms { AreChecked R.Reducer T.number r.now terms.old }
@@ -75,6 +75,7 @@ pub fn fill_power_sums<T: RingWord, R: Reducer<T>>(
 ///
 /// - there is a term for each point
 /// - points, terms and sums are checked forms
+#[tactic(auto, using(crate::proofs::SyndromeSums::terms_first, num_modular::specs::NumberLaws::residue_of))]
 pub fn are_power_sums<T: RingWord, R: Reducer<T>>(
     r: &R,
     points: &[T],
@@ -114,6 +115,7 @@ pub fn are_power_sums<T: RingWord, R: Reducer<T>>(
 ///
 /// - there is a weight, a symbol and a term for each point
 /// - points, weights and symbols are checked forms
+#[tactic(auto, using(crate::proofs::SyndromeSums::product_of_equal, num_modular::specs::Callers::entry_read, num_modular::specs::Callers::form_read, num_modular::specs::Callers::held_forms, num_modular::specs::Callers::hold_more))]
 pub fn fill_syndromes<T: RingWord, R: Reducer<T>>(
     r: &R,
     points: &[T],
@@ -155,7 +157,7 @@ pub fn sum_from<T: RingWord, R: Reducer<T>>(
         ≡ sum_below (length coefficients.now) (λ l. entry T.number R.value m coefficients.now l
         * entry T.number R.value m numbers.now (start + l)) % m }
 {
-    dot_product(r, coefficients, &numbers[start..start + coefficients.len()])
+    apply(r, coefficients, coefficients.len(), numbers, start)
 }
 
 /// Writes the moments of a word of which some symbols are lost.
@@ -171,6 +173,7 @@ pub fn sum_from<T: RingWord, R: Reducer<T>>(
 /// - `product` has one place more than there are lost points
 /// - there are as many syndromes as moments and lost points together
 /// - lost points and syndromes are checked forms
+#[tactic(auto, using(num_modular::specs::Callers::held_forms, num_modular::specs::Callers::hold_more))]
 pub fn fill_moments<T: RingWord, R: Reducer<T>>(
     r: &R,
     lost: &[T],

@@ -2,15 +2,9 @@ use Rattle.std.proofs.Common.{◌^◌, add-one, below_more}
 use Rattle.std.proofs.Math.Nat.{pow-zero, pow-suc}
 use Rattle.std.proofs.lemmas.Bool.{false≢true}
 use Rattle.std.proofs.lemmas.Nat.{mul-mod_first}
-use Rattle.num_modular.specs.Callers.{◌*◌, ◌%◌, ◌<◌, ◌∙◌, ap, sym, refl, arith, length, entry_read, form_read}
+use Rattle.num_modular.specs.Callers.{◌*◌, ◌%◌, ◌<◌, ◌∙◌, ap, sym, arith, length, entry_read, form_read}
 use Rattle.ring_codes.proofs.Symbols.{same_forms, told_same, told_other}
 use Rattle.ring_decoder.proofs.roots.are_powers.Goals as goal
-
-pub returns-then-not-root_fits : goal.returns-then-not-root_fits
-returns-then-not-root_fits g c = (
-  λ t. absurd (false≢true t),
-  λ (suits, powers). absurd (false≢true (sym c.if-not-root_fits.true ∙ c.root_fits.ensures.1 suits)),
-)
 
 pub points-init : goal.points-init
 points-init g c =
@@ -52,9 +46,3 @@ points-preserved g c =
       },
       below_more _ _ c.points.invariant.1 (sym point ∙ ap (λ f. ring.value m f) same ∙ next.same),
     )
-
-pub returns : goal.returns
-returns g c = (
-  λ t. (c.root_fits.ensures.0 c.if-not-root_fits.false, record { power = λ i l. c.points.invariant.1 i (omega arith) }),
-  λ are. refl,
-)

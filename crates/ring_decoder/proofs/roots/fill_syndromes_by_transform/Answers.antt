@@ -1,22 +1,7 @@
-use Rattle.num_modular.specs.Callers.{◌≡◌, ℕ, ◌-◌, ◌<◌, ◌∙◌, ap, arith, length}
-use Rattle.num_modular.specs.Callers.{entry, entry_read, form_read, hold_more, held_forms, held_entry}
+use Rattle.num_modular.specs.Callers.{◌≡◌, ◌-◌, ◌∙◌, ap, arith, length}
+use Rattle.num_modular.specs.Callers.{entry, held_entry}
 use Rattle.ring_decoder.proofs.RootSyndromes.{syndromes_by_transform}
 use Rattle.ring_decoder.proofs.roots.fill_syndromes_by_transform.Goals as goal
-
-pub syndromes-preserved : goal.syndromes-preserved
-syndromes-preserved g c =
-    let ring = g.R.Reducer in let m = ring.modulus c.args.r.now in let number = g.T.RingWord.number in
-    let found = c.intt.new.xs in let place : ℕ = length found - 1 - c.syndromes.h in
-    let below : place < length found = omega (arith, c.intt.auto.xs ∙ ap length c.copy_from_slice.ensures.after) in
-    hold_more number ring.form ring.value m c.syndromes.syndromes c.syndromes.h _
-    (λ h. entry number ring.value m found (length found - 1 - h)) (omega arith) c.syndromes.invariant
-    (form_read number ring.form ring.value m found place _ c.intt.ensures.checked below c.index-coefficients-coefficients.is)
-    (entry_read number ring.value m found place _ below c.index-coefficients-coefficients.is)
-
-pub returns-clause-checked : goal.returns-clause-checked
-returns-clause-checked g c t =
-    let ring = g.R.Reducer in let m = ring.modulus c.args.r.now in
-    held_forms g.T.RingWord.number ring.form ring.value m c.syndromes.syndromes _ _ c.syndromes.invariant (omega arith)
 
 pub returns-clause-sums : goal.returns-clause-sums
 returns-clause-sums g c t x v powers fit weights =

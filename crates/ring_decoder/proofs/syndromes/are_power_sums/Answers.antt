@@ -1,22 +1,11 @@
 use Rattle.std.proofs.Common.{below_more}
 use Rattle.std.proofs.lemmas.Bool.{false≢true}
-use Rattle.num_modular.specs.Callers.{◌<◌, ◌∙◌, ap, sym, refl, arith, length, mod-eq_of_lt}
+use Rattle.num_modular.specs.Callers.{◌<◌, ◌∙◌, ap, sym, arith, length, mod-eq_of_lt}
 use Rattle.num_modular.specs.Callers.{entry, entry_read, form_read}
-use Rattle.num_modular.specs.NumberLaws.{mod_of_eq, mod_trans, residue_of}
 use Rattle.num_modular.specs.Callers.{values_below}
 use Rattle.ring_codes.proofs.Symbols.{same_forms, told_same, told_other}
-use Rattle.ring_decoder.proofs.SyndromeSums.{terms_first, terms_next, sum_of_terms}
+use Rattle.ring_decoder.proofs.SyndromeSums.{terms_next, sum_of_terms}
 use Rattle.ring_decoder.proofs.syndromes.are_power_sums.Goals as goal
-
-pub sums-init : goal.sums-init
-sums-init g c =
-    let m = g.R.Reducer.modulus c.args.r.now in (
-      c.requires.terms,
-      λ i l. terms_first m _ _,
-      λ j l. absurd (omega arith),
-      omega arith,
-      omega arith,
-    )
 
 pub returns-then-ne-clause-sums : goal.returns-then-ne-clause-sums
 returns-then-ne-clause-sums g c =
@@ -52,9 +41,3 @@ sums-preserved g c =
       omega (arith, c.saturating_add.ensures, so_far.3),
       grind (arith, c.saturating_add.ensures, so_far.4),
     )
-
-pub returns-clause-sums : goal.returns-clause-sums
-returns-clause-sums g c = (
-  λ t. record { sum = λ h l. mod_trans (mod_of_eq (c.sums.invariant.2 h (omega arith))) (residue_of _) },
-  λ are. refl,
-)
