@@ -12,7 +12,7 @@ ghost use Rattle.ring_decoder.specs.Products.{solve_products};
 ghost use Rattle.ring_decoder.specs.ErrorPatterns.{zeros, spread, AreChosen, Covers, IsNearPattern, IsSolution, listed_weight};
 ghost use Rattle.ring_decoder.specs.PowerSums.{ArePowerSums};
 
-use super::errors::solve_errors;
+use super::errors::{multiply_each, solve_errors};
 use super::syndromes::are_power_sums;
 use num_modular::{Reducer, RingWord};
 
@@ -80,22 +80,6 @@ fn scatter<T: RingWord, R: Reducer<T>>(r: &R, values: &[T], chosen: &[T], errors
         } else {
             errors[i] = zero;
         }
-    }
-}
-
-// Writes the product of each two numbers.
-#[tactic(auto, using(num_modular::specs::Callers::held_entry))]
-fn multiply_each<T: RingWord, R: Reducer<T>>(r: &R, xs: &[T], ys: &[T], products: &mut [T])
-    requires xs { AreChecked R.Reducer T.number r.now xs.now }
-    requires ys { AreChecked R.Reducer T.number r.now ys.now }
-    requires pairs { length ys.now ≡ length xs.now }
-    requires room { length products.old ≡ length xs.now }
-    ensures checked { AreChecked R.Reducer T.number r.now products.new }
-    ensures products { let m = R.modulus r.now in (i : ℕ) → i < length xs.now → entry T.number R.value m products.new i
-        ≡ (entry T.number R.value m xs.now i * entry T.number R.value m ys.now i) % m }
-{
-    'numbers: for i in 0..xs.len() {
-        products[i] = r.mul(&xs[i], &ys[i]);
     }
 }
 

@@ -43,6 +43,22 @@ fn quotient_sum<T: RingWord, R: Reducer<T>>(
     sum
 }
 
+// Writes the product of each two numbers.
+#[tactic(auto, using(num_modular::specs::Callers::held_entry))]
+pub fn multiply_each<T: RingWord, R: Reducer<T>>(r: &R, xs: &[T], ys: &[T], products: &mut [T])
+    requires xs { AreChecked R.Reducer T.number r.now xs.now }
+    requires ys { AreChecked R.Reducer T.number r.now ys.now }
+    requires pairs { length ys.now ≡ length xs.now }
+    requires room { length products.old ≡ length xs.now }
+    ensures checked { AreChecked R.Reducer T.number r.now products.new }
+    ensures products { let m = R.modulus r.now in (i : ℕ) → i < length xs.now → entry T.number R.value m products.new i
+        ≡ (entry T.number R.value m xs.now i * entry T.number R.value m ys.now i) % m }
+{
+    'numbers: for i in 0..xs.len() {
+        products[i] = r.mul(&xs[i], &ys[i]);
+    }
+}
+
 /// Writes the errors at q points, given at least q syndromes.
 ///
 /// If the first q syndromes are the power sums of the points, each with its weight times an error, it writes these
@@ -60,7 +76,7 @@ fn quotient_sum<T: RingWord, R: Reducer<T>>(
 /// - there are as many syndromes as points or more
 /// - `product` has one place more than there are points
 /// - points, weights and syndromes are checked forms
-#[tactic(auto, using(num_modular::specs::Callers::done_none, num_modular::specs::Callers::form_read, num_modular::specs::Callers::held_forms))]
+#[tactic(auto, using(num_modular::specs::Callers::form_read, num_modular::specs::Callers::held_forms))]
 pub fn solve_errors<T: RingWord, R: Reducer<T>>(
     r: &R,
     points: &[T],
@@ -91,15 +107,13 @@ pub fn solve_errors<T: RingWord, R: Reducer<T>>(
 {
     expand_roots(r, points, product);
     fill_differences(r, points, divisors);
-    'points: for j in 0..points.len() {
-        errors[j] = quotient_sum(r, product, &points[j], syndromes, points.len());
-        divisors[j] = r.mul(&divisors[j], &weights[j]);
-    }
-    if !invert_each(r, divisors, scratch) {
+    multiply_each(r, divisors, weights, scratch);
+    if !invert_each(r, scratch, divisors) {
         return false;
     }
-    'errors: for j in 0..points.len() {
-        errors[j] = r.mul(&errors[j], &divisors[j]);
+    'points: for j in 0..points.len() {
+        divisors[j] = quotient_sum(r, product, &points[j], syndromes, points.len());
     }
+    multiply_each(r, divisors, scratch, errors);
     true
 }

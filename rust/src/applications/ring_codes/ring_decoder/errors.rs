@@ -20,6 +20,14 @@ fn quotient_sum<T: RingWord, R: Reducer<T>>(r: &R, coefficients: &[T], point: &T
     sum
 }
 
+// Writes the product of each two numbers.
+#[inline]
+pub fn multiply_each<T: RingWord, R: Reducer<T>>(r: &R, xs: &[T], ys: &[T], products: &mut [T]) {
+    for i in 0..xs.len() {
+        products[i] = r.mul(&xs[i], &ys[i]);
+    }
+}
+
 /// Writes the errors at q points, given at least q syndromes.
 ///
 /// If the first q syndromes are the power sums of the points, each with its weight times an error, it writes these
@@ -51,15 +59,13 @@ pub fn solve_errors<T: RingWord, R: Reducer<T>>(
 ) -> bool {
     expand_roots(r, points, product);
     fill_differences(r, points, divisors);
-    for j in 0..points.len() {
-        errors[j] = quotient_sum(r, product, &points[j], syndromes, points.len());
-        divisors[j] = r.mul(&divisors[j], &weights[j]);
-    }
-    if !invert_each(r, divisors, scratch) {
+    multiply_each(r, divisors, weights, scratch);
+    if !invert_each(r, scratch, divisors) {
         return false;
     }
     for j in 0..points.len() {
-        errors[j] = r.mul(&errors[j], &divisors[j]);
+        divisors[j] = quotient_sum(r, product, &points[j], syndromes, points.len());
     }
+    multiply_each(r, divisors, scratch, errors);
     true
 }

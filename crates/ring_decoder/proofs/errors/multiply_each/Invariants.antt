@@ -1,5 +1,5 @@
 use Rattle.num_modular.specs.Callers.{◌*◌, ◌%◌, HoldBelow, entry}
-use Rattle.ring_decoder.proofs.choices.multiply_each.Given as goal
+use Rattle.ring_decoder.proofs.errors.multiply_each.Given as goal
 
 -- the products so far
 abbrev pub invariant-numbers : goal.invariant-numbers
