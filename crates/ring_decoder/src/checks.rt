@@ -10,6 +10,7 @@ use super::syndromes::sum_from;
 use num_modular::{Reducer, RingWord};
 
 // The check in row h and column i, at the next place of the table, given those before it.
+#[tactic(auto, using(num_modular::specs::Callers::form_read))]
 fn next_check<T: RingWord, R: Reducer<T>>(
     r: &R,
     points: &[T],
@@ -85,6 +86,7 @@ pub fn fill_checks<T: RingWord, R: Reducer<T>>(
 ///
 /// - there is a check for each symbol and syndrome
 /// - symbols and checks are checked forms
+#[tactic(auto, using(num_modular::specs::Callers::held_forms))]
 pub fn fill_checked_syndromes<T: RingWord, R: Reducer<T>>(
     r: &R,
     checks: &[T],

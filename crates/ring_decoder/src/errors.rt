@@ -14,6 +14,7 @@ use ring_codes::erasure::{expand_roots, fill_differences};
 
 // The sum of the numbers, each times its coefficient of the quotient of a polynomial with q + 1 coefficients by X - x.
 // The quotient's coefficients are found by Horner's rule, the highest first.
+#[tactic(auto, using(num_modular::specs::Callers::form_read))]
 fn quotient_sum<T: RingWord, R: Reducer<T>>(
     r: &R,
     coefficients: &[T],

@@ -1,18 +1,7 @@
-use Rattle.num_modular.specs.Callers.{arith, length, entry, hold_more, held_forms, held_entry}
+use Rattle.num_modular.specs.Callers.{arith, length, entry, held_entry}
 use Rattle.num_modular.specs.NumberLaws.{mod_of_eq, mod_trans, residue_of}
 use Rattle.ring_decoder.proofs.CheckTables.{checked_sum}
 use Rattle.ring_decoder.proofs.checks.fill_checked_syndromes.Goals as goal
-
-pub syndromes-preserved : goal.syndromes-preserved
-syndromes-preserved g c =
-    let ring = g.R.Reducer in let m = ring.modulus c.args.r.now in
-    hold_more g.T.RingWord.number ring.form ring.value m c.syndromes.syndromes c.syndromes.h c.sum_from.result _ (omega arith)
-    c.syndromes.invariant c.sum_from.ensures.checked c.sum_from.ensures.value
-
-pub returns-clause-checked : goal.returns-clause-checked
-returns-clause-checked g c =
-    let ring = g.R.Reducer in let m = ring.modulus c.args.r.now in
-    held_forms g.T.RingWord.number ring.form ring.value m c.syndromes.syndromes _ _ c.syndromes.invariant (omega arith)
 
 pub returns-clause-sums : goal.returns-clause-sums
 returns-clause-sums g c x v table =

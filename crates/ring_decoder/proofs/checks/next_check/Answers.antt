@@ -1,7 +1,6 @@
 use Rattle.std.proofs.Common.{◌^◌}
-use Rattle.num_modular.specs.Callers.{ℕ, ◌-◌, ◌*◌, ◌/◌, ◌%◌, ◌<◌, ◌≤◌, arith, length}
-use Rattle.num_modular.specs.Callers.{entry, entry_read, form_read, held_read}
-use Rattle.num_modular.specs.Callers.{values_below}
+use Rattle.num_modular.specs.Callers.{ℕ, ◌-◌, ◌*◌, ◌/◌, ◌%◌, ◌<◌, ◌≤◌, arith, length, entry, entry_read}
+use Rattle.num_modular.specs.Callers.{held_read, values_below}
 use Rattle.ring_decoder.proofs.CheckTables.{check_first, check_later}
 use Rattle.ring_decoder.proofs.checks.next_check.Goals as goal
 
@@ -33,15 +32,3 @@ mul-requires-clause-left g c =
     let above : n ≤ next = c.requires.above c.if-h-eq0.false in let column = c.requires.column in
     (held_read number ring.form ring.value m c.args.checks.now (next - n) next _
     (λ e. (v (e % n) * x (e % n) ^ (e / n)) % m) c.requires.before (omega (arith, above, column)) c.index-checks-next.is).checked
-
-pub mul-requires-clause-right : goal.mul-requires-clause-right
-mul-requires-clause-right g c =
-    let ring = g.R.Reducer in let m = ring.modulus c.args.r.now in
-    form_read g.T.RingWord.number ring.form ring.value m c.args.points.now c.args.i _ c.requires.points c.requires.column
-    c.index-points-i.is
-
-pub returns-then-h-eq0-clause-checked : goal.returns-then-h-eq0-clause-checked
-returns-then-h-eq0-clause-checked g c =
-    let ring = g.R.Reducer in let m = ring.modulus c.args.r.now in
-    form_read g.T.RingWord.number ring.form ring.value m c.args.weights.now c.args.i _ c.requires.weights
-    (omega (arith, c.requires.column, c.requires.each_weight)) c.index-weights-i.is

@@ -1,9 +1,7 @@
-use Rattle.num_modular.specs.Callers.{form_read, ◌<◌, ◌≡◌, ℕ, ◌+◌, ◌-◌, ◌*◌, ◌%◌, ◌∙◌, ap, sym, arith, entry}
-use Rattle.num_modular.specs.Callers.{entry_read}
-use Rattle.num_modular.specs.NumberLaws.{mod_of_eq, mod_trans, mod_mul, residue_of, sum_below-zero}
+use Rattle.num_modular.specs.Callers.{◌<◌, ◌≡◌, ℕ, ◌+◌, ◌-◌, ◌*◌, ◌%◌, ◌∙◌, ap, sym, arith, entry, entry_read}
+use Rattle.num_modular.specs.NumberLaws.{mod_of_eq, mod_trans, mod_mul, residue_of, sum_below-zero, sum_more}
 use Rattle.num_modular.specs.Polynomials.{polynomial_at}
 use Rattle.ring_codes.proofs.NewtonForms.{value_none, value_more}
-use Rattle.num_modular.specs.NumberLaws.{sum_more}
 use Rattle.ring_decoder.proofs.errors.quotient_sum.Goals as goal
 
 pub coefficients-init : goal.coefficients-init
@@ -42,13 +40,3 @@ coefficients-preserved g c =
 pub returns-clause-value : goal.returns-clause-value
 returns-clause-value g c =
     let count : c.coefficients.k ≡ c.args.q = omega arith in rw count at c.coefficients.invariant.1.same
-
-pub add-quotient-requires-clause-left : goal.add-quotient-requires-clause-left
-add-quotient-requires-clause-left g c =
-    let ring = g.R.Reducer in let m = ring.modulus c.args.r.now in
-    form_read g.T.RingWord.number ring.form ring.value m c.args.coefficients.now (c.args.q - c.coefficients.k) _ c.requires.coefficients (omega (arith, c.requires.each)) c.index-coefficients-q.is
-
-pub mul-term-requires-clause-right : goal.mul-term-requires-clause-right
-mul-term-requires-clause-right g c =
-    let ring = g.R.Reducer in let m = ring.modulus c.args.r.now in
-    form_read g.T.RingWord.number ring.form ring.value m c.args.numbers.now (c.args.q - 1 - c.coefficients.k) _ c.requires.numbers (omega (arith, c.coefficients-test.true, c.requires.enough)) c.index-numbers-q.is
