@@ -1,14 +1,14 @@
 -- The dual of a Reed-Solomon code: the weighted power sums of a word of the code are 0, and no other word's are
 -- (MacWilliams and Sloane, The Theory of Error-Correcting Codes, 1977, chapters 10 and 12).
-use Rattle.std.proofs.Common.{◌≡◌, ℕ, zero, suc, ◌+◌, ◌-◌, ◌*◌, ◌%◌, ◌^◌, ◌<◌, ◌≤◌, ap, sym, ◌∙◌, arith, refl}
-use Rattle.std.proofs.Common.{mod-eq_of_lt}
+use Rattle.std.proofs.Common.{◌≡◌, ℕ, zero, suc, ◌+◌, ◌-◌, ◌*◌, ◌%◌, ◌^◌, ◌<◌, ◌≤◌, ap, sym, arith, refl, mod-lt, pos, ◌-ℤ◌}
 use Rattle.num_modular.specs.Callers.{same_coefficients, has_both}
 use Rattle.num_modular.specs.Congruence.{Congruent}
 use Rattle.num_modular.specs.Inverses.{HasInverse}
-use Rattle.num_modular.specs.NumberLaws.{mod_of_eq, residue_of, mod_sym, mod_trans, mod_add, mod_add_cancel}
-use Rattle.num_modular.specs.NumberLaws.{sum_below-same, sum_below-congruent, sum_below-of_zeros, sum_below-add}
-use Rattle.num_modular.specs.NumberLaws.{sum_below-mul, sum_below-joined, sum_below-bounded}
+use Rattle.num_modular.specs.NumberLaws.{mod_of_eq, residue_of, mod_sym, mod_trans, mod_add, equal_below}
+use Rattle.num_modular.specs.NumberLaws.{sum_below-congruent, sum_below-of_zeros, sum_below-add, sum_below-joined}
+use Rattle.num_modular.specs.NumberLaws.{sum_below-bounded}
 use Rattle.num_modular.specs.Polynomials.{polynomial_at, HaveUnitDifferences}
+use Rattle.num_modular.specs.Residues.{residue}
 use Rattle.num_modular.specs.SumLaws.{single}
 use Rattle.num_modular.specs.Sums.{sum_below}
 use Rattle.ring_codes.specs.Erasure.{IsErasureCodeword, distance}
@@ -16,13 +16,13 @@ use Rattle.ring_codes.specs.Prepared.{product_but}
 use Rattle.ring_codes.proofs.Counts.{fit_front}
 use Rattle.ring_codes.proofs.Distances.{extended, at_end, before_end, counted, counted_most, no_distance}
 use Rattle.ring_codes.proofs.Lagrange.{none_at, message_of}
-use Rattle.ring_codes.proofs.NearestWords.{at_root, unit_alike}
+use Rattle.ring_codes.proofs.NearestWords.{unit_alike}
 use Rattle.ring_decoder.specs.PowerSums.{ArePowerSums}
 use Rattle.ring_decoder.specs.Syndromes.{AreWeights}
 use Rattle.ring_decoder.proofs.SyndromeSums.{moment}
 use Rattle.ring_decoder.proofs.SyndromeRoots.{product_monic, combination}
-use Rattle.ring_codes.proofs.Congruences.{mod_of_combination, mod_of_inverse, mod_of_residue, mod_times, has_one}
-use Rattle.ring_decoder.proofs.LocatorSums.{factor_none, none_of, residue_none, weights_none}
+use Rattle.ring_codes.proofs.Congruences.{mod_of_combination, mod_of_difference, mod_of_inverse, mod_of_residue, mod_times, has_one}
+use Rattle.ring_decoder.proofs.LocatorSums.{factor_none, residue_none, weights_none}
 
 -- the polynomial X^e
 power_value : (n e X : ℕ) → e < n → polynomial_at n (extended e 1 (λ i. 0)) X ≡ X ^ e
@@ -78,26 +78,14 @@ codeword_without_syndromes m k n x v y positive few fit weights (c, encoding) = 
       (omega arith))));
 }
 
--- numbers that differ by 0 are congruent
-congruent_from_difference : (m a b : ℕ) → 0 < m → Congruent m (a + (m - 1) * b) 0 → Congruent m a b
-congruent_from_difference m a b positive none =
-    mod_add_cancel ((m - 1) * b) (mod_trans none (mod_sym (none_of m _ (at_root m b positive))))
-
-no_difference_of : (m a b : ℕ) → 0 < m → a ≡ b → Congruent m (a + (m - 1) * b) 0
-no_difference_of m a b positive same = rw same (none_of m _ (at_root m b positive))
-
--- power sums of differences
-pub sums_subtracted : (m N n : ℕ) (x v y z : ℕ → ℕ) → ArePowerSums m N n x (λ i. v i * y i) (λ h. 0)
-    → ArePowerSums m N n x (λ i. v i * z i) (λ h. 0) → ArePowerSums m N n x (λ i. v i * (y i + (m - 1) * z i)) (λ h. 0)
-sums_subtracted m N n x v y z of_y of_z = record {
-  sum = λ h l.
-      let f : ℕ → ℕ = λ i. v i * y i * x i ^ h in let g : ℕ → ℕ = λ i. v i * z i * x i ^ h in
-      let both = sum_below-add n f (λ i. (m - 1) * g i) in
-      let same = sum_below-same n (λ i. f i + (m - 1) * g i) (λ i. v i * (y i + (m - 1) * z i) * x i ^ h)
-      (λ i b. omega arith) in
-      mod_of_combination (mod_add (of_y.sum h l) (mod_times (m - 1) (of_z.sum h l)))
-      (omega (arith, sum_below-mul n (m - 1) g, both, same));
-}
+-- power sums of two lists of weights and of their sums
+pub sums_added : (m n h : ℕ) (x v a b c : ℕ → ℕ) → ((i : ℕ) → i < n → Congruent m (a i + b i) (c i))
+    → Congruent m (sum_below n (λ i. v i * a i * x i ^ h) + sum_below n (λ i. v i * b i * x i ^ h))
+    (sum_below n (λ i. v i * c i * x i ^ h))
+sums_added m n h x v a b c each =
+    mod_trans (mod_of_eq (sym (sum_below-add n (λ i. v i * a i * x i ^ h) (λ i. v i * b i * x i ^ h))))
+    (sum_below-congruent n (λ i. v i * a i * x i ^ h + v i * b i * x i ^ h) (λ i. v i * c i * x i ^ h)
+    (λ i l. mod_of_combination (mod_times (v i * x i ^ h) (each i l)) (omega arith)))
 
 -- words whose first k symbols are the same
 few_behind : (k q n : ℕ) (a b : ℕ → ℕ) → k + q ≡ n → ((i : ℕ) → i < k → a i ≡ b i) → distance n a b ≤ q
@@ -125,22 +113,24 @@ pub codeword_by_syndromes : (m k n : ℕ) (x v y : ℕ → ℕ) → 0 < m → k 
 codeword_by_syndromes m k n x v y positive few fit weights below none =
     let q : ℕ = n - k in
     let found = message_of m k x y positive (fit_front m n k x few fit) (λ i l. below i (omega arith)) in
-    let c : ℕ → ℕ = found.0 in let z : ℕ → ℕ = λ i. polynomial_at k c (x i) % m in
-    let rest : ℕ → ℕ = λ i. y i + (m - 1) * z i in let w : ℕ → ℕ = λ i. v i * rest i in
-    let sums = sums_subtracted m q n x v y z none
-    (codeword_without_syndromes m k n x v z positive few fit weights (c, record { symbol = λ i l. refl })) in
-    let first : (i : ℕ) → i < k → w i % m ≡ 0 =
-    λ i l. residue_none m (w i)
-    (mod_of_combination (mod_times (v i) (no_difference_of m (y i) (z i) positive (found.1.symbol i l)))
-    (omega arith)) in
-    let each = weights_none m n q x w positive fit (few_behind k q n (λ i. w i % m) (λ i. 0) (omega arith) first)
-    (λ h l. mod_sym (sums.sum h l)) in (
-      c,
+    let z : ℕ → ℕ = λ i. polynomial_at k found.0 (x i) % m in let d : ℕ → ℕ = λ i. residue m (pos (y i) -ℤ pos (z i)) in
+    let each : (i : ℕ) → i < n → Congruent m (d i + z i) (y i) = λ i l. mod_of_difference (z i) positive refl in
+    let of_z = codeword_without_syndromes m k n x v z positive few fit weights (found.0, record { symbol = λ i l. refl }) in
+    let first : (i : ℕ) → i < k → (v i * d i) % m ≡ 0 =
+    λ i l.
+    let same : y i ≡ z i = found.1.symbol i l in
+    let none : Congruent m (d i) 0 = mod_of_combination (each i (omega arith)) (omega (arith, same)) in
+    residue_none m (v i * d i) (mod_of_combination (mod_times (v i) none) (omega arith)) in
+    let all = weights_none m n q x (λ i. v i * d i) positive fit
+    (few_behind k q n (λ i. (v i * d i) % m) (λ i. 0) (omega arith) first)
+    (λ h l. mod_of_combination (mod_add (sums_added m n h x v d z y each) (mod_add (mod_sym (none.sum h l)) (of_z.sum h l)))
+    (omega arith)) in (
+      found.0,
       record {
         symbol = λ i l.
-            let zero = factor_none m (rest i) (v i) (weight_unit m n i x v weights l)
-            (mod_of_combination (each i l) (omega arith)) in
-            sym (mod-eq_of_lt (below i l)) ∙ (congruent_from_difference m (y i) (z i) positive zero).same
-            ∙ (residue_of (polynomial_at k c (x i))).same;
+            let zero = factor_none m (d i) (v i) (weight_unit m n i x v weights l)
+            (mod_of_combination (all i l) (omega arith)) in
+            equal_below (below i l) (mod-lt (polynomial_at k found.0 (x i)) positive)
+            (mod_of_combination (mod_add (mod_sym (each i l)) zero) (omega arith));
       },
     )

@@ -1,21 +1,21 @@
-use Rattle.num_modular.specs.Callers.{◌≡◌, ◌-◌, ℕ, ◌∙◌, ap, arith, length, entry}
-use Rattle.num_modular.specs.Callers.{values_below}
+use Rattle.num_modular.specs.Callers.{◌∙◌, arith, length, entry, values_below}
 use Rattle.ring_decoder.proofs.CorrectedWords.{codeword_by_zeros}
-use Rattle.ring_decoder.specs.ErrorPatterns.{zeros}
+use Rattle.ring_decoder.specs.Syndromes.{AreSyndromes}
 use Rattle.ring_decoder.proofs.corrector.Corrector.is_codeword.Goals as goal
 
 pub returns : goal.returns
 returns g c =
     let self = c.args.self.now in let ring = g.R.Reducer in let m = ring.modulus self.ring.now in
-    let number = g.T.RingWord.number in let positive = (g.met.R.Reducer.canonical self.ring.now).positive in
-    let x = entry number ring.value m self.points.now in let v = entry number ring.value m self.weights.now in
-    let y = entry number ring.value m c.args.word.now in let n : ℕ = length self.points.now in let k = self.k in
-    let forms = c.write_syndromes.new.syndromes in let s = entry number ring.value m forms in
-    let room = c.requires.room in
-    let long : length forms ≡ n - k = c.write_syndromes.auto.syndromes ∙ c.split_at_mut-syndromes.ensures.front_len in
-    let both = codeword_by_zeros m k n x v y s positive self.few self.inverses
-    (λ i l. values_below number ring.form ring.value m c.args.word.now i c.requires.word (omega (arith, l, room)))
-    (λ h l. values_below number ring.form ring.value m forms h c.write_syndromes.ensures.checked (omega (arith, l, long)))
-    (rw c.split_at_mut-syndromes.ensures.front_len at c.write_syndromes.ensures.sums) in
-    let count : c.count_zeros.result ≡ zeros (n - k) s = c.count_zeros.ensures ∙ ap (λ t. zeros t s) long in
-    search (arith, both.0, both.1, count, long)
+    let number = g.T.RingWord.number in let entries = entry number ring.value m in let room = c.requires.room in
+    let wrote = c.write_syndromes in let forms = wrote.new.syndromes in
+    let known : AreSyndromes m self.k (length self.points.now) (length forms) (entries self.points.now)
+    (entries self.weights.now) (entries c.args.word.now) (entries forms) = record {
+      positive = (g.met.R.Reducer.canonical self.ring.now).positive;
+      few = self.few;
+      count = wrote.auto.syndromes ∙ c.split_at_mut-syndromes.ensures.front_len;
+      weights = self.inverses;
+      below = λ i l. values_below number ring.form ring.value m c.args.word.now i c.requires.word (omega (arith, l, room));
+      small = λ h l. values_below number ring.form ring.value m forms h wrote.ensures.checked l;
+      sums = rw (← wrote.auto.syndromes) at wrote.ensures.sums;
+    } in
+    let both = codeword_by_zeros known in search (arith, both.0, both.1, c.count_zeros.ensures)
