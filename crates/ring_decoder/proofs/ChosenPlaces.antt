@@ -1,17 +1,16 @@
 -- The places at which a list of numbers is 0, in their order.
 use Rattle.std.proofs.Common.{◌≡◌, ◌≢◌, ℕ, zero, suc, ◌+◌, ◌*◌, ◌^◌, ◌<◌, cond, eqb, ap, sym, ◌∙◌, arith}
 use Rattle.std.proofs.Common.{inl, inr, add-one, refl}
-use Rattle.std.proofs.lemmas.Bool.{cases_eq, eq-eqb, ne_eqb}
+use Rattle.std.proofs.lemmas.Bool.{cases_eq, cases_lt, eq-eqb, ne_eqb}
 use Rattle.num_modular.specs.Congruence.{Congruent}
 use Rattle.num_modular.specs.Inverses.{HasInverse}
-use Rattle.num_modular.specs.NumberLaws.{mod_of_eq, mod_sym, mod_trans, sum_below-zero, sum_below-suc}
+use Rattle.num_modular.specs.NumberLaws.{mod_of_eq, mod_sym, mod_trans, sum_below-zero, sum_below-suc, sum_below-more}
 use Rattle.num_modular.specs.NumberLaws.{sum_below-congruent}
 use Rattle.num_modular.specs.Polynomials.{HaveUnitDifferences}
 use Rattle.num_modular.specs.Sums.{sum_below}
 use Rattle.ring_codes.proofs.Distances.{counted, counted_same, counted_other, extended, at_end, before_end}
 use Rattle.ring_codes.specs.Erasure.{distance}
-use Rattle.ring_decoder.specs.ErrorPatterns.{zeros, spread, AreChosen}
-use Rattle.ring_decoder.specs.PowerSums.{ArePowerSums}
+use Rattle.ring_decoder.specs.ErrorPatterns.{zeros, AreChosen}
 use Rattle.ring_codes.proofs.Congruences.{mod_of_combination, mod_times}
 
 -- 1 at 0, otherwise 0
@@ -43,70 +42,47 @@ zeros_kept n z o = ap (λ k. zeros k z) (add-one n) ∙ zeros-same n z o
 -- a 0 counts for each later place
 pub zeros_before : (i n : ℕ) (z : ℕ → ℕ) → i < n → z i ≡ 0 → zeros i z < zeros n z
 zeros_before i zero z l e = absurd (omega arith)
-zeros_before i (suc n) z l e = elim (cases_eq i n) [
-  | inl same ↦ rw same (omega (arith, zeros-suc n z (rw (← same) e)))
-  | inr other ↦
-      let b = zeros_before i n z (omega arith) e in
-      elim (cases_eq (z n) 0) [
-        | inl here ↦ omega (arith, b, zeros-suc n z here)
-        | inr o ↦ omega (arith, b, zeros-same n z o)
-      ]
-]
+zeros_before i (suc n) z l e = grind (arith, cases_eq, zeros-suc n z, zeros-same n z, zeros_before i n z)
 
 pub zeros_others : (n : ℕ) (z : ℕ → ℕ) → zeros n z + distance n z (λ i. 0) ≡ n
 zeros_others zero z = omega (arith, zeros-none z, sum_below-zero (λ i. counted (z i) 0))
 zeros_others (suc n) z =
-    let i = zeros_others n z in let t = sum_below-suc n (λ i. counted (z i) 0) in
-    elim (cases_eq (z n) 0) [
-      | inl e ↦ omega (arith, i, zeros-suc n z e, t, counted_same (z n) 0 e)
-      | inr o ↦ omega (arith, i, zeros-same n z o, t, counted_other (z n) 0 o)
-    ]
+    let more = sum_below-suc n (λ i. counted (z i) 0) in
+    grind (arith, cases_eq (z n) 0, zeros_others n z, zeros-suc n z, zeros-same n z, more, counted_same, counted_other)
 
 -- the place of a 0 by its number
 pub ranked : (n k : ℕ) (z : ℕ → ℕ) → k < zeros n z → (i : ℕ) × (i < n) × (z i ≡ 0) × (zeros i z ≡ k)
 ranked zero k z l = absurd (omega (arith, l, zeros-none z))
-ranked (suc n) k z l = elim (cases_eq (z n) 0) [
-  | inl e ↦
-      elim (cases_eq (zeros n z) k) [
-        | inl same ↦ (n, omega arith, e, same)
-        | inr o ↦ let r = ranked n k z (omega (arith, l, zeros-suc n z e, o)) in (r.0, omega (arith, r.1), r.2, r.3)
+ranked (suc n) k z l = elim (cases_lt k (zeros n z)) [
+  | inl before ↦ let r = ranked n k z before in (r.0, omega (arith, r.1), r.2, r.3)
+  | inr last ↦
+      elim (cases_eq (z n) 0) [
+        | inl e ↦ (n, omega arith, e, omega (arith, l, last, zeros-suc n z e))
+        | inr o ↦ absurd (omega (arith, l, last, zeros-same n z o))
       ]
-  | inr o ↦ let r = ranked n k z (omega (arith, l, zeros-same n z o)) in (r.0, omega (arith, r.1), r.2, r.3)
 ]
-
-chosen_of_suc : {n : ℕ} {z f g : ℕ → ℕ} → AreChosen (suc n) z f g → AreChosen n z f g
-chosen_of_suc c = record { at = λ i l e. c.at i (omega arith) e }
 
 -- one place more, that is chosen, or isn't
 pub chosen_more : (n : ℕ) (z f g h : ℕ → ℕ) → AreChosen n z f g → h (zeros n z) ≡ f n
     → ((k : ℕ) → k ≢ zeros n z → h k ≡ g k) → AreChosen (n + 1) z f h
 chosen_more n z f g h c last same = record {
-  at = λ i l here. elim (cases_eq i n) [
-    | inl e ↦ rw e last
-    | inr other ↦ same (zeros i z) (omega (arith, zeros_before i n z (omega arith) here)) ∙ c.at i (omega arith) here
-  ];
+  at = λ i l here. grind (arith, cases_eq i n, zeros_before i n z, c.at i, same (zeros i z), last);
 }
 
 pub chosen_kept : (n : ℕ) (z f g : ℕ → ℕ) → AreChosen n z f g → z n ≢ 0 → AreChosen (n + 1) z f g
-chosen_kept n z f g c other = record {
-  at = λ i l here. elim (cases_eq i n) [
-    | inl e ↦ absurd (other (rw e at here))
-    | inr before ↦ c.at i (omega arith) here
-  ];
-}
+chosen_kept n z f g c other = record { at = λ i l here. grind (arith, cases_eq i n, c.at i) }
 
 -- a list of the chosen numbers
 pub picked : (n : ℕ) (z f : ℕ → ℕ) → (g : ℕ → ℕ) × AreChosen n z f g
 picked zero z f = (f, record { at = λ i l e. absurd (omega arith) })
 picked (suc n) z f =
-    let p = picked n z f in let more : ℕ → ℕ = extended (zeros n z) (f n) p.0 in
-    elim (cases_eq (z n) 0) [
-      | inl e ↦ (
-        more,
-        rw (← add-one n) (chosen_more n z f p.0 more p.1 (at_end _ _ _ (zeros n z) refl) (before_end _ _ _)),
-      )
-      | inr o ↦ (p.0, rw (← add-one n) (chosen_kept n z f p.0 p.1 o))
-    ]
+    let p = picked n z f in let before = p.1.at in let K : ℕ = zeros n z in (
+      extended K (f n) p.0,
+      record {
+        at = λ i l e.
+            grind (arith, cases_eq i n, before i, zeros_before i n z, at_end K (f n) p.0, before_end K (f n) p.0);
+      },
+    )
 
 -- the chosen numbers by their number
 pub chosen_is : (n k : ℕ) (z f g : ℕ → ℕ) → AreChosen n z f g → (l : k < zeros n z) → f (ranked n k z l).0 ≡ g k
@@ -130,48 +106,30 @@ pub chosen_sum : (n : ℕ) (z f g : ℕ → ℕ) → AreChosen n z f g
     → sum_below (zeros n z) g ≡ sum_below n (λ i. cond (eqb (z i) 0) (f i) 0)
 chosen_sum zero z f g c = rw (zeros-none z) (sum_below-zero g ∙ sym (sum_below-zero _))
 chosen_sum (suc n) z f g c =
-    let i = chosen_sum n z f g (chosen_of_suc c) in let t = sum_below-suc n (λ i. cond (eqb (z i) 0) (f i) 0) in
-    elim (cases_eq (z n) 0) [
-      | inl e ↦
-          let k : zeros (suc n) z ≡ suc (zeros n z) = omega (arith, zeros-suc n z e) in
-          rw k (omega (arith, i, t, sum_below-suc (zeros n z) g, c.at n (omega arith) e, chosen_zero (z n) (f n) 0 e))
-      | inr o ↦ omega (arith, i, t, ap (λ k. sum_below k g) (zeros-same n z o), chosen_nonzero (z n) (f n) 0 o)
-    ]
+    let i = chosen_sum n z f g (record { at = λ i l. c.at i (omega arith) }) in
+    let t = sum_below-suc n (λ i. cond (eqb (z i) 0) (f i) 0) in let more = sum_below-more g (zeros n z) in
+    let last = c.at n (omega arith) in let here = chosen_zero (z n) (f n) 0 in let other = chosen_nonzero (z n) (f n) 0 in
+    grind (arith, cases_eq (z n) 0, i, t, more, last, zeros-suc n z, zeros-same n z, here, other)
 
--- power sums of the chosen points are those of all, where the other weights are 0
-pub chosen_powers : (m n h : ℕ) (z x v e p w d : ℕ → ℕ) → AreChosen n z x p → AreChosen n z v w → AreChosen n z e d
-    → ((i : ℕ) → i < n → z i ≢ 0 → Congruent m (e i) 0)
-    → Congruent m (sum_below (zeros n z) (λ k. w k * d k * p k ^ h)) (sum_below n (λ i. v i * e i * x i ^ h))
-chosen_powers m n h z x v e p w d points weights errors none =
+-- p and w list the q points and weights where z is 0
+pub record AreChosenPoints (n q : ℕ) (z x v p w : ℕ → ℕ) : Type 0 where
+  pub count : q ≡ zeros n z
+  pub points : AreChosen n z x p
+  pub weights : AreChosen n z v w
+
+-- their power sums are those of all points, where the other errors are 0
+pub chosen_powers : {n q : ℕ} {z x v p w : ℕ → ℕ} (m h : ℕ) (e d : ℕ → ℕ) → AreChosenPoints n q z x v p w
+    → AreChosen n z e d → ((i : ℕ) → i < n → z i ≢ 0 → Congruent m (e i) 0)
+    → Congruent m (sum_below q (λ k. w k * d k * p k ^ h)) (sum_below n (λ i. v i * e i * x i ^ h))
+chosen_powers {n} {q} {z} {x} {v} {p} {w} m h e d chosen errors none =
     let f : ℕ → ℕ = λ i. v i * e i * x i ^ h in
-    mod_trans
+    rw chosen.count (mod_trans
     (mod_of_eq (chosen_sum n z f (λ k. w k * d k * p k ^ h) (record {
-      at = λ i l here. rw (weights.at i l here, errors.at i l here, points.at i l here) refl;
+      at = λ i l here. rw (chosen.weights.at i l here, errors.at i l here, chosen.points.at i l here) refl;
     })))
     (sum_below-congruent n (λ i. cond (eqb (z i) 0) (f i) 0) f
     (λ i l. elim (cases_eq (z i) 0) [
       | inl here ↦ mod_of_eq (chosen_zero (z i) (f i) 0 here)
       | inr other ↦ mod_of_combination (mod_times (v i * x i ^ h) (mod_sym (none i l other)))
           (omega (arith, chosen_nonzero (z i) (f i) 0 other))
-    ]))
-
--- .. from the chosen points to all
-pub all_powers : (m t n : ℕ) (z x v e p w d s : ℕ → ℕ) → AreChosen n z x p → AreChosen n z v w
-    → ((i : ℕ) → i < n → e i ≡ spread z d i)
-    → ArePowerSums m t (zeros n z) p (λ k. w k * d k) s → ArePowerSums m t n x (λ i. v i * e i) s
-all_powers m t n z x v e p w d s points weights is sums = record {
-  sum = λ h l. mod_trans (sums.sum h l) (chosen_powers m n h z x v e p w d points weights
-      (record { at = λ i b here. sym (is i b ∙ chosen_zero (z i) (d (zeros i z)) 0 here) })
-      (λ i b other. mod_of_eq (is i b ∙ chosen_nonzero (z i) (d (zeros i z)) 0 other)));
-}
-
--- .. and back
-pub few_powers : (m t n : ℕ) (z x v e p w d s : ℕ → ℕ) → AreChosen n z x p → AreChosen n z v w → AreChosen n z e d
-    → ((i : ℕ) → i < n → z i ≢ 0 → Congruent m (e i) 0)
-    → ArePowerSums m t n x (λ i. v i * e i) s → ArePowerSums m t (zeros n z) p (λ k. w k * d k) s
-few_powers m t n z x v e p w d s points weights errors none sums = record {
-  sum = λ h l. mod_trans (sums.sum h l) (mod_sym (chosen_powers m n h z x v e p w d points weights errors none));
-}
-
-pub chosen_none : (z f g : ℕ → ℕ) → AreChosen 0 z f g
-chosen_none z f g = record { at = λ i l here. absurd (omega arith) }
+    ])))

@@ -7,7 +7,7 @@ use Rattle.std.proofs.lemmas.Bool.{cases_eq, cases_Bool, false≢true, ne_eqb}
 use Rattle.std.proofs.lemmas.Bool.Decides.{eqb_tells}
 use Rattle.std.proofs.lemmas.List.Folds.{list_any_more, list_any_at}
 use Rattle.std.specs.List.{list_any}
-use Rattle.num_modular.specs.NumberLaws.{sum_below-zero, sum_below-suc, sum_below-same}
+use Rattle.num_modular.specs.NumberLaws.{sum_below-zero, sum_below-suc, sum_below-same, sum_below-add}
 use Rattle.num_modular.specs.Sums.{sum_below}
 use Rattle.ring_codes.proofs.Distances.{counted, counted_same, counted_other, counted_most}
 use Rattle.std.proofs.Math.Bool.{or-true, or-false}
@@ -51,14 +51,12 @@ pub without_more : (lost : List ℕ) (k i : ℕ) (y : ℕ → ℕ) → k < lengt
     → without (take (k + 1) lost) y i ≡ 0
 without_more lost k i y below e =
     without_lost (take (k + 1) lost) y i
-    (list_any_more (λ p. eqb p i) lost k 0 below
-    ∙ ap (λ b. is_lost (take k lost) i || b) (eq-eqb (slice_index lost k) i (sym e)) ∙ or-true _)
+    (rw (list_any_more (λ p. eqb p i) lost k 0 below, eq-eqb (slice_index lost k) i (sym e)) (or-true _))
 
 pub without_kept : (lost : List ℕ) (k i : ℕ) (y : ℕ → ℕ) → k < length lost → i ≢ slice_index lost k
     → without (take (k + 1) lost) y i ≡ without (take k lost) y i
 without_kept lost k i y below other =
-    ap (λ b. cond b 0 (y i)) (list_any_more (λ p. eqb p i) lost k 0 below
-    ∙ ap (λ b. is_lost (take k lost) i || b) (ne_eqb (slice_index lost k) i (λ e. other (sym e))) ∙ or-false _)
+    rw (list_any_more (λ p. eqb p i) lost k 0 below, ne_eqb (slice_index lost k) i (λ e. other (sym e)), or-false) refl
 
 pub without_below : (m : ℕ) (lost : List ℕ) (y : ℕ → ℕ) (i : ℕ) → y i < m → without lost y i % m ≡ without lost y i
 without_below m lost y i l =
@@ -78,12 +76,12 @@ pub listed_none : (m : ℕ) (lost : List ℕ) (d : ℕ → ℕ) (i : ℕ) → is
     → d i % m ≡ 0
 listed_none m lost d i listed none = ap (λ a. a % m) (sym (without_listed lost d i listed)) ∙ none
 
--- sums of terms that are greater at one place alone
-below_place : (n p : ℕ) (f g : ℕ → ℕ) → ((i : ℕ) → i < n → i ≢ p → f i ≤ g i) → n ≤ p → sum_below n f ≤ sum_below n g
-below_place zero p f g less l = omega (arith, sum_below-zero f)
-below_place (suc n) p f g less l =
-    let i = below_place n p f g (λ i b. less i (omega arith)) (omega arith) in
-    omega (arith, sum_below-suc n f, sum_below-suc n g, i, less n (omega arith) (omega arith))
+-- sums of terms that are greater nowhere, or at one place alone
+sum_most : (n : ℕ) (f g : ℕ → ℕ) → ((i : ℕ) → i < n → f i ≤ g i) → sum_below n f ≤ sum_below n g
+sum_most zero f g less = omega (arith, sum_below-zero f)
+sum_most (suc n) f g less =
+    let i = sum_most n f g (λ i l. less i (omega arith)) in
+    omega (arith, sum_below-suc n f, sum_below-suc n g, i, less n (omega arith))
 
 pub one_place : (n p : ℕ) (f g : ℕ → ℕ) → ((i : ℕ) → i < n → i ≢ p → f i ≤ g i) → f p ≤ 1
     → sum_below n f ≤ sum_below n g + 1
@@ -93,7 +91,7 @@ one_place (suc n) p f g less one =
     elim (cases_eq n p) [
       | inl e ↦
           let o : f n ≤ 1 = rw e one in
-          omega (arith, s, t, below_place n p f g (λ i b. less i (omega arith)) (omega arith), o)
+          omega (arith, s, t, sum_most n f g (λ i l. less i (omega arith) (omega arith)), o)
       | inr other ↦
           omega (arith, s, t, one_place n p f g (λ i b. less i (omega arith)) one, less n (omega arith) other)
     ]
@@ -118,34 +116,25 @@ distance_alike n a b c d first second = sum_below-same n _ _ (λ i l. rw (first 
 -- words that differ at fewer places
 pub fewer_differences : (n : ℕ) (a b c d : ℕ → ℕ) → ((i : ℕ) → i < n → c i ≡ d i → a i ≡ b i)
     → distance n a b ≤ distance n c d
-fewer_differences zero a b c d less = omega (arith, sum_below-zero (λ i. counted (a i) (b i)))
-fewer_differences (suc n) a b c d less =
-    let s = sum_below-suc n (λ i. counted (a i) (b i)) in let t = sum_below-suc n (λ i. counted (c i) (d i)) in
-    let i = fewer_differences n a b c d (λ i l. less i (omega arith)) in
-    elim (cases_eq (c n) (d n)) [
-      | inl e ↦ omega (arith, s, t, i, counted_same (a n) (b n) (less n (omega arith) e))
-      | inr o ↦ omega (arith, s, t, i, counted_other (c n) (d n) o, counted_most (a n) (b n))
-    ]
+fewer_differences n a b c d less =
+    sum_most n _ _ (λ i l. grind (arith, cases_eq (c i) (d i), counted_same, counted_other, counted_most, less i l))
 
 -- words that differ at no place
 pub same_at : (n i : ℕ) (a b : ℕ → ℕ) → distance n a b ≤ 0 → i < n → a i ≡ b i
 same_at zero i a b none l = absurd (omega arith)
 same_at (suc n) i a b none l =
-    let s = sum_below-suc n (λ i. counted (a i) (b i)) in
-    elim (cases_eq (a n) (b n)) [
-      | inl e ↦ elim (cases_eq i n) [ inl o ↦ rw o e | inr o ↦ same_at n i a b (omega (arith, s, none)) (omega arith) ]
-      | inr o ↦ absurd (omega (arith, s, none, counted_other (a n) (b n) o))
-    ]
+    let more = sum_below-suc n (λ i. counted (a i) (b i)) in
+    grind (arith, cases_eq (a n) (b n), cases_eq i n, more, counted_other, same_at n i a b)
 
 -- a sum of two distances
 counted_sum : (x y z : ℕ) → counted y z ≤ counted x y + counted x z
 counted_sum x y z = grind (arith, cases_eq x y, cases_eq x z, counted_same, counted_other, counted_most y z)
 
 pub distance_sum : (n : ℕ) (a b c : ℕ → ℕ) → distance n b c ≤ distance n a b + distance n a c
-distance_sum zero a b c = omega (arith, sum_below-zero (λ i. counted (b i) (c i)))
-distance_sum (suc n) a b c =
-    let s : (x y : ℕ → ℕ) → _ = λ x y. sum_below-suc n (λ i. counted (x i) (y i)) in
-    omega (arith, s b c, s a b, s a c, distance_sum n a b c, counted_sum (a n) (b n) (c n))
+distance_sum n a b c =
+    let most = sum_most n (λ i. counted (b i) (c i)) (λ i. counted (a i) (b i) + counted (a i) (c i))
+    (λ i l. counted_sum (a i) (b i) (c i)) in
+    omega (arith, most, sum_below-add n (λ i. counted (a i) (b i)) (λ i. counted (a i) (c i)))
 
 -- places at fault aren't right
 pub not_lost : (m k n : ℕ) (x : ℕ → ℕ) (lost : List ℕ) (e : RestoreError) → AreLostAtFault m k n x lost e → AreLost k n lost

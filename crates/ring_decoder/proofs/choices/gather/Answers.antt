@@ -2,12 +2,12 @@ use Rattle.num_modular.specs.Callers.{◌≡◌, ◌<◌, ◌+◌, ◌∙◌, ap
 use Rattle.num_modular.specs.Callers.{entry, entry_read, form_read, entry_written, entry_kept}
 use Rattle.std.proofs.Common.{slice_set, get_or-set_same, get_or-set_other}
 use Rattle.std.proofs.lemmas.Bool.{cases_eq, false≢true}
-use Rattle.ring_decoder.proofs.ChosenPlaces.{zeros-none, zeros_more, zeros_kept, zeros_before, chosen_more, chosen_kept, chosen_none}
+use Rattle.ring_decoder.proofs.ChosenPlaces.{zeros-none, zeros_more, zeros_kept, zeros_before, chosen_more, chosen_kept}
 use Rattle.ring_decoder.proofs.choices.gather.Goals as goal
 use Rattle.ring_decoder.proofs.choices.gather.Goals.{then-is_zero, else-is_zero}
 
 pub values-init : goal.values-init
-values-init g c = (sym (zeros-none _), omega arith, λ k d l. absurd (omega arith), chosen_none _ _ _)
+values-init g c = (sym (zeros-none _), omega arith, λ k d l. absurd (omega arith), record { at = λ i l. absurd (omega arith) })
 
 pub values-preserved : goal.values-preserved
 values-preserved g c =
