@@ -17,7 +17,8 @@ use Rattle.ring_decoder.proofs.DualCode.{sums_added, codeword_without_syndromes,
 use Rattle.ring_decoder.proofs.LocatorSums.{none_of, residue_none}
 use Rattle.ring_decoder.proofs.LostPlaces.{without_listed, few_hidden, distance_sum, fewer_differences, same_at}
 use Rattle.ring_decoder.proofs.LostPlaces.{listed_none, without_none, without_alike}
-use Rattle.ring_decoder.specs.Corrector.{without, listed_distance, AreLost, IsNearWord, IsCorrectedWord, IsCorrectorFault}
+use Rattle.ring_decoder.specs.Corrector.{without, listed_distance, AreLost, IsNearWord, IsCorrectedWord}
+use Rattle.ring_decoder.specs.Corrector.{IsCorrectorFault}
 use Rattle.ring_decoder.specs.ErrorPatterns.{zeros, listed_weight, IsNearPattern, IsSolution, IsPatternFault}
 use Rattle.ring_decoder.specs.Syndromes.{AreWeights, AreSyndromes}
 

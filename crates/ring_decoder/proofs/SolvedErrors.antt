@@ -2,7 +2,8 @@
 use Rattle.std.proofs.Common.{◌≡◌, ℕ, ◌*◌, ◌%◌, ◌<◌, List, sym, ◌∙◌, arith, refl}
 use Rattle.std.proofs.lemmas.Bool.{cases_eq}
 use Rattle.num_modular.specs.NumberLaws.{mod_of_eq, residue_of, mod_sym, mod_trans}
-use Rattle.ring_decoder.proofs.ChosenPlaces.{zeros_before, chosen_zero, chosen_nonzero, picked, AreChosenPoints, chosen_powers}
+use Rattle.ring_decoder.proofs.ChosenPlaces.{zeros_before, chosen_zero, chosen_nonzero, picked, AreChosenPoints}
+use Rattle.ring_decoder.proofs.ChosenPlaces.{chosen_powers}
 use Rattle.ring_decoder.proofs.LostPlaces.{lost_or_listed, without_lost, without_listed, distance_alike}
 use Rattle.ring_decoder.specs.Corrector.{without}
 use Rattle.ring_decoder.specs.ErrorPatterns.{zeros, spread, Covers, listed_weight}

@@ -1,5 +1,6 @@
 use Rattle.std.proofs.lemmas.Bool.{false≢true}
-use Rattle.num_modular.specs.Callers.{ℕ, ◌+◌, ◌-◌, ◌*◌, ◌%◌, ◌∙◌, ap, refl, arith, length, entry, entry_read, hold_more, held_entry}
+use Rattle.num_modular.specs.Callers.{ℕ, ◌+◌, ◌-◌, ◌*◌, ◌%◌, ◌∙◌, ap, refl, arith, length, entry, entry_read, hold_more}
+use Rattle.num_modular.specs.Callers.{held_entry}
 use Rattle.num_modular.specs.Polynomials.{polynomial_at}
 use Rattle.num_modular.specs.Sums.{sum_below}
 use Rattle.ring_decoder.proofs.SyndromeErrors.{error_found, divisors_tell}

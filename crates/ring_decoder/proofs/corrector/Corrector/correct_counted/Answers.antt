@@ -1,5 +1,6 @@
 use Rattle.num_modular.specs.Callers.{◌≡◌, ◌-◌, ◌↔◌, ◌∙◌, refl, arith, length, entry, values_below}
-use Rattle.ring_decoder.proofs.CorrectedWords.{not_one, codeword_by_zeros, fit_of_weights, right_already, right_word, fault_of_word}
+use Rattle.ring_decoder.proofs.CorrectedWords.{not_one, codeword_by_zeros, fit_of_weights, right_already, right_word}
+use Rattle.ring_decoder.proofs.CorrectedWords.{fault_of_word}
 use Rattle.ring_decoder.proofs.DualCode.{weight_unit}
 use Rattle.ring_decoder.proofs.LostPlaces.{not_lost}
 use Rattle.ring_codes.specs.Erasure.{IsErasureCodeword}
@@ -51,7 +52,8 @@ find_errors-requires-clause-units g c i l = weight_unit _ _ i _ _ c.args.self.no
 
 pub find_errors-requires-clause-places : goal.find_errors-requires-clause-places
 find_errors-requires-clause-places g c =
-    let facts = known g (goal.at.find_errors-requires-clause-places g c).After-count_zeros in let self = c.args.self.now in
+    let facts = known g (goal.at.find_errors-requires-clause-places g c).After-count_zeros in
+    let self = c.args.self.now in
     let same : self.k ≡ length self.points.now - length c.write_syndromes-products.new.syndromes =
     omega (arith, facts.count, facts.few) in
     let places : AreLost self.k (length self.points.now) c.args.lost.now = c.in-Ok.ensures 0 (λ i. 0) in rw same at places
