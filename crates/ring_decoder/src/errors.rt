@@ -46,7 +46,7 @@ fn quotient_sum<T: RingWord, R: Reducer<T>>(
 
 // Writes the product of each two numbers.
 #[tactic(auto, using(num_modular::specs::Callers::held_entry))]
-pub fn multiply_each<T: RingWord, R: Reducer<T>>(r: &R, xs: &[T], ys: &[T], products: &mut [T])
+pub(crate) fn multiply_each<T: RingWord, R: Reducer<T>>(r: &R, xs: &[T], ys: &[T], products: &mut [T])
     requires xs { AreChecked R.Reducer T.number r.now xs.now }
     requires ys { AreChecked R.Reducer T.number r.now ys.now }
     requires pairs { length ys.now ≡ length xs.now }
@@ -112,6 +112,7 @@ pub fn solve_errors<T: RingWord, R: Reducer<T>>(
     if !invert_each(r, scratch, divisors) {
         return false;
     }
+    // The inverses are in `scratch` now, and the list of the divisors is free.
     'points: for j in 0..points.len() {
         divisors[j] = quotient_sum(r, product, &points[j], syndromes, points.len());
     }

@@ -13,7 +13,7 @@ use num_modular::ring::dot_product;
 use num_modular::{Reducer, RingWord};
 
 // The sum of the first coefficients of a polynomial, each times its number, from an index of the numbers on.
-pub fn apply<T: RingWord, R: Reducer<T>>(
+pub(crate) fn apply<T: RingWord, R: Reducer<T>>(
     r: &R,
     polynomial: &[T],
     count: usize,

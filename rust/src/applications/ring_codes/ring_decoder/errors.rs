@@ -22,7 +22,7 @@ fn quotient_sum<T: RingWord, R: Reducer<T>>(r: &R, coefficients: &[T], point: &T
 
 // Writes the product of each two numbers.
 #[inline]
-pub fn multiply_each<T: RingWord, R: Reducer<T>>(r: &R, xs: &[T], ys: &[T], products: &mut [T]) {
+pub(crate) fn multiply_each<T: RingWord, R: Reducer<T>>(r: &R, xs: &[T], ys: &[T], products: &mut [T]) {
     for i in 0..xs.len() {
         products[i] = r.mul(&xs[i], &ys[i]);
     }
@@ -63,6 +63,7 @@ pub fn solve_errors<T: RingWord, R: Reducer<T>>(
     if !invert_each(r, scratch, divisors) {
         return false;
     }
+    // The inverses are in `scratch` now, and the list of the divisors is free.
     for j in 0..points.len() {
         divisors[j] = quotient_sum(r, product, &points[j], syndromes, points.len());
     }

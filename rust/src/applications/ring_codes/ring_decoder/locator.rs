@@ -6,7 +6,7 @@ use crate::{Reducer, RingWord};
 
 // The sum of the first coefficients of a polynomial, each times its number, from an index of the numbers on.
 #[inline]
-fn apply<T: RingWord, R: Reducer<T>>(r: &R, polynomial: &[T], count: usize, numbers: &[T], from: usize) -> T {
+pub(crate) fn apply<T: RingWord, R: Reducer<T>>(r: &R, polynomial: &[T], count: usize, numbers: &[T], from: usize) -> T {
     dot_product(r, &polynomial[..count], &numbers[from..from + count])
 }
 
