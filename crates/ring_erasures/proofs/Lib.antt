@@ -1,4 +1,3 @@
 pub mod Derivatives
 pub mod ErasedPlaces
-pub mod Locators
 pub mod RestoredWords

@@ -1,6 +1,6 @@
 -- Symbols lost at known places, and the polynomial whose roots are the points there (Didier, "Efficient erasure decoding of
 -- Reed-Solomon codes", 2009; Soro and Lacan, "FNT-based Reed-Solomon erasure codes", 2010).
-use Rattle.std.specs.Prelude.{◌≡◌, ◌≢◌, ℕ, ◌+◌, ◌*◌, ◌%◌, ◌<◌, ◌≤◌, List, length, slice_index, pos, ◌-ℤ◌, ◌==◌, if◌then◌else◌}
+use Rattle.std.specs.Prelude.{◌≡◌, ◌≢◌, ℕ, suc, ◌+◌, ◌*◌, ◌%◌, ◌<◌, ◌≤◌, List, length, slice_index, pos, ◌-ℤ◌, ◌==◌, if◌then◌else◌}
 use Rattle.num_modular.specs.Inverses.{IsInverse}
 use Rattle.num_modular.specs.Products.{product_below}
 use Rattle.num_modular.specs.Residues.{residue}
@@ -50,6 +50,15 @@ pub record AreKeptProducts (m n : ℕ) (lost : List ℕ) (y u products : ℕ →
   pub zeros : (l : ℕ) → l < length lost → products (slice_index lost l) ≡ 0
   pub each : (i : ℕ) → i < n → IsKept lost i → products i ≡ (y i * u i) % m
   pub below : (i : ℕ) → i < n → products i < m
+
+-- from the values old to the values new: v l stands at lost place number l for the first c of them, and no other is changed
+pub record IsScattered (c : ℕ) (lost : List ℕ) (v old new : ℕ → ℕ) : Type 0 where
+  pub there : (l : ℕ) → l < c → new (slice_index lost l) ≡ v l
+  pub kept : (i : ℕ) → ((l : ℕ) → l < c → slice_index lost l ≢ i) → new i ≡ old i
+
+-- the coefficients of the derivative of a polynomial
+abbrev pub derivative : (ℕ → ℕ) → ℕ → ℕ
+derivative p i = suc i * p (suc i)
 
 -- some word of the code has the symbols that are left
 abbrev pub IsRestorable : ℕ → ℕ → ℕ → (ℕ → ℕ) → List ℕ → (ℕ → ℕ) → Type 0

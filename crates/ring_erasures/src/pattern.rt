@@ -8,7 +8,7 @@ ghost use Rattle.ring_codes.specs.Erasure.{IsErasureCodeword};
 ghost use Rattle.ring_codes.specs.Powers.{ArePowers};
 ghost use Rattle.ring_erasures.specs.Erasures.{AgreeAtKept, AreErased, AreFactors, IsErasureFault, IsRestorable};
 
-use super::derivative::differentiate;
+use super::derivative::encode_derivative;
 use super::places::{check_places, gather, multiply_kept, scatter, write_products};
 use num_modular::ring::{invert_each, root_fits};
 use num_modular::{Reducer, RingWord};
@@ -196,9 +196,7 @@ impl<'a, T: RingWord, R: Reducer<T>> ErasurePattern<'a, T, R> {
         if !is_codeword_by_transform(self.ring, &self.root, products, spare, coefficients) {
             return false;
         }
-        differentiate(self.ring, coefficients);
-        let (derivative, _) = coefficients.split_at_mut(coefficients.len() - 1);
-        encode_by_transform(self.ring, &self.root, derivative, products);
+        encode_derivative(self.ring, &self.root, coefficients, products);
         write_products(self.ring, self.lost, products, self.factors, word);
         true
     }
@@ -229,9 +227,7 @@ fn fill_factors<T: RingWord, R: Reducer<T>>(
     gather(r, lost, list, chosen);
     expand_roots(r, chosen, coefficients);
     encode_by_transform(r, g, coefficients, factors);
-    differentiate(r, coefficients);
-    let (derivative, _) = coefficients.split_at_mut(coefficients.len() - 1);
-    encode_by_transform(r, g, derivative, list);
+    encode_derivative(r, g, coefficients, list);
     gather(r, lost, list, chosen);
     let (spare, _) = coefficients.split_at_mut(lost.len());
     let _all = invert_each(r, chosen, spare);

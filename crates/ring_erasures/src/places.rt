@@ -4,7 +4,7 @@ ghost use Rattle.std.specs.Prelude.{◌≡◌, ℕ, ◌+◌, ◌*◌, ◌%◌, �
 ghost use Rattle.num_modular.specs.Entries.{entry};
 ghost use Rattle.num_modular.specs.Checked.{AreChecked};
 ghost use Rattle.ring_codes.specs.Erasure.{ArePlaces};
-ghost use Rattle.ring_erasures.specs.Erasures.{IsKept, AreErased, AreKeptProducts, IsErasureFault};
+ghost use Rattle.ring_erasures.specs.Erasures.{AreErased, AreKeptProducts, IsErasureFault, IsScattered};
 
 use num_modular::{Reducer, RingWord};
 use ring_codes::erasure::RestoreError;
@@ -38,6 +38,7 @@ pub fn check_places<T: RingWord>(
 }
 
 // Copies the numbers at the lost places.
+#[tactic(auto, using(num_modular::specs::Callers::held_entry))]
 pub fn gather<T: RingWord, R: Reducer<T>>(_r: &R, lost: &[usize], list: &[T], numbers: &mut [T])
     requires list { AreChecked R.Reducer T.number _r.now list.now }
     requires within { (l : ℕ) → l < length lost.now → slice_index lost.now l < length list.now }
@@ -52,16 +53,15 @@ pub fn gather<T: RingWord, R: Reducer<T>>(_r: &R, lost: &[usize], list: &[T], nu
 }
 
 // Writes the numbers to the lost places.
+#[tactic(auto, using(crate::proofs::ErasedPlaces::scattered_none))]
 pub fn scatter<T: RingWord, R: Reducer<T>>(_r: &R, lost: &[usize], numbers: &[T], list: &mut [T])
     requires numbers { AreChecked R.Reducer T.number _r.now numbers.now }
     requires list { AreChecked R.Reducer T.number _r.now list.old }
     requires each { length numbers.now ≡ length lost.now }
     requires places { ArePlaces (length lost.now) (length list.old) lost.now }
     ensures checked { AreChecked R.Reducer T.number _r.now list.new }
-    ensures there { let m = R.modulus _r.now in (l : ℕ) → l < length lost.now →
-        entry T.number R.value m list.new (slice_index lost.now l) ≡ entry T.number R.value m numbers.now l }
-    ensures kept { let m = R.modulus _r.now in (i : ℕ) → IsKept lost.now i →
-        entry T.number R.value m list.new i ≡ entry T.number R.value m list.old i }
+    ensures there { let entries = entry T.number R.value (R.modulus _r.now) in
+        IsScattered (length lost.now) lost.now (entries numbers.now) (entries list.old) (entries list.new) }
 {
     'places: for l in 0..lost.len() {
         list[lost[l]] = numbers[l];
@@ -69,6 +69,7 @@ pub fn scatter<T: RingWord, R: Reducer<T>>(_r: &R, lost: &[usize], numbers: &[T]
 }
 
 // Writes to the lost places the products of the values and the factors there.
+#[tactic(auto, using(crate::proofs::ErasedPlaces::scattered_none))]
 pub fn write_products<T: RingWord, R: Reducer<T>>(
     r: &R,
     lost: &[usize],
@@ -83,12 +84,9 @@ pub fn write_products<T: RingWord, R: Reducer<T>>(
     requires each_factor { length factors.now ≡ length word.old }
     requires places { ArePlaces (length lost.now) (length word.old) lost.now }
     ensures checked { AreChecked R.Reducer T.number r.now word.new }
-    ensures there { let m = R.modulus r.now in (l : ℕ) → l < length lost.now →
-        entry T.number R.value m word.new (slice_index lost.now l)
-        ≡ (entry T.number R.value m values.now (slice_index lost.now l)
-        * entry T.number R.value m factors.now (slice_index lost.now l)) % m }
-    ensures kept { let m = R.modulus r.now in (i : ℕ) → IsKept lost.now i →
-        entry T.number R.value m word.new i ≡ entry T.number R.value m word.old i }
+    ensures there { let m = R.modulus r.now in let entries = entry T.number R.value m in
+        IsScattered (length lost.now) lost.now (λ l. (entries values.now (slice_index lost.now l)
+        * entries factors.now (slice_index lost.now l)) % m) (entries word.old) (entries word.new) }
 {
     'places: for l in 0..lost.len() {
         let place = lost[l];
@@ -97,6 +95,7 @@ pub fn write_products<T: RingWord, R: Reducer<T>>(
 }
 
 // Writes the products of the symbols and their factors, and 0 at the lost places.
+#[tactic(auto, using(crate::proofs::ErasedPlaces::scattered_none, num_modular::specs::Callers::held_forms))]
 pub fn multiply_kept<T: RingWord, R: Reducer<T>>(
     r: &R,
     lost: &[usize],

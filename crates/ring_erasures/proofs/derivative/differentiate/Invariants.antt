@@ -1,4 +1,5 @@
-use Rattle.num_modular.specs.Callers.{◌≡◌, ◌+◌, ◌*◌, ◌%◌, All, IsForm, DoneBelow, IsCheckedFormOf, entry}
+use Rattle.num_modular.specs.Callers.{◌≡◌, ◌%◌, All, IsForm, DoneBelow, IsCheckedFormOf, entry}
+use Rattle.ring_erasures.specs.Erasures.{derivative}
 use Rattle.ring_erasures.proofs.derivative.differentiate.Given as goal
 
 -- the coefficients so far are those of the derivative
@@ -8,4 +9,4 @@ invariant-coefficients g l =
     let old = entry number ring.value m l.fn.coefficients in
     All (λ f. IsForm ring.form ring.value m (number f)) l.coefficients
     × IsCheckedFormOf ring.form ring.value m (number l.index) (l.i % m)
-    × DoneBelow (λ i v. v ≡ ((i + 1) * old (i + 1)) % m) l.i old (entry number ring.value m l.coefficients)
+    × DoneBelow (λ i v. v ≡ derivative old i % m) l.i old (entry number ring.value m l.coefficients)

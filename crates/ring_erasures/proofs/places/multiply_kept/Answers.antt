@@ -1,7 +1,7 @@
-use Rattle.num_modular.specs.Callers.{◌∙◌, arith, entry_read, forms_written, hold_more, held_forms}
+use Rattle.num_modular.specs.Callers.{◌∙◌, arith, entry_read, forms_written, hold_more}
 use Rattle.num_modular.specs.Callers.{held_entry, values_below}
 use Rattle.std.proofs.Math.Nat.{zero-mod}
-use Rattle.ring_erasures.proofs.ErasedPlaces.{scattered_none, scattered_more}
+use Rattle.ring_erasures.proofs.ErasedPlaces.{scattered_more}
 use Rattle.ring_erasures.proofs.places.multiply_kept.Goals as goal
 
 pub symbols-preserved : goal.symbols-preserved
@@ -14,16 +14,12 @@ symbols-preserved g c =
     hold_more number _ _ _ _ _ _ _ (omega (arith, below, kept)) c.symbols.invariant
     c.mul.ensures.checked (rw (← left, ← right) c.mul.ensures.value)
 
-pub places-init : goal.places-init
-places-init g c =
-    (held_forms _ _ _ _ c.symbols.products _ _ c.symbols.invariant (omega arith), scattered_none c.args.lost.now _ _)
-
 pub places-preserved : goal.places-preserved
 places-preserved g c =
     let number = g.T.RingWord.number in let ring = g.R.Reducer in let m = ring.modulus c.args.r.now in
     let so_far = c.places.invariant in let zero = c.transform-zero in (
       forms_written number _ _ _ _ _ _ zero.ensures.checked so_far.0,
-      scattered_more number ring.value m c.places.l _ _ _ _ _
+      scattered_more number ring.value m c.places.l _ _ _ _ _ _
           (rw (c.places.auto.products ∙ c.symbols.auto.products) c.requires.places) c.places-test.true so_far.1
           (zero.ensures.value ∙ rw c.zero.ensures (zero-mod _)),
     )

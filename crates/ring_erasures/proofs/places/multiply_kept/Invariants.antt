@@ -1,5 +1,5 @@
 use Rattle.num_modular.specs.Callers.{◌*◌, ◌%◌, All, IsForm, HoldBelow, entry}
-use Rattle.ring_erasures.proofs.ErasedPlaces.{IsScattered}
+use Rattle.ring_erasures.specs.Erasures.{IsScattered}
 use Rattle.ring_erasures.proofs.places.multiply_kept.Given as goal
 
 -- the products so far

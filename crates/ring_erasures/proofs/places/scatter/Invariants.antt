@@ -1,5 +1,5 @@
 use Rattle.num_modular.specs.Callers.{All, IsForm, entry}
-use Rattle.ring_erasures.proofs.ErasedPlaces.{IsScattered}
+use Rattle.ring_erasures.specs.Erasures.{IsScattered}
 use Rattle.ring_erasures.proofs.places.scatter.Given as goal
 
 -- the numbers so far are at their places

@@ -1,10 +1,7 @@
-use Rattle.num_modular.specs.Callers.{arith, entry_read, forms_written}
+use Rattle.num_modular.specs.Callers.{◌≡◌, arith, length, entry_read, forms_written}
 use Rattle.std.proofs.Common.{slice_index}
-use Rattle.ring_erasures.proofs.ErasedPlaces.{scattered_none, scattered_more}
+use Rattle.ring_erasures.proofs.ErasedPlaces.{scattered_more}
 use Rattle.ring_erasures.proofs.places.write_products.Goals as goal
-
-pub places-init : goal.places-init
-places-init g c = (c.requires.word, scattered_none c.args.lost.now _ _)
 
 pub places-preserved : goal.places-preserved
 places-preserved g c =
@@ -15,12 +12,10 @@ places-preserved g c =
     let left = entry_read number ring.value m values p _ (omega (arith, there, c.requires.each_value)) c.index-values-place.is in
     let right = entry_read number ring.value m factors p _ (omega (arith, there, c.requires.each_factor)) c.index-factors-place.is in (
       forms_written number _ _ _ _ _ _ c.mul.ensures.checked so_far.0,
-      scattered_more number ring.value m l _ _ _ _ _ (rw c.places.auto.word c.requires.places) below so_far.1
+      scattered_more number ring.value m l _ _ _ _ _ _ (rw c.places.auto.word c.requires.places) below so_far.1
           (rw (← left, ← right) c.mul.ensures.value),
     )
 
 pub returns-clause-there : goal.returns-clause-there
-returns-clause-there g c l below = c.places.invariant.1.there l (omega arith)
-
-pub returns-clause-kept : goal.returns-clause-kept
-returns-clause-kept g c i kept = c.places.invariant.1.kept i (λ l b. kept l (omega arith))
+returns-clause-there g c =
+    let all : c.places.l ≡ length c.args.lost.now = omega arith in rw all at c.places.invariant.1

@@ -1,6 +1,6 @@
 use Rattle.num_modular.specs.Callers.{◌*◌, ◌%◌, All, IsForm, entry}
 use Rattle.std.proofs.Common.{slice_index}
-use Rattle.ring_erasures.proofs.ErasedPlaces.{IsScattered}
+use Rattle.ring_erasures.specs.Erasures.{IsScattered}
 use Rattle.ring_erasures.proofs.places.write_products.Given as goal
 
 -- the products so far are at their places
