@@ -1,6 +1,6 @@
 -- Polynomials with given roots: the values of their derivatives there, and division by them.
 use Rattle.std.proofs.Common.{◌≡◌, ◌≢◌, ℕ, zero, suc, ◌+◌, ◌-◌, ◌*◌, ◌%◌, ◌^◌, ◌<◌, ◌≤◌, pos, ◌-ℤ◌, ap, sym, ◌∙◌, arith}
-use Rattle.std.proofs.Common.{refl, inl, inr, cond, eqb, ltb}
+use Rattle.std.proofs.Common.{inl, inr, cond, eqb, ltb}
 use Rattle.std.proofs.Math.Nat.{pow-suc}
 use Rattle.std.proofs.lemmas.Bool.{cases_eq}
 use Rattle.std.proofs.lemmas.Bool.Decides.{nat_tests, eqb_tells}
@@ -46,7 +46,8 @@ pub rooted_value : (m k c n X : ℕ) (z f : ℕ → ℕ) → 0 < m → k + c ≤
 unfolding rooted product_below
 rooted_value m k zero n X z f positive room =
     let same = polynomial-same k (rooted m k 0 z f) f X (λ i l. grind (arith, nat_tests)) in
-    mod_of_eq (omega (arith, longer_value k n X (rooted m k 0 z f) (omega arith) (λ i l. rooted_behind m k 0 z f i (omega arith)), same))
+    let whole = longer_value k n X (rooted m k 0 z f) (omega arith) (λ i l. rooted_behind m k 0 z f i (omega arith)) in
+    mod_of_eq (omega (arith, whole, same))
 rooted_value m k (suc c) zero X z f positive room = absurd (omega arith)
 rooted_value m k (suc c) (suc n) X z f positive room =
     mod_of_combination (mod_add (mod_times (X + (m - 1) * z c) (rooted_value m k c n X z f positive (omega arith)))
@@ -68,7 +69,8 @@ other_weight m c l z other = grind (arith, nat_tests)
 
 -- at a root z l the derivative of f times the product of X - z is f times the root's weight
 pub derivative_at_root : (m k c n l : ℕ) (z f : ℕ → ℕ) → 0 < m → l < c → k + c ≤ suc n
-    → Congruent m (polynomial_at n (derivative (rooted m k c z f)) (z l)) (polynomial_at k f (z l) * root_weight m c z l)
+    → Congruent m (polynomial_at n (derivative (rooted m k c z f)) (z l))
+    (polynomial_at k f (z l) * root_weight m c z l)
 unfolding rooted
 derivative_at_root m k zero n l z f positive within room = absurd (omega arith)
 derivative_at_root m k (suc c) n l z f positive within room =
@@ -102,7 +104,8 @@ weight_unit m c l z positive fit within =
 pub factor_cancels : {m a u v : ℕ} → HasInverse m a → Congruent m (a * u) (a * v) → Congruent m u v
 factor_cancels {u} {v} unit same =
     let one = mod_of_inverse unit.1 in
-    mod_of_combination (mod_add (mod_times unit.0 same) (mod_add (mod_times u (mod_sym one)) (mod_times v one))) (omega arith)
+    mod_of_combination (mod_add (mod_times unit.0 same) (mod_add (mod_times u (mod_sym one)) (mod_times v one)))
+    (omega arith)
 
 -- for each of n + 1 coefficients the value at a of what begins with it: all but the first are the quotient by X - a
 rests : ℕ → ℕ → (ℕ → ℕ) → ℕ → ℕ
@@ -112,7 +115,8 @@ rests_more : (n a i : ℕ) (p : ℕ → ℕ) → i < n → p i + a * rests n a p
 unfolding rests
 rests_more n a i p l =
     let next : suc n - i ≡ suc (suc n - suc i) = omega arith in let here : 0 + i ≡ i = omega arith in
-    let same = polynomial-same (suc n - suc i) (λ j. p (suc j + i)) (λ j. p (j + suc i)) a (λ j b. ap p (omega arith)) in
+    let same = polynomial-same (suc n - suc i) (λ j. p (suc j + i)) (λ j. p (j + suc i)) a
+    (λ j b. ap p (omega arith)) in
     rw (next, polynomial-first (suc n - suc i) (λ j. p (j + i)) a) (omega (arith, ap p here, ap (λ v. a * v) same))
 
 rests_last : (n a : ℕ) (p : ℕ → ℕ) → p n ≡ rests n a p n
@@ -124,7 +128,8 @@ rests_last n a p =
 -- of a polynomial that is 0 at c points that fit, the quotient by the product of X - z
 pub divided_by_roots : (m k c : ℕ) (z p : ℕ → ℕ) → 0 < m → HaveUnitDifferences m c z
     → ((l : ℕ) → l < c → Congruent m (polynomial_at (k + c) p (z l)) 0)
-    → (f : ℕ → ℕ) × ((X : ℕ) → Congruent m (polynomial_at (k + c) p X) (polynomial_at k f X * product_of_differences m c z X))
+    → (f : ℕ → ℕ) × ((X : ℕ) → Congruent m (polynomial_at (k + c) p X)
+    (polynomial_at k f X * product_of_differences m c z X))
 unfolding product_below
 divided_by_roots m k zero z p positive fit roots =
     let same : k + 0 ≡ k = omega arith in (p, λ X. rw same (mod_of_eq (omega arith)))
@@ -133,10 +138,14 @@ divided_by_roots m k (suc c) z p positive fit roots =
     let next : k + suc c ≡ suc n = omega arith in
     let expanded = λ (X : ℕ). rw (← next) at (one_expanded m n a X p (rests n a p) positive
     (λ l b. mod_of_eq (rests_more n a l p b)) (rests_last n a p)) in
-    let factor : (X : ℕ) → Congruent m (polynomial_at (k + suc c) p X) (residue m (pos X -ℤ pos a) * polynomial_at n q X) =
+    let factor : (X : ℕ) → Congruent m (polynomial_at (k + suc c) p X)
+    (residue m (pos X -ℤ pos a) * polynomial_at n q X) =
     λ X. mod_of_combination (mod_add (expanded X) (mod_add (mod_sym (expanded a)) (roots c (omega arith))))
     (omega (arith, ap (λ v. v * polynomial_at n q a) (no_difference m a))) in
     let rest = divided_by_roots m k c z q positive (fit_front m (suc c) c z (omega arith) fit) (λ l b.
     factor_cancels (fit.unit l c (omega arith) (omega arith) (omega arith))
-    (mod_trans (mod_sym (factor (z l))) (mod_trans (roots l (omega arith)) (mod_of_eq (omega arith))))) in
-    (rest.0, λ X. mod_of_combination (mod_add (factor X) (mod_times (residue m (pos X -ℤ pos a)) (rest.1 X))) (omega arith))
+    (mod_trans (mod_sym (factor (z l))) (mod_trans (roots l (omega arith)) (mod_of_eq (omega arith))))) in (
+      rest.0,
+      λ X. mod_of_combination (mod_add (factor X) (mod_times (residue m (pos X -ℤ pos a)) (rest.1 X)))
+          (omega arith),
+    )

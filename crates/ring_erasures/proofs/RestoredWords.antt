@@ -18,7 +18,7 @@ use Rattle.ring_codes.specs.Roots.{product_of_differences, HasRoots}
 use Rattle.ring_codes.proofs.Roots.{constant_value, longer_value}
 use Rattle.ring_codes.proofs.NewtonForms.{no_difference, product-none}
 use Rattle.ring_codes.proofs.Singleton.{value_or_none}
-use Rattle.ring_erasures.specs.Erasures.{IsKept, AreErased, root_weight, AreFactors, IsRestorable, AgreeAtKept}
+use Rattle.ring_erasures.specs.Erasures.{AreErased, root_weight, AreFactors, IsRestorable, AgreeAtKept}
 use Rattle.ring_erasures.specs.Erasures.{AreKeptProducts, IsScattered, derivative}
 use Rattle.ring_erasures.proofs.Derivatives.{rooted, rooted_value, derivative_at_root, divided_by_roots, factor_cancels}
 use Rattle.ring_erasures.proofs.Derivatives.{weight_unit}
@@ -28,7 +28,7 @@ use Rattle.ring_erasures.proofs.ErasedPlaces.{lost_points_fit}
 abbrev at_lost : (ℕ → ℕ) → List ℕ → ℕ → ℕ
 at_lost x lost l = x (slice_index lost l)
 
--- of a polynomial p with s coefficients that is f times the locator at n points, the values v of the derivative at the roots
+-- of a polynomial p with s coefficients that is f times the locator at n points, the derivative's values v at the roots
 computed_derivative : (m k n s l : ℕ) (x f p v : ℕ → ℕ) (lost : List ℕ) → 0 < m → HaveUnitDifferences m n x
     → AreErased k n lost → k + length lost ≤ s → s ≤ n → ((j : ℕ) → j < n → Congruent m (polynomial_at s p (x j))
     (polynomial_at k f (x j) * product_of_differences m (length lost) (at_lost x lost) (x j)))
@@ -61,22 +61,6 @@ module _ (m k n : ℕ) (x y u products : ℕ → ℕ) (lost : List ℕ) (positiv
         (mod_times (polynomial_at k f (x j)) (mod_of_residue (factors.kept j within kept))))) (omega arith)
   ]
 
-  -- if the products are the word of a message of k + c symbols, the symbols that are left are those of some f
-  word_of_products : (p : ℕ → ℕ) → ((i : ℕ) → i < n → y i < m) → IsEncoding m (k + length lost) n x p products
-      → (f : ℕ → ℕ) × AgreeAtKept n lost y (λ i. polynomial_at k f (x i) % m)
-  word_of_products p below encoding =
-      let is = encoding.symbol in
-      let by = divided_by_roots m k (length lost) (at_lost x lost) p positive (lost_points_fit m k n x lost erased fit)
-      (λ l b. mod_trans (mod_sym (mod_of_residue (is _ (erased.places.within l b)))) (mod_of_eq (are.zeros l b))) in (
-        by.0,
-        λ i b kept.
-            let unit = has_product m (length lost) (λ l. residue m (pos (x i) -ℤ pos (at_lost x lost l))) positive
-            (λ l d. fit.unit i (slice_index lost l) b (erased.places.within l d) (λ e. kept l d (sym e))) in
-            sym (mod-eq_of_lt (below i b)) ∙ (factor_cancels {v = polynomial_at k by.0 (x i)} unit (mod_of_combination (mod_add
-            (mod_sym (mod_of_residue (are.each i b kept))) (mod_add (mod_of_residue (is i b)) (mod_add (by.1 (x i))
-            (mod_times (y i) (mod_sym (mod_of_residue (factors.kept i b kept))))))) (omega arith))).same,
-      )
-
   -- the word w whose lost symbols are the values v of the derivative times their factors is that of f
   pub restored_word : (f p v w : ℕ → ℕ) → AgreeAtKept n lost y (λ i. polynomial_at k f (x i) % m)
       → IsEncoding m (k + length lost) n x p products → IsEncoding m (k + length lost - 1) n x (derivative p) v
@@ -96,13 +80,24 @@ module _ (m k n : ℕ) (x y u products : ℕ → ℕ) (lost : List ℕ) (positiv
     ];
   }
 
-  -- so the products tell whether a word of the code has the symbols that are left
+  -- so the products tell whether a word of the code has the symbols that are left: that of their message by the locator
   pub products_tell : ((i : ℕ) → i < n → y i < m)
       → IsErasureCodeword m (k + length lost) n x products ↔ IsRestorable m k n x lost y
   products_tell below = (
     λ (p, encoding).
-        let found = word_of_products p below encoding in
-        ((λ i. polynomial_at k found.0 (x i) % m), (found.0, record { symbol = λ i l. refl }), found.1),
+        let by = divided_by_roots m k (length lost) (at_lost x lost) p positive
+        (lost_points_fit m k n x lost erased fit) (λ l b.
+        mod_trans (mod_sym (mod_of_residue (encoding.symbol _ (erased.places.within l b)))) (mod_of_eq (are.zeros l b))) in (
+          (λ i. polynomial_at k by.0 (x i) % m),
+          (by.0, record { symbol = λ i l. refl }),
+          λ i b kept.
+              let unit = has_product m (length lost) (λ l. residue m (pos (x i) -ℤ pos (at_lost x lost l))) positive
+              (λ l d. fit.unit i (slice_index lost l) b (erased.places.within l d) (λ e. kept l d (sym e))) in
+              sym (mod-eq_of_lt (below i b)) ∙ (factor_cancels {v = polynomial_at k by.0 (x i)} unit (mod_of_combination
+              (mod_add (mod_sym (mod_of_residue (are.each i b kept))) (mod_add (mod_of_residue (encoding.symbol i b))
+              (mod_add (by.1 (x i)) (mod_times (y i) (mod_sym (mod_of_residue (factors.kept i b kept)))))))
+              (omega arith))).same,
+        ),
     λ (word, (f, codeword), agree). (
       rooted m k (length lost) (at_lost x lost) f,
       record {
@@ -128,7 +123,8 @@ module _ (m n : ℕ) (x e v : ℕ → ℕ) (lost : List ℕ) (positive : 0 < m) 
       values within in
       let here : Congruent m (v (slice_index lost l)) (root_weight m c z l) =
       mod_of_combination root (omega (arith, ap (λ v. v * root_weight m c z l) (one (z l)))) in
-      (here, unit_alike m _ _ (mod_sym here) (weight_unit m c l z positive (lost_points_fit m 1 n x lost erased fit) within))
+      let unit = weight_unit m c l z positive (lost_points_fit m 1 n x lost erased fit) within in
+      (here, unit_alike m _ _ (mod_sym here) unit)
 
   -- so the locator's values, with the inverses u of those at the lost places, are the factors
   pub factors_are : (u first factors : ℕ → ℕ) → IsEncoding m n n x e first

@@ -1,4 +1,4 @@
-use Rattle.num_modular.specs.Callers.{◌≡◌, ◌-◌, ◌∙◌, ap, arith, length, entry, IsForm}
+use Rattle.num_modular.specs.Callers.{◌-◌, ◌∙◌, ap, arith, length, entry, IsForm}
 use Rattle.num_modular.specs.NumberLaws.{mod_refl}
 use Rattle.num_modular.specs.PolynomialLaws.{polynomial-congruent}
 use Rattle.std.proofs.lemmas.List.Elements.{All-take}
@@ -21,8 +21,8 @@ returns-clause-encoding g c points powers =
     let values = rw (c.split_at_mut-derivative.ensures.front_len, same) at
     (c.encode_by_transform.ensures.encoding points powers) in
     record {
-      symbol = λ i l. values.symbol i l ∙ (polynomial-congruent (length old - 1) d (derivative (entry number ring.value m old))
-          (points i) (points i) (λ j b. mod_of_residue
+      symbol = λ i l. values.symbol i l
+          ∙ (polynomial-congruent (length old - 1) d (derivative (entry number ring.value m old)) (points i) (points i) (λ j b. mod_of_residue
           (ap (λ forms. entry number ring.value m forms j) c.split_at_mut-derivative.ensures.front
           ∙ entry_front number ring.value m whole (length whole - 1) j (omega (arith, b, same)) (omega arith)
           ∙ c.differentiate.ensures.derivative j (omega (arith, b)))) (mod_refl (points i))).same;

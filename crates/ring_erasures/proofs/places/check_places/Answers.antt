@@ -28,17 +28,18 @@ returns-then-not-is_zero_word g c m root =
     let place = slice_index c.args.lost.now i in let below : place < length marks = omega arith in
     let read = entry_read g.T.RingWord.number (λ k x. x) 0 marks place _ below c.index-marks-place.is in
     elim (value_or_none i place (slice_index c.args.lost.now)) [
-      | inl (j, before, same) ↦ (j, i, before, omega arith, omega arith, rw (c.places.auto.marks, c.marks.auto.marks) at are, same)
+      | inl (j, before, same) ↦
+          (j, i, before, omega arith, omega arith, rw (c.places.auto.marks, c.marks.auto.marks) at are, same)
       | inr none ↦ absurd (false≢true (sym c.if-not-is_zero_word.true ∙ c.is_zero_word.ensures.zero.1
           (read ∙ marked.kept place none ∙ c.marks.invariant place (omega arith))))
     ]
 
 pub places-preserved : goal.places-preserved
 places-preserved g c =
-    let number = g.T.RingWord.number in let marks = c.places.marks in let i = c.places.i in let lost = c.args.lost.now in
-    let (are, marked) = c.places.invariant in let place = slice_index lost i in
-    let below : place < length marks = omega arith in
-    let none : numbers number marks place ≡ 0 = sym (entry_read number (λ k x. x) 0 marks place _ below c.index-marks-place.is)
+    let number = g.T.RingWord.number in let marks = c.places.marks in let i = c.places.i in
+    let lost = c.args.lost.now in let (are, marked) = c.places.invariant in let place = slice_index lost i in
+    let below : place < length marks = omega arith in let none : numbers number marks place ≡ 0 =
+    sym (entry_read number (λ k x. x) 0 marks place _ below c.index-marks-place.is)
     ∙ c.is_zero_word.ensures.zero.0 c.if-not-is_zero_word.false in
     let more : ArePlaces (i + 1) (length marks) lost = record {
       enough = omega arith;

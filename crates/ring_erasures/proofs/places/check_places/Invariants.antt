@@ -12,4 +12,5 @@ invariant-marks g l = (p : ℕ) → p < l.i → numbers g.T.RingWord.number l.ma
 abbrev pub invariant-places : goal.invariant-places
 invariant-places g l =
     let marks = numbers g.T.RingWord.number in
-    ArePlaces l.i (length l.marks) l.fn.lost × IsScattered l.i l.fn.lost (λ i. 1) (marks l.initial.marks) (marks l.marks)
+    ArePlaces l.i (length l.marks) l.fn.lost
+    × IsScattered l.i l.fn.lost (λ i. 1) (marks l.initial.marks) (marks l.marks)

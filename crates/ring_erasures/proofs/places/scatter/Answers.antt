@@ -1,4 +1,4 @@
-use Rattle.num_modular.specs.Callers.{◌<◌, ◌≡◌, arith, length, entry_read, form_read, forms_written}
+use Rattle.num_modular.specs.Callers.{◌<◌, arith, length, entry_read, form_read, forms_written}
 use Rattle.ring_erasures.proofs.ErasedPlaces.{scattered_more}
 use Rattle.ring_erasures.proofs.places.scatter.Goals as goal
 
@@ -13,7 +13,3 @@ places-preserved g c =
       scattered_more number ring.value m l _ _ _ _ _ _ (rw c.places.auto.list c.requires.places) c.places-test.true so_far.1
           (entry_read number ring.value m c.args.numbers.now l _ within is),
     )
-
-pub returns-clause-there : goal.returns-clause-there
-returns-clause-there g c =
-    let all : c.places.l ≡ length c.args.lost.now = omega arith in rw all at c.places.invariant.1

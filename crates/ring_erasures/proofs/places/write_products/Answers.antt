@@ -1,4 +1,4 @@
-use Rattle.num_modular.specs.Callers.{◌≡◌, arith, length, entry_read, forms_written}
+use Rattle.num_modular.specs.Callers.{arith, entry_read, forms_written}
 use Rattle.std.proofs.Common.{slice_index}
 use Rattle.ring_erasures.proofs.ErasedPlaces.{scattered_more}
 use Rattle.ring_erasures.proofs.places.write_products.Goals as goal
@@ -15,7 +15,3 @@ places-preserved g c =
       scattered_more number ring.value m l _ _ _ _ _ _ (rw c.places.auto.word c.requires.places) below so_far.1
           (rw (← left, ← right) c.mul.ensures.value),
     )
-
-pub returns-clause-there : goal.returns-clause-there
-returns-clause-there g c =
-    let all : c.places.l ≡ length c.args.lost.now = omega arith in rw all at c.places.invariant.1

@@ -1,5 +1,5 @@
 use Rattle.std.proofs.lemmas.Bool.{false≢true}
-use Rattle.num_modular.specs.Callers.{◌≡◌, ◌+◌, ◌∙◌, ℕ, sym, refl, arith, length, values_below}
+use Rattle.num_modular.specs.Callers.{◌∙◌, sym, refl, arith, values_below}
 use Rattle.ring_codes.proofs.RootPowers.{powers_fit}
 use Rattle.ring_codes.proofs.KnownRoots.{suits_known}
 use Rattle.ring_erasures.proofs.RestoredWords.{products_tell, restored_word}
@@ -10,15 +10,15 @@ is_codeword_by_transform-requires-clause-suits g c =
     rw (c.multiply_kept.auto.products ∙ c.split_at_mut-products.ensures.front_len)
     (suits_known _ _ _ c.args.self.now.suits)
 
-pub encode_derivative-requires-clause-some : goal.encode_derivative-requires-clause-some
-encode_derivative-requires-clause-some g c =
-    let some = c.args.self.now.some in let size = c.split_at_mut-coefficients.ensures.front_len in
-    omega (arith, some, size, c.is_codeword_by_transform.auto.message)
-
 pub encode_derivative-requires-clause-suits : goal.encode_derivative-requires-clause-suits
 encode_derivative-requires-clause-suits g c =
     rw (c.multiply_kept.auto.products ∙ c.split_at_mut-products.ensures.front_len)
     (suits_known _ _ _ c.args.self.now.suits)
+
+pub encode_derivative-requires-clause-some : goal.encode_derivative-requires-clause-some
+encode_derivative-requires-clause-some g c =
+    let some = c.args.self.now.some in let size = c.split_at_mut-coefficients.ensures.front_len in
+    omega (arith, some, size, c.is_codeword_by_transform.auto.message)
 
 pub returns-then-not-is_codeword_by_transform-clause-restorable : goal.returns-then-not-is_codeword_by_transform-clause-restorable
 returns-then-not-is_codeword_by_transform-clause-restorable g c points powers =
