@@ -1,3 +1,2 @@
 pub mod KeyPairs
 pub mod NearPairs
-pub mod Pairs

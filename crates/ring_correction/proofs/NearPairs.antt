@@ -20,36 +20,30 @@ use Rattle.ring_codes.proofs.NewtonForms.{has_of_residue}
 use Rattle.ring_codes.proofs.Counts.{fit_front}
 use Rattle.ring_codes.proofs.Symbols.{entry_front, fit_same, same_forms}
 use Rattle.ring_codes.specs.Erasure.{IsEncoding, distance}
+use Rattle.ring_decoder.proofs.LostPlaces.{distance_alike}
 use Rattle.ring_codes.specs.Shifts.{shifted}
 use Rattle.ring_correction.specs.KeyEquations.{Solves, IsKeyPair, IsQuotient, AreQuotients}
 use Rattle.ring_codes.proofs.Congruences.{mod_of_combination, mod_times, mod_of_residue, mod_of_inverse}
 use Rattle.ring_codes.proofs.Roots.{longer_value}
 
--- the coefficients of the product of two polynomials, the first with k coefficients
-product : ℕ → (ℕ → ℕ) → (ℕ → ℕ) → ℕ → ℕ
-product zero f e i = 0
-product (suc k) f e i = shifted (product k (λ j. f (suc j)) e) i + f 0 * e i
-
-product_value : (k d n X : ℕ) (f e : ℕ → ℕ) → 1 ≤ d → k + d ≤ n + 1 → ((l : ℕ) → d ≤ l → e l ≡ 0)
-    → polynomial_at n (product k f e) X ≡ polynomial_at k f X * polynomial_at d e X
-unfolding product
-product_value zero d n X f e some room past =
-    omega (arith, no_value n X, ap (λ v. v * polynomial_at d e X) (polynomial-none f X))
-product_value (suc k) d zero X f e some room past = absurd (omega arith)
-product_value (suc k) d (suc n) X f e some room past =
-    let p : ℕ → ℕ = product k (λ j. f (suc j)) e in let both = combined (suc n) (shifted p) e (f 0) X in
-    let i = ap (λ v. X * v) (product_value k d n X (λ j. f (suc j)) e some (omega arith) past) in
-    let whole = ap (λ v. f 0 * v) (longer_value d (suc n) X e (omega arith) past) in
-    let split = ap (λ v. v * polynomial_at d e X) (polynomial-first k f X) in
-    omega (arith, both, shifted-values n X p, i, whole, split)
-
-product_none : (m k l : ℕ) (f e : ℕ → ℕ) → ((j : ℕ) → Congruent m (e j) 0) → Congruent m (product k f e l) 0
-unfolding product shifted
-product_none m zero l f e none = mod_refl 0
-product_none m (suc k) zero f e none = mod_of_combination (mod_times (f 0) (none 0)) (omega arith)
-product_none m (suc k) (suc l) f e none =
-    let before = product_none m k l (λ j. f (suc j)) e none in
-    mod_of_combination (mod_add before (mod_times (f 0) (none (suc l)))) (omega arith)
+-- the product of two polynomials, the first with k coefficients
+product_of : (k d n : ℕ) (f e : ℕ → ℕ) → 1 ≤ d → k + d ≤ n + 1 → ((l : ℕ) → d ≤ l → e l ≡ 0)
+    → (g : ℕ → ℕ) × ((X : ℕ) → polynomial_at n g X ≡ polynomial_at k f X * polynomial_at d e X)
+product_of zero d n f e some room past =
+    ((λ i. 0), λ X. omega (arith, no_value n X, ap (λ v. v * polynomial_at d e X) (polynomial-none f X)))
+product_of (suc k) d zero f e some room past = absurd (omega arith)
+product_of (suc k) d (suc n) f e some room past =
+    let (g, is) = product_of k d n (λ j. f (suc j)) e some (omega arith) past in (
+      (λ i. shifted g i + f 0 * e i),
+      λ X. omega (
+        arith,
+        combined (suc n) (shifted g) e (f 0) X,
+        shifted-values n X g,
+        ap (λ v. X * v) (is X),
+        ap (λ v. f 0 * v) (longer_value d (suc n) X e (omega arith) past),
+        ap (λ v. v * polynomial_at d e X) (polynomial-first k f X),
+      ),
+    )
 
 -- the quotient by a number with an inverse is the other factor
 quotient_is : (m n e q w : ℕ) → IsQuotient m n e q → Congruent m n (w * e) → Congruent m q w
@@ -63,36 +57,31 @@ module _ (m k c d n : ℕ) (x y p e sent : ℕ → ℕ) (some : 1 ≤ d) (length
     (fit : HaveUnitDifferences m n x) (past : (l : ℕ) → d ≤ l → e l ≡ 0)
     (near : distance n y (λ j. polynomial_at k sent (x j) % m) + c ≤ n) where
   -- the numerator is the product of the message and the locator
-  near_numerator : Solves m c d n x y p e → (l : ℕ) → l < c → Congruent m (p l) (product k sent e l)
-  near_numerator solves =
-      let s = selected n c y (λ j. polynomial_at k sent (x j) % m) near in
-      let fit = rising_fit m n c x s.place s.within s.rising fit in
-      same_coefficients m c p (product k sent e) (λ i. x (s.place i)) fit (λ i l.
-      let value = product_value k d c (x (s.place i)) sent e some (omega arith) past in
-      mod_of_combination (mod_add (solves (s.place i) (s.within i l))
-      (mod_times (polynomial_at d e (x (s.place i))) (mod_of_residue (s.same i l)))) (omega (arith, value)))
-
-  -- .. so its values are
   near_value : Solves m c d n x y p e → (X : ℕ)
       → Congruent m (polynomial_at c p X) (polynomial_at k sent X * polynomial_at d e X)
-  near_value solves X = mod_trans (polynomial-congruent c p (product k sent e) X X (near_numerator solves) (mod_refl X))
-      (mod_of_eq (product_value k d c X sent e some (omega arith) past))
+  near_value solves X =
+      let (g, is) = product_of k d c sent e some (omega arith) past in
+      let s = selected n c y (λ j. polynomial_at k sent (x j) % m) near in
+      let same = same_coefficients m c p g (λ i. x (s.place i)) (rising_fit m n c x s.place s.within s.rising fit) (λ i l.
+      mod_of_combination (mod_add (solves (s.place i) (s.within i l))
+      (mod_times (polynomial_at d e (x (s.place i))) (mod_of_residue (s.same i l)))) (omega (arith, is (x (s.place i))))) in
+      mod_trans (polynomial-congruent c p g X X same (mod_refl X)) (mod_of_eq (is X))
 
   -- the locator isn't 0 at so many points
   pub enough_units : (u : ℕ) → u < 2 * c → IsKeyPair m k c d n u x y p e
       → distance n (λ j. polynomial_at d e (x j) % m) (λ j. 0) < k → HasInverse m 0
   enough_units u room pair zeros =
       let s = selected n d (λ j. polynomial_at d e (x j) % m) (λ j. 0) (omega (arith, zeros, near)) in
-      let fit = rising_fit m n d x s.place s.within s.rising fit in
-      let none_at = same_coefficients m d e (λ i. 0) (λ i. x (s.place i)) fit (λ i l.
-      record { same = s.same i l ∙ sym (ap (λ v. v % m) (no_value d (x (s.place i))) ∙ zero-mod m) }) in
-      let none : (l : ℕ) → Congruent m (e l) 0 =
-      λ l. elim (cases_lt l d) [ inl b ↦ none_at l b | inr b ↦ mod_of_eq (past l b) ] in
+      let none = same_coefficients m d e (λ i. 0) (λ i. x (s.place i)) (rising_fit m n d x s.place s.within s.rising fit)
+      (λ i l. record { same = s.same i l ∙ sym (ap (λ v. v % m) (no_value d (x (s.place i))) ∙ zero-mod m) }) in
       elim pair.leads.unit [
         | inl (l, at, unit) ↦
-            let none_p = mod_trans (near_numerator pair.solves l (omega arith)) (product_none m k l sent e none) in
-            unit_alike m (p l) 0 none_p unit
-        | inr (l, at, unit) ↦ unit_alike m (e l) 0 (none l) unit
+            let none_p = same_coefficients m c p (λ i. 0) x (fit_front m n c x (omega (arith, near)) fit) (λ j b.
+            mod_of_combination (mod_add (pair.solves j (omega (arith, b, near)))
+            (mod_times (y j) (polynomial-congruent d e (λ i. 0) (x j) (x j) none (mod_refl (x j)))))
+            (omega (arith, no_value c (x j), ap (λ v. y j * v) (no_value d (x j))))) in
+            unit_alike m (p l) 0 (none_p l (omega arith)) unit
+        | inr (l, at, unit) ↦ unit_alike m (e l) 0 (none l (omega arith)) unit
       ]
 
   -- the quotients are the values of the message
@@ -107,27 +96,19 @@ module _ (m k c d n : ℕ) (x y p e sent : ℕ → ℕ) (some : 1 ≤ d) (length
         ∙ ap (λ v. polynomial_at k sent v % m) (sym (are.chosen_there i l));
   }
 
--- words that are the same at the places
-pub distance_same : (n : ℕ) (a b d : ℕ → ℕ) → ((i : ℕ) → i < n → b i ≡ d i) → distance n a b ≡ distance n a d
-distance_same n a b d same =
-    sum_below-same n (λ i. counted (a i) (b i)) (λ i. counted (a i) (d i)) (λ i l. ap (counted (a i)) (same i l))
-
 -- the errors at the first points are those of the lists cut there
 pub distance_taken : {T : Type 0} (number : T → ℕ) (value : ℕ → ℕ → ℕ) (m count k : ℕ) (X Y : List T) (sent : ℕ → ℕ)
     → count ≤ length X → length Y ≡ length X
     → distance (length (take count X)) (entry number value m (take count Y))
     (λ j. polynomial_at k sent (entry number value m (take count X) j) % m)
     ≤ distance (length X) (entry number value m Y) (λ j. polynomial_at k sent (entry number value m X j) % m)
-distance_taken number value m count k X Y sent within each =
-    let x = entry number value m X in let y = entry number value m Y in
-    let xs = entry number value m (take count X) in let ys = entry number value m (take count Y) in
-    let word : (ℕ → ℕ) → ℕ → ℕ = λ x j. polynomial_at k sent (x j) % m in
-    let alike = sum_below-same count (λ i. counted (ys i) (word xs i)) (λ i. counted (y i) (word x i))
-    (λ i l. ap (λ v. counted v (word xs i)) (entry_front number value m Y count i l (omega (arith, within, each)))
-    ∙ ap (λ a. counted (y i) (polynomial_at k sent a % m)) (entry_front number value m X count i l within)) in
+distance_taken {T} number value m count k X Y sent within each =
+    let y = entry number value m Y in let word : List T → ℕ → ℕ = λ x j. polynomial_at k sent (entry number value m x j) % m in
+    let alike : distance count (entry number value m (take count Y)) (word (take count X)) ≡ distance count y (word X) =
+    grind (arith, distance_alike, entry_front) in
     let whole : count + (length X - count) ≡ length X = omega arith in
-    let parts = sum_below-joined count (length X - count) (λ i. counted (y i) (word x i)) in
-    rw (length-take-le count X within) (omega (arith, alike, parts, ap (λ j. distance j y (word x)) whole))
+    let parts = sum_below-joined count (length X - count) (λ i. counted (y i) (word X i)) in
+    rw (length-take-le count X within) (omega (arith, alike, parts, ap (λ j. distance j y (word X)) whole))
 
 -- .. and these points fit where all do
 pub fit_taken : {T : Type 0} (number : T → ℕ) (value : ℕ → ℕ → ℕ) (m count : ℕ) (X : List T) → count ≤ length X
@@ -159,13 +140,7 @@ module _ {T : Type 0} (number : T → ℕ) (form value : ℕ → ℕ → ℕ) (m
   -- a point more without a quotient
   pub found_kept : {n k : ℕ} {x p e : ℕ → ℕ} {chosen values : List T} → Found n k x p e chosen values
       → Found (n + 1) k x p e chosen values
-  found_kept found = record {
-    place = found.place;
-    within = λ i l. let w = found.within i l in omega (arith, w);
-    rising = found.rising;
-    chosen_there = found.chosen_there;
-    quotient = found.quotient;
-  }
+  found_kept found = grind arith
 
   -- a point more with a quotient
   pub found_more : {n k : ℕ} {p e : ℕ → ℕ} (points : List T) {chosen values : List T} {a f q : T} → k < length chosen
@@ -177,8 +152,7 @@ module _ {T : Type 0} (number : T → ℕ) (form value : ℕ → ℕ → ℕ) (m
   found_more {n} {k} {p} {e} points {chosen} {values} {a} {f} {q} room room_values found all within at_a at_f quotient =
       let x = entry number value m points in let at = entry_read number value m points n a within at_a in record {
         place = extended k n found.place;
-        within = extended_each k n found.place (λ i p. p < n + 1)
-            (λ i l. let w = found.within i l in omega (arith, w)) (omega arith);
+        within = grind (arith, cases_eq, at_end, before_end);
         rising = extended_rising k n found.place found.within found.rising;
         chosen_there = hold_more number form value m chosen k f (λ i. x (extended k n found.place i)) room
             (record { each = λ i d l. rw (before_end k n found.place i (omega arith)) (found.chosen_there.each i d l) })
@@ -209,21 +183,17 @@ module _ {T : Type 0} (number : T → ℕ) (form value : ℕ → ℕ → ℕ) (m
   }
 
 -- one point more where a value is 0, or isn't
-pub zeros_kept : {k : ℕ} (n : ℕ) (a b : ℕ → ℕ) → distance n a b ≤ k → a n ≡ b n → distance (n + 1) a b ≤ k
-zeros_kept n a b few same =
-    omega (arith, few, sum_below-more (λ i. counted (a i) (b i)) n, counted_same (a n) (b n) same)
-
-pub zeros_more : {k : ℕ} (n : ℕ) (a b : ℕ → ℕ) → distance n a b ≤ k → distance (n + 1) a b ≤ k + 1
-zeros_more n a b few = omega (arith, few, sum_below-more (λ i. counted (a i) (b i)) n, counted_most (a n) (b n))
+pub zeros_more : {k : ℕ} (n : ℕ) (a b : ℕ → ℕ) → distance n a b ≤ k
+    → (distance (n + 1) a b ≤ k + 1) × (a n ≡ b n → distance (n + 1) a b ≤ k)
+zeros_more n a b few =
+    let next = sum_below-more (λ i. counted (a i) (b i)) n in
+    (omega (arith, few, next, counted_most (a n) (b n)), λ same. omega (arith, few, next, counted_same (a n) (b n) same))
 
 -- forms differ exactly where their values do
 pub counted_forms : (form value : ℕ → ℕ → ℕ) (m f g v w : ℕ) → IsForm form value m f → IsForm form value m g
     → value m f ≡ v → value m g ≡ w → counted f g ≡ counted v w
-counted_forms form value m f g v w is_f is_g at_f at_g = elim (cases_eq f g) [
-  | inl s ↦ counted_same f g s ∙ sym (counted_same v w (sym at_f ∙ ap (value m) s ∙ at_g))
-  | inr other ↦ counted_other f g other
-      ∙ sym (counted_other v w (λ e. other (same_forms form value m f g is_f is_g (at_f ∙ e ∙ sym at_g))))
-]
+counted_forms form value m f g v w is_f is_g at_f at_g =
+    grind (arith, cases_eq, counted_same, counted_other, same_forms)
 
 -- the quotient from an inverse
 pub quotient_made : {m n e value x dividend q : ℕ} → value ≡ e % m → IsInverse m value x → dividend ≡ n % m
@@ -241,19 +211,8 @@ half_of a = (omega arith, omega arith)
 -- messages that are congruent have one word
 pub recoded : {m k n : ℕ} {X mine sent word : ℕ → ℕ} → IsEncoding m k n X sent word
     → ((i : ℕ) → i < k → mine i ≡ sent i % m) → IsEncoding m k n X mine word
-recoded {m} {k} {n} {X} {mine} {sent} is same = record {
-  symbol = λ i l. is.symbol i l ∙ sym (polynomial-congruent k mine sent (X i) (X i)
-      (λ i b. record { same = ap (λ v. v % m) (same i b) ∙ mod-mod (sent i) m }) (mod_refl (X i))).same;
-}
+recoded is same = grind (arith, polynomial-congruent, mod_refl, mod_of_residue)
 
 pub same_word : {m k n : ℕ} {X mine sent word other : ℕ → ℕ} → IsEncoding m k n X mine word → IsEncoding m k n X sent other
     → ((i : ℕ) → i < k → mine i ≡ sent i % m) → (i : ℕ) → i < n → word i ≡ other i
 same_word is_mine is_sent same i l = is_mine.symbol i l ∙ sym ((recoded is_sent same).symbol i l)
-
--- the message of a word is the only one near the word
-pub near_message : (m k s : ℕ) (x y mine sent : ℕ → ℕ) → HaveUnitDifferences m s x → IsEncoding m k s x mine y → k ≤ s
-    → 2 * distance s y (λ j. polynomial_at k sent (x j) % m) ≤ s - k → (i : ℕ) → i < k → mine i < m → mine i ≡ sent i % m
-near_message m k s x y mine sent fit is few near i l below =
-    sym (mod-eq_of_lt below)
-    ∙ (same_messages m k s x mine sent y (λ j. polynomial_at k sent (x j) % m) fit is (record { symbol = λ j b. refl })
-    (omega (arith, few, near)) i l).same

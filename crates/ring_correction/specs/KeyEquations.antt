@@ -12,25 +12,29 @@ Solves m c d i x y numerator locator = (j : ℕ) → j < i →
     Congruent m (polynomial_at c numerator (x j)) (y j * polynomial_at d locator (x j))
 
 -- in the order 1, Y·X^0, X, Y·X^1, .. of the coefficients, those of the locator after k - 1 of the numerator: the
--- coefficients behind number u are 0, and coefficient u has an inverse (2·l is the number of the numerator's
+-- coefficients behind number u, of c and d, are 0, and coefficient u has an inverse (2·l is the number of the numerator's
 -- coefficient l, and 2·(l + k) - 1 that of the locator's)
-pub record Leads (m k u : ℕ) (numerator locator : ℕ → ℕ) : Type 0 where
-  pub numerator_behind : (l : ℕ) → u < 2 * l → Congruent m (numerator l) 0
-  pub locator_behind : (l : ℕ) → suc u < 2 * (l + k) → Congruent m (locator l) 0
+pub record Leads (m k c d u : ℕ) (numerator locator : ℕ → ℕ) : Type 0 where
+  pub numerator_behind : (l : ℕ) → l < c → u < 2 * l → Congruent m (numerator l) 0
+  pub locator_behind : (l : ℕ) → l < d → suc u < 2 * (l + k) → Congruent m (locator l) 0
   pub unit : ((l : ℕ) × (2 * l ≡ u) × HasInverse m (numerator l))
       ⊎ ((l : ℕ) × (2 * (l + k) ≡ suc u) × HasInverse m (locator l))
 
 -- both
 pub record IsKeyPair (m k c d i u : ℕ) (x y numerator locator : ℕ → ℕ) : Type 0 where
   pub solves : Solves m c d i x y numerator locator
-  pub leads : Leads m k u numerator locator
+  pub leads : Leads m k c d u numerator locator
+
+-- nothing is said of a pair whose number is 2·c or more, for which there is no room
+abbrev pub HasKeyPair : ℕ → ℕ → ℕ → ℕ → ℕ → ℕ → (ℕ → ℕ) → (ℕ → ℕ) → (ℕ → ℕ) → (ℕ → ℕ) → Type 0
+HasKeyPair m k c d i u x y numerator locator = u < 2 * c → IsKeyPair m k c d i u x y numerator locator
 
 -- two pairs, of which the first leads with its numerator and the second with its locator, by the numbers 2·v and
--- 2·w + 1 of weights v and w; nothing is said of a pair whose weight is c or more, for which there is no room
+-- 2·w + 1 of weights v and w
 pub record AreKeyPairs (m k c d i v w : ℕ) (x y first_numerator first_locator second_numerator second_locator : ℕ → ℕ)
     : Type 0 where
-  pub first : 2 * v < 2 * c → IsKeyPair m k c d i (2 * v) x y first_numerator first_locator
-  pub second : 2 * w + 1 < 2 * c → IsKeyPair m k c d i (2 * w + 1) x y second_numerator second_locator
+  pub first : HasKeyPair m k c d i (2 * v) x y first_numerator first_locator
+  pub second : HasKeyPair m k c d i (2 * w + 1) x y second_numerator second_locator
 
 -- modulo m, q is the quotient of n by e, which has an inverse
 pub record IsQuotient (m n e q : ℕ) : Type 0 where

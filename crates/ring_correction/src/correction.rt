@@ -45,6 +45,7 @@ fn difference<T: RingWord>(a: &T, b: &T) -> usize
 }
 
 // The number of the symbols that differ from those of a word at their places.
+#[tactic(auto, using(ring_codes::proofs::Distances::none_counted))]
 fn count_errors<T: RingWord, R: Reducer<T>>(
     _r: &R,
     places: &[usize],

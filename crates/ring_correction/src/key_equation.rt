@@ -4,14 +4,13 @@
 //! its locator E.
 
 ghost use Rattle.std.specs.Prelude.{◌≡◌, ◌≢◌, ℕ, zero, suc, ◌+◌, ◌*◌, ◌%◌, ◌<◌, ◌≤◌};
-ghost use Rattle.std.specs.Prelude.{◌^◌, IsOk, IfOk, IfErr, MatchResult, length, take, drop};
+ghost use Rattle.std.specs.Prelude.{◌^◌, IsOk, IfOk, IfErr, length, take, drop};
 ghost use Rattle.num_modular.specs.Congruence.{Congruent};
 ghost use Rattle.num_modular.specs.Entries.{entry};
 ghost use Rattle.num_modular.specs.Checked.{AreChecked, IsChecked};
 ghost use Rattle.num_modular.specs.Polynomials.{polynomial_at};
-ghost use Rattle.ring_correction.specs.KeyAdvance.{AreAdvanced};
+ghost use Rattle.ring_correction.specs.KeyAdvance.{HoldsPair, HoldPairs};
 ghost use Rattle.ring_codes.specs.Shifts.{shifted};
-ghost use Rattle.ring_correction.specs.KeyEquations.{IsKeyPair, AreKeyPairs};
 ghost use Rattle.ring_codes.specs.Erasure.{IsWithoutInverse};
 
 use num_modular::{Reducer, RingWord};
@@ -23,7 +22,7 @@ use ring_codes::erasure::{evaluate, multiply_by_root};
 ///
 /// - point, symbol and pair are checked forms
 /// - the numerator is within the pair
-#[tactic(auto, using(crate::proofs::Pairs::rest_whole))]
+#[tactic(auto, using(crate::proofs::KeyPairs::rest_whole))]
 pub fn discrepancy<T: RingWord, R: Reducer<T>>(
     r: &R,
     point: &T,
@@ -84,7 +83,7 @@ pub fn eliminate<T: RingWord, R: Reducer<T>>(
 /// # Preconditions
 ///
 /// - the list has that place
-#[tactic(auto, using(num_modular::specs::Callers::forms_written, num_modular::specs::Callers::held_forms, num_modular::specs::Callers::entry_written))]
+#[tactic(auto, using(num_modular::specs::Callers::entry_written, num_modular::specs::Callers::forms_written, num_modular::specs::Callers::held_forms, num_modular::specs::Callers::hold_more, ring_codes::proofs::Counts::zero_mod))]
 pub fn set_unit<T: RingWord, R: Reducer<T>>(r: &R, place: usize, coefficients: &mut [T])
     requires { place < length coefficients.old }
     ensures checked { AreChecked R.Reducer T.number r.now coefficients.new }
@@ -110,12 +109,9 @@ pub fn raise<T: RingWord, R: Reducer<T>>(r: &R, point: &T, pair: &mut [T], split
     requires pair { AreChecked R.Reducer T.number r.now pair.old }
     requires within { split ≤ length pair.old }
     ensures checked { AreChecked R.Reducer T.number r.now pair.new }
-    ensures pair { let m = R.modulus r.now in (d k i u : ℕ) (x y : ℕ → ℕ) → length pair.old ≡ split + d →
-        d + k ≡ split + 1 → u + 2 < 2 * split → x i ≡ R.value m (T.number point.now) →
-        IsKeyPair m k split d i u x y (entry T.number R.value m (take split pair.old))
-        (entry T.number R.value m (drop split pair.old)) →
-        IsKeyPair m k split d (i + 1) (u + 2) x y (entry T.number R.value m (take split pair.new))
-        (entry T.number R.value m (drop split pair.new)) }
+    ensures pair { let m = R.modulus r.now in let entries = entry T.number R.value m in (d k i u v : ℕ) (x y : ℕ → ℕ) →
+        length pair.old ≡ split + d → d + k ≡ split + 1 → v ≡ u + 2 → x i ≡ R.value m (T.number point.now) →
+        HoldsPair entries m k split d i u x y pair.old → HoldsPair entries m k split d (i + 1) v x y pair.new }
 {
     let (numerator, locator) = pair.split_at_mut(split);
     multiply_by_root(r, point, numerator, numerator.len());
@@ -150,26 +146,19 @@ pub fn reduce<T: RingWord, R: Reducer<T>>(
     ensures inverse { IfErr result (λ a. IsWithoutInverse (R.modulus r.now) (T.number a)) }
     ensures checked_pivot { IsOk result → AreChecked R.Reducer T.number r.now pivot.new }
     ensures checked_other { IsOk result → AreChecked R.Reducer T.number r.now other.new }
-    ensures pivot { let m = R.modulus r.now in IsOk result → (d k i u : ℕ) (x y : ℕ → ℕ) →
-        length other.old ≡ split + d → d + k ≡ split + 1 → u + 2 < 2 * split → x i ≡ R.value m (T.number point.now) →
-        IsKeyPair m k split d i u x y (entry T.number R.value m (take split pivot.old))
-        (entry T.number R.value m (drop split pivot.old)) →
-        IsKeyPair m k split d (i + 1) (u + 2) x y (entry T.number R.value m (take split pivot.new))
-        (entry T.number R.value m (drop split pivot.new)) }
-    ensures other { let m = R.modulus r.now in
-        let pn = entry T.number R.value m (take split pivot.old) in
-        let pl = entry T.number R.value m (drop split pivot.old) in
-        let on = entry T.number R.value m (take split other.old) in
-        let ol = entry T.number R.value m (drop split other.old) in
-        IsOk result → (d k i u v : ℕ) (x y : ℕ → ℕ) →
-        length other.old ≡ split + d → d + k ≡ split + 1 → v < 2 * split → u < v →
-        Congruent m (R.value m (T.number pivot_discrepancy.now) + y i * polynomial_at d pl (x i))
-        (polynomial_at split pn (x i)) →
-        Congruent m (R.value m (T.number discrepancy.now) + y i * polynomial_at d ol (x i))
-        (polynomial_at split on (x i)) →
-        IsKeyPair m k split d i u x y pn pl → IsKeyPair m k split d i v x y on ol →
-        IsKeyPair m k split d (i + 1) v x y (entry T.number R.value m (take split other.new))
-        (entry T.number R.value m (drop split other.new)) }
+    ensures pivot { let m = R.modulus r.now in let entries = entry T.number R.value m in IsOk result →
+        (d k i u v : ℕ) (x y : ℕ → ℕ) → length other.old ≡ split + d → d + k ≡ split + 1 → v ≡ u + 2 →
+        x i ≡ R.value m (T.number point.now) →
+        HoldsPair entries m k split d i u x y pivot.old → HoldsPair entries m k split d (i + 1) v x y pivot.new }
+    ensures other { let m = R.modulus r.now in let entries = entry T.number R.value m in IsOk result →
+        (d k i u v : ℕ) (x y : ℕ → ℕ) → length other.old ≡ split + d → d + k ≡ split + 1 → u < v →
+        Congruent m (R.value m (T.number pivot_discrepancy.now)
+        + y i * polynomial_at d (entries (drop split pivot.old)) (x i))
+        (polynomial_at split (entries (take split pivot.old)) (x i)) →
+        Congruent m (R.value m (T.number discrepancy.now) + y i * polynomial_at d (entries (drop split other.old)) (x i))
+        (polynomial_at split (entries (take split other.old)) (x i)) →
+        HoldsPair entries m k split d i u x y pivot.old → HoldsPair entries m k split d i v x y other.old →
+        HoldsPair entries m k split d (i + 1) v x y other.new }
 {
     match r.inv(*pivot_discrepancy) {
         None => Err(r.residue(*pivot_discrepancy)),
@@ -204,11 +193,15 @@ pub fn advance<T: RingWord, R: Reducer<T>>(
     requires equal { length first.old ≡ length second.old }
     requires within { split ≤ length first.old }
     requires few { weights.0 + weights.1 + 1 < 2 ^ 64 }
-    ensures { let m = R.modulus r.now in MatchResult result
-        (λ w. AreAdvanced (λ f. IsChecked R.Reducer T.number r.now f) (entry T.number R.value m) m split
-        (R.value m (T.number point.now)) (R.value m (T.number symbol.now)) first.old second.old weights.0 weights.1
-        first.new second.new w.0 w.1)
-        (λ a. IsWithoutInverse m (T.number a)) }
+    ensures inverse { IfErr result (λ a. IsWithoutInverse (R.modulus r.now) (T.number a)) }
+    ensures checked_first { IsOk result → AreChecked R.Reducer T.number r.now first.new }
+    ensures checked_second { IsOk result → AreChecked R.Reducer T.number r.now second.new }
+    ensures weights { IfOk result (λ w. w.0 + w.1 ≤ weights.0 + weights.1 + 1) }
+    ensures pairs { let m = R.modulus r.now in let entries = entry T.number R.value m in IfOk result (λ w.
+        (d k i : ℕ) (x y : ℕ → ℕ) → length first.old ≡ split + d → d + k ≡ split + 1 →
+        x i ≡ R.value m (T.number point.now) → y i ≡ R.value m (T.number symbol.now) →
+        HoldPairs entries m k split d i weights.0 weights.1 x y first.old second.old →
+        HoldPairs entries m k split d (i + 1) w.0 w.1 x y first.new second.new) }
 {
     let first_discrepancy = discrepancy(r, point, symbol, first, split);
     let second_discrepancy = discrepancy(r, point, symbol, second, split);
@@ -288,11 +281,9 @@ pub fn solve<T: RingWord, R: Reducer<T>>(
     ensures checked_first { IsOk result → AreChecked R.Reducer T.number r.now first.new }
     ensures checked_second { IsOk result → AreChecked R.Reducer T.number r.now second.new }
     ensures weights { IfOk result (λ w. w.0 + w.1 < length points.now + k) }
-    ensures pairs { let m = R.modulus r.now in IfOk result (λ w. (d : ℕ) → length first.old ≡ split + d →
-        AreKeyPairs m k split d (length points.now) w.0 w.1
-        (entry T.number R.value m points.now) (entry T.number R.value m symbols.now)
-        (entry T.number R.value m (take split first.new)) (entry T.number R.value m (drop split first.new))
-        (entry T.number R.value m (take split second.new)) (entry T.number R.value m (drop split second.new))) }
+    ensures pairs { let m = R.modulus r.now in let entries = entry T.number R.value m in IfOk result (λ w. (d : ℕ) →
+        length first.old ≡ split + d → HoldPairs entries m k split d (length points.now) w.0 w.1
+        (entries points.now) (entries symbols.now) first.new second.new) }
 {
     set_unit(r, 0, first);
     set_unit(r, split, second);

@@ -124,7 +124,7 @@ pub fn divide<T: RingWord, R: Reducer<T>>(
 /// - the numerator is within the pair
 /// - there are three places of scratch for each symbol of the message
 /// - the points fit
-#[tactic(auto, using(crate::proofs::Pairs::rest_whole))]
+#[tactic(auto, using(crate::proofs::KeyPairs::rest_whole))]
 pub fn divide_pair<T: RingWord, R: Reducer<T>>(
     r: &R,
     points: &[T],

@@ -1,11 +1,8 @@
 use Rattle.num_modular.specs.Callers.{◌<◌, ◌∙◌, arith, length, entry, entry_read, form_read}
 use Rattle.std.proofs.Common.{slice_index}
 use Rattle.ring_correction.proofs.NearPairs.{counted_forms}
-use Rattle.ring_codes.proofs.Distances.{one_counted, none_counted}
+use Rattle.ring_codes.proofs.Distances.{one_counted}
 use Rattle.ring_correction.proofs.correction.count_errors.Goals as goal
-
-pub places-init : goal.places-init
-places-init g c = (none_counted _ _, omega arith)
 
 pub places-preserved : goal.places-preserved
 places-preserved g c =

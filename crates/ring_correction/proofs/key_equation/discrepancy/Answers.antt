@@ -1,6 +1,6 @@
 use Rattle.std.proofs.Common.{take, drop, length-take-le, length-drop}
 use Rattle.num_modular.specs.Callers.{◌≡◌, arith, length}
-use Rattle.ring_correction.proofs.Pairs.{rest_whole}
+use Rattle.ring_correction.proofs.KeyPairs.{rest_whole}
 use Rattle.num_modular.specs.NumberLaws.{mod_sym, mod_trans, mod_add, mod_mul, mod_refl}
 use Rattle.ring_codes.proofs.Congruences.{mod_of_combination, mod_of_residue, mod_of_difference}
 use Rattle.ring_correction.proofs.key_equation.discrepancy.Goals as goal

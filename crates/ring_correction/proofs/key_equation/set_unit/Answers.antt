@@ -1,6 +1,5 @@
-use Rattle.num_modular.specs.Callers.{◌∙◌, arith, inl, inr, length, entry_past, entry_kept, held_entry, hold_more}
+use Rattle.num_modular.specs.Callers.{◌∙◌, arith, inl, inr, length, entry_past, entry_kept, held_entry}
 use Rattle.std.proofs.lemmas.Bool.{cases_lt}
-use Rattle.ring_codes.proofs.Counts.{zero_mod}
 use Rattle.ring_correction.proofs.key_equation.set_unit.Goals as goal
 
 pub returns-clause-others : goal.returns-clause-others
@@ -12,8 +11,3 @@ returns-clause-others g c i other =
       | inl b ↦ held_entry _ _ _ _ list _ c.coefficients.i i c.coefficients.invariant (omega arith) b
       | inr b ↦ entry_past number ring.value m list i b
     ]
-
-pub coefficients-preserved : goal.coefficients-preserved
-coefficients-preserved g c =
-    hold_more _ _ _ _ _ _ _ _ (rw c.coefficients.auto.coefficients c.coefficients-test.true) c.coefficients.invariant
-    c.transform-zero.ensures.checked (c.transform-zero.ensures.value ∙ rw c.zero.ensures (zero_mod _))

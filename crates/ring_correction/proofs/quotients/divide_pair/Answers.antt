@@ -1,7 +1,7 @@
 use Rattle.std.proofs.Common.{take, drop, length-drop, length-take-le}
 use Rattle.num_modular.specs.Callers.{◌≡◌, ◌∙◌, sym, arith, length, entry_past, values_below}
 use Rattle.std.proofs.lemmas.Bool.{false≢true}
-use Rattle.ring_correction.proofs.Pairs.{rest_whole}
+use Rattle.ring_correction.proofs.KeyPairs.{rest_whole}
 use Rattle.ring_correction.proofs.NearPairs.{enough_units, near_quotients}
 use Rattle.ring_codes.proofs.Distances.{rising_fit}
 use Rattle.ring_codes.proofs.Symbols.{fit_same}

@@ -1,5 +1,5 @@
 use Rattle.num_modular.specs.Callers.{ℕ, ◌+◌, ◌*◌, ◌-◌, ◌≤◌, arith, length, ◌/◌, ◌≡◌}
-use Rattle.ring_correction.proofs.KeyPairs.{ok_then}
+use Rattle.std.proofs.lemmas.Result.{IfOk-weaker}
 use Rattle.std.proofs.Common.{take, length-take-le}
 use Rattle.ring_correction.proofs.NearPairs.{distance_taken}
 use Rattle.ring_correction.proofs.search.decode.Goals as goal
@@ -15,7 +15,7 @@ returns-in-Ok-clause-message g c =
     let long : length (take count c.args.points.now) ≡ count = length-take-le count c.args.points.now within in
     let first = c.split_at_mut-first.ensures.front_len in let second = c.split_at_mut-second.ensures.front_len in
     let pairs = c.in-Ok.ensures.pairs d (omega (arith, first)) in
-    ok_then c.divide_lighter.result _ _
+    IfOk-weaker c.divide_lighter.result _ _
     (λ b h sent near.
     let front = distance_taken number ring.value m count k c.args.points.now c.args.symbols.now sent within c.requires.pairs in
     h d _ sent (omega (arith, c.solve.auto.first, first)) (omega (arith, c.solve.auto.second, second))

@@ -4,7 +4,7 @@ use Rattle.num_modular.specs.Polynomials.{polynomial_at, HaveUnitDifferences}
 use Rattle.std.proofs.lemmas.Bool.{false≢true}
 use Rattle.ring_codes.proofs.Counts.{fit_front}
 use Rattle.ring_codes.specs.Erasure.{IsErasureCodeword}
-use Rattle.ring_codes.specs.declared.erasure.RestoreError.TheVariants.{TooFewSymbols, PlaceOutOfRange, PlaceTwice, PointsDontFit}
+use Rattle.ring_decoder.proofs.LostPlaces.{not_lost}
 use Rattle.ring_codes.specs.declared.erasure.errors.CorrectError.{CorrectError}
 use Rattle.ring_codes.specs.declared.erasure.errors.CorrectError.TheVariants.{Restore, TooManyErrors, NoInverse}
 use Rattle.ring_codes.proofs.Distances.{no_distance}
@@ -22,20 +22,10 @@ near_word m k s x y sent near = ((sent, record { symbol = λ i l. refl }), omega
 -- the fault of the corrector, where no symbol is lost
 fault_of_corrector : {T : Type 0} (number : T → ℕ) (m k s : ℕ) (x y : ℕ → ℕ) (e : CorrectError T) → HaveUnitDifferences m s x
     → k ≤ s → IsCorrectorFault number m k s x [] y e → IsSearchFault number m k s x y e
-fault_of_corrector number m k s x y (Restore TooFewSymbols) fit few fault = absurd (omega (arith, few, fault))
-fault_of_corrector number m k s x y (Restore PlaceOutOfRange) fit few fault = let l = fault.1.1 in absurd (omega (arith, l))
-fault_of_corrector number m k s x y (Restore PlaceTwice) fit few fault =
-    let l = fault.1.2 in let b = fault.1.3 in absurd (omega (arith, l, b))
-fault_of_corrector number m k s x y (Restore PointsDontFit) fit few fault = absurd fault
+fault_of_corrector number m k s x y (Restore e) fit few fault = absurd (not_lost m k s x [] e fault (grind arith))
 fault_of_corrector number m k s x y TooManyErrors fit few fault =
     (fit, λ sent near. let word = near_word m k s x y sent near in fault.1 _ word.0 word.1)
-fault_of_corrector number m k s x y (NoInverse a) fit few fault = (
-  fit,
-  fault.1,
-  λ codeword.
-      let none = no_distance s y y (λ i l. refl) in
-      let two = fault.2 y codeword (omega (arith, none)) in absurd (omega (arith, none, two)),
-)
+fault_of_corrector number m k s x y (NoInverse a) fit few fault = grind (arith, no_distance)
 
 pub returns-in-Err : goal.returns-in-Err
 returns-in-Err g c =
