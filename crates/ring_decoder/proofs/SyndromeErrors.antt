@@ -18,7 +18,8 @@ use Rattle.ring_decoder.specs.PowerSums.{ArePowerSums}
 use Rattle.ring_codes.specs.Roots.{HasRoots}
 use Rattle.ring_decoder.proofs.SyndromeRoots.{product_monic}
 use Rattle.ring_codes.proofs.Roots.{constant_value}
-use Rattle.ring_decoder.proofs.SyndromeSums.{weight_alone, sum_reversed}
+use Rattle.num_modular.specs.NumberLaws.{sum_below-reversed}
+use Rattle.ring_decoder.proofs.SyndromeSums.{weight_alone}
 use Rattle.ring_codes.proofs.Congruences.{mod_of_combination, mod_of_inverse, mod_of_residue, mod_times}
 use Rattle.ring_decoder.proofs.LocatorSums.{factor_none}
 use Rattle.std.proofs.Math.Nat.{zero-add, add-zero}
@@ -104,7 +105,7 @@ module _ {m d : ℕ} {x f : ℕ → ℕ} (positive : 0 < m) (fit : HaveUnitDiffe
       λ k l.
       let count : k + 1 ≡ q + 1 - suc (q - 1 - k) = omega arith in
       let from : q + 1 - (k + 1) ≡ suc (q - 1 - k) = omega arith in rw (← count, ← from) refl in
-      mod_trans (mod_of_eq (sum_below-same q _ (λ k. G (q - 1 - k)) each ∙ sum_reversed q G))
+      mod_trans (mod_of_eq (sum_below-same q _ (λ k. G (q - 1 - k)) each ∙ sum_below-reversed q G))
       (mod_trans (weight_alone m q j x w s quotient are below quotient_none) (mod_mul (mod_refl (w j)) quotient_own))
 
 -- the error at point j: the sum, divided by the weight and the differences

@@ -55,15 +55,6 @@ weight_alone m q j x w t p are below none =
     (λ i l other. mod_of_combination (mod_times (w i * x i ^ 0) (none i l other)) (omega arith)))
     (omega (arith, ap (λ v. w j * v * polynomial_at q p (x j)) (pow-zero (x j))))))
 
--- a sum from its last term on
-pub sum_reversed : (n : ℕ) (f : ℕ → ℕ) → sum_below n (λ i. f (n - 1 - i)) ≡ sum_below n f
-sum_reversed zero f = sum_below-zero (λ i. f (0 - 1 - i)) ∙ sym (sum_below-zero f)
-sum_reversed (suc n) f =
-    let here = ap f (let e : suc n - 1 - 0 ≡ n = omega arith in e) in
-    let rest = sum_below-same n (λ i. f (suc n - 1 - suc i)) (λ i. f (n - 1 - i))
-    (λ i l. ap f (let e : suc n - 1 - suc i ≡ n - 1 - i = omega arith in e)) in
-    omega (arith, sum_below-first n (λ i. f (suc n - 1 - i)), here, rest, sum_reversed n f, sum_below-suc n f)
-
 -- power sums with congruent weights
 pub sums_alike : (m N n : ℕ) (x v w t : ℕ → ℕ) → ((i : ℕ) → i < n → Congruent m (v i) (w i))
     → ArePowerSums m N n x v t → ArePowerSums m N n x w t
