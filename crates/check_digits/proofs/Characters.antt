@@ -6,13 +6,15 @@ use Rattle.std.specs.List.{flat_map}
 use Rattle.std.proofs.Math.Seq.{take-set-lt}
 use Rattle.std.proofs.lemmas.Bool.{cases_lt, leb-true, le-leb, false≢true}
 use Rattle.std.proofs.lemmas.Grind.{flat_map-append}
-use Rattle.std.proofs.lemmas.List.{append_assoc, set_split, set-get_or, length-take-le, drop-set-add, drop-set-lt, take-set-le}
+use Rattle.std.proofs.lemmas.List.{append_assoc, set_split, set-get_or, length-take-le, drop-set-add, drop-set-lt}
+use Rattle.std.proofs.lemmas.List.{take-set-le}
 use Rattle.std.proofs.lemmas.Nat.{mul-pow, mul-mod_second, pow-mod}
 use Rattle.num_modular.specs.Inverses.{HasInverse}
 use Rattle.num_modular.specs.NumberLaws.{sum_below-first, sum_below-same, one-pow}
 use Rattle.num_modular.specs.Sums.{sum_below, polynomial_highest_first}
-use Rattle.check_digits.specs.Ibans.{IsDigit, IsLetter, IsIban, AreOfOneKind, FindsEachCharacter, digits_of, iban_digits, iban_number}
-use Rattle.check_digits.proofs.CheckSums.{unit_cancels}
+use Rattle.check_digits.specs.Ibans.{IsDigit, IsLetter, IsIban, AreOfOneKind, FindsEachCharacter, digits_of}
+use Rattle.check_digits.specs.Ibans.{iban_digits, iban_number}
+use Rattle.check_digits.proofs.CheckSums.{unit_cofactor_residue_is_zero}
 
 -- the number that digits write, by its first digit
 abbrev pub written : List ℕ → ℕ
@@ -29,9 +31,9 @@ written_is (d ∷ ds) =
     search (arith, sum_below-same) in
     search (arith, sum_below-first, written_is ds)
 
-pub written_more : (ds es : List ℕ) → written (ds ++ es) ≡ written ds * 10 ^ length es + written es
-written_more [] es = omega arith
-written_more (d ∷ ds) es = search (arith, length-append, pow-add, written_more ds es)
+pub written_append_is_shifted_sum : (ds es : List ℕ) → written (ds ++ es) ≡ written ds * 10 ^ length es + written es
+written_append_is_shifted_sum [] es = omega arith
+written_append_is_shifted_sum (d ∷ ds) es = search (arith, length-append, pow-add, written_append_is_shifted_sum ds es)
 
 -- the digits of a digit and of a letter
 false_at : (c : ℕ) → nat_le c 57 ≡ false → c ≤ 57 → ⊥
@@ -50,13 +52,14 @@ abbrev pub number : List ℕ → ℕ
 number text = written (flat_map digits_of text)
 
 -- two characters of one kind have as many digits, and their numbers distinguish them
-alike : (c d : ℕ) → AreOfOneKind c d → (length (flat_map digits_of (c ∷ [])) ≡ length (flat_map digits_of (d ∷ [])))
+residues_distinguish_characters : (c d : ℕ) → AreOfOneKind c d
+    → (length (flat_map digits_of (c ∷ [])) ≡ length (flat_map digits_of (d ∷ [])))
     × (number (c ∷ []) % 97 ≡ number (d ∷ []) % 97 → c ≡ d)
-alike c d kind = search (arith, digit_is, letter_is)
+residues_distinguish_characters c d kind = search (arith, digit_is, letter_is)
 
 -- powers of ten have inverses modulo 97
-pub power_unit : (k : ℕ) → HasInverse 97 (10 ^ k)
-power_unit k = (
+pub power_of_ten_has_inverse : (k : ℕ) → HasInverse 97 (10 ^ k)
+power_of_ten_has_inverse k = (
   68 ^ k % 97,
   record {
     below = omega arith;
@@ -68,7 +71,7 @@ power_unit k = (
 pub number_middle : (before mid behind : List ℕ) → number (before ++ (mid ++ behind))
     ≡ number before * 10 ^ (length (flat_map digits_of mid) + length (flat_map digits_of behind))
     + (number mid * 10 ^ length (flat_map digits_of behind) + number behind)
-number_middle before mid behind = search (arith, flat_map-append, written_more, length-append)
+number_middle before mid behind = search (arith, flat_map-append, written_append_is_shifted_sum, length-append)
 
 -- with others there that have as many digits, and that leave the same modulo 97
 pub middle_residue : (before mid other behind : List ℕ)
@@ -77,9 +80,9 @@ pub middle_residue : (before mid other behind : List ℕ)
     → number mid % 97 ≡ number other % 97
 middle_residue before mid other behind count same =
     let k = length (flat_map digits_of behind) in
-    let unit = power_unit k in
+    let unit = power_of_ten_has_inverse k in
     let alike = ap (λ n. number before * 10 ^ (n + k)) count in
-    let none = unit_cancels 97 (10 ^ k) unit.0 (number mid + 96 * number other) unit.1.one
+    let none = unit_cofactor_residue_is_zero 97 (10 ^ k) unit.0 (number mid + 96 * number other) unit.1.one
     (omega (arith, same, number_middle before mid behind, number_middle before other behind, alike)) in
     omega (arith, none)
 
@@ -117,11 +120,11 @@ pub both_leave : (s t xs ys : List ℕ) → IsIban s → IsIban t → rotated s 
 both_leave s t xs ys is_s is_t e f =
     ap (λ k. k % 97) (number_of s xs e) ∙ is_s.leaves ∙ sym (ap (λ k. k % 97) (number_of t ys f) ∙ is_t.leaves)
 
-pub characters : FindsEachCharacter
-characters text i c iban inside kind apart changed =
+pub each_character_change_found : FindsEachCharacter
+each_character_change_found text i c iban inside kind apart changed =
     let x = get_or text i 0 in
     let at = place_of text i (omega arith) inside in
-    let both = alike x c kind in
+    let both = residues_distinguish_characters x c kind in
     let old = ap rotated (sym (set-get_or text i 0)) ∙ at.moves x in
     apart (sym (both.1 (middle_residue at.before (x ∷ []) (c ∷ []) at.behind both.0
     (both_leave text (set text i c) _ _ iban changed old (at.moves c)))))

@@ -15,13 +15,13 @@ use Rattle.num_modular.specs.SystemLaws.{spread, gathered}
 use Rattle.check_digits.specs.Codes.{weighted_sum, exchanged}
 
 -- sums that differ in the term at p
-pub one_term : (f g : ℕ → ℕ) (p n : ℕ) → ((i : ℕ) → i ≢ p → f i ≡ g i) → p < n
+pub sums_differ_by_one_term : (f g : ℕ → ℕ) (p n : ℕ) → ((i : ℕ) → i ≢ p → f i ≡ g i) → p < n
     → sum_below n f + g p ≡ sum_below n g + f p
 unfolding sum_below
-one_term f g p zero h l = absurd (omega arith)
-one_term f g p (suc n) h l =
+sums_differ_by_one_term f g p zero h l = absurd (omega arith)
+sums_differ_by_one_term f g p (suc n) h l =
     ⊎_elim
-    (λ (b : p < n). search (arith, one_term f g p n h b))
+    (λ (b : p < n). search (arith, sums_differ_by_one_term f g p n h b))
     (λ (b : n ≤ p). search (arith, sum_below-same))
     (cases_lt p n)
 
@@ -29,7 +29,8 @@ one_term f g p (suc n) h l =
 pub changed_symbol : (ws xs : List ℕ) (p s : ℕ) → p < length xs
     → weighted_sum ws (set xs p s) + get_or ws p 0 * get_or xs p 0 ≡ weighted_sum ws xs + get_or ws p 0 * s
 changed_symbol ws xs p s h =
-    let moved = one_term (λ i. get_or ws i 0 * get_or (set xs p s) i 0) (λ i. get_or ws i 0 * get_or xs i 0) p
+    let moved = sums_differ_by_one_term (λ i. get_or ws i 0 * get_or (set xs p s) i 0) (λ i. get_or ws i 0 * get_or xs i
+    0) p
     (length xs) (λ i ne. search (arith, get_or-set_other)) h in
     grind (arith, length-set, get_or-set_same)
 
@@ -64,8 +65,8 @@ still_leaves m r S S' p leaves changed = (
 )
 
 -- a factor with an inverse cancels from a product that is 0 modulo m
-pub unit_cancels : (m e i d : ℕ) → (e * i) % m ≡ 1 % m → (e * d) % m ≡ 0 → d % m ≡ 0
-unit_cancels m e i d one zero_product =
+pub unit_cofactor_residue_is_zero : (m e i d : ℕ) → (e * i) % m ≡ 1 % m → (e * d) % m ≡ 0 → d % m ≡ 0
+unit_cofactor_residue_is_zero m e i d one zero_product =
     let times = ap (λ n. n * d) (spread m (e * i) 1 one) in
     let along : i * (m * (e * d / m)) ≡ i * (e * d) = ap (λ n. i * n) (omega arith) in
     gathered m d 0 (e * i / m * d) (i * (e * d / m) + 1 / m * d) (omega (arith, times, along)) ∙ zero-mod m
@@ -73,13 +74,20 @@ unit_cancels m e i d one zero_product =
 -- so it shows a difference
 pub unit_finds : (m e d x s : ℕ) → HasInverse m e → (d + x) % m ≡ s % m → s % m ≢ x % m → (e * d) % m ≢ 0
 unit_finds m e d x s (i, inverse) difference apart zero_product =
-    let none = unit_cancels m e i d inverse.one zero_product in
+    let none = unit_cofactor_residue_is_zero m e i d inverse.one zero_product in
     apart (sym difference ∙ gathered m (d + x) x 0 (d / m) (omega arith))
 
 -- a word with one more symbol
 pub appended_symbol : (ws xs : List ℕ) (s : ℕ)
     → weighted_sum ws (xs ++ s ∷ []) ≡ weighted_sum ws xs + get_or ws (length xs) 0 * s
-appended_symbol ws xs s = search (arith, length-append, sum_below-more, sum_below-same, get_or-append, get_or-append_seam)
+appended_symbol ws xs s = search (
+  arith,
+  length-append,
+  sum_below-more,
+  sum_below-same,
+  get_or-append,
+  get_or-append_seam,
+)
 
 -- a quotient by the weight completes the sum, where rest is the residue r less the sum
 pub completed_sum : (m sum w q rest r : ℕ) → (q * (w % m)) % m ≡ rest % m → (rest + sum) % m ≡ r % m
@@ -95,8 +103,8 @@ others_sum m S S' w x s others moved less =
     gathered m S' (others + w * s) ((others + (w * x) % m) / m + w * x / m) (S / m) (omega (arith, moved))
 
 -- a difference that is 0 modulo m, of residues
-pub same_residues : (m d x y : ℕ) → x < m → y < m → (d + x) % m ≡ y % m → d % m ≡ 0 → y ≡ x
-same_residues m d x y x_below y_below difference none = search (arith, mod-eq_of_lt, mod-add-mod)
+pub residues_equal_by_zero_difference : (m d x y : ℕ) → x < m → y < m → (d + x) % m ≡ y % m → d % m ≡ 0 → y ≡ x
+residues_equal_by_zero_difference m d x y x_below y_below difference none = search (arith, mod-eq_of_lt, mod-add-mod)
 
 -- a difference of residues
 pub a_difference : (m x y : ℕ) → x < m → (y + (m - x) + x) % m ≡ y % m
@@ -108,4 +116,5 @@ one_completion m sum w s t (i, inverse) s_below t_below same =
     let difference = a_difference m t s t_below in
     let moved : sum + w * s + w * t ≡ sum + w * t + w * s = omega arith in
     let told = still_leaves m _ _ _ _ refl (changed_sum m _ _ w t s _ moved difference) in
-    sym (same_residues m _ _ _ t_below s_below difference (unit_cancels m w i _ inverse.one (told.0 same)))
+    sym (residues_equal_by_zero_difference m _ _ _ t_below s_below difference (unit_cofactor_residue_is_zero m w i _
+    inverse.one (told.0 same)))

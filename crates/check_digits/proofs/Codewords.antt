@@ -9,7 +9,8 @@ use Rattle.std.proofs.lemmas.Bool.{cases_eq, cases_lt}
 use Rattle.num_modular.specs.NumberLaws.{difference_and}
 use Rattle.num_modular.specs.Residues.{residue}
 use Rattle.check_digits.specs.Codes.{weighted_sum, CheckCode, Fits, IsCodeword, exchanged}
-use Rattle.check_digits.proofs.CheckSums.{appended_symbol, changed_symbol, changed_sum, exchanged_symbols, exchanged_sum, still_leaves}
+use Rattle.check_digits.proofs.CheckSums.{appended_symbol, changed_symbol, changed_sum, exchanged_symbols}
+use Rattle.check_digits.proofs.CheckSums.{exchanged_sum, still_leaves}
 
 -- a symbol written into a word: each fits, where the others do
 pub set_fits : (code : CheckCode) (word : List ℕ) (p s : ℕ) → Fits code p s
@@ -48,7 +49,8 @@ exchanged_word code word p e d is within weights symbols =
     search (arith, length-set, get_or-set_other, get_or-set_same, set_fits)
 
 -- the same by the residues of the differences
-pub change_told : (code : CheckCode) (word : List ℕ) (p s : ℕ) → 0 < code.modulus → IsCodeword code word → p < length word
+pub change_told : (code : CheckCode) (word : List ℕ) (p s : ℕ) → 0 < code.modulus → IsCodeword code word
+    → p < length word
     → IsCodeword code (set word p s) ↔ (Fits code p s
     × ((get_or code.weights p 0 * residue code.modulus (pos s -ℤ pos (get_or word p 0))) % code.modulus ≡ 0))
 change_told code word p s positive is within =
@@ -67,9 +69,10 @@ exchange_told code word p positive is within =
     ((λ w. (((told.0 w).0, (told.0 w).1), (told.0 w).2)), λ h. told.1 (h.0.0, h.0.1, h.1))
 
 -- the test of a changed word W, F being that its symbols fit, and v what the sum shows of the change
-pub found : {r f : Bool} {F W : Type 0} (shown v : ℕ) → shown ≡ v → IsTrue r ↔ (IsTrue f → shown ≢ 0) → IsTrue f ↔ F
+pub test_detects_changed_word : {r f : Bool} {F W : Type 0} (shown v : ℕ) → shown ≡ v → IsTrue r
+    ↔ (IsTrue f → shown ≢ 0) → IsTrue f ↔ F
     → W ↔ (F × (v ≡ 0)) → (IsTrue r ↔ ¬ W) × (IsTrue r ↔ (F → v ≢ 0))
-found shown v same is test told = search arith
+test_detects_changed_word shown v same is test told = search arith
 
 -- the word with one more symbol, v being the residue of the sum without it
 pub appended_word : (code : CheckCode) (word : List ℕ) (s v : ℕ) → length word + 1 ≡ length code.weights

@@ -7,8 +7,9 @@ use Rattle.std.proofs.Common.{length-set, get_or-set_same, get_or-set_other}
 use Rattle.std.proofs.lemmas.Bool.{ltb-true, eqb-true}
 use Rattle.check_digits.specs.Codes.{exchanged, FindsEachChange, FindsEachExchange, IsCheckSymbol}
 use Rattle.check_digits.specs.Damm.{damm_product, damm_check, IsDamm}
-use Rattle.check_digits.proofs.Decisions.{each_below, each_passes, apart, IsAsymmetric}
-use Rattle.check_digits.proofs.States.{Distinguishes, changed_apart, exchanged_apart, state_same, state_next, state_most, one_more, all_more}
+use Rattle.check_digits.proofs.Decisions.{each_below, each_passes, is_asymmetric_by_test, IsAsymmetric}
+use Rattle.check_digits.proofs.States.{Distinguishes, changed_apart, exchanged_apart, state_same, state_next}
+use Rattle.check_digits.proofs.States.{state_most, one_more, all_more}
 
 pub product_small : (a b : ℕ) → a ≤ 9 → b ≤ 9 → damm_product a b ≤ 9
 product_small a b a_most b_most =
@@ -18,13 +19,13 @@ product_small a b a_most b_most =
     search (arith, ltb-true)
 
 pub damm_rows_apart : IsAsymmetric (λ c a b. damm_product c a)
-damm_rows_apart = apart (λ c a b. damm_product c a) refl
+damm_rows_apart = is_asymmetric_by_test (λ c a b. damm_product c a) refl
 
 damm_columns_apart : IsAsymmetric (λ c a b. damm_product a c)
-damm_columns_apart = apart (λ c a b. damm_product a c) refl
+damm_columns_apart = is_asymmetric_by_test (λ c a b. damm_product a c) refl
 
 ordered_entries : IsAsymmetric (λ c a b. damm_product (damm_product c a) b)
-ordered_entries = apart (λ c a b. damm_product (damm_product c a) b) refl
+ordered_entries = is_asymmetric_by_test (λ c a b. damm_product (damm_product c a) b) refl
 
 abbrev pub damm_step : ℕ → ℕ → ℕ → ℕ
 damm_step i c d = damm_product c d
@@ -51,8 +52,9 @@ damm_exchanges word i is within apart_ changed =
     (search (arith, length-set, get_or-set_same)) (is.product ∙ sym (rw (sym count) changed.product)))
 
 -- the product of a word with one more digit
-more_product : (word : List ℕ) (s : ℕ) → damm_check (word ++ s ∷ []) ≡ damm_product (damm_check word) s
-more_product word s = search (arith, one_more, state_next, state_same, get_or-append, get_or-append_seam)
+damm_check_of_appended_digit : (word : List ℕ) (s : ℕ) → damm_check (word ++ s ∷ []) ≡ damm_product (damm_check word) s
+damm_check_of_appended_digit word s =
+    search (arith, one_more, state_next, state_same, get_or-append, get_or-append_seam)
 
 damm_squares_vanish : (a : ℕ) → a ≤ 9 → damm_product a a ≡ 0
 damm_squares_vanish a most =
@@ -64,7 +66,7 @@ damm_completed word all =
     let most : c ≤ 9 = state_most damm_step _ _ _ damm_distinguishes.closed (omega arith) (λ j. all j 0) in
     record {
       below = omega (arith, most);
-      accepted = search (arith, one_more, all_more, more_product, damm_squares_vanish);
+      accepted = search (arith, one_more, all_more, damm_check_of_appended_digit, damm_squares_vanish);
       only = λ t l is. damm_rows_apart _ t _ most (omega (arith, l)) most
-          (sym (more_product _ t) ∙ is.product ∙ sym (damm_squares_vanish _ most));
+          (sym (damm_check_of_appended_digit _ t) ∙ is.product ∙ sym (damm_squares_vanish _ most));
     }

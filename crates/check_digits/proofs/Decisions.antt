@@ -24,8 +24,8 @@ IsAsymmetric u = (c a b : ℕ) → c ≤ 9 → a ≤ 9 → b ≤ 9 → u c a b �
 not_or : (p q : Bool) → (not p || q) ≡ true → p ≡ true → q ≡ true
 not_or p q h e = grind (arith, false≢true)
 
-pub apart : (u : ℕ → ℕ → ℕ → ℕ) → asymmetric u ≡ true → IsAsymmetric u
-apart u h c a b c_most a_most b_most same =
+pub is_asymmetric_by_test : (u : ℕ → ℕ → ℕ → ℕ) → asymmetric u ≡ true → IsAsymmetric u
+is_asymmetric_by_test u h c a b c_most a_most b_most same =
     let t : (not (nat_eq (u c a b) (u c b a)) || nat_eq a b) ≡ true =
     each_passes 10 (λ b. not (nat_eq (u c a b) (u c b a)) || nat_eq a b)
     (each_passes 10 (λ a. each_below 10 (λ b. not (nat_eq (u c a b) (u c b a)) || nat_eq a b))

@@ -6,8 +6,9 @@ use Rattle.std.proofs.lemmas.Nat.{mul-mod_first}
 use Rattle.check_digits.specs.Codes.{CheckCode, Fits, IsCodeword, exchanged}
 use Rattle.check_digits.specs.Codes.{FindsEachChange, FindsEachExchange, FindsAllButFives}
 use Rattle.check_digits.specs.Standards.{from_right, mod_97_10}
-use Rattle.check_digits.proofs.Characters.{characters}
-use Rattle.check_digits.proofs.CheckSums.{unit_cancels, same_residues, a_difference}
+use Rattle.check_digits.proofs.Characters.{each_character_change_found}
+use Rattle.check_digits.proofs.CheckSums.{unit_cofactor_residue_is_zero, residues_equal_by_zero_difference}
+use Rattle.check_digits.proofs.CheckSums.{a_difference}
 use Rattle.check_digits.proofs.DammDigits.{damm_changes, damm_exchanges}
 use Rattle.check_digits.proofs.Decisions.{each_below, each_passes}
 use Rattle.check_digits.proofs.Codewords.{changed_word, exchanged_word}
@@ -37,7 +38,8 @@ changes_tested code power h word i s is within apart changed =
     let difference = a_difference code.modulus (get_or word i 0) s x_below in
     let both = (changed_word code word i s _ is within difference).0 changed in
     let s_below : s < code.modulus = omega arith in
-    apart (same_residues _ _ _ s x_below s_below difference (unit_cancels _ _ _ _ unit.1 both.1))
+    apart (residues_equal_by_zero_difference _ _ _ s x_below s_below difference (unit_cofactor_residue_is_zero _ _ _ _
+    unit.1 both.1))
 
 -- a difference of the weights at i and at the next place, and its test
 abbrev pub step_at : CheckCode → ℕ → ℕ
@@ -69,8 +71,8 @@ exchanges_tested code power h tested word i is within apart changed =
     let test = exchange_test code power in
     let at = and_parts _ _ (each_passes (length code.weights - 1) test tested i (omega (arith, is.places))) in
     let both = (exchanged_by_step code word i at.0 x_below is within).0 changed in
-    apart (sym (same_residues _ _ _ _ x_below y_below (a_difference _ _ _ x_below)
-    (unit_cancels _ _ _ _ (eqb-true _ _ at.1) both.2)))
+    apart (sym (residues_equal_by_zero_difference _ _ _ _ x_below y_below (a_difference _ _ _ x_below)
+    (unit_cofactor_residue_is_zero _ _ _ _ (eqb-true _ _ at.1) both.2)))
 
 -- modulo 10, a product with 2, 6 or 8
 abbrev is_twice : ℕ → Bool
@@ -124,10 +126,17 @@ ibans_pass : each_below 69 test_97 ≡ true
 unfolding from_right
 ibans_pass = refl
 
-pub of_iban : (n : ℕ) → n ≤ 68 → FindsEachChange (IsCodeword (mod_97_10 n)) × FindsEachExchange (IsCodeword (mod_97_10 n))
+pub of_iban : (n : ℕ) → n ≤ 68 → FindsEachChange (IsCodeword (mod_97_10 n))
+    × FindsEachExchange (IsCodeword (mod_97_10 n))
 of_iban n most =
     let tests = and_parts _ _ (each_passes 69 test_97 ibans_pass n (omega (arith, most))) in
     (changes_tested (mod_97_10 n) 95 tests.0, exchanges_tested (mod_97_10 n) 95 tests.0 tests.1)
 
 -- what the codes of the standards detect, but for what `standard_finds` answers
-pub ruleset found_by_standards = (characters, verhoeff_changes, verhoeff_exchanges, damm_changes, damm_exchanges)
+pub ruleset found_by_standards = (
+  each_character_change_found,
+  verhoeff_changes,
+  verhoeff_exchanges,
+  damm_changes,
+  damm_exchanges,
+)

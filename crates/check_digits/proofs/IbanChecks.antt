@@ -4,8 +4,9 @@ use Rattle.std.proofs.Common.{List, [], ◌∷◌, ◌++◌, set, append_assoc, 
 use Rattle.std.specs.List.{flat_map}
 use Rattle.std.proofs.lemmas.Grind.{flat_map-append}
 use Rattle.std.proofs.lemmas.List.Elements.{All-set}
-use Rattle.check_digits.specs.Ibans.{IsDigit, IsLetter, IsIbanForm, AreCheckDigits, digits_of, iban_digits, iban_number, check_number}
-use Rattle.check_digits.proofs.Characters.{written, written_is, written_more, digit_is}
+use Rattle.check_digits.specs.Ibans.{IsDigit, IsLetter, IsIbanForm, AreCheckDigits, digits_of, iban_digits, iban_number}
+use Rattle.check_digits.specs.Ibans.{check_number}
+use Rattle.check_digits.proofs.Characters.{written, written_is, written_append_is_shifted_sum, digit_is}
 
 -- the number is a hundred times that of the other characters, and that of the check digits
 split_number : (s t a b : ℕ) (rest : List ℕ) → IsDigit a → IsDigit b → iban_number (s ∷ t ∷ a ∷ b ∷ rest)
@@ -13,7 +14,8 @@ split_number : (s t a b : ℕ) (rest : List ℕ) → IsDigit a → IsDigit b →
 split_number s t a b rest h k =
     let last : flat_map digits_of (a ∷ b ∷ []) ≡ (a - 48) ∷ (b - 48) ∷ [] = search (arith, digit_is) in
     let whole : rest ++ s ∷ t ∷ a ∷ b ∷ [] ≡ rest ++ s ∷ t ∷ [] ++ (a ∷ b ∷ []) = search (arith, append_assoc) in
-    sym (written_is (iban_digits (s ∷ t ∷ a ∷ b ∷ rest))) ∙ grind (arith, flat_map-append, written_more)
+    sym (written_is (iban_digits (s ∷ t ∷ a ∷ b ∷ rest)))
+    ∙ grind (arith, flat_map-append, written_append_is_shifted_sum)
 
 -- the check digits of a number, v being what it leaves with those of the number c
 abbrev pub check_of : ℕ → ℕ → ℕ

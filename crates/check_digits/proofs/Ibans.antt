@@ -122,14 +122,14 @@ room_next e r s i so_far next = omega arith
 pub room_within : (e s i n : ℕ) → e ≤ s + 2 * i → i ≤ n → e ≤ s + 2 * n
 room_within e s i n so_far l = omega arith
 
-pub rest_whole : (text : List ℕ) → take (length text - 4) (drop 4 text) ≡ drop 4 text
-rest_whole text = take_all (length text - 4) (drop 4 text) (omega (arith, length-drop 4 text))
+pub rest_after_four_is_whole : (text : List ℕ) → take (length text - 4) (drop 4 text) ≡ drop 4 text
+rest_after_four_is_whole text = take_all (length text - 4) (drop 4 text) (omega (arith, length-drop 4 text))
 
 pub first_room : (text : List ℕ) → 5 ≤ length text → length text ≤ 34
     → 0 + 2 * length (take (length text - 4) (drop 4 text)) ≤ 68
-first_room text least most = omega (arith, ap length (rest_whole text), length-drop 4 text)
+first_room text least most = omega (arith, ap length (rest_after_four_is_whole text), length-drop 4 text)
 
 pub both_rooms : (text : List ℕ) (e : ℕ) → 5 ≤ length text → length text ≤ 34
     → e ≤ 0 + 2 * length (take (length text - 4) (drop 4 text)) → e + 2 * length (take 4 text) ≤ 68
 both_rooms text e least most first =
-    omega (arith, ap length (rest_whole text), length-drop 4 text, length-take-le 4 text (omega arith))
+    omega (arith, ap length (rest_after_four_is_whole text), length-drop 4 text, length-take-le 4 text (omega arith))

@@ -8,7 +8,7 @@ use Rattle.std.proofs.lemmas.List.Elements.{All-set}
 use Rattle.num_modular.specs.NumberLaws.{sum_below-more, sum_below-same}
 use Rattle.check_digits.specs.Codes.{exchanged, FindsEachChange, IsCheckSymbol}
 use Rattle.check_digits.specs.Luhn.{luhn_value, luhn_sum, IsLuhn, LuhnFindsAllButNines}
-use Rattle.check_digits.proofs.CheckSums.{one_term}
+use Rattle.check_digits.proofs.CheckSums.{sums_differ_by_one_term}
 use Rattle.check_digits.proofs.States.{one_more, all_more}
 
 -- the sum of a word
@@ -29,7 +29,8 @@ changed_luhn : (xs : List ℕ) (p d : ℕ) → p < length xs
     ≡ whole_sum xs + luhn_value (length xs - 1 - p) d
 changed_luhn xs p d h =
     let value = λ (ys : List ℕ) (i : ℕ). luhn_value (length xs - 1 - i) (get_or ys i 0) in
-    let moved = one_term (value (set xs p d)) (value xs) p (length xs) (λ i ne. search (arith, get_or-set_other)) h in
+    let moved = sums_differ_by_one_term (value (set xs p d)) (value xs) p (length xs)
+    (λ i ne. search (arith, get_or-set_other)) h in
     grind (arith, length-set, get_or-set_same)
 
 -- every change is found

@@ -6,13 +6,16 @@ use Rattle.std.specs.List.{flat_map}
 use Rattle.std.proofs.Math.Seq.{take-set-lt}
 use Rattle.std.proofs.lemmas.Bool.{cases_eq, cases_lt, eqb-true}
 use Rattle.std.proofs.lemmas.Grind.{flat_map-append}
-use Rattle.std.proofs.lemmas.List.{append_assoc, append-nil, set-get_or, drop-set-add, drop-set-lt, take-set-le, length-take-le}
+use Rattle.std.proofs.lemmas.List.{append_assoc, append-nil, set-get_or, drop-set-add, drop-set-lt, take-set-le}
+use Rattle.std.proofs.lemmas.List.{length-take-le}
 use Rattle.std.proofs.lemmas.List.Elements.{All-set}
 use Rattle.num_modular.specs.Inverses.{HasInverse}
 use Rattle.num_modular.specs.NumberLaws.{mod_of_eq, mod_trans}
 use Rattle.check_digits.specs.Codes.{exchanged}
-use Rattle.check_digits.specs.Ibans.{IsDigit, IsLetter, IsIban, AreElevenfold, FindsAllButElevenfold, digits_of, check_number}
-use Rattle.check_digits.proofs.Characters.{number, number_middle, middle_residue, written_more, digit_is, letter_is, rotated, number_of, both_leave}
+use Rattle.check_digits.specs.Ibans.{IsDigit, IsLetter, IsIban, AreElevenfold, FindsAllButElevenfold, digits_of}
+use Rattle.check_digits.specs.Ibans.{check_number}
+use Rattle.check_digits.proofs.Characters.{number, number_middle, middle_residue, written_append_is_shifted_sum}
+use Rattle.check_digits.proofs.Characters.{digit_is, letter_is, rotated, number_of, both_leave}
 use Rattle.check_digits.proofs.CheckSums.{one_completion}
 use Rattle.check_digits.proofs.Decisions.{each_passes}
 
@@ -84,7 +87,8 @@ digits_at_most (c ∷ cs) = grind (arith, length-append, digits_at_most cs)
 -- the last check digit is read last, and the character behind it first
 ends_number : (mid : List ℕ) (c d : ℕ) → IsDigit c → IsDigit d → number (d ∷ mid ++ c ∷ [])
     ≡ (d - 48) * 10 ^ suc (length (flat_map digits_of mid)) + (number mid * 10 + (c - 48))
-ends_number mid c d h k = search (arith, flat_map-append, append-nil, digit_is, length-append, written_more)
+ends_number mid c d h k =
+    search (arith, flat_map-append, append-nil, digit_is, length-append, written_append_is_shifted_sum)
 
 ends_differ : (m c d p : ℕ) → HasInverse 97 (p + 96) → c < 10 → d < 10
     → (d * p + (m + c)) % 97 ≡ (c * p + (m + d)) % 97 → d ≡ c
@@ -110,7 +114,8 @@ at_three (s ∷ t ∷ u ∷ c ∷ d ∷ rest) iban apart changed =
 
 -- among the first four characters each exchange is found
 first_found : (text : List ℕ) (i : ℕ) → IsIban text → IsIban (exchanged text i) → suc i < length text → i < 3
-    → AreElevenfold (get_or text i 0) (get_or text (suc i) 0) ⊎ AreElevenfold (get_or text (suc i) 0) (get_or text i 0) → ⊥
+    → AreElevenfold (get_or text i 0) (get_or text (suc i) 0) ⊎ AreElevenfold (get_or text (suc i) 0) (get_or text i 0)
+    → ⊥
 first_found text i iban changed inside l h = grind (arith, length-set, get_or-set_same, get_or-set_other)
 
 -- the text with two neighbours that differ exchanged ..
@@ -135,7 +140,8 @@ neighbours_told text i iban inside apart =
       ],
       λ (high, told).
           let at = neighbours_of text i long inside (omega (arith, high)) in
-          let kept : (j : ℕ) → j < 4 → get_or (exchanged text i) j 0 ≡ get_or text j 0 = search (arith, get_or-set_other) in
+          let kept : (j : ℕ) → j < 4 → get_or (exchanged text i) j 0 ≡ get_or text j 0 =
+          search (arith, get_or-set_other) in
           let count : length (exchanged text i) ≡ length text = search (arith, length-set) in
           let check : check_number (exchanged text i) ≡ check_number text = search arith in
           record {

@@ -84,7 +84,8 @@ pub all_front : (word : List ℕ) (s : ℕ) → All (λ d. d ≤ 9) (word ++ s �
 all_front word s all i d l = search (arith, get_or-append, one_more)
 
 pub all_more : (word : List ℕ) (s : ℕ) → All (λ d. d ≤ 9) word → s ≤ 9 → All (λ d. d ≤ 9) (word ++ s ∷ [])
-all_more word s all most = All-append (λ d. d ≤ 9) word (s ∷ []) all (All-cons (λ d. d ≤ 9) s [] most (All-nil (λ d. d ≤ 9)))
+all_more word s all most =
+    All-append (λ d. d ≤ 9) word (s ∷ []) all (All-cons (λ d. d ≤ 9) s [] most (All-nil (λ d. d ≤ 9)))
 
 -- the first digit read, and the others from its state on
 pub state_later : (step later : ℕ → ℕ → ℕ → ℕ) (start : ℕ) (f : ℕ → ℕ) (n : ℕ)

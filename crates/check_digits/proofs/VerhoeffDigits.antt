@@ -1,5 +1,6 @@
 -- What Verhoeff's check digit detects.
-use Rattle.std.proofs.Common.{◌≡◌, ℕ, zero, suc, ◌+◌, ◌-◌, ◌*◌, ◌/◌, ◌%◌, ◌<◌, ◌≤◌, Bool, true, nat_lt, nat_eq, if◌then◌else◌}
+use Rattle.std.proofs.Common.{◌≡◌, ℕ, zero, suc, ◌+◌, ◌-◌, ◌*◌, ◌/◌, ◌%◌, ◌<◌, ◌≤◌, Bool, true, nat_lt, nat_eq}
+use Rattle.std.proofs.Common.{if◌then◌else◌}
 use Rattle.std.proofs.Math.ListN.{get_or-append}
 use Rattle.std.proofs.Math.Seq.{get_or-append_seam}
 use Rattle.std.proofs.Common.{List, [], ◌∷◌, ◌++◌, All, length, get_or, set, sym, ap, ◌∙◌, refl, arith}
@@ -8,23 +9,24 @@ use Rattle.std.proofs.lemmas.Bool.{ltb-true, eqb-true}
 use Rattle.check_digits.specs.Codes.{exchanged, FindsEachChange, FindsEachExchange, IsCheckSymbol}
 use Rattle.check_digits.specs.Verhoeff.{dihedral, permuted, image, verhoeff_product, IsVerhoeff}
 use Rattle.check_digits.specs.States.{state_after}
-use Rattle.check_digits.proofs.Decisions.{each_below, each_passes, apart, IsAsymmetric}
-use Rattle.check_digits.proofs.States.{Distinguishes, changed_apart, exchanged_apart, state_first, state_same, state_next, state_most, state_later, one_more, all_more}
+use Rattle.check_digits.proofs.Decisions.{each_below, each_passes, is_asymmetric_by_test, IsAsymmetric}
+use Rattle.check_digits.proofs.States.{Distinguishes, changed_apart, exchanged_apart, state_first, state_same}
+use Rattle.check_digits.proofs.States.{state_next, state_most, state_later, one_more, all_more}
 
 pub dihedral_small : (a b : ℕ) → dihedral a b ≤ 9
 dihedral_small a b = omega arith
 
 pub left_cancels : IsAsymmetric (λ c a b. dihedral c a)
-left_cancels = apart (λ c a b. dihedral c a) refl
+left_cancels = is_asymmetric_by_test (λ c a b. dihedral c a) refl
 
 right_cancels : IsAsymmetric (λ c a b. dihedral a c)
-right_cancels = apart (λ c a b. dihedral a c) refl
+right_cancels = is_asymmetric_by_test (λ c a b. dihedral a c) refl
 
 ordered_products : IsAsymmetric (λ c a b. dihedral (dihedral c a) (permuted b))
-ordered_products = apart (λ c a b. dihedral (dihedral c a) (permuted b)) refl
+ordered_products = is_asymmetric_by_test (λ c a b. dihedral (dihedral c a) (permuted b)) refl
 
 permuted_apart : IsAsymmetric (λ c a b. permuted a)
-permuted_apart = apart (λ c a b. permuted a) refl
+permuted_apart = is_asymmetric_by_test (λ c a b. permuted a) refl
 
 dihedral_associates : (a b c : ℕ) → a ≤ 9 → b ≤ 9 → c ≤ 9 → dihedral a (dihedral b c) ≡ dihedral (dihedral a b) c
 dihedral_associates a b c a_most b_most c_most = search (arith, eqb-true, each_passes)
@@ -120,10 +122,10 @@ from_state first start (suc n) f most digits =
     search (arith, before, state_next, dihedral_associates, state_most, verhoeff_distinguishes, image_small)
 
 -- the product of a word with one more digit
-more_product : (word : List ℕ) (s : ℕ) → All (λ d. d ≤ 9) word → s ≤ 9
+verhoeff_product_of_appended_digit : (word : List ℕ) (s : ℕ) → All (λ d. d ≤ 9) word → s ≤ 9
     → verhoeff_product 0 (word ++ s ∷ []) ≡ dihedral s (verhoeff_product 1 word)
 unfolding image
-more_product word s all most =
+verhoeff_product_of_appended_digit word s all most =
     let n = length word in
     let f : ℕ → ℕ = λ j. get_or (word ++ s ∷ []) (suc n - 1 - j) 0 in
     let last : suc n - 1 - 0 ≡ n = omega arith in
@@ -138,20 +140,33 @@ more_product word s all most =
 pub verhoeff_completed : (word : List ℕ) (v s : ℕ) → All (λ d. d ≤ 9) word → v ≡ verhoeff_product 1 word
     → s ≡ inverse_of v → IsCheckSymbol 10 IsVerhoeff word s
 verhoeff_completed word v s all is inverse =
-    grind (arith, state_most, verhoeff_distinguishes, digit_at, inverse_small, one_more, all_more, more_product, inverse_cancels, right_cancels)
+    grind (
+      arith,
+      state_most,
+      verhoeff_distinguishes,
+      digit_at,
+      inverse_small,
+      one_more,
+      all_more,
+      verhoeff_product_of_appended_digit,
+      inverse_cancels,
+      right_cancels,
+    )
 
 -- the permutation is the identity after eight steps
-eightfold : (k a : ℕ) → a ≤ 9 → image (8 + k) a ≡ image k a
+eight_steps_keep_image : (k a : ℕ) → a ≤ 9 → image (8 + k) a ≡ image k a
 unfolding image
-eightfold zero a most = eqb-true (image 8 a) a (each_passes 10 (λ a. nat_eq (image 8 a) a) refl a (omega arith))
-eightfold (suc k) a most =
-    let e : 8 + suc k ≡ suc (8 + k) = omega arith in ap (λ k. image k a) e ∙ ap permuted (eightfold k a most)
+eight_steps_keep_image zero a most =
+    eqb-true (image 8 a) a (each_passes 10 (λ a. nat_eq (image 8 a) a) refl a (omega arith))
+eight_steps_keep_image (suc k) a most =
+    let e : 8 + suc k ≡ suc (8 + k) = omega arith in ap (λ k. image k a) e
+    ∙ ap permuted (eight_steps_keep_image k a most)
 
 image_eights : (q k d : ℕ) → d ≤ 9 → image (k + 8 * q) d ≡ image k d
 image_eights zero k d most = search arith
 image_eights (suc q) k d most =
     let e : k + 8 * suc q ≡ 8 + (k + 8 * q) = omega arith in
-    ap (λ k. image k d) e ∙ eightfold _ d most ∙ image_eights q k d most
+    ap (λ k. image k d) e ∙ eight_steps_keep_image _ d most ∙ image_eights q k d most
 
 pub image_residue : (k d : ℕ) → d ≤ 9 → image k d ≡ image (k % 8) d
 image_residue k d most =
@@ -159,7 +174,8 @@ image_residue k d most =
 
 -- the images at eight places, ten digits each
 abbrev row : ℕ → List ℕ
-row k = image k 0 ∷ image k 1 ∷ image k 2 ∷ image k 3 ∷ image k 4 ∷ image k 5 ∷ image k 6 ∷ image k 7 ∷ image k 8 ∷ image k 9 ∷ []
+row k = image k 0 ∷ image k 1 ∷ image k 2 ∷ image k 3 ∷ image k 4 ∷ image k 5 ∷ image k 6 ∷ image k 7 ∷ image k 8
+    ∷ image k 9 ∷ []
 
 abbrev pub images : List ℕ
 images = row 0 ++ row 1 ++ row 2 ++ row 3 ++ row 4 ++ row 5 ++ row 6 ++ row 7

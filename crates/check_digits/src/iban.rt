@@ -157,7 +157,7 @@ fn write_text(text: &[u8], digits: &mut [u64], start: usize) -> usize
 /// assert_eq!(digits[..count], [3, 2, 7, 1, 6, 1, 1, 8, 2]); // W, 7, G, B and 82
 /// ```
 // rust: #[cfg_attr(debug_assertions, track_caller)]
-#[tactic(auto, using(crate::proofs::Ibans::first_room, crate::proofs::Ibans::both_rooms, crate::proofs::Ibans::rest_whole))]
+#[tactic(auto, using(crate::proofs::Ibans::first_room, crate::proofs::Ibans::both_rooms, crate::proofs::Ibans::rest_after_four_is_whole))]
 pub fn iban_digits(text: &[u8], digits: &mut [u64]) -> usize
     requires form { IsIbanForm text.now }
     requires room { 68 ≤ length digits.old }

@@ -7,15 +7,15 @@ use Rattle.std.proofs.lemmas.Nat.{pow_pos}
 use Rattle.num_modular.specs.Transforms.{Suits}
 
 -- no entry is above the bound, and the entries after the last are 0
-pub at_most : (xs : List ℕ) (b i : ℕ) → All (λ x. x ≤ b) xs → slice_index xs i ≤ b
-at_most xs b i all = elim (cases_lt i (length xs)) [
+pub entry_at_most_bound : (xs : List ℕ) (b i : ℕ) → All (λ x. x ≤ b) xs → slice_index xs i ≤ b
+entry_at_most_bound xs b i all = elim (cases_lt i (length xs)) [
   | inl l ↦ all i 0 l
   | inr l ↦ let z = get_or_past xs i 0 (omega arith) in omega (arith, z)
 ]
 
 -- a modulus above n squares is above the bound
-pub above : (m g n b : ℕ) → Suits m g n → n * (b * b) < m → b < m
-above m g n b suits l =
+pub bound_below_modulus : (m g n b : ℕ) → Suits m g n → n * (b * b) < m → b < m
+bound_below_modulus m g n b suits l =
     let p = pow_pos suits.power_of_two.0 in let e = suits.power_of_two.1 in
     let some : 1 ≤ n = omega (arith, p, e) in
     let whole = mul-le-mul_right (b * b) some in

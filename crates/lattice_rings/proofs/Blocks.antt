@@ -14,7 +14,7 @@ use Rattle.num_modular.specs.Transforms.{Suits, transform}
 use Rattle.num_modular.specs.Factors.{AllFactors}
 use Rattle.num_modular.specs.Tables.{IsTable}
 use Rattle.num_modular.specs.PlanLaws.{table_of, bits_reversed_below, bits_reversed_of_high, bits_reversed_twice}
-use Rattle.num_modular.specs.PlanLaws.{negacyclic, remainders_of_product}
+use Rattle.num_modular.specs.PlanLaws.{block_one_is_negacyclic, remainders_of_product}
 use Rattle.num_modular.specs.Plans.{numbers, constant, AreTwiddles, AreRemainders}
 use Rattle.num_modular.specs.PlanProducts.{coefficient, product_modulo, AreProducts}
 use Rattle.num_modular.specs.Polynomials.{polynomial_at}
@@ -200,7 +200,7 @@ product_transformed q g s last x y p u v r some size suits product first second 
     let z = product_modulo q (n * last) (constant g (suc s) 1) x y in
     let is : (e : ℕ) → e < 256 → z e ≡ p e = λ e l.
     ap (λ k. product_modulo q k (constant g (suc s) 1) x y e) size
-    ∙ negacyclic _ e _ _ _ _ _ _ some (pow_pos _) twiddles
+    ∙ block_one_is_negacyclic _ e _ _ _ _ _ _ some (pow_pos _) twiddles
     ∙ added_to _ (coefficient 256 x y e) (coefficient 256 x y (e + 256)) (p e) (product.below e l) (product.each e l) in
     let room : (1 + 1) * (n / 2) ≤ n = omega arith in
     let are = (remainders_are_values _ _ _ _ z _).0 (remainders_of_product _ _ _ _ _ _ _ _ _ _ _ _ (s, refl) room

@@ -47,12 +47,12 @@ pub record ProductsBelow (i : ℕ) (x y p : List ℕ) : Type 0 where
 written_elsewhere : (p : List ℕ) (e f k a b : ℕ) → k ≢ e → k ≢ f → get_or (set (set p e a) f b) k 0 ≡ get_or p k 0
 written_elsewhere p e f k a b ne nf = get_or-set_other (set p e a) f k b 0 nf ∙ get_or-set_other p e k a 0 ne
 
-pub products_more : (i a b c : ℕ) (x y p : List ℕ) → 2 * i + 1 < length p
+pub written_pair_extends_products : (i a b c : ℕ) (x y p : List ℕ) → 2 * i + 1 < length p
     → Congruent 3329 c (17 ^ (2 * bits_reversed 7 i + 1)) → ProductsBelow i x y p
     → a ≡ (get_or p (2 * i) 0 * get_or y (2 * i) 0 + get_or p (2 * i + 1) 0 * get_or y (2 * i + 1) 0 * c) % 3329
     → b ≡ (get_or p (2 * i) 0 * get_or y (2 * i + 1) 0 + get_or p (2 * i + 1) 0 * get_or y (2 * i) 0) % 3329
     → ProductsBelow (i + 1) x y (set (set p (2 * i) a) (2 * i + 1) b)
-products_more i a b c x y p within square before is_a is_b =
+written_pair_extends_products i a b c x y p within square before is_a is_b =
     let e : ℕ = 2 * i in
     let f : ℕ = 2 * i + 1 in
     let u = before.kept e (omega arith) in

@@ -228,7 +228,7 @@ impl Ring {
     /// assert_eq!(w[..2], [ZETA, 0]); // X * X modulo X^2 - zeta
     /// ```
     // rust: #[cfg_attr(debug_assertions, track_caller)]
-    #[tactic(auto, using(crate::proofs::Remainders::products_more))]
+    #[tactic(auto, using(crate::proofs::Remainders::written_pair_extends_products))]
     pub fn multiply(&self, xs: &mut [u32; 256], ys: &[u32; 256])
         requires xs { All (λ x. x < 3329) xs.old }
         requires ys { All (λ x. x < 3329) ys.now }

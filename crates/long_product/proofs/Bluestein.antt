@@ -28,10 +28,11 @@ pub same_modulus : (a m x v : ℕ) → a ≡ m → v ≡ x % a → v ≡ x % m
 same_modulus a m x v same is = is ∙ ap (λ m. x % m) same
 
 -- one more place is written
-pub written_more : (f : ℕ → ℕ) (out : List ℕ) (k v : ℕ) → k < length out
+pub written_entry_extends_prefix : (f : ℕ → ℕ) (out : List ℕ) (k v : ℕ) → k < length out
     → ((i : ℕ) → i < k → get_or out i 0 ≡ f i) → v ≡ f k
     → (i : ℕ) → i < k + 1 → get_or (set out k v) i 0 ≡ f i
-written_more f out k v within before here i l = search (arith, cases_eq, set, get_or-set_same, get_or-set_other)
+written_entry_extends_prefix f out k v within before here i l =
+    search (arith, cases_eq, set, get_or-set_same, get_or-set_other)
 
 pub stored_more : (P : ℕ → ℕ → Type 0) (out : List ℕ) (k v : ℕ) → k < length out
     → ((i : ℕ) → i < k → P i (get_or out i 0)) → P k v → (i : ℕ) → i < k + 1 → P i (get_or (set out k v) i 0)
@@ -42,8 +43,8 @@ pub below_more : (m : ℕ) (out : List ℕ) (k v : ℕ) → k < length out
 below_more m out k v within before here i l = search (arith, cases_eq, set, get_or-set_same, get_or-set_other)
 
 -- the powers of g, and of g to binomial coefficients, one after the other
-pub step_none : (m g : ℕ) → 1 % m ≡ g ^ 0 % m
-step_none m g = search (arith, pow-zero)
+pub one_is_zeroth_power : (m g : ℕ) → 1 % m ≡ g ^ 0 % m
+one_is_zeroth_power m g = search (arith, pow-zero)
 
 pub step_more : (m g k step v : ℕ) → step ≡ g ^ k % m → v ≡ (g * step) % m → v ≡ g ^ (k + 1) % m
 step_more m g k step v is_step is_v =
@@ -51,12 +52,13 @@ step_more m g k step v is_step is_v =
     ∙ (mod_mul (residue_of (g ^ k)) (mod_refl g)).same
     ∙ ap (λ v. v % m) (sym (ap (λ i. g ^ i) (omega arith) ∙ pow-suc g k))
 
-pub power_none : (m first g : ℕ) → first % m ≡ (first * g ^ choose_two 0) % m
-power_none m first g = search (arith, choose_none, pow-zero)
+pub first_chirp_power_is_residue : (m first g : ℕ) → first % m ≡ (first * g ^ choose_two 0) % m
+first_chirp_power_is_residue m first g = search (arith, choose_none, pow-zero)
 
-pub power_more : (m first g k power step v : ℕ) → power ≡ (first * g ^ choose_two k) % m → step ≡ g ^ k % m
+pub next_chirp_power_is_residue : (m first g k power step v : ℕ) → power ≡ (first * g ^ choose_two k) % m
+    → step ≡ g ^ k % m
     → v ≡ (power * step) % m → v ≡ (first * g ^ choose_two (k + 1)) % m
-power_more m first g k power step v is_power is_step is_v =
+next_chirp_power_is_residue m first g k power step v is_power is_step is_v =
     let p = g ^ choose_two k in
     let e : first * p * g ^ k ≡ first * (p * g ^ k) = omega arith in
     is_v ∙ ap (λ a. (a * step) % m) is_power ∙ ap (λ b. ((first * p) % m * b) % m) is_step
@@ -104,8 +106,8 @@ choose_sum i (suc j) =
     search (arith, choose_more, sum_below-suc, choose_sum i j)
 
 -- powers of a number and of its inverse cancel
-pub powers_cancel : {m : ℕ} (g h k : ℕ) → Congruent m (g * h) 1 → Congruent m (g ^ k * h ^ k) 1
-powers_cancel {m} g h k one =
+pub powers_of_inverses_cancel : {m : ℕ} (g h k : ℕ) → Congruent m (g * h) 1 → Congruent m (g ^ k * h ^ k) 1
+powers_of_inverses_cancel {m} g h k one =
     mod_trans (mod_of_eq (sym (mul-pow g h k))) (mod_trans (mod_pow k one) (mod_of_eq (one-pow k)))
 
 factors_regrouped : (x p u a b c d : ℕ) → x * a * (p * (b * d * u)) * c ≡ p * (x * u) * (b * a * (d * c))
@@ -123,7 +125,8 @@ term_by_weights m part g h i j x a b w one is_a is_b is_w =
     ap (λ k. g ^ k) (choose_sum i j) ∙ pow-add g (s + t) (i * j) ∙ ap (λ v. v * u) (pow-add g s t) in
     mod_trans (mod_mul (mod_mul is_a (mod_trans is_b (mod_of_eq (ap (λ v. part * v) powers)))) is_w)
     (mod_trans (mod_of_eq (factors_regrouped x part u (h ^ s) (g ^ s) (h ^ t) (g ^ t)))
-    (mod_trans (mod_mul (mod_refl (part * (x * u))) (mod_mul (powers_cancel g h s one) (powers_cancel g h t one)))
+    (mod_trans (mod_mul (mod_refl (part * (x * u))) (mod_mul (powers_of_inverses_cancel g h s one)
+    (powers_of_inverses_cancel g h t one)))
     (mod_of_eq (omega arith))))
 
 -- all terms
@@ -168,7 +171,10 @@ entry_convolved m part g h n j s v xs ws us bs inverse l within is_w is_b is_a i
     mod_trans (mod_of_eq (is_w k l)) (mod_trans (residue_of (1 * h ^ choose_two k)) (mod_of_eq e)) in is in
     let sum = sum_below n (λ i. get_or us i 0 * get_or bs (i + j) 0) in
     let is_sum : s ≡ sum % m = is_s ∙ ap (λ v. v % m) (reversed_product n j us bs l within) in
-    let all = sum_by_weights m part g h n j w x (λ i. get_or us i 0) (λ i. get_or bs (i + j) 0) (record { same = inverse })
+    let all = sum_by_weights m part g h n j w x (λ i. get_or us i 0) (λ i. get_or bs (i + j) 0) (record {
+      same =
+          inverse;
+    })
     (λ i l. mod_trans (mod_of_eq (is_a i l)) (mod_trans (residue_of (x i * get_or ws i 0))
     (mod_mul (mod_refl (x i)) (weight i l))))
     (λ i l. mod_trans (mod_of_eq (is_b (i + j) (omega arith))) (residue_of (part * g ^ choose_two (i + j))))

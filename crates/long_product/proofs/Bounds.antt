@@ -74,7 +74,12 @@ few_places m xs ys places fits = search (arith, cases_lt)
 -- a product that fits, and a cyclic one, as products modulo X^n - c
 pub product_folds : (m xs ys places : ℕ) → FitsProduct m xs ys places → FitsFold m 0 xs ys places
 product_folds m xs ys places fits =
-    record { modulus = fits.modulus; places = few_places m xs ys places fits; past = λ some. absurd (omega (arith, some)) }
+    record {
+      modulus = fits.modulus;
+      places = few_places m xs ys places fits;
+      past =
+          λ some. absurd (omega (arith, some));
+    }
 
 pub cyclic_folds : (m c xs ys places : ℕ) → FitsCyclic m xs ys places → FitsFold m c xs ys places
 cyclic_folds m c xs ys places fits = search arith

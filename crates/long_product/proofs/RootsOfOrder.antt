@@ -16,7 +16,7 @@ use Rattle.num_modular.specs.SumLaws.{single}
 use Rattle.num_modular.specs.Sums.{sum_below}
 use Rattle.num_modular.specs.Transforms.{transform}
 use Rattle.long_product.specs.AnyLength.{IsRootOfOrder, scaled_transform}
-use Rattle.long_product.proofs.Bluestein.{powers_cancel}
+use Rattle.long_product.proofs.Bluestein.{powers_of_inverses_cancel}
 
 -- the geometric series
 geometric_sum : (n a : ℕ) → a * sum_below n (λ j. a ^ j) + 1 ≡ sum_below n (λ j. a ^ j) + a ^ n
@@ -26,15 +26,16 @@ geometric_sum (suc n) a =
     omega (arith, geometric_sum n a, s, ap (λ v. a * v) s, pow-suc a n)
 
 -- what a number times a unit is congruent to 0 with, is congruent to 0
-pub unit_cancels : {m : ℕ} (t u s : ℕ) → (t * u) % m ≡ 1 % m → Congruent m (t * s) 0 → Congruent m s 0
-unit_cancels {m} t u s unit none =
+pub unit_cofactor_congruent_to_zero : {m : ℕ} (t u s : ℕ) → (t * u) % m ≡ 1 % m → Congruent m (t * s) 0
+    → Congruent m s 0
+unit_cofactor_congruent_to_zero {m} t u s unit none =
     let one : Congruent m (t * u) 1 = record { same = unit } in
     mod_trans (mod_of_eq (omega arith)) (mod_trans (mod_mul (mod_refl s) (mod_sym one))
     (mod_trans (mod_of_eq (omega arith)) (mod_trans (mod_mul none (mod_refl u)) (mod_of_eq (omega arith)))))
 
 -- where 0 is congruent to 1, every number is congruent to 0
-all_zero : {m : ℕ} (s : ℕ) → Congruent m 0 1 → Congruent m s 0
-all_zero {m} s nothing = search (arith, mod_trans, mod_of_eq, mod_mul, mod_refl, mod_sym)
+all_congruent_to_zero : {m : ℕ} (s : ℕ) → Congruent m 0 1 → Congruent m s 0
+all_congruent_to_zero {m} s nothing = search (arith, mod_trans, mod_of_eq, mod_mul, mod_refl, mod_sym)
 
 -- the root's powers return after n steps
 power_of_root_turns_whole : {m : ℕ} (g n d : ℕ) → g ^ n % m ≡ 1 % m → Congruent m ((g ^ d) ^ n) 1
@@ -61,15 +62,15 @@ kept_by_power_vanishes {m} {g} {n} d s root some few same =
     elim (cases_lt 0 a) [
       | inl l ↦
           let t : a * s ≡ (a - 1) * s + s = ap (λ v. v * s) (let e : a ≡ a - 1 + 1 = omega arith in e) ∙ omega arith in
-          unit_cancels (a - 1) unit.0 s unit.1.one
+          unit_cofactor_congruent_to_zero (a - 1) unit.0 s unit.1.one
           (mod_add_cancel s (mod_trans (mod_of_eq (sym t)) (mod_trans same (mod_of_eq (omega arith)))))
-      | inr l ↦ all_zero s (zero_is_one_where_power_vanishes g n d root.whole_turn (omega arith) l)
+      | inr l ↦ all_congruent_to_zero s (zero_is_one_where_power_vanishes g n d root.whole_turn (omega arith) l)
     ]
 
 -- the sum of the powers of g^d is 0
-powers_vanish : {m g n : ℕ} (d : ℕ) → IsRootOfOrder m g n → 0 < d → d < n
+sum_of_root_powers_vanishes : {m g n : ℕ} (d : ℕ) → IsRootOfOrder m g n → 0 < d → d < n
     → Congruent m (sum_below n (λ j. (g ^ d) ^ j)) 0
-powers_vanish {m} {g} {n} d root some few =
+sum_of_root_powers_vanishes {m} {g} {n} d root some few =
     let s = sum_below n (λ j. (g ^ d) ^ j) in
     kept_by_power_vanishes d s root some few (mod_add_cancel 1 (mod_trans (mod_of_eq (geometric_sum n (g ^ d)))
     (mod_add (mod_refl s) (power_of_root_turns_whole g n d root.whole_turn))))
@@ -81,9 +82,10 @@ record IsBetween (m g n v : ℕ) : Type 0 where
   few : exponent < n
   same : Congruent m v (g ^ exponent)
 
-between : {m n : ℕ} (g h i k : ℕ) → Congruent m (g * h) 1 → IsRootOfOrder m g n → i < n → k < n → i ≢ k
+power_quotient_is_between : {m n : ℕ} (g h i k : ℕ) → Congruent m (g * h) 1 → IsRootOfOrder m g n → i < n → k < n
+    → i ≢ k
     → IsBetween m g n (g ^ i * h ^ k)
-between {m} {n} g h i k one root li lk other = elim (cases_lt k i) [
+power_quotient_is_between {m} {n} g h i k one root li lk other = elim (cases_lt k i) [
   | inl l ↦
       let d : ℕ = i - k in
       let p : g ^ i * h ^ k ≡ g ^ d * (g ^ k * h ^ k) =
@@ -93,7 +95,8 @@ between {m} {n} g h i k one root li lk other = elim (cases_lt k i) [
         exponent = d;
         some = omega arith;
         few = omega arith;
-        same = mod_trans (mod_of_eq p) (mod_trans (mod_mul (mod_refl (g ^ d)) (powers_cancel g h k one)) (mod_of_eq o));
+        same = mod_trans (mod_of_eq p) (mod_trans (mod_mul (mod_refl (g ^ d)) (powers_of_inverses_cancel g h k one))
+            (mod_of_eq o));
       }
   | inr l ↦
       let c : ℕ = k - i in
@@ -109,8 +112,10 @@ between {m} {n} g h i k one root li lk other = elim (cases_lt k i) [
         some = omega arith;
         few = omega arith;
         same =
-            mod_trans (mod_of_eq p) (mod_trans (mod_mul (mod_trans (powers_cancel g h i one) turn) (mod_refl (h ^ c)))
-            (mod_trans (mod_of_eq q) (mod_trans (mod_mul (mod_refl (g ^ d)) (powers_cancel g h c one)) (mod_of_eq o))));
+            mod_trans (mod_of_eq p) (mod_trans (mod_mul (mod_trans (powers_of_inverses_cancel g h i one) turn)
+            (mod_refl (h ^ c)))
+            (mod_trans (mod_of_eq q) (mod_trans (mod_mul (mod_refl (g ^ d)) (powers_of_inverses_cancel g h c one))
+            (mod_of_eq o))));
       }
 ]
 
@@ -125,16 +130,25 @@ powers_of_both_joined g h i j k =
 other_places : {m n : ℕ} (g h i k : ℕ) → Congruent m (g * h) 1 → IsRootOfOrder m g n → i < n → k < n → i ≢ k
     → Congruent m (sum_below n (λ j. g ^ (i * j) * h ^ (j * k))) 0
 other_places {m} {n} g h i k one root li lk other =
-    let is = between g h i k one root li lk other in
+    let is = power_quotient_is_between g h i k one root li lk other in
     mod_trans (sum_below-congruent n (λ j. g ^ (i * j) * h ^ (j * k)) (λ j. (g ^ is.exponent) ^ j)
     (λ j l. mod_trans (mod_of_eq (powers_of_both_joined g h i j k)) (mod_pow j is.same)))
-    (powers_vanish is.exponent root is.some is.few)
+    (sum_of_root_powers_vanishes is.exponent root is.some is.few)
 
 -- .. where it is n
 same_place : {m : ℕ} (g h n k : ℕ) → Congruent m (g * h) 1
     → Congruent m (sum_below n (λ j. g ^ (k * j) * h ^ (j * k))) n
 same_place {m} g h n k one =
-    mod_trans (search (arith, sum_below-congruent, mod_trans, mod_of_eq, powers_of_both_joined, mod_pow, powers_cancel, one-pow))
+    mod_trans (search (
+      arith,
+      sum_below-congruent,
+      mod_trans,
+      mod_of_eq,
+      powers_of_both_joined,
+      mod_pow,
+      powers_of_inverses_cancel,
+      one-pow,
+    ))
     (mod_of_eq (sum_below-of_constant n 1 ∙ omega arith))
 
 -- g and h have the sums of both orders of a root and its inverse
@@ -189,8 +203,9 @@ taken_back {m} {g} {h} n k x y are within is =
     (mod_trans (mod_mul (mod_refl (x k)) (mod_trans (residue_of (t k)) (are.same k within))) (mod_of_eq o)))))
 
 -- .. times an inverse of n
-value_back : {m : ℕ} (n part s v : ℕ) → (n * part) % m ≡ 1 % m → Congruent m s (n * v) → Congruent m (part * s) v
-value_back {m} n part s v inverse is =
+inverse_restores_scaled_value : {m : ℕ} (n part s v : ℕ) → (n * part) % m ≡ 1 % m → Congruent m s (n * v)
+    → Congruent m (part * s) v
+inverse_restores_scaled_value {m} n part s v inverse is =
     let one : Congruent m (n * part) 1 = record { same = inverse } in
     mod_trans (mod_mul (mod_refl part) is) (mod_trans (mod_of_eq (omega arith))
     (mod_trans (mod_mul one (mod_refl v)) (mod_of_eq (omega arith))))
@@ -200,7 +215,7 @@ pub transform_undone : (m g h part n i : ℕ) (x y : ℕ → ℕ) → (g * h) % 
     → IsRootOfOrder m g n → i < n → ((j : ℕ) → j < n → transform m g n x j ≡ y j % m)
     → scaled_transform m part h n y i ≡ x i % m
 transform_undone m g h part n i x y inverse of_length root within is =
-    (value_back n part (sum_below n (λ j. y j * h ^ (j * i))) (x i) of_length
+    (inverse_restores_scaled_value n part (sum_below n (λ j. y j * h ^ (j * i))) (x i) of_length
     (taken_back n i x y (root_and_inverse_are_opposite (record { same = inverse }) root) within
     (λ j l. record { same = sym (is j l) }))).same
 
@@ -231,8 +246,8 @@ difference_same : (m a : ℕ) → 1 ≤ m → 0 < a → (a + (m - 1)) % m ≡ (a
 difference_same m a some l = grind (arith, add-mod_right)
 
 -- whether the differences with exponents from 1 to d - 1 have inverses, by their product
-pub first_power : (m g : ℕ) → g % m ≡ g ^ 1 % m
-first_power m g = search (arith, pow-suc, pow-zero)
+pub residue_is_first_power : (m g : ℕ) → g % m ≡ g ^ 1 % m
+residue_is_first_power m g = search (arith, pow-suc, pow-zero)
 
 pub units_none : (m g a : ℕ) → 1 ≤ m → a ≡ 1 % m
     → HasInverse m a ↔ ((e : ℕ) → 1 ≤ e → e < 1 → HasInverse m (g ^ e + (m - 1)))
@@ -287,18 +302,19 @@ root_found m g n power product modulus some is_power units one unit =
       ];
     }
 
-pub root_unit : (m g n product : ℕ) → 1 ≤ m
+pub difference_product_has_inverse : (m g n product : ℕ) → 1 ≤ m
     → (HasInverse m product ↔ ((e : ℕ) → 1 ≤ e → e < n → HasInverse m (g ^ e + (m - 1))))
     → IsRootOfOrder m g n → HasInverse m product
-root_unit m g n product modulus units root =
+difference_product_has_inverse m g n product modulus units root =
     units.1 (λ d l k. elim (cases_lt 0 (g ^ d)) [
       | inl p ↦
           unit_same m (g ^ d - 1) (g ^ d + (m - 1)) (sym (difference_same m (g ^ d) modulus p)) (root.no_shorter d l k)
-      | inr z ↦ every_unit m (g ^ d + (m - 1)) modulus (zero_is_one_where_power_vanishes g n d root.whole_turn root.some z)
+      | inr z ↦ every_unit m (g ^ d + (m - 1)) modulus (zero_is_one_where_power_vanishes g n d root.whole_turn root.some
+          z)
     ])
 
 -- whether an inverse was found
-pub inversion_tells : (m a : ℕ) (found : Option ℕ) → IsInversion (λ x. x) m a found
+pub has_inverse_iff_found : (m a : ℕ) (found : Option ℕ) → IsInversion (λ x. x) m a found
     → HasInverse m a ↔ IsTrue (is_some found)
-inversion_tells m a (Some x) is = (λ h. refl, λ t. (x, is))
-inversion_tells m a None none = (λ h. absurd (none h.0 h.1), λ t. absurd (cc t))
+has_inverse_iff_found m a (Some x) is = (λ h. refl, λ t. (x, is))
+has_inverse_iff_found m a None none = (λ h. absurd (none h.0 h.1), λ t. absurd (cc t))

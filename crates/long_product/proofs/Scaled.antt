@@ -12,9 +12,10 @@ shifted_below m s z d t below is shift =
     omega (arith, l, e)
 
 -- it is divided by the shifted modulus
-pub shifted_fits : (m s z d t : ℕ) → t < m * 18446744073709551616 → d ≡ m * 2 ^ z → s ≡ z
+pub shifted_dividend_below_divisor : (m s z d t : ℕ) → t < m * 18446744073709551616 → d ≡ m * 2 ^ z → s ≡ z
     → t * 2 ^ s % 340282366920938463463374607431768211456 < d * 18446744073709551616
-shifted_fits m s z d t below is shift = let l = shifted_below m s z d t below is shift in omega (arith, l)
+shifted_dividend_below_divisor m s z d t below is shift = let l = shifted_below m s z d t below is shift in
+    omega (arith, l)
 
 -- the remainder of that division, shifted back
 pub shifted_remainder : (m s z d t q r : ℕ) → t < m * 18446744073709551616 → d ≡ m * 2 ^ z → s ≡ z

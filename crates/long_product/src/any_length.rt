@@ -106,7 +106,7 @@ fn write_products(by: &PreMulInv2by1<u64>, xs: &[u64], ys: &[u64], out: &mut [u6
 }
 
 // part times the sum of x_i·w^i, modulo m, by Horner's rule.
-#[tactic(auto, using(num_modular::specs::NumberLaws::sum_none, crate::proofs::Bluestein::horner_more))]
+#[tactic(auto, using(num_modular::specs::NumberLaws::empty_sum_residue_is_zero, crate::proofs::Bluestein::horner_more))]
 fn scaled_value(by: &PreMulInv2by1<u64>, part: u64, w: u64, xs: &[u64]) -> u64
     ensures { result ≡ (part * sum_below (length xs.now) (λ i. slice_index xs.now i * w ^ i))
         % ⟦<PreMulInv2by1<u64> as Reducer<u64>>⟧.modulus by.now }

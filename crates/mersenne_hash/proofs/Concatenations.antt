@@ -57,9 +57,9 @@ unfolding sum_below
 one_coefficient horner c x = omega (arith, horner 0 c x)
 
 -- one step of Horner's rule, modulo m
-pub residue_more : Horner → (m n : ℕ) (c : ℕ → ℕ) (x d value product : ℕ) → c n ≡ d
+pub horner_step_is_residue : Horner → (m n : ℕ) (c : ℕ → ℕ) (x d value product : ℕ) → c n ≡ d
     → value ≡ polynomial_highest_first n c x % m → product ≡ (value * x) % m
     → (product + d) % m ≡ polynomial_highest_first (n + 1) c x % m
-residue_more horner m n c x d value product is e f =
+horner_step_is_residue horner m n c x d value product is e f =
     let times = f ∙ ap (λ k. (k * x) % m) e ∙ mul-mod_first _ x m in
     ap₂ (λ k d. (k + d) % m) times (sym is) ∙ mod-add-mod _ m (c n) ∙ ap (λ k. k % m) (sym (horner n c x))

@@ -50,8 +50,9 @@ at_most_product f (suc w) n m each =
     let before = at_most_product f w n m (λ v h. each v (omega arith)) in
     grind (arith, below_suc)
 
-pub pigeonhole : (f : ℕ → ℕ) (w n m : ℕ) → ((i : ℕ) → i < n → f i < w) → ((v : ℕ) → v < w → count f v n ≤ m) → n ≤ w * m
-pigeonhole f w n m within each =
+pub size_bounded_by_multiplicities : (f : ℕ → ℕ) (w n m : ℕ) → ((i : ℕ) → i < n → f i < w)
+    → ((v : ℕ) → v < w → count f v n ≤ m) → n ≤ w * m
+size_bounded_by_multiplicities f w n m within each =
     let e = below_all f w n within in
     let most = at_most_product f w n m each in
     omega (arith, e, most)

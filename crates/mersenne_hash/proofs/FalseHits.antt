@@ -6,7 +6,7 @@ use Rattle.std.proofs.lemmas.List.{length-take-le, get_or-take, get_or-drop}
 use Rattle.std.proofs.lemmas.List.Elements.{All-from_get_or}
 use Rattle.num_modular.specs.Mersenne.{mersenne}
 use Rattle.mersenne_hash.specs.Collisions.{AreApart, FewCollisions, IsFalseHit, FewFalseHits}
-use Rattle.mersenne_hash.proofs.Counting.{count, place, place_right, pigeonhole}
+use Rattle.mersenne_hash.proofs.Counting.{count, place, place_right, size_bounded_by_multiplicities}
 
 -- the part of a text from v on
 abbrev part : List ℕ → ℕ → ℕ → List ℕ
@@ -15,8 +15,10 @@ part text n v = slice_range text v (v + n)
 pub part_length : (text : List ℕ) (n v : ℕ) → v + n ≤ length text → length (part text n v) ≡ n
 part_length text n v within = search (arith, length-drop, length-take-le)
 
-part_below : (p n v : ℕ) (text : List ℕ) → v + n ≤ length text → All (λ c. c < p) text → All (λ c. c < p) (part text n v)
-part_below p n v text within below = search (arith, All-from_get_or, part_length, get_or-take, get_or-drop)
+part_symbols_below_bound : (p n v : ℕ) (text : List ℕ) → v + n ≤ length text → All (λ c. c < p) text
+    → All (λ c. c < p) (part text n v)
+part_symbols_below_bound p n v text within below =
+    search (arith, All-from_get_or, part_length, get_or-take, get_or-drop)
 
 -- at one position there are fewer bases than the pattern has symbols
 few_at : FewCollisions → (text pattern : List ℕ) (n v : ℕ) (x at : ℕ → ℕ) → AreApart n x
@@ -38,14 +40,14 @@ few_at few text pattern n v x at bases text_below pattern_below hits many =
           bases.apart (y i) (y j) first.within second.within
           (λ e. differ (sym first.rank ∙ ap (λ i. count at v i) e ∙ second.rank));
     }
-    (part_below (mersenne 61 1) k v text hit.within text_below) pattern_below
+    (part_symbols_below_bound (mersenne 61 1) k v text hit.within text_below) pattern_below
     (λ i l.
     let here = is i (omega (arith, l, lengths)) in
     (subst (IsFalseHit text pattern (x (y i))) here.value (hits (y i) here.within)).same_hash))
 
 pub few_false_hits : FewCollisions → FewFalseHits
 few_false_hits few text pattern n x at bases text_below pattern_below hits =
-    pigeonhole at (length text - length pattern + 1) n (length pattern - 1)
+    size_bounded_by_multiplicities at (length text - length pattern + 1) n (length pattern - 1)
     (λ i l. let within = (hits i l).within in omega (arith, within))
     (λ v l. elim (cases_lt (length pattern - 1) (count at v n)) [
       | inl many ↦ absurd (few_at few text pattern n v x at bases text_below pattern_below hits many)

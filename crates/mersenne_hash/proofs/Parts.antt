@@ -1,5 +1,6 @@
 -- The hash of a part of a text, by those of two beginnings.
-use Rattle.std.proofs.Common.{◌≡◌, ℕ, ◌+◌, ◌-◌, ◌*◌, ◌%◌, ◌^◌, ◌<◌, ◌≤◌, List, length, slice_index, slice_range, get_or, map}
+use Rattle.std.proofs.Common.{◌≡◌, ℕ, ◌+◌, ◌-◌, ◌*◌, ◌%◌, ◌^◌, ◌<◌, ◌≤◌, List, length, slice_index, slice_range, get_or}
+use Rattle.std.proofs.Common.{map}
 use Rattle.std.proofs.Common.{arith, ap, ap₂, sym, ◌∙◌, length-drop, mod-eq_of_lt}
 use Rattle.std.proofs.Math.Nat.{add-mod-mod, mod-mod}
 use Rattle.std.proofs.lemmas.Nat.{mul-mod}

@@ -9,7 +9,8 @@ use Rattle.std.proofs.Common.{Bool, true, ◌&&◌, ◌||◌, nat_lt}
 use Rattle.std.proofs.lemmas.Bool.{cases_eq, cases_lt, and_parts, or_cases, ltb-true}
 use Rattle.num_modular.specs.Congruence.{Congruent}
 use Rattle.num_modular.specs.Inverses.{HasInverse}
-use Rattle.num_modular.specs.NumberLaws.{mod_of_eq, mod_refl, mod_sym, mod_trans, mod_mul, mod_pow, mod_add_cancel, one-pow, pow-mul}
+use Rattle.num_modular.specs.NumberLaws.{mod_of_eq, mod_refl, mod_sym, mod_trans, mod_mul, mod_pow, mod_add_cancel}
+use Rattle.num_modular.specs.NumberLaws.{one-pow, pow-mul}
 use Rattle.num_modular.specs.Primes.{IsPrime}
 use Rattle.num_modular.specs.SystemLaws.{spread, gathered}
 use Rattle.num_modular.specs.NumberLaws.{divides_through}
@@ -44,13 +45,14 @@ no_small n k h square none = record {
 }
 
 -- powers of a number that is congruent to 1
-power_of_one : {d x : ℕ} (k : ℕ) → Congruent d x 1 → Congruent d (x ^ k) 1
-power_of_one k h = mod_trans (mod_pow k h) (mod_of_eq (one-pow k))
+power_congruent_to_one : {d x : ℕ} (k : ℕ) → Congruent d x 1 → Congruent d (x ^ k) 1
+power_congruent_to_one k h = mod_trans (mod_pow k h) (mod_of_eq (one-pow k))
 
 -- congruent modulo a divisor
 modulo_divisor : (n r x y : ℕ) → n % r ≡ 0 → x % n ≡ y % n → Congruent r x y
 modulo_divisor n r x y e same = record {
-  same = sym (mod-mod_of_dvd r x (dvd_of_mod-eq-zero r e)) ∙ ap (λ k. k % r) same ∙ mod-mod_of_dvd r y (dvd_of_mod-eq-zero r e);
+  same = sym (mod-mod_of_dvd r x (dvd_of_mod-eq-zero r e)) ∙ ap (λ k. k % r) same
+      ∙ mod-mod_of_dvd r y (dvd_of_mod-eq-zero r e);
 }
 
 -- what the certificate has for a prime q: a number a + 1 whose power of q is 1 modulo n, and the inverses of both
@@ -66,8 +68,8 @@ abbrev pub Inverts : Type 0
 Inverts = (a p : ℕ) → IsPrime p → (a % p ≡ 0 → ⊥) → HasInverse p a
 
 -- what has an inverse modulo n isn't 0 modulo a divisor above 1
-unit_not_zero : (n r x c : ℕ) → 1 < r → n % r ≡ 0 → (x * c) % n ≡ 1 % n → Congruent r x 0 → ⊥
-unit_not_zero n r x c above e one none =
+unit_nonzero_modulo_divisor : (n r x c : ℕ) → 1 < r → n % r ≡ 0 → (x * c) % n ≡ 1 % n → Congruent r x 0 → ⊥
+unit_nonzero_modulo_divisor n r x c above e one none =
     let nothing : 0 * c ≡ 0 = omega arith in
     let zero = mod_trans (mod_mul none (mod_refl c)) (mod_of_eq nothing) in
     let zero_one = mod_trans (mod_sym zero) (modulo_divisor n r _ _ e one) in
@@ -85,15 +87,16 @@ one_less n q a c r fermat inverts w q_prime r_prime e = elim (cases_eq ((r - 1) 
       let last = inverse.one ∙ mod-eq_of_lt q_prime.above_one in
       let whole : (r - 1) * i ≡ suc (q * k) = omega (arith, div-add-mod ((r - 1) * i) q, last) in
       let unit = λ (h : b % r ≡ 0).
-      unit_not_zero n r b _ r_prime.above_one e w.unit (record { same = h ∙ sym (zero-mod r) }) in
+      unit_nonzero_modulo_divisor n r b _ r_prime.above_one e w.unit (record { same = h ∙ sym (zero-mod r) }) in
       let by_fermat : Congruent r (b ^ ((r - 1) * i)) 1 = mod_trans (mod_of_eq (pow-mul b (r - 1) i))
-      (power_of_one i (record { same = fermat b r r_prime unit ∙ sym (mod-eq_of_lt r_prime.above_one) })) in
+      (power_congruent_to_one i (record { same = fermat b r r_prime unit ∙ sym (mod-eq_of_lt r_prime.above_one) })) in
       let alone : 1 * b ≡ b = omega arith in
       let by_power : Congruent r (b ^ ((r - 1) * i)) b =
       mod_trans (mod_of_eq (ap (λ j. b ^ j) whole ∙ pow-suc b (q * k) ∙ ap (λ j. j * b) (pow-mul b q k)))
-      (mod_trans (mod_mul (power_of_one k (modulo_divisor n r (b ^ q) 1 e w.power)) (mod_refl b)) (mod_of_eq alone)) in
+      (mod_trans (mod_mul (power_congruent_to_one k (modulo_divisor n r (b ^ q) 1 e w.power)) (mod_refl b))
+      (mod_of_eq alone)) in
       let one : Congruent r (a + 1) (0 + 1) = mod_trans (mod_sym by_power) by_fermat in
-      absurd (unit_not_zero n r a c r_prime.above_one e w.apart (mod_add_cancel 1 one))
+      absurd (unit_nonzero_modulo_divisor n r a c r_prime.above_one e w.apart (mod_add_cancel 1 one))
 ]
 
 -- divisors of which one has an inverse modulo the other
@@ -139,5 +142,6 @@ modulus_prime fermat inverts =
     record { power = refl; unit = refl; apart = refl } (prime_by_trial 31 (lit< tt) refl) prime e in
     let all : (r - 1) % 2046771931 ≡ 0 =
     product_divides (r - 1) 66024901 31 2 refl
-    (product_divides (r - 1) 437251 151 104 refl (product_divides (r - 1) 1321 331 110 refl first second) third) fourth in
+    (product_divides (r - 1) 437251 151 104 refl (product_divides (r - 1) 1321 331 110 refl first second) third) fourth
+    in
     absurd (omega (arith, all, below, prime.above_one)))

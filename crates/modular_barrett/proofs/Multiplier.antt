@@ -1,5 +1,6 @@
 -- The multiplier and the shift of a divisor.
-use Rattle.std.proofs.Common.{◌≡◌, ℕ, suc, ◌+◌, ◌-◌, ◌*◌, ◌/◌, ◌%◌, ◌^◌, ◌<◌, ◌≤◌, sym, ap, ◌∙◌, subst, arith, refl, ⊎_elim, bit_and}
+use Rattle.std.proofs.Common.{◌≡◌, ℕ, suc, ◌+◌, ◌-◌, ◌*◌, ◌/◌, ◌%◌, ◌^◌, ◌<◌, ◌≤◌, sym, ap, ◌∙◌, subst, arith, refl}
+use Rattle.std.proofs.Common.{⊎_elim, bit_and}
 use Rattle.std.proofs.Math.Nat.{mod-lt, div-add-mod, mod-eq_of_lt, mul-le-mul_left, mul_comm, pow-succ'}
 use Rattle.std.proofs.Math.Pow.{pow_mono}
 use Rattle.std.proofs.lemmas.Bool.{cases_lt}
@@ -59,7 +60,8 @@ pub record IsPrepared (w b d less n gap : ℕ) : Type 0 where
   pub fits : d < b
   pub whole : gap + d ≡ 2 ^ n
 
-pub multiplier_prepared : (w b d less n gap one all : ℕ) → 0 < less → n ≡ digits less → n ≤ w → d < b → one ≡ 1 → less + one ≡ d
+pub multiplier_prepared : (w b d less n gap one all : ℕ) → 0 < less → n ≡ digits less → n ≤ w → d < b → one ≡ 1
+    → less + one ≡ d
     → all + 1 ≡ 2 ^ n → gap + less ≡ all
     → IsPrepared w b d less n gap
 multiplier_prepared w b d less n gap one all some counted most fits e1 e2 e3 e4 =

@@ -109,8 +109,8 @@ product_stands w m d a x b whole q r positive ed stands fb ew division =
     (stands_for w m d (x * y) r positive ed (remainder_is division ∙ ap (λ n. n % d) e'))
 
 -- it fits the division
-pub product_fits : (b m d s x y whole : ℕ) → d ≡ m * 2 ^ s → x < m → y < b → whole ≡ x * y → whole < d * b
-product_fits b m d s x y whole ed hx hy e =
+pub product_fits_division : (b m d s x y whole : ℕ) → d ≡ m * 2 ^ s → x < m → y < b → whole ≡ x * y → whole < d * b
+product_fits_division b m d s x y whole ed hx hy e =
     let p : 0 < 2 ^ s = pow_pos s in
     let up : m * 1 ≤ m * 2 ^ s = mul-le-mul_left m p in
     let h : x * y < d * b = mul-lt x y d b (omega arith) hy in
@@ -124,8 +124,9 @@ remainder_stands w m d s n whole q r is e division =
     (remainder_is division ∙ ap (λ v. v % d) (e ∙ ap (λ v. n * 2 ^ v) is.zeros))
 
 -- it fits the division
-pub scaled_fits : (w b m d s n whole : ℕ) → IsScaling w m d s → n < b → whole ≡ n * 2 ^ s → whole < d * b
-scaled_fits w b m d s n whole is hn e =
+pub scaled_number_fits_division : (w b m d s n whole : ℕ) → IsScaling w m d s → n < b → whole ≡ n * 2 ^ s
+    → whole < d * b
+scaled_number_fits_division w b m d s n whole is hn e =
     let p : 0 < 2 ^ s = pow_pos s in
     let up : 1 * 2 ^ s ≤ m * 2 ^ s = mul-le-mul_right (2 ^ s) is.positive in
     let h : n * 2 ^ s < b * 2 ^ s = mul-lt-mul_of_pos_right hn p in

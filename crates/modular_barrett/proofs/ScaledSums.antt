@@ -9,7 +9,7 @@ use Rattle.modular_word.specs.Division.{IsDivision}
 use Rattle.modular_word.specs.Sums.{sum_below}
 use Rattle.modular_word.proofs.Congruence.{mod_of_eq, mod_refl, mod_trans, mod_add, mod_mul, residue_of}
 use Rattle.modular_word.proofs.Sums.{sum_below-same, sum_below-mul, sum_below-joined}
-use Rattle.modular_reduced.proofs.FormLemmas.{Answered, answered, form_of_value}
+use Rattle.modular_reduced.proofs.FormLemmas.{Answered, answered_by_form, form_of_value}
 use Rattle.modular_barrett.specs.Scaling.{scale, scaled_form, scaled_value, IsScaling}
 use Rattle.modular_barrett.specs.ScaledForms.{scaled_canonical}
 use Rattle.modular_barrett.proofs.ScaledLemmas.{IsScaledForm, Stands, divisor_is, stands_for, sum_stands, value_is}
@@ -26,10 +26,10 @@ carries_reduced {first} {r} d b high c first_is is =
     is ∙ (mod_add (mod_refl high) (mod_mul (mod_refl b) carries)).same
 
 -- a sum in three words that is a multiple of p^2, reduced but for the lowest word and divided by p
-pub sum_reduced : {b d s p rest r q : ℕ} (low high c e v : ℕ) → 0 < p → b ≡ p * e → s ≡ low + b * high
+pub reduced_sum_is_scaled_residue : {b d s p rest r q : ℕ} (low high c e v : ℕ) → 0 < p → b ≡ p * e → s ≡ low + b * high
     → rest ≡ (high + b * c) % d → IsDivision ((low + b * rest) / p) d q r → s + b * b * c ≡ p * (p * v)
     → r ≡ (p * v) % d
-sum_reduced {b} {d} {s} {p} {rest} {r} {q} low high c e v some base parts upper division is =
+reduced_sum_is_scaled_residue {b} {d} {s} {p} {rest} {r} {q} low high c e v some base parts upper division is =
     let k = (high + b * c) / d in
     let top : b * (high + b * c) ≡ b * (d * k + rest) =
     let whole = div-add-mod (high + b * c) d in ap (λ n. b * n) (omega (arith, whole, upper)) in
@@ -53,9 +53,9 @@ scaled_products {m} {p} w n x y scaled x_is y_is =
     ∙ sum_below-mul n p (λ i. p * f i) ∙ ap (λ s. p * s) (sum_below-mul n p f)
 
 -- the products from index i to i + k - 1
-pub block_of : (p i k : ℕ) (f : ℕ → ℕ) (before after : ℕ) → before ≡ p * (p * sum_below i f)
+pub block_adds_scaled_products : (p i k : ℕ) (f : ℕ → ℕ) (before after : ℕ) → before ≡ p * (p * sum_below i f)
     → after ≡ p * (p * sum_below (i + k) f) → after ≡ before + p * (p * sum_below k (λ j. f (i + j)))
-block_of p i k f before after before_is after_is = grind (arith, sum_below-joined)
+block_adds_scaled_products p i k f before after before_is after_is = grind (arith, sum_below-joined)
 
 -- the form of their sum
 pub block_stands : {w m d s : ℕ} (r v : ℕ) → IsScaling w m d s → r ≡ (2 ^ s * v) % d → Stands w m r (v % m)
@@ -64,15 +64,17 @@ block_stands {w} {m} {d} {s} r v is e =
     stands_for w m d v r is.positive (divisor_is is) (e ∙ ap (λ n. n % d) same)
 
 -- added to the products before them
-pub block_added : {w m d s : ℕ} (total r next sum i k : ℕ) (f : ℕ → ℕ) → IsScaling w m d s → IsScaledForm w m total
+pub block_residue_extends_sum : {w m d s : ℕ} (total r next sum i k : ℕ) (f : ℕ → ℕ) → IsScaling w m d s
+    → IsScaledForm w m total
     → scaled_value w m total ≡ (sum + sum_below i f) % m → r ≡ (2 ^ s * sum_below k (λ j. f (i + j))) % d
     → next ≡ (total + r) % d
     → Answered (scaled_form w) (scaled_value w) m next ((sum + sum_below (i + k) f) % m)
-block_added {w} {m} {d} {s} total r next sum i k f is form value r_is next_is =
+block_residue_extends_sum {w} {m} {d} {s} total r next sum i k f is form value r_is next_is =
     let v = sum_below k (λ j. f (i + j)) in
     let stands = block_stands r v is r_is in
-    let made = answered (scaled_canonical is)
-    (sum_stands w m d total r next is.positive (divisor_is is) form (form_of_value (scaled_canonical is) stands) next_is) in
+    let made = answered_by_form (scaled_canonical is)
+    (sum_stands w m d total r next is.positive (divisor_is is) form (form_of_value (scaled_canonical is) stands)
+    next_is) in
     let added : Congruent m (scaled_value w m total + scaled_value w m r) (sum + sum_below i f + v) =
     mod_add (mod_trans (mod_of_eq value) (residue_of (sum + sum_below i f)))
     (mod_trans (mod_of_eq (sym (value_is w m r (v % m) stands))) (residue_of v)) in

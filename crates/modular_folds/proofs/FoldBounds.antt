@@ -1,6 +1,7 @@
 -- How far folds in a row take a number that is no more than a product of two numbers below 2^p.
 use Rattle.std.proofs.Common.{◌≡◌, ℕ, zero, suc, ◌+◌, ◌-◌, ◌*◌, ◌/◌, ◌%◌, ◌^◌, ◌<◌, ◌≤◌, ◌∙◌, ap, sym, arith, lit<}
-use Rattle.std.proofs.Math.Nat.{mul-le-mul_left, mul-le-mul_right, div-lt_iff_lt-mul, lt-div-mul-add, mod-lt, pow-le-pow_right}
+use Rattle.std.proofs.Math.Nat.{mul-le-mul_left, mul-le-mul_right, div-lt_iff_lt-mul, lt-div-mul-add, mod-lt}
+use Rattle.std.proofs.Math.Nat.{pow-le-pow_right}
 use Rattle.std.proofs.Math.Nat.{pow-suc, mod-eq_of_lt, mod-eq-sub-mod}
 use Rattle.std.proofs.lemmas.Nat.{shr_split, pow_pos, pow-add, mul-le, le-div}
 use Rattle.modular_folds.specs.Folds.{fold_of}
@@ -86,14 +87,14 @@ bound_falls p c m mask most ones whole small high =
     omega (arith, less)
 
 -- a factor of two bits less than p is at most a fourth of 2^p
-pub fourth : (p c : ℕ) → 2 ≤ p → c < 2 ^ (p - 2) → 4 * c ≤ 2 ^ p
-fourth p c two less = grind (arith, pow-add)
+pub fourfold_factor_within_power : (p c : ℕ) → 2 ≤ p → c < 2 ^ (p - 2) → 4 * c ≤ 2 ^ p
+fourfold_factor_within_power p c two less = grind (arith, pow-add)
 
 -- so is one of fewer bits still
 pub fourth_of : (p k c : ℕ) → 2 ≤ p → k ≤ p - 2 → c < 2 ^ k → 4 * c ≤ 2 ^ p
 fourth_of p k c two fewer less =
     let most : 2 ^ k ≤ 2 ^ (p - 2) = pow-le-pow_right {n = 2} (lit< tt) fewer in
-    fourth p c two (omega (arith, most, less))
+    fourfold_factor_within_power p c two (omega (arith, most, less))
 
 -- the first bound is below 2^(2p)
 pub first_bound : (p c mask w : ℕ) → mask + 1 ≡ 2 ^ p → c < 2 ^ p → 2 * p ≤ w → mask * c + mask < 2 ^ w

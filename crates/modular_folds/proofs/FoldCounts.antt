@@ -8,36 +8,39 @@ use Rattle.modular_folds.specs.Folds.{fold_of, folds_within, folds, IsFewFolds}
 use Rattle.modular_folds.proofs.FoldSteps.{fold_less, fold_halves}
 use Rattle.modular_folds.proofs.FoldBounds.{two_low, three_low, next_fold, last_fold, small_square}
 
-within_none : (k p c v : ℕ) → v < 2 ^ p → folds_within k p c v ≡ 0
+no_folds_below_power : (k p c v : ℕ) → v < 2 ^ p → folds_within k p c v ≡ 0
 unfolding folds_within
-within_none zero p c v l = omega arith
-within_none (suc k) p c v l = grind (arith, nat_tests)
+no_folds_below_power zero p c v l = omega arith
+no_folds_below_power (suc k) p c v l = grind (arith, nat_tests)
 
-within_next : (k p c v : ℕ) → 2 ^ p ≤ v → folds_within (suc k) p c v ≡ suc (folds_within k p c (fold_of p c v))
+one_more_fold_within : (k p c v : ℕ) → 2 ^ p ≤ v → folds_within (suc k) p c v ≡ suc (folds_within k p c (fold_of p c v))
 unfolding folds_within
-within_next k p c v h = grind (arith, nat_tests)
+one_more_fold_within k p c v h = grind (arith, nat_tests)
 
 -- a larger bound changes nothing
-within_enough : (k l p c v : ℕ) → c < 2 ^ p → v ≤ k → v ≤ l → folds_within k p c v ≡ folds_within l p c v
-within_enough zero l p c v b h i = grind (arith, pow_pos, within_none)
-within_enough (suc k) zero p c v b h i = grind (arith, pow_pos, within_none)
-within_enough (suc k) (suc l) p c v b h i =
-    ⊎_elim (λ (low : v < 2 ^ p). within_none (suc k) p _ v low ∙ sym (within_none _ _ _ v low)) (λ (high : 2 ^ p ≤ v).
+folds_within_independent_of_bound : (k l p c v : ℕ) → c < 2 ^ p → v ≤ k → v ≤ l
+    → folds_within k p c v ≡ folds_within l p c v
+folds_within_independent_of_bound zero l p c v b h i = grind (arith, pow_pos, no_folds_below_power)
+folds_within_independent_of_bound (suc k) zero p c v b h i = grind (arith, pow_pos, no_folds_below_power)
+folds_within_independent_of_bound (suc k) (suc l) p c v b h i =
+    ⊎_elim (λ (low : v < 2 ^ p). no_folds_below_power (suc k) p _ v low ∙ sym (no_folds_below_power _ _ _ v low))
+    (λ (high : 2 ^ p ≤ v).
     let less = fold_less _ _ _ b high in
-    within_next k p _ v high ∙ ap suc (within_enough _ _ _ _ (fold_of p c v) b (omega (arith, less))
-    (omega (arith, less))) ∙ sym (within_next _ _ _ v high)) (cases_lt v (2 ^ p))
+    one_more_fold_within k p _ v high
+    ∙ ap suc (folds_within_independent_of_bound _ _ _ _ (fold_of p c v) b (omega (arith, less))
+    (omega (arith, less))) ∙ sym (one_more_fold_within _ _ _ v high)) (cases_lt v (2 ^ p))
 
 -- ---- the equations of the count
 pub folds-none : (p c v : ℕ) → v < 2 ^ p → folds p c v ≡ 0
 unfolding folds
-folds-none p c v l = within_none v p c v l
+folds-none p c v l = no_folds_below_power v p c v l
 
 pub folds-next : (p c v : ℕ) → c < 2 ^ p → 2 ^ p ≤ v → folds p c v ≡ 1 + folds p c (fold_of p c v)
 unfolding folds
 folds-next p c v b h =
     let next : folds_within (suc v) p c v ≡ 1 + folds_within v p c (fold_of p c v) =
-    within_next v p c v h ∙ omega arith in
-    grind (arith, within_enough)
+    one_more_fold_within v p c v h ∙ omega arith in
+    grind (arith, folds_within_independent_of_bound)
 
 -- ---- the bounds
 -- one fold more
@@ -62,7 +65,8 @@ few_from p c zero v b l =
     let high : v / 2 ^ p < 2 = (div-lt_iff_lt-mul {x = v} {y = 2} (pow_pos p)).1 (omega arith) in
     let low = last_fold p c (fold_of p c v) (omega (arith, next_fold p c 1 v (omega arith))) in
     let none = folds-none p c (fold_of p c (fold_of p c v)) low in
-    folds-at_most_suc p c v 1 (omega arith) (folds-at_most_suc p c (fold_of p c v) 0 (omega arith) (omega (arith, none)))
+    folds-at_most_suc p c v 1 (omega arith) (folds-at_most_suc p c (fold_of p c v) 0 (omega arith)
+    (omega (arith, none)))
 few_from p c (suc j) v b l =
     ⊎_elim (λ (low : v < 2 ^ p). omega (arith, folds-none _ c _ low)) (λ (high : 2 ^ p ≤ v).
     let double : 2 ^ suc j * 2 ^ p ≡ 2 * (2 ^ j * 2 ^ p) = ap (λ a. a * 2 ^ p) (pow-suc 2 j) ∙ omega arith in

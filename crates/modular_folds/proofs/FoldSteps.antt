@@ -8,13 +8,14 @@ use Rattle.modular_word.proofs.Congruence.{same_sum, same_product}
 use Rattle.modular_folds.specs.Folds.{fold_of, IsFolding}
 
 -- the mask of the bits below p gives the residue modulo 2^p
-pub masked : (p mask v : ℕ) → mask + 1 ≡ 2 ^ p → bit_and v mask ≡ v % 2 ^ p
-masked p mask v ones =
+pub masked_number_is_residue : (p mask v : ℕ) → mask + 1 ≡ 2 ^ p → bit_and v mask ≡ v % 2 ^ p
+masked_number_is_residue p mask v ones =
     ap (λ n. bit_and v n) (let e : mask ≡ 2 ^ p - 1 = omega arith in e) ∙ and_mask v p
 
 -- m + (c - 1) is the mask of the bits below p, where m + c is 2^p
-pub ones : (m less : ℕ) {c one mask power : ℕ} → one ≡ 1 → less + one ≡ c → mask ≡ m + less → m + c ≡ power → mask + 1 ≡ power
-ones m less is_one is_less is_mask whole = omega (arith, is_one, is_less, is_mask, whole)
+pub mask_plus_one_is_power : (m less : ℕ) {c one mask power : ℕ} → one ≡ 1 → less + one ≡ c → mask ≡ m + less
+    → m + c ≡ power → mask + 1 ≡ power
+mask_plus_one_is_power m less is_one is_less is_mask whole = omega (arith, is_one, is_less, is_mask, whole)
 
 -- a fold makes no number larger
 pub fold_at_most : (p c v : ℕ) → c < 2 ^ p → fold_of p c v ≤ v
@@ -59,8 +60,8 @@ pub doubled_keeps : (e factor m : ℕ) → factor % m ≡ 2 ^ e % m → (factor 
 doubled_keeps e factor m is = grind (arith, same_sum, next_power)
 
 -- a number below m is below 2^(p + by)
-pub below_power : (p by m c x : ℕ) → m + c ≡ 2 ^ p → x < m → x < 2 ^ (p + by)
-below_power p by m c x whole less = grind (arith, pow-le-pow_right, lit<)
+pub residue_below_raised_power : (p by m c x : ℕ) → m + c ≡ 2 ^ p → x < m → x < 2 ^ (p + by)
+residue_below_raised_power p by m c x whole less = grind (arith, pow-le-pow_right, lit<)
 
 -- 2^p is among the numbers up to 2^w
 pub power_fits : {w p c m : ℕ} → IsFolding w p c m → 2 ^ p ≤ 2 ^ w

@@ -9,7 +9,8 @@ pub high_is : (B s l h : ℕ) → s ≡ l + B * h → l < B → s / B ≡ h
 high_is B s l h parts below = grind (arith, div-eq_of_lt-le)
 
 -- a sum whose high word is below m doesn't overflow
-pub no_carry : (B m s sum : ℕ) (carry : Bool) → s % B ≡ 0 → s / B < m → m < B → (IsTrue carry → s ≡ sum + B * B)
+pub small_sum_has_no_carry : (B m s sum : ℕ) (carry : Bool) → s % B ≡ 0 → s / B < m → m < B
+    → (IsTrue carry → s ≡ sum + B * B)
     → (IsFalse carry → s ≡ sum) → s ≡ sum
-no_carry B m s sum carry cleared below fits carried exact =
+small_sum_has_no_carry B m s sum carry cleared below fits carried exact =
     grind (arith, multiple_of, mul-lt-mul_of_pos_left, false_from_ne_true)

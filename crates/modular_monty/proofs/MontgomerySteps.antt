@@ -14,7 +14,7 @@ use Rattle.modular_word.proofs.ReductionSteps.{base_inverse}
 use Rattle.modular_word.proofs.ResidueLemmas.{residue_is, difference_and}
 use Rattle.modular_word.proofs.Sums.{sum_below-congruent, sum_below-mul}
 use Rattle.modular_reduced.specs.Forms.{Represents, IsForm}
-use Rattle.modular_reduced.proofs.FormLemmas.{Answered, answered, form_of_value}
+use Rattle.modular_reduced.proofs.FormLemmas.{Answered, answered_by_form, form_of_value}
 use Rattle.modular_monty.specs.Montgomery.{montgomery_form, montgomery_value, IsOddRing}
 use Rattle.modular_monty.specs.MontgomeryLaws.{positive, base_cancels, value_of_form, montgomery_canonical}
 
@@ -35,14 +35,14 @@ pub same_residue : (x n : ℕ) {y : ℕ} → y ≡ x % n → y % n ≡ x % n
 same_residue x n e = ap (λ z. z % n) e ∙ mod-mod x n
 
 -- the residue of a difference is below m
-pub difference_below : (m v x : ℕ) → 0 < m → residue m (pos v -ℤ pos x) < m
-difference_below m v x some = (residue_is m (pos v -ℤ pos x) some).below
+pub residue_of_difference_below_modulus : (m v x : ℕ) → 0 < m → residue m (pos v -ℤ pos x) < m
+residue_of_difference_below_modulus m v x some = (residue_is m (pos v -ℤ pos x) some).below
 
 module _ {w b m i square : ℕ} (r : IsOddRing w b m i square) where
   -- the form of x modulo m
   pub made : (x : ℕ) {f : ℕ} → f ≡ (x * b) % m → Made w m f (x % m)
   made x e =
-      answered (montgomery_canonical r) (record {
+      answered_by_form (montgomery_canonical r) (record {
         below = mod-lt x (positive r);
         same = e ∙ sym (mul-mod_first x b m) ∙ ap (λ n. (x % m * n) % m) r.base;
       })
@@ -134,12 +134,12 @@ module _ {w b m i square : ℕ} (r : IsOddRing w b m i square) where
       let x = montgomery_value w m g in
       let d = residue m (pos v -ℤ pos x) in
       let some = positive r in
-      let hh : h < m = omega (arith, eh, difference_below m f g some) in
+      let hh : h < m = omega (arith, eh, residue_of_difference_below_modulus m f g some) in
       let sum : (h + x * b) % m ≡ (d * b + x * b) % m =
       same_sum m h h (x * b) g refl (sym (same_form isg)) ∙ ap (λ n. (n + g) % m) eh
       ∙ difference_and m f g some ∙ same_form isf ∙ same_product m v (d + x) b b (sym (difference_and m v x some)) refl
       ∙ ap (λ n. n % m) (omega arith) in
-      subst (Made w m h) (mod-eq_of_lt (difference_below m v x some))
+      subst (Made w m h) (mod-eq_of_lt (residue_of_difference_below_modulus m v x some))
       (made d (sym (mod-eq_of_lt hh) ∙ same_without m h (d * b) (x * b) some sum))
 
   -- and the reduction of its product with a form is the form of the product

@@ -5,8 +5,8 @@ use Rattle.modular_word.specs.Reduction.{IsNegatedInverse}
 use Rattle.modular_word.proofs.Congruence.{same_product, same_without, next_is_multiple}
 
 -- the number that the negated inverse brings to 0 is the inverse
-pub inverse_of_negated : (b d n i : ℕ) → 1 < b → IsNegatedInverse b d n → (i + n) % b ≡ 0 → (d * i) % b ≡ 1
-inverse_of_negated b d n i h is e =
+pub product_with_opposite_is_one : (b d n i : ℕ) → 1 < b → IsNegatedInverse b d n → (i + n) % b ≡ 0 → (d * i) % b ≡ 1
+product_with_opposite_is_one b d n i h is e =
     let z : 0 % b ≡ 0 = mod-eq_of_lt (omega arith) in
     let both : (d * i + d * n) % b ≡ (1 + d * n) % b =
     ap (λ v. v % b) (omega arith) ∙ same_product b d d (i + n) 0 refl (e ∙ sym z) ∙ ap (λ v. v % b) (omega arith)

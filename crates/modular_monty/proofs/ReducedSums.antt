@@ -21,16 +21,18 @@ carries_formed {m} {b} {v} w c base is = grind (arith, mod_trans, mod_of_eq, res
 pub carries_added : {m v h : ℕ} (b u c s before : ℕ) → Congruent m (u * b + before) (s + before) → Congruent m v (c * b)
     → h ≡ (u + v) % m → Congruent m (h * b + before) (s + b * b * c + before)
 carries_added {m} {v} {h} b u c s before reduced formed is =
-    let sum : Congruent m (h * b) ((u + v) * b) = mod_mul (mod_trans (mod_of_eq is) (residue_of (u + v))) (mod_refl b) in
+    let sum : Congruent m (h * b) ((u + v) * b) = mod_mul (mod_trans (mod_of_eq is) (residue_of (u + v))) (mod_refl b)
+    in
     let spread : (u + v) * b + before ≡ u * b + before + v * b = omega arith in
     mod_trans (mod_add sum (mod_refl before)) (mod_trans (mod_of_eq spread)
     (mod_trans (mod_add reduced (mod_mul formed (mod_refl b))) (mod_of_eq (omega arith))))
 
 -- the reduction of one more block, added to those before it
-pub block_added : {m h : ℕ} (b s t r before after : ℕ) → Congruent m (t * b) (s * b + before)
+pub reduced_block_extends_sum : {m h : ℕ} (b s t r before after : ℕ) → Congruent m (t * b) (s * b + before)
     → Congruent m (r * b + before) after → h ≡ (t + r) % m → Congruent m (h * b) (s * b + after)
-block_added {m} {h} b s t r before after so_far block is =
-    let sum : Congruent m (h * b) ((t + r) * b) = mod_mul (mod_trans (mod_of_eq is) (residue_of (t + r))) (mod_refl b) in
+reduced_block_extends_sum {m} {h} b s t r before after so_far block is =
+    let sum : Congruent m (h * b) ((t + r) * b) = mod_mul (mod_trans (mod_of_eq is) (residue_of (t + r))) (mod_refl b)
+    in
     let spread : (t + r) * b ≡ t * b + r * b = omega arith in
     mod_trans sum (mod_trans (mod_of_eq spread)
     (mod_trans (mod_add so_far (mod_refl (r * b)))

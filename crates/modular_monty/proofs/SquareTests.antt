@@ -7,16 +7,16 @@ use Rattle.modular_word.proofs.Congruence.{same_product, same_without_unit}
 use Rattle.modular_word.proofs.ReductionSteps.{base_inverse}
 
 -- a base has numbers below it
-pub some_below : {b n : ℕ} → n < b → 0 < b
-some_below h = omega (arith, h)
+pub base_above_is_positive : {b n : ℕ} → n < b → 0 < b
+base_above_is_positive h = omega (arith, h)
 
 -- a word as a double word
-pub extended : (b : ℕ) {t f z : ℕ} → t ≡ f + b * z → z ≡ 0 → t ≡ f
-extended b {z = z} e ez = let none : b * z ≡ b * 0 = ap (λ n. b * n) ez in omega (arith, e, none)
+pub double_word_is_low_word : (b : ℕ) {t f z : ℕ} → t ≡ f + b * z → z ≡ 0 → t ≡ f
+double_word_is_low_word b {z = z} e ez = let none : b * z ≡ b * 0 = ap (λ n. b * n) ez in omega (arith, e, none)
 
 -- a residue modulo an odd number is below it
-pub residue_below : (x m : ℕ) {r : ℕ} → m % 2 ≡ 1 → r ≡ x % m → r < m
-residue_below x m odd e = let some : 0 < m = omega (arith, odd) in omega (arith, e, mod-lt x some)
+pub residue_below_odd_modulus : (x m : ℕ) {r : ℕ} → m % 2 ≡ 1 → r ≡ x % m → r < m
+residue_below_odd_modulus x m odd e = let some : 0 < m = omega (arith, odd) in omega (arith, e, mod-lt x some)
 
 module _ {b m i square t r s u : ℕ} (some : 0 < b) (inverse : IsNegatedInverse b m i) (below : square < m)
     (first : t ≡ square) (once : IsReduction b m t r) (second : s ≡ r) (twice : IsReduction b m s u) where

@@ -11,7 +11,7 @@ use Rattle.modular_word.specs.Residues.{residue}
 use Rattle.modular_word.proofs.Congruence.{same_sum, same_product, same_without, mod_of_multiple, mod_of_multiple_left}
 use Rattle.modular_word.proofs.ResidueLemmas.{difference_and}
 use Rattle.modular_reduced.specs.Forms.{IsForm}
-use Rattle.modular_reduced.proofs.FormLemmas.{Answered, ValueAnswered, answered, value_answered, form_of_value}
+use Rattle.modular_reduced.proofs.FormLemmas.{Answered, ValueAnswered, answered_by_form, value_answered, form_of_value}
 use Rattle.modular_monty.specs.Montgomery.{montgomery_form, montgomery_value}
 use Rattle.modular_monty.specs.TwoParts.{two_part_form, two_part_value, IsTwoPartRing}
 use Rattle.modular_monty.specs.MontgomeryLaws.{positive, value_of_form}
@@ -31,8 +31,8 @@ Checked w m f = IsForm (two_part_form w) (two_part_value w) m f
 pub all_high : (s f : ℕ) → s ≡ 0 → f ≡ f / 2 ^ s
 all_high s f e = sym (ap (λ n. f / 2 ^ n) e ∙ div-one f)
 
-pub one_part : (s u l : ℕ) → s ≡ 0 → u ≡ u * 2 ^ s + l % 2 ^ s
-one_part s u l e = sym (ap (λ n. u * 2 ^ n + l % 2 ^ n) e ∙ omega (arith, mod-one l))
+pub unshifted_part_is_whole : (s u l : ℕ) → s ≡ 0 → u ≡ u * 2 ^ s + l % 2 ^ s
+unshifted_part_is_whole s u l e = sym (ap (λ n. u * 2 ^ n + l % 2 ^ n) e ∙ omega (arith, mod-one l))
 
 -- the parts of a form f of the value v
 pub record HasParts (w m s k f v : ℕ) : Type 0 where
@@ -57,7 +57,7 @@ module _ {w b m s k i square : ℕ} (r : IsTwoPartRing w b m s k i square) where
       let parts = by_parts (x % m) x (mod-mod x m) in
       let eu : u ≡ montgomery_form w k (x % m) =
       high.same ∙ same_product k v (x % m) (2 ^ w) (2 ^ w) (odd.same_residue x k ev ∙ sym parts.0) refl in
-      answered (two_part_canonical r) (record {
+      answered_by_form (two_part_canonical r) (record {
         below = mod-lt x (modulus_positive r);
         same = ef ∙ ap₂ (λ n o. n * 2 ^ s + o) eu (el ∙ sym parts.1) ∙ sym (form_is r (x % m));
       })
@@ -75,7 +75,8 @@ module _ {w b m s k i square : ℕ} (r : IsTwoPartRing w b m s k i square) where
   pub high_checked : {f y : ℕ} → Checked w m f → y ≡ f / 2 ^ s → odd.Checked w k y
   high_checked {f} {y} is ey =
       let high = (parts is).high in
-      let below : f / 2 ^ s < k = omega (arith, high.same, mod-lt (two_part_value w m f % k * 2 ^ w) (positive r.odd)) in
+      let below : f / 2 ^ s < k = omega (arith, high.same, mod-lt (two_part_value w m f % k * 2 ^ w) (positive r.odd))
+      in
       odd.below_is_form r.odd y (omega (arith, below))
 
   -- and of its value
@@ -120,7 +121,7 @@ module _ {w b m s k i square : ℕ} (r : IsTwoPartRing w b m s k i square) where
       let sum : (c + x) % k ≡ (d + x) % k =
       same_sum k c c x vz refl (sym (odd.same_residue x k (high_value isg ez)))
       ∙ difference_and k vy vz some ∙ odd.same_residue v k (high_value isf ey) ∙ sym back.0 in
-      sym (mod-eq_of_lt (odd.difference_below k vy vz some)) ∙ same_without k c d x some sum
+      sym (mod-eq_of_lt (odd.residue_of_difference_below_modulus k vy vz some)) ∙ same_without k c d x some sum
 
   -- the difference of two forms
   pub difference_made : (t : ℕ) {f g y z u h : ℕ} → Checked w m f → Checked w m g → y ≡ f / 2 ^ s → z ≡ g / 2 ^ s
@@ -131,7 +132,7 @@ module _ {w b m s k i square : ℕ} (r : IsTwoPartRing w b m s k i square) where
       let v = two_part_value w m f in
       let x = two_part_value w m g in
       let d = residue m (pos v -ℤ pos x) in
-      let less = odd.difference_below m v x (modulus_positive r) in
+      let less = odd.residue_of_difference_below_modulus m v x (modulus_positive r) in
       let back = by_parts (d + x) v (difference_and m v x (modulus_positive r)) in
       let low_sum : (t + x) % 2 ^ s ≡ (d + x) % 2 ^ s =
       same_sum (2 ^ s) t t x g refl (sym (parts isg).low) ∙ et ∙ (parts isf).low ∙ sym back.1 in
@@ -218,7 +219,7 @@ module _ {w b m s k i square : ℕ} (r : IsTwoPartRing w b m s k i square) where
   odd_answered e v {h} is =
       let same : v (two_part_value w m) m ≡ v (montgomery_value w k) k =
       ap (λ (u : ℕ → ℕ). v u m) (fun_ext (odd_value e)) ∙ ap (v (montgomery_value w k)) (odd_modulus e) in
-      answered (two_part_canonical r) (record {
+      answered_by_form (two_part_canonical r) (record {
         below = omega (arith, is.below, same, odd_modulus e);
         same = is.same ∙ ap (montgomery_form w k) (sym same) ∙ sym (odd_form e (v (two_part_value w m) m));
       })

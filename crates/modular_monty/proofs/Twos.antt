@@ -40,12 +40,12 @@ pub two_part_ring : {w b m s h k i square : ℕ} → IsOddRing w b k i square �
 two_part_ring {w} {b} {m} {s} {h} {k} r parted fits es ek = grind arith
 
 -- an odd number has none
-odd_twos : (w m : ℕ) → 0 < w → m % 2 ≡ 1 → count_trailing_zeros w m ≡ 0
+odd_has_no_trailing_zeros : (w m : ℕ) → 0 < w → m % 2 ≡ 1 → count_trailing_zeros w m ≡ 0
 unfolding count_trailing_zeros
-odd_twos zero m h e = absurd (omega arith)
-odd_twos (suc w) m h e = ap (λ r. under r (count_trailing_zeros w (m / 2))) e
+odd_has_no_trailing_zeros zero m h e = absurd (omega arith)
+odd_has_no_trailing_zeros (suc w) m h e = ap (λ r. under r (count_trailing_zeros w (m / 2))) e
 
 -- so the form of v modulo an odd m is v times the base
 pub odd_form : (w m v : ℕ) → 0 < w → m % 2 ≡ 1 → two_part_form w m v ≡ (v * 2 ^ w) % m
 unfolding two_part_form
-odd_form w m v h e = grind (arith, odd_twos, div-one, mod-one)
+odd_form w m v h e = grind (arith, odd_has_no_trailing_zeros, div-one, mod-one)

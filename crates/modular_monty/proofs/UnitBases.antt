@@ -1,6 +1,7 @@
 -- Reductions of small numbers, and bases that are 1 modulo m.
 use Rattle.std.proofs.Common.{◌≡◌, ℕ, suc, zero, ◌+◌, ◌*◌, ◌%◌, ◌<◌, ap, ◌∙◌, arith, refl}
-use Rattle.std.proofs.Math.Nat.{mod-eq_of_lt, mul-le-mul_left, mul-le-mul_right, add-mul-mod_self_left, add-mul-mod_self_right}
+use Rattle.std.proofs.Math.Nat.{mod-eq_of_lt, mul-le-mul_left, mul-le-mul_right, add-mul-mod_self_left}
+use Rattle.std.proofs.Math.Nat.{add-mul-mod_self_right}
 use Rattle.std.proofs.Math.Nat.{lt_of_mul-lt-mul_right}
 use Rattle.std.proofs.lemmas.Nat.{div-mul-add}
 use Rattle.modular_word.proofs.Congruence.{same_product}
@@ -12,8 +13,8 @@ pub sum_below_multiple : (B m t x : ℕ) → t < m → x < B → t + x * m < B *
 sum_below_multiple B m t x below fits = grind (arith, mul-le-mul_right)
 
 -- so the sum is a double word
-pub sum_fits : (B m t x : ℕ) → t < m → x < B → m < B → t + x * m < B * B
-sum_fits B m t x below fits word = grind (arith, mul-le-mul_left, sum_below_multiple)
+pub sum_fits_double_word : (B m t x : ℕ) → t < m → x < B → m < B → t + x * m < B * B
+sum_fits_double_word B m t x below fits word = grind (arith, mul-le-mul_left, sum_below_multiple)
 
 -- where its low word is 0, it is the high word times the base ..
 pub high_times_base : (B m t x low high : ℕ) → (t + x * m) % B ≡ 0 → t + x * m ≡ low + B * high → low < B
@@ -29,7 +30,8 @@ reduces_below B m t x low high below fits cleared parts low_fits =
     grind (arith, lt_of_mul-lt-mul_right, add-mul-mod_self_right)
 
 -- and x is its quotient as a factor
-pub factor_of_reduction : (B m t x high : ℕ) → t < m → IsReduction B m t high → high * B ≡ t + x * m → IsFactor B m high x
+pub factor_of_reduction : (B m t x high : ℕ) → t < m → IsReduction B m t high → high * B ≡ t + x * m
+    → IsFactor B m high x
 factor_of_reduction B m t x high below is whole = grind (arith, div-mul-add)
 
 -- the word whose successor is the base

@@ -8,8 +8,9 @@ pub minus_is_complement : (b m c : ℕ) → 0 < m → m ≤ b → c < b → (c +
 minus_is_complement b m c some room fits none = grind (arith, mod_self, mod_cancel)
 
 -- a difference below b, in a sum of double words
-pub sum_fits : (b m p q c : ℕ) → 2 * m ≤ b → q < b → p < q * m + 2 * m → c + m ≡ b → p + q * c < b * b
-sum_fits b m p q c room fits below is =
+pub difference_sum_fits_double_word : (b m p q c : ℕ) → 2 * m ≤ b → q < b → p < q * m + 2 * m → c + m ≡ b
+    → p + q * c < b * b
+difference_sum_fits_double_word b m p q c room fits below is =
     let whole : q * (c + m) ≡ q * b = ap (λ v. q * v) is in
     let upper : (q + 1) * b ≤ b * b = mul-le-mul_right b (let k : q + 1 ≤ b = omega (arith, fits) in k) in
     omega (arith, whole, upper, room, below)

@@ -13,7 +13,7 @@ use Rattle.modular_transform.proofs.BitReversal.{bits_reversed-suc, bits_reverse
 use Rattle.modular_plan_passes.specs.Factors.{IsFactor}
 use Rattle.modular_plan_passes.specs.Plans.{numbers, AreTwiddles}
 use Rattle.modular_plan_passes.proofs.Entries.{number_written, number_not_written}
-use Rattle.modular_plan_passes.proofs.Tables.{exponent}
+use Rattle.modular_plan_passes.proofs.Tables.{half_has_previous_exponent}
 
 -- the reversed bits of a place below 2^t and one of bit t
 record AreApart (s t x : ℕ) : Type 0 where
@@ -69,9 +69,9 @@ pub holds_from_previous : (P : ℕ → Type 0) (i : ℕ) → ((k : ℕ) → i + 
 holds_from_previous P i before now k l = grind arith
 
 -- the first place
-pub first_power : (m one power value g bits : ℕ) → one ≡ 1 → power ≡ one % m → value ≡ power
+pub first_entry_is_zeroth_power : (m one power value g bits : ℕ) → one ≡ 1 → power ≡ one % m → value ≡ power
     → value ≡ g ^ bits_reversed bits 0 % m
-first_power m one power value g bits is_one is e = grind (arith, pow-zero g, bits_reversed_of_zero bits)
+first_entry_is_zeroth_power m one power value g bits is_one is e = grind (arith, pow-zero g, bits_reversed_of_zero bits)
 
 -- half of the place p of one bit
 pub record IsHalved (s i p : ℕ) : Type 0 where
@@ -110,7 +110,8 @@ pub product_of_two : (m g s t x v w result : ℕ) → t < s → x < 2 ^ t → v 
 product_of_two m g s t x v w result below within is_v is_w e = grind (arith, mul-mod, pow-add, reversed_of_sum)
 
 -- all entries are made
-pub twiddles_of_made : {F : Type 0} (value quotient : F → ℕ) (base m g n bits z : ℕ) (table : List F) → Suits m g (2 * n)
+pub twiddles_of_made : {F : Type 0} (value quotient : F → ℕ) (base m g n bits z : ℕ) (table : List F)
+    → Suits m g (2 * n)
     → 2 ^ z ≡ 2 * n → n ≡ 2 ^ bits → ((k : ℕ) → k < n → IsMade value quotient base m g bits table k)
     → AreTwiddles m g z n (numbers value table)
-twiddles_of_made value quotient base m g n bits z table suits e whole made = grind (arith, exponent)
+twiddles_of_made value quotient base m g n bits z table suits e whole made = grind (arith, half_has_previous_exponent)

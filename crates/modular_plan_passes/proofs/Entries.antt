@@ -28,9 +28,10 @@ pub number_not_written : {T : Type 0} (number : T → ℕ) (words : List T) (i j
 number_not_written number words i j x ne = grind (arith, map-set, get_or-set_other)
 
 -- a bound of all words
-pub bounded : {T : Type 0} (number : T → ℕ) (bound : ℕ) (words : List T) (i : ℕ) (d : T)
+pub entry_below_common_bound : {T : Type 0} (number : T → ℕ) (bound : ℕ) (words : List T) (i : ℕ) (d : T)
     → All (λ x. number x < bound) words → i < length words → numbers number words i < bound
-bounded number bound words i d all below = subst (λ v. v < bound) (number_at number words i d below) (all i d below)
+entry_below_common_bound number bound words i d all below = subst (λ v. v < bound) (number_at number words i d below)
+    (all i d below)
 
 -- .. of one that was read
 pub below_read : {T : Type 0} (number : T → ℕ) (bound : ℕ) (words : List T) (i : ℕ) (x : T)
@@ -41,7 +42,7 @@ below_read number bound words i x all below is = subst (λ w. number w < bound) 
 pub bounded_at : {T : Type 0} (number : T → ℕ) (bound : ℕ) (words : List T) (i : ℕ)
     → All (λ x. number x < bound) words → i < length words → numbers number words i < bound
 bounded_at number bound [] i all below = absurd (omega arith)
-bounded_at number bound (x ∷ xs) i all below = bounded number bound (x ∷ xs) i x all below
+bounded_at number bound (x ∷ xs) i all below = entry_below_common_bound number bound (x ∷ xs) i x all below
 
 -- .. and a greater one
 pub all_wider : {T : Type 0} (number : T → ℕ) {a b : ℕ} (words : List T) → a ≤ b → All (λ x. number x < a) words
@@ -49,15 +50,17 @@ pub all_wider : {T : Type 0} (number : T → ℕ) {a b : ℕ} (words : List T) �
 all_wider number words wide all i d l = let h = all i d l in omega (arith, h, wide)
 
 -- a loop that writes entry after entry
-pub entry_written : {T : Type 0} (number : T → ℕ) (words : List T) (i : ℕ) (x : T) (P : ℕ → ℕ → Type 0) → i < length words
+pub entry_written : {T : Type 0} (number : T → ℕ) (words : List T) (i : ℕ) (x : T) (P : ℕ → ℕ → Type 0)
+    → i < length words
     → ((k : ℕ) → k < i → P k (numbers number words k)) → P i (number x)
     → (k : ℕ) → k < i + 1 → P k (numbers number (set words i x) k)
 entry_written number words i x P within before is k l = grind (arith, set, number_written, number_not_written)
 
-pub entry_done : {T : Type 0} (number : T → ℕ) (words : List T) (i : ℕ) (x : T) (target : ℕ → ℕ) → i < length words
+pub written_numbers_match_target : {T : Type 0} (number : T → ℕ) (words : List T) (i : ℕ) (x : T) (target : ℕ → ℕ)
+    → i < length words
     → ((k : ℕ) → k < i → numbers number words k ≡ target k)
     → number x ≡ target i → (k : ℕ) → k < i + 1 → numbers number (set words i x) k ≡ target k
-entry_done number words i x target = entry_written number words i x (λ k v. v ≡ target k)
+written_numbers_match_target number words i x target = entry_written number words i x (λ k v. v ≡ target k)
 
 pub entry_kept : {T : Type 0} (number : T → ℕ) (words : List T) (i : ℕ) (x : T) (old : ℕ → ℕ)
     → ((k : ℕ) → i ≤ k → numbers number words k ≡ old k)
@@ -81,5 +84,5 @@ pub never_beyond : {T : Type 0} {A : Type 0} (number : T → ℕ) (bound : ℕ) 
     → All (λ x. number x < bound) start → i < length words → i < length start → x ≡ get_or words i x
     → numbers number words i ≡ numbers number start i → bound ≤ number x → A
 never_beyond number bound words start i x all within start_within is kept far =
-    let below = bounded number bound start i x all start_within in
+    let below = entry_below_common_bound number bound start i x all start_within in
     absurd (omega (arith, number_read number words i x within is, below, kept, far))

@@ -9,15 +9,15 @@ use Rattle.modular_plan_passes.specs.Splits.{FourDoneWithin, HalvesDone}
 use Rattle.modular_plan_passes.specs.Steps.{IsFourSplit, FourDone, BlockOfFours, StageOfFours}
 use Rattle.modular_plan_passes.proofs.Doublings.{same_factor}
 use Rattle.modular_plan_passes.proofs.Entries.{number_written, number_not_written, number_read, all_below, bounded_at}
-use Rattle.modular_plan_passes.proofs.Fours.{four_along, of_halves, stage_of_fours_more}
+use Rattle.modular_plan_passes.proofs.Fours.{relation_of_equal_numbers, of_halves, stage_of_fours_more}
 use Rattle.modular_plan_passes.proofs.ListParts.{number_in_front, number_behind}
 
 -- four writes of what comes of the numbers that were read
-pub done_by : (R : ℕ → ℕ → ℕ → ℕ → ℕ → ℕ → ℕ → ℕ → Type 0) {i j k l a b c d p q r s : ℕ} {x y : ℕ → ℕ}
+pub four_done_by_read_numbers : (R : ℕ → ℕ → ℕ → ℕ → ℕ → ℕ → ℕ → ℕ → Type 0) {i j k l a b c d p q r s : ℕ} {x y : ℕ → ℕ}
     → AreAt i j k l x a b c d
     → FourDone (λ x y z t e f g h. (e ≡ p) × (f ≡ q) × (g ≡ r) × (h ≡ s)) i j k l x y
     → R a b c d p q r s → FourDone R i j k l x y
-done_by R {i} {j} {k} {l} {a} {b} {c} {d} {p} {q} {r} {s} {x} {y} at step four = grind arith
+four_done_by_read_numbers R {i} {j} {k} {l} {a} {b} {c} {d} {p} {q} {r} {s} {x} {y} at step four = grind arith
 
 -- column i of four lists, whose entries are below a bound
 pub record IsColumn {X : Type 0} (number : X → ℕ) (bound i : ℕ) (a b c d : List X) : Type 0 where
@@ -49,16 +49,19 @@ pub record ColumnDone (R : ℕ → ℕ → ℕ → ℕ → ℕ → ℕ → ℕ �
 -- a column of four quarters is number_written
 pub column_done : {X : Type 0} (number : X → ℕ) (R : ℕ → ℕ → ℕ → ℕ → ℕ → ℕ → ℕ → ℕ → Type 0) (a b c d : List X) (i : ℕ)
     (x y z t : X) → i < length a → i < length b → i < length c → i < length d
-    → R (numbers number a i) (numbers number b i) (numbers number c i) (numbers number d i) (number x) (number y) (number z)
+    → R (numbers number a i) (numbers number b i) (numbers number c i) (numbers number d i) (number x) (number y)
+    (number z)
     (number t)
-    → ColumnDone R i (numbers number a) (numbers number b) (numbers number c) (numbers number d) (numbers number (set a i x))
+    → ColumnDone R i (numbers number a) (numbers number b) (numbers number c) (numbers number d)
+    (numbers number (set a i x))
     (numbers number (set b i y)) (numbers number (set c i z)) (numbers number (set d i t))
-column_done number R a b c d i x y z t la lb lc ld four = grind (arith, four_along, number_written, number_not_written)
+column_done number R a b c d i x y z t la lb lc ld four =
+    grind (arith, relation_of_equal_numbers, number_written, number_not_written)
 
 -- one more column
-pub column_more : (R : ℕ → ℕ → ℕ → ℕ → ℕ → ℕ → ℕ → ℕ → Type 0) (i : ℕ) {a b c d a' b' c' d' e f g h : ℕ → ℕ}
+pub one_more_column_done : (R : ℕ → ℕ → ℕ → ℕ → ℕ → ℕ → ℕ → ℕ → Type 0) (i : ℕ) {a b c d a' b' c' d' e f g h : ℕ → ℕ}
     → ColumnsDone R i a b c d a' b' c' d' → ColumnDone R i a' b' c' d' e f g h → ColumnsDone R (i + 1) a b c d e f g h
-column_more R i {a} {b} {c} {d} {a'} {b'} {c'} {d'} {e} {f} {g} {h} before step = grind arith
+one_more_column_done R i {a} {b} {c} {d} {a'} {b'} {c'} {d'} {e} {f} {g} {h} before step = grind arith
 
 -- all columns
 pub columns_all : {R : ℕ → ℕ → ℕ → ℕ → ℕ → ℕ → ℕ → ℕ → Type 0} {i n : ℕ} {a b c d a' b' c' d' : ℕ → ℕ}
@@ -70,8 +73,10 @@ pub halves_done : {X : Type 0} (number : X → ℕ) (R : ℕ → ℕ → ℕ →
     (a b c d a' b' c' d' : List X) → length a ≡ q → length c ≡ q → length a' ≡ q → length c' ≡ q
     → ColumnsDone R q (numbers number a) (numbers number b) (numbers number c) (numbers number d) (numbers number a')
     (numbers number b') (numbers number c') (numbers number d')
-    → HalvesDone R q (numbers number (a ++ b)) (numbers number (c ++ d)) (numbers number (a' ++ b')) (numbers number (c' ++ d'))
-halves_done number R q a b c d a' b' c' d' la lc la' lc' done = grind (arith, four_along, number_in_front, number_behind)
+    → HalvesDone R q (numbers number (a ++ b)) (numbers number (c ++ d)) (numbers number (a' ++ b'))
+    (numbers number (c' ++ d'))
+halves_done number R q a b c d a' b' c' d' la lc la' lc' done =
+    grind (arith, relation_of_equal_numbers, number_in_front, number_behind)
 
 -- the numbers of two halves within a longer list
 record HalvesOf {X : Type 0} (number : X → ℕ) (first q : ℕ) (f l h t : List X) : Type 0 where
@@ -116,13 +121,15 @@ fours_below {R} {bound} {first} {q} k {x} {y} done least l =
 -- .. and with them all entries
 pub block_below : {X : Type 0} (number : X → ℕ) {bound first q : ℕ} (old new : List X)
     {R : ℕ → ℕ → ℕ → ℕ → ℕ → ℕ → ℕ → ℕ → Type 0} → length new ≡ length old → All (λ x. number x < bound) old
-    → BlockOfFours (FourDoneWithin bound R) first q q (numbers number old) (numbers number new) → All (λ x. number x < bound) new
+    → BlockOfFours (FourDoneWithin bound R) first q q (numbers number old) (numbers number new)
+    → All (λ x. number x < bound) new
 block_below number {bound} {first} {q} old new {R} same all done =
     all_below number bound (length old) new same
     (λ k l. grind (arith, bounded_at number bound old k all l, done.before k, done.after k, fours_below k done))
 
 -- the next four neighbours, which are unchanged as yet
-pub neighbours_given : {X : Type 0} (number : X → ℕ) {bound : ℕ} (p : ℕ) (old new : List X) → All (λ x. number x < bound) old
+pub neighbours_given : {X : Type 0} (number : X → ℕ) {bound : ℕ} (p : ℕ) (old new : List X)
+    → All (λ x. number x < bound) old
     → ((k : ℕ) → p * 4 ≤ k → numbers number new k ≡ numbers number old k) → length new ≡ length old
     → p * 4 + 3 < length old → AreNeighbours number bound (p * 4) new
 neighbours_given number {bound} p old new all kept same within = grind (arith, bounded_at)

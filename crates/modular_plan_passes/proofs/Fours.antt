@@ -14,17 +14,20 @@ four_of_pairs {m} w u v {a} {b} {c} {d} {a'} {b'} {c'} {d'} {e} {f} {g} {h} {p} 
     first second low high = grind arith
 
 -- what four writes leave
-pub four_written : {T : Type 0} (number : T → ℕ) (R : ℕ → ℕ → ℕ → ℕ → ℕ → ℕ → ℕ → ℕ → Type 0) (words : List T)
+pub written_four_is_done : {T : Type 0} (number : T → ℕ) (R : ℕ → ℕ → ℕ → ℕ → ℕ → ℕ → ℕ → ℕ → Type 0) (words : List T)
     (i j k l : ℕ) (a b c d : T) → i < j → j < k → k < l → l < length words
     → R (numbers number words i) (numbers number words j) (numbers number words k) (numbers number words l) (number a)
     (number b) (number c) (number d)
     → FourDone R i j k l (numbers number words) (numbers number (set (set (set (set words l d) k c) j b) i a))
-four_written number R words i j k l a b c d ij jk kl within four = grind (arith, set, length-set, number_written, number_not_written)
+written_four_is_done number R words i j k l a b c d ij jk kl within four =
+    grind (arith, set, length-set, number_written, number_not_written)
 
-pub four_along : (R : ℕ → ℕ → ℕ → ℕ → ℕ → ℕ → ℕ → ℕ → Type 0) {a b c d e f g h a' b' c' d' e' f' g' h' : ℕ} → a ≡ a'
+pub relation_of_equal_numbers : (R : ℕ → ℕ → ℕ → ℕ → ℕ → ℕ → ℕ → ℕ → Type 0) {a b c d e f g h a' b' c' d' e' f' g' h'
+    : ℕ} → a ≡ a'
     → b ≡ b' → c ≡ c' → d ≡ d' → e ≡ e' → f ≡ f' → g ≡ g' → h ≡ h'
     → R a b c d e f g h → R a' b' c' d' e' f' g' h'
-four_along R {a} {b} {c} {d} {e} {f} {g} {h} {a'} {b'} {c'} {d'} {e'} {f'} {g'} {h'} pa pb pc pd pe pf pg ph r =
+relation_of_equal_numbers R {a} {b} {c} {d} {e} {f} {g} {h} {a'} {b'} {c'} {d'} {e'} {f'} {g'} {h'} pa pb pc pd pe pf pg
+    ph r =
     grind arith
 
 -- a block of what follows

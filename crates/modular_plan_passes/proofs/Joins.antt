@@ -43,7 +43,8 @@ joined_high {m} a d even odd w j y z high is_y is_z is opposite unit subtracted 
     (mod_trans (mod_add both (mod_refl (w * d))) (mod_of_eq (omega arith))))))
 
 -- a pair of the level above
-pub joined_pair : {m g z entries y v low high : ℕ} {w : ℕ → ℕ} (q count half s i : ℕ) (x : ℕ → ℕ) → AreTwiddles m g z entries w
+pub joined_pair : {m g z entries y v low high : ℕ} {w : ℕ → ℕ} (q count half s i : ℕ) (x : ℕ → ℕ)
+    → AreTwiddles m g z entries w
     → q < entries → Congruent m y (coefficient_at g z (count * 2) half (λ k. s * x k) (2 * q) i)
     → Congruent m v (coefficient_at g z (count * 2) half (λ k. s * x k) (2 * q + 1) i) → IsPairJoin m (w q) y v low high
     → Congruent m low (coefficient_at g z count (half + half) (λ k. (s + s) * x k) q i)
@@ -77,7 +78,8 @@ level_above_of {m} {g} {z} b count half s x y after w room twiddles before stage
       (moved_to y (at i) (omega arith) (omega arith) (before.each (2 * p + 1) i (omega arith) li))
       (stage.pairs p i lp li) in
       of_halves (λ i. Congruent m (after (p * (half + half) + i))
-      (coefficient_at g z count (half + half) (λ k. (s + s) * x k) q i)) half e le (λ i l. (pair i l).0) (λ i l. (pair i l).1);
+      (coefficient_at g z count (half + half) (λ k. (s + s) * x k) q i)) half e le (λ i l. (pair i l).0)
+      (λ i l. (pair i l).1);
 }
 
 -- before the first stage
@@ -88,13 +90,15 @@ level_lowest {m} g z b count last x y are = grind arith
 -- one stage of the loop: to half as many blocks
 pub level_joined : {m : ℕ} (g z : ℕ) {b size blocks above below last count length entries : ℕ} (x : ℕ → ℕ)
     {y after w : ℕ → ℕ} → CanJoin size blocks above below last count length
-    → (b + 1) * (count / 2) ≤ entries → AreTwiddles m g z entries w → IsLevel m g z b blocks size (λ k. 2 ^ below * x k) y
+    → (b + 1) * (count / 2) ≤ entries → AreTwiddles m g z entries w → IsLevel m g z b blocks size (λ k. 2 ^ below * x k)
+    y
     → StageDone (λ p. IsPairJoin m (w (b * (blocks / 2) + p))) size (blocks / 2) y after
     → IsLevel m g z b (blocks / 2) (size * 2) (λ k. 2 ^ suc below * x k) after
 level_joined g z {b} {size} {blocks} {below = below} x {y} {after} {w} can room twiddles before stage =
     let few = mul-le-mul_left (b + 1) can.few in
     let twice : size + size ≡ size * 2 = omega arith in
-    rw (twice, ← two-pow-succ below) at (level_above_of b (blocks / 2) size (2 ^ below) x y after w (omega (arith, few, room))
+    rw (twice, ← two-pow-succ below) at (level_above_of b (blocks / 2) size (2 ^ below) x y after w
+    (omega (arith, few, room))
     twiddles (rw can.even at before) stage)
 
 -- after the last stage
@@ -107,5 +111,6 @@ level_top {m} g z {b} {size} {blocks} {above} {below} {count = count} x {y} tree
     let first : f 0 ≡ 2 ^ below * x i = grind (arith, pow-zero) in
     let sum : sum_below blocks f ≡ f 0 = grind (arith, sum_below-suc 0 f, sum_below-zero f) in
     let power : 2 ^ below ≡ count = grind (arith, tree.counted) in
-    mod_trans (mod_of_eq (ap y (let e : i ≡ 0 * size + i = omega arith in e))) (mod_trans (level.each 0 i (omega (arith, one))
+    mod_trans (mod_of_eq (ap y (let e : i ≡ 0 * size + i = omega arith in e)))
+    (mod_trans (level.each 0 i (omega (arith, one))
     (omega (arith, full, l))) (mod_of_eq (omega (arith, sum, first, ap (λ v. v * x i) power))))

@@ -29,10 +29,10 @@ sum_doubled (suc n) f =
     )
 
 -- the terms 2 * k and 2 * k + 1 of the sum by a root v of c
-two_terms : {m : ℕ} (half i v c k : ℕ) (x : ℕ → ℕ) → Congruent m (v * v) c
+term_pair_by_square_root : {m : ℕ} (half i v c k : ℕ) (x : ℕ → ℕ) → Congruent m (v * v) c
     → Congruent m (x ((2 * k) * half + i) * v ^ (2 * k) + x ((2 * k + 1) * half + i) * v ^ (2 * k + 1))
     (x (k * (half + half) + i) * c ^ k + v * (x (k * (half + half) + (half + i)) * c ^ k))
-two_terms {m} half i v c k x root =
+term_pair_by_square_root {m} half i v c k x root =
     let square : Congruent m (v ^ (2 * k)) (c ^ k) = mod_trans (mod_of_eq (sym (pow_of_square v k))) (mod_pow k root) in
     let power : v ^ (2 * k + 1) ≡ v ^ (2 * k) * v = pow-add v (2 * k) 1 ∙ ap (λ n. v ^ (2 * k) * n) (pow-one v) in
     mod_add (mod_mul (mod_of_eq (ap x (omega arith))) square)
@@ -50,7 +50,7 @@ level_sum {m} count half i v c x root =
     let b = λ (k : ℕ). x (k * (half + half) + (half + i)) * c ^ k in
     mod_trans (mod_of_eq (sum_doubled count f))
     (mod_trans (sum_below-congruent count (λ k. f (2 * k) + f (2 * k + 1)) (λ k. a k + v * b k)
-    (λ k l. two_terms half i v c k x root))
+    (λ k l. term_pair_by_square_root half i v c k x root))
     (mod_of_eq (sum_below-add count a (λ k. v * b k) ∙ ap (λ s. sum_below count a + s) (sum_below-mul count v b))))
 
 -- the reversed bits of a block with u bits, and of its halves
@@ -112,7 +112,8 @@ constants_of_halves {m} g (suc u) count p w twiddles below =
           (mod_trans (mod_mul (mod_refl t) minus.and_one) (mod_of_eq (omega arith))));
       inverse = g ^ (2 ^ u - r) * h;
       unit = mod_trans (mod_mul entry (mod_refl _)) (mod_trans (mod_of_eq
-          ((let e : t * (g ^ (2 ^ u - r) * h) ≡ t * g ^ (2 ^ u - r) * h = omega arith in e) ∙ ap (λ v. v * h) up)) square);
+          ((let e : t * (g ^ (2 ^ u - r) * h) ≡ t * g ^ (2 ^ u - r) * h = omega arith in e) ∙ ap (λ v. v * h) up))
+          square);
     }
 
 -- coefficient i of the remainder for block q of the tree, of a polynomial with the coefficients x
@@ -136,11 +137,13 @@ level_pair {m} {g} {z} {entries} {y} {v} {sum} {difference} {w} q count half i x
     let a = coefficient_at g z count (half + half) x q i in
     let d = coefficient_at g z count (half + half) x q (half + i) in
     let left : Congruent m (difference + v * w q) (a + odd * d + v * w q) =
-    mod_trans pair.subtracted (mod_trans first (mod_sym (mod_trans (mod_add (mod_refl (a + odd * d)) (mod_mul second (mod_refl (w q))))
+    mod_trans pair.subtracted
+    (mod_trans first (mod_sym (mod_trans (mod_add (mod_refl (a + odd * d)) (mod_mul second (mod_refl (w q))))
     (mod_trans (mod_of_eq (let e : a + odd * d + d * w q ≡ a + (odd + w q) * d = omega arith in e))
     (mod_trans (mod_add (mod_refl a) (mod_mul are.opposite (mod_refl d))) (mod_of_eq (omega arith))))))) in (
       mod_trans pair.summed (mod_trans (mod_add first (mod_trans (mod_mul second (mod_sym are.even_is))
-          (mod_of_eq (let e : d * even ≡ even * d = omega arith in e)))) (mod_sym (level_sum count half i even _ x are.root))),
+          (mod_of_eq (let e : d * even ≡ even * d = omega arith in e))))
+          (mod_sym (level_sum count half i even _ x are.root))),
       mod_trans (mod_add_cancel (v * w q) left) (mod_sym (level_sum count half i odd _ x are.odd_root)),
     )
 

@@ -60,7 +60,7 @@ first_of_twiddles {m} g z count v w twiddles some is =
     grind arith
 
 -- the place are_mirrored in its power of two, as words have it
-pub mirrored_place : (k q power : ℕ) → 2 ^ k ≤ q → q < 2 * 2 ^ k → q < 18446744073709551616
+pub place_and_mirror_sum : (k q power : ℕ) → 2 ^ k ≤ q → q < 2 * 2 ^ k → q < 18446744073709551616
     → power ≡ (1 * 2 ^ k) % 18446744073709551616
     → q + (power + (power - 1 - (q - power))) + 1 ≡ 3 * 2 ^ k
-mirrored_place k q power least most fits is = omega (arith, mod-eq_of_lt)
+place_and_mirror_sum k q power least most fits is = omega (arith, mod-eq_of_lt)

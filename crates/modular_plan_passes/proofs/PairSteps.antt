@@ -11,10 +11,10 @@ use Rattle.modular_plan_passes.specs.Steps.{IsPairSplit, PairDone, BlockDone, St
 use Rattle.modular_plan_passes.proofs.Entries.{number_written, number_not_written}
 
 -- the sum and the difference of a pair
-pub pair_of : {m : ℕ} (w a b t rest sum difference : ℕ) → Congruent m t (b * w) → rest + t ≡ 2 * m
+pub sum_and_difference_are_split : {m : ℕ} (w a b t rest sum difference : ℕ) → Congruent m t (b * w) → rest + t ≡ 2 * m
     → sum ≡ a + t → difference ≡ a + rest
     → IsPairSplit m w a b sum difference
-pair_of {m} w a b t rest sum difference is_t is_rest is_sum is_difference =
+sum_and_difference_are_split {m} w a b t rest sum difference is_t is_rest is_sum is_difference =
     let whole : difference + t ≡ a + 2 * m = omega arith in
     record {
       summed = mod_trans (mod_of_eq is_sum) (mod_add (mod_refl a) is_t);
@@ -32,9 +32,9 @@ pub reduced_by : {m : ℕ} (k x bound r : ℕ) → r ≡ x % bound → bound ≡
 reduced_by {m} k x bound r is is_bound = record { same = grind (arith, mod_of_multiple_left m k x) }
 
 -- a pair that was reduced before
-pub pair_along : {m : ℕ} (w a b x y sum difference : ℕ) → Congruent m x a → Congruent m y b
+pub split_of_congruent_values : {m : ℕ} (w a b x y sum difference : ℕ) → Congruent m x a → Congruent m y b
     → IsPairSplit m w x y sum difference → IsPairSplit m w a b sum difference
-pair_along {m} w a b x y sum difference first second pair =
+split_of_congruent_values {m} w a b x y sum difference first second pair =
     search (arith, mod_trans, mod_add, mod_mul, mod_refl, mod_sym)
 
 -- .. and one that is reduced afterwards
@@ -44,11 +44,11 @@ pub pair_up_to : {m : ℕ} (w a b sum difference sum' difference' : ℕ) → Con
 pair_up_to {m} w a b sum difference sum' difference' first second pair = grind (arith, mod_trans, mod_add, mod_refl)
 
 -- what a pair writes
-pub pair_written : {T : Type 0} (number : T → ℕ) (R : ℕ → ℕ → ℕ → ℕ → Type 0) (words : List T) (low high : ℕ)
+pub pair_done_by_two_writes : {T : Type 0} (number : T → ℕ) (R : ℕ → ℕ → ℕ → ℕ → Type 0) (words : List T) (low high : ℕ)
     (sum difference : T) → low < high → high < length words
     → R (numbers number words low) (numbers number words high) (number sum) (number difference)
     → PairDone R low high (numbers number words) (numbers number (set (set words high difference) low sum))
-pair_written number R words low high sum difference order within pair =
+pair_done_by_two_writes number R words low high sum difference order within pair =
     grind (arith, set, length-set, number_written, number_not_written)
 
 pair_moved : (R : ℕ → ℕ → ℕ → ℕ → Type 0) {a b s d a' b' s' d' : ℕ} → a ≡ a' → b ≡ b' → s ≡ s'

@@ -1,4 +1,5 @@
--- Blocks whose indexes have the same highest bit: their factors, read from the ends of parts of a table, and the stage of
+-- Blocks whose indexes have the same highest bit: their factors, read from the ends of parts of a table, and the stage
+-- of
 -- one run of blocks after another.
 use Rattle.std.proofs.Common.{◌≡◌, ℕ, suc, ◌+◌, ◌-◌, ◌*◌, ◌^◌, ◌<◌, ◌≤◌, List, ◌++◌, get_or, length, inl, inr}
 use Rattle.std.proofs.Common.{arith, length-append}
@@ -31,7 +32,8 @@ read_at_end {F} {value} {table} {part} front back i place x of is at within read
     grind (arith, length-append, number_behind, number_read)
 
 -- the entries at the mirrored indexes of a block and of its halves
-pub mirrored_inverses : {m : ℕ} (g z count k place other : ℕ) (w : ℕ → ℕ) → AreTwiddles m g z count w → 2 * place + 1 < count
+pub mirrored_inverses : {m : ℕ} (g z count k place other : ℕ) (w : ℕ → ℕ) → AreTwiddles m g z count w
+    → 2 * place + 1 < count
     → 2 ^ k ≤ place → place < 2 * 2 ^ k → place + other + 1 ≡ 3 * 2 ^ k
     → AreMinusInverses m (w place) (w (2 * place)) (w (2 * place + 1)) (w other) (w (2 * other + 1)) (w (2 * other))
 mirrored_inverses {m} g z count k place other w twiddles within least most sum =

@@ -15,16 +15,16 @@ pow2_injective (suc a) (suc b) e =
     ap (λ n. suc n) (pow2_injective a b (omega (arith, e, two-pow-succ a, two-pow-succ b)))
 
 -- half of a power of two that is even
-half_of : (z n : ℕ) → 2 * n ≡ 2 ^ z → IsPowerOfTwo n
-half_of zero n e = let one : 2 ^ 0 ≡ 1 = refl in absurd (omega (arith, e, one))
-half_of (suc z) n e = let two = two-pow-succ z in (z, omega (arith, e, two))
+halved_power_is_power : (z n : ℕ) → 2 * n ≡ 2 ^ z → IsPowerOfTwo n
+halved_power_is_power zero n e = let one : 2 ^ 0 ≡ 1 = refl in absurd (omega (arith, e, one))
+halved_power_is_power (suc z) n e = let two = two-pow-succ z in (z, omega (arith, e, two))
 
-pub half_power : {n : ℕ} → IsPowerOfTwo (2 * n) → IsPowerOfTwo n
-half_power {n} p = half_of p.0 n p.1
+pub half_is_power_of_two : {n : ℕ} → IsPowerOfTwo (2 * n) → IsPowerOfTwo n
+half_is_power_of_two {n} p = halved_power_is_power p.0 n p.1
 
 -- the exponent of the length of a table
-pub exponent : (z n bits : ℕ) → 2 ^ z ≡ 2 * n → n ≡ 2 ^ bits → (bits ≡ z - 1) × (n ≡ 2 ^ z / 2)
-exponent z n bits e whole =
+pub half_has_previous_exponent : (z n bits : ℕ) → 2 ^ z ≡ 2 * n → n ≡ 2 ^ bits → (bits ≡ z - 1) × (n ≡ 2 ^ z / 2)
+half_has_previous_exponent z n bits e whole =
     let same : 2 ^ z ≡ 2 ^ suc bits = omega (arith, e, whole) in
     let z_is : z ≡ suc bits = pow2_injective z (suc bits) same in
     (omega arith, omega (arith, e))

@@ -11,7 +11,8 @@ pub record IsTreeLevel (size blocks above below last count length : ℕ) : Type 
   pub whole : count * last ≡ length
   pub some : 1 ≤ last
 
-pub blocks_fill : {size blocks above below last count length : ℕ} → IsTreeLevel size blocks above below last count length
+pub blocks_fill : {size blocks above below last count length : ℕ} → IsTreeLevel size blocks above below last count
+    length
     → blocks * size ≡ length
 blocks_fill {blocks = blocks} {below = below} {last = last} level =
     omega (arith, ap (λ v. blocks * v) level.sized, ap (λ v. v * last) level.counted, level.whole)
@@ -37,7 +38,17 @@ has_stage {size = size} {blocks = blocks} {above = above} {below = suc below} {l
     let twice : size ≡ size / 2 + size / 2 = omega (arith, level.sized, spread) in
     let whole = ap (λ v. blocks * v) (sym twice) ∙ blocks_fill level in
     let some : 1 ≤ size / 2 = omega (arith, level.sized, spread, least, level.some) in
-    grind (arith, whole, mul-le-mul_left blocks some, counts, spread, least, mul-le-mul_left blocks power, two-pow-succ above)
+    grind (
+      arith,
+      whole,
+      mul-le-mul_left blocks some,
+      counts,
+      spread,
+      least,
+      mul-le-mul_left blocks power,
+      two-pow-succ
+          above,
+    )
 
 -- a level with two stages below it
 pub record HasTwoStages (size blocks above below last count length : ℕ) : Type 0 where
@@ -49,7 +60,8 @@ pub record HasTwoStages (size blocks above below last count length : ℕ) : Type
   pub fits : blocks * 4 ≤ length
 
 pub has_two_stages : {size blocks above below last count length : ℕ}
-    → IsTreeLevel size blocks above below last count length → 1 < below → HasTwoStages size blocks above below last count length
+    → IsTreeLevel size blocks above below last count length → 1 < below → HasTwoStages size blocks above below last
+    count length
 has_two_stages {size} {blocks} {below = below} level more =
     let one = has_stage level (omega arith) in
     let two = has_stage one.next (omega arith) in
@@ -113,7 +125,8 @@ pub record CanJoinTwo (size blocks above below last count length : ℕ) : Type 0
   pub few : blocks / 4 * 2 ≤ count / 2
   pub fits : size * 4 ≤ length
 
-pub can_join_two : {size blocks above below last count length : ℕ} → IsTreeLevel size blocks above below last count length
+pub can_join_two : {size blocks above below last count length : ℕ} → IsTreeLevel size blocks above below last count
+    length
     → 2 < blocks → CanJoinTwo size blocks above below last count length
 can_join_two {size} {blocks} {above} tree more =
     let beyond = above_two tree more in
@@ -127,5 +140,6 @@ pub one_block : {size blocks above below last count length : ℕ} → IsTreeLeve
     → length ≤ size → 0 < length → blocks ≡ 1
 one_block {above = zero} tree full some = tree.blocks_are
 one_block {size = size} {blocks = blocks} {above = suc above} tree full some =
-    let more = mul-le-mul_right size (let k : 2 ≤ blocks = omega (arith, tree.blocks_are, two-pow-succ above, pow_pos above) in k) in
+    let more = mul-le-mul_right size (let k : 2 ≤ blocks =
+    omega (arith, tree.blocks_are, two-pow-succ above, pow_pos above) in k) in
     absurd (omega (arith, more, blocks_fill tree, full, some))

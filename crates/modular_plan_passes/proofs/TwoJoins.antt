@@ -33,7 +33,8 @@ level_two_above {m} {g} {z} {entries} b count q s x y after w room twiddles befo
       (moved_to y (at i) (omega arith) (omega arith) (before.each (4 * p + 2) i (omega arith) li))
       (moved_to y (at i) (omega arith) (omega arith) (before.each (4 * p + 3) i (omega arith) li)) four.high in
       let outer = joined_pair block count (q + q) (s + s) i x twiddles (omega (arith, below)) low.0 high.0 four.first in
-      let inner = joined_pair block count (q + q) (s + s) (q + i) x twiddles (omega (arith, below)) low.1 high.1 four.second in
+      let inner = joined_pair block count (q + q) (s + s) (q + i) x twiddles (omega (arith, below)) low.1 high.1
+      four.second in
       (outer.0, inner.0, outer.1, inner.1) in
       of_halves P (q + q) e le (λ f lf. of_halves P q f lf (λ i l. (all i l).0) (λ i l. (all i l).1))
       (λ f lf. of_halves (λ v. P (q + q + v)) q f lf (λ i l. (all i l).2) (λ i l. (all i l).3));
@@ -42,7 +43,8 @@ level_two_above {m} {g} {z} {entries} b count q s x y after w room twiddles befo
 -- two stages of the loop: to a quarter of the blocks
 pub level_joined_two : {m : ℕ} (g z : ℕ) {b size blocks above below last count length entries : ℕ} (x : ℕ → ℕ)
     {y after w : ℕ → ℕ} → CanJoinTwo size blocks above below last count length
-    → (b + 1) * (count / 2) ≤ entries → AreTwiddles m g z entries w → IsLevel m g z b blocks size (λ k. 2 ^ below * x k) y
+    → (b + 1) * (count / 2) ≤ entries → AreTwiddles m g z entries w → IsLevel m g z b blocks size (λ k. 2 ^ below * x k)
+    y
     → StageOfFours (λ p. IsFourJoin m (w (b * (blocks / 4) + p)) (w (2 * (b * (blocks / 4) + p)))
     (w (2 * (b * (blocks / 4) + p) + 1))) size (blocks / 4) y after
     → IsLevel m g z b (blocks / 4) (size * 4) (λ k. 2 ^ suc (suc below) * x k) after

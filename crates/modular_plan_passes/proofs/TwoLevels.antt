@@ -22,7 +22,8 @@ level_fours {m} {g} {z} {entries} b count q x y after w room twiddles before sta
       let four = stage.fours p i lp li in
       let outer = level_pair block count (q + q) i x twiddles (omega (arith, below)) (before.each p i lp (omega arith))
       (before.each p (q + q + i) lp (omega arith)) four.first in
-      let inner = level_pair block count (q + q) (q + i) x twiddles (omega (arith, below)) (before.each p (q + i) lp (omega arith))
+      let inner = level_pair block count (q + q) (q + i) x twiddles (omega (arith, below))
+      (before.each p (q + i) lp (omega arith))
       (before.each p (q + q + (q + i)) lp (omega arith)) four.second in
       let low = level_pair (2 * block) (count * 2) q i x twiddles (omega (arith, below)) outer.0 inner.0 four.low in
       let high = level_pair (2 * block + 1) (count * 2) q i x twiddles below outer.1 inner.1 four.high in
@@ -37,7 +38,8 @@ level_fours {m} {g} {z} {entries} b count q x y after w room twiddles before sta
 
 -- two stages of the loop
 pub level_after_two : {m : ℕ} (g z : ℕ) {b size blocks above below last count length entries : ℕ} {x y after w : ℕ → ℕ}
-    → HasTwoStages size blocks above below last count length → (b + 1) * (count / 2) ≤ entries → AreTwiddles m g z entries w
+    → HasTwoStages size blocks above below last count length → (b + 1) * (count / 2) ≤ entries
+    → AreTwiddles m g z entries w
     → IsLevel m g z b blocks size x y
     → StageOfFours (λ p. IsFourSplit m (w (b * blocks + p)) (w (2 * (b * blocks + p))) (w (2 * (b * blocks + p) + 1)))
     (size / 4) blocks y after
@@ -45,7 +47,8 @@ pub level_after_two : {m : ℕ} (g z : ℕ) {b size blocks above below last coun
 level_after_two {m} g z {b} {size} {blocks} {x = x} {y} {after} {w} has room twiddles before stage =
     let few = mul-le-mul_left (b + 1) has.few in
     let four : blocks * 2 * 2 ≡ blocks * 4 = omega arith in
-    rw four at (level_fours b blocks (size / 4) x y after w (omega (arith, few, room)) twiddles (rw has.four at before) stage)
+    rw four at (level_fours b blocks (size / 4) x y after w (omega (arith, few, room)) twiddles (rw has.four at before)
+    stage)
 
 -- the entries of the table for two stages
 pub two_rooms : (blocks count b entries : ℕ) → blocks * 2 ≤ count / 2 → (b + 1) * (count / 2) ≤ entries
@@ -82,7 +85,8 @@ whole_fours n last b entries is large power room =
     fours_of_power power.0 n b entries (sym all ∙ power.1) large (rw all at room)
 
 -- the last two stages leave the remainders
-pub remainders_of_split_fours : {m : ℕ} (g z b n last entries : ℕ) (w x y after : ℕ → ℕ) → last ≡ 1 → WholeFours n b entries
+pub remainders_of_split_fours : {m : ℕ} (g z b n last entries : ℕ) (w x y after : ℕ → ℕ) → last ≡ 1
+    → WholeFours n b entries
     → AreTwiddles m g z entries w → IsLevel m g z b (n / 4) 4 x y
     → StageOfFours (λ p. IsFourSplit m (w (b * (n / 4) + p)) (w (2 * (b * (n / 4) + p)))
     (w (2 * (b * (n / 4) + p) + 1))) 1 (n / 4) y after

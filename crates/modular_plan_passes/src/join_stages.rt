@@ -18,7 +18,7 @@ use modular_word::path_word::PathWord;
 use modular_word::ring_word::RingWord;
 
 // The index with the bits below its highest bit 2^k inverted.
-#[tactic(auto, using(crate::proofs::Mirrors::mirrored_place))]
+#[tactic(auto, using(crate::proofs::Mirrors::place_and_mirror_sum))]
 fn mirrored(place: usize) -> usize
     requires { 0 < place }
     ensures { (k : ℕ) × (2 ^ k ≤ place) × (place < 2 * 2 ^ k) × (place + result + 1 ≡ 3 * 2 ^ k) }

@@ -1,4 +1,5 @@
--- The transform back: the entries of a list, in bit-reversed order, are the remainders of the list whose transform it is.
+-- The transform back: the entries of a list, in bit-reversed order, are the remainders of the list whose transform it
+-- is.
 use Rattle.std.proofs.Common.{◌≡◌, ℕ, ◌+◌, ◌*◌, ◌%◌, ◌^◌, ◌<◌, List, length, ap, ◌∙◌, arith}
 use Rattle.modular_word.specs.Congruence.{Congruent}
 use Rattle.modular_word.specs.Inverses.{IsInverse}

@@ -16,7 +16,8 @@ pub record IsPairOfConstants (m g z p w : ℕ) : Type 0 where
 pub odd_constant : {m g z count : ℕ} {w : ℕ → ℕ} (p v : ℕ) → AreTwiddles m g z count w → p < count → v + w p ≡ m
     → Congruent m v (constant g z (2 * p + 1))
 odd_constant {m} {g} {z} {count} {w} p v twiddles below is = mod_add_cancel (w p)
-    (mod_trans (multiple_is_none 1 (v + w p) (omega (arith, is))) (mod_sym (constants_of_halves g z count p w twiddles below).opposite))
+    (mod_trans (multiple_is_none 1 (v + w p) (omega (arith, is)))
+    (mod_sym (constants_of_halves g z count p w twiddles below).opposite))
 
 pub pair_of_constants : {m : ℕ} (g z count p : ℕ) (w : ℕ → ℕ) → AreTwiddles m g z count w → p < count
     → IsPairOfConstants m g z p (w p)
@@ -32,8 +33,8 @@ pub record IsBlock (b count j n : ℕ) : Type 0 where
   pub within : b / 2 * count + (b % 2 * count + j) / 2 < n
   pub rest : b % 2 * count ≤ count
 
-pub block_of : (b count j n : ℕ) → j < count → (b + 1) * count ≤ 2 * n → IsBlock b count j n
-block_of b count j n below room =
+pub halved_block_index_within : (b count j n : ℕ) → j < count → (b + 1) * count ≤ 2 * n → IsBlock b count j n
+halved_block_index_within b count j n below room =
     let parts : b * count ≡ 2 * (b / 2 * count) + b % 2 * count =
     ap (λ v. v * count) (let e : b ≡ 2 * (b / 2) + b % 2 = omega arith in e) ∙ omega arith in
     let rest : b % 2 * count ≤ 1 * count = mul-le-mul_right count (omega arith) in

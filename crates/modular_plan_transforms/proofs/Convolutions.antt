@@ -28,7 +28,8 @@ square_of_constant {m} g z count j w twiddles below =
     by_halves (λ k. Congruent m (constant g z k * constant g z k) (constant g z (j / 2))) j are.root are.odd_root
 
 -- 2^k blocks below block b: their constants_of_halves to that power are that of b
-power_of_constant : {m : ℕ} (g z b k j count : ℕ) (w : ℕ → ℕ) → AreTwiddles m g z count w → (b + 1) * (2 ^ k / 2) ≤ count
+power_of_constant : {m : ℕ} (g z b k j count : ℕ) (w : ℕ → ℕ) → AreTwiddles m g z count w
+    → (b + 1) * (2 ^ k / 2) ≤ count
     → j < 2 ^ k → Congruent m (constant g z (b * 2 ^ k + j) ^ (2 ^ k)) (constant g z b)
 power_of_constant g z b zero j count w twiddles room below = grind (arith, mod_of_eq, pow-one)
 power_of_constant g z b (suc k) j count w twiddles room below =
@@ -56,16 +57,17 @@ pub remainders_of_loose_product : {m : ℕ} (g z b count last entries : ℕ) (w 
     → AreRemainders m g z b count last x (λ i. u i % m) → AreRemainders m g z b count last y v
     → AreProducts m g z b count last u v p
     → AreRemainders m g z b count last (product_modulo m (count * last) (constant g z b) x y) (λ i. p i % m)
-remainders_of_loose_product {m} g z b count last entries w x y u v p power room twiddles first second products = record {
-  each = λ j i lj li.
-      let c = constant g z (b * count + j) in
-      let column = column_of_product count last c (constant g z b) i x y
-      (λ k. u (j * last + k)) (λ k. v (j * last + k)) li
-      (rw power.1 (power_of_constant g z b power.0 j entries w twiddles (rw power.1 at room) (rw power.1 at lj)))
-      (λ a la. record { same = first.each j a lj la })
-      (λ a la. mod_trans (mod_of_eq (second.each j a lj la)) (residue_of _)) in
-      ap (λ n. n % m) (products.each j i lj li) ∙ column.same;
-}
+remainders_of_loose_product {m} g z b count last entries w x y u v p power room twiddles first second products =
+    record {
+      each = λ j i lj li.
+          let c = constant g z (b * count + j) in
+          let column = column_of_product count last c (constant g z b) i x y
+          (λ k. u (j * last + k)) (λ k. v (j * last + k)) li
+          (rw power.1 (power_of_constant g z b power.0 j entries w twiddles (rw power.1 at room) (rw power.1 at lj)))
+          (λ a la. record { same = first.each j a lj la })
+          (λ a la. mod_trans (mod_of_eq (second.each j a lj la)) (residue_of _)) in
+          ap (λ n. n % m) (products.each j i lj li) ∙ column.same;
+    }
 
 -- .. of remainders with remainders
 pub remainders_of_product : {m : ℕ} (g z b count last entries : ℕ) (w x y u v p : ℕ → ℕ) → IsPowerOfTwo count
@@ -105,8 +107,9 @@ joined_product {m} g z b last entries count size part w x y u v p out power whol
     ∙ scaled_back count part _ one ∙ ap (λ n. product_modulo m n (constant g z b) x y e) whole
 
 -- a test of two places is two tests
-both_tests : (n s e v : ℕ) → 0 < n → cond (eqb s e || eqb s (e + n)) v 0 ≡ cond (eqb s e) v 0 + cond (eqb s (e + n)) v 0
-both_tests n s e v some = grind arith
+either_test_is_sum : (n s e v : ℕ) → 0 < n → cond (eqb s e || eqb s (e + n)) v 0 ≡ cond (eqb s e) v 0 + cond
+    (eqb s (e + n)) v 0
+either_test_is_sum n s e v some = grind arith
 
 -- modulo X^n - 1 the product is the product_is_cyclic one
 pub product_is_cyclic : (m n e g z : ℕ) (x y : ℕ → ℕ) → 0 < n
@@ -115,15 +118,17 @@ product_is_cyclic m n e g z x y some =
     let one : constant g z 0 ≡ 1 = ap (λ k. g ^ k) (bits_reversed_of_zero z) ∙ pow-zero g in
     let f = λ (i j : ℕ). cond (eqb (i + j) e) (x i * y j) 0 in
     let h = λ (i j : ℕ). cond (eqb (i + j) (e + n)) (x i * y j) 0 in
-    let sums = sum_below-same n _ _ (λ i l. sum_below-same n _ _ (λ j k. both_tests n (i + j) e (x i * y j) some)
+    let sums = sum_below-same n _ _ (λ i l. sum_below-same n _ _ (λ j k. either_test_is_sum n (i + j) e (x i * y j)
+    some)
     ∙ sum_below-add n (f i) (h i))
     ∙ sum_below-add n (λ i. sum_below n (f i)) (λ i. sum_below n (h i)) in
     grind arith
 
 -- the constant of block 1 is -1
-pub negacyclic : {m : ℕ} (n e g z count : ℕ) (w x y : ℕ → ℕ) → 0 < m → 0 < count → AreTwiddles m g z count w
+pub block_one_is_negacyclic : {m : ℕ} (n e g z count : ℕ) (w x y : ℕ → ℕ) → 0 < m → 0 < count
+    → AreTwiddles m g z count w
     → product_modulo m n (constant g z 1) x y e ≡ product_modulo m n (m - 1) x y e
-negacyclic {m} n e g z count w x y positive some twiddles =
+block_one_is_negacyclic {m} n e g z count w x y positive some twiddles =
     let are = constants_of_halves g z count 0 w twiddles some in
     let one : constant g z 0 ≡ 1 = ap (λ k. g ^ k) (bits_reversed_of_zero z) ∙ pow-zero g in
     let zero_block : Congruent m (constant g z 1 + 1) 0 =

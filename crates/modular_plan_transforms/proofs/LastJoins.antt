@@ -18,7 +18,8 @@ use Rattle.modular_plan_passes.proofs.TreeLevels.{can_join_two}
 use Rattle.modular_plan_passes.proofs.TwoJoins.{level_joined_two, lowest_level}
 
 -- after a list
-pub numbers_past : {T : Type 0} (number : T → ℕ) (words : List T) (k : ℕ) → length words ≤ k → numbers number words k ≡ 0
+pub numbers_past : {T : Type 0} (number : T → ℕ) (words : List T) (k : ℕ) → length words ≤ k
+    → numbers number words k ≡ 0
 numbers_past number words k le = get_or_past (map number words) k 0 (rw (length-map words number) le)
 
 -- a scale that is taken out
@@ -50,12 +51,14 @@ two_entries b count entries no_b four room = omega arith
 
 -- the list that the last pass makes
 pub last_joined : {m : ℕ} (g z b last count length entries s : ℕ) (w x y after : ℕ → ℕ) → 1 ≤ last → b ≡ 0 → count ≡ 4
-    → IsPowerOfTwo count → count * last ≡ length → (b + 1) * (count / 2) ≤ entries → AreTwiddles m g z entries w → w 0 ≡ 1
+    → IsPowerOfTwo count → count * last ≡ length → (b + 1) * (count / 2) ≤ entries → AreTwiddles m g z entries w
+    → w 0 ≡ 1
     → AreRemainders m g z b count last x (λ i. y i % m)
     → ((i : ℕ) → i < last → FourAt (IsFourJoin m 1 1 (w 1)) 0 last i (λ k. y k * s) after)
     → ((k : ℕ) → length ≤ k → after k ≡ y k * s)
     → (i : ℕ) → i < length → Congruent m (after i) (count * x i * s)
-last_joined {m} g z b last count length entries s w x y after some no_b four power whole room twiddles begins are columns
+last_joined {m} g z b last count length entries s w x y after some no_b four power whole room twiddles begins are
+    columns
     past i l =
     let fill : 4 * last ≡ length = ap (λ v. v * last) (sym four) ∙ whole in
     let can = can_join_two (lowest_level some power whole) (omega (arith, four)) in

@@ -2,7 +2,7 @@
 use Rattle.std.proofs.Common.{◌≡◌, ℕ, ◌+◌, ◌-◌, ◌*◌, ◌/◌, ◌%◌, ◌^◌, ◌<◌, List, length, arith, sym}
 use Rattle.std.specs.Int.{trailing_zeros, w64}
 use Rattle.modular_plan_passes.specs.Factors.{AllFactors}
-use Rattle.modular_plan_passes.proofs.Tables.{exponent, half_power}
+use Rattle.modular_plan_passes.proofs.Tables.{half_has_previous_exponent, half_is_power_of_two}
 use Rattle.modular_transform.proofs.PowersOfTwo.{power_by_zeros}
 use Rattle.modular_transform.specs.Transforms.{Suits}
 use Rattle.modular_plan_transforms.proofs.PlanTables.{ArePowers, table_of}
@@ -35,16 +35,18 @@ lent_by_kept {b = b} {m} {g} {value} {quotient} {entries} is =
 
 -- by a plan over them
 pub kept_by_plan : {F : Type 0} (b m g bits : ℕ) (value quotient : F → ℕ) (entries : List F) → length entries < 2 ^ 64
-    → m % 2 ≡ 1 → g < m → 2 * length entries ≡ 2 ^ bits → (g ^ length entries + 1) % m ≡ 0 → AllFactors b m value quotient entries
+    → m % 2 ≡ 1 → g < m → 2 * length entries ≡ 2 ^ bits → (g ^ length entries + 1) % m ≡ 0
+    → AllFactors b m value quotient entries
     → ArePowers m g (bits - 1) value entries → IsKept b m g value quotient entries
 kept_by_plan b m g bits value quotient entries few odd below half turn factors powers =
     let count = length entries in
-    let power = power_by_zeros count (half_power (bits, half)) few in
+    let power = power_by_zeros count (half_is_power_of_two (bits, half)) few in
     record {
       odd = odd;
       below = below;
       power_of_two = power;
       half_turn = turn;
       factors = factors;
-      powers = λ k l. rw (exponent bits count (trailing_zeros w64 count) (sym half) power).0 (powers k l);
+      powers = λ k l. rw (half_has_previous_exponent bits count (trailing_zeros w64 count) (sym half) power).0
+          (powers k l);
     }

@@ -1,5 +1,6 @@
 -- A plan as one value: what its fields say of its table, a root that is tested by its half turn, and shorter plans.
-use Rattle.std.proofs.Common.{◌≡◌, ℕ, suc, zero, ◌+◌, ◌-◌, ◌*◌, ◌/◌, ◌%◌, ◌^◌, ◌<◌, ◌≤◌, ◌↔◌, List, All, length, get_or, map, take}
+use Rattle.std.proofs.Common.{◌≡◌, ℕ, suc, zero, ◌+◌, ◌-◌, ◌*◌, ◌/◌, ◌%◌, ◌^◌, ◌<◌, ◌≤◌, ◌↔◌, List, All, length, get_or}
+use Rattle.std.proofs.Common.{map, take}
 use Rattle.std.proofs.Common.{refl, sym, ap, ◌∙◌, arith, subst}
 use Rattle.std.proofs.Math.Nat.{two-pow-succ, div_self, mod-lt, mod-eq_of_lt, mod-mod, mod_self}
 use Rattle.std.proofs.Math.Nat.{mul_assoc, mul-div_cancel_left}
@@ -8,7 +9,7 @@ use Rattle.std.proofs.lemmas.List.{take-map, get_or-take, length-take-le}
 use Rattle.std.proofs.lemmas.Nat.{pow-add, pow_pos, mul-mod_first, mul-mod_second}
 use Rattle.std.specs.Int.{IsPowerOfTwo}
 use Rattle.modular_word.proofs.Congruence.{mod_of_eq, mod_trans, mod_sym, mod_mul, mod_add, mod_refl, residue_of}
-use Rattle.modular_word.proofs.Divisors.{divides, mod_divides}
+use Rattle.modular_word.proofs.Divisors.{remainder_of_multiple_is_zero, mod_divides}
 use Rattle.modular_word.proofs.Powers.{pow-one}
 use Rattle.modular_word.specs.Congruence.{Congruent}
 use Rattle.modular_word.specs.Inverses.{HasInverse, IsInverse}
@@ -41,8 +42,8 @@ twice_power_of_two z n e = omega (arith, e, two-pow-succ z, ap (λ v. 2 ^ v) (ad
 pub square_of_power : (m g t p q : ℕ) → p ≡ g ^ (2 ^ t) % m → q ≡ (p * p) % m → q ≡ g ^ (2 ^ (t + 1)) % m
 square_of_power m g t p q is square = grind (arith, root_squared g t, mul-mod_first, mul-mod_second)
 
-pub below_modulus : (m p v : ℕ) → 0 < m → p ≡ v % m → p < m
-below_modulus m p v some e = subst (λ n. n < m) (sym e) (mod-lt v some)
+pub field_residue_below_modulus : (m p v : ℕ) → 0 < m → p ≡ v % m → p < m
+field_residue_below_modulus m p v some e = subst (λ n. n < m) (sym e) (mod-lt v some)
 
 -- g suits 2 * n entries where its power p to the exponent n is -1
 pub suits_by_turn : (m g n p : ℕ) → 0 < m → IsPowerOfTwo n → p ≡ g ^ n % m → (p + 1 ≡ m) ↔ Suits m g (2 * n)
@@ -58,7 +59,7 @@ suits_by_turn m g n p some power is =
       λ (suits : Suits m g (2 * n)). grind (
         arith,
         mod-eq_of_lt,
-        below_modulus m p (g ^ n) some is,
+        field_residue_below_modulus m p (g ^ n) some is,
         rw halved at (suits.half_turn (omega (arith, power.1, least))),
       ),
     )
@@ -91,7 +92,7 @@ pub no_inverse_modulo_even : (m n k : ℕ) → 0 < m → m % 2 ≡ 0 → n ≡ 2
 no_inverse_modulo_even m n k some halves is more h =
     let twice : n * h.0 ≡ 2 * (n / 2 * h.0) =
     ap (λ v. v * h.0) (sym (twice_half k n is more)) ∙ mul_assoc 2 (n / 2) h.0 in
-    let product = mod_divides 2 (n * h.0) m halves (divides 2 (n * h.0) (n / 2 * h.0) twice) in
+    let product = mod_divides 2 (n * h.0) m halves (remainder_of_multiple_is_zero 2 (n * h.0) (n / 2 * h.0) twice) in
     let one : 1 % m ≡ 1 = mod-eq_of_lt (omega (arith, some, halves)) in
     omega (arith, product, h.1.one, one)
 

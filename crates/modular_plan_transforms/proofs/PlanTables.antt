@@ -7,7 +7,7 @@ use Rattle.modular_word.proofs.Congruence.{same_rest, factor_cancel}
 use Rattle.modular_word.proofs.Powers.{pow-one}
 use Rattle.modular_plan_passes.specs.Factors.{IsFactor, AllFactors}
 use Rattle.modular_plan_passes.specs.Plans.{numbers, AreTwiddles}
-use Rattle.modular_plan_passes.proofs.Tables.{exponent}
+use Rattle.modular_plan_passes.proofs.Tables.{half_has_previous_exponent}
 use Rattle.modular_transform.specs.Orders.{bits_reversed}
 use Rattle.modular_transform.specs.Transforms.{Suits}
 use Rattle.modular_plan_transforms.specs.Tables.{IsTable}
@@ -16,7 +16,8 @@ use Rattle.modular_plan_transforms.specs.Tables.{IsTable}
 abbrev pub ArePowers : {F : Type 0} → ℕ → ℕ → ℕ → (F → ℕ) → List F → Type 0
 ArePowers m g bits value table = (k : ℕ) → k < length table → numbers value table k ≡ g ^ bits_reversed bits k % m
 
--- a factor with its quotient q: the number that completes q * m to a multiple of the base is below m, and the multiple is
+-- a factor with its quotient q: the number that completes q * m to a multiple of the base is below m, and the multiple
+-- is
 -- by the factor
 pub factor_by_sum : (b m w q low top rest low_sum high : ℕ) → m < b → q * m ≡ low + b * top → (rest + low) % b ≡ 0
     → rest < b → q * m + rest ≡ low_sum + b * high → low_sum < b
@@ -26,7 +27,8 @@ factor_by_sum b m w q low top rest low_sum high small product wrapped rest_fits 
     let some : 0 < b = omega (arith, small) in
     let parts : rest + low ≡ 0 + b * k = omega (arith, wrapped) in
     let spread : b * (top + k) ≡ b * top + b * k = omega arith in
-    let none : low_sum ≡ 0 = same_rest b low_sum 0 high (top + k) low_fits some (omega (arith, sum, product, parts, spread)) in (
+    let none : low_sum ≡ 0 = same_rest b low_sum 0 high (top + k) low_fits some
+    (omega (arith, sum, product, parts, spread)) in (
       λ are.
           record {
             below = are.0;
@@ -57,7 +59,7 @@ power_next m g k power next is e = grind (arith, mul-mod_first, pow-one, pow-add
 pub table_of : {F : Type 0} (b m g bits : ℕ) (value quotient : F → ℕ) (table : List F) → length table ≡ 2 ^ bits
     → Suits m g (2 * length table) → AllFactors b m value quotient table → ArePowers m g bits value table
     → IsTable b m g value quotient table
-table_of b m g bits value quotient table whole suits factors powers = grind (arith, exponent)
+table_of b m g bits value quotient table whole suits factors powers = grind (arith, half_has_previous_exponent)
 
 pub powers_of : {F : Type 0} (b m g bits : ℕ) (value quotient : F → ℕ) (table : List F) → length table ≡ 2 ^ bits
     → IsTable b m g value quotient table → ArePowers m g bits value table

@@ -10,8 +10,8 @@ use Rattle.modular_word.proofs.Congruence.{mod_of_eq, mod_refl, mod_sym, mod_tra
 use Rattle.modular_word.proofs.Powers.{pow-one}
 use Rattle.modular_word.proofs.Sums.{sum_below-zero, sum_below-suc, sum_below-same, sum_below-congruent, sum_below-add}
 use Rattle.modular_word.proofs.Sums.{sum_below-joined, sum_below-of_zeros, sum_below-exchanged, sum_below-times_sum}
-use Rattle.modular_transform.proofs.CyclicProducts.{moved, scaled}
-use Rattle.modular_transform.proofs.PolynomialProducts.{at_place, at_other}
+use Rattle.modular_transform.proofs.CyclicProducts.{outermost_sum_becomes_innermost, factor_out_of_double_sum}
+use Rattle.modular_transform.proofs.PolynomialProducts.{equal_places_keep_value, at_other}
 use Rattle.modular_plan_transforms.specs.Products.{coefficient, product_modulo}
 
 -- at most one term counts
@@ -61,7 +61,7 @@ term_at last i s t n place f li lt ls is = elim (cases_eq t i) [
       let at : place ≡ s * last + i = omega (arith, is, e) in
       sum_only n s (λ k. cond (eqb place (k * last + i)) (f k) 0) ls
       (λ k l ne. at_other place (k * last + i) (f k) (λ h. ne (same_block last k i s t li lt (sym is ∙ h))))
-      ∙ at_place place (s * last + i) (f s) at ∙ sym (at_place t i (f s) e)
+      ∙ equal_places_keep_value place (s * last + i) (f s) at ∙ sym (equal_places_keep_value t i (f s) e)
   | inr ne ↦
       sum_below-of_zeros n (λ k. cond (eqb place (k * last + i)) (f k) 0)
       (λ k l. at_other place (k * last + i) (f k) (λ h. ne (same_column last k i s t li lt (sym is ∙ h))))
@@ -87,23 +87,23 @@ term_of_two last i s t n place f li lt ls is = elim (cases_lt t last) [
 ]
 
 -- a factor of a term
-factor_in : (s e c v : ℕ) → c * cond (eqb s e) v 0 ≡ cond (eqb s e) (v * c) 0
-factor_in s e c v = grind arith
+factor_moves_into_term : (s e c v : ℕ) → c * cond (eqb s e) v 0 ≡ cond (eqb s e) (v * c) 0
+factor_moves_into_term s e c v = grind arith
 
 -- a coefficient times a number, term by term
 scaled_coefficient : (n s c : ℕ) (x y : ℕ → ℕ)
     → coefficient n x y s * c ≡ sum_below n (λ i. sum_below n (λ j. cond (eqb (i + j) s) (x i * y j * c) 0))
 scaled_coefficient n s c x y =
     let t = λ (i j : ℕ). cond (eqb (i + j) s) (x i * y j) 0 in
-    mul_comm _ c ∙ sym (scaled n n c t)
-    ∙ sum_below-same _ _ _ (λ i l. sum_below-same _ _ _ (λ j h. factor_in (i + j) s c (x i * y j)))
+    mul_comm _ c ∙ sym (factor_out_of_double_sum n n c t)
+    ∙ sum_below-same _ _ _ (λ i l. sum_below-same _ _ _ (λ j h. factor_moves_into_term (i + j) s c (x i * y j)))
 
 -- four sums, term by term
-same_four : (count last : ℕ) (f h : ℕ → ℕ → ℕ → ℕ → ℕ)
+quadruple_sums_of_equal_terms : (count last : ℕ) (f h : ℕ → ℕ → ℕ → ℕ → ℕ)
     → ((a d k l : ℕ) → a < last → d < last → k < count → l < count → f a d k l ≡ h a d k l)
     → sum_below last (λ a. sum_below last (λ d. sum_below count (λ k. sum_below count (λ l. f a d k l))))
     ≡ sum_below last (λ a. sum_below last (λ d. sum_below count (λ k. sum_below count (λ l. h a d k l))))
-same_four count last f h same = search (arith, sum_below-same)
+quadruple_sums_of_equal_terms count last f h same = search (arith, sum_below-same)
 
 sum_of_four : (count last : ℕ) (f h : ℕ → ℕ → ℕ → ℕ → ℕ)
     → sum_below last (λ a. sum_below last (λ d. sum_below count (λ k. sum_below count (λ l. f a d k l + h a d k l))))
@@ -120,13 +120,14 @@ sum_of_four count last f h =
 tested_sums : (b : Bool) (count c : ℕ) (f h : ℕ → ℕ) → c * cond b (sum_below count f * sum_below count h) 0
     ≡ sum_below count (λ k. sum_below count (λ l. cond b (f k * h l * c) 0))
 tested_sums true count c f h =
-    ap (λ v. c * v) (sum_below-times_sum count count f h) ∙ sym (scaled count count c (λ k l. f k * h l))
+    ap (λ v. c * v) (sum_below-times_sum count count f h)
+    ∙ sym (factor_out_of_double_sum count count c (λ k l. f k * h l))
     ∙ sum_below-same _ _ _ (λ k t. sum_below-same _ _ _ (λ l s. mul_comm c (f k * h l)))
 tested_sums false count c f h = grind (arith, sum_below-of_zeros)
 
 -- three powers of c in one
-one_power : (c k l e v w : ℕ) → v * c ^ k * (w * c ^ l) * c ^ e ≡ v * w * c ^ (k + l + e)
-one_power c k l e v w =
+three_powers_join : (c k l e v w : ℕ) → v * c ^ k * (w * c ^ l) * c ^ e ≡ v * w * c ^ (k + l + e)
+three_powers_join c k l e v w =
     rw (pow-add c (k + l) e) (rw (pow-add c k l) (omega arith))
 
 -- a coefficient of the product of two remainders
@@ -138,11 +139,11 @@ coefficient_of_remainders : (count last c s e : ℕ) (x y : ℕ → ℕ)
 coefficient_of_remainders count last c s e x y =
     let u = λ (a : ℕ). sum_below count (λ k. x (k * last + a) * c ^ k) in
     let v = λ (d : ℕ). sum_below count (λ l. y (l * last + d) * c ^ l) in
-    sym (scaled last last (c ^ e) (λ a d. cond (eqb (a + d) s) (u a * v d) 0))
+    sym (factor_out_of_double_sum last last (c ^ e) (λ a d. cond (eqb (a + d) s) (u a * v d) 0))
     ∙ sum_below-same _ _ _ (λ a la. sum_below-same _ _ _
     (λ d ld. tested_sums (eqb (a + d) s) count (c ^ e) (λ k. x (k * last + a) * c ^ k) (λ l. y (l * last + d) * c ^ l)
     ∙ sum_below-same _ _ _ (λ k lk. sum_below-same _ _ _ (λ l ll. ap (λ n. cond (eqb (a + d) s) n 0)
-    (one_power c k l e (x (k * last + a)) (y (l * last + d)))))))
+    (three_powers_join c k l e (x (k * last + a)) (y (l * last + d)))))))
 
 -- the coefficients of a product in the product_in_column i, by the powers of c
 product_in_column : (count last c i : ℕ) (x y : ℕ → ℕ) → i < last
@@ -165,9 +166,10 @@ product_in_column count last c i x y li =
     let left : sum_below (count + count) (λ k. coefficient n x y (k * last + i) * c ^ k)
     ≡ four (λ a d k l. inner (k * last + a) (l * last + d)) =
     sum_below-same _ _ _ (λ k l. scaled_coefficient n (k * last + i) (c ^ k) x y)
-    ∙ moved (count + count) n f ∙ two_by_blocks count last inner in
+    ∙ outermost_sum_becomes_innermost (count + count) n f ∙ two_by_blocks count last inner in
     let middle : four (λ a d k l. inner (k * last + a) (l * last + d)) ≡ four (λ a d k l. low a d k l + high a d k l) =
-    same_four count last (λ a d k l. inner (k * last + a) (l * last + d)) (λ a d k l. low a d k l + high a d k l)
+    quadruple_sums_of_equal_terms count last (λ a d k l. inner (k * last + a) (l * last + d))
+    (λ a d k l. low a d k l + high a d k l)
     (λ a d k l la ld lk ll.
     let place : k * last + a + (l * last + d) ≡ (k + l) * last + (a + d) = omega arith in
     let zero_more : k + l + 0 ≡ k + l = omega arith in
@@ -206,7 +208,8 @@ coefficient-congruent : {m : ℕ} (n s : ℕ) (x y u v : ℕ → ℕ) → ((i : 
     → Congruent m (coefficient n x y s) (coefficient n u v s)
 coefficient-congruent {m} n s x y u v first second = search (arith, sum_below-congruent, tested_congruent, mod_mul)
 
--- a product modulo X^n - d, in the product_in_column i: the product of the remainders modulo X^last - c, where c to the count is d
+-- a product modulo X^n - d, in the product_in_column i: the product of the remainders modulo X^last - c, where c to the
+-- count is d
 pub column_of_product : {m : ℕ} (count last c d i : ℕ) (x y u v : ℕ → ℕ) → i < last → Congruent m (c ^ count) d
     → ((a : ℕ) → a < last → Congruent m (u a) (sum_below count (λ k. x (k * last + a) * c ^ k)))
     → ((a : ℕ) → a < last → Congruent m (v a) (sum_below count (λ l. y (l * last + a) * c ^ l)))

@@ -12,8 +12,9 @@ use Rattle.modular_plan_passes.specs.Plans.{constant, AreRemainders}
 use Rattle.modular_plan_passes.proofs.Bounds.{multiple_is_none}
 
 -- the inverse of m, from the negated one
-pub inverse_of_negated : (b m i r : ℕ) → 0 < b → IsNegatedInverse b m i → (r + i) % b ≡ 0 → r < b → IsInverse b m r
-inverse_of_negated b m i r some negated none fits =
+pub opposite_of_negated_is_inverse : (b m i r : ℕ) → 0 < b → IsNegatedInverse b m i → (r + i) % b ≡ 0 → r < b
+    → IsInverse b m r
+opposite_of_negated_is_inverse b m i r some negated none fits =
     let last : b - 1 < b = omega arith in
     let product : Congruent b (m * i) (b - 1) = record { same = negated.product ∙ sym (mod-eq_of_lt last) } in
     let gone : Congruent b (r + i) 0 = record { same = none ∙ sym (mod-eq_of_lt some) } in
@@ -31,7 +32,8 @@ pub record IsReducing (b m t q low high multiple : ℕ) : Type 0 where
   pub fits : q < b
 
 -- the multiple by the inverse of m
-pub is_reducing : {b m i : ℕ} (t q low high p0 multiple : ℕ) → IsInverse b m i → t ≡ low + b * high → t < m * b → low < b
+pub is_reducing : {b m i : ℕ} (t q low high p0 multiple : ℕ) → IsInverse b m i → t ≡ low + b * high → t < m * b
+    → low < b
     → q ≡ (low * i) % b → q < b → q * m ≡ p0 + b * multiple → p0 < b
     → IsReducing b m t q low high multiple
 is_reducing {b} {m} {i} t q low high p0 multiple inverse parts below low_fits is fits multiple_parts p0_fits =
@@ -53,7 +55,8 @@ pub high_words : {b m t q low high multiple : ℕ} → IsReducing b m t q low hi
 high_words {b} {m} {t} {q} {low} {high} {multiple} h = grind arith
 
 -- the difference of the high words, made positive
-pub reduced_congruent : {b m t q low high multiple : ℕ} (rest r : ℕ) → IsReducing b m t q low high multiple → rest + multiple ≡ m
+pub reduced_congruent : {b m t q low high multiple : ℕ} (rest r : ℕ) → IsReducing b m t q low high multiple
+    → rest + multiple ≡ m
     → r ≡ high + rest → Congruent m (r * b) t
 reduced_congruent {b} {m} {t} {q} {low} {high} {multiple} rest r h is_rest is =
     let whole : r * b + q * m ≡ t + b * m =

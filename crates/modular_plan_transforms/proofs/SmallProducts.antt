@@ -71,14 +71,15 @@ block_multiplied {m} j turned c x y before after is kept step i below =
     ]
 
 -- one more block
-pub pairs_more : {m : ℕ} (j turned : ℕ) (c x y before after : ℕ → ℕ) → Congruent m turned (before (2 * j + 1) * c j)
+pub next_block_is_product : {m : ℕ} (j turned : ℕ) (c x y before after : ℕ → ℕ)
+    → Congruent m turned (before (2 * j + 1) * c j)
     → ((k : ℕ) → j * 2 ≤ k → before k ≡ x k)
     → PairDone (λ u v s t. IsPairProduct m turned (y (2 * j)) (y (2 * j + 1)) u v s t) (2 * j) (2 * j + 1) before after
     → ((k i : ℕ) → k < j → i < 2
     → before (k * 2 + i) ≡ product_modulo m 2 (c k) (λ e. x (k * 2 + e)) (λ e. y (k * 2 + e)) i)
     → (k i : ℕ) → k < j + 1 → i < 2
     → after (k * 2 + i) ≡ product_modulo m 2 (c k) (λ e. x (k * 2 + e)) (λ e. y (k * 2 + e)) i
-pairs_more {m} j turned c x y before after is kept step done k i lk li = elim (cases_eq k j) [
+next_block_is_product {m} j turned c x y before after is kept step done k i lk li = elim (cases_eq k j) [
   | inl e ↦ rw e (block_multiplied j turned (c j) x y before after is kept step i li)
   | inr ne ↦ step.kept (k * 2 + i) (omega arith) (omega arith) ∙ done k i (omega arith) li
 ]

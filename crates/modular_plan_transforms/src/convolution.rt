@@ -51,7 +51,7 @@ fn split_first<T: PlainWord, F: PlanEntry<T>>(
 // Multiplies the blocks as `multiply` does, and joins the products as `join_scaled` does. For odd m, single entries
 // are multiplied by Montgomery's reduction, which accepts any words in the first list. It divides by the base, so
 // that the factor is multiplied by the base.
-#[tactic(auto, using(crate::proofs::Reductions::inverse_of_negated))]
+#[tactic(auto, using(crate::proofs::Reductions::opposite_of_negated_is_inverse))]
 fn join_products<T: PlainWord, F: PlanEntry<T>>(
     m: &PlannedModulus<T>,
     xs: &mut [T],

@@ -50,7 +50,7 @@ fn reduced_product<T: PlainWord>(m: &PlannedModulus<T>, inverse: T, x: T, y: T) 
 
 // Replaces each entry of xs, which may be any word, by a number below 2m that is congruent to its product with the
 // entry of ys, divided by the base.
-#[tactic(auto, using(modular_plan_passes::proofs::Entries::bounded, modular_plan_passes::proofs::Entries::number_read, modular_plan_passes::proofs::Entries::never_beyond))]
+#[tactic(auto, using(modular_plan_passes::proofs::Entries::entry_below_common_bound, modular_plan_passes::proofs::Entries::number_read, modular_plan_passes::proofs::Entries::never_beyond))]
 pub(crate) fn reduce_products<T: PlainWord>(
     m: &PlannedModulus<T>,
     inverse: T,
@@ -105,7 +105,7 @@ fn times_constant<T: PlainWord, F: PlanEntry<T>>(
 }
 
 // Multiplies the polynomial x_0 + x_1·X at an index by that of the other list, modulo X^2 - c, given x_1·c.
-#[tactic(auto, using(modular_plan_passes::proofs::Entries::bounded, modular_plan_passes::proofs::Entries::number_read))]
+#[tactic(auto, using(modular_plan_passes::proofs::Entries::entry_below_common_bound, modular_plan_passes::proofs::Entries::number_read))]
 fn multiply_pair<T: PlainWord>(
     m: &PlannedModulus<T>,
     xs: &mut [T],

@@ -15,7 +15,7 @@ use modular_word::path_word::PathWord;
 use modular_word::ring_word::RingWord;
 
 // The power of g to the exponent `count`, below m, by squarings.
-#[tactic(auto, using(crate::proofs::PlanFields::below_modulus, crate::proofs::PlanFields::square_of_power))]
+#[tactic(auto, using(crate::proofs::PlanFields::field_residue_below_modulus, crate::proofs::PlanFields::square_of_power))]
 pub(crate) fn power<T: PlainWord>(m: &PlannedModulus<T>, g: T, count: usize) -> T
     requires below { T.number g < T.number m.now.modulus }
     requires power_of_two { IsPowerOfTwo count }
@@ -37,7 +37,7 @@ fn is_minus_one<T: PlainWord>(m: &PlannedModulus<T>, x: T) -> bool
 }
 
 // Whether g is below m and suits transforms of 2·count entries.
-#[tactic(auto, using(modular_plan_passes::proofs::Tables::half_power, modular_transform::proofs::PowersOfTwo::power_of_two_tested))]
+#[tactic(auto, using(modular_plan_passes::proofs::Tables::half_is_power_of_two, modular_transform::proofs::PowersOfTwo::power_of_two_tested))]
 pub(crate) fn suits<T: PlainWord>(m: &PlannedModulus<T>, g: T, count: usize) -> bool
     ensures { IsTrue result ↔ ((T.number g < T.number m.now.modulus)
         × Suits (T.number m.now.modulus) (T.number g) (2 * count)) }
@@ -66,7 +66,7 @@ fn halved<T: PlainWord>(m: &PlannedModulus<T>, x: T) -> T
 }
 
 // The inverse of 2^bits modulo an odd m, by halvings of 1.
-#[tactic(auto, using(crate::proofs::PlanFields::below_modulus, crate::proofs::PlanFields::half_inverse))]
+#[tactic(auto, using(crate::proofs::PlanFields::field_residue_below_modulus, crate::proofs::PlanFields::half_inverse))]
 pub(crate) fn inverse_of_power<T: PlainWord>(m: &PlannedModulus<T>, bits: u32) -> T
     requires { T.number m.now.modulus % 2 ≡ 1 }
     ensures { IsInverse (T.number m.now.modulus) (2 ^ bits) (T.number result) }

@@ -12,7 +12,8 @@ use Rattle.modular_word.specs.Inverses.{IsInverse, IsInversion}
 use Rattle.modular_word.specs.Reduction.{IsReduction}
 use Rattle.modular_word.proofs.Congruence.{mod_of_eq, mod_refl, mod_sym, mod_trans, mod_add, mod_mul, mod_pow}
 use Rattle.modular_word.proofs.Congruence.{mod_add_cancel, mod_mul_cancel}
-use Rattle.modular_word.proofs.Divisors.{divides, divides_sum, divides_rest, divides_product, multiple_of}
+use Rattle.modular_word.proofs.Divisors.{remainder_of_multiple_is_zero, divides_sum, divides_rest, divides_product}
+use Rattle.modular_word.proofs.Divisors.{multiple_of}
 use Rattle.modular_word.proofs.Divisors.{Coprime-from_IsInverse}
 use Rattle.modular_word.proofs.Powers.{one-pow}
 use Rattle.modular_prim.specs.Differences.{CongruentBySign, IsDifferencePair, PairFits}
@@ -23,7 +24,7 @@ zeros_step : (n k t : ℕ) → (n / 2) % 2 ^ t ≡ 0 → (r : ℕ) → r ≡ n %
 zeros_step n k t h zero e =
     let q = n / 2 / 2 ^ t in
     let scaled : 2 ^ suc t * q ≡ 2 ^ t * 2 * q = ap (λ v. v * q) (pow-suc _ _) in
-    divides (2 ^ suc t) n q (omega arith)
+    remainder_of_multiple_is_zero (2 ^ suc t) n q (omega arith)
 zeros_step n k t h (suc r) e = ap (λ v. n % v) (pow-zero 2) ∙ mod-one n
 
 pub zeros_divide : (w n : ℕ) → n % 2 ^ count_trailing_zeros w n ≡ 0
@@ -33,7 +34,8 @@ zeros_divide (suc w) n = zeros_step n w (count_trailing_zeros w (n / 2)) (zeros_
 
 -- a power of at most the width divides the base
 base_divided : (w t : ℕ) → t ≤ w → 2 ^ w % 2 ^ t ≡ 0
-base_divided w t h = divides _ _ _ (ap (λ v. 2 ^ v) (let s : w ≡ t + (w - t) = omega arith in s) ∙ pow-add 2 t (w - t))
+base_divided w t h = remainder_of_multiple_is_zero _ _ _ (ap (λ v. 2 ^ v) (let s : w ≡ t + (w - t) = omega arith in s)
+    ∙ pow-add 2 t (w - t))
 
 -- v is the difference of a and b modulo the base, 2 ^ w: its zeros are those of the difference d
 zeros_of_wrapped : (w base v a b t : ℕ) → base ≡ 2 ^ w → (v + b) % base ≡ a → t ≡ count_trailing_zeros w v
@@ -63,13 +65,14 @@ pub Without-of_quotient : (d t o : ℕ) → 0 < d → d % 2 ^ t ≡ 0 → o ≡ 
 Without-of_quotient d t o p h e = grind (arith, multiple_of, mul-le-mul_left, pow_pos, mul-le-mul_right)
 
 -- the power is one of fewer bits than the number has
-pub fewer_zeros : (w d t o : ℕ) → Without d t o → d < 2 ^ w → t < w
-fewer_zeros w d t o h l = grind (arith, pow-le-pow_right, mul-le-mul_right)
+pub removed_twos_below_width : (w d t o : ℕ) → Without d t o → d < 2 ^ w → t < w
+removed_twos_below_width w d t o h l = grind (arith, pow-le-pow_right, mul-le-mul_right)
 
 -- ---- signs
-turned_twice : (m : ℕ) (s : Bool) (p q : ℕ) → CongruentBySign m s p q → CongruentBySign m (not (not s)) p q
-turned_twice m true p q h = h
-turned_twice m false p q h = h
+double_negation_keeps_congruence : (m : ℕ) (s : Bool) (p q : ℕ) → CongruentBySign m s p q
+    → CongruentBySign m (not (not s)) p q
+double_negation_keeps_congruence m true p q h = h
+double_negation_keeps_congruence m false p q h = h
 
 pub scaled_by_sign : (m : ℕ) (s : Bool) (p q c : ℕ) → CongruentBySign m s p q → CongruentBySign m s (p * c) (q * c)
 scaled_by_sign m true p q c h =
@@ -77,20 +80,22 @@ scaled_by_sign m true p q c h =
     mod_trans (mod_of_eq (omega arith)) (mod_trans (mod_mul h (mod_refl _)) (mod_of_eq z))
 scaled_by_sign m false p q c h = mod_mul h (mod_refl c)
 
-pub difference_by_sign : (m : ℕ) (s : Bool) (d b a p q : ℕ) → d + b ≡ a → CongruentBySign m s a p → CongruentBySign m (not s) b q
+pub difference_congruent_by_sign : (m : ℕ) (s : Bool) (d b a p q : ℕ) → d + b ≡ a → CongruentBySign m s a p
+    → CongruentBySign m (not s) b q
     → CongruentBySign m s d (p + q)
-difference_by_sign m true d b a p q e h l =
+difference_congruent_by_sign m true d b a p q e h l =
     let g : d + p + b ≡ a + p = omega arith in
     mod_trans (mod_of_eq (omega arith)) (mod_trans (mod_add (mod_refl _) (mod_sym l)) (mod_trans (mod_of_eq g) h))
-difference_by_sign m false d b a p q e h l =
+difference_congruent_by_sign m false d b a p q e h l =
     let g : d + (b + q) ≡ a + q = omega arith in
     mod_trans (mod_of_eq (omega arith)) (mod_trans (mod_add (mod_refl _) (mod_sym l))
     (mod_trans (mod_of_eq g) (mod_add h (mod_refl _))))
 
 -- ---- a turn of the loop
 -- the numbers change places
-pub pair_turned : (m x a b u v k : ℕ) (s : Bool) → IsDifferencePair m x a b u v k s → IsDifferencePair m x b a v u k (not s)
-pair_turned m x a b u v k s p = grind (arith, turned_twice)
+pub pair_turned : (m x a b u v k : ℕ) (s : Bool) → IsDifferencePair m x a b u v k s
+    → IsDifferencePair m x b a v u k (not s)
+pair_turned m x a b u v k s p = grind (arith, double_negation_keeps_congruence)
 
 pub fits_turned : (base a b u v k : ℕ) → PairFits base a b u v k → PairFits base b a v u k
 fits_turned base a b u v k f = omega arith
@@ -111,7 +116,7 @@ pair_next m x a b u v k d t o u' v' s e h eu ev p =
     let ex : u' * x ≡ u * x + v * x = ap (λ n. n * x) eu ∙ omega arith in
     let eb : b * 2 ^ (k + t) ≡ b * 2 ^ k * 2 ^ t = ap (λ n. b * n) (pow-add _ _ _) ∙ omega arith in
     let ey : v' * x ≡ v * x * 2 ^ t = ap (λ n. n * x) ev ∙ omega arith in
-    let sum = difference_by_sign _ _ (d * 2 ^ k) (b * 2 ^ k) (a * 2 ^ k) _ _ ed p.above p.below in
+    let sum = difference_congruent_by_sign _ _ (d * 2 ^ k) (b * 2 ^ k) (a * 2 ^ k) _ _ ed p.above p.below in
     record {
       whole = grind (arith, factors_same);
       above = rw (eo, ex) sum;
@@ -160,7 +165,8 @@ ordered_above base a b u v k d y f t s l h el differ fits e even ey ef = grind (
 
 pub ordered_below : (base a b u v k d y f t : ℕ) (s l : Bool) → PairFits base a b u v k → l ≡ true → a ≢ b → b < base
     → d + a ≡ b → d % 2 ^ t ≡ 0 → y ≡ a → f ≡ u → Ordered base a b u v k d y f t s (not (beq s l))
-ordered_below base a b u v k d y f t s l h el differ fits e even ey ef = grind (arith, fits_turned, other_sign, pair_turned)
+ordered_below base a b u v k d y f t s l h el differ fits e even ey ef =
+    grind (arith, fits_turned, other_sign, pair_turned)
 
 -- the shift of a turn fits
 pub shift_fits : (base a b u v k d t o : ℕ) → d + b ≡ a → Without d t o → PairFits base a b u v k → v * 2 ^ t < base
@@ -171,12 +177,13 @@ shift_fits base a b u v k d t o e h f =
 -- the twos are fewer than two words have
 pub few_twos : (w base a b u v k : ℕ) → base ≡ 2 ^ w → PairFits base a b u v k → k < w + w
 few_twos w base a b u v k eb f =
-    let double : 2 ^ (w + w) ≡ base * base = pow-add _ _ _ ∙ ap (λ n. n * 2 ^ w) (sym eb) ∙ ap (λ n. base * n) (sym eb) in
+    let double : 2 ^ (w + w) ≡ base * base = pow-add _ _ _ ∙ ap (λ n. n * 2 ^ w) (sym eb)
+    ∙ ap (λ n. base * n) (sym eb) in
     grind (arith, pow-le-pow_right)
 
 -- ---- the first and the last pair
-pub first_pair : (m x t o u v : ℕ) → Without x t o → u ≡ 1 → v ≡ 0 → IsDifferencePair m x o m u v t false
-first_pair m x t o u v h eu ev =
+pub start_is_difference_pair : (m x t o u v : ℕ) → Without x t o → u ≡ 1 → v ≡ 0 → IsDifferencePair m x o m u v t false
+start_is_difference_pair m x t o u v h eu ev =
     let vx : v * x ≡ 0 * x = ap (λ n. n * x) ev in
     let below : m * 2 ^ t + v * x ≡ 0 + m * 2 ^ t = omega arith in
     grind (arith, mod_of_eq, add-mul-mod_self_left, divides_product)
@@ -187,13 +194,15 @@ first_fits base m x t o u v h eu ev l b =
     grind (arith, mul-le-mul_right, mul-le-mul_left)
 
 -- where the numbers are equal, the factor of the one is a residue other than 0
-pub last_factor : (base m x a b u v k : ℕ) (s : Bool) → IsDifferencePair m x a b u v k s → PairFits base a b u v k → a ≡ b
+pub last_factor : (base m x a b u v k : ℕ) (s : Bool) → IsDifferencePair m x a b u v k s → PairFits base a b u v k
+    → a ≡ b
     → (0 < u) × (u < m)
 last_factor base m x a b u v k s p f e = grind (arith, mul-le-mul_right)
 
 -- their common value divides x and m, so where it isn't 1 there is no inverse
-pub last_none : (m x a b u v k y : ℕ) (s : Bool) → IsDifferencePair m x a b u v k s → a ≡ b → a ≢ 1 → IsInverse m x y → ⊥
-last_none m x a b u v k y s p e h i =
+pub common_value_excludes_inverse : (m x a b u v k y : ℕ) (s : Bool) → IsDifferencePair m x a b u v k s → a ≡ b → a ≢ 1
+    → IsInverse m x y → ⊥
+common_value_excludes_inverse m x a b u v k y s p e h i =
     let c = p.common a (mod_self _) (ap (λ n. n % a) (sym e) ∙ mod_self _) in
     h ((Coprime-from_IsInverse _ _ _ i).only_one a c.1 c.0)
 
@@ -255,8 +264,9 @@ rest_taken m base w v r r' t k j x o eb l ev et h c =
     ∙ omega arith)) (mod_trans (mod_mul (without_power _ o (mod_trans (mod_of_eq e) g)) (mod_refl _)) c)
 
 -- what is reduced is below the modulus times the base
-pub scaled_fits : (base m r t v k w : ℕ) → base ≡ 2 ^ w → v ≡ w → t ≡ r * 2 ^ (v - k) → r < m → t < base * m
-scaled_fits base m r t v k w eb ev et h =
+pub shifted_factor_fits_reduction : (base m r t v k w : ℕ) → base ≡ 2 ^ w → v ≡ w → t ≡ r * 2 ^ (v - k) → r < m
+    → t < base * m
+shifted_factor_fits_reduction base m r t v k w eb ev et h =
     let p : 2 ^ (v - k) ≤ 2 ^ w = pow-le-pow_right {n = 2} (omega arith) (omega arith) in
     grind (arith, pow-le-pow_right, pow_pos, mul-le-mul_right, mul-le-mul_left)
 

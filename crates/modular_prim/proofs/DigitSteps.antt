@@ -6,8 +6,8 @@ use Rattle.std.proofs.Math.Pow.{pow-lt}
 use Rattle.modular_word.specs.Division.{IsDivision}
 
 -- the quotient of a division
-pub quotient_is : {a d q r : ℕ} → IsDivision a d q r → q ≡ a / d
-quotient_is {a} {d} {q} {r} is = grind (arith, div-eq_of_lt-le)
+pub division_gives_quotient : {a d q r : ℕ} → IsDivision a d q r → q ≡ a / d
+division_gives_quotient {a} {d} {q} {r} is = grind (arith, div-eq_of_lt-le)
 
 -- the remainder of a division
 pub remainder_is : {a d q r : ℕ} → IsDivision a d q r → r ≡ a % d
@@ -41,5 +41,5 @@ pub one_of : {one : ℕ} (k : ℕ) → one ≡ 1 → one * k ≡ k
 one_of {one} k e = ap (λ v. v * k) e ∙ (let f : 1 * k ≡ k = omega arith in f)
 
 -- a part of the base is a word
-pub part_below : {w b by k : ℕ} → 1 ≤ by → by ≤ w → b ≡ 2 ^ w → k ≡ w - by → 2 ^ k < b
-part_below {w} {b} {by} {k} some within is at = grind (arith, pow-lt)
+pub partial_power_below_base : {w b by k : ℕ} → 1 ≤ by → by ≤ w → b ≡ 2 ^ w → k ≡ w - by → 2 ^ k < b
+partial_power_below_base {w} {b} {by} {k} some within is at = grind (arith, pow-lt)

@@ -60,14 +60,14 @@ leaves_twice m a t r true l = l
 leaves_twice m a t r false l = l
 
 -- what a step leaves is the remainder
-rest_is : (u v q rest : ℕ) → q ≡ u / v → rest + q * v ≡ u → rest ≡ u % v
-rest_is u v q rest e f = grind (arith, div-add-mod)
+rest_is_remainder : (u v q rest : ℕ) → q ≡ u / v → rest + q * v ≡ u → rest ≡ u % v
+rest_is_remainder u v q rest e f = grind (arith, div-add-mod)
 
 euclid_step : (a m last_r r last_t t next q rest : ℕ) (odd : Bool) → Euclid a m last_r r last_t t odd
     → 0 < r → q ≡ last_r / r → rest + q * r ≡ last_r → next ≡ last_t + q * t
     → Euclid a m r rest t next (not odd)
 euclid_step a m last_r r last_t t next q rest odd s hr eq erest enext =
-    let left : rest ≡ last_r % r = rest_is _ _ _ _ eq erest in
+    let left : rest ≡ last_r % r = rest_is_remainder _ _ _ _ eq erest in
     let grows : 1 * t ≤ q * t = mul-le-mul_right _ (grind (arith, mul-le-mul_right, mod-lt)) in
     let two : t * 2 ≤ t * last_r = mul-le-mul_left _ (let l : 2 ≤ last_r = omega (arith, s.falling) in l) in
     let nr : next * r ≡ (last_t + q * t) * r = ap (λ n. n * r) enext in
@@ -85,12 +85,14 @@ euclid_step a m last_r r last_t t next q rest odd s hr eq erest enext =
 -- the next coefficient is at most m
 pub next_fits : {a m last_r r last_t t : ℕ} {odd : Bool} → Euclid a m last_r r last_t t odd → 0 < r
     → last_t + last_r / r * t ≤ m
-next_fits {a} {m} {last_r} {r} {last_t} {t} {odd} s hr = (euclid_fits a m last_r r last_t t (last_r / r) odd s hr refl).1
+next_fits {a} {m} {last_r} {r} {last_t} {t} {odd} s hr =
+    (euclid_fits a m last_r r last_t t (last_r / r) odd s hr refl).1
 
 -- the loop keeps its numbers over a division
-pub next_step : {a m last_r r last_t t next rest : ℕ} {odd : Bool} → Euclid a m last_r r last_t t odd → 0 < r
+pub division_step_keeps_euclid : {a m last_r r last_t t next rest : ℕ} {odd : Bool} → Euclid a m last_r r last_t t odd
+    → 0 < r
     → rest ≡ last_r % r → next ≡ last_t + last_r / r * t → Euclid a m r rest t next (not odd)
-next_step {a} {m} {last_r} {r} {last_t} {t} {next} {rest} {odd} s hr left is =
+division_step_keeps_euclid {a} {m} {last_r} {r} {last_t} {t} {next} {rest} {odd} s hr left is =
     euclid_step a m last_r r last_t t next (last_r / r) rest odd s hr refl (omega arith) is
 
 -- at the end, where the last remainder is 1, the coefficient of a positive sign is the inverse

@@ -28,7 +28,7 @@ start_odd form made m x n {power} {product} {rest} h ep er en odd =
       y_below = h;
       power_is = ep;
       product_is = er;
-      left = digit.step_odd m 1 x n x (x * x % m) rest (x ^ n % m) (sym (ap (λ v. v % m) (one-mul _)
+      left = digit.odd_step_keeps_power m 1 x n x (x * x % m) rest (x ^ n % m) (sym (ap (λ v. v % m) (one-mul _)
           ∙ mod-eq_of_lt h)) refl en odd
           (ap (λ v. v % m) (one-mul _));
     }
@@ -43,16 +43,17 @@ start_even form made m x n {power} {product} {rest} h ep er en even =
       y_below = mod-lt _ (let some : 0 < m = omega arith in some);
       power_is = ep;
       product_is = er;
-      left = digit.step_even m (1 % m) x n (x * x % m) rest (x ^ n % m) refl en even
+      left = digit.even_step_keeps_power m (1 % m) x n (x * x % m) rest (x ^ n % m) refl en even
           (mul-mod_first _ _ _ ∙ ap (λ v. v % m) (one-mul _));
     }
 
 -- a digit, by what is made of the forms
-pub step_odd : (form made : ℕ → ℕ) (m : ℕ) {target power product rest power' product' rest' : ℕ}
+pub odd_step_keeps_power_forms : (form made : ℕ → ℕ) (m : ℕ) {target power product rest power' product' rest' : ℕ}
     → PowerSoFar form made m target power product rest → ((x : ℕ) → power ≡ form x → power' ≡ form (x * x % m))
     → ((x y : ℕ) → power' ≡ form x → product ≡ made y → product' ≡ made (x * y % m))
     → rest' ≡ rest / 2 → rest % 2 ≡ 1 → PowerSoFar form made m target power' product' rest'
-step_odd form made m {target} {power} {product} {rest} {power'} {product'} {rest'} w squared times en odd =
+odd_step_keeps_power_forms form made m {target} {power} {product} {rest} {power'} {product'} {rest'} w squared times en
+    odd =
     let some : 0 < m = omega (arith, w.x_below) in
     let x = w.x * w.x % m in
     let p = squared w.x w.power_is in
@@ -63,14 +64,16 @@ step_odd form made m {target} {power} {product} {rest} {power'} {product'} {rest
       y_below = mod-lt (x * w.y) some;
       power_is = p;
       product_is = times x w.y p w.product_is;
-      left = digit.step_odd m w.y x rest (x * w.y % m) (x * x % m) rest' target (ap (λ v. v % m) (mul_comm x w.y)) refl en odd
+      left = digit.odd_step_keeps_power m w.y x rest (x * w.y % m) (x * x % m) rest' target
+          (ap (λ v. v % m) (mul_comm x w.y)) refl en odd
           w.left;
     }
 
-pub step_even : (form made : ℕ → ℕ) (m : ℕ) {target power product rest power' product' rest' : ℕ}
+pub even_step_keeps_power_forms : (form made : ℕ → ℕ) (m : ℕ) {target power product rest power' product' rest' : ℕ}
     → PowerSoFar form made m target power product rest → ((x : ℕ) → power ≡ form x → power' ≡ form (x * x % m))
     → product' ≡ product → rest' ≡ rest / 2 → rest % 2 ≢ 1 → PowerSoFar form made m target power' product' rest'
-step_even form made m {target} {power} {product} {rest} {power'} {product'} {rest'} w squared same en even =
+even_step_keeps_power_forms form made m {target} {power} {product} {rest} {power'} {product'} {rest'} w squared same en
+    even =
     let x = w.x * w.x % m in
     record {
       x = x;
@@ -79,7 +82,7 @@ step_even form made m {target} {power} {product} {rest} {power'} {product'} {res
       y_below = w.y_below;
       power_is = squared w.x w.power_is;
       product_is = same ∙ w.product_is;
-      left = digit.step_even m w.y x rest (x * x % m) rest' target refl en even w.left;
+      left = digit.even_step_keeps_power m w.y x rest (x * x % m) rest' target refl en even w.left;
     }
 
 -- nothing is left to do
@@ -92,25 +95,26 @@ power_at_end {form} {made} {m} {target} {power} {product} {rest} w e =
 pub power_one : (m b n r : ℕ) → n ≡ 1 → r ≡ b % m → r ≡ b ^ n % m
 power_one m b n r e er = er ∙ ap (λ v. v % m) (sym (pow-one b) ∙ ap (λ v. b ^ v) (sym e))
 
-square_of : (b : ℕ) → b ^ 2 ≡ b * b
-square_of b = pow-add b 1 1 ∙ ap (λ v. v * b ^ 1) (pow-one b) ∙ ap (λ v. b * v) (pow-one b)
+second_power_is_square : (b : ℕ) → b ^ 2 ≡ b * b
+second_power_is_square b = pow-add b 1 1 ∙ ap (λ v. v * b ^ 1) (pow-one b) ∙ ap (λ v. b * v) (pow-one b)
 
 pub power_two : (m b n r : ℕ) → n ≡ 2 → r ≡ (b * b) % m → r ≡ b ^ n % m
-power_two m b n r e er = er ∙ ap (λ v. v % m) (sym (square_of b) ∙ ap (λ v. b ^ v) (sym e))
+power_two m b n r e er = er ∙ ap (λ v. v % m) (sym (second_power_is_square b) ∙ ap (λ v. b ^ v) (sym e))
 
 pub power_three : (m b s r : ℕ) → s ≡ (b * b) % m → r ≡ (s * b) % m → r ≡ b ^ 3 % m
 power_three m b s r es er =
-    let f : b ^ 3 ≡ b * b * b = pow-add _ _ _ ∙ ap (λ v. v * b ^ 1) (square_of _) ∙ ap (λ v. b * b * v) (pow-one _) in
+    let f : b ^ 3 ≡ b * b * b = pow-add _ _ _ ∙ ap (λ v. v * b ^ 1) (second_power_is_square _)
+    ∙ ap (λ v. b * b * v) (pow-one _) in
     er ∙ ap (λ v. (v * b) % m) es ∙ mul-mod_first _ _ _ ∙ ap (λ v. v % m) (sym f)
 
 -- the power of a base reduced
-pub power_of_rest : (m b x n r : ℕ) → x ≡ b % m → r ≡ x ^ n % m → r ≡ b ^ n % m
-power_of_rest m b x n r ex er = er ∙ ap (λ v. v ^ n % m) ex ∙ pow-mod b n m
+pub power_of_residue_congruent : (m b x n r : ℕ) → x ≡ b % m → r ≡ x ^ n % m → r ≡ b ^ n % m
+power_of_residue_congruent m b x n r ex er = er ∙ ap (λ v. v ^ n % m) ex ∙ pow-mod b n m
 
 -- ---- by reductions: the power is a residue times the base b, the product a residue as it is
 -- a product of numbers below m and the base is below what is reduced
-pub product_fits : (b m : ℕ) {t f g : ℕ} → t ≡ f * g → f < b → g < m → t < b * m
-product_fits b m {t} {f} {g} e h k = omega (arith, e, mul-lt f g b m h k)
+pub product_below_scaled_modulus : (b m : ℕ) {t f g : ℕ} → t ≡ f * g → f < b → g < m → t < b * m
+product_below_scaled_modulus b m {t} {f} {g} e h k = omega (arith, e, mul-lt f g b m h k)
 
 -- the reduction of the square of a power is the power of the square
 pub square_reduced : (b m i x power : ℕ) {t power' : ℕ} → 0 < b → IsNegatedInverse b m i → power ≡ (x * b) % m
@@ -122,6 +126,7 @@ square_reduced b m i x power {t} {power'} some inverse ep et is =
     ∙ sym (mul-mod_first _ _ _)
 
 -- the reduction of the power times the product is the product's next
-pub product_reduced : (b m i x power product : ℕ) {t product' : ℕ} → 0 < b → IsNegatedInverse b m i
+pub reduction_is_next_product : (b m i x power product : ℕ) {t product' : ℕ} → 0 < b → IsNegatedInverse b m i
     → power ≡ (x * b) % m → t ≡ power * product → IsReduction b m t product' → product' ≡ x * product % m
-product_reduced b m i x power product {t} {product'} some inverse ep et is = grind (arith, reduced_is, mul-mod_first)
+reduction_is_next_product b m i x power product {t} {product'} some inverse ep et is =
+    grind (arith, reduced_is, mul-mod_first)

@@ -33,8 +33,9 @@ pub sub_of_less : (m a b d : ℕ) → d + a ≡ b → residue m (neg_ℤ (pos d)
 sub_of_less m a b d e = grind (arith, neg_ℤ, ints)
 
 -- where a is below b, m less the difference is left
-pub difference_below : (m a b d r : ℕ) → b < m → a < b → d + a ≡ b → r + d ≡ m → r ≡ residue m (pos a -ℤ pos b)
-difference_below m a b d r h k e f =
+pub residue_of_negative_difference : (m a b d r : ℕ) → b < m → a < b → d + a ≡ b → r + d ≡ m
+    → r ≡ residue m (pos a -ℤ pos b)
+residue_of_negative_difference m a b d r h k e f =
     (omega arith) ∙ sym (residue_neg _ _ (omega arith) (omega arith)) ∙ sub_of_less _ _ _ _ e
 
 -- elsewhere the difference itself
@@ -42,8 +43,8 @@ pub difference_above : (m a b r : ℕ) → a < m → r + b ≡ a → r ≡ resid
 difference_above m a b r h e = grind (arith, ints, mod-eq_of_lt)
 
 -- a number below twice a bound, less the bound
-pub once : (m x r : ℕ) → m ≤ x → x < 2 * m → r + m ≡ x → r ≡ x % m
-once m x r low high e = grind (arith, add-mod_right, mod-eq_of_lt)
+pub subtracted_once_is_remainder : (m x r : ℕ) → m ≤ x → x < 2 * m → r + m ≡ x → r ≡ x % m
+subtracted_once_is_remainder m x r low high e = grind (arith, add-mod_right, mod-eq_of_lt)
 
 -- what wraps around when a bound is taken from a word
 pub record IsWrapped (m x r : ℕ) : Type 0 where
@@ -55,9 +56,9 @@ pub wrapped_difference : (b m x r : ℕ) → m < b → r < b → x < 2 * m → (
 wrapped_difference b m x r m_fits r_fits below e = grind (arith, mod-eq_of_lt, add-mod_right)
 
 -- a difference below 0 wraps around the bound
-pub lifted : (b m x r : ℕ) → m < b → r < b → x < m → (r + m) % b ≡ x → r + m ≡ x + b
-lifted b m x r m_fits r_fits below e = grind (arith, mod-eq_of_lt, add-mod_right)
+pub negative_difference_wraps : (b m x r : ℕ) → m < b → r < b → x < m → (r + m) % b ≡ x → r + m ≡ x + b
+negative_difference_wraps b m x r m_fits r_fits below e = grind (arith, mod-eq_of_lt, add-mod_right)
 
 -- a difference that isn't below 0 doesn't
-pub settled : (b m x r : ℕ) → x < b → r < b → m ≤ x → (r + m) % b ≡ x → r + m ≡ x
-settled b m x r x_fits r_fits at_most e = grind (arith, mod-eq_of_lt, add-mod_right)
+pub nonnegative_difference_is_exact : (b m x r : ℕ) → x < b → r < b → m ≤ x → (r + m) % b ≡ x → r + m ≡ x
+nonnegative_difference_is_exact b m x r x_fits r_fits at_most e = grind (arith, mod-eq_of_lt, add-mod_right)

@@ -21,7 +21,7 @@ use modular_word::ring_word::RingWord;
 /// # Conditions
 ///
 /// - m is at least 1
-#[tactic(auto, using(crate::proofs::PowerSteps::power_one, crate::proofs::PowerSteps::power_two, crate::proofs::PowerSteps::power_of_rest))]
+#[tactic(auto, using(crate::proofs::PowerSteps::power_one, crate::proofs::PowerSteps::power_two, crate::proofs::PowerSteps::power_of_residue_congruent))]
 pub fn powm<T: PlainWord>(base: T, exp: T, m: T) -> T
     requires { 1 ≤ T.number m }
     ensures { T.number result ≡ T.number base ^ T.number exp % T.number m }

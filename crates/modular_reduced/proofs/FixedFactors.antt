@@ -1,7 +1,8 @@
 -- Products by a factor with its quotient, modulo any m below the base b: which of two words is the residue.
 use Rattle.std.proofs.Common.{◌≡◌, ℕ, ◌+◌, ◌-◌, ◌*◌, ◌/◌, ◌%◌, ◌<◌, ◌≤◌, sym, ap, ◌∙◌, arith, ⊎_elim}
 use Rattle.std.proofs.Math.Nat.{mod-lt, mod-mod, div-add-mod, mod-eq_of_lt, add-mod_right, add-mul-mod_self_right}
-use Rattle.std.proofs.Math.Nat.{mul-le-mul_left, mul-le-mul_right, lt_of_mul-lt-mul_right, le_of_mul-le-mul_right, add-mod}
+use Rattle.std.proofs.Math.Nat.{mul-le-mul_left, mul-le-mul_right, lt_of_mul-lt-mul_right, le_of_mul-le-mul_right}
+use Rattle.std.proofs.Math.Nat.{add-mod}
 use Rattle.std.proofs.lemmas.Bool.{cases_lt}
 use Rattle.modular_word.proofs.Congruence.{mod_cancel, same_without}
 use Rattle.modular_reduced.specs.Factors.{IsFactor}
@@ -22,8 +23,9 @@ near_parts b m w q x low h is e =
     let me : m * (x * q) ≡ m * (low + b * h) = ap (λ v. m * v) e in
     omega (arith, g, me)
 
-pub near : (b m w q x low h : ℕ) → IsFactor b m w q → x < b → x * q ≡ low + b * h → low < b → IsNear m (x * w) h
-near b m w q x low h is fits e low_fits =
+pub estimated_quotient_is_near : (b m w q x low h : ℕ) → IsFactor b m w q → x < b → x * q ≡ low + b * h → low < b
+    → IsNear m (x * w) h
+estimated_quotient_is_near b m w q x low h is fits e low_fits =
     let below : w < m = is.below in
     let l : w * b % m < m = mod-lt (w * b) (omega arith) in
     let whole : (x * w) * b ≡ (h * m) * b + m * low + x * (w * b % m) = near_parts b m w q x low h is e in
@@ -43,8 +45,9 @@ pub record IsChosen (low less r z : ℕ) : Type 0 where
   pub upper : low ≤ less → r ≡ z
 
 -- a remainder by the rest that a quotient leaves
-rest_is : (m k h z : ℕ) → k < m → k + h * m ≡ z → k ≡ z % m
-rest_is m k h z less e = sym (ap (λ v. v % m) (sym e) ∙ add-mul-mod_self_right k h m ∙ mod-eq_of_lt less)
+rest_below_is_remainder : (m k h z : ℕ) → k < m → k + h * m ≡ z → k ≡ z % m
+rest_below_is_remainder m k h z less e = sym (ap (λ v. v % m) (sym e) ∙ add-mul-mod_self_right k h m
+    ∙ mod-eq_of_lt less)
 
 -- r is the rest k of a product, and `less` that less m, modulo b: where k is below m, `less` is not below the fraction
 below_chosen : (b m k e x low less : ℕ) → m < b → low < b → k * b ≡ m * low + x * e
@@ -65,11 +68,12 @@ above_chosen b m k e x low less room fits left whole is =
     let third : m * low ≤ b * low = mul-le-mul_right low (let l : m ≤ b = omega arith in l) in
     grind (arith, lt_of_mul-lt-mul_right)
 
-pub chosen : (b m w q x low h p t r less : ℕ) → IsFactor b m w q → m < b → x < b → x * q ≡ low + b * h → low < b
+pub chosen_word_is_remainder : (b m w q x low h p t r less : ℕ) → IsFactor b m w q → m < b → x < b → x * q ≡ low + b * h
+    → low < b
     → p ≡ (x * w) % b → t ≡ (h * m) % b → r < b → (r + t) % b ≡ p → less < b → (less + m) % b ≡ r
     → IsChosen low less r ((x * w) % m)
-chosen b m w q x low h p t r less is room fits e low_fits is_p is_t r_fits er less_fits el =
-    let near_it = near b m w q x low h is fits e low_fits in
+chosen_word_is_remainder b m w q x low h p t r less is room fits e low_fits is_p is_t r_fits er less_fits el =
+    let near_it = estimated_quotient_is_near b m w q x low h is fits e low_fits in
     let close = near_it.close in
     let some : 0 < b = omega arith in
     let k : ℕ = x * w - h * m in
@@ -94,7 +98,7 @@ chosen b m w q x low h p t r less is room fits e low_fits is_p is_t r_fits er le
     let high : low ≤ less = below_chosen b m k (w * b % m) x low less room low_fits whole less_is in
     record {
       lower = λ l. absurd (omega (arith, l, high));
-      upper = λ _. same ∙ rest_is m k h (x * w) small s;
+      upper = λ _. same ∙ rest_below_is_remainder m k h (x * w) small s;
     })
     (λ (great : m ≤ k).
     let c : ℕ = k - m in
@@ -106,7 +110,7 @@ chosen b m w q x low h p t r less is room fits e low_fits is_p is_t r_fits er le
     above_chosen b m k (w * b % m) x low less room fits left whole (omega (arith, less_is, up)) in
     let more : less + (h + 1) * m ≡ x * w = omega (arith, less_is, up, s) in
     record {
-      lower = λ _. rest_is m less (h + 1) (x * w) (omega (arith, less_is, c_small)) more;
+      lower = λ _. rest_below_is_remainder m less (h + 1) (x * w) (omega (arith, less_is, c_small)) more;
       upper = λ l. absurd (omega (arith, l, low_it));
     })
     (cases_lt k m)

@@ -9,11 +9,11 @@ use Rattle.modular_word.specs.Residues.{IsResidue, residue}
 use Rattle.modular_word.proofs.ResidueLemmas.{residue_is}
 use Rattle.modular_reduced.specs.Integers.{IsModularQuotient}
 
-pub sum_reduced : (m x n v : ℕ) → v ≡ n % m → (x + v) % m ≡ (x + n) % m
-sum_reduced m x n v e = ap (λ k. (x + k) % m) e ∙ add-mod-mod x n m
+pub sum_with_residue_congruent : (m x n v : ℕ) → v ≡ n % m → (x + v) % m ≡ (x + n) % m
+sum_with_residue_congruent m x n v e = ap (λ k. (x + k) % m) e ∙ add-mod-mod x n m
 
-pub product_reduced : (m x n v : ℕ) → v ≡ n % m → (x * v) % m ≡ (x * n) % m
-product_reduced m x n v e = ap (λ k. (x * k) % m) e ∙ mul-mod_second x n m
+pub product_with_residue_congruent : (m x n v : ℕ) → v ≡ n % m → (x * v) % m ≡ (x * n) % m
+product_with_residue_congruent m x n v e = ap (λ k. (x * k) % m) e ∙ mul-mod_second x n m
 
 -- numbers that differ by a multiple of m leave one residue of a difference
 less_multiple : (m x v k w u : ℕ) (p q : ℤ) → w < m → u < m → pos x -ℤ pos v ≡ pos w +ℤ (p *ℤ pos m)

@@ -17,9 +17,9 @@ pub products_none : (m s : ℕ) (f : ℕ → ℕ) → s < m → s ≡ (s + sum_b
 products_none m s f below = grind (arith, sum_below-zero, mod-eq_of_lt)
 
 -- one product more
-pub products_more : (m s i t x y : ℕ) (f : ℕ → ℕ) → t ≡ (s + sum_below i f) % m → x * y ≡ f i
+pub product_extends_residue_sum : (m s i t x y : ℕ) (f : ℕ → ℕ) → t ≡ (s + sum_below i f) % m → x * y ≡ f i
     → (t + x * y % m) % m ≡ (s + sum_below (i + 1) f) % m
-products_more m s i t x y f so_far term =
+product_extends_residue_sum m s i t x y f so_far term =
     let e : suc i ≡ i + 1 = omega arith in
     let sum : s + sum_below i f + f i ≡ s + sum_below (i + 1) f =
     grind (arith, sum_below-suc) in

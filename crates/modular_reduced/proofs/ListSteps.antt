@@ -15,12 +15,13 @@ pub record WrittenBelow {T : Type 0} (number : T → ℕ) (form value : ℕ → 
   pub done : DoneBelow (λ k n. n ≡ v k) i old (entry number value m forms)
 
 -- one more entry is written
-pub written_more : {T : Type 0} (number : T → ℕ) (form value : ℕ → ℕ → ℕ) (m : ℕ) (forms : List T) (i : ℕ) (x : T)
+pub written_below_next_index : {T : Type 0} (number : T → ℕ) (form value : ℕ → ℕ → ℕ) (m : ℕ) (forms : List T) (i : ℕ)
+    (x : T)
     (v old : ℕ → ℕ)
     → i < length forms → WrittenBelow number form value m v i old forms
     → IsForm form value m (number x) → value m (number x) ≡ v i
     → WrittenBelow number form value m v (i + 1) old (set forms i x)
-written_more number form value m forms i x v old within before is here = record {
+written_below_next_index number form value m forms i x v old within before is here = record {
   checked = forms_written number form value m forms i x is before.checked;
   done = done_more number value m forms i x (λ k n. n ≡ v k) old within before.done here;
 }
@@ -29,7 +30,8 @@ written_more number form value m forms i x v old within before is here = record 
 pub written_all : {T : Type 0} {number : T → ℕ} {form value : ℕ → ℕ → ℕ} {m i : ℕ} {v old : ℕ → ℕ} {forms : List T}
     → WrittenBelow number form value m v i old forms → length forms ≤ i → HoldValues number form m forms v
 written_all {number = number} {value = value} {m = m} {forms = forms} is all = record {
-  each = λ k d l. form_as (is.checked k d l) (entry_at number value m forms k d l ∙ is.done.done k (omega (arith, l, all)));
+  each = λ k d l. form_as (is.checked k d l) (entry_at number value m forms k d l
+      ∙ is.done.done k (omega (arith, l, all)));
 }
 
 -- where g takes the form of each value v to the form of h v, and each word of a list of forms is replaced by g of it
@@ -51,11 +53,13 @@ each_taken number form value m g h old new taken checked same each = record {
 
 -- a list that holds values is one of checked forms ..
 pub held_checked : {T : Type 0} (number : T → ℕ) {form value : ℕ → ℕ → ℕ} {width m : ℕ} (forms : List T) (v : ℕ → ℕ)
-    → IsCanonical form value width m → HoldValues number form m forms v → All (λ f. IsForm form value m (number f)) forms
+    → IsCanonical form value width m → HoldValues number form m forms v → All (λ f. IsForm form value m (number f))
+    forms
 held_checked number forms v canonical held = λ i d l. form_of_value canonical (held.each i d l)
 
 -- .. with those values
-pub held_values : {T : Type 0} (number : T → ℕ) {form value : ℕ → ℕ → ℕ} {width m : ℕ} (forms : List T) (v : ℕ → ℕ) (i : ℕ)
+pub held_values : {T : Type 0} (number : T → ℕ) {form value : ℕ → ℕ → ℕ} {width m : ℕ} (forms : List T) (v : ℕ
+    → ℕ) (i : ℕ)
     → IsCanonical form value width m → HoldValues number form m forms v → i < length forms
     → entry number value m forms i ≡ v i
 held_values number [] v i canonical held l = absurd (omega arith)
@@ -63,7 +67,8 @@ held_values number {form} {value} {width} {m} (x ∷ xs) v i canonical held l =
     sym (entry_at number value m (x ∷ xs) i x l)
     ∙ canonical.one_value (number (get_or (x ∷ xs) i x)) (v i) (held.each i x l)
 
--- the clauses of a call that writes n forms of values: that they represent these, their values, and that they are checked
+-- the clauses of a call that writes n forms of values: that they represent these, their values, and that they are
+-- checked
 abbrev pub ListAnswered : {T : Type 0} → (T → ℕ) → (ℕ → ℕ → ℕ) → (ℕ → ℕ → ℕ) → ℕ → ℕ → List T → (ℕ → ℕ) → Type 0
 ListAnswered number form value m n forms v = record {
   entries : HoldValues number form m forms v;

@@ -9,9 +9,9 @@ use Rattle.std.specs.Int.Count.{ones_step}
 use Rattle.modular_reduced.specs.Powers.{digits_within, digits, products}
 
 -- what holds of both is true of the one that a test picks
-picked : (P : ℕ → Type 0) (b : Bool) (x y : ℕ) → (b ≡ true → P x) → (b ≡ false → P y) → P (cond b x y)
-picked P true x y h k = h (λ i. true)
-picked P false x y h k = k (λ i. false)
+choice_keeps_property : (P : ℕ → Type 0) (b : Bool) (x y : ℕ) → (b ≡ true → P x) → (b ≡ false → P y) → P (cond b x y)
+choice_keeps_property P true x y h k = h (λ i. true)
+choice_keeps_property P false x y h k = k (λ i. false)
 
 test_true : (a b : ℕ) → nat_le a b ≡ true → a ≤ b
 test_true a b e = grind (arith, nat_tests)
@@ -27,7 +27,7 @@ self_below (suc e) = let h = self_below e in let s = pow-suc 2 e in omega arith
 within_above : (k e : ℕ) → e < 2 ^ k → e < 2 ^ digits_within k e
 unfolding digits_within
 within_above zero e h = h
-within_above (suc k) e h = picked (λ d. e < 2 ^ d) (nat_le (2 ^ k) e) (suc k) (digits_within k e)
+within_above (suc k) e h = choice_keeps_property (λ d. e < 2 ^ d) (nat_le (2 ^ k) e) (suc k) (digits_within k e)
     (λ t. h)
     (λ f. within_above k e (test_false (2 ^ k) e f))
 
@@ -37,7 +37,7 @@ exponent_above k j h = lt_of_not-le (λ l. let m : 2 ^ j ≤ 2 ^ k = pow_mono l 
 within_least : (k e j : ℕ) → e < 2 ^ j → digits_within k e ≤ j
 unfolding digits_within
 within_least zero e j h = omega arith
-within_least (suc k) e j h = picked (λ d. d ≤ j) (nat_le (2 ^ k) e) (suc k) (digits_within k e)
+within_least (suc k) e j h = choice_keeps_property (λ d. d ≤ j) (nat_le (2 ^ k) e) (suc k) (digits_within k e)
     (λ t. let l : 2 ^ k ≤ e = test_true (2 ^ k) e t in let b = exponent_above k j (omega arith) in omega arith)
     (λ f. within_least k e j h)
 
@@ -91,9 +91,9 @@ steps_left e h = let s = steps_step e (e / 2) refl h in omega arith
 pub steps_fit : (e width : ℕ) → e < 2 ^ width → width ≤ 128 → steps e ≤ 256
 steps_fit e width h k = let l = digits_least e width h in let o = ones_at_most e in omega arith
 
-pub products_of_one : (e : ℕ) → e ≡ 1 → products e ≡ 0
+pub first_power_needs_no_products : (e : ℕ) → e ≡ 1 → products e ≡ 0
 unfolding products
-products_of_one e h = grind (arith, nat_tests)
+first_power_needs_no_products e h = grind (arith, nat_tests)
 
 pub products_of_two : (e : ℕ) → e ≡ 2 → products e ≡ 1
 unfolding products

@@ -2,7 +2,7 @@
 use Rattle.std.proofs.Common.{◌≡◌, ◌≢◌, ℕ, ◌*◌, ◌/◌, ◌%◌, ◌^◌, sym, ◌∙◌, ap, subst}
 use Rattle.std.proofs.lemmas.Nat.{mul-mod_first}
 use Rattle.std.proofs.Math.Nat.{one-mul, pow-succ', mod-eq_of_lt}
-use Rattle.modular_word.proofs.Powers.{pow-one, step_odd, step_even, step_end}
+use Rattle.modular_word.proofs.Powers.{pow-one, odd_step_keeps_power, even_step_keeps_power, step_end}
 use Rattle.modular_reduced.specs.Forms.{Represents, IsForm, IsCanonical}
 use Rattle.modular_reduced.proofs.PowerSoFar.{PowerSoFar}
 use Rattle.modular_reduced.proofs.FormLemmas.{form_of_value, form_as}
@@ -26,7 +26,8 @@ power_odd_step {form} {value} {width} {m} {product} {power} {rest} {wanted} {pro
     {rest'} canonical so_far odd h k half = record {
       product_form = form_of_value canonical h;
       power_form = form_of_value canonical k;
-      work = step_odd m (value m product) (value m power) rest (value m product') (value m power') rest' wanted
+      work = odd_step_keeps_power m (value m product) (value m power) rest (value m product') (value m power') rest'
+          wanted
           (canonical.one_value _ _ h) (canonical.one_value _ _ k) half odd so_far.work;
     }
 
@@ -38,7 +39,8 @@ power_even_step {form} {value} {width} {m} {product} {power} {rest} {wanted} {po
     {rest'} canonical so_far even k half = record {
       product_form = so_far.product_form;
       power_form = form_of_value canonical k;
-      work = step_even _ _ _ rest (value m power') rest' wanted (canonical.one_value _ _ k) half even so_far.work;
+      work = even_step_keeps_power _ _ _ rest (value m power') rest' wanted (canonical.one_value _ _ k) half even
+          so_far.work;
     }
 
 pub power_end : {form value : ℕ → ℕ → ℕ} {m product power rest wanted : ℕ}
@@ -51,9 +53,9 @@ power_end {form} {value} {m} {product} {power} {rest} {wanted} so_far ended =
 two_factors : (p : ℕ) → p ^ 2 ≡ p * p
 two_factors p = pow-succ' p 1 ∙ ap (λ v. p * v) (pow-one p)
 
-pub power_of_one : {form value : ℕ → ℕ → ℕ} {m base exp : ℕ}
+pub base_represents_first_power : {form value : ℕ → ℕ → ℕ} {m base exp : ℕ}
     → IsForm form value m base → exp ≡ 1 → Represents form m base (value m base ^ exp % m)
-power_of_one {form} {value} {m} {base} {exp} is one =
+base_represents_first_power {form} {value} {m} {base} {exp} is one =
     form_as is
     (sym (ap (λ e. value m base ^ e % m) one ∙ ap (λ v. v % m) (pow-one (value m base)) ∙ mod-eq_of_lt is.below))
 

@@ -51,9 +51,9 @@ products_distribute {form} {value} {width} {m} {yz} {left} {xy} {xz} {right} x y
     ∙ sym (same_sum m (x * y % m) (x * y) (x * z % m) (x * z) (mod-mod (x * y) m) (mod-mod (x * z) m))
     ∙ sym (ap (λ v. (v + value m xz) % m) exy ∙ ap (λ v. (x * y % m + v) % m) exz))
 
-cancels : (m v : ℕ) → v < m → (v + residue m (neg_ℤ (pos v))) % m ≡ 0
-cancels m zero h = let e : 0 % m ≡ 0 = mod-eq_of_lt h in ap (λ n. (0 + n) % m) e ∙ e
-cancels m (suc v) h =
+residue_of_negation_cancels : (m v : ℕ) → v < m → (v + residue m (neg_ℤ (pos v))) % m ≡ 0
+residue_of_negation_cancels m zero h = let e : 0 % m ≡ 0 = mod-eq_of_lt h in ap (λ n. (0 + n) % m) e ∙ e
+residue_of_negation_cancels m (suc v) h =
     let e : residue m (neg_ℤ (pos (suc v))) ≡ m - suc v = residue_neg m (suc v) h (omega arith) in
     let whole : suc v + (m - suc v) ≡ m = omega arith in
     ap (λ n. (suc v + n) % m) e ∙ ap (λ n. n % m) whole ∙ mod_self m
@@ -62,4 +62,5 @@ pub negative_cancels : {form value : ℕ → ℕ → ℕ} {width m negative sum 
     → IsCanonical form value width m → v < m
     → Represents form m negative (residue m (neg_ℤ (pos v))) → Represents form m sum ((v + value m negative) % m)
     → Represents form m sum 0
-negative_cancels {form} {value} {width} {m} {negative} {sum} v canonical h hn hs = grind (arith, neg_ℤ, cancels)
+negative_cancels {form} {value} {width} {m} {negative} {sum} v canonical h hn hs =
+    grind (arith, neg_ℤ, residue_of_negation_cancels)

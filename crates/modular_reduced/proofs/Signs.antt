@@ -2,7 +2,7 @@
 use Rattle.std.proofs.Common.{◌≡◌, ℕ, ◌+◌, ◌*◌, ◌%◌, ◌<◌, ◌≤◌, arith}
 use Rattle.std.proofs.Math.Nat.{mod-eq_of_lt, add-mul-mod_self_right}
 use Rattle.modular_word.proofs.Congruence.{mod_cancel}
-use Rattle.modular_prim.proofs.ResidueSteps.{lifted, settled}
+use Rattle.modular_prim.proofs.ResidueSteps.{negative_difference_wraps, nonnegative_difference_is_exact}
 
 -- of x less m
 pub record BySign (b m x less : ℕ) : Type 0 where
@@ -19,4 +19,5 @@ pub record DifferenceBySign (b x y less : ℕ) : Type 0 where
 
 pub difference_by_sign : (b m x y less : ℕ) → 2 * m ≤ b → x < m → y < m → less < b → (less + y) % b ≡ x
     → DifferenceBySign b x y less
-difference_by_sign b m x y less room x_below y_below fits is = grind (arith, lifted, settled)
+difference_by_sign b m x y less room x_below y_below fits is =
+    grind (arith, negative_difference_wraps, nonnegative_difference_is_exact)

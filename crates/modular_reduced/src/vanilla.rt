@@ -100,12 +100,12 @@ impl<T: PlainWord> Reducer<T> for Vanilla<T> {
         add_below(*a, *b, self.modulus)
     }
 
-    #[tactic(auto, using(crate::proofs::FormLemmas::answered, crate::specs::Plain::plain_canonical))]
+    #[tactic(auto, using(crate::proofs::FormLemmas::answered_by_form, crate::specs::Plain::plain_canonical))]
     fn dbl(&self, f: T) -> T {
         dbl_below_stored(f, self.modulus)
     }
 
-    #[tactic(auto, using(crate::proofs::FormLemmas::answered, crate::specs::Plain::plain_canonical))]
+    #[tactic(auto, using(crate::proofs::FormLemmas::answered_by_form, crate::specs::Plain::plain_canonical))]
     fn sub(&self, a: &T, b: &T) -> T {
         sub_below(*a, *b, self.modulus)
     }
@@ -114,7 +114,7 @@ impl<T: PlainWord> Reducer<T> for Vanilla<T> {
         neg_below(f, self.modulus)
     }
 
-    #[tactic(auto, using(crate::proofs::FormLemmas::answered, crate::specs::Plain::plain_canonical))]
+    #[tactic(auto, using(crate::proofs::FormLemmas::answered_by_form, crate::specs::Plain::plain_canonical))]
     fn mul(&self, a: &T, b: &T) -> T {
         T::narrow_remainder(a.product(*b), self.modulus)
     }

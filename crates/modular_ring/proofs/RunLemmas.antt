@@ -1,7 +1,8 @@
 -- Lemmas on registers that hold values, and on the value table.
 use Rattle.std.proofs.Common.{◌≡◌, ℕ, ◌+◌, ◌*◌, ◌%◌, ◌<◌, List, length, map, get_or, true, false, Bool}
 use Rattle.std.proofs.Common.{cond, eqb, refl, sym, ◌∙◌, ap, subst, arith, ◌≢◌, ◌⊎◌, ◌↔◌, Option, Some, None}
-use Rattle.std.proofs.Common.{option_map, All, get_or-set_same, get_or-set_other, add-one, IsSomeAnd, inl, inr, IsTrue, IsFalse, ◌≤◌}
+use Rattle.std.proofs.Common.{option_map, All, get_or-set_same, get_or-set_other, add-one, IsSomeAnd, inl, inr, IsTrue}
+use Rattle.std.proofs.Common.{IsFalse, ◌≤◌}
 use Rattle.std.proofs.Math.ListN.{set, length-set}
 use Rattle.std.specs.List.{slice_get}
 use Rattle.std.proofs.lemmas.Bool.Decides.{eqb_tells}
@@ -59,7 +60,8 @@ pub quotient_form : {T : Type 0} (number : T → ℕ) {form value : ℕ → ℕ 
     → IsCanonical form value width m → IsInverseForm number form m y (Some inverse)
     → Represents form m (number product) ((x * value m (number inverse)) % m)
     → IsFormOf number form m (option_map (λ i. (x * i) % m) (inverse_of m y)) (Some product)
-quotient_form {T} number {form} {value} {width} {m} x y inverse product canonical h stands = search (arith, inverse_of-found)
+quotient_form {T} number {form} {value} {width} {m} x y inverse product canonical h stands =
+    search (arith, inverse_of-found)
 
 -- checked forms hold their values
 pub start_holds : {T : Type 0} (number : T → ℕ) (form value : ℕ → ℕ → ℕ) (m : ℕ) (registers : List T)
@@ -152,10 +154,11 @@ finds_here number form m v command f found lacks =
     some_of_some number form m _ f found (lacking_none m v command lacks)
 
 -- a command that lacks its inverse does so at its place in the list ..
-pub lacks_at : (m : ℕ) (start : List ℕ) (commands : List (RingCommand ℕ)) (i : ℕ) (command : RingCommand ℕ)
+pub command_lacks_inverse_at_place : (m : ℕ) (start : List ℕ) (commands : List (RingCommand ℕ)) (i : ℕ)
+    (command : RingCommand ℕ)
     → slice_get commands i ≡ Some command → LacksInverse m (value_at m start commands i) command
     → LacksInverseAt m start commands i
-lacks_at m start commands i command is lacks = rw is lacks
+command_lacks_inverse_at_place m start commands i command is lacks = rw is lacks
 
 -- .. and only then
 pub lacks_of : (m : ℕ) (start : List ℕ) (commands : List (RingCommand ℕ)) (i : ℕ) (command : RingCommand ℕ)
@@ -197,7 +200,8 @@ pub true_not_false : {b : Bool} → IsTrue b → IsFalse b → ⊥
 true_not_false holds fails = cc
 
 -- no step
-pub goes_nowhere : {R T C : Type 0} {ring : reducer.Ghosts R T} {number : T → ℕ} {command_of : C → RingCommand T} {r : R}
+pub goes_nowhere : {R T C : Type 0} {ring : reducer.Ghosts R T} {number : T → ℕ} {command_of : C → RingCommand T}
+    {r : R}
     {commands : List C} {registers : List T} {last : Last T} {at : ℕ}
     → MayGoOn ring number command_of r commands registers last at
     → GoesOn ring number command_of r commands registers registers last at at at true
@@ -212,7 +216,8 @@ goes_nowhere ready = record {
 
 -- a step, and then another
 pub goes_both : {R T C : Type 0} {ring : reducer.Ghosts R T} {number : T → ℕ} {command_of : C → RingCommand T} {r : R}
-    {commands : List C} {before between after : List T} {kept last : Last T} {from mid to stop end : ℕ} {went done : Bool}
+    {commands : List C} {before between after : List T} {kept last : Last T} {from mid to stop end : ℕ}
+    {went done : Bool}
     → GoesOn ring number command_of r commands before between kept from mid stop went
     → GoesOn ring number command_of r commands between after last mid to end done
     → GoesOn ring number command_of r commands before after last from to end done

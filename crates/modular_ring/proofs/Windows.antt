@@ -1,5 +1,6 @@
 -- The values of a window that moves.
-use Rattle.std.proofs.Common.{◌≡◌, ℕ, zero, suc, pos, neg_ℤ, ◌+◌, ◌-◌, ◌*◌, ◌%◌, ◌^◌, ◌<◌, ◌≤◌, ◌/◌, List, [], ◌∷◌, ◌++◌, length, take, drop}
+use Rattle.std.proofs.Common.{◌≡◌, ℕ, zero, suc, pos, neg_ℤ, ◌+◌, ◌-◌, ◌*◌, ◌%◌, ◌^◌, ◌<◌, ◌≤◌, ◌/◌, List, [], ◌∷◌}
+use Rattle.std.proofs.Common.{◌++◌, length, take, drop}
 use Rattle.std.proofs.Common.{get_or, slice_index, slice_range, arith, ap, sym, ◌∙◌, refl, length-append, length-drop}
 use Rattle.std.proofs.Common.{add-one}
 use Rattle.std.proofs.lemmas.List.{take_more, get_or-drop, length-take-le}
@@ -8,7 +9,7 @@ use Rattle.std.proofs.Math.Nat.{add-mod, add-mod-mod, mod-add-mod, mod-lt, mod-e
 use Rattle.std.proofs.Math.Seq.{drop-cons}
 use Rattle.modular_word.specs.Residues.{residue}
 use Rattle.modular_word.specs.Sums.{polynomial_highest_first}
-use Rattle.modular_word.proofs.Polynomials.{value_first, residue_more}
+use Rattle.modular_word.proofs.Polynomials.{value_first, polynomial_residue_of_appended}
 use Rattle.modular_word.proofs.Congruence.{mod_cancel}
 use Rattle.modular_ring.specs.SystemLaws.{gathered}
 
@@ -22,10 +23,11 @@ residue_moved m x c d old new window power value same is power_is difference bel
     let count : length old ≡ length new = omega (arith, lengths, length-append old (d ∷ [])) in
     let t = c * x ^ length new in
     let v = polynomial_highest_first (length new) (slice_index new) x in
-    let whole = residue_more m old d x window _ is refl in
+    let whole = polynomial_residue_of_appended m old d x window _ is refl in
     let longer = mod-add-mod (window * x) m d in
     let term = ap (λ k. (k * c) % m) power_is ∙ mul-mod_first (x ^ length old) c m in
-    let turned : x ^ length old * c ≡ t = ap (λ k. x ^ k * c) count ∙ (let e : x ^ length new * c ≡ t = omega arith in e) in
+    let turned : x ^ length old * c ≡ t = ap (λ k. x ^ k * c) count ∙ (let e : x ^ length new * c ≡ t = omega arith in
+    e) in
     let first = ap (λ cs. polynomial_highest_first (length cs) (slice_index cs) x) same ∙ value_first new c x in
     let sum : t + v ≡ v + t = omega arith in
     mod_cancel m value (v % m) t below (mod-lt v (omega (arith, below)))
@@ -40,7 +42,8 @@ window_moves n at xs h =
     let second : at + 1 + n - (at + 1) ≡ n = omega arith in
     rw (first, second) (ap (λ y. take n (drop at xs) ++ y ∷ []) (sym (get_or-drop at xs n 0))
     ∙ sym (take_more (drop at xs) n 0 inside) ∙ ap (λ k. take k (drop at xs)) (add-one n)
-    ∙ ap (take (suc n)) (drop-cons xs at 0 (omega arith)) ∙ ap (λ k. get_or xs at 0 ∷ take n (drop k xs)) (sym (add-one at)))
+    ∙ ap (take (suc n)) (drop-cons xs at 0 (omega arith)) ∙ ap (λ k. get_or xs at 0 ∷ take n (drop k xs))
+    (sym (add-one at)))
 
 pub window_length : (n at : ℕ) (xs : List ℕ) → at + n ≤ length xs → length (slice_range xs at (at + n)) ≡ n
 window_length n at xs h = search (arith, length-take-le, length-drop)

@@ -25,11 +25,13 @@ pub power_step : {form value : ℕ → ℕ → ℕ} {width m product power rest 
     → Represents form m square (value m power * value m power % m) → half ≡ rest / 2
     → (rest % 2 ≡ 1 → next ≡ longer) → (rest % 2 ≡ 0 → next ≡ product)
     → PowerSoFar form value m next square half wanted
-power_step {form} {value} {width} {m} {product} {power} {rest} {wanted} {longer} {next} {square} {half} canonical so_far made squared halved
+power_step {form} {value} {width} {m} {product} {power} {rest} {wanted} {longer} {next} {square} {half} canonical so_far
+    made squared halved
     taken kept =
     ⊎_elim
     (λ (l : rest % 2 < 1).
-    rw (kept (omega arith)) (power_even_step canonical so_far (λ (odd : rest % 2 ≡ 1). absurd (omega arith)) squared halved))
+    rw (kept (omega arith)) (power_even_step canonical so_far (λ (odd : rest % 2 ≡ 1). absurd (omega arith)) squared
+    halved))
     (λ (l : 1 ≤ rest % 2).
     rw (taken (omega arith)) (power_odd_step canonical so_far (omega arith) made squared halved))
     (cases_lt _ _)

@@ -7,15 +7,16 @@ use Rattle.std.proofs.lemmas.Bool.Decides.{nat_tests}
 use Rattle.modular_word.specs.Congruence.{Congruent}
 use Rattle.modular_word.specs.Inverses.{IsInverse}
 use Rattle.modular_word.proofs.Congruence.{mod_of_eq, mod_refl, mod_sym, mod_trans, mod_add, mod_mul, residue_of}
-use Rattle.modular_word.proofs.Divisors.{divides_sum, divides_product, divides}
+use Rattle.modular_word.proofs.Divisors.{divides_sum, divides_product, remainder_of_multiple_is_zero}
 use Rattle.modular_word.proofs.Divisors.{Coprime-from_IsInverse}
 use Rattle.modular_prim.specs.Differences.{CongruentBySign, IsDifferencePair}
-use Rattle.modular_prim.proofs.DifferenceSteps.{scaled_by_sign, difference_by_sign}
+use Rattle.modular_prim.proofs.DifferenceSteps.{scaled_by_sign, difference_congruent_by_sign}
 use Rattle.modular_secret.specs.Halvings.{HaveDigits, IsHalvedPair}
 
 -- ---- signs
 -- a congruent number in the place of the second
-congruent_second : (m : ℕ) (s : Bool) (p q q' : ℕ) → Congruent m q' q → CongruentBySign m s p q → CongruentBySign m s p q'
+congruent_second : (m : ℕ) (s : Bool) (p q q' : ℕ) → Congruent m q' q → CongruentBySign m s p q
+    → CongruentBySign m s p q'
 congruent_second m true p q q' e h = mod_trans (mod_add (mod_refl p) e) h
 congruent_second m false p q q' e h = mod_trans h (mod_sym e)
 
@@ -40,7 +41,8 @@ pub ready_even : (base m x k n a b u v o t : ℕ) → IsHalvedPair base m x k n 
 ready_even base m x k n a b u v o t p e = grind arith
 
 -- the difference of two odd numbers, the first being the greater one
-halved_pair_of_difference : (m x k n a b u v d : ℕ) (s : Bool) → d + b ≡ a → a % 2 ≡ 1 → b % 2 ≡ 1 → a * v + b * u ≡ m → 0 < u + v → v < m
+halved_pair_of_difference : (m x k n a b u v d : ℕ) (s : Bool) → d + b ≡ a → a % 2 ≡ 1 → b % 2 ≡ 1 → a * v + b * u ≡ m
+    → 0 < u + v → v < m
     → CongruentBySign m s (a * 2 ^ k) (u * x) → CongruentBySign m (not s) (b * 2 ^ k) (v * x)
     → ((n : ℕ) → a % n ≡ 0 → b % n ≡ 0 → (m % n ≡ 0) × (x % n ≡ 0)) → HaveDigits a b n
     → Ready m x k n d b (u + v) v s
@@ -56,7 +58,7 @@ halved_pair_of_difference m x k n a b u v d s e ea eb w us vm above below common
       above_factor = us;
       below_factor = vm;
       above =
-          grind (arith, difference_by_sign);
+          grind (arith, difference_congruent_by_sign);
       below = below;
       common = λ c i j. common c (ap (λ n. n % c) (sym e) ∙ divides_sum c _ _ i j) j;
       few = grind arith;
@@ -72,7 +74,8 @@ ready_above base m x k n a b u v o t d p ea e =
 pub factor_below : (m a b u v : ℕ) → a * v + b * u ≡ m → a % 2 ≡ 1 → a < b → v < m → u < m
 factor_below m a b u v w ea l vm = grind (arith, mul-le-mul_right)
 
-pub ready_below : (base m x k n a b u v o t d : ℕ) → IsHalvedPair base m x k n a b u v o t → a % 2 ≡ 1 → a < b → d + a ≡ b
+pub ready_below : (base m x k n a b u v o t d : ℕ) → IsHalvedPair base m x k n a b u v o t → a % 2 ≡ 1 → a < b
+    → d + a ≡ b
     → Ready m x k n d a (u + v) u (not (t % 2 == 1))
 ready_below base m x k n a b u v o t d p ea l e =
     let w = p.whole (omega arith) in
@@ -91,8 +94,8 @@ ready_below base m x k n a b u v o t d p ea l e =
     subst (λ f. Ready m x k n d a f u (not (t % 2 == 1))) (omega arith) r
 
 -- a sum of the factors of two positive numbers fits
-pub sum_fits : (base m a b u v : ℕ) → a * v + b * u ≡ m → a % 2 ≡ 1 → b % 2 ≡ 1 → m < base → u + v < base
-sum_fits base m a b u v w ea eb fits = grind (arith, mul-le-mul_right)
+pub factor_sum_below_base : (base m a b u v : ℕ) → a * v + b * u ≡ m → a % 2 ≡ 1 → b % 2 ≡ 1 → m < base → u + v < base
+factor_sum_below_base base m a b u v w ea eb fits = grind (arith, mul-le-mul_right)
 
 -- ---- the halving
 half_digits : (d y i j n h : ℕ) → 0 < h → h * 2 ≡ d → d < 2 ^ i → y < 2 ^ j → i + j ≡ n + 1 → HaveDigits h y n
@@ -136,9 +139,10 @@ pub odd_flips : (t t' : ℕ) → t' % 2 ≡ (t + 1) % 2 → (t' % 2 == 1) ≡ no
 odd_flips t t' e = grind (arith, nat_tests)
 
 -- ---- the first and the last pair
-pub first_pair : (base m x w a b u v o t : ℕ) → m % 2 ≡ 1 → x < 2 ^ w → m < 2 ^ w → a ≡ x → b ≡ m → u ≡ 1 → v ≡ 0
+pub start_is_halved_pair : (base m x w a b u v o t : ℕ) → m % 2 ≡ 1 → x < 2 ^ w → m < 2 ^ w → a ≡ x → b ≡ m → u ≡ 1
+    → v ≡ 0
     → (x % 2 ≡ 1 → o + 1 ≡ base) → (x % 2 ≡ 0 → o ≡ 0) → t ≡ 0 → IsHalvedPair base m x 0 (2 * w) a b u v o t
-first_pair base m x w a b u v o t odd xf mf ea eb eu ev all none et =
+start_is_halved_pair base m x w a b u v o t odd xf mf ea eb eu ev all none et =
     grind (arith, mod_of_eq, pow-zero, add-mul-mod_self_left)
 
 -- with one digit left, the first number is 0
@@ -150,11 +154,13 @@ pub above_is_zero_at_end : (base m x k a b u v o t : ℕ) → IsHalvedPair base 
 above_is_zero_at_end base m x k a b u v o t p = grind (arith, ended_at)
 
 -- where the other number isn't 1, there is no inverse
-pub last_none : (base m x k a b u v o t y : ℕ) → IsHalvedPair base m x k 1 a b u v o t → b ≢ 1 → IsInverse m x y → ⊥
-last_none base m x k a b u v o t y p h i =
+pub last_value_excludes_inverse : (base m x k a b u v o t y : ℕ) → IsHalvedPair base m x k 1 a b u v o t → b ≢ 1
+    → IsInverse m x y → ⊥
+last_value_excludes_inverse base m x k a b u v o t y p h i =
     let zero : a ≡ b * 0 = omega (arith, above_is_zero_at_end _ _ _ _ _ _ _ _ _ _ p) in
-    h ((Coprime-from_IsInverse _ _ _ i).only_one b (p.common b (divides _ _ _ zero) (mod_self _)).1
-    (p.common b (divides _ _ _ zero) (mod_self _)).0)
+    h ((Coprime-from_IsInverse _ _ _ i).only_one b (p.common b (remainder_of_multiple_is_zero _ _ _ zero)
+    (mod_self _)).1
+    (p.common b (remainder_of_multiple_is_zero _ _ _ zero) (mod_self _)).0)
 
 multiple_of_modulus : (m : ℕ) (s : Bool) (p x : ℕ) → p ≡ 0 → CongruentBySign m s p (m * x)
 multiple_of_modulus m true p x e = grind (arith, add-mul-mod_self_left)
@@ -174,5 +180,5 @@ pub last_sign : (m v w z t : ℕ) → (t % 2 ≡ 1 → w ≡ v) → (t % 2 ≡ 0
     → CongruentBySign m (not (t % 2 == 1)) w v
 last_sign m v w z t plus minus opposite = grind (arith, nat_tests, mod_of_eq)
 
-pub last_below : (m v w z t : ℕ) → (t % 2 ≡ 1 → w ≡ v) → (t % 2 ≡ 0 → w ≡ z) → v < m → z < m → w < m
-last_below m v w z t plus minus vm zm = grind arith
+pub chosen_value_below_modulus : (m v w z t : ℕ) → (t % 2 ≡ 1 → w ≡ v) → (t % 2 ≡ 0 → w ≡ z) → v < m → z < m → w < m
+chosen_value_below_modulus m v w z t plus minus vm zm = grind arith

@@ -28,7 +28,8 @@ pub added_nothing : (base first e r : ℕ) → e ≡ 0 → r ≡ (first + e) % b
 added_nothing base first e r none sum h = grind (arith, mod-eq_of_lt)
 
 -- a difference with a borrow, added back, is the smaller number, and its negative the difference the other way round
-pub difference_added_back : (base a b d e r : ℕ) → a < b → b < base → d + b ≡ a + base → e ≡ d → r ≡ (b + e) % base → r ≡ a
+pub difference_added_back : (base a b d e r : ℕ) → a < b → b < base → d + b ≡ a + base → e ≡ d → r ≡ (b + e) % base
+    → r ≡ a
 difference_added_back base a b d e r l h borrow same sum = grind (arith, remainder_above)
 
 pub other_way : (base a b d r : ℕ) → a < b → b < base → d + b ≡ a + base → r < base → (r + d) % base ≡ 0 → r + a ≡ b
@@ -42,7 +43,8 @@ pub same_parity : (base q d h : ℕ) → base ≡ 4 * q → d + 2 * h ≡ base �
 same_parity base q d h e s = omega arith
 
 -- a mask taken away: all bits add one, and none adds nothing
-pub masked_parity : (base q t l r : ℕ) → base ≡ 4 * q → l + 1 ≡ base → (r + l) % base ≡ t → r < base → r % 2 ≡ (t + 1) % 2
+pub masked_parity : (base q t l r : ℕ) → base ≡ 4 * q → l + 1 ≡ base → (r + l) % base ≡ t → r < base
+    → r % 2 ≡ (t + 1) % 2
 masked_parity base q t l r e all whole fits = grind (arith, mod-eq_of_lt, remainder_above)
 
 pub none_more : (base t l r : ℕ) → l ≡ 0 → (r + l) % base ≡ t → r < base → r ≡ t

@@ -32,7 +32,8 @@ above_is : (z : ℤ) (n x : ℕ) (b : Bool) → IsTrue b ↔ ((n - 1) / 2 < resi
 above_is z n x true is = grind (arith, nat_tests)
 above_is z n x false is = search (arith, cases_lt, false≢true, nat_tests)
 
-next_parity : (s t : ℕ) (odd b : Bool) → s % 2 ≡ cond odd 1 0 → t ≡ cond b 1 0 → (s + t) % 2 ≡ cond (not (beq odd b)) 1 0
+next_parity : (s t : ℕ) (odd b : Bool) → s % 2 ≡ cond odd 1 0 → t ≡ cond b 1 0 → (s + t) % 2 ≡ cond (not (beq odd b)) 1
+    0
 next_parity s t odd b e f = grind (arith, nat_tests)
 
 -- the next number y, by the numbers that the loop computes: half of n, the residue s of z and that of s * y

@@ -67,7 +67,9 @@ signed_product : (n a k : ℕ) → 0 < n
 signed_product n a zero p = search (arith, product_to-zero, sum_to-zero, distance, pow-zero)
 signed_product n a (suc k) p =
     let v : ℕ = a * suc k in
-    let t : ((n - 1) ^ (sum_to (λ x. above n (a * x)) k)) * (product_to (λ x. distance n (a * x)) k) * (((n - 1) ^ above n v) * distance n v) ≡ ((n - 1) ^ (sum_to (λ x. above n (a * x)) k)) * ((n - 1) ^ above n v) * ((product_to (λ x. distance n (a * x)) k) * distance n v) = omega arith in
+    let t : ((n - 1) ^ (sum_to (λ x. above n (a * x)) k)) * (product_to (λ x. distance n (a * x)) k)
+    * (((n - 1) ^ above n v) * distance n v) ≡ ((n - 1) ^ (sum_to (λ x. above n (a * x)) k)) * ((n - 1) ^ above n v)
+    * ((product_to (λ x. distance n (a * x)) k) * distance n v) = omega arith in
     rw (
       product_to-suc (λ x. a * x) k,
       sum_to-suc (λ x. above n (a * x)) k,
@@ -110,9 +112,9 @@ power_by_count n a o u c =
     ∙ ap (λ x. ((n - 1) ^ half_system_count (pos a) n * x) % n)
     (product_to-permuted (λ x. distance n (a * x)) (λ x. x) h (half_system_permuted n a o c)))
 
-zero_power : (k : ℕ) → 0 < k → 0 ^ k ≡ 0
-zero_power zero p = absurd (omega arith)
-zero_power (suc k) p = pow-suc 0 k ∙ omega arith
+power_of_zero_is_zero : (k : ℕ) → 0 < k → 0 ^ k ≡ 0
+power_of_zero_is_zero zero p = absurd (omega arith)
+power_of_zero_is_zero (suc k) p = pow-suc 0 k ∙ omega arith
 
 -- the class of p modulo n
 abbrev class_of : ℕ → ℕ → Option ℤ
@@ -125,7 +127,7 @@ classed_power-jacobi a n o u =
     let r : ℕ = residue n a in
     let j = jacobi-residue a n (omega arith) in
     ⊎_elim
-    (λ (e : r ≡ 0). search (arith, nat_tests, zero_power, zero-mod, jacobi-shared, mod_self))
+    (λ (e : r ≡ 0). search (arith, nat_tests, power_of_zero_is_zero, zero-mod, jacobi-shared, mod_self))
     (λ (z : r ≡ 0 → ⊥).
     let c = below_coprime n r u (omega arith) (residue_below n a (omega arith)) in
     search (arith, nat_tests, power_by_count, jacobi-coprime, sign-even, sign-odd, powers_of_last))

@@ -33,17 +33,17 @@ unfolding half_system_count above
 half_system_count-residue a n p = search (arith, sum_to-same, residue-multiple)
 
 -- ---- opposite remainders
-only_multiple : (n u : ℕ) → u % n ≡ 0 → 0 < u → u < 2 * n → u ≡ n
-only_multiple n u e p l = search (arith, mod-eq_of_lt, mod-eq-sub-mod, cases_lt)
+multiple_below_twice_is_modulus : (n u : ℕ) → u % n ≡ 0 → 0 < u → u < 2 * n → u ≡ n
+multiple_below_twice_is_modulus n u e p l = search (arith, mod-eq_of_lt, mod-eq-sub-mod, cases_lt)
 
 -- the remainders of two numbers whose sum n divides add up to n
 opposite_remainders : (n v w : ℕ) → 0 < n → (v + w) % n ≡ 0 → w % n ≢ 0 → v % n + w % n ≡ n
 opposite_remainders n v w p e z =
     let d = divides_rest _ _ (v % n + w % n) (mul-mod_right _ (v / n + w / n)) (ap (λ u. u % n) (omega arith) ∙ e) in
-    only_multiple _ (v % n + w % n) d (omega arith) (omega arith)
+    multiple_below_twice_is_modulus _ (v % n + w % n) d (omega arith) (omega arith)
 
-opposite_product : (n a v : ℕ) → 0 < n → (a * v) % n ≢ 0 → (a * (n - v % n)) % n + (a * v) % n ≡ n
-opposite_product n a v p z =
+opposite_products_add_to_modulus : (n a v : ℕ) → 0 < n → (a * v) % n ≢ 0 → (a * (n - v % n)) % n + (a * v) % n ≡ n
+opposite_products_add_to_modulus n a v p z =
     let r : (a * (v % n)) % n ≡ (a * v) % n = mul-mod_second a v n in
     let u : (n - v % n) + v % n ≡ n = omega arith in
     let k = ap (λ x. a * x) u in
@@ -55,7 +55,7 @@ opposite_product n a v p z =
 above-product : (n a v : ℕ) → n % 2 ≡ 1 → (a * v) % n ≢ 0
     → above n (a * v) % 2 ≡ (above n (a * distance n v) + above n v) % 2
 unfolding above distance
-above-product n a v o z = grind (arith, nat_tests, opposite_product, mul-mod_second)
+above-product n a v o z = grind (arith, nat_tests, opposite_products_add_to_modulus, mul-mod_second)
 
 -- ---- a factor coprime to n permutes the half system, up to signs
 -- n divides no product of such a factor and a number below n
@@ -103,7 +103,8 @@ half_system_count-product a b n o c k =
     let i = sum_to-parity (λ x. above n (a * b * x)) (λ x. above n (a * distance n (b * x)) + above n (b * x)) h
     (λ x p l.
     ap (λ v. above n v % 2) (omega arith)
-    ∙ above-product n a (b * x) o (λ w. (not_divided n (a * b) x c p (omega arith)) (ap (λ v. v % n) (omega arith) ∙ w))) in
+    ∙ above-product n a (b * x) o (λ w. (not_divided n (a * b) x c p (omega arith)) (ap (λ v. v % n) (omega arith)
+    ∙ w))) in
     let j = sum_to-add (λ x. above n (a * distance n (b * x))) (λ x. above n (b * x)) h in
     let m = sum_to-permuted (λ x. distance n (b * x)) (λ y. above n (a * y)) h (half_system_permuted n b o k) in
     search (arith, half_system_count-sum)

@@ -22,9 +22,9 @@ power_zero : (z : ℤ) → int_pow z 0 ≡ pos 1
 power_zero (pos a) = ap pos (pow-zero a)
 power_zero (negsuc a) = ap pos (pow-zero (suc a))
 
-zero_power : (s : ℕ) → 0 < s → int_pow (pos 0) s ≡ pos 0
-zero_power zero h = absurd (omega arith)
-zero_power (suc s) h = ap pos (let e : 0 ^ suc s ≡ 0 = omega (arith, pow-suc 0 s) in e)
+integer_power_of_zero : (s : ℕ) → 0 < s → int_pow (pos 0) s ≡ pos 0
+integer_power_of_zero zero h = absurd (omega arith)
+integer_power_of_zero (suc s) h = ap pos (let e : 0 ^ suc s ≡ 0 = omega (arith, pow-suc 0 s) in e)
 
 -- ---- the symbol over 2, by the magnitude
 over_two-even : (minus : Bool) (a : ℕ) → a % 2 ≡ 0 → over_two (signed minus (pos a)) ≡ pos 0
@@ -75,7 +75,7 @@ above-both_even minus a n w e f p l =
     let s : ℕ = count_trailing_zeros w n in
     let split = split_at w n p l in
     let form = above-form z n s split in
-    search (arith, over_two-even, zero_power, some_twos, zero_times)
+    search (arith, over_two-even, integer_power_of_zero, some_twos, zero_times)
 
 pub above-twos : (minus : Bool) (a n s : ℕ) → a % 2 ≡ 1 → SplitAt n s
     → kronecker_above (signed minus (pos a)) n

@@ -8,7 +8,7 @@ use Rattle.std.proofs.lemmas.Nat.{mod_below}
 use Rattle.std.proofs.Math.Nat.{mul-le-mul_left, lt_of_mul-lt-mul_left}
 use Rattle.modular_word.specs.Divisors.{Coprime}
 use Rattle.modular_word.specs.Sums.{sum_to}
-use Rattle.modular_word.proofs.Divisors.{divides}
+use Rattle.modular_word.proofs.Divisors.{remainder_of_multiple_is_zero}
 use Rattle.modular_word.proofs.Sums.{sum_to-same, sum_to-add, sum_to-ones, sum_to-nothing}
 use Rattle.modular_word.proofs.Sums.{sum_to-only, sum_to-swap, sum_to-scale, sum_to-reversed}
 use Rattle.modular_symbols.specs.Jacobi.{half_system_count}
@@ -68,13 +68,13 @@ row_one : (m n x : ℕ) → n % 2 ≡ 1 → (n - 1) / 2 < (m * x) % n → just_b
 unfolding just_below
 row_one m n x o h = grind (arith, mod_below, nat_tests)
 
-row_none : (m n x : ℕ) → n % 2 ≡ 1 → (m * x) % n ≤ (n - 1) / 2 → just_below n (m * x) (n * suc (m * x / n)) ≡ 0
-row_none m n x o h = just_below-not n (m * x) (n * suc (m * x / n)) (λ l k. omega arith)
+row_has_no_point : (m n x : ℕ) → n % 2 ≡ 1 → (m * x) % n ≤ (n - 1) / 2 → just_below n (m * x) (n * suc (m * x / n)) ≡ 0
+row_has_no_point m n x o h = just_below-not n (m * x) (n * suc (m * x / n)) (λ l k. omega arith)
 
 -- and then it belongs to the half system of m
-row_within : (m n x : ℕ) → n % 2 ≡ 1 → m % 2 ≡ 1 → x ≤ (n - 1) / 2 → (n - 1) / 2 < (m * x) % n
+row_point_within_half_system : (m n x : ℕ) → n % 2 ≡ 1 → m % 2 ≡ 1 → x ≤ (n - 1) / 2 → (n - 1) / 2 < (m * x) % n
     → suc (m * x / n) ≤ (m - 1) / 2
-row_within m n x o k p h =
+row_point_within_half_system m n x o k p h =
     let t : 2 * x + 1 ≤ n = omega arith in
     let i = mul-le-mul_left m t in
     let l : n * (2 * (m * x / n) + 1) < n * m = omega arith in
@@ -89,13 +89,13 @@ row_is_above m n x o k p =
     ⊎_elim
     (λ (l : (n - 1) / 2 < (m * x) % n).
     sum_to-only (λ y. just_below n (m * x) (n * y)) ((m - 1) / 2) (suc (m * x / n)) (omega arith)
-    (row_within _ _ _ o k p l) (λ y u v z. others y z)
+    (row_point_within_half_system _ _ _ o k p l) (λ y u v z. others y z)
     ∙ row_one _ _ _ o l ∙ grind (arith, nat_tests))
     (λ (l : (m * x) % n ≤ (n - 1) / 2).
     sum_to-same (λ y. just_below n (m * x) (n * y)) (λ y. 0) ((m - 1) / 2)
     (λ y u v.
     ⊎_elim
-    (λ (e : y ≡ suc (m * x / n)). ap (λ w. just_below n (m * x) (n * w)) e ∙ row_none _ _ _ o l)
+    (λ (e : y ≡ suc (m * x / n)). ap (λ w. just_below n (m * x) (n * w)) e ∙ row_has_no_point _ _ _ o l)
     (λ (z : y ≡ suc (m * x / n) → ⊥). others y z)
     (cases_eq y (suc (m * x / n))))
     ∙ sum_to-nothing ((m - 1) / 2) ∙ grind (arith, nat_tests))
@@ -136,7 +136,7 @@ counts_reciprocal m n o k c =
     let all = pairs-same (λ x y. a x y + b x y + d x y + e x y) (λ x y. 1) h l
     (λ x y p q u v.
     one_region m n (m * x) (n * y) (omega arith) (omega arith)
-    (λ e. not_divided n m x c p (omega arith) (divides n (m * x) y e))) in
+    (λ e. not_divided n m x c p (omega arith) (remainder_of_multiple_is_zero n (m * x) y e))) in
     let three = pairs-add (λ x y. a x y + b x y + d x y) e h l in
     let two = pairs-add (λ x y. a x y + b x y) d h l in
     let one = pairs-add a b h l in

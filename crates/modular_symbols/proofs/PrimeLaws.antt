@@ -24,17 +24,17 @@ inverse_to a p u z = HasInverse-from_Coprime a p (omega arith) (prime_to a p u z
 square_of_half : (p v : ℕ) → 1 < p → (v % p ≡ 1) ⊎ (v % p ≡ p - 1) → (v * v) % p ≡ 1
 square_of_half p v l h = search (arith, mul-mod, mod-eq_of_lt, mul-mod_second, last_times_last)
 
-half_power : (a p : ℕ) → p % 2 ≡ 1 → IsPrime p → a % p ≢ 0
+half_power_is_sign : (a p : ℕ) → p % 2 ≡ 1 → IsPrime p → a % p ≢ 0
     → (a ^ ((p - 1) / 2) % p ≡ 1) ⊎ (a ^ ((p - 1) / 2) % p ≡ p - 1)
-half_power a p o u z = search (arith, power_by_count, prime_to, powers_of_last)
+half_power_is_sign a p o u z = search (arith, power_by_count, prime_to, powers_of_last)
 
 -- Fermat's theorem
-pub fermat : (a p : ℕ) → IsPrime p → a % p ≢ 0 → a ^ (p - 1) % p ≡ 1
-fermat a p u z =
+pub fermats_little_theorem : (a p : ℕ) → IsPrime p → a % p ≢ 0 → a ^ (p - 1) % p ≡ 1
+fermats_little_theorem a p u z =
     ⊎_elim
     (λ (o : p % 2 ≡ 1).
     let e : p - 1 ≡ ((p - 1) / 2) + ((p - 1) / 2) = omega arith in
-    search (arith, pow-add, square_of_half, half_power))
+    search (arith, pow-add, square_of_half, half_power_is_sign))
     (λ (n : p % 2 ≡ 1 → ⊥). let two : p ≡ 2 = search (arith, cases_eq) in search (arith, pow-one)) (cases_eq _ _)
 
 -- over an odd prime the symbols are there

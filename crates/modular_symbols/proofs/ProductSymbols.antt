@@ -7,15 +7,17 @@ use Rattle.std.specs.List.{AllZip}
 use Rattle.modular_word.specs.Divisors.{Coprime}
 use Rattle.modular_word.specs.Residues.{residue}
 use Rattle.modular_word.proofs.Congruence.{mod_of_multiple}
-use Rattle.modular_word.proofs.Divisors.{divides, divides_through}
+use Rattle.modular_word.proofs.Divisors.{remainder_of_multiple_is_zero, divides_through}
 use Rattle.modular_word.proofs.Divisors.{Coprime-swap, Coprime-left, Coprime-right, Coprime-product, Coprime-from_gcd}
 use Rattle.modular_symbols.proofs.Euler.{classed_power-jacobi}
 use Rattle.modular_symbols.specs.PrimeFactors.{IsLegendre, product, symbol_product}
 use Rattle.modular_symbols.specs.Jacobi.{half_system_count, jacobi}
 use Rattle.modular_symbols.proofs.HalfSystem.{half_system_count-product}
 use Rattle.modular_symbols.proofs.JacobiLaws.{jacobi-coprime, jacobi-shared, coprime_or_not, jacobi-residue}
-use Rattle.modular_symbols.proofs.JacobiLaws.{jacobi-zero_one, even_or_odd, product_parity, sign-sum, zero_times, times_zero}
-use Rattle.modular_symbols.proofs.JacobiLaws.{jacobi-values, jacobi-zero_exactly, jacobi-product, jacobi-two, jacobi-reciprocal}
+use Rattle.modular_symbols.proofs.JacobiLaws.{jacobi-zero_one, even_or_odd, product_parity, sign-sum, zero_times}
+use Rattle.modular_symbols.proofs.JacobiLaws.{times_zero}
+use Rattle.modular_symbols.proofs.JacobiLaws.{jacobi-values, jacobi-zero_exactly, jacobi-product, jacobi-two}
+use Rattle.modular_symbols.proofs.JacobiLaws.{jacobi-reciprocal}
 use Rattle.modular_symbols.proofs.Lattice.{counts_reciprocal}
 use Rattle.modular_symbols.proofs.LegendreClass.{class_over_prime}
 use Rattle.modular_symbols.proofs.ResidueProducts.{residue_below, residue_opposite, residue_minus}
@@ -73,7 +75,8 @@ residue_of_multiple m k (pos x) p q = mod_of_multiple m k x
 residue_of_multiple m k (negsuc x) p q =
     sym (residue_minus _ (suc x) _ (mod_below _ _ p)
     (mod-add-mod _ _ (suc x)
-    ∙ divides_through _ _ ((residue (m * k) (negsuc x)) + suc x) (divides _ _ _ refl) (residue_opposite _ x q)))
+    ∙ divides_through _ _ ((residue (m * k) (negsuc x)) + suc x) (remainder_of_multiple_is_zero _ _ _ refl)
+    (residue_opposite _ x q)))
 
 -- an odd number that is congruent to z modulo an odd number
 odd_representative : (n : ℕ) (z : ℤ) → n % 2 ≡ 1 → (b : ℕ) × (b % 2 ≡ 1) × (b % n ≡ residue n z)
@@ -88,8 +91,9 @@ odd_representative n z o =
     ))
     (λ (i : r % 2 ≡ 1). (r, i, mod-eq_of_lt (residue_below _ _ (omega arith)))) (even_or_odd _)
 
-same_residues : (a : ℤ) (b n : ℕ) → 0 < n → b % n ≡ residue n a → jacobi a n ≡ jacobi (pos b) n
-same_residues a b n p e = jacobi-residue a n p ∙ sym (jacobi-residue (pos b) n p ∙ ap (λ v. jacobi (pos v) n) e)
+jacobi_of_same_residues : (a : ℤ) (b n : ℕ) → 0 < n → b % n ≡ residue n a → jacobi a n ≡ jacobi (pos b) n
+jacobi_of_same_residues a b n p e = jacobi-residue a n p ∙ sym (jacobi-residue (pos b) n p
+    ∙ ap (λ v. jacobi (pos v) n) e)
 
 pub jacobi-factors : (a : ℤ) (m n : ℕ) → m % 2 ≡ 1 → n % 2 ≡ 1 → jacobi a (m * n) ≡ jacobi a m *ℤ jacobi a n
 jacobi-factors a m n o p =
@@ -102,7 +106,7 @@ jacobi-factors a m n o p =
     let f : b % n ≡ residue n a =
     sym (mod_of_multiple _ _ _) ∙ ap (λ v. b % v % n) s ∙ ap (λ v. v % n) h.2
     ∙ ap (λ v. residue v a % n) (sym s) ∙ residue_of_multiple _ _ _ (omega arith) (omega arith) in
-    same_residues _ _ _ t h.2 ∙ odd_over_product _ _ _ h.1 o p ∙ sym (search (arith, same_residues))
+    jacobi_of_same_residues _ _ _ t h.2 ∙ odd_over_product _ _ _ h.1 o p ∙ sym (search (arith, jacobi_of_same_residues))
 
 -- ---- over a product of odd primes
 primes_after : (a : ℤ) (primes : List ℕ) (symbols : List ℤ) (n : ℕ) (z : ℤ) → n % 2 ≡ 1 → jacobi a n ≡ z
@@ -122,5 +126,15 @@ jacobi-primes a primes symbols h =
     (search (arith, residue_below, jacobi-residue, jacobi-zero_one)) h
 
 -- the laws of the symbol
-pub ruleset symbol_laws =
-    (jacobi-values, jacobi-zero_exactly, jacobi-residue, jacobi-product, jacobi-two, jacobi-reciprocal, classed_power-jacobi, jacobi-factors, jacobi-primes, Coprime-from_gcd)
+pub ruleset symbol_laws = (
+  jacobi-values,
+  jacobi-zero_exactly,
+  jacobi-residue,
+  jacobi-product,
+  jacobi-two,
+  jacobi-reciprocal,
+  classed_power-jacobi,
+  jacobi-factors,
+  jacobi-primes,
+  Coprime-from_gcd,
+)

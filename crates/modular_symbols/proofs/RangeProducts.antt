@@ -4,7 +4,8 @@ use Rattle.std.proofs.Math.Nat.{pow-zero, pow-suc, mul-one}
 use Rattle.std.proofs.lemmas.Nat.{pow-add}
 use Rattle.modular_word.specs.Sums.{sum_to, Permutes}
 use Rattle.modular_word.proofs.Powers.{pow-one}
-use Rattle.modular_word.proofs.Sums.{hit, hit-same, hit-other, hits_one, last_or_before}
+use Rattle.modular_word.proofs.Sums.{equality_indicator, equality_indicator-same, equality_indicator-other, hits_one}
+use Rattle.modular_word.proofs.Sums.{last_or_before}
 
 -- f 1 * f 2 * .. * f h
 pub product_to : (ℕ → ℕ) → ℕ → ℕ
@@ -69,18 +70,22 @@ product_to-only f (suc h) z p q e =
     (last_or_before _ _ q)
 
 -- the factor at f x, among all
-product_of_hits_at_index : (f g : ℕ → ℕ) (h x : ℕ) → Permutes f h → 0 < x → x ≤ h → product_to (λ y. g y ^ hit (f x) y) h ≡ g (f x)
+product_of_hits_at_index : (f g : ℕ → ℕ) (h x : ℕ) → Permutes f h → 0 < x → x ≤ h
+    → product_to (λ y. g y ^ equality_indicator (f x) y) h ≡ g (f x)
 product_of_hits_at_index f g h x m p q =
-    product_to-only (λ y. g y ^ hit (f x) y) _ (f x) (m.positive x p q) (m.within x p q)
-    (λ y u v w. search (arith, hit-other, pow-zero)) ∙ search (arith, hit-same, pow-one)
+    product_to-only (λ y. g y ^ equality_indicator (f x) y) _ (f x) (m.positive x p q) (m.within x p q)
+    (λ y u v w. search (arith, equality_indicator-other, pow-zero)) ∙ search (arith, equality_indicator-same, pow-one)
 
-product_of_hits_at_value : (f g : ℕ → ℕ) (h y : ℕ) → Permutes f h → 0 < y → y ≤ h → product_to (λ x. g y ^ hit (f x) y) h ≡ g y
+product_of_hits_at_value : (f g : ℕ → ℕ) (h y : ℕ) → Permutes f h → 0 < y → y ≤ h
+    → product_to (λ x. g y ^ equality_indicator (f x) y) h ≡ g y
 product_of_hits_at_value f g h y m p q =
-    product_to-power (g y) (λ x. hit (f x) y) h ∙ search (arith, hits_one, pow-one)
+    product_to-power (g y) (λ x. equality_indicator (f x) y) h ∙ search (arith, hits_one, pow-one)
 
 -- a permutation leaves a product as it is
 pub product_to-permuted : (f g : ℕ → ℕ) (h : ℕ) → Permutes f h → product_to (λ x. g (f x)) h ≡ product_to g h
 product_to-permuted f g h m =
-    sym (product_to-same (λ x. product_to (λ y. g y ^ hit (f x) y) h) (λ x. g (f x)) h (λ x p q. product_of_hits_at_index f g h x m p q))
-    ∙ product_to-swap (λ x y. g y ^ hit (f x) y) h h
-    ∙ product_to-same (λ y. product_to (λ x. g y ^ hit (f x) y) h) g h (λ y p q. product_of_hits_at_value f g h y m p q)
+    sym (product_to-same (λ x. product_to (λ y. g y ^ equality_indicator (f x) y) h) (λ x. g (f x)) h
+    (λ x p q. product_of_hits_at_index f g h x m p q))
+    ∙ product_to-swap (λ x y. g y ^ equality_indicator (f x) y) h h
+    ∙ product_to-same (λ y. product_to (λ x. g y ^ equality_indicator (f x) y) h) g h (λ y p q. product_of_hits_at_value
+    f g h y m p q)

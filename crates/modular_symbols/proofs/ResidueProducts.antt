@@ -5,7 +5,7 @@ use Rattle.std.proofs.lemmas.Nat.{mod_below, mul-mod, mul-mod_second}
 use Rattle.std.proofs.Math.Nat.{mod-eq_of_lt, mod-add-mod, zero-mod, add-mul-mod_self_left}
 use Rattle.modular_word.specs.Residues.{residue}
 use Rattle.modular_word.proofs.Congruence.{mod_cancel}
-use Rattle.modular_word.proofs.Divisors.{divides, divides_product, multiple_of}
+use Rattle.modular_word.proofs.Divisors.{remainder_of_multiple_is_zero, divides_product, multiple_of}
 
 pub residue_below : (n : ℕ) (z : ℤ) → 0 < n → residue n z < n
 residue_below n (pos a) p = mod_below a n p
@@ -13,7 +13,7 @@ residue_below n (negsuc a) p = omega arith
 
 -- a negative number's residue and its magnitude add up to a multiple of n
 pub residue_opposite : (n a : ℕ) → 0 < n → (residue n (negsuc a) + suc a) % n ≡ 0
-residue_opposite n a p = search (arith, mod_below, divides)
+residue_opposite n a p = search (arith, mod_below, remainder_of_multiple_is_zero)
 
 -- and no other number below n does so
 pub residue_minus : (n m r : ℕ) → r < n → (r + m) % n ≡ 0 → residue n (neg_ℤ (pos m)) ≡ r
@@ -23,8 +23,8 @@ residue_minus n (suc a) r h e =
     (residue_opposite _ a (omega arith) ∙ sym e)
 
 -- r * b is opposite to m * b where r is to m
-opposite_product : (n r m b : ℕ) → (r + m) % n ≡ 0 → ((r * b) % n + m * b) % n ≡ 0
-opposite_product n r m b e =
+opposite_products_cancel : (n r m b : ℕ) → (r + m) % n ≡ 0 → ((r * b) % n + m * b) % n ≡ 0
+opposite_products_cancel n r m b e =
     let f : (r + m) * b ≡ r * b + m * b = omega arith in
     mod-add-mod _ _ _ ∙ sym (ap (λ v. v % n) f) ∙ divides_product _ _ _ e
 
@@ -42,9 +42,9 @@ residue-product n (pos a) (negsuc b) p =
     let e : r * (a % n) ≡ a % n * r = omega arith in
     let f : suc b * a ≡ a * suc b = omega arith in
     residue_minus _ (a * suc b) ((a % n * r) % n) (mod_below (a % n * r) _ p)
-    (search (arith, mul-mod_second, opposite_product, residue_opposite))
+    (search (arith, mul-mod_second, opposite_products_cancel, residue_opposite))
 residue-product n (negsuc a) (pos b) p =
-    search (arith, residue_minus, mod_below, mul-mod_second, opposite_product, residue_opposite)
+    search (arith, residue_minus, mod_below, mul-mod_second, opposite_products_cancel, residue_opposite)
 residue-product n (negsuc a) (negsuc b) p = search (arith, both_opposite, residue_opposite)
 
 -- that of a multiple

@@ -19,7 +19,7 @@ use Rattle.modular_symbols.specs.Jacobi.{half_system_count, jacobi}
 use Rattle.modular_symbols.specs.Primes.{IsPrime}
 use Rattle.modular_symbols.proofs.Euler.{below_coprime, cancel_below, square_of_last, classed_power-jacobi}
 use Rattle.modular_symbols.proofs.JacobiLaws.{jacobi-residue, jacobi-product, jacobi-coprime, sign-values}
-use Rattle.modular_symbols.proofs.PrimeLaws.{prime_to, fermat}
+use Rattle.modular_symbols.proofs.PrimeLaws.{prime_to, fermats_little_theorem}
 use Rattle.modular_symbols.proofs.RangeProducts.{product_to, product_to-zero, product_to-suc}
 use Rattle.modular_symbols.proofs.RangeProducts.{product_to-same, product_to-times, product_to-ones}
 use Rattle.modular_symbols.proofs.RangeProducts.{product_to-only, product_to-power, product_to-permuted}
@@ -36,7 +36,8 @@ partner_product : (p a x : ℕ) → IsPrime p → 0 < x → x < p → (x * partn
 partner_product p a x u q l =
     let f : (x ^ (p - 2)) * x ≡ x ^ (p - 1) = sym (pow-suc _ _) ∙ ap (λ k. x ^ k) (omega arith) in
     mul-mod_second _ _ _ ∙ ap (λ v. v % p) (omega arith) ∙ ap (λ v. (a * v) % p) f
-    ∙ sym (mul-mod_second _ (x ^ (p - 1)) _) ∙ ap (λ v. (a * v) % p) (fermat _ _ u (below_not_divided _ _ q l))
+    ∙ sym (mul-mod_second _ (x ^ (p - 1)) _)
+    ∙ ap (λ v. (a * v) % p) (fermats_little_theorem _ _ u (below_not_divided _ _ q l))
     ∙ ap (λ v. v % p) (mul-one _)
 
 partner_below : (p a x : ℕ) → IsPrime p → partner p a x < p
@@ -52,7 +53,8 @@ partner_of_partner : (p a x : ℕ) → IsPrime p → a % p ≢ 0 → 0 < x → x
 partner_of_partner p a x u z q l =
     cancel_below _ _ (partner p a (partner p a x)) _
     (below_coprime _ _ u (partner_positive _ _ _ u z q l) (partner_below _ _ _ u)) (partner_below _ _ _ u) l
-    (partner_product _ _ _ u (partner_positive _ _ _ u z q l) (partner_below _ _ _ u) ∙ sym (partner_product _ _ _ u q l)
+    (partner_product _ _ _ u (partner_positive _ _ _ u z q l) (partner_below _ _ _ u)
+    ∙ sym (partner_product _ _ _ u q l)
     ∙ ap (λ v. v % p) (mul_comm _ _))
 
 partners_permute : (p a : ℕ) → IsPrime p → a % p ≢ 0 → Permutes (λ x. partner p a x) (p - 1)
@@ -92,7 +94,14 @@ product_to-congruent : (n : ℕ) (f g : ℕ → ℕ) (h : ℕ) → ((x : ℕ) �
     → product_to f h % n ≡ product_to g h % n
 product_to-congruent n f g zero e = rw (product_to-zero f, product_to-zero g)
 product_to-congruent n f g (suc h) e =
-    search (arith, product_to-suc, same_product, product_to, product_to-congruent n f g h (λ x p q. e x p (omega arith)))
+    search (
+      arith,
+      product_to-suc,
+      same_product,
+      product_to,
+      product_to-congruent n f g h
+          (λ x p q. e x p (omega arith)),
+    )
 
 -- ---- pairs of product a, where none is paired with itself
 abbrev leads : (ℕ → ℕ) → ℕ → ℕ
@@ -149,8 +158,8 @@ last_is_fixed p u =
     (ap (λ v. v % p) (square_of_last p (p - 2) (omega arith)) ∙ add-mul-mod_self_left 1 p (p - 2)
     ∙ sym (partner_product p 1 (p - 1) u (omega arith) l))
 
-pub wilson : (p : ℕ) → IsPrime p → product_to (λ x. x) (p - 1) % p ≡ p - 1
-wilson p u =
+pub wilsons_theorem : (p : ℕ) → IsPrime p → product_to (λ x. x) (p - 1) % p ≡ p - 1
+wilsons_theorem p u =
     let one : 1 % p ≡ 1 = mod-eq_of_lt u.above_one in
     let s : ℕ → ℕ = λ x. partner p 1 x in
     let h : ℕ = p - 1 in
@@ -209,7 +218,7 @@ root_from_symbol a p o u e =
     let c = product_of_pairs p r o u z (λ x q l f.
     n x q l (ap (λ v. (x * v) % p) f ∙ partner_product p r x u q (omega arith)
     ∙ (mod-eq_of_lt (residue_below p a (omega arith))))) in
-    search (arith, wilson))
+    search (arith, wilsons_theorem))
     (root_or_none p r (p - 1))
 
 -- and a square has the symbol 1

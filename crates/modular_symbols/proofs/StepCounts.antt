@@ -9,10 +9,10 @@ use Rattle.modular_symbols.specs.Steps.{steps_within, jacobi_steps}
 use Rattle.modular_symbols.proofs.TwoPart.{Halved}
 use Rattle.modular_symbols.proofs.JacobiLaws.{even_or_odd}
 
-within_none : (k a n : ℕ) → a ≡ 0 → steps_within k a n ≡ 0
+no_steps_at_zero : (k a n : ℕ) → a ≡ 0 → steps_within k a n ≡ 0
 unfolding steps_within
-within_none zero a n e = refl
-within_none (suc k) a n e = grind (arith, nat_tests)
+no_steps_at_zero zero a n e = refl
+no_steps_at_zero (suc k) a n e = grind (arith, nat_tests)
 
 within_halved : (k a n : ℕ) → 0 < a → a % 2 ≡ 0 → steps_within (suc k) a n ≡ suc (steps_within k (a / 2) n)
 unfolding steps_within
@@ -23,35 +23,48 @@ unfolding steps_within
 within_swapped k a n e = grind (arith, nat_tests)
 
 -- a larger bound changes nothing
-within_enough : (k l a n : ℕ) → a ≤ k → a ≤ l → steps_within k a n ≡ steps_within l a n
-within_enough zero l a n p q = within_none zero a n (omega arith) ∙ sym (within_none l a n (omega arith))
-within_enough (suc k) zero a n p q = within_none (suc k) a n (omega arith) ∙ sym (within_none zero a n (omega arith))
-within_enough (suc k) (suc l) a n p q =
+steps_within_independent_of_bound : (k l a n : ℕ) → a ≤ k → a ≤ l → steps_within k a n ≡ steps_within l a n
+steps_within_independent_of_bound zero l a n p q = no_steps_at_zero zero a n (omega arith)
+    ∙ sym (no_steps_at_zero l a n (omega arith))
+steps_within_independent_of_bound (suc k) zero a n p q = no_steps_at_zero (suc k) a n (omega arith)
+    ∙ sym (no_steps_at_zero zero a n (omega arith))
+steps_within_independent_of_bound (suc k) (suc l) a n p q =
     ⊎_elim
-    (λ (e : a ≡ 0). within_none (suc k) _ _ e ∙ sym (within_none (suc l) _ _ e))
+    (λ (e : a ≡ 0). no_steps_at_zero (suc k) _ _ e ∙ sym (no_steps_at_zero (suc l) _ _ e))
     (λ (z : 0 < a).
     ⊎_elim
-    (λ (e : a % 2 ≡ 0). search (arith, within_halved, within_enough k l (a / 2) n (omega arith) (omega arith)))
-    (λ (o : a % 2 ≡ 1). search (arith, mod_below, within_swapped, within_enough k l (n % a) a (omega arith) (omega arith)))
+    (λ (e : a % 2 ≡ 0). search (
+      arith,
+      within_halved,
+      steps_within_independent_of_bound k l (a / 2) n (omega arith)
+          (omega arith),
+    ))
+    (λ (o : a % 2 ≡ 1). search (
+      arith,
+      mod_below,
+      within_swapped,
+      steps_within_independent_of_bound k l (n % a) a
+          (omega arith) (omega arith),
+    ))
     (even_or_odd _))
     (zero_or_positive _)
 
 -- ---- the equations of the count
 pub jacobi_steps-none : (a n : ℕ) → a ≡ 0 → jacobi_steps a n ≡ 0
 unfolding jacobi_steps
-jacobi_steps-none a n e = within_none a a n e
+jacobi_steps-none a n e = no_steps_at_zero a a n e
 
 jacobi_steps-halved : (a n : ℕ) → 0 < a → a % 2 ≡ 0 → jacobi_steps a n ≡ suc (jacobi_steps (a / 2) n)
 unfolding jacobi_steps
 jacobi_steps-halved a n p e =
-    within_enough _ (suc a) _ _ (omega arith) (omega arith) ∙ within_halved _ _ _ p e
-    ∙ ap suc (within_enough _ _ _ _ (omega arith) (omega arith))
+    steps_within_independent_of_bound _ (suc a) _ _ (omega arith) (omega arith) ∙ within_halved _ _ _ p e
+    ∙ ap suc (steps_within_independent_of_bound _ _ _ _ (omega arith) (omega arith))
 
 jacobi_steps-swapped : (a n : ℕ) → a % 2 ≡ 1 → jacobi_steps a n ≡ suc (jacobi_steps (n % a) a)
 unfolding jacobi_steps
 jacobi_steps-swapped a n o =
-    within_enough _ (suc a) _ _ (omega arith) (omega arith) ∙ within_swapped _ _ _ o
-    ∙ ap suc (within_enough _ _ _ _ (omega arith) (omega arith))
+    steps_within_independent_of_bound _ (suc a) _ _ (omega arith) (omega arith) ∙ within_swapped _ _ _ o
+    ∙ ap suc (steps_within_independent_of_bound _ _ _ _ (omega arith) (omega arith))
 
 -- z twos are halved away, then the odd part o changes its place
 pub jacobi_steps-turn : (o z n : ℕ) → o % 2 ≡ 1 → jacobi_steps (o * 2 ^ z) n ≡ z + 1 + jacobi_steps (n % o) o
@@ -62,12 +75,12 @@ jacobi_steps-turn o (suc z) n h =
     search (arith, jacobi_steps-halved, jacobi_steps-turn o z n h)
 
 -- ---- the bound
-power_within : (k a n : ℕ) → 0 < a → a < n → a ≤ k → 2 ^ steps_within k a n ≤ 2 * (a * n)
-power_within zero a n p l b = absurd (omega arith)
-power_within (suc k) a n p l b =
+power_of_steps_within_bounded : (k a n : ℕ) → 0 < a → a < n → a ≤ k → 2 ^ steps_within k a n ≤ 2 * (a * n)
+power_of_steps_within_bounded zero a n p l b = absurd (omega arith)
+power_of_steps_within_bounded (suc k) a n p l b =
     ⊎_elim
     (λ (e : a % 2 ≡ 0).
-    let i = power_within k (a / 2) n (omega arith) (omega arith) (omega arith) in
+    let i = power_of_steps_within_bounded k (a / 2) n (omega arith) (omega arith) (omega arith) in
     let s = ap (λ v. 2 ^ v) (within_halved k a n p e) in
     let t : a * n ≡ 2 * (a / 2) * n = ap (λ v. v * n) (omega arith) in
     omega arith)
@@ -75,10 +88,10 @@ power_within (suc k) a n p l b =
     let s = ap (λ v. 2 ^ v) (within_swapped k a n o) in
     let q = mul-lt 0 0 a n p (omega arith) in
     ⊎_elim
-    (λ (z : n % a ≡ 0). let w = ap (λ v. 2 ^ v) (within_none k (n % a) a z) in omega arith)
+    (λ (z : n % a ≡ 0). let w = ap (λ v. 2 ^ v) (no_steps_at_zero k (n % a) a z) in omega arith)
     (λ (z : 0 < n % a).
     let m = mod_below n a p in
-    let i = power_within k (n % a) a z m (omega arith) in
+    let i = power_of_steps_within_bounded k (n % a) a z m (omega arith) in
     let t = mul-le-mul_left a (rest_twice n a p (omega arith)) in
     omega arith)
     (zero_or_positive (n % a)))
@@ -87,7 +100,7 @@ power_within (suc k) a n p l b =
 -- two to the number of steps is at most twice the product
 pub jacobi_steps-power : (a n : ℕ) → 0 < a → a < n → 2 ^ jacobi_steps a n ≤ 2 * (a * n)
 unfolding jacobi_steps
-jacobi_steps-power a n p l = power_within a a n p l (omega arith)
+jacobi_steps-power a n p l = power_of_steps_within_bounded a a n p l (omega arith)
 
 -- numbers of w bits take at most 2w steps
 jacobi_steps-few : (w a n : ℕ) → a < n → n < 2 ^ w → jacobi_steps a n ≤ 2 * w
@@ -111,8 +124,8 @@ pub counts_turn : (w base a n x y z o rest count : ℕ) → Counts w a n x y cou
     → base ≡ 2 ^ w → y < base → Counts w a n rest o (count + (z + 1))
 counts_turn w base a n x y z o rest count c h e b l = search (arith, jacobi_steps-turn)
 
-pub counts_end : (w a n x y count : ℕ) → Counts w a n x y count → x ≡ 0 → count ≡ jacobi_steps a n
-counts_end w a n x y count c e = search (arith, jacobi_steps-none)
+pub final_count_is_jacobi_steps : (w a n x y count : ℕ) → Counts w a n x y count → x ≡ 0 → count ≡ jacobi_steps a n
+final_count_is_jacobi_steps w a n x y count c e = search (arith, jacobi_steps-none)
 
 pub counts_few : (w a n x y count : ℕ) → Counts w a n x y count → a < n → count ≤ 2 * w
 counts_few w a n x y count c l = search (arith, jacobi_steps-few)

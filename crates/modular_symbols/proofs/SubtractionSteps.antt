@@ -8,8 +8,9 @@ use Rattle.modular_symbols.specs.Jacobi.{jacobi}
 use Rattle.modular_symbols.specs.Kronecker.{signed}
 use Rattle.modular_symbols.proofs.JacobiLaws.{jacobi-residue}
 use Rattle.modular_symbols.proofs.TurnBits.{is_odd, odd-sum}
-use Rattle.modular_symbols.proofs.TurnedSymbols.{Keeps, kept_last, signed-other, turned_twice}
-use Rattle.modular_symbols.proofs.TwoPart.{SplitAt, fewer_zeros, split_opposite, Halved, halved_split, Halved-of_shift}
+use Rattle.modular_symbols.proofs.TurnedSymbols.{Keeps, kept_last, signed-other, two_signs_compose}
+use Rattle.modular_symbols.proofs.TwoPart.{SplitAt, trailing_zeros_below_width, split_opposite, Halved, halved_split}
+use Rattle.modular_symbols.proofs.TwoPart.{Halved-of_shift}
 
 -- numbers that leave the same remainder have the same symbol
 jacobi-congruent : (x r n : ℕ) → 0 < n → x % n ≡ r % n → jacobi (pos x) n ≡ jacobi (pos r) n
@@ -26,7 +27,7 @@ pub record Wraps (w base v a n : ℕ) : Type 0 where
 
 -- which isn't 0, so that it has fewer trailing zeros than bits
 pub wrapped_zeros : (w b v a n s : ℕ) → Wraps w b v a n → a ≢ n → s ≡ count_trailing_zeros w v → s < w
-wrapped_zeros w b v a n s r z e = search (arith, mod-eq_of_lt, fewer_zeros)
+wrapped_zeros w b v a n s r z e = search (arith, mod-eq_of_lt, trailing_zeros_below_width)
 
 -- the first number is the greater one
 pub halved_above : (w b v a n d s o : ℕ) → Wraps w b v a n → a ≢ n → d + n ≡ a
@@ -61,7 +62,7 @@ jacobi-difference : (z : ℤ) (x q m y d s o : ℕ) → z ≡ signed (is_odd (x 
     → Halved d s o → y % 2 ≡ 1 → d + y ≡ m → z ≡ signed (is_odd (x / 2 + q)) (jacobi (pos o) y)
 jacobi-difference z x q m y d s o e t h k f =
     let odd_part = jacobi-odd_part m d y s o (is_odd q) t h (omega arith) (search (arith, add-mod_right)) in
-    search (arith, turned_twice, odd-sum)
+    search (arith, two_signs_compose, odd-sum)
 
 -- the symbol of the greater one over the smaller one
 pub jacobi-above : (l : Bool) (x q a n y d s o : ℕ) → l ≡ false → y ≡ n

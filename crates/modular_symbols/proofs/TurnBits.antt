@@ -1,5 +1,6 @@
 -- The lowest bit of the words in which turns are added up.
-use Rattle.std.proofs.Common.{◌≡◌, ℕ, zero, suc, ◌+◌, ◌/◌, ◌%◌, ◌^◌, ◌<◌, Bool, true, false, eqb, ◌&&◌, ◌∙◌, sym, ap, refl, arith}
+use Rattle.std.proofs.Common.{◌≡◌, ℕ, zero, suc, ◌+◌, ◌/◌, ◌%◌, ◌^◌, ◌<◌, Bool, true, false, eqb, ◌&&◌, ◌∙◌, sym, ap}
+use Rattle.std.proofs.Common.{refl, arith}
 use Rattle.std.proofs.Math.Bool.{beq, not}
 use Rattle.std.proofs.Math.Nat.{mod-lt}
 use Rattle.std.proofs.lemmas.Bool.{false≢true}
@@ -14,9 +15,9 @@ abbrev pub is_odd : ℕ → Bool
 is_odd x = eqb (x % 2) 1
 
 -- what isn't false after a negation
-pub is_by_not : (b : Bool) → not b ≡ false → b ≡ true
-is_by_not true e = refl
-is_by_not false e = absurd (false≢true (sym e))
+pub is_true_by_false_negation : (b : Bool) → not b ≡ false → b ≡ true
+is_true_by_false_negation true e = refl
+is_true_by_false_negation false e = absurd (false≢true (sym e))
 
 -- two counts of turns
 pub odd-sum : (p q : ℕ) → is_odd (p + q) ≡ not (beq (is_odd p) (is_odd q))
@@ -52,6 +53,7 @@ odd-both m n k l o p e f =
     ap is_odd (and_shr k l 1) ∙ odd-and (k / 2) (l / 2) ∙ search (arith, second_bit)
 
 -- the third bit of the low part and 2, where the lowest of s is set
-pub odd_twos : (s n l : ℕ) → n % 2 ≡ 1 → l ≡ n % 2 ^ 32
+pub third_bit_tells_residue_class : (s n l : ℕ) → n % 2 ≡ 1 → l ≡ n % 2 ^ 32
     → is_odd (bit_and s ((l + 2) % 2 ^ 32 / 4)) ≡ is_odd s && leaves_3_or_5 n
-odd_twos s n l o e = odd-and s ((l + 2) % 2 ^ 32 / 4) ∙ ap (λ v. is_odd s && v) (grind (arith, nat_tests))
+third_bit_tells_residue_class s n l o e = odd-and s ((l + 2) % 2 ^ 32 / 4)
+    ∙ ap (λ v. is_odd s && v) (grind (arith, nat_tests))

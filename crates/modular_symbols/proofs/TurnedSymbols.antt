@@ -25,7 +25,8 @@ signed-zero t = grind arith
 -- ---- a power of two above
 jacobi-twice : (k n : ℕ) → n % 2 ≡ 1 → jacobi (pos (2 * k)) n ≡ signed (leaves_3_or_5 n) (jacobi (pos k) n)
 jacobi-twice k n o =
-    let product : jacobi (pos (2 * k)) n ≡ jacobi (pos 2) n *ℤ (jacobi (pos k) n) = jacobi-product (pos 2) (pos k) _ o in
+    let product : jacobi (pos (2 * k)) n ≡ jacobi (pos 2) n *ℤ (jacobi (pos k) n) =
+    jacobi-product (pos 2) (pos k) _ o in
     grind (arith, nat_tests, jacobi-two n o, minus_one_times, one_times)
 
 one_more_two : (s : ℕ) (t : Bool) (z : ℤ) → signed t (signed (eqb (s % 2) 1 && t) z) ≡ signed (eqb (suc s % 2) 1 && t) z
@@ -63,8 +64,8 @@ jacobi_swapped_by b m n k o e =
     (λ (z : Coprime m n → ⊥). search (arith, jacobi-shared, signed-zero)) (coprime_or_not _ _ (omega arith))
 
 -- two turns, one after the other
-pub turned_twice : (x y z : ℤ) (t u : Bool) → x ≡ signed t y → y ≡ signed u z → x ≡ signed (not (beq t u)) z
-turned_twice x y z t u e f = e ∙ ap (λ v. signed t v) f ∙ sym (signed-other t u z)
+pub two_signs_compose : (x y z : ℤ) (t u : Bool) → x ≡ signed t y → y ≡ signed u z → x ≡ signed (not (beq t u)) z
+two_signs_compose x y z t u e f = e ∙ ap (λ v. signed t v) f ∙ sym (signed-other t u z)
 
 -- ---- what a loop keeps
 -- the symbol of x over y, turned or not, is w

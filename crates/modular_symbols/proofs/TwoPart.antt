@@ -8,7 +8,7 @@ use Rattle.std.proofs.lemmas.Nat.{pow_pos, pow-add, trailing_le}
 use Rattle.std.specs.Int.Count.{count_trailing_zeros}
 use lib.Count.{under}
 use Rattle.modular_word.proofs.Congruence.{factor_cancel}
-use Rattle.modular_word.proofs.Divisors.{divides, divides_rest, divides_through, multiple_of}
+use Rattle.modular_word.proofs.Divisors.{remainder_of_multiple_is_zero, divides_rest, divides_through, multiple_of}
 use Rattle.modular_word.proofs.Sums.{last_or_before}
 use Rattle.modular_symbols.specs.Kronecker.{twos_up_to, twos}
 
@@ -30,7 +30,7 @@ no_more : (n s k : ℕ) → s < k → SplitAt n s → n % 2 ^ k ≢ 0
 no_more n s k l split e =
     let p : 2 ^ k ≡ 2 ^ suc s * 2 ^ (k - suc s) =
     ap (λ v. 2 ^ v) (omega arith) ∙ pow-add _ (suc s) (k - suc s) in
-    let d : n % 2 ^ suc s ≡ 0 = search (arith, divides_through, divides) in
+    let d : n % 2 ^ suc s ≡ 0 = search (arith, divides_through, remainder_of_multiple_is_zero) in
     let u = ap (λ v. v * (n / 2 ^ suc s)) (pow-suc 2 s) in
     let w : 2 ^ s * (n / 2 ^ s) ≡ 2 ^ s * (2 * (n / 2 ^ suc s)) = omega (arith, split.whole) in
     search (arith, factor_cancel, pow_pos)
@@ -41,7 +41,7 @@ twos_from n s zero l split = omega arith
 twos_from n s (suc k) l split =
     ⊎_elim
     (λ (b : s ≤ k). grind (arith, nat_tests, no_more n s (suc k) (omega arith) split, twos_from n s k b split))
-    (λ (e : s ≡ suc k). search (arith, divides, nat_tests)) (last_or_before _ _ l)
+    (λ (e : s ≡ suc k). search (arith, remainder_of_multiple_is_zero, nat_tests)) (last_or_before _ _ l)
 
 -- it is the exponent of 2
 pub twos-is : (n s : ℕ) → SplitAt n s → twos n ≡ s
@@ -63,8 +63,8 @@ split_at (suc w) n h k =
     (λ p. split_at w (n / 2) p (omega (arith, pow-suc 2 w)))
 
 -- a number of w bits that isn't 0 has fewer trailing zeros
-pub fewer_zeros : (w v : ℕ) → 0 < v → v < 2 ^ w → count_trailing_zeros w v < w
-fewer_zeros w v p l =
+pub trailing_zeros_below_width : (w v : ℕ) → 0 < v → v < 2 ^ w → count_trailing_zeros w v < w
+trailing_zeros_below_width w v p l =
     let split : SplitAt v (count_trailing_zeros w v) = split_at _ _ p l in
     search (arith, trailing_le, mul-le-mul_right)
 
@@ -74,12 +74,13 @@ split_opposite w v d p q e =
     let s : ℕ = count_trailing_zeros w v in
     let split : SplitAt v s = split_at _ _ p (omega arith) in
     let u : ℕ = v / 2 ^ s in
-    let below : s < w = fewer_zeros _ _ p (omega arith) in
+    let below : s < w = trailing_zeros_below_width _ _ p (omega arith) in
     let m : ℕ = 2 ^ (w - suc s) in
     let power : 2 ^ w ≡ 2 ^ s * (2 * m) =
     ap (λ k. 2 ^ k) (omega arith) ∙ pow-add _ (suc s) (w - suc s) ∙ ap (λ k. k * m) (pow-suc _ _) ∙ omega arith in
     let rest : d ≡ 2 ^ s * (d / 2 ^ s) = multiple_of _ _
-    (divides_rest _ _ _ (divides (2 ^ s) v u (omega arith)) (divides _ _ _ (e ∙ power))) in
+    (divides_rest _ _ _ (remainder_of_multiple_is_zero (2 ^ s) v u (omega arith)) (remainder_of_multiple_is_zero _ _ _
+    (e ∙ power))) in
     let sum : u + d / 2 ^ s ≡ 2 * m = factor_cancel (2 ^ s) (u + d / 2 ^ s) (2 * m) (pow_pos s) (omega arith) in
     search arith
 
@@ -96,5 +97,6 @@ halved_by x s a o m = search (arith, pow_pos, mul-le-mul_left)
 pub halved_split : (x s a : ℕ) → SplitAt x s → a ≡ x / 2 ^ s → Halved x s a
 halved_split x s a split f = halved_by x s a (ap (λ v. v % 2) f ∙ split.odd) (ap (λ v. v * 2 ^ s) f ∙ split.whole)
 
-pub Halved-of_shift : (w x s a : ℕ) → (x ≡ 0 → ⊥) → x < 2 ^ w → s ≡ count_trailing_zeros w x → a ≡ x / 2 ^ s → Halved x s a
+pub Halved-of_shift : (w x s a : ℕ) → (x ≡ 0 → ⊥) → x < 2 ^ w → s ≡ count_trailing_zeros w x → a ≡ x / 2 ^ s
+    → Halved x s a
 Halved-of_shift w x s a p l e f = halved_split x s a (subst (λ v. SplitAt x v) (sym e) (split_at w x (omega arith) l)) f

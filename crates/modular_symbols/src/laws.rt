@@ -49,7 +49,7 @@ pub fn jacobi_laws()
 /// residue: a number congruent to the square of one that p doesn't divide.
 ///
 /// Source: Hardy and Wright, "An Introduction to the Theory of Numbers", sections 6.1 to 6.6.
-#[tactic(auto, using(crate::proofs::LegendreClass::class_over_prime, crate::proofs::PrimeLaws::inverse_to, crate::proofs::PrimeLaws::fermat, crate::proofs::PrimeLaws::class_is_some))]
+#[tactic(auto, using(crate::proofs::LegendreClass::class_over_prime, crate::proofs::PrimeLaws::inverse_to, crate::proofs::PrimeLaws::fermats_little_theorem, crate::proofs::PrimeLaws::class_is_some))]
 pub fn prime_laws()
     ensures coprime { (a p : ℕ) → IsPrime p → (a % p ≡ 0 → ⊥) → Coprime a p }
     ensures inverse { (a p : ℕ) → IsPrime p → (a % p ≡ 0 → ⊥) → HasInverse p a }

@@ -65,7 +65,7 @@ pub(crate) fn last_symbol<T: PlainWord>(n: T, turned: bool) -> i8
 
 // In the lowest bit, whether removing 2^twos from the upper number negates the symbol over an odd n. The other bits
 // are unspecified.
-#[tactic(auto, using(crate::proofs::TurnedSymbols::jacobi_twos_by, crate::proofs::TurnBits::odd_twos))]
+#[tactic(auto, using(crate::proofs::TurnedSymbols::jacobi_twos_by, crate::proofs::TurnBits::third_bit_tells_residue_class))]
 pub(crate) fn turn_by_twos<T: LowPart>(twos: u32, n: T) -> u32
     requires { T.number n % 2 ≡ 1 }
     ensures { (a : ℕ)

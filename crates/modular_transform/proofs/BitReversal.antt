@@ -77,18 +77,18 @@ pub record NextReversed (b p t : ℕ) : Type 0 where
   pub few : t < b
   pub next : bits_reversed b p + 2 ^ b ≡ bits_reversed b (p - 1) + 3 * 2 ^ (b - 1 - t)
 
-next_step : (c p t r : ℕ) → p % 2 ≡ r → r < 2 → 0 < p → (0 < p / 2 → NextReversed c (p / 2) t)
+next_reversed_of_longer_number : (c p t r : ℕ) → p % 2 ≡ r → r < 2 → 0 < p → (0 < p / 2 → NextReversed c (p / 2) t)
     → NextReversed (suc c) p (under r t)
-next_step c p t zero even l some half = grind (arith, two-pow-succ, bits_reversed-suc)
-next_step c p t (suc zero) odd l some half = grind (arith, two-pow-succ, bits_reversed-suc)
-next_step c p t (suc (suc r)) e l some half = absurd (omega arith)
+next_reversed_of_longer_number c p t zero even l some half = grind (arith, two-pow-succ, bits_reversed-suc)
+next_reversed_of_longer_number c p t (suc zero) odd l some half = grind (arith, two-pow-succ, bits_reversed-suc)
+next_reversed_of_longer_number c p t (suc (suc r)) e l some half = absurd (omega arith)
 
 pub next_reversed : (w b p : ℕ) → 0 < p → p < 2 ^ w → p < 2 ^ b → NextReversed b p (count_trailing_zeros w p)
 unfolding count_trailing_zeros
 next_reversed zero b p some k l = let z : 2 ^ 0 ≡ 1 = refl in absurd (omega (arith, z))
 next_reversed (suc w) zero p some k l = let z : 2 ^ 0 ≡ 1 = refl in absurd (omega (arith, z))
 next_reversed (suc w) (suc c) p some k l =
-    next_step c p (count_trailing_zeros w (p / 2)) (p % 2) refl (omega arith) some
+    next_reversed_of_longer_number c p (count_trailing_zeros w (p / 2)) (p % 2) refl (omega arith) some
     (λ h. next_reversed w c (p / 2) h (omega (arith, two-pow-succ w)) (omega (arith, two-pow-succ c)))
 
 exponent_below_64 : (b : ℕ) → 2 ^ b < 2 ^ 64 → b ≤ 63

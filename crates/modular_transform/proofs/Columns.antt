@@ -7,7 +7,7 @@ use Rattle.modular_word.specs.Congruence.{Congruent}
 use Rattle.modular_reduced.specs.Forms.{Represents, IsCanonical}
 use Rattle.modular_reduced.proofs.FormLemmas.{form_of_value}
 use Rattle.modular_transform.specs.Stages.{ArePowers}
-use Rattle.modular_transform.proofs.StripPowers.{power_more}
+use Rattle.modular_transform.proofs.StripPowers.{next_running_power_congruent}
 
 -- modulo m, p and q are the powers i and h + i of w, and s is the power i of v: those of column i of two stages
 pub record IsColumn (form value : ℕ → ℕ → ℕ) (m w v h i p q s : ℕ) : Type 0 where
@@ -17,19 +17,20 @@ pub record IsColumn (form value : ℕ → ℕ → ℕ) (m w v h i p q s : ℕ) :
   pub both : Congruent m (value m s) (v ^ i)
 
 -- the next column
-pub column_more : {form value : ℕ → ℕ → ℕ} {width m w v h p q s p' q' s' : ℕ} (start i : ℕ)
+pub next_powers_are_column : {form value : ℕ → ℕ → ℕ} {width m w v h p q s p' q' s' : ℕ} (start i : ℕ)
     → IsCanonical form value width m → IsColumn form value m w v h (start + i) p q s
     → Represents form m p' ((value m p * w) % m) → Represents form m q' ((value m q * w) % m)
     → Represents form m s' ((value m s * v) % m) → IsColumn form value m w v h (start + (i + 1)) p' q' s'
-column_more {form} {value} {m = m} {w} {v} {h} {p' = p'} {q' = q'} {s' = s'} start i canonical is first second both =
+next_powers_are_column {form} {value} {m = m} {w} {v} {h} {p' = p'} {q' = q'} {s' = s'} start i canonical is first
+    second both =
     grind (
       arith,
       form_of_value canonical first,
       form_of_value canonical second,
       form_of_value canonical both,
-      power_more w (start + i) canonical is.first first,
-      power_more w (h + (start + i)) canonical is.second second,
-      power_more v (start + i) canonical is.both both,
+      next_running_power_congruent w (start + i) canonical is.first first,
+      next_running_power_congruent w (h + (start + i)) canonical is.second second,
+      next_running_power_congruent v (start + i) canonical is.both both,
     )
 
 -- one column more of a strip has its powers, which three lists hold

@@ -27,8 +27,8 @@ half_turn_at {m} {g} {n} (suc y) whole suits = grind arith
 pub half_turn : {m g n : ℕ} → Suits m g n → HalfTurn m g n
 half_turn suits = half_turn_at suits.power_of_two.0 suits.power_of_two.1 suits
 
-pub mirrored_place : (n e : ℕ) → e < n → Mirrored n e (mirrored n e)
-mirrored_place n e l = elim (cases_eq e 0) [
+pub mirrored_index_is_mirror : (n e : ℕ) → e < n → Mirrored n e (mirrored n e)
+mirrored_index_is_mirror n e l = elim (cases_eq e 0) [
   | inl z ↦
       grind (arith, mirrored_first n)
   | inr s ↦
@@ -47,7 +47,8 @@ pub convolved_entry : {m : ℕ} (g n e part : ℕ) (x y c : ℕ → ℕ) → 0 <
     → (transform m g n c (mirrored n e) * part) % m ≡ cyclic_product m n x y e
 convolved_entry {m} g n e part x y c positive suits l inverse is =
     let whole : Congruent m (transform m g n c (mirrored n e)) (n * cyclic_product m n x y e) =
-    mod_trans (residue_of _) (mod_trans (transform_of_products _ _ _ _ _ _ _ (half_turn suits) (mirrored_place n e l)
+    mod_trans (residue_of _) (mod_trans (transform_of_products _ _ _ _ _ _ _ (half_turn suits)
+    (mirrored_index_is_mirror n e l)
     (λ j k. mod_trans (mod_of_eq (is j k)) (mod_trans (residue_of _) (mod_mul (residue_of _) (residue_of _)))))
     (mod_mul (mod_refl _) (mod_sym (residue_of _)))) in
     (by_part (cyclic_product m n x y e) inverse whole).same ∙ mod-eq_of_lt (mod_below _ _ positive)

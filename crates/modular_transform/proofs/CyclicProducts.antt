@@ -12,7 +12,7 @@ use Rattle.modular_word.proofs.Powers.{pow-mul, one-pow}
 use Rattle.modular_transform.proofs.MinusOne.{IsMinusOne, even_power_of_minus_one}
 use Rattle.modular_word.proofs.Sums.{sum_below-same, sum_below-congruent, sum_below-mul}
 use Rattle.modular_word.proofs.Sums.{sum_below-of_constant, sum_below-exchanged, sum_below-times_sum}
-use Rattle.modular_transform.proofs.Geometry.{geometric, powers_vanish}
+use Rattle.modular_transform.proofs.Geometry.{geometric, geometric_sum_vanishes}
 
 -- beyond one value, n is even, and g to its half is -1
 pub record HalfTurn (m g n : ℕ) : Type 0 where
@@ -53,7 +53,7 @@ at_other_turns {m} g n q r d turn l some below e =
     grind (arith, pow-add g (n * q) r, mod_mul (power_of_full_turns g n q turn l) (mod_refl (g ^ r))) in
     let within : r < 2 ^ suc k.0 = omega arith in
     mod_trans (sum_below-congruent n (λ j. (g ^ d) ^ j) (λ j. (g ^ r) ^ j) (λ j h. mod_pow j same))
-    (mod_trans (mod_of_eq (ap (λ v. geometric v (g ^ r)) k.1)) (powers_vanish k.0 g r k.2 some within))
+    (mod_trans (mod_of_eq (ap (λ v. geometric v (g ^ r)) k.1)) (geometric_sum_vanishes k.0 g r k.2 some within))
 
 -- the place k of the mirror image of place e: e + k is 0 or n
 pub record Mirrored (n e k : ℕ) : Type 0 where
@@ -67,7 +67,8 @@ sum_is_full_turns : (n e k a b : ℕ) → Mirrored n e k → a < n → b < n →
 sum_is_full_turns n e k a b mirror la lb at = search arith
 
 -- there the powers of g ^ (a + b + k) add up to n ..
-geometric_of_full_turns : {m : ℕ} (g n e k a b : ℕ) → HalfTurn m g n → Mirrored n e k → a < n → b < n → (a + b ≡ e) ⊎ (a + b ≡ e + n)
+geometric_of_full_turns : {m : ℕ} (g n e k a b : ℕ) → HalfTurn m g n → Mirrored n e k → a < n → b < n
+    → (a + b ≡ e) ⊎ (a + b ≡ e + n)
     → Congruent m (geometric n (g ^ (a + b + k))) n
 geometric_of_full_turns {m} g n e k a b turn mirror la lb at = elim (sum_is_full_turns n e k a b mirror la lb at) [
   | inl none ↦ mod_trans (mod_of_eq (ap (λ v. geometric n (g ^ v)) none)) (at_no_turn g n)
@@ -107,7 +108,8 @@ geometric_by_test {m} g n e k a b c turn mirror la lb =
     ]
 
 -- one summand of the transform of the product
-summand_by_power : (g k a b j x y : ℕ) → (x * g ^ (a * j)) * (y * g ^ (b * j)) * g ^ (j * k) ≡ x * y * (g ^ (a + b + k)) ^ j
+summand_by_power : (g k a b j x y : ℕ) → (x * g ^ (a * j)) * (y * g ^ (b * j)) * g ^ (j * k) ≡ x * y * (g ^ (a + b + k))
+    ^ j
 summand_by_power g k a b j x y =
     let e : (a + b + k) * j ≡ a * j + b * j + j * k = omega arith in
     let p = sym (pow-mul _ _ _) ∙ ap (λ n. g ^ n) e ∙ pow-add g (a * j + b * j) (j * k)
@@ -115,9 +117,9 @@ summand_by_power g k a b j x y =
     omega (arith, ap (λ v. x * y * v) p)
 
 -- a factor of every summand of a double sum
-pub scaled : (n k c : ℕ) (f : ℕ → ℕ → ℕ)
+pub factor_out_of_double_sum : (n k c : ℕ) (f : ℕ → ℕ → ℕ)
     → sum_below n (λ a. sum_below k (λ b. c * f a b)) ≡ c * sum_below n (λ a. sum_below k (λ b. f a b))
-scaled n k c f =
+factor_out_of_double_sum n k c f =
     sum_below-same n (λ a. sum_below k (λ b. c * f a b)) (λ a. c * sum_below k (λ b. f a b))
     (λ a l. sum_below-mul k c (f a)) ∙ sum_below-mul n c (λ a. sum_below k (λ b. f a b))
 
@@ -132,15 +134,16 @@ product_of_transforms_expanded g n k j x y =
     let p = ap (λ v. v * s) t in
     let q : sum_below n (λ a. sum_below n (λ b. f a b)) * s ≡ s * sum_below n (λ a. sum_below n (λ b. f a b)) =
     omega arith in
-    p ∙ q ∙ sym (scaled _ _ _ _) ∙ sum_below-same _ _ _
+    p ∙ q ∙ sym (factor_out_of_double_sum _ _ _ _) ∙ sum_below-same _ _ _
     (λ a la. sum_below-same _ _ _ (λ b lb.
     let u : s * f a b ≡ f a b * s = omega arith in u
     ∙ summand_by_power g k a b j (x a) (y b)))
 
 -- the outermost of three sums becomes the innermost
-pub moved : (p n : ℕ) (f : ℕ → ℕ → ℕ → ℕ) → sum_below p (λ e. sum_below n (λ i. sum_below n (λ j. f i j e)))
+pub outermost_sum_becomes_innermost : (p n : ℕ) (f : ℕ → ℕ → ℕ → ℕ)
+    → sum_below p (λ e. sum_below n (λ i. sum_below n (λ j. f i j e)))
     ≡ sum_below n (λ i. sum_below n (λ j. sum_below p (λ e. f i j e)))
-moved p n f =
+outermost_sum_becomes_innermost p n f =
     sum_below-exchanged p n (λ e i. sum_below n (λ j. f i j e))
     ∙ sum_below-same n (λ i. sum_below p (λ e. sum_below n (λ j. f i j e)))
     (λ i. sum_below n (λ j. sum_below p (λ e. f i j e))) (λ i l. sum_below-exchanged p n (λ e j. f i j e))
@@ -156,7 +159,7 @@ transform_of_products {m} g n e k x y c turn mirror is =
     let f = λ (a b j : ℕ). x a * y b * (g ^ (a + b + k)) ^ j in
     mod_trans (sum_below-congruent _ _ _ (λ j l. mod_trans (mod_mul (is j l) (mod_refl _))
     (mod_of_eq (product_of_transforms_expanded _ _ _ _ _ _))))
-    (mod_trans (mod_of_eq (moved n n f))
+    (mod_trans (mod_of_eq (outermost_sum_becomes_innermost n n f))
     (mod_trans (sum_below-congruent _ _ _
     (λ a la. sum_below-congruent _ _ _ (λ b lb. mod_trans (mod_of_eq (sum_below-mul _ _ _))
-    (geometric_by_test _ _ _ _ _ _ _ turn mirror la lb)))) (mod_of_eq (scaled _ _ _ _))))
+    (geometric_by_test _ _ _ _ _ _ _ turn mirror la lb)))) (mod_of_eq (factor_out_of_double_sum _ _ _ _))))

@@ -5,7 +5,7 @@ use Rattle.std.proofs.lemmas.Nat.{same_from_place, mul-le}
 use Rattle.modular_word.specs.Congruence.{Congruent}
 use Rattle.modular_word.proofs.Congruence.{mod_refl, mod_mul}
 use Rattle.modular_transform.specs.Stages.{IsFour, FourDone}
-use Rattle.modular_transform.proofs.PairLemmas.{pair_along, pair_by}
+use Rattle.modular_transform.proofs.PairLemmas.{pair_by_equal_values, pair_by}
 
 -- from the values x to the values y, the fours of the blocks from a to b - 1 in the columns from c to d - 1 are done
 -- and no others; a block has four quarters of h values
@@ -28,23 +28,25 @@ turned_four : {h k : ℕ} {x y : ℕ → ℕ} → SameFour h k x y → SameFour 
 turned_four is = record { first = sym is.first; second = sym is.second; third = sym is.third; fourth = sym is.fourth }
 
 -- the same four by other names of its values
-four_along : {m p q s h k : ℕ} {x y x' y' : ℕ → ℕ} → SameFour h k x x' → SameFour h k y y'
+four_by_same_values : {m p q s h k : ℕ} {x y x' y' : ℕ → ℕ} → SameFour h k x x' → SameFour h k y y'
     → IsFour m p q s h k x y → IsFour m p q s h k x' y'
-four_along {m} {p} {q} {s} {h} {k} {x} {y} {x'} {y'} from to four = grind arith
+four_by_same_values {m} {p} {q} {s} {h} {k} {x} {y} {x'} {y'} from to four = grind arith
 
 -- .. and by powers that are congruent
 four_by : {m p q s h k p' q' s' : ℕ} {x y : ℕ → ℕ} → Congruent m p p' → Congruent m q q' → Congruent m s s'
     → IsFour m p q s h k x y → IsFour m p' q' s' h k x y
 four_by is_p is_q is_s four = record {
   sums = pair_by is_s four.sums;
-  differences = pair_by is_s (pair_along (mod_mul (mod_refl _) is_p).same (mod_mul (mod_refl _) is_q).same refl refl
+  differences = pair_by is_s (pair_by_equal_values (mod_mul (mod_refl _) is_p).same (mod_mul (mod_refl _) is_q).same
+      refl refl
       four.differences);
 }
 
 -- the same four values by powers that are congruent
-pub done_by : {m p q s h k p' q' s' : ℕ} {x y : ℕ → ℕ} → Congruent m p p' → Congruent m q q' → Congruent m s s'
+pub four_done_by_congruent_powers : {m p q s h k p' q' s' : ℕ} {x y : ℕ → ℕ} → Congruent m p p' → Congruent m q q'
+    → Congruent m s s'
     → FourDone m p q s h k x y → FourDone m p' q' s' h k x y
-done_by is_p is_q is_s done = record { four = four_by is_p is_q is_s done.four; kept = done.kept }
+four_done_by_congruent_powers is_p is_q is_s done = record { four = four_by is_p is_q is_s done.four; kept = done.kept }
 
 -- a place names its block and its column
 same_block_and_column : (h c j l b t i : ℕ) → j < 4 → t < 4 → l < h → i < h
@@ -72,9 +74,9 @@ one_done {m} {w} {v} h b i x y l done = record {
 }
 
 -- a four that isn't among those that are done
-same_four : {m w v h a b c d : ℕ} {x y : ℕ → ℕ} → FoursDone m w v h a b c d x y
+other_four_is_unchanged : {m w v h a b c d : ℕ} {x y : ℕ → ℕ} → FoursDone m w v h a b c d x y
     → (n i : ℕ) → i < h → (a ≤ n → n < b → c ≤ i → i < d → ⊥) → SameFour h (n * (4 * h) + i) y x
-same_four {h = h} {x = x} {y = y} done n i l outside =
+other_four_is_unchanged {h = h} {x = x} {y = y} done n i l outside =
     let at = λ (k j : ℕ) (lj : j < 4) (e : k ≡ n * (4 * h) + (j * h + i)).
     ap y e ∙ done.kept n j i lj l outside ∙ ap x (sym e) in
     record {
@@ -89,9 +91,11 @@ pub columns_joined : {m w v h a b c d e : ℕ} (x y z : ℕ → ℕ) → c ≤ d
     → FoursDone m w v h a b c d x y → FoursDone m w v h a b d e y z → FoursDone m w v h a b c e x z
 columns_joined {h = h} {d = d} x y z lc ld le one two = record {
   fours = λ n i u v k l. elim (cases_lt i d) [
-    | inl f ↦ four_along (itself_four h _ x)
-        (turned_four (same_four two n i (omega arith) (λ o g j k. absurd (omega arith)))) (one.fours n i u v k f)
-    | inr f ↦ four_along (same_four one n i (omega arith) (λ o g j k. absurd (omega arith))) (itself_four h _ z)
+    | inl f ↦ four_by_same_values (itself_four h _ x)
+        (turned_four (other_four_is_unchanged two n i (omega arith) (λ o g j k. absurd (omega arith))))
+        (one.fours n i u v k f)
+    | inr f ↦ four_by_same_values (other_four_is_unchanged one n i (omega arith) (λ o g j k. absurd (omega arith)))
+        (itself_four h _ z)
         (two.fours n i u v f l)
   ];
   kept = λ n j i lj l outside.
@@ -104,9 +108,11 @@ pub blocks_joined : {m w v h a b c d e : ℕ} (x y z : ℕ → ℕ) → a ≤ b 
     → FoursDone m w v h a b c d x y → FoursDone m w v h b e c d y z → FoursDone m w v h a e c d x z
 blocks_joined {h = h} {b = b} x y z la lb ld one two = record {
   fours = λ n i u v k l. elim (cases_lt n b) [
-    | inl f ↦ four_along (itself_four h _ x)
-        (turned_four (same_four two n i (omega arith) (λ o g j k. absurd (omega arith)))) (one.fours n i u f k l)
-    | inr f ↦ four_along (same_four one n i (omega arith) (λ o g j k. absurd (omega arith))) (itself_four h _ z)
+    | inl f ↦ four_by_same_values (itself_four h _ x)
+        (turned_four (other_four_is_unchanged two n i (omega arith) (λ o g j k. absurd (omega arith))))
+        (one.fours n i u f k l)
+    | inr f ↦ four_by_same_values (other_four_is_unchanged one n i (omega arith) (λ o g j k. absurd (omega arith)))
+        (itself_four h _ z)
         (two.fours n i f v k l)
   ];
   kept = λ n j i lj l outside.
@@ -115,5 +121,6 @@ blocks_joined {h = h} {b = b} x y z la lb ld one two = record {
 }
 
 -- the places of a block are places of the list
-pub block_fits : (block blocks h n : ℕ) → block < blocks → blocks * (4 * h) ≡ n → block * (4 * h) + 4 * h ≤ n
-block_fits block blocks h n l whole = grind arith
+pub block_places_within_length : (block blocks h n : ℕ) → block < blocks → blocks * (4 * h) ≡ n
+    → block * (4 * h) + 4 * h ≤ n
+block_places_within_length block blocks h n l whole = grind arith

@@ -6,8 +6,8 @@ use Rattle.modular_reduced.specs.EntryLaws.{entry_kept, entry_read, entry_writte
 use Rattle.modular_reduced.specs.Forms.{Represents, IsForm, IsCanonical}
 use Rattle.modular_reduced.proofs.FormLemmas.{form_of_value}
 use Rattle.modular_transform.specs.Stages.{IsPair, FourDone, weighted}
-use Rattle.modular_transform.proofs.PairLemmas.{pair_along}
-use Rattle.modular_transform.proofs.ValueLemmas.{forms_written, pair_of}
+use Rattle.modular_transform.proofs.PairLemmas.{pair_by_equal_values}
+use Rattle.modular_transform.proofs.ValueLemmas.{forms_written, sum_and_difference_are_pair}
 
 -- the sum and the weighted difference of two forms are a pair of their values
 pair_of_forms : {form value : ℕ → ℕ → ℕ} {width m power a b sum product : ℕ} → IsCanonical form value width m
@@ -16,7 +16,7 @@ pair_of_forms : {form value : ℕ → ℕ → ℕ} {width m power a b sum produc
     → Represents form m product (weighted m power (value m a) (value m b))
     → IsPair m power (value m a) (value m b) (value m sum) (value m product)
 pair_of_forms {form} {value} {width} {m} {power} {a} {b} canonical is_a is_b is_sum is_product =
-    pair_of (value m a) (value m b) power _ _ is_a.below is_b.below (canonical.one_value _ _ is_sum)
+    sum_and_difference_are_pair (value m a) (value m b) power _ _ is_a.below is_b.below (canonical.one_value _ _ is_sum)
     (canonical.one_value _ _ is_product)
 
 -- four words written one step apart
@@ -43,11 +43,13 @@ pub four_checked : {T : Type 0} (number : T → ℕ) (form value : ℕ → ℕ �
     (set (set (set (set forms k e) (k + step) f) (k + 2 * step) g) (k + 3 * step) h)
 four_checked number form value width m forms k step e f g h canonical all is_e is_f is_g is_h =
     let write = λ (xs : List _) (i : ℕ) (v : ℕ) (x : _) (is : Represents form m (number x) v)
-    (l : All (λ f. IsForm form value m (number f)) xs). forms_written number form value width m xs i v x canonical is l in
+    (l : All (λ f. IsForm form value m (number f)) xs). forms_written number form value width m xs i v x canonical is l
+    in
     write _ (k + 3 * step) _ h is_h (write _ (k + 2 * step) _ g is_g
     (write _ (k + step) _ f is_f (write forms k _ e is_e all)))
 
-pub four_written : {T : Type 0} (number : T → ℕ) (form value : ℕ → ℕ → ℕ) (width m k step p q s : ℕ) (forms : List T)
+pub two_stages_of_four_done : {T : Type 0} (number : T → ℕ) (form value : ℕ → ℕ → ℕ) (width m k step p q s : ℕ)
+    (forms : List T)
     (a b c d left right left_turned right_turned e f g h : T)
     → IsCanonical form value width m → All (λ f. IsForm form value m (number f)) forms
     → 0 < step → k + 3 * step < length forms
@@ -63,7 +65,8 @@ pub four_written : {T : Type 0} (number : T → ℕ) (form value : ℕ → ℕ �
     → Represents form m (number h) (weighted m s (value m (number left_turned)) (value m (number right_turned)))
     → FourDone m p q s step k (entry number value m forms) (entry number value m
     (set (set (set (set forms k e) (k + step) f) (k + 2 * step) g) (k + 3 * step) h))
-four_written {T} number form value width m k step p q s forms a b c d left right left_turned right_turned e f g h
+two_stages_of_four_done {T} number form value width m k step p q s forms a b c d left right left_turned right_turned e f
+    g h
     canonical all some within read_a read_b read_c read_d is_left is_right is_lt is_rt is_e is_f is_g is_h =
     let x = entry number value m forms in
     let va : value m (number a) ≡ x k = entry_read number value m forms k a (omega arith) read_a in
@@ -78,4 +81,4 @@ four_written {T} number form value width m k step p q s forms a b c d left right
     (form_of_value canonical is_right) is_e is_f in
     let differences = pair_of_forms {power = s} canonical (form_of_value canonical is_lt)
     (form_of_value canonical is_rt) is_g is_h in
-    grind (arith, pair_along, w.kept)
+    grind (arith, pair_by_equal_values, w.kept)

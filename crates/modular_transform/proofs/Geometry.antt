@@ -70,9 +70,9 @@ odd_multiple (suc y) d some below =
     ]
 
 -- the powers of g ^ d add up to 0, where g to the half of 2 ^ (y + 1) is -1
-pub powers_vanish : {m : ℕ} (y g d : ℕ) → IsMinusOne m (g ^ (2 ^ y)) → 0 < d → d < 2 ^ suc y
+pub geometric_sum_vanishes : {m : ℕ} (y g d : ℕ) → IsMinusOne m (g ^ (2 ^ y)) → 0 < d → d < 2 ^ suc y
     → Congruent m (geometric (2 ^ suc y) (g ^ d)) 0
-powers_vanish {m} y g d half_turn some below =
+geometric_sum_vanishes {m} y g d half_turn some below =
     let k = odd_multiple _ _ some below in
     let e : (g ^ d) ^ (2 ^ k.doublings) ≡ (g ^ (2 ^ y)) ^ (2 * k.half + 1) =
     sym (pow-mul _ _ _) ∙ ap (λ n. g ^ n) k.reached ∙ pow-mul g (2 ^ y) (2 * k.half + 1) in

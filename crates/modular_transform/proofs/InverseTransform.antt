@@ -16,14 +16,15 @@ use Rattle.modular_word.proofs.Sums.{sum_below-same, sum_below-congruent}
 use Rattle.modular_transform.specs.Orders.{mirrored}
 use Rattle.modular_transform.specs.Transforms.{Suits, transform}
 use Rattle.modular_transform.proofs.CyclicProducts.{transform_of_products, full_turn}
-use Rattle.modular_transform.proofs.ConvolveLemmas.{half_turn, mirrored_place, by_part}
+use Rattle.modular_transform.proofs.ConvolveLemmas.{half_turn, mirrored_index_is_mirror, by_part}
 use Rattle.modular_transform.proofs.PolynomialProducts.{sum_at_place}
 use Rattle.modular_transform.proofs.Reordering.{mirror_exchange, mirrored_first, mirrored_other}
 
 -- powers of a number and of its inverse cancel
-powers_cancel : {m g h : ℕ} (k : ℕ) → IsInverse m g h → Congruent m (g ^ k * h ^ k) 1
-powers_cancel {m} {g} {h} k inverse =
-    mod_trans (mod_of_eq (sym (mul-pow g h k))) (mod_trans (mod_pow k (record { same = inverse.one })) (mod_of_eq (one-pow k)))
+inverse_powers_cancel : {m g h : ℕ} (k : ℕ) → IsInverse m g h → Congruent m (g ^ k * h ^ k) 1
+inverse_powers_cancel {m} {g} {h} k inverse =
+    mod_trans (mod_of_eq (sym (mul-pow g h k))) (mod_trans (mod_pow k (record { same = inverse.one }))
+    (mod_of_eq (one-pow k)))
 
 -- the inverse of a root that suits
 pub inverse_suits : {m g h n : ℕ} → IsInverse m g h → Suits m g n → Suits m h n
@@ -33,7 +34,12 @@ inverse_suits {m} {g} {h} {n} inverse suits = record {
       let k = n / 2 in
       let turn : Congruent m (g ^ k + 1) 0 = record { same = suits.half_turn l ∙ sym (zero-mod m) } in
       let sum : Congruent m (h ^ k + 1) 0 =
-      grind (arith, mod_add (mod_sym (powers_cancel k inverse)) (mod_refl (h ^ k)), mod_mul turn (mod_refl (h ^ k))) in
+      grind (
+        arith,
+        mod_add (mod_sym (inverse_powers_cancel k inverse)) (mod_refl (h ^ k)),
+        mod_mul turn
+            (mod_refl (h ^ k)),
+      ) in
       sum.same ∙ zero-mod m;
 }
 
@@ -71,7 +77,7 @@ product_by_unit n e x l =
 pub transformed_twice : {m : ℕ} (g n k : ℕ) (x : ℕ → ℕ) → Suits m g n → k < n
     → Congruent m (transform m g n (transform m g n x) k) (n * x (mirrored n k))
 transformed_twice {m} g n k x suits l =
-    let place = mirrored_place n k l in mod_trans (residue_of _)
+    let place = mirrored_index_is_mirror n k l in mod_trans (residue_of _)
     (mod_trans (transform_of_products _ _ _ _ _ _ _ (half_turn suits) (grind (arith, place.image))
     (λ j _. mod_trans (residue_of _) (mod_of_eq (let s = sum_below n (λ i. x i * g ^ (i * j)) in
     (omega arith) ∙ ap (λ v. s * v) (sym (unit_transformed g n j (omega (arith, l))))))))
@@ -89,7 +95,7 @@ power_of_inverse {m} {g} {h} {n} i inverse suits l = elim (cases_eq i 0) [
         mod_mul (mod_sym (full_turn g n (half_turn suits) (omega arith))) (mod_refl (h ^ i)),
         mirrored_other n i (omega arith) l,
         pow-add g (mirrored n i) i,
-        mod_mul (mod_refl (g ^ (mirrored n i))) (powers_cancel i inverse),
+        mod_mul (mod_refl (g ^ (mirrored n i))) (inverse_powers_cancel i inverse),
       )
 ]
 
@@ -113,9 +119,11 @@ transformed_back {m} {g} {h} n k x inverse suits l =
     (mod_of_eq (ap (λ p. n * x p) ((mirror_exchange n).twice k l))))
 
 -- .. and times 1/n the value itself
-pub value_back : {m g h : ℕ} (n k part : ℕ) (x : ℕ → ℕ) → IsInverse m g h → IsInverse m n part → Suits m g n → k < n
+pub transform_back_gives_value : {m g h : ℕ} (n k part : ℕ) (x : ℕ → ℕ) → IsInverse m g h → IsInverse m n part
+    → Suits m g n → k < n
     → Congruent m (transform m h n (transform m g n x) k * part) (x k)
-value_back n k part x inverse of_length suits l = by_part (x k) of_length (transformed_back n k x inverse suits l)
+transform_back_gives_value n k part x inverse of_length suits l =
+    by_part (x k) of_length (transformed_back n k x inverse suits l)
 
 -- a power of two is 1 or even
 even_length : (z n : ℕ) → n ≡ 2 ^ z → 1 < n → n ≡ 2 * (n / 2)

@@ -6,9 +6,9 @@ use Rattle.modular_word.proofs.Congruence.{mod_refl, mod_sym, mod_trans, mod_add
 use Rattle.modular_transform.specs.Stages.{IsPair, PairDone, IsStage}
 
 -- the same pair by other names of its values
-pub pair_along : {m u a b c d a' b' c' d' : ℕ} → a ≡ a' → b ≡ b' → c ≡ c' → d ≡ d'
+pub pair_by_equal_values : {m u a b c d a' b' c' d' : ℕ} → a ≡ a' → b ≡ b' → c ≡ c' → d ≡ d'
     → IsPair m u a b c d → IsPair m u a' b' c' d'
-pair_along {m} {u} {a} {b} {c} {d} {a'} {b'} {c'} {d'} ea eb ec ed h = grind arith
+pair_by_equal_values {m} {u} {a} {b} {c} {d} {a'} {b'} {c'} {d'} ea eb ec ed h = grind arith
 
 -- .. and by a power that is congruent
 pub pair_by : {m u v a b c d : ℕ} → Congruent m u v → IsPair m u a b c d → IsPair m v a b c d
@@ -25,14 +25,15 @@ pub record PairsBelow (m w h i : ℕ) (x y : ℕ → ℕ) : Type 0 where
   pub kept : (k : ℕ) → i ≤ k → k < h → (y k ≡ x k) × (y (h + k) ≡ x (h + k))
 
 -- one pair more
-pub pairs_more : {m u w h i : ℕ} (x y z : ℕ → ℕ) → i < h → Congruent m u (w ^ i) → PairsBelow m w h i x y
+pub pairs_below_next_index : {m u w h i : ℕ} (x y z : ℕ → ℕ) → i < h → Congruent m u (w ^ i) → PairsBelow m w h i x y
     → PairDone m u i (h + i) y z → PairsBelow m w h (i + 1) x z
-pairs_more {m} {u} {w} {h} {i} x y z within is before here =
+pairs_below_next_index {m} {u} {w} {h} {i} x y z within is before here =
     grind (
       arith,
       cases_eq,
-      pair_by is (pair_along (before.kept i (omega arith) within).0 (before.kept i (omega arith) within).1 refl refl here.pair),
-      pair_along,
+      pair_by is (pair_by_equal_values (before.kept i (omega arith) within).0 (before.kept i (omega arith) within).1
+          refl refl here.pair),
+      pair_by_equal_values,
     )
 
 -- a stage by a root that is congruent

@@ -23,5 +23,5 @@ pub stages_left : {done z : ℕ} → (z - done) % 2 ≡ 0 → done < z → Stage
 stages_left even more = grind (arith, two_left)
 
 -- an index of a list is none past another of the same length
-pub at_most : {i m n : ℕ} → i < m → m ≡ n → i ≤ n
-at_most within same = omega (arith, within, same)
+pub index_within_equal_length : {i m n : ℕ} → i < m → m ≡ n → i ≤ n
+index_within_equal_length within same = omega (arith, within, same)

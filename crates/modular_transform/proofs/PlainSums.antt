@@ -12,13 +12,13 @@ use Rattle.modular_transform.specs.Transforms.{Suits}
 use Rattle.modular_transform.proofs.PowersOfTwo.{beyond_one}
 
 -- no term
-pub sum_none : (m : ℕ) (f : ℕ → ℕ) → 0 ≡ sum_below 0 f % m
-sum_none m f = sym (ap (λ v. v % m) (sum_below-zero f) ∙ zero-mod m)
+pub empty_sum_residue_is_zero : (m : ℕ) (f : ℕ → ℕ) → 0 ≡ sum_below 0 f % m
+empty_sum_residue_is_zero m f = sym (ap (λ v. v % m) (sum_below-zero f) ∙ zero-mod m)
 
 -- one term more
-pub sum_more : (m i s t : ℕ) (f : ℕ → ℕ) → s ≡ sum_below i f % m → Congruent m t (f i)
+pub sum_residue_of_next_term : (m i s t : ℕ) (f : ℕ → ℕ) → s ≡ sum_below i f % m → Congruent m t (f i)
     → (s + t) % m ≡ sum_below (i + 1) f % m
-sum_more m i s t f so_far term =
+sum_residue_of_next_term m i s t f so_far term =
     grind (arith, (mod_add (mod_trans (mod_of_eq so_far) (residue_of (sum_below i f))) term).same, sum_below-suc i f)
 
 -- the power of the first term, and of the next

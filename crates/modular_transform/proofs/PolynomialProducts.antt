@@ -9,11 +9,11 @@ use Rattle.modular_word.specs.Sums.{sum_below}
 use Rattle.modular_word.proofs.Sums.{sum_below-zero, sum_below-suc, sum_below-same}
 use Rattle.modular_word.proofs.Sums.{sum_below-times_sum, sum_below-of_zeros, sum_below-bounded}
 use Rattle.modular_transform.specs.Transforms.{cyclic_product}
-use Rattle.modular_transform.proofs.CyclicProducts.{scaled, moved}
+use Rattle.modular_transform.proofs.CyclicProducts.{factor_out_of_double_sum, outermost_sum_becomes_innermost}
 
 -- a value at one place alone
-pub at_place : (s e v : ℕ) → s ≡ e → cond (eqb s e) v 0 ≡ v
-at_place s e v is = elim (eqb_tells s e) [ inl p ↦ rw p.0 (omega arith) | inr p ↦ absurd (p.1 is) ]
+pub equal_places_keep_value : (s e v : ℕ) → s ≡ e → cond (eqb s e) v 0 ≡ v
+equal_places_keep_value s e v is = elim (eqb_tells s e) [ inl p ↦ rw p.0 (omega arith) | inr p ↦ absurd (p.1 is) ]
 
 pub at_other : (s e v : ℕ) → s ≢ e → cond (eqb s e) v 0 ≡ 0
 at_other s e v ne = elim (eqb_tells s e) [ inl p ↦ absurd (ne p.1) | inr p ↦ rw p.0 (omega arith) ]
@@ -26,7 +26,7 @@ sum_at_place (suc n) s f l =
     elim (cases_eq s n) [
       | inl is ↦
           let z = sum_below-of_zeros n (λ e. cond (eqb s e) (f e) 0) (λ e t. at_other s e (f e) (omega arith)) in
-          omega (arith, d, z, at_place s n (f n) is, ap f is)
+          omega (arith, d, z, equal_places_keep_value s n (f n) is, ap f is)
       | inr ne ↦
           omega (arith, d, sum_at_place n s f (omega arith), at_other s n (f n) ne)
     ]
@@ -44,15 +44,15 @@ row_bounded (suc n) i e c f few =
       | inl is ↦
           let z = sum_below-of_zeros n (λ j. cond (eqb (i + j) e) (f j) 0)
           (λ j t. at_other (i + j) e (f j) (omega arith)) in
-          omega (arith, d, z, at_place (i + n) e (f n) is, few n (omega arith))
+          omega (arith, d, z, equal_places_keep_value (i + n) e (f n) is, few n (omega arith))
       | inr ne ↦
           omega (arith, d, row_bounded n i e c f (λ j l. few j (omega arith)), at_other (i + n) e (f n) ne)
     ]
 
 -- where the terms of index n and above are 0, a term of the cyclic product has only one place
-one_place : (n i j e v : ℕ) → (n ≤ i + j → v ≡ 0)
+cyclic_place_is_plain_place : (n i j e v : ℕ) → (n ≤ i + j → v ≡ 0)
     → cond (eqb (i + j) e || eqb (i + j) (e + n)) v 0 ≡ cond (eqb (i + j) e) v 0
-one_place n i j e v room = grind arith
+cyclic_place_is_plain_place n i j e v room = grind arith
 
 -- the terms at place e
 product_terms : ℕ → (ℕ → ℕ) → (ℕ → ℕ) → ℕ → ℕ
@@ -65,7 +65,8 @@ unfolding product_terms
 cyclic_product_is_terms m n s t x y e few few_y small room =
     let same = sum_below-same _ _ _
     (λ i l. sum_below-same n (λ j. cond (eqb (i + j) e || eqb (i + j) (e + n)) (x i * y j) 0)
-    (λ j. cond (eqb (i + j) e) (x i * y j) 0) (λ j k. one_place n i j e (x i * y j) (room i j l k))) in
+    (λ j. cond (eqb (i + j) e) (x i * y j) 0) (λ j k. cyclic_place_is_plain_place n i j e (x i * y j) (room i j l k)))
+    in
     let below = sum_below-bounded _ _ _ (λ i l. row_bounded n i e (s * t) (λ j. x i * y j)
     (λ j k. mul-le-mul (few i l) (few_y j k))) in
     ap (λ v. v % m) same ∙ mod-eq_of_lt (omega (arith, below, small))
@@ -81,14 +82,15 @@ term_over_places n b i j v w room = elim (cases_lt (i + j) n) [
       sum_at_none _ _ _ (omega arith) ∙ sym ((omega arith) ∙ r)
 ]
 
-factor_in : (s e c v : ℕ) → c * cond (eqb s e) v 0 ≡ cond (eqb s e) (c * v) 0
-factor_in s e c v = elim (eqb_tells s e) [ inl p ↦ rw p.0 (omega arith) | inr p ↦ rw p.0 (omega arith) ]
+factor_moves_into_choice : (s e c v : ℕ) → c * cond (eqb s e) v 0 ≡ cond (eqb s e) (c * v) 0
+factor_moves_into_choice s e c v = elim (eqb_tells s e) [ inl p ↦ rw p.0 (omega arith) | inr p ↦ rw p.0 (omega arith) ]
 
 terms_times_power : (n b e : ℕ) (x y : ℕ → ℕ)
     → product_terms n x y e * b ^ e ≡ sum_below n (λ i. sum_below n (λ j. cond (eqb (i + j) e) (b ^ e * (x i * y j)) 0))
 unfolding product_terms
 terms_times_power n b e x y =
-    (omega arith) ∙ sym (scaled _ _ _ _) ∙ sum_below-same _ _ _ (λ i l. sum_below-same _ _ _ (λ j k. factor_in _ _ _ _))
+    (omega arith) ∙ sym (factor_out_of_double_sum _ _ _ _)
+    ∙ sum_below-same _ _ _ (λ i l. sum_below-same _ _ _ (λ j k. factor_moves_into_choice _ _ _ _))
 
 -- the entries are the coefficients of the product
 pub polynomial_product : {m : ℕ} (n b s t : ℕ) (x y : ℕ → ℕ) → ((i : ℕ) → i < n → x i ≤ s)
@@ -99,6 +101,6 @@ pub polynomial_product : {m : ℕ} (n b s t : ℕ) (x y : ℕ → ℕ) → ((i :
 polynomial_product {m} n b s t x y few few_y small room =
     let f = λ (i j e : ℕ). cond (eqb (i + j) e) (b ^ e * (x i * y j)) 0 in
     sum_below-same _ _ _ (λ e l. ap (λ v. v * b ^ e) (cyclic_product_is_terms _ _ _ _ _ _ _ few few_y small room)
-    ∙ terms_times_power n b e x y) ∙ moved n n f
+    ∙ terms_times_power n b e x y) ∙ outermost_sum_becomes_innermost n n f
     ∙ sum_below-same _ _ _ (λ i l. sum_below-same _ _ _ (λ j k. term_over_places _ _ _ _ _ _ (room i j l k)))
     ∙ sym (sum_below-times_sum _ _ _ _)

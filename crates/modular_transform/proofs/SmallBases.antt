@@ -20,6 +20,6 @@ pub remainder_of_successor : (m x v w : ℕ) → v ≡ x % m → w ≡ 1 % m →
 remainder_of_successor m x v w is one = ap (λ a. (a + w) % m) is ∙ ap (λ b. (x % m + b) % m) one ∙ sym (add-mod x 1 m)
 
 -- the power of a remainder
-pub power_of_rest : (m x e v w k : ℕ) → v ≡ x % m → k ≡ e → w ≡ v ^ k % m → w ≡ x ^ e % m
-power_of_rest m x e v w k is exponent power =
+pub power_of_remainder_congruent : (m x e v w k : ℕ) → v ≡ x % m → k ≡ e → w ≡ v ^ k % m → w ≡ x ^ e % m
+power_of_remainder_congruent m x e v w k is exponent power =
     power ∙ ap (λ a. a ^ k % m) is ∙ pow-mod x k m ∙ ap (λ i. x ^ i % m) exponent

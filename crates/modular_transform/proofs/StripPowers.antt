@@ -14,15 +14,16 @@ pub one_form : {T : Type 0} (number : T → ℕ) (form value : ℕ → ℕ → �
 one_form {T} number form value m n x is = let P = λ (f : T). IsForm form value m (number f) in All-replicate P n x is
 
 -- the first running power is 1
-pub first_power : {form value : ℕ → ℕ → ℕ} {width m f one : ℕ} (w : ℕ) → IsCanonical form value width m → one ≡ 1
+pub start_is_zeroth_power : {form value : ℕ → ℕ → ℕ} {width m f one : ℕ} (w : ℕ) → IsCanonical form value width m
+    → one ≡ 1
     → Represents form m f (one % m)
     → Congruent m (value m f) (w ^ 0)
-first_power {form} {value} {width} {m} {f} {one} w canonical is_one is =
+start_is_zeroth_power {form} {value} {width} {m} {f} {one} w canonical is_one is =
     grind (arith, mod_trans, mod_of_eq, residue_of, pow-zero)
 
 -- the next power
-pub power_more : {form value : ℕ → ℕ → ℕ} {width m f p : ℕ} (w i : ℕ) → IsCanonical form value width m
+pub next_running_power_congruent : {form value : ℕ → ℕ → ℕ} {width m f p : ℕ} (w i : ℕ) → IsCanonical form value width m
     → Congruent m (value m f) (w ^ i) → Represents form m p ((value m f * w) % m)
     → Congruent m (value m p) (w ^ (i + 1))
-power_more {form} {value} {width} {m} {f} {p} w i canonical is next =
+next_running_power_congruent {form} {value} {width} {m} {f} {p} w i canonical is next =
     search (arith, mod_trans, mod_of_eq, residue_of, mod_mul, mod_refl, pow-one, pow-add)

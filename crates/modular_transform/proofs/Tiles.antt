@@ -104,10 +104,11 @@ pub record Spot (b step tile other row column to_row to_column : ℕ) : Type 0 w
   pub second : place_of step (tiles_reversed b (tile * 64 + row * 8 + column)) ≡ to_row * step + other * 8 + to_column
   pub second_below : to_row * step + other * 8 + to_column < step * 8
 
-pub spot : (b step tile other row column to_row to_column : ℕ) → step ≡ 2 ^ b * 8 → tile < 2 ^ b → row < 8 → column < 8
+pub tile_place_is_spot : (b step tile other row column to_row to_column : ℕ) → step ≡ 2 ^ b * 8 → tile < 2 ^ b → row < 8
+    → column < 8
     → other ≡ bits_reversed b tile → to_row ≡ bits_reversed 3 column → to_column ≡ bits_reversed 3 row
     → Spot b step tile other row column to_row to_column
-spot b step tile other row column to_row to_column is_step lt lr lc is_other is_row is_column =
+tile_place_is_spot b step tile other row column to_row to_column is_step lt lr lc is_other is_row is_column =
     grind (arith, bits_reversed_below, reversed_below_8, reversed_parts, place_of_parts)
 
 -- the two places are swapped

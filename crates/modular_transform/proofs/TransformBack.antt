@@ -52,14 +52,14 @@ restored_at m g n part j new old _ suits inverse l is =
     (mod_trans (mod_mul (by_part _ inverse (transformed_twice _ _ _ _ suits l)) (mod_refl part)) last)))).same
 
 -- a list whose transform is given
-pub preimage : ℕ → ℕ → ℕ → ℕ → (ℕ → ℕ) → ℕ → ℕ
-preimage m g n part y i = (transform m g n y (mirrored n i) * part) % m
+pub transform_preimage : ℕ → ℕ → ℕ → ℕ → (ℕ → ℕ) → ℕ → ℕ
+transform_preimage m g n part y i = (transform m g n y (mirrored n i) * part) % m
 
 pub transform_of_preimage : (m g n part j : ℕ) (y : ℕ → ℕ) → g < m → 1 < n → Suits m g n → IsInverse m n part → j < n
-    → transform m g n (preimage m g n part y) j ≡ y j % m
-unfolding preimage
+    → transform m g n (transform_preimage m g n part y) j ≡ y j % m
+unfolding transform_preimage
 transform_of_preimage m g n part j y below _ suits inverse l = restored_at m g n part j
-    (preimage m g n part y) y below suits inverse l (λ i k. refl)
+    (transform_preimage m g n part y) y below suits inverse l (λ i k. refl)
 
 -- the three steps of the transform back
 pub stepped_back : {T : Type 0} (number : T → ℕ) (form value : ℕ → ℕ → ℕ) (width m g part : ℕ) (xs xs1 xs2 xs3 : List T)

@@ -77,10 +77,10 @@ blocks_more {m} g z t n half blocks v x y w sizes is_blocks some suits root befo
     grind arith
 
 -- the products of the stages so far, of which there are c besides
-pub products_more : (z t n half blocks products more c : ℕ) → StageSizes z t n half blocks
+pub next_stage_products_counted : (z t n half blocks products more c : ℕ) → StageSizes z t n half blocks
     → products + 2 ^ (z - t) ≡ t * (n / 2) + n + c → more ≡ half * (blocks + 1)
     → products + more + 2 ^ (z - (t + 1)) ≡ (t + 1) * (n / 2) + n + c
-products_more z t n half blocks products more c sizes before is = omega arith
+next_stage_products_counted z t n half blocks products more c sizes before is = omega arith
 
 -- the sizes of two stages
 pub record TwoSizes (z t n half blocks : ℕ) : Type 0 where

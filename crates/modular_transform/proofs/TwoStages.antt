@@ -5,9 +5,9 @@ use Rattle.std.proofs.Math.Dec.{ltb}
 use Rattle.std.proofs.lemmas.Bool.{cases_eq, lt-ltb, le-ltb}
 use Rattle.std.proofs.lemmas.Nat.{mod-mul-add}
 use Rattle.modular_transform.specs.Stages.{IsStage, IsTwoStages, weighted, low, high}
-use Rattle.modular_transform.proofs.FourLemmas.{FoursDone, block_fits}
-use Rattle.modular_transform.proofs.PairLemmas.{pair_along}
-use Rattle.modular_transform.proofs.ValueLemmas.{pair_of}
+use Rattle.modular_transform.proofs.FourLemmas.{FoursDone, block_places_within_length}
+use Rattle.modular_transform.proofs.PairLemmas.{pair_by_equal_values}
+use Rattle.modular_transform.proofs.ValueLemmas.{sum_and_difference_are_pair}
 
 -- the values after a stage with the root w, by their places
 abbrev after : ℕ → ℕ → ℕ → (ℕ → ℕ) → ℕ → ℕ
@@ -25,10 +25,10 @@ first_of_two : (m w h blocks n : ℕ) (x : ℕ → ℕ) → blocks * (4 * h) ≡
     → IsStage m w (h + h) blocks x (after m w (h + h) x)
 first_of_two m w h blocks n x whole below = record {
   pairs = λ p i lp li.
-      let fit = block_fits p blocks h n lp whole in
+      let fit = block_places_within_length p blocks h n lp whole in
       let a = low (h + h) p i in
       let b = high (h + h) p i in
-      pair_of (x a) (x b) (w ^ i) _ _ (below a (omega (arith, fit))) (below b (omega (arith, fit)))
+      sum_and_difference_are_pair (x a) (x b) (w ^ i) _ _ (below a (omega (arith, fit))) (below b (omega (arith, fit)))
       (after_low m w (h + h) p i a x li refl ∙ ap (λ v. (x a + x v) % m) (omega arith))
       (after_high m w (h + h) p i b x li refl ∙ ap (λ v. weighted m (w ^ i) (x v) (x b)) (omega arith));
 }
@@ -48,7 +48,7 @@ second_of_two m w v h blocks x y done = record {
             let row : p * (h + h) ≡ q * (4 * h) = ap (λ v. v * (h + h)) e ∙ omega arith in
             let at_low : k ≡ low h p i = omega (arith, row) in
             let at_high : k + h ≡ high h p i = omega (arith, row) in
-            pair_along
+            pair_by_equal_values
             (ap (λ j. (x k + x j) % m) (omega arith) ∙ sym (after_low m w (h + h) q i k x (omega arith) (omega arith))
             ∙ ap u at_low)
             (ap (λ j. (x (k + h) + x j) % m) (omega arith)
@@ -59,7 +59,7 @@ second_of_two m w v h blocks x y done = record {
             let row : p * (h + h) ≡ q * (4 * h) + 2 * h = ap (λ v. v * (h + h)) e ∙ omega arith in
             let at_low : k + 2 * h ≡ low h p i = omega (arith, row) in
             let at_high : k + 3 * h ≡ high h p i = omega (arith, row) in
-            pair_along
+            pair_by_equal_values
             (ap (λ j. weighted m (w ^ i) (x j) (x (k + 2 * h))) (omega arith)
             ∙ sym (after_high m w (h + h) q i (k + 2 * h) x (omega arith) (omega arith)) ∙ ap u at_low)
             (ap (λ j. weighted m (w ^ (h + i)) (x j) (x (k + 3 * h))) (omega arith)

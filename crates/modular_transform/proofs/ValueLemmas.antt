@@ -35,9 +35,9 @@ residue_restored : (m v w : ℕ) → v < m → w < m → Congruent m (residue m 
 residue_restored m v w lv lw = grind (arith, (cases_lt v w), residue_sub_wrapped, add-mod_right v m, residue_sub)
 
 -- the sum of two values, and their difference times a power
-pub pair_of : {m : ℕ} (a b power sum difference : ℕ) → a < m → b < m → sum ≡ (a + b) % m
+pub sum_and_difference_are_pair : {m : ℕ} (a b power sum difference : ℕ) → a < m → b < m → sum ≡ (a + b) % m
     → difference ≡ (residue m (pos a -ℤ pos b) * power) % m → IsPair m power a b sum difference
-pair_of {m} a b power sum difference la lb is_sum is_difference =
+sum_and_difference_are_pair {m} a b power sum difference la lb is_sum is_difference =
     let d = residue m (pos a -ℤ pos b) in
     record {
       summed = mod_trans (mod_of_eq is_sum) (residue_of (a + b));
@@ -47,7 +47,8 @@ pair_of {m} a b power sum difference la lb is_sum is_difference =
     }
 
 -- what a pair writes
-pub pair_written : {T : Type 0} (number : T → ℕ) (form value : ℕ → ℕ → ℕ) (width m : ℕ) (forms : List T) (low high : ℕ)
+pub written_pair_is_done : {T : Type 0} (number : T → ℕ) (form value : ℕ → ℕ → ℕ) (width m : ℕ) (forms : List T)
+    (low high : ℕ)
     (a b sum product : T) (power : ℕ)
     → IsCanonical form value width m → All (λ f. IsForm form value m (number f)) forms
     → low < high → high < length forms → a ≡ get_or forms low a → b ≡ get_or forms high b
@@ -56,7 +57,7 @@ pub pair_written : {T : Type 0} (number : T → ℕ) (form value : ℕ → ℕ �
     ((residue m (pos (value m (number a)) -ℤ pos (value m (number b))) * power) % m)
     → PairDone m power low high (entry number value m forms)
     (entry number value m (set (set forms high product) low sum))
-pair_written number form value width m forms low high a b sum product power canonical all order within
+written_pair_is_done number form value width m forms low high a b sum product power canonical all order within
     read_a read_b is_sum is_product =
     let x = entry number value m forms in
     let y = entry number value m (set (set forms high product) low sum) in
@@ -71,13 +72,15 @@ pair_written number form value width m forms low high a b sum product power cano
     (subst (λ n. low < n) (sym (length-set forms high product)) l) in
     let at_high : y high ≡ value m (number product) = entry_kept number value m (set forms high product) low high sum
     (omega arith) ∙ entry_written number value m forms high product within in
-    let done = pair_of (value m (number a)) (value m (number b)) power (y low) (y high) is_a.below is_b.below
+    let done = sum_and_difference_are_pair (value m (number a)) (value m (number b)) power (y low) (y high) is_a.below
+    is_b.below
     (at_low ∙ canonical.one_value _ _ is_sum) (at_high ∙ canonical.one_value _ _ is_product) in
     grind (arith, entry_kept)
 
 -- a loop that writes entry after entry
-pub entry_done : {T : Type 0} (number : T → ℕ) (value : ℕ → ℕ → ℕ) (m : ℕ) (forms : List T)
+pub written_entries_match_target : {T : Type 0} (number : T → ℕ) (value : ℕ → ℕ → ℕ) (m : ℕ) (forms : List T)
     (i : ℕ) (f : T) (target : ℕ → ℕ)
     → i < length forms → ((k : ℕ) → k < i → entry number value m forms k ≡ target k) → value m (number f) ≡ target i
     → (k : ℕ) → k < i + 1 → entry number value m (set forms i f) k ≡ target k
-entry_done number value m forms i f target within before is k l = grind (arith, set, entry_written, entry_kept)
+written_entries_match_target number value m forms i f target within before is k l =
+    grind (arith, set, entry_written, entry_kept)

@@ -16,7 +16,7 @@ use modular_reduced::reducer::Reducer;
 use modular_word::ring_word::RingWord;
 
 // The form of n, a power of two, by doubling 1, because n may not fit a word.
-#[tactic(auto, using(crate::proofs::StripPowers::first_power, crate::proofs::ConvolveLemmas::doubled_all))]
+#[tactic(auto, using(crate::proofs::StripPowers::start_is_zeroth_power, crate::proofs::ConvolveLemmas::doubled_all))]
 pub(crate) fn length_form<T: RingWord, R: Reducer<T>>(r: &R, n: usize) -> T
     requires { IsPowerOfTwo n }
     ensures form { IsChecked R.Reducer T.number r.now result }

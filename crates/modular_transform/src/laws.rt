@@ -15,7 +15,7 @@ ghost use Rattle.modular_transform.specs.Transforms.{Suits, transform, cyclic_pr
 /// times the values; times an inverse of n, it gives the values.
 ///
 /// Source: Pollard, "The fast Fourier transform in a finite field", section 2.
-#[tactic(auto, using(crate::proofs::InverseTransform::inverse_suits, crate::proofs::InverseTransform::power_suits, crate::proofs::InverseTransform::transform_congruent, crate::proofs::InverseTransform::transformed_back, crate::proofs::InverseTransform::value_back))]
+#[tactic(auto, using(crate::proofs::InverseTransform::inverse_suits, crate::proofs::InverseTransform::power_suits, crate::proofs::InverseTransform::transform_congruent, crate::proofs::InverseTransform::transformed_back, crate::proofs::InverseTransform::transform_back_gives_value))]
 pub fn transform_laws()
     ensures inverse { (m g h n : ℕ) → IsInverse m g h → Suits m g n → Suits m h n }
     ensures shorter { (m g k n : ℕ) → IsPowerOfTwo n → Suits m g (n * k) → Suits m (g ^ k % m) n }

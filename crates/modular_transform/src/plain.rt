@@ -34,7 +34,7 @@ pub fn suits(m: u64, g: u64, n: usize) -> bool
 /// # Preconditions
 ///
 /// - m is at least 1
-#[tactic(auto, using(crate::proofs::PlainSums::sum_none, crate::proofs::PlainSums::term_power_first, modular_word::proofs::Congruence::mod_mul, modular_word::proofs::Congruence::mod_refl, crate::proofs::PlainSums::sum_more, crate::proofs::PlainSums::term_power_next))]
+#[tactic(auto, using(crate::proofs::PlainSums::empty_sum_residue_is_zero, crate::proofs::PlainSums::term_power_first, modular_word::proofs::Congruence::mod_mul, modular_word::proofs::Congruence::mod_refl, crate::proofs::PlainSums::sum_residue_of_next_term, crate::proofs::PlainSums::term_power_next))]
 pub fn transform_entry(m: u64, g: u64, xs: &[u64], j: usize) -> u64
     requires { 1 ≤ m }
     ensures { result ≡ transform m g (length xs.now) (slice_index xs.now) j }

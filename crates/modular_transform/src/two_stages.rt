@@ -76,7 +76,7 @@ fn four<T: RingWord, R: Reducer<T>>(
 /// - entries, root, square and `turned` are checked forms
 /// - `turned` is that power
 /// - there are 4·step·blocks entries, in one block or more
-#[tactic(auto, using(crate::proofs::FourLemmas::block_fits))]
+#[tactic(auto, using(crate::proofs::FourLemmas::block_places_within_length))]
 pub fn two_stages<T: RingWord, R: Reducer<T>>(
     r: &R,
     forms: &mut [T],

@@ -4,7 +4,8 @@ use Rattle.std.proofs.Math.Nat.{mod-eq_of_lt}
 use Rattle.std.proofs.lemmas.Nat.{and_comm, and_mask}
 
 -- where there is a borrow, the modulus is added ..
-pub difference_with_borrow : (a b m low high : ℕ) → a < b → b < m → m < 2 ^ 64 → (a + (2 ^ 128 - b)) % 2 ^ 128 ≡ low + 2 ^ 64 * high
+pub difference_with_borrow : (a b m low high : ℕ) → a < b → b < m → m < 2 ^ 64
+    → (a + (2 ^ 128 - b)) % 2 ^ 128 ≡ low + 2 ^ 64 * high
     → low < 2 ^ 64 → high < 2 ^ 64 → (low + bit_and high m) % 2 ^ 64 + b ≡ a + m
 difference_with_borrow a b m low high less below fits parts low_fits high_fits =
     let ones : high ≡ 2 ^ 64 - 1 = omega arith in
@@ -13,6 +14,7 @@ difference_with_borrow a b m low high less below fits parts low_fits high_fits =
     omega (arith, (ap (λ v. (low + v) % 2 ^ 64) all))
 
 -- .. and else nothing
-pub difference_without_borrow : (a b m low high : ℕ) → b ≤ a → a < 2 ^ 64 → (a + (2 ^ 128 - b)) % 2 ^ 128 ≡ low + 2 ^ 64 * high
+pub difference_without_borrow : (a b m low high : ℕ) → b ≤ a → a < 2 ^ 64
+    → (a + (2 ^ 128 - b)) % 2 ^ 128 ≡ low + 2 ^ 64 * high
     → low < 2 ^ 64 → (low + bit_and high m) % 2 ^ 64 + b ≡ a
 difference_without_borrow a b m low high less fits parts low_fits = grind arith

@@ -14,12 +14,12 @@ use Rattle.modular_word.proofs.Congruence.{same_product}
 pub multiple_of : (d n : ℕ) → n % d ≡ 0 → n ≡ d * (n / d)
 multiple_of d n h = omega arith
 
-pub divides : (d n k : ℕ) → n ≡ d * k → n % d ≡ 0
-divides d n k e = ap (λ v. v % d) e ∙ mul-mod_right d k
+pub remainder_of_multiple_is_zero : (d n k : ℕ) → n ≡ d * k → n % d ≡ 0
+remainder_of_multiple_is_zero d n k e = ap (λ v. v % d) e ∙ mul-mod_right d k
 
 -- what divides two numbers divides their sum, and the rest of a sum
 pub divides_sum : (d a b : ℕ) → a % d ≡ 0 → b % d ≡ 0 → (a + b) % d ≡ 0
-divides_sum d a b g h = divides d (a + b) (a / d + b / d) (omega arith)
+divides_sum d a b g h = remainder_of_multiple_is_zero d (a + b) (a / d + b / d) (omega arith)
 
 absurd_small : (d i j a b : ℕ) → a ≡ d * i → a + b ≡ d * j → j < i → b ≡ d * (j - i)
 absurd_small d i j a b g h l = grind arith
@@ -32,11 +32,13 @@ rest_is_multiple d i j a b g h =
 
 pub divides_rest : (d a b : ℕ) → a % d ≡ 0 → (a + b) % d ≡ 0 → b % d ≡ 0
 divides_rest d a b g h =
-    divides _ _ ((a + b) / d - a / d) (rest_is_multiple _ _ ((a + b) / d) _ _ (multiple_of _ _ g) (multiple_of _ _ h))
+    remainder_of_multiple_is_zero _ _ ((a + b) / d - a / d) (rest_is_multiple _ _ ((a + b) / d) _ _ (multiple_of _ _ g)
+    (multiple_of _ _ h))
 
 -- what divides a number divides its multiples
 pub divides_product : (d a k : ℕ) → a % d ≡ 0 → (a * k) % d ≡ 0
-divides_product d a k g = divides _ _ (a / d * k) (ap (λ v. v * k) (multiple_of _ _ g) ∙ omega arith)
+divides_product d a k g = remainder_of_multiple_is_zero _ _ (a / d * k) (ap (λ v. v * k) (multiple_of _ _ g)
+    ∙ omega arith)
 
 pub divides_through : (d e n : ℕ) → e % d ≡ 0 → n % e ≡ 0 → n % d ≡ 0
 divides_through d e n g h = grind (arith, multiple_of, divides_product)
@@ -189,7 +191,13 @@ gcd_is_positive a n p = gcd_greatest a n n 1 p (mod-one a) (mod-one n)
 
 -- an inverse exists exactly where the greatest common divisor is 1
 pub HasInverse-gcd : (a n : ℕ) → 0 < n → HasInverse n a ↔ (gcd a n ≡ 1)
-HasInverse-gcd a n p = grind (arith, gcd-from_Coprime, Coprime-from_IsInverse, HasInverse-from_Coprime, Coprime-from_gcd)
+HasInverse-gcd a n p = grind (
+  arith,
+  gcd-from_Coprime,
+  Coprime-from_IsInverse,
+  HasInverse-from_Coprime,
+  Coprime-from_gcd,
+)
 
 -- one more number tried
 pub gcd_up_to-hit : (a n k : ℕ) → a % suc k ≡ 0 → n % suc k ≡ 0 → gcd_up_to a n (suc k) ≡ suc k

@@ -31,7 +31,8 @@ exact_within B d i n q hn e eq hq =
 -- the quotient of a multiple of the divisor is within the limit
 pub quotient_within : (B d i n k q : ℕ) → n < B → (d * i) % B ≡ 1 → q ≡ (n * i) % B → k * d ≡ n
     → (q ≡ k) × (q ≤ (B - 1) / d)
-quotient_within B d i n k q hn e eq ek = grind (arith, divisor_positive, mul-le-mul_left, quotient_of_multiple, mod-eq_of_lt, le-div)
+quotient_within B d i n k q hn e eq ek =
+    grind (arith, divisor_positive, mul-le-mul_left, quotient_of_multiple, mod-eq_of_lt, le-div)
 
 -- the low word of the quotient's low word times the divisor is the number's low word
 pub low_again : (B d i n0 q0 low h : ℕ) → n0 < B → low < B → (d * i) % B ≡ 1
@@ -48,7 +49,8 @@ pub high_left : (B d i n0 n1 q0 h K : ℕ) → n0 < B → (d * i) % B ≡ 1 → 
 high_left B d i n0 n1 q0 h K hn e eq ep eK =
     let g : (n0 + B * n1) * i ≡ n0 * i + B * (n1 * i) = omega arith in
     let low : K % B ≡ q0 =
-    sym (quotient_of_multiple _ _ _ _ e) ∙ ap (λ x. (x * i) % B) eK ∙ ap (λ x. x % B) g ∙ add-mul-mod_self_left _ _ _ ∙ sym eq in
+    sym (quotient_of_multiple _ _ _ _ e) ∙ ap (λ x. (x * i) % B) eK ∙ ap (λ x. x % B) g ∙ add-mul-mod_self_left _ _ _
+    ∙ sym eq in
     let fd : (B * (K / B) + q0) * d ≡ K * d = ap (λ x. x * d) (let f' : B * (K / B) + q0 ≡ K = omega arith in f') in
     let top : B * (K / B * d + h) ≡ B * n1 = omega arith in
     factor_cancel _ (K / B * d + h) _ (omega arith) top

@@ -8,8 +8,8 @@ product_regrouped : (a b x : ℕ) → a * (b * x) ≡ a * x * b
 product_regrouped a b x = omega arith
 
 -- the inverse times b, times a, is congruent to b
-pub solution : (m a b x : ℕ) → IsInverse m a x → (a * ((b * x) % m)) % m ≡ b % m
-solution m a b x h =
+pub inverse_solves_congruence : (m a b x : ℕ) → IsInverse m a x → (a * ((b * x) % m)) % m ≡ b % m
+inverse_solves_congruence m a b x h =
     mul-mod_second _ _ _ ∙ ap (λ n. n % m) (product_regrouped _ _ _) ∙ sym (mul-mod_first _ _ _)
     ∙ ap (λ n. (n * b) % m) h.one ∙ mul-mod_first _ _ _ ∙ ap (λ n. n % m) (one-mul _)
 
@@ -23,5 +23,5 @@ both_remainders m n a b d x p q h e =
       omega (arith, below),
       add-mul-mod_self_left _ _ ((d * x) % n) ∙ mod-mod _ _,
       ap (λ s. s % n) (add_comm _ (m * ((d * x) % n))) ∙ sym (mod-add-mod (m * ((d * x) % n)) _ _)
-          ∙ ap (λ s. (s + a % m) % n) (solution _ _ _ _ h) ∙ mod-add-mod _ _ _ ∙ e,
+          ∙ ap (λ s. (s + a % m) % n) (inverse_solves_congruence _ _ _ _ h) ∙ mod-add-mod _ _ _ ∙ e,
     )

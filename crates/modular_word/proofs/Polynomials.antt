@@ -22,21 +22,32 @@ powers_raised n (suc k) c x h =
     omega (arith, (powers_raised n k c x (omega arith)), (ap (λ j. c k * j) e))
 
 -- one more coefficient
-pub horner : (n : ℕ) (c : ℕ → ℕ) (x : ℕ) → polynomial_highest_first (n + 1) c x ≡ polynomial_highest_first n c x * x + c n
-horner n c x =
-    let e : c n * x ^ (n + 1 - 1 - n) ≡ c n * 1 = ap (λ j. c n * x ^ j) (omega arith) ∙ ap (λ j. c n * j) (pow-zero _) in
+pub polynomial_of_next_coefficient : (n : ℕ) (c : ℕ → ℕ) (x : ℕ)
+    → polynomial_highest_first (n + 1) c x ≡ polynomial_highest_first n c x * x + c n
+polynomial_of_next_coefficient n c x =
+    let e : c n * x ^ (n + 1 - 1 - n) ≡ c n * 1 = ap (λ j. c n * x ^ j) (omega arith)
+    ∙ ap (λ j. c n * j) (pow-zero _) in
     omega (arith, sum_below-more (λ i. c i * x ^ (n + 1 - 1 - i)) n, powers_raised n n c x (omega arith), e)
 
 -- with no coefficient the value is 0
-pub value_none : (x : ℕ) → polynomial_highest_first 0 (slice_index []) x ≡ 0
-value_none x = sum_below-zero (λ i. get_or [] i 0 * x ^ (0 - 1 - i))
+pub empty_polynomial_is_zero : (x : ℕ) → polynomial_highest_first 0 (slice_index []) x ≡ 0
+empty_polynomial_is_zero x = sum_below-zero (λ i. get_or [] i 0 * x ^ (0 - 1 - i))
 
 -- with one more it is the value so far, times x, and the coefficient
-pub value_more : (cs : List ℕ) (c x : ℕ)
+pub polynomial_of_appended_coefficient : (cs : List ℕ) (c x : ℕ)
     → polynomial_highest_first (length (cs ++ c ∷ [])) (slice_index (cs ++ c ∷ [])) x
     ≡ polynomial_highest_first (length cs) (slice_index cs) x * x + c
-value_more cs c x =
-    grind (arith, length, length-append, get_or, sum_below-same, get_or-append, horner, get_or-append_seam)
+polynomial_of_appended_coefficient cs c x =
+    grind (
+      arith,
+      length,
+      length-append,
+      get_or,
+      sum_below-same,
+      get_or-append,
+      polynomial_of_next_coefficient,
+      get_or-append_seam,
+    )
 
 -- with one more in front it is its product by a power of x, and the value so far
 pub value_first : (cs : List ℕ) (c x : ℕ)
@@ -45,10 +56,11 @@ pub value_first : (cs : List ℕ) (c x : ℕ)
 value_first cs c x = grind (arith, length, get_or, sum_below-same, sum_below-first)
 
 -- one step of Horner's rule, modulo m
-pub residue_more : (m : ℕ) (cs : List ℕ) (c x value product : ℕ)
+pub polynomial_residue_of_appended : (m : ℕ) (cs : List ℕ) (c x value product : ℕ)
     → value ≡ polynomial_highest_first (length cs) (slice_index cs) x % m → product ≡ (value * x) % m
     → (product + c) % m ≡ polynomial_highest_first (length (cs ++ c ∷ [])) (slice_index (cs ++ c ∷ [])) x % m
-residue_more m cs c x value product e f = grind (arith, length, get_or, mul-mod_first, mod-add-mod, value_more)
+polynomial_residue_of_appended m cs c x value product e f =
+    grind (arith, length, get_or, mul-mod_first, mod-add-mod, polynomial_of_appended_coefficient)
 
 -- the laws of sums over ranges
-pub ruleset ranges = (sum_below-zero, sum_below-more, horner)
+pub ruleset ranges = (sum_below-zero, sum_below-more, polynomial_of_next_coefficient)

@@ -18,11 +18,11 @@ guess_rest B d a0 A q q1 r R hr hR eq e0 e =
     same_rest B R r (z * d + ((q * d) / B) + u) A hR hr (omega arith)
 
 -- the dividend times the base, less the guessed multiple of the divisor
-pub scaled : (c d v k a0 a1 q0 q1 : ℕ)
+pub scaled_dividend_expanded : (c d v k a0 a1 q0 q1 : ℕ)
     → (v + (c + d)) * d + k ≡ (c + d) * (c + d)
     → v * a1 + (a0 + (c + d) * a1) ≡ q0 + (c + d) * q1
     → (c + d) * (a0 + (c + d) * a1) ≡ a1 * k + a0 * c + q0 * d + (c + d) * (q1 * d)
-scaled c d v k a0 a1 q0 q1 h p =
+scaled_dividend_expanded c d v k a0 a1 q0 q1 h p =
     let h1 : (v * a1 + (a0 + (c + d) * a1)) * d ≡ (q0 + (c + d) * q1) * d = ap (λ x. x * d) p in
     let h2 : a1 * ((v + (c + d)) * d + k) ≡ a1 * ((c + d) * (c + d)) = ap (λ x. a1 * x) h in
     omega arith
@@ -95,7 +95,7 @@ guess_at_sum : (c d v a0 a1 q0 q1 q r : ℕ) → Setting (c + d) d v a0 a1 q0 q1
     → Guess (c + d) d (a0 + (c + d) * a1) q0 q1 r
 guess_at_sum c d v a0 a1 q0 q1 q r s hr eq er =
     let k = (c + d) * (c + d) - (v + (c + d)) * d in
-    let e = scaled _ _ _ k _ _ _ _ (omega (arith, s.reciprocal.below)) s.product in
+    let e = scaled_dividend_expanded _ _ _ k _ _ _ _ (omega (arith, s.reciprocal.below)) s.product in
     let a = a0 + (c + d) * a1 in
     ⊎_elim
     (λ (h : a < (q1 + 1) * d).
@@ -141,9 +141,9 @@ step_down B d a q0 q1 q r q' r' hd h1 hr hq' guess eq eq' er' hr0 =
     guess
 
 -- no step after a guess that leaves at most q0
-pub step_none : (B d a q0 q1 q r : ℕ) → d < B → a < d * B → q1 < B
+pub small_rest_guess_is_exact : (B d a q0 q1 q r : ℕ) → d < B → a < d * B → q1 < B
     → Guess B d a q0 q1 r → q ≡ (q1 + 1) % B → r ≤ q0 → a ≡ q * d + r
-step_none B d a q0 q1 q r hd ha h1 guess eq hr0 =
+small_rest_guess_is_exact B d a q0 q1 q r hd ha h1 guess eq hr0 =
     ⊎_elim
     (λ (f : GuessFits B d a q0 q1 r).
     let h : q1 + 1 < B = lt_of_mul-lt-mul_right _ (let h' : (q1 + 1) * d < B * d = omega (arith, f.rest) in h') in

@@ -1,6 +1,7 @@
 -- The arithmetic of a reduction that divides by the base.
 use Rattle.std.proofs.Common.{◌≡◌, ℕ, ◌+◌, ◌-◌, ◌*◌, ◌/◌, ◌%◌, ◌<◌, ◌≤◌, ◌⊎◌, inr, sym, ap, ◌∙◌, arith, ⊎_elim}
-use Rattle.std.proofs.Math.Nat.{add-mod, mod-eq_of_lt, mod-lt, mul-le-mul_left, mul-le-mul_right, add-mul-mod_self_left, lt_of_mul-lt-mul_right}
+use Rattle.std.proofs.Math.Nat.{add-mod, mod-eq_of_lt, mod-lt, mul-le-mul_left, mul-le-mul_right, add-mul-mod_self_left}
+use Rattle.std.proofs.Math.Nat.{lt_of_mul-lt-mul_right}
 use Rattle.std.proofs.lemmas.Nat.{mul-mod_first, mul-mod_second}
 use Rattle.std.proofs.lemmas.Bool.{cases_lt}
 use Rattle.modular_word.proofs.Congruence.{same_rest, factor_cancel, same_without_unit, next_is_multiple}
@@ -31,8 +32,8 @@ high_sum_is m q r below is = ⊎_elim (λ (h : (q < m) × (r ≡ q)). h.1 ∙ sy
     grind (arith, add-mul-mod_self_left, mod-eq_of_lt)) is
 
 -- a number below the base and a multiple of it that add up to a multiple of the base
-only_multiple : (B x s q : ℕ) → x < B → x + B * s ≡ B * q → (x ≡ 0) × (s ≡ q)
-only_multiple B x s q below e =
+multiple_has_zero_low_part : (B x s q : ℕ) → x < B → x + B * s ≡ B * q → (x ≡ 0) × (s ≡ q)
+multiple_has_zero_low_part B x s q below e =
     let some : 0 < B = omega (arith, below) in
     let none : x ≡ 0 = same_rest _ _ _ _ _ below some (let h : x + B * s ≡ 0 + B * q = omega (arith, e) in h) in
     (none, factor_cancel _ _ _ some (let h : B * s ≡ B * q = omega (arith, none, e) in h))
@@ -44,19 +45,19 @@ high_sum_of B t u t0 h l k carried cleared et t0_fits eu l_fits is =
     let q = (t + u) / B in
     ⊎_elim (λ (none : (l ≡ 0) × (carried ≡ k)).
     let e : t0 + B * (h + k) ≡ B * q = let f = none.0 in omega arith in
-    let r = (only_multiple B t0 (h + k) q t0_fits e).1 in
+    let r = (multiple_has_zero_low_part B t0 (h + k) q t0_fits e).1 in
     let f = none.1 in omega arith) (λ (some : (0 < l) × (carried ≡ k + 1)).
     ⊎_elim (λ (less : t0 + l < B).
     let e : t0 + l + B * (h + k) ≡ B * q = omega arith in
-    let z = (only_multiple B (t0 + l) (h + k) q less e).0 in
+    let z = (multiple_has_zero_low_part B (t0 + l) (h + k) q less e).0 in
     absurd (let f = some.0 in omega arith)) (λ (more : B ≤ t0 + l).
     let e : t0 + l - B + B * (h + k + 1) ≡ B * q = omega arith in
-    let r = (only_multiple B (t0 + l - B) (h + k + 1) q (omega arith) e).1 in
+    let r = (multiple_has_zero_low_part B (t0 + l - B) (h + k + 1) q (omega arith) e).1 in
     let f = some.1 in omega arith) (cases_lt (t0 + l) B)) is
 
 -- the high word of a number below m times the base
-pub high_below : (B m x x0 x1 : ℕ) → x ≡ x0 + B * x1 → x < B * m → x1 < m
-high_below B m x x0 x1 parts below = lt_of_mul-lt-mul_right B (let h : x1 * B < m * B = omega arith in h)
+pub high_word_below_factor : (B m x x0 x1 : ℕ) → x ≡ x0 + B * x1 → x < B * m → x1 < m
+high_word_below_factor B m x x0 x1 parts below = lt_of_mul-lt-mul_right B (let h : x1 * B < m * B = omega arith in h)
 
 -- a sum of two numbers below m times the base, by the base
 pub high_sum_below : (B m t u : ℕ) → (t + u) % B ≡ 0 → t < B * m → u < B * m → (t + u) / B < m + m
@@ -80,16 +81,16 @@ pub above_modulus : (m q r : ℕ) → q < m + m → r + m ≡ q → r ≡ q % m
 above_modulus m q r twice e = high_sum_is m q r twice (inr e)
 
 -- .. or below m
-pub below_modulus : (B m q rest r : ℕ) → m < B → q < m + m → rest < B → rest + m ≡ q + B → r ≡ (rest + m) % B
+pub restored_rest_is_residue : (B m q rest r : ℕ) → m < B → q < m + m → rest < B → rest + m ≡ q + B → r ≡ (rest + m) % B
     → r ≡ q % m
-below_modulus B m q rest r fits twice rest_fits e is = grind (arith, high_sum_is, mod_of_one_base_more)
+restored_rest_is_residue B m q rest r fits twice rest_fits e is = grind (arith, high_sum_is, mod_of_one_base_more)
 
 -- a sum and the base less m, each times the base, in double words: q less m is the high word, with a carry ..
 pub double_carried : (B m q c t u more s s0 r : ℕ) → t + u ≡ B * q → c + m ≡ B → more ≡ t + B * c
     → more + u ≡ s + B * B → s ≡ s0 + B * r → s0 < B → r + m ≡ q
 double_carried B m q c t u more s s0 r whole complement em es parts s0_fits =
     let e : s0 + B * (r + B) ≡ B * (q + c) = omega (arith, whole, em, es, parts) in
-    let h = (only_multiple _ _ _ _ s0_fits e).1 in
+    let h = (multiple_has_zero_low_part _ _ _ _ s0_fits e).1 in
     omega (arith, h, complement)
 
 -- .. and the base more without
@@ -97,12 +98,13 @@ pub double_exact : (B m q c t u more s s0 r : ℕ) → t + u ≡ B * q → c + m
     → more + u ≡ s → s ≡ s0 + B * r → s0 < B → r + m ≡ q + B
 double_exact B m q c t u more s s0 r whole complement em es parts s0_fits =
     let e : s0 + B * r ≡ B * (q + c) = omega (arith, whole, em, es, parts) in
-    let h = (only_multiple _ _ _ _ s0_fits e).1 in
+    let h = (multiple_has_zero_low_part _ _ _ _ s0_fits e).1 in
     omega (arith, h, complement)
 
 -- t and a multiple of m, by the base, modulo m: the reduction of t
-pub reduces : (B m t x r : ℕ) → t < B * m → (t + x * m) % B ≡ 0 → r ≡ ((t + x * m) / B) % m → IsReduction B m t r
-reduces B m t x r below cleared is =
+pub high_sum_is_reduction : (B m t x r : ℕ) → t < B * m → (t + x * m) % B ≡ 0 → r ≡ ((t + x * m) / B) % m
+    → IsReduction B m t r
+high_sum_is_reduction B m t x r below cleared is =
     let parts : (t + x * m) / B * B ≡ t + m * x = omega (arith, cleared) in
     grind (arith, mod-lt, mul-mod_first, add-mul-mod_self_left)
 

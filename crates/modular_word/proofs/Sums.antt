@@ -117,62 +117,68 @@ sum_to-at_most_one f (suc h) b e =
     (none_or_one (f (suc h)) (b (suc h)))
 
 -- 1 where two numbers are equal, else 0
-pub hit : ℕ → ℕ → ℕ
-hit u v = cond (eqb u v) 1 0
+pub equality_indicator : ℕ → ℕ → ℕ
+equality_indicator u v = cond (eqb u v) 1 0
 
-pub hit-le : (u v : ℕ) → hit u v ≤ 1
-unfolding hit
-hit-le u v = grind (arith, nat_tests)
+pub equality_indicator-le : (u v : ℕ) → equality_indicator u v ≤ 1
+unfolding equality_indicator
+equality_indicator-le u v = grind (arith, nat_tests)
 
-pub hit-same : (u v : ℕ) → u ≡ v → hit u v ≡ 1
-unfolding hit
-hit-same u v e = grind (arith, nat_tests)
+pub equality_indicator-same : (u v : ℕ) → u ≡ v → equality_indicator u v ≡ 1
+unfolding equality_indicator
+equality_indicator-same u v e = grind (arith, nat_tests)
 
-hit-one : (u v : ℕ) → hit u v ≡ 1 → u ≡ v
-unfolding hit
-hit-one u v e = grind (arith, nat_tests)
+equality_indicator-one : (u v : ℕ) → equality_indicator u v ≡ 1 → u ≡ v
+unfolding equality_indicator
+equality_indicator-one u v e = grind (arith, nat_tests)
 
-pub hit-other : (u v : ℕ) → u ≢ v → hit u v ≡ 0
-unfolding hit
-hit-other u v e = grind (arith, nat_tests)
+pub equality_indicator-other : (u v : ℕ) → u ≢ v → equality_indicator u v ≡ 0
+unfolding equality_indicator
+equality_indicator-other u v e = grind (arith, nat_tests)
 
 -- how many of 1, .., h are mapped to y
 abbrev pub hits : (ℕ → ℕ) → ℕ → ℕ → ℕ
-hits f h y = sum_to (λ x. hit (f x) y) h
+hits f h y = sum_to (λ x. equality_indicator (f x) y) h
 
-one_hit : (f : ℕ → ℕ) (h x : ℕ) → Permutes f h → 0 < x → x ≤ h → sum_to (λ y. hit (f x) y) h ≡ 1
+one_hit : (f : ℕ → ℕ) (h x : ℕ) → Permutes f h → 0 < x → x ≤ h → sum_to (λ y. equality_indicator (f x) y) h ≡ 1
 one_hit f h x m p q =
-    sum_to-only (λ y. hit (f x) y) _ (f x) (m.positive x p q) (m.within x p q)
-    (λ y u v w. hit-other (f x) y (λ e. w (sym e))) ∙ hit-same (f x) (f x) refl
+    sum_to-only (λ y. equality_indicator (f x) y) _ (f x) (m.positive x p q) (m.within x p q)
+    (λ y u v w. equality_indicator-other (f x) y (λ e. w (sym e))) ∙ equality_indicator-same (f x) (f x) refl
 
 all_hits : (f : ℕ → ℕ) (h : ℕ) → Permutes f h → sum_to (λ y. hits f h y) h ≡ h
 all_hits f h m =
-    sym (sum_to-swap (λ x y. hit (f x) y) _ _)
-    ∙ sum_to-same (λ x. sum_to (λ y. hit (f x) y) h) (λ x. 1) _ (λ x p q. one_hit _ _ x m p q) ∙ sum_to-ones _
+    sym (sum_to-swap (λ x y. equality_indicator (f x) y) _ _)
+    ∙ sum_to-same (λ x. sum_to (λ y. equality_indicator (f x) y) h) (λ x. 1) _ (λ x p q. one_hit _ _ x m p q)
+    ∙ sum_to-ones _
 
 hits_le : (f : ℕ → ℕ) (h y : ℕ) → Permutes f h → hits f h y ≤ 1
-hits_le f h y m = grind (arith, sum_to-at_most_one, hit, hit-le, hit-one)
+hits_le f h y m = grind (arith, sum_to-at_most_one, equality_indicator, equality_indicator-le, equality_indicator-one)
 
 -- each number is hit once
 pub hits_one : (f : ℕ → ℕ) (h y : ℕ) → Permutes f h → 0 < y → y ≤ h → hits f h y ≡ 1
 hits_one f h y m p q = sum_to-full (λ y. hits f h y) h (λ z u v. hits_le f h z m) (all_hits f h m) y p q
 
 -- the term at f x, among all
-sum_of_hits_at_index : (f g : ℕ → ℕ) (h x : ℕ) → Permutes f h → 0 < x → x ≤ h → sum_to (λ y. hit (f x) y * g y) h ≡ g (f x)
+sum_of_hits_at_index : (f g : ℕ → ℕ) (h x : ℕ) → Permutes f h → 0 < x → x ≤ h
+    → sum_to (λ y. equality_indicator (f x) y * g y) h ≡ g (f x)
 sum_of_hits_at_index f g h x m p q =
-    sum_to-only (λ y. hit (f x) y * g y) _ (f x) (m.positive x p q) (m.within x p q)
-    (λ y u v w. let z = hit-other (f x) y (λ e. w (sym e)) in ap (λ n. n * g y) z ∙ omega arith)
-    ∙ (let o = hit-same (f x) (f x) refl in ap (λ n. n * g (f x)) o ∙ omega arith)
+    sum_to-only (λ y. equality_indicator (f x) y * g y) _ (f x) (m.positive x p q) (m.within x p q)
+    (λ y u v w. let z = equality_indicator-other (f x) y (λ e. w (sym e)) in ap (λ n. n * g y) z ∙ omega arith)
+    ∙ (let o = equality_indicator-same (f x) (f x) refl in ap (λ n. n * g (f x)) o ∙ omega arith)
 
-sum_of_hits_at_value : (f g : ℕ → ℕ) (h y : ℕ) → Permutes f h → 0 < y → y ≤ h → sum_to (λ x. hit (f x) y * g y) h ≡ g y
-sum_of_hits_at_value f g h y m p q = sum_to-scale (λ x. hit (f x) y) _ (g y) ∙ ap (λ n. n * g y) (hits_one _ _ _ m p q) ∙ omega arith
+sum_of_hits_at_value : (f g : ℕ → ℕ) (h y : ℕ) → Permutes f h → 0 < y → y ≤ h
+    → sum_to (λ x. equality_indicator (f x) y * g y) h ≡ g y
+sum_of_hits_at_value f g h y m p q = sum_to-scale (λ x. equality_indicator (f x) y) _ (g y)
+    ∙ ap (λ n. n * g y) (hits_one _ _ _ m p q) ∙ omega arith
 
 -- a permutation leaves a sum as it is
 pub sum_to-permuted : (f g : ℕ → ℕ) (h : ℕ) → Permutes f h → sum_to (λ x. g (f x)) h ≡ sum_to g h
 sum_to-permuted f g h m =
-    sym (sum_to-same (λ x. sum_to (λ y. hit (f x) y * g y) h) (λ x. g (f x)) h (λ x p q. sum_of_hits_at_index f g h x m p q))
-    ∙ sum_to-swap (λ x y. hit (f x) y * g y) h h
-    ∙ sum_to-same (λ y. sum_to (λ x. hit (f x) y * g y) h) g h (λ y p q. sum_of_hits_at_value f g h y m p q)
+    sym (sum_to-same (λ x. sum_to (λ y. equality_indicator (f x) y * g y) h) (λ x. g (f x)) h
+    (λ x p q. sum_of_hits_at_index f g h x m p q))
+    ∙ sum_to-swap (λ x y. equality_indicator (f x) y * g y) h h
+    ∙ sum_to-same (λ y. sum_to (λ x. equality_indicator (f x) y * g y) h) g h (λ y p q. sum_of_hits_at_value f g h y m p
+    q)
 
 -- a sum taken backwards
 pub sum_to-reversed : (g : ℕ → ℕ) (h : ℕ) → sum_to (λ x. g (suc h - x)) h ≡ sum_to g h

@@ -150,7 +150,7 @@ pub fn range_laws()
 ///
 /// Source: Gauss, Disquisitiones Arithmeticae, articles 29, 31 and 36; Knuth, The Art of Computer
 /// Programming, volume 2, section 4.3.2.
-#[tactic(auto, using(crate::proofs::LinearCongruences::solution, crate::proofs::LinearCongruences::both_remainders, crate::proofs::ResidueLemmas::difference_and))]
+#[tactic(auto, using(crate::proofs::LinearCongruences::inverse_solves_congruence, crate::proofs::LinearCongruences::both_remainders, crate::proofs::ResidueLemmas::difference_and))]
 pub fn linear_congruence_laws()
     ensures solved { (m a b x : ℕ) → IsInverse m a x → (a * ((b * x) % m)) % m ≡ b % m }
     ensures pair { (m n a b x : ℕ) → 0 < m → 0 < n → IsInverse n m x →

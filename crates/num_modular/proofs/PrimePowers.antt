@@ -8,7 +8,7 @@ use Rattle.modular_word.proofs.Congruence.{same_product}
 use Rattle.modular_word.proofs.Powers.{pow-one}
 use Rattle.modular_symbols.specs.Primes.{IsPrime}
 use Rattle.modular_symbols.proofs.Euler.{classed_power-jacobi}
-use Rattle.modular_symbols.proofs.PrimeLaws.{fermat}
+use Rattle.modular_symbols.proofs.PrimeLaws.{fermats_little_theorem}
 use Rattle.modular_symbols.proofs.Squares.{root_from_symbol}
 
 -- equal remainders have equal powers
@@ -28,7 +28,8 @@ fermat_for_all a p u =
       | inl z ↦ search (arith, mul-mod, zero-mod)
       | inr n ↦
           let one : 1 * a ≡ a = omega arith in
-          out ∙ sym (mul-mod_first (a ^ (p - 1)) a p) ∙ ap (λ v. (v * a) % p) (fermat a p u n) ∙ ap (λ v. v % p) one
+          out ∙ sym (mul-mod_first (a ^ (p - 1)) a p) ∙ ap (λ v. (v * a) % p) (fermats_little_theorem a p u n)
+          ∙ ap (λ v. v % p) one
     ]
 
 -- the half power of a square of a number that p doesn't divide
@@ -37,7 +38,7 @@ half_of_square a p x o u z e =
     let h : ℕ = (p - 1) / 2 in
     let twice : h + h ≡ p - 1 = omega arith in
     sym (same_power p (x * x) a h e) ∙ ap (λ v. v % p) (mul-pow x x h ∙ sym (pow-add x h h) ∙ ap (λ n. x ^ n) twice)
-    ∙ fermat x p u z
+    ∙ fermats_little_theorem x p u z
 
 -- where the half power is 1, there is such a number
 pub root_of_half : (a p : ℕ) → p % 2 ≡ 1 → IsPrime p → a ^ ((p - 1) / 2) % p ≡ 1

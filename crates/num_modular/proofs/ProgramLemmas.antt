@@ -116,10 +116,11 @@ pub answer_all : (words : List (Bor (List ℕ))) (reducer : ReducerName) (m modu
 answer_all words reducer m modulus rest untouched Printed Told h e status answer = search (arith, same_heading)
 
 -- what the program does for words that aren't readable
-pub refused : (words : List (Bor (List ℕ))) (untouched : Type 0) (Printed Told : List ℕ → Type 0)
+pub refusal_answers_unreadable_words : (words : List (Bor (List ℕ))) (untouched : Type 0) (Printed Told : List ℕ
+    → Type 0)
     → ((reducer : ReducerName) (m : ℕ) (rest : List (Bor (List ℕ))) → IsHeading words reducer m rest → ⊥)
     → untouched → (status : ℕ) → (status ≡ 2) × Told usage → IsAnswer (Ask words) untouched Printed Told status
-refused words untouched Printed Told none same status h = record {
+refusal_answers_unreadable_words words untouched Printed Told none same status h = record {
   ran = λ below. absurd (omega (arith, h.0));
   unreadable = λ two. ((λ m commands ask. none ask.reducer m ask.rest ask.heading), same, h.1);
   memory = λ three. absurd (omega (arith, h.0));

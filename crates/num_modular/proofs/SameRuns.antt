@@ -38,6 +38,7 @@ pub same_end : {m : ℕ} {start : List ℕ} {commands : List (RingCommand ℕ)} 
 same_end Done b left right p q = sym (q.done.1 (p.done.0 refl))
 same_end (NoInverse i) b left right p q = sym ((q.stops i).1 ((p.stops i).0 refl))
 
-pub same_residues : {m : ℕ} {start : List ℕ} {commands : List (RingCommand ℕ)} (a b : RunEnd) (left right : List ℕ)
+pub runs_leave_same_residues : {m : ℕ} {start : List ℕ} {commands : List (RingCommand ℕ)} (a b : RunEnd)
+    (left right : List ℕ)
     → IsRun m start commands a left → IsRun m start commands b right → left ≡ right
-same_residues {m} {start} {commands} a b left right p q = search (arith, same_end, same_number_lists)
+runs_leave_same_residues {m} {start} {commands} a b left right p q = search (arith, same_end, same_number_lists)

@@ -12,30 +12,32 @@ use Rattle.modular_ring.specs.Ring.{whole, value_at, inverted_by, LacksInverse, 
 use Rattle.num_modular.specs.Stops.{NeedsInverse}
 
 -- a command that lacks its inverse needs one of a register that has none
-lacking : {T : Type 0} (number : T → ℕ) (m : ℕ) (v : ℕ → ℕ) (command : RingCommand T)
+lacking_command_inverts_nonunit : {T : Type 0} (number : T → ℕ) (m : ℕ) (v : ℕ → ℕ) (command : RingCommand T)
     → LacksInverse m v (whole number command) → (r : ℕ) × (inverted_by command ≡ Some r) × (HasInverse m (v r) → ⊥)
-lacking number m v (Inv dst a) h = (a, refl, h)
-lacking number m v (Div dst a b) h = (b, refl, h)
-lacking number m v _ h = absurd h
+lacking_command_inverts_nonunit number m v (Inv dst a) h = (a, refl, h)
+lacking_command_inverts_nonunit number m v (Div dst a b) h = (b, refl, h)
+lacking_command_inverts_nonunit number m v _ h = absurd h
 
-lacks : {T : Type 0} (number : T → ℕ) (m : ℕ) (v : ℕ → ℕ) (command : RingCommand T) (r : ℕ)
+inverting_nonunit_lacks_inverse : {T : Type 0} (number : T → ℕ) (m : ℕ) (v : ℕ → ℕ) (command : RingCommand T) (r : ℕ)
     → inverted_by command ≡ Some r → (HasInverse m (v r) → ⊥) → LacksInverse m v (whole number command)
-lacks number m v (Inv dst a) r e none = let same : a ≡ r = cc in subst (λ q. HasInverse m (v q) → ⊥) (sym same) none
-lacks number m v (Div dst a b) r e none = let same : b ≡ r = cc in subst (λ q. HasInverse m (v q) → ⊥) (sym same) none
-lacks number m v _ r e none = absurd (cc)
+inverting_nonunit_lacks_inverse number m v (Inv dst a) r e none = let same : a ≡ r = cc in
+    subst (λ q. HasInverse m (v q) → ⊥) (sym same) none
+inverting_nonunit_lacks_inverse number m v (Div dst a b) r e none = let same : b ≡ r = cc in
+    subst (λ q. HasInverse m (v q) → ⊥) (sym same) none
+inverting_nonunit_lacks_inverse number m v _ r e none = absurd (cc)
 
 -- the same of a place of a list
 lacking_read : {T : Type 0} (number : T → ℕ) (m : ℕ) (v : ℕ → ℕ) (read : Option (RingCommand T))
     → IsSomeAnd (option_map (whole number) read) (LacksInverse m v)
     → (r : ℕ) × IsSomeAnd read (λ command. inverted_by command ≡ Some r) × (HasInverse m (v r) → ⊥)
 lacking_read number m v None h = absurd h
-lacking_read number m v (Some command) h = lacking number m v command h
+lacking_read number m v (Some command) h = lacking_command_inverts_nonunit number m v command h
 
 lacks_read : {T : Type 0} (number : T → ℕ) (m : ℕ) (v : ℕ → ℕ) (read : Option (RingCommand T)) (r : ℕ)
     → IsSomeAnd read (λ command. inverted_by command ≡ Some r) → (HasInverse m (v r) → ⊥)
     → IsSomeAnd (option_map (whole number) read) (LacksInverse m v)
 lacks_read number m v None r e none = absurd e
-lacks_read number m v (Some command) r e none = lacks number m v command r e none
+lacks_read number m v (Some command) r e none = inverting_nonunit_lacks_inverse number m v command r e none
 
 lacking_at : {T : Type 0} (number : T → ℕ) (m : ℕ) (start : List ℕ) (commands : List (RingCommand T)) (i : ℕ)
     → LacksInverseAt m start (map (whole number) commands) i
@@ -43,10 +45,11 @@ lacking_at : {T : Type 0} (number : T → ℕ) (m : ℕ) (start : List ℕ) (com
 lacking_at number m start commands i h =
     lacking_read number m _ (slice_get commands i) (rw (slice_get-map (whole number) commands i) at h)
 
-lacks_at : {T : Type 0} (number : T → ℕ) (m : ℕ) (start : List ℕ) (commands : List (RingCommand T)) (i r : ℕ)
+command_lacks_needed_inverse : {T : Type 0} (number : T → ℕ) (m : ℕ) (start : List ℕ) (commands : List (RingCommand T))
+    (i r : ℕ)
     → NeedsInverse commands i r → (HasInverse m (value_at m start (map (whole number) commands) i r) → ⊥)
     → LacksInverseAt m start (map (whole number) commands) i
-lacks_at number m start commands i r needs none =
+command_lacks_needed_inverse number m start commands i r needs none =
     rw (slice_get-map (whole number) commands i) (lacks_read number m _ (slice_get commands i) r needs none)
 
 needs_none : {T : Type 0} (commands : List (RingCommand T)) (i r : ℕ) (read : Option (RingCommand T))
@@ -73,7 +76,7 @@ pub first_stop : {T : Type 0} (number : T → ℕ) (m : ℕ) (start : List ℕ) 
     → HasInverse m (value_at m start (map (whole number) commands) i q))
     → IsStop m start (map (whole number) commands) at
 first_stop number m start commands at r needs none before = record {
-  lacks = lacks_at number m start commands at r needs none;
+  lacks = command_lacks_needed_inverse number m start commands at r needs none;
   first = λ i below h. let found = lacking_at number m start commands i h in found.2 (before i found.0 below found.1);
 }
 
@@ -96,4 +99,5 @@ pub each_inverse : {T : Type 0} (number : T → ℕ) (m : ℕ) (start : List ℕ
     → (i r : ℕ) → NeedsInverse commands i r → HasInverse m (value_at m start (map (whole number) commands) i r)
 each_inverse number m start commands never i r needs =
     inverse_or_none m _ _ refl
-    (λ none. none_lacks never (suc i) i (omega arith) (lacks_at number m start commands i r needs none))
+    (λ none. none_lacks never (suc i) i (omega arith) (command_lacks_needed_inverse number m start commands i r needs
+    none))

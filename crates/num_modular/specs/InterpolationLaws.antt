@@ -9,7 +9,7 @@ use Rattle.modular_word.specs.Inverses.{HasInverse}
 use Rattle.modular_word.specs.Residues.{residue}
 use Rattle.modular_word.proofs.Congruence.{mod_of_eq, mod_refl, mod_sym, mod_trans, mod_add, mod_mul, mod_add_cancel}
 use Rattle.modular_word.proofs.Congruence.{mod_mul_cancel}
-use Rattle.modular_word.proofs.Polynomials.{horner}
+use Rattle.modular_word.proofs.Polynomials.{polynomial_of_next_coefficient}
 use Rattle.modular_word.proofs.ResidueLemmas.{difference_and}
 use Rattle.modular_word.proofs.Sums.{sum_below-zero, sum_below-of_zeros}
 use Rattle.modular_symbols.specs.Primes.{IsPrime}
@@ -180,7 +180,7 @@ reversed (suc n) c x =
     let last = ap c (let e : suc n - 1 - 0 ≡ n = omega arith in e) in
     let next = ap (λ k. x * k) (polynomial-same n (λ i. c (suc n - 1 - suc i)) (λ i. c (n - 1 - i)) x
     (λ i l. ap c (let e : suc n - 1 - suc i ≡ n - 1 - i = omega arith in e))) in
-    let h = horner n c x in
+    let h = polynomial_of_next_coefficient n c x in
     let one = ap (λ k. polynomial_highest_first k c x) (let e : suc n ≡ n + 1 = omega arith in e) in
     omega (arith, i, f, last, next, h, one)
 

@@ -20,6 +20,6 @@ pub use Rattle.modular_word.proofs.Sums.{sum_below-of_zeros, sum_below-of_consta
 -- the order of two sums
 pub use Rattle.modular_word.proofs.Sums.{sum_below-exchanged, sum_below-reversed}
 -- the residue of a sum over a range: of the empty one, and with one more term
-pub use Rattle.modular_transform.proofs.PlainSums.{sum_none, sum_more}
+pub use Rattle.modular_transform.proofs.PlainSums.{empty_sum_residue_is_zero, sum_residue_of_next_term}
 -- powers of 1, and powers to a product
 pub use Rattle.modular_word.proofs.Powers.{one-pow, pow-mul}

@@ -8,7 +8,7 @@ pub use Rattle.modular_transform.proofs.PowersOfTwo.{power_of_two_tested}
 pub use Rattle.modular_transform.proofs.BitReversal.{bits_reversed_below, bits_reversed_of_high, bits_reversed_twice}
 -- the exponent of a table's length; a table that holds the factors of the powers of a root is the root's table;
 -- so is what `fill_table` writes
-pub use Rattle.modular_plan_passes.proofs.Tables.{exponent}
+pub use Rattle.modular_plan_passes.proofs.Tables.{half_has_previous_exponent}
 pub use Rattle.modular_plan_transforms.proofs.PlanTables.{table_of, made_table}
 -- the number at an index of a list, and the constants of a block's two halves
 pub use Rattle.modular_plan_passes.proofs.Entries.{number_at}
@@ -16,4 +16,4 @@ pub use Rattle.modular_plan_transforms.proofs.Constants.{IsPairOfConstants, pair
 -- products modulo X - c and X^2 - c, coefficient by coefficient
 pub use Rattle.modular_plan_transforms.proofs.SmallProducts.{product_of_one, product_of_two_low, product_of_two_high}
 -- the products of remainders are the remainders of the product; block 1 starts from X^n + 1
-pub use Rattle.modular_plan_transforms.proofs.Convolutions.{remainders_of_product, negacyclic}
+pub use Rattle.modular_plan_transforms.proofs.Convolutions.{remainders_of_product, block_one_is_negacyclic}

@@ -136,7 +136,7 @@ pub fn run_both<
 /// A difference plus its subtrahend is congruent to the minuend.
 ///
 /// Source: Gauss, Disquisitiones Arithmeticae, articles 1 to 8 and 31.
-#[tactic(auto, using(crate::proofs::Calls::difference_below, crate::proofs::Calls::quotient_times, crate::proofs::Calls::quotient_times_below))]
+#[tactic(auto, using(crate::proofs::Calls::difference_plus_subtrahend_is_minuend, crate::proofs::Calls::quotient_times, crate::proofs::Calls::quotient_times_below))]
 pub fn undoing_laws()
     ensures quotient { (m a b x : ℕ) → IsInverse m b x → ((a * x) % m * b) % m ≡ a % m }
     ensures quotient_below { (m a b x : ℕ) → IsInverse m b x → a < m → ((a * x) % m * b) % m ≡ a }

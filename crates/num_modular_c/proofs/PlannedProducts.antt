@@ -3,7 +3,7 @@ use Rattle.std.proofs.Common.{◌≡◌, ℕ, ◌-◌, ◌<◌, List, length, �
 use Rattle.std.proofs.lemmas.Nat.{pow_pos}
 use Rattle.modular_plan_passes.specs.Plans.{constant}
 use Rattle.modular_plan_transforms.specs.Products.{product_modulo}
-use Rattle.modular_plan_transforms.proofs.Convolutions.{product_is_cyclic, negacyclic}
+use Rattle.modular_plan_transforms.proofs.Convolutions.{product_is_cyclic, block_one_is_negacyclic}
 use Rattle.num_modular.specs.Transforms.{cyclic_product}
 use Rattle.num_modular_c.specs.Plans.{FitPlannedProduct, HasTwiddles, IsPlannedProduct}
 use Rattle.num_modular_c.specs.declared.plans.NmFactor.{NmFactor}
@@ -34,4 +34,4 @@ pub as_negacyclic : (n : ℕ) (x y : ℕ → ℕ) {m last : ℕ} {table : List N
 as_negacyclic n x y {last = last} {table} pair is =
     let within = rw pair.blocks.count.1 at pair.blocks.within in
     let some : 0 < length table = omega (arith, within, pow_pos pair.blocks.count.0) in
-    as_other (λ g z e twiddles l. negacyclic n e g z (length table) _ x y pair.admitted.0 some twiddles) is
+    as_other (λ g z e twiddles l. block_one_is_negacyclic n e g z (length table) _ x y pair.admitted.0 some twiddles) is

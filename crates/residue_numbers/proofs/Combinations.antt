@@ -21,13 +21,13 @@ to_divisor : (g q n a b : ℕ) → n ≡ g * q → a % n ≡ b % n → a % g ≡
 to_divisor g q n a b e h = sym (mod_of_multiple g q a) ∙ ap (λ w. w % g) (rw e at h) ∙ mod_of_multiple g q b
 
 -- a divisor of a positive number is positive
-divisor_positive : (d n : ℕ) → 0 < n → n % d ≡ 0 → 0 < d
-divisor_positive d n above divides = search (arith, cases_lt, mod-zero)
+divisor_of_positive_is_positive : (d n : ℕ) → 0 < n → n % d ≡ 0 → 0 < d
+divisor_of_positive_is_positive d n above divides = search (arith, cases_lt, mod-zero)
 
 -- the greatest common divisor that Euclid's algorithm leaves
 pub euclid_is : (m n d g : ℕ) → 0 < n → IsGcd m n d → IsGreatestCommonDivisor m n g → d ≡ g
 euclid_is m n d g above is greatest =
-    search (arith, mod-eq-zero_of_dvd, le_of_dvd, divisor_positive, dvd_of_mod-eq-zero)
+    search (arith, mod-eq-zero_of_dvd, le_of_dvd, divisor_of_positive_is_positive, dvd_of_mod-eq-zero)
 
 -- a common divisor d of the parts makes g·d one of the numbers
 at_most_one : (g d : ℕ) → 0 < g → g * d ≤ g → 0 < d → d ≡ 1
@@ -45,7 +45,7 @@ pub parts_of : (m n g : ℕ) → 0 < n → IsGreatestCommonDivisor m n g → Are
 parts_of m n g above greatest =
     let first : m ≡ g * (m / g) = let e = greatest.first in omega (arith, e) in
     let second : n ≡ g * (n / g) = let e = greatest.second in omega (arith, e) in
-    let positive = divisor_positive g n above greatest.second in
+    let positive = divisor_of_positive_is_positive g n above greatest.second in
     let step : 0 < n / g = grind (arith, cases_lt) in
     record {
       positive = positive;
@@ -55,7 +55,7 @@ parts_of m n g above greatest =
       coprime = record {
         only_one = λ d h k. at_most_one g d positive (greatest.greatest (g * d)
             (multiple_of_both g d m (m / g) first h) (multiple_of_both g d n (n / g) second k))
-            (divisor_positive d (n / g) step k);
+            (divisor_of_positive_is_positive d (n / g) step k);
       };
     }
 

@@ -14,7 +14,10 @@ pub mod_times : {m a b : ℕ} (c : ℕ) → Congruent m a b → Congruent m (c *
 mod_times c h = mod_mul (mod_refl c) h
 
 pub mod_of_modulus : {m : ℕ} (q : ℕ) → Congruent m (m * q) 0
-mod_of_modulus {m} q = record { same = (let e : m * q ≡ 0 + m * q = omega arith in ap (λ v. v % m) e ∙ add-mul-mod_self_left 0 m q) }
+mod_of_modulus {m} q = record {
+  same = (let e : m * q ≡ 0 + m * q = omega arith in ap (λ v. v % m) e
+      ∙ add-mul-mod_self_left 0 m q);
+}
 
 -- .. a residue, the residue of a difference, and an inverse
 pub mod_of_residue : {m a b : ℕ} → a ≡ b % m → Congruent m a b
@@ -35,8 +38,14 @@ left_alone_other m a q b none = mod_of_combination (mod_times q none) (omega ari
 
 pub has_one : (m : ℕ) → 0 < m → HasInverse m (1 % m)
 has_one m positive =
-    let e : 1 * 1 ≡ 1 = omega arith in
-    (1 % m, record { below = mod-lt 1 positive; one = mul-mod_second (1 % m) 1 m ∙ mul-mod_first 1 1 m ∙ ap (λ v. v % m) e })
+    let e : 1 * 1 ≡ 1 = omega arith in (
+      1 % m,
+      record {
+        below = mod-lt 1 positive;
+        one = mul-mod_second (1 % m) 1 m ∙ mul-mod_first 1 1 m
+            ∙ ap (λ v. v % m) e;
+      },
+    )
 
 -- products of congruent factors
 pub product-congruent : (m n : ℕ) (f g : ℕ → ℕ) → ((i : ℕ) → i < n → Congruent m (f i) (g i))

@@ -13,32 +13,34 @@ pub record Selection (n k : ℕ) (a b : ℕ → ℕ) : Type 0 where
   pub rising : (i j : ℕ) → i < j → j < k → place i < place j
 
 -- a place more at the end
-pub extended : ℕ → ℕ → (ℕ → ℕ) → ℕ → ℕ
-extended k n s i = cond (eqb i k) n (s i)
+pub extended_sequence : ℕ → ℕ → (ℕ → ℕ) → ℕ → ℕ
+extended_sequence k n s i = cond (eqb i k) n (s i)
 
-pub at_end : (k n : ℕ) (s : ℕ → ℕ) (i : ℕ) → i ≡ k → extended k n s i ≡ n
-unfolding extended
+pub at_end : (k n : ℕ) (s : ℕ → ℕ) (i : ℕ) → i ≡ k → extended_sequence k n s i ≡ n
+unfolding extended_sequence
 at_end k n s i e = elim (eqb_tells i k) [ inl p ↦ rw p.0 refl | inr p ↦ absurd (p.1 e) ]
 
-pub before_end : (k n : ℕ) (s : ℕ → ℕ) (i : ℕ) → i ≢ k → extended k n s i ≡ s i
-unfolding extended
+pub before_end : (k n : ℕ) (s : ℕ → ℕ) (i : ℕ) → i ≢ k → extended_sequence k n s i ≡ s i
+unfolding extended_sequence
 before_end k n s i other = elim (eqb_tells i k) [ inl p ↦ absurd (other p.1) | inr p ↦ rw p.0 refl ]
 
 -- what holds of each place holds of one more
 pub extended_each : (k n : ℕ) (s : ℕ → ℕ) (P : ℕ → ℕ → Type 0) → ((i : ℕ) → i < k → P i (s i)) → P k n
-    → (i : ℕ) → i < k + 1 → P i (extended k n s i)
+    → (i : ℕ) → i < k + 1 → P i (extended_sequence k n s i)
 extended_each k n s P each last i l = grind (arith, cases_eq, at_end, before_end)
 
 pub extended_rising : (k n : ℕ) (s : ℕ → ℕ) → ((i : ℕ) → i < k → s i < n)
-    → ((i j : ℕ) → i < j → j < k → s i < s j) → (i j : ℕ) → i < j → j < k + 1 → extended k n s i < extended k n s j
+    → ((i j : ℕ) → i < j → j < k → s i < s j) → (i j : ℕ) → i < j → j < k + 1
+    → extended_sequence k n s i < extended_sequence k n s j
 extended_rising k n s within rising i j l b =
     rw (before_end k n s i (omega arith))
     (extended_each k n s (λ j p. i < j → s i < p) (λ j d l. rising i j l d) (λ l. within i l) j b l)
 
 with_last : (n k : ℕ) (a b : ℕ → ℕ) → Selection n k a b → a n ≡ b n → Selection (suc n) (suc k) a b
 with_last n k a b s last = record {
-  place = extended k n s.place;
-  within = λ i l. extended_each k n s.place (λ i p. p < suc n) (λ i l. let q = s.within i l in omega (arith, q)) (omega arith) i
+  place = extended_sequence k n s.place;
+  within = λ i l. extended_each k n s.place (λ i p. p < suc n) (λ i l. let q = s.within i l in omega (arith, q))
+      (omega arith) i
       (omega arith);
   same = λ i l. extended_each k n s.place (λ i p. a p ≡ b p) s.same last i (omega arith);
   rising = λ i j l b. extended_rising k n s.place s.within s.rising i j l (omega arith);
@@ -73,17 +75,17 @@ no_distance n a b same =
     sum_below-of_zeros n (λ i. counted (a i) (b i)) (λ i l. counted_same (a i) (b i) (same i l))
 
 -- words that differ at few places agree at many
-pub selected : (n k : ℕ) (a b : ℕ → ℕ) → distance n a b + k ≤ n → Selection n k a b
+pub near_words_agree_at_selection : (n k : ℕ) (a b : ℕ → ℕ) → distance n a b + k ≤ n → Selection n k a b
 unfolding sum_below
-selected n zero a b few = none_selected n a b
-selected zero (suc k) a b few = absurd (omega arith)
-selected (suc n) (suc k) a b few = elim (cases_eq (a n) (b n)) [
+near_words_agree_at_selection n zero a b few = none_selected n a b
+near_words_agree_at_selection zero (suc k) a b few = absurd (omega arith)
+near_words_agree_at_selection (suc n) (suc k) a b few = elim (cases_eq (a n) (b n)) [
   | inl e ↦
       let z = counted_same (a n) (b n) e in
-      with_last n k a b (selected n k a b (omega (arith, few, z))) e
+      with_last n k a b (near_words_agree_at_selection n k a b (omega (arith, few, z))) e
   | inr o ↦
       let z = counted_other (a n) (b n) o in
-      selected_of_more n (suc k) a b (selected n (suc k) a b (omega (arith, few, z)))
+      selected_of_more n (suc k) a b (near_words_agree_at_selection n (suc k) a b (omega (arith, few, z)))
 ]
 
 -- points at rising places fit
@@ -96,7 +98,7 @@ rising_fit m n k x place within rising fit = grind (arith, cases_lt)
 pub same_messages : (m k n : ℕ) (points a b u v : ℕ → ℕ) → HaveUnitDifferences m n points → IsEncoding m k n points a u
     → IsEncoding m k n points b v → distance n u v + k ≤ n → (i : ℕ) → i < k → Congruent m (a i) (b i)
 same_messages m k n points a b u v fit is_u is_v few =
-    let s = selected n k u v few in
+    let s = near_words_agree_at_selection n k u v few in
     same_coefficients m k a b (λ i. points (s.place i)) (rising_fit m n k points s.place s.within s.rising fit)
     (λ i l. let p = s.within i l in record {
       same = sym (is_u.symbol (s.place i) p) ∙ s.same i l ∙ is_v.symbol (s.place i) p;

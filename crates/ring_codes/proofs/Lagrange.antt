@@ -8,8 +8,8 @@ use Rattle.ring_codes.proofs.Names.{AreRows, refl, mul-mod_first, product-more, 
 use Rattle.num_modular.specs.Products.{product_below}
 use Rattle.num_modular.specs.Sums.{sum_below}
 use Rattle.ring_codes.specs.Prepared.{product_but}
-use Rattle.ring_codes.proofs.Distances.{extended, extended_each}
-use Rattle.ring_codes.proofs.NearestWords.{combined, no_value, difference_alike}
+use Rattle.ring_codes.proofs.Distances.{extended_sequence, extended_each}
+use Rattle.ring_codes.proofs.NearestWords.{polynomial_value_is_linear, no_value, difference_alike}
 use Rattle.ring_codes.proofs.NewtonForms.{no_difference, product-none}
 use Rattle.ring_codes.proofs.Roots.{expanded, expanded_behind, constant_one, constant_one_behind, value_expanded}
 use Rattle.ring_codes.proofs.Roots.{product_expanded}
@@ -43,7 +43,7 @@ sums_value : (k n X : ℕ) (v : ℕ → ℕ) (c : ℕ → ℕ → ℕ)
 unfolding sum_below
 sums_value k zero X v c = no_value k X
 sums_value k (suc n) X v c =
-    combined k (λ l. sum_below n (λ i. v i * c i l)) (c n) (v n) X
+    polynomial_value_is_linear k (λ l. sum_below n (λ i. v i * c i l)) (c n) (v n) X
     ∙ ap (λ w. w + v n * polynomial_at k (c n) X) (sums_value k n X v c)
 
 -- it is 0 at each other point
@@ -165,7 +165,7 @@ inverses_below m zero f each = ((λ i. 0), λ i l. absurd (omega arith))
 inverses_below m (suc d) f each =
     let (u, before) = inverses_below m d f (λ i l. each i (omega arith)) in
     let (last, is) = each d (omega arith) in
-    (extended d last u, λ i l. extended_each d last u (λ i v. IsInverse m (f i) v) before is i (omega arith))
+    (extended_sequence d last u, λ i l. extended_each d last u (λ i v. IsInverse m (f i) v) before is i (omega arith))
 
 -- any symbols at the known points are of a message
 pub message_of : (m k : ℕ) (x symbols : ℕ → ℕ) → 0 < m → HaveUnitDifferences m k x
@@ -180,8 +180,8 @@ message_of m k x symbols positive fit below =
     )
 
 -- place i of row j, of n rows of k
-pub row_within : (j n k i : ℕ) → j < n → i < k → j * k + i < n * k
-row_within j n k i l b = grind (arith, mul-le-mul_right)
+pub row_index_below_size : (j n k i : ℕ) → j < n → i < k → j * k + i < n * k
+row_index_below_size j n k i l b = grind (arith, mul-le-mul_right)
 
 -- points that fit as a ghost field says fit, as whether there is an inverse is decided by trying each number
 pub fit_known : (m n : ℕ) (x : ℕ → ℕ) → ∥ HaveUnitDifferences m n x ∥₁ → HaveUnitDifferences m n x

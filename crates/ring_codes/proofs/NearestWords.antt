@@ -6,17 +6,18 @@ use Rattle.ring_codes.proofs.Names.{sum_below-of_zeros, polynomial_at, polynomia
 use Rattle.num_modular.specs.Sums.{sum_below}
 use Rattle.ring_codes.proofs.Congruences.{mod_of_combination, mod_of_modulus, mod_of_difference}
 
-pub combined : (n : ℕ) (f g : ℕ → ℕ) (a X : ℕ)
+pub polynomial_value_is_linear : (n : ℕ) (f g : ℕ → ℕ) (a X : ℕ)
     → polynomial_at n (λ i. f i + a * g i) X ≡ polynomial_at n f X + a * polynomial_at n g X
 unfolding sum_below
-combined zero f g a X = omega arith
-combined (suc n) f g a X = let i = combined n f g a X in omega (arith, i)
+polynomial_value_is_linear zero f g a X = omega arith
+polynomial_value_is_linear (suc n) f g a X = let i = polynomial_value_is_linear n f g a X in omega (arith, i)
 
 -- coefficients e with e l + b·g l congruent to h l
 pub with_multiple : (m n b X : ℕ) (e g h : ℕ → ℕ) → ((l : ℕ) → l < n → Congruent m (e l + b * g l) (h l))
     → Congruent m (polynomial_at n e X + b * polynomial_at n g X) (polynomial_at n h X)
 with_multiple m n b X e g h each =
-    mod_trans (mod_of_eq (sym (combined _ _ _ _ _))) (polynomial-congruent _ _ _ _ _ each (mod_refl _))
+    mod_trans (mod_of_eq (sym (polynomial_value_is_linear _ _ _ _ _))) (polynomial-congruent _ _ _ _ _ each
+    (mod_refl _))
 
 pub turned_sign : (m x : ℕ) → 0 < m → x + (m - 1) * x ≡ m * x
 turned_sign m x positive =
@@ -36,8 +37,8 @@ pub unit_alike : (m a b : ℕ) → Congruent m a b → HasInverse m a → HasInv
 unit_alike m a b e h =
     (h.0, record { below = h.1.below; one = (mod_mul (mod_sym e) (mod_refl h.0)).same ∙ h.1.one })
 
-pub unit_not_zero : (m a : ℕ) → 2 ≤ m → HasInverse m a → a % m ≢ 0
-unit_not_zero m a two h z =
+pub unit_residue_is_nonzero : (m a : ℕ) → 2 ≤ m → HasInverse m a → a % m ≢ 0
+unit_residue_is_nonzero m a two h z =
     absurd (omega (arith, rw (← mul-mod_first a h.0 m, z) at h.1.one, mod-eq_of_lt two))
 
 pub no_value : (n X : ℕ) → polynomial_at n (λ i. 0) X ≡ 0

@@ -122,14 +122,17 @@ one_expanded m n a X e s positive each last =
     (mod_times (polynomial_at n (λ l. s (suc l)) X) (mod_sym is)))
     (omega (arith, ap (λ v. v * X ^ n) last, polynomial-first n s X))
 
-inverse_of_negative : (m u v a b x y : ℕ) → y + x ≡ m → Congruent m (u * x) 1 → Congruent m (u + b) a → Congruent m (v + a) b
+inverse_of_negative : (m u v a b x y : ℕ) → y + x ≡ m → Congruent m (u * x) 1 → Congruent m (u + b) a
+    → Congruent m (v + a) b
     → Congruent m (v * y) 1
 inverse_of_negative m u v a b x y whole one at_u at_v =
-    mod_of_combination (mod_add (mod_of_modulus v) (mod_add (mod_times x (mod_sym at_u)) (mod_add (mod_times x (mod_sym at_v)) one)))
+    mod_of_combination (mod_add (mod_of_modulus v) (mod_add (mod_times x (mod_sym at_u))
+    (mod_add (mod_times x (mod_sym at_v)) one)))
     (omega (arith, ap (λ k. v * k) whole))
 
 -- b - a has an inverse where a - b has
-pub turned_difference : (m a b : ℕ) → HasInverse m (residue m (pos a -ℤ pos b)) → HasInverse m (residue m (pos b -ℤ pos a))
+pub turned_difference : (m a b : ℕ) → HasInverse m (residue m (pos a -ℤ pos b))
+    → HasInverse m (residue m (pos b -ℤ pos a))
 turned_difference m a b h =
     let below = h.1.below in
     let positive : 0 < m = omega (arith, below) in
@@ -158,11 +161,11 @@ products_from_fit m n x positive fit i l =
     (h.0, inverse_mod m _ h.0 h.1)
 
 -- one step of Horner's rule, the coefficients taken from the last
-pub value_more : (m n k : ℕ) (c : ℕ → ℕ) (a value product sum : ℕ) → k < n
+pub horner_step_extends_value : (m n k : ℕ) (c : ℕ → ℕ) (a value product sum : ℕ) → k < n
     → value ≡ polynomial_at k (λ i. c (n - k + i)) a % m → product ≡ (value * a) % m
     → sum ≡ (c (n - 1 - k) + product) % m
     → sum ≡ polynomial_at (k + 1) (λ i. c (n - (k + 1) + i)) a % m
-value_more m n k c a value product sum l is_value is_product is =
+horner_step_extends_value m n k c a value product sum l is_value is_product is =
     let next : k + 1 ≡ suc k = omega arith in
     let first : n - suc k + 0 ≡ n - 1 - k = omega arith in
     let rest = polynomial-same k (λ i. c (n - suc k + suc i)) (λ i. c (n - k + i)) a (λ i b. ap c (omega arith)) in
@@ -170,8 +173,8 @@ value_more m n k c a value product sum l is_value is_product is =
     mod_of_combination (mod_add (mod_of_residue is_product) (mod_times a (mod_of_residue is_value))) (omega arith) in
     rw (is, next, polynomial-first k (λ i. c (n - suc k + i)) a, first, rest) whole.same
 
-pub value_none : (m a value : ℕ) (c : ℕ → ℕ) → value ≡ 0 % m → value ≡ polynomial_at 0 c a % m
-value_none m a value c is = is ∙ ap (λ v. v % m) (sym (polynomial-none c a))
+pub zero_is_empty_polynomial_value : (m a value : ℕ) (c : ℕ → ℕ) → value ≡ 0 % m → value ≡ polynomial_at 0 c a % m
+zero_is_empty_polynomial_value m a value c is = is ∙ ap (λ v. v % m) (sym (polynomial-none c a))
 
 pub value_all : (n a : ℕ) (c : ℕ → ℕ) → polynomial_at n (λ i. c (n - n + i)) a ≡ polynomial_at n c a
 value_all n a c = polynomial-same n (λ i. c (n - n + i)) c a (λ i l. ap c (let e : n - n + i ≡ i = omega arith in e))
@@ -201,16 +204,18 @@ expanded_all m n k c e x is same a =
     let none : n - n ≡ 0 = omega arith in rw (is, value_all n a e, none) at (same a)
 
 -- the difference of a value and a multiple of the next one
-pub subtracted : (m a product new o next : ℕ) → 0 < m → product ≡ (a * next) % m
+pub difference_plus_multiple_congruent : (m a product new o next : ℕ) → 0 < m → product ≡ (a * next) % m
     → new ≡ residue m (pos o -ℤ pos product) → Congruent m (new + a * next) o
-subtracted m a product new o next positive is_product is =
-    mod_of_combination (mod_add (mod_of_difference product positive is) (mod_sym (mod_of_residue is_product))) (omega arith)
+difference_plus_multiple_congruent m a product new o next positive is_product is =
+    mod_of_combination (mod_add (mod_of_difference product positive is) (mod_sym (mod_of_residue is_product)))
+    (omega arith)
 
 -- an inversion says whether there is an inverse
-pub inversion_tells : {T : Type 0} (value : T → ℕ) (m a : ℕ) (found : Option T) (b : Bool)
+pub flag_true_iff_invertible : {T : Type 0} (value : T → ℕ) (m a : ℕ) (found : Option T) (b : Bool)
     → IsInversion value m a found → b ≡ is_some found → IsTrue b ↔ HasInverse m a
-inversion_tells value m a None b h e = ((λ t. let wrong : false ≡ true = sym e ∙ t in cc), λ (x, inverse). absurd (h x inverse))
-inversion_tells value m a (Some y) b h e = ((λ t. (value y, h)), λ inverse. e)
+flag_true_iff_invertible value m a None b h e =
+    ((λ t. let wrong : false ≡ true = sym e ∙ t in cc), λ (x, inverse). absurd (h x inverse))
+flag_true_iff_invertible value m a (Some y) b h e = ((λ t. (value y, h)), λ inverse. e)
 
 -- a product and its residue
 pub has_of_residue : (m a v : ℕ) → v ≡ a % m → HasInverse m v → HasInverse m a

@@ -7,14 +7,18 @@ use Rattle.ring_codes.proofs.Names.{pow-mul, one-pow, polynomial_at, HaveUnitDif
 use Rattle.ring_codes.proofs.Names.{has_both, residue, tail, sum_below, Suits, transform, IsEncoding, ArePowers}
 use Rattle.ring_codes.proofs.NearestWords.{unit_alike}
 use Rattle.ring_codes.proofs.NewtonForms.{turned_difference}
-use Rattle.ring_codes.proofs.Congruences.{mod_of_combination, mod_times, mod_of_modulus, mod_of_residue, mod_of_difference}
+use Rattle.ring_codes.proofs.Congruences.{mod_of_combination, mod_times, mod_of_modulus, mod_of_residue}
+use Rattle.ring_codes.proofs.Congruences.{mod_of_difference}
 
 -- a, where h is a + 1, divides each power of h less 1
 divides_power : (m a h n : ℕ) → Congruent m (a + 1) h → (q : ℕ) × Congruent m (a * q + 1) (h ^ n)
 divides_power m a h zero is = grind (arith, pow-zero, mod_of_eq)
 divides_power m a h (suc n) is =
-    let (q, before) = divides_power m a h n is in
-    (a * q + q + 1, mod_of_combination (mod_add (mod_times (a * q + 1) is) (mod_times h before)) (omega (arith, pow-suc h n)))
+    let (q, before) = divides_power m a h n is in (
+      a * q + q + 1,
+      mod_of_combination (mod_add (mod_times (a * q + 1) is) (mod_times h before))
+          (omega (arith, pow-suc h n)),
+    )
 
 -- modulo an odd number 2 has an inverse, and so has what divides -2
 two_divided : (m a q : ℕ) → m % 2 ≡ 1 → Congruent m (a * q + 2) 0 → HasInverse m a
@@ -30,8 +34,8 @@ two_divided m a q odd none =
       },
     )
 
-square_of : (m x : ℕ) → Congruent m (x + 1) 0 → Congruent m (x * x) 1
-square_of m x is = mod_of_combination (mod_add (mod_times x is) (mod_sym is)) (omega arith)
+minus_one_squares_to_one : (m x : ℕ) → Congruent m (x + 1) 0 → Congruent m (x * x) 1
+minus_one_squares_to_one m x is = mod_of_combination (mod_add (mod_times x is) (mod_sym is)) (omega arith)
 
 -- an odd power of -1 is -1
 odd_power : (m x d : ℕ) → Congruent m (x + 1) 0 → d % 2 ≡ 1 → Congruent m (x ^ d + 1) 0
@@ -39,7 +43,8 @@ odd_power m x d is odd =
     let h : ℕ = d / 2 in
     let whole : d ≡ suc (2 * h) = omega (arith, odd) in
     let square : x ^ 2 ≡ x * x = grind (arith, pow-suc, pow-zero) in
-    let even : Congruent m (x ^ (2 * h)) 1 = rw (pow-mul x 2 h, square, ← one-pow h) (mod_pow h (square_of m x is)) in
+    let even : Congruent m (x ^ (2 * h)) 1 =
+    rw (pow-mul x 2 h, square, ← one-pow h) (mod_pow h (minus_one_squares_to_one m x is)) in
     rw (whole, pow-suc x (2 * h)) (mod_of_combination (mod_add (mod_times x even) is) (omega arith))
 
 -- g^d less 1, where g^(2^y) is -1: for odd d, and for each d
@@ -50,7 +55,8 @@ odd_less_one m y g d a odd is d_odd a_is =
     let swap : d * 2 ^ y ≡ 2 ^ y * d = omega arith in
     let power : (g ^ d) ^ (2 ^ y) ≡ (g ^ (2 ^ y)) ^ d =
     sym (pow-mul g d (2 ^ y)) ∙ ap (λ v. g ^ v) swap ∙ pow-mul g (2 ^ y) d in
-    two_divided m a q odd (mod_of_combination (mod_add found (odd_power m (g ^ (2 ^ y)) d is d_odd)) (omega (arith, power)))
+    two_divided m a q odd (mod_of_combination (mod_add found (odd_power m (g ^ (2 ^ y)) d is d_odd))
+    (omega (arith, power)))
 
 power_less_one : (m y g d a : ℕ) → m % 2 ≡ 1 → Congruent m (g ^ (2 ^ y) + 1) 0 → 0 < d → d < 2 ^ suc y
     → Congruent m (a + 1) (g ^ d) → HasInverse m a
@@ -86,17 +92,18 @@ own_inverse : (m x : ℕ) → 0 < m → Congruent m (x * x) 1 → HasInverse m x
 own_inverse m x positive is =
     (x % m, record { below = mod-lt x positive; one = (mod_trans (mod_mul (mod_refl x) (residue_of x)) is).same })
 
-root_unit : (m g n : ℕ) → 0 < m → 1 < n → Suits m g n → HasInverse m g
-root_unit m g n positive more suits =
+suitable_root_has_inverse : (m g n : ℕ) → 0 < m → 1 < n → Suits m g n → HasInverse m g
+suitable_root_has_inverse m g n positive more suits =
     let h : ℕ = n / 2 in
     let some : h ≡ suc (h - 1) = omega (arith, more) in
     let turn : Congruent m (g ^ h + 1) 0 = record { same = suits.half_turn more ∙ sym (zero-mod _) } in
-    ((has_both _ (g ^ (h - 1)) g).0 (rw (some, pow-suc g (h - 1)) at (own_inverse _ _ positive (square_of _ _ turn)))).1
+    ((has_both _ (g ^ (h - 1)) g).0 (rw (some, pow-suc g (h - 1)) at
+    (own_inverse _ _ positive (minus_one_squares_to_one _ _ turn)))).1
 
-power_unit : (m g j : ℕ) → 0 < m → HasInverse m g → HasInverse m (g ^ j)
-power_unit m g zero positive unit = grind (arith, pow-zero, own_inverse, mod_of_eq)
-power_unit m g (suc j) positive unit =
-    rw (pow-suc g j) ((has_both m (g ^ j) g).1 (power_unit m g j positive unit, unit))
+power_of_unit_has_inverse : (m g j : ℕ) → 0 < m → HasInverse m g → HasInverse m (g ^ j)
+power_of_unit_has_inverse m g zero positive unit = grind (arith, pow-zero, own_inverse, mod_of_eq)
+power_of_unit_has_inverse m g (suc j) positive unit =
+    rw (pow-suc g j) ((has_both m (g ^ j) g).1 (power_of_unit_has_inverse m g j positive unit, unit))
 
 lower_unit : (m g n i j : ℕ) (x : ℕ → ℕ) → m % 2 ≡ 1 → Suits m g n → ArePowers m g n x → j < i → i < n
     → HasInverse m (residue m (pos (x i) -ℤ pos (x j)))
@@ -113,7 +120,7 @@ lower_unit m g n i j x odd suits powers before within =
     (mod_add (mod_of_residue (powers.power i within)) (mod_times (g ^ j) (mod_sym at_a))))) (omega (arith, power)) in
     unit_alike m (g ^ j * a) _ (mod_sym same)
     ((has_both m (g ^ j) a).1 (
-      power_unit m g j positive (root_unit m g n positive (omega arith) suits),
+      power_of_unit_has_inverse m g j positive (suitable_root_has_inverse m g n positive (omega arith) suits),
       below_order m g n d a suits.power_of_two.0 odd suits suits.power_of_two.1 (omega arith) (omega arith) at_a,
     ))
 
@@ -146,10 +153,10 @@ pub encoding_by_transform : (m g k n : ℕ) (points message : ℕ → ℕ) → k
 encoding_by_transform m g k n points message few powers none = grind (arith, value_by_transform)
 
 -- the number of the points has an inverse
-pub length_unit : (m g n : ℕ) → m % 2 ≡ 1 → Suits m g n → HasInverse m n
-length_unit m g n odd suits =
+pub length_has_inverse_modulo_odd : (m g n : ℕ) → m % 2 ≡ 1 → Suits m g n → HasInverse m n
+length_has_inverse_modulo_odd m g n odd suits =
     let positive : 0 < m = omega (arith, odd) in
-    rw suits.power_of_two.1 (power_unit m 2 suits.power_of_two.0 positive
+    rw suits.power_of_two.1 (power_of_unit_has_inverse m 2 suits.power_of_two.0 positive
     (two_divided m 2 (m - 1) odd (mod_of_combination (mod_of_modulus 2) (omega (arith, positive)))))
 
 -- a word is of a message exactly where its coefficients from number k on are 0: those whose transform it is
@@ -160,15 +167,15 @@ word_of_coefficients m g k n points c w few powers is none = record {
 }
 
 -- the coefficients of a polynomial, followed by zeros
-padded : ℕ → (ℕ → ℕ) → ℕ → ℕ
-padded k c i = cond (ltb i k) (c i) 0
+zero_padded_coefficients : ℕ → (ℕ → ℕ) → ℕ → ℕ
+zero_padded_coefficients k c i = cond (ltb i k) (c i) 0
 
-padded_within : (k : ℕ) (c : ℕ → ℕ) (i : ℕ) → i < k → padded k c i ≡ c i
-unfolding padded
+padded_within : (k : ℕ) (c : ℕ → ℕ) (i : ℕ) → i < k → zero_padded_coefficients k c i ≡ c i
+unfolding zero_padded_coefficients
 padded_within k c i l = elim (leb_tells (suc i) k) [ inl p ↦ rw p.0 refl | inr p ↦ absurd (omega (arith, p.1, l)) ]
 
-padded_past : (k : ℕ) (c : ℕ → ℕ) (i : ℕ) → k ≤ i → padded k c i ≡ 0
-unfolding padded
+padded_past : (k : ℕ) (c : ℕ → ℕ) (i : ℕ) → k ≤ i → zero_padded_coefficients k c i ≡ 0
+unfolding zero_padded_coefficients
 padded_past k c i b = elim (leb_tells (suc i) k) [ inl p ↦ absurd (omega (arith, p.1, b)) | inr p ↦ rw p.0 refl ]
 
 pub coefficients_end : (m g k n : ℕ) (points message c w : ℕ → ℕ) → k ≤ n → ArePowers m g n points
@@ -176,8 +183,9 @@ pub coefficients_end : (m g k n : ℕ) (points message c w : ℕ → ℕ) → k 
     → ((x : ℕ → ℕ) → ((j : ℕ) → j < n → transform m g n x j ≡ w j) → (i : ℕ) → i < n → c i ≡ x i % m)
     → (i : ℕ) → k ≤ i → i < n → c i ≡ 0
 coefficients_end m g k n points message c w few powers is undone i past within =
-    undone (padded k message)
-    (λ j l. value_by_transform m g k n j points message (padded k message) few powers (padded_within k message)
+    undone (zero_padded_coefficients k message)
+    (λ j l. value_by_transform m g k n j points message (zero_padded_coefficients k message) few powers
+    (padded_within k message)
     (λ t b d. padded_past k message t b) l ∙ sym (is.symbol j l)) i within
     ∙ ap (λ v. v % m) (padded_past k message i past) ∙ zero-mod m
 

@@ -8,7 +8,7 @@ use Rattle.num_modular.specs.Sums.{sum_below}
 use Rattle.ring_codes.specs.Shifts.{shifted}
 use Rattle.ring_codes.proofs.Congruences.{mod_of_combination, mod_of_modulus, mod_of_residue, mod_times}
 use Rattle.ring_codes.proofs.Congruences.{product-congruent}
-use Rattle.ring_codes.proofs.NearestWords.{combined, turned_sign, difference_alike}
+use Rattle.ring_codes.proofs.NearestWords.{polynomial_value_is_linear, turned_sign, difference_alike}
 use Rattle.ring_codes.proofs.Shifts.{shifted-values, shifted-congruent}
 
 -- a polynomial with one coefficient
@@ -17,7 +17,8 @@ constant_value X f =
     omega (arith, sum_below-suc 0 (λ i. f i * X ^ i), sum_below-zero (λ i. f i * X ^ i), ap (λ v. f 0 * v) (pow-zero X))
 
 -- zeros behind change no value
-pub longer_value : (n s X : ℕ) (p : ℕ → ℕ) → n ≤ s → ((i : ℕ) → n ≤ i → p i ≡ 0) → polynomial_at s p X ≡ polynomial_at n p X
+pub longer_value : (n s X : ℕ) (p : ℕ → ℕ) → n ≤ s → ((i : ℕ) → n ≤ i → p i ≡ 0)
+    → polynomial_at s p X ≡ polynomial_at n p X
 longer_value n s X p few none =
     let whole : s ≡ n + (s - n) = omega (arith, few) in
     ap (λ v. polynomial_at v p X) whole
@@ -44,7 +45,7 @@ pub times_root_value : (d r X : ℕ) (h : ℕ → ℕ) → h d ≡ 0
     → polynomial_at (suc d) (times_root r h) X ≡ (X + r) * polynomial_at d h X
 unfolding times_root
 times_root_value d r X h none =
-    let parts = combined (suc d) (shifted h) h r X in
+    let parts = polynomial_value_is_linear (suc d) (shifted h) h r X in
     let same : polynomial_at (suc d) h X ≡ polynomial_at d h X =
     omega (arith, sum_below-suc d (λ i. h i * X ^ i), ap (λ w. w * X ^ d) none) in
     omega (arith, parts, shifted-values d X h, ap (λ w. r * w) same)

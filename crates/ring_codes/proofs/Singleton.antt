@@ -8,19 +8,22 @@ use Rattle.ring_codes.proofs.Names.{polynomial-first, has_product, IsEncoding, d
 use Rattle.num_modular.specs.Sums.{sum_below}
 use Rattle.num_modular.specs.Products.{product_below}
 use Rattle.ring_codes.proofs.Congruences.{mod_of_combination, mod_of_modulus}
-use Rattle.ring_codes.proofs.Distances.{extended, at_end, before_end, counted_same, counted_other, counted_most}
-use Rattle.ring_codes.proofs.NearestWords.{at_root, difference_alike, no_value, unit_alike, unit_not_zero}
+use Rattle.ring_codes.proofs.Distances.{extended_sequence, at_end, before_end, counted_same, counted_other}
+use Rattle.ring_codes.proofs.Distances.{counted_most}
+use Rattle.ring_codes.proofs.NearestWords.{at_root, difference_alike, no_value, unit_alike, unit_residue_is_nonzero}
 use Rattle.ring_codes.proofs.Roots.{constant_one, expanded, highest_is_one, product_expanded}
 
 -- the number with these digits
-below_power : (r m : ℕ) (c : ℕ → ℕ) → ((i : ℕ) → i < r → c i < m) → polynomial_at r c m < m ^ r
-below_power zero m c small = omega (arith, polynomial-none c m, pow-zero m)
-below_power (suc r) m c small =
-    let most = mul-le-mul_left m (below_power r m (λ i. c (suc i)) (λ i l. small (suc i) (omega arith))) in
+number_of_digits_below_power : (r m : ℕ) (c : ℕ → ℕ) → ((i : ℕ) → i < r → c i < m) → polynomial_at r c m < m ^ r
+number_of_digits_below_power zero m c small = omega (arith, polynomial-none c m, pow-zero m)
+number_of_digits_below_power (suc r) m c small =
+    let most = mul-le-mul_left m (number_of_digits_below_power r m (λ i. c (suc i))
+    (λ i l. small (suc i) (omega arith))) in
     omega (arith, most, small 0 (omega arith), polynomial-first r c m, pow-suc m r)
 
 -- a list by its first element and the others
-digit_same : (r : ℕ) (c d : ℕ → ℕ) (i : ℕ) → i < suc r → c 0 ≡ d 0 → ((j : ℕ) → j < r → c (suc j) ≡ d (suc j)) → c i ≡ d i
+digit_same : (r : ℕ) (c d : ℕ → ℕ) (i : ℕ) → i < suc r → c 0 ≡ d 0 → ((j : ℕ) → j < r → c (suc j) ≡ d (suc j))
+    → c i ≡ d i
 digit_same r c d zero l first rest = first
 digit_same r c d (suc i) l first rest = rest i (omega arith)
 
@@ -55,26 +58,26 @@ value_or_none (suc size) v f = elim (cases_eq (f size) v) [
 ]
 
 -- different numbers below a bound are at most as many
-pub pigeonholes : (most size : ℕ) (f : ℕ → ℕ) → ((a : ℕ) → a < size → f a < most)
+pub injection_size_at_most_bound : (most size : ℕ) (f : ℕ → ℕ) → ((a : ℕ) → a < size → f a < most)
     → ((a b : ℕ) → a < size → b < size → a ≢ b → f a ≢ f b) → size ≤ most
-pigeonholes zero zero f below apart = omega arith
-pigeonholes zero (suc size) f below apart = let l = below 0 (omega arith) in absurd (omega (arith, l))
-pigeonholes (suc most) zero f below apart = omega arith
-pigeonholes (suc most) (suc size) f below apart = elim (value_or_none (suc size) most f) [
+injection_size_at_most_bound zero zero f below apart = omega arith
+injection_size_at_most_bound zero (suc size) f below apart = let l = below 0 (omega arith) in absurd (omega (arith, l))
+injection_size_at_most_bound (suc most) zero f below apart = omega arith
+injection_size_at_most_bound (suc most) (suc size) f below apart = elim (value_or_none (suc size) most f) [
   | inr none ↦
-      let l = pigeonholes most (suc size) f
+      let l = injection_size_at_most_bound most (suc size) f
       (λ a l. let b = below a l in let o = none a l in omega (arith, b, o)) apart in
       omega (arith, l)
   | inl at ↦
       let c : ℕ = at.0 in
       let c_below = at.1 in
-      let g : ℕ → ℕ = extended c (f size) f in
+      let g : ℕ → ℕ = extended_sequence c (f size) f in
       let other : (a : ℕ) → a < suc size → a ≢ c → f a < most =
       λ a l differ. let b = below a l in let o = apart a c l c_below differ in
       let t = at.2 in
       let not_most : f a ≢ most = λ e. o (e ∙ sym t) in
       omega (arith, b, not_most) in
-      let l = pigeonholes most size g
+      let l = injection_size_at_most_bound most size g
       (λ a l. elim (cases_eq a c) [
         | inl e ↦ rw (at_end c (f size) f a e) (other size (omega arith) (omega (arith, e, l)))
         | inr differ ↦ rw (before_end c (f size) f a differ) (other a (omega arith) differ)
@@ -95,11 +98,11 @@ pigeonholes (suc most) (suc size) f below apart = elim (value_or_none (suc size)
 ]
 
 -- words that agree at the first r places differ in n - r at most
-few_behind : (n r : ℕ) (a b : ℕ → ℕ) → ((i : ℕ) → i < r → a i ≡ b i) → distance n a b ≤ n - r
+distance_at_most_suffix_length : (n r : ℕ) (a b : ℕ → ℕ) → ((i : ℕ) → i < r → a i ≡ b i) → distance n a b ≤ n - r
 unfolding sum_below
-few_behind zero r a b same = omega arith
-few_behind (suc n) r a b same =
-    let i = few_behind n r a b same in
+distance_at_most_suffix_length zero r a b same = omega arith
+distance_at_most_suffix_length (suc n) r a b same =
+    let i = distance_at_most_suffix_length n r a b same in
     elim (cases_lt n r) [
       | inl before ↦ let z = counted_same (a n) (b n) (same n before) in omega (arith, z, i)
       | inr behind ↦ let o = counted_most (a n) (b n) in omega (arith, o, i, behind)
@@ -111,10 +114,11 @@ pub singleton_bound : (m n d size : ℕ) (words : ℕ → ℕ → ℕ) → 1 ≤
 singleton_bound m n d size words some few small apart =
     let r : ℕ = n - d + 1 in
     let digits : (a : ℕ) → a < size → (i : ℕ) → i < r → words a i < m = grind arith in
-    pigeonholes (m ^ r) size (λ a. polynomial_at r (words a) m) (λ a l. below_power r m (words a) (digits a l))
+    injection_size_at_most_bound (m ^ r) size (λ a. polynomial_at r (words a) m) (λ a l. number_of_digits_below_power r
+    m (words a) (digits a l))
     (λ a b l k differ same.
     let far = apart a b l k differ in
-    let near = few_behind n r (words a) (words b)
+    let near = distance_at_most_suffix_length n r (words a) (words b)
     (same_digits r m (words a) (words b) (digits a l) (digits b k) same) in
     omega (arith, far, near, some, few))
 
@@ -153,7 +157,7 @@ bound_met m (suc d) n x two some few fit =
     let value : (i : ℕ) → word i ≡ product_below d (λ j. x i + r j) % m = λ i. rw (product_expanded d (x i) r) refl in
     let apart = agree_first n d word (λ i. 0)
     (λ i l. rw (value i) (product_zero m d i (λ j. x i + r j) l (at_root m (x i) positive)))
-    (λ i l k z. unit_not_zero m (product_below d (λ j. x i + r j)) two
+    (λ i l k z. unit_residue_is_nonzero m (product_below d (λ j. x i + r j)) two
     (has_product m d (λ j. x i + r j) positive
     (λ j b. unit_alike m _ _ (difference_alike m (x i) (x j) positive)
     (fit.unit i j k (omega arith) (omega arith)))) (rw (value i) at z)) in (

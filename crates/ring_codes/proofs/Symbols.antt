@@ -66,14 +66,17 @@ fit_same m n x y same fit = record {
   unit = λ i j l k other. rw (← same i l, ← same j k) (fit.unit i j l k other);
 }
 
--- the points at the first k places, copied to a list: these places are right, and the points fit exactly where the copies do
-pub record AreChosen {T : Type 0} (entries : List T → ℕ → ℕ) (m k : ℕ) (points chosen : List T) (places : List ℕ) : Type 0 where
+-- the points at the first k places, copied to a list: these places are right, and the points fit exactly where the
+-- copies do
+pub record AreChosen {T : Type 0} (entries : List T → ℕ → ℕ) (m k : ℕ) (points chosen : List T) (places : List ℕ) : Type
+    0 where
   pub right : ArePlaces k (length points) places
   pub count : length chosen ≡ k
   pub same : (i : ℕ) → i < k → entries chosen i ≡ entries points (get_or places i 0)
   pub fit : HaveUnitDifferences m k (entries chosen) ↔ HaveUnitDifferences m k (λ i. entries points (get_or places i 0))
 
-pub are_chosen : {T : Type 0} (number : T → ℕ) (value : ℕ → ℕ → ℕ) (m j k : ℕ) (points chosen : List T) (places : List ℕ)
+pub are_chosen : {T : Type 0} (number : T → ℕ) (value : ℕ → ℕ → ℕ) (m j k : ℕ) (points chosen : List T)
+    (places : List ℕ)
     → length chosen ≡ j → j ≡ k → ArePlaces j (length points) places
     → ((i : ℕ) (d : T) → i < j → get_or chosen i d ≡ get_or points (get_or places i 0) d)
     → AreChosen (entry number value m) m k points chosen places
@@ -102,7 +105,8 @@ entry_back number value m forms k i =
 pub slice_length : {T : Type 0} (forms : List T) (from to : ℕ) → from ≤ to → to ≤ length forms
     → length (slice_range forms from to) ≡ to - from
 slice_length forms from to ordered within =
-    let left = length-drop from forms in length-take-le (to - from) (drop from forms) (omega (arith, left, ordered, within))
+    let left = length-drop from forms in
+    length-take-le (to - from) (drop from forms) (omega (arith, left, ordered, within))
 
 pub entry_slice : {T : Type 0} (number : T → ℕ) (value : ℕ → ℕ → ℕ) (m : ℕ) (forms : List T) (from to i : ℕ)
     → from ≤ to → to ≤ length forms → i < to - from
@@ -110,7 +114,8 @@ pub entry_slice : {T : Type 0} (number : T → ℕ) (value : ℕ → ℕ → ℕ
 entry_slice number value m forms from to i ordered within l = grind (arith, length-drop, entry_front, entry_back)
 
 -- where the entries before a part hold their values, and the part now has the next ones, all up to its end hold them
-part_holds : {T : Type 0} (number : T → ℕ) (form value : ℕ → ℕ → ℕ) (m : ℕ) (forms part : List T) (v : ℕ → ℕ) (from k : ℕ)
+part_holds : {T : Type 0} (number : T → ℕ) (form value : ℕ → ℕ → ℕ) (m : ℕ) (forms part : List T) (v : ℕ
+    → ℕ) (from k : ℕ)
     → from ≤ length forms → HoldBelow number form value m forms v from → All (λ f. IsForm form value m (number f)) part
     → ((i : ℕ) → i < length part → entry number value m part i ≡ v (from + i))
     → HoldBelow number form value m (put_mid from k forms part) v (from + length part)
@@ -136,7 +141,8 @@ part_holds number form value m forms part v from k within held all same = record
 }
 
 -- .. and so with the symbols at points of which a part follows
-pub part_encoded : {T : Type 0} (number : T → ℕ) (form value : ℕ → ℕ → ℕ) (m n : ℕ) (c : ℕ → ℕ) (points forms part : List T)
+pub part_encoded : {T : Type 0} (number : T → ℕ) (form value : ℕ → ℕ → ℕ) (m n : ℕ) (c : ℕ
+    → ℕ) (points forms part : List T)
     (from to k : ℕ) → from ≤ to → to ≤ length points → length forms ≡ length points → length part ≡ to - from
     → HoldBelow number form value m forms (λ i. polynomial_at n c (entry number value m points i) % m) from
     → All (λ f. IsForm form value m (number f)) part
@@ -150,4 +156,5 @@ part_encoded number form value m n c points forms part from to k ordered within 
     let end : to ≡ from + length part = omega (arith, count, ordered) in
     rw end (part_holds number form value m forms part v from k (omega (arith, ordered, within, long)) held all
     (λ i l. encoded.symbol i (omega (arith, symbols, count, l))
-    ∙ ap (λ a. polynomial_at n c a % m) (entry_slice number value m points from to i ordered within (omega (arith, count, l)))))
+    ∙ ap (λ a. polynomial_at n c a % m) (entry_slice number value m points from to i ordered within
+    (omega (arith, count, l)))))

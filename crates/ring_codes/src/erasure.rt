@@ -143,7 +143,7 @@ pub fn points_fit<T: RingWord, R: Reducer<T>>(r: &R, points: &[T]) -> bool
 /// assert_eq!(evaluate(&ring, &[5, 7], &2), 19); // 5 + 7 * 2
 /// ```
 // rust: #[cfg_attr(debug_assertions, track_caller)]
-#[tactic(auto, using(crate::proofs::NewtonForms::value_none, num_modular::specs::Callers::form_read, crate::proofs::NewtonForms::value_all))]
+#[tactic(auto, using(crate::proofs::NewtonForms::zero_is_empty_polynomial_value, num_modular::specs::Callers::form_read, crate::proofs::NewtonForms::value_all))]
 pub fn evaluate<T: RingWord, R: Reducer<T>>(r: &R, coefficients: &[T], point: &T) -> T
     requires coefficients { AreChecked R.Reducer T.number r.now coefficients.now }
     requires point { IsChecked R.Reducer T.number r.now point.now }

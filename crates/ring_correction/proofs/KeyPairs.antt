@@ -24,7 +24,8 @@ unfolding sum_below
 raised_value m zero a X f g each last = mod_of_eq (omega arith)
 raised_value m (suc n) a X f g each last =
     mod_of_combination (mod_add (with_multiple m (suc n) a X g f (shifted f) each)
-    (mod_times X (mod_times (X ^ n) (mod_sym (last n (omega arith) (omega arith)))))) (omega (arith, shifted-values n X f))
+    (mod_times X (mod_times (X ^ n) (mod_sym (last n (omega arith) (omega arith))))))
+    (omega (arith, shifted-values n X f))
 
 -- its coefficients that are 0, and its first one by order that isn't
 raised_none : (m a l : ℕ) (f g : ℕ → ℕ) → Congruent m (g l + a * f l) (shifted f l)
@@ -39,12 +40,13 @@ unfolding shifted
 raised_unit m a l f g is none unit = unit_alike m _ _ (mod_sym (left_alone m _ _ _ _ is none)) unit
 
 -- the product by X - a
-pub raised : (m k c d i u v a : ℕ) (x y n e f g : ℕ → ℕ) → d + k ≡ c + 1 → v ≡ u + 2 → x i ≡ a
+pub raised_pair_is_key_pair : (m k c d i u v a : ℕ) (x y n e f g : ℕ → ℕ) → d + k ≡ c + 1 → v ≡ u + 2 → x i ≡ a
     → ((l : ℕ) → l < c → Congruent m (f l + a * n l) (shifted n l))
     → ((l : ℕ) → l < d → Congruent m (g l + a * e l) (shifted e l))
     → HasKeyPair m k c d i u x y n e → HasKeyPair m k c d (i + 1) v x y f g
-raised m k c d i u v a x y n e f g lengths next point each_n each_e own room =
-    let pair = own (omega arith) in let behind_n = pair.leads.numerator_behind in let behind_e = pair.leads.locator_behind in
+raised_pair_is_key_pair m k c d i u v a x y n e f g lengths next point each_n each_e own room =
+    let pair = own (omega arith) in let behind_n = pair.leads.numerator_behind in let behind_e =
+    pair.leads.locator_behind in
     let value_n = λ (X : ℕ). raised_value m c a X n f each_n (λ l b s. behind_n l b (omega arith)) in
     let value_e = λ (X : ℕ). raised_value m d a X e g each_e (λ l b s. behind_e l b (omega arith)) in
     record {
@@ -57,7 +59,8 @@ raised m k c d i u v a x y n e f g lengths next point each_n each_e own room =
             (mod_add (mod_times a (mod_sym is)) (mod_times (x j) is)))) (omega arith)
       ];
       leads = record {
-        numerator_behind = λ l b s. raised_none m a l n f (each_n l b) (λ j t o. behind_n j (omega arith) (omega arith));
+        numerator_behind = λ l b s. raised_none m a l n f (each_n l b) (λ j t o. behind_n j (omega arith)
+            (omega arith));
         locator_behind = λ l b s. raised_none m a l e g (each_e l b) (λ j t o. behind_e j (omega arith) (omega arith));
         unit = elim pair.leads.unit [
           | inl (l, at, unit) ↦ inl (
@@ -74,7 +77,8 @@ raised m k c d i u v a x y n e f g lengths next point each_n each_e own room =
       };
     }
 
-eliminated_none : {m a b c : ℕ} (p q : ℕ) → Congruent m (a + q * b) (p * c) → Congruent m b 0 → Congruent m c 0 → Congruent m a 0
+eliminated_none : {m a b c : ℕ} (p q : ℕ) → Congruent m (a + q * b) (p * c) → Congruent m b 0 → Congruent m c 0
+    → Congruent m a 0
 eliminated_none p q is none here =
     mod_of_combination (mod_add is (mod_add (mod_times q (mod_sym none)) (mod_times p here))) (omega arith)
 
@@ -84,17 +88,21 @@ eliminated_unit {m} q is none unit own =
     unit_alike m _ _ (mod_sym (left_alone m _ _ _ _ is none)) ((has_both m _ _).1 (unit, own))
 
 -- p times a pair less q times the pivot, p and q being the discrepancies of the pivot and of the pair
-pub eliminated : (m k c d i u v p q : ℕ) (x y h g n e f t : ℕ → ℕ) → d + k ≡ c + 1 → u < v → HasInverse m p
+pub eliminated_pair_is_key_pair : (m k c d i u v p q : ℕ) (x y h g n e f t : ℕ → ℕ) → d + k ≡ c + 1 → u < v
+    → HasInverse m p
     → ((l : ℕ) → l < c → Congruent m (f l + q * h l) (p * n l))
     → ((l : ℕ) → l < d → Congruent m (t l + q * g l) (p * e l))
     → Congruent m (p + y i * polynomial_at d g (x i)) (polynomial_at c h (x i))
     → Congruent m (q + y i * polynomial_at d e (x i)) (polynomial_at c n (x i))
     → HasKeyPair m k c d i u x y h g → HasKeyPair m k c d i v x y n e → HasKeyPair m k c d (i + 1) v x y f t
-eliminated m k c d i u v p q x y h g n e f t lengths less inverse each_n each_e is_p is_q has_pivot has_own room =
+eliminated_pair_is_key_pair m k c d i u v p q x y h g n e f t lengths less inverse each_n each_e is_p is_q has_pivot
+    has_own room =
     let pivot = has_pivot (omega arith) in let own = has_own room in
     let behind_h = pivot.leads.numerator_behind in let behind_g = pivot.leads.locator_behind in
-    let at_n = λ (X : ℕ). mod_trans (with_multiple m c q X f h (λ l. p * n l) each_n) (mod_of_eq (scaled_polynomial c p n X)) in
-    let at_e = λ (X : ℕ). mod_trans (with_multiple m d q X t g (λ l. p * e l) each_e) (mod_of_eq (scaled_polynomial d p e X)) in
+    let at_n = λ (X : ℕ). mod_trans (with_multiple m c q X f h (λ l. p * n l) each_n)
+    (mod_of_eq (scaled_polynomial c p n X)) in
+    let at_e = λ (X : ℕ). mod_trans (with_multiple m d q X t g (λ l. p * e l) each_e)
+    (mod_of_eq (scaled_polynomial d p e X)) in
     record {
       solves = λ j l. elim (cases_eq j i) [
         | inl s ↦ rw s (mod_of_combination (mod_add (at_n (x i)) (mod_add (mod_times (y i) (mod_sym (at_e (x i))))
@@ -102,12 +110,14 @@ eliminated m k c d i u v p q x y h g n e f t lengths less inverse each_n each_e 
         | inr other ↦
             let before : j < i = omega arith in
             mod_of_combination (mod_add (at_n (x j)) (mod_add (mod_times (y j) (mod_sym (at_e (x j))))
-            (mod_add (mod_times q (mod_sym (pivot.solves j before))) (mod_times p (own.solves j before))))) (omega arith)
+            (mod_add (mod_times q (mod_sym (pivot.solves j before))) (mod_times p (own.solves j before)))))
+            (omega arith)
       ];
       leads = record {
         numerator_behind = λ l b s.
             eliminated_none p q (each_n l b) (behind_h l b (omega arith)) (own.leads.numerator_behind l b s);
-        locator_behind = λ l b s. eliminated_none p q (each_e l b) (behind_g l b (omega arith)) (own.leads.locator_behind l b s);
+        locator_behind = λ l b s. eliminated_none p q (each_e l b) (behind_g l b (omega arith))
+            (own.leads.locator_behind l b s);
         unit = elim own.leads.unit [
           | inl (l, at, unit) ↦ let b : l < c = omega arith in
               inl (l, at, eliminated_unit q (each_n l b) (behind_h l b (omega arith)) inverse unit)

@@ -5,17 +5,20 @@ use Rattle.std.proofs.Common.{ap, sym, ◌∙◌, arith, inl, inr, refl, mod-eq_
 use Rattle.std.proofs.Math.Nat.{mod-mod, zero-mod}
 use Rattle.std.proofs.lemmas.Bool.{cases_eq, cases_lt}
 use Rattle.std.proofs.Common.{List, length, take, get_or, set, All, get_or-set_same, get_or-set_other, length-take-le}
-use Rattle.num_modular.specs.Callers.{same_coefficients, entry, entry_at, entry_read, form_read, held_entry, hold_more, IsForm, HoldBelow}
+use Rattle.num_modular.specs.Callers.{same_coefficients, entry, entry_at, entry_read, form_read, held_entry, hold_more}
+use Rattle.num_modular.specs.Callers.{IsForm, HoldBelow}
 use Rattle.num_modular.specs.Congruence.{Congruent}
 use Rattle.num_modular.specs.Inverses.{IsInverse, HasInverse}
 use Rattle.num_modular.specs.NumberLaws.{mod_of_eq, mod_refl, mod_sym, mod_trans, mod_add}
 use Rattle.num_modular.specs.NumberLaws.{sum_below-same, sum_below-more, sum_below-joined}
 use Rattle.num_modular.specs.Polynomials.{polynomial_at, HaveUnitDifferences}
 use Rattle.num_modular.specs.PolynomialLaws.{polynomial-none, polynomial-first, polynomial-congruent}
-use Rattle.ring_codes.proofs.Distances.{same_messages, selected, counted, counted_same, counted_other, counted_most}
-use Rattle.ring_codes.proofs.Distances.{extended, at_end, before_end, extended_each, extended_rising, rising_fit}
+use Rattle.ring_codes.proofs.Distances.{same_messages, near_words_agree_at_selection, counted, counted_same}
+use Rattle.ring_codes.proofs.Distances.{counted_other, counted_most}
+use Rattle.ring_codes.proofs.Distances.{extended_sequence, at_end, before_end, extended_each, extended_rising}
+use Rattle.ring_codes.proofs.Distances.{rising_fit}
 use Rattle.ring_codes.proofs.Shifts.{shifted-values}
-use Rattle.ring_codes.proofs.NearestWords.{combined, unit_alike, no_value}
+use Rattle.ring_codes.proofs.NearestWords.{polynomial_value_is_linear, unit_alike, no_value}
 use Rattle.ring_codes.proofs.NewtonForms.{has_of_residue}
 use Rattle.ring_codes.proofs.Counts.{fit_front}
 use Rattle.ring_codes.proofs.Symbols.{entry_front, fit_same, same_forms}
@@ -37,7 +40,7 @@ product_of (suc k) d (suc n) f e some room past =
       (λ i. shifted g i + f 0 * e i),
       λ X. omega (
         arith,
-        combined (suc n) (shifted g) e (f 0) X,
+        polynomial_value_is_linear (suc n) (shifted g) e (f 0) X,
         shifted-values n X g,
         ap (λ v. X * v) (is X),
         ap (λ v. f 0 * v) (longer_value d (suc n) X e (omega arith) past),
@@ -46,33 +49,38 @@ product_of (suc k) d (suc n) f e some room past =
     )
 
 -- the quotient by a number with an inverse is the other factor
-quotient_is : (m n e q w : ℕ) → IsQuotient m n e q → Congruent m n (w * e) → Congruent m q w
-quotient_is m n e q w is product =
+quotient_is_other_factor : (m n e q w : ℕ) → IsQuotient m n e q → Congruent m n (w * e) → Congruent m q w
+quotient_is_other_factor m n e q w is product =
     let one = mod_of_inverse is.unit.1 in
-    mod_of_combination (mod_add (mod_times q (mod_sym one)) (mod_add (mod_times is.unit.0 (mod_trans is.product product))
+    mod_of_combination (mod_add (mod_times q (mod_sym one))
+    (mod_add (mod_times is.unit.0 (mod_trans is.product product))
     (mod_times w one))) (omega arith)
 
 -- a pair, and a message whose word is near
 module _ (m k c d n : ℕ) (x y p e sent : ℕ → ℕ) (some : 1 ≤ d) (lengths : d + k ≡ c + 1)
     (fit : HaveUnitDifferences m n x) (past : (l : ℕ) → d ≤ l → e l ≡ 0)
     (near : distance n y (λ j. polynomial_at k sent (x j) % m) + c ≤ n) where
-  -- the numerator is the product of the message and the locator
+  -- the numerator is the product_coefficients of the message and the locator
   near_value : Solves m c d n x y p e → (X : ℕ)
       → Congruent m (polynomial_at c p X) (polynomial_at k sent X * polynomial_at d e X)
   near_value solves X =
       let (g, is) = product_of k d c sent e some (omega arith) past in
-      let s = selected n c y (λ j. polynomial_at k sent (x j) % m) near in
-      let same = same_coefficients m c p g (λ i. x (s.place i)) (rising_fit m n c x s.place s.within s.rising fit) (λ i l.
+      let s = near_words_agree_at_selection n c y (λ j. polynomial_at k sent (x j) % m) near in
+      let same = same_coefficients m c p g (λ i. x (s.place i)) (rising_fit m n c x s.place s.within s.rising fit)
+      (λ i l.
       mod_of_combination (mod_add (solves (s.place i) (s.within i l))
-      (mod_times (polynomial_at d e (x (s.place i))) (mod_of_residue (s.same i l)))) (omega (arith, is (x (s.place i))))) in
+      (mod_times (polynomial_at d e (x (s.place i))) (mod_of_residue (s.same i l))))
+      (omega (arith, is (x (s.place i))))) in
       mod_trans (polynomial-congruent c p g X X same (mod_refl X)) (mod_of_eq (is X))
 
   -- the locator isn't 0 at so many points
   pub enough_units : (u : ℕ) → u < 2 * c → IsKeyPair m k c d n u x y p e
       → distance n (λ j. polynomial_at d e (x j) % m) (λ j. 0) < k → HasInverse m 0
   enough_units u room pair zeros =
-      let s = selected n d (λ j. polynomial_at d e (x j) % m) (λ j. 0) (omega (arith, zeros, near)) in
-      let none = same_coefficients m d e (λ i. 0) (λ i. x (s.place i)) (rising_fit m n d x s.place s.within s.rising fit)
+      let s = near_words_agree_at_selection n d (λ j. polynomial_at d e (x j) % m) (λ j. 0) (omega (arith, zeros, near))
+      in
+      let none = same_coefficients m d e (λ i. 0) (λ i. x (s.place i)) (rising_fit m n d x s.place s.within s.rising
+      fit)
       (λ i l. record { same = s.same i l ∙ sym (ap (λ v. v % m) (no_value d (x (s.place i))) ∙ zero-mod m) }) in
       elim pair.leads.unit [
         | inl (l, at, unit) ↦
@@ -92,7 +100,8 @@ module _ (m k c d n : ℕ) (x y p e sent : ℕ → ℕ) (some : 1 ≤ d) (length
     symbol = λ i l.
         let X : ℕ = x (are.place i) in
         sym (mod-eq_of_lt (below i l))
-        ∙ (quotient_is m _ _ (values i) (polynomial_at k sent X) (are.quotient i l) (near_value pair.solves X)).same
+        ∙ (quotient_is_other_factor m _ _ (values i) (polynomial_at k sent X) (are.quotient i l)
+        (near_value pair.solves X)).same
         ∙ ap (λ v. polynomial_at k sent v % m) (sym (are.chosen_there i l));
   }
 
@@ -103,7 +112,8 @@ pub distance_taken : {T : Type 0} (number : T → ℕ) (value : ℕ → ℕ → 
     (λ j. polynomial_at k sent (entry number value m (take count X) j) % m)
     ≤ distance (length X) (entry number value m Y) (λ j. polynomial_at k sent (entry number value m X j) % m)
 distance_taken {T} number value m count k X Y sent within each =
-    let y = entry number value m Y in let word : List T → ℕ → ℕ = λ x j. polynomial_at k sent (entry number value m x j) % m in
+    let y = entry number value m Y in let word : List T → ℕ → ℕ =
+    λ x j. polynomial_at k sent (entry number value m x j) % m in
     let alike : distance count (entry number value m (take count Y)) (word (take count X)) ≡ distance count y (word X) =
     grind (arith, distance_alike, entry_front) in
     let whole : count + (length X - count) ≡ length X = omega arith in
@@ -151,10 +161,10 @@ module _ {T : Type 0} (number : T → ℕ) (form value : ℕ → ℕ → ℕ) (m
       → Found (n + 1) (k + 1) (entry number value m points) p e (set chosen k f) (set values k q)
   found_more {n} {k} {p} {e} points {chosen} {values} {a} {f} {q} room room_values found all within at_a at_f quotient =
       let x = entry number value m points in let at = entry_read number value m points n a within at_a in record {
-        place = extended k n found.place;
+        place = extended_sequence k n found.place;
         within = grind (arith, cases_eq, at_end, before_end);
         rising = extended_rising k n found.place found.within found.rising;
-        chosen_there = hold_more number form value m chosen k f (λ i. x (extended k n found.place i)) room
+        chosen_there = hold_more number form value m chosen k f (λ i. x (extended_sequence k n found.place i)) room
             (record { each = λ i d l. rw (before_end k n found.place i (omega arith)) (found.chosen_there.each i d l) })
             (form_read number form value m points n f all within at_f)
             (entry_read number value m points n f within at_f ∙ ap x (sym (at_end k n found.place k refl)));
@@ -183,11 +193,19 @@ module _ {T : Type 0} (number : T → ℕ) (form value : ℕ → ℕ → ℕ) (m
   }
 
 -- one point more where a value is 0, or isn't
-pub zeros_more : {k : ℕ} (n : ℕ) (a b : ℕ → ℕ) → distance n a b ≤ k
+pub distance_grows_at_most_one : {k : ℕ} (n : ℕ) (a b : ℕ → ℕ) → distance n a b ≤ k
     → (distance (n + 1) a b ≤ k + 1) × (a n ≡ b n → distance (n + 1) a b ≤ k)
-zeros_more n a b few =
-    let next = sum_below-more (λ i. counted (a i) (b i)) n in
-    (omega (arith, few, next, counted_most (a n) (b n)), λ same. omega (arith, few, next, counted_same (a n) (b n) same))
+distance_grows_at_most_one n a b few =
+    let next = sum_below-more (λ i. counted (a i) (b i)) n in (
+      omega (arith, few, next, counted_most (a n) (b n)),
+      λ same. omega (
+        arith,
+        few,
+        next,
+        counted_same (a n) (b n)
+            same,
+      ),
+    )
 
 -- forms differ exactly where their values do
 pub counted_forms : (form value : ℕ → ℕ → ℕ) (m f g v w : ℕ) → IsForm form value m f → IsForm form value m g
@@ -200,19 +218,21 @@ pub quotient_made : {m n e value x dividend q : ℕ} → value ≡ e % m → IsI
     → q ≡ (dividend * x) % m → IsQuotient m n e q
 quotient_made {value} {dividend} {q} is_e inverse is_n is = record {
   unit = has_of_residue _ _ _ is_e (_, inverse);
-  product = mod_of_combination (mod_add (mod_times q (mod_sym (mod_of_residue is_e))) (mod_add (mod_times value (mod_of_residue is))
+  product = mod_of_combination (mod_add (mod_times q (mod_sym (mod_of_residue is_e)))
+      (mod_add (mod_times value (mod_of_residue is))
       (mod_add (mod_times dividend (mod_of_inverse inverse)) (mod_of_residue is_n)))) (omega arith);
 }
 
 -- the half of a number, rounded down
-pub half_of : (a : ℕ) → (2 * (a / 2) ≤ a) × (a ≤ 2 * (a / 2) + 1)
-half_of a = (omega arith, omega arith)
+pub twice_half_within_one : (a : ℕ) → (2 * (a / 2) ≤ a) × (a ≤ 2 * (a / 2) + 1)
+twice_half_within_one a = (omega arith, omega arith)
 
 -- messages that are congruent have one word
-pub recoded : {m k n : ℕ} {X mine sent word : ℕ → ℕ} → IsEncoding m k n X sent word
+pub congruent_message_encodes_word : {m k n : ℕ} {X mine sent word : ℕ → ℕ} → IsEncoding m k n X sent word
     → ((i : ℕ) → i < k → mine i ≡ sent i % m) → IsEncoding m k n X mine word
-recoded is same = grind (arith, polynomial-congruent, mod_refl, mod_of_residue)
+congruent_message_encodes_word is same = grind (arith, polynomial-congruent, mod_refl, mod_of_residue)
 
-pub same_word : {m k n : ℕ} {X mine sent word other : ℕ → ℕ} → IsEncoding m k n X mine word → IsEncoding m k n X sent other
+pub same_word : {m k n : ℕ} {X mine sent word other : ℕ → ℕ} → IsEncoding m k n X mine word
+    → IsEncoding m k n X sent other
     → ((i : ℕ) → i < k → mine i ≡ sent i % m) → (i : ℕ) → i < n → word i ≡ other i
-same_word is_mine is_sent same i l = is_mine.symbol i l ∙ sym ((recoded is_sent same).symbol i l)
+same_word is_mine is_sent same i l = is_mine.symbol i l ∙ sym ((congruent_message_encodes_word is_sent same).symbol i l)

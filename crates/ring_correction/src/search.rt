@@ -18,7 +18,7 @@ use ring_decoder::corrector::Corrector;
 
 // Writes the only message that can have a near word, by the key equation. Returns false where there is none. Where a
 // number without an inverse modulo m is in the way, it returns that number.
-#[tactic(auto, using(crate::proofs::NearPairs::half_of, crate::proofs::NearPairs::fit_taken))]
+#[tactic(auto, using(crate::proofs::NearPairs::twice_half_within_one, crate::proofs::NearPairs::fit_taken))]
 fn decode<T: RingWord, R: Reducer<T>>(
     r: &R,
     points: &[T],

@@ -8,7 +8,7 @@ use Rattle.num_modular.specs.NumberLaws.{mod_of_eq, mod_sym, mod_trans, sum_belo
 use Rattle.num_modular.specs.NumberLaws.{sum_below-congruent}
 use Rattle.num_modular.specs.Polynomials.{HaveUnitDifferences}
 use Rattle.num_modular.specs.Sums.{sum_below}
-use Rattle.ring_codes.proofs.Distances.{counted, counted_same, counted_other, extended, at_end, before_end}
+use Rattle.ring_codes.proofs.Distances.{counted, counted_same, counted_other, extended_sequence, at_end, before_end}
 use Rattle.ring_codes.specs.Erasure.{distance}
 use Rattle.ring_decoder.specs.ErrorPatterns.{zeros, AreChosen}
 use Rattle.ring_codes.proofs.Congruences.{mod_of_combination, mod_times}
@@ -33,11 +33,11 @@ zeros-suc n z e = sum_below-suc n (λ i. one_at_zero (z i)) ∙ ap (λ v. zeros 
 pub zeros-same : (n : ℕ) (z : ℕ → ℕ) → z n ≢ 0 → zeros (suc n) z ≡ zeros n z
 zeros-same n z o = omega (arith, sum_below-suc n (λ i. one_at_zero (z i)), chosen_nonzero (z n) 1 0 o)
 
-pub zeros_more : (n : ℕ) (z : ℕ → ℕ) → z n ≡ 0 → zeros (n + 1) z ≡ zeros n z + 1
-zeros_more n z e = ap (λ k. zeros k z) (add-one n) ∙ zeros-suc n z e
+pub zero_increments_zero_count : (n : ℕ) (z : ℕ → ℕ) → z n ≡ 0 → zeros (n + 1) z ≡ zeros n z + 1
+zero_increments_zero_count n z e = ap (λ k. zeros k z) (add-one n) ∙ zeros-suc n z e
 
-pub zeros_kept : (n : ℕ) (z : ℕ → ℕ) → z n ≢ 0 → zeros (n + 1) z ≡ zeros n z
-zeros_kept n z o = ap (λ k. zeros k z) (add-one n) ∙ zeros-same n z o
+pub nonzero_keeps_zero_count : (n : ℕ) (z : ℕ → ℕ) → z n ≢ 0 → zeros (n + 1) z ≡ zeros n z
+nonzero_keeps_zero_count n z o = ap (λ k. zeros k z) (add-one n) ∙ zeros-same n z o
 
 -- a 0 counts for each later place
 pub zeros_before : (i n : ℕ) (z : ℕ → ℕ) → i < n → z i ≡ 0 → zeros i z < zeros n z
@@ -51,10 +51,10 @@ zeros_others (suc n) z =
     grind (arith, cases_eq (z n) 0, zeros_others n z, zeros-suc n z, zeros-same n z, more, counted_same, counted_other)
 
 -- the place of a 0 by its number
-pub ranked : (n k : ℕ) (z : ℕ → ℕ) → k < zeros n z → (i : ℕ) × (i < n) × (z i ≡ 0) × (zeros i z ≡ k)
-ranked zero k z l = absurd (omega (arith, l, zeros-none z))
-ranked (suc n) k z l = elim (cases_lt k (zeros n z)) [
-  | inl before ↦ let r = ranked n k z before in (r.0, omega (arith, r.1), r.2, r.3)
+pub zero_of_rank_exists : (n k : ℕ) (z : ℕ → ℕ) → k < zeros n z → (i : ℕ) × (i < n) × (z i ≡ 0) × (zeros i z ≡ k)
+zero_of_rank_exists zero k z l = absurd (omega (arith, l, zeros-none z))
+zero_of_rank_exists (suc n) k z l = elim (cases_lt k (zeros n z)) [
+  | inl before ↦ let r = zero_of_rank_exists n k z before in (r.0, omega (arith, r.1), r.2, r.3)
   | inr last ↦
       elim (cases_eq (z n) 0) [
         | inl e ↦ (n, omega arith, e, omega (arith, l, last, zeros-suc n z e))
@@ -73,11 +73,11 @@ pub chosen_kept : (n : ℕ) (z f g : ℕ → ℕ) → AreChosen n z f g → z n 
 chosen_kept n z f g c other = record { at = λ i l here. grind (arith, cases_eq i n, c.at i) }
 
 -- a list of the chosen numbers
-pub picked : (n : ℕ) (z f : ℕ → ℕ) → (g : ℕ → ℕ) × AreChosen n z f g
-picked zero z f = (f, record { at = λ i l e. absurd (omega arith) })
-picked (suc n) z f =
-    let p = picked n z f in let before = p.1.at in let K : ℕ = zeros n z in (
-      extended K (f n) p.0,
+pub chosen_values_exist : (n : ℕ) (z f : ℕ → ℕ) → (g : ℕ → ℕ) × AreChosen n z f g
+chosen_values_exist zero z f = (f, record { at = λ i l e. absurd (omega arith) })
+chosen_values_exist (suc n) z f =
+    let p = chosen_values_exist n z f in let before = p.1.at in let K : ℕ = zeros n z in (
+      extended_sequence K (f n) p.0,
       record {
         at = λ i l e.
             grind (arith, cases_eq i n, before i, zeros_before i n z, at_end K (f n) p.0, before_end K (f n) p.0);
@@ -85,21 +85,22 @@ picked (suc n) z f =
     )
 
 -- the chosen numbers by their number
-pub chosen_is : (n k : ℕ) (z f g : ℕ → ℕ) → AreChosen n z f g → (l : k < zeros n z) → f (ranked n k z l).0 ≡ g k
-chosen_is n k z f g c l = let r = ranked n k z l in sym (c.at r.0 r.1 r.2) ∙ ap g r.3
+pub chosen_is : (n k : ℕ) (z f g : ℕ → ℕ) → AreChosen n z f g → (l : k < zeros n z)
+    → f (zero_of_rank_exists n k z l).0 ≡ g k
+chosen_is n k z f g c l = let r = zero_of_rank_exists n k z l in sym (c.at r.0 r.1 r.2) ∙ ap g r.3
 
 pub chosen_fit : (m n : ℕ) (z x g : ℕ → ℕ) → AreChosen n z x g → HaveUnitDifferences m n x
     → HaveUnitDifferences m (zeros n z) g
 chosen_fit m n z x g c fit = record {
   unit = λ i j l d other.
-      let p = ranked n i z l in let q = ranked n j z d in
+      let p = zero_of_rank_exists n i z l in let q = zero_of_rank_exists n j z d in
       rw (← chosen_is n i z x g c l, ← chosen_is n j z x g c d)
       (fit.unit p.0 q.0 p.1 q.1 (λ e. other (sym p.3 ∙ ap (λ k. zeros k z) e ∙ q.3)));
 }
 
 pub chosen_units : (m n : ℕ) (z v g : ℕ → ℕ) → AreChosen n z v g → ((i : ℕ) → i < n → HasInverse m (v i))
     → (k : ℕ) → k < zeros n z → HasInverse m (g k)
-chosen_units m n z v g c unit k l = let r = ranked n k z l in rw (← chosen_is n k z v g c l) (unit r.0 r.1)
+chosen_units m n z v g c unit k l = let r = zero_of_rank_exists n k z l in rw (← chosen_is n k z v g c l) (unit r.0 r.1)
 
 -- the sum of the chosen numbers
 pub chosen_sum : (n : ℕ) (z f g : ℕ → ℕ) → AreChosen n z f g
@@ -108,7 +109,8 @@ chosen_sum zero z f g c = rw (zeros-none z) (sum_below-zero g ∙ sym (sum_below
 chosen_sum (suc n) z f g c =
     let i = chosen_sum n z f g (record { at = λ i l. c.at i (omega arith) }) in
     let t = sum_below-suc n (λ i. cond (eqb (z i) 0) (f i) 0) in let more = sum_below-more g (zeros n z) in
-    let last = c.at n (omega arith) in let here = chosen_zero (z n) (f n) 0 in let other = chosen_nonzero (z n) (f n) 0 in
+    let last = c.at n (omega arith) in let here = chosen_zero (z n) (f n) 0 in let other =
+    chosen_nonzero (z n) (f n) 0 in
     grind (arith, cases_eq (z n) 0, i, t, more, last, zeros-suc n z, zeros-same n z, here, other)
 
 -- p and w list the q points and weights where z is 0

@@ -16,15 +16,16 @@ use Rattle.ring_decoder.proofs.ChosenPlaces.{zeros_others}
 use Rattle.ring_decoder.proofs.DualCode.{sums_added, codeword_without_syndromes, codeword_by_syndromes}
 use Rattle.ring_decoder.proofs.LocatorSums.{none_of, residue_none}
 use Rattle.ring_decoder.proofs.LostPlaces.{without_listed, few_hidden, distance_sum, fewer_differences, same_at}
-use Rattle.ring_decoder.proofs.LostPlaces.{listed_none, without_none, without_alike}
+use Rattle.ring_decoder.proofs.LostPlaces.{listed_none, value_without_lost_is_zero, without_alike}
 use Rattle.ring_decoder.specs.Corrector.{without, listed_distance, AreLost, IsNearWord, IsCorrectedWord}
 use Rattle.ring_decoder.specs.Corrector.{IsCorrectorFault}
 use Rattle.ring_decoder.specs.ErrorPatterns.{zeros, listed_weight, IsNearPattern, IsSolution, IsPatternFault}
 use Rattle.ring_decoder.specs.Syndromes.{AreWeights, AreSyndromes}
 
 -- modulo 1 each word is of the code
-pub not_one : (m k n : ℕ) (x y : ℕ → ℕ) → ((i : ℕ) → i < n → y i < m) → (IsErasureCodeword m k n x y → ⊥) → m ≢ 1
-not_one m k n x y below other one =
+pub modulus_is_not_one : (m k n : ℕ) (x y : ℕ → ℕ) → ((i : ℕ) → i < n → y i < m) → (IsErasureCodeword m k n x y → ⊥)
+    → m ≢ 1
+modulus_is_not_one m k n x y below other one =
     let positive : 0 < m = omega (arith, one) in
     other (x, record { symbol = λ i l. omega (arith, below i l, mod-lt (polynomial_at k x (x i)) positive, one) })
 
@@ -57,7 +58,7 @@ fewer_wrong : (m n : ℕ) (lost : List ℕ) (y d u : ℕ → ℕ) → ((i : ℕ)
     → listed_weight m n lost d ≤ listed_distance n lost y u
 fewer_wrong m n lost y d u each =
     fewer_differences n (λ i. without lost d i % m) (λ i. 0) (without lost y) (without lost u)
-    (λ i l same. without_none m lost d i (λ listed.
+    (λ i l same. value_without_lost_is_zero m lost d i (λ listed.
     let equal : y i ≡ u i = sym (without_listed lost y i listed) ∙ same ∙ without_listed lost u i listed in
     residue_none m (d i) (mod_of_combination (each i l) (omega (arith, equal)))))
 
@@ -74,7 +75,8 @@ pattern_of {m} {k} {n} {t} {x} {v} {y} {s} lost known u is near =
       d,
       record {
         sums = record {
-          sum = λ h l. mod_of_combination (mod_add (known.sums.sum h l) (mod_add (mod_sym (sums_added m n h x v d u y each))
+          sum = λ h l. mod_of_combination
+              (mod_add (known.sums.sum h l) (mod_add (mod_sym (sums_added m n h x v d u y each))
               (mod_sym (none.sum h (omega (arith, l, count)))))) (omega arith);
         };
         few = omega (arith, fewer, near, count);
@@ -90,7 +92,8 @@ codeword_by_zeros {m} {k} {n} {t} {x} {v} {y} {s} known =
       λ all. codeword_by_syndromes m k n x v y known.positive known.few fit known.weights known.below (record {
         sum = λ h l.
             let b : h < t = omega (arith, l, count) in
-            mod_trans (mod_of_eq (sym (same_at t h s (λ i. 0) (omega (arith, zeros_others t s, all)) b))) (known.sums.sum h b);
+            mod_trans (mod_of_eq (sym (same_at t h s (λ i. 0) (omega (arith, zeros_others t s, all)) b)))
+            (known.sums.sum h b);
       }),
       λ is.
           let none = codeword_without_syndromes m k n x v y known.positive known.few fit known.weights is in
@@ -98,7 +101,8 @@ codeword_by_zeros {m} {k} {n} {t} {x} {v} {y} {s} known =
             arith,
             zeros_others t s,
             no_distance t s (λ i. 0) (λ h l. sym (mod-eq_of_lt (known.small h l))
-                ∙ residue_none m (s h) (mod_trans (known.sums.sum h l) (mod_sym (none.sum h (omega (arith, l, count)))))),
+                ∙ residue_none m (s h) (mod_trans (known.sums.sum h l)
+                (mod_sym (none.sum h (omega (arith, l, count)))))),
           ),
     )
 
@@ -109,11 +113,13 @@ pub right_already : {T : Type 0} (P : T → Type 0) (entries : List T → ℕ �
     → IsCorrectedWord P entries m k points lost old old 0
 right_already P entries m k points lost old v weights places checked is =
     let y = without lost (entries old) in
-    only_near P entries m k 0 points lost old old (fit_of_weights m (length points) (entries points) v weights) places checked
+    only_near P entries m k 0 points lost old old (fit_of_weights m (length points) (entries points) v weights) places
+    checked
     is (sym (no_distance (length points) y y (λ i l. refl))) (omega arith)
 
 -- a word less errors that have its syndromes
-pub right_word : {T : Type 0} (P : T → Type 0) (entries : List T → ℕ → ℕ) (m k t wrong : ℕ) (points : List T) (lost : List ℕ)
+pub right_word : {T : Type 0} (P : T → Type 0) (entries : List T → ℕ → ℕ) (m k t wrong : ℕ) (points : List T)
+    (lost : List ℕ)
     (old new : List T) (v s e : ℕ → ℕ) → AreSyndromes m k (length points) t (entries points) v (entries old) s
     → AreLost k (length points) lost → All P new → ((i : ℕ) → i < length points → entries new i < m)
     → IsSolution m t (length points) (entries points) v lost s e wrong

@@ -1,15 +1,16 @@
--- What a recurrence of power sums says of their weights and points: its polynomial is 0 at each point whose weight isn't.
+-- What a recurrence of power sums says of their weights and points: its polynomial is 0 at each point whose weight
+-- isn't.
 use Rattle.std.proofs.Common.{◌≡◌, ◌≢◌, ℕ, ◌+◌, ◌-◌, ◌*◌, ◌%◌, ◌^◌, ◌<◌, ◌≤◌, arith, inl, inr}
 use Rattle.std.proofs.lemmas.Bool.{cases_lt}
 use Rattle.num_modular.specs.Congruence.{Congruent}
 use Rattle.num_modular.specs.NumberLaws.{mod_of_eq, mod_sym, mod_trans, sum_below-same}
 use Rattle.num_modular.specs.Polynomials.{polynomial_at, HaveUnitDifferences}
 use Rattle.num_modular.specs.Sums.{sum_below}
-use Rattle.ring_decoder.proofs.LocatorSums.{power_sum, lighter, residue_none, sums_vanish, weights_none}
+use Rattle.ring_decoder.proofs.LocatorSums.{power_sum, hamming_weight_monotone, residue_none, sums_vanish, weights_none}
 use Rattle.ring_decoder.specs.Locators.{IsRecurrence}
 use Rattle.ring_decoder.specs.PowerSums.{ArePowerSums, hamming_weight}
 use Rattle.ring_codes.proofs.Congruences.{mod_of_combination, mod_times}
-use Rattle.ring_decoder.proofs.SyndromeSums.{moment}
+use Rattle.ring_decoder.proofs.SyndromeSums.{combined_power_sums_evaluate_polynomial}
 
 -- a polynomial with c coefficients, applied to the numbers t from h on
 abbrev pub applied : ℕ → (ℕ → ℕ) → (ℕ → ℕ) → ℕ → ℕ
@@ -21,13 +22,13 @@ module _ {m N n : ℕ} {x w t : ℕ → ℕ} (positive : 0 < m) (are : ArePowerS
   valued j = w j * polynomial_at (L + 1) s (x j)
 
   valued_light : hamming_weight m n valued ≤ hamming_weight m n w
-  valued_light = lighter m n w valued
+  valued_light = hamming_weight_monotone m n w valued
       (λ j b none. mod_of_combination (mod_times (polynomial_at (L + 1) s (x j)) none) (omega arith))
 
   -- the polynomial, applied to the power sums, gives those of these weights
   applied_sums : (h : ℕ) → h + L < N → Congruent m (applied (L + 1) s t h) (power_sum n x valued h)
   applied_sums h room =
-      mod_trans (moment m N n (L + 1) h x w t s are (omega arith))
+      mod_trans (combined_power_sums_evaluate_polynomial m N n (L + 1) h x w t s are (omega arith))
       (mod_of_eq (sum_below-same n (λ i. w i * x i ^ h * polynomial_at (L + 1) s (x i)) (λ j. valued j * x j ^ h)
       (λ j b. omega arith)))
 

@@ -1,6 +1,8 @@
 -- The steps of the search for a locator: with one number more the recurrence stays, its polynomial is corrected, or its
--- order grows. Where the numbers are u·x^h, the power sums of one point, it is u·(x - X) at the end, also where u·x is 0.
-use Rattle.std.proofs.Common.{Bool, true, false, cond, not, List, ◌≡◌, ◌≢◌, ℕ, zero, suc, ◌+◌, ◌-◌, ◌*◌, ◌%◌, ◌^◌, ◌<◌, ◌≤◌}
+-- order grows. Where the numbers are u·x^h, the power sums of one point, it is u·(x - X) at the end, also where u·x is
+-- 0.
+use Rattle.std.proofs.Common.{Bool, true, false, cond, not, List, ◌≡◌, ◌≢◌, ℕ, zero, suc, ◌+◌, ◌-◌, ◌*◌, ◌%◌, ◌^◌, ◌<◌}
+use Rattle.std.proofs.Common.{◌≤◌}
 use Rattle.std.proofs.Common.{ap, sym, ◌∙◌, arith, refl, inl, inr, mod-eq_of_lt, add-one}
 use Rattle.std.proofs.Math.Nat.{add-zero, pow-zero, pow-suc}
 use Rattle.std.proofs.lemmas.Bool.{cases_eq, cases_lt}
@@ -16,14 +18,14 @@ use Rattle.ring_decoder.proofs.LocatorPlaces.{applied, massey_bound}
 use Rattle.ring_decoder.proofs.LocatorSums.{factor_none, none_of, residue_none}
 use Rattle.ring_decoder.specs.Locators.{NeedManyWeights, IsGeometric, IsLinear}
 use Rattle.ring_decoder.specs.LocatorSteps.{IsSearch, IsSearchOfOne, IsCombined}
-use Rattle.ring_decoder.proofs.SyndromeSums.{sum_none}
+use Rattle.ring_decoder.proofs.SyndromeSums.{sum_congruent_to_zero}
 
 -- coefficients of 0 behind the first c
-padded : (m c n h : ℕ) (f t : ℕ → ℕ) → c ≤ n → ((l : ℕ) → c ≤ l → Congruent m (f l) 0)
+applied_ignores_zero_coefficients : (m c n h : ℕ) (f t : ℕ → ℕ) → c ≤ n → ((l : ℕ) → c ≤ l → Congruent m (f l) 0)
     → Congruent m (applied n f t h) (applied c f t h)
-padded m c n h f t within none =
+applied_ignores_zero_coefficients m c n h f t within none =
     let whole : n ≡ c + (n - c) = omega arith in
-    mod_of_combination (sum_none m (n - c) (λ l. f (c + l) * t (h + (c + l)))
+    mod_of_combination (sum_congruent_to_zero m (n - c) (λ l. f (c + l) * t (h + (c + l)))
     (λ l b. mod_of_combination (mod_times (t (h + (c + l))) (none (c + l) (omega arith))) (omega arith)))
     (omega (arith, ap (λ k. applied k f t h) whole, sum_below-joined c (n - c) (λ l. f l * t (h + l))))
 
@@ -75,7 +77,8 @@ module _ {m N u x : ℕ} {t : ℕ → ℕ} (geometric : IsGeometric m N u x t) (
       mod_of_combination (mod_add (mod_times (s 1) (geometric.each (h + 1) l))
       (mod_times (s 1 * x) (mod_sym (geometric.each h (omega arith))))) (omega (arith, first, second))
 
-module _ {m N i L p w : ℕ} {s b t : ℕ → ℕ} (found : IsSearch m N i L p w s b t) (h : ℕ) (inside : i < N) (at : h + L ≡ i) where
+module _ {m N i L p w : ℕ} {s b t : ℕ → ℕ} (found : IsSearch m N i L p w s b t) (h : ℕ) (inside : i < N)
+    (at : h + L ≡ i) where
   -- the discrepancy is 0
   pub search_kept : L ≤ h → Congruent m (applied (L + 1) s t h) 0 → IsSearch m N (i + 1) L p w s b t
   search_kept half none = record {
@@ -113,8 +116,8 @@ module _ {m N i L p w : ℕ} {s b t : ℕ → ℕ} (found : IsSearch m N i L p w
         let whole : L + 1 - q ≡ h + 2 = omega arith in
         let both = rw whole at (combined_sum m p d q (L + 1) k s f b t each) in
         let none : (l : ℕ) → h + 1 ≤ l → Congruent m (b l) 0 = λ l k. found.behind_then l (omega (arith, k, at)) in
-        let same = mod_trans (padded m (h + 1) (h + 2) (k + q) b t (omega arith) none)
-        (mod_sym (padded m (h + 1) L (k + q) b t (omega arith) none)) in
+        let same = mod_trans (applied_ignores_zero_coefficients m (h + 1) (h + 2) (k + q) b t (omega arith) none)
+        (mod_sym (applied_ignores_zero_coefficients m (h + 1) L (k + q) b t (omega arith) none)) in
         elim (cases_eq k h) [
           | inl e ↦ combined_none m p d _ _ _ _ _ both
               (mod_trans same (found.pivot_there (k + q) (omega (arith, e, room)))) (rw (← e) at is) (omega arith)
@@ -173,7 +176,7 @@ module _ {m N i L p w : ℕ} {s b t : ℕ → ℕ} (found : IsSearch m N i L p w
     longer_sum k l =
         let whole : h + 1 + 1 - q ≡ L + 1 = omega arith in
         let both = rw whole at (combined_sum m d p q (h + 1 + 1) k b f s t (λ k l. each k (omega (arith, l)))) in
-        let same = padded m L (h + 1 + 1) k b t (omega arith) found.behind_before in
+        let same = applied_ignores_zero_coefficients m L (h + 1 + 1) k b t (omega arith) found.behind_before in
         elim (cases_eq (k + 1) L) [
           | inl e ↦
               let there : h ≡ k + q = omega (arith, e, room) in
@@ -212,11 +215,13 @@ module _ {m N i L p w : ℕ} {s b t : ℕ → ℕ} (found : IsSearch m N i L p w
         → IsSearch m N (i + 1) (h + 1) d v f s t
     search_longer {v} positive short kept units nonzero =
         let whole : (k : ℕ) → Congruent m (applied (h + 1) s t k) (applied (L + 1) s t k) =
-        λ k. padded m (L + 1) (h + 1) k s t (omega arith) (λ l b. found.behind l (omega (arith, b))) in
+        λ k. applied_ignores_zero_coefficients m (L + 1) (h + 1) k s t (omega arith)
+        (λ l b. found.behind l (omega (arith, b))) in
         record {
           within = omega arith;
           short = short;
-          behind = λ l k. mod_trans (mod_of_eq (kept l (omega (arith, k)))) (found.behind_before l (omega (arith, k, half)));
+          behind = λ l k. mod_trans (mod_of_eq (kept l (omega (arith, k))))
+              (found.behind_before l (omega (arith, k, half)));
           recurrence = record { sum = longer_sum };
           least = record {
             each = λ n x w are.
@@ -277,7 +282,8 @@ pub all_none : (b : ℕ → ℕ) → b 0 ≡ 0 → ((l : ℕ) → l ≢ 0 → b 
 all_none b first others l = elim (cases_eq l 0) [ inl e ↦ ap b e ∙ first | inr other ↦ others l other ]
 
 -- two lists that changed places
-pub flipped : {T : Type 0} (b : Bool) (P : List T → List T → Type 0) (x y : List T) → P (cond b y x) (cond b x y)
+pub negated_condition_swaps_lists : {T : Type 0} (b : Bool) (P : List T → List T → Type 0) (x y : List T)
+    → P (cond b y x) (cond b x y)
     → P (cond (not b) x y) (cond (not b) y x)
-flipped true P x y h = h
-flipped false P x y h = h
+negated_condition_swaps_lists true P x y h = h
+negated_condition_swaps_lists false P x y h = h

@@ -28,9 +28,9 @@ pub residue_none : (m a : ℕ) → Congruent m a 0 → a % m ≡ 0
 residue_none m a h = h.same ∙ zero-mod m
 
 -- weights that are 0 wherever others are
-pub lighter : (m n : ℕ) (u v : ℕ → ℕ) → ((j : ℕ) → j < n → Congruent m (u j) 0 → Congruent m (v j) 0)
+pub hamming_weight_monotone : (m n : ℕ) (u v : ℕ → ℕ) → ((j : ℕ) → j < n → Congruent m (u j) 0 → Congruent m (v j) 0)
     → hamming_weight m n v ≤ hamming_weight m n u
-lighter m n u v keep =
+hamming_weight_monotone m n u v keep =
     fewer_differences n (λ i. v i % m) (λ i. 0) (λ i. u i % m) (λ i. 0)
     (λ j l none. residue_none m (v j) (keep j l (none_of m (u j) none)))
 
@@ -48,24 +48,32 @@ module _ (m n : ℕ) (x u : ℕ → ℕ) where
       mod_of_combination (mod_times (x n ^ h) none) (omega (arith, sum_below-suc n (λ j. u j * x j ^ h)))
 
   -- the weights times X - x n, for the last point x n
-  abbrev rest : ℕ → ℕ
-  rest j = u j * (x j + (m - 1) * x n)
+  abbrev weights_times_last_difference : ℕ → ℕ
+  weights_times_last_difference j = u j * (x j + (m - 1) * x n)
 
-  rest_light : (k : ℕ) → u n % m ≢ 0 → hamming_weight m (suc n) u ≤ k → hamming_weight m n rest + 1 ≤ k
+  rest_light : (k : ℕ) → u n % m ≢ 0 → hamming_weight m (suc n) u ≤ k
+      → hamming_weight m n weights_times_last_difference + 1 ≤ k
   rest_light k other few =
-      let l = lighter m n u rest
+      let l = hamming_weight_monotone m n u weights_times_last_difference
       (λ j b none. mod_of_combination (mod_times (x j + (m - 1) * x n) none) (omega arith)) in
       omega (arith, l, sum_below-suc n (λ i. counted (u i % m) 0), counted_other (u n % m) 0 other, few)
 
   rest_sum : (h : ℕ) → 0 < m
-      → Congruent m (power_sum n x rest h) (power_sum (suc n) x u (suc h) + (m - 1) * x n * power_sum (suc n) x u h)
+      → Congruent m (power_sum n x weights_times_last_difference h) (power_sum (suc n) x u (suc h) + (m - 1) * x
+      n * power_sum (suc n) x u h)
   rest_sum h positive =
       let last = mod_times (u n * x n ^ h) (none_of m (x n + (m - 1) * x n) (at_root m (x n) positive)) in
       mod_of_combination (mod_sym last)
-      (omega (arith, sum_below-suc n (λ j. rest j * x j ^ h), next_sum (suc n) ((m - 1) * x n) h x u))
+      (omega (
+        arith,
+        sum_below-suc n (λ j. weights_times_last_difference j * x j ^ h),
+        next_sum (suc n) ((m - 1) * x n)
+            h x u,
+      ))
 
-  -- the sums are 0 where the first is, and those of the rest are
-  sums_rise : 0 < m → Congruent m (power_sum (suc n) x u 0) 0 → ((h : ℕ) → Congruent m (power_sum n x rest h) 0)
+  -- the sums are 0 where the first is, and those of the weights_times_last_difference are
+  sums_rise : 0 < m → Congruent m (power_sum (suc n) x u 0) 0
+      → ((h : ℕ) → Congruent m (power_sum n x weights_times_last_difference h) 0)
       → (h : ℕ) → Congruent m (power_sum (suc n) x u h) 0
   sums_rise positive first rests zero = first
   sums_rise positive first rests (suc h) =
@@ -80,12 +88,13 @@ sums_vanish m (suc n) k x u positive few none h = elim (cases_eq (u n % m) 0) [
   | inl z ↦
       let same : (h : ℕ) → Congruent m (power_sum (suc n) x u h) (power_sum n x u h) =
       λ h. without_last m n x u h (none_of m (u n) z) in
-      mod_trans (same h) (sums_vanish m n k x u positive (omega (arith, sum_below-suc n (λ i. counted (u i % m) 0), few))
+      mod_trans (same h) (sums_vanish m n k x u positive
+      (omega (arith, sum_below-suc n (λ i. counted (u i % m) 0), few))
       (λ h l. mod_trans (mod_sym (same h)) (none h l)) h)
   | inr other ↦
       let light = rest_light m n x u k other few in
       sums_rise m n x u positive (none 0 (omega (arith, light)))
-      (sums_vanish m n (k - 1) x (rest m n x u) positive (omega (arith, light)) (λ h l.
+      (sums_vanish m n (k - 1) x (weights_times_last_difference m n x u) positive (omega (arith, light)) (λ h l.
       mod_of_combination (mod_add (rest_sum m n x u h positive) (mod_add (none (suc h) (omega (arith, l)))
       (mod_times ((m - 1) * x n) (none h (omega (arith, l)))))) (omega arith))) h
 ]

@@ -13,7 +13,8 @@ use Rattle.ring_codes.proofs.Distances.{counted, counted_same, counted_other, co
 use Rattle.std.proofs.Math.Bool.{or-true, or-false}
 use Rattle.ring_codes.specs.Erasure.{distance}
 use Rattle.ring_codes.specs.declared.erasure.RestoreError.{RestoreError}
-use Rattle.ring_codes.specs.declared.erasure.RestoreError.TheVariants.{TooFewSymbols, PlaceOutOfRange, PlaceTwice, PointsDontFit}
+use Rattle.ring_codes.specs.declared.erasure.RestoreError.TheVariants.{TooFewSymbols, PlaceOutOfRange, PlaceTwice}
+use Rattle.ring_codes.specs.declared.erasure.RestoreError.TheVariants.{PointsDontFit}
 use Rattle.ring_decoder.specs.Corrector.{AreLost, AreLostAtFault, without, listed_distance}
 
 -- a place is among the lost ones
@@ -67,9 +68,9 @@ pub without_alike : (lost : List ℕ) (y z : ℕ → ℕ) (i : ℕ) → (is_lost
     → without lost y i ≡ without lost z i
 without_alike lost y z i same = grind (arith, lost_or_listed lost i, without_lost lost, without_listed lost, same)
 
-pub without_none : (m : ℕ) (lost : List ℕ) (d : ℕ → ℕ) (i : ℕ) → (is_lost lost i ≡ false → d i % m ≡ 0)
+pub value_without_lost_is_zero : (m : ℕ) (lost : List ℕ) (d : ℕ → ℕ) (i : ℕ) → (is_lost lost i ≡ false → d i % m ≡ 0)
     → without lost d i % m ≡ 0
-without_none m lost d i none =
+value_without_lost_is_zero m lost d i none =
     grind (arith, lost_or_listed lost i, without_lost lost d i, without_listed lost d i, zero-mod m, none)
 
 pub listed_none : (m : ℕ) (lost : List ℕ) (d : ℕ → ℕ) (i : ℕ) → is_lost lost i ≡ false → without lost d i % m ≡ 0
@@ -83,17 +84,24 @@ sum_most (suc n) f g less =
     let i = sum_most n f g (λ i l. less i (omega arith)) in
     omega (arith, sum_below-suc n f, sum_below-suc n g, i, less n (omega arith))
 
-pub one_place : (n p : ℕ) (f g : ℕ → ℕ) → ((i : ℕ) → i < n → i ≢ p → f i ≤ g i) → f p ≤ 1
+pub sum_at_most_one_more : (n p : ℕ) (f g : ℕ → ℕ) → ((i : ℕ) → i < n → i ≢ p → f i ≤ g i) → f p ≤ 1
     → sum_below n f ≤ sum_below n g + 1
-one_place zero p f g less one = omega (arith, sum_below-zero f)
-one_place (suc n) p f g less one =
+sum_at_most_one_more zero p f g less one = omega (arith, sum_below-zero f)
+sum_at_most_one_more (suc n) p f g less one =
     let s = sum_below-suc n f in let t = sum_below-suc n g in
     elim (cases_eq n p) [
       | inl e ↦
           let o : f n ≤ 1 = rw e one in
           omega (arith, s, t, sum_most n f g (λ i l. less i (omega arith) (omega arith)), o)
       | inr other ↦
-          omega (arith, s, t, one_place n p f g (λ i b. less i (omega arith)) one, less n (omega arith) other)
+          omega (
+            arith,
+            s,
+            t,
+            sum_at_most_one_more n p f g (λ i b. less i (omega arith)) one,
+            less n (omega arith)
+                other,
+          )
     ]
 
 -- lost symbols hide as many differences at most
@@ -101,7 +109,7 @@ pub few_hidden : (n : ℕ) (lost : List ℕ) (a b : ℕ → ℕ) → distance n 
 few_hidden n [] a b = let e : listed_distance n [] a b ≡ distance n a b = refl in omega (arith, e)
 few_hidden n (p ∷ ps) a b =
     let i = few_hidden n ps a b in
-    let o = one_place n p (λ i. counted (without ps a i) (without ps b i))
+    let o = sum_at_most_one_more n p (λ i. counted (without ps a i) (without ps b i))
     (λ i. counted (without (p ∷ ps) a i) (without (p ∷ ps) b i))
     (λ i _ other. rw (without_other p i ps a other, without_other p i ps b other) (omega arith))
     (counted_most (without ps a p) (without ps b p)) in
@@ -137,7 +145,8 @@ distance_sum n a b c =
     omega (arith, most, sum_below-add n (λ i. counted (a i) (b i)) (λ i. counted (a i) (c i)))
 
 -- places at fault aren't right
-pub not_lost : (m k n : ℕ) (x : ℕ → ℕ) (lost : List ℕ) (e : RestoreError) → AreLostAtFault m k n x lost e → AreLost k n lost
+pub not_lost : (m k n : ℕ) (x : ℕ → ℕ) (lost : List ℕ) (e : RestoreError) → AreLostAtFault m k n x lost e
+    → AreLost k n lost
     → ⊥
 not_lost m k n x lost TooFewSymbols fault is = omega (arith, fault, is.enough)
 not_lost m k n x lost PlaceOutOfRange fault is = omega (arith, is.places.within fault.1.0 fault.1.1, fault.1.4)

@@ -1,5 +1,6 @@
 -- Syndromes at the powers of a root: the last coefficients of the polynomial through all symbols (Reed and Solomon,
--- "Polynomial codes over certain finite fields", 1960; Blahut, "Transform techniques for error control codes", IBM Journal
+-- "Polynomial codes over certain finite fields", 1960; Blahut, "Transform techniques for error control codes", IBM
+-- Journal
 -- of Research and Development 23, 1979).
 use Rattle.std.proofs.Common.{◌≡◌, ◌≢◌, ℕ, zero, suc, ◌+◌, ◌-◌, ◌*◌, ◌/◌, ◌%◌, ◌^◌, ◌<◌, ◌≤◌, pos, ◌-ℤ◌, ap, sym, subst}
 use Rattle.std.proofs.Common.{◌∙◌, arith, refl, inl, inr}
@@ -21,9 +22,9 @@ use Rattle.ring_codes.proofs.NewtonForms.{has_of_residue}
 use Rattle.ring_codes.proofs.RootPowers.{word_of_coefficients}
 use Rattle.ring_codes.specs.Erasure.{IsEncoding}
 use Rattle.ring_codes.specs.Powers.{ArePowers}
-use Rattle.ring_decoder.proofs.DualCode.{powers_vanish, top_power}
+use Rattle.ring_decoder.proofs.DualCode.{weighted_power_sum_vanishes, top_power}
 use Rattle.ring_decoder.proofs.LocatorSums.{none_of}
-use Rattle.ring_decoder.proofs.SyndromeSums.{moment, single_congruent}
+use Rattle.ring_decoder.proofs.SyndromeSums.{combined_power_sums_evaluate_polynomial, single_congruent}
 use Rattle.ring_decoder.specs.PowerSums.{ArePowerSums}
 use Rattle.ring_decoder.specs.Syndromes.{AreWeights}
 
@@ -33,9 +34,10 @@ powers_of_two m (suc y) positive two =
     subst (HasInverse m) (sym (pow-suc 2 y)) ((has_both m (2 ^ y) 2).1 (powers_of_two m y positive two, two))
 
 -- where g suits n, and the differences of its powers have inverses, as that of 1 and -1, so has n
-pub length_unit : (m g n : ℕ) (x : ℕ → ℕ) → 0 < m → Suits m g n → ArePowers m g n x → HaveUnitDifferences m n x
+pub length_has_inverse_by_differences : (m g n : ℕ) (x : ℕ → ℕ) → 0 < m → Suits m g n → ArePowers m g n x
+    → HaveUnitDifferences m n x
     → HasInverse m n
-length_unit m g n x positive suits powers fit = elim (cases_lt 1 n) [
+length_has_inverse_by_differences m g n x positive suits powers fit = elim (cases_lt 1 n) [
   | inl more ↦
       let h : ℕ = n / 2 in let u : ℕ = residue m (pos (x 0) -ℤ pos (x h)) in
       let turn = none_of m (g ^ h + 1) (suits.half_turn more) in
@@ -43,12 +45,14 @@ length_unit m g n x positive suits powers fit = elim (cases_lt 1 n) [
       let first = mod_of_residue (powers.power 0 (omega (arith, more))) in
       let middle = mod_of_residue (powers.power h (omega (arith, more))) in
       let two : Congruent m u 2 =
-      mod_of_combination (mod_add at_u (mod_add first (mod_add (mod_sym turn) (mod_sym middle)))) (omega (arith, pow-zero g)) in
+      mod_of_combination (mod_add at_u (mod_add first (mod_add (mod_sym turn) (mod_sym middle))))
+      (omega (arith, pow-zero g)) in
       subst (HasInverse m) (sym suits.power_of_two.1) (powers_of_two m suits.power_of_two.0 positive
       (unit_alike m u 2 two (fit.unit 0 h (omega (arith, more)) (omega (arith, more)) (omega (arith, more)))))
   | inr one ↦
       let some = pow_pos suits.power_of_two.0 in let whole = suits.power_of_two.1 in
-      has_of_residue m n (1 % m) (let e : 1 ≡ n = omega (arith, one, some, whole) in ap (λ v. v % m) e) (has_one m positive)
+      has_of_residue m n (1 % m) (let e : 1 ≡ n = omega (arith, one, some, whole) in ap (λ v. v % m) e)
+      (has_one m positive)
 ]
 
 -- where g suits n, its power n is 1
@@ -74,13 +78,15 @@ point_turn m g n i x suits powers l =
 
 -- a coefficient of the polynomial through all symbols is a syndrome, the last one number 0
 pub syndrome_of_coefficient : (m d h : ℕ) (x v c w : ℕ → ℕ) → 0 < m → h < suc d → HaveUnitDifferences m (suc d) x
-    → AreWeights m (suc d) x v → ((i : ℕ) → i < suc d → Congruent m (x i ^ suc d) 1) → IsEncoding m (suc d) (suc d) x c w
+    → AreWeights m (suc d) x v → ((i : ℕ) → i < suc d → Congruent m (x i ^ suc d) 1)
+    → IsEncoding m (suc d) (suc d) x c w
     → Congruent m (c (d - h)) (sum_below (suc d) (λ i. v i * w i * x i ^ h))
 syndrome_of_coefficient m d h x v c w positive row fit weights turn encoding =
     let n : ℕ = suc d in let t : ℕ → ℕ = λ e. sum_below n (λ i. v i * x i ^ e) in
-    let whole = moment m (h + n) n n h x v t c (record { sum = λ e l. mod_refl (t e) }) (omega arith) in
+    let whole = combined_power_sums_evaluate_polynomial m (h + n) n n h x v t c (record { sum = λ e l. mod_refl (t e) })
+    (omega arith) in
     let early : (e : ℕ) → e < d → Congruent m (t e) 0 =
-    λ e l. mod_sym (powers_vanish m d e x v positive fit weights l) in
+    λ e l. mod_sym (weighted_power_sum_vanishes m d e x v positive fit weights l) in
     let late : (e : ℕ) → e < d → Congruent m (t (e + n)) 0 =
     λ e l. mod_trans (sum_below-congruent n (λ i. v i * x i ^ (e + n)) (λ i. v i * x i ^ e)
     (λ i b. mod_of_combination (mod_times (v i * x i ^ e) (turn i b))
@@ -113,5 +119,6 @@ syndromes_by_transform m g (suc d) t x v c w s positive few suits powers fit wei
       let at : suc d - 1 - h ≡ d - h = omega arith in
       rw (same h l, at) (syndrome_of_coefficient m d h x v c w positive (omega (arith, l, few)) fit weights
       (λ i b. point_turn m g (suc d) i x suits powers b)
-      (word_of_coefficients m g (suc d) (suc d) x c w (omega arith) powers values (λ i b k. absurd (omega (arith, b, k)))));
+      (word_of_coefficients m g (suc d) (suc d) x c w (omega arith) powers values
+      (λ i b k. absurd (omega (arith, b, k)))));
 }

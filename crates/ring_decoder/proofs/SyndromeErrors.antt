@@ -53,7 +53,13 @@ next_coefficient q l a f b =
     let count : q + 1 - l ≡ suc (q + 1 - suc l) = omega arith in
     let rest = polynomial-same (q + 1 - suc l) (λ i. f (l + suc i)) (λ i. f (suc l + i)) a
     (λ i d. ap f (let e : l + suc i ≡ suc l + i = omega arith in e)) in
-    rw count (omega (arith, polynomial-first (q + 1 - suc l) (λ i. f (l + i)) a, ap f (add-zero l), ap (λ v. a * v) rest))
+    rw count (omega (
+      arith,
+      polynomial-first (q + 1 - suc l) (λ i. f (l + i)) a,
+      ap f (add-zero l),
+      ap (λ v. a * v)
+          rest,
+    ))
 
 last_coefficient : (q a : ℕ) (f : ℕ → ℕ) → from_coefficient q f a q ≡ f q
 last_coefficient q a f =
@@ -122,7 +128,8 @@ error_found m (suc d) j sum divisor inverse error x f w e s positive fit roots b
     mod_trans (mod_of_residue is_divisor) (mod_mul (residue_of P) (mod_refl (w j))) in
     let sum_is : Congruent m sum (w j * e j * P) =
     mod_trans (mod_of_residue is_sum) (quotient_sum_is positive fit roots j below are) in
-    is ∙ (mod_of_combination (mod_add (mod_times inverse sum_is) (mod_add (mod_times (e j * inverse) (mod_sym divisor_is))
+    is ∙ (mod_of_combination (mod_add (mod_times inverse sum_is)
+    (mod_add (mod_times (e j * inverse) (mod_sym divisor_is))
     (mod_times (e j) (mod_of_inverse inverts)))) (omega arith)).same
 
 -- the divisors have inverses exactly where the points fit and the weights have inverses
@@ -134,7 +141,10 @@ divisors_tell m q x w d positive each =
     let both : ((j : ℕ) → j < q → HasInverse m (d j)) → (j : ℕ) → j < q → HasInverse m (P j % m) × HasInverse m (w j) =
     λ all j l. (has_both m (P j % m) (w j)).0 (has_of_residue m (P j % m * w j) (d j) (each j l) (all j l)) in (
       (λ (fit, units) j l. has_to_residue m (P j % m * w j) (d j) (each j l)
-          ((has_both m (P j % m) (w j)).1 (has_to_residue m (P j) (P j % m) refl (all_from_fit m q x positive fit j l), units j l))),
+          ((has_both m (P j % m) (w j)).1 (
+            has_to_residue m (P j) (P j % m) refl (all_from_fit m q x positive fit j l),
+            units j l,
+          ))),
       λ all. (
         fit_from_all m q x (λ j l. has_of_residue m (P j) (P j % m) refl (both all j l).0),
         λ j l. (both all j l).1,

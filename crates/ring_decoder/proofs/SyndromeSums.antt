@@ -5,7 +5,8 @@ use Rattle.std.proofs.lemmas.Bool.{cases_eq}
 use Rattle.std.proofs.lemmas.Nat.{pow-add}
 use Rattle.num_modular.specs.Congruence.{Congruent}
 use Rattle.num_modular.specs.NumberLaws.{mod_of_eq, mod_refl, mod_trans, mod_add, mod_mul}
-use Rattle.num_modular.specs.NumberLaws.{sum_below-zero, sum_below-suc, sum_below-first, sum_below-same, sum_below-congruent}
+use Rattle.num_modular.specs.NumberLaws.{sum_below-zero, sum_below-suc, sum_below-first, sum_below-same}
+use Rattle.num_modular.specs.NumberLaws.{sum_below-congruent}
 use Rattle.num_modular.specs.NumberLaws.{sum_below-mul, sum_below-exchanged, sum_below-of_zeros}
 use Rattle.num_modular.specs.Polynomials.{polynomial_at}
 use Rattle.num_modular.specs.Sums.{sum_below}
@@ -14,9 +15,9 @@ use Rattle.ring_codes.proofs.Congruences.{mod_of_combination, mod_of_residue, mo
 use Rattle.std.proofs.Common.{refl, add-one}
 
 -- the coefficients p, each times a power sum from number h on, add up to the sum of the weights times x^h·p(x)
-pub moment : (m N n d h : ℕ) (x w t p : ℕ → ℕ) → ArePowerSums m N n x w t → h + d ≤ N
+pub combined_power_sums_evaluate_polynomial : (m N n d h : ℕ) (x w t p : ℕ → ℕ) → ArePowerSums m N n x w t → h + d ≤ N
     → Congruent m (sum_below d (λ l. p l * t (h + l))) (sum_below n (λ i. w i * x i ^ h * polynomial_at d p (x i)))
-moment m N n d h x w t p are within =
+combined_power_sums_evaluate_polynomial m N n d h x w t p are within =
     let f : ℕ → ℕ → ℕ = λ l i. w i * x i ^ h * (p l * x i ^ l) in
     let row : (l : ℕ) → p l * sum_below n (λ i. w i * x i ^ (h + l)) ≡ sum_below n (λ i. f l i) =
     λ l. sym (sum_below-mul n (p l) (λ i. w i * x i ^ (h + l)))
@@ -28,8 +29,9 @@ moment m N n d h x w t p are within =
     (λ i b. sum_below-mul d (w i * x i ^ h) (λ l. p l * x i ^ l))))
 
 -- terms that are 0 modulo m
-pub sum_none : (m n : ℕ) (f : ℕ → ℕ) → ((i : ℕ) → i < n → Congruent m (f i) 0) → Congruent m (sum_below n f) 0
-sum_none m n f none =
+pub sum_congruent_to_zero : (m n : ℕ) (f : ℕ → ℕ) → ((i : ℕ) → i < n → Congruent m (f i) 0)
+    → Congruent m (sum_below n f) 0
+sum_congruent_to_zero m n f none =
     mod_trans (sum_below-congruent n f (λ i. 0) none) (mod_of_eq (sum_below-of_zeros n (λ i. 0) (λ i l. refl)))
 
 -- one term alone counts, where the others are congruent to 0
@@ -37,7 +39,7 @@ pub single_congruent : (m n k : ℕ) (f : ℕ → ℕ) → k < n → ((i : ℕ) 
     → Congruent m (sum_below n f) (f k)
 single_congruent m zero k f l none = absurd (omega arith)
 single_congruent m (suc n) k f l none = elim (cases_eq k n) [
-  | inl e ↦ mod_of_combination (sum_none m n f (λ i t. none i (omega arith) (omega arith)))
+  | inl e ↦ mod_of_combination (sum_congruent_to_zero m n f (λ i t. none i (omega arith) (omega arith)))
       (omega (arith, sum_below-suc n f, ap f e))
   | inr other ↦
       mod_of_combination (mod_add (single_congruent m n k f (omega arith) (λ i t. none i (omega arith)))
@@ -50,7 +52,7 @@ pub weight_alone : (m q j : ℕ) (x w t p : ℕ → ℕ) → ArePowerSums m q q 
     → Congruent m (sum_below q (λ l. p l * t l)) (w j * polynomial_at q p (x j))
 weight_alone m q j x w t p are below none =
     mod_trans (mod_of_eq (sum_below-same q (λ l. p l * t l) (λ l. p l * t (0 + l)) (λ l b. rw (zero-add l) refl)))
-    (mod_trans (moment m q q q 0 x w t p are (omega arith))
+    (mod_trans (combined_power_sums_evaluate_polynomial m q q q 0 x w t p are (omega arith))
     (mod_of_combination (single_congruent m q j (λ i. w i * x i ^ 0 * polynomial_at q p (x i)) below
     (λ i l other. mod_of_combination (mod_times (w i * x i ^ 0) (none i l other)) (omega arith)))
     (omega (arith, ap (λ v. w j * v * polynomial_at q p (x j)) (pow-zero (x j))))))

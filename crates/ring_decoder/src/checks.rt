@@ -52,7 +52,7 @@ fn next_check<T: RingWord, R: Reducer<T>>(
 ///
 /// - there is a weight for each point, and a check for each point and row
 /// - points and weights are checked forms
-#[tactic(auto, using(crate::proofs::CheckTables::place_above, num_modular::specs::Callers::held_forms, ring_codes::proofs::Lagrange::row_within))]
+#[tactic(auto, using(crate::proofs::CheckTables::place_above, num_modular::specs::Callers::held_forms, ring_codes::proofs::Lagrange::row_index_below_size))]
 pub fn fill_checks<T: RingWord, R: Reducer<T>>(
     r: &R,
     points: &[T],

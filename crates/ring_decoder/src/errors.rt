@@ -46,7 +46,12 @@ fn quotient_sum<T: RingWord, R: Reducer<T>>(
 
 // Writes the product of each two numbers.
 #[tactic(auto, using(num_modular::specs::Callers::held_entry))]
-pub(crate) fn multiply_each<T: RingWord, R: Reducer<T>>(r: &R, xs: &[T], ys: &[T], products: &mut [T])
+pub(crate) fn multiply_each<T: RingWord, R: Reducer<T>>(
+    r: &R,
+    xs: &[T],
+    ys: &[T],
+    products: &mut [T],
+)
     requires xs { AreChecked R.Reducer T.number r.now xs.now }
     requires ys { AreChecked R.Reducer T.number r.now ys.now }
     requires pairs { length ys.now ≡ length xs.now }

@@ -16,7 +16,7 @@ use num_modular::{Reducer, RingWord};
 use ring_codes::erasure::expand_roots;
 
 // The sum of the terms; each term is then multiplied by its point.
-#[tactic(auto, using(num_modular::specs::Callers::done_none, num_modular::specs::Callers::form_read, num_modular::specs::NumberLaws::sum_none))]
+#[tactic(auto, using(num_modular::specs::Callers::done_none, num_modular::specs::Callers::form_read, num_modular::specs::NumberLaws::empty_sum_residue_is_zero))]
 fn next_sum<T: RingWord, R: Reducer<T>>(r: &R, points: &[T], terms: &mut [T]) -> T
     requires points { AreChecked R.Reducer T.number r.now points.now }
     requires terms { AreChecked R.Reducer T.number r.now terms.old }

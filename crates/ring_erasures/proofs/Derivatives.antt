@@ -31,28 +31,35 @@ derivative_of_times_root (suc d) r X h =
     omega (arith, derivative_of_times_root d r X h, ap (λ v. suc d * h (suc d) * v) (pow-suc X d))
 
 -- the coefficients of f, which has k, times the product of X - z for the c points z
-pub rooted : ℕ → ℕ → ℕ → (ℕ → ℕ) → (ℕ → ℕ) → ℕ → ℕ
-rooted m k zero z f = λ i. cond (ltb i k) (f i) 0
-rooted m k (suc c) z f = times_root ((m - 1) * z c) (rooted m k c z f)
+pub coefficients_with_roots : ℕ → ℕ → ℕ → (ℕ → ℕ) → (ℕ → ℕ) → ℕ → ℕ
+coefficients_with_roots m k zero z f = λ i. cond (ltb i k) (f i) 0
+coefficients_with_roots m k (suc c) z f = times_root ((m - 1) * z c) (coefficients_with_roots m k c z f)
 
-rooted_behind : (m k c : ℕ) (z f : ℕ → ℕ) → (i : ℕ) → k + c ≤ i → rooted m k c z f i ≡ 0
-unfolding rooted
+rooted_behind : (m k c : ℕ) (z f : ℕ → ℕ) → (i : ℕ) → k + c ≤ i → coefficients_with_roots m k c z f i ≡ 0
+unfolding coefficients_with_roots
 rooted_behind m k zero z f i l = grind (arith, nat_tests)
 rooted_behind m k (suc c) z f i l =
-    times_root_behind (k + c) ((m - 1) * z c) i (rooted m k c z f) (rooted_behind m k c z f) (omega (arith, l))
+    times_root_behind (k + c) ((m - 1) * z c) i (coefficients_with_roots m k c z f) (rooted_behind m k c z f)
+    (omega (arith, l))
 
 pub rooted_value : (m k c n X : ℕ) (z f : ℕ → ℕ) → 0 < m → k + c ≤ n
-    → Congruent m (polynomial_at n (rooted m k c z f) X) (polynomial_at k f X * product_of_differences m c z X)
-unfolding rooted product_below
+    → Congruent m (polynomial_at n (coefficients_with_roots m k c z f) X) (polynomial_at k f X * product_of_differences
+    m c z X)
+unfolding coefficients_with_roots product_below
 rooted_value m k zero n X z f positive room =
-    let same = polynomial-same k (rooted m k 0 z f) f X (λ i l. grind (arith, nat_tests)) in
-    let whole = longer_value k n X (rooted m k 0 z f) (omega arith) (λ i l. rooted_behind m k 0 z f i (omega arith)) in
+    let same = polynomial-same k (coefficients_with_roots m k 0 z f) f X (λ i l. grind (arith, nat_tests)) in
+    let whole = longer_value k n X (coefficients_with_roots m k 0 z f) (omega arith) (λ i l. rooted_behind m k 0 z f i
+    (omega arith)) in
     mod_of_eq (omega (arith, whole, same))
 rooted_value m k (suc c) zero X z f positive room = absurd (omega arith)
 rooted_value m k (suc c) (suc n) X z f positive room =
     mod_of_combination (mod_add (mod_times (X + (m - 1) * z c) (rooted_value m k c n X z f positive (omega arith)))
     (mod_times (polynomial_at k f X * product_of_differences m c z X) (mod_sym (difference_alike m X (z c) positive))))
-    (omega (arith, times_root_value n ((m - 1) * z c) X (rooted m k c z f) (rooted_behind m k c z f n (omega arith))))
+    (omega (
+      arith,
+      times_root_value n ((m - 1) * z c) X (coefficients_with_roots m k c z f)
+          (rooted_behind m k c z f n (omega arith)),
+    ))
 
 -- the weight of the last of c + 1 roots, and of another one
 last_weight : (m c l : ℕ) (z : ℕ → ℕ) → l ≡ c → root_weight m (suc c) z l ≡ product_of_differences m c z (z l)
@@ -69,12 +76,13 @@ other_weight m c l z other = grind (arith, nat_tests)
 
 -- at a root z l the derivative of f times the product of X - z is f times the root's weight
 pub derivative_at_root : (m k c n l : ℕ) (z f : ℕ → ℕ) → 0 < m → l < c → k + c ≤ suc n
-    → Congruent m (polynomial_at n (derivative (rooted m k c z f)) (z l))
+    → Congruent m (polynomial_at n (derivative (coefficients_with_roots m k c z f)) (z l))
     (polynomial_at k f (z l) * root_weight m c z l)
-unfolding rooted
+unfolding coefficients_with_roots
 derivative_at_root m k zero n l z f positive within room = absurd (omega arith)
 derivative_at_root m k (suc c) n l z f positive within room =
-    let X : ℕ = z l in let r : ℕ = (m - 1) * z c in let h = rooted m k c z f in let F : ℕ = polynomial_at k f X in
+    let X : ℕ = z l in let r : ℕ = (m - 1) * z c in let h = coefficients_with_roots m k c z f in let F : ℕ =
+    polynomial_at k f X in
     let D : ℕ = polynomial_at n (derivative h) X in let whole = derivative_of_times_root n r X h in
     let gone = ap (λ v. n * v * X ^ n) (rooted_behind m k c z f n (omega arith)) in
     let value = rooted_value m k c n X z f positive (omega arith) in
@@ -92,7 +100,8 @@ derivative_at_root m k (suc c) n l z f positive within room =
     ]
 
 -- the derivative has an inverse at each root, where the roots fit
-pub weight_unit : (m c l : ℕ) (z : ℕ → ℕ) → 0 < m → HaveUnitDifferences m c z → l < c → HasInverse m (root_weight m c z l)
+pub weight_unit : (m c l : ℕ) (z : ℕ → ℕ) → 0 < m → HaveUnitDifferences m c z → l < c
+    → HasInverse m (root_weight m c z l)
 weight_unit m c l z positive fit within =
     has_product m c (λ j. cond (eqb j l) 1 (residue m (pos (z l) -ℤ pos (z j)))) positive (λ j b.
     elim (eqb_tells j l) [

@@ -20,7 +20,8 @@ use Rattle.ring_codes.proofs.NewtonForms.{no_difference, product-none}
 use Rattle.ring_codes.proofs.Singleton.{value_or_none}
 use Rattle.ring_erasures.specs.Erasures.{AreErased, root_weight, AreFactors, IsRestorable, AgreeAtKept}
 use Rattle.ring_erasures.specs.Erasures.{AreKeptProducts, IsScattered, derivative}
-use Rattle.ring_erasures.proofs.Derivatives.{rooted, rooted_value, derivative_at_root, divided_by_roots, factor_cancels}
+use Rattle.ring_erasures.proofs.Derivatives.{coefficients_with_roots, rooted_value, derivative_at_root}
+use Rattle.ring_erasures.proofs.Derivatives.{divided_by_roots, factor_cancels}
 use Rattle.ring_erasures.proofs.Derivatives.{weight_unit}
 use Rattle.ring_erasures.proofs.ErasedPlaces.{lost_points_fit}
 
@@ -36,7 +37,7 @@ computed_derivative : (m k n s l : ℕ) (x f p v : ℕ → ℕ) (lost : List ℕ
     → Congruent m (v (slice_index lost l))
     (polynomial_at k f (at_lost x lost l) * root_weight m (length lost) (at_lost x lost) l)
 computed_derivative m k n s l x f p v lost positive fit erased long short is values within =
-    let c : ℕ = length lost in let z = at_lost x lost in let P = rooted m k c z f in
+    let c : ℕ = length lost in let z = at_lost x lost in let P = coefficients_with_roots m k c z f in
     let same = same_coefficients m s p P x (fit_front m n s x short fit) (λ j b.
     mod_trans (is j (omega arith)) (mod_sym (rooted_value m k c s (x j) z f positive long))) in
     mod_trans (mod_of_residue (values.symbol _ (erased.places.within l within)))
@@ -50,7 +51,8 @@ module _ (m k n : ℕ) (x y u products : ℕ → ℕ) (lost : List ℕ) (positiv
     (are : AreKeptProducts m n lost y u products) where
   -- if the symbols that are left are those of f, the products are the values of f times the locator
   products_of_word : (f : ℕ → ℕ) (j : ℕ) → AgreeAtKept n lost y (λ i. polynomial_at k f (x i) % m) → j < n
-      → Congruent m (products j) (polynomial_at k f (x j) * product_of_differences m (length lost) (at_lost x lost) (x j))
+      → Congruent m (products j) (polynomial_at k f (x j) * product_of_differences m (length lost) (at_lost x lost)
+      (x j))
   products_of_word f j symbols within = elim (value_or_none (length lost) j (slice_index lost)) [
     | inl (l, b, at) ↦
         let z = at_lost x lost in
@@ -87,7 +89,8 @@ module _ (m k n : ℕ) (x y u products : ℕ → ℕ) (lost : List ℕ) (positiv
     λ (p, encoding).
         let by = divided_by_roots m k (length lost) (at_lost x lost) p positive
         (lost_points_fit m k n x lost erased fit) (λ l b.
-        mod_trans (mod_sym (mod_of_residue (encoding.symbol _ (erased.places.within l b)))) (mod_of_eq (are.zeros l b))) in (
+        mod_trans (mod_sym (mod_of_residue (encoding.symbol _ (erased.places.within l b)))) (mod_of_eq (are.zeros l b)))
+        in (
           (λ i. polynomial_at k by.0 (x i) % m),
           (by.0, record { symbol = λ i l. refl }),
           λ i b kept.
@@ -99,7 +102,7 @@ module _ (m k n : ℕ) (x y u products : ℕ → ℕ) (lost : List ℕ) (positiv
               (omega arith))).same,
         ),
     λ (word, (f, codeword), agree). (
-      rooted m k (length lost) (at_lost x lost) f,
+      coefficients_with_roots m k (length lost) (at_lost x lost) f,
       record {
         symbol = λ j b. sym (mod-eq_of_lt (are.below j b))
             ∙ (mod_trans (products_of_word f j (λ i b kept. agree i b kept ∙ codeword.symbol i b) b) (mod_sym
@@ -119,7 +122,11 @@ module _ (m n : ℕ) (x e v : ℕ → ℕ) (lost : List ℕ) (positive : 0 < m) 
   lost_values_unit l within =
       let c : ℕ = length lost in let z = at_lost x lost in let one = (λ (X : ℕ). constant_value X (λ i. 1)) in
       let root = computed_derivative m 1 n n l x (λ i. 1) e v lost positive fit erased erased.enough (omega arith)
-      (λ j b. mod_of_combination (is (x j)) (omega (arith, ap (λ v. v * product_of_differences m c z (x j)) (one (x j)))))
+      (λ j b. mod_of_combination (is (x j)) (omega (
+        arith,
+        ap (λ v. v * product_of_differences m c z (x j))
+            (one (x j)),
+      )))
       values within in
       let here : Congruent m (v (slice_index lost l)) (root_weight m c z l) =
       mod_of_combination root (omega (arith, ap (λ v. v * root_weight m c z l) (one (z l)))) in

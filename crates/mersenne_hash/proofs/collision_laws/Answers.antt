@@ -33,7 +33,8 @@ returns-clause-lengths c s t n x s_few t_few bases s_below t_below hashes =
     let t_whole : n + 1 ≡ e + length (1 ∷ t) = omega (arith, t_few) in
     let units = c.polynomial_laws.ensures.prime p (n + 1) x (returns-clause-prime c) bases.apart in
     same_texts p (n + 1) d e s t (lit< tt) s_whole t_whole s_below t_below
-    (c.polynomial_laws.ensures.descending p (n + 1) (λ i. get_or (marked d s) i 0) (λ i. get_or (marked e t) i 0) x units
+    (c.polynomial_laws.ensures.descending p (n + 1) (λ i. get_or (marked d s) i 0) (λ i. get_or (marked e t) i 0) x
+    units
     (λ i l.
     ap (λ v. v % p) (polynomial_behind_zeros horner _ d (1 ∷ s) (x i) s_whole) ∙ hashes i l
     ∙ ap (λ v. v % p) (sym (polynomial_behind_zeros horner _ e (1 ∷ t) (x i) t_whole))))

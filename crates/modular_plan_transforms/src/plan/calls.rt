@@ -334,7 +334,7 @@ impl<'a, T: PlainWord, F: PlanEntry<T>> Plan<'a, T, F> {
     /// assert_eq!(xs, [13, 1, 2, 3]); // times X; -4 + 17
     /// ```
     // rust: #[track_caller]
-    #[tactic(auto, using(modular_plan_passes::proofs::Tables::half_power))]
+    #[tactic(auto, using(modular_plan_passes::proofs::Tables::half_is_power_of_two))]
     pub fn convolve_negacyclic(&self, xs: &mut [T], ys: &mut [T])
         requires whole { length xs.old ≡ 2 ^ self.now.bits }
         requires equal { length ys.old ≡ length xs.old }

@@ -37,7 +37,7 @@ pub fn sum<T: RingWord, R: Reducer<T> + Copy>(
 }
 
 /// The sum of an integer and a word.
-#[tactic(auto, using(crate::proofs::IntegerLemmas::sum_reduced))]
+#[tactic(auto, using(crate::proofs::IntegerLemmas::sum_with_residue_congruent))]
 // rust instead: pub fn sum_with<T, R: Reducer<T>>(x: ReducedInt<T, R>, n: T) -> ReducedInt<T, R>
 pub fn sum_with<T: RingWord, R: Reducer<T> + Copy>(x: ReducedInt<T, R>, n: T) -> ReducedInt<T, R>
     ensures { IsSum x (T.number n) result }
@@ -75,7 +75,7 @@ pub fn sum_assign<T: RingWord, R: Reducer<T> + Copy>(x: &mut ReducedInt<T, R>, y
 }
 
 /// The integer becomes the sum of it and a word.
-#[tactic(auto, using(crate::proofs::IntegerLemmas::sum_reduced))]
+#[tactic(auto, using(crate::proofs::IntegerLemmas::sum_with_residue_congruent))]
 // rust instead: pub fn sum_assign_with<T, R: Reducer<T>>(x: &mut ReducedInt<T, R>, n: T)
 pub fn sum_assign_with<T: RingWord, R: Reducer<T> + Copy>(x: &mut ReducedInt<T, R>, n: T)
     ensures { IsSum x.old (T.number n) x.new }
@@ -195,7 +195,7 @@ pub fn product<T: RingWord, R: Reducer<T> + Copy>(
 }
 
 /// The product of an integer and a word.
-#[tactic(auto, using(crate::proofs::IntegerLemmas::product_reduced))]
+#[tactic(auto, using(crate::proofs::IntegerLemmas::product_with_residue_congruent))]
 // rust instead: pub fn product_with<T, R: Reducer<T>>(
 pub fn product_with<T: RingWord, R: Reducer<T> + Copy>(
     x: ReducedInt<T, R>,
@@ -237,7 +237,7 @@ pub fn product_assign<T: RingWord, R: Reducer<T> + Copy>(
 }
 
 /// The integer becomes the product of it and a word.
-#[tactic(auto, using(crate::proofs::IntegerLemmas::product_reduced))]
+#[tactic(auto, using(crate::proofs::IntegerLemmas::product_with_residue_congruent))]
 // rust instead: pub fn product_assign_with<T, R: Reducer<T>>(x: &mut ReducedInt<T, R>, n: T)
 pub fn product_assign_with<T: RingWord, R: Reducer<T> + Copy>(x: &mut ReducedInt<T, R>, n: T)
     ensures { IsProduct x.old (T.number n) x.new }

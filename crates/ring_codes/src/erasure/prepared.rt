@@ -308,7 +308,7 @@ pub fn fill_barycentric_weights<T: RingWord, R: Reducer<T>>(
 
 // Writes a row for each wanted point: for each known point the product of the differences of the wanted point from the
 // other known ones, times the weight of the known point.
-#[tactic(auto, using(crate::proofs::Lagrange::row_within, num_modular::specs::Callers::form_read))]
+#[tactic(auto, using(crate::proofs::Lagrange::row_index_below_size, num_modular::specs::Callers::form_read))]
 fn fill_rows<T: RingWord, R: Reducer<T>>(
     r: &R,
     known: &[T],

@@ -29,7 +29,7 @@ fn step_each<T: RingWord, R: Reducer<T>>(r: &R, coefficient: &T, points: &[T], v
 /// # Preconditions
 ///
 /// - coefficients and points are checked forms, and there are as many values as points
-#[tactic(auto, using(num_modular::specs::Callers::hold_more, num_modular::specs::Callers::held_entry, num_modular::specs::Callers::held_forms, crate::proofs::NewtonForms::value_none, num_modular::specs::Callers::form_read))]
+#[tactic(auto, using(num_modular::specs::Callers::hold_more, num_modular::specs::Callers::held_entry, num_modular::specs::Callers::held_forms, crate::proofs::NewtonForms::zero_is_empty_polynomial_value, num_modular::specs::Callers::form_read))]
 pub fn evaluate_side_by_side<T: RingWord, R: Reducer<T>>(
     r: &R,
     coefficients: &[T],

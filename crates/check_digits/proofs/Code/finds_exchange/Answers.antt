@@ -3,7 +3,7 @@ use Rattle.num_modular.specs.NumberLaws.{difference_and}
 use Rattle.num_modular.specs.Residues.{residue}
 use Rattle.check_digits.specs.Codes.{code_of}
 use Rattle.check_digits.proofs.CheckSums.{unit_finds}
-use Rattle.check_digits.proofs.Codewords.{exchange_told, found}
+use Rattle.check_digits.proofs.Codewords.{exchange_told, test_detects_changed_word}
 use Rattle.check_digits.proofs.Code.finds_exchange.Goals as goal
 
 -- the product is that of the clauses, whose next place is a successor
@@ -16,7 +16,8 @@ is_product m ws xs p e d v weights symbols product = search (arith, add-one)
 pub returns : goal.returns
 returns c =
     let code = code_of c.args.self.now in
-    let both = found _ _ (is_product code.modulus code.weights c.args.word.now c.args.place _ _ _ c.subm-weight.ensures
+    let both = test_detects_changed_word _ _ (is_product code.modulus code.weights c.args.word.now c.args.place _ _ _
+    c.subm-weight.ensures
     c.subm-difference.ensures c.mulm-product.ensures) c.is_found.ensures c.fit_exchanged.ensures
     (exchange_told code c.args.word.now c.args.place c.args.self.now.positive c.requires.accepted c.requires.within) in
     record {

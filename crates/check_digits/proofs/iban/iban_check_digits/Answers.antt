@@ -16,5 +16,6 @@ returns c =
     ∙ ap (λ m. weighted_sum c.iban_code.result.weights.now (take n digits) % m) c.iban_code.ensures.modulus
     ∙ number_leaves (code_of c.iban_code.result) text (take n digits) n c.iban_code.ensures.code
     c.iban_digits-count.ensures.digits (length-take-le n digits (omega arith)) in
-    subst (λ k. AreCheckDigits text ((48 + check_of v k / 10) ∷ (48 + check_of v k % 10) ∷ [])) (sym c.check_number.ensures)
+    subst (λ k. AreCheckDigits text ((48 + check_of v k / 10) ∷ (48 + check_of v k % 10) ∷ []))
+    (sym c.check_number.ensures)
     (check_digits_of text v (c.has_iban_form.ensures.0 c.if-not-has_iban_form.false) leaves)

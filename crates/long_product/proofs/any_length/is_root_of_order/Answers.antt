@@ -3,8 +3,9 @@ use Rattle.std.proofs.Math.Nat.{mod-eq_of_lt}
 use Rattle.std.proofs.lemmas.Bool.{false≢true}
 use Rattle.num_modular.specs.Inverses.{HasInverse}
 use Rattle.long_product.proofs.Bluestein.{same_modulus, step_more}
-use Rattle.long_product.proofs.RootsOfOrder.{first_power, units_none, units_more, root_found, root_unit}
-use Rattle.long_product.proofs.RootsOfOrder.{inversion_tells}
+use Rattle.long_product.proofs.RootsOfOrder.{residue_is_first_power, units_none, units_more, root_found}
+use Rattle.long_product.proofs.RootsOfOrder.{difference_product_has_inverse}
+use Rattle.long_product.proofs.RootsOfOrder.{has_inverse_iff_found}
 use Rattle.long_product.proofs.Orders.{order_below}
 use Rattle.long_product.proofs.any_length.is_root_of_order.Goals as goal
 
@@ -13,7 +14,7 @@ exponents-init c =
     let m = c.args.m in
     let same = c.reciprocal_of-by.ensures in
     record {
-      power = same_modulus _ m _ _ same c.remainder-power.ensures.value ∙ first_power m c.args.g;
+      power = same_modulus _ m _ _ same c.remainder-power.ensures.value ∙ residue_is_first_power m c.args.g;
       residue = subst (λ v. c.remainder-power.result < v) same c.remainder-power.ensures.below;
       units = units_none m c.args.g c.remainder-differences.result (omega arith)
           (same_modulus _ m _ _ same c.remainder-differences.ensures.value);
@@ -58,11 +59,11 @@ returns c =
     let power = subst (λ n. c.exponents.power ≡ g ^ n % m) done c.exponents.invariant.power in
     let units = subst (λ n. HasInverse m a ↔ ((e : ℕ) → 1 ≤ e → e < n → HasInverse m (g ^ e + (m - 1)))) done
     c.exponents.invariant.units in
-    let tells = inversion_tells m a c.invm.result c.invm.ensures in (
+    let tells = has_inverse_iff_found m a c.invm.result c.invm.ensures in (
       λ t. (
         modulus,
         root_found m g c.args.n c.exponents.power a modulus (omega arith) power units
             (power ∙ sym c.powm.ensures ∙ c.if-powm-ne1.false ∙ sym one) (tells.1 (subst IsTrue c.is_some.ensures t)),
       ),
-      λ h. subst IsTrue (sym c.is_some.ensures) (tells.0 (root_unit m g c.args.n a h.0 units h.1)),
+      λ h. subst IsTrue (sym c.is_some.ensures) (tells.0 (difference_product_has_inverse m g c.args.n a h.0 units h.1)),
     )

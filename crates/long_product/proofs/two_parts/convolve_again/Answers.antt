@@ -33,5 +33,6 @@ returns-clause-product g c = λ y are e l.
     (cyclic_product m n x y) (λ i. p i % m))
     (let e : n ≡ length c.multiply.new.xs / 1 = omega (arith, after_split, after_products) in e) products) e
     (omega (arith, after_split, after_products, l)) in
-    sym (get_or-map (λ (x : ℕ). x) c.join.new.xs e 0 0 (omega (arith, after_split, after_products, after_join, l))) ∙ joined
+    sym (get_or-map (λ (x : ℕ). x) c.join.new.xs e 0 0 (omega (arith, after_split, after_products, after_join, l)))
+    ∙ joined
     ∙ mod-mod _ m

@@ -3,7 +3,7 @@ use Rattle.std.proofs.Math.Nat.{pow-zero}
 use Rattle.std.proofs.lemmas.List.{length-set}
 use Rattle.num_modular.specs.Integers.{residue_of}
 use Rattle.num_modular.specs.Mersenne.{mersenne}
-use Rattle.mersenne_hash.proofs.Concatenations.{no_coefficient, residue_more}
+use Rattle.mersenne_hash.proofs.Concatenations.{no_coefficient, horner_step_is_residue}
 use Rattle.mersenne_hash.proofs.Written.{first_written, more_written, one_more_power}
 use Rattle.mersenne_hash.proofs.prefixes.fill_prefixes.Goals as goal
 
@@ -26,7 +26,7 @@ places-preserved c =
     let x = residue_of c.args.base in
     let before = c.places.invariant in
     let value = c.add-value.ensures.residue
-    ∙ residue_more c.range_laws.ensures.horner _ _ (slice_index _) x _ _ _ refl before.value
+    ∙ horner_step_is_residue c.range_laws.ensures.horner _ _ (slice_index _) x _ _ _ refl before.value
     c.mul.ensures.residue in
     let power = c.mul-raised.ensures.residue ∙ one_more_power _ x _ _ _ before.power refl in
     record {

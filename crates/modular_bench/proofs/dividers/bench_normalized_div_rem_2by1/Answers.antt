@@ -1,5 +1,5 @@
 use Rattle.std.proofs.Common.{◌/◌, ◌%◌, subst, ap, ◌∙◌, bit_xor}
-use Rattle.modular_prim.proofs.DigitSteps.{quotient_is, remainder_is}
+use Rattle.modular_prim.proofs.DigitSteps.{division_gives_quotient, remainder_is}
 use Rattle.modular_word.specs.Division.{IsDivision}
 use Rattle.modular_bench.proofs.Steps.{iterate_more}
 use Rattle.modular_bench.specs.Steps.{mixed_division_of_two}
@@ -17,7 +17,7 @@ steps-preserved c =
     record {
       below = division.below;
       both =
-          ap (λ v. (bit_xor v y, r)) (quotient_is division)
+          ap (λ v. (bit_xor v y, r)) (division_gives_quotient division)
           ∙ ap (λ v. (bit_xor (c.merge.result / m) y, v)) (remainder_is division)
           ∙ ap (λ whole. (bit_xor (whole / m) y, whole % m)) c.merge.ensures
           ∙ ap step c.steps.invariant.both ∙ iterate_more step c.steps.counter (c.args.x, y % m);

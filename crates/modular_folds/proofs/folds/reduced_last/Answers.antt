@@ -1,5 +1,5 @@
 use Rattle.modular_folds.proofs.FoldBounds.{once_below, once_above}
-use Rattle.modular_folds.proofs.WordTests.{not_below}
+use Rattle.modular_folds.proofs.WordTests.{at_least_by_false_test}
 use Rattle.modular_folds.proofs.folds.reduced_last.Goals as goal
 
 pub returns-then-is_below : goal.returns-then-is_below
@@ -9,6 +9,6 @@ returns-then-is_below g c =
 
 pub returns-else-is_below : goal.returns-else-is_below
 returns-else-is_below g c =
-    let more = not_below c.is_below.ensures.below c.if-is_below.false in
+    let more = at_least_by_false_test c.is_below.ensures.below c.if-is_below.false in
     let once = once_above _ _ _ more c.requires c.minus.ensures in
     record { value = once.0; below = once.1 }

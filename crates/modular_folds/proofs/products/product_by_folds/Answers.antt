@@ -47,7 +47,12 @@ times-requires g c =
 pub sum_of_parts-requires-2 : goal.sum_of_parts-requires-2
 sum_of_parts-requires-2 g c =
     let last = by_small g (goal.at.sum_of_parts-requires-2 g c).After-shift_right-2 in
-    rw c.times.ensures (record { bound = omega (arith, c.requires.folding.whole); most = last.most; twice = last.twice })
+    rw c.times.ensures (record {
+      bound = omega (arith, c.requires.folding.whole);
+      most = last.most;
+      twice =
+          last.twice;
+    })
 
 pub returns : goal.returns
 returns g c = search (arith, by_small)

@@ -7,10 +7,11 @@ returns-then-width-eq64 c =
     rw c.if-width-eq64.true (wrapped_square (2 ^ 128) c.args.m c.requires.some (omega (arith, c.ranges.m.fits)))
 
 -- a width that isn't 64 is at most 32
-narrow : (width : ℕ) → (32 < width → width ≡ 64) → width ≢ 64 → width + width ≤ 64
-narrow width one_word other = grind arith
+twice_width_at_most_64 : (width : ℕ) → (32 < width → width ≡ 64) → width ≢ 64 → width + width ≤ 64
+twice_width_at_most_64 width one_word other = grind arith
 
 pub returns-else-width-eq64 : goal.returns-else-width-eq64
 returns-else-width-eq64 c =
     ap (λ n. n % c.args.m) c.low_bits.ensures
-    ∙ wrapped_narrow_square 64 _ _ (narrow _ c.requires.one_word c.if-width-eq64.false) c.requires.some c.requires.fits
+    ∙ wrapped_narrow_square 64 _ _ (twice_width_at_most_64 _ c.requires.one_word c.if-width-eq64.false) c.requires.some
+    c.requires.fits

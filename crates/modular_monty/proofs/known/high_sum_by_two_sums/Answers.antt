@@ -2,15 +2,16 @@
 use Rattle.std.proofs.Common.{◌≡◌, ◌+◌, ◌*◌, ◌/◌, ◌<◌, sym, ap, ◌∙◌, arith}
 use Rattle.std.proofs.Math.Nat.{mod-eq_of_lt}
 use Rattle.modular_word.proofs.Divisors.{multiple_of}
-use Rattle.modular_word.proofs.ReductionSteps.{complement_of, high_sum_below, above_modulus, double_carried, double_exact}
-use Rattle.modular_monty.proofs.HighWords.{high_is, no_carry}
+use Rattle.modular_word.proofs.ReductionSteps.{complement_of, high_sum_below, above_modulus, double_carried}
+use Rattle.modular_word.proofs.ReductionSteps.{double_exact}
+use Rattle.modular_monty.proofs.HighWords.{high_is, small_sum_has_no_carry}
 use Rattle.modular_monty.proofs.known.high_sum_by_two_sums.Goals as goal
 use Rattle.modular_monty.proofs.known.high_sum_by_two_sums.Goals.{After-merge, After-split-rest}
 
 -- the base less m
-complement : (g : _) (c : After-merge g)
+complement_and_modulus_make_base : (g : _) (c : After-merge g)
     → g.T.RingWord.number c.wrapping_sub-complement.result + g.T.RingWord.number c.args.m ≡ g.T.PathWord.base
-complement g c =
+complement_and_modulus_make_base g c =
     complement_of _ _ _ _ _ c.requires.first c.requires.fits c.wrapping_sub-complement.ensures.fits
     c.zero.ensures c.wrapping_sub-complement.ensures.value
 
@@ -21,15 +22,15 @@ double_plus-more-requires g c =
     let m = n c.args.m in
     let x = n c.wrapping_sub-complement.result in
     let product : B * (x + m) ≡ B * B =
-    ap (λ v. B * v) (complement g (goal.at.double_plus-more-requires g c).After-merge) in
+    ap (λ v. B * v) (complement_and_modulus_make_base g (goal.at.double_plus-more-requires g c).After-merge) in
     omega (arith, product, c.requires.first, c.merge.ensures.value, c.zero-2.ensures)
 
 -- what is added to t
-added : (g : _) (c : After-split-rest g)
+first_sum_adds_complement : (g : _) (c : After-split-rest g)
     → g.T.PathWord.double_number c.double_plus-more.result
     ≡ g.T.PathWord.double_number c.args.t
     + g.T.PathWord.base * g.T.RingWord.number c.wrapping_sub-complement.result
-added g c = omega (arith, c.double_plus-more.ensures, c.merge.ensures.value, c.zero-2.ensures)
+first_sum_adds_complement g c = omega (arith, c.double_plus-more.ensures, c.merge.ensures.value, c.zero-2.ensures)
 
 pub returns-then-is_above : goal.returns-then-is_above
 returns-then-is_above g c =
@@ -37,7 +38,8 @@ returns-then-is_above g c =
     let rest = c.split-rest.ensures in
     above_modulus _ _ _ (high_sum_below _ _ _ _ c.requires.cleared c.requires.first c.requires.second)
     (double_carried _ _ _ _ _ _ _ _ _ _ (multiple_of _ _ c.requires.cleared)
-    (complement g (goal.at.returns-then-is_above g c).After-merge) (added g at)
+    (complement_and_modulus_make_base g (goal.at.returns-then-is_above g c).After-merge)
+    (first_sum_adds_complement g at)
     (c.double_overflowing_add-less.ensures.carried c.if-is_above.true) rest.value rest.low_fits)
 
 pub returns-else-is_above : goal.returns-else-is_above
@@ -51,11 +53,13 @@ returns-else-is_above g c =
     let sum = c.double_overflowing_add-sum in
     let less =
     double_exact _ _ _ _ _ _ _ _ _ _ (multiple_of B (W c.args.t + W c.args.multiple) c.requires.cleared)
-    (complement g (goal.at.returns-else-is_above g c).After-merge) (added g at)
+    (complement_and_modulus_make_base g (goal.at.returns-else-is_above g c).After-merge)
+    (first_sum_adds_complement g at)
     (c.double_overflowing_add-less.ensures.exact c.if-is_above.false) rest.value rest.low_fits in
     let below : (W c.args.t + W c.args.multiple) / B < n c.args.m = omega (arith, less, rest.high_fits) in
     let exact =
-    no_carry B (n c.args.m) (W c.args.t + W c.args.multiple) (W sum.result.0) sum.result.1 c.requires.cleared below
+    small_sum_has_no_carry B (n c.args.m) (W c.args.t + W c.args.multiple) (W sum.result.0) sum.result.1
+    c.requires.cleared below
     c.requires.fits sum.ensures.carried sum.ensures.exact in
     sym (mod-eq_of_lt below
     ∙ high_is B (W c.args.t + W c.args.multiple) (n c.split-high.result.0) (n c.split-high.result.1)

@@ -1,5 +1,5 @@
 use Rattle.std.proofs.Common.{◌≡◌, ◌+◌, ◌*◌, arith}
-use Rattle.modular_monty.proofs.UnitBases.{sum_fits, high_times_base, reduces_below}
+use Rattle.modular_monty.proofs.UnitBases.{sum_fits_double_word, high_times_base, reduces_below}
 use Rattle.modular_monty.proofs.odd_ring.reduce_below_by.Goals as goal
 
 pub double_plus-requires : goal.double_plus-requires
@@ -8,7 +8,8 @@ double_plus-requires g c =
     omega (
       arith,
       c.requires.multiple,
-      sum_fits g.T.PathWord.base (n c.args.m) (g.T.PathWord.double_number c.args.t) (n c.args.x) c.requires.below
+      sum_fits_double_word g.T.PathWord.base (n c.args.m) (g.T.PathWord.double_number c.args.t) (n c.args.x)
+          c.requires.below
           c.requires.x_fits c.is_below.ensures.fits,
     )
 

@@ -22,7 +22,8 @@ pub fours-preserved : goal.fours-preserved
 fours-preserved g c =
     let step = c.neighbours.ensures in
     record {
-      kept = λ k l. step.kept k (omega arith) (omega arith) (omega arith) (omega arith) ∙ c.fours.invariant.kept k (omega arith);
+      kept = λ k l. step.kept k (omega arith) (omega arith) (omega arith) (omega arith)
+          ∙ c.fours.invariant.kept k (omega arith);
       below = neighbours_below c.fours.p c.fours.invariant.below step;
       done = λ root z twiddles.
           stage_of_fours_more _ 1 c.fours.p _ _ _ (c.fours.invariant.done root z twiddles)

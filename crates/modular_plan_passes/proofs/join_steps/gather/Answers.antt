@@ -10,5 +10,6 @@ returns-clause-pair g c =
     let v = n c.args.v.now.value in
     let product = subst (λ s. Congruent m (n c.times.result) (s * v)) c.plus-2.ensures c.times.ensures.congruent in
     λ w inverse.
-    joined_pair_of w v (n c.args.x) (n c.args.y) (n c.minus.result) (n c.args.bound) (n c.times.result) (n c.plus.result)
+    joined_pair_of w v (n c.args.x) (n c.args.y) (n c.minus.result) (n c.args.bound) (n c.times.result)
+    (n c.plus.result)
     c.requires.multiple c.minus.ensures.value c.plus.ensures product inverse

@@ -1,7 +1,7 @@
 use Rattle.std.proofs.Common.{arith, refl}
-use Rattle.modular_plan_passes.proofs.FourColumns.{column_more, column_at, column_given, column_done}
+use Rattle.modular_plan_passes.proofs.FourColumns.{one_more_column_done, column_at, column_given, column_done}
 use Rattle.modular_plan_passes.proofs.Entries.{never_beyond, number_read}
-use Rattle.modular_plan_passes.proofs.Fours.{four_along}
+use Rattle.modular_plan_passes.proofs.Fours.{relation_of_equal_numbers}
 use Rattle.modular_plan_passes.proofs.passes.columns.Goals as goal
 
 pub four-a-requires : goal.four-a-requires
@@ -15,8 +15,8 @@ columns-preserved g c =
     let i = c.columns.i in
     let within = (column_at g.T.RingWord.number i c.requires c.columns.invariant
     (omega arith) (omega arith) (omega arith) (omega arith) (omega arith)).within in
-    column_more _ i c.columns.invariant (column_done _ _ _ _ _ _ i _ _ _ _ within.0 within.1 within.2 within.3
-    (four_along (g.S.FourStep.done c.args.step.now) (number_read _ _ i _ within.0 c.index-first-i.is)
+    one_more_column_done _ i c.columns.invariant (column_done _ _ _ _ _ _ i _ _ _ _ within.0 within.1 within.2 within.3
+    (relation_of_equal_numbers (g.S.FourStep.done c.args.step.now) (number_read _ _ i _ within.0 c.index-first-i.is)
     (number_read _ _ i _ within.1 c.index-second-i.is) (number_read _ _ i _ within.2 c.index-third-i.is)
     (number_read _ _ i _ within.3 c.index-fourth-i.is) refl refl refl refl c.four-a.ensures))
 

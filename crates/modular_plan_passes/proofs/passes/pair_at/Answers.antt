@@ -1,7 +1,7 @@
 use Rattle.std.proofs.Common.{◌<◌, arith}
 use Rattle.std.proofs.lemmas.List.Elements.{All-set}
 use Rattle.modular_plan_passes.proofs.Entries.{number_read}
-use Rattle.modular_plan_passes.proofs.PairSteps.{pair_written}
+use Rattle.modular_plan_passes.proofs.PairSteps.{pair_done_by_two_writes}
 use Rattle.modular_plan_passes.proofs.passes.pair_at.Goals as goal
 
 pub returns : goal.returns
@@ -16,6 +16,6 @@ returns g c =
     record {
       entries = All-set P _ c.args.low _ step.ensures.below
           (All-set P xs c.args.high _ step.ensures.other_below c.requires.entries);
-      done = pair_written n R xs _ _ _ _ c.requires.order c.requires.within
+      done = pair_done_by_two_writes n R xs _ _ _ _ c.requires.order c.requires.within
           (rw (a_is, b_is) at step.ensures.done);
     }

@@ -9,6 +9,7 @@ invariant-each_block g l =
     let number = g.T.RingWord.number in
     record {
       entries : All (λ x. number x < g.M.Bounded.limit l.m) l.xs;
-      done : StageDone (λ p. IsPairSplit (g.M.SplitSteps.modulus l.m) (numbers g.F.PlanEntry.value l.table (l.first + p)))
+      done : StageDone (λ p. IsPairSplit (g.M.SplitSteps.modulus l.m) (numbers g.F.PlanEntry.value l.table
+          (l.first + p)))
           l.half l.p (numbers number l.fn.xs) (numbers number l.xs);
     }

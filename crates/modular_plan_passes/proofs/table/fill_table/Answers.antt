@@ -7,9 +7,11 @@ use Rattle.modular_transform.proofs.PowersOfTwo.{power_by_zeros}
 use Rattle.modular_transform.specs.Orders.{bits_reversed}
 use Rattle.modular_plan_passes.specs.Plans.{numbers}
 use Rattle.modular_plan_passes.proofs.Entries.{number_at}
-use Rattle.modular_plan_passes.proofs.Tables.{half_power}
-use Rattle.modular_plan_passes.proofs.Doublings.{IsMade, made_now, made_before, same_factor, holds_below_next, holds_from_previous}
-use Rattle.modular_plan_passes.proofs.Doublings.{first_power, half_place, one_within, two_within, twice_place, root_itself}
+use Rattle.modular_plan_passes.proofs.Tables.{half_is_power_of_two}
+use Rattle.modular_plan_passes.proofs.Doublings.{IsMade, made_now, made_before, same_factor, holds_below_next}
+use Rattle.modular_plan_passes.proofs.Doublings.{holds_from_previous}
+use Rattle.modular_plan_passes.proofs.Doublings.{first_entry_is_zeroth_power, half_place, one_within, two_within}
+use Rattle.modular_plan_passes.proofs.Doublings.{twice_place, root_itself}
 use Rattle.modular_plan_passes.proofs.Doublings.{square_next, product_of_two, twiddles_of_made}
 use Rattle.modular_plan_passes.proofs.Shorter.{first_entries}
 use Rattle.modular_plan_passes.proofs.table.fill_table.Goals as goal
@@ -18,19 +20,20 @@ use borrow.Author.Rules.{scaled_Fits}
 -- the table has an entry
 first_within : {n : ℕ} → IsPowerOfTwo (2 * n) → 0 < n
 first_within power =
-    let half = half_power power in
+    let half = half_is_power_of_two power in
     omega (arith, pow_pos half.0, half.1)
 
 -- a residue is below the modulus
-residue_below : (a : ℕ) {r m : ℕ} → r ≡ a % m → 1 ≤ m → r < m
-residue_below a {r} {m} is some = let below = mod-lt a (let k : 0 < m = omega (arith, some) in k) in omega (arith, is, below)
+table_residue_below_modulus : (a : ℕ) {r m : ℕ} → r ≡ a % m → 1 ≤ m → r < m
+table_residue_below_modulus a {r} {m} is some = let below = mod-lt a (let k : 0 < m = omega (arith, some) in k) in
+    omega (arith, is, below)
 
 pub squares-init : goal.squares-init
 squares-init g c =
     let table = c.args.table.now in
     let x = c.entry.result in
     let len = length-set table 0 x in
-    let power = half_power c.requires.suits.power_of_two in
+    let power = half_is_power_of_two c.requires.suits.power_of_two in
     let whole = power_by_zeros (length (set table 0 x)) (subst IsPowerOfTwo (sym len) power) (omega (arith, len)) in
     record {
       whole = whole;
@@ -38,7 +41,8 @@ squares-init g c =
       power = root_itself _ _ c.requires.below;
       first = made_now table x (first_within c.requires.suits.power_of_two)
           (same_factor c.factor.ensures.factor c.entry.ensures.value c.entry.ensures.quotient)
-          (first_power _ _ _ _ _ _ c.one.ensures c.residue.ensures (c.entry.ensures.value ∙ c.factor.ensures.value));
+          (first_entry_is_zeroth_power _ _ _ _ _ _ c.one.ensures c.residue.ensures (c.entry.ensures.value
+          ∙ c.factor.ensures.value));
       single = λ t l h. absurd (omega arith);
     }
 
@@ -159,5 +163,5 @@ returns g c =
 pub factor-requires-in-others-2 : goal.factor-requires-in-others-2
 factor-requires-in-others-2 g c =
     let n = g.T.RingWord.number in
-    residue_below (n c.factor-in-others.result.value * n c.factor-factor-in-doublings.result.value)
+    table_residue_below_modulus (n c.factor-in-others.result.value * n c.factor-factor-in-doublings.result.value)
     c.product-power-in-others.ensures c.args.m.now.some

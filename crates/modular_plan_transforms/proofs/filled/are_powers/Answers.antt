@@ -16,16 +16,17 @@ pub powers-smaller : goal.powers-smaller
 powers-smaller g c = falls _ _ c.powers-test.true
 
 -- where the power that is tried stands
-at_place : (g : _) (c : After-next_reversed-place g) → c.next_reversed-place.result < length c.args.table.now
-at_place g c =
+next_place_within_table : (g : _) (c : After-next_reversed-place g)
+    → c.next_reversed-place.result < length c.args.table.now
+next_place_within_table g c =
     omega (arith, bits_reversed_below c.args.bits c.powers.exponent, c.next_reversed-place.ensures, c.requires.whole)
 
 pub bounds-table-place : goal.bounds-table-place
-bounds-table-place g c = at_place g (goal.at.bounds-table-place g c).After-next_reversed-place
+bounds-table-place g c = next_place_within_table g (goal.at.bounds-table-place g c).After-next_reversed-place
 
 pub offset_bounds-table-place : goal.offset_bounds-table-place
 offset_bounds-table-place g c =
-    omega (arith, at_place g (goal.at.offset_bounds-table-place g c).After-next_reversed-place)
+    omega (arith, next_place_within_table g (goal.at.offset_bounds-table-place g c).After-next_reversed-place)
 
 unequal_not : (b : Bool) → not b ≡ false → b ≡ true
 unequal_not true e = refl
@@ -36,7 +37,7 @@ returns-then-ne g c = (
   λ t. absurd (false≢true t),
   λ all.
       let place = c.next_reversed-place.result in
-      let within = at_place g (goal.at.returns-then-ne g c).After-next_reversed-place in
+      let within = next_place_within_table g (goal.at.returns-then-ne g c).After-next_reversed-place in
       let back = ap (bits_reversed c.args.bits) c.next_reversed-place.ensures
       ∙ bits_reversed_twice c.args.bits c.powers.exponent (omega (arith, c.powers-test.true, c.requires.whole)) in
       let value = c.factor.ensures.value ∙ number_read g.F.PlanEntry.value _ place _ within c.index-table-place.is in
@@ -47,7 +48,7 @@ returns-then-ne g c = (
 
 pub powers-preserved : goal.powers-preserved
 powers-preserved g c =
-    let within = at_place g (goal.at.powers-preserved g c).After-next_reversed-place in
+    let within = next_place_within_table g (goal.at.powers-preserved g c).After-next_reversed-place in
     let value = c.factor.ensures.value ∙ number_read g.F.PlanEntry.value _ _ _ within c.index-table-place.is in
     let here = ap (numbers g.F.PlanEntry.value c.args.table.now) (sym c.next_reversed-place.ensures) in
     let same = (g.met.T.RingWord.equal c.factor.result.value c.powers.power).0

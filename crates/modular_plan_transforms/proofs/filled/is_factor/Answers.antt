@@ -6,11 +6,11 @@ use Rattle.modular_plan_transforms.proofs.filled.is_factor.Goals as goal
 use Rattle.modular_plan_transforms.proofs.filled.is_factor.Goals.{After-split-high}
 
 -- the three tests together
-tested : (g : _) (c : After-split-high g) → let n = g.T.RingWord.number in
+tests_decide_factor : (g : _) (c : After-split-high g) → let n = g.T.RingWord.number in
     ((n c.args.w.now.value < n c.args.m) × (n c.wrapping_sub-rest.result < n c.args.m)
     × (n c.split-high.result.1 ≡ n c.args.w.now.value))
     ↔ IsFactor g.T.PathWord.base (n c.args.m) (n c.args.w.now.value) (n c.args.w.now.quotient)
-tested g c =
+tests_decide_factor g c =
     let b = g.T.PathWord.base in
     let none = ap (λ z. b * z) c.zero-2.ensures in
     let value = c.product-whole.ensures.value in
@@ -20,13 +20,13 @@ tested g c =
     c.split-high.ensures.low_fits
 
 pub returns-then-not-is_below-2 : goal.returns-then-not-is_below-2
-returns-then-not-is_below-2 g c = search (arith, false≢true, tested)
+returns-then-not-is_below-2 g c = search (arith, false≢true, tests_decide_factor)
 
 pub returns : goal.returns
 returns g c =
     let n = g.T.RingWord.number in
     let equal = g.met.T.RingWord.equal c.split-high.result.1 c.args.w.now.value in
-    let tests = tested g (goal.at.returns g c).After-split-high in (
+    let tests = tests_decide_factor g (goal.at.returns g c).After-split-high in (
       λ t. tests.0 (
         c.is_below.ensures.below.0 c.if-not-is_below.false,
         c.is_below-2.ensures.below.0 c.if-not-is_below-2.false,

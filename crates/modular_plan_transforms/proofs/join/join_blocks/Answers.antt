@@ -92,4 +92,5 @@ stages-preserved g c =
 pub returns-clause-joined : goal.returns-clause-joined
 returns-clause-joined g c r z x twiddles are i l =
     let before = c.stages.invariant in
-    level_top r z x before.tree (omega (arith, c.stages-test.false)) (omega (arith, l)) (before.level r z x twiddles are) i l
+    level_top r z x before.tree (omega (arith, c.stages-test.false)) (omega (arith, l))
+    (before.level r z x twiddles are) i l

@@ -64,6 +64,7 @@ returns g c =
       entries = before.entries;
       blocks = left.given;
       times = left.scale;
-      joined = λ r z x twiddles are. remainders_of_level r z c.args.b (length c.args.xs.now / c.passes.size) c.passes.size
+      joined = λ r z x twiddles are. remainders_of_level r z c.args.b (length c.args.xs.now / c.passes.size)
+          c.passes.size
           c.passes.blocks _ _ left.blocks_are (before.level r z x twiddles are);
     }

@@ -2,7 +2,8 @@ use Rattle.std.proofs.Common.{◌<◌, length, ◌∙◌, arith}
 use Rattle.modular_word.specs.Congruence.{Congruent}
 use Rattle.modular_word.proofs.Congruence.{mod_of_eq, mod_trans}
 use Rattle.modular_plan_passes.specs.Plans.{numbers}
-use Rattle.modular_plan_passes.proofs.Entries.{number_read, bounded, entry_written, entry_kept, all_below}
+use Rattle.modular_plan_passes.proofs.Entries.{number_read, entry_below_common_bound, entry_written, entry_kept}
+use Rattle.modular_plan_passes.proofs.Entries.{all_below}
 use Rattle.modular_plan_transforms.proofs.join.lower_each.Goals as goal
 
 pub lowered-requires : goal.lowered-requires
@@ -10,7 +11,7 @@ lowered-requires g c =
     let n = g.T.RingWord.number in
     let same = number_read n c.entries.xs _ _ (omega arith) c.index-xs-i.is
     ∙ c.entries.invariant.kept c.entries.i (omega arith) in
-    rw same (bounded n _ c.args.xs.now c.entries.i c.index-xs-i.result c.requires (omega arith))
+    rw same (entry_below_common_bound n _ c.args.xs.now c.entries.i c.index-xs-i.result c.requires (omega arith))
 
 pub entries-preserved : goal.entries-preserved
 entries-preserved g c =

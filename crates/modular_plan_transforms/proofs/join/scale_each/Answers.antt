@@ -1,16 +1,18 @@
 use Rattle.std.proofs.Common.{◌*◌, length, arith, refl}
-use Rattle.modular_plan_passes.proofs.Entries.{number_read, entry_done, entry_kept, all_residues, never_beyond}
+use Rattle.modular_plan_passes.proofs.Entries.{number_read, written_numbers_match_target, entry_kept, all_residues}
+use Rattle.modular_plan_passes.proofs.Entries.{never_beyond}
 use Rattle.modular_plan_transforms.proofs.join.scale_each.Goals as goal
 
 pub entries-preserved : goal.entries-preserved
 entries-preserved g c = record {
-  done = entry_done _ _ _ _ _ (omega arith) c.entries.invariant.done (grind (arith, number_read));
+  done = written_numbers_match_target _ _ _ _ _ (omega arith) c.entries.invariant.done (grind (arith, number_read));
   kept = entry_kept _ _ _ _ _ c.entries.invariant.kept;
 }
 
 pub returns-clause-below : goal.returns-clause-below
 returns-clause-below g c =
-    all_residues _ _ (length c.args.xs.now) _ _ (g.met.M.JoinSteps.some c.args.m.now) (omega arith) (λ k l. c.entries.invariant.done k (omega arith))
+    all_residues _ _ (length c.args.xs.now) _ _ (g.met.M.JoinSteps.some c.args.m.now) (omega arith)
+    (λ k l. c.entries.invariant.done k (omega arith))
 
 pub returns-then-is_beyond : goal.returns-then-is_beyond
 returns-then-is_beyond g c =

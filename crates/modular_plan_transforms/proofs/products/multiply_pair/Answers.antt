@@ -1,7 +1,7 @@
 use Rattle.std.proofs.Common.{◌+◌, ◌<◌, arith}
 use Rattle.std.proofs.lemmas.List.Elements.{All-set}
 use Rattle.modular_plan_passes.proofs.Entries.{number_read}
-use Rattle.modular_plan_passes.proofs.PairSteps.{pair_written}
+use Rattle.modular_plan_passes.proofs.PairSteps.{pair_done_by_two_writes}
 use Rattle.modular_plan_transforms.proofs.SmallProducts.{IsPairProduct, pair_of_read}
 use Rattle.modular_plan_transforms.proofs.products.multiply_pair.Goals as goal
 
@@ -20,6 +20,6 @@ returns g c =
     let P = λ (x : g.row.T.Denot). n x < m in
     record {
       below = All-set P _ _ _ low_is.ensures.below (All-set P _ _ _ high_is.ensures.below c.requires.below);
-      done = pair_written n (IsPairProduct m (n c.args.turned) _ _) _ _ _ _ _ (omega arith) within
+      done = pair_done_by_two_writes n (IsPairProduct m (n c.args.turned) _ _) _ _ _ _ _ (omega arith) within
           (pair_of_read m (n c.args.turned) x y u v low_is.ensures.value high_is.ensures.value);
     }

@@ -1,7 +1,7 @@
 use Rattle.std.proofs.Common.{◌+◌, ◌*◌, ◌/◌, length, arith, ◌∙◌}
 use Rattle.modular_plan_passes.specs.Plans.{numbers, constant}
 use Rattle.modular_plan_passes.proofs.Entries.{number_read}
-use Rattle.modular_plan_transforms.proofs.SmallProducts.{pairs_more}
+use Rattle.modular_plan_transforms.proofs.SmallProducts.{next_block_is_product}
 use Rattle.modular_plan_transforms.proofs.products.multiply_pairs.Goals as goal
 
 pub each_block-preserved : goal.each_block-preserved
@@ -14,7 +14,7 @@ each_block-preserved g c =
     record {
       below = c.multiply_pair.ensures.below;
       done = λ root z twiddles.
-          pairs_more j (n c.times_constant-turned.result)
+          next_block_is_product j (n c.times_constant-turned.result)
           (λ j. constant root z (c.args.b * (length c.args.xs.now / 2) + j)) _ (numbers n c.args.ys.now) _ _
           (rw read at (c.times_constant-turned.ensures.product root z twiddles)) before.kept step
           (before.done root z twiddles);

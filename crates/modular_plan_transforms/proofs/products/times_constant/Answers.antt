@@ -3,26 +3,26 @@ use Rattle.std.proofs.Math.Nat.{mod-lt}
 use Rattle.modular_word.proofs.Congruence.{mod_trans, mod_of_eq, mod_refl, mod_sym, mod_mul, residue_of}
 use Rattle.modular_plan_passes.specs.Plans.{constant}
 use Rattle.modular_plan_passes.proofs.Entries.{number_read}
-use Rattle.modular_plan_transforms.proofs.Constants.{odd_constant, block_of}
+use Rattle.modular_plan_transforms.proofs.Constants.{odd_constant, halved_block_index_within}
 use Rattle.modular_plan_passes.proofs.Levels.{constants_of_halves}
 use Rattle.modular_plan_transforms.proofs.SmallProducts.{product_by_odd}
 use Rattle.modular_plan_transforms.proofs.products.times_constant.Goals as goal
 
 pub overflow_mul-b : goal.overflow_mul-b
-overflow_mul-b g c = omega (arith, (block_of _ _ _ _ c.requires.block c.requires.within).within)
+overflow_mul-b g c = omega (arith, (halved_block_index_within _ _ _ _ c.requires.block c.requires.within).within)
 
 pub overflow_add-b : goal.overflow_add-b
-overflow_add-b g c = omega (arith, (block_of _ _ _ _ c.requires.block c.requires.within).within)
+overflow_add-b g c = omega (arith, (halved_block_index_within _ _ _ _ c.requires.block c.requires.within).within)
 
 pub offset_bounds-table-b : goal.offset_bounds-table-b
-offset_bounds-table-b g c = omega (arith, (block_of _ _ _ _ c.requires.block c.requires.within).within)
+offset_bounds-table-b g c = omega (arith, (halved_block_index_within _ _ _ _ c.requires.block c.requires.within).within)
 
 pub bounds-table-b : goal.bounds-table-b
-bounds-table-b g c = (block_of _ _ _ _ c.requires.block c.requires.within).within
+bounds-table-b g c = (halved_block_index_within _ _ _ _ c.requires.block c.requires.within).within
 
 pub product-turned-requires : goal.product-turned-requires
 product-turned-requires g c =
-    let within = (block_of _ _ _ _ c.requires.block c.requires.within).within in
+    let within = (halved_block_index_within _ _ _ _ c.requires.block c.requires.within).within in
     rw c.factor-w.ensures.quotient (rw c.factor-w.ensures.value
     (rw (sym c.index-table-b.is) at (c.requires.factors _ c.index-table-b.result within)))
 
@@ -32,7 +32,7 @@ returns-then-rest-eq0 g c = record {
       let some : 0 < n c.args.m.now.modulus = omega (arith, c.args.m.now.some) in
       omega (arith, mod-lt (n c.args.x * n c.factor-w.result.value) some, c.product-turned.ensures));
   product = (let n = g.T.RingWord.number in
-      let block = block_of _ _ _ _ c.requires.block c.requires.within in
+      let block = halved_block_index_within _ _ _ _ c.requires.block c.requires.within in
       let p : ℕ = c.args.b / 2 * c.args.count + (c.args.b % 2 * c.args.count + c.args.j) / 2 in
       let is = c.factor-w.ensures.value ∙ number_read g.F.PlanEntry.value _ p _ block.within c.index-table-b.is in
       let at : c.args.b * c.args.count + c.args.j ≡ 2 * p = omega (arith, block.is, c.if-rest-eq0.true) in
@@ -44,7 +44,7 @@ returns-then-rest-eq0 g c = record {
 pub returns-else-rest-eq0 : goal.returns-else-rest-eq0
 returns-else-rest-eq0 g c = record {
   product = (let n = g.T.RingWord.number in
-      let block = block_of _ _ _ _ c.requires.block c.requires.within in
+      let block = halved_block_index_within _ _ _ _ c.requires.block c.requires.within in
       let p : ℕ = c.args.b / 2 * c.args.count + (c.args.b % 2 * c.args.count + c.args.j) / 2 in
       let is = c.factor-w.ensures.value ∙ number_read g.F.PlanEntry.value _ p _ block.within c.index-table-b.is in
       let below = rw (sym c.index-table-b.is) at (c.requires.factors _ c.index-table-b.result block.within).below in

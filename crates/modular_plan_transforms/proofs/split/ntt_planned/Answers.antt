@@ -17,7 +17,8 @@ returns g c =
       below = all_reordered (λ x. n x < m) _ _ split _ whole refl (omega arith) c.reverse_places.ensures
           c.split.ensures.below;
       values = λ root z j twiddles below.
-          in_natural_order n m root z (length c.args.xs.now) (length c.args.table.now) (trailing_zeros w64 (length split))
+          in_natural_order n m root z (length c.args.xs.now) (length c.args.table.now)
+          (trailing_zeros w64 (length split))
           (numbers n c.args.xs.now) split _ (sym length_is ∙ whole) twiddles.half c.requires.within length_is
           (omega arith) c.reverse_places.ensures (rw one at (c.split.ensures.remainders root z twiddles)) j below;
     }

@@ -1,11 +1,12 @@
 use Rattle.std.proofs.Common.{◌-◌, ◌^◌, arith}
-use Rattle.modular_prim.proofs.DigitSteps.{part_times, part_below, one_of}
+use Rattle.modular_prim.proofs.DigitSteps.{part_times, partial_power_below_base, one_of}
 use Rattle.modular_prim.proofs.digits.part_of_base.Goals as goal
 
 pub shift_left-requires-clause-fits : goal.shift_left-requires-clause-fits
 shift_left-requires-clause-fits g c =
     let k = c.bits.result - c.args.by in
-    let less = part_below {by = c.args.by} {k = k} c.requires.some (omega (arith, g.met.T.RingWord.width_from))
+    let less = partial_power_below_base {by = c.args.by} {k = k} c.requires.some
+    (omega (arith, g.met.T.RingWord.width_from))
     g.met.T.PathWord.base_is (omega (arith, c.bits.ensures)) in
     omega (arith, less, (one_of (2 ^ k) c.one.ensures))
 

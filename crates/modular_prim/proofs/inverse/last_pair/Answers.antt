@@ -1,5 +1,6 @@
 use Rattle.std.proofs.Common.{◌≡◌, ◌%◌, ◌^◌, ap, ◌∙◌, rules}
-use Rattle.modular_prim.proofs.DifferenceSteps.{Without, Without-of_quotient, zeros_divide, first_pair, first_fits, last_factor}
+use Rattle.modular_prim.proofs.DifferenceSteps.{Without, Without-of_quotient, zeros_divide, start_is_difference_pair}
+use Rattle.modular_prim.proofs.DifferenceSteps.{first_fits, last_factor}
 use Rattle.modular_prim.proofs.inverse.last_pair.Goals as goal
 
 pub differences-init : goal.differences-init
@@ -10,7 +11,7 @@ differences-init g c =
     let h : Without x t (g.T.RingWord.number c.shift_right.result) =
     Without-of_quotient _ t _ c.requires.some divided c.shift_right.ensures.value in
     record {
-      pair = first_pair _ _ t _ _ _ h c.one.ensures c.zero.ensures;
+      pair = start_is_difference_pair _ _ t _ _ _ h c.one.ensures c.zero.ensures;
       fits =
           first_fits _ _ _ t _ _ _ h c.one.ensures c.zero.ensures c.requires.below c.requires.fits;
     }

@@ -3,7 +3,8 @@ use Rattle.std.proofs.Common.{◌≡◌, ◌+◌, ◌/◌, ◌^◌, ◌<◌, not
 use mathlib.Core.Bool.{beq}
 use Rattle.modular_prim.specs.Differences.{PairFits}
 use Rattle.modular_prim.proofs.DifferenceSteps.{Ordered, ordered_above, ordered_below, pair_next, fits_next}
-use Rattle.modular_prim.proofs.DifferenceSteps.{Without, Without-of_quotient, fewer_zeros, shift_fits, few_twos}
+use Rattle.modular_prim.proofs.DifferenceSteps.{Without, Without-of_quotient, removed_twos_below_width, shift_fits}
+use Rattle.modular_prim.proofs.DifferenceSteps.{few_twos}
 use Rattle.modular_prim.proofs.DifferenceSteps.{zeros_above, zeros_below}
 use Rattle.modular_prim.proofs.inverse.one_difference.Given.{Over}
 use Rattle.modular_prim.proofs.inverse.one_difference.Goals as goal
@@ -24,12 +25,14 @@ ordered g c =
           let e : n c.if-less.chosen.0 + a ≡ b = ap (λ v. n v.0 + a) w.chosen-is ∙ w.minus.ensures.value in
           ordered_below _ _ _ _ _ _ _ _ _ _ _ _ c.requires.fits w.if-less.true c.requires.differ
           c.is_below-less.ensures.other_fits e
-          (zeros_below _ _ _ a b _ _ g.met.T.PathWord.base_is c.wrapping_sub.ensures.value c.trailing_zeros-zeros.ensures.value e)
+          (zeros_below _ _ _ a b _ _ g.met.T.PathWord.base_is c.wrapping_sub.ensures.value
+          c.trailing_zeros-zeros.ensures.value e)
           (ap (λ v. n v.1) w.chosen-is) (ap (λ v. n v.2) w.chosen-is)
       | else-less w ↦
           let e : n c.if-less.chosen.0 + b ≡ a = ap (λ v. n v.0 + b) w.chosen-is ∙ w.minus-else-less.ensures.value in
           ordered_above _ _ _ _ _ _ _ _ _ _ _ _ c.requires.fits w.if-less.false c.requires.differ
-          c.is_below-less.ensures.fits e (zeros_above _ _ _ a b _ _ g.met.T.PathWord.base_is c.wrapping_sub.ensures.value c.trailing_zeros-zeros.ensures.value e)
+          c.is_below-less.ensures.fits e (zeros_above _ _ _ a b _ _ g.met.T.PathWord.base_is
+          c.wrapping_sub.ensures.value c.trailing_zeros-zeros.ensures.value e)
           (ap (λ v. n v.1) w.chosen-is) (ap (λ v. n v.2) w.chosen-is)
     ]
 
@@ -39,7 +42,7 @@ halved : (g : Over) (c : goal.Joined-less g)
 halved g c = let o = ordered g c in Without-of_quotient _ _ _ o.some o.even refl
 
 few : (g : Over) (c : goal.Joined-less g) → c.trailing_zeros-zeros.result < g.T.RingWord.width
-few g c = fewer_zeros _ _ _ _ (halved g c) (omega (arith, (ordered g c).below, g.met.T.PathWord.base_is))
+few g c = removed_twos_below_width _ _ _ _ (halved g c) (omega (arith, (ordered g c).below, g.met.T.PathWord.base_is))
 
 pub shift_right-requires : goal.shift_right-requires
 shift_right-requires g c = few g (goal.at.shift_right-requires g c).Joined-less

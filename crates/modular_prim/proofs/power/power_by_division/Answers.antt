@@ -1,5 +1,6 @@
 use Rattle.std.proofs.Common.{ℕ, ◌≡◌, ◌*◌, ◌%◌, ap, ap₂, ◌∙◌, arith, refl}
-use Rattle.modular_prim.proofs.PowerSteps.{start_odd, start_even, step_odd, step_even, power_at_end}
+use Rattle.modular_prim.proofs.PowerSteps.{start_odd, start_even, odd_step_keeps_power_forms}
+use Rattle.modular_prim.proofs.PowerSteps.{even_step_keeps_power_forms, power_at_end}
 use Rattle.modular_prim.proofs.power.power_by_division.Goals as goal
 use Rattle.modular_prim.proofs.power.power_by_division.Goals.{then-is_odd, else-is_odd, then-is_odd-2, else-is_odd-2}
 
@@ -21,11 +22,12 @@ digits-preserved g c =
     let squared = λ (x : ℕ) (e : n c.digits.power ≡ x). c.sqm-power.ensures ∙ ap (λ v. (v * v) % n c.args.m) e in
     elim c.if-is_odd-2.branch [
       | then-is_odd-2 w ↦
-          step_odd (λ x. x) (λ y. y) _ c.digits.invariant squared
+          odd_step_keeps_power_forms (λ x. x) (λ y. y) _ c.digits.invariant squared
           (λ x y ex ey. ap n w.product-is ∙ w.mulm-product.ensures ∙ ap₂ (λ u v. (u * v) % n c.args.m) ex ey)
           c.half-rest-in-digits.ensures.value (grind arith)
       | else-is_odd-2 w ↦
-          step_even (λ x. x) (λ y. y) _ c.digits.invariant squared (ap n w.product-is) c.half-rest-in-digits.ensures.value
+          even_step_keeps_power_forms (λ x. x) (λ y. y) _ c.digits.invariant squared (ap n w.product-is)
+          c.half-rest-in-digits.ensures.value
           (grind arith)
     ]
 

@@ -8,7 +8,8 @@ use Rattle.modular_prim.proofs.residues.subm.Goals as goal
 
 pub returns-then-is_below : goal.returns-then-is_below
 returns-then-is_below g c =
-    let less : g.T.RingWord.number c.args.a < g.T.RingWord.number c.args.b = c.is_below.ensures.below.0 c.if-is_below.true in
+    let less : g.T.RingWord.number c.args.a < g.T.RingWord.number c.args.b =
+    c.is_below.ensures.below.0 c.if-is_below.true in
     neg_of_some _ _ _ (c.spares_division.ensures c.if-spares_division.true)
     (omega (arith, less, (c.distance-apart.ensures.below less)))
     c.minus.ensures.value ∙ sub_of_less _ _ _ _ (c.distance-apart.ensures.below less)
@@ -18,7 +19,8 @@ returns-else-is_below g c = grind (arith, iff_false, ints, mod-eq_of_lt)
 
 pub returns-then-is_below-2 : goal.returns-then-is_below-2
 returns-then-is_below-2 g c =
-    let less : g.T.RingWord.number c.args.a < g.T.RingWord.number c.args.b = c.is_below-else-spares_division.ensures.below.0 c.if-is_below-2.true in
+    let less : g.T.RingWord.number c.args.a < g.T.RingWord.number c.args.b =
+    c.is_below-else-spares_division.ensures.below.0 c.if-is_below-2.true in
     c.neg_below.ensures.value ∙ neg_of_rest _ _ _ c.requires c.remainder-rest.ensures.value
     ∙ sub_of_less _ _ _ _ (c.distance-apart.ensures.below less)
 

@@ -8,14 +8,17 @@ sum_by_sign-requires-clause-left g c = kept_below g.T.RingWord.number _ _ c.args
 
 pub signs-preserved : goal.signs-preserved
 signs-preserved g c = pair_done g.T.RingWord.number c.signs.xs c.args.ys.now c.signs.i c.index-xs-i.result
-    c.index-ys-i.result c.sum_by_sign.result (λ v w. (v + w) % g.T.RingWord.number c.args.m) _ (omega arith) (omega arith) c.index-xs-i.is c.index-ys-i.is
+    c.index-ys-i.result c.sum_by_sign.result (λ v w. (v + w) % g.T.RingWord.number c.args.m) _ (omega arith)
+    (omega arith) c.index-xs-i.is c.index-ys-i.is
     c.signs.invariant c.sum_by_sign.ensures.value
 
 pub add_below-requires-clause-left : goal.add_below-requires-clause-left
 add_below-requires-clause-left g c = kept_below g.T.RingWord.number _ _ c.args.xs.now c.words.xs c.words.i
-    c.index-xs-i-in-words.result c.requires.left c.words.auto.xs (omega arith) c.index-xs-i-in-words.is c.words.invariant
+    c.index-xs-i-in-words.result c.requires.left c.words.auto.xs (omega arith) c.index-xs-i-in-words.is
+    c.words.invariant
 
 pub words-preserved : goal.words-preserved
 words-preserved g c = pair_done g.T.RingWord.number c.words.xs c.args.ys.now c.words.i c.index-xs-i-in-words.result
-    c.index-ys-i-in-words.result c.add_below.result (λ v w. (v + w) % g.T.RingWord.number c.args.m) _ (omega arith) (omega arith) c.index-xs-i-in-words.is
+    c.index-ys-i-in-words.result c.add_below.result (λ v w. (v + w) % g.T.RingWord.number c.args.m) _ (omega arith)
+    (omega arith) c.index-xs-i-in-words.is
     c.index-ys-i-in-words.is c.words.invariant c.add_below.ensures.value

@@ -5,7 +5,7 @@ use Rattle.std.proofs.lemmas.Nat.{pow-add, mul-lt}
 use Rattle.modular_word.specs.Congruence.{Congruent}
 use Rattle.modular_word.specs.Sums.{sum_below}
 use Rattle.modular_reduced.proofs.CarriedSums.{IsPartedSum, product_read, part_added, part_fits, without_carry}
-use Rattle.modular_reduced.proofs.CarriedSums.{JoinsParts, parts_joined}
+use Rattle.modular_reduced.proofs.CarriedSums.{JoinsParts, parted_sum_joins_parts}
 use Rattle.modular_reduced.proofs.list_products.sum_by_upper_parts.Goals as goal
 use Rattle.modular_reduced.proofs.list_products.sum_by_upper_parts.Goals.{After-double_shift_right, After-is_below}
 use Rattle.modular_reduced.proofs.list_products.sum_by_upper_parts.Goals.{then-is_below, else-is_below}
@@ -26,11 +26,12 @@ record IsNext (h b n p u : ℕ) : Type 0 where
   fits : p < 2 * h * (2 * h)
   upper : u ≡ p / h
 
-next_is : (g : _) (c : After-double_shift_right g)
+upper_part_of_next_product : (g : _) (c : After-double_shift_right g)
     → IsNext (2 ^ (g.T.RingWord.width - 1)) g.T.PathWord.base (c.products.i - c.args.from)
     (g.T.PathWord.double_number c.product-product.result) (g.T.PathWord.double_number c.double_shift_right.result)
-next_is g c =
-    let w = g.T.RingWord.width in let b = g.T.PathWord.base in let p = g.T.PathWord.double_number c.product-product.result in
+upper_part_of_next_product g c =
+    let w = g.T.RingWord.width in let b = g.T.PathWord.base in let p =
+    g.T.PathWord.double_number c.product-product.result in
     let base = half_is w b g.met.T.RingWord.width_from g.met.T.PathWord.base_is in
     let square = ap₂ (λ v k. v * k) base base in
     let least = half_least w g.met.T.RingWord.width_from in
@@ -41,14 +42,16 @@ next_is g c =
       square = square;
       some = omega (arith, least);
       within = omega (arith, c.requires.few, last, base);
-      fits = subst (λ v. p < v) square (subst (λ v. v < b * b) (sym product.value) (mul-lt _ _ b b product.fits product.other_fits));
+      fits = subst (λ v. p < v) square (subst (λ v. v < b * b) (sym product.value)
+          (mul-lt _ _ b b product.fits product.other_fits));
       upper = c.double_shift_right.ensures ∙ ap (λ k. p / 2 ^ (k - 1)) c.bits.ensures;
     }
 
 pub double_plus-upper-requires : goal.double_plus-upper-requires
 double_plus-upper-requires g c =
-    let next = next_is g c in
-    let l = part_fits _ (g.T.PathWord.double_number c.products.upper) _ _ c.products.invariant.few next.within next.fits in
+    let next = upper_part_of_next_product g c in
+    let l = part_fits _ (g.T.PathWord.double_number c.products.upper) _ _ c.products.invariant.few next.within next.fits
+    in
     omega (arith, l, next.square, next.upper)
 
 pub products-preserved : goal.products-preserved
@@ -56,12 +59,14 @@ products-preserved g c =
     let number = g.T.RingWord.number in let wide = g.T.PathWord.double_number in
     let f = λ (i : ℕ). slice_index (map number c.args.xs.now) i * slice_index (map number c.args.ys.now) i in
     let h = 2 ^ (g.T.RingWord.width - 1) in let i = c.products.i in
-    let next = next_is g (goal.at.products-preserved g c).After-double_shift_right in
+    let next = upper_part_of_next_product g (goal.at.products-preserved g c).After-double_shift_right in
     let added = c.double_overflowing_add-sum in let sum = wide added.result.0 in
     let carried : Congruent (2 * h * (2 * h)) sum (wide c.products.sum + wide c.product-product.result) =
-    without_carry _ _ _ added.result.1 (λ t. added.ensures.carried t ∙ ap (λ v. sum + v) next.square) added.ensures.exact in
+    without_carry _ _ _ added.result.1 (λ t. added.ensures.carried t ∙ ap (λ v. sum + v) next.square)
+    added.ensures.exact in
     let is = product_read number c.args.xs.now c.args.ys.now i c.index-xs-i.result c.index-ys-i.result _
-    (omega (arith, c.requires.within)) c.requires.equal c.index-xs-i.is c.index-ys-i.is c.product-product.ensures.value in
+    (omega (arith, c.requires.within)) c.requires.equal c.index-xs-i.is c.index-ys-i.is c.product-product.ensures.value
+    in
     let more : i + 1 - c.args.from ≡ i - c.args.from + 1 = omega arith in
     subst (λ n. IsPartedSum h sum (wide c.double_plus-upper.result) n (sum_below c.args.from f) (sum_below (i + 1) f))
     (sym more)
@@ -81,9 +86,10 @@ carries_are g c =
     let w = g.T.RingWord.width in let b = g.T.PathWord.base in
     let base = half_is w b g.met.T.RingWord.width_from g.met.T.PathWord.base_is in
     let parts : IsPartedSum (2 ^ (w - 1)) _ _ (c.args.to - from) (sum_below from f) (sum_below c.args.to f) =
-    subst (λ i. IsPartedSum _ (wide c.products.sum) (wide c.products.upper) (i - from) (sum_below from f) (sum_below i f))
+    subst (λ i. IsPartedSum _ (wide c.products.sum) (wide c.products.upper) (i - from) (sum_below from f)
+    (sum_below i f))
     (omega arith) c.products.invariant in
-    parts_joined b _ _ _ _ _ _ _ _ _ _ parts base (half_least w g.met.T.RingWord.width_from)
+    parted_sum_joins_parts b _ _ _ _ _ _ _ _ _ _ parts base (half_least w g.met.T.RingWord.width_from)
     (omega (arith, c.requires.few, base))
     (sym c.double_shift_right-2.ensures ∙ c.split-least.ensures.value) c.split-least.ensures.low_fits
     c.split.ensures.value c.split.ensures.low_fits c.split.ensures.high_fits

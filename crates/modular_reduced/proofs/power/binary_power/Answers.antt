@@ -47,7 +47,8 @@ digits-preserved g c =
             counted = omega (arith, c.digits.invariant.counted);
           }
       | else-is_odd w ↦
-          let even : number c.digits.rest % 2 ≢ 1 = λ e. false≢true (sym w.if-is_odd.false ∙ c.is_odd.ensures.odd.1 e) in
+          let even : number c.digits.rest % 2 ≢ 1 = λ e. false≢true (sym w.if-is_odd.false ∙ c.is_odd.ensures.odd.1 e)
+          in
           record {
             so_far = rw w.product-is
                 (power_even_step canonical c.digits.invariant.so_far even c.sqr-power.ensures.form half);

@@ -1,7 +1,8 @@
 use Rattle.std.proofs.Common.{rules, arith, ◌≡◌, ◌≢◌, ◌/◌, ◌%◌, ◌∙◌, sym, ap, IsTrue}
 use Rattle.modular_reduced.proofs.FormLemmas.{form_of_value}
-use Rattle.modular_reduced.proofs.PowerForms.{power_of_one, power_of_two}
-use Rattle.modular_reduced.proofs.PowerCounts.{steps, products_of_one, products_of_two, products_else, products_at_most}
+use Rattle.modular_reduced.proofs.PowerForms.{base_represents_first_power, power_of_two}
+use Rattle.modular_reduced.proofs.PowerCounts.{steps, first_power_needs_no_products, products_of_two, products_else}
+use Rattle.modular_reduced.proofs.PowerCounts.{products_at_most}
 use Rattle.modular_reduced.specs.Powers.{products, digits, digits_within}
 use Rattle.modular_reduced.proofs.power.pow_counted.Goals as goal
 use Rattle.modular_reduced.proofs.power.pow_counted.Goals.{then-eq-2+else-not-is_odd, else-eq-2}
@@ -11,12 +12,12 @@ returns-then-eq g c =
     let canonical = g.met.R.Reducer.canonical c.args.reducer.now in
     let same : IsTrue (g.T.PartialEq.eq c.args.exp.now c.one.result) = search rules in
     let one = (g.met.T.RingWord.equal c.args.exp.now c.one.result).0 same ∙ c.one.ensures in
-    let power = power_of_one c.requires one in
+    let power = base_represents_first_power c.requires one in
     record {
       power = power;
       checked = c.requires;
       value = canonical.one_value _ _ power;
-      count = sym (products_of_one (g.T.RingWord.number c.args.exp.now) one);
+      count = sym (first_power_needs_no_products (g.T.RingWord.number c.args.exp.now) one);
       at_most = omega arith;
     }
 

@@ -14,7 +14,8 @@ returns-clause-value c =
     let laws = c.residue_laws.ensures in
     mod_cancel m (residue_of c.reduced_eighth.result) _ out c.reduced_eighth.result.checked.below
     (laws.residue m _ (lit< tt)).below
-    (difference_rolled m (residue_of c.args.window) (residue_of c.args.base) (residue_of c.args.power) (residue_of c.neg.result)
+    (difference_rolled m (residue_of c.args.window) (residue_of c.args.base) (residue_of c.args.power)
+    (residue_of c.neg.result)
     c.args.first c.args.next _ c.args.power.checked.below c.neg.ensures.residue (cc)
     ∙ sym (laws.difference m (s % m) out (lit< tt) ∙ mod-mod s m))
 
@@ -22,6 +23,7 @@ pub returns-clause-hash : goal.returns-clause-hash
 returns-clause-hash c old new same window_is power_is =
     residue_moved (mersenne 61 1) (residue_of c.args.base) c.args.first c.args.next old new (residue_of c.args.window)
     (residue_of c.args.power) _ same window_is power_is
-    (difference_rolled _ (residue_of c.args.window) (residue_of c.args.base) (residue_of c.args.power) (residue_of c.neg.result)
+    (difference_rolled _ (residue_of c.args.window) (residue_of c.args.base) (residue_of c.args.power)
+    (residue_of c.neg.result)
     c.args.first c.args.next _ c.args.power.checked.below c.neg.ensures.residue (cc))
     c.reduced_eighth.result.checked.below

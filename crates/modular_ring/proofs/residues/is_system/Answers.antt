@@ -42,7 +42,8 @@ moduli-preserved c =
     let found : c.has_inverse.result ≡ true = first_of (search rules, cc) in
     let unit = subst (HasInverse m) c.moduli.invariant.range (c.has_inverse.ensures.0 found) in
     record {
-      range = c.in-Some.ensures.0 ∙ ap (λ k. k * m) c.moduli.invariant.range ∙ sym (product-more (slice_index ms) place);
+      range = c.in-Some.ensures.0 ∙ ap (λ k. k * m) c.moduli.invariant.range
+          ∙ sym (product-more (slice_index ms) place);
       fits = c.in-Some.ensures.1;
       positive = below_more (λ i. 0 < get_or ms i 0) place c.moduli.invariant.positive positive;
       coprime = λ i j h k.

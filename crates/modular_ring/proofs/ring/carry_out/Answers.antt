@@ -20,12 +20,12 @@ after_write number form m {before} {after} {v} command f holds fit written found
     search (arith, after_found, destination_below)
 
 -- what is no sum, no difference and no product
-neither : {T : Type 0} (command : RingCommand T) → ((x y z : ℕ) → command ≡ Add x y z → ⊥)
+other_command_does_not_combine : {T : Type 0} (command : RingCommand T) → ((x y z : ℕ) → command ≡ Add x y z → ⊥)
     → ((x y z : ℕ) → command ≡ Sub x y z → ⊥) → ((x y z : ℕ) → command ≡ Mul x y z → ⊥) → Combines command → ⊥
-neither (Add dst a b) no_sum no_difference no_product combines = no_sum dst a b refl
-neither (Sub dst a b) no_sum no_difference no_product combines = no_difference dst a b refl
-neither (Mul dst a b) no_sum no_difference no_product combines = no_product dst a b refl
-neither _ no_sum no_difference no_product combines = combines
+other_command_does_not_combine (Add dst a b) no_sum no_difference no_product combines = no_sum dst a b refl
+other_command_does_not_combine (Sub dst a b) no_sum no_difference no_product combines = no_difference dst a b refl
+other_command_does_not_combine (Mul dst a b) no_sum no_difference no_product combines = no_product dst a b refl
+other_command_does_not_combine _ no_sum no_difference no_product combines = combines
 
 pub returns-in-Add-clause-values : goal.returns-in-Add-clause-values
 returns-in-Add-clause-values g c done v holds =
@@ -72,4 +72,4 @@ pub returns-in_default-computed_form-clause-missing : goal.returns-in_default-co
 returns-in_default-computed_form-clause-missing g c v holds = search (arith, lacks_here)
 
 pub computed_form-requires : goal.computed_form-requires
-computed_form-requires g c = search (arith, neither)
+computed_form-requires g c = search (arith, other_command_does_not_combine)

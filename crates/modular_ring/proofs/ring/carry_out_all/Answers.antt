@@ -16,7 +16,8 @@ returns-then-not-carry_out_four g c =
 
 pub fours-preserved : goal.fours-preserved
 fours-preserved g c = (
-  ends_at (goes_both c.fours.invariant.0 c.carry_out_four.ensures) (λ fails. absurd (true_not_false refl fails)) (λ holds. refl),
+  ends_at (goes_both c.fours.invariant.0 c.carry_out_four.ensures) (λ fails. absurd (true_not_false refl fails))
+      (λ holds. refl),
   omega (arith, c.carry_out_four.ensures.moved c.if-not-carry_out_four.false, c.fours-test.true),
 )
 
@@ -30,10 +31,12 @@ returns-then-not-carry_out_at g c =
 
 pub commands-preserved : goal.commands-preserved
 commands-preserved g c = (
-  ends_at (goes_both c.commands.invariant.0 c.carry_out_at.ensures) (λ fails. absurd (true_not_false refl fails)) (λ holds. refl),
+  ends_at (goes_both c.commands.invariant.0 c.carry_out_at.ensures) (λ fails. absurd (true_not_false refl fails))
+      (λ holds. refl),
   omega (arith, c.carry_out_at.ensures.moved c.if-not-carry_out_at.false, c.commands-test.true),
 )
 
 pub returns : goal.returns
 returns g c =
-    ends_at c.commands.invariant.0 (λ fails. fails) (λ holds. omega (arith, c.commands-test.false, c.commands.invariant.1))
+    ends_at c.commands.invariant.0 (λ fails. fails)
+    (λ holds. omega (arith, c.commands-test.false, c.commands.invariant.1))

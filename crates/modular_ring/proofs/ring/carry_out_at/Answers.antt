@@ -4,7 +4,8 @@ use Rattle.std.proofs.lemmas.Option.{slice_get_read}
 use Rattle.modular_reduced.proofs.ListSteps.{held_checked}
 use Rattle.modular_ring.specs.Ring.{whole, value_at, LacksInverseAt}
 use Rattle.modular_ring.specs.declared.ring.RingCommand.{RingCommand}
-use Rattle.modular_ring.proofs.RunLemmas.{after_command, lacks_at, lacks_of, start_holds, read_map, true_not_false}
+use Rattle.modular_ring.proofs.RunLemmas.{after_command, command_lacks_inverse_at_place, lacks_of, start_holds}
+use Rattle.modular_ring.proofs.RunLemmas.{read_map, true_not_false}
 use Rattle.modular_ring.proofs.ring.carry_out_at.Goals as goal
 
 -- what a command represents, over whole numbers
@@ -27,12 +28,14 @@ returns-then-done g c =
     record {
       count = c.carry_out-done.ensures.count;
       checked = held_checked number c.carry_out-done.new.regs _ (g.met.R.Reducer.canonical c.args.r.now)
-          (c.carry_out-done.ensures.values told _ (start_holds number form g.R.Reducer.value m c.args.regs.now c.requires.checked));
+          (c.carry_out-done.ensures.values told _ (start_holds number form g.R.Reducer.value m c.args.regs.now
+          c.requires.checked));
       holds = c.carry_out-done.ensures.holds;
       reached = λ start reached. record {
         held = after_command number form m start wholes at c.carry_out-done.new.regs (read_as command) is
             ((rw c.command.ensures at c.carry_out-done.ensures.values) told (value_at m start wholes at) reached.held);
-        passed = below_more (λ j. LacksInverseAt m start wholes j → ⊥) at reached.passed (λ lacks. absurd (true_not_false told
+        passed = below_more (λ j. LacksInverseAt m start wholes j → ⊥) at reached.passed
+            (λ lacks. absurd (true_not_false told
             (((rw c.command.ensures at c.carry_out-done.ensures.missing) (value_at m start wholes at) reached.held).1
             (lacks_of m start wholes at (read_as command) is lacks))));
       };
@@ -55,8 +58,9 @@ returns-else-done g c =
       checked = rw kept c.requires.checked;
       holds = c.carry_out-done.ensures.holds;
       reached = λ start reached. rw kept reached;
-      lacks = λ fails start reached. lacks_at m start wholes at (read_as command)
+      lacks = λ fails start reached. command_lacks_inverse_at_place m start wholes at (read_as command)
           (read_map read_as c.args.commands.now at command read)
-          (((rw c.command.ensures at c.carry_out-done.ensures.missing) (value_at m start wholes at) reached.held).0 fails);
+          (((rw c.command.ensures at c.carry_out-done.ensures.missing) (value_at m start wholes at) reached.held).0
+          fails);
       moved = λ holds. absurd (true_not_false holds c.if-done.false);
     }

@@ -10,16 +10,17 @@ use Rattle.modular_ring.specs.declared.ring.RunEnd.TheVariants.{Done, NoInverse}
 use Rattle.modular_ring.proofs.RunLemmas.{stops_at, not_done, never_stops, start_holds}
 use Rattle.modular_ring.proofs.ring.run.Goals as goal
 
-none_below : (j : ℕ) → j < 0 → ⊥
-none_below j h = omega (arith, h)
+no_number_below_zero : (j : ℕ) → j < 0 → ⊥
+no_number_below_zero j h = omega (arith, h)
 
 -- before the first command
-begun : {R T C : Type 0} (ring : reducer.Ghosts R T) (number : T → ℕ) (command_of : C → RingCommand T) (r : R) (commands : List C)
+start_is_reached : {R T C : Type 0} (ring : reducer.Ghosts R T) (number : T → ℕ) (command_of : C → RingCommand T)
+    (r : R) (commands : List C)
     (registers : List T) → AreChecked ring number r registers
     → IsReached ring number command_of r commands (values_of number ring.value (ring.modulus r) registers) registers 0
-begun ring number command_of r commands registers checked = record {
+start_is_reached ring number command_of r commands registers checked = record {
   held = start_holds number ring.form ring.value (ring.modulus r) registers checked;
-  passed = λ j h. absurd (none_below j h);
+  passed = λ j h. absurd (no_number_below_zero j h);
 }
 
 -- what a command represents, over whole numbers
@@ -42,7 +43,8 @@ returns-then-not-carry_out_all g c =
     let canonical = g.met.R.Reducer.canonical c.args.r.now in
     let start = values_of number g.R.Reducer.value m c.args.regs.now in
     let wholes = map (over_wholes number g.C.AsCommand.command) c.args.commands.now in
-    let before = begun g.R.Reducer number g.C.AsCommand.command c.args.r.now c.args.commands.now c.args.regs.now c.requires.checked in
+    let before = start_is_reached g.R.Reducer number g.C.AsCommand.command c.args.r.now c.args.commands.now
+    c.args.regs.now c.requires.checked in
     let reached = c.carry_out_all.ensures.reached start before in
     let stop : IsStop m start wholes c.carry_out_all.new.at = record {
       lacks = c.carry_out_all.ensures.lacks c.if-not-carry_out_all.true start before;
@@ -54,7 +56,8 @@ returns-then-not-carry_out_all g c =
       done = not_done stop;
       values = reached.held;
       checked = c.carry_out_all.ensures.checked;
-      residues = λ n h. held_values number c.carry_out_all.new.regs _ n canonical reached.held (omega (arith, h, count));
+      residues = λ n h. held_values number c.carry_out_all.new.regs _ n canonical reached.held
+          (omega (arith, h, count));
       read = λ n other h. canonical.one_value _ _ (reached.held.each n other (omega (arith, h, count)));
     }
 
@@ -71,7 +74,8 @@ returns g c =
     let start = values_of number g.R.Reducer.value m c.args.regs.now in
     let read_as = over_wholes number g.C.AsCommand.command in
     let wholes = map read_as c.args.commands.now in
-    let before = begun g.R.Reducer number g.C.AsCommand.command c.args.r.now c.args.commands.now c.args.regs.now c.requires.checked in
+    let before = start_is_reached g.R.Reducer number g.C.AsCommand.command c.args.r.now c.args.commands.now
+    c.args.regs.now c.requires.checked in
     let reached = c.carry_out_all.ensures.reached start before in
     let all : c.carry_out_all.new.at ≡ length wholes =
     omega (arith, length-map c.args.commands.now read_as, c.carry_out_all.ensures.moved c.if-not-carry_out_all.false) in

@@ -2,7 +2,7 @@ use Rattle.std.proofs.Common.{◌≡◌, ◌+◌, ◌-◌, ◌*◌, ◌^◌, ◌
 use Rattle.std.proofs.Math.Nat.{mul-le-mul_right, pow-zero}
 use Rattle.modular_word.specs.Congruence.{Congruent}
 use Rattle.modular_word.proofs.Congruence.{mod_of_eq}
-use Rattle.modular_prim.proofs.DifferenceSteps.{word_taken, rest_taken, scaled_fits}
+use Rattle.modular_prim.proofs.DifferenceSteps.{word_taken, rest_taken, shifted_factor_fits_reduction}
 use Rattle.modular_secret.proofs.inverse.divided_by_twos.Goals as goal
 
 pub redc-once-requires-clause-below : goal.redc-once-requires-clause-below
@@ -16,7 +16,7 @@ redc-once-requires-clause-below g c =
 pub redc-requires-clause-below : goal.redc-requires-clause-below
 redc-requires-clause-below g c =
     let one : g.T.RingWord.width - (g.T.RingWord.width - 1) ≡ 1 = omega (arith, g.met.T.RingWord.width_from) in
-    scaled_fits _ _ _ _ _ _ _ g.met.T.PathWord.base_is refl
+    shifted_factor_fits_reduction _ _ _ _ _ _ _ g.met.T.PathWord.base_is refl
     (c.shift_left_wide.ensures.value
     ∙ ap (λ k. g.T.RingWord.number c.redc-once.result * 2 ^ k) (sym one)) c.redc-once.ensures.below
 

@@ -5,7 +5,7 @@ use Rattle.std.proofs.lemmas.Bool.{cases_lt}
 use Rattle.modular_secret.proofs.Masks.{added_nothing, difference_added_back, other_way, base_by_four, same_parity}
 use Rattle.modular_secret.proofs.Masks.{masked_parity, none_more}
 use Rattle.modular_secret.proofs.HalvingSteps.{ready_even, ready_above, ready_below, ready_halved, factor_below}
-use Rattle.modular_secret.proofs.HalvingSteps.{odd_flips, sum_fits}
+use Rattle.modular_secret.proofs.HalvingSteps.{odd_flips, factor_sum_below_base}
 use Rattle.modular_secret.proofs.inverse.halved.Goals as goal
 
 pub returns : goal.returns
@@ -44,7 +44,8 @@ returns g c x k left p =
     let eu : n c.wrapping_add-2.result ≡ u =
     added_nothing _ _ _ _ (c.masked-3.ensures.none none) c.wrapping_add-2.ensures.value c.chosen.ensures.second_fits in
     let et = none_more _ _ _ _ clear c.wrapping_sub.ensures.value c.wrapping_sub.ensures.fits in
-    rw (eb, eu) (ready_halved _ _ x k left _ _ _ _ _ _ _ _ (t % 2 == 1) (ready_even _ _ x k (left + 1) _ _ _ _ _ _ p even)
+    rw (eb, eu) (ready_halved _ _ x k left _ _ _ _ _ _ _ _ (t % 2 == 1) (ready_even _ _ x k (left + 1) _ _ _ _ _ _ p
+    even)
     half (doubled v (c.chosen.ensures.none clear) p.below_factor)
     (λ e. c.odd_mask.ensures.all (parity ∙ e)) (λ e. c.odd_mask.ensures.none (parity ∙ e)) (ap (λ z. z % 2 == 1) et)))
     (λ (some : 1 ≤ a % 2).
@@ -52,7 +53,7 @@ returns g c x k left p =
     let all = p.mask_all odd in
     let same : q ≡ b = c.masked.ensures.all all in
     let whole = p.whole (omega arith) in
-    let sum : u + v < base = sum_fits _ _ _ _ _ _ whole odd p.below_odd c.doubled.ensures.fits in
+    let sum : u + v < base = factor_sum_below_base _ _ _ _ _ _ whole odd p.below_odd c.doubled.ensures.fits in
     let eu : n c.wrapping_add-2.result ≡ u + v =
     c.wrapping_add-2.ensures.value ∙ ap (λ z. (u + z) % base) (c.masked-3.ensures.all all) ∙ mod-eq_of_lt sum in
     ⊎_elim

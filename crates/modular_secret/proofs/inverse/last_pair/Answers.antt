@@ -1,6 +1,6 @@
 use Rattle.std.proofs.Common.{◌≡◌, ◌+◌, ◌-◌, ◌*◌, ◌^◌, ◌<◌, arith, refl, subst}
 use Rattle.modular_secret.specs.Halvings.{IsHalvedPair}
-use Rattle.modular_secret.proofs.HalvingSteps.{first_pair}
+use Rattle.modular_secret.proofs.HalvingSteps.{start_is_halved_pair}
 use Rattle.modular_secret.proofs.inverse.last_pair.Goals as goal
 
 pub steps-init : goal.steps-init
@@ -13,7 +13,7 @@ steps-init g c =
     record {
       pair =
           rw all
-          (first_pair _ _ _ _ _ _ _ _ _ _ c.requires x_fits m_fits refl refl
+          (start_is_halved_pair _ _ _ _ _ _ _ _ _ _ c.requires x_fits m_fits refl refl
           c.one.ensures c.zero.ensures c.odd_mask.ensures.all c.odd_mask.ensures.none c.zero-2.ensures);
       count = refl;
     }

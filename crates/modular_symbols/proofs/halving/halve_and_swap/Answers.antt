@@ -7,7 +7,7 @@ use Rattle.modular_symbols.specs.Jacobi.{jacobi}
 use Rattle.modular_symbols.proofs.HalvingSteps.{kept_swapped}
 use Rattle.modular_symbols.proofs.TurnedSymbols.{kept_start, kept_last}
 use Rattle.modular_symbols.proofs.TwoPart.{halved_by}
-use Rattle.modular_symbols.proofs.StepCounts.{counts_start, counts_turn, counts_end, counts_few}
+use Rattle.modular_symbols.proofs.StepCounts.{counts_start, counts_turn, final_count_is_jacobi_steps, counts_few}
 use Rattle.modular_symbols.proofs.halving.halve_and_swap.Goals as goal
 use Rattle.modular_symbols.proofs.halving.halve_and_swap.Goals.{After-rest-above}
 
@@ -37,8 +37,9 @@ swaps-preserved g c =
     }
 
 -- the steps so far are few
-few : (g : _) (c : After-rest-above g) → c.swaps.count + (c.odd_part-odd.result.1 + 1) ≤ 2 * g.T.RingWord.width
-few g c =
+count_at_most_twice_width : (g : _) (c : After-rest-above g)
+    → c.swaps.count + (c.odd_part-odd.result.1 + 1) ≤ 2 * g.T.RingWord.width
+count_at_most_twice_width g c =
     let h = halved_by _ _ _ c.odd_part-odd.ensures.odd c.odd_part-odd.ensures.whole in
     let after =
     counts_turn _ _ _ _ _ _ _ _ _ _ c.swaps.invariant.counts h
@@ -47,11 +48,19 @@ few g c =
 
 pub overflow_add-count : goal.overflow_add-count
 overflow_add-count g c =
-    omega (arith, few g (goal.at.overflow_add-count g c).After-rest-above, g.met.T.RingWord.width_to)
+    omega (
+      arith,
+      count_at_most_twice_width g (goal.at.overflow_add-count g c).After-rest-above,
+      g.met.T.RingWord.width_to,
+    )
 
 pub overflow_add-count-in-swaps : goal.overflow_add-count-in-swaps
 overflow_add-count-in-swaps g c =
-    omega (arith, few g (goal.at.overflow_add-count-in-swaps g c).After-rest-above, g.met.T.RingWord.width_to)
+    omega (
+      arith,
+      count_at_most_twice_width g (goal.at.overflow_add-count-in-swaps g c).After-rest-above,
+      g.met.T.RingWord.width_to,
+    )
 
 pub returns-clause-symbol : goal.returns-clause-symbol
 returns-clause-symbol g c =
@@ -61,7 +70,7 @@ returns-clause-symbol g c =
 
 pub returns-clause-count : goal.returns-clause-count
 returns-clause-count g c =
-    counts_end _ _ _ _ _ _ c.swaps.invariant.counts (c.is_zero_word.ensures.zero.0 c.swaps-test.false)
+    final_count_is_jacobi_steps _ _ _ _ _ _ c.swaps.invariant.counts (c.is_zero_word.ensures.zero.0 c.swaps-test.false)
 
 pub returns-clause-at_most : goal.returns-clause-at_most
 returns-clause-at_most g c = omega (arith, (counts_few _ _ _ _ _ _ c.swaps.invariant.counts c.requires.below))

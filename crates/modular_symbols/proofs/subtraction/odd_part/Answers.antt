@@ -25,6 +25,7 @@ returns-clause-odd g c = (halves g c).odd
 pub returns-clause-symbol : goal.returns-clause-symbol
 returns-clause-symbol g c =
     let n = g.T.RingWord.number in
-    let same : n c.args.a % n c.args.n ≡ n c.if-is_zero_word.some % n c.args.n = grind (arith, then-is_zero_word, zero-mod, mod_self, else-is_zero_word) in
+    let same : n c.args.a % n c.args.n ≡ n c.if-is_zero_word.some % n c.args.n =
+    grind (arith, then-is_zero_word, zero-mod, mod_self, else-is_zero_word) in
     jacobi-odd_part _ _ _ _ _ (is_odd _) (record { law = c.turn_by_twos.ensures }) (halves g c)
     (omega (arith, c.requires)) same

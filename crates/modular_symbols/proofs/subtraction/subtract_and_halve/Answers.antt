@@ -5,7 +5,7 @@ use Rattle.std.proofs.Common.{rules, ◌+◌, ◌/◌, pos, sym, ap, ◌∙◌, 
 use Rattle.modular_symbols.specs.Jacobi.{jacobi}
 use Rattle.modular_symbols.specs.Kronecker.{signed}
 use Rattle.modular_symbols.proofs.SubtractionSteps.{kept_equal_last}
-use Rattle.modular_symbols.proofs.TurnBits.{is_odd, xor-parity, is_by_not}
+use Rattle.modular_symbols.proofs.TurnBits.{is_odd, xor-parity, is_true_by_false_negation}
 use Rattle.modular_symbols.proofs.subtraction.subtract_and_halve.Goals as goal
 
 pub differences-init : goal.differences-init
@@ -25,5 +25,6 @@ pub returns : goal.returns
 returns g c =
     to_z-of_z w8 _ (search rules) ∙ kept_equal_last _ _ _ _ (c.differences.swaps / 2 + c.differences.twos) _
     c.differences.invariant.symbol ((g.met.T.RingWord.equal c.differences.above c.differences.below).0
-    (is_by_not _ (sym c.ne.ensures ∙ c.differences-test.false))) (xor-parity (c.differences.swaps / 2) c.differences.twos)
+    (is_true_by_false_negation _ (sym c.ne.ensures ∙ c.differences-test.false))) (xor-parity (c.differences.swaps / 2)
+    c.differences.twos)
     c.last_symbol.ensures.one c.last_symbol.ensures.more

@@ -22,7 +22,8 @@ places-preserved g c d =
           (omega arith) (omega (arith, is)) e)) (c.places.invariant d)
       | else-place-other w ↦
           subst (λ es. ReorderedSoFar n (i + 1) s (λ k. get_or c.args.entries.now k d) (λ k. get_or es k d))
-          (sym w.entries-is) (reordered_passed _ _ _ _ _ (mirror_exchange _) l (omega (arith, is)) (c.places.invariant d))
+          (sym w.entries-is) (reordered_passed _ _ _ _ _ (mirror_exchange _) l (omega (arith, is))
+          (c.places.invariant d))
     ]
 
 pub returns : goal.returns

@@ -3,7 +3,7 @@ use Rattle.std.proofs.lemmas.List.Edits.{swapped_from_swap}
 use Rattle.modular_transform.specs.Orders.{bits_reversed}
 use Rattle.modular_transform.proofs.BitReversal.{bits_reversed_of_zero}
 use Rattle.modular_transform.proofs.Reordering.{ReorderedSoFar, reordered_at}
-use Rattle.modular_transform.proofs.Tiles.{place_of, tiles_reversed, tiles_of_whole, Spot, spot}
+use Rattle.modular_transform.proofs.Tiles.{place_of, tiles_reversed, tiles_of_whole, Spot, tile_place_is_spot}
 use Rattle.modular_transform.proofs.Tiles.{spot_swapped, spot_passed, tile_passed, places_reversed}
 use Rattle.modular_transform.proofs.order.reverse_by_tiles.Goals as goal
 use Rattle.modular_transform.proofs.order.reverse_by_tiles.Goals.{After-next_reversed-to_row, then-tile-other-2}
@@ -13,11 +13,13 @@ use Rattle.modular_transform.proofs.order.reverse_by_tiles.Goals.{then-tile-othe
 use Rattle.modular_transform.proofs.order.reverse_by_tiles.Goals.{else-tile-other-2+else-row-column}
 
 -- the places that change with one another at this row and column
-spot_at : (g : _) (c : After-next_reversed-to_row g) → Spot (c.args.bits - 6) (length c.args.entries.now / 8) c.tiles.tile
-    c.next_reversed-other.result c.rows.row c.columns.column c.next_reversed-to_row.result c.next_reversed-to_column.result
+spot_at : (g : _) (c : After-next_reversed-to_row g) → Spot (c.args.bits - 6) (length c.args.entries.now / 8)
+    c.tiles.tile
+    c.next_reversed-other.result c.rows.row c.columns.column c.next_reversed-to_row.result
+    c.next_reversed-to_column.result
 spot_at g c =
     let w = tiles_of_whole _ _ c.requires.tiles c.requires.whole in
-    spot _ _ _ _ _ _ _ _ (omega (arith, w)) (omega (arith, w)) (omega arith)
+    tile_place_is_spot _ _ _ _ _ _ _ _ (omega (arith, w)) (omega (arith, w)) (omega arith)
     (omega arith) c.next_reversed-other.ensures c.next_reversed-to_row.ensures c.next_reversed-to_column.ensures
 
 pub rows-init : goal.rows-init
@@ -126,6 +128,7 @@ returns g c =
     let w = tiles_of_whole c.args.bits n c.requires.tiles c.requires.whole in
     record {
       each = λ i d l. places_reversed c.args.bits (c.args.bits - 6) (n / 8) (c.tiles.tile * 64)
-          (λ k. get_or c.args.entries.now k d) (λ k. get_or c.tiles.entries k d) (omega arith) (omega (arith, w)) (omega (arith, w))
+          (λ k. get_or c.args.entries.now k d) (λ k. get_or c.tiles.entries k d) (omega arith) (omega (arith, w))
+          (omega (arith, w))
           (c.tiles.invariant.reordered d) i (omega (arith, w));
     }

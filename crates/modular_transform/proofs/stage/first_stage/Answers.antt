@@ -1,5 +1,5 @@
-use Rattle.modular_transform.proofs.PairLemmas.{pairs_more}
-use Rattle.modular_transform.proofs.StripPowers.{power_more}
+use Rattle.modular_transform.proofs.PairLemmas.{pairs_below_next_index}
+use Rattle.modular_transform.proofs.StripPowers.{next_running_power_congruent}
 use Rattle.std.proofs.Common.{arith}
 use Rattle.modular_transform.proofs.stage.first_stage.Goals as goal
 
@@ -10,7 +10,8 @@ columns-preserved g c =
     record {
       checked = c.pair.ensures.checked;
       form = c.mul-power.ensures.checked;
-      power = power_more w c.columns.i (g.met.R.Reducer.canonical c.args.r.now) before.power c.mul-power.ensures.form;
-      done = pairs_more _ _ _ c.columns-test.true before.power before.done c.pair.ensures.done;
+      power = next_running_power_congruent w c.columns.i (g.met.R.Reducer.canonical c.args.r.now) before.power
+          c.mul-power.ensures.form;
+      done = pairs_below_next_index _ _ _ c.columns-test.true before.power before.done c.pair.ensures.done;
       count = omega (arith, before.count);
     }

@@ -17,7 +17,8 @@ use Rattle.modular_transform.proofs.Places.{StagesLeft, stage_offset, stages_lef
 use Rattle.modular_transform.proofs.PowersOfTwo.{trailing_zeros_of_power, exponent_below}
 use Rattle.modular_transform.proofs.StageLemmas.{BlocksTransform, stages_start}
 use Rattle.modular_transform.proofs.StripPowers.{one_form}
-use Rattle.modular_transform.proofs.TransformLemmas.{TwoSizes, stage_sizes, two_sizes, suited_length, root_more, quarter_turn}
+use Rattle.modular_transform.proofs.TransformLemmas.{TwoSizes, stage_sizes, two_sizes, suited_length, root_more}
+use Rattle.modular_transform.proofs.TransformLemmas.{quarter_turn}
 use Rattle.modular_transform.proofs.TransformLemmas.{blocks_more, two_more, two_products_more}
 use Rattle.modular_transform.proofs.TransformLemmas.{blocks_all, products_all, plain_order}
 use Rattle.modular_reduced.proofs.ListSteps.{held_checked, held_values}

@@ -1,5 +1,5 @@
 use Rattle.std.proofs.Common.{◌+◌, ◌*◌, arith}
-use Rattle.modular_transform.proofs.FourValues.{four_checked, four_written}
+use Rattle.modular_transform.proofs.FourValues.{four_checked, two_stages_of_four_done}
 use Rattle.modular_transform.proofs.two_stages.four.Goals as goal
 
 pub returns-clause-checked : goal.returns-clause-checked
@@ -11,7 +11,7 @@ returns-clause-checked g c =
 
 pub returns-clause-done : goal.returns-clause-done
 returns-clause-done g c =
-    four_written _ _ _ _ _ _ _ _ _ _ _ c.index-forms-place.result c.index-forms-second_place.result
+    two_stages_of_four_done _ _ _ _ _ _ _ _ _ _ _ c.index-forms-place.result c.index-forms-second_place.result
     c.index-forms-third_place.result c.index-forms-fourth_place.result c.add-left.result c.add-right.result
     c.mul_difference-left_turned.result c.mul_difference-right_turned.result c.add.result c.mul_difference.result
     c.add-2.result c.mul_difference-2.result (g.met.R.Reducer.canonical c.args.r.now) c.requires.checked

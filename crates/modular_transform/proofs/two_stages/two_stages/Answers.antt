@@ -1,8 +1,9 @@
 use Rattle.std.proofs.Common.{◌≡◌, ◌+◌, ◌*◌, arith, subst}
 use Rattle.std.proofs.Math.Nat.{le-add_right, add_assoc, le_antisymm}
 use Rattle.modular_reduced.specs.Entries.{entry}
-use Rattle.modular_transform.proofs.Columns.{IsColumn, column_more, filled_more}
-use Rattle.modular_transform.proofs.FourLemmas.{FoursDone, one_done, columns_joined, blocks_joined, done_by}
+use Rattle.modular_transform.proofs.Columns.{IsColumn, next_powers_are_column, filled_more}
+use Rattle.modular_transform.proofs.FourLemmas.{FoursDone, one_done, columns_joined, blocks_joined}
+use Rattle.modular_transform.proofs.FourLemmas.{four_done_by_congruent_powers}
 use Rattle.modular_transform.proofs.StripCounts.{fours_done, strip_counted, width_fits, fours_count_fits}
 use Rattle.modular_transform.proofs.StripPlaces.{strip_offset}
 use Rattle.modular_transform.proofs.TwoStages.{two_stages_done}
@@ -39,7 +40,8 @@ fill-preserved g c =
     let w = g.R.Reducer.value m (g.T.RingWord.number c.args.root.now) in
     let v = g.R.Reducer.value m (g.T.RingWord.number c.args.square.now) in
     record {
-      column = column_more c.strips.start c.fill.i (g.met.R.Reducer.canonical c.args.r.now) c.fill.invariant.column
+      column = next_powers_are_column c.strips.start c.fill.i (g.met.R.Reducer.canonical c.args.r.now)
+          c.fill.invariant.column
           c.mul.ensures.form c.mul-in-fill.ensures.form c.mul-in-fill-2.ensures.form;
       count = omega (arith, c.fill.invariant.count);
       filled = filled_more (λ k x y z. IsColumn g.R.Reducer.form g.R.Reducer.value m w v c.args.step
@@ -74,7 +76,7 @@ columns-preserved g c =
     (omega (arith, le_antisymm c.fill.auto.i-end c.fill-test.false)) in
     let one : FoursDone m (value m (number c.args.root.now)) (value m (number c.args.square.now)) h p (p + 1) i
     (i + 1) y z =
-    one_done h p i y z (omega arith) (done_by is.first is.second is.both c.four.ensures.done) in
+    one_done h p i y z (omega arith) (four_done_by_congruent_powers is.first is.second is.both c.four.ensures.done) in
     let joined = columns_joined {h = h} {c = start} {d = i} {e = i + 1} (of c.each_block.forms) y z
     (le-add_right start k) (omega arith) (omega arith) c.columns.invariant.done one in
     grind (arith, c.four.ensures.checked, add_assoc start k 1, c.columns.invariant.count)

@@ -3,7 +3,7 @@ use Rattle.std.proofs.Common.{◌≡◌, ℕ, ◌+◌, ◌*◌, ◌%◌, ◌<◌
 use Rattle.std.proofs.Math.Nat.{lt_of_mul-lt-mul_right}
 use Rattle.modular_word.specs.Congruence.{Congruent}
 use Rattle.modular_word.proofs.Congruence.{mod_of_eq, mod_refl, mod_sym, mod_trans, residue_of, mod_add, mod_mul}
-use Rattle.modular_word.proofs.ReciprocalSteps.{Setting, Guess, guess_of, step_down, step_none, step_up}
+use Rattle.modular_word.proofs.ReciprocalSteps.{Setting, Guess, guess_of, step_down, small_rest_guess_is_exact, step_up}
 use Rattle.modular_word.proofs.paths.div_2by1.Goals as goal
 use Rattle.modular_word.proofs.paths.div_2by1.Goals.{then-is_below, else-is_below, then-not-is_below, else-not-is_below}
 
@@ -50,7 +50,7 @@ returns g c =
           rw (w.q-is, w.r-is) (ea ∙ down)
       | else-is_below w ↦
           let none : a0 + B * a1 ≡ q * d + r =
-          step_none _ _ (a0 + B * a1) _ _ _ _ c.is_below-2.ensures.other_fits
+          small_rest_guess_is_exact _ _ (a0 + B * a1) _ _ _ _ c.is_below-2.ensures.other_fits
           (omega (arith, c.requires.high, ea)) c.split-q0.ensures.high_fits guess eq (grind arith) in
           rw (w.q-is, w.r-is) (ea ∙ none)
     ] in

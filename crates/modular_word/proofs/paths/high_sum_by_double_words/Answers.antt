@@ -1,14 +1,15 @@
 -- One sum of double words: its high word is that of t and the multiple, less m modulo the base.
 use Rattle.std.proofs.Common.{◌≡◌, ◌+◌, ◌*◌, ◌/◌, ◌<◌, ap, arith}
 use Rattle.modular_word.proofs.Divisors.{multiple_of}
-use Rattle.modular_word.proofs.ReductionSteps.{complement_of, high_sum_below, above_modulus, below_modulus, double_carried, double_exact}
+use Rattle.modular_word.proofs.ReductionSteps.{complement_of, high_sum_below, above_modulus, restored_rest_is_residue}
+use Rattle.modular_word.proofs.ReductionSteps.{double_carried, double_exact}
 use Rattle.modular_word.proofs.paths.high_sum_by_double_words.Goals as goal
 use Rattle.modular_word.proofs.paths.high_sum_by_double_words.Goals.{After-merge, After-split-rest}
 
 -- the base less m
-complement : (g : _) (c : After-merge g)
+complement_completes_base : (g : _) (c : After-merge g)
     → g.T.RingWord.number c.wrapping_sub-complement.result + g.T.RingWord.number c.args.m ≡ g.T.PathWord.base
-complement g c =
+complement_completes_base g c =
     complement_of _ _ _ _ _ c.requires.first c.requires.fits
     c.wrapping_sub-complement.ensures.fits c.zero.ensures c.wrapping_sub-complement.ensures.value
 
@@ -19,20 +20,20 @@ double_plus-more-requires g c =
     let m = n c.args.m in
     let x = n c.wrapping_sub-complement.result in
     let product : B * (x + m) ≡ B * B =
-    ap (λ v. B * v) (complement g (goal.at.double_plus-more-requires g c).After-merge) in
+    ap (λ v. B * v) (complement_completes_base g (goal.at.double_plus-more-requires g c).After-merge) in
     omega (arith, product, c.requires.first, c.merge.ensures.value, c.zero-2.ensures)
 
 -- what is added to t
-added : (g : _) (c : After-split-rest g)
+enlarged_sum_adds_complement : (g : _) (c : After-split-rest g)
     → g.T.PathWord.double_number c.double_plus-more.result
     ≡ g.T.PathWord.double_number c.args.t + g.T.PathWord.base * g.T.RingWord.number c.wrapping_sub-complement.result
-added g c = omega (arith, c.double_plus-more.ensures, c.merge.ensures.value, c.zero-2.ensures)
+enlarged_sum_adds_complement g c = omega (arith, c.double_plus-more.ensures, c.merge.ensures.value, c.zero-2.ensures)
 
 -- the high word is less than twice m
-twice : (g : _) (c : After-split-rest g)
+high_sum_below_twice_modulus : (g : _) (c : After-split-rest g)
     → (g.T.PathWord.double_number c.args.t + g.T.PathWord.double_number c.args.multiple) / g.T.PathWord.base
     < g.T.RingWord.number c.args.m + g.T.RingWord.number c.args.m
-twice g c = high_sum_below _ _ _ _ c.requires.cleared c.requires.first c.requires.second
+high_sum_below_twice_modulus g c = high_sum_below _ _ _ _ c.requires.cleared c.requires.first c.requires.second
 
 pub returns-then-is_above : goal.returns-then-is_above
 returns-then-is_above g c =
@@ -41,11 +42,11 @@ returns-then-is_above g c =
     let W = g.T.PathWord.double_number in
     let B = g.T.PathWord.base in
     let rest = c.split-rest.ensures in
-    above_modulus (n c.args.m) _ (n c.split-rest.result.1) (twice g at)
+    above_modulus (n c.args.m) _ (n c.split-rest.result.1) (high_sum_below_twice_modulus g at)
     (double_carried B (n c.args.m) _ (n c.wrapping_sub-complement.result) (W c.args.t) (W c.args.multiple)
     (W c.double_plus-more.result) (W c.double_overflowing_add-sum.result.0) (n c.split-rest.result.0)
     (n c.split-rest.result.1) (multiple_of B (W c.args.t + W c.args.multiple) c.requires.cleared)
-    (complement g (goal.at.returns-then-is_above g c).After-merge) (added g at)
+    (complement_completes_base g (goal.at.returns-then-is_above g c).After-merge) (enlarged_sum_adds_complement g at)
     (c.double_overflowing_add-sum.ensures.carried c.if-is_above.true)
     rest.value rest.low_fits)
 
@@ -56,11 +57,12 @@ returns-else-is_above g c =
     let W = g.T.PathWord.double_number in
     let B = g.T.PathWord.base in
     let rest = c.split-rest.ensures in
-    below_modulus B (n c.args.m) _ (n c.split-rest.result.1) (n c.wrapping_add.result) c.requires.fits (twice g at)
+    restored_rest_is_residue B (n c.args.m) _ (n c.split-rest.result.1) (n c.wrapping_add.result) c.requires.fits
+    (high_sum_below_twice_modulus g at)
     rest.high_fits
     (double_exact B (n c.args.m) _ (n c.wrapping_sub-complement.result) (W c.args.t) (W c.args.multiple)
     (W c.double_plus-more.result) (W c.double_overflowing_add-sum.result.0) (n c.split-rest.result.0)
     (n c.split-rest.result.1) (multiple_of B (W c.args.t + W c.args.multiple) c.requires.cleared)
-    (complement g (goal.at.returns-else-is_above g c).After-merge) (added g at)
+    (complement_completes_base g (goal.at.returns-else-is_above g c).After-merge) (enlarged_sum_adds_complement g at)
     (c.double_overflowing_add-sum.ensures.exact c.if-is_above.false)
     rest.value rest.low_fits) c.wrapping_add.ensures.value

@@ -1,16 +1,18 @@
 -- The high words, with the carry of the low ones, less m.
 use Rattle.std.proofs.Common.{◌≡◌, ◌+◌, ◌/◌, ◌<◌, ap, ◌∙◌, arith, inl, inr}
-use Rattle.modular_word.proofs.ReductionSteps.{high_sum_of, high_below, high_sum_below, borrow_adds_base, above_modulus, below_modulus}
+use Rattle.modular_word.proofs.ReductionSteps.{high_sum_of, high_word_below_factor, high_sum_below, borrow_adds_base}
+use Rattle.modular_word.proofs.ReductionSteps.{above_modulus, restored_rest_is_residue}
 use Rattle.modular_word.proofs.paths.high_sum_by_words.Goals as goal
-use Rattle.modular_word.proofs.paths.high_sum_by_words.Goals.{After-overflowing_add-rest, then-is_zero_word, else-is_zero_word}
+use Rattle.modular_word.proofs.paths.high_sum_by_words.Goals.{After-overflowing_add-rest, then-is_zero_word}
+use Rattle.modular_word.proofs.paths.high_sum_by_words.Goals.{else-is_zero_word}
 
 -- the two summands add up to the high word, less m, plus the base
-sum : (g : _) (c : After-overflowing_add-rest g)
+summands_are_wrapped_high_sum : (g : _) (c : After-overflowing_add-rest g)
     → g.T.RingWord.number c.wrapping_sub.result + g.T.RingWord.number c.if-is_zero_word.carried
     + g.T.RingWord.number c.args.m
     ≡ (g.T.PathWord.double_number c.args.t + g.T.PathWord.double_number c.args.multiple) / g.T.PathWord.base
     + g.T.PathWord.base
-sum g c =
+summands_are_wrapped_high_sum g c =
     let n = g.T.RingWord.number in
     let first = c.split-high.ensures in
     let quotient =
@@ -27,27 +29,29 @@ sum g c =
           )
     ]) in
     let difference =
-    borrow_adds_base _ _ _ _ (high_below _ _ _ _ _ first.value c.requires.first) c.requires.fits
+    borrow_adds_base _ _ _ _ (high_word_below_factor _ _ _ _ _ first.value c.requires.first) c.requires.fits
     c.wrapping_sub.ensures.fits c.wrapping_sub.ensures.value in
     omega (arith, quotient, difference)
 
 -- the high word is less than twice m
-twice : (g : _) (c : After-overflowing_add-rest g)
+high_word_below_twice_modulus : (g : _) (c : After-overflowing_add-rest g)
     → (g.T.PathWord.double_number c.args.t + g.T.PathWord.double_number c.args.multiple) / g.T.PathWord.base
     < g.T.RingWord.number c.args.m + g.T.RingWord.number c.args.m
-twice g c = high_sum_below _ _ _ _ c.requires.cleared c.requires.first c.requires.second
+high_word_below_twice_modulus g c = high_sum_below _ _ _ _ c.requires.cleared c.requires.first c.requires.second
 
 pub returns-then-is_above : goal.returns-then-is_above
 returns-then-is_above g c =
     let at = (goal.at.returns-then-is_above g c).After-overflowing_add-rest in
     let n = g.T.RingWord.number in
-    above_modulus (n c.args.m) _ (n c.overflowing_add-rest.result.0) (twice g at)
-    (omega (arith, sum g at, c.overflowing_add-rest.ensures.carried c.if-is_above.true))
+    above_modulus (n c.args.m) _ (n c.overflowing_add-rest.result.0) (high_word_below_twice_modulus g at)
+    (omega (arith, summands_are_wrapped_high_sum g at, c.overflowing_add-rest.ensures.carried c.if-is_above.true))
 
 pub returns-else-is_above : goal.returns-else-is_above
 returns-else-is_above g c =
     let at = (goal.at.returns-else-is_above g c).After-overflowing_add-rest in
     let n = g.T.RingWord.number in
-    below_modulus g.T.PathWord.base (n c.args.m) _ (n c.overflowing_add-rest.result.0) (n c.wrapping_add.result)
-    c.requires.fits (twice g at) c.overflowing_add-rest.ensures.fits
-    (omega (arith, sum g at, c.overflowing_add-rest.ensures.exact c.if-is_above.false)) c.wrapping_add.ensures.value
+    restored_rest_is_residue g.T.PathWord.base (n c.args.m) _ (n c.overflowing_add-rest.result.0)
+    (n c.wrapping_add.result)
+    c.requires.fits (high_word_below_twice_modulus g at) c.overflowing_add-rest.ensures.fits
+    (omega (arith, summands_are_wrapped_high_sum g at, c.overflowing_add-rest.ensures.exact c.if-is_above.false))
+    c.wrapping_add.ensures.value

@@ -24,7 +24,12 @@ divisors-preserved c =
           let v : n % suc k ≡ 0 = sym (ap (λ v. n % v) next) ∙ w.if-n-divisor-eq0.true in
           w.greatest-is ∙ next ∙ sym (gcd_up_to-hit _ _ k u v) ∙ sym (ap (λ v. gcd_up_to a n v) next)
       | else-a-divisor-eq0 w ↦
-          let miss : a % suc k ≡ 0 → n % suc k ≢ 0 = grind (arith, else-a-divisor-eq0-via-then-a-divisor-eq0+else-n-divisor-eq0, else-a-divisor-eq0-via-else-a-divisor-eq0) in
+          let miss : a % suc k ≡ 0 → n % suc k ≢ 0 =
+          grind (
+            arith,
+            else-a-divisor-eq0-via-then-a-divisor-eq0+else-n-divisor-eq0,
+            else-a-divisor-eq0-via-else-a-divisor-eq0,
+          ) in
           w.greatest-is ∙ c.divisors.invariant ∙ sym (gcd_up_to-miss _ _ k miss) ∙ sym (ap (λ v. gcd_up_to a n v) next)
     ]
 

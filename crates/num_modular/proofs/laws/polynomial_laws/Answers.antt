@@ -1,5 +1,6 @@
 use Rattle.num_modular.specs.PolynomialLaws.{polynomial-none, polynomial-first}
-use Rattle.num_modular.specs.InterpolationLaws.{zero_list, same_lists, same_coefficients, same_descending, distinct_units, reversed}
+use Rattle.num_modular.specs.InterpolationLaws.{zero_list, same_lists, same_coefficients, same_descending}
+use Rattle.num_modular.specs.InterpolationLaws.{distinct_units, reversed}
 use Rattle.num_modular.proofs.laws.polynomial_laws.Goals as goal
 
 pub returns : goal.returns

@@ -1,5 +1,5 @@
 use Rattle.std.proofs.Common.{arith}
-use Rattle.num_modular.proofs.SameRuns.{run_of, run_as, same_end, same_residues}
+use Rattle.num_modular.proofs.SameRuns.{run_of, run_as, same_end, runs_leave_same_residues}
 use Rattle.num_modular.proofs.laws.run_both.Goals as goal
 
 pub returns-clause-one_end : goal.returns-clause-one_end
@@ -17,7 +17,7 @@ pub returns-clause-one_result : goal.returns-clause-one_result
 returns-clause-one_result g c =
     let left = c.run-left_end.ensures in
     let right = c.run-right_end.ensures in
-    same_residues _ _ _ _
+    runs_leave_same_residues _ _ _ _
     (run_of g.T.RingWord.number g.R.Reducer.value _ c.args.left_regs.now c.run-left_end.new.regs _ _
     (omega arith) left.stops left.done left.residues)
     (run_as _ _ c.requires.one_modulus c.requires.one_start c.requires.one_list

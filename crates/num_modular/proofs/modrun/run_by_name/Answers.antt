@@ -1,10 +1,11 @@
 use Rattle.std.proofs.Common.{refl}
-use Rattle.num_modular.proofs.ProgramLemmas.{answer_all, refused, if_ok}
+use Rattle.num_modular.proofs.ProgramLemmas.{answer_all, refusal_answers_unreadable_words, if_ok}
 use Rattle.num_modular.proofs.modrun.run_by_name.Goals as goal
 
 pub returns-in_default : goal.returns-in_default
 returns-in_default g c =
-    if_ok c.refuse.result _ _ c.refuse.ensures (refused c.args.words.now _ _ _ c.in_default.ensures refl)
+    if_ok c.refuse.result _ _ c.refuse.ensures (refusal_answers_unreadable_words c.args.words.now _ _ _
+    c.in_default.ensures refl)
 
 pub returns-in-Vanilla : goal.returns-in-Vanilla
 returns-in-Vanilla g c =

@@ -4,7 +4,7 @@ use Rattle.std.proofs.lemmas.List.{length-set}
 use Rattle.num_modular.specs.Integers.{residue_of}
 use Rattle.num_modular.specs.Mersenne.{mersenne}
 use Rattle.num_modular.specs.Sums.{polynomial_highest_first}
-use Rattle.mersenne_hash.proofs.Concatenations.{no_coefficient, residue_more}
+use Rattle.mersenne_hash.proofs.Concatenations.{no_coefficient, horner_step_is_residue}
 use Rattle.mersenne_hash.proofs.Written.{one_more_power}
 use Rattle.num_modular_c.proofs.HashLists.{first_word, more_words}
 use Rattle.num_modular_c.proofs.prefixes.fill_prefixes.Goals as goal
@@ -31,7 +31,8 @@ places-preserved c =
     let hash : ℕ → ℕ = λ k. polynomial_highest_first k (slice_index text) x % p in
     let before = c.places.invariant in
     let value = c.add-value.ensures.residue
-    ∙ residue_more c.range_laws.ensures.horner p i (slice_index text) x (get_or text i 0) _ _ refl before.value
+    ∙ horner_step_is_residue c.range_laws.ensures.horner p i (slice_index text) x (get_or text i 0) _ _ refl
+    before.value
     c.mul.ensures.residue in
     let power = c.mul-raised.ensures.residue ∙ one_more_power p x i _ _ before.power refl in
     record {

@@ -1,5 +1,5 @@
 use Rattle.ring_codes.proofs.Names.{◌+◌, ◌-◌, ◌%◌, ◌∙◌, ℕ, length, ap, arith, entry, entry_read}
-use Rattle.ring_codes.proofs.NewtonForms.{value_more}
+use Rattle.ring_codes.proofs.NewtonForms.{horner_step_extends_value}
 use Rattle.ring_codes.proofs.erasure.evaluate.Goals as goal
 
 pub coefficients-preserved : goal.coefficients-preserved
@@ -9,7 +9,8 @@ coefficients-preserved g c =
     let read = entry_read number ring.value m cs i _ (omega arith) c.index-coefficients-i.is in
     record {
       checked = c.add-value.ensures.checked;
-      same = value_more m n k (entry number ring.value m cs) _ _ _ _ (omega arith) c.coefficients.invariant.same
+      same = horner_step_extends_value m n k (entry number ring.value m cs) _ _ _ _ (omega arith)
+          c.coefficients.invariant.same
           c.mul-product.ensures.value
           (c.add-value.ensures.value ∙ ap (λ v. (v + ring.value m (number c.mul-product.result)) % m) read);
     }

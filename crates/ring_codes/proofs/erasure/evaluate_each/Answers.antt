@@ -7,7 +7,8 @@ groups-preserved g c =
     let ring = g.R.Reducer in let m = ring.modulus c.args.r.now in let number = g.T.RingWord.number in (
       omega arith,
       part_encoded number ring.form ring.value m (length c.args.coefficients.now) _ c.args.points.now c.groups.values
-          c.evaluate_side_by_side.new.values c.groups.from (c.groups.from + 8) _ (omega arith) (omega arith) (omega arith) (omega arith)
+          c.evaluate_side_by_side.new.values c.groups.from (c.groups.from + 8) _ (omega arith) (omega arith)
+          (omega arith) (omega arith)
           c.groups.invariant.1 c.evaluate_side_by_side.ensures.checked c.evaluate_side_by_side.ensures.encoding,
     )
 
@@ -15,5 +16,6 @@ pub returns-clause-encoding : goal.returns-clause-encoding
 returns-clause-encoding g c =
     let whole = part_encoded _ _ _ _ _ _ _ _
     _ _ _ _ (omega arith) (omega arith)
-    (omega arith) (omega arith) c.groups.invariant.1 c.evaluate_side_by_side-2.ensures.checked c.evaluate_side_by_side-2.ensures.encoding in
+    (omega arith) (omega arith) c.groups.invariant.1 c.evaluate_side_by_side-2.ensures.checked
+    c.evaluate_side_by_side-2.ensures.encoding in
     record { symbol = λ i l. held_entry _ _ _ _ _ _ _ i whole l (omega arith) }

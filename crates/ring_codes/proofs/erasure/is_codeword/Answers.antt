@@ -22,7 +22,8 @@ returns-then-ne-clause-codeword g c =
           absurd (told_other _ _ _ c.ne.ensures c.if-ne.true
           (g.met.T.RingWord.equal c.evaluate-symbol.result c.index-word-i.result)
           (same_forms ring.form ring.value m _ _ c.evaluate-symbol.ensures.checked is
-          (c.evaluate-symbol.ensures.value ∙ ap (λ a. polynomial_at (length c.interpolate.new.coefficients) mine a % m) point
+          (c.evaluate-symbol.ensures.value ∙ ap (λ a. polynomial_at (length c.interpolate.new.coefficients) mine a % m)
+          point
           ∙ ap (λ k. polynomial_at k mine (x i) % m) count ∙ same.same
           ∙ sym (encoding.symbol i (omega arith)) ∙ sym symbol))),
     )

@@ -3,7 +3,7 @@ use Rattle.num_modular.specs.Polynomials.{polynomial_at, HaveUnitDifferences}
 use Rattle.std.proofs.Common.{rules, List, slice_index, take_at}
 use Rattle.std.proofs.lemmas.Bool.{cases_lt}
 use Rattle.ring_codes.proofs.Distances.{no_distance}
-use Rattle.ring_codes.proofs.Singleton.{pigeonholes}
+use Rattle.ring_codes.proofs.Singleton.{injection_size_at_most_bound}
 use Rattle.ring_codes.proofs.Symbols.{fit_same}
 use Rattle.ring_codes.specs.Erasure.{IsEncoding, IsErasureCodeword, ArePlaces}
 use Rattle.ring_codes.specs.declared.erasure.errors.CorrectError.{CorrectError}
@@ -15,13 +15,14 @@ use Rattle.ring_correction.proofs.correction.correct.Goals as goal
 
 -- there are no more places than points
 listed_within : (n : ℕ) (places : List ℕ) → ArePlaces (length places) n places → length places ≤ n
-listed_within n places right = pigeonholes n (length places) (slice_index places) right.within
+listed_within n places right = injection_size_at_most_bound n (length places) (slice_index places) right.within
     (λ a b l k other same. grind (arith, cases_lt))
 
 module _ {T : Type 0} {P : T → Type 0} {entries : List T → ℕ → ℕ} {k : ℕ} {points located : List T} {places : List ℕ}
     (m : ℕ) (at : AreLocated P entries k points places located) where
   -- the points that were copied fit where those at the places do
-  fit_places : HaveUnitDifferences m (length located) (entries located) → AreFit m k (length points) (entries points) places
+  fit_places : HaveUnitDifferences m (length located) (entries located) → AreFit m k (length points) (entries points)
+      places
   fit_places fit = grind (arith, fit_same)
 
   -- the symbols at the places of a word of the code, by the points there
@@ -35,13 +36,13 @@ module _ {T : Type 0} {P : T → Type 0} {entries : List T → ℕ → ℕ} {k :
   near_located y is near = grind (arith, distance_alike)
 
   -- the fault of the search, by the places
-  fault_places : (number : T → ℕ) (y : ℕ → ℕ) (e : CorrectError T)
+  search_fault_is_correction_fault : (number : T → ℕ) (y : ℕ → ℕ) (e : CorrectError T)
       → IsSearchFault number m k (length located) (entries located) y e
       → IsCorrectFault number m k (length points) (entries points) places y e
-  fault_places number y (Restore e) fault = rw fault.0 (grind (arith, fit_same))
-  fault_places number y TooManyErrors fault =
+  search_fault_is_correction_fault number y (Restore e) fault = rw fault.0 (grind (arith, fit_same))
+  search_fault_is_correction_fault number y TooManyErrors fault =
       (fit_places fault.0, λ word codeword near. fault.1 codeword.0 (near_located y codeword.1 near))
-  fault_places number y (NoInverse a) fault = grind (arith, fit_places, word_located)
+  search_fault_is_correction_fault number y (NoInverse a) fault = grind (arith, fit_places, word_located)
 
 pub split_at_mut-found-requires : goal.split_at_mut-found-requires
 split_at_mut-found-requires g c =
@@ -49,7 +50,8 @@ split_at_mut-found-requires g c =
 
 pub returns-in-Err-find_message : goal.returns-in-Err-find_message
 returns-in-Err-find_message g c =
-    fault_places _ c.in-Ok.ensures g.T.RingWord.number _ c.in-Err-find_message.error c.in-Err-find_message.ensures
+    search_fault_is_correction_fault _ c.in-Ok.ensures g.T.RingWord.number _ c.in-Err-find_message.error
+    c.in-Err-find_message.ensures
 
 pub returns-then-errors-places : goal.returns-then-errors-places
 returns-then-errors-places g c =
@@ -67,7 +69,8 @@ returns-then-errors-places g c =
           let none = no_distance (length places) y (λ j. other (slice_index places j)) right in
           let near : IsNear k places y other = omega (arith, none) in
           let word = same_word encoding codeword.1 (found.only _ (near_located m at y codeword.1 near)) in
-          c.count_errors-errors.ensures ∙ no_distance (length places) y (λ j. entries c.fill_word.new.word (slice_index places j))
+          c.count_errors-errors.ensures
+          ∙ no_distance (length places) y (λ j. entries c.fill_word.new.word (slice_index places j))
           (λ i l. right i l ∙ sym (word (slice_index places i) (at.right.within i l)));
       only = λ sent other is near.
           let sure = found.only sent (near_located m at y is near) in (same_word encoding is sure, sure);

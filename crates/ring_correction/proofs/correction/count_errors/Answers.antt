@@ -12,7 +12,8 @@ places-preserved g c =
     let few = c.difference-errors.ensures.few in let before = so_far.1 in
     let here : i < length symbols = omega (arith, c.requires.pairs) in
     let there = c.requires.within i c.places-test.true in (
-      one_counted i _ _ (entry number ring.value m symbols) (λ j. entry number ring.value m word (slice_index places j)) so_far.0
+      one_counted i _ _ (entry number ring.value m symbols) (λ j. entry number ring.value m word (slice_index places j))
+          so_far.0
           (c.difference-errors.ensures.counted
           ∙ counted_forms ring.form ring.value m _ _ _ _
           (form_read number ring.form ring.value m symbols i _ c.requires.symbols here c.index-symbols-i.is)

@@ -1,6 +1,6 @@
 use Rattle.num_modular.specs.Callers.{◌*◌, ◌%◌, ◌∙◌, ap, arith, entry, entry_at, entry_read, forms_written, done_more}
 use Rattle.num_modular.specs.NumberLaws.{mod_of_eq, mod_trans, residue_of}
-use Rattle.ring_codes.proofs.NewtonForms.{subtracted}
+use Rattle.ring_codes.proofs.NewtonForms.{difference_plus_multiple_congruent}
 use Rattle.ring_correction.proofs.key_equation.eliminate.Goals as goal
 
 pub coefficients-preserved : goal.coefficients-preserved
@@ -11,10 +11,12 @@ coefficients-preserved g c =
     let old = entry number ring.value m c.args.coefficients.now in
     let pivots = entry number ring.value m c.args.pivots.now in let a = ring.value m (number c.args.a.now) in
     let b = ring.value m (number c.args.b.now) in
-    let pivot = entry_read number ring.value m c.args.pivots.now i _ (omega (arith, c.requires.equal)) c.index-pivots-i.is in
-    let here = entry_at number ring.value m list i c.index-coefficients-i.result (omega arith) ∙ so_far.1.kept i (omega arith) in
+    let pivot = entry_read number ring.value m c.args.pivots.now i _ (omega (arith, c.requires.equal))
+    c.index-pivots-i.is in
+    let here = entry_at number ring.value m list i c.index-coefficients-i.result (omega arith)
+    ∙ so_far.1.kept i (omega arith) in
     let own = c.mul-own.ensures.value ∙ ap (λ v. (a * v) % m) here in
-    let one = mod_trans (subtracted m b (ring.value m (number c.mul-product.result)) _
+    let one = mod_trans (difference_plus_multiple_congruent m b (ring.value m (number c.mul-product.result)) _
     (ring.value m (number c.mul-own.result)) (pivots i) positive
     (c.mul-product.ensures.value ∙ ap (λ v. (b * v) % m) pivot) c.sub.ensures.value)
     (mod_trans (mod_of_eq own) (residue_of (a * old i))) in (

@@ -1,5 +1,5 @@
 use Rattle.num_modular.specs.Callers.{◌≤◌, ◌+◌, ◌∙◌, length, arith}
-use Rattle.ring_correction.proofs.KeyPairs.{eliminated}
+use Rattle.ring_correction.proofs.KeyPairs.{eliminated_pair_is_key_pair}
 use Rattle.ring_codes.proofs.Symbols.{entry_front, entry_back}
 use Rattle.ring_correction.proofs.key_equation.reduce.Goals as goal
 
@@ -13,7 +13,7 @@ returns-in-Some-clause-other g c t d k i u v x y whole lengths less is_p is_q =
     let made = c.eliminate.new.coefficients in let same = c.eliminate.auto.coefficients in
     let in_made : split ≤ length made = omega (arith, same, whole) in
     let in_pivot : split ≤ length pivots = omega (arith, c.requires.equal, whole) in
-    eliminated m k split d i u v _ _ x y _ _ _ _ _ _ lengths less (_, c.in-Some.ensures.value)
+    eliminated_pair_is_key_pair m k split d i u v _ _ x y _ _ _ _ _ _ lengths less (_, c.in-Some.ensures.value)
     (λ l b. rw (
       entry_front number ring.value m made split l b in_made,
       entry_front number ring.value m pivots split l b in_pivot,

@@ -13,9 +13,11 @@ symbols-preserved g c =
       c.in-Ok.ensures.checked_first refl,
       c.in-Ok.ensures.checked_second refl,
       omega (arith, w, before),
-      c.in-Ok.ensures.pairs _ c.args.k i _ _ (omega (arith, long, c.requires.some)) (omega (arith, c.requires.some, c.requires.lengths))
+      c.in-Ok.ensures.pairs _ c.args.k i _ _ (omega (arith, long, c.requires.some))
+          (omega (arith, c.requires.some, c.requires.lengths))
           (sym (entry_read number ring.value m c.args.points.now i _ c.symbols-test.true c.index-points-i.is))
-          (sym (entry_read number ring.value m c.args.symbols.now i _ (omega (arith, c.requires.symbols_each)) c.index-symbols-i.is))
+          (sym (entry_read number ring.value m c.args.symbols.now i _ (omega (arith, c.requires.symbols_each))
+          c.index-symbols-i.is))
           so_far.3,
     )
 
@@ -33,7 +35,8 @@ symbols-init g c =
     let long = c.set_unit.auto.coefficients in let long_too = c.set_unit-2.auto.coefficients in
     let in_f : split ≤ length f = omega (arith, long, c.requires.some) in
     let in_s : split ≤ length s = omega (arith, long_too, c.requires.equal, c.requires.some) in
-    let wide : 0 < split = omega (arith, c.requires.some, c.requires.lengths) in let same : split + 0 ≡ split = omega arith in (
+    let wide : 0 < split = omega (arith, c.requires.some, c.requires.lengths) in let same : split + 0 ≡ split =
+    omega arith in (
       c.set_unit.ensures.checked,
       c.set_unit-2.ensures.checked,
       omega (arith, c.requires.positive),
@@ -45,7 +48,12 @@ symbols-init g c =
                 ∙ c.set_unit.ensures.others l (omega arith));
             locator_behind = λ l b z. mod_of_eq (entry_back number ring.value m f split l
                 ∙ c.set_unit.ensures.others (split + l) (omega arith));
-            unit = inl (0, omega arith, rw (entry_front number ring.value m f split 0 wide in_f, c.set_unit.ensures.one) one);
+            unit = inl (
+              0,
+              omega arith,
+              rw (entry_front number ring.value m f split 0 wide in_f, c.set_unit.ensures.one)
+                  one,
+            );
           };
         };
         second = λ b. record {

@@ -1,7 +1,7 @@
 use Rattle.num_modular.specs.Callers.{refl, arith, length, entry_read, ◌≡◌, held_forms, subst, ◌≤◌}
 use Rattle.std.proofs.Common.{length-set, rules}
 use Rattle.ring_correction.proofs.NearPairs.{found_none, found_kept, found_more, found_all, found_forms}
-use Rattle.ring_correction.proofs.NearPairs.{zeros_more}
+use Rattle.ring_correction.proofs.NearPairs.{distance_grows_at_most_one}
 use Rattle.ring_codes.proofs.Distances.{none_counted}
 use Rattle.ring_correction.proofs.quotients.divide.Goals as goal
 
@@ -15,8 +15,13 @@ points-preserved-in-Ok-None g c =
     let (below, few, _, zeros, found) = c.points.invariant in
     let none = rw c.in-Ok-None.field-0-is at c.in-Ok-None.ensures.quotient in
     let point = entry_read g.T.RingWord.number g.R.Reducer.value (g.R.Reducer.modulus c.args.r.now) c.args.points.now
-    c.points.i _ (omega arith) c.index-points-i.is in
-    (below, omega (arith, few), λ l. none.1, (zeros_more _ _ _ zeros).1 (rw (← point) none.0), found_kept _ _ _ _ found)
+    c.points.i _ (omega arith) c.index-points-i.is in (
+      below,
+      omega (arith, few),
+      λ l. none.1,
+      (distance_grows_at_most_one _ _ _ zeros).1 (rw (← point) none.0),
+      found_kept _ _ _ _ found,
+    )
 
 pub points-preserved : goal.points-preserved
 points-preserved g c =
@@ -26,7 +31,7 @@ points-preserved g c =
       omega (arith, below, other, same),
       omega (arith, few),
       λ l. c.points.invariant.2 (omega arith),
-      (zeros_more _ _ _ zeros).0,
+      (distance_grows_at_most_one _ _ _ zeros).0,
       found_more _ _ _ _ _ (omega (arith, below)) (omega (arith, below, c.requires.equal)) found c.requires.points
           (omega arith) c.index-points-i.is c.index-points-i-in-Ok-Some.is
           (rw c.in-Ok-Some.field-0-is at c.in-Ok-Some.ensures.quotient),

@@ -17,7 +17,9 @@ returns-in-Ok-clause-message g c =
     let pairs = c.in-Ok.ensures.pairs d (omega (arith, first)) in
     IfOk-weaker c.divide_lighter.result _ _
     (λ b h sent near.
-    let front = distance_taken number ring.value m count k c.args.points.now c.args.symbols.now sent within c.requires.pairs in
+    let front = distance_taken number ring.value m count k c.args.points.now c.args.symbols.now sent within
+    c.requires.pairs in
     h d _ sent (omega (arith, c.solve.auto.first, first)) (omega (arith, c.solve.auto.second, second))
-    (omega arith) (omega arith) (omega (arith, long)) (omega (arith, weights, long)) pairs (omega (arith, near, front, high, long)))
+    (omega arith) (omega arith) (omega (arith, long)) (omega (arith, weights, long)) pairs
+    (omega (arith, near, front, high, long)))
     c.divide_lighter.ensures.message

@@ -8,7 +8,7 @@ use Rattle.ring_decoder.proofs.LostPlaces.{not_lost}
 use Rattle.ring_codes.specs.declared.erasure.errors.CorrectError.{CorrectError}
 use Rattle.ring_codes.specs.declared.erasure.errors.CorrectError.TheVariants.{Restore, TooManyErrors, NoInverse}
 use Rattle.ring_codes.proofs.Distances.{no_distance}
-use Rattle.ring_correction.proofs.NearPairs.{recoded}
+use Rattle.ring_correction.proofs.NearPairs.{congruent_message_encodes_word}
 use Rattle.ring_correction.specs.Correction.{IsNearMessage, IsSearchFault}
 use Rattle.ring_decoder.specs.Corrector.{IsNearWord, IsCorrectorFault}
 use Rattle.ring_correction.proofs.search.find_by_syndromes.Goals as goal
@@ -20,7 +20,8 @@ near_word : (m k s : ℕ) (x y sent : ℕ → ℕ) → IsNearMessage m k s x y s
 near_word m k s x y sent near = ((sent, record { symbol = λ i l. refl }), omega (arith, near))
 
 -- the fault of the corrector, where no symbol is lost
-fault_of_corrector : {T : Type 0} (number : T → ℕ) (m k s : ℕ) (x y : ℕ → ℕ) (e : CorrectError T) → HaveUnitDifferences m s x
+fault_of_corrector : {T : Type 0} (number : T → ℕ) (m k s : ℕ) (x y : ℕ → ℕ) (e : CorrectError T)
+    → HaveUnitDifferences m s x
     → k ≤ s → IsCorrectorFault number m k s x [] y e → IsSearchFault number m k s x y e
 fault_of_corrector number m k s x y (Restore e) fit few fault = absurd (not_lost m k s x [] e fault (grind arith))
 fault_of_corrector number m k s x y TooManyErrors fit few fault =
@@ -36,11 +37,13 @@ returns-in-Err g c =
 pub returns-then-interpolate : goal.returns-then-interpolate
 returns-then-interpolate g c =
     let same = c.over-code.ensures in let few = c.requires.few in
-    let corrected = rw c.copy_from_slice.ensures.after at (rw same.2 at (rw same.1 at (rw same.0 at c.in-Ok.ensures))) in record {
+    let corrected = rw c.copy_from_slice.ensures.after at (rw same.2 at (rw same.1 at (rw same.0 at c.in-Ok.ensures)))
+    in record {
       fit = c.if-not-fill_lists.ensures.fit.0 refl;
       checked = c.if-interpolate.ensures.checked refl;
       forms = corrected.checked;
-      encoding = recoded corrected.codeword.1 (λ i l. c.if-interpolate.ensures.only refl corrected.codeword.0
+      encoding = congruent_message_encodes_word corrected.codeword.1 (λ i l. c.if-interpolate.ensures.only refl
+          corrected.codeword.0
           (record { symbol = λ i l. corrected.codeword.1.symbol i (omega (arith, l, few)) }) i l);
       only = λ sent near.
           let word = near_word _ _ _ _ _ sent near in

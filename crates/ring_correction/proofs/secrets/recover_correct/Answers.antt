@@ -6,7 +6,8 @@ returns-in-Ok g c =
     let ring = g.R.Reducer in let m = ring.modulus c.args.r.now in let number = g.T.RingWord.number in
     let is = c.index-coefficients-0.is in let first = c.index-coefficients-0.result in
     record {
-      checked = form_read number ring.form ring.value m c.correct.new.message 0 first c.in-Ok.ensures.forms (omega arith) is;
+      checked = form_read number ring.form ring.value m c.correct.new.message 0 first c.in-Ok.ensures.forms
+          (omega arith) is;
       secret = λ original other code near.
           entry_read number ring.value m c.correct.new.message 0 first (omega arith) is
           ∙ (c.in-Ok.ensures.only original other code near).1 0 (omega arith);

@@ -8,4 +8,5 @@ invariant-syndromes g l =
     let ring = g.R.Reducer in let m = ring.modulus l.fn.r in let number = g.T.RingWord.number in
     let n = length l.fn.word in
     HoldBelow number ring.form ring.value m l.syndromes
-    (λ h. sum_below n (λ i. entry number ring.value m l.fn.word i * entry number ring.value m l.fn.checks (h * n + i)) % m) l.h
+    (λ h. sum_below n (λ i. entry number ring.value m l.fn.word i * entry number ring.value m l.fn.checks (h * n + i))
+    % m) l.h

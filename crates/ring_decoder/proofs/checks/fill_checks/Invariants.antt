@@ -8,7 +8,8 @@ invariant-rows g l =
     let ring = g.R.Reducer in let m = ring.modulus l.fn.r in let number = g.T.RingWord.number in
     let n = length l.fn.points in let x = entry number ring.value m l.fn.points in
     let v = entry number ring.value m l.fn.weights in
-    (l.next ≡ l.h * n) × HoldBelow number ring.form ring.value m l.checks (λ e. (v (e % n) * x (e % n) ^ (e / n)) % m) l.next
+    (l.next ≡ l.h * n) × HoldBelow number ring.form ring.value m l.checks (λ e. (v (e % n) * x (e % n) ^ (e / n)) % m)
+    l.next
 
 -- the rows and the checks of this row so far
 abbrev pub invariant-points : goal.invariant-points

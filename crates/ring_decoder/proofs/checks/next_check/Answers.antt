@@ -20,7 +20,8 @@ returns-else-h-eq0-clause-value g c =
     let x = entry number ring.value m c.args.points.now in let v = entry number ring.value m c.args.weights.now in
     let above : n ≤ next = c.requires.above c.if-h-eq0.false in let column = c.requires.column in
     let held = held_read number ring.form ring.value m c.args.checks.now (next - n) next _
-    (λ e. (v (e % n) * x (e % n) ^ (e / n)) % m) c.requires.before (omega (arith, above, column)) c.index-checks-next.is in
+    (λ e. (v (e % n) * x (e % n) ^ (e / n)) % m) c.requires.before (omega (arith, above, column)) c.index-checks-next.is
+    in
     check_later m n c.args.h i next _ _ _ x v c.if-h-eq0.false column c.requires.at held.same
     (entry_read number ring.value m c.args.points.now i _ column c.index-points-i.is) c.mul.ensures.value
 
@@ -31,4 +32,5 @@ mul-requires-clause-left g c =
     let x = entry number ring.value m c.args.points.now in let v = entry number ring.value m c.args.weights.now in
     let above : n ≤ next = c.requires.above c.if-h-eq0.false in let column = c.requires.column in
     (held_read number ring.form ring.value m c.args.checks.now (next - n) next _
-    (λ e. (v (e % n) * x (e % n) ^ (e / n)) % m) c.requires.before (omega (arith, above, column)) c.index-checks-next.is).checked
+    (λ e. (v (e % n) * x (e % n) ^ (e / n)) % m) c.requires.before (omega (arith, above, column))
+    c.index-checks-next.is).checked

@@ -10,7 +10,8 @@ errors-preserved g c =
     let errors = c.args.errors.now in let lost = c.args.lost.now in let i = c.errors.i in
     let e = entry number ring.value m errors in let so_far = c.errors.invariant in let x = c.index-errors-i.result in
     let at = entry_read number ring.value m errors i x c.errors-test.true c.index-errors-i.is in
-    let form = form_read number ring.form ring.value m errors i x c.requires.errors c.errors-test.true c.index-errors-i.is in (
+    let form = form_read number ring.form ring.value m errors i x c.requires.errors c.errors-test.true
+    c.index-errors-i.is in (
       one_counted i _ _ (λ i. without lost e i % m) (λ i. 0) so_far.0
           (c.is_wrong-wrong.ensures.counted
           ∙ ap (λ v. counted v 0) (without_alike lost (λ _. ring.value m (number x)) e i (λ _. at)

@@ -1,6 +1,6 @@
 use Rattle.num_modular.specs.Callers.{◌+◌, ◌∙◌, ap, sym, arith, entry, entry_read}
 use Rattle.std.proofs.lemmas.Bool.{false≢true}
-use Rattle.ring_decoder.proofs.ChosenPlaces.{zeros-none, zeros_more, zeros_kept}
+use Rattle.ring_decoder.proofs.ChosenPlaces.{zeros-none, zero_increments_zero_count, nonzero_keeps_zero_count}
 use Rattle.ring_decoder.proofs.choices.count_zeros.Goals as goal
 use Rattle.ring_decoder.proofs.choices.count_zeros.Goals.{then-is_zero, else-is_zero}
 
@@ -16,13 +16,15 @@ values-preserved g c =
     elim c.if-is_zero.branch [
       | then-is_zero w ↦
           let is = w.count-is in (
-            is ∙ ap (λ k. k + 1) so_far.0 ∙ sym (zeros_more i z (sym at ∙ c.is_zero.ensures.0 w.if-is_zero.true)),
+            is ∙ ap (λ k. k + 1) so_far.0
+                ∙ sym (zero_increments_zero_count i z (sym at ∙ c.is_zero.ensures.0 w.if-is_zero.true)),
             omega (arith, few, is),
           )
       | else-is_zero w ↦
           let is = w.count-is in (
             is ∙ so_far.0
-                ∙ sym (zeros_kept i z (λ e. false≢true (sym w.if-is_zero.false ∙ c.is_zero.ensures.1 (at ∙ e)))),
+                ∙ sym (nonzero_keeps_zero_count i z (λ e. false≢true (sym w.if-is_zero.false
+                ∙ c.is_zero.ensures.1 (at ∙ e)))),
             omega (arith, few, is),
           )
     ]

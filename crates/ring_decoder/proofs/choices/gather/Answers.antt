@@ -2,12 +2,21 @@ use Rattle.num_modular.specs.Callers.{◌≡◌, ◌<◌, ◌+◌, ◌∙◌, ap
 use Rattle.num_modular.specs.Callers.{entry, entry_read, form_read, entry_written, entry_kept}
 use Rattle.std.proofs.Common.{slice_set, get_or-set_same, get_or-set_other}
 use Rattle.std.proofs.lemmas.Bool.{cases_eq, false≢true}
-use Rattle.ring_decoder.proofs.ChosenPlaces.{zeros-none, zeros_more, zeros_kept, zeros_before, chosen_more, chosen_kept}
+use Rattle.ring_decoder.proofs.ChosenPlaces.{zeros-none, zero_increments_zero_count, nonzero_keeps_zero_count}
+use Rattle.ring_decoder.proofs.ChosenPlaces.{zeros_before, chosen_more, chosen_kept}
 use Rattle.ring_decoder.proofs.choices.gather.Goals as goal
 use Rattle.ring_decoder.proofs.choices.gather.Goals.{then-is_zero, else-is_zero}
 
 pub values-init : goal.values-init
-values-init g c = (sym (zeros-none _), omega arith, λ k d l. absurd (omega arith), record { at = λ i l. absurd (omega arith) })
+values-init g c = (
+  sym (zeros-none _),
+  omega arith,
+  λ k d l. absurd (omega arith),
+  record {
+    at =
+        λ i l. absurd (omega arith);
+  },
+)
 
 pub values-preserved : goal.values-preserved
 values-preserved g c =
@@ -24,8 +33,9 @@ values-preserved g c =
           let before = zeros_before i (length values) z test here in let count = so_far.0 in
           let within : next < length chosen = omega (arith, count, before, c.values.auto.chosen, c.requires.room) in
           let new = w.chosen-is ∙ w.put.ensures in
-          let form = form_read number ring.form ring.value m numbers i x c.requires.numbers there w.index-numbers-i.is in (
-            is ∙ ap (λ k. k + 1) count ∙ sym (zeros_more i z here),
+          let form = form_read number ring.form ring.value m numbers i x c.requires.numbers there w.index-numbers-i.is
+          in (
+            is ∙ ap (λ k. k + 1) count ∙ sym (zero_increments_zero_count i z here),
             omega (arith, few, is),
             λ k d l. rw new (elim (cases_eq k next) [
               | inl e ↦ rw (e, get_or-set_same chosen next x d within) form
@@ -41,7 +51,7 @@ values-preserved g c =
       | else-is_zero w ↦
           let is = w.next-is in
           let other : z i ≡ 0 → ⊥ = λ e. false≢true (sym w.if-is_zero.false ∙ c.is_zero.ensures.1 (at ∙ e)) in (
-            is ∙ so_far.0 ∙ sym (zeros_kept i z other),
+            is ∙ so_far.0 ∙ sym (nonzero_keeps_zero_count i z other),
             omega (arith, few, is),
             λ k d l. rw w.chosen-is (so_far.2 k d (omega (arith, l, is))),
             rw w.chosen-is (chosen_kept i z _ (entry number ring.value m chosen) so_far.3 other),

@@ -2,7 +2,8 @@ use Rattle.num_modular.specs.Callers.{◌≡◌, ◌<◌, ◌+◌, ◌%◌, ◌�
 use Rattle.num_modular.specs.Callers.{entry, entry_read, form_read, hold_more}
 use Rattle.std.proofs.Math.Nat.{zero-mod}
 use Rattle.std.proofs.lemmas.Bool.{false≢true}
-use Rattle.ring_decoder.proofs.ChosenPlaces.{zeros-none, zeros_more, zeros_kept, zeros_before, chosen_zero, chosen_nonzero}
+use Rattle.ring_decoder.proofs.ChosenPlaces.{zeros-none, zero_increments_zero_count, nonzero_keeps_zero_count}
+use Rattle.ring_decoder.proofs.ChosenPlaces.{zeros_before, chosen_zero, chosen_nonzero}
 use Rattle.ring_decoder.specs.ErrorPatterns.{zeros, spread}
 use Rattle.ring_decoder.proofs.choices.scatter.Goals as goal
 use Rattle.ring_decoder.proofs.choices.scatter.Goals.{then-is_zero, else-is_zero}
@@ -36,7 +37,7 @@ values-preserved g c =
           let is = w.next-is in let x = w.index-chosen-next.result in
           let before = zeros_before i (length values) z test here in
           let there : next < length chosen = omega (arith, so_far.0, before, c.requires.count) in (
-            is ∙ ap (λ k. k + 1) so_far.0 ∙ sym (zeros_more i z here),
+            is ∙ ap (λ k. k + 1) so_far.0 ∙ sym (zero_increments_zero_count i z here),
             omega (arith, few, is),
             rw w.errors-is (hold_more number ring.form ring.value m errors i x (spread z e) within so_far.2
                 (form_read number ring.form ring.value m chosen next x c.requires.chosen there w.index-chosen-next.is)
@@ -46,7 +47,7 @@ values-preserved g c =
       | else-is_zero w ↦
           let is = w.next-is in
           let other : z i ≡ 0 → ⊥ = λ e. false≢true (sym w.if-is_zero.false ∙ c.is_zero.ensures.1 (at ∙ e)) in (
-            is ∙ so_far.0 ∙ sym (zeros_kept i z other),
+            is ∙ so_far.0 ∙ sym (nonzero_keeps_zero_count i z other),
             omega (arith, few, is),
             rw w.errors-is (hold_more number ring.form ring.value m errors i c.transform-zero.result (spread z e) within
                 so_far.2 c.transform-zero.ensures.checked

@@ -19,7 +19,8 @@ returns-clause-only g c d sums =
     let same : (i : ℕ) → i < length c.args.points.now → e i ≡ d i % m =
     c.if-not-solve_errors.ensures.errors refl d (record { sum = λ h l. sums.sum h (omega (arith, l, few)) }) in (
       c.are_power_sums.ensures.sums.1 (sums_alike m _ _ _ (λ i. w i * d i) (entries c.multiply_each.new.products) _
-          (λ i l. mod_sym (mod_trans (mod_of_residue (c.multiply_each.ensures.products i (omega (arith, c.requires.pairs, l))))
+          (λ i l. mod_sym (mod_trans
+          (mod_of_residue (c.multiply_each.ensures.products i (omega (arith, c.requires.pairs, l))))
           (mod_times (w i) (mod_of_residue (same i l))))) sums),
       same,
     )

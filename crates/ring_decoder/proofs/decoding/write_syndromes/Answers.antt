@@ -5,7 +5,7 @@ use Rattle.num_modular.specs.Callers.{◌≡◌, ◌<◌, ◌∙◌, sym, arith,
 use Rattle.num_modular.specs.Inverses.{HasInverse}
 use Rattle.ring_decoder.proofs.CorrectedWords.{fit_of_weights}
 use Rattle.ring_codes.proofs.KnownRoots.{suits_known}
-use Rattle.ring_decoder.proofs.RootSyndromes.{length_unit}
+use Rattle.ring_decoder.proofs.RootSyndromes.{length_has_inverse_by_differences}
 use Rattle.ring_decoder.proofs.decoding.write_syndromes.Goals as goal
 use Rattle.ring_decoder.proofs.decoding.write_syndromes.Goals.{Start}
 
@@ -34,21 +34,21 @@ returns-else-is_empty-clause-sums g c =
     rw (kept, same) at (c.fill_checked_syndromes.ensures.sums x v (rw (kept, same) (c.requires.table some)))
 
 -- where there is a root, the number of the symbols has an inverse
-units : (g : _) (c : Start g) (a : _) → c.args.root ≡ Some a
+word_length_has_inverse : (g : _) (c : Start g) (a : _) → c.args.root ≡ Some a
     → HasInverse (g.R.Reducer.modulus c.args.r.now) (length c.args.word.now)
-units g c a is =
+word_length_has_inverse g c a is =
     let ring = g.R.Reducer in let m = ring.modulus c.args.r.now in
     let positive = (g.met.R.Reducer.canonical c.args.r.now).positive in
-    rw c.requires.each_symbol (length_unit m (ring.value m (g.T.RingWord.number a)) _ _ positive
+    rw c.requires.each_symbol (length_has_inverse_by_differences m (ring.value m (g.T.RingWord.number a)) _ _ positive
     (suits_known m _ _ (c.requires.suits a is)) (c.requires.powers a is) (fit_of_weights m _ _ _ c.requires.weights_of))
 
 pub returns-then-is_empty-clause-counted : goal.returns-then-is_empty-clause-counted
 returns-then-is_empty-clause-counted g c =
-    search (rules, arith, units g (goal.at.returns-then-is_empty-clause-counted g c).Start)
+    search (rules, arith, word_length_has_inverse g (goal.at.returns-then-is_empty-clause-counted g c).Start)
 
 pub returns-else-is_empty-clause-counted : goal.returns-else-is_empty-clause-counted
 returns-else-is_empty-clause-counted g c =
-    search (rules, arith, units g (goal.at.returns-else-is_empty-clause-counted g c).Start)
+    search (rules, arith, word_length_has_inverse g (goal.at.returns-else-is_empty-clause-counted g c).Start)
 
 pub overflow_sub-result : goal.overflow_sub-result
 overflow_sub-result g c =

@@ -12,7 +12,8 @@ points-preserved g c =
     let points = c.args.points.now in let x = entry number ring.value m points in let q : ℕ = length points in
     let f = entry number ring.value m c.expand_roots.new.coefficients in
     let s = entry number ring.value m c.args.syndromes.now in let j = c.points.j in
-    let sum : ℕ → ℕ = λ a. sum_below q (λ k. polynomial_at (k + 1) (λ i. f (q + 1 - (k + 1) + i)) a * s (q - 1 - k)) % m in
+    let sum : ℕ → ℕ = λ a. sum_below q (λ k. polynomial_at (k + 1) (λ i. f (q + 1 - (k + 1) + i)) a * s (q - 1 - k)) % m
+    in
     hold_more number ring.form ring.value m c.points.divisors j c.quotient_sum.result (λ j. sum (x j)) (omega arith)
     c.points.invariant c.quotient_sum.ensures.checked (c.quotient_sum.ensures.value
     ∙ ap sum (entry_read number ring.value m points j _ c.points-test.true c.index-points-j.is))
@@ -49,9 +50,11 @@ returns-clause-errors g c t e are j l =
     let positive = (g.met.R.Reducer.canonical c.args.r.now).positive in let points = c.args.points.now in
     let w = entry number ring.value m c.args.weights.now in
     error_found m (length points) j _ _ _ _ (entry number ring.value m points)
-    (entry number ring.value m c.expand_roots.new.coefficients) w e (entry number ring.value m c.args.syndromes.now) positive
+    (entry number ring.value m c.expand_roots.new.coefficients) w e (entry number ring.value m c.args.syndromes.now)
+    positive
     ((returns-clause-solved g c).0 t).0 c.expand_roots.ensures.roots l are
-    (held_entry number ring.form ring.value m c.points.divisors _ c.points.j j c.points.invariant (omega arith) (omega arith))
+    (held_entry number ring.form ring.value m c.points.divisors _ c.points.j j c.points.invariant (omega arith)
+    (omega arith))
     (c.multiply_each.ensures.products j (omega arith)
     ∙ ap (λ v. (v * w j) % m) (c.fill_differences.ensures.products j l))
     (c.if-not-invert_each.ensures.inverses refl j (omega arith))

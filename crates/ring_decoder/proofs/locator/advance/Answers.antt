@@ -34,7 +34,8 @@ returns-clause-advanced g c =
     let positive = (g.met.R.Reducer.canonical c.args.r.now).positive in let found = c.requires.search in
     let h : ℕ = c.args.i - c.args.degree in let half = c.if-from-degree.false in
     let d = c.apply-discrepancy.ensures in let next = c.extend_witness-next.ensures in
-    search_longer found h c.requires.inside (omega (arith, found.within)) (h + 1 - c.args.degree) (omega (arith, half)) half
+    search_longer found h c.requires.inside (omega (arith, found.within)) (h + 1 - c.args.degree) (omega (arith, half))
+    half
     (mod_sym (mod_of_residue d.value))
     (λ e. false≢true (sym c.if-is_zero.false ∙ c.is_zero.ensures.1 (sym (mod-eq_of_lt d.checked.below) ∙ e)))
     c.combine-2.ensures.combined positive (omega (arith, c.if-from-moments.false)) c.combine-2.ensures.kept next.units

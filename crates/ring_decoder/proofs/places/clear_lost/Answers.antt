@@ -12,7 +12,8 @@ places-preserved g c =
     let lost = c.args.lost.now in let k = c.places.i in let p = slice_index lost k in let values = c.places.values in
     let old = entry number ring.value m c.args.values.now in let so_far = c.places.invariant in
     let within : p < length values = omega (arith, c.requires.within k c.places-test.true, c.places.auto.values) in (
-      forms_written number ring.form ring.value m values p c.transform-zero.result c.transform-zero.ensures.checked so_far.0,
+      forms_written number ring.form ring.value m values p c.transform-zero.result c.transform-zero.ensures.checked
+          so_far.0,
       λ i. elim (cases_eq i p) [
         | inl e ↦ rw e (entry_written number ring.value m values p c.transform-zero.result within
             ∙ c.transform-zero.ensures.value ∙ ap (λ v. v % m) c.zero.ensures ∙ zero-mod m

@@ -8,4 +8,5 @@ abbrev pub invariant-places : goal.invariant-places
 invariant-places g l =
     let ring = g.R.Reducer in let m = ring.modulus l.fn.r in let number = g.T.RingWord.number in
     All (λ f. IsForm ring.form ring.value m (number f)) l.values
-    × ((i : ℕ) → entry number ring.value m l.values i ≡ without (take l.i l.fn.lost) (entry number ring.value m l.fn.values) i)
+    × ((i : ℕ) → entry number ring.value m l.values i ≡ without (take l.i l.fn.lost)
+    (entry number ring.value m l.fn.values) i)

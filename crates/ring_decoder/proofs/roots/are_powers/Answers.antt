@@ -38,7 +38,8 @@ points-preserved g c =
     let points = c.args.points.now in let i = c.points.i in let next = c.points.invariant.0 in
     let below : i < length points = omega arith in
     let point = entry_read number ring.value m points i _ below c.index-points-i.is in
-    let same = told_same _ _ _ c.ne.ensures c.if-ne.false (g.met.T.RingWord.equal c.index-points-i.result c.points.power) in (
+    let same = told_same _ _ _ c.ne.ensures c.if-ne.false (g.met.T.RingWord.equal c.index-points-i.result
+    c.points.power) in (
       record {
         checked = c.mul-power.ensures.checked;
         same = c.mul-power.ensures.value ∙ ap (λ v. (v * a) % m) next.same ∙ mul-mod_first (a ^ i) a m

@@ -14,5 +14,6 @@ returns-clause-sums g c t x v powers fit weights =
     syndromes_by_transform m a (length word) (length c.args.syndromes.now) x v f (entry number ring.value m word)
     (entry number ring.value m c.syndromes.syndromes) positive c.requires.few c.requires.suits powers fit weights
     (rw copied at (c.intt.ensures.values c.if-not-intt.false))
-    (λ h l. held_entry number ring.form ring.value m c.syndromes.syndromes (λ h. f (length found - 1 - h)) c.syndromes.h h
+    (λ h l. held_entry number ring.form ring.value m c.syndromes.syndromes (λ h. f (length found - 1 - h)) c.syndromes.h
+    h
     c.syndromes.invariant (omega arith) (omega arith) ∙ ap (λ n. f (n - 1 - h)) count)

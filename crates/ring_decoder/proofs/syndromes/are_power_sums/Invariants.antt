@@ -4,7 +4,8 @@ use Rattle.num_modular.specs.Congruence.{Congruent}
 use Rattle.num_modular.specs.Sums.{sum_below}
 use Rattle.ring_decoder.proofs.syndromes.are_power_sums.Given as goal
 
--- each term is the one at the start times a power of its point, and the sums so far are power sums, by a product a point
+-- each term is the one at the start times a power of its point, and the sums so far are power sums, by a product a
+-- point
 abbrev pub invariant-sums : goal.invariant-sums
 invariant-sums g l =
     let ring = g.R.Reducer in let m = ring.modulus l.fn.r in let number = g.T.RingWord.number in

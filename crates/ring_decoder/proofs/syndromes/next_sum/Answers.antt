@@ -2,7 +2,7 @@ use Rattle.num_modular.specs.Callers.{◌∙◌, arith}
 use Rattle.num_modular.specs.Callers.{entry, entry_at, entry_read, forms_written, done_more}
 use Rattle.num_modular.specs.NumberLaws.{mod_of_eq}
 use Rattle.ring_decoder.proofs.SyndromeSums.{product_of_equal}
-use Rattle.num_modular.specs.NumberLaws.{sum_more}
+use Rattle.num_modular.specs.NumberLaws.{sum_residue_of_next_term}
 use Rattle.ring_decoder.proofs.syndromes.next_sum.Goals as goal
 
 pub terms-preserved : goal.terms-preserved
@@ -17,7 +17,7 @@ terms-preserved g c =
       forms_written number ring.form ring.value m list i c.mul.result c.mul.ensures.checked so_far.0,
       record {
         checked = c.add-sum.ensures.checked;
-        same = c.add-sum.ensures.value ∙ sum_more m i _ _ old so_far.1.same (mod_of_eq term);
+        same = c.add-sum.ensures.value ∙ sum_residue_of_next_term m i _ _ old so_far.1.same (mod_of_eq term);
       },
       done_more number ring.value m list i c.mul.result _ old (omega arith) so_far.2
           (product_of_equal m _ _ _ (old i) (entry number ring.value m points i) c.mul.ensures.value again point),

@@ -22,7 +22,8 @@ returns-clause-encoding g c points powers =
     (c.encode_by_transform.ensures.encoding points powers) in
     record {
       symbol = λ i l. values.symbol i l
-          ∙ (polynomial-congruent (length old - 1) d (derivative (entry number ring.value m old)) (points i) (points i) (λ j b. mod_of_residue
+          ∙ (polynomial-congruent (length old - 1) d (derivative (entry number ring.value m old)) (points i) (points i)
+          (λ j b. mod_of_residue
           (ap (λ forms. entry number ring.value m forms j) c.split_at_mut-derivative.ensures.front
           ∙ entry_front number ring.value m whole (length whole - 1) j (omega (arith, b, same)) (omega arith)
           ∙ c.differentiate.ensures.derivative j (omega (arith, b)))) (mod_refl (points i))).same;

@@ -7,10 +7,13 @@ use Rattle.ring_erasures.proofs.places.multiply_kept.Goals as goal
 pub symbols-preserved : goal.symbols-preserved
 symbols-preserved g c =
     let ring = g.R.Reducer in let m = ring.modulus c.args.r.now in let number = g.T.RingWord.number in
-    let word = c.args.word.now in let factors = c.args.factors.now in let products = c.symbols.products in let i = c.symbols.i in
+    let word = c.args.word.now in let factors = c.args.factors.now in let products = c.symbols.products in let i =
+    c.symbols.i in
     let below = c.symbols-test.true in let kept = c.symbols.auto.products in
-    let left = entry_read number ring.value m word i _ (omega (arith, below, kept, c.requires.each_symbol)) c.index-word-i.is in
-    let right = entry_read number ring.value m factors i _ (omega (arith, below, kept, c.requires.each_factor)) c.index-factors-i.is in
+    let left = entry_read number ring.value m word i _ (omega (arith, below, kept, c.requires.each_symbol))
+    c.index-word-i.is in
+    let right = entry_read number ring.value m factors i _ (omega (arith, below, kept, c.requires.each_factor))
+    c.index-factors-i.is in
     hold_more number _ _ _ _ _ _ _ (omega (arith, below, kept)) c.symbols.invariant
     c.mul.ensures.checked (rw (← left, ← right) c.mul.ensures.value)
 

@@ -10,6 +10,7 @@ places-preserved g c =
     let is = c.index-numbers-l.is in (
       forms_written number _ _ _ _ _ _
           (form_read number _ _ _ c.args.numbers.now l _ c.requires.numbers within is) so_far.0,
-      scattered_more number ring.value m l _ _ _ _ _ _ (rw c.places.auto.list c.requires.places) c.places-test.true so_far.1
+      scattered_more number ring.value m l _ _ _ _ _ _ (rw c.places.auto.list c.requires.places) c.places-test.true
+          so_far.1
           (entry_read number ring.value m c.args.numbers.now l _ within is),
     )

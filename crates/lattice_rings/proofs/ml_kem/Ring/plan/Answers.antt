@@ -1,5 +1,5 @@
 use Rattle.std.proofs.Common.{refl, arith}
-use Rattle.num_modular.specs.PlanLaws.{exponent}
+use Rattle.num_modular.specs.PlanLaws.{half_has_previous_exponent}
 use Rattle.lattice_rings.proofs.Blocks.{root_table}
 use Rattle.lattice_rings.proofs.Kem.{kem_zeta_suits}
 use Rattle.lattice_rings.proofs.ml_kem.Ring.plan.Goals as goal
@@ -13,5 +13,6 @@ over-requires c =
 
 pub returns-clause-bits : goal.returns-clause-bits
 returns-clause-bits c =
-    let is = exponent c.over.result.bits 128 7 (let e = c.over.ensures.entries in omega (arith, e)) refl in
+    let is = half_has_previous_exponent c.over.result.bits 128 7 (let e = c.over.ensures.entries in omega (arith, e))
+    refl in
     omega (arith, is)

@@ -19,10 +19,10 @@ is_prepared g c =
     c.binary_digits-n.ensures.value c.binary_digits-n.ensures.at_most c.low_quotient-quotient.ensures.fits c.one.ensures
     c.minus-less.ensures.value c.ones.ensures c.minus-gap.ensures.value
 
-quotient_is : (g : _) (c : After-low_quotient-quotient g)
+low_quotient_of_scaled_gap : (g : _) (c : After-low_quotient-quotient g)
     → g.T.RingWord.number c.low_quotient-quotient.result
     ≡ g.T.PathWord.base * g.T.RingWord.number c.minus-gap.result / g.T.RingWord.number c.args.d % g.T.PathWord.base
-quotient_is g c =
+low_quotient_of_scaled_gap g c =
     let n = g.T.RingWord.number in
     let b = g.T.PathWord.base in
     let dividend : g.T.PathWord.double_number c.merge.result ≡ b * n c.minus-gap.result =
@@ -32,10 +32,15 @@ quotient_is g c =
 pub plus-requires : goal.plus-requires
 plus-requires g c =
     let here = (goal.at.plus-requires g c).After-low_quotient-quotient in
-    omega (arith, c.one-2.ensures, multiplier_fits _ _ _ _ _ _ _ (is_prepared g here) (quotient_is g here))
+    omega (
+      arith,
+      c.one-2.ensures,
+      multiplier_fits _ _ _ _ _ _ _ (is_prepared g here)
+          (low_quotient_of_scaled_gap g here),
+    )
 
 pub returns : goal.returns
 returns g c =
     let here = (goal.at.returns g c).After-low_quotient-quotient in
-    multiplier_is _ _ _ _ _ _ _ _ (is_prepared g here) (quotient_is g here)
+    multiplier_is _ _ _ _ _ _ _ _ (is_prepared g here) (low_quotient_of_scaled_gap g here)
     (omega (arith, c.plus.ensures, c.one-2.ensures))

@@ -5,7 +5,8 @@ use Rattle.modular_reduced.proofs.ListProducts.{number_checked, products_of_numb
 use Rattle.modular_barrett.specs.Scaling.{scaled_form, scaled_value}
 use Rattle.modular_barrett.specs.ScaledForms.{scaled_canonical}
 use Rattle.modular_barrett.proofs.ScaledLemmas.{divisor_is, form_below}
-use Rattle.modular_barrett.proofs.ScaledSums.{scaled_products, block_of, block_stands, block_added}
+use Rattle.modular_barrett.proofs.ScaledSums.{scaled_products, block_adds_scaled_products, block_stands}
+use Rattle.modular_barrett.proofs.ScaledSums.{block_residue_extends_sum}
 use Rattle.modular_barrett.proofs.premul.PreMulInv2by1Reducer.add_products.Goals as goal
 use Rattle.modular_barrett.proofs.premul.PreMulInv2by1Reducer.add_products.Goals.{After-reduced_products-reduced}
 
@@ -18,11 +19,11 @@ term g c i =
     * scaled_value w m (slice_index (map number c.args.ys.now) i)
 
 -- the sum of the products of entries, by that of the products of their values
-whole : (g : _) (c : After-reduced_products-reduced g) (n : ℕ) → n ≤ length c.args.xs.now
+entry_products_sum_is_scaled : (g : _) (c : After-reduced_products-reduced g) (n : ℕ) → n ≤ length c.args.xs.now
     → let number = g.T.RingWord.number in let p = 2 ^ c.args.self.now.shift in
     sum_below n (λ i. slice_index (map number c.args.xs.now) i * slice_index (map number c.args.ys.now) i)
     ≡ p * (p * sum_below n (term g c))
-whole g c n within =
+entry_products_sum_is_scaled g c n within =
     let number = g.T.RingWord.number in let w = g.T.RingWord.width in let ring = c.args.self.now in
     let m = number ring.divider.divisor / 2 ^ ring.shift in
     let form = scaled_form w in let value = scaled_value w in
@@ -40,8 +41,9 @@ block_is : (g : _) (c : After-reduced_products-reduced g)
 block_is g c =
     let from = c.each_block.from in let k = c.min.result in
     c.reduced_products-reduced.ensures (sum_below k (λ i. term g c (from + i)))
-    (block_of (2 ^ c.args.self.now.shift) from k (term g c) _ _ (whole g c from c.each_block.invariant.within)
-    (whole g c (from + k) (omega (arith, c.min.ensures))))
+    (block_adds_scaled_products (2 ^ c.args.self.now.shift) from k (term g c) _ _ (entry_products_sum_is_scaled g c from
+    c.each_block.invariant.within)
+    (entry_products_sum_is_scaled g c (from + k) (omega (arith, c.min.ensures))))
 
 pub add_below-total-requires-clause-right : goal.add_below-total-requires-clause-right
 add_below-total-requires-clause-right g c =
@@ -61,7 +63,7 @@ each_block-preserved g c =
     c.add_below-total.ensures.value
     ∙ ap (λ d. (number c.each_block.total + number c.reduced_products-reduced.result) % d)
     (c.divisor.ensures.scaled ∙ sym (divisor_is is)) in
-    let made = block_added (number c.each_block.total) (number c.reduced_products-reduced.result) _
+    let made = block_residue_extends_sum (number c.each_block.total) (number c.reduced_products-reduced.result) _
     (scaled_value g.T.RingWord.width _ (number c.args.sum)) c.each_block.from c.min.result (term g at) is
     c.each_block.invariant.form c.each_block.invariant.value (block_is g at) added in
     record {

@@ -2,8 +2,8 @@ use Rattle.std.proofs.Common.{ℕ, pos, ◌-ℤ◌, ◌/◌, ◌^◌, ◌∙◌,
 use Rattle.modular_word.specs.Residues.{residue}
 use Rattle.modular_reduced.specs.Entries.{entry}
 use Rattle.modular_reduced.specs.EntryLaws.{form_read}
-use Rattle.modular_reduced.proofs.FormLemmas.{answered}
-use Rattle.modular_reduced.proofs.ListPairs.{pair_written, pairs_taken}
+use Rattle.modular_reduced.proofs.FormLemmas.{answered_by_form}
+use Rattle.modular_reduced.proofs.ListPairs.{operation_written_at_index, pairs_taken}
 use Rattle.modular_reduced.proofs.ListSteps.{list_answered}
 use Rattle.modular_barrett.specs.Scaling.{scaled_form, scaled_value}
 use Rattle.modular_barrett.specs.ScaledForms.{scaled_canonical}
@@ -13,22 +13,24 @@ use Rattle.modular_barrett.proofs.premul.PreMulInv2by1Reducer.sub_entries.Goals 
 pub difference_by_halves-requires-clause-left : goal.difference_by_halves-requires-clause-left
 difference_by_halves-requires-clause-left g c =
     let ring = c.args.self.now in let w = g.T.RingWord.width in
-    form_read g.T.RingWord.number (scaled_form w) (scaled_value w) (g.T.RingWord.number ring.divider.divisor / 2 ^ ring.shift)
+    form_read g.T.RingWord.number (scaled_form w) (scaled_value w)
+    (g.T.RingWord.number ring.divider.divisor / 2 ^ ring.shift)
     c.halves.xs c.halves.i c.index-xs-i.result c.halves.invariant.checked (omega arith) c.index-xs-i.is
 
 pub difference_by_halves-requires-clause-right : goal.difference_by_halves-requires-clause-right
 difference_by_halves-requires-clause-right g c =
     let ring = c.args.self.now in let w = g.T.RingWord.width in
-    form_read g.T.RingWord.number (scaled_form w) (scaled_value w) (g.T.RingWord.number ring.divider.divisor / 2 ^ ring.shift)
+    form_read g.T.RingWord.number (scaled_form w) (scaled_value w)
+    (g.T.RingWord.number ring.divider.divisor / 2 ^ ring.shift)
     c.args.ys.now c.halves.i c.index-ys-i.result c.requires.checked_ys (omega arith) c.index-ys-i.is
 
 pub halves-preserved : goal.halves-preserved
 halves-preserved g c =
     let ring = c.args.self.now in let number = g.T.RingWord.number in let value = scaled_value g.T.RingWord.width in
     let m = number ring.divider.divisor / 2 ^ ring.shift in
-    let made = answered (scaled_canonical ring.scaling) c.difference_by_halves.ensures in
+    let made = answered_by_form (scaled_canonical ring.scaling) c.difference_by_halves.ensures in
     let op : ℕ → ℕ → ℕ = λ v w. residue m (pos v -ℤ pos w) in let y = value m (number c.index-ys-i.result) in
-    pair_written _ _ _ _ _ _ _ c.index-xs-i.result c.index-ys-i.result c.difference_by_halves.result op
+    operation_written_at_index _ _ _ _ _ _ _ c.index-xs-i.result c.index-ys-i.result c.difference_by_halves.result op
     (entry number value m c.args.xs.now) (omega arith) (omega arith) c.index-ys-i.is c.halves.invariant made.checked
     (made.value ∙ ap (λ x. op (value m (number x)) y) c.index-xs-i.is)
 

@@ -14,7 +14,8 @@ returns-then-self-eq0 g c =
     let r = c.args.self.now.ring in
     let none = c.if-self-eq0.true in
     let made =
-    sum_made r.odd (odd_checked r none c.requires.left) (odd_checked r none c.requires.right) c.add_below.ensures.value in
+    sum_made r.odd (odd_checked r none c.requires.left) (odd_checked r none c.requires.right) c.add_below.ensures.value
+    in
     odd_answered r none (λ v m. (v (n c.args.a.now) + v (n c.args.b.now)) % m) made.form
 
 pub returns : goal.returns

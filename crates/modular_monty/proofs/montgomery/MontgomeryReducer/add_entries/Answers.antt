@@ -1,6 +1,6 @@
 use Rattle.std.proofs.Common.{ℕ, ◌+◌, ◌%◌, ◌*◌, ◌^◌, arith, refl}
 use Rattle.modular_reduced.specs.Entries.{entry}
-use Rattle.modular_reduced.proofs.ListPairs.{pair_written, pairs_taken}
+use Rattle.modular_reduced.proofs.ListPairs.{operation_written_at_index, pairs_taken}
 use Rattle.modular_reduced.proofs.ListSteps.{list_answered, written_all}
 use Rattle.modular_monty.specs.TwoParts.{two_part_form, two_part_value}
 use Rattle.modular_monty.specs.TwoPartLaws.{two_part_canonical}
@@ -32,7 +32,7 @@ pub entries-preserved : goal.entries-preserved
 entries-preserved g c =
     let number = g.T.RingWord.number in let value = two_part_value g.T.RingWord.width in
     let m = number c.args.self.now.odd.kept.modulus * 2 ^ c.args.self.now.twos in
-    pair_written _ _ _ _ _ _ _ c.index-xs-i.result c.index-ys-i.result c.add.result (λ v w. (v + w) % m)
+    operation_written_at_index _ _ _ _ _ _ _ c.index-xs-i.result c.index-ys-i.result c.add.result (λ v w. (v + w) % m)
     (entry number value m c.args.xs.now) (omega arith) (omega arith) c.index-ys-i.is
     c.entries.invariant c.add.ensures.checked c.add.ensures.value
 

@@ -3,7 +3,7 @@ use Rattle.modular_word.specs.Sums.{sum_below}
 use Rattle.modular_reduced.specs.Entries.{entry}
 use Rattle.modular_reduced.specs.EntryLaws.{entry_read}
 use Rattle.modular_reduced.specs.Values.{sum_of_products}
-use Rattle.modular_reduced.proofs.ListProducts.{products_none, products_more}
+use Rattle.modular_reduced.proofs.ListProducts.{products_none, product_extends_residue_sum}
 use Rattle.modular_monty.specs.TwoParts.{two_part_value}
 use Rattle.modular_monty.proofs.TwoPartSteps.{odd_checked, odd_answered}
 use Rattle.modular_monty.proofs.montgomery.MontgomeryReducer.add_products.Goals as goal
@@ -15,7 +15,8 @@ pub returns-then-self-eq0 : goal.returns-then-self-eq0
 returns-then-self-eq0 g c =
     let n = g.T.RingWord.number in
     odd_answered c.args.self.now.ring c.if-self-eq0.true
-    (λ v m. (v (n c.args.sum) + sum_of_products n (λ _. v) m c.args.xs.now c.args.ys.now) % m) c.add_products.ensures.form
+    (λ v m. (v (n c.args.sum) + sum_of_products n (λ _. v) m c.args.xs.now c.args.ys.now) % m)
+    c.add_products.ensures.form
 
 pub products-init : goal.products-init
 products-init g c = record {
@@ -34,7 +35,8 @@ products-preserved g c =
     record {
       form = c.add-total.ensures.checked;
       value = c.add-total.ensures.value ∙ ap (λ v. (value m (number c.products.total) + v) % m) c.mul.ensures.value
-          ∙ products_more m _ i _ _ _ (λ k. x k * y k) c.products.invariant.value (ap₂ (λ v w. v * w) x_is y_is);
+          ∙ product_extends_residue_sum m _ i _ _ _ (λ k. x k * y k) c.products.invariant.value
+          (ap₂ (λ v w. v * w) x_is y_is);
     }
 
 pub returns-clause-value : goal.returns-clause-value

@@ -1,10 +1,10 @@
 use Rattle.std.proofs.Common.{◌*◌, ◌%◌, ◌^◌, ◌<◌, length, ◌∙◌, ap, arith, refl}
 use Rattle.modular_reduced.specs.Entries.{entry}
 use Rattle.modular_reduced.specs.EntryLaws.{entry_read, form_read}
-use Rattle.modular_reduced.proofs.ListSteps.{each_taken, held_values, held_checked, written_more}
+use Rattle.modular_reduced.proofs.ListSteps.{each_taken, held_values, held_checked, written_below_next_index}
 use Rattle.modular_monty.specs.TwoParts.{two_part_form, two_part_value}
 use Rattle.modular_monty.specs.TwoPartLaws.{two_part_canonical}
-use Rattle.modular_monty.proofs.TwoPartSteps.{scaled_made, all_high, one_part}
+use Rattle.modular_monty.proofs.TwoPartSteps.{scaled_made, all_high, unshifted_part_is_whole}
 use Rattle.modular_monty.proofs.montgomery.MontgomeryReducer.scale_entries.Goals as goal
 
 pub returns-then-self-eq0 : goal.returns-then-self-eq0
@@ -14,11 +14,12 @@ returns-then-self-eq0 g c =
     let k = number c.args.self.now.odd.kept.modulus in let m = k * 2 ^ c.args.self.now.twos in
     let by = number c.reduced_factor-value.result.0 in let factor = value m (number c.args.factor.now) in
     let canonical = two_part_canonical c.args.self.now.ring in let forms = c.multiply_by_factor.new.xs in
-    let held = each_taken number (two_part_form w) value m (λ f. (f * by) % k) (λ v. (v * factor) % m) c.args.xs.now forms
+    let held = each_taken number (two_part_form w) value m (λ f. (f * by) % k) (λ v. (v * factor) % m) c.args.xs.now
+    forms
     (λ f form.
     (scaled_made c.args.self.now.ring form c.requires.factor (all_high _ f none) c.high.ensures.value
     c.merge-high.ensures.value c.zero.ensures c.reduced_factor-value.ensures.reduction refl refl
-    (one_part _ ((f * by) % k) _ none)).form)
+    (unshifted_part_is_whole _ ((f * by) % k) _ none)).form)
     c.requires.checked c.multiply_by_factor.auto.xs c.multiply_by_factor.ensures in
     record {
       entries = held;
@@ -35,9 +36,11 @@ entries-preserved g c =
     let old = entry number value m c.args.xs.now in let factor = value m (number c.args.factor.now) in
     let within : i < length xs = omega arith in
     let x_is = entry_read number value m xs i x within c.index-xs-i.is ∙ before.done.kept i (omega arith) in
-    let made = scaled_made c.args.self.now.ring (form_read number form value m xs i x before.checked within c.index-xs-i.is)
+    let made = scaled_made c.args.self.now.ring (form_read number form value m xs i x before.checked within
+    c.index-xs-i.is)
     c.requires.factor c.high-in-entries.ensures.value c.high.ensures.value c.merge-high.ensures.value c.zero.ensures
     c.reduced_factor-value.ensures.reduction c.product_by_factor-product.ensures c.wrapping_mul.ensures.value
     c.form_of_parts.ensures in
-    written_more number form value m xs i c.form_of_parts.result (λ k. (old k * factor) % m) old within before
+    written_below_next_index number form value m xs i c.form_of_parts.result (λ k. (old k * factor) % m) old within
+    before
     made.checked (made.value ∙ ap (λ v. (v * factor) % m) x_is)

@@ -1,7 +1,7 @@
 use Rattle.std.proofs.Common.{ℕ, pos, ◌-ℤ◌, ◌*◌, ◌^◌, arith, refl}
 use Rattle.modular_word.specs.Residues.{residue}
 use Rattle.modular_reduced.specs.Entries.{entry}
-use Rattle.modular_reduced.proofs.ListPairs.{pair_written, pairs_taken}
+use Rattle.modular_reduced.proofs.ListPairs.{operation_written_at_index, pairs_taken}
 use Rattle.modular_reduced.proofs.ListSteps.{list_answered, written_all}
 use Rattle.modular_monty.specs.TwoParts.{two_part_form, two_part_value}
 use Rattle.modular_monty.specs.TwoPartLaws.{two_part_canonical}
@@ -33,7 +33,8 @@ pub entries-preserved : goal.entries-preserved
 entries-preserved g c =
     let number = g.T.RingWord.number in let value = two_part_value g.T.RingWord.width in
     let m = number c.args.self.now.odd.kept.modulus * 2 ^ c.args.self.now.twos in
-    pair_written _ _ _ _ _ _ _ c.index-xs-i.result c.index-ys-i.result c.sub.result (λ v w. residue m (pos v -ℤ pos w))
+    operation_written_at_index _ _ _ _ _ _ _ c.index-xs-i.result c.index-ys-i.result c.sub.result
+    (λ v w. residue m (pos v -ℤ pos w))
     (entry number value m c.args.xs.now) (omega arith) (omega arith) c.index-ys-i.is
     c.entries.invariant c.sub.ensures.checked c.sub.ensures.value
 

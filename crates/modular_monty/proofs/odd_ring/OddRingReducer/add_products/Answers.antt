@@ -5,7 +5,7 @@ use Rattle.modular_word.proofs.Congruence.{mod_of_eq}
 use Rattle.modular_word.proofs.Sums.{sum_below-zero}
 use Rattle.modular_reduced.proofs.ListProducts.{number_checked, products_of_numbers}
 use Rattle.modular_monty.specs.Montgomery.{montgomery_form, montgomery_value}
-use Rattle.modular_monty.proofs.ReducedSums.{block_added}
+use Rattle.modular_monty.proofs.ReducedSums.{reduced_block_extends_sum}
 use Rattle.modular_monty.proofs.MontgomerySteps.{Made, form_below, products_made}
 use Rattle.modular_monty.proofs.odd_ring.OddRingReducer.add_products.Goals as goal
 
@@ -39,7 +39,7 @@ each_block-preserved g c =
     let added = rw c.modulus.ensures at c.add_below-total.ensures in
     record {
       below = added.below;
-      congruent = block_added g.T.PathWord.base (number c.args.sum) (number c.each_block.total)
+      congruent = reduced_block_extends_sum g.T.PathWord.base (number c.args.sum) (number c.each_block.total)
           (number c.reduced_products-reduced.result) (sum_below from f) (sum_below (from + c.min.result) f)
           c.each_block.invariant.congruent c.reduced_products-reduced.ensures.congruent added.value;
       within = omega arith;

@@ -1,9 +1,9 @@
-use Rattle.modular_prim.proofs.PowerSteps.{product_fits}
+use Rattle.modular_prim.proofs.PowerSteps.{product_below_scaled_modulus}
 use Rattle.modular_monty.proofs.MontgomerySteps.{difference_product_made, form_below}
 use Rattle.modular_monty.proofs.odd_ring.OddRingReducer.mul_difference.Goals as goal
 
 pub redc-requires : goal.redc-requires
-redc-requires g c = product_fits _ _ c.product.ensures.value c.product.ensures.fits
+redc-requires g c = product_below_scaled_modulus _ _ c.product.ensures.value c.product.ensures.fits
     (form_below (g.met.M.OddModulus.is_odd_ring c.args.self.now.kept) c.requires.factor)
 
 pub returns : goal.returns

@@ -22,5 +22,6 @@ returns g c =
     let op : ℕ → ℕ → ℕ = λ v w. residue m (pos v -ℤ pos w) in
     list_answered _ (montgomery_canonical r)
     (pairs_taken g.T.RingWord.number (montgomery_form w) (montgomery_value w) m op op c.args.xs.now c.args.ys.now _
-    (λ f h is_f is_h. (difference_made r is_f is_h refl).form) c.requires.checked_xs c.requires.checked_ys c.requires.equal
+    (λ f h is_f is_h. (difference_made r is_f is_h refl).form) c.requires.checked_xs c.requires.checked_ys
+    c.requires.equal
     c.sub_each.auto.xs (rw c.modulus.ensures at c.sub_each.ensures)) c.sub_each.auto.xs

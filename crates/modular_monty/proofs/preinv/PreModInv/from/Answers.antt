@@ -1,6 +1,6 @@
 use Rattle.std.proofs.Common.{◌≡◌, ◌-◌, ◌*◌, ◌/◌, ◌%◌, ◌^◌, ap, ◌∙◌, arith}
 use Rattle.modular_word.proofs.Lifting.{base_above_two}
-use Rattle.modular_monty.proofs.NegatedInverses.{inverse_of_negated}
+use Rattle.modular_monty.proofs.NegatedInverses.{product_with_opposite_is_one}
 use Rattle.modular_monty.proofs.preinv.PreModInv.from.Goals as goal
 
 pub returns : goal.returns
@@ -11,7 +11,7 @@ returns g c =
     let greatest : n c.ones.result ≡ b - 1 =
     omega (arith, c.ones.ensures ∙ ap (λ v. 2 ^ v) c.bits.ensures, g.met.T.PathWord.base_is) in
     let unit : (n c.args.d * n c.wrapping_sub-d_inv.result) % b ≡ 1 =
-    inverse_of_negated b (n c.args.d) (n c.neginv.result) (n c.wrapping_sub-d_inv.result)
+    product_with_opposite_is_one b (n c.args.d) (n c.neginv.result) (n c.wrapping_sub-d_inv.result)
     (omega (arith, many)) c.neginv.ensures (c.wrapping_sub-d_inv.ensures.value ∙ c.zero.ensures) in
     record {
       unit = ap (λ v. (n c.args.d * v) % b) c.new.ensures.inverse ∙ unit;

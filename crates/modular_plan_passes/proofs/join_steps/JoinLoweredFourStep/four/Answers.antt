@@ -6,7 +6,8 @@ returns g c = record {
   below = c.four.ensures.below;
   done = record {
     each = λ w u v inverses.
-        joined_four_along w u v c.lowered-a.ensures.congruent c.lowered-b.ensures.congruent c.lowered-c.ensures.congruent
+        joined_four_along w u v c.lowered-a.ensures.congruent c.lowered-b.ensures.congruent
+        c.lowered-c.ensures.congruent
         c.lowered-d.ensures.congruent (c.four.ensures.done.each w u v inverses);
   };
 }

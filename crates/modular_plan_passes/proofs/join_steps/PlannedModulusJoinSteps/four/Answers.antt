@@ -15,5 +15,11 @@ returns g c = record {
         first = c.pair-a.ensures.pair w inverses.own;
         second = c.pair-b.ensures.pair w inverses.own;
       });
-  below = record { first = c.pair-a.ensures.below; second = c.pair-b.ensures.below; third = c.pair-a.ensures.product_below; fourth = c.pair-b.ensures.product_below };
+  below = record {
+    first = c.pair-a.ensures.below;
+    second = c.pair-b.ensures.below;
+    third =
+        c.pair-a.ensures.product_below;
+    fourth = c.pair-b.ensures.product_below;
+  };
 }

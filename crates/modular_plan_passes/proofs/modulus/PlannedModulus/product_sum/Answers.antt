@@ -20,10 +20,10 @@ shift_left-requires-2 g c =
     record { by = omega (arith, self.shift_fits); fits = fits }
 
 -- the products of the summands
-summands : (g : _) (c : After-product-2 g)
+product_sum_fits_division : (g : _) (c : After-product-2 g)
     → g.T.PathWord.double_number c.product.result + g.T.PathWord.double_number c.product-2.result
     < g.T.RingWord.number c.shift_left-divisor.result * g.T.PathWord.base
-summands g c =
+product_sum_fits_division g c =
     let self = c.args.self.now in
     let n = g.T.RingWord.number in
     let halved = halved_shift _ _ self.some self.room self.reciprocal_is in
@@ -36,23 +36,23 @@ summands g c =
 
 pub double_plus-sum-requires : goal.double_plus-sum-requires
 double_plus-sum-requires g c =
-    let less = summands g (goal.at.double_plus-sum-requires g c).After-product-2 in
+    let less = product_sum_fits_division g (goal.at.double_plus-sum-requires g c).After-product-2 in
     let some : 0 < g.T.PathWord.base = omega (arith, c.args.self.now.some, c.args.self.now.room) in
     let more = mul-lt-mul_of_pos_right (divisor_fits c.args.self.now.reciprocal_is) some in
     omega (arith, less, more, ap (λ v. v * g.T.PathWord.base) c.shift_left-divisor.ensures)
 
 pub div_2by1-rest-requires-clause-high : goal.div_2by1-rest-requires-clause-high
 div_2by1-rest-requires-clause-high g c =
-    let less = summands g (goal.at.div_2by1-rest-requires-clause-high g c).After-product-2 in
+    let less = product_sum_fits_division g (goal.at.div_2by1-rest-requires-clause-high g c).After-product-2 in
     omega (arith, less, c.double_plus-sum.ensures)
 
 -- the rest modulo 2m
-rest : (g : _) (c : After-shift_right g)
+rest_modulo_twice_modulus : (g : _) (c : After-shift_right g)
     → g.T.RingWord.number c.shift_right.result
     ≡ (g.T.RingWord.number c.args.x * g.T.RingWord.number c.args.v
     + g.T.RingWord.number c.args.u * g.T.RingWord.number c.args.y)
     % (2 * g.T.RingWord.number c.args.self.now.modulus)
-rest g c =
+rest_modulo_twice_modulus g c =
     let self = c.args.self.now in
     let n = g.T.RingWord.number in
     let p = 2 ^ (self.shift - 1) in
@@ -71,11 +71,12 @@ reduced_once-requires g c =
     let n = g.T.RingWord.number in
     let less = mod-lt (n c.args.x * n c.args.v + n c.args.u * n c.args.y)
     (let k : 0 < 2 * (n c.args.self.now.modulus) = omega (arith, c.args.self.now.some) in k) in
-    omega (arith, rest g (goal.at.reduced_once-requires g c).After-shift_right, less)
+    omega (arith, rest_modulo_twice_modulus g (goal.at.reduced_once-requires g c).After-shift_right, less)
 
 pub returns-clause-value : goal.returns-clause-value
 returns-clause-value g c =
     let n = g.T.RingWord.number in
     let m = n c.args.self.now.modulus in
-    c.reduced_once.ensures.value ∙ ap (λ v. v % m) (rest g (goal.at.returns-clause-value g c).After-shift_right)
+    c.reduced_once.ensures.value
+    ∙ ap (λ v. v % m) (rest_modulo_twice_modulus g (goal.at.returns-clause-value g c).After-shift_right)
     ∙ mod_of_multiple_left m 2 (n c.args.x * n c.args.v + n c.args.u * n c.args.y)

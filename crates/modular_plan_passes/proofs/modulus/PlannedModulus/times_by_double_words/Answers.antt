@@ -1,6 +1,7 @@
 use Rattle.std.proofs.Common.{◌≡◌, ◌+◌, ◌*◌, sym, ◌∙◌, arith}
-use Rattle.modular_plan_passes.proofs.DoubleWords.{minus_is_complement, sum_fits, rest_is_low_word}
-use Rattle.modular_reduced.proofs.FixedFactors.{near, IsNear}
+use Rattle.modular_plan_passes.proofs.DoubleWords.{minus_is_complement, difference_sum_fits_double_word}
+use Rattle.modular_plan_passes.proofs.DoubleWords.{rest_is_low_word}
+use Rattle.modular_reduced.proofs.FixedFactors.{estimated_quotient_is_near, IsNear}
 use Rattle.modular_plan_passes.proofs.FactorProducts.{left_less}
 use Rattle.modular_plan_passes.proofs.modulus.PlannedModulus.times_by_double_words.Goals as goal
 use Rattle.modular_plan_passes.proofs.modulus.PlannedModulus.times_by_double_words.Goals.{After-product-3}
@@ -10,7 +11,8 @@ is_near : (g : _) (c : After-product-3 g)
     → IsNear (g.T.RingWord.number c.args.self.now.modulus)
     (g.T.RingWord.number c.args.x * g.T.RingWord.number c.args.w.now.value) (g.T.RingWord.number c.split-whole.result.1)
 is_near g c =
-    near _ _ _ _ _ _ _ c.requires c.product.ensures.fits (sym c.product.ensures.value ∙ c.split-whole.ensures.value)
+    estimated_quotient_is_near _ _ _ _ _ _ _ c.requires c.product.ensures.fits (sym c.product.ensures.value
+    ∙ c.split-whole.ensures.value)
     c.split-whole.ensures.low_fits
 
 -- what is added to m for the base
@@ -24,7 +26,8 @@ is_minus g c =
 pub double_plus-requires : goal.double_plus-requires
 double_plus-requires g c =
     let at = (goal.at.double_plus-requires g c).After-product-3 in
-    let fits = sum_fits _ _ _ _ _ (omega (arith, c.args.self.now.room)) c.split-whole.ensures.high_fits
+    let fits = difference_sum_fits_double_word _ _ _ _ _ (omega (arith, c.args.self.now.room))
+    c.split-whole.ensures.high_fits
     (is_near g at).close (is_minus g at) in
     omega (arith, c.product-2.ensures.value, c.product-3.ensures.value, fits)
 
@@ -35,7 +38,13 @@ returns g c =
     let near_it = is_near g at in
     let sum : n c.args.x * n c.args.w.now.value + n c.split-whole.result.1 * n c.wrapping_sub-minus.result ≡
     n c.split-low.result.0 + g.T.PathWord.base * n c.split-low.result.1 =
-    omega (arith, c.product-2.ensures.value, c.product-3.ensures.value, c.double_plus.ensures, c.split-low.ensures.value) in
+    omega (
+      arith,
+      c.product-2.ensures.value,
+      c.product-3.ensures.value,
+      c.double_plus.ensures,
+      c.split-low.ensures.value,
+    ) in
     let left = left_less _ _ _ _ near_it
     (rest_is_low_word _ _ _ _ _ _ _ (omega (arith, c.args.self.now.room)) near_it.at_most near_it.close
     (is_minus g at) sum c.split-low.ensures.low_fits) in

@@ -13,8 +13,8 @@ pair_of_residues {m} w {a} {b} {sum} {difference} {sum'} {difference'} first sec
     pair_up_to w a b sum difference sum' difference' (mod_trans (mod_of_eq first) (residue_of sum))
     (mod_trans (mod_of_eq second) (residue_of difference)) pair
 
-residue_below : {m x : ℕ} (y : ℕ) → 0 < m → x ≡ y % m → x < m
-residue_below {m} {x} y some is = subst (λ v. v < m) (sym is) (mod-lt y some)
+split_residue_below_modulus : {m x : ℕ} (y : ℕ) → 0 < m → x ≡ y % m → x < m
+split_residue_below_modulus {m} {x} y some is = subst (λ v. v < m) (sym is) (mod-lt y some)
 
 pub returns : goal.returns
-returns g c = search (arith, residue_below, four_of_pairs, pair_of_residues)
+returns g c = search (arith, split_residue_below_modulus, four_of_pairs, pair_of_residues)

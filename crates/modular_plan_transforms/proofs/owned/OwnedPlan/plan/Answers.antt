@@ -8,7 +8,8 @@ over-requires g c =
     let owned = c.args.self.now in
     let m = n owned.modulus.modulus in
     let entries = g.S.AsSlice.items owned.table in
-    let kept : IsKept g.T.PathWord.base m (n owned.root) g.F.PlanEntry.value g.F.PlanEntry.quotient entries = search arith in
+    let kept : IsKept g.T.PathWord.base m (n owned.root) g.F.PlanEntry.value g.F.PlanEntry.quotient entries =
+    search arith in
     let is = rw (sym c.as_slice.ensures) at (lent_by_kept kept) in
     record {
       odd = owned.odd;

@@ -14,7 +14,8 @@ invariant_of-result g c =
     let quotient = g.F.PlanEntry.quotient in
     let plan = c.in_ok-plan.plan in
     let entries = g.S.AsSlice.items c.args.table in
-    let here = kept_by_plan base (n plan.modulus.modulus) (n plan.root) plan.bits value quotient plan.table.now (omega arith)
+    let here = kept_by_plan base (n plan.modulus.modulus) (n plan.root) plan.bits value quotient plan.table.now
+    (omega arith)
     plan.odd plan.root_below plan.half plan.half_turn plan.factors plan.powers in
     let lent = rw (c.in_ok-plan.ensures.3 ∙ c.as_slice.ensures) at here in
     let is : IsKept base (n c.modulus-modulus.result.modulus) (n c.root-root.result) value quotient entries =

@@ -4,11 +4,11 @@ use Rattle.modular_transform.proofs.PowersOfTwo.{power_of_two_tested, beyond_one
 use Rattle.modular_plan_transforms.proofs.PlanFields.{twice_half}
 use Rattle.modular_plan_transforms.proofs.plan.Plan.has_shorter.Goals as goal
 
-less_of : (b q : ℕ) → IsTrue (nat_lt b q) → b < q
-less_of b q h = grind (arith, nat_tests)
+below_if_test_true : (b q : ℕ) → IsTrue (nat_lt b q) → b < q
+below_if_test_true b q h = grind (arith, nat_tests)
 
-test_of : (b q : ℕ) → b < q → IsTrue (nat_lt b q)
-test_of b q h = grind (arith, nat_tests)
+test_true_if_below : (b q : ℕ) → b < q → IsTrue (nat_lt b q)
+test_true_if_below b q h = grind (arith, nat_tests)
 
 pub returns : goal.returns
 returns g c =
@@ -17,6 +17,6 @@ returns g c =
     let power = (power_of_two_tested n).0 (sym c.is_power_of_two.ensures ∙ c.if-not-is_power_of_two.false) in
     let some = beyond_one n power c.if-n-eq1.false in
     let twice = twice_half power.0 n power.1 (omega (arith, some)) in (
-      λ h. (power, omega (arith, some), omega (arith, less_of _ _ h, twice, half)),
-      λ given. test_of _ _ (omega (arith, given.2, twice, half, some)),
+      λ h. (power, omega (arith, some), omega (arith, below_if_test_true _ _ h, twice, half)),
+      λ given. test_true_if_below _ _ (omega (arith, given.2, twice, half, some)),
     )

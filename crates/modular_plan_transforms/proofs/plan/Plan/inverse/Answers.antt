@@ -2,7 +2,7 @@ use Rattle.std.proofs.Common.{◌≡◌, ℕ, ◌*◌, ◌/◌, ◌^◌, ◌<◌
 use Rattle.std.proofs.Math.Nat.{div-one}
 use Rattle.modular_word.proofs.Congruence.{mod_of_eq, mod_trans, residue_of}
 use Rattle.modular_transform.proofs.InverseTransform.{transform_congruent}
-use Rattle.modular_transform.proofs.TransformBack.{preimage, transform_of_preimage}
+use Rattle.modular_transform.proofs.TransformBack.{transform_preimage, transform_of_preimage}
 use Rattle.modular_transform.specs.Transforms.{Suits}
 use Rattle.modular_plan_passes.specs.Plans.{numbers}
 use Rattle.modular_plan_transforms.proofs.NaturalOrder.{all_reordered}
@@ -57,7 +57,7 @@ returns-clause-values g c j below =
     let suits : Suits m (n plan.root) size = rw c.requires.whole
     (twiddles_of plan.half plan.half_turn plan.powers).suits in
     let more : 1 < size = omega (arith, plan.half, c.requires.whole, below) in
-    let x = preimage m (n plan.root) size part y in
+    let x = transform_preimage m (n plan.root) size part y in
     let back = λ (j : ℕ) (l : j < size).
     transform_of_preimage m (n plan.root) size part j y plan.root_below more suits c.part-part.ensures.inverse l in
     transform_congruent (n plan.root) size j (numbers n c.join_scaled.new.xs) x

@@ -3,7 +3,8 @@ use Rattle.std.proofs.lemmas.List.{length-take-le}
 use Rattle.std.specs.Int.{trailing_zeros, w64}
 use Rattle.modular_plan_passes.specs.Factors.{IsFactor}
 use Rattle.modular_transform.proofs.PowersOfTwo.{power_by_zeros}
-use Rattle.modular_plan_transforms.proofs.PlanFields.{twiddles_of, turn_of, below_modulus, is_shorter, shorter_twiddles}
+use Rattle.modular_plan_transforms.proofs.PlanFields.{twiddles_of, turn_of, field_residue_below_modulus, is_shorter}
+use Rattle.modular_plan_transforms.proofs.PlanFields.{shorter_twiddles}
 use Rattle.modular_plan_transforms.proofs.PlanFields.{all_taken, number_taken}
 use Rattle.modular_plan_transforms.proofs.plan.Plan.shorter.Goals as goal
 
@@ -28,7 +29,8 @@ invariant_of-result g c =
     let same : 2 ^ y / 2 ≡ length (take half plan.table.now) = are.first ∙ sym size in
     record {
       odd = plan.odd;
-      root_below = below_modulus m (n c.power.result) _ (omega (arith, plan.modulus.some)) c.power.ensures;
+      root_below = field_residue_below_modulus m (n c.power.result) _ (omega (arith, plan.modulus.some))
+          c.power.ensures;
       half = ap (λ k. 2 * k) (sym same) ∙ whole;
       half_turn = rw (sym same) (turn_of whole made);
       factors = all_taken (λ f. IsFactor g.T.PathWord.base m (g.F.PlanEntry.value f) (g.F.PlanEntry.quotient f))

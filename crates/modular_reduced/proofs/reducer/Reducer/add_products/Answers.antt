@@ -2,7 +2,7 @@ use Rattle.std.proofs.Common.{◌≡◌, ◌+◌, ◌*◌, ◌%◌, ◌<◌, len
 use Rattle.modular_word.specs.Sums.{sum_below}
 use Rattle.modular_reduced.specs.Entries.{entry}
 use Rattle.modular_reduced.specs.EntryLaws.{entry_read}
-use Rattle.modular_reduced.proofs.ListProducts.{products_none, products_more}
+use Rattle.modular_reduced.proofs.ListProducts.{products_none, product_extends_residue_sum}
 use Rattle.modular_reduced.proofs.reducer.Reducer.add_products.Goals as goal
 
 pub products-init : goal.products-init
@@ -22,7 +22,8 @@ products-preserved g c =
     record {
       form = c.add-total.ensures.checked;
       value = c.add-total.ensures.value ∙ ap (λ v. (value m (number c.products.total) + v) % m) c.mul.ensures.value
-          ∙ products_more m _ i _ _ _ (λ k. x k * y k) c.products.invariant.value (ap₂ (λ v w. v * w) x_is y_is);
+          ∙ product_extends_residue_sum m _ i _ _ _ (λ k. x k * y k) c.products.invariant.value
+          (ap₂ (λ v w. v * w) x_is y_is);
     }
 
 pub returns-clause-value : goal.returns-clause-value

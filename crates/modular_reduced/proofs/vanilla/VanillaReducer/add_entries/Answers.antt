@@ -11,4 +11,5 @@ returns g c =
     list_answered _ (plain_canonical g.T.RingWord.width m s.positive s.fits)
     (pairs_taken g.T.RingWord.number plain_form plain_value m op op c.args.xs.now c.args.ys.now _
     (λ v w _ _. record { below = mod-lt _ s.positive; same = refl })
-    c.requires.checked_xs c.requires.checked_ys c.requires.equal c.add_each.auto.xs c.add_each.ensures) c.add_each.auto.xs
+    c.requires.checked_xs c.requires.checked_ys c.requires.equal c.add_each.auto.xs c.add_each.ensures)
+    c.add_each.auto.xs

@@ -21,7 +21,8 @@ points-preserved g c =
       one_divided _ i _ _ x _ known rest
           _ so_far.1
           (λ k l. let other : k ≢ i = omega arith in entry_kept number ring.value _ values i k c.mul.result other)
-          (c.newton_value-known.ensures.value ∙ ap (λ a. newton_form m (entry number ring.value m values) x a 0 i % m) point)
+          (c.newton_value-known.ensures.value ∙ ap (λ a. newton_form m (entry number ring.value m values) x a 0 i % m)
+          point)
           (c.sub-rest.ensures.value ∙ ap (λ v. residue m (pos v -ℤ pos known)) read)
           (c.requires.inverse i (omega arith))
           (entry_written number ring.value _ values i c.mul.result (omega arith) ∙ c.mul.ensures.value

@@ -2,7 +2,8 @@ use Rattle.ring_codes.proofs.Names.{◌≡◌, ◌+◌, ◌-◌, ◌*◌, ◌%�
 use Rattle.ring_codes.proofs.Names.{difference, product_but}
 use Rattle.ring_codes.proofs.erasure.newton.fill_differences.Given as goal
 
--- the products of the differences from the points before, and from the last ones so far; from all others, where these are all
+-- the products of the differences from the points before, and from the last ones so far; from all others, where these
+-- are all
 -- behind
 abbrev pub invariant-points : goal.invariant-points
 invariant-points g l =

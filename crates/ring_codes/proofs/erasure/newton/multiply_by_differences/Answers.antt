@@ -10,7 +10,8 @@ points-preserved g c =
     let points = c.args.points.now in
     let old = entry number ring.value m c.args.products.now in
     let list = c.points.products in let i = c.points.i in let so_far = c.points.invariant in
-    let own = entry_at number ring.value m list i c.index-products-i.result (omega arith) ∙ so_far.1.kept i (omega arith) in
+    let own = entry_at number ring.value m list i c.index-products-i.result (omega arith)
+    ∙ so_far.1.kept i (omega arith) in
     let here = entry_read number ring.value m points i _ (omega arith) c.index-points-i.is in
     let there = entry_read number ring.value m points c.args.place _ c.requires.inside c.index-points-place.is in
     let difference = rw (here, there) at c.sub-difference.ensures.value in (

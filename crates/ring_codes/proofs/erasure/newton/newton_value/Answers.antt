@@ -13,11 +13,13 @@ coefficients-init g c =
     let zero = c.transform-low.ensures.value ∙ ap (λ v. v % m) c.zero.ensures in
     let one = c.transform-product.ensures.value ∙ ap (λ v. v % m) c.one.ensures in
     let high : IsForm ring.form ring.value m (number c.if-count-eq1.high)
-    × Congruent m (ring.value m (number c.if-count-eq1.high)) (newton_form m e x a (2 * (n / 2) - 0) (0 + (n - 2 * (n / 2)))) =
+    × Congruent m (ring.value m (number c.if-count-eq1.high)) (newton_form m e x a (2 * (n / 2) - 0)
+    (0 + (n - 2 * (n / 2)))) =
     elim c.if-count-eq1.branch [
       | then-count-eq1 w ↦
           let odd : n % 2 ≡ 1 = omega (arith, w.if-count-eq1) in
-          let top = entry_read number ring.value m c.args.form.now (n - 1) _ (omega (arith, odd, c.requires.form_within))
+          let top = entry_read number ring.value m c.args.form.now (n - 1) _
+          (omega (arith, odd, c.requires.form_within))
           w.index-form-count.is in
           let checked = form_read number ring.form ring.value m c.args.form.now (n - 1) _ c.requires.form
           (omega (arith, odd, c.requires.form_within)) w.index-form-count.is in
@@ -44,10 +46,14 @@ coefficients-preserved g c =
     let i : ℕ = h - 1 - k in let j : ℕ = 2 * h - 1 - k in
     let at_i : i ≡ h - (k + 1) = omega arith in
     let at_j : j ≡ 2 * h - (k + 1) = omega arith in
-    let form_i = entry_read number ring.value m form i _ (omega (arith, c.requires.form_within)) c.index-form-i.is ∙ ap e at_i in
-    let form_j = entry_read number ring.value m form j _ (omega (arith, c.requires.form_within)) c.index-form-j.is ∙ ap e at_j in
-    let point_i = entry_read number ring.value m points i _ (omega (arith, c.requires.points_within)) c.index-points-i.is ∙ ap x at_i in
-    let point_j = entry_read number ring.value m points j _ (omega (arith, c.requires.points_within)) c.index-points-j.is ∙ ap x at_j in
+    let form_i = entry_read number ring.value m form i _ (omega (arith, c.requires.form_within)) c.index-form-i.is
+    ∙ ap e at_i in
+    let form_j = entry_read number ring.value m form j _ (omega (arith, c.requires.form_within)) c.index-form-j.is
+    ∙ ap e at_j in
+    let point_i = entry_read number ring.value m points i _ (omega (arith, c.requires.points_within))
+    c.index-points-i.is ∙ ap x at_i in
+    let point_j = entry_read number ring.value m points j _ (omega (arith, c.requires.points_within))
+    c.index-points-j.is ∙ ap x at_j in
     let low = c.sub-difference.ensures.value ∙ ap (λ v. residue m (pos a -ℤ pos v)) point_i in
     let high = c.sub-difference-in-coefficients.ensures.value ∙ ap (λ v. residue m (pos a -ℤ pos v)) point_j in (
       c.newton_step-low.ensures.checked,
@@ -68,4 +74,5 @@ returns-clause-value g c =
     let n = c.args.count in let a = ring.value m (number c.args.point.now) in let h : ℕ = n / 2 in
     let last = c.coefficients.invariant in
     let done : c.coefficients.k ≡ h = omega (arith, c.coefficients-test.false, c.coefficients.auto.k-end) in
-    c.newton_step.ensures.value ∙ (value_joined m n h c.coefficients.k e x a _ _ _ done (omega arith) last.1 last.3 last.5).same
+    c.newton_step.ensures.value ∙ (value_joined m n h c.coefficients.k e x a _ _ _ done (omega arith) last.1 last.3
+    last.5).same

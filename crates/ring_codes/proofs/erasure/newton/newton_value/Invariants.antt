@@ -13,4 +13,5 @@ invariant-coefficients g l =
     × IsForm ring.form ring.value m (number l.product)
     × Congruent m (ring.value m (number l.product)) (differences m x a (l.half - l.k) l.k)
     × IsForm ring.form ring.value m (number l.high)
-    × Congruent m (ring.value m (number l.high)) (newton_form m e x a (2 * l.half - l.k) (l.k + (l.fn.count - 2 * l.half)))
+    × Congruent m (ring.value m (number l.high)) (newton_form m e x a (2 * l.half - l.k)
+    (l.k + (l.fn.count - 2 * l.half)))

@@ -1,6 +1,6 @@
 use Rattle.ring_codes.proofs.Names.{◌≡◌, ◌≢◌, ◌+◌, ◌-◌, ◌*◌, ◌%◌, ◌∙◌, set, cases_eq, ℕ, ap, sym, inl, inr, arith}
 use Rattle.ring_codes.proofs.Names.{entry, entry_at, entry_written, entry_kept, forms_written}
-use Rattle.ring_codes.proofs.NewtonForms.{subtracted}
+use Rattle.ring_codes.proofs.NewtonForms.{difference_plus_multiple_congruent}
 use Rattle.ring_codes.proofs.erasure.newton.subtract_multiples.Goals as goal
 
 pub places-preserved : goal.places-preserved
@@ -17,7 +17,8 @@ places-preserved g c =
     ∙ so_far.3 before (omega arith) in
     let at_i : before + 1 ≡ i = omega arith in
     let product = c.mul-product.ensures.value ∙ ap (λ v. (a * v) % m) (next ∙ ap old (sym at_i)) in
-    let one = subtracted m a (ring.value m (number c.mul-product.result)) (entry number ring.value m new before)
+    let one = difference_plus_multiple_congruent m a (ring.value m (number c.mul-product.result))
+    (entry number ring.value m new before)
     (old before) (old (before + 1)) positive product
     (entry_written number ring.value m values before c.sub.result (omega arith) ∙ rw here at c.sub.ensures.value) in
     let kept = λ (k : ℕ) (other : k ≢ before). entry_kept number ring.value m values before k c.sub.result other in (

@@ -1,11 +1,12 @@
 use Rattle.ring_codes.proofs.Names.{◌≡◌, ◌∙◌, false≢true, ap, refl, arith, length, entry}
-use Rattle.ring_codes.proofs.RootPowers.{length_unit, word_of_coefficients, coefficients_end}
+use Rattle.ring_codes.proofs.RootPowers.{length_has_inverse_modulo_odd, word_of_coefficients, coefficients_end}
 use Rattle.ring_codes.proofs.erasure.powers.find_coefficients.Goals as goal
 
 pub returns-then-not-intt-clause-codeword : goal.returns-then-not-intt-clause-codeword
 returns-then-not-intt-clause-codeword g c points powers =
     let ring = g.R.Reducer in let m = ring.modulus c.args.r.now in let number = g.T.RingWord.number in
-    let unit = length_unit m (ring.value m (number c.args.g.now)) (length c.args.word.now) c.requires.odd
+    let unit = length_has_inverse_modulo_odd m (ring.value m (number c.args.g.now)) (length c.args.word.now)
+    c.requires.odd
     c.requires.suits in (
       λ t. absurd (false≢true t),
       λ codeword. c.if-not-intt.ensures.inverse.1 (rw c.copy_from_slice.ensures.after unit),

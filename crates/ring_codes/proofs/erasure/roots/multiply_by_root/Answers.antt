@@ -1,7 +1,7 @@
 use Rattle.ring_codes.proofs.Names.{◌*◌, ◌%◌, ◌∙◌, zero-mod, ap, sym, arith, entry, entry_read, form_read}
 use Rattle.ring_codes.proofs.Names.{forms_written, done_none, done_more, mod_of_eq, mod_trans}
 use Rattle.ring_codes.proofs.Shifts.{shifted_none, shifted_next}
-use Rattle.ring_codes.proofs.NewtonForms.{subtracted}
+use Rattle.ring_codes.proofs.NewtonForms.{difference_plus_multiple_congruent}
 use Rattle.ring_codes.proofs.erasure.roots.multiply_by_root.Goals as goal
 
 pub coefficients-init : goal.coefficients-init
@@ -24,7 +24,7 @@ coefficients-preserved g c =
     let a = ring.value m (number c.args.point.now) in
     let here = entry_read number ring.value m list i _ (omega arith) c.index-coefficients-i.is
     ∙ so_far.2.kept i (omega arith) in
-    let one = mod_trans (subtracted m a (ring.value m (number c.mul-product.result)) _
+    let one = mod_trans (difference_plus_multiple_congruent m a (ring.value m (number c.mul-product.result)) _
     (ring.value m (number c.coefficients.before)) (old i) positive
     (c.mul-product.ensures.value ∙ ap (λ v. (a * v) % m) here) c.sub.ensures.value) (mod_of_eq so_far.1.same) in (
       forms_written number ring.form ring.value m list i c.sub.result c.sub.ensures.checked so_far.0,

@@ -1,11 +1,11 @@
 use Rattle.ring_codes.proofs.Names.{arith, has_each, has_product}
-use Rattle.ring_codes.proofs.NewtonForms.{inversion_tells, has_of_residue, has_to_residue}
+use Rattle.ring_codes.proofs.NewtonForms.{flag_true_iff_invertible, has_of_residue, has_to_residue}
 use Rattle.ring_codes.proofs.erasure.secrets.have_inverses.Goals as goal
 
 pub returns : goal.returns
 returns g c =
     let positive = (g.met.R.Reducer.canonical c.args.r.now).positive in
-    let tells = inversion_tells _ _ _ _ _ c.inv.ensures.value c.is_some.ensures in
+    let tells = flag_true_iff_invertible _ _ _ _ _ c.inv.ensures.value c.is_some.ensures in
     let whole = c.points.invariant.same in (
       λ b i l. has_each _ _ _ (has_of_residue _ _ _ whole (tells.0 b)) i (omega (arith, l)),
       λ each. tells.1 (has_to_residue _ _ _ whole

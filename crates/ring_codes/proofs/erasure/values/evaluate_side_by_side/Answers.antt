@@ -1,5 +1,5 @@
 use Rattle.ring_codes.proofs.Names.{◌-◌, ◌*◌, ◌%◌, ◌≡◌, ℕ, length, refl, arith, entry, entry_read}
-use Rattle.ring_codes.proofs.NewtonForms.{value_more, value_all}
+use Rattle.ring_codes.proofs.NewtonForms.{horner_step_extends_value, value_all}
 use Rattle.ring_codes.proofs.erasure.values.evaluate_side_by_side.Goals as goal
 
 pub coefficients-preserved : goal.coefficients-preserved
@@ -9,7 +9,7 @@ coefficients-preserved g c =
     let read = entry_read number ring.value m cs i _ (omega arith) c.index-coefficients-i.is in
     let x = entry number ring.value m c.args.points.now in let v = entry number ring.value m c.coefficients.values in (
       c.step_each.ensures.checked,
-      λ j l. value_more m n k (entry number ring.value m cs) (x j) (v j) (v j * x j % m) _ (omega arith)
+      λ j l. horner_step_extends_value m n k (entry number ring.value m cs) (x j) (v j) (v j * x j % m) _ (omega arith)
           (c.coefficients.invariant.1 j l) refl
           (rw read at (c.step_each.ensures.values j l)),
     )

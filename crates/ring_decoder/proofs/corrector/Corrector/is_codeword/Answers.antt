@@ -14,7 +14,8 @@ returns g c =
       few = self.few;
       count = wrote.auto.syndromes ∙ c.split_at_mut-syndromes.ensures.front_len;
       weights = self.inverses;
-      below = λ i l. values_below number ring.form ring.value m c.args.word.now i c.requires.word (omega (arith, l, room));
+      below = λ i l. values_below number ring.form ring.value m c.args.word.now i c.requires.word
+          (omega (arith, l, room));
       small = λ h l. values_below number ring.form ring.value m forms h wrote.ensures.checked l;
       sums = rw (← wrote.auto.syndromes) at wrote.ensures.sums;
     } in

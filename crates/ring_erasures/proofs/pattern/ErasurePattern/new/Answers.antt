@@ -2,7 +2,8 @@ use Rattle.std.proofs.lemmas.Bool.{false≢true}
 use Rattle.num_modular.specs.Callers.{◌%◌, ◌∙◌, ap, sym, subst, arith}
 use Rattle.num_modular.specs.Transforms.{Suits}
 use Rattle.ring_erasures.proofs.pattern.ErasurePattern.new.Goals as goal
-use Rattle.ring_erasures.proofs.pattern.ErasurePattern.new.Goals.{then-not-is_odd-via-then-not-is_odd, then-not-is_odd-via-else-not-is_odd+then-not-root_fits}
+use Rattle.ring_erasures.proofs.pattern.ErasurePattern.new.Goals.{then-not-is_odd-via-then-not-is_odd}
+use Rattle.ring_erasures.proofs.pattern.ErasurePattern.new.Goals.{then-not-is_odd-via-else-not-is_odd+then-not-root_fits}
 
 pub returns-then-not-is_odd : goal.returns-then-not-is_odd
 returns-then-not-is_odd g c =

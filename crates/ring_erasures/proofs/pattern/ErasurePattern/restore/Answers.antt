@@ -20,7 +20,8 @@ encode_derivative-requires-clause-some g c =
     let some = c.args.self.now.some in let size = c.split_at_mut-coefficients.ensures.front_len in
     omega (arith, some, size, c.is_codeword_by_transform.auto.message)
 
-pub returns-then-not-is_codeword_by_transform-clause-restorable : goal.returns-then-not-is_codeword_by_transform-clause-restorable
+pub returns-then-not-is_codeword_by_transform-clause-restorable
+    : goal.returns-then-not-is_codeword_by_transform-clause-restorable
 returns-then-not-is_codeword_by_transform-clause-restorable g c points powers =
     let self = c.args.self.now in let front = c.split_at_mut-products.ensures.front_len in
     let fit = powers_fit _ _ _ points self.odd (suits_known _ _ _ self.suits) powers in

@@ -3,7 +3,7 @@ use Rattle.std.proofs.lemmas.List.Elements.{All-get_or}
 use Rattle.std.proofs.Math.Nat.{zero-mod}
 use Rattle.modular_word.proofs.ResidueLemmas.{residue_sub}
 use Rattle.modular_word.specs.Sums.{polynomial_highest_first}
-use Rattle.modular_word.proofs.Polynomials.{value_none, residue_more}
+use Rattle.modular_word.proofs.Polynomials.{empty_polynomial_is_zero, polynomial_residue_of_appended}
 use Rattle.test_operations.proofs.PolynomialLemmas.{mapped_more}
 use Rattle.test_operations.proofs.tests.polynomial.horner.Goals as goal
 
@@ -19,7 +19,7 @@ terms-init g c =
     record {
       modulus = zero_is.modulus;
       residue = zero_is.residue ∙ residue_sub m v v (laws.below c.args.x) itself ∙ nothing ∙ sym (zero-mod m)
-          ∙ ap (λ k. k % m) (sym (value_none v));
+          ∙ ap (λ k. k % m) (sym (empty_polynomial_is_zero v));
     }
 
 pub terms-preserved : goal.terms-preserved
@@ -41,7 +41,8 @@ terms-preserved g c =
     record {
       modulus = sum_is.modulus ∙ product_modulus;
       residue = sum_residue
-          ∙ residue_more m _ (ring.residue_number item) (ring.residue_number x) _ _ so_far.residue product_residue
+          ∙ polynomial_residue_of_appended m _ (ring.residue_number item) (ring.residue_number x) _ _ so_far.residue
+          product_residue
           ∙ ap (λ cs. polynomial_highest_first (length cs) (slice_index cs) (ring.residue_number x) % m) (sym
           (mapped_more ring.residue_number c.args.coefficients.now c.terms.c-index item c.terms-test.true c.c-item.is));
     }

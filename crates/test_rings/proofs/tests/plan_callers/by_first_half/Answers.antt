@@ -1,4 +1,5 @@
-use Rattle.std.proofs.Common.{◌≡◌, ℕ, suc, zero, ◌+◌, ◌*◌, ◌/◌, ◌%◌, ◌^◌, ◌<◌, List, length, get_or, map, take, refl, sym, ◌∙◌}
+use Rattle.std.proofs.Common.{◌≡◌, ℕ, suc, zero, ◌+◌, ◌*◌, ◌/◌, ◌%◌, ◌^◌, ◌<◌, List, length, get_or, map, take, refl}
+use Rattle.std.proofs.Common.{sym, ◌∙◌}
 use Rattle.std.proofs.Common.{ap, arith, subst}
 use Rattle.std.proofs.Math.Nat.{two-pow-succ, div_self, pow-suc, pow-zero}
 use Rattle.std.proofs.lemmas.List.{take-map, get_or-take, length-take-le}
@@ -10,9 +11,9 @@ use Rattle.modular_plan_passes.specs.Plans.{numbers, AreTwiddles}
 use Rattle.test_rings.proofs.tests.plan_callers.by_first_half.Goals as goal
 
 -- half of a power of two that is even
-half_of : (z n : ℕ) → 2 * n ≡ 2 ^ z → IsPowerOfTwo n
-half_of zero n e = let one : 2 ^ 0 ≡ 1 = refl in absurd (omega (arith, e, one))
-half_of (suc z) n e = let two = two-pow-succ z in (z, omega (arith, e, two))
+half_of_power_is_power : (z n : ℕ) → 2 * n ≡ 2 ^ z → IsPowerOfTwo n
+half_of_power_is_power zero n e = let one : 2 ^ 0 ≡ 1 = refl in absurd (omega (arith, e, one))
+half_of_power_is_power (suc z) n e = let two = two-pow-succ z in (z, omega (arith, e, two))
 
 -- the table for 2^y entries is the first half of the table
 in_half : {T : Type 0} (value : T → ℕ) (m g n y : ℕ) (table : List T) → length table ≡ n → n ≡ 2 ^ y
@@ -65,7 +66,8 @@ ntt_planned-requires-clause-factors g c =
     let count = length-take-le half table (omega arith) in
     λ k d l.
     subst (λ f. IsFactor g.T.PathWord.base (n c.args.m.now.modulus) (n f.value) (n f.quotient))
-    (sym (get_or-take half table k d (omega (arith, l, count)))) (c.fill_table.ensures.factors k d (omega (arith, l, count)))
+    (sym (get_or-take half table k d (omega (arith, l, count)))) (c.fill_table.ensures.factors k d
+    (omega (arith, l, count)))
 
 pub ntt_planned-requires-clause-within : goal.ntt_planned-requires-clause-within
 ntt_planned-requires-clause-within g c =
@@ -77,14 +79,14 @@ ntt_planned-requires-clause-within g c =
 pub ntt_planned-requires-clause-count : goal.ntt_planned-requires-clause-count
 ntt_planned-requires-clause-count g c =
     let power = c.requires.suits.power_of_two in
-    subst IsPowerOfTwo (sym c.requires.half) (half_of power.0 (length c.args.table.now) power.1)
+    subst IsPowerOfTwo (sym c.requires.half) (half_of_power_is_power power.0 (length c.args.table.now) power.1)
 
 pub returns : goal.returns
 returns g c =
     let n = g.T.RingWord.number in
     let m = n c.args.m.now.modulus in
     let power = c.requires.suits.power_of_two in
-    let half = half_of power.0 (length c.args.table.now) power.1 in
+    let half = half_of_power_is_power power.0 (length c.args.table.now) power.1 in
     let y = half.0 in
     let two = two-pow-succ y in
     let h : ℕ = n c.args.g ^ 2 % m in
@@ -97,4 +99,5 @@ returns g c =
     (same ∙ is)
     (c.fill_table.ensures.first y 1 (omega (arith, e, two, is))) in
     λ j l. c.ntt_planned.ensures.values h y j twiddles l
-    ∙ ap (λ r. transform m r (length c.args.xs.now) (numbers n c.args.xs.now) j) (whole_power h y (length c.args.xs.now) length_is)
+    ∙ ap (λ r. transform m r (length c.args.xs.now) (numbers n c.args.xs.now) j) (whole_power h y (length c.args.xs.now)
+    length_is)

@@ -13,7 +13,8 @@ returns-clause-original g c message is =
     let v : ℕ → ℕ → ℕ = λ k j. sum_below k (λ i. rows (j * k + i) * symbols i) % m in
     record {
       symbol = λ j l.
-          held_entry number ring.form ring.value m others (v (length c.args.symbols.now)) c.wanted.j j c.wanted.invariant
+          held_entry number ring.form ring.value m others (v (length c.args.symbols.now)) c.wanted.j j
+          c.wanted.invariant
           (omega arith) (omega arith)
           ∙ rw c.requires.given (value_from_row m k n j x y rows symbols message self.factors is l);
     }

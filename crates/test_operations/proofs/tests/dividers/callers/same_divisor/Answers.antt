@@ -14,8 +14,8 @@ both_of r true true e s t = search rules
 both_of r true false e s t = search rules
 both_of r false b e s t = search rules
 
-not_below : (b d u v : ℕ) → IsReciprocal b d u → IsReciprocal b d v → u < v → ⊥
-not_below b d u v p q h =
+no_reciprocal_below_another : (b d u v : ℕ) → IsReciprocal b d u → IsReciprocal b d v → u < v → ⊥
+no_reciprocal_below_another b d u v p q h =
     let m : (u + b + 1) * d ≤ (v + b) * d = mul-le-mul_right d (omega arith) in
     omega (arith, p.close, q.below)
 
@@ -23,10 +23,10 @@ not_below b d u v p q h =
 one_reciprocal : (b d u v : ℕ) → IsReciprocal b d u → IsReciprocal b d v → u ≡ v
 one_reciprocal b d u v p q =
     ⊎_elim
-    (λ (h : u < v). absurd (not_below b d u v p q h))
+    (λ (h : u < v). absurd (no_reciprocal_below_another b d u v p q h))
     (λ (h : v ≤ u).
     ⊎_elim
-    (λ (k : v < u). absurd (not_below b d v u q p k))
+    (λ (k : v < u). absurd (no_reciprocal_below_another b d v u q p k))
     (λ (k : u ≤ v). let e : u ≡ v = omega arith in e)
     (cases_lt v u))
     (cases_lt u v)
