@@ -26,7 +26,13 @@ fault_of_corrector : {T : Type 0} (number : T → ℕ) (m k s : ℕ) (x y : ℕ 
 fault_of_corrector number m k s x y (Restore e) fit few fault = absurd (not_lost m k s x [] e fault (grind arith))
 fault_of_corrector number m k s x y TooManyErrors fit few fault =
     (fit, λ sent near. let word = near_word m k s x y sent near in fault.1 _ word.0 word.1)
-fault_of_corrector number m k s x y (NoInverse a) fit few fault = grind (arith, no_distance)
+fault_of_corrector number m k s x y (NoInverse a) fit few fault = (
+  fit,
+  fault.1,
+  λ codeword.
+      let none = no_distance s y y (λ i l. refl) in
+      let two = fault.2 y codeword (omega (arith, none)) in absurd (omega (arith, none, two)),
+)
 
 pub returns-in-Err : goal.returns-in-Err
 returns-in-Err g c =
