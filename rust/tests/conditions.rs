@@ -19,10 +19,10 @@ use num_modular::ring::{add_lists, convolve, find_root, intt, ntt, ntt_counted, 
 use num_modular::secrets::{inv_secret, invm_secret, invm_secret_counted, pow_secret, pow_secret_counted};
 use num_modular::word;
 use num_modular::{
-    DivExact, FixedMersenne, FixedMersenne32, FixedMersenne64, FixedMontgomery32, FixedMontgomery64, FixedProth32, FixedProth64,
-    FixedTrinomialSolinas32, ModularAbs, ModularCoreOps, ModularPow, ModularRefOps, ModularSymbols, ModularUnaryOps,
-    Montgomery, MontgomeryInt, Normalized2by1Divisor, OddMontgomery, OddMontgomeryInt, PreModInv, PreMulInv1by1, PreMulInv2by1,
-    Reducer, Vanilla, VanillaInt,
+    DivExact, FixedMersenne, FixedMersenne32, FixedMersenne64, FixedMontgomery32, FixedMontgomery64, FixedProth32,
+    FixedProth64, FixedTrinomialSolinas32, ModularAbs, ModularCoreOps, ModularPow, ModularRefOps, ModularSymbols,
+    ModularUnaryOps, Montgomery, MontgomeryInt, Normalized2by1Divisor, OddMontgomery, OddMontgomeryInt, PreModInv,
+    PreMulInv1by1, PreMulInv2by1, Reducer, Vanilla, VanillaInt,
 };
 use panics::{message, place, DIVISOR, MODULUS, SHORT};
 use std::cell::RefCell;

@@ -383,7 +383,7 @@ pub trait Reducer<T: RingWord> {
     /// # Conditions
     ///
     /// - the lists have the same length
-    /// - (debug) all entries are checked forms
+    /// - (debug) the entries of both lists are checked forms
     ///
     /// # Examples
     ///
@@ -422,7 +422,7 @@ pub trait Reducer<T: RingWord> {
     /// # Conditions
     ///
     /// - the lists have the same length
-    /// - (debug) all entries are checked forms
+    /// - (debug) the entries of both lists are checked forms
     ///
     /// # Examples
     ///

@@ -308,7 +308,7 @@ pub trait Reducer<T>: Sized {
     ///
     /// Panics unless the lists have the same length.
     ///
-    /// A debug build also panics unless all entries are checked forms.
+    /// A debug build also panics unless the entries of both lists are checked forms.
     ///
     /// A release build doesn't test this: where it doesn't hold, the call panics or its result is unspecified.
     ///
@@ -339,7 +339,7 @@ pub trait Reducer<T>: Sized {
     ///
     /// Panics unless the lists have the same length.
     ///
-    /// A debug build also panics unless all entries are checked forms.
+    /// A debug build also panics unless the entries of both lists are checked forms.
     ///
     /// A release build doesn't test this: where it doesn't hold, the call panics or its result is unspecified.
     ///
