@@ -1,6 +1,6 @@
 //! Lists of forms: conversion from words and back, sums, differences and products entry by entry.
 
-ghost use Rattle.std.specs.Prelude.{◌≡◌, ℕ, ◌+◌, ◌*◌, ◌%◌, ◌^◌, ◌<◌, ◌≤◌, IsTrue, pos, ◌-ℤ◌};
+ghost use Rattle.std.specs.Prelude.{◌≡◌, ℕ, ◌+◌, ◌*◌, ◌%◌, ◌<◌, ◌≤◌, pos, ◌-ℤ◌};
 ghost use Rattle.std.specs.Prelude.{length, map, slice_index};
 ghost use Rattle.modular_word.specs.Residues.{residue};
 ghost use Rattle.modular_reduced.specs.Checked.{AreChecked, IsChecked};
