@@ -15,8 +15,8 @@ pub record HasRoots (m c : ℕ) (z coefficients : ℕ → ℕ) : Type 0 where
   pub highest : Congruent m (coefficients c) 1
   pub value : (a : ℕ) → Congruent m (polynomial_at (c + 1) coefficients a) (product_of_differences m c z a)
 
--- each coefficient of that product: modulo m it is that of a polynomial over the whole numbers, whose value at each a is
--- the product of a + (m - 1)·z for the c points z, as (m - 1)·z is -z modulo m. Such values determine the polynomial.
+-- the coefficients of that product modulo m: they are congruent to those of a polynomial over the whole numbers, whose value
+-- at each a is the product of a + (m - 1)·z for the c points z. Modulo m, (m - 1)·z is -z. The values determine the polynomial.
 pub record AreRootCoefficients (m c : ℕ) (z coefficients : ℕ → ℕ) : Type 0 where
   pub whole : ℕ → ℕ
   pub value : (a : ℕ) → polynomial_at (c + 1) whole a ≡ product_below c (λ l. a + (m - 1) * z l)

@@ -11,9 +11,9 @@ abbrev pub Solves : ℕ → ℕ → ℕ → ℕ → (ℕ → ℕ) → (ℕ → �
 Solves m c d i x y numerator locator = (j : ℕ) → j < i →
     Congruent m (polynomial_at c numerator (x j)) (y j * polynomial_at d locator (x j))
 
--- in the order 1, Y·X^0, X, Y·X^1, .. of the coefficients, those of the locator after k - 1 of the numerator: the
--- coefficients behind number u, of c and d, are 0, and coefficient u has an inverse (2·l is the number of the numerator's
--- coefficient l, and 2·(l + k) - 1 that of the locator's)
+-- in the order 1, Y·X^0, X, Y·X^1, .. of the coefficients, those of the locator after k - 1 of the numerator, where the
+-- numerator has c coefficients and the locator d: those behind number u are 0, and coefficient u has an inverse (2·l is the
+-- number of the numerator's coefficient l, and 2·(l + k) - 1 that of the locator's)
 pub record Leads (m k c d u : ℕ) (numerator locator : ℕ → ℕ) : Type 0 where
   pub numerator_behind : (l : ℕ) → l < c → u < 2 * l → Congruent m (numerator l) 0
   pub locator_behind : (l : ℕ) → l < d → suc u < 2 * (l + k) → Congruent m (locator l) 0
